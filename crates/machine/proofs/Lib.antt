@@ -1,2 +1,4 @@
 pub mod Tests
 pub mod Table
+pub mod Change
+pub mod Announce
