@@ -10,13 +10,14 @@ use native.Mathlib.Omega.{arith}
 use lib.Dec.{leb, eqb}
 use borrow.Author.Tests.{ltb-false, leb-false, eqb-true, eq-eqb, ne-eqb}
 use Rattle.ident.specs.If.{if_then_else_}
-use Rattle.ident.specs.Number.{top, Key, place, keyOf}
+use Rattle.ident.specs.declared.Kind.{Kind}
+use Rattle.ident.specs.Number.{top, Key, place, Item, kindOf, keyAs, keyOf}
 use Rattle.machine.specs.Limits.{Limits, maxPeerAnnouncements}
 use Rattle.machine.specs.State.{Candidate, Owner, Request, Table, Entry, Answer, withCandidates, ownerIs}
 use Rattle.machine.specs.Table.{at, change, one, countIn, count, owners, placesHeld, has, isCandidate, held, heldBy, heldAt, any, by, under, byUnder}
 use Rattle.machine.specs.Announce.{announce, announceAt, announceKeyed, evicting, greatest, greatestFrom, after, victims, victimsIn, without, push, cut, atHash, anywhere}
-use Rattle.machine.specs.Sound.{Fits, AllFit, OwnerFits, Ordered, Lawful, Bounded}
-use Rattle.machine.specs.Typed.{Each}
+use Rattle.machine.specs.Sound.{CursorFits, Fits, AllFit, OwnerFits, Ordered, Lawful, Bounded}
+use Rattle.machine.specs.Typed.{CandidateTyped, Each}
 use Rattle.machine.proofs.Tests.{test, by-test, never, or-right, or-true}
 use Rattle.machine.proofs.Table.{ordered-change, at-key, count-change, owners-change, places-change, all-change, lawful-at, filled-change}
 use Rattle.machine.proofs.Change.{bounded-cut, bump, bump₂}
@@ -229,3 +230,23 @@ follows-announceAt {m} {Q} {t} k c s a b =
 
 pub bounded-announceAt : {m : Limits} {Q : ℕ} {t : Table} (k : Key) (c : Candidate) → k .hash < top → Fits k c → Bounded m Q t → Bounded m Q ((announceAt m k c t) .table)
 bounded-announceAt k c s a b = (follows-announceAt k c s a b) .bounded
+
+-- ---- a candidate whose item may have a key
+
+key-fits : (x : Option Kind) (h : ℕ) → h < top → CursorFits (keyAs x h)
+key-fits none h p = tt
+key-fits (some k) h p = p
+
+pub item-fits : (i : Item) → i .hash < top → CursorFits (keyOf i)
+item-fits i p = key-fits (kindOf (i .kind)) (i .hash) p
+
+pub fits-typed : {k : Key} {c : Candidate} → keyOf (c .item) ≡ some k → 0 < c .connection → CandidateTyped c → Fits k c
+fits-typed e p w = record { item = e; positive = p; connection = w .connection; ready = w .ready; priority = w .priority }
+
+bounded-announceKeyed : {m : Limits} {Q : ℕ} {t : Table} (o : Option Key) (c : Candidate) → keyOf (c .item) ≡ o → CursorFits o → 0 < c .connection → CandidateTyped c → Bounded m Q t → Bounded m Q ((announceKeyed m o c t) .table)
+unfolding announceKeyed
+bounded-announceKeyed none c e s p w b = b
+bounded-announceKeyed (some k) c e s p w b = bounded-announceAt k c s (fits-typed e p w) b
+
+pub bounded-announce : {m : Limits} {Q : ℕ} {t : Table} (c : Candidate) → 0 < c .connection → CandidateTyped c → Bounded m Q t → Bounded m Q ((announce m c t) .table)
+bounded-announce c p w b = bounded-announceKeyed (keyOf (c .item)) c refl (item-fits (c .item) (w .hash)) p w b

@@ -2,3 +2,5 @@ pub mod Tests
 pub mod Table
 pub mod Change
 pub mod Announce
+pub mod Fail
+pub mod Plan
