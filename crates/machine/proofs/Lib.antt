@@ -4,3 +4,5 @@ pub mod Change
 pub mod Announce
 pub mod Fail
 pub mod Plan
+pub mod Claim
+pub mod Package
