@@ -6,3 +6,5 @@ pub mod Fail
 pub mod Plan
 pub mod Claim
 pub mod Package
+pub mod Leave
+pub mod Wrapper
