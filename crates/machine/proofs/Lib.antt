@@ -8,3 +8,4 @@ pub mod Claim
 pub mod Package
 pub mod Leave
 pub mod Wrapper
+pub mod Kept
