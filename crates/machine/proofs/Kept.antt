@@ -5,7 +5,7 @@ use mathlib.Core.Path.{_≡_, refl}
 use mathlib.Core.Logic.{_⊎_, inl, inr}
 use mathlib.Core.Bool.{Bool, true, false, not, _&&_}
 use mathlib.Core.List.{List, [], _∷_}
-use mathlib.Core.Option.{none}
+use mathlib.Core.Option.{Option, none}
 use native.Mathlib.Omega.{arith}
 use lib.Dec.{ltb, leb, eqb}
 use lib.ListN.{length}
@@ -16,17 +16,18 @@ use Rattle.machine.specs.Limits.{Limits, maxAnnouncements, maxPlaces, ma
 use Rattle.machine.specs.State.{Table, State, limitsOf, onTable}
 use Rattle.machine.specs.Table.{total, placesHeld}
 use Rattle.machine.specs.Package.{solicit}
+use Rattle.machine.specs.Plan.{plan}
 use Rattle.machine.specs.Claim.{elem}
 use Rattle.machine.specs.Call.{Ask, Announce, RequestParent, Failed, Unclaim, SolicitPackageInfo, ClaimPackage, BeginPackageResolution, AnnounceParents, FailedPackageClaims, Plan, Claim, Sweep, Disconnected, ReleasePackage, TeardownPackageClaims, Forget, ForgetKnown, FailedWithParents, FailedPackageInfo, PackageInfoOwner, AnnounceTransactions, TransactionResponseCompleted, TransactionNotFound, PollGate, Arrange, Sum, Call, Open, On, Named, named, anyLate, takesPlace, sizesTaken, openingRefusal, askRefusal, refusal}
 use Rattle.machine.specs.Step.{perform, empty, carryOut, stepIf, step}
-use Rattle.machine.specs.Sound.{Hashes, Bounded, Sound}
+use Rattle.machine.specs.Sound.{Hashes, CursorFits, PollFits, Bounded, Sound}
 use Rattle.machine.specs.Typed.{AskTyped, CallTyped}
 use Rattle.machine.proofs.Tests.{test, by-test, never, and-left, and-right, or-left}
 use Rattle.machine.proofs.Announce.{bounded-announce}
 use Rattle.machine.proofs.Fail.{Peer, FewHashes, bounded-failed, bounded-unclaim, bounded-forget, bounded-requestParent, bounded-parents}
 use Rattle.machine.proofs.Package.{bounded-solicit, bounded-claimPackage, bounded-begin, bounded-failedPackageInfo, bounded-failedWithParents, bounded-release, bounded-failedPackageClaims, bounded-teardown}
 use Rattle.machine.proofs.Leave.{bounded-forgetKnown, bounded-disconnected}
-use Rattle.machine.proofs.Plan.{swept-cursor, sound-plan}
+use Rattle.machine.proofs.Plan.{bounded-expired, swept-cursor, plan-cursor}
 use Rattle.machine.proofs.Claim.{bounded-claim}
 use Rattle.machine.proofs.Wrapper.{bounded-announceTransactions, bounded-responseCompleted, bounded-notFound, gate-poll}
 
@@ -102,35 +103,39 @@ few-hashes hs a l = record { hashes = a; few = l }
 
 -- ---- a call that is carried out
 
-sound-table : {s : State} (t : Table) → Sound s → Bounded (limitsOf s) (s .places) t → Sound (onTable t s)
-sound-table t g b = record { some-limit = g .some-limit; most-limit = g .most-limit; some-place = g .some-place; most-places = g .most-places; bounded = b; poll = g .poll; known = g .known; ready = g .ready }
+-- L and Q stay
+sound-with : {s : State} {t : Table} {p : Option ℕ} {c d : Option Key} → Sound s → Bounded (limitsOf s) (s .places) t → PollFits p → CursorFits c → CursorFits d → Sound (record { limit = s .limit; places = s .places; table = t; nextPoll = p; knownCursor = c; readyCursor = d })
+sound-with g b p c d = record { some-limit = g .some-limit; most-limit = g .most-limit; some-place = g .some-place; most-places = g .most-places; bounded = b; poll = p; known = c; ready = d }
+
+pub sound-table : {s : State} {t : Table} → Sound s → Bounded (limitsOf s) (s .places) t → Sound (onTable t s)
+sound-table g b = sound-with g b (g .poll) (g .known) (g .ready)
 
 pub sound-perform : (a : Ask) (s : State) → AskTyped a → Carried a s → Sound s → Sound ((perform a s) .state)
-unfolding perform named takesPlace
-sound-perform (Announce c) s w r g = sound-table _ g (bounded-announce c (positive (c .connection) (r .connections)) w (g .bounded))
-sound-perform (RequestParent c) s w r g = sound-table _ g (bounded-requestParent c (positive (c .connection) (r .connections)) w (g .bounded))
-sound-perform (Failed k n now) s w r g = sound-table _ g (bounded-failed k n now (w .0) (w .2) (g .bounded))
-sound-perform (Unclaim k n) s w r g = sound-table _ g (bounded-unclaim k n (w .0) (g .bounded))
-sound-perform (SolicitPackageInfo n h hs now) s w r g = sound-table _ g (bounded-solicit n h hs now (peer n (r .connections) (w .0)) (w .1) (few-hashes hs (w .2) (r .parents)) (on-time now (r .clocks)) (r .place) (g .bounded))
-sound-perform (ClaimPackage n h c ws now) s w r g = sound-table _ g (bounded-claimPackage n h c ws now (w .1) (w .2) (w .3) (g .bounded))
-sound-perform (BeginPackageResolution n h c ws now) s w r g = sound-table _ g (bounded-begin n h c ws now (w .1) (w .2) (w .3) (g .bounded))
-sound-perform (AnnounceParents n hs now b) s w r g = sound-table _ g (bounded-parents n now hs (peer n (r .connections) (w .0)) (w .2) (few-hashes hs (w .1) (r .parents)) (g .bounded))
-sound-perform (FailedPackageClaims n cs now b) s w r g = sound-table _ g (bounded-failedPackageClaims n cs now (peer n (r .connections) (w .0)) (w .2) (g .bounded))
-sound-perform (Plan now ks b) s w r g = sound-plan now ks s (w .0) g
-sound-perform (Claim now l b) s w r g = sound-table _ g (bounded-claim now l (on-time now (r .clocks)) (w .1) (g .bounded))
-sound-perform (Sweep b) s w r g = record { some-limit = g .some-limit; most-limit = g .most-limit; some-place = g .some-place; most-places = g .most-places; bounded = g .bounded; poll = g .poll; known = swept-cursor (s .knownCursor) 0 (s .table) (g .bounded .ordered); ready = g .ready }
-sound-perform (Disconnected n now b) s w r g = sound-table _ g (bounded-disconnected n now (w .1) (g .bounded))
-sound-perform (ReleasePackage n h now b) s w r g = sound-table _ g (bounded-release n h now (w .1) (w .2) (g .bounded))
-sound-perform (TeardownPackageClaims now) s w r g = sound-table _ g (bounded-teardown now w (g .bounded))
-sound-perform (Forget k) s w r g = sound-table _ g (bounded-forget k w (g .bounded))
-sound-perform (ForgetKnown k now) s w r g = sound-table _ g (bounded-forgetKnown k now (w .0) (w .1) (g .bounded))
-sound-perform (FailedWithParents k n now b) s w r g = sound-table _ g (bounded-failedWithParents k n now (w .0) (peer n (r .connections) (w .1)) (w .2) (g .bounded))
-sound-perform (FailedPackageInfo k n now) s w r g = sound-table _ g (bounded-failedPackageInfo k n now (w .0) (w .2) (g .bounded))
+unfolding perform plan named takesPlace
+sound-perform (Announce c) s w r g = sound-table g (bounded-announce c (positive (c .connection) (r .connections)) w (g .bounded))
+sound-perform (RequestParent c) s w r g = sound-table g (bounded-requestParent c (positive (c .connection) (r .connections)) w (g .bounded))
+sound-perform (Failed k n now) s w r g = sound-table g (bounded-failed k n now (w .0) (w .2) (g .bounded))
+sound-perform (Unclaim k n) s w r g = sound-table g (bounded-unclaim k n (w .0) (g .bounded))
+sound-perform (SolicitPackageInfo n h hs now) s w r g = sound-table g (bounded-solicit n h hs now (peer n (r .connections) (w .0)) (w .1) (few-hashes hs (w .2) (r .parents)) (on-time now (r .clocks)) (r .place) (g .bounded))
+sound-perform (ClaimPackage n h c ws now) s w r g = sound-table g (bounded-claimPackage n h c ws now (w .1) (w .2) (w .3) (g .bounded))
+sound-perform (BeginPackageResolution n h c ws now) s w r g = sound-table g (bounded-begin n h c ws now (w .1) (w .2) (w .3) (g .bounded))
+sound-perform (AnnounceParents n hs now b) s w r g = sound-table g (bounded-parents n now hs (peer n (r .connections) (w .0)) (w .2) (few-hashes hs (w .1) (r .parents)) (g .bounded))
+sound-perform (FailedPackageClaims n cs now b) s w r g = sound-table g (bounded-failedPackageClaims n cs now (peer n (r .connections) (w .0)) (w .2) (g .bounded))
+sound-perform (Plan now ks b) s w r g = sound-with g (bounded-expired now s (w .0) g) (g .poll) (g .known) (plan-cursor now ks s (w .0) g)
+sound-perform (Claim now l b) s w r g = sound-table g (bounded-claim now l (on-time now (r .clocks)) (w .1) (g .bounded))
+sound-perform (Sweep b) s w r g = sound-with g (g .bounded) (g .poll) (swept-cursor (s .knownCursor) 0 (s .table) (g .bounded .ordered)) (g .ready)
+sound-perform (Disconnected n now b) s w r g = sound-table g (bounded-disconnected n now (w .1) (g .bounded))
+sound-perform (ReleasePackage n h now b) s w r g = sound-table g (bounded-release n h now (w .1) (w .2) (g .bounded))
+sound-perform (TeardownPackageClaims now) s w r g = sound-table g (bounded-teardown now w (g .bounded))
+sound-perform (Forget k) s w r g = sound-table g (bounded-forget k w (g .bounded))
+sound-perform (ForgetKnown k now) s w r g = sound-table g (bounded-forgetKnown k now (w .0) (w .1) (g .bounded))
+sound-perform (FailedWithParents k n now b) s w r g = sound-table g (bounded-failedWithParents k n now (w .0) (peer n (r .connections) (w .1)) (w .2) (g .bounded))
+sound-perform (FailedPackageInfo k n now) s w r g = sound-table g (bounded-failedPackageInfo k n now (w .0) (w .2) (g .bounded))
 sound-perform (PackageInfoOwner k now) s w r g = g
-sound-perform (AnnounceTransactions n now p v os) s w r g = sound-table _ g (bounded-announceTransactions n now p v os (peer n (r .connections) (w .0)) (on-time now (r .clocks)) (w .2) (g .bounded))
-sound-perform (TransactionResponseCompleted n x y now) s w r g = sound-table _ g (bounded-responseCompleted n x y now (w .1) (w .2) (w .3) (g .bounded))
-sound-perform (TransactionNotFound n l now b) s w r g = sound-table _ g (bounded-notFound n now l (peer n (r .connections) (w .0)) (w .2) (w .1) (g .bounded))
-sound-perform (PollGate now) s w r g = record { some-limit = g .some-limit; most-limit = g .most-limit; some-place = g .some-place; most-places = g .most-places; bounded = g .bounded; poll = gate-poll now (s .nextPoll) (on-time now (r .clocks)) (g .poll); known = g .known; ready = g .ready }
+sound-perform (AnnounceTransactions n now p v os) s w r g = sound-table g (bounded-announceTransactions n now p v os (peer n (r .connections) (w .0)) (on-time now (r .clocks)) (w .2) (g .bounded))
+sound-perform (TransactionResponseCompleted n x y now) s w r g = sound-table g (bounded-responseCompleted n x y now (w .1) (w .2) (w .3) (g .bounded))
+sound-perform (TransactionNotFound n l now b) s w r g = sound-table g (bounded-notFound n now l (peer n (r .connections) (w .0)) (w .2) (w .1) (g .bounded))
+sound-perform (PollGate now) s w r g = sound-with g (g .bounded) (gate-poll now (s .nextPoll) (on-time now (r .clocks)) (g .poll)) (g .known) (g .ready)
 sound-perform (Arrange ws l b) s w r g = g
 sound-perform Sum s w r g = g
 
