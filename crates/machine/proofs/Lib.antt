@@ -1,3 +1,12 @@
 pub mod Tests
 pub mod Table
 pub mod Edges
+pub mod Change
+pub mod Announce
+pub mod Fail
+pub mod Plan
+pub mod Claim
+pub mod Package
+pub mod Leave
+pub mod Wrapper
+pub mod Kept
