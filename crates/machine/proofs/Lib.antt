@@ -1,2 +1,4 @@
 pub mod Tests
 pub mod Table
+pub mod FairLists
+pub mod Fairness
