@@ -2,3 +2,4 @@ pub mod Tests
 pub mod Table
 pub mod FairLists
 pub mod Fairness
+pub mod Demand3
