@@ -17,10 +17,10 @@ use Rattle.machine.specs.Table.{keys}
 use Rattle.machine.specs.Sweep.{lastOf, handed}
 use Rattle.machine.specs.Plan.{plan}
 use Rattle.machine.specs.Sound.{Ordered, All, OwnerFits, Lawful, Sound}
-use Rattle.machine.specs.Call.{Ask, Announce, RequestParent, Failed, Unclaim, SolicitPackageInfo, ClaimPackage, BeginPackageResolution, AnnounceParents, FailedPackageClaims, Plan, Claim, Sweep, Disconnected, ReleasePackage, TeardownPackageClaims, Forget, ForgetKnown, FailedWithParents, FailedPackageInfo, PackageInfoOwner, AnnounceTransactions, TransactionResponseCompleted, TransactionNotFound, PollGate, Arrange, Sum, Call, Open, On, sizesTaken}
-use Rattle.machine.specs.Step.{perform, empty, carryOut, stepIf, step}
+use Rattle.machine.specs.Call.{Buffer, Ask, Announce, RequestParent, Failed, Unclaim, SolicitPackageInfo, ClaimPackage, BeginPackageResolution, AnnounceParents, FailedPackageClaims, Plan, Claim, Sweep, Disconnected, ReleasePackage, TeardownPackageClaims, Forget, ForgetKnown, FailedWithParents, FailedPackageInfo, PackageInfoOwner, AnnounceTransactions, TransactionResponseCompleted, TransactionNotFound, PollGate, Arrange, Sum, Call, Open, On, sizesTaken}
+use Rattle.machine.specs.Step.{Keys, perform, empty, carryOut, stepIf, step}
 use Rattle.machine.specs.Typed.{Each, CallTyped}
-use Rattle.machine.specs.Demand3.{run, carriedOut, Swept, isSweep, sweeping, opening, sweepsOf, NoOpening, HeldAtAll, Fair, Bounds, Demand3}
+use Rattle.machine.specs.Demand3.{run, carriedOut, Swept, isSweep, sweeping, opening, sweptAt, sweepsOf, NoOpening, HeldAtAll, Fair, Bounds, Demand3}
 use Rattle.machine.proofs.Tests.{test, never}
 use Rattle.machine.proofs.FairLists.{Asc, Below}
 use Rattle.machine.proofs.Fairness.{Batch, batches, self, end, Holds, helds, fair}
@@ -76,6 +76,11 @@ cursor-next : (n : ℕ) (c : Call) (s : State) → sweeping c ≡ true → carri
 unfolding stepIf carryOut
 cursor-next n (Open L Q) s e d = never e
 cursor-next n (On a) s e d = rw d (cursor-swept a s e)
+
+-- "handed out: in its reply"
+pub swept-reply : (n : ℕ) (b : Buffer) (s : State) → carriedOut n (On (Sweep b)) s ≡ true → (step n (On (Sweep b)) s) .reply ≡ Keys ((sweptAt s) .out)
+unfolding stepIf carryOut perform
+swept-reply n b s e = rw e
 
 -- ---- the sweeps of a list are successive batches
 
