@@ -1,6 +1,9 @@
 pub mod Tests
 pub mod Table
 pub mod Edges
+pub mod FairLists
+pub mod Fairness
+pub mod Sweeps
 pub mod Change
 pub mod Announce
 pub mod Fail
@@ -10,3 +13,4 @@ pub mod Package
 pub mod Leave
 pub mod Wrapper
 pub mod Kept
+pub mod Demand3
