@@ -17,54 +17,68 @@ use Rattle.machine.specs.Table.{keys}
 use Rattle.machine.specs.Sweep.{lastOf, handed}
 use Rattle.machine.specs.Plan.{plan}
 use Rattle.machine.specs.Sound.{Ordered}
-use Rattle.machine.specs.Call.{Buffer, Ask, Announce, RequestParent, Failed, Unclaim, SolicitPackageInfo, ClaimPackage, BeginPackageResolution, AnnounceParents, FailedPackageClaims, Plan, Claim, Sweep, Disconnected, ReleasePackage, TeardownPackageClaims, Forget, ForgetKnown, FailedWithParents, FailedPackageInfo, PackageInfoOwner, AnnounceTransactions, TransactionResponseCompleted, TransactionNotFound, PollGate, Arrange, Sum, Call, Open, On}
-use Rattle.machine.specs.Step.{Keys, swept, perform, carryOut, stepIf, step}
-use Rattle.machine.specs.Demand3.{carriedOut, Swept, isSweep, sweeping, opening, sweptAt, sweepsOf, NoOpening}
+use Rattle.machine.specs.Call.{Ask, Announce, RequestParent, Failed, Unclaim, SolicitPackageInfo, ClaimPackage, BeginPackageResolution, AnnounceParents, FailedPackageClaims, Plan, Claim, Sweep, Disconnected, ReleasePackage, TeardownPackageClaims, Forget, ForgetKnown, FailedWithParents, FailedPackageInfo, PackageInfoOwner, AnnounceTransactions, TransactionResponseCompleted, TransactionNotFound, PollGate, Arrange, Sum, Call, Open, On}
+use Rattle.machine.specs.Step.{swept, perform, carryOut, stepIf, step}
+use Rattle.machine.specs.Demand3.{carriedOut, Swept, isSweep, sweeping, opening, keysIn, sweepsOf, NoOpening}
 use Rattle.machine.proofs.Tests.{test, never}
 use Rattle.machine.proofs.FairLists.{Asc, Below}
 use Rattle.machine.proofs.Fairness.{Batch, batches, self, end, helds}
 
--- ---- the known cursor
+-- ---- the known cursor, and what a sweep hands out
+
+abbrev next : State → List Key
+next s = handed (s .knownCursor) (keys (s .table))
 
 -- "The cursor becomes the last of them"
 cursor-handed : (ks : List Key) (s : State) → ((swept ks s) .state) .knownCursor ≡ lastOf ks
 cursor-handed ks s = refl
 
--- "no other call of this document but opening moves it"
-pub cursor-after : (a : Ask) (s : State) → ((perform a s) .state) .knownCursor ≡ (if isSweep a then lastOf (handed (s .knownCursor) (keys (s .table))) else s .knownCursor)
+-- "handed out: in its reply"
+reply-handed : (ks : List Key) (s : State) → keysIn ((swept ks s) .reply) ≡ ks
+reply-handed ks s = refl
+
+-- "no other call of this document but opening moves it"; a sweep replies the next keys
+record Moved (a : Ask) (s : State) : Type 0 where
+  cursor : ((perform a s) .state) .knownCursor ≡ (if isSweep a then lastOf (next s) else s .knownCursor)
+  out : (if isSweep a then keysIn ((perform a s) .reply) else next s) ≡ next s
+
+moved : (a : Ask) (s : State) → Moved a s
 unfolding perform plan
-cursor-after (Announce c) s = refl
-cursor-after (RequestParent c) s = refl
-cursor-after (Failed k n now) s = refl
-cursor-after (Unclaim k n) s = refl
-cursor-after (SolicitPackageInfo n h hs now) s = refl
-cursor-after (ClaimPackage n h c ws now) s = refl
-cursor-after (BeginPackageResolution n h c ws now) s = refl
-cursor-after (AnnounceParents n hs now b) s = refl
-cursor-after (FailedPackageClaims n cs now b) s = refl
-cursor-after (Plan now ks b) s = refl
-cursor-after (Claim now l b) s = refl
-cursor-after (Sweep b) s = cursor-handed (handed (s .knownCursor) (keys (s .table))) s
-cursor-after (Disconnected n now b) s = refl
-cursor-after (ReleasePackage n h now b) s = refl
-cursor-after (TeardownPackageClaims now) s = refl
-cursor-after (Forget k) s = refl
-cursor-after (ForgetKnown k now) s = refl
-cursor-after (FailedWithParents k n now b) s = refl
-cursor-after (FailedPackageInfo k n now) s = refl
-cursor-after (PackageInfoOwner k now) s = refl
-cursor-after (AnnounceTransactions n now p w os) s = refl
-cursor-after (TransactionResponseCompleted n x w now) s = refl
-cursor-after (TransactionNotFound n l now b) s = refl
-cursor-after (PollGate now) s = refl
-cursor-after (Arrange ws l b) s = refl
-cursor-after Sum s = refl
+moved (Announce c) s = record { cursor = refl; out = refl }
+moved (RequestParent c) s = record { cursor = refl; out = refl }
+moved (Failed k n now) s = record { cursor = refl; out = refl }
+moved (Unclaim k n) s = record { cursor = refl; out = refl }
+moved (SolicitPackageInfo n h hs now) s = record { cursor = refl; out = refl }
+moved (ClaimPackage n h c ws now) s = record { cursor = refl; out = refl }
+moved (BeginPackageResolution n h c ws now) s = record { cursor = refl; out = refl }
+moved (AnnounceParents n hs now b) s = record { cursor = refl; out = refl }
+moved (FailedPackageClaims n cs now b) s = record { cursor = refl; out = refl }
+moved (Plan now ks b) s = record { cursor = refl; out = refl }
+moved (Claim now l b) s = record { cursor = refl; out = refl }
+moved (Sweep b) s = record { cursor = cursor-handed (next s) s; out = reply-handed (next s) s }
+moved (Disconnected n now b) s = record { cursor = refl; out = refl }
+moved (ReleasePackage n h now b) s = record { cursor = refl; out = refl }
+moved (TeardownPackageClaims now) s = record { cursor = refl; out = refl }
+moved (Forget k) s = record { cursor = refl; out = refl }
+moved (ForgetKnown k now) s = record { cursor = refl; out = refl }
+moved (FailedWithParents k n now b) s = record { cursor = refl; out = refl }
+moved (FailedPackageInfo k n now) s = record { cursor = refl; out = refl }
+moved (PackageInfoOwner k now) s = record { cursor = refl; out = refl }
+moved (AnnounceTransactions n now p w os) s = record { cursor = refl; out = refl }
+moved (TransactionResponseCompleted n x w now) s = record { cursor = refl; out = refl }
+moved (TransactionNotFound n l now b) s = record { cursor = refl; out = refl }
+moved (PollGate now) s = record { cursor = refl; out = refl }
+moved (Arrange ws l b) s = record { cursor = refl; out = refl }
+moved Sum s = record { cursor = refl; out = refl }
 
 pub cursor-stays : (a : Ask) (s : State) → isSweep a ≡ false → ((perform a s) .state) .knownCursor ≡ s .knownCursor
-cursor-stays a s e = cursor-after a s ∙ rw e
+cursor-stays a s e = (moved a s) .cursor ∙ rw e
 
-pub cursor-swept : (a : Ask) (s : State) → isSweep a ≡ true → ((perform a s) .state) .knownCursor ≡ lastOf (handed (s .knownCursor) (keys (s .table)))
-cursor-swept a s e = cursor-after a s ∙ rw e
+pub cursor-swept : (a : Ask) (s : State) → isSweep a ≡ true → ((perform a s) .state) .knownCursor ≡ lastOf (next s)
+cursor-swept a s e = (moved a s) .cursor ∙ rw e
+
+pub reply-swept : (a : Ask) (s : State) → isSweep a ≡ true → keysIn ((perform a s) .reply) ≡ next s
+reply-swept a s e = rw e at ((moved a s) .out)
 
 cursor-refused : (n : ℕ) (c : Call) (s : State) → carriedOut n c s ≡ false → ((step n c s) .state) .knownCursor ≡ s .knownCursor
 unfolding stepIf
@@ -75,15 +89,15 @@ unfolding stepIf carryOut
 cursor-other n (Open L Q) s o e = cursor-refused n (Open L Q) s (o refl)
 cursor-other n (On a) s o e = elim (test (carriedOut n (On a) s)) [ inl d ↦ rw d (cursor-stays a s e) | inr d ↦ rw d ]
 
-cursor-next : (n : ℕ) (c : Call) (s : State) → sweeping c ≡ true → carriedOut n c s ≡ true → ((step n c s) .state) .knownCursor ≡ lastOf (handed (s .knownCursor) (keys (s .table)))
+cursor-next : (n : ℕ) (c : Call) (s : State) → sweeping c ≡ true → carriedOut n c s ≡ true → ((step n c s) .state) .knownCursor ≡ lastOf (next s)
 unfolding stepIf carryOut
 cursor-next n (Open L Q) s e d = never e
 cursor-next n (On a) s e d = rw d (cursor-swept a s e)
 
--- "handed out: in its reply"
-pub swept-reply : (n : ℕ) (b : Buffer) (s : State) → carriedOut n (On (Sweep b)) s ≡ true → (step n (On (Sweep b)) s) .reply ≡ Keys ((sweptAt s) .out)
-unfolding stepIf carryOut perform
-swept-reply n b s e = rw e
+reply-next : (n : ℕ) (c : Call) (s : State) → sweeping c ≡ true → carriedOut n c s ≡ true → keysIn ((step n c s) .reply) ≡ next s
+unfolding stepIf carryOut
+reply-next n (Open L Q) s e d = never e
+reply-next n (On a) s e d = rw d (reply-swept a s e)
 
 -- ---- the sweeps of a list are successive batches
 
@@ -104,7 +118,7 @@ successive n (c ∷ cs) s o =
     let rest = successive n cs ((step n c s) .state) (o .1) in
     elim (test (sweeping c)) [
       | inl e ↦ rw e (elim (test (carriedOut n c s)) [
-        | inl d ↦ rw d (ap (λ (l : List (List Key)). handed (s .knownCursor) (keys (s .table)) ∷ l) (rw (cursor-next n c s e d) at rest))
+        | inl d ↦ rw d (rw (reply-next n c s e d) (ap (λ (l : List (List Key)). next s ∷ l) (rw (cursor-next n c s e d) at rest)))
         | inr d ↦ rw d (rw (cursor-refused n c s d) at rest)
       ])
       | inr e ↦ rw e (rw (cursor-other n c s (o .0) e) at rest)
