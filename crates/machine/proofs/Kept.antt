@@ -2,23 +2,22 @@
 -- Assumes nothing.
 use Prim.Native.Nat.{ℕ, suc, _+_, _≤_, _<_}
 use mathlib.Core.Path.{_≡_, refl}
-use mathlib.Core.Logic.{_⊎_, inl, inr}
-use mathlib.Core.Bool.{Bool, true, false, not, _&&_}
+use mathlib.Core.Logic.{inl, inr}
+use mathlib.Core.Bool.{Bool, true, false, _&&_}
 use mathlib.Core.List.{List, [], _∷_}
-use mathlib.Core.Option.{Option, none}
+use mathlib.Core.Option.{Option}
 use native.Mathlib.Omega.{arith}
 use lib.Dec.{ltb, leb, eqb}
 use lib.ListN.{length}
 use borrow.Author.Tests.{ltb-false, leb-true, leb-false, eqb-true, eqb-false}
 use Rattle.ident.specs.If.{if_then_else_}
-use Rattle.ident.specs.Number.{top, Key}
+use Rattle.ident.specs.Number.{Key}
 use Rattle.machine.specs.Limits.{Limits, maxAnnouncements, maxPlaces, maxParents, requestLifetime, latestClock, word}
 use Rattle.machine.specs.State.{Table, State, limitsOf, onTable}
 use Rattle.machine.specs.Table.{total, placesHeld}
-use Rattle.machine.specs.Package.{solicit}
 use Rattle.machine.specs.Plan.{plan}
 use Rattle.machine.specs.Claim.{elem}
-use Rattle.machine.specs.Call.{Ask, Announce, RequestParent, Failed, Unclaim, SolicitPackageInfo, ClaimPackage, BeginPackageResolution, AnnounceParents, FailedPackageClaims, Plan, Claim, Sweep, Disconnected, ReleasePackage, TeardownPackageClaims, Forget, ForgetKnown, FailedWithParents, FailedPackageInfo, PackageInfoOwner, AnnounceTransactions, TransactionResponseCompleted, TransactionNotFound, PollGate, Arrange, Sum, Call, Open, On, Named, named, anyLate, takesPlace, sizesTaken, openingRefusal, askRefusal, refusal}
+use Rattle.machine.specs.Call.{Ask, Announce, RequestParent, Failed, Unclaim, SolicitPackageInfo, ClaimPackage, BeginPackageResolution, AnnounceParents, FailedPackageClaims, Plan, Claim, Sweep, Disconnected, ReleasePackage, TeardownPackageClaims, Forget, ForgetKnown, FailedWithParents, FailedPackageInfo, PackageInfoOwner, AnnounceTransactions, TransactionResponseCompleted, TransactionNotFound, PollGate, Arrange, Sum, Call, Open, On, named, anyLate, takesPlace, sizesTaken, openingRefusal, askRefusal, refusal}
 use Rattle.machine.specs.Step.{perform, empty, carryOut, stepIf, step}
 use Rattle.machine.specs.Sound.{Hashes, CursorFits, PollFits, Bounded, Sound}
 use Rattle.machine.specs.Typed.{AskTyped, CallTyped}
