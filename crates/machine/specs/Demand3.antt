@@ -1,0 +1,148 @@
+-- Demand 3: one claim about a whole list of calls (document 01, "Demand 3 is one claim about a whole list").
+-- Assumes nothing.
+use Prim.Native.Nat.{ℕ, _+_, _-_, _/_, _≤_, _<_}
+use mathlib.Core.Path.{_≡_}
+use mathlib.Core.Bool.{Bool, true, false, _||_}
+use mathlib.Core.List.{List, [], _∷_, _++_, map}
+use mathlib.Core.Option.{Option, none, some}
+use lib.Dec.{eqb}
+use lib.ListN.{length}
+use Rattle.ident.specs.If.{if_then_else_}
+use Rattle.ident.specs.Number.{Key, place}
+use Rattle.machine.specs.Limits.{maxAlternates, maxPeerAnnouncements, maxInFlight, maxKnownChecks}
+use Rattle.machine.specs.State.{Table, Request, State}
+use Rattle.machine.specs.Table.{keys, held, heldBy, heldAt, ownedBy, ownedAt}
+use Rattle.machine.specs.Sweep.{handed}
+use Rattle.machine.specs.Sound.{All, OwnerFits, Sound}
+use Rattle.machine.specs.Call.{Ask, Announce, RequestParent, Failed, Unclaim, SolicitPackageInfo, ClaimPackage, BeginPackageResolution, AnnounceParents, FailedPackageClaims, Plan, Claim, Sweep, Disconnected, ReleasePackage, TeardownPackageClaims, Forget, ForgetKnown, FailedWithParents, FailedPackageInfo, PackageInfoOwner, AnnounceTransactions, TransactionResponseCompleted, TransactionNotFound, PollGate, Arrange, Sum, Call, Open, On, refusal}
+use Rattle.machine.specs.Step.{step}
+use Rattle.machine.specs.Typed.{CallTyped, Each}
+
+-- ---- a list of calls on one store of n bytes: each gets the state that the last one left
+
+unfoldable pub run : ℕ → List Call → State → State
+run n [] s = s
+run n (c ∷ cs) s = run n cs ((step n c s) .state)
+
+abbrev pub carriedOut : ℕ → Call → State → Bool
+carriedOut n c s = eqb (refusal n true c s) 0
+
+-- ---- the carried-out sweeps of a list
+
+-- "Held at a sweep: having a request just before it; handed out: in its reply."
+pub record Swept : Type 0 where
+  pub held : List Key
+  pub out : List Key
+
+abbrev pub isSweep : Ask → Bool
+isSweep (Announce c) = false
+isSweep (RequestParent c) = false
+isSweep (Failed k n now) = false
+isSweep (Unclaim k n) = false
+isSweep (SolicitPackageInfo n h hs now) = false
+isSweep (ClaimPackage n h c ws now) = false
+isSweep (BeginPackageResolution n h c ws now) = false
+isSweep (AnnounceParents n hs now b) = false
+isSweep (FailedPackageClaims n cs now b) = false
+isSweep (Plan now ks b) = false
+isSweep (Claim now l b) = false
+isSweep (Sweep b) = true
+isSweep (Disconnected n now b) = false
+isSweep (ReleasePackage n h now b) = false
+isSweep (TeardownPackageClaims now) = false
+isSweep (Forget k) = false
+isSweep (ForgetKnown k now) = false
+isSweep (FailedWithParents k n now b) = false
+isSweep (FailedPackageInfo k n now) = false
+isSweep (PackageInfoOwner k now) = false
+isSweep (AnnounceTransactions n now p w os) = false
+isSweep (TransactionResponseCompleted n x w now) = false
+isSweep (TransactionNotFound n l now b) = false
+isSweep (PollGate now) = false
+isSweep (Arrange ws l b) = false
+isSweep Sum = false
+
+abbrev pub sweeping : Call → Bool
+sweeping (Open L Q) = false
+sweeping (On a) = isSweep a
+
+abbrev pub opening : Call → Bool
+opening (Open L Q) = true
+opening (On a) = false
+
+abbrev pub sweptAt : State → Swept
+sweptAt s = record { held = keys (s .table); out = handed (s .knownCursor) (keys (s .table)) }
+
+-- those that a list carries out, in order
+unfoldable pub sweepsOf : ℕ → List Call → State → List Swept
+sweepsOf n [] s = []
+sweepsOf n (c ∷ cs) s =
+    let rest = sweepsOf n cs ((step n c s) .state) in
+    if sweeping c then (if carriedOut n c s then sweptAt s ∷ rest else rest) else rest
+
+-- "with no carried-out opening between"
+abbrev pub NoOpening : ℕ → List Call → State → Type 0
+NoOpening n [] s = Unit {0}
+NoOpening n (c ∷ cs) s = (opening c ≡ true → carriedOut n c s ≡ false) × NoOpening n cs ((step n c s) .state)
+
+-- ---- keys in lists
+
+unfoldable pub mem : Key → List Key → Bool
+mem k [] = false
+mem k (x ∷ l) = eqb (place x) (place k) || mem k l
+
+unfoldable pub less : Key → List Key → List Key
+less k [] = []
+less k (x ∷ l) = if eqb (place x) (place k) then less k l else x ∷ less k l
+
+-- no key twice
+unfoldable pub unique : List Key → List Key
+unique [] = []
+unique (x ∷ l) = x ∷ less x (unique l)
+
+unfoldable pub flat : List (List Key) → List Key
+flat [] = []
+flat (l ∷ ls) = l ++ flat ls
+
+-- "N different keys being held at one or more of them"
+abbrev pub differentKeys : List Swept → ℕ
+differentKeys ws = length (unique (flat (map (λ w. w .held) ws)))
+
+-- "each key held at all m"
+abbrev pub HeldAtAll : Key → List Swept → Type 0
+HeldAtAll k [] = Unit {0}
+HeldAtAll k (w ∷ ws) = (mem k (w .held) ≡ true) × HeldAtAll k ws
+
+-- "is handed out by one of them"
+abbrev pub HandedOut : Key → List Swept → Type 0
+HandedOut k ws = mem k (flat (map (λ w. w .out) ws)) ≡ true
+
+-- "for any m > 0 successive carried-out sweeps with no carried-out opening between": whatever stretch `part` of the list they
+-- stand in, "each key held at all m is handed out by one of them if m is at least floor((N − 1) / 1,024) + 1"
+abbrev pub Fair : ℕ → State → List Call → Type 0
+Fair n first calls =
+    (pre part post : List Call) → calls ≡ pre ++ (part ++ post) → NoOpening n part (run n pre first) → (k : Key)
+    → 0 < length (sweepsOf n part (run n pre first))
+    → HeldAtAll k (sweepsOf n part (run n pre first))
+    → (differentKeys (sweepsOf n part (run n pre first)) - 1) / maxKnownChecks + 1 ≤ length (sweepsOf n part (run n pre first))
+    → HandedOut k (sweepsOf n part (run n pre first))
+
+-- ---- the bounds of one state, in demand 3's words
+
+pub record Bounds (s : State) : Type 0 where
+  -- "no connection owns more than 100 requests"
+  pub owned : (n : ℕ) → ownedBy n (s .table) ≤ maxInFlight
+  -- "or has more than 5,000 announcements"
+  pub announced : (n : ℕ) → heldBy n (s .table) ≤ maxPeerAnnouncements
+  -- "no hash is owned under both kinds"
+  pub one-kind : (h : ℕ) → ownedAt h (s .table) ≤ 1
+  -- "or has more than eight candidates"
+  pub eight : (h : ℕ) → heldAt h (s .table) ≤ maxAlternates
+  -- "at most L announcements are held"
+  pub fits : held (s .table) ≤ s .limit
+  -- "every owner is a candidate of its request"
+  pub candidates : All (λ (r : Request). OwnerFits (r .owner) (r .candidates)) (s .table)
+
+-- "For every list of calls on one store, refused ones included, from an empty tracker or any sound store"
+abbrev pub Demand3 : Type 0
+Demand3 = (n : ℕ) (first : State) (calls : List Call) → Sound first → Each CallTyped calls → Bounds (run n calls first) × Fair n first calls

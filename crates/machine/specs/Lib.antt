@@ -1,0 +1,17 @@
+pub mod Limits
+pub mod State
+pub mod Table
+pub mod Announce
+pub mod Fail
+pub mod Package
+pub mod Leave
+pub mod Sweep
+pub mod Plan
+pub mod Claim
+pub mod Wrapper
+pub mod Call
+pub mod Step
+pub mod Sound
+pub mod Typed
+pub mod Demand3
+pub mod Edges
