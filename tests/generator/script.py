@@ -6,6 +6,8 @@ claim follows its solicitation and a clock comes to stand at a deadline. It neve
 import random
 from collections import deque
 
+import tales
+
 LAST_CLOCK = 2 ** 64 - 60_001
 LIFETIME = 60_000
 NUMBERS = (0, 1, 2, 3, 5, 7, 60_000, 2 ** 32, 2 ** 63, 2 ** 64 - 1)
@@ -22,9 +24,13 @@ class Script:
         self.profile = profile
         self.random = random.Random(f"{profile.name} {seed}")
         self.now = 0
-        self.deadlines = deque([LIFETIME], 8)
-        self.solicited = deque(maxlen=6)        # connection, hash
-        self.claimed = deque(maxlen=6)          # connection, hash, combined hash, wtxids
+        self.moments = deque([LIFETIME], 8)     # deadlines and polls to come
+        self.announced = deque(maxlen=12)       # key, connection
+        self.solicited = deque(maxlen=4)        # connection, hash
+        self.claimed = deque(maxlen=4)          # connection, hash, combined hash, wtxids
+        self.begun = deque(maxlen=4)            # connection, hash
+        self.follow = None                      # the word that goes on with a package
+        self.tale = deque()                     # lines that are to come, in turn
         self.words = list(profile.weights)
         self.weights = [profile.weights[w] for w in self.words]
 
@@ -62,16 +68,18 @@ class Script:
         return max(0, self.now + self.pick((-100, -1, 0, 0, 0, 1, 50, 2_000)))
 
     def clock(self):
-        """The clock moves on a little, comes to stand near a deadline, or goes back; now and then the call's own is past the end."""
-        turn = self.random.randrange(40)
+        """The clock moves on a little, comes to stand near a moment that matters, or goes back; now and then a call's own is past the end."""
+        turn = self.random.randrange(self.profile.pace)
+        if self.follow is not None:
+            return self.now
         if turn == 0:
             self.now = max(0, self.now - self.pick((1, 100, 30_000, 10 ** 6)))
-        elif turn < 4:
-            self.now = max(0, self.pick(self.deadlines) + self.pick((-1, 0, 0, 1)))
-        elif turn < 30:
-            self.now += self.pick((0, 0, 1, 10, 99, 100, 101))
-        elif turn < 32:
+        elif turn < 3:
+            self.now = max(0, self.pick(self.moments) + self.pick((-1, 0, 0, 1)))
+        elif turn == 3:
             self.now += self.pick((1_999, 2_000, 59_999, 60_000, 61_000))
+        elif turn % 2:
+            self.now += self.pick((0, 0, 1, 10, 99, 100))
         if self.profile.late and self.one_in(200):
             self.now = LAST_CLOCK - self.random.randrange(100_000)
         if self.now > LAST_CLOCK:
@@ -80,11 +88,19 @@ class Script:
             return self.pick((LAST_CLOCK + 1, 2 ** 64 - 1))
         return self.now
 
+    def passes(self, now, span):
+        """Notes a moment that matters later."""
+        self.moments.append(min(now + span, LAST_CLOCK))
+        return now
+
     def hashes(self, most=4):
-        if self.one_in(self.profile.odd * 4):
-            count = self.pick((99, 100, 101, 102))
-            return [format(x, "x") for x in range(1, count + 1)]
         return [self.hash_() for _ in range(self.random.randrange(most + 1))]
+
+    def parents(self):
+        """A few, or close to 100."""
+        if self.one_in(25):
+            return [format(x, "x") for x in range(self.pick((99, 100, 101, 102)))]
+        return self.hashes()
 
     def near(self, remembered, made):
         """Something remembered, with one part in eight drawn anew."""
@@ -95,14 +111,23 @@ class Script:
     # ---- lines
 
     def opening(self):
-        self.solicited.clear()
-        self.claimed.clear()
+        for remembered in (self.announced, self.solicited, self.claimed, self.begun):
+            remembered.clear()
+        self.follow = None
+        self.tale.clear()
         return self.call("open")
 
     def line(self):
-        if self.one_in(self.profile.noise):
-            return self.unreadable(self.call(self.random.choices(self.words, self.weights)[0]))
-        return self.call(self.random.choices(self.words, self.weights)[0])
+        word = self.random.choices(self.words, self.weights)[0]
+        self.follow = self.follow if self.one_in(2) else None
+        if self.follow is not None:
+            return self.call(self.follow)
+        if not self.tale and self.one_in(self.profile.tales):
+            self.tale.extend(tales.tale(self))
+        if self.tale and not self.one_in(4):
+            return self.tale.popleft()
+        line = self.call(word)
+        return self.unreadable(line) if self.one_in(self.profile.noise) else line
 
     def call(self, word):
         return ",".join(map(str, [word, *getattr(self, word)()]))
@@ -113,40 +138,55 @@ class Script:
         return self.pick(self.profile.sizes)
 
     def ann(self):
-        return self.connection(), self.item(), self.ready(), self.random.randrange(2), self.priority()
+        connection, item = self.connection(), self.item()
+        self.announced.append((("w" if item[0] == "w" else "t") + item.rpartition(":")[2].lstrip("tvw"), connection))
+        return connection, item, self.ready(), self.random.randrange(2), self.priority()
 
     par = ann
 
     def sol(self):
         connection, hash_, now = self.connection(), self.hash_(), self.clock()
         self.solicited.append((connection, hash_))
-        self.deadlines.append(now + LIFETIME if now <= LAST_CLOCK else now)
-        return connection, hash_, now, *listed(self.hashes())
-
-    def owned(self):
-        """A connection and a hash that it may own."""
-        return self.near(self.solicited, (self.connection(), self.hash_()))
+        self.follow = "clm"
+        return connection, hash_, self.passes(now, LIFETIME), *listed(self.parents())
 
     def clm(self):
-        connection, hash_ = self.owned()
+        connection, hash_ = self.solicited[-1] if self.follow else self.near(self.solicited, (self.connection(), self.hash_()))
         combined, wtxids = self.combined(), self.hashes(3)
+        if self.one_in(16):
+            wtxids = [format(x, "x") for x in range(self.pick((100, 101)))]
+        now = self.clock()
         self.claimed.append((connection, hash_, combined, wtxids))
-        return connection, hash_, combined, self.clock(), *listed(wtxids)
+        self.follow = self.pick(("beg", None))
+        return connection, hash_, combined, now, *listed(wtxids)
 
     def beg(self):
-        connection, hash_, combined, wtxids = self.near(self.claimed, (self.connection(), self.hash_(), self.combined(), self.hashes(3)))
-        if wtxids and self.one_in(6):
-            wtxids = self.pick((wtxids[::-1], wtxids[1:], wtxids + [self.hash_()]))
-        return connection, hash_, combined, self.clock(), *listed(wtxids)
+        connection, hash_, combined, wtxids = made = self.connection(), self.hash_(), self.combined(), self.hashes(3)
+        if self.follow or self.one_in(2):
+            connection, hash_, combined, wtxids = self.claimed[-1] if self.claimed else made
+        elif self.claimed:
+            connection, hash_, combined, wtxids = self.near(self.claimed, made)
+            if wtxids and self.one_in(3):
+                wtxids = self.pick((wtxids[::-1], wtxids[1:], wtxids + [self.hash_()]))
+        now = self.clock()
+        self.begun.append((connection, hash_))
+        self.follow = None
+        return connection, hash_, combined, now, *listed(wtxids)
+
+    def owned(self):
+        """A connection and a hash whose package or package information it may have."""
+        return self.near(self.pick((self.solicited, self.begun)), (self.connection(), self.hash_()))
+
+    def owned_key(self):
+        """A key and a connection that may own it."""
+        turn = self.random.randrange(3)
+        if turn == 0:
+            connection, hash_ = self.owned()
+            return self.pick("wwwt") + hash_, connection
+        return (self.key(), self.connection()) if turn == 1 else self.near(self.announced, (self.key(), self.connection()))
 
     def rel(self):
         return *self.owned(), self.clock()
-
-    def owned_key(self):
-        if self.one_in(2):
-            connection, hash_ = self.owned()
-            return self.pick("wwwt") + hash_, connection
-        return self.key(), self.connection()
 
     def bad(self):
         return *self.owned_key(), self.clock()
@@ -163,9 +203,7 @@ class Script:
         return self.clock(), *listed([self.key() for _ in range(self.random.randrange(6))])
 
     def take(self):
-        now = self.clock()
-        self.deadlines.append(now + LIFETIME if now <= LAST_CLOCK else now)
-        return (now,)
+        return (self.passes(self.clock(), LIFETIME),)
 
     def swp(self):
         return ()
@@ -173,20 +211,22 @@ class Script:
     sum = swp
 
     def gone(self):
-        return self.connection(), self.clock()
+        return self.owned()[0], self.clock()
 
     def kin(self):
-        return self.connection(), self.clock(), *listed(self.hashes())
+        return self.connection(), self.clock(), *listed(self.parents())
 
     def lost(self):
-        connection = self.pick(self.claimed)[0] if self.claimed and self.one_in(2) else self.connection()
-        return connection, self.clock(), *listed([self.combined() for _ in range(self.random.randrange(4))])
+        connection, named = self.connection(), [c[2] for c in self.claimed]
+        if named and not self.one_in(3):
+            connection = self.pick(self.claimed)[0]
+        return connection, self.clock(), *listed([self.pick(named + [self.combined()]) for _ in range(self.random.randrange(4))])
 
     def tear(self):
         return (self.clock(),)
 
     def drop(self):
-        return (self.key(),)
+        return (self.near(self.announced, (self.key(), 0))[0],)
 
     def known(self):
         return self.owned_key()[0], self.clock()
@@ -211,7 +251,7 @@ class Script:
         return connection, self.clock(), *listed(items)
 
     def poll(self):
-        return (self.clock(),)
+        return (self.passes(self.clock(), 100),)
 
     def send(self):
         return listed([self.connection() for _ in range(self.random.randrange(4))])

@@ -12,8 +12,9 @@ class Loaded(Script):
         self.entries = []
 
     def opening(self):
+        super().opening()
         self.now = self.pick((0, 1_000, 100_000))
-        self.deadlines.append(self.now)
+        self.moments.append(self.now)
         self.entries = []
         return "load," + self.state()
 
@@ -56,15 +57,16 @@ class Loaded(Script):
         if owner is None:
             return f"r,{kind}{hash_},none,none,0,none,0,{self.mark(kind)}"
         deadline = self.moment()
-        self.deadlines.append(deadline)
+        self.moments.append(deadline)
         place = "0,none,0"
         if kind == "w" and self.places and not self.one_in(3):
             self.places -= 1
             self.solicited.append((owner, hash_))
-            parents = listed(sorted(set(self.hashes()), key=lambda h: self.random.random()))[:101]
+            parents = listed(sorted(set(self.parents()), key=lambda h: self.random.random()))[:101]
             parents[0] = len(parents) - 1
             flag = self.one_in(3)
             if not flag:
+                self.begun.append((owner, hash_))
                 combined, wtxids = self.combined(), (self.hashes(3) or [self.hash_()])[:100]
                 self.claimed.append((owner, hash_, combined, wtxids))
                 package = ",".join(map(str, [self.pick(("awaiting", "enqueued")), combined, *listed(wtxids)]))
@@ -97,12 +99,17 @@ class Loaded(Script):
 
 
 class Large(Loaded):
-    """States at limits that event lines do not reach, each with a few calls that meet the limit."""
+    """States at limits that event lines do not reach, one after the other, each with a few calls that meet its limit."""
+
+    def __init__(self, profile, seed):
+        super().__init__(profile, seed)
+        self.limits = [self.owners, self.announcements, self.expiry, self.sweeping, self.selection]
+        self.turn, self.next = 0, []
 
     def opening(self):
-        self.entries = []
         self.now = 100_000
-        return getattr(self, self.pick(("owners", "announcements", "selection", "expiry", "sweeping")))()
+        self.turn += 1
+        return self.limits[(self.turn - 1) % len(self.limits)]()
 
     def load(self, requests, places=1, spare=0, cursor="none"):
         self.entries = [f"{r.split(',')[1]},{c}" for r in requests for c in r.split(";c,")[1:]]
@@ -115,27 +122,28 @@ class Large(Loaded):
     def owners(self):
         """Connection 7 owns 99 or 100 and could have three more."""
         count = self.pick((98, 99, 100))
-        self.next = ["plan", "take", "sol", "inv", "grab", "grab", "plan", "sol", "bad", "plan", "take"]
+        self.next = ["plan", "take", "sol", "inv", "grab", "plan", "sol", "bad", "plan", "take"]
         requests = [self.plain(h, 7, 7 if h < count else None, preferred=self.random.randrange(2), priority=h % 3) for h in range(count + 3)]
-        return self.load(requests, places=3, spare=self.pick((0, 50)))
+        return self.load(requests, places=3, spare=9)
 
     def announcements(self):
         """Connection 7 has close to 5,000 announcements."""
         count = self.pick((4_999, 5_000))
-        self.next = ["ann", "ann", "par", "sol", "kin", "inv", "drop", "ann"]
+        self.next = ["ann", "ann", "par", "sol", "kin", "inv"]
         return self.load([self.plain(h, 7, preferred=h % 2) for h in range(count)], spare=self.pick((0, 9)))
 
     def selection(self):
         """More than 1,024 keys are ready, of connections that stay below 100."""
         count = self.pick((1_023, 1_024, 1_025, 1_060))
-        self.next = ["plan", "take", "plan", "want"]
+        self.next = ["plan", "take", "plan"]
         requests = [self.plain(h, 20 + h % 12, priority=h % 5, ready=self.now) for h in range(count)]
         return self.load(requests, places=2, spare=5, cursor=self.pick(("none", "t100", "w0")))
 
     def expiry(self):
-        """Package information of 100 parents each is due, so that parents alone fill a phase."""
-        count = self.pick((10, 11))
-        self.next = ["want", "plan"]
+        """Package information of 100 parents each is due, so that parents alone may fill a phase."""
+        first = self.turn <= len(self.limits)
+        count = 11 if first else self.pick((10, 11))
+        self.next = ["want" if first else "plan"]
         requests = []
         for n in range(count):
             parents = ",".join(format(0x10000 + 100 * n + i, "x") for i in range(self.pick((99, 100))))
@@ -146,11 +154,22 @@ class Large(Loaded):
     def sweeping(self):
         """A sweep does not hand out all keys."""
         count = self.pick((1_024, 1_025, 1_500))
-        self.next = ["swp", "swp", "drop", "swp", "ann", "swp"]
+        self.next = ["swp", "swp", "ann", "swp"]
         return self.load([self.plain(h, 20 + h % 4) for h in range(count)], spare=3, cursor=self.pick(("none", "t100", "t5ff")))
 
     def line(self):
-        return self.call(self.next.pop(0)) if self.next else "sum"
+        return self.call(self.next.pop(0)) if self.next else self.opening()
 
     def connection(self):
         return 7
+
+    def want(self):
+        return self.clock(), 3, "wffff", "w1", self.key()
+
+    def inv(self):
+        """Inbound, beside a wtxid source."""
+        return 7, self.now, 0, 1, 2, "t" + self.hash_(), 3, "w" + self.hash_(), 4
+
+    def clock(self):
+        self.now += self.random.randrange(3)
+        return self.now
