@@ -1,2 +1,4 @@
 pub mod If
 pub mod Number
+pub mod Words
+pub mod Compare

@@ -1,4 +1,15 @@
-// Hashes, keys and items (document 01, "What a state holds", module 1).
+// Hashes, keys and items: module 1 of document 01 ("What a state holds").
+//
+// A hash is 32 bytes read as a number, a key is a hash as Txid or as Wtxid, an item is what an inventory entry names. Each contract
+// says what a function does to those numbers, by the definitions of specs/: nothing is promised of a hash but its number, and
+// proofs/Words.antt has the law that two hashes of one number are equal.
+ghost use mathlib.Core.Path.{_≡_};
+ghost use Prim.Native.Nat.{_+_, _*_, _<_, _≤_};
+ghost use lib.Dec.{ltb, eqb};
+ghost use lib.ListN.{length, take, drop};
+ghost use Rattle.ident.specs.Number.{txid, wtxid, other, place, typeOf, itemKindOf, isPlain, kindOf, keyOf};
+ghost use Rattle.ident.specs.Words.{bytesNum, hashNum, keyNum, itemNum, maybeKind, maybeKeyNum};
+ghost use Rattle.ident.specs.Compare.{orderOf, thenOf, kindRank};
 
 // Which of a transaction's two identities a hash is.
 pub enum Kind {
@@ -38,4 +49,86 @@ pub struct Item {
 pub enum MaybeKey {
     None,
     Is(Key),
+}
+
+pub enum MaybeKind {
+    None,
+    Is(Kind),
+}
+
+pub enum Order {
+    Less,
+    Equal,
+    Greater,
+}
+
+// The type numbers of the three kinds that have a key.
+pub const MSG_TX: u32 = 1;
+// BIP 144
+pub const MSG_WITNESS_TX: u32 = 0x4000_0001;
+// BIP 339
+pub const MSG_WTX: u32 = 5;
+
+pub fn cmp_word(a: u64, b: u64) -> Order
+    ensures { λ r. ⌜ r ≡ orderOf a b ⌝ }
+{
+    if a < b {
+        return Order::Less;
+    }
+    if b < a {
+        return Order::Greater;
+    }
+    Order::Equal
+}
+
+// The order of the high parts, and where those are equal that of the low.
+fn then(hi: Order, lo: Order) -> Order
+    ensures { λ r. ⌜ r ≡ thenOf hi lo ⌝ }
+{
+    match hi {
+        Order::Less => Order::Less,
+        Order::Greater => Order::Greater,
+        Order::Equal => lo,
+    }
+}
+
+pub fn cmp_hash(a: Hash, b: Hash) -> Order
+    ensures { λ r. ⌜ r ≡ orderOf (hashNum a) (hashNum b) ⌝ }
+{
+    let x = a.words;
+    let y = b.words;
+    let o3 = cmp_word(x[3], y[3]);
+    let o2 = then(o3, cmp_word(x[2], y[2]));
+    let o1 = then(o2, cmp_word(x[1], y[1]));
+    then(o1, cmp_word(x[0], y[0]))
+}
+
+// Every Txid key comes before every Wtxid key.
+fn kind_rank(k: Kind) -> u64
+    ensures { λ r. ⌜ r ≡ kindRank k ⌝ }
+{
+    match k {
+        Kind::Txid => 0,
+        Kind::Wtxid => 1,
+    }
+}
+
+pub fn cmp_key(a: Key, b: Key) -> Order
+    ensures { λ r. ⌜ r ≡ orderOf (place (keyNum a)) (place (keyNum b)) ⌝ }
+{
+    let i = a.kind;
+    let j = b.kind;
+    let lo = cmp_hash(a.hash, b.hash);
+    then(cmp_word(kind_rank(i), kind_rank(j)), lo)
+}
+
+pub fn kind_of(k: ItemKind) -> MaybeKind
+    ensures { λ r. ⌜ r ≡ maybeKind (kindOf k) ⌝ }
+{
+    match k {
+        ItemKind::Transaction => MaybeKind::Is(Kind::Txid),
+        ItemKind::WitnessTransaction => MaybeKind::Is(Kind::Txid),
+        ItemKind::WTx => MaybeKind::Is(Kind::Wtxid),
+        ItemKind::Other(_) => MaybeKind::None,
+    }
 }
