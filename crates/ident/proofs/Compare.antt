@@ -5,14 +5,14 @@ use native.Mathlib.Nat.{mul-le-mul-right, suc-mul, add-mul, mul-assoc}
 use native.Mathlib.Omega.{arith}
 use mathlib.Core.Bool.{Bool, true, false}
 use mathlib.Core.Logic.{_⊎_, inl, inr, ⊎-elim}
-use lib.Dec.{ltb}
-use borrow.Author.Tests.{ltb-true, ltb-false, lt-ltb, le-ltb}
+use lib.Dec.{ltb, eqb}
+use borrow.Author.Tests.{ltb-true, ltb-false, lt-ltb, le-ltb, eq-eqb, ne-eqb}
 use Rattle.ident.specs.declared.Order.{Order}
 use Rattle.ident.specs.declared.Order.the-variants.{Less, Equal, Greater}
-use Rattle.ident.specs.Compare.{orderOf, thenOf}
+use Rattle.ident.specs.Compare.{orderOf, thenOf, isLess, isEqual}
 use Rattle.ident.specs.Words.{wordsNum}
 
-either : (t : Bool) → (t ≡ true) ⊎ (t ≡ false)
+pub either : (t : Bool) → (t ≡ true) ⊎ (t ≡ false)
 either true = inl refl
 either false = inr refl
 
@@ -88,3 +88,23 @@ by-words w x y z w′ x′ y′ z′ gw gx gy gw′ gx′ gy′ =
     ap (λ (o : Order). thenOf (thenOf o (orderOf x x′)) (orderOf w w′)) (by-parts (2 ^ 64) y y′ z z′ gy gy′) ∙
     ap (λ (o : Order). thenOf o (orderOf w w′)) (by-parts (2 ^ 64) x x′ (y + z * 2 ^ 64) (y′ + z′ * 2 ^ 64) gx gx′) ∙
     by-parts (2 ^ 64) w w′ (x + (y + z * 2 ^ 64) * 2 ^ 64) (x′ + (y′ + z′ * 2 ^ 64) * 2 ^ 64) gw gw′
+
+-- ---- the answers to "less" and to "equal"
+
+is-less-test : (m n : ℕ) → isLess (orderOf m n) ≡ ltb m n
+is-less-test m n =
+    ⊎-elim (λ less. rw (is-less m n less, lt-ltb m n less))
+    (⊎-elim (λ more. rw (is-more m n more, le-ltb m n (omega (arith, more)))) (λ same. rw (is-same m n same, le-ltb m n (omega (arith, same)))))
+    (three m n)
+
+is-equal-test : (m n : ℕ) → isEqual (orderOf m n) ≡ eqb m n
+is-equal-test m n =
+    ⊎-elim (λ less. rw (is-less m n less, ne-eqb m n (λ e. omega (arith, e, less))))
+    (⊎-elim (λ more. rw (is-more m n more, ne-eqb m n (λ e. omega (arith, e, more)))) (λ same. rw (is-same m n same, eq-eqb m n same)))
+    (three m n)
+
+pub less-test : (m n : ℕ) {r : Bool} {o : Order} → r ≡ isLess o → o ≡ orderOf m n → r ≡ ltb m n
+less-test m n e f = e ∙ ap isLess f ∙ is-less-test m n
+
+pub equal-test : (m n : ℕ) {r : Bool} {o : Order} → r ≡ isEqual o → o ≡ orderOf m n → r ≡ eqb m n
+equal-test m n e f = e ∙ ap isEqual f ∙ is-equal-test m n

@@ -1,3 +1,4 @@
 pub mod Compare
 pub mod Words
 pub mod Places
+pub mod TypeNumbers

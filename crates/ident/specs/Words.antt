@@ -32,10 +32,10 @@ keyNum k = record { kind = k .kind; hash = hashNum (k .hash) }
 abbrev pub itemNum : Item → N.Item
 itemNum i = record { kind = i .kind; hash = hashNum (i .hash) }
 
--- what may be missing, as the code has it
-abbrev pub maybeKind : Option Kind → MaybeKind
-maybeKind none = KNone
-maybeKind (some k) = KIs k
+-- what may be missing
+abbrev pub maybeKind : MaybeKind → Option Kind
+maybeKind KNone = none
+maybeKind (KIs k) = some k
 
 abbrev pub maybeKeyNum : MaybeKey → Option N.Key
 maybeKeyNum None = none

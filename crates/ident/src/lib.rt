@@ -7,9 +7,9 @@ ghost use mathlib.Core.Path.{_≡_};
 ghost use Prim.Native.Nat.{_+_, _*_, _<_, _≤_};
 ghost use lib.Dec.{ltb, eqb};
 ghost use lib.ListN.{length, take, drop};
-ghost use Rattle.ident.specs.Number.{txid, wtxid, other, place, typeOf, itemKindOf, isPlain, kindOf, keyOf};
+ghost use Rattle.ident.specs.Number.{txid, wtxid, swap, other, place, typeOf, itemKindOf, isPlain, kindOf, keyOf};
 ghost use Rattle.ident.specs.Words.{bytesNum, hashNum, keyNum, itemNum, maybeKind, maybeKeyNum};
-ghost use Rattle.ident.specs.Compare.{orderOf, thenOf, kindRank};
+ghost use Rattle.ident.specs.Compare.{orderOf, thenOf, kindRank, isLess, isEqual};
 
 // Which of a transaction's two identities a hash is.
 pub enum Kind {
@@ -123,7 +123,7 @@ pub fn cmp_key(a: Key, b: Key) -> Order
 }
 
 pub fn kind_of(k: ItemKind) -> MaybeKind
-    ensures { λ r. ⌜ r ≡ maybeKind (kindOf k) ⌝ }
+    ensures { λ r. ⌜ maybeKind r ≡ kindOf k ⌝ }
 {
     match k {
         ItemKind::Transaction => MaybeKind::Is(Kind::Txid),
@@ -131,4 +131,147 @@ pub fn kind_of(k: ItemKind) -> MaybeKind
         ItemKind::WTx => MaybeKind::Is(Kind::Wtxid),
         ItemKind::Other(_) => MaybeKind::None,
     }
+}
+
+fn is_less(o: Order) -> bool
+    ensures { λ r. ⌜ r ≡ isLess o ⌝ }
+{
+    match o {
+        Order::Less => true,
+        Order::Equal => false,
+        Order::Greater => false,
+    }
+}
+
+fn is_equal(o: Order) -> bool
+    ensures { λ r. ⌜ r ≡ isEqual o ⌝ }
+{
+    match o {
+        Order::Less => false,
+        Order::Equal => true,
+        Order::Greater => false,
+    }
+}
+
+pub fn hash_less(a: Hash, b: Hash) -> bool
+    ensures { λ r. ⌜ r ≡ ltb (hashNum a) (hashNum b) ⌝ }
+{
+    is_less(cmp_hash(a, b))
+}
+
+pub fn hash_equal(a: Hash, b: Hash) -> bool
+    ensures { λ r. ⌜ r ≡ eqb (hashNum a) (hashNum b) ⌝ }
+{
+    is_equal(cmp_hash(a, b))
+}
+
+pub fn key_less(a: Key, b: Key) -> bool
+    ensures { λ r. ⌜ r ≡ ltb (place (keyNum a)) (place (keyNum b)) ⌝ }
+{
+    is_less(cmp_key(a, b))
+}
+
+pub fn key_equal(a: Key, b: Key) -> bool
+    ensures { λ r. ⌜ r ≡ eqb (place (keyNum a)) (place (keyNum b)) ⌝ }
+{
+    is_equal(cmp_key(a, b))
+}
+
+fn swapped(k: Kind) -> Kind
+    ensures { λ r. ⌜ r ≡ swap k ⌝ }
+{
+    match k {
+        Kind::Txid => Kind::Wtxid,
+        Kind::Wtxid => Kind::Txid,
+    }
+}
+
+pub fn same_hash_other_kind(k: Key) -> Key
+    ensures { λ r. ⌜ keyNum r ≡ other (keyNum k) ⌝ }
+{
+    let c = k.kind;
+    let kind = swapped(c);
+    let hash = k.hash;
+    Key { kind, hash }
+}
+
+pub fn txid_key(t: Txid) -> Key
+    ensures { λ r. ⌜ keyNum r ≡ txid (hashNum (t .0)) ⌝ }
+{
+    let hash = t.0;
+    Key {
+        kind: Kind::Txid,
+        hash,
+    }
+}
+
+pub fn wtxid_key(w: Wtxid) -> Key
+    ensures { λ r. ⌜ keyNum r ≡ wtxid (hashNum (w .0)) ⌝ }
+{
+    let hash = w.0;
+    Key {
+        kind: Kind::Wtxid,
+        hash,
+    }
+}
+
+pub fn item_kind(t: u32) -> ItemKind
+    ensures { λ r. ⌜ r ≡ itemKindOf t ⌝ }
+{
+    if t == MSG_TX {
+        return ItemKind::Transaction;
+    }
+    if t == MSG_WITNESS_TX {
+        return ItemKind::WitnessTransaction;
+    }
+    if t == MSG_WTX {
+        return ItemKind::WTx;
+    }
+    ItemKind::Other(t)
+}
+
+pub fn item_type(k: ItemKind) -> u32
+    ensures { λ r. ⌜ r ≡ typeOf k ⌝ }
+{
+    match k {
+        ItemKind::Transaction => MSG_TX,
+        ItemKind::WitnessTransaction => MSG_WITNESS_TX,
+        ItemKind::WTx => MSG_WTX,
+        ItemKind::Other(n) => n,
+    }
+}
+
+// False of an Other that holds one of the three numbers: no item is of that kind.
+pub fn is_plain(k: ItemKind) -> bool
+    ensures { λ r. ⌜ r ≡ isPlain k ⌝ }
+{
+    match k {
+        ItemKind::Other(n) => {
+            if n == MSG_TX {
+                return false;
+            }
+            if n == MSG_WITNESS_TX {
+                return false;
+            }
+            if n == MSG_WTX {
+                return false;
+            }
+            true
+        }
+        ItemKind::Transaction => true,
+        ItemKind::WitnessTransaction => true,
+        ItemKind::WTx => true,
+    }
+}
+
+// The Rust's Identity::from_inventory.
+pub fn key_of(item: Item) -> MaybeKey
+    ensures { λ r. ⌜ maybeKeyNum r ≡ keyOf (itemNum item) ⌝ }
+{
+    let ik = item.kind;
+    let MaybeKind::Is(kind) = kind_of(ik) else {
+        return MaybeKey::None;
+    };
+    let hash = item.hash;
+    MaybeKey::Is(Key { kind, hash })
 }
