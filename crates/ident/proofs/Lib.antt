@@ -2,3 +2,4 @@ pub mod Compare
 pub mod Words
 pub mod Places
 pub mod TypeNumbers
+pub mod Bytes

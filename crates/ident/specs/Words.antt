@@ -1,7 +1,6 @@
--- The numbers that the declared types stand for: of bytes, of a hash, of a key, of an item.
+-- The numbers that the declared types stand for: of a hash, of a key, of an item.
 -- Assumes nothing.
 use Prim.Native.Nat.{ℕ, _+_, _*_, _^_}
-use mathlib.Core.List.{List, [], _∷_}
 use mathlib.Core.Option.{Option, none, some}
 use lib.ListN.{getD}
 use Rattle.ident.specs.declared.Kind.{Kind}
@@ -13,11 +12,6 @@ use Rattle.ident.specs.declared.MaybeKind.the-variants.{None as KNone, I
 use Rattle.ident.specs.declared.MaybeKey.{MaybeKey}
 use Rattle.ident.specs.declared.MaybeKey.the-variants.{None, Is}
 use Rattle.ident.specs.Number as N
-
--- "A hash is 32 bytes, byte 31 the most significant": bytes as digits in base 256, the least first
-unfoldable pub bytesNum : List ℕ → ℕ
-bytesNum [] = 0
-bytesNum (b ∷ bs) = b + bytesNum bs * 256
 
 -- four words as digits in base 2^64, the least first
 abbrev pub wordsNum : ℕ → ℕ → ℕ → ℕ → ℕ
