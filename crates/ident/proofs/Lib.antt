@@ -3,3 +3,4 @@ pub mod Words
 pub mod Places
 pub mod TypeNumbers
 pub mod Bytes
+pub mod RoundTrip
