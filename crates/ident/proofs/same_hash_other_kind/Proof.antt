@@ -2,7 +2,6 @@
 use borrow.Author.Needs.{needs}
 use mathlib.Core.Path.{ap}
 use Rattle.ident.specs.declared.Kind.{Kind}
-use Rattle.ident.specs.Number.{Key}
 use Rattle.ident.specs.Words.{hashNum}
 use Rattle.ident.proofs.same_hash_other_kind.Statement.{statement}
 use Rattle.ident.proofs.same_hash_other_kind.Tie as tie
