@@ -7,15 +7,15 @@ use mathlib.Core.Bool.{Bool, true, false, not}
 use mathlib.Core.List.{List, [], _∷_, _++_}
 use native.Mathlib.Nat.{add-zero}
 use native.Mathlib.Omega.{arith}
-use lib.Dec.{ltb, eqb}
+use lib.Dec.{ltb, lit<}
 use lib.ListN.{length, getD}
 use borrow.Author.Tests.{ltb-true, ltb-false, lt-ltb, le-ltb}
-use Rattle.words.specs.Words.{number}
-use Rattle.words.proofs.Digits.{number-append}
+use Rattle.words.specs.Words.{number, digits}
+use Rattle.words.proofs.Digits.{number-append, number-digits, digits-number}
 use Rattle.regions.specs.declared.Quad.{Quad}
 use Rattle.regions.specs.declared.Key.{Key}
 use Rattle.regions.specs.Order.{Sorted, Bound, Sought, First, one}
-use Rattle.regions.specs.Rows.{quadWords, quadNumber, keyNumber}
+use Rattle.regions.specs.Rows.{quadWords, readQuad, quadNumber, quadOf, keyNumber}
 
 pub test : (b : Bool) → (b ≡ true) ⊎ (b ≡ false)
 test true = inl refl
@@ -66,6 +66,22 @@ pub record Small (q : Quad) : Type 0 where
   pub w1 : q .w1 < 2 ^ 64
   pub w2 : q .w2 < 2 ^ 64
   pub w3 : q .w3 < 2 ^ 64
+
+-- a hash and its number
+pub number-quad : (h : ℕ) → h < (2 ^ 64) ^ 4 → quadNumber (quadOf h) ≡ h
+unfolding quadNumber quadOf digits
+number-quad h l = number-digits (2 ^ 64) (lit< tt) 4 h l
+
+pub quad-number : (q : Quad) → Small q → quadOf (quadNumber q) ≡ q
+unfolding quadNumber quadOf digits
+quad-number q s = ap readQuad (digits-number (2 ^ 64) (lit< tt) (quadWords q) below)
+  where
+    below : (i : ℕ) → i < 4 → getD (quadWords q) i 0 < 2 ^ 64
+    below zero h = s .w0
+    below (suc zero) h = s .w1
+    below (suc (suc zero)) h = s .w2
+    below (suc (suc (suc zero))) h = s .w3
+    below (suc (suc (suc (suc i)))) h = absurd (omega arith)
 
 module _ {a b : Quad} (p : Small a) (q : Small b) where
   above-hash : {x y : ℕ} {r : Bool} → Differ x y r
