@@ -1,0 +1,5 @@
+pub mod Quads
+pub mod Bits
+pub mod Split
+pub mod Tally
+pub mod Entries
