@@ -3,3 +3,4 @@ pub mod Bits
 pub mod Split
 pub mod Tally
 pub mod Entries
+pub mod Counts
