@@ -100,6 +100,10 @@ unfolding has countIn
 in-hasnt n [] h = refl
 in-hasnt n (c ∷ cs) h = elim (test (eqb (c .connection) n)) [ inl e ↦ absurd (omega (arith, rw e at h)) | inr e ↦ let z : countIn (λ m. eqb m n) cs ≡ 0 = omega (arith, rw e at h) in rw e (in-hasnt n cs z) ]
 
+pub and-true : (b : Bool) → (b && true) ≡ b
+and-true true = refl
+and-true false = refl
+
 and-false : (b : Bool) → (b && false) ≡ false
 and-false true = refl
 and-false false = refl

@@ -4,3 +4,4 @@ pub mod Split
 pub mod Tally
 pub mod Entries
 pub mod Counts
+pub mod Certify
