@@ -5,3 +5,5 @@ pub mod Tally
 pub mod Entries
 pub mod Counts
 pub mod Certify
+pub mod Regather
+pub mod Dress
