@@ -58,14 +58,14 @@ data Has (r : Request) : List Place → Type 0 where
 wtxid-spot : (r : Request) → r .key .kind ≡ Wtxid → place (wtxid (r .key .hash)) ≡ place (r .key)
 wtxid-spot r e = rw e
 
-abbrev inPackage : Request → Package → Place
+abbrev pub inPackage : Request → Package → Place
 inPackage r p = record { hash = r .key .hash; combined = p .combined; stage = 2 + one (p .enqueued); wtxids = p .wtxids; parents = r .parents }
 
 in-package : (r : Request) (p : Package) (b : Bool) → p .enqueued ≡ b → r .info ≡ false → r .«package» ≡ some p → placed (inPackage r p) (bare r) ≡ r
 in-package r p true z e f = rw (z, e, f, ← z)
 in-package r p false z e f = rw (z, e, f, ← z)
 
-abbrev inFlag : Request → Place
+abbrev pub inFlag : Request → Place
 inFlag r = record { hash = r .key .hash; combined = 0; stage = 1; wtxids = []; parents = r .parents }
 
 in-flag : (r : Request) → r .info ≡ true → r .«package» ≡ none → placed (inFlag r) (bare r) ≡ r

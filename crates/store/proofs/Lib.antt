@@ -7,3 +7,6 @@ pub mod Counts
 pub mod Certify
 pub mod Regather
 pub mod Dress
+pub mod RowsFit
+pub mod PlacesFit
+pub mod ToFlat
