@@ -10,3 +10,5 @@ pub mod Dress
 pub mod RowsFit
 pub mod PlacesFit
 pub mod ToFlat
+pub mod RowBack
+pub mod Gathered
