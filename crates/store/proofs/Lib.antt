@@ -12,3 +12,5 @@ pub mod PlacesFit
 pub mod ToFlat
 pub mod RowBack
 pub mod Gathered
+pub mod Placed
+pub mod FromFlat
