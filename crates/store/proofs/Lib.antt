@@ -2,9 +2,10 @@ pub mod Quads
 pub mod Bits
 pub mod Split
 pub mod Tally
-pub mod Entries
+pub mod Bounds
 pub mod Counts
 pub mod Certify
+pub mod Entries
 pub mod Regather
 pub mod Dress
 pub mod RowsFit
