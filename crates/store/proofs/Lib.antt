@@ -1,5 +1,6 @@
 pub mod Quads
 pub mod Bits
+pub mod Keys
 pub mod Split
 pub mod Tally
 pub mod Bounds
