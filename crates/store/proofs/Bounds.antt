@@ -36,6 +36,11 @@ ascend-sorted lo ks a p q h l = go lo ks a p q h l
     go lo (k ∷ ks) a (suc p) zero h l = absurd (omega arith)
     go lo (k ∷ ks) a (suc p) (suc q) h l = go k ks (a .1) p q (omega arith) (omega arith)
 
+pub sorted-ascend : (lo : ℕ) (ks : List ℕ) → (0 < length ks → lo ≤ getD ks 0 0) → Sorted ks → Ascend lo ks
+unfolding Sorted
+sorted-ascend lo [] h s = tt
+sorted-ascend lo (k ∷ ks) h s = (h (omega arith), sorted-ascend k ks (λ l. s 0 1 (omega arith) (omega arith)) (λ p q a b. s (suc p) (suc q) (omega arith) (omega arith)))
+
 -- numbers below x
 abbrev pub Upto : ℕ → List ℕ → Type 0
 Upto x [] = Unit {0}

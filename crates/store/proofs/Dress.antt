@@ -51,7 +51,7 @@ dress-skip r [] qs a = refl
 dress-skip r (p ∷ ps) qs a = rw (ne-eqb (spotOf p) (place (r .key)) (a .0), dress-skip r ps qs (a .1))
 
 -- the one place of a request, if it has one
-data Has (r : Request) : List Place → Type 0 where
+pub data Has (r : Request) : List Place → Type 0 where
   nothing : bare r ≡ r → Has r []
   its : (p : Place) → spotOf p ≡ place (r .key) → placed p (bare r) ≡ r → Has r (p ∷ [])
 
@@ -71,7 +71,7 @@ inFlag r = record { hash = r .key .hash; combined = 0; stage = 1; wtxids = []; p
 in-flag : (r : Request) → r .info ≡ true → r .«package» ≡ none → placed (inFlag r) (bare r) ≡ r
 in-flag r e f = rw (e, f)
 
-has-place : (r : Request) → Lawful r → Has r (placesFor r)
+pub has-place : (r : Request) → Lawful r → Has r (placesFor r)
 unfolding placesFor
 has-place r l = go (r .info) (r .«package») refl refl (l .packed)
   where

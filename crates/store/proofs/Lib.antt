@@ -16,3 +16,4 @@ pub mod RowBack
 pub mod Gathered
 pub mod Placed
 pub mod FromFlat
+pub mod Window
