@@ -17,3 +17,4 @@ pub mod Gathered
 pub mod Placed
 pub mod FromFlat
 pub mod Window
+pub mod RowsAt
