@@ -1,24 +1,21 @@
 -- Requests find their places again, and a table is read back from its rows and places.
 -- Assumes nothing.
-use Prim.Native.Nat.{ℕ, zero, suc, _+_, _≤_, _<_}
+use Prim.Native.Nat.{ℕ, suc, _+_, _≤_, _<_}
 use mathlib.Core.Path.{_≡_, refl, sym, ap, _∙_}
 use mathlib.Core.Bool.{Bool, true, false}
 use mathlib.Core.List.{List, [], _∷_, _++_, map, append-assoc, append-nil}
 use mathlib.Core.Option.{Option, none, some}
 use native.Mathlib.Omega.{arith}
-use lib.Dec.{eqb}
 use borrow.Author.Tests.{eq-eqb, ne-eqb}
-use Rattle.ident.specs.declared.Kind.{Kind}
 use Rattle.ident.specs.declared.Kind.the-variants.{Wtxid}
-use Rattle.ident.specs.If.{if_then_else_}
-use Rattle.ident.specs.Number.{Key, place, wtxid}
+use Rattle.ident.specs.Number.{place, wtxid}
 use Rattle.regions.specs.Regions.{each}
 use Rattle.regions.specs.Places.{Place}
-use Rattle.machine.specs.State.{Owner, Package, Request, Table, State}
+use Rattle.machine.specs.State.{Package, Request, Table, State}
 use Rattle.machine.specs.Table.{one}
 use Rattle.machine.specs.Sound.{Packed, Lawful, Filled, Ordered, All, Sound}
 use Rattle.store.specs.Flat.{rowsOf, placeFor, placesFor, placesOf, flatOf}
-use Rattle.store.specs.Gather.{packageAt, placed, dress, tableIn, stateIn}
+use Rattle.store.specs.Gather.{placed, dress, tableIn, stateIn}
 use Rattle.store.proofs.Regather.{bare, gather-table}
 
 -- where a place's key stands in the order of keys

@@ -1,17 +1,14 @@
 -- The tally's entries by their places: what a search finds, and where one row more, one less or a new bit works.
 -- Assumes nothing.
 use Prim.Native.Nat.{ℕ, zero, suc, _+_, _-_, _≤_, _<_}
-use mathlib.Core.Path.{_≡_, refl, sym, ap, _∙_}
-use mathlib.Core.Logic.{_⊎_, inl, inr}
-use mathlib.Core.Bool.{Bool, true, false}
+use mathlib.Core.Path.{_≡_, refl, sym, _∙_}
+use mathlib.Core.Logic.{inl, inr}
 use mathlib.Core.List.{List, [], _∷_, _++_, map}
 use native.Mathlib.Nat.{le-refl}
 use native.Mathlib.Omega.{arith}
-use lib.Dec.{eqb}
 use lib.ListN.{length, take, drop, getD, set, length-map}
 use lib.Seq.{set-split}
 use borrow.Author.Tests.{eq-eqb, ne-eqb}
-use Rattle.ident.specs.If.{if_then_else_}
 use Rattle.regions.specs.declared.Row.{Row}
 use Rattle.regions.specs.declared.Conn.{Conn}
 use Rattle.regions.specs.Regions.{insertAt, removeAt}

@@ -1,24 +1,19 @@
 -- Records that pass the tests are those of a sound state.
 -- Assumes nothing.
-use Prim.Native.Nat.{ℕ, zero, suc, _+_, _≤_, _<_}
-use mathlib.Core.Path.{_≡_, refl, sym, ap, _∙_}
-use mathlib.Core.Logic.{_⊎_, inl, inr}
-use mathlib.Core.Bool.{Bool, true, false, _&&_}
-use mathlib.Core.List.{List, [], _∷_, map}
+use Prim.Native.Nat.{ℕ, _≤_}
+use mathlib.Core.Path.{_≡_, _∙_}
+use mathlib.Core.Logic.{inl, inr}
+use mathlib.Core.List.{List, [], _∷_}
 use native.Mathlib.Omega.{arith}
 use lib.Dec.{eqb}
-use lib.ListN.{length}
-use Rattle.ident.specs.If.{if_then_else_}
-use Rattle.regions.specs.declared.Row.{Row}
 use Rattle.regions.specs.declared.Conn.{Conn}
-use Rattle.regions.specs.Places.{Place}
 use Rattle.machine.specs.Limits.{maxPeerAnnouncements, maxInFlight}
-use Rattle.machine.specs.State.{Table, State, limitsOf}
-use Rattle.machine.specs.Table.{count, owners, byUnder}
-use Rattle.machine.specs.Sound.{All, Bounded, Sound}
+use Rattle.machine.specs.State.{Table, limitsOf}
+use Rattle.machine.specs.Table.{count, byUnder}
+use Rattle.machine.specs.Sound.{Lawful, All, Bounded, Sound}
 use Rattle.machine.specs.Typed.{Each}
 use Rattle.machine.proofs.Tests.{test}
-use Rattle.store.specs.Flat.{rowsOf, placesOf, tally, Flat, flatOf}
+use Rattle.store.specs.Flat.{rowsOf, placesOf, Flat, flatOf}
 use Rattle.store.specs.Gather.{gather, tableIn, stateIn}
 use Rattle.store.specs.FlatSound.{ConnFits, FlatSound}
 use Rattle.store.proofs.Counts.{held-rows, by-rows, under-rows, by-under-rows, DistinctIn, distinct-in, own-by-rows, own-under-rows, own-wtxid-rows, places-rows}
@@ -64,7 +59,7 @@ module _ (f : Flat) (s : FlatSound f) where
   unfolding tableIn
   places-are = d .places
 
-  lawful : All Rattle.machine.specs.Sound.Lawful u
+  lawful : All Lawful u
   unfolding tableIn
   lawful = d .lawful
 

@@ -1,29 +1,27 @@
 -- Rows that pass the tests are those of the requests that they show.
 -- Assumes nothing.
-use Prim.Native.Nat.{ℕ, zero, suc, _+_, _≤_, _<_}
+use Prim.Native.Nat.{ℕ, suc, _≤_}
 use mathlib.Core.Path.{_≡_, refl, sym, ap, _∙_}
-use mathlib.Core.Logic.{_⊎_, inl, inr}
-use mathlib.Core.Bool.{Bool, true, false, _&&_, _||_}
-use mathlib.Core.List.{List, [], _∷_, _++_, map, append-nil}
+use mathlib.Core.Logic.{inl, inr}
+use mathlib.Core.Bool.{Bool, true, false, _&&_}
+use mathlib.Core.List.{List, [], _∷_, _++_, map}
 use mathlib.Core.Option.{Option, none, some}
 use native.Mathlib.Omega.{arith}
 use lib.Dec.{eqb}
 use lib.ListN.{length}
 use borrow.Author.Tests.{eqb-true, eqb-false, eq-eqb, ne-eqb}
 use Rattle.ident.specs.declared.Kind.{Kind}
-use Rattle.ident.specs.If.{if_then_else_}
-use Rattle.ident.specs.Number.{top, Key, place}
+use Rattle.ident.specs.Number.{Key, place}
 use Rattle.regions.specs.declared.Row.{Row}
 use Rattle.regions.specs.Regions.{each}
-use Rattle.machine.specs.Limits.{maxParents}
 use Rattle.machine.specs.State.{Candidate, Owner, Package, Request, Table, ownerIs}
-use Rattle.machine.specs.Table.{one, countIn, total, count, ownerIn, owners, has, byUnder, under}
+use Rattle.machine.specs.Table.{countIn, total, ownerIn, has, byUnder, under}
 use Rattle.machine.specs.Sound.{OwnerFits, Packed, Lawful, Filled, Ordered, All}
 use Rattle.machine.specs.Typed.{Each}
 use Rattle.machine.proofs.Tests.{test, never}
 use Rattle.machine.proofs.Table.{place-inj}
-use Rattle.store.specs.Flat.{ownBit, rowOf, rowsFor, rowsOf}
-use Rattle.store.specs.Gather.{keyAt, candidateAt, ownerAt, single, joined, join, gather}
+use Rattle.store.specs.Flat.{rowOf, rowsFor, rowsOf}
+use Rattle.store.specs.Gather.{keyAt, single, joined, join, gather}
 use Rattle.store.specs.FlatSound.{countRows, hashAt, owns, markBit, RowFits, Ascending, MarkedAs, SameMarks}
 use Rattle.store.proofs.Bits.{bit-one, key-row, mark-row}
 use Rattle.store.proofs.Counts.{by-under-rows, own-under-rows, in-same, in-hasnt, DistinctIn, distinct-in}

@@ -18,3 +18,4 @@ pub mod Placed
 pub mod FromFlat
 pub mod Window
 pub mod RowsAt
+pub mod RowChanges

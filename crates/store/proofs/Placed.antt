@@ -1,24 +1,22 @@
 -- Places that pass the tests are those of the requests that are dressed with them.
 -- Assumes nothing.
-use Prim.Native.Nat.{ℕ, zero, suc, _+_, _≤_, _<_}
+use Prim.Native.Nat.{ℕ, zero, suc, _≤_, _<_}
 use mathlib.Core.Path.{_≡_, refl, sym, ap, _∙_}
-use mathlib.Core.Logic.{_⊎_, inl, inr}
+use mathlib.Core.Logic.{inl, inr}
 use mathlib.Core.Bool.{Bool, true, false}
-use mathlib.Core.List.{List, [], _∷_, _++_, map}
+use mathlib.Core.List.{List, [], _∷_, map}
 use mathlib.Core.Option.{Option, none, some}
 use native.Mathlib.Omega.{arith}
 use lib.Dec.{eqb}
-use lib.ListN.{length}
 use borrow.Author.Tests.{eq-eqb, ne-eqb}
 use Rattle.ident.specs.declared.Kind.{Kind}
 use Rattle.ident.specs.declared.Kind.the-variants.{Wtxid}
-use Rattle.ident.specs.If.{if_then_else_}
-use Rattle.ident.specs.Number.{top, Key, place, wtxid}
+use Rattle.ident.specs.Number.{Key, place, wtxid}
 use Rattle.regions.specs.declared.Row.{Row}
 use Rattle.regions.specs.Regions.{each}
 use Rattle.regions.specs.Places.{Place}
-use Rattle.machine.specs.State.{Candidate, Owner, Package, Request, Table, isSome}
-use Rattle.machine.specs.Table.{one, total, ownerIn, owners}
+use Rattle.machine.specs.State.{Owner, Package, Request, Table, isSome}
+use Rattle.machine.specs.Table.{total, ownerIn, owners}
 use Rattle.machine.specs.Sound.{Packed, Lawful, Filled, Ordered, All}
 use Rattle.machine.specs.Typed.{Each}
 use Rattle.machine.proofs.Tests.{by-test}

@@ -1,28 +1,25 @@
 -- The places of a sound table pass the tests of places.
 -- Assumes nothing.
-use Prim.Native.Nat.{ℕ, zero, suc, _+_, _≤_, _<_}
-use mathlib.Core.Path.{_≡_, refl, sym, ap, _∙_}
+use Prim.Native.Nat.{ℕ, suc, _+_, _≤_, _<_}
+use mathlib.Core.Path.{_≡_, refl}
 use mathlib.Core.Bool.{Bool, true, false}
-use mathlib.Core.List.{List, [], _∷_, _++_, map}
+use mathlib.Core.List.{List, [], _∷_, _++_}
 use mathlib.Core.Option.{Option, none, some}
 use native.Mathlib.Omega.{arith}
-use lib.Dec.{eqb}
 use borrow.Author.Tests.{eq-eqb}
-use Rattle.ident.specs.declared.Kind.{Kind}
-use Rattle.ident.specs.declared.Kind.the-variants.{Txid, Wtxid}
+use Rattle.ident.specs.declared.Kind.the-variants.{Wtxid}
 use Rattle.ident.specs.Number.{top, Key, place, wtxid}
 use Rattle.regions.specs.declared.Row.{Row}
 use Rattle.regions.specs.Regions.{each}
-use Rattle.regions.specs.Places.{Place}
 use Rattle.machine.specs.State.{Owner, Package, Request, Table, isSome}
 use Rattle.machine.specs.Table.{one, total, ownerIn, owners}
-use Rattle.machine.specs.Sound.{PackageFits, ParentsFit, Packed, Lawful, Ordered, All}
+use Rattle.machine.specs.Sound.{PackageFits, Packed, Lawful, Ordered, All}
 use Rattle.machine.specs.Typed.{Each}
 use Rattle.machine.proofs.Tests.{never}
 use Rattle.store.specs.Flat.{placeFor, placesFor, placesOf}
-use Rattle.store.specs.FlatSound.{countRows, packageOf, StageFits, ownsKey, PlaceFits, PlacesAscend}
+use Rattle.store.specs.FlatSound.{countRows, StageFits, ownsKey, PlaceFits, PlacesAscend}
 use Rattle.store.proofs.Counts.{atWtxid}
-use Rattle.store.proofs.Dress.{inPackage, inFlag}
+use Rattle.store.proofs.Dress.{inPackage}
 use Rattle.store.proofs.RowsFit.{each-both}
 
 -- ---- one place

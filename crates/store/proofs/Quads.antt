@@ -1,8 +1,7 @@
 -- A hash as four words and as a number decide each other.
 -- Assumes nothing.
-use Prim.Native.Nat.{ℕ, zero, suc, _+_, _*_, _/_, _%_, _^_, _≤_, _<_}
-use mathlib.Core.Path.{_≡_, refl, sym, ap, _∙_}
-use mathlib.Core.List.{List, [], _∷_}
+use Prim.Native.Nat.{ℕ, _+_, _*_, _/_, _%_, _^_, _<_}
+use mathlib.Core.Path.{_≡_, ap, _∙_}
 use native.Mathlib.Omega.{arith}
 use Rattle.ident.specs.Number.{top}
 use Rattle.words.specs.Words.{number}

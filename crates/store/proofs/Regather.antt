@@ -1,9 +1,9 @@
 -- The requests that rows show are those that they were made of, without their places.
 -- Assumes nothing.
-use Prim.Native.Nat.{ℕ, zero, suc, _+_, _≤_, _<_}
+use Prim.Native.Nat.{ℕ, suc}
 use mathlib.Core.Path.{_≡_, refl, sym, ap, _∙_}
-use mathlib.Core.Logic.{_⊎_, inl, inr}
-use mathlib.Core.Bool.{Bool, true, false, _||_}
+use mathlib.Core.Logic.{inl, inr}
+use mathlib.Core.Bool.{false}
 use mathlib.Core.List.{List, [], _∷_, _++_, map}
 use mathlib.Core.Option.{Option, none, some}
 use native.Mathlib.Omega.{arith}
@@ -11,15 +11,15 @@ use lib.Dec.{eqb}
 use lib.ListN.{length}
 use borrow.Author.Tests.{eq-eqb, ne-eqb}
 use Rattle.ident.specs.If.{if_then_else_}
-use Rattle.ident.specs.Number.{Key, place, keyOf}
+use Rattle.ident.specs.Number.{place, keyOf}
 use Rattle.regions.specs.declared.Row.{Row}
 use Rattle.regions.specs.Regions.{each}
-use Rattle.machine.specs.State.{Candidate, Owner, Package, Request, Table, ownerIs}
+use Rattle.machine.specs.State.{Candidate, Owner, Request, Table, ownerIs}
 use Rattle.machine.specs.Table.{has}
 use Rattle.machine.specs.Sound.{AllFit, OwnerFits, Lawful, Filled, Ordered, All}
 use Rattle.machine.proofs.Tests.{test}
 use Rattle.store.specs.Flat.{rowOf, rowsFor, rowsOf}
-use Rattle.store.specs.Gather.{keyAt, candidateAt, ownerAt, single, joined, join, gather}
+use Rattle.store.specs.Gather.{keyAt, single, joined, join, gather}
 use Rattle.store.proofs.Bits.{bit-one, key-row, mark-row, candidate-row, owner-row}
 use Rattle.store.proofs.Counts.{eqb-sym}
 

@@ -2,8 +2,8 @@
 -- Assumes nothing.
 use Prim.Native.Nat.{ℕ, zero, suc, _+_, _*_, _/_, _%_, _≤_, _<_}
 use mathlib.Core.Path.{_≡_, refl, sym, ap, _∙_}
-use mathlib.Core.Logic.{_⊎_, inl, inr}
-use mathlib.Core.Bool.{Bool, true, false, _||_}
+use mathlib.Core.Logic.{inl, inr}
+use mathlib.Core.Bool.{Bool, true, false}
 use mathlib.Core.List.{List, [], _∷_, map}
 use mathlib.Core.Option.{Option, none, some}
 use native.Mathlib.Omega.{arith}
@@ -11,17 +11,14 @@ use lib.Dec.{eqb}
 use borrow.Author.Tests.{eqb-true, eqb-false, eq-eqb}
 use Rattle.ident.specs.declared.Kind.{Kind}
 use Rattle.ident.specs.declared.Kind.the-variants.{Txid, Wtxid}
-use Rattle.ident.specs.If.{if_then_else_}
-use Rattle.ident.specs.Number.{top, Key, keyOf, kindOf, keyAs}
-use Rattle.regions.specs.declared.Quad.{Quad}
+use Rattle.ident.specs.Number.{top, Key, kindOf, keyAs}
 use Rattle.regions.specs.declared.Row.{Row}
 use Rattle.regions.specs.Rows.{quadNumber}
-use Rattle.machine.specs.Limits.{word}
 use Rattle.machine.specs.State.{Candidate, Owner, Package, Request, ownerIs}
 use Rattle.machine.specs.Table.{one, has}
 use Rattle.machine.specs.Sound.{Fits, OwnerFits, Marked}
-use Rattle.machine.proofs.Tests.{test, never, or-left, or-right, or-true}
-use Rattle.store.specs.Flat.{quadOf, kindBit, witnessBit, deadlineFor, bitsOf, ownBit, rowOf}
+use Rattle.machine.proofs.Tests.{test, or-left, or-right, or-true}
+use Rattle.store.specs.Flat.{kindBit, witnessBit, deadlineFor, bitsOf, ownBit, rowOf}
 use Rattle.store.specs.Gather.{kindIs, keyAt, itemKindAs, candidateAt, ownerAt}
 use Rattle.store.specs.FlatSound.{owns, markBit, RowFits}
 use Rattle.store.proofs.Quads.{quad-number, number-top}
@@ -134,7 +131,7 @@ module _ (r : Row) (f : RowFits r) where
 -- ---- the other rows of a request
 
 -- a row depends on its request's key, mark and owner
-row-same : (q p : Request) (c : Candidate) → q .key ≡ p .key → q .fallback ≡ p .fallback → ownerIs (c .connection) (q .owner) ≡ ownerIs (c .connection) (p .owner) → deadlineFor (c .connection) (q .owner) ≡ deadlineFor (c .connection) (p .owner) → rowOf q c ≡ rowOf p c
+pub row-same : (q p : Request) (c : Candidate) → q .key ≡ p .key → q .fallback ≡ p .fallback → ownerIs (c .connection) (q .owner) ≡ ownerIs (c .connection) (p .owner) → deadlineFor (c .connection) (q .owner) ≡ deadlineFor (c .connection) (p .owner) → rowOf q c ≡ rowOf p c
 unfolding rowOf
 row-same q p c e m w d = cc
 

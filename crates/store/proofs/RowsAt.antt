@@ -1,28 +1,26 @@
 -- A row put in, taken out or replaced at an index: the tally, and the machine's push and cut.
 -- Assumes nothing.
-use Prim.Native.Nat.{ℕ, zero, suc, _+_, _≤_, _<_}
+use Prim.Native.Nat.{ℕ, suc, _+_, _<_}
 use mathlib.Core.Path.{_≡_, refl, sym, ap, _∙_}
-use mathlib.Core.Logic.{_⊎_, inl, inr}
-use mathlib.Core.Bool.{Bool, true, false, _||_}
+use mathlib.Core.Logic.{inl, inr}
+use mathlib.Core.Bool.{Bool, true, false}
 use mathlib.Core.List.{List, [], _∷_, _++_, map, append-assoc}
 use mathlib.Core.Option.{Option, none, some}
 use native.Mathlib.Omega.{arith}
 use lib.Dec.{eqb}
 use lib.ListN.{length, take, drop, getD, set, take-append-drop, length-append}
-use lib.Seq.{take-at, drop-at, drop-cons, set-split, set-at, drop-append-add}
+use lib.Seq.{take-at, drop-at, drop-cons, set-split, drop-append-add}
 use borrow.Author.Tests.{eqb-true}
-use Rattle.ident.specs.If.{if_then_else_}
 use Rattle.ident.specs.Number.{Key}
 use Rattle.regions.specs.declared.Row.{Row}
-use Rattle.regions.specs.declared.Conn.{Conn}
 use Rattle.regions.specs.Regions.{insertAt, removeAt}
-use Rattle.machine.specs.State.{Candidate, Owner, Package, Request, Table, withCandidates}
+use Rattle.machine.specs.State.{Candidate, Package, Request, Table, withCandidates}
 use Rattle.machine.specs.Table.{at, has}
 use Rattle.machine.specs.Announce.{without, push, cut}
 use Rattle.machine.specs.Sound.{Ordered}
 use Rattle.machine.proofs.Tests.{test, never}
 use Rattle.store.specs.Flat.{ownBit, rowOf, rowsFor, rowsOf, placeFor, placesFor, placesOf, bump, tally}
-use Rattle.store.proofs.Split.{rowsBelow, rowsAbove, placesBelow, placesAbove, rows-at, places-at, rows-change, places-change}
+use Rattle.store.proofs.Split.{rowsBelow, rowsAbove, rows-at, places-at, rows-change, places-change}
 use Rattle.store.proofs.Tally.{unbump, retally, tally-row, tally-less, tally-changed}
 use Rattle.store.proofs.RowBack.{rows-like}
 

@@ -1,8 +1,8 @@
 -- The rows of a sound table pass the tests of rows.
 -- Assumes nothing.
-use Prim.Native.Nat.{ℕ, zero, suc, _+_, _/_, _%_, _≤_, _<_}
-use mathlib.Core.Path.{_≡_, refl, sym, ap, _∙_}
-use mathlib.Core.Logic.{_⊎_, inl, inr}
+use Prim.Native.Nat.{ℕ, suc, _≤_, _<_}
+use mathlib.Core.Path.{_≡_, refl, sym, _∙_}
+use mathlib.Core.Logic.{inl, inr}
 use mathlib.Core.Bool.{Bool, true, false}
 use mathlib.Core.List.{List, [], _∷_, _++_, map}
 use mathlib.Core.Option.{Option, none, some}
@@ -13,7 +13,6 @@ use Rattle.ident.specs.declared.Kind.{Kind}
 use Rattle.ident.specs.declared.Kind.the-variants.{Txid, Wtxid}
 use Rattle.ident.specs.declared.ItemKind.{ItemKind}
 use Rattle.ident.specs.declared.ItemKind.the-variants.{Transaction, WitnessTransaction, WTx, Other}
-use Rattle.ident.specs.If.{if_then_else_}
 use Rattle.ident.specs.Number.{top, Key, place, Item, keyOf}
 use Rattle.regions.specs.declared.Row.{Row}
 use Rattle.regions.specs.Regions.{each}
@@ -23,9 +22,9 @@ use Rattle.machine.specs.Table.{one}
 use Rattle.machine.specs.Sound.{Fits, AllFit, OwnerFits, Marked, Lawful, Ordered, All}
 use Rattle.machine.specs.Typed.{Each}
 use Rattle.machine.proofs.Tests.{test}
-use Rattle.store.specs.Flat.{kindBit, witnessBit, deadlineFor, ownBit, rowOf, rowsFor, rowsOf}
+use Rattle.store.specs.Flat.{kindBit, witnessBit, deadlineFor, rowOf, rowsFor, rowsOf}
 use Rattle.store.specs.Gather.{keyAt}
-use Rattle.store.specs.FlatSound.{markBit, RowFits, Ascending, MarkedAs, SameMarks}
+use Rattle.store.specs.FlatSound.{RowFits, Ascending, MarkedAs, SameMarks}
 use Rattle.store.proofs.Quads.{quad-fits}
 use Rattle.store.proofs.Bits.{bits-kind, bits-witness, bits-few, key-row, own-row, mark-row}
 

@@ -1,18 +1,11 @@
 -- A sound state's records pass the tests.
 -- Assumes nothing.
-use Prim.Native.Nat.{ℕ, zero, suc, _+_, _≤_, _<_}
-use mathlib.Core.Path.{_≡_, refl, sym, ap, _∙_}
-use mathlib.Core.Bool.{Bool, true, false, _&&_}
-use mathlib.Core.List.{List, [], _∷_}
+use mathlib.Core.Path.{refl}
 use native.Mathlib.Omega.{arith}
-use lib.Dec.{eqb}
 use Rattle.regions.specs.declared.Conn.{Conn}
-use Rattle.machine.specs.Limits.{maxPeerAnnouncements, maxInFlight}
 use Rattle.machine.specs.State.{Table, State, limitsOf}
-use Rattle.machine.specs.Table.{count, owners, by}
 use Rattle.machine.specs.Sound.{All, Bounded, Sound}
-use Rattle.machine.specs.Typed.{Each}
-use Rattle.store.specs.Flat.{rowsOf, tally, placesOf, flatOf}
+use Rattle.store.specs.Flat.{rowsOf, tally, flatOf}
 use Rattle.store.specs.FlatSound.{ConnFits, FlatSound}
 use Rattle.store.proofs.Counts.{held-rows, by-rows, under-rows, by-under-rows, DistinctIn, distinct-in, own-by-rows, own-under-rows, own-wtxid-rows, places-rows}
 use Rattle.store.proofs.Certify.{Counted, tally-counted}

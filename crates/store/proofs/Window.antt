@@ -1,16 +1,14 @@
 -- Where the rows of a key and the place of a hash stand: what a search finds.
 -- Assumes nothing.
-use Prim.Native.Nat.{ℕ, zero, suc, _+_, _≤_, _<_}
-use mathlib.Core.Path.{_≡_, refl, sym, ap, _∙_}
-use mathlib.Core.Logic.{_⊎_, inl, inr}
-use mathlib.Core.Bool.{Bool, true, false}
+use Prim.Native.Nat.{ℕ, suc, _+_, _≤_, _<_}
+use mathlib.Core.Path.{_≡_, refl, ap, _∙_}
+use mathlib.Core.Logic.{inl, inr}
 use mathlib.Core.List.{List, [], _∷_, _++_, map, append-assoc}
 use native.Mathlib.Nat.{le-refl}
 use native.Mathlib.Omega.{arith}
 use lib.Dec.{ltb, leb}
 use lib.ListN.{length, getD, length-append, length-map}
 use lib.Seq.{getD-at}
-use Rattle.ident.specs.If.{if_then_else_}
 use Rattle.ident.specs.Number.{top, Key, place, wtxid}
 use Rattle.regions.specs.declared.Row.{Row}
 use Rattle.regions.specs.Regions.{each}
@@ -23,13 +21,12 @@ use Rattle.machine.specs.Sound.{Lawful, Ordered, All}
 use Rattle.machine.proofs.Tests.{test}
 use Rattle.machine.proofs.Table.{at-key, lawful-at}
 use Rattle.store.specs.Flat.{rowOf, rowsFor, rowsOf, placesFor, placesOf}
-use Rattle.store.specs.Gather.{keyAt}
 use Rattle.store.specs.FlatSound.{Ascending, PlacesAscend}
 use Rattle.store.proofs.Bits.{key-row}
 use Rattle.store.proofs.Keys.{row-number}
 use Rattle.store.proofs.Split.{below, above, above-ordered, below-under, rowsBelow, rowsAbove, placesBelow, placesAbove, rows-at, places-at}
 use Rattle.store.proofs.Bounds.{Ascend, ascend-weaken, ascend-sorted, sorted-ascend, Upto, upto-weaken, upto-append, bound-append}
-use Rattle.store.proofs.Dress.{Has, nothing, its, has-place, spotOf}
+use Rattle.store.proofs.Dress.{Has, nothing, its, has-place}
 use Rattle.store.proofs.RowsFit.{rows-ascend}
 use Rattle.store.proofs.PlacesFit.{places-ascend}
 
