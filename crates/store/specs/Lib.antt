@@ -1,0 +1,3 @@
+pub mod Flat
+pub mod Gather
+pub mod FlatSound
