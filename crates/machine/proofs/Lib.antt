@@ -2,3 +2,4 @@ pub mod Tests
 pub mod Table
 pub mod At
 pub mod Lengths
+pub mod Distinct
