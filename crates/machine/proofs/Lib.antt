@@ -3,3 +3,4 @@ pub mod Table
 pub mod At
 pub mod Lengths
 pub mod Distinct
+pub mod Chosen
