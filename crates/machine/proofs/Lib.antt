@@ -1,5 +1,9 @@
 pub mod Tests
 pub mod Table
+pub mod Change
+pub mod Announce
+pub mod Fail
+pub mod Plan
 pub mod At
 pub mod Lengths
 pub mod Distinct
