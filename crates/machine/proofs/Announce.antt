@@ -110,7 +110,7 @@ pub each-map : {A : Type 0} (P R : A → Type 0) (l : List A) → ((v : A) → P
 each-map P R [] f a = tt
 each-map P R (v ∷ l) f a = (f v (a .0), each-map P R l f (a .1))
 
-greatest-of : (P : Entry → Type 0) (a : Entry) (l : List Entry) → P a → Each P l → P (greatestFrom a l)
+pub greatest-of : (P : Entry → Type 0) (a : Entry) (l : List Entry) → P a → Each P l → P (greatestFrom a l)
 unfolding greatestFrom
 greatest-of P a [] p all = p
 greatest-of P a (b ∷ l) p all = elim (test (after b a)) [ inl e ↦ rw e (greatest-of P b l (all .0) (all .1)) | inr e ↦ rw e (greatest-of P a l p (all .1)) ]
@@ -132,12 +132,12 @@ in-victims r (c ∷ cs) =
     more : Each (InRequest r cs) (victimsIn r cs) → Each (InRequest r (c ∷ cs)) (victimsIn r cs)
     more = each-map (InRequest r cs) _ (victimsIn r cs) (λ v x. record { same = x .same; held = or-true (eqb (c .connection) (v .candidate .connection)) _ (x .held); free = x .free })
 
-record Victim (p : Key → Bool) (lo : ℕ) (t : Table) (v : Entry) : Type 0 where
-  from : lo ≤ place (v .key)
-  small : v .key .hash < top
-  passes : p (v .key) ≡ true
-  held : has (v .candidate .connection) ((at (v .key) t) .candidates) ≡ true
-  free : ownerIs (v .candidate .connection) ((at (v .key) t) .owner) ≡ false
+pub record Victim (p : Key → Bool) (lo : ℕ) (t : Table) (v : Entry) : Type 0 where
+  pub from : lo ≤ place (v .key)
+  pub small : v .key .hash < top
+  pub passes : p (v .key) ≡ true
+  pub held : has (v .candidate .connection) ((at (v .key) t) .candidates) ≡ true
+  pub free : ownerIs (v .candidate .connection) ((at (v .key) t) .owner) ≡ false
 
 at-here : (k : Key) (r : Request) (t : Table) → k ≡ r .key → at k (r ∷ t) ≡ r
 unfolding at
@@ -147,7 +147,7 @@ at-there : (k : Key) (r : Request) (t : Table) → place (r .key) < place k → 
 unfolding at
 at-there k r t h = rw (ne-eqb (place k) (place (r .key)) (λ e. omega arith))
 
-victims-all : (p : Key → Bool) (lo : ℕ) (t : Table) → Ordered lo t → Each (Victim p lo t) (victims p t)
+pub victims-all : (p : Key → Bool) (lo : ℕ) (t : Table) → Ordered lo t → Each (Victim p lo t) (victims p t)
 unfolding victims
 victims-all p lo [] o = tt
 victims-all p lo (r ∷ t) o = each-append _ (if p (r .key) then victimsIn r (r .candidates) else []) (victims p t) (here (p (r .key)) refl) (each-map _ _ (victims p t) there (victims-all p _ t (o .2)))

@@ -1,10 +1,13 @@
 pub mod Tests
 pub mod Table
+pub mod At
+pub mod Alone
+pub mod Lengths
+pub mod Distinct
+pub mod Chosen
 pub mod Change
 pub mod Announce
 pub mod Fail
 pub mod Plan
-pub mod At
-pub mod Lengths
-pub mod Distinct
-pub mod Chosen
+pub mod Claim
+pub mod Package
