@@ -53,7 +53,7 @@ pub none-hold : (r : Request) → Lawful r → r .owner ≡ none → holdOf r �
 none-hold r l e = none-hold′ (r .key .kind) (r .owner) (r .info) (r .«package») (r .parents) e (l .packed)
 
 -- an owner is a candidate, so that a request with none holds nothing
-owner-empty : (o : Option Owner) (cs : List Candidate) → cs ≡ [] → OwnerFits o cs → o ≡ none
+pub owner-empty : (o : Option Owner) (cs : List Candidate) → cs ≡ [] → OwnerFits o cs → o ≡ none
 unfolding has
 owner-empty none cs e h = refl
 owner-empty (some o) [] e h = never (h .0)
@@ -74,7 +74,7 @@ pub alone-then : {t t′ t″ : Table} → Alone t t′ → Alone t′ t″ → 
 alone-then a b = record { hold = λ j s. b .hold j s ∙ a .hold j s }
 
 -- what `keep` leaves holds the same, if a request that goes holds nothing
-hold-kept : (k : Key) (r : Request) (x : Hold) (cs : List Candidate) → holdOf r ≡ x → (cs ≡ [] → x ≡ noHold) → holdOf (kept k r cs) ≡ x
+pub hold-kept : (k : Key) (r : Request) (x : Hold) (cs : List Candidate) → holdOf r ≡ x → (cs ≡ [] → x ≡ noHold) → holdOf (kept k r cs) ≡ x
 hold-kept k r x [] e z = sym (z refl)
 hold-kept k r x (c ∷ cs) e z = e
 

@@ -5,6 +5,7 @@ pub mod Alone
 pub mod Lengths
 pub mod Distinct
 pub mod Chosen
+pub mod Loosened
 pub mod Change
 pub mod Announce
 pub mod Fail
