@@ -32,11 +32,11 @@ kept k r (c ∷ cs) = r
 
 -- ---- the key that is changed
 
-at-here : (k : Key) (r : Request) (t : Table) → place k ≡ place (r .key) → at k (r ∷ t) ≡ r
+pub at-here : (k : Key) (r : Request) (t : Table) → place k ≡ place (r .key) → at k (r ∷ t) ≡ r
 unfolding at
 at-here k r t e = rw (eq-eqb (place k) (place (r .key)) e)
 
-at-there : (k : Key) (r : Request) (t : Table) → (place k ≡ place (r .key) → ⊥) → at k (r ∷ t) ≡ at k t
+pub at-there : (k : Key) (r : Request) (t : Table) → (place k ≡ place (r .key) → ⊥) → at k (r ∷ t) ≡ at k t
 unfolding at
 at-there k r t e = rw (ne-eqb (place k) (place (r .key)) e)
 

@@ -6,6 +6,7 @@ pub mod Lengths
 pub mod Distinct
 pub mod Chosen
 pub mod Loosened
+pub mod Places
 pub mod Change
 pub mod Announce
 pub mod Fail

@@ -22,7 +22,7 @@ use Rattle.machine.specs.Sound.{Ordered, All, Lawful, Bounded}
 use Rattle.machine.proofs.Tests.{test, by-test, never, and-left}
 use Rattle.machine.proofs.Table.{place-inj, ordered-change, at-absent, lawful-at, total-change, places-change}
 use Rattle.machine.proofs.Change.{Shrinks, bounded-change, owner-without}
-use Rattle.machine.proofs.Fail.{Peer, FewHashes, shrinks-left, bounded-failed, bounded-leaves}
+use Rattle.machine.proofs.Fail.{Peer, FewHashes, few-for, shrinks-left, bounded-failed, bounded-leaves}
 use Rattle.machine.proofs.At.{KeepsKey, kept, at-other, at-both-else}
 use Rattle.machine.proofs.Alone.{Hold, holdOf, noHold, none-hold, owner-empty, hold-kept, at-either, Alone, alone-parents}
 
@@ -56,7 +56,7 @@ unfolding left
 left-key n now r = by-test (λ (q : Request). q .key ≡ r .key) (ownerIs n (r .owner)) (λ e. refl) (λ e. refl)
 
 -- its hold goes if it is the owner, and stays otherwise
-left-hold : (n now : ℕ) (r : Request) (b : Bool) → ownerIs n (r .owner) ≡ b → holdOf (left n now r) ≡ (if b then noHold else holdOf r)
+pub left-hold : (n now : ℕ) (r : Request) (b : Bool) → ownerIs n (r .owner) ≡ b → holdOf (left n now r) ≡ (if b then noHold else holdOf r)
 unfolding left
 left-hold n now r true e = rw e
 left-hold n now r false e = rw e
@@ -109,3 +109,15 @@ module _ {m : Limits} {Q : ℕ} {t : Table} (k : Key) (n now : ℕ) (s : k .hash
 pub failed-else : (j k : Key) (n now : ℕ) (t : Table) → (place j ≡ place k → ⊥) → (place j ≡ place (other k) → ⊥) → at j ((failed k n now t) .table) ≡ at j t
 unfolding failed
 failed-else j k n now t a b = by-test (λ (x : Answer). at j (x .table) ≡ at j t) (releasable n (at k t)) (λ e. at-both-else j k (left n now) t (left-key n now) a b) (λ e. refl)
+
+-- ---- failing, with parents
+
+-- the parents that a request hands on are few, and hashes
+module _ {m : Limits} {Q : ℕ} {t : Table} (k : Key) (n now : ℕ) (s : k .hash < top) (p : Peer n) (w : now < word) (b : Bounded m Q t) where
+  pub loosened-failedWithParents : Loosened (ownerIs n) t ((failedWithParents m k n now t) .table)
+  unfolding failedWithParents listedAfter
+  loosened-failedWithParents =
+      let a = failed k n now t in
+      let l = loosened-failed k n now s w b in
+      by-test (λ (x : Listed). Loosened (ownerIs n) t (x .table)) (a .reply)
+      (λ e. loosened-then l (loosened-alone (alone-parents n now (parentsFor n (at k t)) p w (few-for n (at k t) (lawful-at k t (b .lawful))) (bounded-failed k n now s w b)))) (λ e. l)
