@@ -2,22 +2,21 @@
 -- Assumes nothing.
 use Prim.Native.Nat.{ℕ, _+_, _<_}
 use mathlib.Core.Path.{_≡_, refl}
-use mathlib.Core.Bool.{Bool, true, false, _&&_}
+use mathlib.Core.Bool.{Bool, true, false}
 use mathlib.Core.List.{List, [], _∷_}
 use mathlib.Core.Option.{Option, none, some}
 use native.Mathlib.Omega.{arith}
-use lib.Dec.{ltb, leb, eqb}
+use lib.Dec.{leb, eqb}
 use borrow.Author.Tests.{ltb-true, eqb-true, eq-eqb}
 use Rattle.ident.specs.declared.Kind.{Kind}
 use Rattle.ident.specs.declared.Kind.the-variants.{Txid, Wtxid}
-use Rattle.ident.specs.If.{if_then_else_}
 use Rattle.ident.specs.Number.{top, Key, txid, wtxid}
 use Rattle.machine.specs.Limits.{Limits, maxInFlight, requestLifetime, word}
-use Rattle.machine.specs.State.{Candidate, Owner, Package, Request, Table, Entry, ownedUntil, isNone}
+use Rattle.machine.specs.State.{Candidate, Owner, Package, Table, Entry, ownedUntil, isNone}
 use Rattle.machine.specs.Table.{at, change, has, ownedBy, ownedAt}
 use Rattle.machine.specs.Plan.{able, chosenBy, sooner, better, orElse, leastIn, leastAt, choice}
-use Rattle.machine.specs.Claim.{sameKind, sameKey, sameCandidate, sameEntry, isChoice, Taken, takes, claim}
-use Rattle.machine.specs.Sound.{Packed, Lawful, Bounded}
+use Rattle.machine.specs.Claim.{sameKind, sameKey, sameCandidate, sameEntry, isChoice, takes, claim}
+use Rattle.machine.specs.Sound.{Packed, Bounded}
 use Rattle.machine.specs.Typed.{EntryTyped, Each}
 use Rattle.machine.proofs.Tests.{by-test, never, and-left, and-right, or-true}
 use Rattle.machine.proofs.Change.{Owns, bounded-own}

@@ -1,8 +1,8 @@
 -- request_parent, failed, unclaim, forget and announce_parents keep the bounds.
 -- Assumes nothing.
-use Prim.Native.Nat.{ℕ, suc, _+_, _≤_, _<_, min}
+use Prim.Native.Nat.{ℕ, suc, _+_, _≤_, _<_}
 use mathlib.Core.Path.{_≡_, refl, sym, ap, _∙_}
-use mathlib.Core.Logic.{_⊎_, inl, inr}
+use mathlib.Core.Logic.{inl, inr}
 use mathlib.Core.Bool.{Bool, true, false, _&&_, _||_}
 use mathlib.Core.List.{List, [], _∷_, map}
 use mathlib.Core.Option.{Option, none, some}
@@ -10,20 +10,19 @@ use native.Mathlib.Omega.{arith}
 use native.Mathlib.Nat.{min-le-left}
 use lib.Dec.{eqb}
 use lib.ListN.{length}
-use borrow.Author.Tests.{eqb-true, eq-eqb}
+use borrow.Author.Tests.{eqb-true}
 use Rattle.ident.specs.declared.Kind.the-variants.{Txid}
-use Rattle.ident.specs.If.{if_then_else_}
 use Rattle.ident.specs.Number.{top, Key, other, txid, keyOf}
 use Rattle.machine.specs.Limits.{Limits, maxParents, word}
 use Rattle.machine.specs.State.{Candidate, Owner, Request, Table, Answer, blank, withCandidates, unowned, marked, readyAt, adopting, ownerIs, isSome}
-use Rattle.machine.specs.Table.{at, change, countIn, has}
+use Rattle.machine.specs.Table.{at, countIn, has}
 use Rattle.machine.specs.Announce.{without, adopt, requestParentAt, requestParentKeyed, requestParent}
-use Rattle.machine.specs.Fail.{releasable, left, leaves, failed, unclaim, forget, Listed, but, dedup, parentOf, parentsFrom, announceParents, parentsFor}
+use Rattle.machine.specs.Fail.{releasable, left, leaves, failed, unclaim, forget, but, dedup, parentOf, parentsFrom, announceParents, parentsFor}
 use Rattle.machine.specs.Claim.{elem}
 use Rattle.machine.specs.Sound.{Hashes, NoRepeat, CursorFits, Fits, AllFit, OwnerFits, ParentsFit, Lawful, Bounded}
 use Rattle.machine.specs.Typed.{CandidateTyped}
 use Rattle.machine.proofs.Tests.{test, by-test, never}
-use Rattle.machine.proofs.Table.{at-key, lawful-at}
+use Rattle.machine.proofs.Table.{at-key}
 use Rattle.machine.proofs.Change.{ShrinksAt, bounded-at, Shrinks, bounded-change, owner-without, without-fewer, fit-without}
 use Rattle.machine.proofs.Announce.{item-fits, fits-typed, bounded-announceAt}
 

@@ -13,3 +13,6 @@ pub mod Fail
 pub mod Plan
 pub mod Claim
 pub mod Package
+pub mod Leave
+pub mod Wrapper
+pub mod Kept

@@ -2,8 +2,8 @@
 -- Assumes nothing.
 use Prim.Native.Nat.{ℕ, zero, suc, _<_}
 use mathlib.Core.Path.{_≡_, refl}
-use mathlib.Core.Bool.{Bool, true, false}
-use mathlib.Core.List.{List, [], _∷_, _++_}
+use mathlib.Core.Bool.{Bool, true}
+use mathlib.Core.List.{List, [], _∷_}
 use mathlib.Core.Option.{Option, none, some}
 use lib.Dec.{ltb, leb}
 use lib.ListN.{length, take}
@@ -11,12 +11,12 @@ use borrow.Author.Tests.{eq-eqb}
 use Rattle.ident.specs.If.{if_then_else_}
 use Rattle.ident.specs.Number.{top, Key, place, txid}
 use Rattle.machine.specs.Limits.{Limits, maxKnownChecks, maxRequestChecks, word}
-use Rattle.machine.specs.State.{Owner, Request, Table, State, limitsOf, ownerIs}
+use Rattle.machine.specs.State.{Owner, Table, State, limitsOf, ownerIs}
 use Rattle.machine.specs.Table.{at, keys}
 use Rattle.machine.specs.Announce.{requestParentAt}
-use Rattle.machine.specs.Fail.{failed, Listed, dedup, parentOf, mark, parentsFrom, announceParents, parentsFor}
+use Rattle.machine.specs.Fail.{failed, dedup, parentOf, mark, parentsFrom, announceParents, parentsFor}
 use Rattle.machine.specs.Sweep.{only, round, lastOf, handed}
-use Rattle.machine.specs.Plan.{Scan, start, consider, phase, Due, dueOf, due, expire, askedKeys, cursorAfter, expired, scanned, plan}
+use Rattle.machine.specs.Plan.{Scan, start, consider, phase, Due, dueOf, due, expire, cursorAfter, expired, scanned}
 use Rattle.machine.specs.Sound.{Hashes, CursorFits, Ordered, All, Lawful, Bounded, Sound}
 use Rattle.machine.specs.Typed.{Each, KeyTyped}
 use Rattle.machine.proofs.Tests.{by-test}
@@ -113,12 +113,8 @@ expire-keys {m} {Q} {t} now (d ∷ ds) w a b =
 pub expired-keys : (now : ℕ) (s : State) → now < word → Sound s → Each KeyTyped ((expired now s) .keys)
 expired-keys now s w g = expire-keys now (due now (s .table)) w (due-typed now 0 (s .table) (g .bounded .ordered) (g .bounded .lawful)) (g .bounded)
 
-plan-cursor : (now : ℕ) (asked : Option (List Key)) (s : State) → now < word → Sound s → CursorFits (cursorAfter asked ((scanned now asked s) .last) (s .readyCursor))
+pub plan-cursor : (now : ℕ) (asked : Option (List Key)) (s : State) → now < word → Sound s → CursorFits (cursorAfter asked ((scanned now asked s) .last) (s .readyCursor))
 plan-cursor now none s w g =
     let t = (expired now s) .table in
     phase-cursor now t _ _ (round-typed (s .readyCursor) (keys t) (keys-typed 0 t ((bounded-expired now s w g) .ordered))) (phase-cursor now t _ start (expired-keys now s w g) tt)
 plan-cursor now (some ks) s w g = g .ready
-
-pub sound-plan : (now : ℕ) (asked : Option (List Key)) (s : State) → now < word → Sound s → Sound ((plan now asked s) .state)
-unfolding plan
-sound-plan now asked s w g = record { some-limit = g .some-limit; most-limit = g .most-limit; some-place = g .some-place; most-places = g .most-places; bounded = bounded-expired now s w g; poll = g .poll; known = g .known; ready = plan-cursor now asked s w g }
