@@ -7,6 +7,7 @@ pub mod Distinct
 pub mod Chosen
 pub mod Loosened
 pub mod Places
+pub mod Failing
 pub mod Change
 pub mod Announce
 pub mod Fail
