@@ -96,7 +96,7 @@ alone-push : (k : Key) (c : Candidate) (t : Table) → k .hash < top → Ordered
 alone-push k c t s o = alone-change k _ t s (λ r. refl) o refl (λ e. absurd (omega (arith, ap length e, length-append ((at k t) .candidates) (c ∷ []))))
 
 -- an owner is never evicted, and keeps its request
-alone-cut : (k : Key) (n : ℕ) (t : Table) → k .hash < top → Ordered 0 t → All Lawful t → ownerIs n ((at k t) .owner) ≡ false → Alone t (cut k n t)
+pub alone-cut : (k : Key) (n : ℕ) (t : Table) → k .hash < top → Ordered 0 t → All Lawful t → ownerIs n ((at k t) .owner) ≡ false → Alone t (cut k n t)
 alone-cut k n t s o l w =
     let r = lawful-at k t l in
     alone-change k _ t s (λ r. refl) o refl (λ e. none-hold (at k t) r (owner-empty ((at k t) .owner) (without n ((at k t) .candidates)) e (owner-without n ((at k t) .owner) ((at k t) .candidates) w (r .owner))))

@@ -63,7 +63,7 @@ distinct-snoc x (y ∷ l) n h = (absent-snoc x y l (λ e. eqb-false y x (or-left
 
 -- ---- all but one number
 
-elem-but : (x h : ℕ) (l : List ℕ) → elem x (but h l) ≡ true → (elem x l ≡ true) × (h ≡ x → ⊥)
+pub elem-but : (x h : ℕ) (l : List ℕ) → elem x (but h l) ≡ true → (elem x l ≡ true) × (h ≡ x → ⊥)
 unfolding elem but
 elem-but x h [] e = never e
 elem-but x h (y ∷ l) e =

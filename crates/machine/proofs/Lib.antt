@@ -8,6 +8,7 @@ pub mod Chosen
 pub mod Loosened
 pub mod Places
 pub mod Failing
+pub mod Leaving
 pub mod Change
 pub mod Announce
 pub mod Fail
