@@ -12,7 +12,7 @@ use lib.ListN.{length, length-append, length-map}
 use borrow.Author.Tests.{ltb-true, ltb-false, leb-true, leb-false, eqb-true, eqb-false, eq-eqb, ne-eqb}
 use Rattle.ident.specs.If.{if_then_else_}
 use Rattle.ident.specs.Number.{Key, place, top, txid, wtxid}
-use Rattle.machine.specs.Limits.{Limits, maxRequestChecks}
+use Rattle.machine.specs.Limits.{maxRequestChecks, word}
 use Rattle.machine.specs.State.{Candidate, Owner, Request, Table, Entry, State, limitsOf, isNone}
 use Rattle.machine.specs.Table.{at, keys, one, held, ownedAt}
 use Rattle.machine.specs.Announce.{requestParentAt}
@@ -20,10 +20,11 @@ use Rattle.machine.specs.Fail.{Listed, nothing, dedup, parentOf, mark, p
 use Rattle.machine.specs.Sweep.{only, round}
 use Rattle.machine.specs.Plan.{chosenAt, able, sooner, better, orElse, leastIn, leastAt, choice, Scan, start, add, consider, phase, askedKeys, expired, scanned, plan}
 use Rattle.machine.specs.Claim.{elem}
-use Rattle.machine.specs.Sound.{NoRepeat, Ordered, All, Filled}
+use Rattle.machine.specs.Sound.{NoRepeat, Ordered, All, Filled, Bounded, Sound}
 use Rattle.machine.specs.Typed.{Each, KeyTyped, KeysTyped}
 use Rattle.machine.proofs.Tests.{test, by-test, never}
 use Rattle.machine.proofs.Table.{place-inj}
+use Rattle.machine.proofs.Plan.{bounded-expired, keys-typed, round-typed, expired-keys}
 use Rattle.machine.proofs.Distinct.{Within, elem-head, elem-tail, elem-snoc, distinct-snoc, within-shorter}
 use Rattle.machine.proofs.Lengths.{keys-held, length-sortByPriority}
 
@@ -144,50 +145,35 @@ length-phase now t (k ∷ ks) s n h a b =
     by-test (λ (x : Scan). length (x .chosen) ≤ suc n) (leb maxRequestChecks (length ((consider now t k s) .chosen))) (λ e. omega arith)
     (λ e. length-phase now t ks (consider now t k s) n (omega (arith, leb-false maxRequestChecks (length ((consider now t k s) .chosen)) e)) a b)
 
--- ---- keys of 256 bits
-
-pub typed-append : (l m : List Key) → Each KeyTyped l → Each KeyTyped m → Each KeyTyped (l ++ m)
-typed-append [] m a b = b
-typed-append (k ∷ l) m a b = (a .0, typed-append l m (a .1) b)
-
-pub typed-keys : (lo : ℕ) (t : Table) → Ordered lo t → Each KeyTyped (keys t)
-unfolding keys
-typed-keys lo [] o = tt
-typed-keys lo (r ∷ t) o = (o .1, typed-keys _ t (o .2))
-
-typed-only : (p : ℕ → Bool) (ks : List Key) → Each KeyTyped ks → Each KeyTyped (only p ks)
-unfolding only
-typed-only p [] a = tt
-typed-only p (k ∷ ks) a = by-test (Each KeyTyped) (p (place k)) (λ e. (a .0, typed-only p ks (a .1))) (λ e. typed-only p ks (a .1))
-
-typed-round : (c : Option Key) (ks : List Key) → Each KeyTyped ks → Each KeyTyped (round c ks)
-unfolding round
-typed-round none ks a = a
-typed-round (some c) ks a = typed-append (only (λ n. ltb (place c) n) ks) _ (typed-only _ ks a) (typed-only _ ks a)
-
-typed-asked : (asked : Option (List Key)) (c : Option Key) (t : Table) → KeysTyped asked → Ordered 0 t → Each KeyTyped (askedKeys asked c t)
-typed-asked none c t a o = typed-round c (keys t) (typed-keys 0 t o)
-typed-asked (some ks) c t a o = a
-
 -- ---- plan
 
-pub length-plan : (now : ℕ) (asked : Option (List Key)) (s : State) → KeysTyped asked → Each KeyTyped ((expired now s) .keys)
-    → Ordered 0 ((expired now s) .table) → All Filled ((expired now s) .table) → held ((expired now s) .table) ≤ s .limit
-    → length ((plan now asked s) .entries) ≤ min (maxRequestChecks + 1) (s .limit)
+typed-asked : (asked : Option (List Key)) (c : Option Key) (t : Table) → KeysTyped asked → Ordered 0 t → Each KeyTyped (askedKeys asked c t)
+typed-asked none c t a o = round-typed c (keys t) (keys-typed 0 t o)
+typed-asked (some ks) c t a o = a
+
+pub length-plan : (now : ℕ) (asked : Option (List Key)) (s : State) → now < word → KeysTyped asked → Sound s → length ((plan now asked s) .entries) ≤ min (maxRequestChecks + 1) (s .limit)
 unfolding plan elem
-length-plan now asked s a p o f h = omega (arith, length-sortByPriority ((scanned now asked s) .chosen), few, sparse)
+length-plan now asked s w a g = omega (arith, length-sortByPriority ((scanned now asked s) .chosen), few, sparse, b .fits)
   where
     t : Table
     t = (expired now s) .table
 
-    first : Scan
-    first = phase now t ((expired now s) .keys) start
+    b : Bounded (limitsOf s) (s .places) t
+    b = bounded-expired now s w g
+
+    ps : List Key
+    ps = (expired now s) .keys
 
     ks : List Key
     ks = askedKeys asked (s .readyCursor) t
 
+    first : Scan
+    first = phase now t ps start
+
     few : length ((phase now t ks first) .chosen) ≤ suc maxRequestChecks
-    few = length-phase now t ks first maxRequestChecks (length-phase now t ((expired now s) .keys) start (maxRequestChecks - 1) (omega arith) (omega arith) (omega arith)) (omega arith) (omega arith)
+    few = length-phase now t ks first maxRequestChecks (length-phase now t ps start (maxRequestChecks - 1) (omega arith) (omega arith) (omega arith)) (omega arith) (omega arith)
 
     sparse : length ((phase now t ks first) .chosen) ≤ held t
-    sparse = sparse-held t _ f (sparse-phase now t ks first (typed-asked asked (s .readyCursor) t a o) o (sparse-phase now t ((expired now s) .keys) start p o (record { distinct = tt; within = λ x e. never e })))
+    sparse =
+        sparse-held t ((phase now t ks first) .chosen) (b .filled)
+        (sparse-phase now t ks first (typed-asked asked (s .readyCursor) t a (b .ordered)) (b .ordered) (sparse-phase now t ps start (expired-keys now s w g) (b .ordered) (record { distinct = tt; within = λ x e. never e })))

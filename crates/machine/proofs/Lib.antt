@@ -9,6 +9,7 @@ pub mod Loosened
 pub mod Places
 pub mod Failing
 pub mod Leaving
+pub mod AnswerFits
 pub mod Change
 pub mod Announce
 pub mod Fail
