@@ -14,7 +14,7 @@ use Rattle.ident.specs.declared.Kind.{Kind}
 use Rattle.ident.specs.Number.{top, Key, place, Item, kindOf, keyAs, keyOf}
 use Rattle.machine.specs.Limits.{Limits, maxPeerAnnouncements}
 use Rattle.machine.specs.State.{Candidate, Owner, Request, Table, Entry, Answer, withCandidates, ownerIs}
-use Rattle.machine.specs.Table.{at, one, countIn, count, owners, placesHeld, has, isCandidate, held, heldBy, heldAt, any, by, under, byUnder}
+use Rattle.machine.specs.Table.{at, one, countIn, count, owners, placesHeld, has, isCandidate, held, heldAt, any, by, under, byUnder}
 use Rattle.machine.specs.Announce.{announce, announceAt, announceKeyed, evicting, greatest, greatestFrom, after, victims, victimsIn, without, push, cut, atHash, anywhere}
 use Rattle.machine.specs.Sound.{CursorFits, Fits, AllFit, OwnerFits, Ordered, Lawful, Bounded}
 use Rattle.machine.specs.Typed.{CandidateTyped, Each}
@@ -216,7 +216,7 @@ pub follows-announceAt : {m : Limits} {Q : ℕ} {t : Table} (k : Key) (c : Candi
 unfolding announceAt
 follows-announceAt {m} {Q} {t} k c s a b =
     by-test P (isCandidate (c .connection) (k .hash) t) (λ e. follows-same b) λ e₁.
-    by-test P (leb maxPeerAnnouncements (heldBy (c .connection) t)) (λ e. follows-same b) λ e₂.
+    by-test P _ (λ e. follows-same b) λ e₂.
     by-test P (leb (m .alternates) (heldAt (k .hash) t))
     (λ e₃. by-test P (c .preferred) (λ e. follows-evicting (atHash (k .hash)) s a b (leb-false _ _ e₂) (omega (arith, ltb-false)) (λ j e. rw e (omega (arith, b .alternates (k .hash))))) (λ e. follows-same b)) λ e₃.
     by-test P (leb (m .announcements) (held t))

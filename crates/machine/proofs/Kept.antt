@@ -53,6 +53,7 @@ sound-empty L Q e =
 
 -- ---- what a call that is not refused has
 
+-- the tests 4 to 8, passed
 pub record Carried (a : Ask) (s : State) : Type 0 where
   pub connections : elem 0 ((named a s) .connections) ≡ false
   pub clocks : anyLate ((named a s) .clocks) ≡ false
@@ -60,6 +61,7 @@ pub record Carried (a : Ask) (s : State) : Type 0 where
   pub buffer : (named a s) .needs ≤ length ((named a s) .buffer)
   pub place : takesPlace a s ≡ true → placesHeld (s .table) < s .places
 
+-- a test of the table that refuses by a number of 1 or more
 passed : (b : Bool) (n x : ℕ) → (if b then suc n else x) ≡ 0 → (b ≡ false) × (x ≡ 0)
 passed true n x e = absurd (omega arith)
 passed false n x e = (refl, e)
@@ -102,7 +104,7 @@ few-hashes hs a l = record { hashes = a; few = l }
 
 -- ---- a call that is carried out
 
--- L and Q stay
+-- a call leaves L and Q; the rest of the state is given with its laws
 sound-with : {s : State} {t : Table} {p : Option ℕ} {c d : Option Key} → Sound s → Bounded (limitsOf s) (s .places) t → PollFits p → CursorFits c → CursorFits d → Sound (record { limit = s .limit; places = s .places; table = t; nextPoll = p; knownCursor = c; readyCursor = d })
 sound-with g b p c d = record { some-limit = g .some-limit; most-limit = g .most-limit; some-place = g .some-place; most-places = g .most-places; bounded = b; poll = p; known = c; ready = d }
 
