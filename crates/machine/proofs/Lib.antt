@@ -10,6 +10,7 @@ pub mod Places
 pub mod Failing
 pub mod Leaving
 pub mod AnswerFits
+pub mod Expired
 pub mod Change
 pub mod Announce
 pub mod Fail

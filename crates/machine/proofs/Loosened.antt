@@ -51,7 +51,7 @@ loosened-then {p} {t} {t′} {t″} a b = record { hold = λ j s. go j (a .hold 
 
 -- ---- a connection leaves a request
 
-left-key : (n now : ℕ) → KeepsKey (left n now)
+pub left-key : (n now : ℕ) → KeepsKey (left n now)
 unfolding left
 left-key n now r = by-test (λ (q : Request). q .key ≡ r .key) (ownerIs n (r .owner)) (λ e. refl) (λ e. refl)
 
