@@ -11,6 +11,7 @@ pub mod Failing
 pub mod Leaving
 pub mod AnswerFits
 pub mod Expired
+pub mod Claimed
 pub mod Change
 pub mod Announce
 pub mod Fail
