@@ -1,23 +1,23 @@
 -- What announce, request_parent and announce_parents leave alone: owner, flag, package and parents of every request.
 -- Assumes nothing.
-use Prim.Native.Nat.{ℕ, zero, suc, _+_, _≤_, _<_}
+use Prim.Native.Nat.{ℕ, suc, _+_, _≤_, _<_}
 use mathlib.Core.Path.{_≡_, refl, sym, ap, _∙_}
-use mathlib.Core.Logic.{_⊎_, inl, inr}
-use mathlib.Core.Bool.{Bool, true, false, _&&_, _||_}
-use mathlib.Core.List.{List, [], _∷_, _++_, map}
+use mathlib.Core.Logic.{inl, inr}
+use mathlib.Core.Bool.{Bool, true, false}
+use mathlib.Core.List.{List, [], _∷_}
 use mathlib.Core.Option.{Option, none, some}
 use native.Mathlib.Omega.{arith}
-use lib.Dec.{ltb, leb, eqb}
+use lib.Dec.{leb, eqb}
 use lib.ListN.{length, length-append}
 use borrow.Author.Tests.{eqb-true, eqb-false}
 use Rattle.ident.specs.declared.Kind.{Kind}
 use Rattle.ident.specs.If.{if_then_else_}
 use Rattle.ident.specs.Number.{Key, place, other, top, txid}
-use Rattle.machine.specs.Limits.{Limits, maxPeerAnnouncements, maxParents, word}
-use Rattle.machine.specs.State.{Candidate, Owner, Package, Request, Table, Entry, Answer, blank, withCandidates, marked, ownerIs, isSome}
+use Rattle.machine.specs.Limits.{Limits, maxPeerAnnouncements, word}
+use Rattle.machine.specs.State.{Candidate, Owner, Package, Request, Table, Entry, Answer, marked, ownerIs, isSome}
 use Rattle.machine.specs.Table.{at, change, has, held, heldBy, heldAt, isCandidate}
 use Rattle.machine.specs.Announce.{without, push, cut, victims, greatest, greatestFrom, evicting, atHash, anywhere, announceAt, adopt, adopted, requestParentAt}
-use Rattle.machine.specs.Fail.{Listed, dedup, parentOf, mark, parentsFrom, announceParents}
+use Rattle.machine.specs.Fail.{dedup, parentOf, mark, parentsFrom, announceParents}
 use Rattle.machine.specs.Sound.{Hashes, Packed, OwnerFits, Ordered, All, Lawful, Bounded}
 use Rattle.machine.specs.Typed.{Each}
 use Rattle.machine.proofs.Tests.{test, by-test, never}

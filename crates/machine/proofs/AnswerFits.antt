@@ -1,16 +1,15 @@
 -- Every answer fits the buffer need that document 01 names, and so the buffer of a call that is carried out.
 -- Assumes nothing.
-use Prim.Native.Nat.{ℕ, suc, _+_, _*_, _≤_, _<_, min}
-use mathlib.Core.Path.{_≡_, refl}
-use mathlib.Core.Bool.{Bool, true, false}
-use mathlib.Core.List.{List, [], _∷_, _++_}
+use Prim.Native.Nat.{ℕ, _+_, _*_, _≤_, _<_, min}
+use mathlib.Core.Path.{_≡_}
+use mathlib.Core.Bool.{true}
+use mathlib.Core.List.{List, _++_}
 use native.Mathlib.Omega.{arith}
 use lib.ListN.{length, length-append}
-use Rattle.ident.specs.If.{if_then_else_}
 use Rattle.ident.specs.Number.{Key, wtxid}
 use Rattle.machine.specs.Limits.{Limits, maxPeerAnnouncements, maxParents, word}
 use Rattle.machine.specs.State.{Table, Entry, State, limitsOf, done}
-use Rattle.machine.specs.Table.{at, keys, placesHeld}
+use Rattle.machine.specs.Table.{at, keys}
 use Rattle.machine.specs.Fail.{Listed, parentsFor, failed, leaves}
 use Rattle.machine.specs.Package.{enqueuedBy, failedWithParents, releasePackage}
 use Rattle.machine.specs.Leave.{disconnected}

@@ -1,25 +1,24 @@
 -- What stands at a key after a change at that key or at another, and the keys that a change leaves.
 -- Assumes nothing.
-use Prim.Native.Nat.{ℕ, zero, suc, _+_, _≤_, _<_}
+use Prim.Native.Nat.{ℕ, suc, _+_, _≤_, _<_}
 use mathlib.Core.Path.{_≡_, refl, sym, ap, _∙_}
-use mathlib.Core.Logic.{_⊎_, inl, inr}
-use mathlib.Core.Bool.{Bool, true, false, not}
+use mathlib.Core.Logic.{inl, inr}
+use mathlib.Core.Bool.{Bool, not}
 use mathlib.Core.List.{List, [], _∷_}
 use native.Mathlib.Omega.{arith}
 use lib.Dec.{ltb, eqb}
 use lib.ListN.{length}
-use borrow.Author.Tests.{ltb-true, ltb-false, eqb-true, eqb-false, eq-eqb, ne-eqb}
+use borrow.Author.Tests.{ltb-true, eqb-true, eqb-false, eq-eqb, ne-eqb}
 use Rattle.ident.specs.declared.Kind.{Kind}
 use Rattle.ident.specs.declared.Kind.the-variants.{Txid, Wtxid}
-use Rattle.ident.specs.If.{if_then_else_}
 use Rattle.ident.specs.Number.{base, swap, top, Key, place, other}
 use Rattle.machine.specs.State.{Candidate, Request, Table, blank}
 use Rattle.machine.specs.Table.{at, keep, change, keys}
 use Rattle.machine.specs.Leave.{insertKey}
 use Rattle.machine.specs.Sweep.{only}
-use Rattle.machine.specs.Sound.{Ordered, All, Filled}
+use Rattle.machine.specs.Sound.{Ordered}
 use Rattle.machine.proofs.Tests.{test, by-test}
-use Rattle.machine.proofs.Table.{place-inj, ordered-change, at-absent, at-key, all-at}
+use Rattle.machine.proofs.Table.{ordered-change, at-absent}
 
 -- a change of a request that keeps its key
 abbrev pub KeepsKey : (Request → Request) → Type 0

@@ -1,23 +1,19 @@
 -- How many entries a plan has: one a hash, each hash with a request, and at most one more than a phase stops at.
 -- Assumes nothing.
-use Prim.Native.Nat.{ℕ, zero, suc, _+_, _-_, _≤_, _<_, min}
-use mathlib.Core.Path.{_≡_, refl, sym, ap, _∙_}
-use mathlib.Core.Logic.{_⊎_, inl, inr}
-use mathlib.Core.Bool.{Bool, true, false, _&&_, _||_}
+use Prim.Native.Nat.{ℕ, suc, _+_, _-_, _≤_, _<_, min}
+use mathlib.Core.Path.{_≡_, refl, ap}
+use mathlib.Core.Logic.{inl, inr}
+use mathlib.Core.Bool.{Bool, true, false}
 use mathlib.Core.List.{List, [], _∷_, _++_, map}
 use mathlib.Core.Option.{Option, none, some}
 use native.Mathlib.Omega.{arith}
-use lib.Dec.{ltb, leb, eqb}
+use lib.Dec.{leb, eqb}
 use lib.ListN.{length, length-append, length-map}
-use borrow.Author.Tests.{ltb-true, ltb-false, leb-true, leb-false, eqb-true, eqb-false, eq-eqb, ne-eqb}
-use Rattle.ident.specs.If.{if_then_else_}
+use borrow.Author.Tests.{leb-false, eqb-true}
 use Rattle.ident.specs.Number.{Key, place, top, txid, wtxid}
 use Rattle.machine.specs.Limits.{maxRequestChecks, word}
-use Rattle.machine.specs.State.{Candidate, Owner, Request, Table, Entry, State, limitsOf, isNone}
-use Rattle.machine.specs.Table.{at, keys, one, held, ownedAt}
-use Rattle.machine.specs.Announce.{requestParentAt}
-use Rattle.machine.specs.Fail.{Listed, nothing, dedup, parentOf, mark, parentsFrom, announceParents, parentsFor, failed}
-use Rattle.machine.specs.Sweep.{only, round}
+use Rattle.machine.specs.State.{Candidate, Table, Entry, State, limitsOf, isNone}
+use Rattle.machine.specs.Table.{at, keys, held, ownedAt}
 use Rattle.machine.specs.Plan.{chosenAt, able, sooner, better, orElse, leastIn, leastAt, choice, Scan, start, add, consider, phase, askedKeys, expired, scanned, plan}
 use Rattle.machine.specs.Claim.{elem}
 use Rattle.machine.specs.Sound.{NoRepeat, Ordered, All, Filled, Bounded, Sound}

@@ -1,9 +1,9 @@
 -- What claim leaves alone: keys, and every part of every request but the owners of those that had none.
 -- Assumes nothing.
-use Prim.Native.Nat.{ℕ, zero, suc, _+_, _≤_, _<_}
+use Prim.Native.Nat.{ℕ, _+_, _≤_, _<_}
 use mathlib.Core.Path.{_≡_, refl, sym, ap, _∙_}
 use mathlib.Core.Logic.{_⊎_, inl, inr}
-use mathlib.Core.Bool.{Bool, true, false}
+use mathlib.Core.Bool.{true}
 use mathlib.Core.List.{List, [], _∷_}
 use mathlib.Core.Option.{Option, none, some}
 use native.Mathlib.Omega.{arith}
@@ -11,7 +11,7 @@ use lib.ListN.{length}
 use Rattle.ident.specs.If.{if_then_else_}
 use Rattle.ident.specs.Number.{Key, top}
 use Rattle.machine.specs.Limits.{Limits, requestLifetime, word}
-use Rattle.machine.specs.State.{Candidate, Owner, Request, Table, Entry, blank, ownedUntil, isSome}
+use Rattle.machine.specs.State.{Candidate, Owner, Request, Table, Entry, ownedUntil, isSome}
 use Rattle.machine.specs.Table.{at, change, keys, has}
 use Rattle.machine.specs.Claim.{takes, claim}
 use Rattle.machine.specs.Sound.{Bounded}

@@ -1,10 +1,10 @@
 -- What failed and plan leave alone, key by key: failing clears its own key only, and plan clears only where the time is over.
 -- Assumes nothing.
-use Prim.Native.Nat.{ℕ, zero, suc, _+_, _≤_, _<_}
+use Prim.Native.Nat.{ℕ, suc, _+_, _≤_, _<_}
 use mathlib.Core.Path.{_≡_, refl, sym, ap, _∙_}
-use mathlib.Core.Logic.{_⊎_, inl, inr}
-use mathlib.Core.Bool.{Bool, true, false, not, _&&_, _||_}
-use mathlib.Core.List.{List, [], _∷_, _++_}
+use mathlib.Core.Logic.{inl, inr}
+use mathlib.Core.Bool.{Bool, true, false, not}
+use mathlib.Core.List.{List, [], _∷_}
 use mathlib.Core.Option.{Option, none, some}
 use native.Mathlib.Omega.{arith}
 use lib.Dec.{leb, eqb}
@@ -12,16 +12,16 @@ use borrow.Author.Tests.{eqb-true, eqb-false, eq-eqb}
 use Rattle.ident.specs.If.{if_then_else_}
 use Rattle.ident.specs.Number.{Key, place, other, top}
 use Rattle.machine.specs.Limits.{Limits, word}
-use Rattle.machine.specs.State.{Owner, Request, Table, State, limitsOf, Answer, blank, ownerIs, enqueuedIn, isSome}
-use Rattle.machine.specs.Table.{at, change, one, total, ownerIn, owners, under}
-use Rattle.machine.specs.Fail.{releasable, left, leaves, failed, Listed, announceParents, parentsFor}
-use Rattle.machine.specs.Plan.{Due, dueOf, due, expire, expired, plan}
-use Rattle.machine.specs.Sound.{Ordered, All, Lawful, Bounded, Sound}
+use Rattle.machine.specs.State.{Owner, Request, Table, State, Answer, blank, ownerIs, enqueuedIn, isSome}
+use Rattle.machine.specs.Table.{at, change, one, total, ownerIn, under}
+use Rattle.machine.specs.Fail.{releasable, left, failed}
+use Rattle.machine.specs.Plan.{Due, dueOf, due, expire, expired}
+use Rattle.machine.specs.Sound.{Ordered, Bounded, Sound}
 use Rattle.machine.specs.Typed.{Each}
 use Rattle.machine.proofs.Tests.{test, by-test, never, and-left}
 use Rattle.machine.proofs.Table.{place-inj, ordered-change, at-key, lawful-at, total-change}
 use Rattle.machine.proofs.Announce.{each-append, each-map}
-use Rattle.machine.proofs.Fail.{Peer, few-for, bounded-failed}
+use Rattle.machine.proofs.Fail.{few-for, bounded-failed}
 use Rattle.machine.proofs.Plan.{DueTyped, due-typed, bounded-due}
 use Rattle.machine.proofs.At.{at-here, at-there, at-other, at-both, at-both-other, at-both-else, other-place}
 use Rattle.machine.proofs.Alone.{Hold, holdOf, noHold, alone-parents}

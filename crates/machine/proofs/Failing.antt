@@ -1,23 +1,22 @@
 -- How many keys failed_package_claims and transaction_not_found list: places pay for the parents.
 -- Assumes nothing.
-use Prim.Native.Nat.{ℕ, zero, suc, _+_, _*_, _≤_, _<_}
+use Prim.Native.Nat.{ℕ, suc, _+_, _*_, _≤_, _<_}
 use mathlib.Core.Path.{_≡_, refl, sym, ap, _∙_}
-use mathlib.Core.Logic.{_⊎_, inl, inr}
-use mathlib.Core.Bool.{Bool, true, false, not, _&&_, _||_}
-use mathlib.Core.List.{List, [], _∷_, _++_, map}
+use mathlib.Core.Logic.{inl, inr}
+use mathlib.Core.Bool.{Bool, true, _&&_}
+use mathlib.Core.List.{List, [], _∷_, map}
 use mathlib.Core.Option.{Option, none, some}
 use native.Mathlib.Omega.{arith}
 use lib.Dec.{eqb}
 use lib.ListN.{length, length-append, length-map}
-use borrow.Author.Tests.{eqb-true, eqb-false, ne-eqb}
+use borrow.Author.Tests.{eqb-true, ne-eqb}
 use Rattle.ident.specs.declared.ItemKind.{ItemKind}
 use Rattle.ident.specs.declared.ItemKind.the-variants.{Transaction, WitnessTransaction, WTx, Other}
-use Rattle.ident.specs.If.{if_then_else_}
 use Rattle.ident.specs.Number.{Key, Item, place, top, txid, wtxid}
 use Rattle.machine.specs.Limits.{Limits, maxParents, word, msgPkgTxns, msgAncPkgInfo}
 use Rattle.machine.specs.State.{Owner, Package, Request, Table, Answer, ownerIs, isSome, refused}
 use Rattle.machine.specs.Table.{at, one, placeIn, placesHeld}
-use Rattle.machine.specs.Fail.{failed, Listed, nothing, parentsFor}
+use Rattle.machine.specs.Fail.{failed, parentsFor}
 use Rattle.machine.specs.Package.{listedAfter, failedWithParents, infoOwned, failedPackageInfo, awaitsHash, claimKey, someKeys, failEach, failedPackageClaims}
 use Rattle.machine.specs.Wrapper.{failKeyed, isType, notFoundOne, notFoundEach, packagesIn, notFound}
 use Rattle.machine.specs.Sound.{Ordered, Bounded}
@@ -28,7 +27,7 @@ use Rattle.machine.proofs.Fail.{Peer, bounded-failed}
 use Rattle.machine.proofs.Package.{bounded-failedWithParents}
 use Rattle.machine.proofs.Wrapper.{bounded-notFoundOne, bounded-notFoundEach}
 use Rattle.machine.proofs.At.{at-here, at-there}
-use Rattle.machine.proofs.Alone.{Hold, holdOf, noHold}
+use Rattle.machine.proofs.Alone.{Hold}
 use Rattle.machine.proofs.Loosened.{Loosened, loosened-failed, loosened-failedWithParents}
 use Rattle.machine.proofs.Places.{places-loosened, failing-one, failing-held}
 

@@ -1,35 +1,35 @@
 -- How many keys disconnected lists: the connection's own, and the parents that its packages hand on, each once.
 -- Assumes nothing.
-use Prim.Native.Nat.{ℕ, zero, suc, _+_, _*_, _≤_, _<_, min}
+use Prim.Native.Nat.{ℕ, suc, _*_, _≤_, _<_, min}
 use mathlib.Core.Path.{_≡_, refl, sym, ap, _∙_}
-use mathlib.Core.Logic.{_⊎_, inl, inr}
-use mathlib.Core.Bool.{Bool, true, false, not, _&&_, _||_}
+use mathlib.Core.Logic.{inl, inr}
+use mathlib.Core.Bool.{Bool, true, false, _&&_, _||_}
 use mathlib.Core.List.{List, [], _∷_, _++_, map}
-use mathlib.Core.Option.{Option, none, some}
+use mathlib.Core.Option.{Option}
 use native.Mathlib.Omega.{arith}
 use lib.Dec.{ltb, eqb}
 use lib.ListN.{length, length-append, length-map}
-use borrow.Author.Tests.{ltb-true, ltb-false, eqb-true, eqb-false, ne-eqb}
+use borrow.Author.Tests.{ltb-true, ltb-false, eqb-false, ne-eqb}
 use Rattle.ident.specs.If.{if_then_else_}
 use Rattle.ident.specs.Number.{Key, place, top, txid}
 use Rattle.machine.specs.Limits.{Limits, maxPeerAnnouncements, maxParents, word}
-use Rattle.machine.specs.State.{Candidate, Owner, Package, Request, Table, Answer, ownerIs, isSome}
-use Rattle.machine.specs.Table.{at, keys, one, countIn, total, count, by, any, held, heldBy, has, placeIn, placesHeld}
-use Rattle.machine.specs.Announce.{requestParentAt, cut}
-use Rattle.machine.specs.Fail.{failed, Listed, nothing, but, dedup, parentOf, mark, parentsFrom, announceParents, parentsFor}
-use Rattle.machine.specs.Leave.{isEmpty, keysOf, announceEach, dropAt, dropEach, insertKey, sortKeys, Gone, disconnected}
+use Rattle.machine.specs.State.{Candidate, Owner, Request, Table, ownerIs, isSome}
+use Rattle.machine.specs.Table.{at, keys, countIn, total, heldBy, has, placesHeld}
+use Rattle.machine.specs.Announce.{requestParentAt}
+use Rattle.machine.specs.Fail.{failed, Listed, but, dedup, parentOf, mark, parentsFrom, announceParents, parentsFor}
+use Rattle.machine.specs.Leave.{isEmpty, keysOf, announceEach, dropAt, dropEach, insertKey, sortKeys, disconnected}
 use Rattle.machine.specs.Claim.{elem}
-use Rattle.machine.specs.Sound.{NoRepeat, AllFit, Ordered, All, Filled, Lawful, Bounded}
+use Rattle.machine.specs.Sound.{NoRepeat, AllFit, Ordered, All, Lawful, Bounded}
 use Rattle.machine.specs.Typed.{Each, KeyTyped}
 use Rattle.machine.proofs.Tests.{test, by-test, never}
 use Rattle.machine.proofs.Table.{lawful-at}
 use Rattle.machine.proofs.Announce.{each-append, each-map}
 use Rattle.machine.proofs.Fail.{Peer, FewHashes, few-for, bounded-failed, bounded-parents}
-use Rattle.machine.proofs.Leave.{keys-of, bounded-announceEach, bounded-dropAt}
+use Rattle.machine.proofs.Leave.{keys-of, bounded-dropAt}
 use Rattle.machine.proofs.At.{at-here, at-there}
 use Rattle.machine.proofs.Distinct.{Within, elem-head, elem-tail, elem-cases, elem-front, elem-back, elem-but, within-shorter}
 use Rattle.machine.proofs.Lengths.{keys-held}
-use Rattle.machine.proofs.Alone.{Hold, holdOf, noHold, Alone, alone-same, alone-then, alone-cut, alone-parents}
+use Rattle.machine.proofs.Alone.{Hold, Alone, alone-same, alone-then, alone-cut, alone-parents}
 use Rattle.machine.proofs.Loosened.{Loosened, loosened-same, loosened-alone, loosened-then, loosened-failed}
 use Rattle.machine.proofs.Places.{parents-place}
 

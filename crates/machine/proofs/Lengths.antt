@@ -1,29 +1,29 @@
 -- How long the answers are: bytes of keys and entries, and the lists of sweep, claim, Sending and announce_parents.
 -- Assumes nothing.
-use Prim.Native.Nat.{ℕ, zero, suc, _+_, _*_, _≤_, _<_, min}
-use mathlib.Core.Path.{_≡_, refl, sym, ap, _∙_}
-use mathlib.Core.Logic.{_⊎_, inl, inr}
-use mathlib.Core.Bool.{Bool, true, false, _&&_, _||_}
-use mathlib.Core.List.{List, [], _∷_, _++_, map}
+use Prim.Native.Nat.{ℕ, zero, suc, _+_, _*_, _≤_, min}
+use mathlib.Core.Path.{_≡_, refl, ap, _∙_}
+use mathlib.Core.Logic.{inl, inr}
+use mathlib.Core.Bool.{true, _&&_, _||_}
+use mathlib.Core.List.{List, [], _∷_, map}
 use mathlib.Core.Option.{Option, none, some}
 use native.Mathlib.Omega.{arith}
 use lib.Dec.{ltb, leb, eqb}
-use lib.ListN.{length, take, length-append, length-take, length-map}
+use lib.ListN.{length, length-append, length-take, length-map}
 use borrow.Author.Tests.{ltb-true, ltb-false, le-leb, lt-leb}
 use Rattle.ident.specs.If.{if_then_else_}
 use Rattle.ident.specs.Number.{Key, place, txid}
 use Rattle.words.specs.Words.{toLe}
 use Rattle.machine.specs.Limits.{Limits, maxKnownChecks, maxParents, requestLifetime}
 use Rattle.machine.specs.State.{Candidate, Request, Table, Entry, Answer, ownerIs, isSome, ownedUntil}
-use Rattle.machine.specs.Table.{at, change, keys, countIn, total, count, any, held}
+use Rattle.machine.specs.Table.{change, keys, countIn, total, held}
 use Rattle.machine.specs.Announce.{requestParentAt}
-use Rattle.machine.specs.Fail.{Listed, nothing, but, dedup, parentOf, mark, parentsFrom, announceParents, parentsFor}
+use Rattle.machine.specs.Fail.{Listed, but, dedup, parentOf, mark, parentsFrom, announceParents, parentsFor}
 use Rattle.machine.specs.Package.{listedAfter}
 use Rattle.machine.specs.Sweep.{only, round, handed}
 use Rattle.machine.specs.Plan.{insertByPriority, sortByPriority}
 use Rattle.machine.specs.Claim.{takes, claim, forWitness, insertByConnection, sortByConnection, arrange}
 use Rattle.machine.specs.Call.{keyBytes, entryBytes}
-use Rattle.machine.specs.Step.{wordBytes, hashBytes, keyAnswer, candidateAnswer, entryAnswer, keysAnswer, entriesAnswer}
+use Rattle.machine.specs.Step.{wordBytes, keyAnswer, candidateAnswer, entryAnswer, keysAnswer, entriesAnswer}
 use Rattle.machine.specs.Sound.{All, Filled, Lawful}
 use Rattle.machine.proofs.Tests.{test, by-test}
 

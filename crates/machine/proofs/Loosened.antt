@@ -1,29 +1,27 @@
 -- What failing leaves alone: a request keeps owner, flag, package and parents, or loses all four where its owner fails.
 -- Assumes nothing.
-use Prim.Native.Nat.{ℕ, zero, suc, _+_, _≤_, _<_}
+use Prim.Native.Nat.{ℕ, _<_}
 use mathlib.Core.Path.{_≡_, refl, sym, ap, _∙_}
 use mathlib.Core.Logic.{_⊎_, inl, inr}
-use mathlib.Core.Bool.{Bool, true, false, not, _&&_, _||_}
-use mathlib.Core.List.{List, [], _∷_, _++_, map}
-use mathlib.Core.Option.{Option, none, some}
+use mathlib.Core.Bool.{Bool, true, false}
+use mathlib.Core.List.{List, [], _∷_, map}
+use mathlib.Core.Option.{Option}
 use native.Mathlib.Omega.{arith}
-use lib.Dec.{eqb}
-use lib.ListN.{length, length-map}
-use borrow.Author.Tests.{eqb-true, eqb-false}
+use lib.ListN.{length}
 use Rattle.ident.specs.If.{if_then_else_}
 use Rattle.ident.specs.Number.{Key, place, other, top}
 use Rattle.machine.specs.Limits.{Limits, word}
-use Rattle.machine.specs.State.{Candidate, Owner, Request, Table, Answer, blank, withCandidates, unowned, readyAt, ownerIs}
-use Rattle.machine.specs.Table.{at, change, total, placeIn, placesHeld}
-use Rattle.machine.specs.Announce.{without, cut}
-use Rattle.machine.specs.Fail.{releasable, left, leaves, failed, Listed, announceParents, parentsFor}
+use Rattle.machine.specs.State.{Candidate, Owner, Request, Table, Answer, readyAt, ownerIs}
+use Rattle.machine.specs.Table.{at, change}
+use Rattle.machine.specs.Announce.{without}
+use Rattle.machine.specs.Fail.{releasable, left, leaves, failed, Listed, parentsFor}
 use Rattle.machine.specs.Package.{listedAfter, failedWithParents}
 use Rattle.machine.specs.Sound.{Ordered, All, Lawful, Bounded}
-use Rattle.machine.proofs.Tests.{test, by-test, never, and-left}
-use Rattle.machine.proofs.Table.{place-inj, ordered-change, at-absent, lawful-at, total-change, places-change}
-use Rattle.machine.proofs.Change.{Shrinks, bounded-change, owner-without}
-use Rattle.machine.proofs.Fail.{Peer, FewHashes, few-for, shrinks-left, bounded-failed, bounded-leaves}
-use Rattle.machine.proofs.At.{KeepsKey, kept, at-other, at-both-else}
+use Rattle.machine.proofs.Tests.{by-test}
+use Rattle.machine.proofs.Table.{lawful-at}
+use Rattle.machine.proofs.Change.{bounded-change, owner-without}
+use Rattle.machine.proofs.Fail.{Peer, few-for, shrinks-left, bounded-failed}
+use Rattle.machine.proofs.At.{KeepsKey, kept, at-both-else}
 use Rattle.machine.proofs.Alone.{Hold, holdOf, noHold, none-hold, owner-empty, hold-kept, at-either, Alone, alone-parents}
 
 -- ---- requests that keep what they hold or, where their owner passes a test, hold nothing

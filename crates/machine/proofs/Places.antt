@@ -1,29 +1,28 @@
 -- Package places: calls that loosen take none, and a request that fails hands on at most the parents of its place.
 -- Assumes nothing.
-use Prim.Native.Nat.{ℕ, zero, suc, _+_, _*_, _≤_, _<_}
-use mathlib.Core.Path.{_≡_, refl, sym, ap, _∙_}
-use mathlib.Core.Logic.{_⊎_, inl, inr}
-use mathlib.Core.Bool.{Bool, true, false, not, _&&_, _||_}
-use mathlib.Core.List.{List, [], _∷_, _++_, map}
+use Prim.Native.Nat.{ℕ, suc, _+_, _*_, _≤_, _<_}
+use mathlib.Core.Path.{_≡_, refl, ap}
+use mathlib.Core.Logic.{inl, inr}
+use mathlib.Core.Bool.{Bool, true, false, _&&_, _||_}
+use mathlib.Core.List.{List, [], _∷_}
 use mathlib.Core.Option.{Option, none, some}
 use native.Mathlib.Omega.{arith}
 use lib.Dec.{eqb}
 use lib.ListN.{length}
-use borrow.Author.Tests.{eqb-true, eqb-false, ne-eqb}
-use Rattle.ident.specs.If.{if_then_else_}
+use borrow.Author.Tests.{eqb-true, eqb-false}
 use Rattle.ident.specs.Number.{Key, place, other, top}
 use Rattle.machine.specs.Limits.{Limits, maxParents, word}
-use Rattle.machine.specs.State.{Candidate, Owner, Package, Request, Table, Answer, blank, ownerIs, enqueuedIn, isSome}
-use Rattle.machine.specs.Table.{at, change, one, total, placeIn, placesHeld}
-use Rattle.machine.specs.Fail.{releasable, left, leaves, failed, Listed, announceParents, parentsFor}
+use Rattle.machine.specs.State.{Owner, Package, Request, Table, Answer, blank, ownerIs, isSome}
+use Rattle.machine.specs.Table.{at, change, total, placeIn, placesHeld}
+use Rattle.machine.specs.Fail.{releasable, left, leaves, failed, announceParents, parentsFor}
 use Rattle.machine.specs.Package.{listedAfter, failedWithParents}
-use Rattle.machine.specs.Sound.{Ordered, All, Lawful, Bounded}
+use Rattle.machine.specs.Sound.{Ordered, Lawful, Bounded}
 use Rattle.machine.proofs.Tests.{test, by-test, never, and-left, and-right}
-use Rattle.machine.proofs.Table.{place-inj, ordered-change, at-absent, lawful-at, total-change, places-change}
-use Rattle.machine.proofs.Change.{Shrinks, bounded-change}
-use Rattle.machine.proofs.Fail.{Peer, FewHashes, few-for, shrinks-left, bounded-leaves, bounded-parents}
+use Rattle.machine.proofs.Table.{ordered-change, at-absent, lawful-at, total-change, places-change}
+use Rattle.machine.proofs.Change.{bounded-change}
+use Rattle.machine.proofs.Fail.{Peer, few-for, shrinks-left, bounded-leaves, bounded-parents}
 use Rattle.machine.proofs.At.{at-here, at-there, at-other}
-use Rattle.machine.proofs.Alone.{Hold, holdOf, noHold, Alone, alone-parents}
+use Rattle.machine.proofs.Alone.{Hold, Alone, alone-parents}
 use Rattle.machine.proofs.Loosened.{left-hold, Loosened}
 use Rattle.machine.proofs.Lengths.{length-announceParents}
 
