@@ -12,7 +12,8 @@ use lib.ListN.{length, length-append, length-take, length-map}
 use borrow.Author.Tests.{ltb-true, ltb-false, le-leb, lt-leb}
 use Rattle.ident.specs.If.{if_then_else_}
 use Rattle.ident.specs.Number.{Key, place, txid}
-use Rattle.words.specs.Words.{toLe}
+use Rattle.words.specs.Words.{digits, bytesOf}
+use Rattle.words.proofs.Digits.{length-digits}
 use Rattle.machine.specs.Limits.{Limits, maxKnownChecks, maxParents, requestLifetime}
 use Rattle.machine.specs.State.{Candidate, Request, Table, Entry, Answer, ownerIs, isSome, ownedUntil}
 use Rattle.machine.specs.Table.{change, keys, countIn, total, held}
@@ -23,27 +24,22 @@ use Rattle.machine.specs.Sweep.{only, round, handed}
 use Rattle.machine.specs.Plan.{insertByPriority, sortByPriority}
 use Rattle.machine.specs.Claim.{takes, claim, forWitness, insertByConnection, sortByConnection, arrange}
 use Rattle.machine.specs.Call.{keyBytes, entryBytes}
-use Rattle.machine.specs.Step.{wordBytes, keyAnswer, candidateAnswer, entryAnswer, keysAnswer, entriesAnswer}
+use Rattle.machine.specs.Step.{keyAnswer, candidateAnswer, entryAnswer, keysAnswer, entriesAnswer}
 use Rattle.machine.specs.Sound.{All, Filled, Lawful}
 use Rattle.machine.proofs.Tests.{test, by-test}
 
 -- ---- bytes
 
-pub length-toLe : (k v : ℕ) → length (toLe k v) ≡ k
-unfolding toLe
-length-toLe zero v = refl
-length-toLe (suc k) v = ap suc (length-toLe k _)
-
-pub length-wordBytes : (ws : List ℕ) → length (wordBytes ws) ≡ 8 * length ws
-unfolding wordBytes
-length-wordBytes [] = refl
-length-wordBytes (w ∷ ws) = omega (arith, length-append (toLe 8 w) (wordBytes ws), length-toLe 8 w, length-wordBytes ws)
+pub length-bytesOf : (ws : List ℕ) → length (bytesOf ws) ≡ 8 * length ws
+unfolding bytesOf
+length-bytesOf [] = refl
+length-bytesOf (w ∷ ws) = omega (arith, length-append (digits 256 8 w) (bytesOf ws), length-digits 256 8 w, length-bytesOf ws)
 
 pub length-keyAnswer : (k : Key) → length (keyAnswer k) ≡ keyBytes
-length-keyAnswer k = simp (length-append, length-toLe)
+length-keyAnswer k = simp (length-append, length-bytesOf, length-digits)
 
 length-candidateAnswer : (c : Candidate) → length (candidateAnswer c) + keyBytes ≡ entryBytes
-length-candidateAnswer c = simp (length-append, length-toLe, length-wordBytes)
+length-candidateAnswer c = simp (length-append, length-digits, length-bytesOf)
 
 pub length-entryAnswer : (a : Entry) → length (entryAnswer a) ≡ entryBytes
 length-entryAnswer a = omega (arith, length-append (keyAnswer (a .key)) (candidateAnswer (a .candidate)), length-keyAnswer (a .key), length-candidateAnswer (a .candidate))

@@ -12,6 +12,10 @@ pub mod Leaving
 pub mod AnswerFits
 pub mod Expired
 pub mod Claimed
+pub mod Edges
+pub mod FairLists
+pub mod Fairness
+pub mod Sweeps
 pub mod Change
 pub mod Announce
 pub mod Fail
@@ -21,3 +25,4 @@ pub mod Package
 pub mod Leave
 pub mod Wrapper
 pub mod Kept
+pub mod Demand3

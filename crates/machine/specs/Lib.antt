@@ -14,3 +14,4 @@ pub mod Step
 pub mod Sound
 pub mod Typed
 pub mod Demand3
+pub mod Edges

@@ -10,7 +10,7 @@ use Rattle.ident.specs.declared.Kind.{Kind}
 use Rattle.ident.specs.declared.Kind.the-variants.{Txid, Wtxid}
 use Rattle.ident.specs.If.{if_then_else_}
 use Rattle.ident.specs.Number.{Key, typeOf}
-use Rattle.words.specs.Words.{toLe}
+use Rattle.words.specs.Words.{digits, bytesOf}
 use Rattle.machine.specs.State.{Candidate, State, limitsOf, Entry, Answer, onTable, withNextPoll, withKnownCursor}
 use Rattle.machine.specs.Table.{keys, one}
 use Rattle.machine.specs.Announce.{announce, requestParent}
@@ -105,26 +105,21 @@ carryOut (On a) s = perform a s
 
 -- ---- answer buffers: a key is 5 words, an entry 14
 
--- a list of words as bytes, the least byte of each word first
-unfoldable pub wordBytes : List ℕ → List ℕ
-wordBytes [] = []
-wordBytes (w ∷ ws) = toLe 8 w ++ wordBytes ws
-
 -- a hash is 32 bytes, "byte 31 the most significant"
 abbrev pub hashBytes : ℕ → List ℕ
-hashBytes h = toLe 32 h
+hashBytes h = digits 256 32 h
 
 abbrev pub kindNumber : Kind → ℕ
 kindNumber Txid = 0
 kindNumber Wtxid = 1
 
 abbrev pub keyAnswer : Key → List ℕ
-keyAnswer k = toLe 8 (kindNumber (k .kind)) ++ hashBytes (k .hash)
+keyAnswer k = bytesOf (kindNumber (k .kind) ∷ []) ++ hashBytes (k .hash)
 
 -- key, connection, item type, item hash, ready, preferred, priority
 abbrev pub candidateAnswer : Candidate → List ℕ
 candidateAnswer c =
-    wordBytes (c .connection ∷ typeOf (c .item .kind) ∷ []) ++ (hashBytes (c .item .hash) ++ wordBytes (c .ready ∷ one (c .preferred) ∷ c .priority ∷ []))
+    bytesOf (c .connection ∷ typeOf (c .item .kind) ∷ []) ++ (hashBytes (c .item .hash) ++ bytesOf (c .ready ∷ one (c .preferred) ∷ c .priority ∷ []))
 
 abbrev pub entryAnswer : Entry → List ℕ
 entryAnswer a = keyAnswer (a .key) ++ candidateAnswer (a .candidate)
