@@ -13,6 +13,7 @@ use Rattle.machine.specs.Fail.{but}
 use Rattle.machine.specs.Claim.{elem}
 use Rattle.machine.specs.Sound.{NoRepeat}
 use Rattle.machine.proofs.Tests.{test, never, or-left, or-right, or-true}
+use Rattle.machine.proofs.Fail.{distinct-but}
 
 -- every member of l is a member of m
 abbrev pub Within : List ℕ → List ℕ → Type 0
@@ -73,20 +74,6 @@ elem-but x h (y ∷ l) e =
         | inr q ↦ let w = elem-but x h l q in (or-true (eqb y x) (elem x l) (w .0), w .1)
       ]
     ]
-
-absent-but : (x h : ℕ) (l : List ℕ) → elem x l ≡ false → elem x (but h l) ≡ false
-unfolding elem but
-absent-but x h [] e = e
-absent-but x h (y ∷ l) e =
-    elim (test (eqb y h)) [
-      | inl d ↦ rw d (absent-but x h l (or-right (eqb y x) (elem x l) e))
-      | inr d ↦ rw (d, or-left (eqb y x) (elem x l) e) (absent-but x h l (or-right (eqb y x) (elem x l) e))
-    ]
-
-distinct-but : (h : ℕ) (l : List ℕ) → NoRepeat l → NoRepeat (but h l)
-unfolding but
-distinct-but h [] n = tt
-distinct-but h (y ∷ l) n = elim (test (eqb y h)) [ inl d ↦ rw d (distinct-but h l (n .1)) | inr d ↦ rw d (absent-but y h l (n .0), distinct-but h l (n .1)) ]
 
 -- taking out what does not stand there takes out nothing
 but-absent : (h : ℕ) (l : List ℕ) → elem h l ≡ false → but h l ≡ l

@@ -26,15 +26,12 @@ use Rattle.machine.proofs.Plan.{DueTyped, due-typed, bounded-due}
 use Rattle.machine.proofs.At.{at-here, at-there, at-other, at-both, at-both-other, at-both-else, other-place}
 use Rattle.machine.proofs.Alone.{Hold, holdOf, noHold, alone-parents}
 use Rattle.machine.proofs.Loosened.{Loosened, loosened-same, loosened-alone, loosened-then, left-key, left-kept}
+use Rattle.machine.proofs.Places.{gone}
 
 -- ---- "no hash is owned under both kinds"
 
-gone : Request → Request
-gone r = blank (r .key)
-
 -- two requests weigh no more than all
 total-two : (w : Request → ℕ) (j k : Key) (t : Table) → ((i : Key) → w (blank i) ≡ 0) → k .hash < top → Ordered 0 t → (place j ≡ place k → ⊥) → w (at j t) + w (at k t) ≤ total w t
-unfolding gone
 total-two w j k t z s o n =
     let t′ = change k gone t in
     omega (arith, total-change w k gone 0 t (z k) o, z ((at k t) .key), total-change w j gone 0 t′ (z j) (ordered-change k gone 0 t (λ r. refl) (omega arith) s o), z ((at j t′) .key), ap w (at-other j k gone t (λ r. refl) n))

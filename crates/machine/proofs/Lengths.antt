@@ -1,13 +1,13 @@
 -- How long the answers are: bytes of keys and entries, and the lists of sweep, claim, Sending and announce_parents.
 -- Assumes nothing.
-use Prim.Native.Nat.{ℕ, zero, suc, _+_, _*_, _≤_, min}
+use Prim.Native.Nat.{ℕ, suc, _+_, _*_, _≤_, min}
 use mathlib.Core.Path.{_≡_, refl, ap, _∙_}
 use mathlib.Core.Logic.{inl, inr}
 use mathlib.Core.Bool.{true, _&&_, _||_}
 use mathlib.Core.List.{List, [], _∷_, map}
 use mathlib.Core.Option.{Option, none, some}
 use native.Mathlib.Omega.{arith}
-use lib.Dec.{ltb, leb, eqb}
+use lib.Dec.{ltb, leb}
 use lib.ListN.{length, length-append, length-take, length-map}
 use borrow.Author.Tests.{ltb-true, ltb-false, le-leb, lt-leb}
 use Rattle.ident.specs.If.{if_then_else_}
@@ -18,7 +18,7 @@ use Rattle.machine.specs.Limits.{Limits, maxKnownChecks, maxParents, req
 use Rattle.machine.specs.State.{Candidate, Request, Table, Entry, Answer, ownerIs, isSome, ownedUntil}
 use Rattle.machine.specs.Table.{change, keys, countIn, total, held}
 use Rattle.machine.specs.Announce.{requestParentAt}
-use Rattle.machine.specs.Fail.{Listed, but, dedup, parentOf, mark, parentsFrom, announceParents, parentsFor}
+use Rattle.machine.specs.Fail.{Listed, dedup, parentOf, mark, parentsFrom, announceParents, parentsFor}
 use Rattle.machine.specs.Package.{listedAfter}
 use Rattle.machine.specs.Sweep.{only, round, handed}
 use Rattle.machine.specs.Plan.{insertByPriority, sortByPriority}
@@ -27,6 +27,7 @@ use Rattle.machine.specs.Call.{keyBytes, entryBytes}
 use Rattle.machine.specs.Step.{keyAnswer, candidateAnswer, entryAnswer, keysAnswer, entriesAnswer}
 use Rattle.machine.specs.Sound.{All, Filled, Lawful}
 use Rattle.machine.proofs.Tests.{test, by-test}
+use Rattle.machine.proofs.Fail.{length-dedup}
 
 -- ---- bytes
 
@@ -120,16 +121,6 @@ length-claim now (a ∷ l) t =
     by-test (λ (x : List Entry). length x ≤ suc (length l)) (takes now a t) (λ e. omega (arith, length-claim now l t′)) (λ e. omega (arith, length-claim now l t′))
 
 -- ---- announce_parents, and a key with its parents
-
-length-but : (h : ℕ) (hs : List ℕ) → length (but h hs) ≤ length hs
-unfolding but
-length-but h [] = omega arith
-length-but h (x ∷ hs) = elim (test (eqb x h)) [ inl e ↦ rw e (omega (arith, length-but h hs)) | inr e ↦ rw e (omega (arith, length-but h hs)) ]
-
-pub length-dedup : (hs : List ℕ) → length (dedup hs) ≤ length hs
-unfolding dedup
-length-dedup [] = omega arith
-length-dedup (h ∷ hs) = omega (arith, length-but h (dedup hs), length-dedup hs)
 
 length-parentsFrom : (m : Limits) (n now i : ℕ) (hs : List ℕ) (t : Table) → length ((parentsFrom m n now i hs t) .keys) ≤ length hs
 unfolding parentsFrom

@@ -28,11 +28,12 @@ use Rattle.machine.proofs.Lengths.{length-announceParents}
 
 -- ---- a weight that is nowhere greater is not greater in all
 
-gone : Request → Request
+-- a change that takes a request away
+abbrev pub gone : Request → Request
 gone r = blank (r .key)
 
 pub total-mono : (w : Request → ℕ) (lo : ℕ) (t′ t : Table) → ((k : Key) → w (blank k) ≡ 0) → Ordered lo t′ → Ordered 0 t → ((j : Key) → j .hash < top → w (at j t′) ≤ w (at j t)) → total w t′ ≤ total w t
-unfolding total gone
+unfolding total
 total-mono w lo [] t z o′ o h = omega arith
 total-mono w lo (r ∷ t′) t z o′ o h =
     let k = r .key in
