@@ -12,6 +12,7 @@ pub mod Leaving
 pub mod AnswerFits
 pub mod Expired
 pub mod Claimed
+pub mod Same
 pub mod Edges
 pub mod FairLists
 pub mod Fairness
