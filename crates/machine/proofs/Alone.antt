@@ -52,6 +52,11 @@ none-hold′ k o false none hs e h = λ i. record { owner = e i; info = false; �
 pub none-hold : (r : Request) → Lawful r → r .owner ≡ none → holdOf r ≡ noHold
 none-hold r l e = none-hold′ (r .key .kind) (r .owner) (r .info) (r .«package») (r .parents) e (l .packed)
 
+pub has-some : (n : ℕ) (cs : List Candidate) → has n cs ≡ true → 1 ≤ length cs
+unfolding has
+has-some n [] h = never h
+has-some n (c ∷ cs) h = omega arith
+
 -- an owner is a candidate, so that a request with none holds nothing
 pub owner-empty : (o : Option Owner) (cs : List Candidate) → cs ≡ [] → OwnerFits o cs → o ≡ none
 unfolding has

@@ -29,6 +29,10 @@ abbrev pub kept : Key → Request → List Candidate → Request
 kept k r [] = blank k
 kept k r (c ∷ cs) = r
 
+pub kept-some : (k : Key) (r : Request) (cs : List Candidate) → 1 ≤ length cs → kept k r cs ≡ r
+kept-some k r [] h = absurd (omega arith)
+kept-some k r (c ∷ cs) h = refl
+
 -- ---- the key that is changed
 
 pub at-here : (k : Key) (r : Request) (t : Table) → place k ≡ place (r .key) → at k (r ∷ t) ≡ r

@@ -6,12 +6,11 @@ use mathlib.Core.Logic.{_⊎_, inl, inr}
 use mathlib.Core.Bool.{true}
 use mathlib.Core.List.{List, [], _∷_}
 use mathlib.Core.Option.{Option, none, some}
-use native.Mathlib.Omega.{arith}
 use lib.ListN.{length}
 use Rattle.ident.specs.If.{if_then_else_}
 use Rattle.ident.specs.Number.{Key, top}
 use Rattle.machine.specs.Limits.{Limits, requestLifetime, word}
-use Rattle.machine.specs.State.{Candidate, Owner, Request, Table, Entry, ownedUntil, isSome}
+use Rattle.machine.specs.State.{Owner, Request, Table, Entry, ownedUntil, isSome}
 use Rattle.machine.specs.Table.{at, change, keys, has}
 use Rattle.machine.specs.Claim.{takes, claim}
 use Rattle.machine.specs.Sound.{Bounded}
@@ -19,8 +18,8 @@ use Rattle.machine.specs.Typed.{Each, EntryTyped}
 use Rattle.machine.proofs.Tests.{by-test, never}
 use Rattle.machine.proofs.Change.{unowned-at}
 use Rattle.machine.proofs.Claim.{Takes, takes-means, bounded-take}
-use Rattle.machine.proofs.At.{kept, keys-stay}
-use Rattle.machine.proofs.Alone.{at-either}
+use Rattle.machine.proofs.At.{kept, kept-some, keys-stay}
+use Rattle.machine.proofs.Alone.{has-some, at-either}
 
 -- a request without its owner
 abbrev pub ownerless : Request → Request
@@ -52,15 +51,6 @@ claimed-then {d} {t} {t′} {t″} a b = record { keys = b .keys ∙ a .keys; re
     go j s (inr x) (inr y) = never (sym (ap isSome (y .0)) ∙ ap isSome (x .1 .1))
 
 -- ---- one entry
-
-has-some : (n : ℕ) (cs : List Candidate) → has n cs ≡ true → 1 ≤ length cs
-unfolding has
-has-some n [] h = never h
-has-some n (c ∷ cs) h = omega arith
-
-kept-some : (k : Key) (r : Request) (cs : List Candidate) → 1 ≤ length cs → kept k r cs ≡ r
-kept-some k r [] h = absurd (omega arith)
-kept-some k r (c ∷ cs) h = refl
 
 claimed-take : {m : Limits} {Q : ℕ} {t : Table} (a : Entry) (d : ℕ) → a .key .hash < top → Takes t a → Bounded m Q t → Claimed d t (change (a .key) (ownedUntil (a .candidate .connection) d) t)
 claimed-take {m} {Q} {t} a d s x b = record {

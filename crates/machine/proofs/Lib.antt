@@ -13,6 +13,7 @@ pub mod AnswerFits
 pub mod Expired
 pub mod Claimed
 pub mod Same
+pub mod OneKey
 pub mod Edges
 pub mod FairLists
 pub mod Fairness
