@@ -25,7 +25,7 @@ use Rattle.machine.proofs.Fail.{few-for, bounded-failed}
 use Rattle.machine.proofs.Plan.{DueTyped, due-typed, bounded-due}
 use Rattle.machine.proofs.At.{at-here, at-there, at-other, at-both, at-both-other, at-both-else, other-place}
 use Rattle.machine.proofs.Alone.{Hold, holdOf, noHold, alone-parents}
-use Rattle.machine.proofs.Loosened.{Loosened, loosened-same, loosened-alone, loosened-then, left-key, left-kept}
+use Rattle.machine.proofs.Loosened.{owner-some, Loosened, loosened-same, loosened-alone, loosened-then, left-key, left-kept}
 use Rattle.machine.proofs.Places.{gone}
 
 -- ---- "no hash is owned under both kinds"
@@ -51,10 +51,6 @@ owned-once {m} {Q} {t} k s b e =
     counted j h = owner-counts _ ((at j t) .owner) (λ n. eq-eqb ((at j t) .key .hash) (j .hash) (ap (λ (i : Key). i .hash) (at-key j 0 t h (b .ordered))))
 
 -- ---- failed, key by key
-
-owner-some : (n : ℕ) (o : Option Owner) → ownerIs n o ≡ true → isSome o ≡ true
-owner-some n none e = never e
-owner-some n (some o) e = refl
 
 owner-not : (n : ℕ) (o : Option Owner) → isSome o ≡ false → ownerIs n o ≡ false
 owner-not n none e = refl

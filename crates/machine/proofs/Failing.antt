@@ -103,7 +103,7 @@ unfolding someKeys
 holds-cons n t none l f a = a
 holds-cons n t (some k) l f a = (record { small = f .small; place = λ e. place-packed ((at k t) .info) ((at k t) .«package») (f .packed) }, a)
 
-holds-claims : (n : ℕ) (cs : List ℕ) (t : Table) → Ordered 0 t → Each (HoldsPlace n t) (someKeys (map (λ c. claimKey n c t) cs))
+pub holds-claims : (n : ℕ) (cs : List ℕ) (t : Table) → Ordered 0 t → Each (HoldsPlace n t) (someKeys (map (λ c. claimKey n c t) cs))
 unfolding someKeys
 holds-claims n [] t o = tt
 holds-claims n (c ∷ cs) t o = holds-cons n t (claimKey n c t) (map (λ c. claimKey n c t) cs) (found-claim n c 0 t o) (holds-claims n cs t o)

@@ -14,6 +14,7 @@ pub mod Expired
 pub mod Claimed
 pub mod Same
 pub mod OneKey
+pub mod Batches
 pub mod Edges
 pub mod FairLists
 pub mod Fairness

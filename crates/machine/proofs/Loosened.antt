@@ -5,19 +5,19 @@ use mathlib.Core.Path.{_≡_, refl, sym, ap, _∙_}
 use mathlib.Core.Logic.{_⊎_, inl, inr}
 use mathlib.Core.Bool.{Bool, true, false}
 use mathlib.Core.List.{List, [], _∷_, map}
-use mathlib.Core.Option.{Option}
+use mathlib.Core.Option.{Option, none, some}
 use native.Mathlib.Omega.{arith}
 use lib.ListN.{length}
 use Rattle.ident.specs.If.{if_then_else_}
 use Rattle.ident.specs.Number.{Key, place, other, top}
 use Rattle.machine.specs.Limits.{Limits, word}
-use Rattle.machine.specs.State.{Candidate, Owner, Request, Table, Answer, readyAt, ownerIs}
+use Rattle.machine.specs.State.{Candidate, Owner, Request, Table, Answer, readyAt, ownerIs, isSome}
 use Rattle.machine.specs.Table.{at, change}
 use Rattle.machine.specs.Announce.{without}
 use Rattle.machine.specs.Fail.{releasable, left, leaves, failed, Listed, parentsFor}
 use Rattle.machine.specs.Package.{listedAfter, failedWithParents}
 use Rattle.machine.specs.Sound.{Ordered, All, Lawful, Bounded}
-use Rattle.machine.proofs.Tests.{by-test}
+use Rattle.machine.proofs.Tests.{by-test, never}
 use Rattle.machine.proofs.Table.{lawful-at}
 use Rattle.machine.proofs.Change.{bounded-change, owner-without}
 use Rattle.machine.proofs.Fail.{Peer, few-for, shrinks-left, bounded-failed}
@@ -46,6 +46,14 @@ loosened-then {p} {t} {t′} {t″} a b = record { hold = λ j s. go j (a .hold 
     go j (inl d) (inr e) = inr (ap (λ (x : Hold). p (x .owner)) (sym d) ∙ e .0, e .1)
     go j (inr d) (inl e) = inr (d .0, e ∙ d .1)
     go j (inr d) (inr e) = inr (d .0, e .1)
+
+-- a test that passes more
+pub loosened-wider : {p q : Option Owner → Bool} {t t′ : Table} → ((o : Option Owner) → p o ≡ true → q o ≡ true) → Loosened p t t′ → Loosened q t t′
+loosened-wider f l = record { hold = λ j s. elim (l .hold j s) [ inl e ↦ inl e | inr e ↦ inr (f _ (e .0), e .1) ] }
+
+pub owner-some : (n : ℕ) (o : Option Owner) → ownerIs n o ≡ true → isSome o ≡ true
+owner-some n none e = never e
+owner-some n (some o) e = refl
 
 -- ---- a connection leaves a request
 

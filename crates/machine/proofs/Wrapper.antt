@@ -26,7 +26,7 @@ one-most : (b : Bool) → one b ≤ 1
 one-most true = omega arith
 one-most false = omega arith
 
-offered-typed : (n now : ℕ) (p v f : Bool) (o : Offer) → Peer n → now + requestLifetime < word → OfferTyped o → CandidateTyped (offered n now p v f o)
+pub offered-typed : (n now : ℕ) (p v f : Bool) (o : Offer) → Peer n → now + requestLifetime < word → OfferTyped o → CandidateTyped (offered n now p v f o)
 offered-typed n now p v f o a w h = record {
   connection = a .small;
   hash = h .hash;
