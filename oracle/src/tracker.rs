@@ -1,0 +1,9 @@
+//! The source's text as build.rs derives it. `convert` and `machine` are children, so
+//! that they see its private parts.
+
+include!(concat!(env!("OUT_DIR"), "/tx_policy_core.rs"));
+
+#[path = "convert.rs"]
+mod convert;
+#[path = "machine.rs"]
+pub mod machine;
