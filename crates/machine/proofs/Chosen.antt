@@ -22,7 +22,7 @@ use Rattle.machine.proofs.Tests.{test, by-test, never}
 use Rattle.machine.proofs.Table.{place-inj}
 use Rattle.machine.proofs.Plan.{bounded-expired, keys-typed, round-typed, expired-keys}
 use Rattle.machine.proofs.Distinct.{Within, elem-head, elem-tail, elem-snoc, distinct-snoc, within-shorter}
-use Rattle.machine.proofs.Lengths.{keys-held, length-sortByPriority}
+use Rattle.machine.proofs.AnswerLengths.{keys-held, length-sortByPriority}
 
 -- the hashes of entries, and of the requests of a table
 abbrev pub entryHashes : List Entry → List ℕ

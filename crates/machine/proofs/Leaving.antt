@@ -28,7 +28,7 @@ use Rattle.machine.proofs.Fail.{Peer, FewHashes, few-for, bounded-faile
 use Rattle.machine.proofs.Leave.{keys-of, bounded-dropAt}
 use Rattle.machine.proofs.At.{at-here, at-there}
 use Rattle.machine.proofs.Distinct.{Within, elem-head, elem-tail, elem-cases, elem-front, elem-back, elem-but, within-shorter}
-use Rattle.machine.proofs.Lengths.{keys-held}
+use Rattle.machine.proofs.AnswerLengths.{keys-held}
 use Rattle.machine.proofs.Alone.{Hold, Alone, alone-same, alone-then, alone-cut, alone-parents}
 use Rattle.machine.proofs.Loosened.{Loosened, loosened-same, loosened-alone, loosened-then, loosened-failed}
 use Rattle.machine.proofs.Places.{parents-place}

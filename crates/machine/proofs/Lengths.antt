@@ -1,144 +1,103 @@
--- How long the answers are: bytes of keys and entries, and the lists of sweep, claim, Sending and announce_parents.
+-- Every answer fits the buffer need that document 01 names, and so the buffer of a call that is carried out.
 -- Assumes nothing.
-use Prim.Native.Nat.{ℕ, suc, _+_, _*_, _≤_, min}
-use mathlib.Core.Path.{_≡_, refl, ap, _∙_}
-use mathlib.Core.Logic.{inl, inr}
-use mathlib.Core.Bool.{true, _&&_, _||_}
-use mathlib.Core.List.{List, [], _∷_, map}
-use mathlib.Core.Option.{Option, none, some}
+use Prim.Native.Nat.{ℕ, _+_, _*_, _≤_, _<_, min}
+use mathlib.Core.Path.{_≡_, refl}
+use mathlib.Core.Bool.{true}
+use mathlib.Core.List.{List, _++_}
 use native.Mathlib.Omega.{arith}
-use lib.Dec.{ltb, leb}
-use lib.ListN.{length, length-append, length-take, length-map}
-use borrow.Author.Tests.{ltb-true, ltb-false, le-leb, lt-leb}
-use Rattle.ident.specs.If.{if_then_else_}
-use Rattle.ident.specs.Number.{Key, place, txid}
-use Rattle.words.specs.Words.{digits, bytesOf}
-use Rattle.words.proofs.Digits.{length-digits}
-use Rattle.machine.specs.Limits.{Limits, maxKnownChecks, maxParents, requestLifetime}
-use Rattle.machine.specs.State.{Candidate, Request, Table, Entry, Answer, ownerIs, isSome, ownedUntil}
-use Rattle.machine.specs.Table.{change, keys, countIn, total, held}
-use Rattle.machine.specs.Announce.{requestParentAt}
-use Rattle.machine.specs.Fail.{Listed, dedup, parentOf, mark, parentsFrom, announceParents, parentsFor}
-use Rattle.machine.specs.Package.{listedAfter}
-use Rattle.machine.specs.Sweep.{only, round, handed}
-use Rattle.machine.specs.Plan.{insertByPriority, sortByPriority}
-use Rattle.machine.specs.Claim.{takes, claim, forWitness, insertByConnection, sortByConnection, arrange}
-use Rattle.machine.specs.Call.{keyBytes, entryBytes}
-use Rattle.machine.specs.Step.{keyAnswer, candidateAnswer, entryAnswer, keysAnswer, entriesAnswer}
-use Rattle.machine.specs.Sound.{All, Filled, Lawful}
-use Rattle.machine.proofs.Tests.{test, by-test}
-use Rattle.machine.proofs.Fail.{length-dedup}
+use lib.Dec.{eqb}
+use lib.ListN.{length, drop, length-append, length-drop}
+use borrow.Author.Tests.{eqb-true}
+use Rattle.ident.specs.Number.{Key, wtxid}
+use Rattle.machine.specs.Limits.{Limits, maxPeerAnnouncements, maxParents, word}
+use Rattle.machine.specs.State.{Table, Entry, State, limitsOf, done}
+use Rattle.machine.specs.Table.{at, keys}
+use Rattle.machine.specs.Fail.{Listed, parentsFor, failed, leaves}
+use Rattle.machine.specs.Package.{enqueuedBy, failedWithParents, releasePackage}
+use Rattle.machine.specs.Leave.{disconnected}
+use Rattle.machine.specs.Call.{Ask, Announce, RequestParent, Failed, Unclaim, SolicitPackageInfo, ClaimPackage, BeginPackageResolution, AnnounceParents, FailedPackageClaims, Plan, Claim, Sweep, Disconnected, ReleasePackage, TeardownPackageClaims, Forget, ForgetKnown, FailedWithParents, FailedPackageInfo, PackageInfoOwner, AnnounceTransactions, TransactionResponseCompleted, TransactionNotFound, PollGate, Arrange, Sum, keyBytes, entryBytes, Call, Open, On, named, openingRefusal, askRefusal, refusal}
+use Rattle.machine.specs.Step.{perform, carryOut, written, bufferOf, stepIf, step, keysAnswer, entriesAnswer, answerBytes}
+use Rattle.machine.specs.Sound.{Bounded, Sound}
+use Rattle.machine.specs.Typed.{AskTyped, CallTyped}
+use Rattle.machine.proofs.Tests.{by-test}
+use Rattle.machine.proofs.Table.{lawful-at}
+use Rattle.machine.proofs.Kept.{Carried, carried, peer}
+use Rattle.machine.proofs.AnswerLengths.{length-keysAnswer, length-entriesAnswer, keys-held, length-handed, length-claim, length-arrange, length-announceParents, length-listedAfter, length-parentsFor}
+use Rattle.machine.proofs.Chosen.{length-plan}
+use Rattle.machine.proofs.Failing.{length-failedPackageClaims, length-notFound}
+use Rattle.machine.proofs.Leaving.{length-own, length-handed-on}
 
--- ---- bytes
+-- ---- lists of keys and of entries in bytes
 
-pub length-bytesOf : (ws : List ℕ) → length (bytesOf ws) ≡ 8 * length ws
-unfolding bytesOf
-length-bytesOf [] = refl
-length-bytesOf (w ∷ ws) = omega (arith, length-append (digits 256 8 w) (bytesOf ws), length-digits 256 8 w, length-bytesOf ws)
+keys-fit : (ks : List Key) (n : ℕ) → length ks ≤ n → length (keysAnswer ks) ≤ keyBytes * n
+keys-fit ks n h = omega (arith, length-keysAnswer ks)
 
-pub length-keyAnswer : (k : Key) → length (keyAnswer k) ≡ keyBytes
-length-keyAnswer k = simp (length-append, length-bytesOf, length-digits)
+entries-fit : (l : List Entry) (n : ℕ) → length l ≤ n → length (entriesAnswer l) ≤ entryBytes * n
+entries-fit l n h = omega (arith, length-entriesAnswer l)
 
-length-candidateAnswer : (c : Candidate) → length (candidateAnswer c) + keyBytes ≡ entryBytes
-length-candidateAnswer c = simp (length-append, length-digits, length-bytesOf)
+-- ---- a key with its parents
 
-pub length-entryAnswer : (a : Entry) → length (entryAnswer a) ≡ entryBytes
-length-entryAnswer a = omega (arith, length-append (keyAnswer (a .key)) (candidateAnswer (a .candidate)), length-keyAnswer (a .key), length-candidateAnswer (a .candidate))
+pub length-failedWithParents : {m : Limits} {Q : ℕ} {t : Table} (k : Key) (n now : ℕ) → Bounded m Q t → length ((failedWithParents m k n now t) .keys) ≤ maxParents + 1
+unfolding failedWithParents
+length-failedWithParents {m} {Q} {t} k n now b = omega (arith, length-listedAfter m k n now (parentsFor n (at k t)) (failed k n now t), length-parentsFor n (at k t) (lawful-at k t (b .lawful)))
 
-pub length-keysAnswer : (ks : List Key) → length (keysAnswer ks) ≡ keyBytes * length ks
-unfolding keysAnswer
-length-keysAnswer [] = refl
-length-keysAnswer (k ∷ ks) = omega (arith, length-append (keyAnswer k) (keysAnswer ks), length-keyAnswer k, length-keysAnswer ks)
+pub length-releasePackage : {m : Limits} {Q : ℕ} {t : Table} (n h now : ℕ) → Bounded m Q t → length ((releasePackage m n h now t) .keys) ≤ maxParents + 1
+unfolding releasePackage
+length-releasePackage {m} {Q} {t} n h now b =
+    let k = wtxid h in
+    by-test (λ (x : Listed). length (x .keys) ≤ maxParents + 1) (enqueuedBy n (at k t))
+    (λ e. omega (arith, length-listedAfter m k n now (parentsFor n (at k t)) (done (leaves k n now t)), length-parentsFor n (at k t) (lawful-at k t (b .lawful)))) (λ e. omega arith)
 
-pub length-entriesAnswer : (l : List Entry) → length (entriesAnswer l) ≡ entryBytes * length l
-unfolding entriesAnswer
-length-entriesAnswer [] = refl
-length-entriesAnswer (a ∷ l) = omega (arith, length-append (entryAnswer a) (entriesAnswer l), length-entryAnswer a, length-entriesAnswer l)
+pub length-disconnected : {m : Limits} {Q : ℕ} {t : Table} (n now : ℕ) → now < word → Bounded m Q t → length ((disconnected m n now t) .own ++ (disconnected m n now t) .parents) ≤ min maxPeerAnnouncements (m .announcements) + maxParents * Q
+length-disconnected {m} {Q} {t} n now w b = omega (arith, length-append ((disconnected m n now t) .own) ((disconnected m n now t) .parents), length-own n now w b, length-handed-on n now w b, b .room)
 
--- ---- keys of a table, and sweep
+-- ---- the theorem
 
-length-countIn : (cs : List Candidate) → countIn (λ n. true) cs ≡ length cs
-unfolding countIn
-length-countIn [] = refl
-length-countIn (c ∷ cs) = omega (arith, length-countIn cs)
+fits : (a : Ask) (s : State) → AskTyped a → Sound s → Carried a s → length (answerBytes ((perform a s) .reply)) ≤ (named a s) .needs
+unfolding perform named
+fits (Announce c) s w g r = omega arith
+fits (RequestParent c) s w g r = omega arith
+fits (Failed k n now) s w g r = omega arith
+fits (Unclaim k n) s w g r = omega arith
+fits (SolicitPackageInfo n h hs now) s w g r = omega arith
+fits (ClaimPackage n h c ws now) s w g r = omega arith
+fits (BeginPackageResolution n h c ws now) s w g r = omega arith
+fits (AnnounceParents n hs now b) s w g r = keys-fit _ (maxParents + 1) (omega (arith, length-announceParents (limitsOf s) n now hs (s .table), r .parents))
+fits (FailedPackageClaims n cs now b) s w g r = keys-fit _ _ (omega (arith, length-failedPackageClaims n cs now (peer n (r .connections) (w .0)) (w .2) (g .bounded), g .bounded .room))
+fits (Plan now ks b) s w g r = entries-fit _ _ (omega (arith, length-plan now ks s (w .0) (w .1) g))
+fits (Claim now l b) s w g r = entries-fit _ _ (length-claim now l (s .table))
+fits (Sweep b) s w g r = keys-fit _ _ (omega (arith, length-handed (s .knownCursor) (keys (s .table)), keys-held (s .table) (g .bounded .filled), g .bounded .fits))
+fits (Disconnected n now b) s w g r = keys-fit _ _ (omega (arith, length-disconnected n now (w .1) (g .bounded)))
+fits (ReleasePackage n h now b) s w g r = keys-fit _ _ (length-releasePackage n h now (g .bounded))
+fits (TeardownPackageClaims now) s w g r = omega arith
+fits (Forget k) s w g r = omega arith
+fits (ForgetKnown k now) s w g r = omega arith
+fits (FailedWithParents k n now b) s w g r = keys-fit _ _ (length-failedWithParents k n now (g .bounded))
+fits (FailedPackageInfo k n now) s w g r = omega arith
+fits (PackageInfoOwner k now) s w g r = omega arith
+fits (AnnounceTransactions n now p v os) s w g r = omega arith
+fits (TransactionResponseCompleted n x y now) s w g r = omega arith
+fits (TransactionNotFound n l now b) s w g r = keys-fit _ _ (omega (arith, length-notFound n now l (peer n (r .connections) (w .0)) (w .2) (w .1) (g .bounded), g .bounded .room))
+fits (PollGate now) s w g r = omega arith
+fits (Arrange ws l b) s w g r = entries-fit _ _ (omega (arith, length-arrange ws l (s .table)))
+fits Sum s w g r = omega arith
 
--- each request has a candidate
-pub keys-held : (t : Table) → All Filled t → length (keys t) ≤ held t
-unfolding keys total
-keys-held [] f = omega arith
-keys-held (r ∷ t) f = omega (arith, f .0, length-countIn (r .candidates), keys-held t (f .1))
+pub answer-fits : (a : Ask) (s : State) → AskTyped a → Sound s → askRefusal true a s ≡ 0 → length (answerBytes ((perform a s) .reply)) ≤ (named a s) .needs
+answer-fits a s w g e = fits a s w g (carried a s e)
 
--- the keys after a cursor and those up to it are all
-length-parted : (c : ℕ) (ks : List Key) → length (only (λ n. ltb c n) ks) + length (only (λ n. leb n c) ks) ≡ length ks
-unfolding only
-length-parted c [] = refl
-length-parted c (k ∷ ks) =
-    elim (test (ltb c (place k))) [
-      | inl e ↦ rw (e, lt-leb (place k) c (ltb-true c (place k) e)) (omega (arith, length-parted c ks))
-      | inr e ↦ rw (e, le-leb (place k) c (ltb-false c (place k) e)) (omega (arith, length-parted c ks))
-    ]
+-- the buffer was tested against the need
+pub answer-in-buffer : (a : Ask) (s : State) → AskTyped a → Sound s → askRefusal true a s ≡ 0 → length (answerBytes ((perform a s) .reply)) ≤ length ((named a s) .buffer)
+answer-in-buffer a s w g e = omega (arith, answer-fits a s w g e, (carried a s e) .buffer)
 
-pub length-round : (c : Option Key) (ks : List Key) → length (round c ks) ≡ length ks
-unfolding round
-length-round none ks = refl
-length-round (some c) ks = length-append (only (λ n. ltb (place c) n) ks) (only (λ n. leb n (place c)) ks) ∙ length-parted (place c) ks
+-- ---- a step keeps the length of the buffer
 
-pub length-handed : (c : Option Key) (ks : List Key) → length (handed c ks) ≡ min maxKnownChecks (length ks)
-unfolding handed
-length-handed c ks = length-take maxKnownChecks (round c ks) ∙ ap (λ n. min maxKnownChecks n) (length-round c ks)
+length-written : (x b : List ℕ) → length x ≤ length b → length (written x b) ≡ length b
+unfolding written
+length-written x b h = omega (arith, length-append x (drop (length x) b), length-drop (length x) b)
 
--- ---- sorting, claim, Sending
-
-length-insertByPriority : (a : Entry) (l : List Entry) → length (insertByPriority a l) ≡ suc (length l)
-unfolding insertByPriority
-length-insertByPriority a [] = refl
-length-insertByPriority a (b ∷ l) = elim (test (leb (a .candidate .priority) (b .candidate .priority))) [ inl e ↦ rw e | inr e ↦ rw e (ap suc (length-insertByPriority a l)) ]
-
-pub length-sortByPriority : (l : List Entry) → length (sortByPriority l) ≡ length l
-unfolding sortByPriority
-length-sortByPriority [] = refl
-length-sortByPriority (a ∷ l) = length-insertByPriority a (sortByPriority l) ∙ ap suc (length-sortByPriority l)
-
-length-insertByConnection : (a : Entry) (l : List Entry) → length (insertByConnection a l) ≡ suc (length l)
-unfolding insertByConnection
-length-insertByConnection a [] = refl
-length-insertByConnection a (b ∷ l) = elim (test (leb (a .candidate .connection) (b .candidate .connection))) [ inl e ↦ rw e | inr e ↦ rw e (ap suc (length-insertByConnection a l)) ]
-
-pub length-sortByConnection : (l : List Entry) → length (sortByConnection l) ≡ length l
-unfolding sortByConnection
-length-sortByConnection [] = refl
-length-sortByConnection (a ∷ l) = length-insertByConnection a (sortByConnection l) ∙ ap suc (length-sortByConnection l)
-
-pub length-arrange : (ws : List ℕ) (l : List Entry) (t : Table) → length (arrange ws l t) ≡ length l
-unfolding arrange
-length-arrange ws l t = length-sortByConnection (map (forWitness ws t) l) ∙ length-map l (forWitness ws t)
-
-pub length-claim : (now : ℕ) (l : List Entry) (t : Table) → length ((claim now l t) .entries) ≤ length l
-unfolding claim
-length-claim now [] t = omega arith
-length-claim now (a ∷ l) t =
-    let t′ = if takes now a t then change (a .key) (ownedUntil (a .candidate .connection) (now + requestLifetime)) t else t in
-    by-test (λ (x : List Entry). length x ≤ suc (length l)) (takes now a t) (λ e. omega (arith, length-claim now l t′)) (λ e. omega (arith, length-claim now l t′))
-
--- ---- announce_parents, and a key with its parents
-
-length-parentsFrom : (m : Limits) (n now i : ℕ) (hs : List ℕ) (t : Table) → length ((parentsFrom m n now i hs t) .keys) ≤ length hs
-unfolding parentsFrom
-length-parentsFrom m n now i [] t = omega arith
-length-parentsFrom m n now i (h ∷ hs) t =
-    let a = requestParentAt m (txid h) (parentOf n now h i) t in
-    let t′ = if a .reply then mark (txid h) (a .table) else a .table in
-    by-test (λ (x : List Key). length x ≤ suc (length hs)) (a .reply) (λ e. omega (arith, length-parentsFrom m n now (suc i) hs t′)) (λ e. omega (arith, length-parentsFrom m n now (suc i) hs t′))
-
-pub length-announceParents : (m : Limits) (n now : ℕ) (hs : List ℕ) (t : Table) → length ((announceParents m n now hs t) .keys) ≤ length hs
-unfolding announceParents
-length-announceParents m n now hs t = omega (arith, length-parentsFrom m n now 0 (dedup hs) t, length-dedup hs)
-
-pub length-listedAfter : (m : Limits) (k : Key) (n now : ℕ) (hs : List ℕ) (a : Answer) → length ((listedAfter m k n now hs a) .keys) ≤ suc (length hs)
-unfolding listedAfter
-length-listedAfter m k n now hs a =
-    by-test (λ (x : Listed). length (x .keys) ≤ suc (length hs)) (a .reply) (λ e. omega (arith, length-announceParents m n now hs (a .table))) (λ e. omega arith)
-
-pub length-parentsFor : (n : ℕ) (r : Request) → Lawful r → length (parentsFor n r) ≤ maxParents
-length-parentsFor n r l =
-    by-test (λ (x : List ℕ). length x ≤ maxParents) (ownerIs n (r .owner) && (r .info || isSome (r .«package»))) (λ e. l .parents .few) (λ e. omega arith)
+pub buffer-length : (n : ℕ) (c : Call) (s : State) → CallTyped c → Sound s → length ((step n c s) .buffer) ≡ length (bufferOf c s)
+unfolding stepIf refusal carryOut written
+buffer-length n (Open L Q) s w g = by-test (λ (b : List ℕ). length b ≡ 0) (eqb (openingRefusal n L Q) 0) (λ e. refl) (λ e. refl)
+buffer-length n (On a) s w g =
+    by-test (λ (b : List ℕ). length b ≡ length ((named a s) .buffer)) (eqb (askRefusal true a s) 0)
+    (λ e. length-written (answerBytes ((perform a s) .reply)) ((named a s) .buffer) (answer-in-buffer a s w g (eqb-true _ _ e))) (λ e. refl)

@@ -2,14 +2,14 @@ pub mod Tests
 pub mod Table
 pub mod At
 pub mod Alone
-pub mod Lengths
+pub mod AnswerLengths
 pub mod Distinct
 pub mod Chosen
 pub mod Loosened
 pub mod Places
 pub mod Failing
 pub mod Leaving
-pub mod AnswerFits
+pub mod Lengths
 pub mod Expired
 pub mod Claimed
 pub mod Same

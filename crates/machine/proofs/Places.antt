@@ -24,7 +24,7 @@ use Rattle.machine.proofs.Fail.{Peer, few-for, shrinks-left, bounded-le
 use Rattle.machine.proofs.At.{at-here, at-there, at-other}
 use Rattle.machine.proofs.Alone.{Hold, Alone, alone-parents}
 use Rattle.machine.proofs.Loosened.{left-hold, Loosened}
-use Rattle.machine.proofs.Lengths.{length-announceParents}
+use Rattle.machine.proofs.AnswerLengths.{length-announceParents}
 
 -- ---- a weight that is nowhere greater is not greater in all
 
