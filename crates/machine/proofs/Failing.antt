@@ -1,4 +1,4 @@
--- How many keys failed_package_claims and transaction_not_found list: places pay for the parents.
+-- How many keys failed_package_claims and transaction_not_found list: at most 100 parents for each place that is given back.
 -- Assumes nothing.
 use Prim.Native.Nat.{ℕ, suc, _+_, _*_, _≤_, _<_}
 use mathlib.Core.Path.{_≡_, refl, sym, ap, _∙_}
@@ -57,7 +57,7 @@ length-failEach {m} {Q} {t} n now (k ∷ ks) p w s b =
     let rest = length-failEach n now ks p w (s .1) (bounded-failedWithParents k n now (s .0) p w b) in
     omega (arith, length-append (a .keys) ((failEach m n now ks (a .table)) .keys), failing-one k n now (s .0) p w b, rest)
 
--- a key fails once, so that places pay for the keys too
+-- a key with a place fails once, so that its place bounds the key too
 pub length-failEach-held : {m : Limits} {Q : ℕ} {t : Table} (n now : ℕ) (ks : List Key) → Peer n → now < word → Each (HoldsPlace n t) ks → Bounded m Q t → length ((failEach m n now ks t) .keys) ≤ (maxParents + 1) * placesHeld t
 unfolding failEach
 length-failEach-held n now [] p w s b = omega arith

@@ -94,9 +94,9 @@ module _ {m : Limits} {Q : ℕ} {t : Table} (k : Key) (n now : ℕ) (s : k .hash
   abbrev hs : List ℕ
   hs = parentsFor n (at k t)
 
-  -- the parents go with the place
-  paid : releasable n (at k t) ≡ true → (length ((announceParents m n now hs (leaves k n now t)) .keys) ≤ maxParents * pl) × (placesHeld ((announceParents m n now hs (leaves k n now t)) .table) + pl ≤ placesHeld t)
-  paid e =
+  -- at most 100 parents are listed for the place that is given back
+  given-back : releasable n (at k t) ≡ true → (length ((announceParents m n now hs (leaves k n now t)) .keys) ≤ maxParents * pl) × (placesHeld ((announceParents m n now hs (leaves k n now t)) .table) + pl ≤ placesHeld t)
+  given-back e =
       let l = lawful-at k t (b .lawful) in
       let b′ = bounded-leaves k n now s w b in (
         omega (arith, length-announceParents m n now hs (leaves k n now t), parents-place n (at k t) l),
@@ -105,8 +105,8 @@ module _ {m : Limits} {Q : ℕ} {t : Table} (k : Key) (n now : ℕ) (s : k .hash
 
   -- one key, and the parents of places given back
   pub failing-one : length ((failedWithParents m k n now t) .keys) + maxParents * placesHeld ((failedWithParents m k n now t) .table) ≤ 1 + maxParents * placesHeld t
-  failing-one = failing-cases (λ ks t′. length ks + maxParents * placesHeld t′ ≤ 1 + maxParents * placesHeld t) m k n now t (λ e. omega (arith, paid e)) (omega arith)
+  failing-one = failing-cases (λ ks t′. length ks + maxParents * placesHeld t′ ≤ 1 + maxParents * placesHeld t) m k n now t (λ e. omega (arith, given-back e)) (omega arith)
 
-  -- and where the key has a place if it fails at all, that place pays for the key too
+  -- where the key has a place if it fails at all, the place bounds the key too
   pub failing-held : (ownerIs n ((at k t) .owner) ≡ true → placeIn ((at k t) .info) ((at k t) .«package») ≡ 1) → length ((failedWithParents m k n now t) .keys) + (maxParents + 1) * placesHeld ((failedWithParents m k n now t) .table) ≤ (maxParents + 1) * placesHeld t
-  failing-held h = failing-cases (λ ks t′. length ks + (maxParents + 1) * placesHeld t′ ≤ (maxParents + 1) * placesHeld t) m k n now t (λ e. omega (arith, paid e, h (and-left (ownerIs n ((at k t) .owner)) _ e))) (omega arith)
+  failing-held h = failing-cases (λ ks t′. length ks + (maxParents + 1) * placesHeld t′ ≤ (maxParents + 1) * placesHeld t) m k n now t (λ e. omega (arith, given-back e, h (and-left (ownerIs n ((at k t) .owner)) _ e))) (omega arith)
