@@ -1,5 +1,5 @@
 """Scripts that begin at sound states of any kind, set by the oracle's own word `load`, with lists for `grab` and `ship` taken from them."""
-from script import LIFETIME, NUMBERS, Script, listed
+from script import LIFETIME, NUMBERS, OTHER_TYPES, Script, listed
 
 
 class Loaded(Script):
@@ -83,8 +83,13 @@ class Loaded(Script):
         fields = entry.split(",")
         if self.one_in(2):
             place = self.random.randrange(6)
-            fields[place] = (self.key, lambda: self.pick((0, self.connection())), self.item, self.moment, lambda: 1 - int(fields[4]), self.priority)[place]()
+            fields[place] = (self.key, lambda: self.pick((0, self.connection())), lambda: self.relabelled(fields[2]), self.moment,
+                             lambda: 1 - int(fields[4]), self.priority)[place]()
         return ",".join(map(str, fields))
+
+    def relabelled(self, item):
+        """An item of another kind or of another hash."""
+        return self.pick(("t", "v", "w", f"o{self.pick(OTHER_TYPES)}:")) + (item[1:] if self.one_in(2) else self.hash_())
 
     def checked(self, most):
         if not self.entries:
@@ -95,7 +100,9 @@ class Loaded(Script):
         return self.now if self.one_in(2) else self.clock(), *self.checked(10)
 
     def ship(self):
-        return *self.send(), *self.checked(6)
+        """The witness connections are among the list's own."""
+        checked = self.checked(6)
+        return *listed([entry.split(",")[1] for entry in checked[1:] if self.one_in(2) and entry.split(",")[1] != "0"]), *checked
 
 
 class Large(Loaded):
