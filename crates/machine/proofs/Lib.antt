@@ -1,3 +1,16 @@
 pub mod Tests
 pub mod Table
 pub mod Edges
+pub mod FairLists
+pub mod Fairness
+pub mod Sweeps
+pub mod Change
+pub mod Announce
+pub mod Fail
+pub mod Plan
+pub mod Claim
+pub mod Package
+pub mod Leave
+pub mod Wrapper
+pub mod Kept
+pub mod Demand3

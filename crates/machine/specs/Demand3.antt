@@ -12,10 +12,9 @@ use Rattle.ident.specs.Number.{Key, place}
 use Rattle.machine.specs.Limits.{maxAlternates, maxPeerAnnouncements, maxInFlight, maxKnownChecks}
 use Rattle.machine.specs.State.{Table, Request, State}
 use Rattle.machine.specs.Table.{keys, held, heldBy, heldAt, ownedBy, ownedAt}
-use Rattle.machine.specs.Sweep.{handed}
 use Rattle.machine.specs.Sound.{All, OwnerFits, Sound}
 use Rattle.machine.specs.Call.{Ask, Announce, RequestParent, Failed, Unclaim, SolicitPackageInfo, ClaimPackage, BeginPackageResolution, AnnounceParents, FailedPackageClaims, Plan, Claim, Sweep, Disconnected, ReleasePackage, TeardownPackageClaims, Forget, ForgetKnown, FailedWithParents, FailedPackageInfo, PackageInfoOwner, AnnounceTransactions, TransactionResponseCompleted, TransactionNotFound, PollGate, Arrange, Sum, Call, Open, On, refusal}
-use Rattle.machine.specs.Step.{step}
+use Rattle.machine.specs.Step.{Reply, Refused, Number, Keys, Left, Entries, Chosen, Summed, step}
 use Rattle.machine.specs.Typed.{CallTyped, Each}
 
 -- ---- a list of calls on one store of n bytes: each gets the state that the last one left
@@ -70,15 +69,25 @@ abbrev pub opening : Call → Bool
 opening (Open L Q) = true
 opening (On a) = false
 
-abbrev pub sweptAt : State → Swept
-sweptAt s = record { held = keys (s .table); out = handed (s .knownCursor) (keys (s .table)) }
+-- the keys in a reply
+abbrev pub keysIn : Reply → List Key
+keysIn (Refused n) = []
+keysIn (Number n) = []
+keysIn (Keys ks) = ks
+keysIn (Left own parents) = own ++ parents
+keysIn (Entries l) = []
+keysIn (Chosen n l) = []
+keysIn (Summed s) = []
+
+abbrev pub sweptBy : ℕ → Call → State → Swept
+sweptBy n c s = record { held = keys (s .table); out = keysIn ((step n c s) .reply) }
 
 -- those that a list carries out, in order
 unfoldable pub sweepsOf : ℕ → List Call → State → List Swept
 sweepsOf n [] s = []
 sweepsOf n (c ∷ cs) s =
     let rest = sweepsOf n cs ((step n c s) .state) in
-    if sweeping c then (if carriedOut n c s then sweptAt s ∷ rest else rest) else rest
+    if sweeping c then (if carriedOut n c s then sweptBy n c s ∷ rest else rest) else rest
 
 -- "with no carried-out opening between"
 abbrev pub NoOpening : ℕ → List Call → State → Type 0
