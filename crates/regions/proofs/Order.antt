@@ -67,21 +67,36 @@ pub record Small (q : Quad) : Type 0 where
   pub w2 : q .w2 < 2 ^ 64
   pub w3 : q .w3 < 2 ^ 64
 
--- a hash and its number
-pub number-quad : (h : ℕ) → h < (2 ^ 64) ^ 4 → quadNumber (quadOf h) ≡ h
-unfolding quadNumber quadOf digits
-number-quad h l = number-digits (2 ^ 64) (lit< tt) 4 h l
+-- ---- a hash and its number, digit by digit to the base 2^64 (omega reads no numeral of 2^256's length)
+
+digit : (x : ℕ) → x % 2 ^ 64 + 2 ^ 64 * (x / 2 ^ 64) ≡ x
+digit x = omega arith
+
+low : (a x : ℕ) → a < 2 ^ 64 → (a + 2 ^ 64 * x) % 2 ^ 64 ≡ a
+low a x h = omega arith
+
+high : (a x : ℕ) → a < 2 ^ 64 → (a + 2 ^ 64 * x) / 2 ^ 64 ≡ x
+high a x h = omega arith
+
+unfoldable pub four : ℕ → ℕ → ℕ → ℕ → ℕ
+four a b c d = a + 2 ^ 64 * (b + 2 ^ 64 * (c + 2 ^ 64 * d))
+
+pub quad-four : (q : Quad) → quadNumber q ≡ four (q .w0) (q .w1) (q .w2) (q .w3)
+unfolding quadNumber number four
+quad-four q = let e : q .w3 + 2 ^ 64 * 0 ≡ q .w3 = omega arith in rw e
+
+pub number-quad : (h : ℕ) → quadNumber (quadOf h) ≡ h
+unfolding quadOf four
+number-quad h = quad-four (quadOf h) ∙ rw (digit (h / 2 ^ 64 / 2 ^ 64), digit (h / 2 ^ 64), digit h)
+
+module _ (a b c d : ℕ) (p : a < 2 ^ 64) (q : b < 2 ^ 64) (r : c < 2 ^ 64) where
+  quad-of-four : quadOf (four a b c d) ≡ record { w0 = a; w1 = b; w2 = c; w3 = d }
+  unfolding quadOf four
+  quad-of-four =
+      rw (high a (b + 2 ^ 64 * (c + 2 ^ 64 * d)) p, low a (b + 2 ^ 64 * (c + 2 ^ 64 * d)) p, high b (c + 2 ^ 64 * d) q, low b (c + 2 ^ 64 * d) q, high c d r, low c d r)
 
 pub quad-number : (q : Quad) → Small q → quadOf (quadNumber q) ≡ q
-unfolding quadNumber quadOf digits
-quad-number q s = ap readQuad (digits-number (2 ^ 64) (lit< tt) (quadWords q) below)
-  where
-    below : (i : ℕ) → i < 4 → getD (quadWords q) i 0 < 2 ^ 64
-    below zero h = s .w0
-    below (suc zero) h = s .w1
-    below (suc (suc zero)) h = s .w2
-    below (suc (suc (suc zero))) h = s .w3
-    below (suc (suc (suc (suc i)))) h = absurd (omega arith)
+quad-number q f = ap quadOf (quad-four q) ∙ quad-of-four (q .w0) (q .w1) (q .w2) (q .w3) (f .w0) (f .w1) (f .w2)
 
 module _ {a b : Quad} (p : Small a) (q : Small b) where
   above-hash : {x y : ℕ} {r : Bool} → Differ x y r

@@ -1,0 +1,1 @@
+// The tracker's state in lent bytes.
