@@ -3,7 +3,7 @@
 use Prim.Native.Nat.{ℕ, suc, _+_, _*_, _<_}
 use mathlib.Core.Path.{_≡_}
 use mathlib.Core.List.{List, [], _∷_, _++_}
-use lib.ListN.{length, drop, getD, set, replicate}
+use lib.ListN.{length, take, drop, getD, set, replicate}
 use Rattle.regions.specs.declared.Quad.{Quad}
 use Rattle.regions.specs.Regions.{each, padded, Holds}
 use Rattle.regions.specs.Rows.{quadWords, readQuad, quadNumber, quadOf}
@@ -89,7 +89,7 @@ withParents hs p = record { hash = p .hash; combined = p .combined; stage = p .s
 
 -- the head that was read of the i-th place
 pub record HeadAt (w : List ℕ) (i : ℕ) (x : Head) : Type 0 where
-  pub words-are : x ≡ readHead (drop (placeSize * i) w)
+  pub words-are : x ≡ readHead (take placeSize (drop (placeSize * i) w))
   pub region : (Q : ℕ) (ps : List Place) (d : Place) → i < length ps → Holds placeSize placeWords Q ps w → x ≡ headOf (getD ps i d)
 
 -- the hash that was read as the j-th of a list of the i-th place, which starts at the word a of the place

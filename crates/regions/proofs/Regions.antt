@@ -200,6 +200,10 @@ module _ {A : Type 0} (k : ℕ) (enc : A → List ℕ) (len : (a : A) → length
     removed-at n h g p = removed n h g (rw (mul-comm i k, mul-comm n k) at p)
 
     module _ (g : k * (i + 1) ≤ length w) where
+      -- the words of a record of a region
+      pub holds-at : (L : ℕ) (xs : List A) (d : A) → i < length xs → Holds k enc L xs w → take k (drop (k * i) w) ≡ enc (getD xs i d)
+      holds-at L xs d h r = rw r (region-at xs i (k * L) d h (rw (← (room L xs r)) g))
+
       pub replaced : {w′ : List ℕ} (x : A) → w′ ≡ splice w (k * i) (enc x) → Replaced k enc w w′ i x
       replaced x e = record {
         words-are = e;
@@ -212,8 +216,7 @@ module _ {A : Type 0} (k : ℕ) (enc : A → List ℕ) (len : (a : A) → length
       found dec back e = record {
         words-are = e;
         region = λ L xs d h r.
-            let b : k * (i + 1) ≤ k * L = rw (← (room L xs r)) g in
-            e ∙ rw (r, region-at xs i (k * L) d h b) (back (getD xs i d));
+            e ∙ rw (holds-at L xs d h r) (back (getD xs i d));
       }
 
       pub changed : {w′ : List ℕ} (j : ℕ) (y : List ℕ) (f : A → A) → j + length y ≤ k → ((a : A) → splice (enc a) j y ≡ enc (f a))
@@ -224,17 +227,20 @@ module _ {A : Type 0} (k : ℕ) (enc : A → List ℕ) (len : (a : A) → length
             let b : k * (i + 1) ≤ k * L = rw (← (room L xs r)) g in
             let c : k * (i + 1) ≡ k * i + k = omega arith in
             let q : splice w (k * i + j) y ≡ splice w (k * i) (splice (take k (drop (k * i) w)) j y) = splice-in w (k * i) k j y (omega arith) l in
-            let z : take k (drop (k * i) w) ≡ enc (getD xs i d) = rw r (region-at xs i (k * L) d h b) in
-            e ∙ q ∙ rw (z, p (getD xs i d), r) (region-over xs i (k * L) (f (getD xs i d)) h b);
+            e ∙ q ∙ rw (holds-at L xs d h r, p (getD xs i d), r) (region-over xs i (k * L) (f (getD xs i d)) h b);
       }
+
+      pub changed-at : {w′ : List ℕ} (j : ℕ) (y : List ℕ) (f : A → A) → j + length y ≤ k → ((a : A) → splice (enc a) j y ≡ enc (f a))
+          → w′ ≡ splice w (i * k + j) y → Changed k enc w w′ i j y f
+      changed-at j y f l p e = changed j y f l p (rw (mul-comm i k) at e)
 
       -- the same, where one word is stored
       pub changed-one : {w′ : List ℕ} (j v : ℕ) (f : A → A) → j < k → ((a : A) → splice (enc a) j (v ∷ []) ≡ enc (f a))
           → w′ ≡ set w (i * k + j) v → Changed k enc w w′ i j (v ∷ []) f
       changed-one j v f l p e =
           let c : k * (i + 1) ≡ k * i + k = omega arith in
-          let q : i * k + j ≡ k * i + j = rw (mul-comm i k) in
-          changed j (v ∷ []) f (omega arith) p (e ∙ ap (λ (m : ℕ). set w m v) q ∙ set-one w (k * i + j) v (omega arith))
+          let q : i * k ≡ k * i = mul-comm i k in
+          changed-at j (v ∷ []) f (omega arith) p (e ∙ set-one w (i * k + j) v (omega arith))
 
   -- a key of each of n records, read from the words and from the records
   column-each : (f : List ℕ → ℕ) (g : A → ℕ) → ((a : A) → f (enc a) ≡ g a) → (l : List A) (z : List ℕ) → recs k f (length l) (each enc l ++ z) ≡ map g l
