@@ -6,11 +6,11 @@ use native.Mathlib.Nat.{mul-le-mul-left}
 use native.Mathlib.Omega.{arith}
 use mathlib.Core.Bool.{Bool, true, false}
 use mathlib.Core.Logic.{_⊎_, inl, inr, ⊎-elim}
-use lib.Dec.{ltb, eqb}
-use borrow.Author.Tests.{ltb-true, ltb-false, lt-ltb, le-ltb, eq-eqb, ne-eqb}
+use lib.Dec.{ltb}
+use borrow.Author.Tests.{ltb-true, ltb-false, lt-ltb, le-ltb}
 use Rattle.ident.specs.declared.Order.{Order}
 use Rattle.ident.specs.declared.Order.the-variants.{Less, Equal, Greater}
-use Rattle.ident.specs.Compare.{orderOf, thenOf, isLess, isEqual}
+use Rattle.ident.specs.Compare.{orderOf, thenOf}
 use Rattle.words.specs.Words.{number}
 
 pub either : (t : Bool) → (t ≡ true) ⊎ (t ≡ false)
@@ -62,23 +62,3 @@ by-parts K l l′ h h′ g g′ =
 pub by-digit : (b d d′ : ℕ) (ds ds′ : List ℕ) → d < b → d′ < b → thenOf (orderOf (number b ds) (number b ds′)) (orderOf d d′) ≡ orderOf (number b (d ∷ ds)) (number b (d′ ∷ ds′))
 unfolding number
 by-digit b d d′ ds ds′ = by-parts b d d′ (number b ds) (number b ds′)
-
--- ---- the answers to "less" and to "equal"
-
-is-less-test : (m n : ℕ) → isLess (orderOf m n) ≡ ltb m n
-is-less-test m n =
-    ⊎-elim (λ less. rw (is-less m n less, lt-ltb m n less))
-    (⊎-elim (λ more. rw (is-more m n more, le-ltb m n (omega (arith, more)))) (λ same. rw (is-same m n same, le-ltb m n (omega (arith, same)))))
-    (three m n)
-
-is-equal-test : (m n : ℕ) → isEqual (orderOf m n) ≡ eqb m n
-is-equal-test m n =
-    ⊎-elim (λ less. rw (is-less m n less, ne-eqb m n (λ e. omega (arith, e, less))))
-    (⊎-elim (λ more. rw (is-more m n more, ne-eqb m n (λ e. omega (arith, e, more)))) (λ same. rw (is-same m n same, eq-eqb m n same)))
-    (three m n)
-
-pub less-test : (m n : ℕ) {r : Bool} {o : Order} → r ≡ isLess o → o ≡ orderOf m n → r ≡ ltb m n
-less-test m n e f = e ∙ ap isLess f ∙ is-less-test m n
-
-pub equal-test : (m n : ℕ) {r : Bool} {o : Order} → r ≡ isEqual o → o ≡ orderOf m n → r ≡ eqb m n
-equal-test m n e f = e ∙ ap isEqual f ∙ is-equal-test m n

@@ -1,6 +1,6 @@
 pub mod Compare
 pub mod Words
-pub mod Four
+pub mod WordByWord
 pub mod Places
 pub mod TypeNumbers
 pub mod RoundTrip

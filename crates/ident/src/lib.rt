@@ -5,12 +5,11 @@
 // proofs/Words.antt has the law that two hashes of one number are equal.
 ghost use mathlib.Core.Path.{_≡_};
 ghost use Prim.Native.Nat.{_+_, _*_, _<_, _≤_};
-ghost use lib.Dec.{ltb, eqb};
 ghost use lib.ListN.{length, take, drop};
 ghost use Rattle.ident.specs.Number.{txid, wtxid, swap, other, place, typeOf, itemKindOf, isPlain, kindOf, keyOf};
 ghost use Rattle.words.specs.Words.{number, digits, splice};
 ghost use Rattle.ident.specs.Words.{hashBytes, hashNum, keyNum, itemNum, maybeKind, maybeKeyNum};
-ghost use Rattle.ident.specs.Compare.{orderOf, thenOf, kindRank, isLess, isEqual};
+ghost use Rattle.ident.specs.Compare.{orderOf, thenOf, kindRank};
 
 // Which of a transaction's two identities a hash is.
 pub enum Kind {
@@ -72,15 +71,14 @@ pub const MSG_WTX: u32 = 5;
 
 // ---- A hash and its bytes
 
-// Bytes of a hash.
-const HASH: usize = 32;
+pub const HASH_BYTES: usize = 32;
 
 // The hash whose bytes stand from index a on.
 pub fn hash_at(s: &[u8], a: usize) -> Hash
     requires { ⌜ a + hashBytes ≤ length (now s) ⌝ }
     ensures { λ r. ⌜ hashNum r ≡ number 256 (take hashBytes (drop a (now (s .entry)))) ⌝ }
 {
-    let e = a + HASH;
+    let e = a + HASH_BYTES;
     let part = &s[a..e];
     let w0 = words::get(part, 0);
     let w1 = words::get(part, 1);
@@ -90,7 +88,7 @@ pub fn hash_at(s: &[u8], a: usize) -> Hash
     Hash { words }
 }
 
-pub fn hash_from_bytes(b: &[u8; 32]) -> Hash
+pub fn hash_from_bytes(b: &[u8; HASH_BYTES]) -> Hash
     ensures { λ r. ⌜ hashNum r ≡ number 256 (now (b .entry)) ⌝ }
 {
     hash_at(b, 0)
@@ -101,7 +99,7 @@ pub fn put_hash(s: &mut [u8], a: usize, h: Hash)
     requires { ⌜ a + hashBytes ≤ length (now s) ⌝ }
     ensures { λ _. ⌜ now (s .exit) ≡ splice (now (s .entry)) a (digits 256 hashBytes (hashNum h)) ⌝ }
 {
-    let e = a + HASH;
+    let e = a + HASH_BYTES;
     let w = h.words;
     let part = &mut s[a..e];
     words::put(part, 0, w[0]);
@@ -110,17 +108,17 @@ pub fn put_hash(s: &mut [u8], a: usize, h: Hash)
     words::put(part, 3, w[3]);
 }
 
-pub fn hash_to_bytes(h: Hash) -> [u8; 32]
+pub fn hash_to_bytes(h: Hash) -> [u8; HASH_BYTES]
     ensures { λ r. ⌜ number 256 r ≡ hashNum h ⌝ }
 {
-    let mut b = [0u8; HASH];
+    let mut b = [0u8; HASH_BYTES];
     put_hash(&mut b, 0, h);
     b
 }
 
 // ---- Hashes in the order of their numbers
 
-pub fn cmp_word(a: u64, b: u64) -> Order
+fn cmp_word(a: u64, b: u64) -> Order
     ensures { λ r. ⌜ r ≡ orderOf a b ⌝ }
 {
     if a < b {
@@ -154,38 +152,6 @@ pub fn cmp_hash(a: Hash, b: Hash) -> Order
     then(o1, cmp_word(x[0], y[0]))
 }
 
-fn is_less(o: Order) -> bool
-    ensures { λ r. ⌜ r ≡ isLess o ⌝ }
-{
-    match o {
-        Order::Less => true,
-        Order::Equal => false,
-        Order::Greater => false,
-    }
-}
-
-fn is_equal(o: Order) -> bool
-    ensures { λ r. ⌜ r ≡ isEqual o ⌝ }
-{
-    match o {
-        Order::Less => false,
-        Order::Equal => true,
-        Order::Greater => false,
-    }
-}
-
-pub fn hash_less(a: Hash, b: Hash) -> bool
-    ensures { λ r. ⌜ r ≡ ltb (hashNum a) (hashNum b) ⌝ }
-{
-    is_less(cmp_hash(a, b))
-}
-
-pub fn hash_equal(a: Hash, b: Hash) -> bool
-    ensures { λ r. ⌜ r ≡ eqb (hashNum a) (hashNum b) ⌝ }
-{
-    is_equal(cmp_hash(a, b))
-}
-
 // ---- Keys: every Txid key before every Wtxid key
 
 fn kind_rank(k: Kind) -> u64
@@ -204,18 +170,6 @@ pub fn cmp_key(a: Key, b: Key) -> Order
     let j = b.kind;
     let lo = cmp_hash(a.hash, b.hash);
     then(cmp_word(kind_rank(i), kind_rank(j)), lo)
-}
-
-pub fn key_less(a: Key, b: Key) -> bool
-    ensures { λ r. ⌜ r ≡ ltb (place (keyNum a)) (place (keyNum b)) ⌝ }
-{
-    is_less(cmp_key(a, b))
-}
-
-pub fn key_equal(a: Key, b: Key) -> bool
-    ensures { λ r. ⌜ r ≡ eqb (place (keyNum a)) (place (keyNum b)) ⌝ }
-{
-    is_equal(cmp_key(a, b))
 }
 
 fn swapped(k: Kind) -> Kind
@@ -307,7 +261,7 @@ pub fn is_plain(k: ItemKind) -> bool
     }
 }
 
-pub fn kind_of(k: ItemKind) -> MaybeKind
+fn kind_of(k: ItemKind) -> MaybeKind
     ensures { λ r. ⌜ maybeKind r ≡ kindOf k ⌝ }
 {
     match k {

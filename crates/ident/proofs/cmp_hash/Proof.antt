@@ -3,7 +3,7 @@ use borrow.Author.Needs.{needs}
 use mathlib.Core.Path.{_≡_, _∙_}
 use Rattle.ident.specs.declared.Order.{Order}
 use Rattle.ident.specs.Compare.{thenOf}
-use Rattle.ident.proofs.Four.{by-words}
+use Rattle.ident.proofs.WordByWord.{by-words}
 use Rattle.ident.proofs.Words.{hash-four}
 use Rattle.ident.proofs.cmp_hash.Statement.{statement}
 use Rattle.ident.proofs.cmp_hash.Tie as tie

@@ -1,6 +1,6 @@
 -- `ident::hash_at` meets its contract. Assumes nothing.
 use borrow.Author.Needs.{needs}
-use Rattle.ident.proofs.Four.{hash-read}
+use Rattle.ident.proofs.WordByWord.{hash-read}
 use Rattle.ident.proofs.hash_at.Statement.{statement}
 use Rattle.ident.proofs.hash_at.Tie as tie
 

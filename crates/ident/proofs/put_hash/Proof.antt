@@ -1,7 +1,7 @@
 -- `ident::put_hash` meets its contract. Assumes nothing.
 use borrow.Author.Needs.{needs}
 use Rattle.ident.proofs.Words.{hash-four}
-use Rattle.ident.proofs.Four.{hash-put}
+use Rattle.ident.proofs.WordByWord.{hash-put}
 use Rattle.ident.proofs.put_hash.Statement.{statement}
 use Rattle.ident.proofs.put_hash.Tie as tie
 

@@ -88,6 +88,10 @@ by-four b w x y z w′ x′ y′ z′ gw gx gy gw′ gx′ gy′ =
     ap (λ (o : Order). thenOf o (orderOf w w′)) (by-digit b x x′ (y ∷ z ∷ []) (y′ ∷ z′ ∷ []) gx gx′) ∙
     by-digit b w w′ (x ∷ y ∷ z ∷ []) (x′ ∷ y′ ∷ z′ ∷ []) gw gw′
 
+-- the number of a hash is that of its four words
+pub hash-words : (h : Hash) → Four h → hashNum h ≡ number (2 ^ 64) (getD (h .words) 0 0 ∷ getD (h .words) 1 0 ∷ getD (h .words) 2 0 ∷ getD (h .words) 3 0 ∷ [])
+hash-words h f = ap (number (2 ^ 64)) (four-list (h .words) (f .four))
+
 abbrev at : Hash → Hash → ℕ → Order
 at a b i = orderOf (getD (a .words) i 0) (getD (b .words) i 0)
 
@@ -96,4 +100,4 @@ pub by-words : (a b : Hash) → Four a → Four b → thenOf (thenOf (thenOf (at
 by-words a b f g =
     let s : List ℕ = a .words in
     let t : List ℕ = b .words in
-    cc (by-four (2 ^ 64) (getD s 0 0) (getD s 1 0) (getD s 2 0) (getD s 3 0) (getD t 0 0) (getD t 1 0) (getD t 2 0) (getD t 3 0) (f .fits 0) (f .fits 1) (f .fits 2) (g .fits 0) (g .fits 1) (g .fits 2), four-list s (f .four), four-list t (g .four))
+    cc (by-four (2 ^ 64) (getD s 0 0) (getD s 1 0) (getD s 2 0) (getD s 3 0) (getD t 0 0) (getD t 1 0) (getD t 2 0) (getD t 3 0) (f .fits 0) (f .fits 1) (f .fits 2) (g .fits 0) (g .fits 1) (g .fits 2), hash-words a f, hash-words b g)
