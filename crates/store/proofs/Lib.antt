@@ -19,3 +19,4 @@ pub mod FromFlat
 pub mod Window
 pub mod RowsAt
 pub mod RowChanges
+pub mod PlacesAt
