@@ -7,7 +7,7 @@ use lib.ListN.{length, set}
 use lib.Seq.{set-at}
 use Rattle.ident.specs.Number.{Key}
 use Rattle.regions.specs.Regions.{insertAt, removeAt}
-use Rattle.regions.specs.Places.{Place}
+use Rattle.places.specs.Places.{Place}
 use Rattle.machine.specs.State.{Request, Table}
 use Rattle.machine.specs.Table.{at, change}
 use Rattle.machine.specs.Sound.{Ordered}
