@@ -20,3 +20,5 @@ pub mod Window
 pub mod RowsAt
 pub mod RowChanges
 pub mod PlacesAt
+pub mod ReadBack
+pub mod HeadWords
