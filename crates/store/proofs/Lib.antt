@@ -22,3 +22,4 @@ pub mod RowChanges
 pub mod PlacesAt
 pub mod ReadBack
 pub mod HeadWords
+pub mod FlatRead
