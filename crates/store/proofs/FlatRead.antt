@@ -1,6 +1,6 @@
 -- The records, and the state, that an image shows are those that it was made of.
 -- Assumes nothing.
-use Prim.Native.Nat.{ℕ, zero, suc, _+_, _*_, _≤_}
+use Prim.Native.Nat.{ℕ, _+_, _*_}
 use mathlib.Core.Path.{_≡_, refl, sym, ap, _∙_}
 use mathlib.Core.List.{List, [], _∷_, _++_, append-assoc, append-nil}
 use native.Mathlib.Omega.{arith}
@@ -11,46 +11,33 @@ use Rattle.regions.specs.declared.Row.{Row}
 use Rattle.regions.specs.Regions.{each, padded}
 use Rattle.regions.specs.Rows.{rowSize, rowWords, readRow, connSize, connWords, readConn}
 use Rattle.regions.proofs.Regions.{length-padded}
-use Rattle.places.specs.Places.{Place, listMost, placeSize, placeWords}
+use Rattle.places.specs.Places.{Place, placeSize, placeWords}
 use Rattle.machine.specs.Limits.{need}
 use Rattle.machine.specs.State.{State}
 use Rattle.machine.specs.Sound.{Sound}
 use Rattle.machine.specs.Typed.{Each}
-use Rattle.store.specs.Flat.{Head, Flat, flatOf}
+use Rattle.store.specs.Flat.{Flat, flatOf}
 use Rattle.store.specs.Gather.{stateIn}
-use Rattle.store.specs.FlatSound.{StageFits, PlaceFits, FlatSound}
-use Rattle.store.specs.Image.{headSize, headWords, wordsOf, image}
+use Rattle.store.specs.FlatSound.{PlaceFits, FlatSound}
+use Rattle.store.specs.Image.{headSize, wordsOf, image}
 use Rattle.store.specs.Read.{readPlace, headIn, flatIn, stateOf}
-use Rattle.store.proofs.Entries.{tally-length}
 use Rattle.store.proofs.Dress.{state-back}
 use Rattle.store.proofs.ToFlat.{flat-sound}
 use Rattle.store.proofs.ReadBack.{PlaceShort, rows-back, conns-back, places-back}
-use Rattle.store.proofs.HeadWords.{inWords, head-words, length-head, head-back}
+use Rattle.store.proofs.HeadWords.{headPart, rowPart, connPart, placePart, inWords, head-words, length-head, head-back}
+use Rattle.store.proofs.WordsFit.{staged, few-conns}
 
--- ---- the parts of an image
+-- ---- how long it is
 
-module _ (f : Flat) where
-  abbrev headPart : List ℕ
-  headPart = headWords (f .head) (length (f .rows)) (length (f .conns)) (length (f .places))
-
-  abbrev rowPart : List ℕ
-  rowPart = padded (rowSize * f .head .limit) (each rowWords (f .rows))
-
-  abbrev connPart : List ℕ
-  connPart = padded (connSize * f .head .limit) (each connWords (f .conns))
-
-  abbrev placePart : List ℕ
-  placePart = padded (placeSize * f .head .places) (each placeWords (f .places))
-
-  -- "the documented need for L and Q"
-  pub length-image : 8 * length (wordsOf f) ≡ need (f .head .limit) (f .head .places)
-  unfolding wordsOf need
-  length-image =
-      let h : length headPart ≡ headSize = length-head (f .head) (length (f .rows)) (length (f .conns)) (length (f .places)) in
-      let r : length rowPart ≡ rowSize * f .head .limit = length-padded (rowSize * f .head .limit) (each rowWords (f .rows)) in
-      let c : length connPart ≡ connSize * f .head .limit = length-padded (connSize * f .head .limit) (each connWords (f .conns)) in
-      let p : length placePart ≡ placeSize * f .head .places = length-padded (placeSize * f .head .places) (each placeWords (f .places)) in
-      simp length-append (omega arith)
+-- "the documented need for L and Q"
+pub length-image : (f : Flat) → 8 * length (wordsOf f) ≡ need (f .head .limit) (f .head .places)
+unfolding wordsOf need
+length-image f =
+    let h : length (headPart f) ≡ headSize = length-head (f .head) (length (f .rows)) (length (f .conns)) (length (f .places)) in
+    let r : length (rowPart f) ≡ rowSize * f .head .limit = length-padded (rowSize * f .head .limit) (each rowWords (f .rows)) in
+    let c : length (connPart f) ≡ connSize * f .head .limit = length-padded (connSize * f .head .limit) (each connWords (f .conns)) in
+    let p : length (placePart f) ≡ placeSize * f .head .places = length-padded (placeSize * f .head .places) (each placeWords (f .places)) in
+    simp length-append (omega arith)
 
 -- ---- read back
 
@@ -58,16 +45,9 @@ module _ (f : Flat) where
 past : (a b : List ℕ) (n m : ℕ) → length a ≡ n → drop (n + m) (a ++ b) ≡ drop m b
 past a b n m e = sym (drop-drop m n (a ++ b)) ∙ ap (drop m) (drop-at a b n e)
 
-few-wtxids : (n : ℕ) (p : Place) → StageFits n p → length (p .wtxids) ≤ listMost
-few-wtxids zero p s = absurd s
-few-wtxids (suc zero) p s = rw (s .1) (omega arith)
-few-wtxids (suc (suc zero)) p s = s .few-wtxids
-few-wtxids (suc (suc (suc zero))) p s = s .few-wtxids
-few-wtxids (suc (suc (suc (suc n)))) p s = absurd s
-
 short-places : (rs : List Row) (ps : List Place) → Each (PlaceFits rs) ps → Each PlaceShort ps
 short-places rs [] a = tt
-short-places rs (p ∷ ps) a = (record { wtxids = few-wtxids (p .stage) p (a .0 .stage); parents = a .0 .parents .few }, short-places rs ps (a .1))
+short-places rs (p ∷ ps) a = (record { wtxids = staged (p .stage) p (a .0 .stage) .few; parents = a .0 .parents .few }, short-places rs ps (a .1))
 
 module _ (f : Flat) (z : List ℕ) where
   abbrev behindRows : List ℕ
@@ -100,10 +80,9 @@ module _ (f : Flat) (z : List ℕ) where
   pub flat-read : FlatSound f → flatIn (wordsOf f ++ z) ≡ f
   unfolding flatIn
   flat-read s =
-      let few : length (f .conns) ≤ f .head .limit = rw (s .conns) (omega (arith, tally-length (f .rows), s .rows-few)) in
       let rows : recs rowSize readRow (length (f .rows)) (rowPart f ++ behindRows) ≡ f .rows = rows-back (f .head .limit) (f .rows) behindRows (s .rows-few) in
       let conns : recs connSize readConn (length (f .conns)) (drop (headSize + rowSize * f .head .limit) parts) ≡ f .conns =
-      ap (recs connSize readConn (length (f .conns))) at-conns ∙ conns-back (f .head .limit) (f .conns) (placePart f ++ z) few in
+      ap (recs connSize readConn (length (f .conns))) at-conns ∙ conns-back (f .head .limit) (f .conns) (placePart f ++ z) (few-conns f s) in
       let places : recs placeSize readPlace (length (f .places)) (drop (headSize + (rowSize + connSize) * f .head .limit) parts) ≡ f .places =
       ap (recs placeSize readPlace (length (f .places))) at-places ∙ places-back (f .head .places) (f .places) z (s .places-few) (short-places (f .rows) (f .places) (s .places-fit)) in
       ap flatIn in-parts ∙ (λ i. record { head = head-read i; rows = rows i; conns = conns i; places = places i })

@@ -22,4 +22,5 @@ pub mod RowChanges
 pub mod PlacesAt
 pub mod ReadBack
 pub mod HeadWords
+pub mod WordsFit
 pub mod FlatRead
