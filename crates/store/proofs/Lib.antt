@@ -24,3 +24,5 @@ pub mod ReadBack
 pub mod HeadWords
 pub mod WordsFit
 pub mod FlatRead
+pub mod BytesBack
+pub mod Stored
