@@ -21,3 +21,9 @@ pub mod RowsAt
 pub mod RowChanges
 pub mod PlacesAt
 pub mod Frame
+pub mod ReadBack
+pub mod HeadWords
+pub mod WordsFit
+pub mod FlatRead
+pub mod BytesBack
+pub mod Stored
