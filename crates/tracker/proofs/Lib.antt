@@ -1,2 +1,3 @@
 pub mod Sizes
 pub mod Stepped
+pub mod Calls

@@ -44,18 +44,18 @@ need-kept (PollGate now) s = refl
 need-kept (Arrange ws l b) s = refl
 need-kept Sum s = refl
 
--- an opening that is not refused has room
-pub opening-room : (n L Q : ℕ) → openingRefusal n L Q ≡ 0 → need L Q ≤ n
+-- an opening that is not refused has sizes that it takes, and room
+pub opening-fits : (n L Q : ℕ) → openingRefusal n L Q ≡ 0 → (sizesTaken L Q ≡ true) × (need L Q ≤ n)
 unfolding openingRefusal
-opening-room n L Q e =
+opening-fits n L Q e =
     elim (test (sizesTaken L Q)) [
-      | inl t ↦ elim (test (ltb n (need L Q))) [ inl d ↦ absurd (omega (arith, rw (t, d) at e)) | inr d ↦ ltb-false n (need L Q) d ]
+      | inl t ↦ elim (test (ltb n (need L Q))) [ inl d ↦ absurd (omega (arith, rw (t, d) at e)) | inr d ↦ (t, ltb-false n (need L Q) d) ]
       | inr t ↦ absurd (omega (arith, rw t at e))
     ]
 
 carried-room : (n : ℕ) (c : Call) (s : State) → refusal n true c s ≡ 0 → needOf s ≤ n → needOf ((carryOut c s) .state) ≤ n
 unfolding carryOut refusal
-carried-room n (Open L Q) s e h = opening-room n L Q e
+carried-room n (Open L Q) s e h = opening-fits n L Q e .1
 carried-room n (On a) s e h = rw (need-kept a s) h
 
 pub step-room : (n : ℕ) (c : Call) (s : State) → needOf s ≤ n → needOf ((step n c s) .state) ≤ n
