@@ -19,6 +19,10 @@ use Rattle.tracker.specs.Outcome.{Effect, outcomeIf, Tested, Does}
 use Rattle.tracker.proofs.Sizes.{opening-fits}
 use Rattle.tracker.proofs.Stepped.{Stepped, stepped-stored, call-steps}
 
+-- "An opened store" is an empty tracker
+abbrev pub opened : ℕ → ℕ → Outcome
+opened L Q = record { reply = Number 1; buffer = []; state = empty L Q }
+
 module _ (b : List ℕ) (e : Effect) where
   -- ---- on a sound store
 
@@ -50,9 +54,7 @@ module _ (b : List ℕ) (e : Effect) where
   pub does-refuse : (a : Ask) → (SoundStore b → ⊥) → Does (On a) b e → (e .reply ≡ Refused 3) × (e .buffer ≡ bufferOf (On a) (stateOf (words b))) × (e .store ≡ b)
   does-refuse a n d = unsound-told a (d .sound) n (d .tested) (d .effect)
 
-  -- "An opened store" is an empty tracker, whatever its bytes were
-  abbrev opened : ℕ → ℕ → Outcome
-  opened L Q = record { reply = Number 1; buffer = []; state = empty L Q }
+  -- ---- an opening, whatever the bytes were
 
   module _ (L Q : ℕ) (z : openingRefusal (length b) L Q ≡ 0) where
     opens : outcomeIf true b (Open L Q) ≡ record { reply = Number 1; buffer = []; store = stored (empty L Q) b }

@@ -1,3 +1,4 @@
 pub mod Sizes
 pub mod Stepped
 pub mod Calls
+pub mod Demands
