@@ -1,0 +1,4 @@
+pub mod Sizes
+pub mod Stepped
+pub mod Calls
+pub mod Demands
