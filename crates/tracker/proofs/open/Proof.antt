@@ -1,47 +1,40 @@
+-- `tracker::open` meets its contract: one law of proofs/Opening for each way out.
+-- Assumes nothing.
+use mathlib.Core.Path.{sym, _∙_}
+use native.Mathlib.Omega.{arith}
+use lib.ListN.{drop, length-take}
 use borrow.Author.Needs.{needs}
+use borrow.Author.Tests.{not-true, not-false}
+use Rattle.tracker.proofs.Opening.{bytes-front, bad-sizes, short-store, opened, taken-limit, taken-places}
 use Rattle.tracker.proofs.open.Statement.{statement}
 use Rattle.tracker.proofs.open.Tie as tie
-use Rattle.tracker.proofs.open.Reads as reads
-use Rattle.tracker.proofs.open.Lts as lts
-use Rattle.store.proofs.head.fill.Reads as fill-reads
-use Rattle.tracker.proofs.need.Reads as need-reads
-use Rattle.tracker.proofs.sizes_taken.Reads as sizes-taken-reads
 
--- src/lib.rt:64:9
 sizes-taken-requires : tie.Need-sizes-taken-requires
 sizes-taken-requires c κs = search needs
 
--- src/lib.rt:65:9
 returns : tie.Need-returns
-returns c = ?
+returns c = bad-sizes _ _ _ (sym (c .before .sizes-taken .ensures) ∙ not-true _ (c .if1 .taken))
 
--- src/lib.rt:67:9
 need-requires : tie.Need-need-requires
-need-requires c κs = ?
+need-requires c κs = (taken-limit (c .before .before .before .args .l) (c .before .before .before .args .q) (sym (c .before .sizes-taken .ensures) ∙ not-false _ (c .if1 .left)), taken-places (c .before .before .before .args .l) (c .before .before .before .args .q) (sym (c .before .sizes-taken .ensures) ∙ not-false _ (c .if1 .left)))
 
--- src/lib.rt:69:9
 returns-2 : tie.Need-returns-2
-returns-2 c = ?
+returns-2 c = short-store _ _ _ (sym (c .before .before .before .sizes-taken .ensures) ∙ not-false _ (c .before .before .if1 .left)) (omega (arith, c .before .need .ensures))
 
--- src/lib.rt:71:23
 slice-relend-prefix-fill : tie.Need-slice-relend-prefix-fill
 slice-relend-prefix-fill c = search needs
 
--- src/lib.rt:71:23
 slice-aggregate-fill : tie.Need-slice-aggregate-fill
-slice-aggregate-fill c = ?
+slice-aggregate-fill c = simp length-take (omega arith)
 
--- src/lib.rt:71:5
 fill-requires : tie.Need-fill-requires
-fill-requires c κs = ?
+fill-requires c κs = (taken-limit (c .before .before .before .before .before .before .args .l) (c .before .before .before .before .before .before .args .q) (sym (c .before .before .before .before .sizes-taken .ensures) ∙ not-false _ (c .before .before .before .if1 .left)), taken-places (c .before .before .before .before .before .before .args .l) (c .before .before .before .before .before .before .args .q) (sym (c .before .before .before .before .sizes-taken .ensures) ∙ not-false _ (c .before .before .before .if1 .left)), simp length-take (omega (arith, c .before .before .need .ensures)))
 
--- src/lib.rt:61:1
 same-length : tie.Need-same-length
 same-length c = search needs
 
--- src/lib.rt:61:1
 returns-3 : tie.Need-returns-3
-returns-3 c = ?
+returns-3 c = rw (c .before .before .before .before .before .need .ensures) (opened _ _ _ _ (sym (c .before .before .before .before .before .before .before .sizes-taken .ensures) ∙ not-false _ (c .before .before .before .before .before .before .if1 .left)) (omega (arith, c .before .before .before .before .before .need .ensures)) (bytes-front (c .before .before .fill .last .0) (drop (c .before .before .before .before .before .need .result) (c .before .before .before .before .before .before .before .before .before .args .s .now)) (λ i. omega (arith, c .slice-known2 .given i))) (c .before .before .fill .ensures))
 
 pub open-spec : {M : Type 1} → statement M
 open-spec =

@@ -1,23 +1,27 @@
+-- `tracker::sizes_taken` meets its contract: each test that fails is a part of `sizesTaken` that is false.
+-- Assumes nothing.
+use mathlib.Core.Path.{_≡_}
+use mathlib.Core.Bool.{true, false}
+use native.Mathlib.Omega.{arith}
+use lib.Dec.{leb}
+use borrow.Author.Tests.{le-leb, lt-leb}
+use Rattle.machine.specs.Limits.{maxAnnouncements}
 use Rattle.tracker.proofs.sizes_taken.Statement.{statement}
 use Rattle.tracker.proofs.sizes_taken.Tie as tie
-use Rattle.tracker.proofs.sizes_taken.Reads as reads
-use Rattle.tracker.proofs.sizes_taken.Lts as lts
 
--- src/lib.rt:41:9
 returns : tie.Need-returns
-returns c = ?
+returns c = rw (lt-leb 1 (c .before .args .l) (omega arith))
 
--- src/lib.rt:44:9
 returns-2 : tie.Need-returns-2
-returns-2 c = ?
+returns-2 c = rw (le-leb 1 (c .before .before .args .l) (omega arith), lt-leb (c .before .before .args .l) maxAnnouncements (omega arith))
 
--- src/lib.rt:47:9
 returns-3 : tie.Need-returns-3
-returns-3 c = ?
+returns-3 c =
+    rw (le-leb 1 (c .before .before .before .args .l) (omega arith), le-leb (c .before .before .before .args .l) maxAnnouncements (omega arith), lt-leb 1 (c .before .before .before .args .q) (omega arith))
 
--- src/lib.rt:37:1
 returns-4 : tie.Need-returns-4
-returns-4 c = ?
+returns-4 c =
+    rw (le-leb 1 (c .before .before .before .args .l) (omega arith), le-leb (c .before .before .before .args .l) maxAnnouncements (omega arith), le-leb 1 (c .before .before .before .args .q) (omega arith))
 
 pub sizes-taken-spec : {M : Type 1} → statement M
 sizes-taken-spec = tie.close (tie.spec returns returns-2 returns-3 returns-4)
