@@ -21,3 +21,5 @@ pub mod RowsAt
 pub mod RowChanges
 pub mod PlacesAt
 pub mod Frame
+pub mod Searches
+pub mod Missing
