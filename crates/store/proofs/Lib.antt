@@ -23,3 +23,4 @@ pub mod PlacesAt
 pub mod Frame
 pub mod Searches
 pub mod Missing
+pub mod Counted
