@@ -354,7 +354,9 @@ fn main() {
     println!("cargo:rerun-if-changed={}", path.display());
     let source = match fs::read_to_string(&path) {
         Ok(source) => source,
-        Err(error) => fail(&format!("{} is not readable ({error}); TX_POLICY_RS names the source", path.display())),
+        Err(error) => {
+            fail(&format!("{} is not readable ({error}); TX_POLICY_RS names the source", path.display()))
+        }
     };
     let target = variable("OUT_DIR").join("tx_policy_core.rs");
     if let Err(error) = fs::write(&target, derived(&source)) {

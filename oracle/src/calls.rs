@@ -82,27 +82,94 @@ pub struct Entry {
 /// Every call but opening, with its arguments.
 #[derive(Clone, Debug, Eq, PartialEq)]
 pub enum Call {
-    Announce { candidate: Candidate },
-    RequestParent { candidate: Candidate },
-    SolicitPackageInfo { connection: u64, hash: Hash, now: u64, parents: Vec<Hash> },
-    Failed { key: Key, connection: u64, now: u64 },
-    Unclaim { key: Key, connection: u64 },
-    ClaimPackage { connection: u64, hash: Hash, combined: Hash, now: u64, wtxids: Vec<Hash> },
-    BeginPackageResolution { connection: u64, hash: Hash, combined: Hash, now: u64, wtxids: Vec<Hash> },
-    ReleasePackage { connection: u64, hash: Hash, now: u64 },
-    Plan { now: u64, keys: Option<Vec<Key>> },
-    Claim { now: u64, checked: Vec<Entry> },
+    Announce {
+        candidate: Candidate,
+    },
+    RequestParent {
+        candidate: Candidate,
+    },
+    SolicitPackageInfo {
+        connection: u64,
+        hash: Hash,
+        now: u64,
+        parents: Vec<Hash>,
+    },
+    Failed {
+        key: Key,
+        connection: u64,
+        now: u64,
+    },
+    Unclaim {
+        key: Key,
+        connection: u64,
+    },
+    ClaimPackage {
+        connection: u64,
+        hash: Hash,
+        combined: Hash,
+        now: u64,
+        wtxids: Vec<Hash>,
+    },
+    BeginPackageResolution {
+        connection: u64,
+        hash: Hash,
+        combined: Hash,
+        now: u64,
+        wtxids: Vec<Hash>,
+    },
+    ReleasePackage {
+        connection: u64,
+        hash: Hash,
+        now: u64,
+    },
+    Plan {
+        now: u64,
+        keys: Option<Vec<Key>>,
+    },
+    Claim {
+        now: u64,
+        checked: Vec<Entry>,
+    },
     Sweep,
-    Disconnected { connection: u64, now: u64 },
+    Disconnected {
+        connection: u64,
+        now: u64,
+    },
     Sum,
-    AnnounceParents { connection: u64, now: u64, parents: Vec<Hash> },
-    FailedPackageClaims { connection: u64, now: u64, combined: Vec<Hash> },
-    TeardownPackageClaims { now: u64 },
-    Forget { key: Key },
-    ForgetKnown { key: Key, now: u64 },
-    FailedWithParents { key: Key, connection: u64, now: u64 },
-    FailedPackageInfo { key: Key, connection: u64, now: u64 },
-    PackageInfoOwner { key: Key, now: u64 },
+    AnnounceParents {
+        connection: u64,
+        now: u64,
+        parents: Vec<Hash>,
+    },
+    FailedPackageClaims {
+        connection: u64,
+        now: u64,
+        combined: Vec<Hash>,
+    },
+    TeardownPackageClaims {
+        now: u64,
+    },
+    Forget {
+        key: Key,
+    },
+    ForgetKnown {
+        key: Key,
+        now: u64,
+    },
+    FailedWithParents {
+        key: Key,
+        connection: u64,
+        now: u64,
+    },
+    FailedPackageInfo {
+        key: Key,
+        connection: u64,
+        now: u64,
+    },
+    PackageInfoOwner {
+        key: Key,
+        now: u64,
+    },
     AnnounceTransactions {
         connection: u64,
         now: u64,
@@ -110,11 +177,28 @@ pub enum Call {
         wtxid_source: bool,
         items: Vec<(Item, u64)>,
     },
-    TransactionResponseCompleted { connection: u64, txid: Hash, wtxid: Hash, now: u64 },
-    TransactionNotFound { connection: u64, now: u64, items: Vec<Item> },
-    PollGate { now: u64 },
-    Arrange { taken: Vec<Entry>, witness: Vec<u64> },
-    Part { arranged: Vec<Entry>, connection: u64 },
+    TransactionResponseCompleted {
+        connection: u64,
+        txid: Hash,
+        wtxid: Hash,
+        now: u64,
+    },
+    TransactionNotFound {
+        connection: u64,
+        now: u64,
+        items: Vec<Item>,
+    },
+    PollGate {
+        now: u64,
+    },
+    Arrange {
+        taken: Vec<Entry>,
+        witness: Vec<u64>,
+    },
+    Part {
+        arranged: Vec<Entry>,
+        connection: u64,
+    },
 }
 
 #[derive(Clone, Debug, Eq, PartialEq)]

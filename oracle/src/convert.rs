@@ -91,19 +91,13 @@ pub fn announcement_out(announcement: &Announcement) -> Candidate {
 }
 
 pub fn entries_in(entries: &[Entry]) -> Vec<(Identity, Announcement)> {
-    entries
-        .iter()
-        .map(|entry| (key_in(entry.key), announcement_in(entry.candidate)))
-        .collect()
+    entries.iter().map(|entry| (key_in(entry.key), announcement_in(entry.candidate))).collect()
 }
 
 pub fn entries_out(entries: &[(Identity, Announcement)]) -> Vec<Entry> {
     entries
         .iter()
-        .map(|(key, announcement)| Entry {
-            key: key_out(*key),
-            candidate: announcement_out(announcement),
-        })
+        .map(|(key, announcement)| Entry { key: key_out(*key), candidate: announcement_out(announcement) })
         .collect()
 }
 

@@ -99,28 +99,8 @@ impl Machine {
         }
     }
 
+    /// Calls by groups: what is not of one group goes on to the next.
     fn carry_out(&mut self, call: &Call) -> Reply {
-        match call {
-            Call::Plan { .. } | Call::Claim { .. } | Call::Sweep | Call::Sum | Call::Arrange { .. } | Call::Part { .. } => {
-                self.choose(call)
-            }
-            Call::SolicitPackageInfo { .. }
-            | Call::ClaimPackage { .. }
-            | Call::BeginPackageResolution { .. }
-            | Call::ReleasePackage { .. }
-            | Call::FailedPackageClaims { .. }
-            | Call::TeardownPackageClaims { .. }
-            | Call::FailedPackageInfo { .. }
-            | Call::PackageInfoOwner { .. } => self.package(call),
-            Call::AnnounceTransactions { .. }
-            | Call::TransactionResponseCompleted { .. }
-            | Call::TransactionNotFound { .. }
-            | Call::PollGate { .. } => self.wrapper(call),
-            _ => self.request(call),
-        }
-    }
-
-    fn request(&mut self, call: &Call) -> Reply {
         let policy = &mut self.policy;
         match *call {
             Call::Announce { candidate } => flag(policy.announce(announcement_in(candidate))),
@@ -150,19 +130,21 @@ impl Machine {
                 let (own, parents) = policy.disconnected(source_of(connection), Instant(now));
                 Reply::Gone(keys_out(&own), keys_out(&parents))
             }
-            _ => unreachable!("another group's call"),
+            _ => self.package(call),
         }
     }
 
     fn package(&mut self, call: &Call) -> Reply {
         let policy = &mut self.policy;
         match *call {
-            Call::SolicitPackageInfo { connection, hash, now, ref parents } => flag(policy.solicit_package_info(
-                source_of(connection),
-                wtxid_in(hash),
-                &txids_in(parents),
-                Instant(now),
-            )),
+            Call::SolicitPackageInfo { connection, hash, now, ref parents } => {
+                flag(policy.solicit_package_info(
+                    source_of(connection),
+                    wtxid_in(hash),
+                    &txids_in(parents),
+                    Instant(now),
+                ))
+            }
             Call::ClaimPackage { connection, hash, combined, now, ref wtxids } => {
                 standins::supply_combined(combined.0);
                 let reply = policy.claim_package(
@@ -183,9 +165,11 @@ impl Machine {
                     Instant(now),
                 ))
             }
-            Call::ReleasePackage { connection, hash, now } => Reply::Keys(keys_out(
-                &policy.release_package(source_of(connection), wtxid_in(hash), Instant(now)),
-            )),
+            Call::ReleasePackage { connection, hash, now } => Reply::Keys(keys_out(&policy.release_package(
+                source_of(connection),
+                wtxid_in(hash),
+                Instant(now),
+            ))),
             Call::FailedPackageClaims { connection, now, ref combined } => {
                 let combined: Vec<[u8; 32]> = combined.iter().map(|hash| hash.0).collect();
                 let source = source_of(connection);
@@ -200,7 +184,7 @@ impl Machine {
             Call::PackageInfoOwner { key, now } => {
                 Reply::Number(policy.package_info_owner(key_in(key), Instant(now)).map_or(0, connection_of))
             }
-            _ => unreachable!("another group's call"),
+            _ => self.choose(call),
         }
     }
 
@@ -226,7 +210,7 @@ impl Machine {
             Call::Part { arranged, connection } => Reply::Entries(
                 arranged.iter().filter(|entry| entry.candidate.connection == *connection).copied().collect(),
             ),
-            _ => unreachable!("another group's call"),
+            _ => self.wrapper(call),
         }
     }
 
@@ -278,7 +262,7 @@ impl Machine {
                 Reply::Keys(keys_out(&TxPolicy::transaction_not_found(policy, source, &items, Instant(now))))
             }
             Call::PollGate { now } => flag(TxPolicy::poll_gate(policy, Instant(now))),
-            _ => unreachable!("another group's call"),
+            _ => unreachable!("of an earlier group"),
         }
     }
 
@@ -289,12 +273,7 @@ impl Machine {
             next_poll: self.policy.next_poll.map(|time| time.0),
             known_cursor: self.policy.known_cursor.map(key_out),
             ready_cursor: self.policy.ready_cursor.map(key_out),
-            requests: self
-                .policy
-                .requests
-                .iter()
-                .map(|(key, request)| request_out(*key, request))
-                .collect(),
+            requests: self.policy.requests.iter().map(|(key, request)| request_out(*key, request)).collect(),
         }
     }
 

@@ -8,14 +8,23 @@ use crate::state::{Owner, Package, Request, State};
 /// A line that can be read.
 #[derive(Clone, Debug, Eq, PartialEq)]
 pub enum Line {
-    Open { l: u64, q: u64 },
+    Open {
+        l: u64,
+        q: u64,
+    },
     Call(Call),
     /// Claims the last carried-out plan.
-    Take { now: u64 },
+    Take {
+        now: u64,
+    },
     /// Arranges the last carried-out take.
-    Send { witness: Vec<u64> },
+    Send {
+        witness: Vec<u64>,
+    },
     /// A part of the last arranged list.
-    Part { connection: u64 },
+    Part {
+        connection: u64,
+    },
     /// A word that the event program does not know.
     Extra(Extra),
 }
@@ -44,7 +53,7 @@ pub fn line(text: &[u8]) -> Option<Line> {
     fields.end(line)
 }
 
-/// The fields of a call's line stand in the order that is written here.
+/// Document 01's words. The fields of a line stand in the order that is written here.
 fn call(word: &[u8], fields: &mut Fields) -> Option<Call> {
     Some(match word {
         b"ann" => Call::Announce { candidate: fields.candidate()? },
@@ -71,16 +80,21 @@ fn call(word: &[u8], fields: &mut Fields) -> Option<Call> {
             now: fields.number()?,
             wtxids: fields.list(Fields::hash)?,
         },
-        b"rel" => Call::ReleasePackage {
-            connection: fields.number()?,
-            hash: fields.hash()?,
-            now: fields.number()?,
-        },
+        b"rel" => {
+            Call::ReleasePackage { connection: fields.number()?, hash: fields.hash()?, now: fields.number()? }
+        }
         b"plan" => Call::Plan { now: fields.number()?, keys: None },
         b"want" => Call::Plan { now: fields.number()?, keys: Some(fields.list(Fields::key)?) },
         b"swp" => Call::Sweep,
         b"gone" => Call::Disconnected { connection: fields.number()?, now: fields.number()? },
         b"sum" => Call::Sum,
+        _ => return further_call(word, fields),
+    })
+}
+
+/// The words that docs/EVENTS.md adds, and the oracle's own.
+fn further_call(word: &[u8], fields: &mut Fields) -> Option<Call> {
+    Some(match word {
         b"kin" => Call::AnnounceParents {
             connection: fields.number()?,
             now: fields.number()?,
@@ -124,12 +138,11 @@ fn call(word: &[u8], fields: &mut Fields) -> Option<Call> {
             items: fields.list(Fields::item)?,
         },
         b"poll" => Call::PollGate { now: fields.number()? },
-        // Of the oracle alone: a claim and an arrangement of lists that stand on the line.
+        // A claim and an arrangement of lists that stand on the line.
         b"grab" => Call::Claim { now: fields.number()?, checked: fields.list(Fields::entry)? },
-        b"ship" => Call::Arrange {
-            witness: fields.list(Fields::number)?,
-            taken: fields.list(Fields::entry)?,
-        },
+        b"ship" => {
+            Call::Arrange { witness: fields.list(Fields::number)?, taken: fields.list(Fields::entry)? }
+        }
         _ => return None,
     })
 }

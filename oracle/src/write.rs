@@ -58,9 +58,7 @@ pub fn reply(reply: &Reply) -> String {
         Reply::Refused(number) => format!("no,{number}"),
         Reply::Number(number) => number.to_string(),
         Reply::Keys(keys) => list(keys.iter().copied().map(key).collect()),
-        Reply::Gone(own, parents) => {
-            counted(own.len() as u64, own.iter().chain(parents).copied().map(key))
-        }
+        Reply::Gone(own, parents) => counted(own.len() as u64, own.iter().chain(parents).copied().map(key)),
         Reply::Planned(count, entries) => counted(*count, entries.iter().map(entry)),
         Reply::Entries(entries) => list(entries.iter().map(entry).collect()),
         Reply::Sum(held, free, permille) => format!("{held},{free},{permille}"),

@@ -40,10 +40,13 @@ def on(word, test):
     return lambda s: s.word == word and not s.refused and bool(test(s))
 
 
+def candidates(state):
+    return {c for r in state.requests.values() for c in r.candidates}
+
+
 def delay(times):
     """A batch that brings a candidate of such a delay."""
-    return on("inv", lambda s: any(c[0] == s.conn and c[2] == s.now + 2_000 * times and not any(b == c for r in s.before.requests.values() for b in r.candidates)
-                                   for r in s.after.requests.values() for c in r.candidates))
+    return on("inv", lambda s: any(c[0] == s.conn and c[2] == s.now + 2_000 * times for c in candidates(s.after) - candidates(s.before)))
 
 
 def refusal(number):
@@ -131,7 +134,7 @@ EVENTS = {
     "plan: of nothing": on("plan", lambda s: s.answer == "0" and s.before.ready != "none"),
     "plan: an owned hash is passed": on("plan", lambda s: any(r.owner is not None for r in s.after.requests.values())),
     "plan: chooses across kinds": on("plan", lambda s: any(s.after.at(twin(e[0])) for e in s.entries())),
-    "plan: not ready yet": on("plan", lambda s: s.considered() > len(s.entries()) and any(c[2] > s.now for r in s.after.requests.values() for c in r.candidates)),
+    "plan: not ready yet": on("plan", lambda s: s.considered() > len(s.entries()) and any(c[2] > s.now for c in candidates(s.after))),
     "plan: a connection at 100": on("plan", lambda s: any(s.after.owned_by(c) >= 100 for c in (7,)) and s.considered() > 100),
     "plan: 1,024 selected": on("plan", lambda s: len(s.entries()) == 1_024),
     "plan: 1,024 considered of more": on("plan", lambda s: len(s.entries()) == 1_024 < len(s.after.requests)),
@@ -188,7 +191,8 @@ EVENTS = {
     "nfd: type 6": on("nfd", lambda s: s.answer != "-" and any(i.startswith("o6:") for i in s.f[3:])),
     "nfd: type 7": on("nfd", lambda s: any(i.startswith("o7:") and f"w{i[3:]}" in s.answer.split(",") for i in s.f[3:])),
     "nfd: type 7 with parents": on("nfd", lambda s: ",t" in s.answer and any(i.startswith("o7:") for i in s.f[3:])),
-    "nfd: a w item with a flag": on("nfd", lambda s: any(i[0] == "w" and s.before.at(i) and s.before.at(i).flag and s.before.at(i).owner == s.conn for i in s.f[3:])),
+    "nfd: a w item with a flag": on(
+        "nfd", lambda s: any(i[0] == "w" and s.before.at(i) and s.before.at(i).flag and s.before.at(i).owner == s.conn for i in s.f[3:])),
     "nfd: nothing": on("nfd", lambda s: s.answer == "-"),
     "poll: due": on("poll", lambda s: s.answer == "1"),
     "poll: not due": on("poll", lambda s: s.answer == "0"),
@@ -200,9 +204,8 @@ EVENTS = {
 }
 
 
-def count(steps, tally=None):
-    """How often each event occurs, and each word with the shape of its answer."""
-    tally = {} if tally is None else tally
+def count(steps, tally):
+    """Adds how often each event occurs."""
     for step in steps:
         for name, test in EVENTS.items():
             if (step.before is not None or name.startswith("refusal")) and test(step):

@@ -103,7 +103,7 @@ class Script:
         return self.hashes()
 
     def near(self, remembered, made):
-        """Something remembered, with one part in eight drawn anew."""
+        """Something remembered, its parts now and then drawn anew."""
         if not remembered or self.one_in(8):
             return made
         return tuple(new if self.one_in(12) else old for old, new in zip(self.pick(remembered), made))

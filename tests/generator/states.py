@@ -1,5 +1,5 @@
 """Scripts that begin at sound states of any kind, set by the oracle's own word `load`, with lists for `grab` and `ship` taken from them."""
-from script import LIFETIME, NUMBERS, Script, listed
+from script import LIFETIME, NUMBERS, OTHER_TYPES, Script, listed
 
 
 class Loaded(Script):
@@ -27,18 +27,14 @@ class Loaded(Script):
         return "none" if self.one_in(4) else self.key()
 
     def state(self):
-        self.places, requests = self.random.randrange(3), []
-        held = self.places
-        for kind in "tw":
-            self.at_hash = {} if kind == "t" else self.at_hash
-            for hash_ in self.profile.hashes:
-                if not self.one_in(3):
-                    requests.append(self.request(kind, format(hash_, "x")))
-        places = held - self.places
-        requests = [r for r in requests if r]
-        size = len(self.entries) + self.pick((0, 0, 1, 5))
-        head = f"s,{max(size, 1)},{max(places + self.pick((0, 1)), 1)},{self.pick(('none', self.moment()))},{self.cursor()},{self.cursor()}"
-        return ";".join([head, *requests])
+        self.places = room = self.random.randrange(3)
+        self.at_hash = {}       # connections at a hash, and whether it is owned
+        keys = [(kind, format(hash_, "x")) for kind in "tw" for hash_ in self.profile.hashes if not self.one_in(3)]
+        requests = [self.request(*key) for key in keys]
+        limit = max(1, len(self.entries) + self.pick((0, 0, 1, 5)))
+        places = max(1, room - self.places + self.pick((0, 1)))
+        head = f"s,{limit},{places},{self.pick(('none', self.moment()))},{self.cursor()},{self.cursor()}"
+        return ";".join([head, *filter(None, requests)])
 
     def request(self, kind, hash_):
         """A request under a key; connections that stand under the other kind, or own there, are left out."""
@@ -58,20 +54,21 @@ class Loaded(Script):
             return f"r,{kind}{hash_},none,none,0,none,0,{self.mark(kind)}"
         deadline = self.moment()
         self.moments.append(deadline)
-        place = "0,none,0"
-        if kind == "w" and self.places and not self.one_in(3):
-            self.places -= 1
-            self.solicited.append((owner, hash_))
-            parents = listed(sorted(set(self.parents()), key=lambda h: self.random.random()))[:101]
-            parents[0] = len(parents) - 1
-            flag = self.one_in(3)
-            if not flag:
-                self.begun.append((owner, hash_))
-                combined, wtxids = self.combined(), (self.hashes(3) or [self.hash_()])[:100]
-                self.claimed.append((owner, hash_, combined, wtxids))
-                package = ",".join(map(str, [self.pick(("awaiting", "enqueued")), combined, *listed(wtxids)]))
-            place = f"{int(flag)},{'none' if flag else package}," + ",".join(map(str, parents))
+        place = self.place(hash_, owner) if kind == "w" and self.places and not self.one_in(3) else "0,none,0"
         return f"r,{kind}{hash_},{owner},{deadline},{place},{self.mark(kind)}"
+
+    def place(self, hash_, owner):
+        """Flag or package, and distinct parents in any order."""
+        self.places -= 1
+        self.solicited.append((owner, hash_))
+        parents = list(dict.fromkeys(self.parents()))[:100]
+        self.random.shuffle(parents)
+        if self.one_in(3):
+            return ",".join(map(str, [1, "none", *listed(parents)]))
+        combined, wtxids = self.combined(), self.hashes(3) or [self.hash_()]
+        self.begun.append((owner, hash_))
+        self.claimed.append((owner, hash_, combined, wtxids))
+        return ",".join(map(str, [0, self.pick(("awaiting", "enqueued")), combined, *listed(wtxids), *listed(parents)]))
 
     def mark(self, kind):
         return self.random.randrange(2) if kind == "t" else 0
@@ -83,8 +80,13 @@ class Loaded(Script):
         fields = entry.split(",")
         if self.one_in(2):
             place = self.random.randrange(6)
-            fields[place] = (self.key, lambda: self.pick((0, self.connection())), self.item, self.moment, lambda: 1 - int(fields[4]), self.priority)[place]()
+            fields[place] = (self.key, lambda: self.pick((0, self.connection())), lambda: self.relabelled(fields[2]), self.moment,
+                             lambda: 1 - int(fields[4]), self.priority)[place]()
         return ",".join(map(str, fields))
+
+    def relabelled(self, item):
+        """An item of another kind or of another hash."""
+        return self.pick(("t", "v", "w", f"o{self.pick(OTHER_TYPES)}:")) + (item[1:] if self.one_in(2) else self.hash_())
 
     def checked(self, most):
         if not self.entries:
@@ -95,7 +97,9 @@ class Loaded(Script):
         return self.now if self.one_in(2) else self.clock(), *self.checked(10)
 
     def ship(self):
-        return *self.send(), *self.checked(6)
+        """The witness connections are among the list's own."""
+        checked = self.checked(6)
+        return *listed([entry.split(",")[1] for entry in checked[1:] if self.one_in(2) and entry.split(",")[1] != "0"]), *checked
 
 
 class Large(Loaded):

@@ -1,7 +1,8 @@
-"""The oracle: built if the Rust is at hand, and run on lines."""
+"""The oracle: built if the Rust is at hand, and run on lines. As a program it fails if the Rust is not at hand."""
 import os
 import shutil
 import subprocess
+import sys
 
 ROOT = os.path.dirname(os.path.dirname(os.path.dirname(os.path.abspath(__file__))))
 SOURCE = "../shared/docs/src/crates/node/src/p2p/tx_policy.rs"
@@ -38,3 +39,7 @@ def run_with_states(lines):
     """Pairs of answer and whole state, with the oracle's own words and large sizes allowed."""
     out = run(lines, "--big", "--extra", "--states")
     return list(zip(out[::2], out[1::2]))
+
+
+if __name__ == "__main__":
+    sys.exit(not at_hand())

@@ -40,3 +40,12 @@ def split(script):
     """The lines of a script; the last one may lack its line feed."""
     lines = script.split(b"\n")
     return lines[:-1] if lines[-1] == b"" else lines
+
+
+def first_difference(script, recorded, got):
+    """What is said of the first line whose answer is not the recorded one; None if there is none."""
+    for at, (line, one, other) in enumerate(zip(script, recorded, got), 1):
+        if one != other:
+            line, one, other = (text[:300].decode("latin-1") for text in (line, one, other))
+            return f"line {at}: {line}\n  recorded: {one}\n  now:      {other}"
+    return f"{len(recorded)} lines of answers recorded, {len(got)} now" if len(recorded) != len(got) else None

@@ -2,9 +2,7 @@
 
     import anttrun
     m = anttrun.load("crates/machine/specs")
-    c = m["specs.Base.Candidate"](connection=7, item=m["specs.Base.Tx"](10), ready=0, preferred=True, priority=5)
-    a = m["specs.Machine.announce"](4, c, [])
-    a.reply, a.table[0].candidates
+    m["specs.Limits.need"](100, 2)
 
 README.md says what is understood.
 """

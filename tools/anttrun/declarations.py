@@ -106,18 +106,20 @@ def declarations(blocks, module, decls):
         elif head.is_("axiom", "open", "deriving"):
             fail(head, "not supported")
         else:
-            at = find(toks, ":", "=")
-            if at is None:
-                fail(head, "neither a signature nor a clause")
-            if toks[at].text == ":":
-                names = [t for t, d in depths(toks[:at]) if d == 0 and t.kind == "name"]
-                for t in names:
-                    decls.append(Def(t.text, toks[at + 1:], t))
-            else:
-                target = next((d for d in reversed(decls) if isinstance(d, Def)), None)
-                if target is None:
-                    fail(head, "a clause without a signature")
-                target.clauses.append(read_clause(toks, at, module))
+            signature_or_clause(toks, module, decls)
+
+
+def signature_or_clause(toks, module, decls):
+    at = find(toks, ":", "=")
+    if at is None:
+        fail(toks[0], "neither a signature nor a clause")
+    if toks[at].text == ":":
+        decls.extend(Def(t.text, toks[at + 1:], t) for t, d in depths(toks[:at]) if d == 0 and t.kind == "name")
+        return
+    target = next((d for d in reversed(decls) if isinstance(d, Def)), None)
+    if target is None:
+        fail(toks[0], "a clause without a signature")
+    target.clauses.append(read_clause(toks, at, module))
 
 
 def use_line(toks):

@@ -34,6 +34,21 @@ def fail(tok, message):
     raise Unread(f"{tok.where()}: {message} (at `{tok.text}`)")
 
 
+def comment_end(text, i, file):
+    """The place after a block comment, which may hold others."""
+    depth, i = 1, i + 2
+    while depth:
+        if i >= len(text):
+            raise Unread(f"{file}: a comment does not end")
+        if text.startswith("{-", i):
+            depth, i = depth + 1, i + 2
+        elif text.startswith("-}", i):
+            depth, i = depth - 1, i + 2
+        else:
+            i += 1
+    return i
+
+
 def tokens(text, file):
     """All tokens of a file."""
     out, i, line, start, first = [], 0, 1, 0, True
@@ -56,19 +71,10 @@ def tokens(text, file):
             while i < n and text[i] != "\n":
                 i += 1
         elif text.startswith("{-", i):
-            depth, i = 1, i + 2
-            while depth:
-                if i >= n:
-                    raise Unread(f"{file}: a comment does not end")
-                if text.startswith("{-", i):
-                    depth, i = depth + 1, i + 2
-                elif text.startswith("-}", i):
-                    depth, i = depth - 1, i + 2
-                else:
-                    if text[i] == "\n":
-                        line, start, first = line + 1, i + 1, True
-                    i += 1
-            tight = False
+            end = comment_end(text, i, file)
+            if "\n" in text[i:end]:
+                line, start, first = line + text.count("\n", i, end), text.rindex("\n", i, end) + 1, True
+            i, tight = end, False
         elif c == "«":
             end = text.index("»", i)
             put(text[i + 1:end], "name", i, plain=True)

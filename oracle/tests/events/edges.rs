@@ -18,8 +18,9 @@ fn ninth_preferred_gets_0() {
 
 #[test]
 fn one_unpreferred_of_eight_goes() {
-    let eight: String =
-        (1..=8).map(|n| format!("ann,{n},{}a,0,{},5 => 1\n", if n < 5 { 't' } else { 'w' }, u8::from(n != 3))).collect();
+    let eight: String = (1..=8)
+        .map(|n| format!("ann,{n},{}a,0,{},5 => 1\n", if n < 5 { 't' } else { 'w' }, u8::from(n != 3)))
+        .collect();
     check(&format!(
         "open,100,1 => ok
          {eight}

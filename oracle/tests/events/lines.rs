@@ -242,7 +242,8 @@ fn sending() {
 
 #[test]
 fn states_are_read_as_they_are_written() {
-    let state = "s,9,1,7,tb,w5;r,ta,7,9,0,none,0,1;c,7,va,1,0,2;r,wb,8,60000,0,awaiting,c,2,1,1,1,d,0;c,8,wb,0,1,0";
+    let state =
+        "s,9,1,7,tb,w5;r,ta,7,9,0,none,0,1;c,7,va,1,0,2;r,wb,8,60000,0,awaiting,c,2,1,1,1,d,0;c,8,wb,0,1,0";
     check(&format!(
         "load,{state} => ok
          dump => {state}"
@@ -256,7 +257,9 @@ fn states_are_read_as_they_are_written() {
     ] {
         check(&format!("load,{unsound} => no,3"));
     }
-    for unreadable in ["", "s,9,1,none,none", "s,9,1,none,none,none;c,7,ta,1,0,2", "r,ta,none,none,0,none,0,1"] {
+    for unreadable in
+        ["", "s,9,1,none,none", "s,9,1,none,none,none;c,7,ta,1,0,2", "r,ta,none,none,0,none,0,1"]
+    {
         check(&format!("load,{unreadable} => no,9"));
     }
 }

@@ -1,4 +1,6 @@
 -- Names through a module, a type and an alias.
+{- a comment {- in a comment -}
+   of two lines -}
 use Prim.Native.Nat.{ℕ, _+_}
 use mathlib.Core.Bool.{Bool, true, false}
 use lib.ListN
