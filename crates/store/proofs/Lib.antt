@@ -27,3 +27,6 @@ pub mod WordsFit
 pub mod FlatRead
 pub mod BytesBack
 pub mod Stored
+pub mod Searches
+pub mod Missing
+pub mod Counted

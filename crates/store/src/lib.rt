@@ -5,3 +5,5 @@
 // only that counts and sums are in range (`Shown`).
 pub mod head;
 pub mod rows;
+pub mod conns;
+pub mod counting;
