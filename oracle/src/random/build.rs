@@ -75,11 +75,9 @@ pub fn state(rng: &mut Rng, shape: Shape) -> State {
 }
 
 impl Build<'_> {
+    /// A connection more; one that comes up twice is only drawn more often.
     fn connect(&mut self) {
-        let connection = self.rng.word().max(1);
-        if !self.connections.contains(&connection) {
-            self.connections.push(connection);
-        }
+        self.connections.push(self.rng.word().max(1));
     }
 
     /// One more candidate; false if the draw did not fit, and then a connection more.
