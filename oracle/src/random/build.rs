@@ -77,7 +77,8 @@ pub fn state(rng: &mut Rng, shape: Shape) -> State {
 impl Build<'_> {
     /// A connection more; one that comes up twice is only drawn more often.
     fn connect(&mut self) {
-        self.connections.push(self.rng.word().max(1));
+        let connection = if self.rng.one_in(4) { self.rng.word() } else { self.rng.next() };
+        self.connections.push(connection.max(1));
     }
 
     /// One more candidate; false if the draw did not fit, and then a connection more.
