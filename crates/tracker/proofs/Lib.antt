@@ -3,3 +3,4 @@ pub mod Stepped
 pub mod Calls
 pub mod Demands
 pub mod Opening
+pub mod Summing

@@ -57,13 +57,13 @@ module _ (b : List ℕ) (o : Outcome) (e : Effect) (p : Bytes b) (h : Sound (o .
 -- ---- a call on a sound store
 
 -- `outcomeIf` on a state that is given
-abbrev effectOf : Bool → List ℕ → Call → State → Effect
+abbrev pub effectOf : Bool → List ℕ → Call → State → Effect
 effectOf sound b c s =
     let o = stepIf (length b) sound c s in
     record { reply = o .reply; buffer = o .buffer; store = if eqb (refusal (length b) sound c s) 0 then stored (o .state) b else b }
 
 module _ (b : List ℕ) (w : SoundStore b) (c : Call) where
-  outcome-shown : outcomeIf true b c ≡ effectOf true b c (w .state)
+  pub outcome-shown : outcomeIf true b c ≡ effectOf true b c (w .state)
   unfolding outcomeIf
   outcome-shown = ap (effectOf true b c) (state-shown b w)
 
