@@ -8,7 +8,6 @@ use mathlib.Core.List.{List}
 use native.Mathlib.Omega.{arith}
 use lib.Dec.{eqb}
 use lib.ListN.{length, take, drop}
-use Rattle.ident.specs.If.{if_then_else_}
 use Rattle.words.specs.Words.{words, bytesOf}
 use Rattle.machine.specs.State.{State}
 use Rattle.machine.specs.Sound.{Sound}
@@ -56,26 +55,27 @@ module _ (b : List ℕ) (o : Outcome) (e : Effect) (p : Bytes b) (h : Sound (o .
 
 -- ---- a call on a sound store
 
--- `outcomeIf` on a state that is given
-abbrev effectOf : Bool → List ℕ → Call → State → Effect
-effectOf sound b c s =
-    let o = stepIf (length b) sound c s in
-    record { reply = o .reply; buffer = o .buffer; store = if eqb (refusal (length b) sound c s) 0 then stored (o .state) b else b }
-
 module _ (b : List ℕ) (w : SoundStore b) (c : Call) where
-  outcome-shown : outcomeIf true b c ≡ effectOf true b c (w .state)
+  abbrev n : ℕ
+  n = length b
+
+  same-reply : (outcomeIf true b c) .reply ≡ (step n c (w .state)) .reply
   unfolding outcomeIf
-  outcome-shown = ap (effectOf true b c) (state-shown b w)
+  same-reply = ap (λ (s : State). (step n c s) .reply) (state-shown b w)
+
+  same-buffer : (outcomeIf true b c) .buffer ≡ (step n c (w .state)) .buffer
+  unfolding outcomeIf
+  same-buffer = ap (λ (s : State). (step n c s) .buffer) (state-shown b w)
 
   -- also a refused call leaves the image of the machine's state
-  step-stored : Bytes b → (effectOf true b c (w .state)) .store ≡ stored ((step (length b) c (w .state)) .state) b
-  unfolding stepIf
+  step-stored : Bytes b → (outcomeIf true b c) .store ≡ stored ((step n c (w .state)) .state) b
+  unfolding outcomeIf stepIf
   step-stored p =
-      elim (test (eqb (refusal (length b) true c (w .state)) 0)) [
+      rw (state-shown b w) (elim (test (eqb (refusal n true c (w .state)) 0)) [
         | inl t ↦ rw t
         | inr t ↦ rw t (store-kept b w p)
-      ]
+      ])
 
-  pub call-steps : CallTyped c → Bytes b → Stepped b (step (length b) c (w .state)) (outcomeIf true b c)
+  pub call-steps : CallTyped c → Bytes b → Stepped b (step n c (w .state)) (outcomeIf true b c)
   call-steps t p =
-      rw outcome-shown (stepped-stored b (step (length b) c (w .state)) (effectOf true b c (w .state)) p (sound-step (length b) c (w .state) t (w .sound)) (step-room (length b) c (w .state) (w .long)) refl refl (step-stored p))
+      stepped-stored b (step n c (w .state)) (outcomeIf true b c) p (sound-step n c (w .state) t (w .sound)) (step-room n c (w .state) (w .long)) same-reply same-buffer (step-stored p)
