@@ -2,3 +2,4 @@ pub mod Sizes
 pub mod Stepped
 pub mod Calls
 pub mod Demands
+pub mod Contract
