@@ -26,3 +26,4 @@ pub mod WordsFit
 pub mod FlatRead
 pub mod BytesBack
 pub mod Stored
+pub mod SoundWords
