@@ -20,6 +20,7 @@ pub mod Window
 pub mod RowsAt
 pub mod RowChanges
 pub mod PlacesAt
+pub mod Frame
 pub mod ReadBack
 pub mod HeadWords
 pub mod WordsFit
@@ -27,3 +28,6 @@ pub mod FlatRead
 pub mod BytesBack
 pub mod Stored
 pub mod SoundWords
+pub mod Searches
+pub mod Missing
+pub mod Counted

@@ -3,3 +3,5 @@ pub mod Stepped
 pub mod Calls
 pub mod Demands
 pub mod Contract
+pub mod Opening
+pub mod Summing

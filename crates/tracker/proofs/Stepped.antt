@@ -8,6 +8,7 @@ use mathlib.Core.List.{List}
 use native.Mathlib.Omega.{arith}
 use lib.Dec.{eqb}
 use lib.ListN.{length, take, drop}
+use Rattle.ident.specs.If.{if_then_else_}
 use Rattle.words.specs.Words.{words, bytesOf}
 use Rattle.machine.specs.State.{State}
 use Rattle.machine.specs.Sound.{Sound}
@@ -79,3 +80,15 @@ module _ (b : List ℕ) (w : SoundStore b) (c : Call) where
   pub call-steps : CallTyped c → Bytes b → Stepped b (step n c (w .state)) (outcomeIf true b c)
   call-steps t p =
       stepped-stored b (step n c (w .state)) (outcomeIf true b c) p (sound-step n c (w .state) t (w .sound)) (step-room n c (w .state) (w .long)) same-reply same-buffer (step-stored p)
+
+-- ---- for a call whose effect is computed
+
+-- `outcomeIf` on a state that is given
+abbrev pub effectOf : Bool → List ℕ → Call → State → Effect
+effectOf sound b c s =
+    let o = stepIf (length b) sound c s in
+    record { reply = o .reply; buffer = o .buffer; store = if eqb (refusal (length b) sound c s) 0 then stored (o .state) b else b }
+
+pub outcome-shown : (b : List ℕ) (w : SoundStore b) (c : Call) → outcomeIf true b c ≡ effectOf true b c (w .state)
+unfolding outcomeIf
+outcome-shown b w c = ap (effectOf true b c) (state-shown b w)
