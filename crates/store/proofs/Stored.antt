@@ -48,7 +48,7 @@ written-bytes b s p w = sym (bytes-words b (ap (λ (n : ℕ). n % 8) (w .long) �
 module _ (s : State) (b : List ℕ) where
   pub stored-front : take (needOf s) (stored s b) ≡ bytesOf (image s)
   unfolding stored
-  stored-front = take-at (bytesOf (image s)) (drop (needOf s) b) (needOf s) (length-image-bytes s)
+  stored-front = take-at (bytesOf (image s)) _ (needOf s) (length-image-bytes s)
 
   -- "bytes past the need .. stay"
   pub stored-back : drop (needOf s) (stored s b) ≡ drop (needOf s) b
