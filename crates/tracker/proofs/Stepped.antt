@@ -1,27 +1,26 @@
 -- One public call: what it leaves of a sound store is what the machine's step says.
 -- Assumes nothing.
 use Prim.Native.Nat.{ℕ, _≤_}
-use mathlib.Core.Path.{_≡_, refl, sym, ap, _∙_}
+use mathlib.Core.Path.{_≡_, refl, ap, _∙_}
 use mathlib.Core.Logic.{inl, inr}
-use mathlib.Core.Bool.{Bool, true, false}
+use mathlib.Core.Bool.{Bool, true}
 use mathlib.Core.List.{List}
 use native.Mathlib.Omega.{arith}
 use lib.Dec.{eqb}
 use lib.ListN.{length, take, drop}
 use Rattle.ident.specs.If.{if_then_else_}
-use Rattle.words.specs.Words.{words, bytesOf}
+use Rattle.words.specs.Words.{bytesOf}
 use Rattle.machine.specs.State.{State}
 use Rattle.machine.specs.Sound.{Sound}
-use Rattle.machine.specs.Call.{Call, Open, On, refusal}
+use Rattle.machine.specs.Call.{Call, refusal}
 use Rattle.machine.specs.Step.{Outcome, stepIf, step}
 use Rattle.machine.specs.Typed.{CallTyped}
-use Rattle.machine.proofs.Tests.{test, by-test}
+use Rattle.machine.proofs.Tests.{test}
 use Rattle.machine.proofs.Kept.{sound-step}
 use Rattle.store.specs.Image.{image, Writes, SoundStore, stored}
-use Rattle.store.specs.Read.{stateOf}
 use Rattle.store.proofs.BytesBack.{Bytes}
 use Rattle.store.proofs.Stored.{needOf, stored-front, stored-back, stored-bytes, stored-length, stored-writes, state-shown, store-kept}
-use Rattle.tracker.specs.Outcome.{Effect, outcomeIf, Tested, Does}
+use Rattle.tracker.specs.Outcome.{Effect, outcomeIf}
 use Rattle.tracker.proofs.Sizes.{step-room}
 
 -- e, left of the store b, is what the machine's outcome o says
