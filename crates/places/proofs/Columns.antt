@@ -29,14 +29,14 @@ list-back hs z f =
     let b : 4 * length hs ≤ length (listWords hs) = omega (arith, length-list hs, f .few) in
     recs-front 4 hashKey (length hs) (listWords hs) z b
     ∙ column 4 hashWords length-hash hashKey (λ h. quadNumber (quadOf h)) (λ _. refl) listMost hs (f .few) refl
-    ∙ map-same (λ h. quadNumber (quadOf h)) hs 0 (λ i h. number-quad (getD hs i 0) (f .small i h))
+    ∙ map-same (λ h. quadNumber (quadOf h)) hs 0 (λ i h. number-quad (getD hs i 0))
 
 pub place-back : (p : Place) → Fitting p → readPlace (placeWords p) ≡ p
 unfolding readPlace placeWords hashWords
 place-back p f =
     let z : List ℕ = listWords (p .parents) ++ replicate keptSize 0 in
     let d : drop parentsAt (placeWords p) ≡ z = ap (drop parentsAt) (around-parents p) ∙ drop-at (head-words p ++ listWords (p .wtxids)) z parentsAt (length-front p) in
-    rw (d, number-quad (p .hash) (f .hash), number-quad (p .combined) (f .combined), list-back (p .wtxids) z (f .wtxids), list-back (p .parents) (replicate keptSize 0) (f .parents))
+    rw (d, number-quad (p .hash), number-quad (p .combined), list-back (p .wtxids) z (f .wtxids), list-back (p .parents) (replicate keptSize 0) (f .parents))
 
 module _ (Q : ℕ) (ps : List Place) {w : List ℕ} (h : length ps ≤ Q) (r : Holds placeSize placeWords Q ps w) where
   pub place-keys : recs placeSize placeKey (length ps) w ≡ map (λ p. quadNumber (quadOf (p .hash))) ps
