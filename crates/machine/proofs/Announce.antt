@@ -2,7 +2,7 @@
 -- Assumes nothing.
 use Prim.Native.Nat.{ℕ, suc, _+_, _≤_, _<_}
 use mathlib.Core.Path.{_≡_, refl, ap}
-use mathlib.Core.Logic.{_⊎_, inl, inr}
+use mathlib.Core.Logic.{inl, inr}
 use mathlib.Core.Bool.{Bool, true, false, _||_}
 use mathlib.Core.List.{List, [], _∷_, _++_}
 use mathlib.Core.Option.{Option, none, some}
@@ -14,7 +14,7 @@ use Rattle.ident.specs.declared.Kind.{Kind}
 use Rattle.ident.specs.Number.{top, Key, place, Item, kindOf, keyAs, keyOf}
 use Rattle.machine.specs.Limits.{Limits, maxPeerAnnouncements}
 use Rattle.machine.specs.State.{Candidate, Owner, Request, Table, Entry, Answer, withCandidates, ownerIs}
-use Rattle.machine.specs.Table.{at, change, one, countIn, count, owners, placesHeld, has, isCandidate, held, heldBy, heldAt, any, by, under, byUnder}
+use Rattle.machine.specs.Table.{at, one, countIn, count, owners, placesHeld, has, isCandidate, held, heldAt, any, by, under, byUnder}
 use Rattle.machine.specs.Announce.{announce, announceAt, announceKeyed, evicting, greatest, greatestFrom, after, victims, victimsIn, without, push, cut, atHash, anywhere}
 use Rattle.machine.specs.Sound.{CursorFits, Fits, AllFit, OwnerFits, Ordered, Lawful, Bounded}
 use Rattle.machine.specs.Typed.{CandidateTyped, Each}
@@ -100,7 +100,7 @@ bounded-push {m} {Q} {t} {k} {c} s a b l₁ l₂ l₃ l₄ = record {
     f : Request → Request
     f r = withCandidates (r .candidates ++ (c ∷ [])) r
 
--- ---- the victims
+-- ---- a law of each element of a list
 
 pub each-append : {A : Type 0} (P : A → Type 0) (l m : List A) → Each P l → Each P m → Each P (l ++ m)
 each-append P [] m a b = b
@@ -109,6 +109,8 @@ each-append P (v ∷ l) m a b = (a .0, each-append P l m (a .1) b)
 pub each-map : {A : Type 0} (P R : A → Type 0) (l : List A) → ((v : A) → P v → R v) → Each P l → Each R l
 each-map P R [] f a = tt
 each-map P R (v ∷ l) f a = (f v (a .0), each-map P R l f (a .1))
+
+-- ---- the victims
 
 pub greatest-of : (P : Entry → Type 0) (a : Entry) (l : List Entry) → P a → Each P l → P (greatestFrom a l)
 unfolding greatestFrom
@@ -214,7 +216,7 @@ pub follows-announceAt : {m : Limits} {Q : ℕ} {t : Table} (k : Key) (c : Candi
 unfolding announceAt
 follows-announceAt {m} {Q} {t} k c s a b =
     by-test P (isCandidate (c .connection) (k .hash) t) (λ e. follows-same b) λ e₁.
-    by-test P (leb maxPeerAnnouncements (heldBy (c .connection) t)) (λ e. follows-same b) λ e₂.
+    by-test P _ (λ e. follows-same b) λ e₂.
     by-test P (leb (m .alternates) (heldAt (k .hash) t))
     (λ e₃. by-test P (c .preferred) (λ e. follows-evicting (atHash (k .hash)) s a b (leb-false _ _ e₂) (omega (arith, ltb-false)) (λ j e. rw e (omega (arith, b .alternates (k .hash))))) (λ e. follows-same b)) λ e₃.
     by-test P (leb (m .announcements) (held t))

@@ -2,21 +2,20 @@
 -- Assumes nothing.
 use Prim.Native.Nat.{ℕ, _+_, _≤_, _<_}
 use mathlib.Core.Path.{_≡_, refl, sym, ap, _∙_}
-use mathlib.Core.Logic.{_⊎_, inl, inr}
+use mathlib.Core.Logic.{inl, inr}
 use mathlib.Core.Bool.{Bool, true, false, _&&_}
 use mathlib.Core.List.{List, [], _∷_}
 use mathlib.Core.Option.{Option, none, some}
 use native.Mathlib.Omega.{arith}
 use lib.Dec.{eqb}
 use borrow.Author.Tests.{eqb-true, eqb-false, eq-eqb, ne-eqb}
-use Rattle.ident.specs.If.{if_then_else_}
 use Rattle.ident.specs.Number.{top, Key, place}
-use Rattle.machine.specs.Limits.{Limits, maxInFlight, word}
-use Rattle.machine.specs.State.{Candidate, Owner, Request, Table, blank, withCandidates, ownerIs}
+use Rattle.machine.specs.Limits.{Limits, maxInFlight}
+use Rattle.machine.specs.State.{Candidate, Owner, Request, Table, blank, ownerIs}
 use Rattle.machine.specs.Table.{at, change, one, countIn, total, count, ownerIn, owners, placeIn, placesHeld, has, ownedBy, ownedAt, any, by, under, byUnder}
 use Rattle.machine.specs.Announce.{without, cut}
-use Rattle.machine.specs.Sound.{Fits, AllFit, OwnerFits, Ordered, All, Lawful, Bounded}
-use Rattle.machine.proofs.Tests.{test, never}
+use Rattle.machine.specs.Sound.{AllFit, OwnerFits, Ordered, Lawful, Bounded}
+use Rattle.machine.proofs.Tests.{test}
 use Rattle.machine.proofs.Table.{ordered-change, at-key, count-change, owners-change, places-change, all-change, lawful-at, filled-change}
 
 -- f, at the request r, takes no candidate and no owner that was not there

@@ -2,22 +2,21 @@
 -- Assumes nothing.
 use Prim.Native.Nat.{ℕ, _+_, _<_}
 use mathlib.Core.Path.{_≡_, refl}
-use mathlib.Core.Bool.{Bool, true, false, _&&_}
+use mathlib.Core.Bool.{Bool, true, false}
 use mathlib.Core.List.{List, [], _∷_}
 use mathlib.Core.Option.{Option, none, some}
 use native.Mathlib.Omega.{arith}
-use lib.Dec.{ltb, leb, eqb}
+use lib.Dec.{leb, eqb}
 use borrow.Author.Tests.{ltb-true, eqb-true, eq-eqb}
 use Rattle.ident.specs.declared.Kind.{Kind}
 use Rattle.ident.specs.declared.Kind.the-variants.{Txid, Wtxid}
-use Rattle.ident.specs.If.{if_then_else_}
 use Rattle.ident.specs.Number.{top, Key, txid, wtxid}
 use Rattle.machine.specs.Limits.{Limits, maxInFlight, requestLifetime, word}
-use Rattle.machine.specs.State.{Candidate, Owner, Package, Request, Table, Entry, ownedUntil, isNone}
+use Rattle.machine.specs.State.{Candidate, Owner, Package, Table, Entry, ownedUntil, isNone}
 use Rattle.machine.specs.Table.{at, change, has, ownedBy, ownedAt}
 use Rattle.machine.specs.Plan.{able, chosenBy, sooner, better, orElse, leastIn, leastAt, choice}
-use Rattle.machine.specs.Claim.{sameKind, sameKey, sameCandidate, sameEntry, isChoice, Taken, takes, claim}
-use Rattle.machine.specs.Sound.{Packed, Lawful, Bounded}
+use Rattle.machine.specs.Claim.{sameKind, sameKey, sameEntry, isChoice, takes, claim}
+use Rattle.machine.specs.Sound.{Packed, Bounded}
 use Rattle.machine.specs.Typed.{EntryTyped, Each}
 use Rattle.machine.proofs.Tests.{by-test, never, and-left, and-right, or-true}
 use Rattle.machine.proofs.Change.{Owns, bounded-own}
@@ -99,11 +98,11 @@ same-key a b e = λ i. record { kind = same-kind (a .kind) (b .kind) (and-left _
 
 entry-key : (a b : Entry) → sameEntry a b ≡ true → a .key ≡ b .key
 unfolding sameEntry
-entry-key a b e = same-key (a .key) (b .key) (and-left (sameKey (a .key) (b .key)) (sameCandidate (a .candidate) (b .candidate)) e)
+entry-key a b e = same-key (a .key) (b .key) (and-left (sameKey (a .key) (b .key)) _ e)
 
 entry-connection : (a b : Entry) → sameEntry a b ≡ true → a .candidate .connection ≡ b .candidate .connection
 unfolding sameEntry
-entry-connection a b e = eqb-true _ _ (and-left (eqb (a .candidate .connection) (b .candidate .connection)) _ (and-right (sameKey (a .key) (b .key)) (sameCandidate (a .candidate) (b .candidate)) e))
+entry-connection a b e = eqb-true _ _ (and-left (eqb (a .candidate .connection) (b .candidate .connection)) _ (and-right (sameKey (a .key) (b .key)) _ e))
 
 chosen : (now : ℕ) (t : Table) (a : Entry) (x : Option Entry) → AllOf (Chosen now t []) x → isChoice a x ≡ true → (has (a .candidate .connection) ((at (a .key) t) .candidates) ≡ true) × (ownedBy (a .candidate .connection) t < maxInFlight)
 unfolding able chosenBy
@@ -122,7 +121,7 @@ pub record Takes (t : Table) (a : Entry) : Type 0 where
 pub takes-means : (now : ℕ) (a : Entry) (t : Table) → takes now a t ≡ true → Takes t a
 unfolding takes
 takes-means now a t e =
-    let z = eqb-true (ownedAt (a .key .hash) t) 0 (and-left (eqb (ownedAt (a .key .hash) t) 0) (isChoice a (choice now t [] (a .key))) e) in
+    let z = eqb-true (ownedAt (a .key .hash) t) 0 (and-left (eqb (ownedAt (a .key .hash) t) 0) _ e) in
     let c = chosen now t a (choice now t [] (a .key)) (choice-of now t [] (a .key)) (and-right (eqb (ownedAt (a .key .hash) t) 0) _ e) in
     record { free = omega (arith, z); held = c .0; few = c .1 }
 

@@ -1,8 +1,8 @@
 -- request_parent, failed, unclaim, forget and announce_parents keep the bounds.
 -- Assumes nothing.
-use Prim.Native.Nat.{ℕ, suc, _+_, _≤_, _<_, min}
+use Prim.Native.Nat.{ℕ, suc, _+_, _≤_, _<_}
 use mathlib.Core.Path.{_≡_, refl, sym, ap, _∙_}
-use mathlib.Core.Logic.{_⊎_, inl, inr}
+use mathlib.Core.Logic.{inl, inr}
 use mathlib.Core.Bool.{Bool, true, false, _&&_, _||_}
 use mathlib.Core.List.{List, [], _∷_, map}
 use mathlib.Core.Option.{Option, none, some}
@@ -10,20 +10,19 @@ use native.Mathlib.Omega.{arith}
 use native.Mathlib.Nat.{min-le-left}
 use lib.Dec.{eqb}
 use lib.ListN.{length}
-use borrow.Author.Tests.{eqb-true, eq-eqb}
+use borrow.Author.Tests.{eqb-true}
 use Rattle.ident.specs.declared.Kind.the-variants.{Txid}
-use Rattle.ident.specs.If.{if_then_else_}
 use Rattle.ident.specs.Number.{top, Key, other, txid, keyOf}
 use Rattle.machine.specs.Limits.{Limits, maxParents, word}
 use Rattle.machine.specs.State.{Candidate, Owner, Request, Table, Answer, blank, withCandidates, unowned, marked, readyAt, adopting, ownerIs, isSome}
-use Rattle.machine.specs.Table.{at, change, countIn, has}
-use Rattle.machine.specs.Announce.{without, adopt, requestParentAt, requestParentKeyed, requestParent}
-use Rattle.machine.specs.Fail.{releasable, left, leaves, failed, unclaim, forget, Listed, but, dedup, parentOf, parentsFrom, announceParents, parentsFor}
+use Rattle.machine.specs.Table.{at, countIn, has}
+use Rattle.machine.specs.Announce.{without, adopt, adopted, requestParentAt, requestParentKeyed, requestParent}
+use Rattle.machine.specs.Fail.{releasable, left, leaves, failed, unclaim, forget, but, dedup, parentOf, mark, parentsFrom, announceParents, parentsFor}
 use Rattle.machine.specs.Claim.{elem}
 use Rattle.machine.specs.Sound.{Hashes, NoRepeat, CursorFits, Fits, AllFit, OwnerFits, ParentsFit, Lawful, Bounded}
 use Rattle.machine.specs.Typed.{CandidateTyped}
 use Rattle.machine.proofs.Tests.{test, by-test, never}
-use Rattle.machine.proofs.Table.{at-key, lawful-at}
+use Rattle.machine.proofs.Table.{at-key}
 use Rattle.machine.proofs.Change.{ShrinksAt, bounded-at, Shrinks, bounded-change, owner-without, without-fewer, fit-without}
 use Rattle.machine.proofs.Announce.{item-fits, fits-typed, bounded-announceAt}
 
@@ -142,11 +141,14 @@ pub bounded-forget : {m : Limits} {Q : ℕ} {t : Table} (k : Key) → k .hash < 
 unfolding forget
 bounded-forget k s b = bounded-change k _ s shrinks-blank b
 
+pub bounded-adopted : {m : Limits} {Q : ℕ} {t : Table} (b : Bool) (k : Key) (c : Candidate) → k .hash < top → (b ≡ true → keyOf (c .item) ≡ some k) → Bounded m Q t → Bounded m Q (adopted b k c t)
+bounded-adopted {m} {Q} {t} b k c s f g = bounded-at k _ s (λ r. refl) (shrinks-adopt b c (at k t) (λ q. rw (at-key k 0 t s (g .ordered)) (f q))) g
+
 pub bounded-parentAt : {m : Limits} {Q : ℕ} {t : Table} (k : Key) (c : Candidate) → k .hash < top → Fits k c → Bounded m Q t → Bounded m Q ((requestParentAt m k c t) .table)
 unfolding requestParentAt
 bounded-parentAt {m} {Q} {t} k c s a b =
-    by-test P (has (c .connection) ((at k t) .candidates)) (λ e. bounded-at k _ s (λ r. refl) (shrinks-adopt true c (at k t) (λ q. rw (at-key k 0 t s (b .ordered)) (a .item))) b) λ e.
-    by-test P (has (c .connection) ((at (other k) t) .candidates)) (λ e. bounded-at (other k) _ s (λ r. refl) (shrinks-adopt false c (at (other k) t) (λ q. never q)) b) λ e.
+    by-test P (has (c .connection) ((at k t) .candidates)) (λ e. bounded-adopted _ k c s (λ q. a .item) b) λ e.
+    by-test P (has (c .connection) ((at (other k) t) .candidates)) (λ e. bounded-adopted _ (other k) c s (λ q. never q) b) λ e.
     bounded-announceAt k c s a b
   where
     P : Answer → Type 0
@@ -223,14 +225,16 @@ parents-dedup hs a = record { hashes = hashes-dedup hs (a .hashes); distinct = d
 fits-parent : (n now h i : ℕ) → Peer n → now < word → i < word → Fits (txid h) (parentOf n now h i)
 fits-parent n now h i p w v = record { item = refl; positive = p .positive; connection = p .small; ready = w; priority = v }
 
+pub bounded-mark : {m : Limits} {Q : ℕ} {t : Table} (h : ℕ) → h < top → Bounded m Q t → Bounded m Q (mark (txid h) t)
+bounded-mark {m} {Q} {t} h s b = bounded-at (txid h) marked s (λ r. refl) (shrinks-marked (at (txid h) t) (ap (λ (k : Key). k .kind) (at-key (txid h) 0 t s (b .ordered)))) b
+
 bounded-parentsFrom : {m : Limits} {Q : ℕ} {t : Table} (n now i : ℕ) (hs : List ℕ) → Peer n → now < word → Hashes hs → i + length hs ≤ word → Bounded m Q t → Bounded m Q ((parentsFrom m n now i hs t) .table)
 unfolding parentsFrom
 bounded-parentsFrom n now i [] p w a l b = b
 bounded-parentsFrom {m} {Q} {t} n now i (h ∷ hs) p w a l b =
-    let a′ = requestParentAt m (txid h) (parentOf n now h i) t in
+    let x = requestParentAt m (txid h) (parentOf n now h i) t in
     let b′ = bounded-parentAt (txid h) (parentOf n now h i) (a .0) (fits-parent n now h i p w (omega arith)) b in
-    bounded-parentsFrom n now (suc i) hs p w (a .1) (omega arith)
-    (by-test (Bounded m Q) (a′ .reply) (λ e. bounded-at (txid h) marked (a .0) (λ r. refl) (shrinks-marked (at (txid h) (a′ .table)) (ap (λ (k : Key). k .kind) (at-key (txid h) 0 (a′ .table) (a .0) (b′ .ordered)))) b′) (λ e. b′))
+    bounded-parentsFrom n now (suc i) hs p w (a .1) (omega arith) (by-test (Bounded m Q) (x .reply) (λ e. bounded-mark h (a .0) b′) (λ e. b′))
 
 pub bounded-parents : {m : Limits} {Q : ℕ} {t : Table} (n now : ℕ) (hs : List ℕ) → Peer n → now < word → FewHashes hs → Bounded m Q t → Bounded m Q ((announceParents m n now hs t) .table)
 unfolding announceParents

@@ -2,23 +2,22 @@
 -- Assumes nothing.
 use Prim.Native.Nat.{ℕ, suc, _+_, _≤_, _<_}
 use mathlib.Core.Path.{_≡_, refl}
-use mathlib.Core.Logic.{_⊎_, inl, inr}
-use mathlib.Core.Bool.{Bool, true, false, not, _&&_}
+use mathlib.Core.Logic.{inl, inr}
+use mathlib.Core.Bool.{Bool, true, false, _&&_}
 use mathlib.Core.List.{List, [], _∷_}
-use mathlib.Core.Option.{Option, none}
+use mathlib.Core.Option.{Option}
 use native.Mathlib.Omega.{arith}
 use lib.Dec.{ltb, leb, eqb}
 use lib.ListN.{length}
 use borrow.Author.Tests.{ltb-false, leb-true, leb-false, eqb-true, eqb-false}
 use Rattle.ident.specs.If.{if_then_else_}
-use Rattle.ident.specs.Number.{top, Key}
+use Rattle.ident.specs.Number.{Key}
 use Rattle.machine.specs.Limits.{Limits, maxAnnouncements, maxPlaces, maxParents, requestLifetime, latestClock, word}
 use Rattle.machine.specs.State.{Table, State, limitsOf, onTable}
 use Rattle.machine.specs.Table.{total, placesHeld}
-use Rattle.machine.specs.Package.{solicit}
 use Rattle.machine.specs.Plan.{plan}
 use Rattle.machine.specs.Claim.{elem}
-use Rattle.machine.specs.Call.{Ask, Announce, RequestParent, Failed, Unclaim, SolicitPackageInfo, ClaimPackage, BeginPackageResolution, AnnounceParents, FailedPackageClaims, Plan, Claim, Sweep, Disconnected, ReleasePackage, TeardownPackageClaims, Forget, ForgetKnown, FailedWithParents, FailedPackageInfo, PackageInfoOwner, AnnounceTransactions, TransactionResponseCompleted, TransactionNotFound, PollGate, Arrange, Sum, Call, Open, On, Named, named, anyLate, takesPlace, sizesTaken, openingRefusal, askRefusal, refusal}
+use Rattle.machine.specs.Call.{Ask, Announce, RequestParent, Failed, Unclaim, SolicitPackageInfo, ClaimPackage, BeginPackageResolution, AnnounceParents, FailedPackageClaims, Plan, Claim, Sweep, Disconnected, ReleasePackage, TeardownPackageClaims, Forget, ForgetKnown, FailedWithParents, FailedPackageInfo, PackageInfoOwner, AnnounceTransactions, TransactionResponseCompleted, TransactionNotFound, PollGate, Arrange, Sum, Call, Open, On, named, anyLate, takesPlace, sizesTaken, openingRefusal, askRefusal, refusal}
 use Rattle.machine.specs.Step.{perform, empty, carryOut, stepIf, step}
 use Rattle.machine.specs.Sound.{Hashes, CursorFits, PollFits, Bounded, Sound}
 use Rattle.machine.specs.Typed.{AskTyped, CallTyped}
@@ -54,6 +53,7 @@ sound-empty L Q e =
 
 -- ---- what a call that is not refused has
 
+-- the tests 4 to 8, passed
 pub record Carried (a : Ask) (s : State) : Type 0 where
   pub connections : elem 0 ((named a s) .connections) ≡ false
   pub clocks : anyLate ((named a s) .clocks) ≡ false
@@ -61,6 +61,7 @@ pub record Carried (a : Ask) (s : State) : Type 0 where
   pub buffer : (named a s) .needs ≤ length ((named a s) .buffer)
   pub place : takesPlace a s ≡ true → placesHeld (s .table) < s .places
 
+-- a test of the table that refuses by a number of 1 or more
 passed : (b : Bool) (n x : ℕ) → (if b then suc n else x) ≡ 0 → (b ≡ false) × (x ≡ 0)
 passed true n x e = absurd (omega arith)
 passed false n x e = (refl, e)
@@ -103,7 +104,7 @@ few-hashes hs a l = record { hashes = a; few = l }
 
 -- ---- a call that is carried out
 
--- L and Q stay
+-- a call leaves L and Q; the rest of the state is given with its laws
 sound-with : {s : State} {t : Table} {p : Option ℕ} {c d : Option Key} → Sound s → Bounded (limitsOf s) (s .places) t → PollFits p → CursorFits c → CursorFits d → Sound (record { limit = s .limit; places = s .places; table = t; nextPoll = p; knownCursor = c; readyCursor = d })
 sound-with g b p c d = record { some-limit = g .some-limit; most-limit = g .most-limit; some-place = g .some-place; most-places = g .most-places; bounded = b; poll = p; known = c; ready = d }
 

@@ -2,11 +2,9 @@
 -- Assumes nothing.
 use Prim.Native.Nat.{ℕ, _<_}
 use mathlib.Core.Path.{_≡_, refl}
-use mathlib.Core.Bool.{Bool, true, false}
 use mathlib.Core.List.{List, [], _∷_}
 use mathlib.Core.Option.{Option, none, some}
 use borrow.Author.Tests.{eq-eqb}
-use Rattle.ident.specs.If.{if_then_else_}
 use Rattle.ident.specs.Number.{top, Key}
 use Rattle.machine.specs.Limits.{Limits, word}
 use Rattle.machine.specs.State.{Candidate, Owner, Request, Table, ownerIs}
@@ -18,7 +16,7 @@ use Rattle.machine.specs.Typed.{Each, KeyTyped}
 use Rattle.machine.proofs.Tests.{by-test}
 use Rattle.machine.proofs.Table.{lawful-at}
 use Rattle.machine.proofs.Change.{bounded-cut}
-use Rattle.machine.proofs.Fail.{Peer, FewHashes, bounded-failed, bounded-forget, bounded-parents, few-for, owner-peer}
+use Rattle.machine.proofs.Fail.{FewHashes, bounded-failed, bounded-forget, bounded-parents, few-for, owner-peer}
 
 -- ---- forget_known
 

@@ -12,13 +12,12 @@ use lib.ListN.{length}
 use borrow.Author.Tests.{ltb-true, leb-true, eqb-true}
 use Rattle.ident.specs.declared.Kind.{Kind}
 use Rattle.ident.specs.declared.Kind.the-variants.{Wtxid}
-use Rattle.ident.specs.If.{if_then_else_}
 use Rattle.ident.specs.Number.{top, Key, other, wtxid}
 use Rattle.machine.specs.Limits.{Limits, maxInFlight, maxWtxids, requestLifetime, word}
 use Rattle.machine.specs.State.{Owner, Package, Request, Table, Answer, ownerIs, isSome, isNone}
 use Rattle.machine.specs.Table.{at, change, one, countIn, ownerIn, placeIn, placesHeld, has, by, under, ownedBy, ownedAt}
 use Rattle.machine.specs.Announce.{announceAt}
-use Rattle.machine.specs.Fail.{dedup, Listed, parentsFor}
+use Rattle.machine.specs.Fail.{Listed}
 use Rattle.machine.specs.Package.{soliciting, solicited, solicit, liveOwner, packaged, mayClaim, claimPackage, sameList, awaits, mayBegin, beginResolution, listedAfter, failedWithParents, infoOwned, failedPackageInfo, enqueuedBy, releasePackage, awaitsHash, claimKey, someKeys, failEach, failedPackageClaims, packageKeys, leftIfOwned, tearOne, tearEach, teardown}
 use Rattle.machine.specs.Sound.{Hashes, CursorFits, Fits, PackageFits, ParentsFit, Packed, Ordered, Lawful, Bounded}
 use Rattle.machine.specs.Typed.{Each, KeyTyped}
@@ -57,7 +56,7 @@ unfolding solicit
 bounded-solicit {m} {Q} {t} n h hs now p s a w room b =
     by-test P (eqb (ownedAt h t) 0 && ltb (ownedBy n t) maxInFlight)
     (λ e. by-test P (has n ((at (wtxid h) t′) .candidates))
-    (λ d. bounded-own (owns-solicited h n (now + requestLifetime) (dedup hs) w (parents-dedup hs a)) s (omega (arith, f .no-place, room (rw (e, d)))) (f .bounded) d
+    (λ d. bounded-own (owns-solicited h n _ _ w (parents-dedup hs a)) s (omega (arith, f .no-place, room (rw (e, d)))) (f .bounded) d
     (omega (arith, f .no-owner (under h), eqb-true (ownedAt h t) 0 (and-left (eqb (ownedAt h t) 0) (ltb (ownedBy n t) maxInFlight) e)))
     (omega (arith, f .no-owner (by n), ltb-true (ownedBy n t) maxInFlight (and-right (eqb (ownedAt h t) 0) (ltb (ownedBy n t) maxInFlight) e))))
     (λ d. f .bounded))

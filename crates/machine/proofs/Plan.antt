@@ -2,8 +2,8 @@
 -- Assumes nothing.
 use Prim.Native.Nat.{ℕ, zero, suc, _<_}
 use mathlib.Core.Path.{_≡_, refl}
-use mathlib.Core.Bool.{Bool, true, false}
-use mathlib.Core.List.{List, [], _∷_, _++_}
+use mathlib.Core.Bool.{Bool, true}
+use mathlib.Core.List.{List, [], _∷_}
 use mathlib.Core.Option.{Option, none, some}
 use lib.Dec.{ltb, leb}
 use lib.ListN.{length, take}
@@ -11,12 +11,12 @@ use borrow.Author.Tests.{eq-eqb}
 use Rattle.ident.specs.If.{if_then_else_}
 use Rattle.ident.specs.Number.{top, Key, place, txid}
 use Rattle.machine.specs.Limits.{Limits, maxKnownChecks, maxRequestChecks, word}
-use Rattle.machine.specs.State.{Owner, Request, Table, State, limitsOf, ownerIs}
+use Rattle.machine.specs.State.{Owner, Table, State, limitsOf, ownerIs}
 use Rattle.machine.specs.Table.{at, keys}
 use Rattle.machine.specs.Announce.{requestParentAt}
-use Rattle.machine.specs.Fail.{failed, Listed, dedup, parentOf, mark, parentsFrom, announceParents, parentsFor}
+use Rattle.machine.specs.Fail.{failed, dedup, parentOf, mark, parentsFrom, announceParents, parentsFor}
 use Rattle.machine.specs.Sweep.{only, round, lastOf, handed}
-use Rattle.machine.specs.Plan.{Scan, start, consider, phase, Due, dueOf, due, expire, askedKeys, cursorAfter, expired, scanned}
+use Rattle.machine.specs.Plan.{Scan, start, consider, phase, Due, dueOf, due, expire, cursorAfter, expired, scanned}
 use Rattle.machine.specs.Sound.{Hashes, CursorFits, Ordered, All, Lawful, Bounded, Sound}
 use Rattle.machine.specs.Typed.{Each, KeyTyped}
 use Rattle.machine.proofs.Tests.{by-test}

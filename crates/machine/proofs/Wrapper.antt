@@ -1,17 +1,16 @@
 -- The wrappers keep the bounds, and the poll gate's time is of 64 bits.
 -- Assumes nothing.
-use Prim.Native.Nat.{ℕ, _+_, _*_, _≤_, _<_}
+use Prim.Native.Nat.{ℕ, _+_, _≤_, _<_}
 use mathlib.Core.Bool.{Bool, true, false, not, _&&_}
 use mathlib.Core.List.{List, [], _∷_}
 use mathlib.Core.Option.{Option, none, some}
 use native.Mathlib.Omega.{arith}
 use lib.Dec.{leb}
-use Rattle.ident.specs.If.{if_then_else_}
 use Rattle.ident.specs.Number.{top, Key, Item, keyOf, txid, wtxid}
-use Rattle.machine.specs.Limits.{Limits, maxInFlight, requestLifetime, pollInterval, msgAncPkgInfo, word}
+use Rattle.machine.specs.Limits.{Limits, maxInFlight, requestLifetime, msgAncPkgInfo, word}
 use Rattle.machine.specs.State.{Table}
 use Rattle.machine.specs.Table.{at, one, ownedBy}
-use Rattle.machine.specs.Fail.{failed, Listed}
+use Rattle.machine.specs.Fail.{Listed}
 use Rattle.machine.specs.Wrapper.{Offer, isWTx, offered, offersFrom, announceTransactions, responseCompleted, failKeyed, isType, notFoundOne, notFoundEach, packagesIn, notFound, dueAt, nextPollAfter}
 use Rattle.machine.specs.Sound.{CursorFits, PollFits, Bounded}
 use Rattle.machine.specs.Typed.{CandidateTyped, OfferTyped, Each}
