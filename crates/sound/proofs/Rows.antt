@@ -1,0 +1,86 @@
+-- A walk along the rows decides what FlatSound says of each row and of neighbours.
+-- Assumes nothing.
+use Prim.Native.Nat.{ℕ, zero, suc, _+_, _*_, _/_, _%_, _^_, _≤_, _<_}
+use mathlib.Core.Path.{_≡_, refl, sym, ap, _∙_}
+use mathlib.Core.Logic.{_⊎_, inl, inr}
+use mathlib.Core.Bool.{Bool, true, false}
+use mathlib.Core.List.{List, [], _∷_}
+use native.Mathlib.Nat.{le-refl}
+use native.Mathlib.Omega.{arith}
+use Rattle.ident.specs.Number.{top, place}
+use Rattle.words.specs.Words.{number}
+use Rattle.machine.specs.Limits.{word}
+use Rattle.machine.specs.Typed.{Each}
+use Rattle.regions.specs.declared.Row.{Row}
+use Rattle.regions.specs.declared.Quad.{Quad}
+use Rattle.regions.specs.Rows.{quadWords, quadNumber, keyNumber, keyOf}
+use Rattle.store.specs.Gather.{kindIs, keyAt}
+use Rattle.store.specs.FlatSound.{markBit, RowFits, Ascending, MarkedAs, SameMarks}
+use Rattle.sound.specs.Rows.{RowPlain, Follows, RowsSound}
+use Rattle.sound.proofs.Decide.{Iff, Chain}
+use Rattle.sound.proofs.Ranges.{RowRanges}
+
+-- ---- a key's number is its place
+
+-- (`omega` takes no numeral of 2^128's length, so that it goes digit by digit)
+digit-more : (d m n : ℕ) → d + word * (m + n) ≡ (d + word * m) + word * n
+digit-more d m n = omega arith
+
+number-kind : (q : Quad) (k : ℕ) → number word (q .w0 ∷ q .w1 ∷ q .w2 ∷ q .w3 ∷ k ∷ []) ≡ quadNumber q + word * (word * (word * (word * k)))
+unfolding quadNumber number
+number-kind q k =
+    let e : q .w3 + word * (k + word * 0) ≡ (q .w3 + word * 0) + word * k = omega arith in
+    rw (e, digit-more (q .w2) (q .w3 + word * 0) (word * k), digit-more (q .w1) (q .w2 + word * (q .w3 + word * 0)) (word * (word * k)), digit-more (q .w0) (q .w1 + word * (q .w2 + word * (q .w3 + word * 0))) (word * (word * (word * k))))
+
+pub place-key : (r : Row) → place (keyAt r) ≡ keyNumber (keyOf r)
+unfolding keyAt keyNumber top
+place-key r = go (r .bits % 2) (omega arith) ∙ sym (number-kind (r .hash) (r .bits % 2))
+  where
+    go : (k : ℕ) → k < 2 → place (record { kind = kindIs k; hash = quadNumber (r .hash) }) ≡ quadNumber (r .hash) + word * (word * (word * (word * k)))
+    go zero h = omega arith
+    go (suc zero) h = native.Mathlib.Nat.add-comm (2 ^ 256) (quadNumber (r .hash))
+    go (suc (suc k)) h = absurd (omega arith)
+
+-- ---- the walk
+
+-- what is tested of a row behind another
+pub record RowStep (p r : Row) : Type 0 where
+  pub plain : RowPlain r
+  pub follows : Follows p r
+
+row-fits : {r : Row} → RowRanges r → RowPlain r → RowFits r
+row-fits g p = record { hash = g .hash; positive = p .positive; conn = g .conn; ready = g .ready; prio = g .prio; deadline = g .deadline; idle = p .idle; bits = p .bits; plain = p .plain }
+
+row-plain : {r : Row} → RowFits r → RowPlain r
+row-plain f = record { positive = f .positive; idle = f .idle; bits = f .bits; plain = f .plain }
+
+follows-self : (r : Row) → Follows r r
+follows-self r = record { order = le-refl _; mark = λ e. refl }
+
+-- what a walk behind p has shown, and what it needs
+record Behind (p : Row) (rs : List Row) : Type 0 where
+  fit : Each RowFits rs
+  ascending : Ascending (place (keyAt p)) rs
+  marks : MarkedAs p rs
+
+behind : (p : Row) (rs : List Row) → Each RowRanges rs → Chain RowStep p rs → Behind p rs
+unfolding Chain
+behind p [] g c = record { fit = tt; ascending = tt; marks = tt }
+behind p (r ∷ rs) g c =
+    let b = behind r rs (g .1) (c .1) in
+    record { fit = (row-fits (g .0) (c .0 .plain), b .fit); ascending = (c .0 .follows .order, b .ascending); marks = (c .0 .follows .mark, b .marks) }
+
+chained : (p : Row) (rs : List Row) → Behind p rs → Chain RowStep p rs
+unfolding Chain
+chained p [] b = tt
+chained p (r ∷ rs) b =
+    (record { plain = row-plain (b .fit .0); follows = record { order = b .ascending .0; mark = b .marks .0 } }, chained r rs (record { fit = b .fit .1; ascending = b .ascending .1; marks = b .marks .1 }))
+
+-- the walk starts with the first row behind itself
+pub rows-sound : (r : Row) (rs : List Row) → Each RowRanges (r ∷ rs) → Iff (Chain RowStep r (r ∷ rs)) (RowsSound (r ∷ rs))
+unfolding Chain
+rows-sound r rs g = record {
+  to = λ c. let b = behind r rs (g .1) (c .1) in
+      record { fit = (row-fits (g .0) (c .0 .plain), b .fit); ascending = (omega arith, b .ascending); marks = b .marks };
+  from = λ s. (record { plain = row-plain (s .fit .0); follows = follows-self r }, chained r rs (record { fit = s .fit .1; ascending = s .ascending .1; marks = s .marks }));
+}
