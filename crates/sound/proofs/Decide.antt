@@ -2,7 +2,8 @@
 -- Assumes nothing.
 use Prim.Native.Nat.{ℕ, zero, suc, _+_, _-_, _*_, _≤_, _<_}
 use mathlib.Core.Path.{_≡_, refl, sym, ap, _∙_}
-use mathlib.Core.Bool.{Bool, true, false}
+use mathlib.Core.Bool.{Bool, true, false, not}
+use borrow.Author.Tests.{not-true, not-false}
 use mathlib.Core.List.{List, [], _∷_}
 use native.Mathlib.Omega.{arith}
 use lib.ListN.{take, drop}
@@ -22,11 +23,12 @@ pub decides-iff : {P Q : Type 0} (b : Bool) → Iff P Q → Decides b P → Deci
 decides-iff true e d = e .to d
 decides-iff false e d = λ q. d (e .from q)
 
-pub decided-true : (P : Type 0) {b : Bool} → b ≡ true → Decides b P → P
-decided-true P e d = rw e at d
+-- what the test `!b` of the code says
+pub passed : (P : Type 0) (b : Bool) → not b ≡ false → Decides b P → P
+passed P b e d = rw (not-false b e) at d
 
-pub decided-false : (P : Type 0) {b : Bool} → b ≡ false → Decides b P → P → ⊥
-decided-false P e d = rw e at d
+pub failed : (P : Type 0) (b : Bool) → not b ≡ true → Decides b P → P → ⊥
+failed P b e d = rw (not-true b e) at d
 
 -- ---- records in a row, each fit to stand behind the one before it
 

@@ -6,6 +6,8 @@ use mathlib.Core.Logic.{_⊎_, inl, inr}
 use mathlib.Core.List.{List, [], _∷_}
 use native.Mathlib.Nat.{pow-suc, le-trans}
 use native.Mathlib.Omega.{arith}
+use mir.Syntax.{w8}
+use mir.Val.{Fits}
 use lib.Dec.{ltb, lit<}
 use lib.ListN.{length, take, drop, getD, length-take, List·getD-eq-default}
 use lib.Seq.{getD-take, getD-drop, length-take-le}
@@ -23,6 +25,9 @@ use Rattle.store.specs.FlatSound.{QuadFits}
 -- every element is below b
 abbrev pub Below : ℕ → List ℕ → Type 0
 Below b w = (i : ℕ) → getD w i 0 < b
+
+pub below-bytes : (s : List ℕ) → ((i : ℕ) → Fits w8 (getD s i 0)) → Below 256 s
+below-bytes s h i = omega (arith, h i)
 
 below-rest : (b : ℕ) (d : ℕ) (w : List ℕ) → Below b (d ∷ w) → Below b w
 below-rest b d w h i = h (suc i)
@@ -54,9 +59,9 @@ number-below b (d ∷ s) h = rw (native.Mathlib.Nat.pow-succ' b (length s)) (num
 pub below-words : (s : List ℕ) → Below 256 s → Below word (words s)
 below-words s h i = elim (test (ltb i (length (words s)))) [
   | inl e ↦
-    let l : 8 * i + 8 ≤ length s = omega (arith, ltb-true i (length (words s)) e, length-words s) in
-    let t : length (take 8 (drop (8 * i) s)) ≡ 8 = length-take-le 8 (drop (8 * i) s) (simp lib.ListN.length-drop (omega arith)) in
-    rw (word-at s i l) (rw t at (number-below 256 (take 8 (drop (8 * i) s)) (below-take 256 8 (drop (8 * i) s) (omega arith) (below-drop 256 (8 * i) s h))))
+      let l : 8 * i + 8 ≤ length s = omega (arith, ltb-true i (length (words s)) e, length-words s) in
+      let t : length (take 8 (drop (8 * i) s)) ≡ 8 = length-take-le 8 (drop (8 * i) s) (simp lib.ListN.length-drop (omega arith)) in
+      rw (word-at s i l) (rw t at (number-below 256 (take 8 (drop (8 * i) s)) (below-take 256 8 (drop (8 * i) s) (omega arith) (below-drop 256 (8 * i) s h))))
   | inr e ↦ rw (List·getD-eq-default (words s) 0 {n = i} (ltb-false i (length (words s)) e)) (omega arith)
 ]
 

@@ -76,10 +76,10 @@ tallied-same lo (c ∷ a) (d ∷ b) s t h o =
     elim (order (c .conn) (d .conn)) [
       | inl l ↦ absurd (omega (arith, present c a (d ∷ b) (s .1) h, value-below (λ c. c .held) (c .conn) (d .conn) (d ∷ b) (omega arith, t .1, t .2) l))
       | inr (inl e) ↦
-        let held : c .held ≡ d .held = sym (value-here (λ c. c .held) c a) ∙ h (c .conn) ∙ ap (λ (x : ℕ). valueOf (λ c. c .held) x (d ∷ b)) e ∙ value-here (λ c. c .held) d b in
-        let owned : c .owned ≡ d .owned = sym (value-here (λ c. c .owned) c a) ∙ o (c .conn) ∙ ap (λ (x : ℕ). valueOf (λ c. c .owned) x (d ∷ b)) e ∙ value-here (λ c. c .owned) d b in
-        let rest = tallied-same (suc (c .conn)) a b (s .2) (rw (← e) at (t .2)) (past (λ c. c .held) c d a b e (s .2) (t .2) h) (past (λ c. c .owned) c d a b e (s .2) (t .2) o) in
-        conn-same c d e held owned rest
+          let held : c .held ≡ d .held = sym (value-here (λ c. c .held) c a) ∙ h (c .conn) ∙ ap (λ (x : ℕ). valueOf (λ c. c .held) x (d ∷ b)) e ∙ value-here (λ c. c .held) d b in
+          let owned : c .owned ≡ d .owned = sym (value-here (λ c. c .owned) c a) ∙ o (c .conn) ∙ ap (λ (x : ℕ). valueOf (λ c. c .owned) x (d ∷ b)) e ∙ value-here (λ c. c .owned) d b in
+          let rest = tallied-same (suc (c .conn)) a b (s .2) (rw (← e) at (t .2)) (past (λ c. c .held) c d a b e (s .2) (t .2) h) (past (λ c. c .owned) c d a b e (s .2) (t .2) o) in
+          conn-same c d e held owned rest
       | inr (inr l) ↦ absurd (omega (arith, present d b (c ∷ a) (t .1) (λ x. sym (h x)), value-below (λ c. c .held) (d .conn) (c .conn) (c ∷ a) (omega arith, s .1, s .2) l))
     ]
 
