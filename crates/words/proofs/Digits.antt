@@ -2,8 +2,8 @@
 -- Assumes nothing.
 use Prim.Native.Nat.{ℕ, zero, suc, _+_, _*_, _/_, _%_, _^_, _≤_, _<_}
 use mathlib.Core.Path.{_≡_, refl, sym, ap, _∙_}
-use mathlib.Core.List.{List, [], _∷_}
-use native.Mathlib.Nat.{pow-zero, pow-suc, add-zero, add-suc, zero-add, mod-add-div, mod-eq-of-lt, div-eq-of-lt, add-mul-mod-self-left, add-mul-div-left, div-lt-iff-lt-mul}
+use mathlib.Core.List.{List, [], _∷_, _++_}
+use native.Mathlib.Nat.{pow-zero, pow-suc, pow-succ', one-mul, mul-add, mul-assoc, add-assoc, add-zero, add-suc, zero-add, mod-add-div, mod-eq-of-lt, div-eq-of-lt, add-mul-mod-self-left, add-mul-div-left, div-lt-iff-lt-mul}
 use native.Mathlib.Omega.{arith}
 use lib.ListN.{length, take, drop, getD}
 use lib.Seq.{drop-cons}
@@ -35,3 +35,9 @@ pub number-step : (b : ℕ) (s : List ℕ) (a j n : ℕ) → a + j < length s
     → number b (take (suc n) (drop (a + j) s)) ≡ getD s (a + j) 0 + b * number b (take n (drop (a + suc j) s))
 unfolding number
 number-step b s a j n h = rw (drop-cons s (a + j) 0 h, add-suc a j)
+
+-- the digits of two lists, one after the other
+pub number-append : (b : ℕ) (p q : List ℕ) → number b (p ++ q) ≡ number b p + b ^ length p * number b q
+unfolding number
+number-append b [] q = rw (pow-zero b, one-mul, zero-add)
+number-append b (d ∷ p) q = rw (number-append b p q, pow-succ' b (length p), mul-add, add-assoc, mul-assoc)

@@ -1,0 +1,4 @@
+pub mod Gap
+pub mod Regions
+pub mod Rows
+pub mod Order

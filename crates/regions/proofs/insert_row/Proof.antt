@@ -1,0 +1,33 @@
+use native.Mathlib.Omega.{arith}
+use mathlib.Core.Path.{refl}
+use Rattle.words.specs.Words.{words}
+use Rattle.words.proofs.Words.{length-words}
+use Rattle.regions.specs.Rows.{rowSize, rowWords}
+use Rattle.regions.proofs.Regions.{inserted-at}
+use borrow.Author.Needs.{needs}
+use Rattle.regions.proofs.insert_row.Statement.{statement}
+use Rattle.regions.proofs.insert_row.Tie as tie
+
+mul-move-up : tie.Need-mul-move-up
+mul-move-up c = search needs
+
+mul-move-up-2 : tie.Need-mul-move-up-2
+mul-move-up-2 c = search needs
+
+move-up-requires : tie.Need-move-up-requires
+move-up-requires c κs = search needs
+
+write-row-requires : tie.Need-write-row-requires
+write-row-requires c κs = search needs
+
+same-length : tie.Need-same-length
+same-length c = search needs
+
+returns : tie.Need-returns
+unfolding rowWords
+returns c = inserted-at rowSize rowWords (λ r. refl) (words (c .before .before .before .before .before .before .before .before .before .args .s .now)) (c .before .before .before .before .before .before .before .before .before .args .i) (c .before .before .before .before .before .before .before .before .before .args .n) (c .before .before .before .before .before .before .before .before .before .args .r) (c .before .before .before .before .before .before .before .before .before .pre .0) (omega (arith, length-words (c .before .before .before .before .before .before .before .before .before .args .s .now), c .before .before .before .before .before .before .before .before .before .pre)) (c .before .before .before .before .before .before .move-up .ensures) (c .before .before .write-row .ensures .words-are)
+
+pub insert-row-spec : {M : Type 1} → statement M
+insert-row-spec =
+    tie.close
+    (tie.spec mul-move-up mul-move-up-2 move-up-requires write-row-requires same-length returns)

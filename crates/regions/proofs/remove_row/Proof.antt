@@ -1,0 +1,29 @@
+use native.Mathlib.Omega.{arith}
+use mathlib.Core.Path.{refl}
+use Rattle.words.specs.Words.{words}
+use Rattle.words.proofs.Words.{length-words}
+use Rattle.regions.specs.Rows.{rowSize, rowWords}
+use Rattle.regions.proofs.Regions.{removed-at}
+use borrow.Author.Needs.{needs}
+use Rattle.regions.proofs.remove_row.Statement.{statement}
+use Rattle.regions.proofs.remove_row.Tie as tie
+
+mul-take-out : tie.Need-mul-take-out
+mul-take-out c = search needs
+
+mul-take-out-2 : tie.Need-mul-take-out-2
+mul-take-out-2 c = search needs
+
+take-out-requires : tie.Need-take-out-requires
+take-out-requires c κs = search needs
+
+same-length : tie.Need-same-length
+same-length c = search needs
+
+returns : tie.Need-returns
+unfolding rowWords
+returns c = removed-at rowSize rowWords (λ r. refl) (words (c .before .before .before .before .before .args .s .now)) (c .before .before .before .before .before .args .i) (c .before .before .before .before .before .args .n) (c .before .before .before .before .before .pre .0) (omega (arith, length-words (c .before .before .before .before .before .args .s .now), c .before .before .before .before .before .pre)) (c .before .before .take-out .ensures)
+
+pub remove-row-spec : {M : Type 1} → statement M
+remove-row-spec =
+    tie.close (tie.spec mul-take-out mul-take-out-2 take-out-requires same-length returns)

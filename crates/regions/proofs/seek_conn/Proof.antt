@@ -1,0 +1,73 @@
+use borrow.Author.Needs.{needs}
+use native.Mathlib.Omega.{arith}
+use Prim.Native.Nat.{_+_, _-_, _/_}
+use Rattle.words.specs.Words.{words, recs}
+use Rattle.words.proofs.Records.{length-recs}
+use Rattle.regions.specs.Rows.{connSize, connKey}
+use Rattle.regions.proofs.Order.{Searching, search-start, search-up, search-down, search-end}
+use Rattle.regions.proofs.Rows.{conn-key-at}
+use Rattle.regions.proofs.seek_conn.Statement.{statement}
+use Rattle.regions.proofs.seek_conn.Tie as tie
+
+abbrev Inv-loop : tie.InvT-loop
+Inv-loop s n c lo₀ hi₀ lo hi = Searching (recs connSize connKey n (words s)) n c lo hi
+
+abbrev μ-loop : tie.MeasureT-loop
+μ-loop s n c lo₀ hi₀ lo hi = hi - lo
+
+loop-holds : tie.Need-loop-holds Inv-loop μ-loop
+loop-holds c = search-start _ _ _ (length-recs connSize connKey (c .before .args .n) (words (c .before .args .s .now)))
+
+sub-mid : tie.Need-sub-mid Inv-loop μ-loop
+sub-mid c = search needs
+
+add-mid : tie.Need-add-mid Inv-loop μ-loop
+add-mid c = search needs
+
+mul-get : tie.Need-mul-get Inv-loop μ-loop
+mul-get c = search needs
+
+get-requires : tie.Need-get-requires Inv-loop μ-loop
+get-requires c κs = search needs
+
+add-lo : tie.Need-add-lo Inv-loop μ-loop
+add-lo c = search needs
+
+loop-less : tie.Need-loop-less Inv-loop μ-loop
+loop-less c = search needs
+
+loop-again : tie.Need-loop-again Inv-loop μ-loop
+loop-again c =
+    let m = c .before .before .before .loop .lo + (c .before .before .before .loop .hi - c .before .before .before .loop .lo) / 2 in
+    let e = conn-key-at (words (c .before .before .before .before .before .args .s .now)) (c .before .before .before .before .before .args .n) m (omega arith) in
+    search-up (c .before .before .before .loop .inv) m (omega arith) (omega arith) (rw (e, ← (c .before .get .ensures)) (c .if1 .taken))
+
+loop-less-2 : tie.Need-loop-less-2 Inv-loop μ-loop
+loop-less-2 c = search needs
+
+loop-again-2 : tie.Need-loop-again-2 Inv-loop μ-loop
+loop-again-2 c =
+    let m = c .before .before .before .loop .lo + (c .before .before .before .loop .hi - c .before .before .before .loop .lo) / 2 in
+    let e = conn-key-at (words (c .before .before .before .before .before .args .s .now)) (c .before .before .before .before .before .args .n) m (omega arith) in
+    search-down (c .before .before .before .loop .inv) m (omega arith) (omega arith) (rw (e, ← (c .before .get .ensures)) (c .if1 .left))
+
+returns : tie.Need-returns Inv-loop μ-loop
+returns c = search-end (c .before .loop .inv) (c .loop-test .left)
+
+pub seek-conn-spec : {M : Type 1} → statement M
+seek-conn-spec =
+    tie.close
+    (tie.spec
+    Inv-loop
+    μ-loop
+    loop-holds
+    sub-mid
+    add-mid
+    mul-get
+    get-requires
+    add-lo
+    loop-less
+    loop-again
+    loop-less-2
+    loop-again-2
+    returns)
