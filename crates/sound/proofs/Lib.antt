@@ -4,3 +4,5 @@ pub mod Rows
 pub mod Entries
 pub mod Tally
 pub mod Conns
+pub mod Groups
+pub mod Halves
