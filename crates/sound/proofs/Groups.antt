@@ -6,10 +6,10 @@ use mathlib.Core.Logic.{_⊎_, inl, inr}
 use mathlib.Core.Bool.{Bool, true, false, _&&_}
 use mathlib.Core.List.{List, [], _∷_, _++_}
 use native.Mathlib.Omega.{arith}
-use lib.Dec.{ltb, eqb}
+use lib.Dec.{ltb, leb, eqb}
 use lib.ListN.{length, take, drop, getD}
 use lib.Seq.{drop-drop}
-use borrow.Author.Tests.{ltb-true, ltb-false, eqb-true, eqb-false, eq-eqb, ne-eqb}
+use borrow.Author.Tests.{ltb-true, ltb-false, leb-true, leb-false, eqb-true, eqb-false, eq-eqb, ne-eqb}
 use Rattle.words.specs.Words.{recs, Decides}
 use Rattle.words.proofs.Records.{recs-add, recs-at, length-recs}
 use Rattle.regions.specs.declared.Row.{Row}
@@ -19,10 +19,12 @@ use Rattle.machine.specs.Limits.{maxAlternates}
 use Rattle.machine.specs.Table.{one}
 use Rattle.machine.specs.Typed.{Each}
 use Rattle.machine.proofs.Tests.{test}
+use Rattle.store.specs.Flat.{ownBit}
 use Rattle.store.specs.FlatSound.{countRows, hashAt, owns}
 use Rattle.store.proofs.Counts.{rows-append, rows-all, rows-same, and-true}
+use Rattle.store.proofs.Certify.{own-bit}
 use Rattle.sound.specs.Groups.{GroupsSound, rowAt, rowsIn, Least, Run, rowsBy, Apart, GroupFits}
-use Rattle.sound.proofs.Decide.{Iff, rest-turn, rest-none}
+use Rattle.sound.proofs.Decide.{Iff, iff-self, rest-all, rest-turn, rest-none}
 
 -- ---- rows from i to m
 
@@ -78,12 +80,14 @@ module _ (h : ℕ) (a t b u : List Row) (p : Parted h a t b u) where
   most-split : (q : Row → Bool) (m : ℕ)
       → Iff ((g : ℕ) → of q g ((a ++ t) ++ (b ++ u)) ≤ m) ((countRows q a + countRows q b ≤ m) × ((g : ℕ) → of q g (t ++ u) ≤ m))
   most-split q m = record {
-    to = λ f. (omega (arith, f h, sum (λ r. eqb (hashAt r) h && q r), of-all q h a (p .front), of-none q h t (p .back), of-all q h b (p .front′), of-none q h u (p .back′)),
-      λ g. omega (arith, f g, sum (λ r. eqb (hashAt r) g && q r), rows-append (λ r. eqb (hashAt r) g && q r) t u));
+    to = λ f. (
+      omega (arith, f h, sum (λ r. eqb (hashAt r) h && q r), of-all q h a (p .front), of-none q h t (p .back), of-all q h b (p .front′), of-none q h u (p .back′)),
+      λ g. omega (arith, f g, sum (λ r. eqb (hashAt r) g && q r), rows-append (λ r. eqb (hashAt r) g && q r) t u),
+    );
     from = λ d g. elim (test (eqb g h)) [
       | inl e ↦ rw (eqb-true g h e) (omega (arith, d .0, sum (λ r. eqb (hashAt r) h && q r), of-all q h a (p .front), of-none q h t (p .back), of-all q h b (p .front′), of-none q h u (p .back′)))
       | inr e ↦ let n = eqb-false g h e in
-        omega (arith, d .1 g, sum (λ r. eqb (hashAt r) g && q r), rows-append (λ r. eqb (hashAt r) g && q r) t u, of-other q g h a n (p .front), of-other q g h b n (p .front′))
+          omega (arith, d .1 g, sum (λ r. eqb (hashAt r) g && q r), rows-append (λ r. eqb (hashAt r) g && q r) t u, of-other q g h a n (p .front), of-other q g h b n (p .front′))
     ];
   }
 
@@ -100,9 +104,10 @@ module _ (h : ℕ) (a t b u : List Row) (p : Parted h a t b u) where
       let single = most-split h a t b u p owns 1 in
       record {
         to = λ s.
-            let f = few .to (λ g. rw (← (any-of g ((a ++ t) ++ (b ++ u)))) (s .alternates g)) in
-            (record { few = rw (← (rows-all a), ← (rows-all b)) (f .0); once = λ n. most-split h a t b u p (λ r. eqb (r .conn) n) 1 .to (s .once n) .0; single = single .to (s .single) .0 },
-            record { alternates = λ g. rw (any-of g (t ++ u)) (f .1 g); once = λ n. most-split h a t b u p (λ r. eqb (r .conn) n) 1 .to (s .once n) .1; single = single .to (s .single) .1 });
+            let f = few .to (λ g. rw (← (any-of g ((a ++ t) ++ (b ++ u)))) (s .alternates g)) in (
+              record { few = rw (← (rows-all a), ← (rows-all b)) (f .0); once = λ n. most-split h a t b u p (λ r. eqb (r .conn) n) 1 .to (s .once n) .0; single = single .to (s .single) .0 },
+              record { alternates = λ g. rw (any-of g (t ++ u)) (f .1 g); once = λ n. most-split h a t b u p (λ r. eqb (r .conn) n) 1 .to (s .once n) .1; single = single .to (s .single) .1 },
+            );
         from = λ d. record {
           alternates = λ g. rw (any-of g ((a ++ t) ++ (b ++ u))) (few .from (rw (rows-all a, rows-all b) (d .0 .few), λ i. rw (← (any-of i (t ++ u))) (d .1 .alternates i)) g);
           once = λ n. most-split h a t b u p (λ r. eqb (r .conn) n) 1 .from (d .0 .once n, d .1 .once n);
@@ -144,7 +149,7 @@ group-some w i m j n h a b e v v′ = elim (e .some) [
     moved i m a v p = elim (test (ltb i a)) [
       | inl c ↦ ltb-true i a c
       | inr c ↦ let z : a ≡ i = omega (arith, ltb-false i a c, v .least) in
-        absurd (omega (arith, p .1, rw z at (v .past (omega (arith, p .0)))))
+          absurd (omega (arith, p .1, rw z at (v .past (omega (arith, p .0)))))
     ]
 
 -- ---- no connection twice
@@ -212,3 +217,59 @@ module _ (w : List ℕ) (x : ℕ) where
 
     pub first-some : r < to → rowsBy x (rowsIn w from to) ≡ 0 → ⊥
     first-some h z = omega (arith, some-by (r - from) from r to (omega (arith, f .least)) h (sym (conn-at to r h) ∙ f .found h))
+
+-- ---- turns of the loops
+
+pub upto-more : (w : List ℕ) (from i h : ℕ) → ((k : ℕ) → from ≤ k → k < i → hashAt (rowAt w k) ≤ h) → hashAt (rowAt w i) ≤ h → (k : ℕ) → from ≤ k → k < i + 1 → hashAt (rowAt w k) ≤ h
+upto-more w from i h f l k a b = elim (test (eqb k i)) [
+  | inl e ↦ rw (eqb-true k i e) l
+  | inr e ↦ f k a (omega (arith, eqb-false k i e))
+]
+
+module _ {X : Type 0} (w : List ℕ) (others : List Row) (k a : ℕ) (h : k < a) {r : Row} (e : r ≡ rowAt w k) (v : Iff X (Apart others (rowsIn w k a))) where
+  apart-next : Iff X ((rowsBy (r .conn) (rowsIn w (k + 1) a) ≡ 0) × (rowsBy (r .conn) others ≡ 0) × Apart others (rowsIn w (k + 1) a))
+  apart-next = rw (ap (λ (r : Row). r .conn) e) (rw (in-turn w k a h) at v)
+
+  pub apart-turn : rowsBy (r .conn) (rowsIn w (k + 1) a) ≡ 0 → rowsBy (r .conn) others ≡ 0 → Iff X (Apart others (rowsIn w (k + 1) a))
+  apart-turn p q = record { to = λ x. apart-next .to x .2; from = λ d. apart-next .from (p, q, d) }
+
+  pub apart-later : (rowsBy (r .conn) (rowsIn w (k + 1) a) ≡ 0 → ⊥) → X → ⊥
+  apart-later n x = n (apart-next .to x .0)
+
+  pub apart-others : (rowsBy (r .conn) others ≡ 0 → ⊥) → X → ⊥
+  apart-others n x = n (apart-next .to x .1)
+
+pub apart-end : {X : Type 0} (w : List ℕ) (others : List Row) (k a : ℕ) → a ≤ k → Iff X (Apart others (rowsIn w k a)) → X
+apart-end w others k a h v = v .from (rw (in-none w k a h) tt)
+
+pub owners-turn : (w : List ℕ) (i to : ℕ) {r : Row} → i < to → r ≡ rowAt w i → countRows owns (rowsIn w i to) ≡ ownBit r + countRows owns (rowsIn w (i + 1) to)
+owners-turn w i to h e = rw (in-turn w i to h, e) (cons (rowAt w i) (rowsIn w (i + 1) to))
+  where
+    cons : (r : Row) (rs : List Row) → countRows owns (r ∷ rs) ≡ ownBit r + countRows owns rs
+    cons r rs = unfold countRows in ap (λ (m : ℕ). m + countRows owns rs) (sym (own-bit r))
+
+pub owners-none : (w : List ℕ) (i to : ℕ) → to ≤ i → countRows owns (rowsIn w i to) ≡ 0
+owners-none w i to h = rw (in-none w i to h) (unfold countRows in refl)
+
+pub group-decides : (a b : List Row) (m n : ℕ) → length a + length b ≤ maxAlternates → Apart b a → Apart [] b → m ≡ countRows owns a → n ≡ countRows owns b → Decides (leb (m + n) 1) (GroupFits a b)
+group-decides a b m n f p q e g = elim (test (leb (m + n) 1)) [
+  | inl t ↦ rw t (record { few = f; once = apart-iff a b .to (p, q); single = omega (arith, leb-true (m + n) 1 t) })
+  | inr t ↦ rw t (λ s. omega (arith, s .single, leb-false (m + n) 1 t))
+]
+
+-- the rows are the two halves
+pub halves : (w : List ℕ) (m n : ℕ) → m ≤ n → Iff (GroupsSound (recs rowSize readRow n w)) (GroupsSound (rowsIn w 0 m ++ rowsIn w m n))
+halves w m n h = rw (sym (rest-all rowSize readRow n w) ∙ in-split w 0 m n (omega arith) h) iff-self
+
+pub groups-end : {X : Type 0} (w : List ℕ) (i m j n : ℕ) → m ≤ i → n ≤ j → Iff X (GroupsSound (rowsIn w i m ++ rowsIn w j n)) → X
+groups-end w i m j n h l v = v .from (rw (in-none w i m h, in-none w j n l) none)
+  where
+    none : GroupsSound ([] ++ [])
+    none = unfold countRows in record { alternates = λ h. omega arith; once = λ n h. omega arith; single = λ h. omega arith }
+
+module _ {X G R S : Type 0} (v : Iff X G) (g : Iff G (R × S)) where
+  pub off-turn : R → Iff X S
+  off-turn r = record { to = λ x. g .to (v .to x) .1; from = λ s. v .from (g .from (r, s)) }
+
+  pub off-stop : (R → ⊥) → X → ⊥
+  off-stop n x = n (g .to (v .to x) .0)
