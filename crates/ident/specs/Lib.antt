@@ -1,2 +1,5 @@
 pub mod If
 pub mod Number
+pub mod Bytes
+pub mod Words
+pub mod Compare

@@ -1,4 +1,16 @@
-// Hashes, keys and items (document 01, "What a state holds", module 1).
+// Hashes, keys and items: module 1 of document 01 ("What a state holds").
+//
+// A hash is 32 bytes read as a number, a key is a hash as Txid or as Wtxid, an item is what an inventory entry names. Each contract
+// says what a function does to those numbers, by the definitions of specs/: nothing is promised of a hash but its number, and
+// proofs/Words.antt has the law that two hashes of one number are equal.
+ghost use mathlib.Core.Path.{_≡_};
+ghost use Prim.Native.Nat.{_+_, _*_, _<_, _≤_};
+ghost use lib.Dec.{ltb, eqb};
+ghost use lib.ListN.{length, take, drop};
+ghost use Rattle.ident.specs.Number.{txid, wtxid, swap, other, place, typeOf, itemKindOf, isPlain, kindOf, keyOf};
+ghost use Rattle.ident.specs.Bytes.{bytesNum, hashBytes, digits, splice};
+ghost use Rattle.ident.specs.Words.{hashNum, keyNum, itemNum, maybeKind, maybeKeyNum};
+ghost use Rattle.ident.specs.Compare.{orderOf, thenOf, kindRank, isLess, isEqual};
 
 // Which of a transaction's two identities a hash is.
 pub enum Kind {
@@ -38,4 +50,334 @@ pub struct Item {
 pub enum MaybeKey {
     None,
     Is(Key),
+}
+
+pub enum MaybeKind {
+    None,
+    Is(Kind),
+}
+
+pub enum Order {
+    Less,
+    Equal,
+    Greater,
+}
+
+// The type numbers of the three kinds that have a key; MSG_WITNESS_TX is of BIP 144, MSG_WTX of BIP 339.
+pub const MSG_TX: u32 = 1;
+
+pub const MSG_WITNESS_TX: u32 = 0x4000_0001;
+
+pub const MSG_WTX: u32 = 5;
+
+// ---- A hash and its bytes
+
+fn wide(x: u8) -> u64
+    ensures { λ r. ⌜ (r ≡ x) × (r < 256) ⌝ }
+{
+    x as u64
+}
+
+// The number of eight digits in base 256.
+fn join(b0: u64, b1: u64, b2: u64, b3: u64, b4: u64, b5: u64, b6: u64, b7: u64) -> u64
+    requires { ⌜ (b0 < 256) × (b1 < 256) × (b2 < 256) × (b3 < 256) × (b4 < 256) × (b5 < 256) × (b6 < 256) × (b7 < 256) ⌝ }
+    ensures { λ r. ⌜ r ≡ b0 + (b1 + (b2 + (b3 + (b4 + (b5 + (b6 + b7 * 256) * 256) * 256) * 256) * 256) * 256) * 256 ⌝ }
+{
+    b0
+        + b1 * 0x100
+        + b2 * 0x1_0000
+        + b3 * 0x100_0000
+        + b4 * 0x1_0000_0000
+        + b5 * 0x100_0000_0000
+        + b6 * 0x1_0000_0000_0000
+        + b7 * 0x100_0000_0000_0000
+}
+
+// The word whose bytes stand from index a on.
+fn word_at(s: &[u8], a: usize) -> u64
+    requires { ⌜ a + 8 ≤ length (now s) ⌝ }
+    ensures { λ r. ⌜ r ≡ bytesNum (take 8 (drop a (now (s .entry)))) ⌝ }
+{
+    let b0 = wide(s[a]);
+    let b1 = wide(s[a + 1]);
+    let b2 = wide(s[a + 2]);
+    let b3 = wide(s[a + 3]);
+    let b4 = wide(s[a + 4]);
+    let b5 = wide(s[a + 5]);
+    let b6 = wide(s[a + 6]);
+    let b7 = wide(s[a + 7]);
+    join(b0, b1, b2, b3, b4, b5, b6, b7)
+}
+
+// Stores the bytes of v from index a on.
+fn put_word(s: &mut [u8], a: usize, v: u64)
+    requires { ⌜ a + 8 ≤ length (now s) ⌝ }
+    ensures { λ _. ⌜ now (s .exit) ≡ splice (now (s .entry)) a (digits 8 v) ⌝ }
+{
+    let v1 = v / 256;
+    let v2 = v1 / 256;
+    let v3 = v2 / 256;
+    let v4 = v3 / 256;
+    let v5 = v4 / 256;
+    let v6 = v5 / 256;
+    let v7 = v6 / 256;
+    s[a] = (v % 256) as u8;
+    s[a + 1] = (v1 % 256) as u8;
+    s[a + 2] = (v2 % 256) as u8;
+    s[a + 3] = (v3 % 256) as u8;
+    s[a + 4] = (v4 % 256) as u8;
+    s[a + 5] = (v5 % 256) as u8;
+    s[a + 6] = (v6 % 256) as u8;
+    s[a + 7] = (v7 % 256) as u8;
+}
+
+// The hash whose bytes stand from index a on.
+pub fn hash_at(s: &[u8], a: usize) -> Hash
+    requires { ⌜ a + hashBytes ≤ length (now s) ⌝ }
+    ensures { λ r. ⌜ hashNum r ≡ bytesNum (take hashBytes (drop a (now (s .entry)))) ⌝ }
+{
+    let w0 = word_at(s, a);
+    let w1 = word_at(s, a + 8);
+    let w2 = word_at(s, a + 16);
+    let w3 = word_at(s, a + 24);
+    let words = [w0, w1, w2, w3];
+    Hash { words }
+}
+
+pub fn hash_from_bytes(b: &[u8; 32]) -> Hash
+    ensures { λ r. ⌜ hashNum r ≡ bytesNum (now (b .entry)) ⌝ }
+{
+    hash_at(b, 0)
+}
+
+// Stores the bytes of h from index a on.
+pub fn put_hash(s: &mut [u8], a: usize, h: Hash)
+    requires { ⌜ a + hashBytes ≤ length (now s) ⌝ }
+    ensures { λ _. ⌜ now (s .exit) ≡ splice (now (s .entry)) a (digits hashBytes (hashNum h)) ⌝ }
+{
+    let w = h.words;
+    put_word(s, a, w[0]);
+    put_word(s, a + 8, w[1]);
+    put_word(s, a + 16, w[2]);
+    put_word(s, a + 24, w[3]);
+}
+
+pub fn hash_to_bytes(h: Hash) -> [u8; 32]
+    ensures { λ r. ⌜ bytesNum r ≡ hashNum h ⌝ }
+{
+    let mut b = [0u8; 32];
+    put_hash(&mut b, 0, h);
+    b
+}
+
+// ---- Hashes in the order of their numbers
+
+pub fn cmp_word(a: u64, b: u64) -> Order
+    ensures { λ r. ⌜ r ≡ orderOf a b ⌝ }
+{
+    if a < b {
+        return Order::Less;
+    }
+    if b < a {
+        return Order::Greater;
+    }
+    Order::Equal
+}
+
+// The order of the high parts, and where those are equal that of the low.
+fn then(hi: Order, lo: Order) -> Order
+    ensures { λ r. ⌜ r ≡ thenOf hi lo ⌝ }
+{
+    match hi {
+        Order::Less => Order::Less,
+        Order::Greater => Order::Greater,
+        Order::Equal => lo,
+    }
+}
+
+pub fn cmp_hash(a: Hash, b: Hash) -> Order
+    ensures { λ r. ⌜ r ≡ orderOf (hashNum a) (hashNum b) ⌝ }
+{
+    let x = a.words;
+    let y = b.words;
+    let o3 = cmp_word(x[3], y[3]);
+    let o2 = then(o3, cmp_word(x[2], y[2]));
+    let o1 = then(o2, cmp_word(x[1], y[1]));
+    then(o1, cmp_word(x[0], y[0]))
+}
+
+fn is_less(o: Order) -> bool
+    ensures { λ r. ⌜ r ≡ isLess o ⌝ }
+{
+    match o {
+        Order::Less => true,
+        Order::Equal => false,
+        Order::Greater => false,
+    }
+}
+
+fn is_equal(o: Order) -> bool
+    ensures { λ r. ⌜ r ≡ isEqual o ⌝ }
+{
+    match o {
+        Order::Less => false,
+        Order::Equal => true,
+        Order::Greater => false,
+    }
+}
+
+pub fn hash_less(a: Hash, b: Hash) -> bool
+    ensures { λ r. ⌜ r ≡ ltb (hashNum a) (hashNum b) ⌝ }
+{
+    is_less(cmp_hash(a, b))
+}
+
+pub fn hash_equal(a: Hash, b: Hash) -> bool
+    ensures { λ r. ⌜ r ≡ eqb (hashNum a) (hashNum b) ⌝ }
+{
+    is_equal(cmp_hash(a, b))
+}
+
+// ---- Keys: every Txid key before every Wtxid key
+
+fn kind_rank(k: Kind) -> u64
+    ensures { λ r. ⌜ r ≡ kindRank k ⌝ }
+{
+    match k {
+        Kind::Txid => 0,
+        Kind::Wtxid => 1,
+    }
+}
+
+pub fn cmp_key(a: Key, b: Key) -> Order
+    ensures { λ r. ⌜ r ≡ orderOf (place (keyNum a)) (place (keyNum b)) ⌝ }
+{
+    let i = a.kind;
+    let j = b.kind;
+    let lo = cmp_hash(a.hash, b.hash);
+    then(cmp_word(kind_rank(i), kind_rank(j)), lo)
+}
+
+pub fn key_less(a: Key, b: Key) -> bool
+    ensures { λ r. ⌜ r ≡ ltb (place (keyNum a)) (place (keyNum b)) ⌝ }
+{
+    is_less(cmp_key(a, b))
+}
+
+pub fn key_equal(a: Key, b: Key) -> bool
+    ensures { λ r. ⌜ r ≡ eqb (place (keyNum a)) (place (keyNum b)) ⌝ }
+{
+    is_equal(cmp_key(a, b))
+}
+
+fn swapped(k: Kind) -> Kind
+    ensures { λ r. ⌜ r ≡ swap k ⌝ }
+{
+    match k {
+        Kind::Txid => Kind::Wtxid,
+        Kind::Wtxid => Kind::Txid,
+    }
+}
+
+pub fn same_hash_other_kind(k: Key) -> Key
+    ensures { λ r. ⌜ keyNum r ≡ other (keyNum k) ⌝ }
+{
+    let c = k.kind;
+    let kind = swapped(c);
+    let hash = k.hash;
+    Key { kind, hash }
+}
+
+pub fn txid_key(t: Txid) -> Key
+    ensures { λ r. ⌜ keyNum r ≡ txid (hashNum (t .0)) ⌝ }
+{
+    let hash = t.0;
+    Key {
+        kind: Kind::Txid,
+        hash,
+    }
+}
+
+pub fn wtxid_key(w: Wtxid) -> Key
+    ensures { λ r. ⌜ keyNum r ≡ wtxid (hashNum (w .0)) ⌝ }
+{
+    let hash = w.0;
+    Key {
+        kind: Kind::Wtxid,
+        hash,
+    }
+}
+
+// ---- Items, their type numbers and their keys
+
+pub fn item_kind(t: u32) -> ItemKind
+    ensures { λ r. ⌜ r ≡ itemKindOf t ⌝ }
+{
+    if t == MSG_TX {
+        return ItemKind::Transaction;
+    }
+    if t == MSG_WITNESS_TX {
+        return ItemKind::WitnessTransaction;
+    }
+    if t == MSG_WTX {
+        return ItemKind::WTx;
+    }
+    ItemKind::Other(t)
+}
+
+pub fn item_type(k: ItemKind) -> u32
+    ensures { λ r. ⌜ r ≡ typeOf k ⌝ }
+{
+    match k {
+        ItemKind::Transaction => MSG_TX,
+        ItemKind::WitnessTransaction => MSG_WITNESS_TX,
+        ItemKind::WTx => MSG_WTX,
+        ItemKind::Other(n) => n,
+    }
+}
+
+// False of an Other that holds one of the three numbers: no item is of that kind.
+pub fn is_plain(k: ItemKind) -> bool
+    ensures { λ r. ⌜ r ≡ isPlain k ⌝ }
+{
+    match k {
+        ItemKind::Other(n) => {
+            if n == MSG_TX {
+                return false;
+            }
+            if n == MSG_WITNESS_TX {
+                return false;
+            }
+            if n == MSG_WTX {
+                return false;
+            }
+            true
+        }
+        ItemKind::Transaction => true,
+        ItemKind::WitnessTransaction => true,
+        ItemKind::WTx => true,
+    }
+}
+
+pub fn kind_of(k: ItemKind) -> MaybeKind
+    ensures { λ r. ⌜ maybeKind r ≡ kindOf k ⌝ }
+{
+    match k {
+        ItemKind::Transaction => MaybeKind::Is(Kind::Txid),
+        ItemKind::WitnessTransaction => MaybeKind::Is(Kind::Txid),
+        ItemKind::WTx => MaybeKind::Is(Kind::Wtxid),
+        ItemKind::Other(_) => MaybeKind::None,
+    }
+}
+
+// The Rust's Identity::from_inventory.
+pub fn key_of(item: Item) -> MaybeKey
+    ensures { λ r. ⌜ maybeKeyNum r ≡ keyOf (itemNum item) ⌝ }
+{
+    let ik = item.kind;
+    let MaybeKind::Is(kind) = kind_of(ik) else {
+        return MaybeKey::None;
+    };
+    let hash = item.hash;
+    MaybeKey::Is(Key { kind, hash })
 }

@@ -189,7 +189,7 @@ unfolding but
 length-but h [] = omega arith
 length-but h (x ∷ hs) = elim (test (eqb x h)) [ inl e ↦ rw e (omega (arith, length-but h hs)) | inr e ↦ rw e (omega (arith, length-but h hs)) ]
 
-length-dedup : (hs : List ℕ) → length (dedup hs) ≤ length hs
+pub length-dedup : (hs : List ℕ) → length (dedup hs) ≤ length hs
 unfolding dedup
 length-dedup [] = omega arith
 length-dedup (h ∷ hs) = omega (arith, length-but h (dedup hs), length-dedup hs)
@@ -209,7 +209,7 @@ but-none g h (x ∷ hs) a =
       | inr d ↦ elim (test (eqb x h)) [ inl e ↦ rw e (but-none g h hs (rw d at a)) | inr e ↦ rw (e, d) (but-none g h hs (rw d at a)) ]
     ]
 
-distinct-but : (h : ℕ) (hs : List ℕ) → NoRepeat hs → NoRepeat (but h hs)
+pub distinct-but : (h : ℕ) (hs : List ℕ) → NoRepeat hs → NoRepeat (but h hs)
 unfolding but
 distinct-but h [] a = tt
 distinct-but h (x ∷ hs) a = elim (test (eqb x h)) [ inl e ↦ rw e (distinct-but h hs (a .1)) | inr e ↦ rw e (but-none x h hs (a .0), distinct-but h hs (a .1)) ]

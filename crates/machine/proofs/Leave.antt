@@ -30,17 +30,17 @@ bounded-forgetKnown {m} {Q} {t} k now s w b = by-test (Bounded m Q) (guarded now
 
 -- ---- disconnected
 
-keys-of : (n lo : ℕ) (t : Table) → Ordered lo t → Each KeyTyped (keysOf n t)
+pub keys-of : (n lo : ℕ) (t : Table) → Ordered lo t → Each KeyTyped (keysOf n t)
 unfolding keysOf
 keys-of n lo [] o = tt
 keys-of n lo (r ∷ t) o = by-test (Each KeyTyped) (has n (r .candidates)) (λ e. (o .1, keys-of n _ t (o .2))) (λ e. keys-of n _ t (o .2))
 
-bounded-announceEach : {m : Limits} {Q : ℕ} {t : Table} (now : ℕ) (k : Key) (hs : List ℕ) (cs : List Candidate) → now < word → AllFit k cs → FewHashes hs → Bounded m Q t → Bounded m Q ((announceEach m now hs cs t) .table)
+pub bounded-announceEach : {m : Limits} {Q : ℕ} {t : Table} (now : ℕ) (k : Key) (hs : List ℕ) (cs : List Candidate) → now < word → AllFit k cs → FewHashes hs → Bounded m Q t → Bounded m Q ((announceEach m now hs cs t) .table)
 unfolding announceEach
 bounded-announceEach now k hs [] w f a b = b
 bounded-announceEach now k hs (c ∷ cs) w f a b = bounded-announceEach now k hs cs w (f .1) a (bounded-parents (c .connection) now hs (record { positive = f .0 .positive; small = f .0 .connection }) w a b)
 
-bounded-dropAt : {m : Limits} {Q : ℕ} {t : Table} (n now : ℕ) (k : Key) → k .hash < top → now < word → Bounded m Q t → Bounded m Q ((dropAt m n now k t) .table)
+pub bounded-dropAt : {m : Limits} {Q : ℕ} {t : Table} (n now : ℕ) (k : Key) → k .hash < top → now < word → Bounded m Q t → Bounded m Q ((dropAt m n now k t) .table)
 unfolding dropAt
 bounded-dropAt {m} {Q} {t} n now k s w b =
     let t′ = (failed k n now t) .table in

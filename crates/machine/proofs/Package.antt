@@ -194,7 +194,7 @@ bounded-failedPackageClaims {m} {Q} {t} n cs now p w b = bounded-failEach n now 
 
 -- ---- teardown
 
-package-keys : (lo : ℕ) (t : Table) → Ordered lo t → Each KeyTyped (packageKeys t)
+pub package-keys : (lo : ℕ) (t : Table) → Ordered lo t → Each KeyTyped (packageKeys t)
 unfolding packageKeys
 package-keys lo [] o = tt
 package-keys lo (r ∷ t) o = by-test (Each KeyTyped) (isSome (r .«package»)) (λ e. (o .1, package-keys _ t (o .2))) (λ e. package-keys _ t (o .2))
@@ -208,14 +208,14 @@ leftIfOwned-at n now r w = let x = (shrinks-left n now w) .at-each r in record {
   lawful = λ h. by-test Lawful (ownerIs n (r .owner)) (λ e. x .lawful h) (λ e. h);
 }
 
-shrinks-leftIfOwned : (n now : ℕ) → now < word → Shrinks (leftIfOwned n now)
+pub shrinks-leftIfOwned : (n now : ℕ) → now < word → Shrinks (leftIfOwned n now)
 unfolding leftIfOwned
 shrinks-leftIfOwned n now w = record {
   key = λ r. by-test (λ (q : Request). q .key ≡ r .key) (ownerIs n (r .owner)) (λ e. (shrinks-left n now w) .key r) (λ e. refl);
   at-each = λ r. leftIfOwned-at n now r w;
 }
 
-bounded-tearOne : {m : Limits} {Q : ℕ} {t : Table} (o : Option Owner) (k : Key) (now : ℕ) → k .hash < top → now < word → Bounded m Q t → Bounded m Q (tearOne o k now t)
+pub bounded-tearOne : {m : Limits} {Q : ℕ} {t : Table} (o : Option Owner) (k : Key) (now : ℕ) → k .hash < top → now < word → Bounded m Q t → Bounded m Q (tearOne o k now t)
 bounded-tearOne none k now s w b = b
 bounded-tearOne (some o) k now s w b = bounded-change (other k) _ s (shrinks-leftIfOwned (o .connection) now w) (bounded-change k _ s (shrinks-leftIfOwned (o .connection) now w) b)
 

@@ -39,7 +39,7 @@ unfolding due
 due-typed now lo [] o l = tt
 due-typed now lo (r ∷ t) o l = each-append DueTyped (dueOf now (r .key) (r .owner)) (due now t) (due-one now (r .key) (r .owner) (o .1) (λ n e. owner-peer n r (l .0) e)) (due-typed now _ t (o .2) (l .1))
 
-bounded-due : {m : Limits} {Q : ℕ} {t : Table} (now : ℕ) (d : Due) → now < word → DueTyped d → Bounded m Q t → Bounded m Q ((announceParents m (d .connection) now (parentsFor (d .connection) (at (d .key) t)) ((failed (d .key) (d .connection) now t) .table)) .table)
+pub bounded-due : {m : Limits} {Q : ℕ} {t : Table} (now : ℕ) (d : Due) → now < word → DueTyped d → Bounded m Q t → Bounded m Q ((announceParents m (d .connection) now (parentsFor (d .connection) (at (d .key) t)) ((failed (d .key) (d .connection) now t) .table)) .table)
 bounded-due {m} {Q} {t} now d w a b = bounded-parents (d .connection) now _ (a .peer) w (few-for (d .connection) (at (d .key) t) (lawful-at (d .key) t (b .lawful))) (bounded-failed (d .key) (d .connection) now (a .key) w b)
 
 pub bounded-expire : {m : Limits} {Q : ℕ} {t : Table} (now : ℕ) (ds : List Due) → now < word → Each DueTyped ds → Bounded m Q t → Bounded m Q ((expire m now ds t) .table)

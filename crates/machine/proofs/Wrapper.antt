@@ -26,7 +26,7 @@ one-most : (b : Bool) → one b ≤ 1
 one-most true = omega arith
 one-most false = omega arith
 
-offered-typed : (n now : ℕ) (p v f : Bool) (o : Offer) → Peer n → now + requestLifetime < word → OfferTyped o → CandidateTyped (offered n now p v f o)
+pub offered-typed : (n now : ℕ) (p v f : Bool) (o : Offer) → Peer n → now + requestLifetime < word → OfferTyped o → CandidateTyped (offered n now p v f o)
 offered-typed n now p v f o a w h = record {
   connection = a .small;
   hash = h .hash;
@@ -53,7 +53,7 @@ bounded-failKeyed : {m : Limits} {Q : ℕ} {t : Table} (k : Option Key) (n now :
 bounded-failKeyed none n now s w b = b
 bounded-failKeyed (some k) n now s w b = bounded-failed k n now s w b
 
-bounded-notFoundOne : {m : Limits} {Q : ℕ} {t : Table} (n now : ℕ) (i : Item) → Peer n → now < word → i .hash < top → Bounded m Q t → Bounded m Q ((notFoundOne m n now i t) .table)
+pub bounded-notFoundOne : {m : Limits} {Q : ℕ} {t : Table} (n now : ℕ) (i : Item) → Peer n → now < word → i .hash < top → Bounded m Q t → Bounded m Q ((notFoundOne m n now i t) .table)
 unfolding notFoundOne
 bounded-notFoundOne {m} {Q} {t} n now i p w s b =
     let k = wtxid (i .hash) in
@@ -61,7 +61,7 @@ bounded-notFoundOne {m} {Q} {t} n now i p w s b =
     (λ e. bounded-listed k n now _ _ p w (few-for n (at k t) (lawful-at k t (b .lawful))) (bounded-failedPackageInfo k n now s w b))
     (λ e. bounded-failKeyed (keyOf i) n now (item-fits i s) w b)
 
-bounded-notFoundEach : {m : Limits} {Q : ℕ} {t : Table} (n now : ℕ) (l : List Item) → Peer n → now < word → Each (λ (i : Item). i .hash < top) l → Bounded m Q t → Bounded m Q ((notFoundEach m n now l t) .table)
+pub bounded-notFoundEach : {m : Limits} {Q : ℕ} {t : Table} (n now : ℕ) (l : List Item) → Peer n → now < word → Each (λ (i : Item). i .hash < top) l → Bounded m Q t → Bounded m Q ((notFoundEach m n now l t) .table)
 unfolding notFoundEach
 bounded-notFoundEach n now [] p w s b = b
 bounded-notFoundEach n now (i ∷ l) p w s b = bounded-notFoundEach n now l p w (s .1) (bounded-notFoundOne n now i p w (s .0) b)

@@ -50,6 +50,13 @@ module _ (a b x : List ℕ) (n : ℕ) (h : length x + (length a + length b) ≤ 
   padded-shut : shut (length x) (length a) (length a + (length x + length b)) (padded n (a ++ (x ++ b))) ≡ padded n (a ++ b)
   padded-shut = rw (without, with-it) (shut-at a x b (replicate (n - length (a ++ (x ++ b))) 0) (length x) refl)
 
+-- zeros behind the words change nothing
+padded-zeros : (a : List ℕ) (k n : ℕ) → length a + k ≤ n → padded n a ≡ padded n (a ++ (replicate k 0 ++ []))
+padded-zeros a k n h =
+    let l : length (a ++ (replicate k 0 ++ [])) ≡ length a + k = simp (append-nil, length-append, length-replicate) in
+    let e : n - length a - k ≡ n - length (a ++ (replicate k 0 ++ [])) = omega arith in
+    padded-fit n a (omega arith) ∙ rw (padded-fit n (a ++ (replicate k 0 ++ [])) (omega arith), zeros (n - length a) k (omega arith), e) (simp (append-nil, append-assoc))
+
 -- a part replaced by one of the same length, also where the words are cut
 module _ (a b x y : List ℕ) (n : ℕ) (h : length a + length x ≤ n) (e : length y ≡ length x) where
   cut-behind : (z : List ℕ) → length z ≡ length x → take n ((a ++ (z ++ b)) ++ replicate n 0) ≡ a ++ (z ++ take (n - (length a + length x)) (b ++ replicate n 0))
@@ -124,7 +131,7 @@ module _ {A : Type 0} (k : ℕ) (enc : A → List ℕ) (len : (a : A) → length
           let q = padded-shut (each enc (take i l)) (each enc (drop (suc i) l)) (enc (getD l i d)) n (omega arith) in
           rw (around d h, each-append enc (take i l) (drop (suc i) l)) (rw (la, lx, lb) at q)
 
-      region-over : (x : A) → i < length l → k * (i + 1) ≤ n
+      pub region-over : (x : A) → i < length l → k * (i + 1) ≤ n
           → splice (padded n (each enc l)) (k * i) (enc x) ≡ padded n (each enc (set l i x))
       unfolding each
       region-over x h g =
@@ -134,13 +141,23 @@ module _ {A : Type 0} (k : ℕ) (enc : A → List ℕ) (len : (a : A) → length
           let q = padded-splice (each enc (take i l)) (each enc (drop (suc i) l)) (enc x) (enc (getD l i x)) n (omega arith) (len (getD l i x) ∙ sym lx) in
           rw (around x h, set-split l i x h, each-append enc (take i l) (x ∷ drop (suc i) l)) (rw la at q)
 
-      region-at : (d : A) → i < length l → k * (i + 1) ≤ n → take k (drop (k * i) (padded n (each enc l))) ≡ enc (getD l i d)
+      pub region-at : (d : A) → i < length l → k * (i + 1) ≤ n → take k (drop (k * i) (padded n (each enc l))) ≡ enc (getD l i d)
       region-at d h g =
           let la = front-long (omega arith) in
           let lx = len (getD l i d) in
           let f : k * (i + 1) ≡ k * i + k = omega arith in
           let q = padded-part (each enc (take i l)) (each enc (drop (suc i) l)) (enc (getD l i d)) (enc (getD l i d)) n (omega arith) refl in
           rw (around d h) (rw (la, lx) at q)
+
+  -- a record put behind the others
+  pub region-push : (l : List A) (n : ℕ) (x : A) → k * (length l + 1) ≤ n → splice (padded n (each enc l)) (k * length l) (enc x) ≡ padded n (each enc (l ++ (x ∷ [])))
+  unfolding each
+  region-push l n x g =
+      let ll = length-each l in
+      let lx = len x in
+      let f : k * (length l + 1) ≡ k * length l + k = omega arith in
+      let z : padded n (each enc l) ≡ padded n (each enc l ++ (replicate k 0 ++ [])) = padded-zeros (each enc l) k n (omega arith) in
+      rw (z, each-append enc l (x ∷ [])) (rw ll at (padded-splice (each enc l) [] (enc x) (replicate k 0) n (omega arith) (length-replicate k 0 ∙ sym lx)))
 
   -- ---- what the contracts say
 

@@ -1,4 +1,3 @@
 pub mod Regions
 pub mod Order
 pub mod Rows
-pub mod Places

@@ -1,6 +1,6 @@
 -- Candidate rows and entries of connections as words.
 -- Assumes nothing.
-use Prim.Native.Nat.{ℕ, _%_, _^_}
+use Prim.Native.Nat.{ℕ, _/_, _%_, _^_}
 use mathlib.Core.List.{List, [], _∷_, _++_}
 use lib.ListN.{getD}
 use Rattle.words.specs.Words.{number}
@@ -36,6 +36,15 @@ readQuad w = record { w0 = getD w 0 0; w1 = getD w 1 0; w2 = getD w 2 0; w3 = ge
 -- "byte 31 the most significant, ordered by number"
 unfoldable pub quadNumber : Quad → ℕ
 quadNumber q = number (2 ^ 64) (quadWords q)
+
+-- the four words of a number below 2 ^ 256; what is over stays in the last
+unfoldable pub quadOf : ℕ → Quad
+quadOf h = record {
+  w0 = h % 2 ^ 64;
+  w1 = h / 2 ^ 64 % 2 ^ 64;
+  w2 = h / 2 ^ 64 / 2 ^ 64 % 2 ^ 64;
+  w3 = h / 2 ^ 64 / 2 ^ 64 / 2 ^ 64;
+}
 
 -- ---- a row: "candidates in order of arrival (connection, item, ready time, preferred, priority)", with the key and the owner's deadline
 

@@ -1,8 +1,8 @@
 -- A row says what the candidate and the request say that it was made of.
 -- Assumes nothing.
-use Prim.Native.Nat.{ℕ, zero, suc, _+_, _*_, _/_, _%_, _≤_, _<_}
+use Prim.Native.Nat.{ℕ, _+_, _*_, _/_, _%_, _≤_, _<_}
 use mathlib.Core.Path.{_≡_, refl, sym, ap, _∙_}
-use mathlib.Core.Logic.{_⊎_, inl, inr}
+use mathlib.Core.Logic.{inl, inr}
 use mathlib.Core.Bool.{Bool, true, false}
 use mathlib.Core.Option.{Option, none, some}
 use native.Mathlib.Omega.{arith}
@@ -17,9 +17,7 @@ use Rattle.ident.specs.Number.{Key, Item, keyOf}
 use Rattle.machine.specs.State.{Candidate, Owner, Request, ownerIs}
 use Rattle.machine.specs.Table.{one}
 use Rattle.machine.proofs.Tests.{test}
-use Rattle.regions.specs.declared.Quad.{Quad}
-use Rattle.regions.specs.declared.Row.{Row}
-use Rattle.store.specs.Flat.{quadOf, kindBit, witnessBit, deadlineFor, bitsOf, rowOf, ownBit}
+use Rattle.store.specs.Flat.{kindBit, witnessBit, bitsOf, rowOf, ownBit}
 use Rattle.store.specs.Gather.{kindIs, keyAt, itemKindAs, candidateAt, ownerAt}
 use Rattle.store.specs.FlatSound.{owns, markBit}
 use Rattle.store.proofs.Quads.{number-quad}

@@ -1,8 +1,8 @@
 -- The tally's counts are those of the rows, and a list of connections whose counts are right is the tally.
 -- Assumes nothing.
-use Prim.Native.Nat.{ℕ, zero, suc, _+_, _%_, _≤_, _<_}
+use Prim.Native.Nat.{ℕ, zero, suc, _+_, _≤_, _<_}
 use mathlib.Core.Path.{_≡_, refl, sym, ap, _∙_}
-use mathlib.Core.Logic.{_⊎_, inl, inr}
+use mathlib.Core.Logic.{inl, inr}
 use mathlib.Core.Bool.{Bool, true, false, _&&_, _||_}
 use mathlib.Core.List.{List, [], _∷_}
 use native.Mathlib.Omega.{arith}
@@ -202,3 +202,24 @@ tally-counted rs = both (tally rs) (value-own (λ c. c .held) (λ x. heldRows x 
     both : (cs : List Conn) → Each (λ c. c .held ≡ heldRows (c .conn) rs) cs → Each (λ c. c .owned ≡ ownedRows (c .conn) rs) cs → Each (Counted rs) cs
     both [] a b = tt
     both (c ∷ cs) a b = (record { held = a .0; owned = b .0 }, both cs (a .1) (b .1))
+
+value-listed : (v : Conn → ℕ) (x : ℕ) (cs : List Conn) → 0 < valueOf v x cs → listed x cs ≡ true
+unfolding valueOf listed
+value-listed v x [] h = absurd (omega arith)
+value-listed v x (c ∷ cs) h = elim (test (eqb x (c .conn))) [ inl q ↦ rw q | inr q ↦ rw q (value-listed v x cs (rw q at h)) ]
+
+some-row : (rs : List Row) → Each (λ r. 0 < heldRows (r .conn) rs) rs
+unfolding countRows
+some-row [] = tt
+some-row (r ∷ rs) = (rw (eq-eqb (r .conn) (r .conn) refl) (omega arith), later rs (some-row rs))
+  where
+    later : (qs : List Row) → Each (λ q. 0 < heldRows (q .conn) rs) qs → Each (λ q. 0 < heldRows (q .conn) (r ∷ rs)) qs
+    later [] e = tt
+    later (q ∷ qs) e = (omega (arith, e .0), later qs (e .1))
+
+pub tally-listed : (rs : List Row) → Each (λ r. listed (r .conn) (tally rs) ≡ true) rs
+tally-listed rs = go rs (some-row rs)
+  where
+    go : (qs : List Row) → Each (λ r. 0 < heldRows (r .conn) rs) qs → Each (λ r. listed (r .conn) (tally rs) ≡ true) qs
+    go [] e = tt
+    go (q ∷ qs) e = (value-listed (λ c. c .held) (q .conn) (tally rs) (rw (held-value rs (q .conn)) (e .0)), go qs (e .1))

@@ -1,9 +1,9 @@
 -- What the machine counts over its requests is a count of rows, or the number of places.
 -- Assumes nothing.
-use Prim.Native.Nat.{ℕ, zero, suc, _+_, _≤_, _<_}
-use mathlib.Core.Path.{_≡_, refl, sym, ap, _∙_}
-use mathlib.Core.Logic.{_⊎_, inl, inr}
-use mathlib.Core.Bool.{Bool, true, false, _&&_, _||_}
+use Prim.Native.Nat.{ℕ, _+_, _≤_}
+use mathlib.Core.Path.{_≡_, refl, sym, _∙_}
+use mathlib.Core.Logic.{inl, inr}
+use mathlib.Core.Bool.{Bool, true, false, _&&_}
 use mathlib.Core.List.{List, [], _∷_, _++_, map}
 use mathlib.Core.Option.{Option, none, some}
 use native.Mathlib.Omega.{arith}
@@ -13,9 +13,8 @@ use borrow.Author.Tests.{eqb-true, eqb-false, eq-eqb, ne-eqb}
 use Rattle.ident.specs.Number.{Key, place, wtxid}
 use Rattle.regions.specs.declared.Row.{Row}
 use Rattle.regions.specs.Regions.{each}
-use Rattle.regions.specs.Places.{Place}
 use Rattle.machine.specs.State.{Candidate, Owner, Package, Request, Table, ownerIs}
-use Rattle.machine.specs.Table.{one, countIn, total, count, ownerIn, owners, placeIn, placesHeld, has, any, by, under, byUnder}
+use Rattle.machine.specs.Table.{countIn, total, count, ownerIn, owners, placeIn, placesHeld, has, any, by, under, byUnder}
 use Rattle.machine.specs.Sound.{OwnerFits, Lawful, All}
 use Rattle.machine.proofs.Tests.{test, never}
 use Rattle.store.specs.Flat.{rowOf, rowsFor, rowsOf, placeFor, placesFor, placesOf}

@@ -1,19 +1,19 @@
 -- A change at one key is a splice of what every request gives.
 -- Assumes nothing.
-use Prim.Native.Nat.{ℕ, suc, _+_, _≤_, _<_}
-use mathlib.Core.Path.{_≡_, refl, sym, ap, _∙_}
-use mathlib.Core.Logic.{_⊎_, inl, inr}
+use Prim.Native.Nat.{ℕ, suc, _<_}
+use mathlib.Core.Path.{_≡_, refl}
+use mathlib.Core.Logic.{inl, inr}
 use mathlib.Core.Bool.{Bool, true, false}
-use mathlib.Core.List.{List, [], _∷_, _++_, map, append-assoc}
+use mathlib.Core.List.{List, [], _∷_, _++_, append-assoc}
 use mathlib.Core.Option.{Option, none, some}
 use native.Mathlib.Omega.{arith}
 use lib.Dec.{ltb, leb, eqb}
 use borrow.Author.Tests.{ltb-true, ltb-false, eqb-true, eqb-false, leb-false, lt-ltb, le-ltb, lt-leb, le-leb}
 use Rattle.ident.specs.If.{if_then_else_}
-use Rattle.ident.specs.Number.{top, Key, place}
+use Rattle.ident.specs.Number.{Key, place}
 use Rattle.regions.specs.declared.Row.{Row}
 use Rattle.regions.specs.Regions.{each}
-use Rattle.regions.specs.Places.{Place}
+use Rattle.places.specs.Places.{Place}
 use Rattle.machine.specs.State.{Candidate, Owner, Package, Request, Table, blank}
 use Rattle.machine.specs.Table.{at, keep, change, has}
 use Rattle.machine.specs.Sound.{OwnerFits, Packed, Lawful, Ordered, All}

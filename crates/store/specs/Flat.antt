@@ -11,23 +11,13 @@ use Rattle.ident.specs.declared.ItemKind.{ItemKind}
 use Rattle.ident.specs.declared.ItemKind.the-variants.{Transaction, WitnessTransaction, WTx, Other}
 use Rattle.ident.specs.If.{if_then_else_}
 use Rattle.ident.specs.Number.{Key}
-use Rattle.regions.specs.declared.Quad.{Quad}
 use Rattle.regions.specs.declared.Row.{Row}
 use Rattle.regions.specs.declared.Conn.{Conn}
 use Rattle.regions.specs.Regions.{each}
-use Rattle.regions.specs.Places.{Place}
+use Rattle.regions.specs.Rows.{quadOf}
+use Rattle.places.specs.Places.{Place}
 use Rattle.machine.specs.State.{Candidate, Owner, Package, Request, Table, State, ownerIs}
 use Rattle.machine.specs.Table.{one}
-
--- ---- a hash as four words, the least first
-
-unfoldable pub quadOf : ℕ → Quad
-quadOf h = record {
-  w0 = h % 2 ^ 64;
-  w1 = h / 2 ^ 64 % 2 ^ 64;
-  w2 = h / 2 ^ 64 / 2 ^ 64 % 2 ^ 64;
-  w3 = h / 2 ^ 64 / 2 ^ 64 / 2 ^ 64;
-}
 
 -- ---- rows: one a candidate, in the order of keys and then of arrival
 

@@ -11,7 +11,7 @@ use Rattle.regions.specs.declared.Quad.{Quad}
 use Rattle.regions.specs.declared.Row.{Row}
 use Rattle.regions.specs.declared.Conn.{Conn}
 use Rattle.regions.specs.Rows.{quadNumber}
-use Rattle.regions.specs.Places.{Place}
+use Rattle.places.specs.Places.{Place}
 use Rattle.machine.specs.Limits.{maxAnnouncements, maxPlaces, maxAlternates, maxPeerAnnouncements, maxInFlight, word}
 use Rattle.machine.specs.State.{Package}
 use Rattle.machine.specs.Table.{one}

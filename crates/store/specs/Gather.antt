@@ -13,7 +13,7 @@ use Rattle.ident.specs.If.{if_then_else_}
 use Rattle.ident.specs.Number.{Key, place, wtxid}
 use Rattle.regions.specs.declared.Row.{Row}
 use Rattle.regions.specs.Rows.{quadNumber}
-use Rattle.regions.specs.Places.{Place}
+use Rattle.places.specs.Places.{Place}
 use Rattle.machine.specs.State.{Candidate, Owner, Package, Request, Table, State}
 use Rattle.store.specs.Flat.{ownBit, Head, Flat}
 

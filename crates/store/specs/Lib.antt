@@ -1,3 +1,5 @@
 pub mod Flat
 pub mod Gather
 pub mod FlatSound
+pub mod Image
+pub mod Read

@@ -29,7 +29,8 @@ get-requires c κs = search needs
 
 returns : tie.Need-returns Inv-loop μ-loop
 returns c =
-    let e = row-conn-at (words (c .before .before .before .before .before .args .s .now)) (c .before .before .before .before .before .args .to) (c .before .before .before .loop .i) (omega arith) in
+    let start = c .before .before .before .before .before in
+    let e = row-conn-at (words (start .args .s .now)) (start .args .to) (c .before .before .before .loop .i) (omega arith) in
     passing-found (c .before .before .before .loop .inv) (e ∙ sym (c .before .get .ensures) ∙ c .if1 .taken)
 
 add-i : tie.Need-add-i Inv-loop μ-loop
@@ -40,7 +41,8 @@ loop-less c = search needs
 
 loop-again : tie.Need-loop-again Inv-loop μ-loop
 loop-again c =
-    let e = row-conn-at (words (c .before .before .before .before .before .args .s .now)) (c .before .before .before .before .before .args .to) (c .before .before .before .loop .i) (omega arith) in
+    let start = c .before .before .before .before .before in
+    let e = row-conn-at (words (start .args .s .now)) (start .args .to) (c .before .before .before .loop .i) (omega arith) in
     passing-more (c .before .before .before .loop .inv) (omega arith) (λ z. c .if1 .left (c .before .get .ensures ∙ sym e ∙ z))
 
 returns-2 : tie.Need-returns-2 Inv-loop μ-loop

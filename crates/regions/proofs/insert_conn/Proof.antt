@@ -25,7 +25,9 @@ same-length c = search needs
 
 returns : tie.Need-returns
 unfolding connWords
-returns c = inserted-at connSize connWords (λ r. refl) (words (c .before .before .before .before .before .before .before .before .before .args .s .now)) (c .before .before .before .before .before .before .before .before .before .args .i) (c .before .before .before .before .before .before .before .before .before .args .n) (c .before .before .before .before .before .before .before .before .before .args .c) (c .before .before .before .before .before .before .before .before .before .pre .0) (omega (arith, length-words (c .before .before .before .before .before .before .before .before .before .args .s .now), c .before .before .before .before .before .before .before .before .before .pre)) (c .before .before .before .before .before .before .move-up .ensures) (c .before .before .write-conn .ensures .words-are)
+returns c =
+    let start = c .before .before .before .before .before .before .before .before .before in
+    inserted-at connSize connWords (λ r. refl) (words (start .args .s .now)) (start .args .i) (start .args .n) (start .args .c) (start .pre .0) (omega (arith, length-words (start .args .s .now), start .pre)) (c .before .before .before .before .before .before .move-up .ensures) (c .before .before .write-conn .ensures .words-are)
 
 pub insert-conn-spec : {M : Type 1} → statement M
 insert-conn-spec =

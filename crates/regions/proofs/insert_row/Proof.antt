@@ -25,7 +25,9 @@ same-length c = search needs
 
 returns : tie.Need-returns
 unfolding rowWords
-returns c = inserted-at rowSize rowWords (λ r. refl) (words (c .before .before .before .before .before .before .before .before .before .args .s .now)) (c .before .before .before .before .before .before .before .before .before .args .i) (c .before .before .before .before .before .before .before .before .before .args .n) (c .before .before .before .before .before .before .before .before .before .args .r) (c .before .before .before .before .before .before .before .before .before .pre .0) (omega (arith, length-words (c .before .before .before .before .before .before .before .before .before .args .s .now), c .before .before .before .before .before .before .before .before .before .pre)) (c .before .before .before .before .before .before .move-up .ensures) (c .before .before .write-row .ensures .words-are)
+returns c =
+    let start = c .before .before .before .before .before .before .before .before .before in
+    inserted-at rowSize rowWords (λ r. refl) (words (start .args .s .now)) (start .args .i) (start .args .n) (start .args .r) (start .pre .0) (omega (arith, length-words (start .args .s .now), start .pre)) (c .before .before .before .before .before .before .move-up .ensures) (c .before .before .write-row .ensures .words-are)
 
 pub insert-row-spec : {M : Type 1} → statement M
 insert-row-spec =

@@ -17,7 +17,9 @@ read-quad-requires : tie.Need-read-quad-requires
 read-quad-requires c κs = search needs
 
 returns : tie.Need-returns
-returns c = key-read (words (c .before .before .before .args .s .now)) (c .before .before .before .args .i) (c .before .get .ensures) (c .read-quad .ensures)
+returns c =
+    let start = c .before .before .before in
+    key-read (words (start .args .s .now)) (start .args .i) (c .before .get .ensures) (c .read-quad .ensures)
 
 pub key-at-spec : {M : Type 1} → statement M
 key-at-spec = tie.close (tie.spec mul-a add-get get-requires read-quad-requires returns)

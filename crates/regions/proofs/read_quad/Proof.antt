@@ -26,7 +26,9 @@ get-requires-4 : tie.Need-get-requires-4
 get-requires-4 c κs = search needs
 
 returns : tie.Need-returns
-returns c = quad-read (words (c .before .before .before .before .before .args .s .now)) (c .before .before .before .before .before .args .a) (c .before .before .before .get .ensures) (c .before .before .get2 .ensures) (c .before .get3 .ensures) (c .get4 .ensures)
+returns c =
+    let start = c .before .before .before .before .before in
+    quad-read (words (start .args .s .now)) (start .args .a) (c .before .before .before .get .ensures) (c .before .before .get2 .ensures) (c .before .get3 .ensures) (c .get4 .ensures)
 
 pub read-quad-spec : {M : Type 1} → statement M
 read-quad-spec =

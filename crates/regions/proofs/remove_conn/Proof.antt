@@ -22,7 +22,9 @@ same-length c = search needs
 
 returns : tie.Need-returns
 unfolding connWords
-returns c = removed-at connSize connWords (λ r. refl) (words (c .before .before .before .before .before .args .s .now)) (c .before .before .before .before .before .args .i) (c .before .before .before .before .before .args .n) (c .before .before .before .before .before .pre .0) (omega (arith, length-words (c .before .before .before .before .before .args .s .now), c .before .before .before .before .before .pre)) (c .before .before .take-out .ensures)
+returns c =
+    let start = c .before .before .before .before .before in
+    removed-at connSize connWords (λ r. refl) (words (start .args .s .now)) (start .args .i) (start .args .n) (start .pre .0) (omega (arith, length-words (start .args .s .now), start .pre)) (c .before .before .take-out .ensures)
 
 pub remove-conn-spec : {M : Type 1} → statement M
 remove-conn-spec =

@@ -16,7 +16,9 @@ abbrev μ-loop : tie.MeasureT-loop
 μ-loop s n c lo₀ hi₀ lo hi = hi - lo
 
 loop-holds : tie.Need-loop-holds Inv-loop μ-loop
-loop-holds c = search-start _ _ _ (length-recs connSize connKey (c .before .args .n) (words (c .before .args .s .now)))
+loop-holds c =
+    let start = c .before in
+    search-start _ _ _ (length-recs connSize connKey (start .args .n) (words (start .args .s .now)))
 
 sub-mid : tie.Need-sub-mid Inv-loop μ-loop
 sub-mid c = search needs
@@ -38,8 +40,9 @@ loop-less c = search needs
 
 loop-again : tie.Need-loop-again Inv-loop μ-loop
 loop-again c =
+    let start = c .before .before .before .before .before in
     let m = c .before .before .before .loop .lo + (c .before .before .before .loop .hi - c .before .before .before .loop .lo) / 2 in
-    let e = conn-key-at (words (c .before .before .before .before .before .args .s .now)) (c .before .before .before .before .before .args .n) m (omega arith) in
+    let e = conn-key-at (words (start .args .s .now)) (start .args .n) m (omega arith) in
     search-up (c .before .before .before .loop .inv) m (omega arith) (omega arith) (rw (e, ← (c .before .get .ensures)) (c .if1 .taken))
 
 loop-less-2 : tie.Need-loop-less-2 Inv-loop μ-loop
@@ -47,8 +50,9 @@ loop-less-2 c = search needs
 
 loop-again-2 : tie.Need-loop-again-2 Inv-loop μ-loop
 loop-again-2 c =
+    let start = c .before .before .before .before .before in
     let m = c .before .before .before .loop .lo + (c .before .before .before .loop .hi - c .before .before .before .loop .lo) / 2 in
-    let e = conn-key-at (words (c .before .before .before .before .before .args .s .now)) (c .before .before .before .before .before .args .n) m (omega arith) in
+    let e = conn-key-at (words (start .args .s .now)) (start .args .n) m (omega arith) in
     search-down (c .before .before .before .loop .inv) m (omega arith) (omega arith) (rw (e, ← (c .before .get .ensures)) (c .if1 .left))
 
 returns : tie.Need-returns Inv-loop μ-loop

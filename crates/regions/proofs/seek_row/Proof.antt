@@ -19,7 +19,9 @@ abbrev μ-loop : tie.MeasureT-loop
 μ-loop s n k after lo₀ hi₀ lo hi = hi - lo
 
 loop-holds : tie.Need-loop-holds Inv-loop μ-loop
-loop-holds c = search-start _ _ _ (length-recs rowSize rowKey (c .before .args .n) (words (c .before .args .s .now)))
+loop-holds c =
+    let start = c .before in
+    search-start _ _ _ (length-recs rowSize rowKey (start .args .n) (words (start .args .s .now)))
 
 sub-mid : tie.Need-sub-mid Inv-loop μ-loop
 sub-mid c = search needs
@@ -41,18 +43,20 @@ loop-less c = search needs
 
 loop-again : tie.Need-loop-again Inv-loop μ-loop
 loop-again c =
+    let start = c .before .before .before .before .before .before in
     let m = c .before .before .before .before .loop .lo + (c .before .before .before .before .loop .hi - c .before .before .before .before .loop .lo) / 2 in
-    let h = rw (c .before .before .key-at .ensures) at (ltb-true (keyNumber (c .before .before .key-at .result)) (keyNumber (c .before .before .before .before .before .before .args .k) + one (c .before .before .before .before .before .before .args .after)) (sym (c .before .falls-short .ensures) ∙ c .if1 .taken)) in
-    search-up (c .before .before .before .before .loop .inv) m (omega arith) (omega arith) (rw (row-key-at (words (c .before .before .before .before .before .before .args .s .now)) (c .before .before .before .before .before .before .args .n) m (omega arith)) h)
+    let h = rw (c .before .before .key-at .ensures) at (ltb-true (keyNumber (c .before .before .key-at .result)) (keyNumber (start .args .k) + one (start .args .after)) (sym (c .before .falls-short .ensures) ∙ c .if1 .taken)) in
+    search-up (c .before .before .before .before .loop .inv) m (omega arith) (omega arith) (rw (row-key-at (words (start .args .s .now)) (start .args .n) m (omega arith)) h)
 
 loop-less-2 : tie.Need-loop-less-2 Inv-loop μ-loop
 loop-less-2 c = search needs
 
 loop-again-2 : tie.Need-loop-again-2 Inv-loop μ-loop
 loop-again-2 c =
+    let start = c .before .before .before .before .before .before in
     let m = c .before .before .before .before .loop .lo + (c .before .before .before .before .loop .hi - c .before .before .before .before .loop .lo) / 2 in
-    let h = rw (c .before .before .key-at .ensures) at (ltb-false (keyNumber (c .before .before .key-at .result)) (keyNumber (c .before .before .before .before .before .before .args .k) + one (c .before .before .before .before .before .before .args .after)) (sym (c .before .falls-short .ensures) ∙ c .if1 .left)) in
-    search-down (c .before .before .before .before .loop .inv) m (omega arith) (omega arith) (rw (row-key-at (words (c .before .before .before .before .before .before .args .s .now)) (c .before .before .before .before .before .before .args .n) m (omega arith)) h)
+    let h = rw (c .before .before .key-at .ensures) at (ltb-false (keyNumber (c .before .before .key-at .result)) (keyNumber (start .args .k) + one (start .args .after)) (sym (c .before .falls-short .ensures) ∙ c .if1 .left)) in
+    search-down (c .before .before .before .before .loop .inv) m (omega arith) (omega arith) (rw (row-key-at (words (start .args .s .now)) (start .args .n) m (omega arith)) h)
 
 returns : tie.Need-returns Inv-loop μ-loop
 returns c = search-end (c .before .loop .inv) (c .loop-test .left)

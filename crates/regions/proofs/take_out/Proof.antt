@@ -43,10 +43,11 @@ same-length c = search needs
 
 returns : tie.Need-returns
 returns c =
-    let w = words (c .before .before .before .before .before .before .before .before .before .args .s .now) in
-    let e = c .before .before .before .before .before .before .before .before .before .args .b - c .before .before .before .before .before .before .before .before .before .args .d in
-    let moved = back-down (c .before .before .before .before .before .before .before .before .before .args .d) (c .before .before .before .before .before .before .before .before .before .args .s .now) (c .before .before .before .before .before .before .shift-down .last .0) (c .before .before .before .before .before .before .before .before .before .args .a) e (omega (arith, c .before .before .before .before .before .before .before .before .before .pre)) (omega (arith, c .before .before .before .before .before .before .before .before .before .pre)) (c .before .before .before .before .before .before .shift-down .kept .0) (c .before .before .before .before .before .before .shift-down .ensures) in
-    shut-by w (c .before .before .before .before .before .before .before .before .before .args .d) (c .before .before .before .before .before .before .before .before .before .args .a) (c .before .before .before .before .before .before .before .before .before .args .b) (c .before .before .before .before .before .before .before .before .before .pre .0) (omega (arith, length-words (c .before .before .before .before .before .before .before .before .before .args .s .now), c .before .before .before .before .before .before .before .before .before .pre)) moved (c .before .before .clear .ensures)
+    let start = c .before .before .before .before .before .before .before .before .before in
+    let w = words (start .args .s .now) in
+    let e = start .args .b - start .args .d in
+    let moved = back-down (start .args .d) (start .args .s .now) (c .before .before .before .before .before .before .shift-down .last .0) (start .args .a) e (omega (arith, start .pre)) (omega (arith, start .pre)) (c .before .before .before .before .before .before .shift-down .kept .0) (c .before .before .before .before .before .before .shift-down .ensures) in
+    shut-by w (start .args .d) (start .args .a) (start .args .b) (start .pre .0) (omega (arith, length-words (start .args .s .now), start .pre)) moved (c .before .before .clear .ensures)
 
 pub take-out-spec : {M : Type 1} → statement M
 take-out-spec =

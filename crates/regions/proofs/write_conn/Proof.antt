@@ -32,7 +32,9 @@ same-length c = search needs
 
 returns : tie.Need-returns
 unfolding connWords
-returns c = replaced connSize connWords (λ c. refl) (words (c .before .before .before .before .before .before .before .before .before .before .before .before .before .args .s .now)) (c .before .before .before .before .before .before .before .before .before .before .before .before .before .args .i) (omega (arith, length-words (c .before .before .before .before .before .before .before .before .before .before .before .before .before .args .s .now), c .before .before .before .before .before .before .before .before .before .before .before .before .before .pre)) (c .before .before .before .before .before .before .before .before .before .before .before .before .before .args .c) (conn-written (words (c .before .before .before .before .before .before .before .before .before .before .before .before .before .args .s .now)) (c .before .before .before .before .before .before .before .before .before .before .before .before .before .args .i) (c .before .before .before .before .before .before .before .before .before .before .before .before .before .args .c) (omega (arith, length-words (c .before .before .before .before .before .before .before .before .before .before .before .before .before .args .s .now), c .before .before .before .before .before .before .before .before .before .before .before .before .before .pre)) (c .before .before .before .before .before .before .before .before .before .before .put .ensures .word) (c .before .before .before .before .before .before .put2 .ensures .word) (c .before .before .put3 .ensures .word))
+returns c =
+    let start = c .before .before .before .before .before .before .before .before .before .before .before .before .before in
+    replaced connSize connWords (λ c. refl) (words (start .args .s .now)) (start .args .i) (omega (arith, length-words (start .args .s .now), start .pre)) (start .args .c) (conn-written (words (start .args .s .now)) (start .args .i) (start .args .c) (omega (arith, length-words (start .args .s .now), start .pre)) (c .before .before .before .before .before .before .before .before .before .before .put .ensures .word) (c .before .before .before .before .before .before .put2 .ensures .word) (c .before .before .put3 .ensures .word))
 
 pub write-conn-spec : {M : Type 1} → statement M
 write-conn-spec =

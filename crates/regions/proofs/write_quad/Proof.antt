@@ -31,7 +31,9 @@ same-length : tie.Need-same-length
 same-length c = search needs
 
 returns : tie.Need-returns
-returns c = quad-written (words (c .before .before .before .before .before .before .before .before .before .before .before .before .before .before .before .before .before .args .s .now)) (c .before .before .before .before .before .before .before .before .before .before .before .before .before .before .before .before .before .args .a) (c .before .before .before .before .before .before .before .before .before .before .before .before .before .before .before .before .before .args .q) (omega (arith, length-words (c .before .before .before .before .before .before .before .before .before .before .before .before .before .before .before .before .before .args .s .now), c .before .before .before .before .before .before .before .before .before .before .before .before .before .before .before .before .before .pre)) (c .before .before .before .before .before .before .before .before .before .before .before .before .before .before .put .ensures .word) (c .before .before .before .before .before .before .before .before .before .before .put2 .ensures .word) (c .before .before .before .before .before .before .put3 .ensures .word) (c .before .before .put4 .ensures .word)
+returns c =
+    let start = c .before .before .before .before .before .before .before .before .before .before .before .before .before .before .before .before .before in
+    quad-written (words (start .args .s .now)) (start .args .a) (start .args .q) (omega (arith, length-words (start .args .s .now), start .pre)) (c .before .before .before .before .before .before .before .before .before .before .before .before .before .before .put .ensures .word) (c .before .before .before .before .before .before .before .before .before .before .put2 .ensures .word) (c .before .before .before .before .before .before .put3 .ensures .word) (c .before .before .put4 .ensures .word)
 
 pub write-quad-spec : {M : Type 1} → statement M
 write-quad-spec =

@@ -1,0 +1,18 @@
+-- `ident::hash_from_bytes` meets its contract. Assumes nothing.
+use borrow.Author.Needs.{needs}
+use mathlib.Core.Path.{_∙_, ap}
+use native.Mathlib.Omega.{arith}
+use lib.Seq.{take-all}
+use Rattle.ident.specs.Bytes.{bytesNum, hashBytes}
+use Rattle.ident.proofs.hash_from_bytes.Statement.{statement}
+use Rattle.ident.proofs.hash_from_bytes.Tie as tie
+
+hash-at-requires : tie.Need-hash-at-requires
+hash-at-requires c κs = search needs
+
+returns : tie.Need-returns
+returns c =
+    c .hash-at .ensures ∙ ap bytesNum (take-all hashBytes (c .before .before .args .b .now) (omega arith))
+
+pub hash-from-bytes-spec : {M : Type 1} → statement M
+hash-from-bytes-spec = tie.close (tie.spec hash-at-requires returns)

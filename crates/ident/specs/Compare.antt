@@ -1,0 +1,34 @@
+-- The order of two numbers as the code answers it.
+-- Assumes nothing.
+use Prim.Native.Nat.{ℕ}
+use mathlib.Core.Bool.{Bool, true, false}
+use lib.Dec.{ltb}
+use Rattle.ident.specs.declared.Kind.{Kind}
+use Rattle.ident.specs.declared.Kind.the-variants.{Txid, Wtxid}
+use Rattle.ident.specs.declared.Order.{Order}
+use Rattle.ident.specs.declared.Order.the-variants.{Less, Equal, Greater}
+use Rattle.ident.specs.If.{if_then_else_}
+
+abbrev pub orderOf : ℕ → ℕ → Order
+orderOf m n = if ltb m n then Less else if ltb n m then Greater else Equal
+
+abbrev pub isLess : Order → Bool
+isLess Less = true
+isLess Equal = false
+isLess Greater = false
+
+abbrev pub isEqual : Order → Bool
+isEqual Less = false
+isEqual Equal = true
+isEqual Greater = false
+
+-- the order of two high parts, and where those are equal that of the low
+abbrev pub thenOf : Order → Order → Order
+thenOf Less o = Less
+thenOf Greater o = Greater
+thenOf Equal o = o
+
+-- how many ranks of keys stand before a key of this kind
+abbrev pub kindRank : Kind → ℕ
+kindRank Txid = 0
+kindRank Wtxid = 1

@@ -1,0 +1,36 @@
+-- The numbers that the declared types stand for: of a hash, of a key, of an item.
+-- Assumes nothing.
+use Prim.Native.Nat.{ℕ, _+_, _*_, _^_}
+use mathlib.Core.Option.{Option, none, some}
+use lib.ListN.{getD}
+use Rattle.ident.specs.declared.Kind.{Kind}
+use Rattle.ident.specs.declared.Hash.{Hash}
+use Rattle.ident.specs.declared.Key.{Key}
+use Rattle.ident.specs.declared.Item.{Item}
+use Rattle.ident.specs.declared.MaybeKind.{MaybeKind}
+use Rattle.ident.specs.declared.MaybeKind.the-variants.{None as KNone, Is as KIs}
+use Rattle.ident.specs.declared.MaybeKey.{MaybeKey}
+use Rattle.ident.specs.declared.MaybeKey.the-variants.{None, Is}
+use Rattle.ident.specs.Number as N
+
+-- four words as digits in base 2^64, the least first
+abbrev pub wordsNum : ℕ → ℕ → ℕ → ℕ → ℕ
+wordsNum w x y z = w + (x + (y + z * 2 ^ 64) * 2 ^ 64) * 2 ^ 64
+
+abbrev pub hashNum : Hash → ℕ
+hashNum h = wordsNum (getD (h .words) 0 0) (getD (h .words) 1 0) (getD (h .words) 2 0) (getD (h .words) 3 0)
+
+abbrev pub keyNum : Key → N.Key
+keyNum k = record { kind = k .kind; hash = hashNum (k .hash) }
+
+abbrev pub itemNum : Item → N.Item
+itemNum i = record { kind = i .kind; hash = hashNum (i .hash) }
+
+-- what may be missing
+abbrev pub maybeKind : MaybeKind → Option Kind
+maybeKind KNone = none
+maybeKind (KIs k) = some k
+
+abbrev pub maybeKeyNum : MaybeKey → Option N.Key
+maybeKeyNum None = none
+maybeKeyNum (Is k) = some (keyNum k)
