@@ -19,10 +19,10 @@ use Rattle.regions.specs.Rows.{rowSize, readRow, rowKey, keyNumber, keyOf}
 use Rattle.machine.specs.Typed.{Each}
 use Rattle.store.specs.Gather.{kindIs, keyAt}
 use Rattle.store.specs.FlatSound.{hashAt, RowFits, Ascending}
+use Rattle.store.proofs.Keys.{row-number}
 use Rattle.store.proofs.Quads.{number-top}
 use Rattle.sound.specs.Rows.{RowsSound}
 use Rattle.sound.specs.Groups.{rowAt}
-use Rattle.sound.proofs.Rows.{place-key}
 use Rattle.sound.proofs.Groups.{Level}
 
 -- ---- keys by index
@@ -55,7 +55,7 @@ kind-txid r h = go (kindIs (r .bits % 2)) h
     go Txid h = omega arith
     go Wtxid h = absurd (omega arith)
 
-kind-wtxid : (r : Row) → RowFits r → top ≤ place (keyAt r) → place (keyAt r) ≡ top + hashAt r
+pub kind-wtxid : (r : Row) → RowFits r → top ≤ place (keyAt r) → place (keyAt r) ≡ top + hashAt r
 unfolding keyAt
 kind-wtxid r f h = go (kindIs (r .bits % 2)) h
   where
@@ -72,16 +72,16 @@ unfolding keyNumber number top
 first-top = refl
 
 module _ (n : ℕ) (w : List ℕ) (s : RowsSound (recs rowSize readRow n w)) where
-  climb : (p q : ℕ) → p ≤ q → q < n → place (keyAt (rowAt w p)) ≤ place (keyAt (rowAt w q))
+  pub climb : (p q : ℕ) → p ≤ q → q < n → place (keyAt (rowAt w p)) ≤ place (keyAt (rowAt w q))
   climb p q h l =
       rw (← (recs-at rowSize readRow n w p (rowAt w 0) (omega arith)), ← (recs-at rowSize readRow n w q (rowAt w 0) l))
       (keys-climb (rowAt w 0) 0 (recs rowSize readRow n w) (s .ascending) p q h (rw (length-recs rowSize readRow n w) l))
 
-  fits-at : (q : ℕ) → q < n → RowFits (rowAt w q)
+  pub fits-at : (q : ℕ) → q < n → RowFits (rowAt w q)
   fits-at q l = rw (← (recs-at rowSize readRow n w q (rowAt w 0) l)) (each-at (rowAt w 0) (recs rowSize readRow n w) (s .fit) q (rw (length-recs rowSize readRow n w) l))
 
-  key-at : (k : ℕ) → k < n → getD (recs rowSize rowKey n w) k 0 ≡ place (keyAt (rowAt w k))
-  key-at k h = recs-at rowSize rowKey n w k 0 h ∙ sym (place-key (rowAt w k))
+  pub key-at : (k : ℕ) → k < n → getD (recs rowSize rowKey n w) k 0 ≡ place (keyAt (rowAt w k))
+  key-at k h = recs-at rowSize rowKey n w k 0 h ∙ row-number (rowAt w k)
 
   pub keys-sorted : Sorted (recs rowSize rowKey n w)
   unfolding Sorted

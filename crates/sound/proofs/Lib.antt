@@ -6,3 +6,5 @@ pub mod Tally
 pub mod Conns
 pub mod Groups
 pub mod Halves
+pub mod Owned
+pub mod Hashes

@@ -21,30 +21,10 @@ use Rattle.machine.proofs.Tests.{test}
 use Rattle.store.specs.Flat.{ownBit}
 use Rattle.store.specs.Gather.{kindIs, keyAt}
 use Rattle.store.specs.FlatSound.{markBit, RowFits, Ascending, MarkedAs, SameMarks}
+use Rattle.store.proofs.Keys.{row-number}
 use Rattle.sound.specs.Rows.{RowPlain, Follows, RowsSound}
 use Rattle.sound.proofs.Decide.{Iff, Chain, rest, rest-all, rest-turn}
 use Rattle.sound.proofs.Ranges.{Below, below-words, each-recs, RowRanges, row-ranges}
-
--- ---- a key's number is its place
-
--- (`omega` takes no numeral of 2^128's length, so that it goes digit by digit)
-digit-more : (d m n : ℕ) → d + word * (m + n) ≡ (d + word * m) + word * n
-digit-more d m n = omega arith
-
-number-kind : (q : Quad) (k : ℕ) → number word (q .w0 ∷ q .w1 ∷ q .w2 ∷ q .w3 ∷ k ∷ []) ≡ quadNumber q + word * (word * (word * (word * k)))
-unfolding quadNumber number
-number-kind q k =
-    let e : q .w3 + word * (k + word * 0) ≡ (q .w3 + word * 0) + word * k = omega arith in
-    rw (e, digit-more (q .w2) (q .w3 + word * 0) (word * k), digit-more (q .w1) (q .w2 + word * (q .w3 + word * 0)) (word * (word * k)), digit-more (q .w0) (q .w1 + word * (q .w2 + word * (q .w3 + word * 0))) (word * (word * (word * k))))
-
-pub place-key : (r : Row) → place (keyAt r) ≡ keyNumber (keyOf r)
-unfolding keyAt keyNumber top
-place-key r = go (r .bits % 2) (omega arith) ∙ sym (number-kind (r .hash) (r .bits % 2))
-  where
-    go : (k : ℕ) → k < 2 → place (record { kind = kindIs k; hash = quadNumber (r .hash) }) ≡ quadNumber (r .hash) + word * (word * (word * (word * k)))
-    go zero h = omega arith
-    go (suc zero) h = native.Mathlib.Nat.add-comm (2 ^ 256) (quadNumber (r .hash))
-    go (suc (suc k)) h = absurd (omega arith)
 
 -- ---- the walk
 
@@ -102,7 +82,7 @@ plain-bits r p i b k v = elim (test (ltb (r .bits) 16)) [
 -- the last test of a row behind another: keys that are neither less nor greater are equal
 pub follows-mark : (p r : Row) → ltb (keyNumber (keyOf p)) (keyNumber (keyOf r)) ≡ false → ltb (keyNumber (keyOf r)) (keyNumber (keyOf p)) ≡ false → Decides (eqb (markBit p) (markBit r)) (Follows p r)
 follows-mark p r a b =
-    let e : place (keyAt p) ≡ place (keyAt r) = place-key p ∙ le-antisymm (ltb-false _ _ b) (ltb-false _ _ a) ∙ sym (place-key r) in
+    let e : place (keyAt p) ≡ place (keyAt r) = sym (row-number p) ∙ le-antisymm (ltb-false _ _ b) (ltb-false _ _ a) ∙ row-number r in
     elim (test (eqb (markBit p) (markBit r))) [
       | inl m ↦ rw m (record { order = rw e (le-refl _); mark = λ _. eqb-true (markBit p) (markBit r) m })
       | inr m ↦ rw m (λ f. eqb-false (markBit p) (markBit r) m (f .mark e))
@@ -110,12 +90,12 @@ follows-mark p r a b =
 
 pub follows-less : (p r : Row) → ltb (keyNumber (keyOf p)) (keyNumber (keyOf r)) ≡ true → Follows p r
 follows-less p r a =
-    let l : place (keyAt p) < place (keyAt r) = rw (place-key p, place-key r) (ltb-true _ _ a) in
+    let l : place (keyAt p) < place (keyAt r) = rw (← (row-number p), ← (row-number r)) (ltb-true _ _ a) in
     record { order = le-of-lt l; mark = λ e. absurd (lt-irrefl _ (rw e at l)) }
 
 pub follows-not : (p r : Row) → ltb (keyNumber (keyOf r)) (keyNumber (keyOf p)) ≡ true → Follows p r → ⊥
 follows-not p r b f =
-    let l : place (keyAt r) < place (keyAt p) = rw (place-key p, place-key r) (ltb-true _ _ b) in
+    let l : place (keyAt r) < place (keyAt p) = rw (← (row-number p), ← (row-number r)) (ltb-true _ _ b) in
     not-le-of-lt l (f .order)
 
 pub rows-iff : (s : List ℕ) (n : ℕ) {p : Row} → 0 < n → Below 256 s → p ≡ readRow (take rowSize (drop (rowSize * 0) (words s)))
