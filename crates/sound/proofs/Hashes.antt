@@ -32,7 +32,7 @@ quad-same a b p q r s = rw (p, q, r, s)
 
 -- ---- a list of hashes
 
-quad-take : (u : List ℕ) → readQuad (take 4 u) ≡ readQuad u
+pub quad-take : (u : List ℕ) → readQuad (take 4 u) ≡ readQuad u
 quad-take u = rw (getD-take 4 u 0 0 (omega arith), getD-take 4 u 1 0 (omega arith), getD-take 4 u 2 0 (omega arith), getD-take 4 u 3 0 (omega arith))
 
 module _ (w : List ℕ) (a : ℕ) where
@@ -76,3 +76,7 @@ module _ (w : List ℕ) (a : ℕ) where
   pub elem-end : (x k n : ℕ) → n ≤ k → elem x (hashesIn w a k n) ≡ false
   unfolding elem
   elem-end x k n h = rw (hashes-none k n h)
+
+pub zero-number : quadNumber (record { w0 = 0; w1 = 0; w2 = 0; w3 = 0 }) ≡ 0
+unfolding quadNumber number
+zero-number = refl

@@ -8,3 +8,5 @@ pub mod Groups
 pub mod Halves
 pub mod Owned
 pub mod Hashes
+pub mod Stage
+pub mod Exact

@@ -37,8 +37,8 @@ hashesIn w a from to = recs 4 readHash (to - from) (drop (4 * from) (drop a w))
 
 -- behind m wtxids and n parents there are zeros
 pub record Padded (v : List ℕ) (m n : ℕ) : Type 0 where
-  pub wtxids : slice (wtxidsAt + 4 * m) parentsAt v ≡ replicate (parentsAt - (wtxidsAt + 4 * m)) 0
-  pub parents : slice (parentsAt + 4 * n) 811 v ≡ replicate (811 - (parentsAt + 4 * n)) 0
+  pub wtxids : slice (wtxidsAt + m * 4) parentsAt v ≡ replicate (parentsAt - (wtxidsAt + m * 4)) 0
+  pub parents : slice (parentsAt + n * 4) 811 v ≡ replicate (811 - (parentsAt + n * 4)) 0
   pub kept : slice 811 placeSize v ≡ replicate keptSize 0
 
 -- ---- by stage: 1 flag, 2 Awaiting, 3 Enqueued; the combined hash, how many wtxids

@@ -3,6 +3,8 @@
 // Each function decides one part of what FlatSound says of the records that the bytes hold, in both directions: `true` if the part
 // holds, `false` only if it does not. A region is a slice whose word 0 is the region's first word. A `requires` says only that the
 // records in question lie within the slice.
+pub mod package; // package.rt: package places
+
 ghost use mathlib.Core.Path.{_≡_};
 ghost use Prim.Native.Nat.{ℕ, _+_, _*_, _^_, _≤_, _<_};
 ghost use lib.ListN.{length, getD};
