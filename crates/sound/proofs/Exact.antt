@@ -76,9 +76,9 @@ module _ (v : List ℕ) (a c m : ℕ) (h : 4 * c ≤ m) (l : a + m ≤ length v)
 
 cut-iff : (n : ℕ) (v a b : List ℕ) → length a ≡ n → Iff (v ≡ a ++ b) ((take n v ≡ a) × (drop n v ≡ b))
 cut-iff n v a b e = record {
-      to = λ q. (ap (take n) q ∙ take-at a b n e, ap (drop n) q ∙ drop-at a b n e);
-      from = λ p. sym (take-append-drop n v) ∙ rw (p .0, p .1);
-    }
+  to = λ q. (ap (take n) q ∙ take-at a b n e, ap (drop n) q ∙ drop-at a b n e);
+  from = λ p. sym (take-append-drop n v) ∙ rw (p .0, p .1);
+}
 
 three : (v : List ℕ) (i : ℕ) → i + 3 ≤ length v → take 3 (drop i v) ≡ getD v i 0 ∷ getD v (i + 1) 0 ∷ getD v (i + 2) 0 ∷ []
 three v i h = lib.Seq.ext-getD 0 _ _ l at

@@ -10,3 +10,5 @@ pub mod Owned
 pub mod Hashes
 pub mod Stage
 pub mod Exact
+pub mod PlaceTests
+pub mod PlaceWalk

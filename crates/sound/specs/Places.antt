@@ -49,3 +49,8 @@ StagePlain (suc zero) h n = (h ≡ 0) × (n ≡ 0)
 StagePlain (suc (suc zero)) h n = (1 ≤ n) × (n ≤ maxWtxids)
 StagePlain (suc (suc (suc zero))) h n = (1 ≤ n) × (n ≤ maxWtxids)
 StagePlain (suc (suc (suc (suc s)))) h n = ⊥
+
+-- ---- one place behind another
+
+abbrev pub PlaceFollows : List ℕ → ℕ → Type 0
+PlaceFollows w i = 0 < i → placeKey (placeAt w (i - 1)) < placeKey (placeAt w i)
