@@ -1,16 +1,17 @@
 -- The order of two numbers, and of two numbers that are each made of a high part and a low part below K: it is the order of the high parts, and where those are equal that of the low. Assumes nothing.
-use mathlib.Core.Path.{_≡_, refl, sym, _∙_, ap, subst}
-use Prim.Native.Nat.{ℕ, _+_, _*_, _^_, _<_, _≤_}
-use native.Mathlib.Nat.{mul-le-mul-right, suc-mul}
+use mathlib.Core.Path.{_≡_, refl, sym, _∙_, ap}
+use Prim.Native.Nat.{ℕ, suc, _+_, _*_, _<_, _≤_}
+use mathlib.Core.List.{List, _∷_}
+use native.Mathlib.Nat.{mul-le-mul-left}
 use native.Mathlib.Omega.{arith}
 use mathlib.Core.Bool.{Bool, true, false}
 use mathlib.Core.Logic.{_⊎_, inl, inr, ⊎-elim}
-use lib.Dec.{ltb, eqb}
-use borrow.Author.Tests.{ltb-true, ltb-false, lt-ltb, le-ltb, eq-eqb, ne-eqb}
+use lib.Dec.{ltb}
+use borrow.Author.Tests.{ltb-true, ltb-false, lt-ltb, le-ltb}
 use Rattle.ident.specs.declared.Order.{Order}
 use Rattle.ident.specs.declared.Order.the-variants.{Less, Equal, Greater}
-use Rattle.ident.specs.Compare.{orderOf, thenOf, isLess, isEqual}
-use Rattle.ident.specs.Words.{wordsNum}
+use Rattle.ident.specs.Compare.{orderOf, thenOf}
+use Rattle.words.specs.Words.{number}
 
 pub either : (t : Bool) → (t ≡ true) ⊎ (t ≡ false)
 either true = inl refl
@@ -36,18 +37,18 @@ pub is-same-le : (m n : ℕ) → n ≤ m → m ≤ n → orderOf m n ≡ Equal
 is-same-le m n h h′ = simp (le-ltb m n h, le-ltb n m h′)
 
 -- a greater high part is more than any low part makes up for
-above : (K l l′ h h′ : ℕ) → l < K → h < h′ → l + h * K < l′ + h′ * K
-above K l l′ h h′ g less = sums (h * K) (h′ * K) (subst (λ (x : ℕ). x ≤ h′ * K) (suc-mul h K) (mul-le-mul-right K less))
-  where
-    sums : (p q : ℕ) → p + K ≤ q → l + p < l′ + q
-    sums p q e = omega (arith, e, g)
+above : (K l l′ h h′ : ℕ) → l < K → h < h′ → l + K * h < l′ + K * h′
+above K l l′ h h′ g less =
+    let m : K * suc h ≤ K * h′ = mul-le-mul-left K less in
+    let e : K * suc h ≡ K + K * h = omega arith in
+    omega arith
 
 -- the order is that of the high parts, and then of the low
-pub by-parts : (K l l′ h h′ : ℕ) → l < K → l′ < K → thenOf (orderOf h h′) (orderOf l l′) ≡ orderOf (l + h * K) (l′ + h′ * K)
+pub by-parts : (K l l′ h h′ : ℕ) → l < K → l′ < K → thenOf (orderOf h h′) (orderOf l l′) ≡ orderOf (l + K * h) (l′ + K * h′)
 by-parts K l l′ h h′ g g′ =
     ⊎-elim (λ less. ap (λ (o : Order). thenOf o (orderOf l l′)) (is-less h h′ less) ∙ sym (is-less _ _ (above K l l′ h h′ g less)))
     (⊎-elim (λ more. ap (λ (o : Order). thenOf o (orderOf l l′)) (is-more h h′ more) ∙ sym (is-more _ _ (above K l′ l h′ h g′ more)))
-    (λ same. ap (λ (o : Order). thenOf o (orderOf l l′)) (is-same h h′ same) ∙ low (h * K) (h′ * K) (ap (λ (x : ℕ). x * K) same)))
+    (λ same. ap (λ (o : Order). thenOf o (orderOf l l′)) (is-same h h′ same) ∙ low (K * h) (K * h′) (ap (λ (x : ℕ). K * x) same)))
     (three h h′)
   where
     low : (p q : ℕ) → p ≡ q → orderOf l l′ ≡ orderOf (l + p) (l′ + q)
@@ -57,54 +58,7 @@ by-parts K l l′ h h′ g g′ =
         (λ same. is-same l l′ same ∙ sym (is-same (l + p) (l′ + q) (omega (arith, e, same)))))
         (three l l′)
 
--- a low part below K and a high part below N make a number below N * K
-pub parts-below : (K N l h : ℕ) → l < K → h < N → l + h * K < N * K
-parts-below K N l h g less = sums (h * K) (N * K) (subst (λ (x : ℕ). x ≤ N * K) (suc-mul h K) (mul-le-mul-right K less))
-  where
-    sums : (p q : ℕ) → p + K ≤ q → l + p < q
-    sums p q e = omega (arith, e, g)
-
--- equal numbers have equal parts
-pub parts-same : (K l l′ h h′ : ℕ) → l < K → l′ < K → l + h * K ≡ l′ + h′ * K → (l ≡ l′) × (h ≡ h′)
-parts-same K l l′ h h′ g g′ e =
-    ⊎-elim (λ less. absurd (apart (above K l l′ h h′ g less)))
-    (⊎-elim (λ more. absurd (apart′ (above K l′ l h′ h g′ more)))
-    (λ same. (low (h * K) (h′ * K) (ap (λ (x : ℕ). x * K) same) e, same)))
-    (three h h′)
-  where
-    apart : l + h * K < l′ + h′ * K → ⊥
-    apart h = omega (arith, h, e)
-
-    apart′ : l′ + h′ * K < l + h * K → ⊥
-    apart′ h = omega (arith, h, e)
-
-    low : (p q : ℕ) → p ≡ q → l + p ≡ l′ + q → l ≡ l′
-    low p q s e = omega (arith, s, e)
-
--- the order of four words, from the most significant, is the order of the numbers that they make
-pub by-words : (w x y z w′ x′ y′ z′ : ℕ) → w < 2 ^ 64 → x < 2 ^ 64 → y < 2 ^ 64 → w′ < 2 ^ 64 → x′ < 2 ^ 64 → y′ < 2 ^ 64
-    → thenOf (thenOf (thenOf (orderOf z z′) (orderOf y y′)) (orderOf x x′)) (orderOf w w′) ≡ orderOf (wordsNum w x y z) (wordsNum w′ x′ y′ z′)
-by-words w x y z w′ x′ y′ z′ gw gx gy gw′ gx′ gy′ =
-    ap (λ (o : Order). thenOf (thenOf o (orderOf x x′)) (orderOf w w′)) (by-parts (2 ^ 64) y y′ z z′ gy gy′) ∙
-    ap (λ (o : Order). thenOf o (orderOf w w′)) (by-parts (2 ^ 64) x x′ (y + z * 2 ^ 64) (y′ + z′ * 2 ^ 64) gx gx′) ∙
-    by-parts (2 ^ 64) w w′ (x + (y + z * 2 ^ 64) * 2 ^ 64) (x′ + (y′ + z′ * 2 ^ 64) * 2 ^ 64) gw gw′
-
--- ---- the answers to "less" and to "equal"
-
-is-less-test : (m n : ℕ) → isLess (orderOf m n) ≡ ltb m n
-is-less-test m n =
-    ⊎-elim (λ less. rw (is-less m n less, lt-ltb m n less))
-    (⊎-elim (λ more. rw (is-more m n more, le-ltb m n (omega (arith, more)))) (λ same. rw (is-same m n same, le-ltb m n (omega (arith, same)))))
-    (three m n)
-
-is-equal-test : (m n : ℕ) → isEqual (orderOf m n) ≡ eqb m n
-is-equal-test m n =
-    ⊎-elim (λ less. rw (is-less m n less, ne-eqb m n (λ e. omega (arith, e, less))))
-    (⊎-elim (λ more. rw (is-more m n more, ne-eqb m n (λ e. omega (arith, e, more)))) (λ same. rw (is-same m n same, eq-eqb m n same)))
-    (three m n)
-
-pub less-test : (m n : ℕ) {r : Bool} {o : Order} → r ≡ isLess o → o ≡ orderOf m n → r ≡ ltb m n
-less-test m n e f = e ∙ ap isLess f ∙ is-less-test m n
-
-pub equal-test : (m n : ℕ) {r : Bool} {o : Order} → r ≡ isEqual o → o ≡ orderOf m n → r ≡ eqb m n
-equal-test m n e f = e ∙ ap isEqual f ∙ is-equal-test m n
+-- numbers are in the order of the digits above the lowest, and then of that
+pub by-digit : (b d d′ : ℕ) (ds ds′ : List ℕ) → d < b → d′ < b → thenOf (orderOf (number b ds) (number b ds′)) (orderOf d d′) ≡ orderOf (number b (d ∷ ds)) (number b (d′ ∷ ds′))
+unfolding number
+by-digit b d d′ ds ds′ = by-parts b d d′ (number b ds) (number b ds′)

@@ -1,6 +1,6 @@
 pub mod Compare
 pub mod Words
+pub mod WordByWord
 pub mod Places
 pub mod TypeNumbers
-pub mod Bytes
 pub mod RoundTrip

@@ -13,7 +13,7 @@ use Rattle.ident.proofs.Compare.{by-parts}
 use Rattle.ident.proofs.Words.{Four, hash-below, key-same}
 
 -- a key's place is its hash, and its rank times the number of hashes
-rank-place : (k : Kind) (h : ℕ) → h + kindRank k * top ≡ base k + h
+rank-place : (k : Kind) (h : ℕ) → h + top * kindRank k ≡ base k + h
 rank-place Txid h = omega arith
 rank-place Wtxid h = omega arith
 

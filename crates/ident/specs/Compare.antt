@@ -1,7 +1,6 @@
 -- The order of two numbers as the code answers it.
 -- Assumes nothing.
 use Prim.Native.Nat.{ℕ}
-use mathlib.Core.Bool.{Bool, true, false}
 use lib.Dec.{ltb}
 use Rattle.ident.specs.declared.Kind.{Kind}
 use Rattle.ident.specs.declared.Kind.the-variants.{Txid, Wtxid}
@@ -11,16 +10,6 @@ use Rattle.ident.specs.If.{if_then_else_}
 
 abbrev pub orderOf : ℕ → ℕ → Order
 orderOf m n = if ltb m n then Less else if ltb n m then Greater else Equal
-
-abbrev pub isLess : Order → Bool
-isLess Less = true
-isLess Equal = false
-isLess Greater = false
-
-abbrev pub isEqual : Order → Bool
-isEqual Less = false
-isEqual Equal = true
-isEqual Greater = false
 
 -- the order of two high parts, and where those are equal that of the low
 abbrev pub thenOf : Order → Order → Order

@@ -1,5 +1,4 @@
 pub mod If
 pub mod Number
-pub mod Bytes
 pub mod Words
 pub mod Compare

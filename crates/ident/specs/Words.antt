@@ -1,8 +1,8 @@
 -- The numbers that the declared types stand for: of a hash, of a key, of an item.
 -- Assumes nothing.
-use Prim.Native.Nat.{ℕ, _+_, _*_, _^_}
+use Prim.Native.Nat.{ℕ, _^_}
 use mathlib.Core.Option.{Option, none, some}
-use lib.ListN.{getD}
+use Rattle.words.specs.Words.{number}
 use Rattle.ident.specs.declared.Kind.{Kind}
 use Rattle.ident.specs.declared.Hash.{Hash}
 use Rattle.ident.specs.declared.Key.{Key}
@@ -13,12 +13,13 @@ use Rattle.ident.specs.declared.MaybeKey.{MaybeKey}
 use Rattle.ident.specs.declared.MaybeKey.the-variants.{None, Is}
 use Rattle.ident.specs.Number as N
 
--- four words as digits in base 2^64, the least first
-abbrev pub wordsNum : ℕ → ℕ → ℕ → ℕ → ℕ
-wordsNum w x y z = w + (x + (y + z * 2 ^ 64) * 2 ^ 64) * 2 ^ 64
+-- "32 bytes"
+abbrev pub hashBytes : ℕ
+hashBytes = 32
 
+-- the words as digits in base 2^64, the least first
 abbrev pub hashNum : Hash → ℕ
-hashNum h = wordsNum (getD (h .words) 0 0) (getD (h .words) 1 0) (getD (h .words) 2 0) (getD (h .words) 3 0)
+hashNum h = number (2 ^ 64) (h .words)
 
 abbrev pub keyNum : Key → N.Key
 keyNum k = record { kind = k .kind; hash = hashNum (k .hash) }

@@ -5,12 +5,11 @@
 // proofs/Words.antt has the law that two hashes of one number are equal.
 ghost use mathlib.Core.Path.{_≡_};
 ghost use Prim.Native.Nat.{_+_, _*_, _<_, _≤_};
-ghost use lib.Dec.{ltb, eqb};
 ghost use lib.ListN.{length, take, drop};
 ghost use Rattle.ident.specs.Number.{txid, wtxid, swap, other, place, typeOf, itemKindOf, isPlain, kindOf, keyOf};
-ghost use Rattle.ident.specs.Bytes.{bytesNum, hashBytes, digits, splice};
-ghost use Rattle.ident.specs.Words.{hashNum, keyNum, itemNum, maybeKind, maybeKeyNum};
-ghost use Rattle.ident.specs.Compare.{orderOf, thenOf, kindRank, isLess, isEqual};
+ghost use Rattle.words.specs.Words.{number, digits, splice};
+ghost use Rattle.ident.specs.Words.{hashBytes, hashNum, keyNum, itemNum, maybeKind, maybeKeyNum};
+ghost use Rattle.ident.specs.Compare.{orderOf, thenOf, kindRank};
 
 // Which of a transaction's two identities a hash is.
 pub enum Kind {
@@ -72,80 +71,25 @@ pub const MSG_WTX: u32 = 5;
 
 // ---- A hash and its bytes
 
-fn wide(x: u8) -> u64
-    ensures { λ r. ⌜ (r ≡ x) × (r < 256) ⌝ }
-{
-    x as u64
-}
-
-// The number of eight digits in base 256.
-fn join(b0: u64, b1: u64, b2: u64, b3: u64, b4: u64, b5: u64, b6: u64, b7: u64) -> u64
-    requires { ⌜ (b0 < 256) × (b1 < 256) × (b2 < 256) × (b3 < 256) × (b4 < 256) × (b5 < 256) × (b6 < 256) × (b7 < 256) ⌝ }
-    ensures { λ r. ⌜ r ≡ b0 + (b1 + (b2 + (b3 + (b4 + (b5 + (b6 + b7 * 256) * 256) * 256) * 256) * 256) * 256) * 256 ⌝ }
-{
-    b0
-        + b1 * 0x100
-        + b2 * 0x1_0000
-        + b3 * 0x100_0000
-        + b4 * 0x1_0000_0000
-        + b5 * 0x100_0000_0000
-        + b6 * 0x1_0000_0000_0000
-        + b7 * 0x100_0000_0000_0000
-}
-
-// The word whose bytes stand from index a on.
-fn word_at(s: &[u8], a: usize) -> u64
-    requires { ⌜ a + 8 ≤ length (now s) ⌝ }
-    ensures { λ r. ⌜ r ≡ bytesNum (take 8 (drop a (now (s .entry)))) ⌝ }
-{
-    let b0 = wide(s[a]);
-    let b1 = wide(s[a + 1]);
-    let b2 = wide(s[a + 2]);
-    let b3 = wide(s[a + 3]);
-    let b4 = wide(s[a + 4]);
-    let b5 = wide(s[a + 5]);
-    let b6 = wide(s[a + 6]);
-    let b7 = wide(s[a + 7]);
-    join(b0, b1, b2, b3, b4, b5, b6, b7)
-}
-
-// Stores the bytes of v from index a on.
-fn put_word(s: &mut [u8], a: usize, v: u64)
-    requires { ⌜ a + 8 ≤ length (now s) ⌝ }
-    ensures { λ _. ⌜ now (s .exit) ≡ splice (now (s .entry)) a (digits 8 v) ⌝ }
-{
-    let v1 = v / 256;
-    let v2 = v1 / 256;
-    let v3 = v2 / 256;
-    let v4 = v3 / 256;
-    let v5 = v4 / 256;
-    let v6 = v5 / 256;
-    let v7 = v6 / 256;
-    s[a] = (v % 256) as u8;
-    s[a + 1] = (v1 % 256) as u8;
-    s[a + 2] = (v2 % 256) as u8;
-    s[a + 3] = (v3 % 256) as u8;
-    s[a + 4] = (v4 % 256) as u8;
-    s[a + 5] = (v5 % 256) as u8;
-    s[a + 6] = (v6 % 256) as u8;
-    s[a + 7] = (v7 % 256) as u8;
-}
+pub const HASH_BYTES: usize = 32;
 
 // The hash whose bytes stand from index a on.
 pub fn hash_at(s: &[u8], a: usize) -> Hash
     requires { ⌜ a + hashBytes ≤ length (now s) ⌝ }
-    ensures { λ r. ⌜ hashNum r ≡ bytesNum (take hashBytes (drop a (now (s .entry)))) ⌝ }
+    ensures { λ r. ⌜ hashNum r ≡ number 256 (take hashBytes (drop a (now (s .entry)))) ⌝ }
 {
-    let w0 = word_at(s, a);
-    let w1 = word_at(s, a + 8);
-    let w2 = word_at(s, a + 16);
-    let w3 = word_at(s, a + 24);
+    let e = a + HASH_BYTES;
+    let part = &s[a..e];
+    let w0 = words::get(part, 0);
+    let w1 = words::get(part, 1);
+    let w2 = words::get(part, 2);
+    let w3 = words::get(part, 3);
     let words = [w0, w1, w2, w3];
     Hash { words }
 }
 
-pub fn hash_from_bytes(b: &[u8; 32]) -> Hash
-    ensures { λ r. ⌜ hashNum r ≡ bytesNum (now (b .entry)) ⌝ }
+pub fn hash_from_bytes(b: &[u8; HASH_BYTES]) -> Hash
+    ensures { λ r. ⌜ hashNum r ≡ number 256 (now (b .entry)) ⌝ }
 {
     hash_at(b, 0)
 }
@@ -153,26 +97,28 @@ pub fn hash_from_bytes(b: &[u8; 32]) -> Hash
 // Stores the bytes of h from index a on.
 pub fn put_hash(s: &mut [u8], a: usize, h: Hash)
     requires { ⌜ a + hashBytes ≤ length (now s) ⌝ }
-    ensures { λ _. ⌜ now (s .exit) ≡ splice (now (s .entry)) a (digits hashBytes (hashNum h)) ⌝ }
+    ensures { λ _. ⌜ now (s .exit) ≡ splice (now (s .entry)) a (digits 256 hashBytes (hashNum h)) ⌝ }
 {
+    let e = a + HASH_BYTES;
     let w = h.words;
-    put_word(s, a, w[0]);
-    put_word(s, a + 8, w[1]);
-    put_word(s, a + 16, w[2]);
-    put_word(s, a + 24, w[3]);
+    let part = &mut s[a..e];
+    words::put(part, 0, w[0]);
+    words::put(part, 1, w[1]);
+    words::put(part, 2, w[2]);
+    words::put(part, 3, w[3]);
 }
 
-pub fn hash_to_bytes(h: Hash) -> [u8; 32]
-    ensures { λ r. ⌜ bytesNum r ≡ hashNum h ⌝ }
+pub fn hash_to_bytes(h: Hash) -> [u8; HASH_BYTES]
+    ensures { λ r. ⌜ number 256 r ≡ hashNum h ⌝ }
 {
-    let mut b = [0u8; 32];
+    let mut b = [0u8; HASH_BYTES];
     put_hash(&mut b, 0, h);
     b
 }
 
 // ---- Hashes in the order of their numbers
 
-pub fn cmp_word(a: u64, b: u64) -> Order
+fn cmp_word(a: u64, b: u64) -> Order
     ensures { λ r. ⌜ r ≡ orderOf a b ⌝ }
 {
     if a < b {
@@ -206,38 +152,6 @@ pub fn cmp_hash(a: Hash, b: Hash) -> Order
     then(o1, cmp_word(x[0], y[0]))
 }
 
-fn is_less(o: Order) -> bool
-    ensures { λ r. ⌜ r ≡ isLess o ⌝ }
-{
-    match o {
-        Order::Less => true,
-        Order::Equal => false,
-        Order::Greater => false,
-    }
-}
-
-fn is_equal(o: Order) -> bool
-    ensures { λ r. ⌜ r ≡ isEqual o ⌝ }
-{
-    match o {
-        Order::Less => false,
-        Order::Equal => true,
-        Order::Greater => false,
-    }
-}
-
-pub fn hash_less(a: Hash, b: Hash) -> bool
-    ensures { λ r. ⌜ r ≡ ltb (hashNum a) (hashNum b) ⌝ }
-{
-    is_less(cmp_hash(a, b))
-}
-
-pub fn hash_equal(a: Hash, b: Hash) -> bool
-    ensures { λ r. ⌜ r ≡ eqb (hashNum a) (hashNum b) ⌝ }
-{
-    is_equal(cmp_hash(a, b))
-}
-
 // ---- Keys: every Txid key before every Wtxid key
 
 fn kind_rank(k: Kind) -> u64
@@ -256,18 +170,6 @@ pub fn cmp_key(a: Key, b: Key) -> Order
     let j = b.kind;
     let lo = cmp_hash(a.hash, b.hash);
     then(cmp_word(kind_rank(i), kind_rank(j)), lo)
-}
-
-pub fn key_less(a: Key, b: Key) -> bool
-    ensures { λ r. ⌜ r ≡ ltb (place (keyNum a)) (place (keyNum b)) ⌝ }
-{
-    is_less(cmp_key(a, b))
-}
-
-pub fn key_equal(a: Key, b: Key) -> bool
-    ensures { λ r. ⌜ r ≡ eqb (place (keyNum a)) (place (keyNum b)) ⌝ }
-{
-    is_equal(cmp_key(a, b))
 }
 
 fn swapped(k: Kind) -> Kind
@@ -359,7 +261,7 @@ pub fn is_plain(k: ItemKind) -> bool
     }
 }
 
-pub fn kind_of(k: ItemKind) -> MaybeKind
+fn kind_of(k: ItemKind) -> MaybeKind
     ensures { λ r. ⌜ maybeKind r ≡ kindOf k ⌝ }
 {
     match k {

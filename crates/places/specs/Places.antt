@@ -3,7 +3,7 @@
 use Prim.Native.Nat.{ℕ, suc, _+_, _*_, _<_}
 use mathlib.Core.Path.{_≡_}
 use mathlib.Core.List.{List, [], _∷_, _++_}
-use lib.ListN.{length, drop, getD, set, replicate}
+use lib.ListN.{length, take, drop, getD, set, replicate}
 use Rattle.regions.specs.declared.Quad.{Quad}
 use Rattle.regions.specs.Regions.{each, padded, Holds}
 use Rattle.regions.specs.Rows.{quadWords, readQuad, quadNumber, quadOf}
@@ -24,11 +24,21 @@ combinedAt = 4
 abbrev pub stageAt : ℕ
 stageAt = 8
 
+abbrev pub wtxidCountAt : ℕ
+wtxidCountAt = 9
+
+abbrev pub parentCountAt : ℕ
+parentCountAt = 10
+
 abbrev pub wtxidsAt : ℕ
 wtxidsAt = 11
 
 abbrev pub parentsAt : ℕ
 parentsAt = 411
+
+-- words of a list
+abbrev pub listSize : ℕ
+listSize = 400
 
 -- room for a flag of each parent, zero at rest
 abbrev pub keptSize : ℕ
@@ -48,7 +58,7 @@ hashWords h = quadWords (quadOf h)
 
 -- a list of hashes, in a region of its own
 unfoldable pub listWords : List ℕ → List ℕ
-listWords hs = padded (4 * listMost) (each hashWords hs)
+listWords hs = padded listSize (each hashWords hs)
 
 unfoldable pub placeWords : Place → List ℕ
 placeWords p =
@@ -61,7 +71,7 @@ unfoldable pub headOf : Place → Head
 headOf p = record { hash = quadOf (p .hash); combined = quadOf (p .combined); stage = p .stage; wtxids = length (p .wtxids); parents = length (p .parents) }
 
 unfoldable pub readHead : List ℕ → Head
-readHead w = record { hash = readQuad w; combined = readQuad (drop combinedAt w); stage = getD w 8 0; wtxids = getD w 9 0; parents = getD w 10 0 }
+readHead w = record { hash = readQuad w; combined = readQuad (drop combinedAt w); stage = getD w stageAt 0; wtxids = getD w wtxidCountAt 0; parents = getD w parentCountAt 0 }
 
 -- the key of a place's words
 abbrev pub placeKey : List ℕ → ℕ
@@ -89,7 +99,7 @@ withParents hs p = record { hash = p .hash; combined = p .combined; stage = p .s
 
 -- the head that was read of the i-th place
 pub record HeadAt (w : List ℕ) (i : ℕ) (x : Head) : Type 0 where
-  pub words-are : x ≡ readHead (drop (placeSize * i) w)
+  pub words-are : x ≡ readHead (take placeSize (drop (placeSize * i) w))
   pub region : (Q : ℕ) (ps : List Place) (d : Place) → i < length ps → Holds placeSize placeWords Q ps w → x ≡ headOf (getD ps i d)
 
 -- the hash that was read as the j-th of a list of the i-th place, which starts at the word a of the place

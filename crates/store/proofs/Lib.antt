@@ -20,3 +20,4 @@ pub mod Window
 pub mod RowsAt
 pub mod RowChanges
 pub mod PlacesAt
+pub mod Frame

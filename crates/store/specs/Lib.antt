@@ -3,3 +3,4 @@ pub mod Gather
 pub mod FlatSound
 pub mod Image
 pub mod Read
+pub mod Shown

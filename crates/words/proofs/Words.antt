@@ -2,16 +2,16 @@
 -- Assumes nothing.
 use Prim.Native.Nat.{ℕ, zero, suc, _+_, _*_, _/_, _%_, _^_, _≤_, _<_}
 use mathlib.Core.Path.{_≡_, refl, sym, ap, _∙_}
-use mathlib.Core.List.{List, [], _∷_, _++_, append-assoc}
-use native.Mathlib.Nat.{add-zero}
+use mathlib.Core.List.{List, [], _∷_, _++_, append-assoc, append-nil}
+use native.Mathlib.Nat.{add-zero, mul-zero}
 use native.Mathlib.Numerals.{towards-suc}
 use native.Mathlib.Omega.{arith}
 use lib.Dec.{lit<}
-use lib.ListN.{length, take, drop, getD, set, length-drop, take-append-drop}
+use lib.ListN.{length, take, drop, getD, set, length-append, length-drop, take-append-drop}
 use lib.Seq.{sets-eq, length-take-le, getD-drop, getD-take}
 use Rattle.words.specs.Words.{number, digits, recs, words, bytesOf, splice, Put}
-use Rattle.words.proofs.Splice.{length-splice}
-use Rattle.words.proofs.Digits.{length-digits, number-digits, digits-number, number-step}
+use Rattle.words.proofs.Splice.{length-splice, splice-more}
+use Rattle.words.proofs.Digits.{length-digits, number-digits, digits-number, digits-add, number-step, number-append}
 use Rattle.words.proofs.Records.{length-recs, recs-at, recs-set}
 
 pub length-words : (s : List ℕ) → length (words s) ≡ length s / 8
@@ -81,3 +81,49 @@ bytes-recs (suc n) s e b =
 pub bytes-words : (s : List ℕ) → length s % 8 ≡ 0 → ((i : ℕ) → getD s i 0 < 256) → bytesOf (words s) ≡ s
 unfolding words
 bytes-words s e b = bytes-recs (length s / 8) s (omega arith) b
+
+-- ---- the number that bytes make, and that their words make
+
+number-recs : (b k n : ℕ) (s : List ℕ) → length s ≡ k * n → number (b ^ k) (recs k (number b) n s) ≡ number b s
+unfolding number recs
+number-recs b k zero [] e = refl
+number-recs b k zero (x ∷ s) e = absurd (omega (arith, e, mul-zero k))
+number-recs b k (suc n) s e =
+    let l : length (take k s) ≡ k = length-take-le k s (omega arith) in
+    let l′ : length (drop k s) ≡ k * n = simp length-drop (omega arith) in
+    let q : number b s ≡ number b (take k s) + b ^ k * number b (drop k s) = ap (number b) (sym (take-append-drop k s)) ∙ rw l at (number-append b (take k s) (drop k s)) in
+    rw (number-recs b k n (drop k s) l′) (sym q)
+
+pub number-words : (s : List ℕ) → length s % 8 ≡ 0 → number (2 ^ 64) (words s) ≡ number 256 s
+unfolding words
+number-words s e = number-recs 256 8 (length s / 8) s (omega arith)
+
+pub digits-words : (ws : List ℕ) → ((i : ℕ) → i < length ws → getD ws i 0 < 2 ^ 64) → digits 256 (8 * length ws) (number (2 ^ 64) ws) ≡ bytesOf ws
+unfolding number digits bytesOf
+digits-words [] h = refl
+digits-words (w ∷ ws) h =
+    let e : 8 * suc (length ws) ≡ 8 + 8 * length ws = omega arith in
+    rw (e, digits-add 256 (lit< tt) 8 (8 * length ws) w (number (2 ^ 64) ws) (h 0 (omega arith)), digits-words ws (λ i g. h (suc i) (omega arith)))
+
+-- ---- words stored one after the other
+
+pub length-bytes : (ws : List ℕ) → length (bytesOf ws) ≡ 8 * length ws
+unfolding bytesOf
+length-bytes [] = refl
+length-bytes (w ∷ ws) = simp length-append (omega (arith, length-digits 256 8 w, length-bytes ws))
+
+bytes-more : (ws : List ℕ) (v : ℕ) → bytesOf (ws ++ (v ∷ [])) ≡ bytesOf ws ++ digits 256 8 v
+unfolding bytesOf
+bytes-more [] v = append-nil (digits 256 8 v)
+bytes-more (w ∷ ws) v = rw (bytes-more ws v) (sym (append-assoc (digits 256 8 w) (bytesOf ws) (digits 256 8 v)))
+
+pub put-first : {s s₁ : List ℕ} (v : ℕ) → Put s s₁ 0 v → s₁ ≡ splice s 0 (bytesOf (v ∷ []))
+unfolding bytesOf
+put-first v p = p .bytes ∙ rw append-nil
+
+-- the words ws stand from the start of s on, and `put` adds v
+pub put-next : (s ws : List ℕ) (v : ℕ) {s₁ s₂ : List ℕ} → 8 * length ws + 8 ≤ length s → s₁ ≡ splice s 0 (bytesOf ws) → Put s₁ s₂ (length ws) v → s₂ ≡ splice s 0 (bytesOf (ws ++ (v ∷ [])))
+put-next s ws v h e p =
+    let l = length-bytes ws in
+    let k = length-digits 256 8 v in
+    p .bytes ∙ rw (e, bytes-more ws v) (splice-more s 0 (8 * length ws) (bytesOf ws) (digits 256 8 v) (omega arith) (omega arith))

@@ -1,42 +1,48 @@
 -- `ident::hash_at` meets its contract. Assumes nothing.
 use borrow.Author.Needs.{needs}
-use Rattle.ident.proofs.Bytes.{read-words}
+use Rattle.ident.proofs.WordByWord.{hash-read}
 use Rattle.ident.proofs.hash_at.Statement.{statement}
 use Rattle.ident.proofs.hash_at.Tie as tie
 
-word-at-requires : tie.Need-word-at-requires
-word-at-requires c κs = search needs
+add-e : tie.Need-add-e
+add-e c = search needs
 
-add-word-at : tie.Need-add-word-at
-add-word-at c = search needs
+sub-part : tie.Need-sub-part
+sub-part c = search needs
 
-word-at-requires-2 : tie.Need-word-at-requires-2
-word-at-requires-2 c κs = search needs
+part-part-start : tie.Need-part-part-start
+part-part-start c = search needs
 
-add-word-at-2 : tie.Need-add-word-at-2
-add-word-at-2 c = search needs
+part-part-end : tie.Need-part-part-end
+part-part-end c = search needs
 
-word-at-requires-3 : tie.Need-word-at-requires-3
-word-at-requires-3 c κs = search needs
+get-requires : tie.Need-get-requires
+get-requires c κs = search needs
 
-add-word-at-3 : tie.Need-add-word-at-3
-add-word-at-3 c = search needs
+get-requires-2 : tie.Need-get-requires-2
+get-requires-2 c κs = search needs
 
-word-at-requires-4 : tie.Need-word-at-requires-4
-word-at-requires-4 c κs = search needs
+get-requires-3 : tie.Need-get-requires-3
+get-requires-3 c κs = search needs
+
+get-requires-4 : tie.Need-get-requires-4
+get-requires-4 c κs = search needs
 
 returns : tie.Need-returns
-returns c = read-words (c .before .before .before .before .before .args .s .now) (c .before .before .before .before .before .args .a) (c .before .before .before .before .before .pre) (c .before .before .before .word-at .ensures) (c .before .before .word-at2 .ensures) (c .before .word-at3 .ensures) (c .word-at4 .ensures)
+returns c =
+    let start : tie.Start = c .before .before .before .before .before .before in
+    hash-read (start .args .s .now) (start .args .a) (start .pre) (c .before .before .before .get .ensures) (c .before .before .get2 .ensures) (c .before .get3 .ensures) (c .get4 .ensures)
 
 pub hash-at-spec : {M : Type 1} → statement M
 hash-at-spec =
     tie.close
     (tie.spec
-    word-at-requires
-    add-word-at
-    word-at-requires-2
-    add-word-at-2
-    word-at-requires-3
-    add-word-at-3
-    word-at-requires-4
+    add-e
+    sub-part
+    part-part-start
+    part-part-end
+    get-requires
+    get-requires-2
+    get-requires-3
+    get-requires-4
     returns)

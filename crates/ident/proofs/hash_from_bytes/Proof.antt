@@ -3,7 +3,8 @@ use borrow.Author.Needs.{needs}
 use mathlib.Core.Path.{_∙_, ap}
 use native.Mathlib.Omega.{arith}
 use lib.Seq.{take-all}
-use Rattle.ident.specs.Bytes.{bytesNum, hashBytes}
+use Rattle.words.specs.Words.{number}
+use Rattle.ident.specs.Words.{hashBytes}
 use Rattle.ident.proofs.hash_from_bytes.Statement.{statement}
 use Rattle.ident.proofs.hash_from_bytes.Tie as tie
 
@@ -12,7 +13,7 @@ hash-at-requires c κs = search needs
 
 returns : tie.Need-returns
 returns c =
-    c .hash-at .ensures ∙ ap bytesNum (take-all hashBytes (c .before .before .args .b .now) (omega arith))
+    c .hash-at .ensures ∙ ap (number 256) (take-all hashBytes (c .before .before .args .b .now) (omega arith))
 
 pub hash-from-bytes-spec : {M : Type 1} → statement M
 hash-from-bytes-spec = tie.close (tie.spec hash-at-requires returns)

@@ -3,7 +3,7 @@ use borrow.Author.Needs.{needs}
 use mathlib.Core.Path.{refl}
 use Rattle.ident.specs.Words.{hashNum}
 use Rattle.ident.proofs.Words.{hash-four, hash-below}
-use Rattle.ident.proofs.Bytes.{written}
+use Rattle.ident.proofs.WordByWord.{written}
 use Rattle.ident.proofs.hash_to_bytes.Statement.{statement}
 use Rattle.ident.proofs.hash_to_bytes.Tie as tie
 

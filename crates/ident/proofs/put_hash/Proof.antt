@@ -1,65 +1,70 @@
 -- `ident::put_hash` meets its contract. Assumes nothing.
 use borrow.Author.Needs.{needs}
 use Rattle.ident.proofs.Words.{hash-four}
-use Rattle.ident.proofs.Bytes.{put-words}
+use Rattle.ident.proofs.WordByWord.{hash-put}
 use Rattle.ident.proofs.put_hash.Statement.{statement}
 use Rattle.ident.proofs.put_hash.Tie as tie
 
-array-read-put-word : tie.Need-array-read-put-word
-array-read-put-word c = search needs
+add-e : tie.Need-add-e
+add-e c = search needs
 
-put-word-requires : tie.Need-put-word-requires
-put-word-requires c κs = search needs
+sub-part : tie.Need-sub-part
+sub-part c = search needs
 
-add-put-word : tie.Need-add-put-word
-add-put-word c = search needs
+part-part-start : tie.Need-part-part-start
+part-part-start c = search needs
 
-array-read-put-word-2 : tie.Need-array-read-put-word-2
-array-read-put-word-2 c = search needs
+part-part-end : tie.Need-part-part-end
+part-part-end c = search needs
 
-put-word-requires-2 : tie.Need-put-word-requires-2
-put-word-requires-2 c κs = search needs
+array-read-put : tie.Need-array-read-put
+array-read-put c = search needs
 
-add-put-word-2 : tie.Need-add-put-word-2
-add-put-word-2 c = search needs
+put-requires : tie.Need-put-requires
+put-requires c κs = search needs
 
-array-read-put-word-3 : tie.Need-array-read-put-word-3
-array-read-put-word-3 c = search needs
+array-read-put-2 : tie.Need-array-read-put-2
+array-read-put-2 c = search needs
 
-put-word-requires-3 : tie.Need-put-word-requires-3
-put-word-requires-3 c κs = search needs
+put-requires-2 : tie.Need-put-requires-2
+put-requires-2 c κs = search needs
 
-add-put-word-3 : tie.Need-add-put-word-3
-add-put-word-3 c = search needs
+array-read-put-3 : tie.Need-array-read-put-3
+array-read-put-3 c = search needs
 
-array-read-put-word-4 : tie.Need-array-read-put-word-4
-array-read-put-word-4 c = search needs
+put-requires-3 : tie.Need-put-requires-3
+put-requires-3 c κs = search needs
 
-put-word-requires-4 : tie.Need-put-word-requires-4
-put-word-requires-4 c κs = search needs
+array-read-put-4 : tie.Need-array-read-put-4
+array-read-put-4 c = search needs
+
+put-requires-4 : tie.Need-put-requires-4
+put-requires-4 c κs = search needs
 
 same-length : tie.Need-same-length
 same-length c = search needs
 
 returns : tie.Need-returns
 returns c =
-    let f = hash-four (c .before .before .before .before .before .before .before .before .before .before .before .before .before .before .before .before .before .before .args .h) (c .before .before .before .before .before .before .before .before .before .before .before .before .before .before .before .before .before .before .good .1 .1 .0) .fits in
-    put-words (c .before .before .before .before .before .before .before .before .before .before .before .before .before .before .before .before .before .before .args .s .now) (c .before .before .before .before .before .before .before .before .before .before .before .before .before .before .before .before .before .before .args .a) _ _ _ _ (c .before .before .before .before .before .before .before .before .before .before .before .before .before .before .before .before .before .before .pre) (f 0) (f 1) (f 2) (c .before .before .before .before .before .before .before .before .before .before .before .before .before .before .put-word .ensures) (c .before .before .before .before .before .before .before .before .before .before .put-word2 .ensures) (c .before .before .before .before .before .before .put-word3 .ensures) (c .before .before .put-word4 .ensures)
+    let start : tie.Start = c .before .before .before .before .before .before .before .before .before .before .before .before .before .before .before .before .before .before in
+    let h = start .args .h in
+    hash-put (start .args .s .now) (start .args .a) (start .pre) h (hash-four h (start .good .1 .1 .0)) (c .before .before .before .before .before .before .before .before .before .before .before .before .before .put .ensures) (c .before .before .before .before .before .before .before .before .before .put2 .ensures) (c .before .before .before .before .before .put3 .ensures) (c .before .before .put4 .ensures)
 
 pub put-hash-spec : {M : Type 1} → statement M
 put-hash-spec =
     tie.close
     (tie.spec
-    array-read-put-word
-    put-word-requires
-    add-put-word
-    array-read-put-word-2
-    put-word-requires-2
-    add-put-word-2
-    array-read-put-word-3
-    put-word-requires-3
-    add-put-word-3
-    array-read-put-word-4
-    put-word-requires-4
+    add-e
+    sub-part
+    part-part-start
+    part-part-end
+    array-read-put
+    put-requires
+    array-read-put-2
+    put-requires-2
+    array-read-put-3
+    put-requires-3
+    array-read-put-4
+    put-requires-4
     same-length
     returns)

@@ -1,0 +1,3 @@
+pub mod Segments
+pub mod Places
+pub mod Changes

@@ -1,0 +1,30 @@
+use native.Mathlib.Omega.{arith}
+use Rattle.words.specs.Words.{words}
+use Rattle.words.proofs.Words.{length-words}
+use Rattle.places.specs.Places.{placeSize, placeWords}
+use Rattle.places.proofs.Places.{length-place}
+use Rattle.regions.proofs.Regions.{removed-at}
+use borrow.Author.Needs.{needs}
+use Rattle.places.proofs.remove_place.Statement.{statement}
+use Rattle.places.proofs.remove_place.Tie as tie
+
+mul-take-out : tie.Need-mul-take-out
+mul-take-out c = search needs
+
+mul-take-out-2 : tie.Need-mul-take-out-2
+mul-take-out-2 c = search needs
+
+take-out-requires : tie.Need-take-out-requires
+take-out-requires c κs = search needs
+
+same-length : tie.Need-same-length
+same-length c = search needs
+
+returns : tie.Need-returns
+returns c =
+    let start = c .before .before .before .before .before in
+    removed-at placeSize placeWords length-place (words (start .args .s .now)) (start .args .i) (start .args .n) (start .pre .0) (omega (arith, length-words (start .args .s .now), start .pre)) (c .before .before .take-out .ensures)
+
+pub remove-place-spec : {M : Type 1} → statement M
+remove-place-spec =
+    tie.close (tie.spec mul-take-out mul-take-out-2 take-out-requires same-length returns)

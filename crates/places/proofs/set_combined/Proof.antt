@@ -1,0 +1,31 @@
+use native.Mathlib.Omega.{arith}
+use Rattle.words.specs.Words.{words}
+use Rattle.words.proofs.Words.{length-words}
+use Rattle.regions.specs.Rows.{quadWords, quadNumber}
+use Rattle.places.specs.Places.{placeSize, placeWords, combinedAt, withCombined}
+use Rattle.places.proofs.Places.{length-place, combined-set}
+use Rattle.regions.proofs.Regions.{changed-at}
+use borrow.Author.Needs.{needs}
+use Rattle.places.proofs.set_combined.Statement.{statement}
+use Rattle.places.proofs.set_combined.Tie as tie
+
+mul-write-quad : tie.Need-mul-write-quad
+mul-write-quad c = search needs
+
+add-write-quad : tie.Need-add-write-quad
+add-write-quad c = search needs
+
+write-quad-requires : tie.Need-write-quad-requires
+write-quad-requires c κs = search needs
+
+same-length : tie.Need-same-length
+same-length c = search needs
+
+returns : tie.Need-returns
+returns c =
+    let start = c .before .before .before .before .before in
+    changed-at placeSize placeWords length-place (words (start .args .s .now)) (start .args .i) (omega (arith, length-words (start .args .s .now), start .pre)) combinedAt (quadWords (start .args .h)) (withCombined (quadNumber (start .args .h))) (omega arith) (combined-set (start .args .h) (omega arith)) (c .before .before .write-quad .ensures)
+
+pub set-combined-spec : {M : Type 1} → statement M
+set-combined-spec =
+    tie.close (tie.spec mul-write-quad add-write-quad write-quad-requires same-length returns)
