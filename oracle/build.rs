@@ -3,7 +3,8 @@
 //! `TX_POLICY_RS` names the source; without it the path below is taken. Both are
 //! relative to the repository's root unless absolute. Every step is a cut between
 //! two markers or a replacement with a fixed number of matches, and a step that does
-//! not match stops the build. The derived text is written to OUT_DIR alone.
+//! not match stops the build. The derived text is written to OUT_DIR alone. Without the
+//! feature `source` nothing is read and nothing derived.
 
 use std::fmt::Write as _;
 use std::path::{Path, PathBuf};
@@ -346,6 +347,9 @@ fn variable(name: &str) -> PathBuf {
 }
 
 fn main() {
+    if env::var_os("CARGO_FEATURE_SOURCE").is_none() {
+        return;
+    }
     println!("cargo:rerun-if-env-changed=TX_POLICY_RS");
     println!("cargo:rerun-if-changed=build.rs");
     let root = variable("CARGO_MANIFEST_DIR").join("..");

@@ -3,17 +3,18 @@
 
 use std::collections::{BTreeMap, BTreeSet};
 
+#[cfg(feature = "source")]
 use crate::Machine;
 use crate::calls::{Hash, Key, Kind};
 use crate::state::{Request, State};
 
-const MAX_L: u64 = 100_000;
-const MAX_Q: u64 = 4_096;
-const MAX_AT_HASH: usize = 8;
-const MAX_OF_CONNECTION: u64 = 5_000;
-const MAX_OWNED: u64 = 100;
-const MAX_WTXIDS: usize = 100;
-const MAX_PARENTS: usize = 100;
+pub const MAX_L: u64 = 100_000;
+pub const MAX_Q: u64 = 4_096;
+pub const MAX_AT_HASH: usize = 8;
+pub const MAX_OF_CONNECTION: u64 = 5_000;
+pub const MAX_OWNED: u64 = 100;
+pub const MAX_WTXIDS: usize = 100;
+pub const MAX_PARENTS: usize = 100;
 
 /// L and Q such as opening takes.
 pub fn opens(l: u64, q: u64) -> bool {
@@ -124,6 +125,7 @@ pub fn evictable(state: &State) -> Vec<(u64, Key, u64)> {
     list
 }
 
+#[cfg(feature = "source")]
 fn book_breach(machine: &Machine, state: &State) -> Option<String> {
     let books = machine.books();
     let mut counts: BTreeMap<u64, u64> = BTreeMap::new();
@@ -142,6 +144,7 @@ fn book_breach(machine: &Machine, state: &State) -> Option<String> {
 }
 
 /// Stops the program if the state is not sound or the source's books disagree with it.
+#[cfg(feature = "source")]
 pub fn assert_sound(machine: &Machine) {
     let state = machine.state();
     if let Some(text) = breach(&state).or_else(|| book_breach(machine, &state)) {

@@ -4,3 +4,4 @@ pub mod FlatSound
 pub mod Image
 pub mod Read
 pub mod Shown
+pub mod Counting

@@ -2,12 +2,14 @@
 -- Assumes nothing.
 use Prim.Native.Nat.{ℕ, _+_, _*_, _^_, _≤_, _<_}
 use mathlib.Core.Path.{_≡_}
-use mathlib.Core.List.{List}
+use mathlib.Core.Bool.{Bool, true, false}
+use mathlib.Core.List.{List, map}
 use lib.ListN.{length, getD}
 use Rattle.words.specs.Words.{words}
 use Rattle.regions.specs.declared.Row.{Row}
 use Rattle.regions.specs.declared.Conn.{Conn}
-use Rattle.regions.specs.Rows.{rowSize, connSize}
+use Rattle.regions.specs.Order.{Sorted, Bound, First}
+use Rattle.regions.specs.Rows.{rowSize, connSize, keyNumber, keyOf}
 use Rattle.places.specs.Places.{Place, placeSize}
 use Rattle.machine.specs.Limits.{maxAnnouncements, maxPlaces}
 use Rattle.machine.specs.State.{State}
@@ -100,3 +102,38 @@ withPlaces ps f = record { head = f .head; rows = f .rows; conns = f .conns; pla
 -- whatever flat state the bytes b write, b′ write g of it
 abbrev pub Turns : List ℕ → List ℕ → (Flat → Flat) → Type 0
 Turns b b′ g = (f : Flat) → Shows b f → Shows b′ (g f)
+
+-- ---- searches
+
+-- the numbers by which rows are searched, and connections
+abbrev pub rowNumbers : List Row → List ℕ
+rowNumbers rs = map (λ r. keyNumber (keyOf r)) rs
+
+abbrev pub rowConns : List Row → List ℕ
+rowConns rs = map (λ r. r .conn) rs
+
+abbrev pub connNames : List Conn → List ℕ
+connNames cs = map (λ c. c .conn) cs
+
+-- r is where a search of the keys of bytes stops, which is the place of x if they are in order
+pub record Seek (b : List ℕ) (keys : Flat → List ℕ) (n x r : ℕ) : Type 0 where
+  pub most : r ≤ n
+  pub bound : (f : Flat) → Shows b f → Sorted (keys f) → Bound (keys f) x r
+
+-- r is the first of the rows from .. to whose connection is x, or to
+pub record Met (b : List ℕ) (from to x r : ℕ) : Type 0 where
+  pub least : from ≤ r
+  pub most : r ≤ to
+  pub first : (f : Flat) → Shows b f → First (rowConns (f .rows)) from to x r
+
+-- ---- the tally
+
+-- r tells whether the i-th entry is x's
+pub record EntryOf (b : List ℕ) (i x : ℕ) (r : Bool) : Type 0 where
+  pub inside : r ≡ true → i < connsIn b
+  pub is : (f : Flat) (d : Conn) → Shows b f → r ≡ true → (getD (f .conns) i d) .conn ≡ x
+  pub not : (f : Flat) (d : Conn) → Shows b f → r ≡ false → i < length (f .conns) → (getD (f .conns) i d) .conn ≡ x → ⊥
+
+-- whatever flat state the bytes b write, its connections in order, b′ write it with g of them
+abbrev pub Tallies : List ℕ → List ℕ → (List Conn → List Conn) → Type 0
+Tallies b b′ g = (f : Flat) → Sorted (connNames (f .conns)) → Shows b f → Shows b′ (withConns (g (f .conns)) f)

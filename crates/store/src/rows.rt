@@ -1,14 +1,15 @@
 // The candidate rows: read, replaced, put in, taken out, searched.
 use crate::head;
 ghost use mathlib.Core.Path.{_≡_};
-ghost use mathlib.Core.List.{map};
 ghost use Prim.Native.Nat.{ℕ, _+_, _≤_, _<_};
 ghost use lib.ListN.{length, getD, set};
 ghost use Rattle.regions.specs.declared.Row.{Row};
+ghost use Rattle.regions.specs.Order.{one};
 ghost use Rattle.regions.specs.Regions.{insertAt, removeAt};
+ghost use Rattle.regions.specs.Rows.{keyNumber};
 ghost use Rattle.store.specs.Flat.{Flat};
 ghost use Rattle.store.specs.Image.{Shows};
-ghost use Rattle.store.specs.Shown.{limitIn, rowsIn, Shown, withRows, Turns};
+ghost use Rattle.store.specs.Shown.{limitIn, rowsIn, rowNumbers, Shown, withRows, Turns, Seek, Met};
 
 // Words of a row.
 const ROW: usize = 9;
@@ -55,4 +56,25 @@ pub fn drop_row(s: &mut [u8], i: usize)
     let y = (head::HEAD + head::limit(s) * ROW) * 8;
     regions::remove_row(&mut s[x..y], n, i);
     words::put(s, 3, (n - 1) as u64);
+}
+
+// The first row whose key does not come before k; with `after`, the first whose key comes after it. Or how many rows there are.
+pub fn seek_row(s: &[u8], k: regions::Key, after: bool) -> usize
+    requires { ⌜ Shown (now s) ⌝ }
+    ensures { λ r. ⌜ Seek (now (s .entry)) (λ f. rowNumbers (f .rows)) (rowsIn (now (s .entry))) (keyNumber k + one after) r ⌝ }
+{
+    let n = head::rows(s);
+    let x = head::HEAD * 8;
+    let y = (head::HEAD + head::limit(s) * ROW) * 8;
+    regions::seek_row(&s[x..y], n, k, after)
+}
+
+// The first of the rows from .. to whose connection is c, or `to`.
+pub fn find_row(s: &[u8], from: usize, to: usize, c: u64) -> usize
+    requires { ⌜ Shown (now s) × (from ≤ to) × (to ≤ rowsIn (now s)) ⌝ }
+    ensures { λ r. ⌜ Met (now (s .entry)) from to c r ⌝ }
+{
+    let x = head::HEAD * 8;
+    let y = (head::HEAD + head::limit(s) * ROW) * 8;
+    regions::find_conn_in(&s[x..y], from, to, c)
 }
