@@ -45,7 +45,7 @@ hash-words u e b = rw (quad-number (readQuad u) (quad-ranges u b)) (four u e)
 
 -- ---- a list of hashes with zeros behind it
 
-drop-take : (a m : ℕ) (v : List ℕ) → a ≤ length v → drop a (take (a + m) v) ≡ take m (drop a v)
+pub drop-take : (a m : ℕ) (v : List ℕ) → a ≤ length v → drop a (take (a + m) v) ≡ take m (drop a v)
 drop-take a m v h = rw (take-add a m v) (drop-at (take a v) (take m (drop a v)) a (length-take-le a v h))
 
 module _ (v : List ℕ) (a c m : ℕ) (h : 4 * c ≤ m) (l : a + m ≤ length v) (b : Below word v) where
@@ -74,7 +74,7 @@ module _ (v : List ℕ) (a c m : ℕ) (h : 4 * c ≤ m) (l : a + m ≤ length v)
 
 -- ---- the whole
 
-cut-iff : (n : ℕ) (v a b : List ℕ) → length a ≡ n → Iff (v ≡ a ++ b) ((take n v ≡ a) × (drop n v ≡ b))
+pub cut-iff : (n : ℕ) (v a b : List ℕ) → length a ≡ n → Iff (v ≡ a ++ b) ((take n v ≡ a) × (drop n v ≡ b))
 cut-iff n v a b e = record {
   to = λ q. (ap (take n) q ∙ take-at a b n e, ap (drop n) q ∙ drop-at a b n e);
   from = λ p. sym (take-append-drop n v) ∙ rw (p .0, p .1);

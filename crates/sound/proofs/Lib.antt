@@ -12,3 +12,6 @@ pub mod Stage
 pub mod Exact
 pub mod PlaceTests
 pub mod PlaceWalk
+pub mod HeadTests
+pub mod Areas
+pub mod StoreTests

@@ -4,6 +4,7 @@
 // holds, `false` only if it does not. A region is a slice whose word 0 is the region's first word. A `requires` says only that the
 // records in question lie within the slice.
 pub mod package; // package.rt: package places
+pub mod whole; // whole.rt: the whole store
 
 ghost use mathlib.Core.Path.{_≡_};
 ghost use Prim.Native.Nat.{ℕ, _+_, _*_, _^_, _≤_, _<_};

@@ -34,7 +34,7 @@ const KEPT: usize = 811;
 const LIST: u64 = 100;
 
 // Whether two hashes are equal.
-fn same_hash(a: regions::Quad, b: regions::Quad) -> bool
+pub fn same_hash(a: regions::Quad, b: regions::Quad) -> bool
     ensures { λ r. ⌜ Decides r (quadNumber a ≡ quadNumber b) ⌝ }
 {
     if a.w0 != b.w0 {
