@@ -113,7 +113,7 @@ module _ (rs : List Row) (v : List ℕ) (l : length v ≡ placeSize) (b : Below 
 
 -- ---- as `place_fits` makes them
 
-hash-is : {q : Quad} (u : List ℕ) → q ≡ readQuad u → quadNumber q ≡ readHash u
+pub hash-is : {q : Quad} (u : List ℕ) → q ≡ readQuad u → quadNumber q ≡ readHash u
 unfolding readHash
 hash-is u e = ap quadNumber e
 

@@ -48,7 +48,7 @@ module _ {A : Type 0} (P : A → Type 0) (k : ℕ) (f : List ℕ → A) (n : ℕ
 
 -- ---- the words of all places
 
-length-place : (p : Place) → length (placeWords p) ≡ placeSize
+pub length-place : (p : Place) → length (placeWords p) ≡ placeSize
 unfolding placeWords hashWords listWords
 length-place p = simp (length-append, length-padded, length-replicate)
 

@@ -49,13 +49,13 @@ pub record HeadPlain (w : List ℕ) : Type 0 where
   pub ready : CursorPlain (getD w 13 0) (readHash (drop 14 w))
   pub spare : slice 18 headSize w ≡ replicate 6 0
 
--- ---- the regions' words r, c and p, and how many records are in use
+-- ---- the regions' words r, c and p, with i, j and k records in use
 
-pub record RecordsSound (r : List ℕ) (rows : ℕ) (c : List ℕ) (conns : ℕ) (p : List ℕ) (places : ℕ) : Type 0 where
-  pub rows : RowsSound (recs rowSize readRow rows r)
-  pub groups : GroupsSound (recs rowSize readRow rows r)
-  pub conns : ConnsSound (recs rowSize readRow rows r) (recs connSize readConn conns c)
-  pub places : PlacesSound (recs rowSize readRow rows r) places p
-  pub rows-zero : slice (rows * rowSize) (length r) r ≡ replicate (length r - rows * rowSize) 0
-  pub conns-zero : slice (conns * connSize) (length c) c ≡ replicate (length c - conns * connSize) 0
-  pub places-zero : slice (places * placeSize) (length p) p ≡ replicate (length p - places * placeSize) 0
+pub record RecordsSound (r : List ℕ) (i : ℕ) (c : List ℕ) (j : ℕ) (p : List ℕ) (k : ℕ) : Type 0 where
+  pub rows : RowsSound (recs rowSize readRow i r)
+  pub groups : GroupsSound (recs rowSize readRow i r)
+  pub conns : ConnsSound (recs rowSize readRow i r) (recs connSize readConn j c)
+  pub places : PlacesSound (recs rowSize readRow i r) k p
+  pub rows-zero : slice (i * rowSize) (length r) r ≡ replicate (length r - i * rowSize) 0
+  pub conns-zero : slice (j * connSize) (length c) c ≡ replicate (length c - j * connSize) 0
+  pub places-zero : slice (k * placeSize) (length p) p ≡ replicate (length p - k * placeSize) 0

@@ -8,7 +8,6 @@ ghost use Rattle.places.specs.Places.{placeSize};
 ghost use Rattle.machine.specs.Limits.{maxAnnouncements};
 ghost use Rattle.store.specs.Image.{headSize, SoundStore};
 ghost use Rattle.sound.specs.Whole.{PollPlain, CursorPlain, SizesPlain, HeadPlain, RecordsSound};
-
 use super::conns_fit;
 use super::groups_fit;
 use super::package::places_fit;
@@ -17,12 +16,16 @@ use super::rows_fit;
 
 // Words of the header, of a row, of a connection's entry and of a place.
 const HEAD: usize = 24;
+
 const ROW: usize = 9;
+
 const CONN: usize = 3;
+
 const PLACE: usize = 824;
 
 // The greatest L and Q.
 const MOST_LIMIT: u64 = 100_000;
+
 const MOST_PLACES: u64 = 4096;
 
 // ---- the header
