@@ -1,18 +1,22 @@
 -- What sum does on a sound store: its figures are words of the header; the store stays.
 -- Assumes nothing.
-use Prim.Native.Nat.{ℕ}
+use Prim.Native.Nat.{ℕ, _+_, _-_, _*_, _/_, _≤_}
 use mathlib.Core.Path.{_≡_, refl, sym, ap, _∙_}
+use mathlib.Core.Bool.{Bool, true, false}
 use mathlib.Core.List.{List, []}
+use native.Mathlib.Omega.{arith}
 use lib.ListN.{length, drop, getD}
-use Rattle.words.specs.Words.{words, recs}
+use Rattle.words.specs.Words.{words, recs, Decides}
 use Rattle.words.proofs.Records.{length-recs}
 use Rattle.regions.specs.Rows.{rowSize, readRow}
+use Rattle.machine.specs.Limits.{maxAnnouncements, need}
 use Rattle.machine.specs.State.{State}
 use Rattle.machine.specs.Table.{held}
 use Rattle.machine.specs.Wrapper.{sum}
 use Rattle.machine.specs.Claim.{elem}
 use Rattle.machine.specs.Call.{Sum, On, named, anyLate, takesPlace, askRefusal}
-use Rattle.machine.specs.Step.{Summed, perform, written}
+use Rattle.machine.specs.Step.{Refused, Summed, perform, written}
+use Rattle.machine.proofs.Tests.{never}
 use Rattle.store.specs.Flat.{Flat, flatOf}
 use Rattle.store.specs.Image.{headSize, image, SoundStore}
 use Rattle.store.specs.Read.{headIn, flatIn, stateOf}
@@ -21,8 +25,11 @@ use Rattle.store.proofs.Counts.{held-rows}
 use Rattle.store.proofs.ToFlat.{flat-sound}
 use Rattle.store.proofs.FlatRead.{flat-read}
 use Rattle.store.proofs.Stored.{needOf, words-front, state-shown}
+use Rattle.tracker.specs.declared.Figures.{Figures}
+use Rattle.tracker.specs.declared.Figures.the-variants.{Are}
 use Rattle.tracker.specs.Outcome.{Does}
-use Rattle.tracker.proofs.Contract.{does-nothing}
+use Rattle.tracker.specs.Reply.{figuresOf}
+use Rattle.tracker.proofs.Contract.{does-nothing, does-unsound}
 
 module _ (b : List ℕ) (w : SoundStore b) where
   -- ---- the header's figures
@@ -38,8 +45,40 @@ module _ (b : List ℕ) (w : SoundStore b) where
       ∙ ap (λ (f : Flat). length (f .rows)) (ap flatIn (words-front b (w .state) (w .writes)) ∙ flat-read (flatOf (w .state)) (words (drop (needOf (w .state)) b)) (flat-sound (w .state) (w .sound)))
       ∙ held-rows (w .state .table)
 
+  -- ---- the sizes
+
+  pub head-inside : 8 * headSize ≤ length b
+  unfolding need
+  head-inside = omega (arith, w .long)
+
+  pub figures-fit : (n l : ℕ) → n ≡ getD (words b) 3 0 → l ≡ getD (words b) 1 0 → (1 ≤ l) × (l ≤ maxAnnouncements) × (n ≤ l)
+  figures-fit n l p q =
+      let e : l ≡ w .state .limit = q ∙ limit-word in
+      let d : n ≡ held (w .state .table) = p ∙ held-word in
+      let f : held (w .state .table) ≤ w .state .limit = w .sound .bounded .fits in
+      (omega (arith, w .sound .some-limit), omega (arith, w .sound .most-limit), omega arith)
+
   -- ---- sum
 
   pub summed : Bytes b → Does (On Sum) b (record { reply = Summed (sum (w .state)); buffer = []; store = b })
   unfolding askRefusal named anyLate takesPlace elem perform written
   summed p = does-nothing b _ Sum w refl refl refl refl p refl
+
+  pub sum-figures : (n l : ℕ) {r : Figures} → Bytes b → n ≡ getD (words b) 3 0 → l ≡ getD (words b) 1 0 → r ≡ Are n (l - n) (n * 1000 / l)
+      → Does (On Sum) b (record { reply = figuresOf r; buffer = []; store = b })
+  unfolding sum
+  sum-figures n l p u v e = rw (e, u ∙ held-word, v ∙ limit-word) (summed p)
+
+-- ---- by the sound test's answer
+
+pub is-sound : (b : List ℕ) (r : Bool) → r ≡ true → Decides r (SoundStore b) → SoundStore b
+is-sound b true e d = d
+is-sound b false e d = never e
+
+not-sound : (b : List ℕ) (r : Bool) → r ≡ false → Decides r (SoundStore b) → SoundStore b → ⊥
+not-sound b true e d = never (sym e)
+not-sound b false e d = d
+
+pub sum-refused : (b : List ℕ) (r : Bool) → r ≡ false → Decides r (SoundStore b) → Does (On Sum) b (record { reply = Refused 3; buffer = []; store = b })
+unfolding named
+sum-refused b r e d = does-unsound b _ Sum (not-sound b r e d) refl refl refl

@@ -5,10 +5,11 @@
 // was, or what the request machine does to the state that the bytes write, and the bytes past the need as they were.
 ghost use mathlib.Core.List.{[]};
 ghost use mathlib.Core.Path.{_≡_};
-ghost use Prim.Native.Nat.{_+_, _*_, _≤_};
+ghost use Prim.Native.Nat.{_-_, _*_, _/_, _≤_};
 ghost use Rattle.machine.specs.Limits as limits;
 ghost use Rattle.machine.specs.Call.{Open, On, Sum, sizesTaken};
 ghost use Rattle.tracker.specs.Outcome.{Does};
+ghost use Rattle.tracker.specs.declared.Figures.the-variants.{Are};
 ghost use Rattle.tracker.specs.Reply.{replyOf, figuresOf};
 
 // An answer that is a number: a refusal of document 01's table, or the reply.
@@ -27,6 +28,8 @@ pub enum Figures {
 const SHORT_STORE: u64 = 1;
 
 const BAD_SIZES: u64 = 2;
+
+const UNSOUND_STORE: u64 = 3;
 
 // The greatest L and the greatest Q.
 const MAX_ANNOUNCEMENTS: u64 = 100_000;
@@ -70,4 +73,24 @@ pub fn open(s: &mut [u8], l: u64, q: u64) -> Answer
     }
     store::head::fill(&mut s[..n], l as usize, q as usize);
     Answer::Number(1)
+}
+
+// How many announcements are held, how many more fit, and how full the tracker is in thousandths, rounded down.
+pub fn sum(s: &[u8]) -> Figures
+    ensures { λ r. ⌜ Does (On Sum) (now (s .entry)) (record { reply = figuresOf r; buffer = []; store = now (s .entry) }) ⌝ }
+{
+    if !sound::sound(s) {
+        return Figures::Refused(UNSOUND_STORE);
+    }
+    let l = words::get(s, 1);
+    let n = words::get(s, 3);
+    figures_of(n, l)
+}
+
+// The figures of n held of L.
+fn figures_of(n: u64, l: u64) -> Figures
+    requires { ⌜ (1 ≤ l) × (l ≤ limits.maxAnnouncements) × (n ≤ l) ⌝ }
+    ensures { λ r. ⌜ r ≡ Are n (l - n) (n * 1000 / l) ⌝ }
+{
+    Figures::Are(n, l - n, n * 1000 / l)
 }
