@@ -81,7 +81,7 @@ impl Build<'_> {
         self.connections.push(connection.max(1));
     }
 
-    /// One more candidate; false if the draw did not fit, and then a connection more.
+    /// One more candidate; false if the draw did not fit. A connection at its limit gets company.
     fn announce(&mut self, spread: u64) -> bool {
         if self.hashes.is_empty() || self.rng.one_in(spread) {
             let hash = self.rng.hash();
