@@ -18,7 +18,7 @@ use Rattle.regions.proofs.Gap.{splice-in, set-one}
 use Rattle.regions.proofs.Regions.{holds-at, replaced, inserted-at}
 use Rattle.regions.proofs.Order.{Small, quad-number}
 use Rattle.places.specs.declared.Head.{Head}
-use Rattle.places.specs.Places.{listMost, placeSize, wtxidsAt, parentsAt, keptSize, Place, hashWords, listWords, placeWords, placeKey, headOf, readHead, blank, HeadAt, HashAt, Pushed}
+use Rattle.places.specs.Places.{listMost, listSize, placeSize, combinedAt, stageAt, wtxidCountAt, parentCountAt, wtxidsAt, parentsAt, keptSize, Place, hashWords, listWords, placeWords, placeKey, headOf, readHead, blank, HeadAt, HashAt, Pushed}
 use Rattle.places.proofs.Segments.{splice-again, quad-in}
 use Rattle.places.proofs.Places.{length-place, head-back}
 
@@ -34,13 +34,13 @@ module _ (w : List ℕ) (i : ℕ) where
   word-at m h = rw (getD-take placeSize (drop (placeSize * i) w) m 0 h, getD-drop (placeSize * i) w m 0, mul-comm placeSize i)
 
   pub head-read : {hash combined : Quad} {stage wtxids parents : ℕ}
-      → hash ≡ readQuad (drop (i * placeSize) w) → combined ≡ readQuad (drop (i * placeSize + 4) w) → stage ≡ getD w (i * placeSize + 8) 0
-      → wtxids ≡ getD w (i * placeSize + 9) 0 → parents ≡ getD w (i * placeSize + 10) 0
+      → hash ≡ readQuad (drop (i * placeSize) w) → combined ≡ readQuad (drop (i * placeSize + combinedAt) w) → stage ≡ getD w (i * placeSize + stageAt) 0
+      → wtxids ≡ getD w (i * placeSize + wtxidCountAt) 0 → parents ≡ getD w (i * placeSize + parentCountAt) 0
       → _≡_ {A = Head} (record { hash = hash; combined = combined; stage = stage; wtxids = wtxids; parents = parents }) (readHead (take placeSize (drop (placeSize * i) w)))
   unfolding readHead
   head-read p₀ p₁ p₂ p₃ p₄ =
       let e₀ = ap (λ (a : ℕ). readQuad (drop a w)) (sym (add-zero (i * placeSize))) ∙ quad-at 0 (lit≤ tt) in
-      rw (p₀, e₀, p₁, quad-at 4 (lit≤ tt), p₂, word-at 8 (lit< tt), p₃, word-at 9 (lit< tt), p₄, word-at 10 (lit< tt))
+      rw (p₀, e₀, p₁, quad-at combinedAt (lit≤ tt), p₂, word-at stageAt (lit< tt), p₃, word-at wtxidCountAt (lit< tt), p₄, word-at parentCountAt (lit< tt))
 
   module _ (g : placeSize * (i + 1) ≤ length w) where
     pub head-at : {x : Head} → x ≡ readHead (take placeSize (drop (placeSize * i) w)) → HeadAt w i x
@@ -49,7 +49,7 @@ module _ (w : List ℕ) (i : ℕ) where
       region = λ Q ps d h r. e ∙ ap readHead (holds-at placeSize placeWords length-place w i g Q ps d h r) ∙ head-back (getD ps i d);
     }
 
-    pub hash-at : (a : ℕ) (list : Place → List ℕ) (j : ℕ) {x : Quad} → a + 4 * listMost ≤ placeSize → j < listMost
+    pub hash-at : (a : ℕ) (list : Place → List ℕ) (j : ℕ) {x : Quad} → a + listSize ≤ placeSize → j < listMost
         → ((p : Place) (k e : ℕ) → k < length (list p) → k < listMost → readQuad (drop (a + 4 * k) (placeWords p)) ≡ quadOf (getD (list p) k e))
         → x ≡ readQuad (drop (i * placeSize + (a + j * 4)) w) → HashAt w i a list j x
     hash-at a list j {x} l m law e =
@@ -66,7 +66,7 @@ module _ (w : List ℕ) (i : ℕ) where
     -- ---- a hash put behind a list, and the list's count, at the word c, one more
 
     pub pushed : {w₁ w₂ : List ℕ} (a c n : ℕ) (list : Place → List ℕ) (with-list : List ℕ → Place → Place) (q : Quad)
-        → a + 4 * listMost ≤ placeSize → c < placeSize → n < listMost
+        → a + listSize ≤ placeSize → c < placeSize → n < listMost
         → ((p : Place) → length (list p) ≡ n → splice (splice (placeWords p) (a + 4 * n) (quadWords q)) c ((n + 1) ∷ []) ≡ placeWords (with-list (list p ++ (quadNumber q ∷ [])) p))
         → w₁ ≡ splice w (i * placeSize + (a + n * 4)) (quadWords q) → w₂ ≡ set w₁ (i * placeSize + c) (n + 1) → Pushed w w₂ i list with-list n (quadNumber q)
     pushed {w₁} {w₂} a c n list with-list q l m b law p₁ p₂ =
@@ -89,23 +89,23 @@ module _ (w : List ℕ) (i : ℕ) where
 
 -- ---- a new place
 
-no-hashes : listWords [] ≡ replicate 400 0
+no-hashes : listWords [] ≡ replicate listSize 0
 unfolding listWords padded each
-no-hashes = take-all 400 (replicate 400 0) (lit≤ tt)
+no-hashes = take-all listSize (replicate listSize 0) (lit≤ tt)
 
-all-zero : replicate {A = ℕ} placeSize 0 ≡ replicate 11 0 ++ (listWords [] ++ (listWords [] ++ replicate keptSize 0))
-all-zero = rw no-hashes (sym (rw (replicate-append-replicate {A = ℕ} 400 13 0, replicate-append-replicate {A = ℕ} 400 413 0) (replicate-append-replicate {A = ℕ} 11 813 0)))
+all-zero : replicate {A = ℕ} placeSize 0 ≡ replicate wtxidsAt 0 ++ (listWords [] ++ (listWords [] ++ replicate keptSize 0))
+all-zero = rw no-hashes (sym (rw (replicate-append-replicate {A = ℕ} listSize keptSize 0, replicate-append-replicate {A = ℕ} listSize (listSize + keptSize) 0) (replicate-append-replicate {A = ℕ} wtxidsAt (listSize + (listSize + keptSize)) 0)))
 
-blank-words : (q : Quad) (st : ℕ) → Small q → splice (splice (replicate placeSize 0) 0 (quadWords q)) 8 (st ∷ []) ≡ placeWords (blank (quadNumber q) st)
+blank-words : (q : Quad) (st : ℕ) → Small q → splice (splice (replicate placeSize 0) 0 (quadWords q)) stageAt (st ∷ []) ≡ placeWords (blank (quadNumber q) st)
 unfolding splice placeWords hashWords quadOf
 blank-words q st s =
-    ap (λ (z : List ℕ). splice (splice z 0 (quadWords q)) 8 (st ∷ [])) all-zero
+    ap (λ (z : List ℕ). splice (splice z 0 (quadWords q)) stageAt (st ∷ [])) all-zero
     ∙ ap (λ (r : Quad). quadWords r ++ (0 ∷ 0 ∷ 0 ∷ 0 ∷ st ∷ 0 ∷ 0 ∷ (listWords [] ++ (listWords [] ++ replicate keptSize 0)))) (sym (quad-number q s))
 
 module _ (w : List ℕ) (n i : ℕ) (h : i ≤ n) (g : placeSize * (n + 1) ≤ length w) where
   pub place-in : {w₁ w₂ w₃ w₄ : List ℕ} (q : Quad) (st : ℕ) → Small q → placeSize * (i + 1) ≤ length w₁
       → w₁ ≡ up placeSize w (i * placeSize) (n * placeSize) → w₂ ≡ splice w₁ (i * placeSize) (replicate placeSize 0)
-      → w₃ ≡ splice w₂ (i * placeSize) (quadWords q) → w₄ ≡ set w₃ (i * placeSize + 8) st
+      → w₃ ≡ splice w₂ (i * placeSize) (quadWords q) → w₄ ≡ set w₃ (i * placeSize + stageAt) st
       → Inserted placeSize placeWords w w₄ n i (blank (quadNumber q) st)
   place-in {w₁} {w₂} {w₃} {w₄} q st s l p₁ p₂ p₃ p₄ =
       let at : ℕ = i * placeSize in
@@ -116,8 +116,8 @@ module _ (w : List ℕ) (n i : ℕ) (h : i ≤ n) (g : placeSize * (n + 1) ≤ l
       let ly : length y ≡ placeSize = length-splice z 0 (quadWords q) (omega arith) ∙ lz in
       let e₃ : w₃ ≡ splice w₁ at y = splice-again w₁ at placeSize 0 z (quadWords q) lz (omega arith) (lit≤ tt) p₂ (p₃ ∙ ap (λ (m : ℕ). splice w₂ m (quadWords q)) (sym (add-zero at))) in
       let lw : length w₃ ≡ length w₁ = ap length e₃ ∙ length-splice w₁ at y (omega arith) in
-      let e₄ : w₄ ≡ splice w₃ (at + 8) (st ∷ []) = p₄ ∙ set-one w₃ (at + 8) st (omega arith) in
-      let e₅ : w₄ ≡ splice w₁ at (splice y 8 (st ∷ [])) = splice-again w₁ at placeSize 8 y (st ∷ []) ly (omega arith) (lit≤ tt) e₃ e₄ in
+      let e₄ : w₄ ≡ splice w₃ (at + stageAt) (st ∷ []) = p₄ ∙ set-one w₃ (at + stageAt) st (omega arith) in
+      let e₅ : w₄ ≡ splice w₁ at (splice y stageAt (st ∷ [])) = splice-again w₁ at placeSize stageAt y (st ∷ []) ly (omega arith) (lit≤ tt) e₃ e₄ in
       inserted-at placeSize placeWords length-place w i n (blank (quadNumber q) st) h g p₁ (e₅ ∙ rw (blank-words q st s, mul-comm i placeSize))
 
 -- the key of the i-th place, as `seek_place` reads it

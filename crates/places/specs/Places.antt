@@ -24,11 +24,21 @@ combinedAt = 4
 abbrev pub stageAt : ℕ
 stageAt = 8
 
+abbrev pub wtxidCountAt : ℕ
+wtxidCountAt = 9
+
+abbrev pub parentCountAt : ℕ
+parentCountAt = 10
+
 abbrev pub wtxidsAt : ℕ
 wtxidsAt = 11
 
 abbrev pub parentsAt : ℕ
 parentsAt = 411
+
+-- words of a list
+abbrev pub listSize : ℕ
+listSize = 400
 
 -- room for a flag of each parent, zero at rest
 abbrev pub keptSize : ℕ
@@ -48,7 +58,7 @@ hashWords h = quadWords (quadOf h)
 
 -- a list of hashes, in a region of its own
 unfoldable pub listWords : List ℕ → List ℕ
-listWords hs = padded (4 * listMost) (each hashWords hs)
+listWords hs = padded listSize (each hashWords hs)
 
 unfoldable pub placeWords : Place → List ℕ
 placeWords p =
@@ -61,7 +71,7 @@ unfoldable pub headOf : Place → Head
 headOf p = record { hash = quadOf (p .hash); combined = quadOf (p .combined); stage = p .stage; wtxids = length (p .wtxids); parents = length (p .parents) }
 
 unfoldable pub readHead : List ℕ → Head
-readHead w = record { hash = readQuad w; combined = readQuad (drop combinedAt w); stage = getD w 8 0; wtxids = getD w 9 0; parents = getD w 10 0 }
+readHead w = record { hash = readQuad w; combined = readQuad (drop combinedAt w); stage = getD w stageAt 0; wtxids = getD w wtxidCountAt 0; parents = getD w parentCountAt 0 }
 
 -- the key of a place's words
 abbrev pub placeKey : List ℕ → ℕ

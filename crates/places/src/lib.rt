@@ -8,7 +8,7 @@ ghost use mathlib.Core.List.{[], _∷_};
 ghost use Prim.Native.Nat.{_+_, _*_, _≤_, _<_};
 ghost use lib.ListN.{length, drop};
 ghost use Rattle.words.specs.Words.{words, recs};
-ghost use Rattle.regions.specs.Regions.{Inserted, Removed, Changed};
+ghost use Rattle.regions.specs.Regions.{Inserted, Removed, Truncated, Copied, Changed};
 ghost use Rattle.regions.specs.Order.{Sought};
 ghost use Rattle.regions.specs.Rows.{quadWords, quadNumber};
 ghost use Rattle.places.specs.Places.{listMost, placeSize, combinedAt, stageAt, wtxidsAt, parentsAt, Place, placeWords, placeKey, blank, withStage, withCombined, withWtxids, withParents, HeadAt, HashAt, Pushed};
@@ -77,6 +77,22 @@ pub fn remove_place(s: &mut [u8], n: usize, i: usize)
     ensures { λ _. ⌜ Removed placeSize placeWords (words (now (s .entry))) (words (now (s .exit))) n i ⌝ }
 {
     regions::take_out(s, i * PLACE, n * PLACE, PLACE);
+}
+
+// Clears the places from the m-th of n on.
+pub fn truncate_places(s: &mut [u8], n: usize, m: usize)
+    requires { ⌜ (m ≤ n) × (8 * (placeSize * n) ≤ length (now s)) ⌝ }
+    ensures { λ _. ⌜ Truncated placeSize placeWords (words (now (s .entry))) (words (now (s .exit))) n m ⌝ }
+{
+    words::clear(s, m * PLACE, (n - m) * PLACE);
+}
+
+// Copies the place at `from` over the place at `to`, which is not behind it.
+pub fn copy_place(s: &mut [u8], to: usize, from: usize)
+    requires { ⌜ (to ≤ from) × (8 * (placeSize * (from + 1)) ≤ length (now s)) ⌝ }
+    ensures { λ _. ⌜ Copied placeSize placeWords (words (now (s .entry))) (words (now (s .exit))) to from ⌝ }
+{
+    regions::copy_down(s, to * PLACE, from * PLACE, PLACE);
 }
 
 // The first of n places whose hash is at least h, or n.

@@ -87,3 +87,15 @@ splice-in w a k j y h l =
 pub set-one : (w : List ℕ) (m v : ℕ) → m < length w → set w m v ≡ splice w m (v ∷ [])
 unfolding splice
 set-one w m v h = rw add-one (set-split w m v h)
+
+-- words moved down over others are copied there
+pub copied-by : (w : List ℕ) {w₁ : List ℕ} (a b d : ℕ) → a ≤ b → b + d ≤ length w → w₁ ≡ down (b - a) w a (a + d) → w₁ ≡ splice w a (take d (drop b w))
+unfolding splice down
+copied-by w a b d h l p =
+    let ld : length (drop b w) ≡ length w - b = length-drop b w in
+    let lx : length (take d (drop b w)) ≡ d = length-take-le d (drop b w) (omega arith) in
+    let e₁ : a + (b - a) ≡ b = omega arith in
+    let e₂ : a + d + (b - a) ≡ b + d = omega arith in
+    let lb : length (take b w) ≡ b = length-take-le b w (omega arith) in
+    let m : drop b (take (b + d) w) ≡ take d (drop b w) = rw (take-add b d w) (drop-at (take b w) (take d (drop b w)) b lb) in
+    p ∙ rw (e₁, e₂, m, lx)

@@ -7,9 +7,9 @@ use native.Mathlib.Nat.{mul-le-mul-left, mul-zero, mul-suc, mul-add, mul-comm, m
 use native.Mathlib.Numerals.{add-one}
 use native.Mathlib.Omega.{arith}
 use lib.ListN.{length, take, drop, getD, set, replicate, length-append, length-take, length-drop, length-replicate, replicate-append-replicate, take-append-drop}
-use lib.Seq.{take-at, drop-at, take-append-add, split-at, set-split, length-take-le}
+use lib.Seq.{slice, take-all, take-add, take-at, drop-at, take-append-add, split-at, set-split, length-take-le}
 use Rattle.words.specs.Words.{recs, splice, up}
-use Rattle.regions.specs.Regions.{each, padded, Holds, insertAt, removeAt, opened, shut, Inserted, Removed, Replaced, Changed, Found}
+use Rattle.regions.specs.Regions.{each, padded, Holds, insertAt, removeAt, opened, shut, Inserted, Removed, Replaced, Truncated, Copied, Changed, Found}
 use Rattle.regions.proofs.Gap.{opened-by, splice-in, set-one, opened-at, shut-at, splice-at}
 
 -- ---- words and zeros
@@ -159,6 +159,21 @@ module _ {A : Type 0} (k : ℕ) (enc : A → List ℕ) (len : (a : A) → length
       let z : padded n (each enc l) ≡ padded n (each enc l ++ (replicate k 0 ++ [])) = padded-zeros (each enc l) k n (omega arith) in
       rw (z, each-append enc l (x ∷ [])) (rw ll at (padded-splice (each enc l) [] (enc x) (replicate k 0) n (omega arith) (length-replicate k 0 ∙ sym lx)))
 
+  -- the records from the m-th on cleared
+  region-cut : (l : List A) (n m : ℕ) → m ≤ length l → k * length l ≤ n
+      → splice (padded n (each enc l)) (k * m) (replicate (k * (length l - m)) 0) ≡ padded n (each enc (take m l))
+  region-cut l n m h g =
+      let a : List ℕ = each enc (take m l) in
+      let b : List ℕ = each enc (drop m l) in
+      let z : List ℕ = replicate (k * (length l - m)) 0 in
+      let la : length a ≡ k * m = front-long l m h in
+      let lb : length b ≡ k * (length l - m) = length-each (drop m l) ∙ rw (length-drop m l) in
+      let lz : length z ≡ k * (length l - m) = length-replicate {A = ℕ} (k * (length l - m)) 0 in
+      let c : k * length l ≡ k * m + k * (length l - m) = ap (λ (j : ℕ). k * j) (omega arith) ∙ mul-add k m (length l - m) in
+      let u : each enc l ≡ a ++ (b ++ []) = sym (ap (each enc) (take-append-drop m l)) ∙ each-append enc (take m l) (drop m l) ∙ rw append-nil in
+      let q = padded-splice a [] z b n (omega arith) (lb ∙ sym lz) in
+      rw (u, padded-zeros a (k * (length l - m)) n (omega arith)) (rw la at q)
+
   -- ---- what the contracts say
 
   -- an element of a list that has some
@@ -198,6 +213,29 @@ module _ {A : Type 0} (k : ℕ) (enc : A → List ℕ) (len : (a : A) → length
 
     pub removed-at : {w₁ : List ℕ} (n : ℕ) → i < n → k * n ≤ length w → w₁ ≡ shut k (i * k) (n * k) w → Removed k enc w w₁ n i
     removed-at n h g p = removed n h g (rw (mul-comm i k, mul-comm n k) at p)
+
+    -- here i is the number of records that stay
+    pub truncated : {w′ : List ℕ} (n : ℕ) → i ≤ n → k * n ≤ length w → w′ ≡ splice w (i * k) (replicate ((n - i) * k) 0) → Truncated k enc w w′ n i
+    truncated n h g e =
+        let e₁ = rw (mul-comm i k, mul-comm (n - i) k) at e in
+        record {
+          words-are = e₁;
+          region = λ L xs l r.
+              let b : k * length xs ≤ k * L = rw (l, ← (room L xs r)) g in
+              e₁ ∙ rw (← l, r) (region-cut xs (k * L) i (omega arith) b);
+        }
+
+    -- here i is the record that is written over
+    pub copied : {w′ : List ℕ} (from : ℕ) → i ≤ from → k * (from + 1) ≤ length w → w′ ≡ splice w (i * k) (take k (drop (from * k) w)) → Copied k enc w w′ i from
+    copied from h g e =
+        let e₁ = rw (mul-comm i k, mul-comm from k) at e in
+        record {
+          words-are = e₁;
+          region = λ L xs d l r.
+              let b : k * (from + 1) ≤ k * L = rw (← (room L xs r)) g in
+              let c : k * (i + 1) ≤ k * (from + 1) = mul-le-mul-left k (omega arith) in
+              e₁ ∙ rw (r, region-at xs from (k * L) d l b) (region-over xs i (k * L) (getD xs from d) (omega arith) (omega arith));
+        }
 
     module _ (g : k * (i + 1) ≤ length w) where
       -- the words of a record of a region
@@ -242,15 +280,34 @@ module _ {A : Type 0} (k : ℕ) (enc : A → List ℕ) (len : (a : A) → length
           let q : i * k ≡ k * i = mul-comm i k in
           changed-at j (v ∷ []) f (omega arith) p (e ∙ set-one w (i * k + j) v (omega arith))
 
-  -- a key of each of n records, read from the words and from the records
-  column-each : (f : List ℕ → ℕ) (g : A → ℕ) → ((a : A) → f (enc a) ≡ g a) → (l : List A) (z : List ℕ) → recs k f (length l) (each enc l ++ z) ≡ map g l
+  -- ---- what is read from the words of each record, and from the records
+
+  column-each : {B : Type 0} (f : List ℕ → B) (g : A → B) → ((a : A) → f (enc a) ≡ g a) → (l : List A) (z : List ℕ) → recs k f (length l) (each enc l ++ z) ≡ map g l
   unfolding recs each
   column-each f g e [] z = refl
   column-each f g e (a ∷ l) z =
       rw (append-assoc, take-at (enc a) (each enc l ++ z) k (len a), drop-at (enc a) (each enc l ++ z) k (len a), e a, column-each f g e l z)
 
-  pub column : (f : List ℕ → ℕ) (g : A → ℕ) → ((a : A) → f (enc a) ≡ g a) → (L : ℕ) (xs : List A) {w : List ℕ} → length xs ≤ L
+  pub column : {B : Type 0} (f : List ℕ → B) (g : A → B) → ((a : A) → f (enc a) ≡ g a) → (L : ℕ) (xs : List A) {w : List ℕ} → length xs ≤ L
       → Holds k enc L xs w → recs k f (length xs) w ≡ map g xs
   column f g e L xs h r =
       let b : length (each enc xs) ≤ k * L = rw (length-each xs) (mul-le-mul-left k h) in
       rw (r, padded-fit (k * L) (each enc xs) b) (column-each f g e xs (replicate (k * L - length (each enc xs)) 0))
+
+  -- a region whose records are followed by zeros holds what is read from it
+  each-recs : (dec : List ℕ → A) → ((x : List ℕ) → length x ≡ k → enc (dec x) ≡ x) → (n : ℕ) (w : List ℕ) → k * n ≤ length w → each enc (recs k dec n w) ≡ take (k * n) w
+  unfolding recs each
+  each-recs dec back zero w h = rw mul-zero
+  each-recs dec back (suc n) w h =
+      let c : k * suc n ≡ k + k * n = mul-suc k n ∙ add-comm (k * n) k in
+      let l : length (take k w) ≡ k = length-take-le k w (omega arith) in
+      let d : k * n ≤ length (drop k w) = simp length-drop (omega arith) in
+      rw (back (take k w) l, each-recs dec back n (drop k w) d, c) (sym (take-add k (k * n) w))
+
+  pub holds-recs : (dec : List ℕ → A) → ((x : List ℕ) → length x ≡ k → enc (dec x) ≡ x) → (n L : ℕ) (w : List ℕ) → length w ≡ k * L → n ≤ L
+      → slice (k * n) (k * L) w ≡ replicate (k * L - k * n) 0 → Holds k enc L (recs k dec n w) w
+  holds-recs dec back n L w l h z =
+      let b : k * n ≤ k * L = mul-le-mul-left k h in
+      let t : length (take (k * n) w) ≡ k * n = length-take-le (k * n) w (omega arith) in
+      let e : take (k * L) w ≡ w = take-all (k * L) w (omega arith) in
+      rw (each-recs dec back n w (omega arith), padded-fit (k * L) (take (k * n) w) (omega arith), t, ← z, e) (sym (take-append-drop (k * n) w))

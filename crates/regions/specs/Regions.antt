@@ -1,6 +1,6 @@
 -- A region: records of k words each, then zeros up to its capacity. What inserting, removing, replacing and reading a record do to it.
 -- Assumes nothing.
-use Prim.Native.Nat.{ℕ, suc, _+_, _*_, _<_}
+use Prim.Native.Nat.{ℕ, suc, _+_, _-_, _*_, _<_}
 use mathlib.Core.Path.{_≡_}
 use mathlib.Core.List.{List, [], _∷_, _++_}
 use lib.ListN.{length, take, drop, getD, set, replicate}
@@ -53,6 +53,16 @@ module _ {A : Type 0} (k : ℕ) (enc : A → List ℕ) (w : List ℕ) where
   pub record Replaced (w′ : List ℕ) (i : ℕ) (x : A) : Type 0 where
     pub words-are : w′ ≡ splice w (k * i) (enc x)
     pub region : (L : ℕ) (xs : List A) → i < length xs → Holds k enc L xs w → Holds k enc L (set xs i x) w′
+
+  -- all records from the m-th of n on gone
+  pub record Truncated (w′ : List ℕ) (n m : ℕ) : Type 0 where
+    pub words-are : w′ ≡ splice w (k * m) (replicate (k * (n - m)) 0)
+    pub region : (L : ℕ) (xs : List A) → length xs ≡ n → Holds k enc L xs w → Holds k enc L (take m xs) w′
+
+  -- the record at `from` copied over the one at `to`
+  pub record Copied (w′ : List ℕ) (to from : ℕ) : Type 0 where
+    pub words-are : w′ ≡ splice w (k * to) (take k (drop (k * from) w))
+    pub region : (L : ℕ) (xs : List A) (d : A) → from < length xs → Holds k enc L xs w → Holds k enc L (set xs to (getD xs from d)) w′
 
   -- the words j .. of a record replaced by y, which makes the record x into f x
   pub record Changed (w′ : List ℕ) (i j : ℕ) (y : List ℕ) (f : A → A) : Type 0 where

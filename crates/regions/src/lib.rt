@@ -10,12 +10,18 @@ ghost use mathlib.Core.List.{[], _∷_};
 ghost use lib.ListN.{length, take, drop};
 ghost use lib.Dec.{ltb};
 ghost use Rattle.words.specs.Words.{words, recs, splice, up};
-ghost use Rattle.regions.specs.Regions.{shut, Inserted, Removed, Replaced, Changed, Found};
+ghost use Rattle.regions.specs.Regions.{shut, Inserted, Removed, Replaced, Truncated, Copied, Changed, Found};
 ghost use Rattle.regions.specs.Order.{Sought, First, one};
 ghost use Rattle.regions.specs.Rows.{rowSize, readyAt, deadlineAt, bitsAt, connSize, quadWords, readQuad, quadNumber, rowWords, readRow, keyNumber, keyOf, rowKey, rowConn, withReady, withDeadline, withBits, connWords, readConn, connKey};
 
-// Words of a row.
+// Words of a row, and where in it some of them lie.
 const ROW: usize = 9;
+
+const READY: usize = 5;
+
+const DEADLINE: usize = 7;
+
+const BITS: usize = 8;
 
 // Words of a connection's entry.
 const CONN: usize = 3;
@@ -73,6 +79,18 @@ pub fn take_out(s: &mut [u8], a: usize, b: usize, d: usize)
     let y = (e + d) * 8;
     words::shift_down(&mut s[x..y], e - a, d);
     words::clear(s, e, d);
+}
+
+// Copies the d words at b down to a.
+pub fn copy_down(s: &mut [u8], a: usize, b: usize, d: usize)
+    requires { ⌜ (a ≤ b) × (8 * (b + d) ≤ length (now s)) ⌝ }
+    ensures { λ _. ⌜ words (now (s .exit)) ≡ splice (words (now (s .entry))) a (take d (drop b (words (now (s .entry))))) ⌝ }
+{
+    let by = b - a;
+    let e = a + d;
+    let x = a * 8;
+    let y = (e + by) * 8;
+    words::shift_down(&mut s[x..y], e - a, by);
 }
 
 // The hash at the word a.
@@ -153,12 +171,28 @@ pub fn remove_row(s: &mut [u8], n: usize, i: usize)
     take_out(s, i * ROW, n * ROW, ROW);
 }
 
+// Clears the rows from the m-th of n on.
+pub fn truncate_rows(s: &mut [u8], n: usize, m: usize)
+    requires { ⌜ (m ≤ n) × (8 * (rowSize * n) ≤ length (now s)) ⌝ }
+    ensures { λ _. ⌜ Truncated rowSize rowWords (words (now (s .entry))) (words (now (s .exit))) n m ⌝ }
+{
+    words::clear(s, m * ROW, (n - m) * ROW);
+}
+
+// Copies the row at `from` over the row at `to`, which is not behind it.
+pub fn copy_row(s: &mut [u8], to: usize, from: usize)
+    requires { ⌜ (to ≤ from) × (8 * (rowSize * (from + 1)) ≤ length (now s)) ⌝ }
+    ensures { λ _. ⌜ Copied rowSize rowWords (words (now (s .entry))) (words (now (s .exit))) to from ⌝ }
+{
+    copy_down(s, to * ROW, from * ROW, ROW);
+}
+
 // Stores the i-th row's ready time.
 pub fn set_ready(s: &mut [u8], i: usize, v: u64)
     requires { ⌜ 8 * (rowSize * (i + 1)) ≤ length (now s) ⌝ }
     ensures { λ _. ⌜ Changed rowSize rowWords (words (now (s .entry))) (words (now (s .exit))) i readyAt (v ∷ []) (withReady v) ⌝ }
 {
-    words::put(s, i * ROW + 5, v);
+    words::put(s, i * ROW + READY, v);
 }
 
 // Stores the i-th row's deadline.
@@ -166,7 +200,7 @@ pub fn set_deadline(s: &mut [u8], i: usize, v: u64)
     requires { ⌜ 8 * (rowSize * (i + 1)) ≤ length (now s) ⌝ }
     ensures { λ _. ⌜ Changed rowSize rowWords (words (now (s .entry))) (words (now (s .exit))) i deadlineAt (v ∷ []) (withDeadline v) ⌝ }
 {
-    words::put(s, i * ROW + 7, v);
+    words::put(s, i * ROW + DEADLINE, v);
 }
 
 // Stores the i-th row's bits.
@@ -174,7 +208,7 @@ pub fn set_bits(s: &mut [u8], i: usize, v: u64)
     requires { ⌜ 8 * (rowSize * (i + 1)) ≤ length (now s) ⌝ }
     ensures { λ _. ⌜ Changed rowSize rowWords (words (now (s .entry))) (words (now (s .exit))) i bitsAt (v ∷ []) (withBits v) ⌝ }
 {
-    words::put(s, i * ROW + 8, v);
+    words::put(s, i * ROW + BITS, v);
 }
 
 // ---- connections

@@ -20,3 +20,13 @@ pub mod Window
 pub mod RowsAt
 pub mod RowChanges
 pub mod PlacesAt
+pub mod Frame
+pub mod ReadBack
+pub mod HeadWords
+pub mod WordsFit
+pub mod FlatRead
+pub mod BytesBack
+pub mod Stored
+pub mod Searches
+pub mod Missing
+pub mod Counted

@@ -13,6 +13,7 @@ use Rattle.machine.proofs.Tests.{test}
 use Rattle.regions.specs.declared.Row.{Row}
 use Rattle.regions.specs.declared.Conn.{Conn}
 use Rattle.store.specs.Flat.{ownBit, bump, tally}
+unfoldable pub use Rattle.store.specs.Counting.{fewer, unbump, reowned, retally}
 
 -- below, equal or above
 pub order : (a b : ℕ) → (a < b) ⊎ ((a ≡ b) ⊎ (b < a))
@@ -111,15 +112,6 @@ tally-tallied (r ∷ rs) = bump-tallied 0 (r .conn) (ownBit r) (tally rs) (omega
 
 -- ---- one row less
 
--- the entry of a connection with one row less, or none
-abbrev pub fewer : ℕ → Conn → List Conn → List Conn
-fewer o c l = if eqb (c .held) 1 then l else record { conn = c .conn; held = c .held - 1; owned = c .owned - o } ∷ l
-
--- the opposite of bump
-unfoldable pub unbump : ℕ → ℕ → List Conn → List Conn
-unbump n o [] = []
-unbump n o (c ∷ l) = if eqb n (c .conn) then fewer o c l else c ∷ unbump n o l
-
 pub unbump-bump : (lo n o : ℕ) (l : List Conn) → Tallied lo l → unbump n o (bump n o l) ≡ l
 unfolding unbump
 unbump-bump lo n o [] t = rw (bump-nil, eq-eqb n n refl)
@@ -136,13 +128,6 @@ pub tally-less : (a : List Row) (r : Row) (b : List Row) → tally (a ++ b) ≡ 
 tally-less a r b = rw (tally-row a r b) (sym (unbump-bump 0 (r .conn) (ownBit r) (tally (a ++ b)) (tally-tallied (a ++ b))))
 
 -- ---- a row whose bit goes from o to p
-
-abbrev pub reowned : ℕ → ℕ → Conn → Conn
-reowned o p c = record { conn = c .conn; held = c .held; owned = c .owned - o + p }
-
-unfoldable pub retally : ℕ → ℕ → ℕ → List Conn → List Conn
-retally n o p [] = []
-retally n o p (c ∷ l) = if eqb n (c .conn) then reowned o p c ∷ l else c ∷ retally n o p l
 
 pub retally-bump : (n o p : ℕ) (l : List Conn) → retally n o p (bump n o l) ≡ bump n p l
 unfolding retally

@@ -3,3 +3,5 @@ pub mod Gather
 pub mod FlatSound
 pub mod Image
 pub mod Read
+pub mod Shown
+pub mod Counting

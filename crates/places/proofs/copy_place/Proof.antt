@@ -1,0 +1,30 @@
+use native.Mathlib.Omega.{arith}
+use Rattle.words.specs.Words.{words}
+use Rattle.words.proofs.Words.{length-words}
+use Rattle.places.specs.Places.{placeSize, placeWords}
+use Rattle.places.proofs.Places.{length-place}
+use Rattle.regions.proofs.Regions.{copied}
+use borrow.Author.Needs.{needs}
+use Rattle.places.proofs.copy_place.Statement.{statement}
+use Rattle.places.proofs.copy_place.Tie as tie
+
+mul-copy-down : tie.Need-mul-copy-down
+mul-copy-down c = search needs
+
+mul-copy-down-2 : tie.Need-mul-copy-down-2
+mul-copy-down-2 c = search needs
+
+copy-down-requires : tie.Need-copy-down-requires
+copy-down-requires c κs = search needs
+
+same-length : tie.Need-same-length
+same-length c = search needs
+
+returns : tie.Need-returns
+returns c =
+    let start = c .before .before .before .before .before in
+    copied placeSize placeWords length-place (words (start .args .s .now)) (start .args .to) (start .args .from) (start .pre .0) (omega (arith, length-words (start .args .s .now), start .pre)) (c .before .before .copy-down .ensures)
+
+pub copy-place-spec : {M : Type 1} → statement M
+copy-place-spec =
+    tie.close (tie.spec mul-copy-down mul-copy-down-2 copy-down-requires same-length returns)

@@ -1,0 +1,111 @@
+-- Rows, connections and places read back from the words that they were written as.
+-- Assumes nothing.
+use Prim.Native.Nat.{ℕ, suc, _+_, _-_, _*_, _≤_}
+use mathlib.Core.Path.{_≡_, refl, sym, ap, _∙_}
+use mathlib.Core.List.{List, [], _∷_, _++_, append-assoc}
+use native.Mathlib.Nat.{mul-zero}
+use native.Mathlib.Omega.{arith}
+use lib.ListN.{length, take, drop, getD, replicate, length-append}
+use lib.Seq.{take-at, drop-at}
+use Rattle.words.specs.Words.{recs}
+use Rattle.regions.specs.declared.Row.{Row}
+use Rattle.regions.specs.declared.Conn.{Conn}
+use Rattle.regions.specs.Regions.{each, padded}
+use Rattle.regions.specs.Rows.{rowSize, rowWords, readRow, connSize, connWords, readConn}
+use Rattle.regions.proofs.Regions.{length-padded, padded-fit, length-each}
+use Rattle.places.specs.Places.{Place, listMost, placeSize, combinedAt, wtxidsAt, parentsAt, keptSize, hashWords, listWords, placeWords}
+use Rattle.machine.specs.Typed.{Each}
+use Rattle.store.specs.Read.{readHash, readPlace}
+use Rattle.store.proofs.Quads.{number-quad}
+
+-- ---- records of a region
+
+module _ {A : Type 0} (k : ℕ) (enc : A → List ℕ) (len : (a : A) → length (enc a) ≡ k) (dec : List ℕ → A) where
+  -- whatever follows them
+  each-back : (xs : List A) (z : List ℕ) → Each (λ a. dec (enc a) ≡ a) xs → recs k dec (length xs) (each enc xs ++ z) ≡ xs
+  unfolding recs each
+  each-back [] z h = refl
+  each-back (a ∷ xs) z h =
+      rw (append-assoc, take-at (enc a) (each enc xs ++ z) k (len a), drop-at (enc a) (each enc xs ++ z) k (len a), h .0, each-back xs z (h .1))
+
+  pub region-back : (n : ℕ) (xs : List A) (z : List ℕ) → k * length xs ≤ n → Each (λ a. dec (enc a) ≡ a) xs → recs k dec (length xs) (padded n (each enc xs) ++ z) ≡ xs
+  region-back n xs z l h =
+      let b : length (each enc xs) ≤ n = omega (arith, length-each k enc len xs) in
+      let zs : List ℕ = replicate (n - length (each enc xs)) 0 in
+      rw (padded-fit n (each enc xs) b, append-assoc (each enc xs) zs z) (each-back xs (zs ++ z) h)
+
+-- a law of all, for each of a list
+each-of : {A : Type 0} (P : A → Type 0) → ((a : A) → P a) → (l : List A) → Each P l
+each-of P f [] = tt
+each-of P f (a ∷ l) = (f a, each-of P f l)
+
+-- ---- rows and connections
+
+length-row : (r : Row) → length (rowWords r) ≡ rowSize
+unfolding rowWords
+length-row r = refl
+
+row-back : (r : Row) → readRow (rowWords r) ≡ r
+unfolding rowWords readRow
+row-back r = refl
+
+pub rows-back : (n : ℕ) (rs : List Row) (z : List ℕ) → length rs ≤ n → recs rowSize readRow (length rs) (padded (rowSize * n) (each rowWords rs) ++ z) ≡ rs
+rows-back n rs z l = region-back rowSize rowWords length-row readRow (rowSize * n) rs z (omega arith) (each-of _ row-back rs)
+
+length-conn : (c : Conn) → length (connWords c) ≡ connSize
+unfolding connWords
+length-conn c = refl
+
+conn-back : (c : Conn) → readConn (connWords c) ≡ c
+unfolding connWords readConn
+conn-back c = refl
+
+pub conns-back : (n : ℕ) (cs : List Conn) (z : List ℕ) → length cs ≤ n → recs connSize readConn (length cs) (padded (connSize * n) (each connWords cs) ++ z) ≡ cs
+conns-back n cs z l = region-back connSize connWords length-conn readConn (connSize * n) cs z (omega arith) (each-of _ conn-back cs)
+
+-- ---- hashes and places
+
+length-hash : (h : ℕ) → length (hashWords h) ≡ 4
+unfolding hashWords
+length-hash h = refl
+
+hash-back : (h : ℕ) → readHash (hashWords h) ≡ h
+unfolding hashWords readHash
+hash-back h = number-quad h
+
+length-list : (hs : List ℕ) → length (listWords hs) ≡ 4 * listMost
+unfolding listWords
+length-list hs = length-padded (4 * listMost) (each hashWords hs)
+
+list-back : (hs : List ℕ) (z : List ℕ) → length hs ≤ listMost → recs 4 readHash (length hs) (listWords hs ++ z) ≡ hs
+unfolding listWords
+list-back hs z l = region-back 4 hashWords length-hash readHash (4 * listMost) hs z (omega arith) (each-of _ hash-back hs)
+
+length-place : (p : Place) → length (placeWords p) ≡ placeSize
+unfolding placeWords
+length-place p = simp (length-append, length-hash, length-list)
+
+-- the lists of a place have room
+pub record PlaceShort (p : Place) : Type 0 where
+  pub wtxids : length (p .wtxids) ≤ listMost
+  pub parents : length (p .parents) ≤ listMost
+
+place-back : (p : Place) → PlaceShort p → readPlace (placeWords p) ≡ p
+unfolding placeWords readPlace readHash hashWords
+place-back p s =
+    let behind : List ℕ = listWords (p .parents) ++ replicate keptSize 0 in
+    let h : readHash (placeWords p) ≡ p .hash = number-quad (p .hash) in
+    let c : readHash (drop combinedAt (placeWords p)) ≡ p .combined = number-quad (p .combined) in
+    let ws : recs 4 readHash (length (p .wtxids)) (drop wtxidsAt (placeWords p)) ≡ p .wtxids = list-back (p .wtxids) behind (s .wtxids) in
+    let d : drop parentsAt (placeWords p) ≡ behind = drop-at (listWords (p .wtxids)) behind (4 * listMost) (length-list (p .wtxids)) in
+    let ps : recs 4 readHash (length (p .parents)) (drop parentsAt (placeWords p)) ≡ p .parents =
+    ap (recs 4 readHash (length (p .parents))) d ∙ list-back (p .parents) (replicate keptSize 0) (s .parents) in
+    λ i. record { hash = h i; combined = c i; stage = p .stage; wtxids = ws i; parents = ps i }
+
+places-read : (ps : List Place) → Each PlaceShort ps → Each (λ p. readPlace (placeWords p) ≡ p) ps
+places-read [] a = tt
+places-read (p ∷ ps) a = (place-back p (a .0), places-read ps (a .1))
+
+pub places-back : (n : ℕ) (ps : List Place) (z : List ℕ) → length ps ≤ n → Each PlaceShort ps
+    → recs placeSize readPlace (length ps) (padded (placeSize * n) (each placeWords ps) ++ z) ≡ ps
+places-back n ps z l a = region-back placeSize placeWords length-place readPlace (placeSize * n) ps z (omega arith) (places-read ps a)

@@ -1,0 +1,99 @@
+use native.Mathlib.Omega.{arith}
+use Prim.Native.Nat.{_+_, _-_, _<_, _≤_}
+use mathlib.Core.Path.{_≡_, sym, ap, _∙_}
+use lib.ListN.{length, set, length-set}
+use Rattle.regions.specs.Regions.{insertAt, removeAt}
+use Rattle.store.proofs.Frame.{sizes, conns-lent, conns-back, conns-same, conns-counted, length-insert, length-remove}
+use borrow.Author.Needs.{needs}
+use Rattle.store.proofs.conns.drop_conn.Statement.{statement}
+use Rattle.store.proofs.conns.drop_conn.Tie as tie
+use Rattle.store.proofs.conns.drop_conn.Reads as reads
+use Rattle.store.proofs.conns.drop_conn.Lts as lts
+use Rattle.regions.proofs.remove_conn.Reads as remove-conn-reads
+use Rattle.store.proofs.head.conns.Reads as conns-reads
+use Rattle.store.proofs.head.limit.Reads as limit-reads
+use Rattle.words.proofs.put.Reads as put-reads
+
+conns-requires : tie.Need-conns-requires
+conns-requires c κs = search needs
+
+limit-requires : tie.Need-limit-requires
+limit-requires c κs = search needs
+
+mul-x : tie.Need-mul-x
+mul-x c = search needs
+
+add-x : tie.Need-add-x
+add-x c = search needs
+
+mul-x-2 : tie.Need-mul-x-2
+mul-x-2 c = search needs
+
+mul-y : tie.Need-mul-y
+mul-y c = search needs
+
+add-y : tie.Need-add-y
+add-y c = search needs
+
+mul-y-2 : tie.Need-mul-y-2
+mul-y-2 c = search needs
+
+add-y-2 : tie.Need-add-y-2
+add-y-2 c = search needs
+
+mul-y-3 : tie.Need-mul-y-3
+mul-y-3 c = search needs
+
+sub-remove-conn : tie.Need-sub-remove-conn
+sub-remove-conn c = search needs
+
+part-remove-conn-start : tie.Need-part-remove-conn-start
+part-remove-conn-start c = search needs
+
+part-remove-conn-end : tie.Need-part-remove-conn-end
+part-remove-conn-end c = search needs
+
+remove-conn-requires : tie.Need-remove-conn-requires
+remove-conn-requires c κs = search needs
+
+sub-put : tie.Need-sub-put
+sub-put c = search needs
+
+put-requires : tie.Need-put-requires
+put-requires c κs = search needs
+
+same-length : tie.Need-same-length
+same-length c = search needs
+
+returns : tie.Need-returns
+returns c = λ f h.
+    let z = sizes h in
+    let lim = c .before .before .before .before .before .before .before .before .limit .ensures .field f h in
+    let n = c .before .before .before .before .before .before .before .before .before .before .conns .ensures .field f h in
+    let i : c .before .before .before .before .before .before .before .before .before .before .before .before .before .args .i < length (f .conns) = omega (arith, c .before .before .before .before .before .before .before .before .before .before .before .before .before .pre) in
+    let held = c .before .before .before .before .before .before .remove-conn .ensures .region (f .head .limit) (f .conns) (sym n) (conns-lent h lim) in
+    let m : length (removeAt (c .before .before .before .before .before .before .before .before .before .before .before .before .before .args .i) (f .conns)) ≡ c .before .before .before .before .before .before .before .before .before .before .conns .result - 1 = length-remove (f .conns) (c .before .before .before .before .before .before .before .before .before .before .before .before .before .args .i) i ∙ ap (λ j. j - 1) (sym n) in
+    conns-counted h (search needs) _ _ m (conns-back h lim _ _ (c .before .before .before .before .before .before .remove-conn .kept .0) held) (c .before .before .put .ensures .word)
+
+pub drop-conn-spec : {M : Type 1} → statement M
+drop-conn-spec =
+    tie.close
+    (tie.spec
+    conns-requires
+    limit-requires
+    mul-x
+    add-x
+    mul-x-2
+    mul-y
+    add-y
+    mul-y-2
+    add-y-2
+    mul-y-3
+    sub-remove-conn
+    part-remove-conn-start
+    part-remove-conn-end
+    remove-conn-requires
+    sub-put
+    put-requires
+    same-length
+    returns)

@@ -1,0 +1,73 @@
+use native.Mathlib.Omega.{arith}
+use Prim.Native.Nat.{_<_}
+use mathlib.Core.Path.{_≡_}
+use lib.ListN.{length, getD}
+use borrow.Author.Tests.{eqb-true, eqb-false}
+use Rattle.store.proofs.Frame.{sizes}
+use Rattle.store.proofs.Tally.{fresh}
+use Rattle.store.proofs.Counted.{light-at, counted-in, counted-new}
+use borrow.Author.Needs.{needs}
+use Rattle.store.proofs.counting.count_in.Statement.{statement}
+use Rattle.store.proofs.counting.count_in.Tie as tie
+use Rattle.store.proofs.counting.count_in.Reads as reads
+use Rattle.store.proofs.counting.count_in.Lts as lts
+use Rattle.store.proofs.conns.add_conn.Reads as add-conn-reads
+use Rattle.store.proofs.conns.conn_at.Reads as conn-at-reads
+use Rattle.store.proofs.conns.seek_conn.Reads as seek-conn-reads
+use Rattle.store.proofs.conns.set_conn.Reads as set-conn-reads
+use Rattle.store.proofs.counting.is_entry.Reads as is-entry-reads
+
+seek-conn-requires : tie.Need-seek-conn-requires
+seek-conn-requires c κs = search needs
+
+is-entry-requires : tie.Need-is-entry-requires
+is-entry-requires c κs = search needs
+
+conn-at-requires : tie.Need-conn-at-requires
+conn-at-requires c κs = (c .before .before .before .before .before .before .before .pre .0, c .before .before .is-entry .ensures .inside (c .before .if1 .taken))
+
+add-t14 : tie.Need-add-t14
+add-t14 c = omega (arith, light-at (c .before .before .before .before .before .before .before .before .before .pre .0) (c .before .before .before .before .before .before .seek-conn .result) (fresh 0 0) (c .before .before .before .before .is-entry .ensures .inside (c .before .before .before .if1 .taken)) (c .before .conn-at .ensures (c .before .before .before .before .before .before .before .before .before .pre .0 .flat) (fresh 0 0) (c .before .before .before .before .before .before .before .before .before .pre .0 .shows)))
+
+set-conn-requires : tie.Need-set-conn-requires
+set-conn-requires c κs = (c .before .before .before .before .before .before .before .before .before .before .pre .0, c .before .before .before .before .before .is-entry .ensures .inside (c .before .before .before .before .if1 .taken))
+
+add-conn-requires : tie.Need-add-conn-requires
+add-conn-requires c κs = search needs
+
+same-length : tie.Need-same-length
+same-length c = search needs
+
+returns : tie.Need-returns
+returns c = λ f so h.
+    let d = fresh 0 0 in
+    let z = sizes h in
+    let bd = c .before .before .before .before .before .before .before .before .before .before .seek-conn .ensures .bound f h so in
+    let l : c .before .before .before .before .before .before .before .before .before .before .seek-conn .result < length (f .conns) = omega (arith, c .before .before .before .before .before .before .before .before .is-entry .ensures .inside (c .before .before .before .before .before .before .before .if1 .taken)) in
+    let e = c .before .before .before .before .before .before .before .before .is-entry .ensures .is f d h (c .before .before .before .before .before .before .before .if1 .taken) in
+    let k = c .before .before .before .before .before .conn-at .ensures f d h in
+    counted-in f bd d l e _ k (c .before .before .set-conn .ensures f h)
+
+same-length-2 : tie.Need-same-length-2
+same-length-2 c = search needs
+
+returns-2 : tie.Need-returns-2
+returns-2 c = λ f so h.
+    let d = fresh 0 0 in
+    let bd = c .before .before .before .before .before .before .before .seek-conn .ensures .bound f h so in
+    counted-new f bd d (λ l z. c .before .before .before .before .before .is-entry .ensures .not f d h (c .before .before .before .before .if1 .left) l z) (c .before .before .add-conn .ensures f h)
+
+pub count-in-spec : {M : Type 1} → statement M
+count-in-spec =
+    tie.close
+    (tie.spec
+    seek-conn-requires
+    is-entry-requires
+    conn-at-requires
+    add-t14
+    set-conn-requires
+    add-conn-requires
+    same-length
+    returns
+    same-length-2
+    returns-2)

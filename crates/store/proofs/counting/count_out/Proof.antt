@@ -1,0 +1,89 @@
+use native.Mathlib.Omega.{arith}
+use Prim.Native.Nat.{_<_}
+use mathlib.Core.Path.{_≡_}
+use lib.ListN.{length, getD}
+use borrow.Author.Tests.{eqb-true, eqb-false}
+use Rattle.store.proofs.Frame.{sizes}
+use Rattle.store.proofs.Tally.{fresh}
+use Rattle.store.proofs.Counted.{counted-last, counted-out, nothing-out}
+use borrow.Author.Needs.{needs}
+use Rattle.store.proofs.counting.count_out.Statement.{statement}
+use Rattle.store.proofs.counting.count_out.Tie as tie
+use Rattle.store.proofs.counting.count_out.Reads as reads
+use Rattle.store.proofs.counting.count_out.Lts as lts
+use Rattle.store.proofs.conns.conn_at.Reads as conn-at-reads
+use Rattle.store.proofs.conns.drop_conn.Reads as drop-conn-reads
+use Rattle.store.proofs.conns.seek_conn.Reads as seek-conn-reads
+use Rattle.store.proofs.conns.set_conn.Reads as set-conn-reads
+use Rattle.store.proofs.counting.is_entry.Reads as is-entry-reads
+use Rattle.store.proofs.counting.less.Reads as less-reads
+
+seek-conn-requires : tie.Need-seek-conn-requires
+seek-conn-requires c κs = search needs
+
+is-entry-requires : tie.Need-is-entry-requires
+is-entry-requires c κs = search needs
+
+conn-at-requires : tie.Need-conn-at-requires
+conn-at-requires c κs = (c .before .before .before .before .before .before .before .pre, c .before .before .is-entry .ensures .inside (c .before .if1 .taken))
+
+drop-conn-requires : tie.Need-drop-conn-requires
+drop-conn-requires c κs = (c .before .before .before .before .before .before .before .before .before .before .before .pre, c .before .before .before .before .before .before .is-entry .ensures .inside (c .before .before .before .before .before .if1 .taken))
+
+less-requires : tie.Need-less-requires
+less-requires c κs = search needs
+
+set-conn-requires : tie.Need-set-conn-requires
+set-conn-requires c κs = (c .before .before .before .before .before .before .before .before .before .before .before .before .pre, c .before .before .before .before .before .before .before .is-entry .ensures .inside (c .before .before .before .before .before .before .if1 .taken))
+
+same-length : tie.Need-same-length
+same-length c = search needs
+
+returns : tie.Need-returns
+returns c = λ f so h.
+    let d = fresh 0 0 in
+    let z = sizes h in
+    let bd = c .before .before .before .before .before .before .before .before .before .before .before .seek-conn .ensures .bound f h so in
+    let l : c .before .before .before .before .before .before .before .before .before .before .before .seek-conn .result < length (f .conns) = omega (arith, c .before .before .before .before .before .before .before .before .before .is-entry .ensures .inside (c .before .before .before .before .before .before .before .before .if1 .taken)) in
+    let e = c .before .before .before .before .before .before .before .before .before .is-entry .ensures .is f d h (c .before .before .before .before .before .before .before .before .if1 .taken) in
+    let k = c .before .before .before .before .before .before .conn-at .ensures f d h in
+    counted-last f bd d l e _ k (c .before .before .before .before .if2 .taken) (c .before .before .drop-conn .ensures f h)
+
+same-length-2 : tie.Need-same-length-2
+same-length-2 c = search needs
+
+returns-2 : tie.Need-returns-2
+returns-2 c = λ f so h.
+    let d = fresh 0 0 in
+    let z = sizes h in
+    let bd = c .before .before .before .before .before .before .before .before .before .before .before .before .seek-conn .ensures .bound f h so in
+    let l : c .before .before .before .before .before .before .before .before .before .before .before .before .seek-conn .result < length (f .conns) = omega (arith, c .before .before .before .before .before .before .before .before .before .before .is-entry .ensures .inside (c .before .before .before .before .before .before .before .before .before .if1 .taken)) in
+    let e = c .before .before .before .before .before .before .before .before .before .before .is-entry .ensures .is f d h (c .before .before .before .before .before .before .before .before .before .if1 .taken) in
+    let k = c .before .before .before .before .before .before .before .conn-at .ensures f d h in
+    counted-out f bd d l e _ k (c .before .before .before .before .before .if2 .left) (rw (c .before .before .before .before .less .ensures) at (c .before .before .set-conn .ensures f h))
+
+same-length-3 : tie.Need-same-length-3
+same-length-3 c = search needs
+
+returns-3 : tie.Need-returns-3
+returns-3 c = λ f so h.
+    let d = fresh 0 0 in
+    let bd = c .before .before .before .seek-conn .ensures .bound f h so in
+    nothing-out f bd d (λ l z. c .before .is-entry .ensures .not f d h (c .if1 .left) l z) so h
+
+pub count-out-spec : {M : Type 1} → statement M
+count-out-spec =
+    tie.close
+    (tie.spec
+    seek-conn-requires
+    is-entry-requires
+    conn-at-requires
+    drop-conn-requires
+    less-requires
+    set-conn-requires
+    same-length
+    returns
+    same-length-2
+    returns-2
+    same-length-3
+    returns-3)

@@ -1,0 +1,68 @@
+use native.Mathlib.Omega.{arith}
+use Prim.Native.Nat.{_+_, _-_, _<_, _≤_}
+use mathlib.Core.Path.{_≡_, sym, ap, _∙_}
+use lib.ListN.{length, set, length-set}
+use Rattle.regions.specs.Regions.{insertAt, removeAt}
+use Rattle.store.proofs.Frame.{sizes, rows-lent, rows-back, rows-same, rows-counted, length-insert, length-remove}
+use borrow.Author.Needs.{needs}
+use Rattle.store.proofs.rows.set_row.Statement.{statement}
+use Rattle.store.proofs.rows.set_row.Tie as tie
+use Rattle.store.proofs.rows.set_row.Reads as reads
+use Rattle.store.proofs.rows.set_row.Lts as lts
+use Rattle.regions.proofs.write_row.Reads as write-row-reads
+use Rattle.store.proofs.head.limit.Reads as limit-reads
+
+mul-x : tie.Need-mul-x
+mul-x c = search needs
+
+limit-requires : tie.Need-limit-requires
+limit-requires c κs = search needs
+
+mul-y : tie.Need-mul-y
+mul-y c = search needs
+
+add-y : tie.Need-add-y
+add-y c = search needs
+
+mul-y-2 : tie.Need-mul-y-2
+mul-y-2 c = search needs
+
+sub-write-row : tie.Need-sub-write-row
+sub-write-row c = search needs
+
+part-write-row-start : tie.Need-part-write-row-start
+part-write-row-start c = search needs
+
+part-write-row-end : tie.Need-part-write-row-end
+part-write-row-end c = search needs
+
+write-row-requires : tie.Need-write-row-requires
+write-row-requires c κs = search needs
+
+same-length : tie.Need-same-length
+same-length c = search needs
+
+returns : tie.Need-returns
+returns c = λ f h.
+    let z = sizes h in
+    let lim = c .before .before .before .before .limit .ensures .field f h in
+    let i : c .before .before .before .before .before .before .before .args .i < length (f .rows) = omega (arith, c .before .before .before .before .before .before .before .pre) in
+    let k : length (c .before .before .write-row .last .0) ≡ _ = c .before .before .write-row .kept .0 in
+    let held = c .before .before .write-row .ensures .region (f .head .limit) (f .rows) i (rows-lent h lim) in
+    rows-same h (search needs) (set (f .rows) (c .before .before .before .before .before .before .before .args .i) (c .before .before .before .before .before .before .before .args .r)) (length-set (f .rows) (c .before .before .before .before .before .before .before .args .i) (c .before .before .before .before .before .before .before .args .r)) (rows-back h lim _ _ k held)
+
+pub set-row-spec : {M : Type 1} → statement M
+set-row-spec =
+    tie.close
+    (tie.spec
+    mul-x
+    limit-requires
+    mul-y
+    add-y
+    mul-y-2
+    sub-write-row
+    part-write-row-start
+    part-write-row-end
+    write-row-requires
+    same-length
+    returns)

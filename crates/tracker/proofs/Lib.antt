@@ -1,0 +1,6 @@
+pub mod Sizes
+pub mod Stepped
+pub mod Calls
+pub mod Demands
+pub mod Opening
+pub mod Summing

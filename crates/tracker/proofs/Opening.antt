@@ -1,0 +1,44 @@
+-- What opening does, case by case of its refusals.
+-- Assumes nothing.
+use Prim.Native.Nat.{ℕ, zero, suc, _≤_, _<_}
+use mathlib.Core.Path.{_≡_, refl, sym, ap, _∙_}
+use mathlib.Core.Bool.{Bool, true, false, _&&_}
+use mathlib.Core.List.{List, [], _∷_, _++_}
+use lib.Dec.{ltb, leb}
+use native.Mathlib.Omega.{arith}
+use lib.ListN.{length, drop, getD}
+use borrow.Author.Tests.{lt-ltb, le-ltb, leb-true}
+use Rattle.words.specs.Words.{words}
+use Rattle.machine.specs.Limits.{maxAnnouncements, maxPlaces, need}
+use Rattle.machine.specs.Call.{Call, Open, sizesTaken, openingRefusal, refusal}
+use Rattle.machine.specs.Step.{Refused, Number, empty, carryOut, written, stepIf}
+use Rattle.machine.proofs.Tests.{and-left, and-right}
+use Rattle.store.specs.Image.{Writes, stored}
+use Rattle.store.proofs.BytesBack.{Bytes}
+use Rattle.store.proofs.Stored.{written-bytes}
+use Rattle.tracker.specs.Outcome.{outcomeIf, Does}
+
+-- what is known of the bytes of a store is known of its front
+pub bytes-front : (a z : List ℕ) → ((i : ℕ) → getD (a ++ z) i 0 < 256) → Bytes a
+bytes-front [] z p i = omega arith
+bytes-front (x ∷ a) z p zero = p 0
+bytes-front (x ∷ a) z p (suc i) = bytes-front a z (λ j. p (suc j)) i
+
+module _ (L Q : ℕ) (b : List ℕ) where
+  pub bad-sizes : sizesTaken L Q ≡ false → Does (Open L Q) b (record { reply = Refused 2; buffer = []; store = b })
+  unfolding outcomeIf stepIf refusal openingRefusal
+  bad-sizes e = record { sound = false; tested = tt; effect = rw e }
+
+  pub short-store : sizesTaken L Q ≡ true → length b < need L Q → Does (Open L Q) b (record { reply = Refused 1; buffer = []; store = b })
+  unfolding outcomeIf stepIf refusal openingRefusal
+  short-store e h = record { sound = false; tested = tt; effect = rw (e, lt-ltb (length b) (need L Q) h) }
+
+  pub opened : (p : List ℕ) → sizesTaken L Q ≡ true → need L Q ≤ length b → Bytes p → Writes p (empty L Q) → Does (Open L Q) b (record { reply = Number 1; buffer = []; store = p ++ drop (need L Q) b })
+  unfolding outcomeIf stepIf refusal openingRefusal carryOut written stored
+  opened p e h q w = record { sound = false; tested = tt; effect = rw (e, le-ltb (length b) (need L Q) h, ← written-bytes p (empty L Q) q w) }
+
+pub taken-limit : (L Q : ℕ) → sizesTaken L Q ≡ true → L ≤ maxAnnouncements
+taken-limit L Q e = leb-true L maxAnnouncements (and-right (leb 1 L) _ (and-left (leb 1 L && leb L maxAnnouncements) _ e))
+
+pub taken-places : (L Q : ℕ) → sizesTaken L Q ≡ true → Q ≤ maxPlaces
+taken-places L Q e = leb-true Q maxPlaces (and-right (leb 1 Q) _ (and-right (leb 1 L && leb L maxAnnouncements) _ e))

@@ -1,0 +1,63 @@
+-- A call keeps L and Q, or opens the store for others that it has room for.
+-- Assumes nothing.
+use Prim.Native.Nat.{ℕ, _≤_}
+use mathlib.Core.Path.{_≡_, refl, sym, ap, _∙_}
+use mathlib.Core.Logic.{inl, inr}
+use mathlib.Core.Bool.{Bool, true, false}
+use native.Mathlib.Omega.{arith}
+use lib.Dec.{ltb, eqb}
+use borrow.Author.Tests.{ltb-false, eqb-true}
+use Rattle.machine.specs.Limits.{need}
+use Rattle.machine.specs.State.{State}
+use Rattle.machine.specs.Call.{Ask, Announce, RequestParent, Failed, Unclaim, SolicitPackageInfo, ClaimPackage, BeginPackageResolution, AnnounceParents, FailedPackageClaims, Plan, Claim, Sweep, Disconnected, ReleasePackage, TeardownPackageClaims, Forget, ForgetKnown, FailedWithParents, FailedPackageInfo, PackageInfoOwner, AnnounceTransactions, TransactionResponseCompleted, TransactionNotFound, PollGate, Arrange, Sum, Call, Open, On, sizesTaken, openingRefusal, refusal}
+use Rattle.machine.specs.Plan.{plan}
+use Rattle.machine.specs.Step.{perform, carryOut, stepIf, step}
+use Rattle.machine.proofs.Tests.{test, by-test}
+use Rattle.store.proofs.Stored.{needOf}
+
+need-kept : (a : Ask) (s : State) → needOf ((perform a s) .state) ≡ needOf s
+unfolding perform plan
+need-kept (Announce c) s = refl
+need-kept (RequestParent c) s = refl
+need-kept (Failed k n now) s = refl
+need-kept (Unclaim k n) s = refl
+need-kept (SolicitPackageInfo n h hs now) s = refl
+need-kept (ClaimPackage n h c ws now) s = refl
+need-kept (BeginPackageResolution n h c ws now) s = refl
+need-kept (AnnounceParents n hs now b) s = refl
+need-kept (FailedPackageClaims n cs now b) s = refl
+need-kept (Plan now ks b) s = refl
+need-kept (Claim now l b) s = refl
+need-kept (Sweep b) s = refl
+need-kept (Disconnected n now b) s = refl
+need-kept (ReleasePackage n h now b) s = refl
+need-kept (TeardownPackageClaims now) s = refl
+need-kept (Forget k) s = refl
+need-kept (ForgetKnown k now) s = refl
+need-kept (FailedWithParents k n now b) s = refl
+need-kept (FailedPackageInfo k n now) s = refl
+need-kept (PackageInfoOwner k now) s = refl
+need-kept (AnnounceTransactions n now p w os) s = refl
+need-kept (TransactionResponseCompleted n x w now) s = refl
+need-kept (TransactionNotFound n l now b) s = refl
+need-kept (PollGate now) s = refl
+need-kept (Arrange ws l b) s = refl
+need-kept Sum s = refl
+
+-- an opening that is not refused has sizes that it takes, and room
+pub opening-fits : (n L Q : ℕ) → openingRefusal n L Q ≡ 0 → (sizesTaken L Q ≡ true) × (need L Q ≤ n)
+unfolding openingRefusal
+opening-fits n L Q e =
+    elim (test (sizesTaken L Q)) [
+      | inl t ↦ elim (test (ltb n (need L Q))) [ inl d ↦ absurd (omega (arith, rw (t, d) at e)) | inr d ↦ (t, ltb-false n (need L Q) d) ]
+      | inr t ↦ absurd (omega (arith, rw t at e))
+    ]
+
+carried-room : (n : ℕ) (c : Call) (s : State) → refusal n true c s ≡ 0 → needOf s ≤ n → needOf ((carryOut c s) .state) ≤ n
+unfolding carryOut refusal
+carried-room n (Open L Q) s e h = opening-fits n L Q e .1
+carried-room n (On a) s e h = rw (need-kept a s) h
+
+pub step-room : (n : ℕ) (c : Call) (s : State) → needOf s ≤ n → needOf ((step n c s) .state) ≤ n
+unfolding stepIf
+step-room n c s h = by-test (λ (t : State). needOf t ≤ n) (eqb (refusal n true c s) 0) (λ e. carried-room n c s (eqb-true (refusal n true c s) 0 e) h) (λ e. h)
