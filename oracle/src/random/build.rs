@@ -91,13 +91,11 @@ impl Build<'_> {
         let connection = self.rng.pick(&self.connections);
         let at_hash = self.at_hash.entry(hash).or_default();
         let of_connection = self.of_connection.entry(connection).or_default();
-        if at_hash.len() >= MAX_AT_HASH
-            || at_hash.contains(&connection)
-            || *of_connection >= MAX_OF_CONNECTION
-        {
-            if self.rng.one_in(32) {
-                self.connect();
-            }
+        if *of_connection >= MAX_OF_CONNECTION {
+            self.connect();
+            return false;
+        }
+        if at_hash.len() >= MAX_AT_HASH || at_hash.contains(&connection) {
             return false;
         }
         at_hash.push(connection);
