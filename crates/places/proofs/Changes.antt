@@ -1,7 +1,7 @@
 -- What the contracts of places say, from what the code does to the words.
 -- Assumes nothing.
 use Prim.Native.Nat.{ℕ, _+_, _-_, _*_, _≤_, _<_}
-use mathlib.Core.Path.{_≡_, refl, sym, ap, _∙_}
+use mathlib.Core.Path.{_≡_, sym, ap, _∙_}
 use mathlib.Core.List.{List, [], _∷_, _++_}
 use native.Mathlib.Nat.{mul-comm, add-zero}
 use native.Mathlib.Omega.{arith}
@@ -12,13 +12,13 @@ use Rattle.words.specs.Words.{splice, up, recs}
 use Rattle.words.proofs.Records.{recs-at}
 use Rattle.words.proofs.Splice.{length-splice}
 use Rattle.regions.specs.declared.Quad.{Quad}
-use Rattle.regions.specs.Regions.{each, padded, Holds, Inserted}
+use Rattle.regions.specs.Regions.{each, padded, Inserted}
 use Rattle.regions.specs.Rows.{quadWords, readQuad, quadNumber, quadOf}
 use Rattle.regions.proofs.Gap.{splice-in, set-one}
 use Rattle.regions.proofs.Regions.{holds-at, replaced, inserted-at}
 use Rattle.regions.proofs.Order.{Small, quad-number}
 use Rattle.places.specs.declared.Head.{Head}
-use Rattle.places.specs.Places.{listMost, listSize, placeSize, combinedAt, stageAt, wtxidCountAt, parentCountAt, wtxidsAt, parentsAt, keptSize, Place, hashWords, listWords, placeWords, placeKey, headOf, readHead, blank, HeadAt, HashAt, Pushed}
+use Rattle.places.specs.Places.{listMost, listSize, placeSize, combinedAt, stageAt, wtxidCountAt, parentCountAt, wtxidsAt, keptSize, Place, hashWords, listWords, placeWords, placeKey, readHead, blank, HeadAt, HashAt, Pushed}
 use Rattle.places.proofs.Segments.{splice-again, quad-in}
 use Rattle.places.proofs.Places.{length-place, head-back}
 

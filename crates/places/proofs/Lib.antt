@@ -1,3 +1,4 @@
 pub mod Segments
 pub mod Places
 pub mod Changes
+pub mod Columns

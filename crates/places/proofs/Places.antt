@@ -3,22 +3,17 @@
 use Prim.Native.Nat.{ℕ, _+_, _-_, _*_, _≤_, _<_}
 use mathlib.Core.Path.{_≡_, refl, sym, ap, _∙_}
 use mathlib.Core.List.{List, [], _∷_, _++_, append-assoc}
-use native.Mathlib.Nat.{mul-comm, add-zero}
-use native.Mathlib.Numerals.{add-one}
 use native.Mathlib.Omega.{arith}
-use lib.Dec.{lit<}
-use lib.ListN.{length, take, drop, getD, set, replicate, length-append, length-drop, length-replicate, replicate-append-replicate}
-use lib.Seq.{take-append-le, drop-append-le, take-at, drop-at, take-all, drop-drop, getD-take, getD-drop, length-take-le}
-use Rattle.words.specs.Words.{splice, up}
+use lib.ListN.{length, take, drop, getD, replicate, length-append, length-drop}
+use lib.Seq.{take-append-le, drop-append-le, drop-at, drop-drop}
+use Rattle.words.specs.Words.{splice}
 use Rattle.regions.specs.declared.Quad.{Quad}
-use Rattle.regions.specs.Regions.{each, padded, Holds, Inserted}
+use Rattle.regions.specs.Regions.{each}
 use Rattle.regions.specs.Rows.{quadWords, readQuad, quadNumber, quadOf}
-use Rattle.regions.proofs.Gap.{splice-in, set-one}
 use Rattle.regions.proofs.Regions.{length-padded, region-push, region-at}
 use Rattle.regions.proofs.Order.{Small, quad-number}
-use Rattle.places.specs.declared.Head.{Head}
-use Rattle.places.specs.Places.{listMost, listSize, placeSize, combinedAt, stageAt, wtxidCountAt, parentCountAt, wtxidsAt, parentsAt, keptSize, Place, hashWords, listWords, placeWords, headOf, readHead, blank, withStage, withCombined, withWtxids, withParents}
-use Rattle.places.proofs.Segments.{splice-front, splice-back, splice-again, quad-in}
+use Rattle.places.specs.Places.{listMost, listSize, placeSize, combinedAt, stageAt, wtxidCountAt, parentCountAt, wtxidsAt, parentsAt, keptSize, Place, hashWords, listWords, placeWords, headOf, readHead, withStage, withCombined, withWtxids, withParents}
+use Rattle.places.proofs.Segments.{splice-front, splice-back, quad-in}
 
 pub length-hash : (h : ℕ) → length (hashWords h) ≡ 4
 unfolding hashWords
@@ -50,14 +45,14 @@ head-back p = refl
 
 -- the words before and behind a list of a place
 module _ (p : Place) where
-  head-words : List ℕ
+  pub head-words : List ℕ
   head-words = hashWords (p .hash) ++ (hashWords (p .combined) ++ (p .stage ∷ length (p .wtxids) ∷ length (p .parents) ∷ []))
 
   around-wtxids : placeWords p ≡ head-words ++ (listWords (p .wtxids) ++ (listWords (p .parents) ++ replicate keptSize 0))
   unfolding placeWords head-words
   around-wtxids = simp append-assoc
 
-  around-parents : placeWords p ≡ (head-words ++ listWords (p .wtxids)) ++ (listWords (p .parents) ++ replicate keptSize 0)
+  pub around-parents : placeWords p ≡ (head-words ++ listWords (p .wtxids)) ++ (listWords (p .parents) ++ replicate keptSize 0)
   unfolding placeWords head-words
   around-parents = simp append-assoc
 
@@ -65,7 +60,7 @@ module _ (p : Place) where
   unfolding head-words
   length-head = simp (length-append, length-hash)
 
-  length-front : length (head-words ++ listWords (p .wtxids)) ≡ parentsAt
+  pub length-front : length (head-words ++ listWords (p .wtxids)) ≡ parentsAt
   length-front = simp (length-append, length-head, length-list)
 
   wtxid-count : (v : ℕ) → splice head-words wtxidCountAt (v ∷ []) ≡ hashWords (p .hash) ++ (hashWords (p .combined) ++ (p .stage ∷ v ∷ length (p .parents) ∷ []))

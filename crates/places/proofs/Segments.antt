@@ -1,17 +1,15 @@
 -- Splices and reads within a part of a list.
 -- Assumes nothing.
 use Prim.Native.Nat.{ℕ, _+_, _-_, _≤_, _<_}
-use mathlib.Core.Path.{_≡_, refl, sym, ap, _∙_}
-use mathlib.Core.List.{List, [], _∷_, _++_, append-assoc}
-use native.Mathlib.Nat.{add-zero}
+use mathlib.Core.Path.{_≡_, sym, ap, _∙_}
+use mathlib.Core.List.{List, _++_, append-assoc}
 use native.Mathlib.Omega.{arith}
-use lib.ListN.{length, take, drop, getD, set, length-append, length-take, length-drop, length-set}
+use lib.ListN.{length, take, drop, getD}
 use lib.Seq.{take-at, drop-at, take-append-le, drop-append-le, drop-drop, getD-take, getD-drop, length-take-le}
 use Rattle.words.specs.Words.{splice}
 use Rattle.words.proofs.Splice.{splice-step, length-splice}
-use Rattle.regions.specs.declared.Quad.{Quad}
 use Rattle.regions.specs.Rows.{readQuad}
-use Rattle.regions.proofs.Gap.{splice-in, set-one}
+use Rattle.regions.proofs.Gap.{splice-in}
 
 -- ---- splices
 

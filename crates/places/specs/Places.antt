@@ -1,9 +1,10 @@
 -- Package places as words.
 -- Assumes nothing.
-use Prim.Native.Nat.{ℕ, suc, _+_, _*_, _<_}
+use Prim.Native.Nat.{ℕ, _+_, _*_, _^_, _≤_, _<_}
 use mathlib.Core.Path.{_≡_}
 use mathlib.Core.List.{List, [], _∷_, _++_}
 use lib.ListN.{length, take, drop, getD, set, replicate}
+use Rattle.words.specs.Words.{recs}
 use Rattle.regions.specs.declared.Quad.{Quad}
 use Rattle.regions.specs.Regions.{each, padded, Holds}
 use Rattle.regions.specs.Rows.{quadWords, readQuad, quadNumber, quadOf}
@@ -76,6 +77,29 @@ readHead w = record { hash = readQuad w; combined = readQuad (drop combinedAt w)
 -- the key of a place's words
 abbrev pub placeKey : List ℕ → ℕ
 placeKey w = quadNumber (readQuad w)
+
+-- ---- a place read back
+
+unfoldable pub readPlace : List ℕ → Place
+readPlace w = record {
+  hash = quadNumber (readQuad w);
+  combined = quadNumber (readQuad (drop combinedAt w));
+  stage = getD w stageAt 0;
+  wtxids = recs 4 (λ l. quadNumber (readQuad l)) (getD w wtxidCountAt 0) (drop wtxidsAt w);
+  parents = recs 4 (λ l. quadNumber (readQuad l)) (getD w parentCountAt 0) (drop parentsAt w);
+}
+
+-- a list of hashes fits a place
+pub record FewHashes (hs : List ℕ) : Type 0 where
+  pub few : length hs ≤ listMost
+  pub small : (i : ℕ) → i < length hs → getD hs i 0 < (2 ^ 64) ^ 4
+
+-- a place whose words say all of it
+pub record Fitting (p : Place) : Type 0 where
+  pub hash : p .hash < (2 ^ 64) ^ 4
+  pub combined : p .combined < (2 ^ 64) ^ 4
+  pub wtxids : FewHashes (p .wtxids)
+  pub parents : FewHashes (p .parents)
 
 -- ---- places changed
 

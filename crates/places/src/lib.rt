@@ -3,15 +3,14 @@
 // A place has 824 words: hash 4, combined hash 4, stage (1 flag, 2 Awaiting, 3 Enqueued), wtxid count, parent count, 100 wtxids and
 // 100 parents of 4 words, and 13 words that are zero at rest. Places stand in the order of their hashes. As for the records of
 // `regions`, contracts say what happens to a region that holds a list of places, and a `requires` asks for room only.
-ghost use mathlib.Core.Path.{_≡_};
 ghost use mathlib.Core.List.{[], _∷_};
 ghost use Prim.Native.Nat.{_+_, _*_, _≤_, _<_};
-ghost use lib.ListN.{length, drop};
+ghost use lib.ListN.{length};
 ghost use Rattle.words.specs.Words.{words, recs};
 ghost use Rattle.regions.specs.Regions.{Inserted, Removed, Truncated, Copied, Changed};
 ghost use Rattle.regions.specs.Order.{Sought};
 ghost use Rattle.regions.specs.Rows.{quadWords, quadNumber};
-ghost use Rattle.places.specs.Places.{listMost, placeSize, combinedAt, stageAt, wtxidsAt, parentsAt, Place, placeWords, placeKey, blank, withStage, withCombined, withWtxids, withParents, HeadAt, HashAt, Pushed};
+ghost use Rattle.places.specs.Places.{listMost, placeSize, combinedAt, stageAt, wtxidsAt, parentsAt, placeWords, placeKey, blank, withStage, withCombined, withWtxids, withParents, HeadAt, HashAt, Pushed};
 
 // Words of a place, and where in it the parts lie.
 const PLACE: usize = 824;

@@ -2,3 +2,4 @@ pub mod Gap
 pub mod Regions
 pub mod Rows
 pub mod Order
+pub mod Columns

@@ -4,8 +4,7 @@ use Prim.Native.Nat.{ℕ, zero, suc, _+_, _-_, _*_, _/_, _%_, _^_, _≤_, _<_}
 use mathlib.Core.Path.{_≡_, refl, sym, ap, _∙_}
 use mathlib.Core.Logic.{_⊎_, inl, inr}
 use mathlib.Core.Bool.{Bool, true, false, not}
-use mathlib.Core.List.{List, [], _∷_, _++_}
-use native.Mathlib.Nat.{add-zero}
+use mathlib.Core.List.{List, [], _∷_}
 use native.Mathlib.Omega.{arith}
 use lib.Dec.{ltb, lit<}
 use lib.ListN.{length, getD}
@@ -14,7 +13,7 @@ use Rattle.words.specs.Words.{number, digits}
 use Rattle.words.proofs.Digits.{number-append, number-digits, digits-number}
 use Rattle.regions.specs.declared.Quad.{Quad}
 use Rattle.regions.specs.declared.Key.{Key}
-use Rattle.regions.specs.Order.{Sorted, Bound, Sought, First, one}
+use Rattle.regions.specs.Order.{Sorted, Sought, First}
 use Rattle.regions.specs.Rows.{quadWords, readQuad, quadNumber, quadOf, keyNumber}
 
 pub test : (b : Bool) → (b ≡ true) ⊎ (b ≡ false)

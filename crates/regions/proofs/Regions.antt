@@ -4,9 +4,8 @@ use Prim.Native.Nat.{ℕ, zero, suc, _+_, _-_, _*_, _≤_, _<_}
 use mathlib.Core.Path.{_≡_, refl, sym, ap, _∙_}
 use mathlib.Core.List.{List, [], _∷_, _++_, append-assoc, append-nil, map}
 use native.Mathlib.Nat.{mul-le-mul-left, mul-zero, mul-suc, mul-add, mul-comm, mul-one, add-comm}
-use native.Mathlib.Numerals.{add-one}
 use native.Mathlib.Omega.{arith}
-use lib.ListN.{length, take, drop, getD, set, replicate, length-append, length-take, length-drop, length-replicate, replicate-append-replicate, take-append-drop}
+use lib.ListN.{length, take, drop, getD, set, replicate, length-append, length-drop, length-replicate, replicate-append-replicate, take-append-drop}
 use lib.Seq.{slice, take-all, take-add, take-at, drop-at, take-append-add, split-at, set-split, length-take-le}
 use Rattle.words.specs.Words.{recs, splice, up}
 use Rattle.regions.specs.Regions.{each, padded, Holds, insertAt, removeAt, opened, shut, Inserted, Removed, Replaced, Truncated, Copied, Changed, Found}

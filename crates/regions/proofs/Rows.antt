@@ -1,13 +1,13 @@
 -- Hashes, rows and entries of connections, read and written as the code does it.
 -- Assumes nothing.
 use Prim.Native.Nat.{ℕ, _+_, _*_, _%_, _≤_, _<_}
-use mathlib.Core.Path.{_≡_, refl, sym, ap, _∙_}
-use mathlib.Core.List.{List, [], _∷_, _++_, append-assoc}
+use mathlib.Core.Path.{_≡_, refl, _∙_}
+use mathlib.Core.List.{List, append-assoc}
 use native.Mathlib.Nat.{add-zero, mul-comm}
 use native.Mathlib.Numerals.{towards-suc}
 use native.Mathlib.Omega.{arith}
 use lib.Dec.{lit<}
-use lib.ListN.{length, take, drop, getD, set, length-set}
+use lib.ListN.{length, take, drop, getD, set}
 use lib.Seq.{sets-eq, getD-drop, getD-take}
 use Rattle.words.specs.Words.{splice, recs}
 use Rattle.words.proofs.Records.{recs-at}

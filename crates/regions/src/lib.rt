@@ -9,7 +9,7 @@ ghost use Prim.Native.Nat.{_+_, _*_, _≤_, _<_};
 ghost use mathlib.Core.List.{[], _∷_};
 ghost use lib.ListN.{length, take, drop};
 ghost use lib.Dec.{ltb};
-ghost use Rattle.words.specs.Words.{words, recs, splice, up};
+ghost use Rattle.words.specs.Words.{words, recs, splice, up, down};
 ghost use Rattle.regions.specs.Regions.{shut, Inserted, Removed, Replaced, Truncated, Copied, Changed, Found};
 ghost use Rattle.regions.specs.Order.{Sought, First, one};
 ghost use Rattle.regions.specs.Rows.{rowSize, readyAt, deadlineAt, bitsAt, connSize, quadWords, readQuad, quadNumber, rowWords, readRow, keyNumber, keyOf, rowKey, rowConn, withReady, withDeadline, withBits, connWords, readConn, connKey};
@@ -154,12 +154,32 @@ pub fn write_row(s: &mut [u8], i: usize, r: Row)
     words::put(s, a + 8, r.bits);
 }
 
+// Moves the first m words of a part up by a row. (By itself, with a constant distance from word 0, it is compiled to a memmove.)
+fn rows_up(s: &mut [u8], m: usize)
+    requires { ⌜ 8 * (m + rowSize) ≤ length (now s) ⌝ }
+    ensures { λ _. ⌜ words (now (s .exit)) ≡ up rowSize (words (now (s .entry))) 0 m ⌝ }
+{
+    words::shift_up(s, m, ROW);
+}
+
+// Moves m words of a part, from the second row on, down by a row.
+fn rows_down(s: &mut [u8], m: usize)
+    requires { ⌜ 8 * (m + rowSize) ≤ length (now s) ⌝ }
+    ensures { λ _. ⌜ words (now (s .exit)) ≡ down rowSize (words (now (s .entry))) 0 m ⌝ }
+{
+    words::shift_down(s, m, ROW);
+}
+
 // Puts r in as the i-th of n rows.
 pub fn insert_row(s: &mut [u8], n: usize, i: usize, r: Row)
     requires { ⌜ (i ≤ n) × (8 * (rowSize * (n + 1)) ≤ length (now s)) ⌝ }
     ensures { λ _. ⌜ Inserted rowSize rowWords (words (now (s .entry))) (words (now (s .exit))) n i r ⌝ }
 {
-    move_up(s, i * ROW, n * ROW, ROW);
+    let gap = i * ROW;
+    let end = n * ROW;
+    let x = gap * 8;
+    let y = (end + ROW) * 8;
+    rows_up(&mut s[x..y], end - gap);
     write_row(s, i, r);
 }
 
@@ -168,7 +188,12 @@ pub fn remove_row(s: &mut [u8], n: usize, i: usize)
     requires { ⌜ (i < n) × (8 * (rowSize * n) ≤ length (now s)) ⌝ }
     ensures { λ _. ⌜ Removed rowSize rowWords (words (now (s .entry))) (words (now (s .exit))) n i ⌝ }
 {
-    take_out(s, i * ROW, n * ROW, ROW);
+    let gap = i * ROW;
+    let end = n * ROW - ROW;
+    let x = gap * 8;
+    let y = (end + ROW) * 8;
+    rows_down(&mut s[x..y], end - gap);
+    words::clear(s, end, ROW);
 }
 
 // Clears the rows from the m-th of n on.

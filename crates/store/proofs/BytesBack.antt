@@ -1,13 +1,13 @@
 -- Words of 64 bits and their bytes decide each other.
 -- Assumes nothing.
-use Prim.Native.Nat.{ℕ, zero, suc, _+_, _*_, _/_, _%_, _≤_, _<_}
-use mathlib.Core.Path.{_≡_, refl, sym, ap, _∙_}
+use Prim.Native.Nat.{ℕ, zero, suc, _+_, _*_, _/_, _%_, _<_}
+use mathlib.Core.Path.{_≡_, refl, ap, _∙_}
 use mathlib.Core.List.{List, [], _∷_, _++_}
 use native.Mathlib.Omega.{arith}
 use lib.Dec.{lit<}
 use lib.ListN.{length, take, drop, getD, length-append}
 use lib.Seq.{getD-drop}
-use Rattle.words.specs.Words.{number, digits, recs, words, bytesOf}
+use Rattle.words.specs.Words.{digits, recs, words, bytesOf}
 use Rattle.words.proofs.Digits.{length-digits, number-digits}
 use Rattle.words.proofs.Parts.{words-append}
 use Rattle.machine.specs.Limits.{word}

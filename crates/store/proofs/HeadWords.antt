@@ -1,19 +1,16 @@
--- The 24 words of the header, one by one, and the header read back from them; the parts of an image.
+-- The 24 words of the header, one by one, and the header read back from them.
 -- Assumes nothing.
-use Prim.Native.Nat.{ℕ, _*_}
-use mathlib.Core.Path.{_≡_, refl, sym, ap, _∙_}
+use Prim.Native.Nat.{ℕ}
+use mathlib.Core.Path.{_≡_, refl, ap, _∙_}
 use mathlib.Core.List.{List, [], _∷_, _++_}
 use mathlib.Core.Option.{Option, none, some}
-use lib.ListN.{length}
 use Rattle.ident.specs.declared.Kind.{Kind}
 use Rattle.ident.specs.declared.Kind.the-variants.{Txid, Wtxid}
 use Rattle.ident.specs.Number.{Key}
 use Rattle.regions.specs.declared.Quad.{Quad}
-use Rattle.regions.specs.Rows.{quadNumber, quadOf, rowSize, rowWords, connSize, connWords}
-use Rattle.regions.specs.Regions.{each, padded}
-use Rattle.places.specs.Places.{placeSize, placeWords}
-use Rattle.store.specs.Flat.{Head, Flat}
-use Rattle.store.specs.Image.{format, cursorTag, pollWords, cursorWords, headWords, headSize}
+use Rattle.regions.specs.Rows.{quadNumber, quadOf}
+use Rattle.store.specs.Flat.{Head}
+use Rattle.store.specs.Image.{format, cursorTag, pollWords, cursorWords, headWords}
 use Rattle.store.specs.Read.{pollIs, cursorIs, headIn}
 use Rattle.store.proofs.Quads.{number-quad}
 
@@ -93,9 +90,6 @@ module _ (h : Head) (rows conns places : ℕ) where
   unfolding headWords
   head-words = rw (poll-words (h .nextPoll), cursor-words (h .knownCursor), cursor-words (h .readyCursor))
 
-  pub length-head : length (headWords h rows conns places) ≡ headSize
-  length-head = ap length head-words
-
   pub head-back : (z : List ℕ) → headIn (headWords h rows conns places ++ z) ≡ h
   unfolding headIn
   head-back z =
@@ -104,18 +98,3 @@ module _ (h : Head) (rows conns places : ℕ) where
       let p = poll-back (h .nextPoll) in
       ap (λ (w : List ℕ). headIn (w ++ z)) head-words
       ∙ (λ i. record { limit = h .limit; places = h .places; nextPoll = p i; knownCursor = k i; readyCursor = r i })
-
--- ---- the four parts of an image
-
-module _ (f : Flat) where
-  abbrev pub headPart : List ℕ
-  headPart = headWords (f .head) (length (f .rows)) (length (f .conns)) (length (f .places))
-
-  abbrev pub rowPart : List ℕ
-  rowPart = padded (rowSize * f .head .limit) (each rowWords (f .rows))
-
-  abbrev pub connPart : List ℕ
-  connPart = padded (connSize * f .head .limit) (each connWords (f .conns))
-
-  abbrev pub placePart : List ℕ
-  placePart = padded (placeSize * f .head .places) (each placeWords (f .places))

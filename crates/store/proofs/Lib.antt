@@ -27,6 +27,7 @@ pub mod WordsFit
 pub mod FlatRead
 pub mod BytesBack
 pub mod Stored
+pub mod SoundWords
 pub mod Searches
 pub mod Missing
 pub mod Counted

@@ -1,19 +1,19 @@
 -- Rows, connections and places read back from the words that they were written as.
 -- Assumes nothing.
-use Prim.Native.Nat.{ℕ, suc, _+_, _-_, _*_, _≤_}
-use mathlib.Core.Path.{_≡_, refl, sym, ap, _∙_}
+use Prim.Native.Nat.{ℕ, _+_, _-_, _*_, _≤_}
+use mathlib.Core.Path.{_≡_, refl, ap, _∙_}
 use mathlib.Core.List.{List, [], _∷_, _++_, append-assoc}
-use native.Mathlib.Nat.{mul-zero}
 use native.Mathlib.Omega.{arith}
-use lib.ListN.{length, take, drop, getD, replicate, length-append}
+use lib.ListN.{length, drop, replicate}
 use lib.Seq.{take-at, drop-at}
 use Rattle.words.specs.Words.{recs}
 use Rattle.regions.specs.declared.Row.{Row}
 use Rattle.regions.specs.declared.Conn.{Conn}
 use Rattle.regions.specs.Regions.{each, padded}
 use Rattle.regions.specs.Rows.{rowSize, rowWords, readRow, connSize, connWords, readConn}
-use Rattle.regions.proofs.Regions.{length-padded, padded-fit, length-each}
+use Rattle.regions.proofs.Regions.{padded-fit, length-each}
 use Rattle.places.specs.Places.{Place, listMost, placeSize, combinedAt, wtxidsAt, parentsAt, keptSize, hashWords, listWords, placeWords}
+use Rattle.places.proofs.Places.{length-hash, length-list, length-place}
 use Rattle.machine.specs.Typed.{Each}
 use Rattle.store.specs.Read.{readHash, readPlace}
 use Rattle.store.proofs.Quads.{number-quad}
@@ -65,25 +65,13 @@ conns-back n cs z l = region-back connSize connWords length-conn readConn (connS
 
 -- ---- hashes and places
 
-length-hash : (h : ℕ) → length (hashWords h) ≡ 4
-unfolding hashWords
-length-hash h = refl
-
 hash-back : (h : ℕ) → readHash (hashWords h) ≡ h
 unfolding hashWords readHash
 hash-back h = number-quad h
 
-length-list : (hs : List ℕ) → length (listWords hs) ≡ 4 * listMost
-unfolding listWords
-length-list hs = length-padded (4 * listMost) (each hashWords hs)
-
 list-back : (hs : List ℕ) (z : List ℕ) → length hs ≤ listMost → recs 4 readHash (length hs) (listWords hs ++ z) ≡ hs
 unfolding listWords
 list-back hs z l = region-back 4 hashWords length-hash readHash (4 * listMost) hs z (omega arith) (each-of _ hash-back hs)
-
-length-place : (p : Place) → length (placeWords p) ≡ placeSize
-unfolding placeWords
-length-place p = simp (length-append, length-hash, length-list)
 
 -- the lists of a place have room
 pub record PlaceShort (p : Place) : Type 0 where

@@ -1,19 +1,19 @@
 -- A store and the one state that its bytes write.
 -- Assumes nothing.
-use Prim.Native.Nat.{ℕ, _+_, _-_, _*_, _%_, _≤_}
+use Prim.Native.Nat.{ℕ, _+_, _-_, _%_, _≤_}
 use mathlib.Core.Path.{_≡_, refl, sym, ap, _∙_}
-use mathlib.Core.List.{List, [], _∷_, _++_}
+use mathlib.Core.List.{List, _++_}
 use native.Mathlib.Omega.{arith}
-use lib.ListN.{length, take, drop, getD, length-append, length-drop, take-append-drop}
-use lib.Seq.{take-at, drop-at, length-take-le}
+use lib.ListN.{length, take, drop, length-append, length-drop, take-append-drop}
+use lib.Seq.{take-at, drop-at}
 use Rattle.words.specs.Words.{words, bytesOf}
 use Rattle.words.proofs.Words.{bytes-words}
 use Rattle.words.proofs.Parts.{words-append}
 use Rattle.machine.specs.Limits.{need}
 use Rattle.machine.specs.State.{State}
 use Rattle.machine.specs.Sound.{Sound}
-use Rattle.store.specs.Flat.{Flat, flatOf}
-use Rattle.store.specs.Image.{wordsOf, image, Shows, Writes, SoundStore, stored}
+use Rattle.store.specs.Flat.{flatOf}
+use Rattle.store.specs.Image.{wordsOf, image, Writes, SoundStore, stored}
 use Rattle.store.specs.Read.{stateOf}
 use Rattle.store.proofs.ToFlat.{flat-sound}
 use Rattle.store.proofs.WordsFit.{words-fit}
@@ -48,7 +48,7 @@ written-bytes b s p w = sym (bytes-words b (ap (λ (n : ℕ). n % 8) (w .long) �
 module _ (s : State) (b : List ℕ) where
   pub stored-front : take (needOf s) (stored s b) ≡ bytesOf (image s)
   unfolding stored
-  stored-front = take-at (bytesOf (image s)) (drop (needOf s) b) (needOf s) (length-image-bytes s)
+  stored-front = take-at (bytesOf (image s)) _ (needOf s) (length-image-bytes s)
 
   -- "bytes past the need .. stay"
   pub stored-back : drop (needOf s) (stored s b) ≡ drop (needOf s) b

@@ -1,7 +1,6 @@
 -- Every word of an image is of 64 bits.
 -- Assumes nothing.
 use Prim.Native.Nat.{ℕ, zero, suc, _*_, _≤_, _<_}
-use mathlib.Core.Path.{_≡_}
 use mathlib.Core.Logic.{inl, inr}
 use mathlib.Core.List.{List, [], _∷_, _++_}
 use mathlib.Core.Option.{Option, none, some}
@@ -20,13 +19,13 @@ use Rattle.places.specs.Places.{Place, listMost, placeSize, keptSize, hashWords
 use Rattle.machine.specs.Limits.{word}
 use Rattle.machine.specs.Sound.{Hashes, PackageFits, PollFits, CursorFits}
 use Rattle.machine.specs.Typed.{Each}
-use Rattle.store.specs.Flat.{ownBit, bump, tally, Head, Flat}
+use Rattle.store.specs.Flat.{ownBit, bump, tally, Flat}
 use Rattle.store.specs.FlatSound.{QuadFits, RowFits, packageOf, StageFits, PlaceFits, ConnFits, FlatSound}
 use Rattle.store.specs.Image.{format, pollWords, cursorTag, cursorWords, headWords, wordsOf}
 use Rattle.store.proofs.Quads.{quad-fits}
 use Rattle.store.proofs.Tally.{order, bump-nil, bump-lt, bump-eq, bump-gt}
 use Rattle.store.proofs.Entries.{tally-length}
-use Rattle.store.proofs.HeadWords.{headPart, rowPart, connPart, placePart}
+use Rattle.store.proofs.Frame.{rowPart, connPart, placePart}
 
 -- ---- laws of every element
 
@@ -165,7 +164,8 @@ module _ (f : Flat) (s : FlatSound f) where
       let known : List ℕ = cursorWords (h .knownCursor) ++ ready in
       let fit-ready : Each Word ready = all-append Word (cursorWords (h .readyCursor)) spare (fit-cursor (h .readyCursor) (s .ready)) (all-replicate Word 6 0 (omega arith)) in
       let fit-known : Each Word known = all-append Word (cursorWords (h .knownCursor)) ready (fit-cursor (h .knownCursor) (s .known)) fit-ready in
-      all-append Word (format ∷ h .limit ∷ h .places ∷ length (f .rows) ∷ length (f .conns) ∷ length (f .places) ∷ []) (pollWords (h .nextPoll) ++ known) fit-sizes (all-append Word (pollWords (h .nextPoll)) known (fit-poll (h .nextPoll) (s .poll)) fit-known)
+      let sizes : List ℕ = format ∷ h .limit ∷ h .places ∷ length (f .rows) ∷ length (f .conns) ∷ length (f .places) ∷ [] in
+      all-append Word sizes (pollWords (h .nextPoll) ++ known) fit-sizes (all-append Word (pollWords (h .nextPoll)) known (fit-poll (h .nextPoll) (s .poll)) fit-known)
 
   fit-conn-part : Each Word (each connWords (f .conns))
   fit-conn-part = fit-conns (f .conns) (rw (s .conns) (fit-tally (f .rows) (s .rows-fit))) (s .conns-fit)
@@ -176,4 +176,7 @@ module _ (f : Flat) (s : FlatSound f) where
       let conns = fit-padded (connSize * f .head .limit) (each connWords (f .conns)) fit-conn-part in
       let rows = fit-padded (rowSize * f .head .limit) (each rowWords (f .rows)) (fit-each RowFits rowWords fit-row (f .rows) (s .rows-fit)) in
       let places = fit-padded (placeSize * f .head .places) (each placeWords (f .places)) (fit-each (PlaceFits (f .rows)) placeWords (fit-place (f .rows)) (f .places) (s .places-fit)) in
-      all-append Word (headPart f) (rowPart f ++ (connPart f ++ placePart f)) fit-head (all-append Word (rowPart f) (connPart f ++ placePart f) rows (all-append Word (connPart f) (placePart f) conns places))
+      let regions = connPart (f .head .limit) (f .conns) ++ placePart (f .head .places) (f .places) in
+      let behind : Each Word regions = all-append Word (connPart (f .head .limit) (f .conns)) (placePart (f .head .places) (f .places)) conns places in
+      let all-rows : Each Word (rowPart (f .head .limit) (f .rows) ++ regions) = all-append Word (rowPart (f .head .limit) (f .rows)) regions rows behind in
+      all-append Word (headWords (f .head) (length (f .rows)) (length (f .conns)) (length (f .places))) (rowPart (f .head .limit) (f .rows) ++ regions) fit-head all-rows

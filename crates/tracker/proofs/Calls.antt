@@ -4,12 +4,10 @@ use Prim.Native.Nat.{ℕ}
 use mathlib.Core.Path.{_≡_, refl, ap, _∙_}
 use mathlib.Core.Bool.{Bool, true, false}
 use mathlib.Core.List.{List, []}
-use native.Mathlib.Omega.{arith}
 use lib.ListN.{length}
 use Rattle.words.specs.Words.{words}
-use Rattle.machine.specs.State.{State}
 use Rattle.machine.specs.Call.{Ask, Call, Open, On, openingRefusal, askRefusal, refusal}
-use Rattle.machine.specs.Step.{Reply, Refused, Number, Outcome, carryOut, written, empty, bufferOf, stepIf, step}
+use Rattle.machine.specs.Step.{Refused, Number, Outcome, carryOut, written, empty, bufferOf, stepIf, step}
 use Rattle.machine.specs.Typed.{CallTyped}
 use Rattle.machine.proofs.Kept.{sound-empty}
 use Rattle.store.specs.Image.{SoundStore, stored}

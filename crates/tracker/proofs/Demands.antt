@@ -1,13 +1,13 @@
 -- Demands 2 and 3 of a whole list of public calls on one store (document 01, "Demand 3 is one claim about a whole list").
 -- Assumes nothing.
 use Prim.Native.Nat.{ℕ}
-use mathlib.Core.Path.{_≡_, refl, sym, ap, subst, _∙_}
+use mathlib.Core.Path.{_≡_, refl, subst, _∙_}
 use mathlib.Core.List.{List, [], _∷_}
 use lib.ListN.{length}
 use Rattle.machine.specs.State.{State}
 use Rattle.machine.specs.Sound.{Sound}
 use Rattle.machine.specs.Call.{Call, Open, openingRefusal}
-use Rattle.machine.specs.Step.{Number, Outcome, empty, step}
+use Rattle.machine.specs.Step.{empty, step}
 use Rattle.machine.specs.Typed.{Each, CallTyped}
 use Rattle.machine.specs.Demand3.{run, Bounds, Fair}
 use Rattle.machine.proofs.Demand3.{demand-3}

@@ -6,7 +6,7 @@ use mathlib.Core.List.{List, _++_}
 use native.Mathlib.Omega.{arith}
 use lib.ListN.{length, take, drop, length-append, length-take, length-drop}
 use lib.Seq.{drop-at, drop-drop, length-take-le}
-use Rattle.words.specs.Words.{number, recs, words, up, down}
+use Rattle.words.specs.Words.{number, words, up, down}
 use Rattle.words.proofs.Records.{recs-add, recs-front, recs-take, take-recs, drop-recs}
 use Rattle.words.proofs.Words.{length-words}
 use Rattle.words.proofs.Moves.{up-part, down-part}

@@ -2,7 +2,7 @@
 -- Assumes nothing.
 use Prim.Native.Nat.{ℕ, zero, suc, _+_, _-_, _*_, _≤_, _<_}
 use mathlib.Core.Path.{_≡_, refl, sym, ap, _∙_}
-use mathlib.Core.List.{List, [], _∷_, _++_}
+use mathlib.Core.List.{List, _∷_, _++_}
 use native.Mathlib.Nat.{le-trans, mul-le-mul-left, mul-add, mul-zero, zero-add, suc-add}
 use native.Mathlib.Numerals.{add-one-le}
 use native.Mathlib.Omega.{arith}

@@ -2,13 +2,12 @@
 -- Assumes nothing.
 use Prim.Native.Nat.{ℕ, zero, suc, _+_, _-_, _≤_, _<_}
 use mathlib.Core.Path.{_≡_, refl, sym, ap, _∙_}
-use mathlib.Core.Bool.{Bool, true, false}
 use mathlib.Core.List.{List, [], _∷_, _++_, append-assoc}
 use native.Mathlib.Nat.{add-zero}
 use native.Mathlib.Numerals.{add-one}
 use native.Mathlib.Omega.{arith}
 use lib.Dec.{eqb, eqb·suc-zero}
-use lib.Bits.{bitOr, bitAnd, or-add-and, and-le-l, and-le-r, or-zero-l}
+use lib.Bits.{bitOr, or-add-and, and-le-l, and-le-r}
 use lib.ListN.{length, take, drop, getD, set, replicate, length-append, length-take, length-replicate, replicate-append-replicate, take-append-drop}
 use lib.Seq.{slice, slice-empty, length-slice, drop-cons, take-suc, take-at, getD-at, drop-append-le, set-at, length-take-le}
 use Rattle.words.specs.Words.{splice, Decides}

@@ -1,6 +1,6 @@
 use borrow.Author.Needs.{needs}
 use native.Mathlib.Omega.{arith}
-use Prim.Native.Nat.{_-_, _≤_}
+use Prim.Native.Nat.{_-_}
 use mathlib.Core.Path.{sym, _∙_}
 use Rattle.words.specs.Words.{words, recs}
 use Rattle.regions.specs.Rows.{rowSize, rowConn}

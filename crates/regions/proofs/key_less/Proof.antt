@@ -1,5 +1,5 @@
 use native.Mathlib.Omega.{arith}
-use Rattle.regions.proofs.Order.{Small, by-kind, by-hash}
+use Rattle.regions.proofs.Order.{by-kind, by-hash}
 use borrow.Author.Needs.{needs}
 use Rattle.regions.proofs.key_less.Statement.{statement}
 use Rattle.regions.proofs.key_less.Tie as tie

@@ -1,5 +1,5 @@
 use native.Mathlib.Omega.{arith}
-use Rattle.regions.proofs.Order.{Small, by-w3, by-w2, by-w1, by-w0}
+use Rattle.regions.proofs.Order.{by-w3, by-w2, by-w1, by-w0}
 use Rattle.regions.proofs.quad_less.Statement.{statement}
 use Rattle.regions.proofs.quad_less.Tie as tie
 

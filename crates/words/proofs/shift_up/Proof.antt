@@ -1,8 +1,8 @@
 use borrow.Author.Needs.{needs}
 use native.Mathlib.Omega.{arith}
-use Prim.Native.Nat.{_+_, _-_, _≤_, _<_}
+use Prim.Native.Nat.{_+_, _-_, _≤_}
 use mathlib.Core.Path.{_≡_, sym}
-use lib.ListN.{length, replicate}
+use lib.ListN.{length}
 use Rattle.words.specs.Words.{words, up}
 use Rattle.words.proofs.Words.{length-words}
 use Rattle.words.proofs.Moves.{up-none, up-turn}
