@@ -4,7 +4,9 @@
 // out. Each contract is the one of the public call (crates/tracker), its reply said by these numbers (specs/Status).
 ghost use mathlib.Core.List.{[]};
 ghost use mathlib.Core.Path.{_≡_};
+ghost use Rattle.words.specs.Words.{Decides};
 ghost use Rattle.machine.specs.Call.{Open};
+ghost use Rattle.store.specs.Image.{SoundStore};
 ghost use Rattle.tracker.specs.Outcome.{Does};
 ghost use Rattle.exports.specs.Status.{numbered, statusOf};
 
@@ -24,4 +26,12 @@ pub extern "C" fn tracker_open(s: &mut [u8], l: u64, q: u64) -> u64
     ensures { λ r. ⌜ Does (Open l q) (now (s .entry)) (record { reply = numbered r 1; buffer = []; store = now (s .exit) }) ⌝ }
 {
     status(tracker::open(s, l, q))
+}
+
+// Whether the bytes, as far as their need, write a sound state: what a call tests first.
+#[no_mangle]
+pub extern "C" fn tracker_sound(s: &[u8]) -> bool
+    ensures { λ r. ⌜ Decides r (SoundStore (now (s .entry))) ⌝ }
+{
+    sound::whole::sound(s)
 }

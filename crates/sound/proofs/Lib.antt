@@ -1,0 +1,17 @@
+pub mod Decide
+pub mod Ranges
+pub mod Rows
+pub mod Entries
+pub mod Tally
+pub mod Conns
+pub mod Groups
+pub mod Halves
+pub mod Owned
+pub mod Hashes
+pub mod Stage
+pub mod Exact
+pub mod PlaceTests
+pub mod PlaceWalk
+pub mod HeadTests
+pub mod Areas
+pub mod StoreTests

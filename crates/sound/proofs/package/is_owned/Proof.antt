@@ -1,0 +1,27 @@
+use borrow.Author.Needs.{needs}
+use native.Mathlib.Omega.{arith}
+use Rattle.words.specs.Words.{words}
+use Rattle.sound.proofs.Owned.{owned-count}
+use Rattle.sound.proofs.Stage.{some-decides}
+use Rattle.sound.proofs.package.is_owned.Statement.{statement}
+use Rattle.sound.proofs.package.is_owned.Tie as tie
+use Rattle.sound.proofs.package.is_owned.Reads as reads
+use Rattle.sound.proofs.package.is_owned.Lts as lts
+use Rattle.regions.proofs.seek_row.Reads as seek-row-reads
+use Rattle.sound.proofs.owners.Reads as owners-reads
+use Rattle.sound.proofs.run_end.Reads as run-end-reads
+
+seek-row-requires : tie.Need-seek-row-requires
+seek-row-requires c κs = search needs
+
+run-end-requires : tie.Need-run-end-requires
+run-end-requires c κs = search needs
+
+owners-requires : tie.Need-owners-requires
+owners-requires c κs = search needs
+
+returns : tie.Need-returns
+returns c = λ s. rw (owned-count (c .before .before .before .before .args .n) (words (c .before .before .before .before .args .rows .now)) s (c .before .before .before .before .args .h) (c .before .before .seek-row .result) (c .before .run-end .result) (c .before .before .seek-row .ensures) (c .before .run-end .ensures)) (some-decides (c .owners .result) _ (c .owners .ensures .0))
+
+pub is-owned-spec : {M : Type 1} → statement M
+is-owned-spec = tie.close (tie.spec seek-row-requires run-end-requires owners-requires returns)

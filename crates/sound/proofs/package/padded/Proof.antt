@@ -1,0 +1,62 @@
+use borrow.Author.Needs.{needs}
+use native.Mathlib.Omega.{arith}
+use Prim.Native.Nat.{_+_, _-_, _*_}
+use mathlib.Core.Path.{_≡_}
+use lib.ListN.{replicate}
+use lib.Seq.{slice}
+use Rattle.words.specs.Words.{words}
+use Rattle.places.specs.Places.{wtxidsAt, parentsAt}
+use Rattle.sound.proofs.Decide.{decides-iff, passed, failed}
+use Rattle.sound.proofs.package.padded.Statement.{statement}
+use Rattle.sound.proofs.package.padded.Tie as tie
+use Rattle.sound.proofs.package.padded.Reads as reads
+use Rattle.sound.proofs.package.padded.Lts as lts
+use Rattle.words.proofs.is_zero.Reads as is-zero-reads
+
+mul-is-zero : tie.Need-mul-is-zero
+mul-is-zero c = search needs
+
+add-is-zero : tie.Need-add-is-zero
+add-is-zero c = search needs
+
+is-zero-requires : tie.Need-is-zero-requires
+is-zero-requires c κs = search needs
+
+returns : tie.Need-returns
+returns c = λ p. failed (slice (wtxidsAt + c .before .before .before .args .m * 4) parentsAt (words (c .before .before .before .args .p .now)) ≡ replicate (parentsAt - (wtxidsAt + c .before .before .before .args .m * 4)) 0) (c .before .is-zero .result) (c .if1 .taken) (c .before .is-zero .ensures) (p .wtxids)
+
+mul-is-zero-2 : tie.Need-mul-is-zero-2
+mul-is-zero-2 c = search needs
+
+add-is-zero-2 : tie.Need-add-is-zero-2
+add-is-zero-2 c = search needs
+
+is-zero-requires-2 : tie.Need-is-zero-requires-2
+is-zero-requires-2 c κs = search needs
+
+returns-2 : tie.Need-returns-2
+returns-2 c = λ p. failed (slice (parentsAt + c .before .before .before .before .before .args .n * 4) 811 (words (c .before .before .before .before .before .args .p .now)) ≡ replicate (811 - (parentsAt + c .before .before .before .before .before .args .n * 4)) 0) (c .before .is-zero2 .result) (c .if2 .taken) (c .before .is-zero2 .ensures) (p .parents)
+
+is-zero-requires-3 : tie.Need-is-zero-requires-3
+is-zero-requires-3 c κs = search needs
+
+returns-3 : tie.Need-returns-3
+returns-3 c =
+    let a = passed (slice (wtxidsAt + c .before .before .before .before .before .before .args .m * 4) parentsAt (words (c .before .before .before .before .before .before .args .p .now)) ≡ replicate (parentsAt - (wtxidsAt + c .before .before .before .before .before .before .args .m * 4)) 0) (c .before .before .before .before .is-zero .result) (c .before .before .before .if1 .left) (c .before .before .before .before .is-zero .ensures) in
+    let b = passed (slice (parentsAt + c .before .before .before .before .before .before .args .n * 4) 811 (words (c .before .before .before .before .before .before .args .p .now)) ≡ replicate (811 - (parentsAt + c .before .before .before .before .before .before .args .n * 4)) 0) (c .before .before .is-zero2 .result) (c .before .if2 .left) (c .before .before .is-zero2 .ensures) in
+    decides-iff (c .is-zero3 .result) (record { to = λ z. record { wtxids = a; parents = b; kept = z }; from = λ p. p .kept }) (c .is-zero3 .ensures)
+
+pub padded-spec : {M : Type 1} → statement M
+padded-spec =
+    tie.close
+    (tie.spec
+    mul-is-zero
+    add-is-zero
+    is-zero-requires
+    returns
+    mul-is-zero-2
+    add-is-zero-2
+    is-zero-requires-2
+    returns-2
+    is-zero-requires-3
+    returns-3)

@@ -1,0 +1,112 @@
+use borrow.Author.Needs.{needs}
+use native.Mathlib.Omega.{arith}
+use Prim.Native.Nat.{_≤_}
+use mathlib.Core.Path.{_≡_}
+use lib.ListN.{length}
+use Rattle.words.specs.Words.{words, recs}
+use Rattle.words.proofs.Words.{length-words}
+use Rattle.regions.specs.Rows.{rowSize, readRow, quadNumber}
+use Rattle.places.specs.Places.{placeSize}
+use Rattle.machine.specs.Limits.{word}
+use Rattle.machine.specs.Sound.{NoRepeat}
+use Rattle.sound.specs.Places.{hashesIn, Padded, StagePlain}
+use Rattle.sound.proofs.Decide.{passed, failed}
+use Rattle.sound.proofs.Ranges.{Below, below-bytes, below-words}
+use Rattle.sound.proofs.Stage.{stage-few}
+use Rattle.sound.proofs.PlaceTests.{refuse-stage, refuse-parents, refuse-padded, refuse-repeat, decide-owned}
+use Rattle.sound.proofs.package.place_fits.Statement.{statement}
+use Rattle.sound.proofs.package.place_fits.Tie as tie
+use Rattle.sound.proofs.package.place_fits.Reads as reads
+use Rattle.sound.proofs.package.place_fits.Lts as lts
+use Rattle.regions.proofs.read_quad.Reads as read-quad-reads
+use Rattle.sound.proofs.package.distinct.Reads as distinct-reads
+use Rattle.sound.proofs.package.is_owned.Reads as is-owned-reads
+use Rattle.sound.proofs.package.padded.Reads as padded-reads
+use Rattle.sound.proofs.package.stage_fits.Reads as stage-fits-reads
+use Rattle.words.proofs.get.Reads as get-reads
+
+get-requires : tie.Need-get-requires
+get-requires c κs = search needs
+
+read-quad-requires : tie.Need-read-quad-requires
+read-quad-requires c κs = search needs
+
+get-requires-2 : tie.Need-get-requires-2
+get-requires-2 c κs = search needs
+
+stage-fits-requires : tie.Need-stage-fits-requires
+stage-fits-requires c κs = search needs
+
+returns : tie.Need-returns
+returns c =
+    let v = words (c .before .before .before .before .before .before .before .args .p .now) in
+    let rs = recs rowSize readRow (c .before .before .before .before .before .before .before .args .n) (words (c .before .before .before .before .before .before .before .args .rows .now)) in
+    let l : length v ≡ placeSize = omega (arith, length-words (c .before .before .before .before .before .before .before .args .p .now)) in
+    let b = below-words (c .before .before .before .before .before .before .before .args .p .now) (below-bytes (c .before .before .before .before .before .before .before .args .p .now) (c .before .before .before .before .before .before .shared-slice-known .given)) in
+    λ _. refuse-stage rs v l b (c .before .before .before .before .get .ensures) (c .before .before .before .read-quad .ensures) (c .before .before .get2 .ensures) (failed (StagePlain (c .before .before .before .before .get .result) (quadNumber (c .before .before .before .read-quad .result)) (c .before .before .get2 .result)) (c .before .stage-fits .result) (c .if1 .taken) (c .before .stage-fits .ensures))
+
+get-requires-3 : tie.Need-get-requires-3
+get-requires-3 c κs = search needs
+
+returns-2 : tie.Need-returns-2
+returns-2 c =
+    let v = words (c .before .before .before .before .before .before .before .before .before .args .p .now) in
+    let rs = recs rowSize readRow (c .before .before .before .before .before .before .before .before .before .args .n) (words (c .before .before .before .before .before .before .before .before .before .args .rows .now)) in
+    let l : length v ≡ placeSize = omega (arith, length-words (c .before .before .before .before .before .before .before .before .before .args .p .now)) in
+    let b = below-words (c .before .before .before .before .before .before .before .before .before .args .p .now) (below-bytes (c .before .before .before .before .before .before .before .before .before .args .p .now) (c .before .before .before .before .before .before .before .before .shared-slice-known .given)) in
+    λ _. refuse-parents rs v l b (c .before .get3 .ensures) (omega arith)
+
+padded-requires : tie.Need-padded-requires
+padded-requires c κs = (omega arith, stage-few (c .before .before .before .before .before .before .get .result) (quadNumber (c .before .before .before .before .before .read-quad .result)) (c .before .before .before .before .get2 .result) (passed (StagePlain (c .before .before .before .before .before .before .get .result) (quadNumber (c .before .before .before .before .before .read-quad .result)) (c .before .before .before .before .get2 .result)) (c .before .before .before .stage-fits .result) (c .before .before .if1 .left) (c .before .before .before .stage-fits .ensures)), omega arith)
+
+returns-3 : tie.Need-returns-3
+returns-3 c =
+    let v = words (c .before .before .before .before .before .before .before .before .before .before .before .args .p .now) in
+    let rs = recs rowSize readRow (c .before .before .before .before .before .before .before .before .before .before .before .args .n) (words (c .before .before .before .before .before .before .before .before .before .before .before .args .rows .now)) in
+    let l : length v ≡ placeSize = omega (arith, length-words (c .before .before .before .before .before .before .before .before .before .before .before .args .p .now)) in
+    let b = below-words (c .before .before .before .before .before .before .before .before .before .before .before .args .p .now) (below-bytes (c .before .before .before .before .before .before .before .before .before .before .before .args .p .now) (c .before .before .before .before .before .before .before .before .before .before .shared-slice-known .given)) in
+    λ _. refuse-padded rs v l b (c .before .before .before .before .before .before .get2 .ensures) (c .before .before .before .get3 .ensures) (failed (Padded v (c .before .before .before .before .before .before .get2 .result) (c .before .before .before .get3 .result)) (c .before .padded .result) (c .if3 .taken) (c .before .padded .ensures))
+
+distinct-requires : tie.Need-distinct-requires
+distinct-requires c κs = search needs
+
+returns-4 : tie.Need-returns-4
+returns-4 c =
+    let v = words (c .before .before .before .before .before .before .before .before .before .before .before .before .before .args .p .now) in
+    let rs = recs rowSize readRow (c .before .before .before .before .before .before .before .before .before .before .before .before .before .args .n) (words (c .before .before .before .before .before .before .before .before .before .before .before .before .before .args .rows .now)) in
+    let l : length v ≡ placeSize = omega (arith, length-words (c .before .before .before .before .before .before .before .before .before .before .before .before .before .args .p .now)) in
+    let b = below-words (c .before .before .before .before .before .before .before .before .before .before .before .before .before .args .p .now) (below-bytes (c .before .before .before .before .before .before .before .before .before .before .before .before .before .args .p .now) (c .before .before .before .before .before .before .before .before .before .before .before .before .shared-slice-known .given)) in
+    λ _. refuse-repeat rs v l b (c .before .before .before .before .before .get3 .ensures) (failed (NoRepeat (hashesIn v 411 0 (c .before .before .before .before .before .get3 .result))) (c .before .distinct .result) (c .if4 .taken) (c .before .distinct .ensures))
+
+read-quad-requires-2 : tie.Need-read-quad-requires-2
+read-quad-requires-2 c κs = search needs
+
+is-owned-requires : tie.Need-is-owned-requires
+is-owned-requires c κs = search needs
+
+returns-5 : tie.Need-returns-5
+returns-5 c =
+    let v = words (c .before .before .before .before .before .before .before .before .before .before .before .before .before .before .before .args .p .now) in
+    let rs = recs rowSize readRow (c .before .before .before .before .before .before .before .before .before .before .before .before .before .before .before .args .n) (words (c .before .before .before .before .before .before .before .before .before .before .before .before .before .before .before .args .rows .now)) in
+    let l : length v ≡ placeSize = omega (arith, length-words (c .before .before .before .before .before .before .before .before .before .before .before .before .before .before .before .args .p .now)) in
+    let b = below-words (c .before .before .before .before .before .before .before .before .before .before .before .before .before .before .before .args .p .now) (below-bytes (c .before .before .before .before .before .before .before .before .before .before .before .before .before .before .before .args .p .now) (c .before .before .before .before .before .before .before .before .before .before .before .before .before .before .shared-slice-known .given)) in
+    λ s. decide-owned rs v l b (c .is-owned .result) (c .before .before .before .before .before .before .before .before .before .before .before .before .get .ensures) (c .before .before .before .before .before .before .before .before .before .before .before .read-quad .ensures) (c .before .before .before .before .before .before .before .before .before .before .get2 .ensures) (c .before .before .before .before .before .before .before .get3 .ensures) (c .before .read-quad2 .ensures) (passed (StagePlain (c .before .before .before .before .before .before .before .before .before .before .before .before .get .result) (quadNumber (c .before .before .before .before .before .before .before .before .before .before .before .read-quad .result)) (c .before .before .before .before .before .before .before .before .before .before .get2 .result)) (c .before .before .before .before .before .before .before .before .before .stage-fits .result) (c .before .before .before .before .before .before .before .before .if1 .left) (c .before .before .before .before .before .before .before .before .before .stage-fits .ensures)) (omega arith) (passed (Padded v (c .before .before .before .before .before .before .before .before .before .before .get2 .result) (c .before .before .before .before .before .before .before .get3 .result)) (c .before .before .before .before .before .padded .result) (c .before .before .before .before .if3 .left) (c .before .before .before .before .before .padded .ensures)) (passed (NoRepeat (hashesIn v 411 0 (c .before .before .before .before .before .before .before .get3 .result))) (c .before .before .before .distinct .result) (c .before .before .if4 .left) (c .before .before .before .distinct .ensures)) (c .is-owned .ensures s)
+
+pub place-fits-spec : {M : Type 1} → statement M
+place-fits-spec =
+    tie.close
+    (tie.spec
+    get-requires
+    read-quad-requires
+    get-requires-2
+    stage-fits-requires
+    returns
+    get-requires-3
+    returns-2
+    padded-requires
+    returns-3
+    distinct-requires
+    returns-4
+    read-quad-requires-2
+    is-owned-requires
+    returns-5)

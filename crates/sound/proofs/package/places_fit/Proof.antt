@@ -1,0 +1,114 @@
+use borrow.Author.Needs.{needs}
+use native.Mathlib.Omega.{arith}
+use Prim.Native.Nat.{ℕ, _*_, _-_, _≤_, _<_}
+use mathlib.Core.Path.{_≡_}
+use lib.ListN.{length}
+use Rattle.words.specs.Words.{words, recs, Decides}
+use Rattle.words.proofs.Words.{length-words}
+use Rattle.regions.specs.Rows.{rowSize, readRow}
+use Rattle.places.specs.Places.{placeSize}
+use Rattle.sound.specs.Rows.{RowsSound}
+use Rattle.sound.specs.Places.{PlaceSound, placeAt, PlaceFollows}
+use Rattle.sound.proofs.Decide.{passed, failed}
+use Rattle.sound.proofs.PlaceWalk.{places-made, place-of, follow-iff, below-more, place-lent}
+use Rattle.sound.proofs.package.places_fit.Statement.{statement}
+use Rattle.sound.proofs.package.places_fit.Tie as tie
+use Rattle.sound.proofs.package.places_fit.Reads as reads
+use Rattle.sound.proofs.package.places_fit.Lts as lts
+use Rattle.sound.proofs.package.place_fits.Reads as place-fits-reads
+use Rattle.sound.proofs.package.place_follows.Reads as place-follows-reads
+
+abbrev Inv-loop : tie.InvT-loop
+Inv-loop s q rows n i₀ i = (i ≤ q) × (RowsSound (recs rowSize readRow n (words rows)) → (k : ℕ) → k < i → PlaceSound (recs rowSize readRow n (words rows)) (placeAt (words s) k)) × ((k : ℕ) → k < i → PlaceFollows (words s) k)
+
+abbrev μ-loop : tie.MeasureT-loop
+μ-loop s q rows n i₀ i = q - i
+
+loop-holds : tie.Need-loop-holds Inv-loop μ-loop
+loop-holds c = (omega arith, (λ r k h. absurd (omega arith)), λ k h. absurd (omega arith))
+
+mul-a : tie.Need-mul-a Inv-loop μ-loop
+mul-a c = search needs
+
+mul-x : tie.Need-mul-x Inv-loop μ-loop
+mul-x c = search needs
+
+add-y : tie.Need-add-y Inv-loop μ-loop
+add-y c = search needs
+
+mul-y : tie.Need-mul-y Inv-loop μ-loop
+mul-y c = search needs
+
+sub-place-fits : tie.Need-sub-place-fits Inv-loop μ-loop
+sub-place-fits c = search needs
+
+part-place-fits-start : tie.Need-part-place-fits-start Inv-loop μ-loop
+part-place-fits-start c = search needs
+
+part-place-fits-end : tie.Need-part-place-fits-end Inv-loop μ-loop
+part-place-fits-end c = search needs
+
+place-fits-requires : tie.Need-place-fits-requires Inv-loop μ-loop
+place-fits-requires c κs = search needs
+
+returns : tie.Need-returns Inv-loop μ-loop
+returns c =
+    let w = words (c .before .before .before .before .before .before .before .args .s .now) in
+    let rs = recs rowSize readRow (c .before .before .before .before .before .before .before .args .n) (words (c .before .before .before .before .before .before .before .args .rows .now)) in
+    let h : placeSize * c .before .before .before .before .before .before .before .args .q ≤ length w = omega (arith, length-words (c .before .before .before .before .before .before .before .args .s .now)) in
+    λ r z. let d : Decides (c .before .place-fits .result) (PlaceSound rs (placeAt w (c .before .before .before .before .loop .i))) = rw (place-lent (c .before .before .before .before .before .before .before .args .s .now) (c .before .before .before .before .loop .i) (omega arith)) at (c .before .place-fits .ensures r) in
+    failed (PlaceSound rs (placeAt w (c .before .before .before .before .loop .i))) (c .before .place-fits .result) (c .if1 .taken) d (place-of rs (c .before .before .before .before .before .before .before .args .q) w h z (c .before .before .before .before .loop .i) (omega arith))
+
+place-follows-requires : tie.Need-place-follows-requires Inv-loop μ-loop
+place-follows-requires c κs = search needs
+
+returns-2 : tie.Need-returns-2 Inv-loop μ-loop
+returns-2 c =
+    let w = words (c .before .before .before .before .before .before .before .before .before .args .s .now) in
+    let rs = recs rowSize readRow (c .before .before .before .before .before .before .before .before .before .args .n) (words (c .before .before .before .before .before .before .before .before .before .args .rows .now)) in
+    let h : placeSize * c .before .before .before .before .before .before .before .before .before .args .q ≤ length w = omega (arith, length-words (c .before .before .before .before .before .before .before .before .before .args .s .now)) in
+    λ r z. failed (PlaceFollows w (c .before .before .before .before .before .before .loop .i)) (c .before .place-follows .result) (c .if2 .taken) (c .before .place-follows .ensures) (follow-iff (c .before .before .before .before .before .before .before .before .before .args .q) w .from (z .ascend) (c .before .before .before .before .before .before .loop .i) (omega arith))
+
+add-i : tie.Need-add-i Inv-loop μ-loop
+add-i c = search needs
+
+loop-less : tie.Need-loop-less Inv-loop μ-loop
+loop-less c = search needs
+
+loop-again : tie.Need-loop-again Inv-loop μ-loop
+loop-again c =
+    let w = words (c .before .before .before .before .before .before .before .before .before .args .s .now) in
+    let rs = recs rowSize readRow (c .before .before .before .before .before .before .before .before .before .args .n) (words (c .before .before .before .before .before .before .before .before .before .args .rows .now)) in
+    let h : placeSize * c .before .before .before .before .before .before .before .before .before .args .q ≤ length w = omega (arith, length-words (c .before .before .before .before .before .before .before .before .before .args .s .now)) in
+    (search needs, (λ r. let d : Decides (c .before .before .before .place-fits .result) (PlaceSound rs (placeAt w (c .before .before .before .before .before .before .loop .i))) = rw (place-lent (c .before .before .before .before .before .before .before .before .before .args .s .now) (c .before .before .before .before .before .before .loop .i) (omega arith)) at (c .before .before .before .place-fits .ensures r) in below-more (λ k. PlaceSound rs (placeAt w k)) (c .before .before .before .before .before .before .loop .i) (c .before .before .before .before .before .before .loop .inv .1 r) (passed (PlaceSound rs (placeAt w (c .before .before .before .before .before .before .loop .i))) (c .before .before .before .place-fits .result) (c .before .before .if1 .left) d)), below-more (λ k. PlaceFollows w k) (c .before .before .before .before .before .before .loop .i) (c .before .before .before .before .before .before .loop .inv .2) (passed (PlaceFollows w (c .before .before .before .before .before .before .loop .i)) (c .before .place-follows .result) (c .if2 .left) (c .before .place-follows .ensures)))
+
+returns-3 : tie.Need-returns-3 Inv-loop μ-loop
+returns-3 c =
+    let w = words (c .before .before .before .before .args .s .now) in
+    let rs = recs rowSize readRow (c .before .before .before .before .args .n) (words (c .before .before .before .before .args .rows .now)) in
+    let h : placeSize * c .before .before .before .before .args .q ≤ length w = omega (arith, length-words (c .before .before .before .before .args .s .now)) in
+    let e : c .before .loop .i ≡ c .before .before .before .before .args .q = omega arith in
+    λ r. places-made rs (c .before .before .before .before .args .q) w h (λ k l. c .before .loop .inv .1 r k (omega arith)) (λ k l. c .before .loop .inv .2 k (omega arith))
+
+pub places-fit-spec : {M : Type 1} → statement M
+places-fit-spec =
+    tie.close
+    (tie.spec
+    Inv-loop
+    μ-loop
+    loop-holds
+    mul-a
+    mul-x
+    add-y
+    mul-y
+    sub-place-fits
+    part-place-fits-start
+    part-place-fits-end
+    place-fits-requires
+    returns
+    place-follows-requires
+    returns-2
+    add-i
+    loop-less
+    loop-again
+    returns-3)

@@ -1,0 +1,58 @@
+-- What the test of the rows of one hash decides, in the words of FlatSound, and what its parts decide.
+-- Assumes nothing.
+use Prim.Native.Nat.{ℕ, _+_, _-_, _*_, _≤_, _<_}
+use mathlib.Core.Path.{_≡_}
+use mathlib.Core.Logic.{_⊎_}
+use mathlib.Core.Bool.{Bool, _&&_}
+use mathlib.Core.List.{List, [], _∷_}
+use lib.Dec.{eqb}
+use lib.ListN.{length, take, drop}
+use Rattle.words.specs.Words.{recs}
+use Rattle.regions.specs.declared.Row.{Row}
+use Rattle.regions.specs.Rows.{rowSize, readRow}
+use Rattle.machine.specs.Limits.{maxAlternates}
+use Rattle.store.specs.FlatSound.{countRows, hashAt, owns}
+
+pub record GroupsSound (rs : List Row) : Type 0 where
+  pub alternates : (h : ℕ) → countRows (λ r. eqb (hashAt r) h) rs ≤ maxAlternates
+  pub once : (n h : ℕ) → countRows (λ r. eqb (hashAt r) h && eqb (r .conn) n) rs ≤ 1
+  pub single : (h : ℕ) → countRows (λ r. eqb (hashAt r) h && owns r) rs ≤ 1
+
+-- ---- rows by their index
+
+abbrev pub rowAt : List ℕ → ℕ → Row
+rowAt w i = readRow (take rowSize (drop (rowSize * i) w))
+
+-- those from i to m
+abbrev pub rowsIn : List ℕ → ℕ → ℕ → List Row
+rowsIn w i m = recs rowSize readRow (m - i) (drop (rowSize * i) w)
+
+-- ---- a step of the walk along two halves, from i to m and from j to n
+
+-- h is the least hash of the two rows that come next
+pub record Least (w : List ℕ) (i m j n h : ℕ) : Type 0 where
+  pub left : i < m → h ≤ hashAt (rowAt w i)
+  pub right : j < n → h ≤ hashAt (rowAt w j)
+  pub some : ((i < m) × (hashAt (rowAt w i) ≡ h)) ⊎ ((j < n) × (hashAt (rowAt w j) ≡ h))
+
+-- the rows from .. r are not above h, and the one at r is
+pub record Run (w : List ℕ) (from to h r : ℕ) : Type 0 where
+  pub least : from ≤ r
+  pub most : r ≤ to
+  pub upto : (k : ℕ) → from ≤ k → k < r → hashAt (rowAt w k) ≤ h
+  pub past : r < to → h < hashAt (rowAt w r)
+
+-- ---- the rows of one hash: a of them Txid, b of them Wtxid
+
+abbrev pub rowsBy : ℕ → List Row → ℕ
+rowsBy n rs = countRows (λ r. eqb (r .conn) n) rs
+
+-- no connection of these rows is in a later one of them, or in one of the others
+abbrev pub Apart : List Row → List Row → Type 0
+Apart others [] = Unit {0}
+Apart others (r ∷ rs) = (rowsBy (r .conn) rs ≡ 0) × (rowsBy (r .conn) others ≡ 0) × Apart others rs
+
+pub record GroupFits (a b : List Row) : Type 0 where
+  pub few : length a + length b ≤ maxAlternates
+  pub once : (n : ℕ) → rowsBy n a + rowsBy n b ≤ 1
+  pub single : countRows owns a + countRows owns b ≤ 1

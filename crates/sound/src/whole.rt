@@ -1,0 +1,163 @@
+// The test of the whole store: header, the three regions, and zeros where nothing is in use.
+ghost use mathlib.Core.Path.{_≡_};
+ghost use Prim.Native.Nat.{_+_, _*_, _≤_};
+ghost use lib.ListN.{length};
+ghost use Rattle.words.specs.Words.{words, Decides};
+ghost use Rattle.regions.specs.Rows.{rowSize, connSize, quadNumber};
+ghost use Rattle.places.specs.Places.{placeSize};
+ghost use Rattle.machine.specs.Limits.{maxAnnouncements};
+ghost use Rattle.store.specs.Image.{headSize, SoundStore};
+ghost use Rattle.sound.specs.Whole.{PollPlain, CursorPlain, SizesPlain, HeadPlain, RecordsSound};
+use super::conns_fit;
+use super::groups_fit;
+use super::package::places_fit;
+use super::package::same_hash;
+use super::rows_fit;
+
+// Words of the header, of a row, of a connection's entry and of a place.
+const HEAD: usize = 24;
+
+const ROW: usize = 9;
+
+const CONN: usize = 3;
+
+const PLACE: usize = 824;
+
+// The greatest L and Q.
+const MOST_LIMIT: u64 = 100_000;
+
+const MOST_PLACES: u64 = 4096;
+
+// ---- the header
+
+fn poll_fits(tag: u64, time: u64) -> bool
+    ensures { λ r. ⌜ Decides r (PollPlain tag time) ⌝ }
+{
+    if tag == 0 {
+        return time == 0;
+    }
+    tag == 1
+}
+
+fn cursor_fits(tag: u64, hash: regions::Quad) -> bool
+    ensures { λ r. ⌜ Decides r (CursorPlain tag (quadNumber hash)) ⌝ }
+{
+    if tag == 0 {
+        let zero = regions::Quad {
+            w0: 0,
+            w1: 0,
+            w2: 0,
+            w3: 0,
+        };
+        return same_hash(hash, zero);
+    }
+    tag <= 2
+}
+
+// Format, L and Q such as opening takes, and no more records in use than there is room for.
+fn sizes_fit(s: &[u8]) -> bool
+    requires { ⌜ 8 * headSize ≤ length (now s) ⌝ }
+    ensures { λ r. ⌜ Decides r (SizesPlain (words (now (s .entry)))) ⌝ }
+{
+    if words::get(s, 0) != 1 {
+        return false;
+    }
+    let l = words::get(s, 1);
+    if l == 0 {
+        return false;
+    }
+    if l > MOST_LIMIT {
+        return false;
+    }
+    let q = words::get(s, 2);
+    if q == 0 {
+        return false;
+    }
+    if q > MOST_PLACES {
+        return false;
+    }
+    if words::get(s, 3) > l {
+        return false;
+    }
+    if words::get(s, 4) > l {
+        return false;
+    }
+    if words::get(s, 5) > q {
+        return false;
+    }
+    true
+}
+
+fn head_fits(s: &[u8]) -> bool
+    requires { ⌜ 8 * headSize ≤ length (now s) ⌝ }
+    ensures { λ r. ⌜ Decides r (HeadPlain (words (now (s .entry)))) ⌝ }
+{
+    if !sizes_fit(s) {
+        return false;
+    }
+    if !poll_fits(words::get(s, 6), words::get(s, 7)) {
+        return false;
+    }
+    if !cursor_fits(words::get(s, 8), regions::read_quad(s, 9)) {
+        return false;
+    }
+    if !cursor_fits(words::get(s, 13), regions::read_quad(s, 14)) {
+        return false;
+    }
+    words::is_zero(s, 18, HEAD)
+}
+
+// ---- the regions
+
+// Whether the n rows, c connections and p places at the fronts of their regions are sound, with zeros behind them.
+fn records_fit(rows: &[u8], n: usize, conns: &[u8], c: usize, places: &[u8], p: usize) -> bool
+    requires { ⌜ (8 * (rowSize * n) ≤ length (now rows)) × (8 * (connSize * c) ≤ length (now conns)) × (8 * (placeSize * p) ≤ length (now places)) × (n ≤ maxAnnouncements) ⌝ }
+    ensures { λ r. ⌜ Decides r (RecordsSound (words (now (rows .entry))) n (words (now (conns .entry))) c (words (now (places .entry))) p) ⌝ }
+{
+    if !rows_fit(rows, n) {
+        return false;
+    }
+    if !groups_fit(rows, n) {
+        return false;
+    }
+    if !conns_fit(rows, n, conns, c) {
+        return false;
+    }
+    if !places_fit(places, p, rows, n) {
+        return false;
+    }
+    if !words::is_zero(rows, n * ROW, rows.len() / 8) {
+        return false;
+    }
+    if !words::is_zero(conns, c * CONN, conns.len() / 8) {
+        return false;
+    }
+    words::is_zero(places, p * PLACE, places.len() / 8)
+}
+
+// Whether the bytes, as far as their need, write a sound state.
+pub fn sound(s: &[u8]) -> bool
+    ensures { λ r. ⌜ Decides r (SoundStore (now (s .entry))) ⌝ }
+{
+    if s.len() < HEAD * 8 {
+        return false;
+    }
+    if !head_fits(s) {
+        return false;
+    }
+    let l = words::get(s, 1) as usize;
+    let q = words::get(s, 2) as usize;
+    let x = HEAD + l * ROW;
+    let y = x + l * CONN;
+    let z = y + q * PLACE;
+    if s.len() < z * 8 {
+        return false;
+    }
+    let n = words::get(s, 3) as usize;
+    let c = words::get(s, 4) as usize;
+    let p = words::get(s, 5) as usize;
+    let a = x * 8;
+    let b = y * 8;
+    let e = z * 8;
+    records_fit(&s[192..a], n, &s[a..b], c, &s[b..e], p)
+}
