@@ -33,5 +33,5 @@ pub extern "C" fn tracker_open(s: &mut [u8], l: u64, q: u64) -> u64
 pub extern "C" fn tracker_sound(s: &[u8]) -> bool
     ensures { λ r. ⌜ Decides r (SoundStore (now (s .entry))) ⌝ }
 {
-    sound::whole::sound(s)
+    sound::sound(s)
 }

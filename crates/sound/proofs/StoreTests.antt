@@ -26,7 +26,7 @@ use Rattle.store.specs.Read.{readHash, readPlace, pollIs, cursorIs, cursorAt, h
 use Rattle.store.proofs.Quads.{number-top}
 use Rattle.store.proofs.ToFlat.{flat-sound}
 use Rattle.store.proofs.FromFlat.{sound-state, flat-back}
-use Rattle.store.proofs.HeadWords.{length-head}
+use Rattle.store.proofs.Frame.{head-length}
 use Rattle.store.proofs.WordsFit.{few-conns}
 use Rattle.store.proofs.FlatRead.{length-image, flat-read}
 use Rattle.store.proofs.Stored.{words-front}
@@ -136,7 +136,7 @@ module _ (w : List ℕ) (b : Below word w) (L Q n c q : ℕ) (eL : L ≡ getD w 
 
   parts-iff : Iff (take Z w ≡ wordsOf flat) Parts
   parts-iff =
-      let l₁ : length (take 24 w) ≡ length (headWords (headIn w) n c q) = length-take-le 24 w (omega arith) ∙ sym (length-head (headIn w) n c q) in
+      let l₁ : length (take 24 w) ≡ length (headWords (headIn w) n c q) = length-take-le 24 w (omega arith) ∙ sym (head-length (headIn w) n c q) in
       let i₁ = append-iff (take 24 w) (R ++ (C ++ P)) (headWords (headIn w) n c q) _ l₁ in
       let i₂ = append-iff R (C ++ P) _ (padded (length C) (each connWords (recs connSize readConn c C)) ++ padded (length P) (each placeWords (recs placeSize readPlace q P))) (sym (length-padded (length R) (each rowWords (recs rowSize readRow n R)))) in
       let i₃ = append-iff C P _ (padded (length P) (each placeWords (recs placeSize readPlace q P))) (sym (length-padded (length C) (each connWords (recs connSize readConn c C)))) in
@@ -314,7 +314,7 @@ module _ (b : List ℕ) (g : Begins b) where
   front-of =
       let f : Flat = g .flat in
       let H : List ℕ = headWords (f .head) (length (f .rows)) (length (f .conns)) (length (f .places)) in
-      ap (take headSize) (g .words-are ∙ append-assoc H _ (g .behind)) ∙ take-at H _ headSize (length-head (f .head) (length (f .rows)) (length (f .conns)) (length (f .places))) ∙ rw (head-of, rows-of, conns-of, held-of)
+      ap (take headSize) (g .words-are ∙ append-assoc H _ (g .behind)) ∙ take-at H _ headSize (head-length (f .head) (length (f .rows)) (length (f .conns)) (length (f .places))) ∙ rw (head-of, rows-of, conns-of, held-of)
 
   head-plain : Below word w → HeadPlain w
   head-plain p =

@@ -10,8 +10,8 @@ ghost use Rattle.machine.specs.Sound.{NoRepeat};
 ghost use Rattle.store.specs.FlatSound.{countRows, ownsKey};
 ghost use Rattle.sound.specs.Rows.{RowsSound};
 ghost use Rattle.sound.specs.Places.{PlaceSound, PlacesSound, PlaceFollows, hashesIn, Padded, StagePlain};
-use super::owners;
-use super::run_end;
+use super::group::owners;
+use super::group::run_end;
 
 // Words of a place, and where in it the parts lie.
 const PLACE: usize = 824;

@@ -17,6 +17,7 @@ use Rattle.store.specs.Image.{Writes, stored}
 use Rattle.store.proofs.BytesBack.{Bytes}
 use Rattle.store.proofs.Stored.{written-bytes}
 use Rattle.tracker.specs.Outcome.{outcomeIf, Does}
+use Rattle.tracker.proofs.Contract.{does-not-open}
 
 -- what is known of the bytes of a store is known of its front
 pub bytes-front : (a z : List ℕ) → ((i : ℕ) → getD (a ++ z) i 0 < 256) → Bytes a
@@ -26,12 +27,12 @@ bytes-front (x ∷ a) z p (suc i) = bytes-front a z (λ j. p (suc j)) i
 
 module _ (L Q : ℕ) (b : List ℕ) where
   pub bad-sizes : sizesTaken L Q ≡ false → Does (Open L Q) b (record { reply = Refused 2; buffer = []; store = b })
-  unfolding outcomeIf stepIf refusal openingRefusal
-  bad-sizes e = record { sound = false; tested = tt; effect = rw e }
+  unfolding openingRefusal
+  bad-sizes e = does-not-open b _ L Q refl 1 (rw e) refl refl
 
   pub short-store : sizesTaken L Q ≡ true → length b < need L Q → Does (Open L Q) b (record { reply = Refused 1; buffer = []; store = b })
-  unfolding outcomeIf stepIf refusal openingRefusal
-  short-store e h = record { sound = false; tested = tt; effect = rw (e, lt-ltb (length b) (need L Q) h) }
+  unfolding openingRefusal
+  short-store e h = does-not-open b _ L Q refl 0 (rw (e, lt-ltb (length b) (need L Q) h)) refl refl
 
   pub opened : (p : List ℕ) → sizesTaken L Q ≡ true → need L Q ≤ length b → Bytes p → Writes p (empty L Q) → Does (Open L Q) b (record { reply = Number 1; buffer = []; store = p ++ drop (need L Q) b })
   unfolding outcomeIf stepIf refusal openingRefusal carryOut written stored

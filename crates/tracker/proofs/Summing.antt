@@ -1,8 +1,7 @@
--- What sum does: the figures of a sound store, 3 on any other; the store stays.
+-- What sum does on a sound store: its figures are words of the header; the store stays.
 -- Assumes nothing.
-use Prim.Native.Nat.{ℕ, _≤_, _<_}
+use Prim.Native.Nat.{ℕ}
 use mathlib.Core.Path.{_≡_, refl, sym, ap, _∙_}
-use mathlib.Core.Bool.{Bool, true, false}
 use mathlib.Core.List.{List, []}
 use lib.ListN.{length, drop, getD}
 use Rattle.words.specs.Words.{words, recs}
@@ -12,8 +11,8 @@ use Rattle.machine.specs.State.{State}
 use Rattle.machine.specs.Table.{held}
 use Rattle.machine.specs.Wrapper.{sum}
 use Rattle.machine.specs.Claim.{elem}
-use Rattle.machine.specs.Call.{Ask, Sum, Call, On, Named, named, anyLate, takesPlace, askRefusal, refusal}
-use Rattle.machine.specs.Step.{Refused, Summed, perform, carryOut, written, stepIf}
+use Rattle.machine.specs.Call.{Sum, On, named, anyLate, takesPlace, askRefusal}
+use Rattle.machine.specs.Step.{Summed, perform, written}
 use Rattle.store.specs.Flat.{Flat, flatOf}
 use Rattle.store.specs.Image.{headSize, image, SoundStore}
 use Rattle.store.specs.Read.{headIn, flatIn, stateOf}
@@ -21,15 +20,9 @@ use Rattle.store.proofs.BytesBack.{Bytes}
 use Rattle.store.proofs.Counts.{held-rows}
 use Rattle.store.proofs.ToFlat.{flat-sound}
 use Rattle.store.proofs.FlatRead.{flat-read}
-use Rattle.store.proofs.Stored.{needOf, words-front, state-shown, store-kept}
-use Rattle.tracker.specs.Outcome.{outcomeIf, Does}
-use Rattle.tracker.proofs.Stepped.{effectOf, outcome-shown}
-
--- ---- refusal 3
-
-pub unsound-store : (a : Ask) (b : List ℕ) → (SoundStore b → ⊥) → Does (On a) b (record { reply = Refused 3; buffer = (named a (stateOf (words b))) .buffer; store = b })
-unfolding outcomeIf stepIf refusal askRefusal
-unsound-store a b n = record { sound = false; tested = n; effect = refl }
+use Rattle.store.proofs.Stored.{needOf, words-front, state-shown}
+use Rattle.tracker.specs.Outcome.{Does}
+use Rattle.tracker.proofs.Contract.{does-nothing}
 
 module _ (b : List ℕ) (w : SoundStore b) where
   -- ---- the header's figures
@@ -47,9 +40,6 @@ module _ (b : List ℕ) (w : SoundStore b) where
 
   -- ---- sum
 
-  sums : Bytes b → effectOf true b (On Sum) (w .state) ≡ record { reply = Summed (sum (w .state)); buffer = []; store = b }
-  unfolding stepIf refusal askRefusal named anyLate takesPlace elem carryOut perform written
-  sums p = rw (← store-kept b w p)
-
   pub summed : Bytes b → Does (On Sum) b (record { reply = Summed (sum (w .state)); buffer = []; store = b })
-  summed p = record { sound = true; tested = w; effect = sym (outcome-shown b w (On Sum) ∙ sums p) }
+  unfolding askRefusal named anyLate takesPlace elem perform written
+  summed p = does-nothing b _ Sum w refl refl refl refl p refl

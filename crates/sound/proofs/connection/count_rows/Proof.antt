@@ -1,0 +1,108 @@
+use borrow.Author.Needs.{needs}
+use native.Mathlib.Omega.{arith}
+use Prim.Native.Nat.{_-_, _≤_, _<_}
+use mathlib.Core.Path.{_≡_}
+use lib.ListN.{length}
+use Rattle.words.specs.Words.{recs, words}
+use Rattle.regions.specs.Rows.{rowSize, readRow}
+use Rattle.sound.specs.Conns.{names, Tallied}
+use Rattle.sound.proofs.Entries.{length-names}
+use Rattle.sound.proofs.Tally.{tallied-none, tallied-turn, tallied-stop, tallied-small}
+use Rattle.sound.proofs.connection.count_rows.Statement.{statement}
+use Rattle.sound.proofs.connection.count_rows.Tie as tie
+use Rattle.sound.proofs.connection.count_rows.Reads as reads
+use Rattle.sound.proofs.connection.count_rows.Lts as lts
+use Rattle.regions.proofs.read_row.Reads as read-row-reads
+use Rattle.sound.proofs.connection.bump.Reads as bump-reads
+use Rattle.sound.proofs.connection.find_entry.Reads as find-entry-reads
+
+abbrev Inv-loop : tie.InvT-loop
+Inv-loop rows n conns c lo t₀ guess₀ i₀ t guess i = (i ≤ n) × (length t ≡ length t₀) × Tallied (names c (words conns)) (recs rowSize readRow i (words rows)) lo t
+
+abbrev μ-loop : tie.MeasureT-loop
+μ-loop rows n conns c lo t₀ guess₀ i₀ t guess i = n - i
+
+loop-holds : tie.Need-loop-holds Inv-loop μ-loop
+loop-holds c = (omega arith, search needs, tallied-none (names (c .before .before .before .args .c) (words (c .before .before .before .args .conns .now))) (words (c .before .before .before .args .rows .now)) (c .before .before .before .args .lo) (c .before .before .before .args .t .now) (c .before .before .before .pre .4))
+
+read-row-requires : tie.Need-read-row-requires Inv-loop μ-loop
+read-row-requires c κs = search needs
+
+mul-find-entry : tie.Need-mul-find-entry Inv-loop μ-loop
+mul-find-entry c = search needs
+
+array-read-find-entry : tie.Need-array-read-find-entry Inv-loop μ-loop
+array-read-find-entry c = search needs
+
+find-entry-requires : tie.Need-find-entry-requires Inv-loop μ-loop
+find-entry-requires c κs = search needs
+
+same-length : tie.Need-same-length Inv-loop μ-loop
+same-length c = search needs
+
+returns : tie.Need-returns Inv-loop μ-loop
+returns c =
+    let ks = names (c .before .before .before .before .before .before .before .before .before .args .c) (words (c .before .before .before .before .before .before .before .before .before .args .conns .now)) in
+    (tallied-stop ks (words (c .before .before .before .before .before .before .before .before .before .args .rows .now)) (c .before .before .before .before .before .before .before .before .before .args .n) (c .before .before .before .before .before .loop .i) (c .before .before .before .read-row .result) (omega arith) (c .before .before .before .read-row .ensures .words-are) (c .before .find-entry .ensures .absent (omega arith) (c .before .before .before .before .before .before .before .before .before .pre .3)), search needs)
+
+mul-guess : tie.Need-mul-guess Inv-loop μ-loop
+mul-guess c = search needs
+
+array-write-guess : tie.Need-array-write-guess Inv-loop μ-loop
+array-write-guess c = search needs
+
+mul-bump : tie.Need-mul-bump Inv-loop μ-loop
+mul-bump c = search needs
+
+add-bump : tie.Need-add-bump Inv-loop μ-loop
+add-bump c = search needs
+
+bump-requires : tie.Need-bump-requires Inv-loop μ-loop
+bump-requires c κs =
+    let v = words (c .before .before .before .before .before .before .before .before .before .before .before .args .conns .now) in
+    let ks = names (c .before .before .before .before .before .before .before .before .before .before .before .args .c) v in
+    tallied-small ks (words (c .before .before .before .before .before .before .before .before .before .before .before .args .rows .now)) (c .before .before .before .before .before .before .before .before .before .before .before .args .lo) (c .before .before .before .before .before .before .before .loop .i) (c .before .before .before .find-entry .result) (c .before .before .before .before .before .before .before .loop .t) (c .before .before .before .before .before .read-row .result) (omega arith) (omega (arith, length-names (c .before .before .before .before .before .before .before .before .before .before .before .args .c) v)) (c .before .before .before .before .before .before .before .loop .inv .2)
+
+add-i : tie.Need-add-i Inv-loop μ-loop
+add-i c = search needs
+
+loop-less : tie.Need-loop-less Inv-loop μ-loop
+loop-less c = search needs
+
+loop-again : tie.Need-loop-again Inv-loop μ-loop
+loop-again c =
+    let v = words (c .before .before .before .before .before .before .before .before .before .before .before .before .before .before .args .conns .now) in
+    let ks = names (c .before .before .before .before .before .before .before .before .before .before .before .before .before .before .args .c) v in
+    (search needs, search needs, tallied-turn ks (words (c .before .before .before .before .before .before .before .before .before .before .before .before .before .before .args .rows .now)) (c .before .before .before .before .before .before .before .before .before .before .before .before .before .before .args .lo) (c .before .before .before .before .before .before .before .before .before .before .loop .i) (c .before .before .before .before .before .before .find-entry .result) (c .before .before .before .before .before .before .before .before .before .before .loop .t) _ (c .before .before .before .before .before .before .before .before .read-row .result) (c .before .before .before .before .before .before .before .before .before .before .before .before .before .before .pre .3) (c .before .before .before .before .before .before .before .before .read-row .ensures .words-are) (omega (arith, length-names (c .before .before .before .before .before .before .before .before .before .before .before .before .before .before .args .c) v)) (c .before .before .before .before .before .before .find-entry .ensures .found (omega arith)) (c .before .before .before .before .before .before .before .before .before .before .loop .inv .2) (c .before .before .bump .ensures))
+
+same-length-2 : tie.Need-same-length-2 Inv-loop μ-loop
+same-length-2 c = search needs
+
+returns-2 : tie.Need-returns-2 Inv-loop μ-loop
+returns-2 c =
+    let e : c .before .loop .i ≡ c .before .before .before .before .before .args .n = omega arith in
+    (rw e at (c .before .loop .inv .2), search needs)
+
+pub count-rows-spec : {M : Type 1} → statement M
+count-rows-spec =
+    tie.close
+    (tie.spec
+    Inv-loop
+    μ-loop
+    loop-holds
+    read-row-requires
+    mul-find-entry
+    array-read-find-entry
+    find-entry-requires
+    same-length
+    returns
+    mul-guess
+    array-write-guess
+    mul-bump
+    add-bump
+    bump-requires
+    add-i
+    loop-less
+    loop-again
+    same-length-2
+    returns-2)

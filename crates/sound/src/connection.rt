@@ -1,0 +1,216 @@
+// The test of the connections: entries that rise, within the limits, with the counts of the rows.
+//
+// A pass over the rows counts those of up to MANY connections in an array of 128 KiB (4 KiB where there are FEW), so that one pass is
+// enough unless there are more.
+ghost use mathlib.Core.Path.{_≡_};
+ghost use Prim.Native.Nat.{ℕ, _+_, _*_, _^_, _≤_, _<_};
+ghost use lib.ListN.{length, getD};
+ghost use Rattle.words.specs.Words.{words, recs, Decides};
+ghost use Rattle.machine.specs.Limits.{maxAnnouncements};
+ghost use Rattle.regions.specs.Rows.{rowSize, readRow, connSize, readConn};
+ghost use Rattle.sound.specs.Rows.{RowsSound};
+ghost use Rattle.sound.specs.Conns.{Entries, EntryStep, names, Rising, Place, Bumped, Tallying, Unpacks, Within, Window, few, many, ConnsSound};
+
+// MAX_PEER_ANNOUNCEMENTS and MAX_PEER_IN_FLIGHT.
+const PEER_ANNOUNCEMENTS: u64 = 5000;
+
+const PEER_IN_FLIGHT: u64 = 100;
+
+// Words of an entry.
+const CONN: usize = 3;
+
+// A counter holds rows in its low half and rows that own their request in its high half.
+const HALF: u64 = 0x1_0000_0000;
+
+// Connections that one pass over the rows counts.
+const MANY: usize = 16384;
+
+const FEW: usize = 512;
+
+// Guesses where a connection's entry is.
+const GUESSES: u64 = 256;
+
+// Whether the entry c is fit to stand right behind p.
+fn entry_fits(p: regions::Conn, c: regions::Conn) -> bool
+    ensures { λ b. ⌜ Decides b (EntryStep p c) ⌝ }
+{
+    if c.conn <= p.conn {
+        return false;
+    }
+    if c.held == 0 {
+        return false;
+    }
+    if c.held > PEER_ANNOUNCEMENTS {
+        return false;
+    }
+    if c.owned > PEER_IN_FLIGHT {
+        return false;
+    }
+    true
+}
+
+// Whether the n entries rise by connection, from 1 on, and each has counts of at least one row and within the limits.
+pub fn entries_fit(s: &[u8], n: usize) -> bool
+    requires { ⌜ 8 * (connSize * n) ≤ length (now s) ⌝ }
+    ensures { λ b. ⌜ Decides b (Entries (recs connSize readConn n (words (now (s .entry))))) ⌝ }
+{
+    let mut p = regions::Conn {
+        conn: 0,
+        held: 0,
+        owned: 0,
+    };
+    let mut i = 0;
+    while i < n {
+        let c = regions::read_conn(s, i);
+        if !entry_fits(p, c) {
+            return false;
+        }
+        p = c;
+        i += 1;
+    }
+    true
+}
+
+// Whether the i-th of n entries is x's.
+fn is_entry(s: &[u8], n: usize, i: usize, x: u64) -> bool
+    requires { ⌜ 8 * (connSize * n) ≤ length (now s) ⌝ }
+    ensures { λ b. ⌜ Decides b ((i < n) × (getD (names n (words (now (s .entry)))) i 0 ≡ x)) ⌝ }
+{
+    if i < n {
+        return words::get(s, i * CONN) == x;
+    }
+    false
+}
+
+// Where x's entry is among n, or n. The guess is tried first.
+fn find_entry(s: &[u8], n: usize, x: u64, guess: usize) -> usize
+    requires { ⌜ 8 * (connSize * n) ≤ length (now s) ⌝ }
+    ensures { λ r. ⌜ Place (names n (words (now (s .entry)))) n x r ⌝ }
+{
+    if is_entry(s, n, guess, x) {
+        return guess;
+    }
+    let i = regions::seek_conn(s, n, x);
+    if is_entry(s, n, i, x) {
+        return i;
+    }
+    n
+}
+
+// Adds w to the counter of the entry k, if it is among those from lo on.
+fn bump(t: &mut [u64], lo: usize, k: usize, w: u64)
+    requires { ⌜ ((j : ℕ) → j < length (now t) → lo + j ≡ k → getD (now t) j 0 + w < 2 ^ 64) ⌝ }
+    ensures { λ _. ⌜ Bumped (now (t .entry)) (now (t .exit)) lo k w ⌝ }
+{
+    if k < lo {
+        return;
+    }
+    let j = k - lo;
+    if j < t.len() {
+        t[j] = t[j] + w;
+    }
+}
+
+// Counts the n rows of the entries from lo on, of which there are c in all. False if a row's connection has no entry.
+fn count_rows(rows: &[u8], n: usize, conns: &[u8], c: usize, lo: usize, t: &mut [u64]) -> bool
+    requires { ⌜ (8 * (rowSize * n) ≤ length (now rows)) × (8 * (connSize * c) ≤ length (now conns)) × (n ≤ maxAnnouncements) × Rising (names c (words (now conns))) × ((j : ℕ) → getD (now t) j 0 ≡ 0) ⌝ }
+    ensures { λ b. ⌜ Tallying b (names c (words (now (conns .entry)))) (recs rowSize readRow n (words (now (rows .entry)))) lo (now (t .exit)) × (length (now (t .exit)) ≡ length (now (t .entry))) ⌝ }
+{
+    let mut guess: [usize; 256] = [0; 256];
+    let mut i = 0;
+    while i < n {
+        let r = regions::read_row(rows, i);
+        let g = (r.conn % GUESSES) as usize;
+        let k = find_entry(conns, c, r.conn, guess[g]);
+        if k >= c {
+            return false;
+        }
+        guess[g] = k;
+        bump(t, lo, k, 1 + r.bits / 8 % 2 * HALF);
+        i += 1;
+    }
+    true
+}
+
+// Whether the entry has the counts that v packs.
+fn unpacks(v: u64, c: regions::Conn) -> bool
+    ensures { λ b. ⌜ Decides b (Unpacks v c) ⌝ }
+{
+    if c.held != v % HALF {
+        return false;
+    }
+    if c.owned != v / HALF {
+        return false;
+    }
+    true
+}
+
+// Whether the entries from lo on have the counts of the counters t.
+fn counts_match(s: &[u8], n: usize, lo: usize, t: &[u64]) -> bool
+    requires { ⌜ (8 * (connSize * n) ≤ length (now s)) × (lo ≤ n) ⌝ }
+    ensures { λ b. ⌜ Decides b (Within (λ c j. Unpacks (getD (now (t .entry)) j 0) c) (recs connSize readConn n (words (now (s .entry)))) lo (length (now (t .entry)))) ⌝ }
+{
+    let mut j = 0;
+    while j < t.len() {
+        let i = lo + j;
+        if i >= n {
+            return true;
+        }
+        let c = regions::read_conn(s, i);
+        if !unpacks(t[j], c) {
+            return false;
+        }
+        j += 1;
+    }
+    true
+}
+
+// Whether each of the entries from lo on that t has a counter for has its rows' counts, and each row's connection has an entry.
+fn window_fits(rows: &[u8], n: usize, conns: &[u8], c: usize, lo: usize, t: &mut [u64]) -> bool
+    requires { ⌜ (8 * (rowSize * n) ≤ length (now rows)) × (8 * (connSize * c) ≤ length (now conns)) × (n ≤ maxAnnouncements) × Rising (names c (words (now conns))) × ((j : ℕ) → getD (now t) j 0 ≡ 0) × (lo ≤ c) ⌝ }
+    ensures { λ b. ⌜ Decides b (Window (names c (words (now (conns .entry)))) (recs rowSize readRow n (words (now (rows .entry)))) (recs connSize readConn c (words (now (conns .entry)))) lo (length (now (t .entry)))) ⌝ }
+{
+    if !count_rows(rows, n, conns, c, lo, t) {
+        return false;
+    }
+    counts_match(conns, c, lo, t)
+}
+
+// The window of the first few entries.
+fn few_fit(rows: &[u8], n: usize, conns: &[u8], c: usize) -> bool
+    requires { ⌜ (8 * (rowSize * n) ≤ length (now rows)) × (8 * (connSize * c) ≤ length (now conns)) × (n ≤ maxAnnouncements) × Rising (names c (words (now conns))) ⌝ }
+    ensures { λ b. ⌜ Decides b (Window (names c (words (now (conns .entry)))) (recs rowSize readRow n (words (now (rows .entry)))) (recs connSize readConn c (words (now (conns .entry)))) 0 few) ⌝ }
+{
+    let mut t: [u64; FEW] = [0; FEW];
+    window_fits(rows, n, conns, c, 0, &mut t)
+}
+
+// The window of the many entries from lo on.
+fn many_fit(rows: &[u8], n: usize, conns: &[u8], c: usize, lo: usize) -> bool
+    requires { ⌜ (8 * (rowSize * n) ≤ length (now rows)) × (8 * (connSize * c) ≤ length (now conns)) × (n ≤ maxAnnouncements) × Rising (names c (words (now conns))) × (lo ≤ c) ⌝ }
+    ensures { λ b. ⌜ Decides b (Window (names c (words (now (conns .entry)))) (recs rowSize readRow n (words (now (rows .entry)))) (recs connSize readConn c (words (now (conns .entry)))) lo many) ⌝ }
+{
+    let mut t: [u64; MANY] = [0; MANY];
+    window_fits(rows, n, conns, c, lo, &mut t)
+}
+
+// Whether the c entries are the tally of the n rows, within the limits of a connection.
+pub fn conns_fit(rows: &[u8], n: usize, conns: &[u8], c: usize) -> bool
+    requires { ⌜ (8 * (rowSize * n) ≤ length (now rows)) × (8 * (connSize * c) ≤ length (now conns)) × (n ≤ maxAnnouncements) ⌝ }
+    ensures { λ b. ⌜ (RowsSound (recs rowSize readRow n (words (now (rows .entry)))) → Decides b (ConnsSound (recs rowSize readRow n (words (now (rows .entry)))) (recs connSize readConn c (words (now (conns .entry)))))) ⌝ }
+{
+    if !entries_fit(conns, c) {
+        return false;
+    }
+    if c <= FEW {
+        return few_fit(rows, n, conns, c);
+    }
+    let mut lo = 0;
+    while lo < c {
+        if !many_fit(rows, n, conns, c, lo) {
+            return false;
+        }
+        lo += MANY;
+    }
+    true
+}
