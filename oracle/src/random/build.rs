@@ -92,7 +92,9 @@ impl Build<'_> {
         let at_hash = self.at_hash.entry(hash).or_default();
         let of_connection = self.of_connection.entry(connection).or_default();
         if *of_connection >= MAX_OF_CONNECTION {
-            self.connect();
+            if self.rng.one_in(100) {
+                self.connect();
+            }
             return false;
         }
         if at_hash.len() >= MAX_AT_HASH || at_hash.contains(&connection) {
