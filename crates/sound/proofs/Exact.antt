@@ -15,7 +15,7 @@ use Rattle.places.specs.Places.{placeSize, wtxidsAt, parentsAt, keptSize, listM
 use Rattle.machine.specs.Limits.{word}
 use Rattle.store.specs.Read.{readHash, readPlace}
 use Rattle.store.proofs.Quads.{quad-number}
-use Rattle.sound.specs.Places.{Padded}
+use Rattle.sound.specs.Places.{keptAt, Padded}
 use Rattle.sound.proofs.Decide.{Iff}
 use Rattle.sound.proofs.Ranges.{Below, below-take, below-drop, quad-ranges}
 
@@ -132,7 +132,7 @@ module _ (v : List ℕ) (l : length v ≡ placeSize) (b : Below word v) (m : get
   unfolding placeWords readPlace listWords
   place-is = refl
 
-  kept-is : slice 811 placeSize v ≡ drop 400 (drop 411 v)
+  kept-is : slice keptAt placeSize v ≡ drop 400 (drop 411 v)
   kept-is = rw (take-all placeSize v (omega arith)) (sym (drop-drop 400 411 v))
 
   pub place-iff : Iff (v ≡ placeWords (readPlace v)) (Padded v (getD v 9 0) (getD v 10 0))

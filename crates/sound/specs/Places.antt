@@ -35,11 +35,15 @@ placeAt w i = take placeSize (drop (placeSize * i) w)
 abbrev pub hashesIn : List ℕ → ℕ → ℕ → ℕ → List ℕ
 hashesIn w a from to = recs 4 readHash (to - from) (drop (4 * from) (drop a w))
 
+-- where the kept flags lie
+abbrev pub keptAt : ℕ
+keptAt = parentsAt + 4 * listMost
+
 -- behind m wtxids and n parents there are zeros
 pub record Padded (v : List ℕ) (m n : ℕ) : Type 0 where
   pub wtxids : slice (wtxidsAt + m * 4) parentsAt v ≡ replicate (parentsAt - (wtxidsAt + m * 4)) 0
-  pub parents : slice (parentsAt + n * 4) 811 v ≡ replicate (811 - (parentsAt + n * 4)) 0
-  pub kept : slice 811 placeSize v ≡ replicate keptSize 0
+  pub parents : slice (parentsAt + n * 4) keptAt v ≡ replicate (keptAt - (parentsAt + n * 4)) 0
+  pub kept : slice keptAt placeSize v ≡ replicate keptSize 0
 
 -- ---- by stage: 1 flag, 2 Awaiting, 3 Enqueued; the combined hash, how many wtxids
 

@@ -6,7 +6,7 @@ ghost use Rattle.regions.specs.Rows.{rowSize, readRow};
 ghost use Rattle.sound.specs.Rows.{RowPlain, Follows, RowsSound};
 
 // Whether a row is fit by itself.
-pub fn row_fits(r: regions::Row) -> bool
+fn row_fits(r: regions::Row) -> bool
     ensures { λ b. ⌜ Decides b (RowPlain r) ⌝ }
 {
     if r.conn == 0 {
@@ -30,7 +30,7 @@ pub fn row_fits(r: regions::Row) -> bool
 }
 
 // Whether r may stand right behind p.
-pub fn follows(p: regions::Row, r: regions::Row) -> bool
+fn follows(p: regions::Row, r: regions::Row) -> bool
     ensures { λ b. ⌜ Decides b (Follows p r) ⌝ }
 {
     let x = p.hash;

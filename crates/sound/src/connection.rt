@@ -50,7 +50,7 @@ fn entry_fits(p: regions::Conn, c: regions::Conn) -> bool
 }
 
 // Whether the n entries rise by connection, from 1 on, and each has counts of at least one row and within the limits.
-pub fn entries_fit(s: &[u8], n: usize) -> bool
+fn entries_fit(s: &[u8], n: usize) -> bool
     requires { ⌜ 8 * (connSize * n) ≤ length (now s) ⌝ }
     ensures { λ b. ⌜ Decides b (Entries (recs connSize readConn n (words (now (s .entry))))) ⌝ }
 {

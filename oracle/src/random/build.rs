@@ -81,7 +81,7 @@ impl Build<'_> {
         self.connections.push(connection.max(1));
     }
 
-    /// One more candidate; false if the draw did not fit, and then a connection more.
+    /// One more candidate; false if the draw did not fit. A connection at its limit gets company.
     fn announce(&mut self, spread: u64) -> bool {
         if self.hashes.is_empty() || self.rng.one_in(spread) {
             let hash = self.rng.hash();
@@ -91,13 +91,13 @@ impl Build<'_> {
         let connection = self.rng.pick(&self.connections);
         let at_hash = self.at_hash.entry(hash).or_default();
         let of_connection = self.of_connection.entry(connection).or_default();
-        if at_hash.len() >= MAX_AT_HASH
-            || at_hash.contains(&connection)
-            || *of_connection >= MAX_OF_CONNECTION
-        {
-            if self.rng.one_in(32) {
+        if *of_connection >= MAX_OF_CONNECTION {
+            if self.rng.one_in(100) {
                 self.connect();
             }
+            return false;
+        }
+        if at_hash.len() >= MAX_AT_HASH || at_hash.contains(&connection) {
             return false;
         }
         at_hash.push(connection);

@@ -9,6 +9,8 @@
 mod again;
 mod damage;
 mod forge;
+#[cfg(feature = "library")]
+mod opening;
 mod report;
 
 use std::process::ExitCode;
@@ -177,6 +179,14 @@ fn main() -> ExitCode {
     report.print();
     let judges: Vec<&str> = JUDGES.iter().map(|(name, _)| *name).collect();
     println!("\nverdicts equal to the reading's: {}", judges.join(", "));
+    #[cfg(feature = "library")]
+    match opening::trial(&mut Rng::new(1)) {
+        Ok(counts) => println!("{counts}"),
+        Err(text) => {
+            eprintln!("{text}");
+            return ExitCode::FAILURE;
+        }
+    }
     let untried = report.untried();
     if !untried.is_empty() {
         println!("not broken alone by any store: {untried:?}");

@@ -5,9 +5,6 @@ use Rattle.sound.proofs.Hashes.{zero-number}
 use Rattle.sound.proofs.HeadTests.{cursor-zero, cursor-some}
 use Rattle.sound.proofs.cursor_fits.Statement.{statement}
 use Rattle.sound.proofs.cursor_fits.Tie as tie
-use Rattle.sound.proofs.cursor_fits.Reads as reads
-use Rattle.sound.proofs.cursor_fits.Lts as lts
-use Rattle.sound.proofs.package.same_hash.Reads as same-hash-reads
 
 same-hash-requires : tie.Need-same-hash-requires
 same-hash-requires c κs = search needs

@@ -8,14 +8,6 @@ use Rattle.sound.proofs.Decide.{decides-iff, passed, failed}
 use Rattle.sound.proofs.PlaceTests.{hash-is}
 use Rattle.sound.proofs.head_fits.Statement.{statement}
 use Rattle.sound.proofs.head_fits.Tie as tie
-use Rattle.sound.proofs.head_fits.Reads as reads
-use Rattle.sound.proofs.head_fits.Lts as lts
-use Rattle.regions.proofs.read_quad.Reads as read-quad-reads
-use Rattle.sound.proofs.cursor_fits.Reads as cursor-fits-reads
-use Rattle.sound.proofs.poll_fits.Reads as poll-fits-reads
-use Rattle.sound.proofs.sizes_fit.Reads as sizes-fit-reads
-use Rattle.words.proofs.get.Reads as get-reads
-use Rattle.words.proofs.is_zero.Reads as is-zero-reads
 
 sizes-fit-requires : tie.Need-sizes-fit-requires
 sizes-fit-requires c κs = search needs

@@ -3,8 +3,6 @@ use native.Mathlib.Omega.{arith}
 use Rattle.sound.proofs.HeadTests.{poll-zero, poll-one}
 use Rattle.sound.proofs.poll_fits.Statement.{statement}
 use Rattle.sound.proofs.poll_fits.Tie as tie
-use Rattle.sound.proofs.poll_fits.Reads as reads
-use Rattle.sound.proofs.poll_fits.Lts as lts
 
 returns : tie.Need-returns
 returns c = poll-zero (c .before .args .tag) (c .before .args .time) (omega arith)

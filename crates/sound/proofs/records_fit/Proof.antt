@@ -15,13 +15,6 @@ use Rattle.sound.specs.Places.{PlacesSound}
 use Rattle.sound.proofs.Decide.{decides-iff, passed, failed}
 use Rattle.sound.proofs.records_fit.Statement.{statement}
 use Rattle.sound.proofs.records_fit.Tie as tie
-use Rattle.sound.proofs.records_fit.Reads as reads
-use Rattle.sound.proofs.records_fit.Lts as lts
-use Rattle.sound.proofs.connection.conns_fit.Reads as conns-fit-reads
-use Rattle.sound.proofs.group.groups_fit.Reads as groups-fit-reads
-use Rattle.sound.proofs.package.places_fit.Reads as places-fit-reads
-use Rattle.sound.proofs.candidate.rows_fit.Reads as rows-fit-reads
-use Rattle.words.proofs.is_zero.Reads as is-zero-reads
 
 rows-fit-requires : tie.Need-rows-fit-requires
 rows-fit-requires c κs = search needs

@@ -11,11 +11,6 @@ use Rattle.sound.proofs.Ranges.{below-bytes, below-words}
 use Rattle.sound.proofs.StoreTests.{refuse-short, refuse-head, refuse-long, store-iff, length-lent}
 use Rattle.sound.proofs.sound.Statement.{statement}
 use Rattle.sound.proofs.sound.Tie as tie
-use Rattle.sound.proofs.sound.Reads as reads
-use Rattle.sound.proofs.sound.Lts as lts
-use Rattle.sound.proofs.head_fits.Reads as head-fits-reads
-use Rattle.sound.proofs.records_fit.Reads as records-fit-reads
-use Rattle.words.proofs.get.Reads as get-reads
 
 mul-if1 : tie.Need-mul-if1
 mul-if1 c = search needs

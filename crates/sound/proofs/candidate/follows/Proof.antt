@@ -3,9 +3,6 @@ use mathlib.Core.Path.{sym, _∙_}
 use Rattle.sound.proofs.Rows.{follows-less, follows-not, follows-mark}
 use Rattle.sound.proofs.candidate.follows.Statement.{statement}
 use Rattle.sound.proofs.candidate.follows.Tie as tie
-use Rattle.sound.proofs.candidate.follows.Reads as reads
-use Rattle.sound.proofs.candidate.follows.Lts as lts
-use Rattle.regions.proofs.key_less.Reads as key-less-reads
 
 key-less-requires : tie.Need-key-less-requires
 key-less-requires c κs = search needs

@@ -7,8 +7,6 @@ use borrow.Author.Tests.{ltb-true, ltb-false}
 use Rattle.sound.proofs.Rows.{plain-bits}
 use Rattle.sound.proofs.candidate.row_fits.Statement.{statement}
 use Rattle.sound.proofs.candidate.row_fits.Tie as tie
-use Rattle.sound.proofs.candidate.row_fits.Reads as reads
-use Rattle.sound.proofs.candidate.row_fits.Lts as lts
 
 returns : tie.Need-returns
 returns c = search needs

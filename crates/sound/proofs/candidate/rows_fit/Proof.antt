@@ -10,11 +10,6 @@ use Rattle.sound.proofs.Decide.{Chain, Walk, walk-start, walk-turn, wal
 use Rattle.sound.proofs.Rows.{RowStep, rows-iff, rows-none}
 use Rattle.sound.proofs.candidate.rows_fit.Statement.{statement}
 use Rattle.sound.proofs.candidate.rows_fit.Tie as tie
-use Rattle.sound.proofs.candidate.rows_fit.Reads as reads
-use Rattle.sound.proofs.candidate.rows_fit.Lts as lts
-use Rattle.regions.proofs.read_row.Reads as read-row-reads
-use Rattle.sound.proofs.candidate.follows.Reads as follows-reads
-use Rattle.sound.proofs.candidate.row_fits.Reads as row-fits-reads
 
 abbrev Inv-loop : tie.InvT-loop
 Inv-loop s n p₀ i₀ p i = (i ≤ n) × Walk RowStep rowSize readRow n (words s) (Chain RowStep p₀ (recs rowSize readRow n (words s))) p i

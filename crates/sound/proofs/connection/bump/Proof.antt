@@ -4,8 +4,6 @@ use Prim.Native.Nat.{_-_}
 use Rattle.sound.proofs.Tally.{bumped-here}
 use Rattle.sound.proofs.connection.bump.Statement.{statement}
 use Rattle.sound.proofs.connection.bump.Tie as tie
-use Rattle.sound.proofs.connection.bump.Reads as reads
-use Rattle.sound.proofs.connection.bump.Lts as lts
 
 returns : tie.Need-returns
 returns c = search needs

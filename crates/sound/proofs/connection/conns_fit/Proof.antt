@@ -10,11 +10,6 @@ use Rattle.sound.proofs.Entries.{entries-rising}
 use Rattle.sound.proofs.Conns.{CountedTo, conns-entries, counted-turn, few-iff, sound-window, windows-sound}
 use Rattle.sound.proofs.connection.conns_fit.Statement.{statement}
 use Rattle.sound.proofs.connection.conns_fit.Tie as tie
-use Rattle.sound.proofs.connection.conns_fit.Reads as reads
-use Rattle.sound.proofs.connection.conns_fit.Lts as lts
-use Rattle.sound.proofs.connection.entries_fit.Reads as entries-fit-reads
-use Rattle.sound.proofs.connection.few_fit.Reads as few-fit-reads
-use Rattle.sound.proofs.connection.many_fit.Reads as many-fit-reads
 
 abbrev Inv-loop : tie.InvT-loop
 Inv-loop rows n conns c lo₀ lo = CountedTo (recs rowSize readRow n (words rows)) c (words conns) lo × (0 < lo → Each (λ r. Named (names c (words conns)) (r .conn)) (recs rowSize readRow n (words rows)))

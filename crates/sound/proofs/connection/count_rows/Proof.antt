@@ -10,11 +10,6 @@ use Rattle.sound.proofs.Entries.{length-names}
 use Rattle.sound.proofs.Tally.{tallied-none, tallied-turn, tallied-stop, tallied-small}
 use Rattle.sound.proofs.connection.count_rows.Statement.{statement}
 use Rattle.sound.proofs.connection.count_rows.Tie as tie
-use Rattle.sound.proofs.connection.count_rows.Reads as reads
-use Rattle.sound.proofs.connection.count_rows.Lts as lts
-use Rattle.regions.proofs.read_row.Reads as read-row-reads
-use Rattle.sound.proofs.connection.bump.Reads as bump-reads
-use Rattle.sound.proofs.connection.find_entry.Reads as find-entry-reads
 
 abbrev Inv-loop : tie.InvT-loop
 Inv-loop rows n conns c lo t₀ guess₀ i₀ t guess i = (i ≤ n) × (length t ≡ length t₀) × Tallied (names c (words conns)) (recs rowSize readRow i (words rows)) lo t

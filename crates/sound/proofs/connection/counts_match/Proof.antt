@@ -11,10 +11,6 @@ use Rattle.sound.proofs.Decide.{passed, failed}
 use Rattle.sound.proofs.Tally.{within-turn, within-past, entry-at}
 use Rattle.sound.proofs.connection.counts_match.Statement.{statement}
 use Rattle.sound.proofs.connection.counts_match.Tie as tie
-use Rattle.sound.proofs.connection.counts_match.Reads as reads
-use Rattle.sound.proofs.connection.counts_match.Lts as lts
-use Rattle.regions.proofs.read_conn.Reads as read-conn-reads
-use Rattle.sound.proofs.connection.unpacks.Reads as unpacks-reads
 
 abbrev Inv-loop : tie.InvT-loop
 Inv-loop s n lo t j₀ j = (j ≤ length t) × Within (λ e q. Unpacks (getD t q 0) e) (recs connSize readConn n (words s)) lo j

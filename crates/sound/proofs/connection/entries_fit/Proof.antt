@@ -8,10 +8,6 @@ use Rattle.sound.proofs.Decide.{Chain, Walk, walk-start, walk-turn, wal
 use Rattle.sound.proofs.Entries.{entries-iff}
 use Rattle.sound.proofs.connection.entries_fit.Statement.{statement}
 use Rattle.sound.proofs.connection.entries_fit.Tie as tie
-use Rattle.sound.proofs.connection.entries_fit.Reads as reads
-use Rattle.sound.proofs.connection.entries_fit.Lts as lts
-use Rattle.regions.proofs.read_conn.Reads as read-conn-reads
-use Rattle.sound.proofs.connection.entry_fits.Reads as entry-fits-reads
 
 abbrev Inv-loop : tie.InvT-loop
 Inv-loop s n p₀ i₀ p i = (i ≤ n) × Walk EntryStep connSize readConn n (words s) (Chain EntryStep blank (recs connSize readConn n (words s))) p i

@@ -8,10 +8,6 @@ use Rattle.sound.specs.Conns.{names}
 use Rattle.sound.proofs.Entries.{length-names, place-found, place-absent}
 use Rattle.sound.proofs.connection.find_entry.Statement.{statement}
 use Rattle.sound.proofs.connection.find_entry.Tie as tie
-use Rattle.sound.proofs.connection.find_entry.Reads as reads
-use Rattle.sound.proofs.connection.find_entry.Lts as lts
-use Rattle.regions.proofs.seek_conn.Reads as seek-conn-reads
-use Rattle.sound.proofs.connection.is_entry.Reads as is-entry-reads
 
 is-entry-requires : tie.Need-is-entry-requires
 is-entry-requires c κs = search needs

@@ -4,9 +4,6 @@ use Rattle.words.specs.Words.{words}
 use Rattle.sound.proofs.Entries.{is-name}
 use Rattle.sound.proofs.connection.is_entry.Statement.{statement}
 use Rattle.sound.proofs.connection.is_entry.Tie as tie
-use Rattle.sound.proofs.connection.is_entry.Reads as reads
-use Rattle.sound.proofs.connection.is_entry.Lts as lts
-use Rattle.words.proofs.get.Reads as get-reads
 
 mul-get : tie.Need-mul-get
 mul-get c = search needs

@@ -4,9 +4,6 @@ use Rattle.sound.specs.Conns.{many}
 use Rattle.sound.proofs.Tally.{zeros-at}
 use Rattle.sound.proofs.connection.many_fit.Statement.{statement}
 use Rattle.sound.proofs.connection.many_fit.Tie as tie
-use Rattle.sound.proofs.connection.many_fit.Reads as reads
-use Rattle.sound.proofs.connection.many_fit.Lts as lts
-use Rattle.sound.proofs.connection.window_fits.Reads as window-fits-reads
 
 slice-aggregate-window-fits : tie.Need-slice-aggregate-window-fits
 slice-aggregate-window-fits c = search needs

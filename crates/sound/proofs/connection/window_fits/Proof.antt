@@ -13,10 +13,6 @@ use Rattle.sound.proofs.Decide.{decides-iff}
 use Rattle.sound.proofs.Conns.{window-iff}
 use Rattle.sound.proofs.connection.window_fits.Statement.{statement}
 use Rattle.sound.proofs.connection.window_fits.Tie as tie
-use Rattle.sound.proofs.connection.window_fits.Reads as reads
-use Rattle.sound.proofs.connection.window_fits.Lts as lts
-use Rattle.sound.proofs.connection.count_rows.Reads as count-rows-reads
-use Rattle.sound.proofs.connection.counts_match.Reads as counts-match-reads
 
 count-rows-requires : tie.Need-count-rows-requires
 count-rows-requires c κs = search needs

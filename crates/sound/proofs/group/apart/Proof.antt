@@ -7,10 +7,6 @@ use Rattle.sound.proofs.Decide.{Iff, iff-self}
 use Rattle.sound.proofs.Groups.{apart-turn, apart-later, apart-others, apart-end, first-none, first-some}
 use Rattle.sound.proofs.group.apart.Statement.{statement}
 use Rattle.sound.proofs.group.apart.Tie as tie
-use Rattle.sound.proofs.group.apart.Reads as reads
-use Rattle.sound.proofs.group.apart.Lts as lts
-use Rattle.regions.proofs.find_conn_in.Reads as find-conn-in-reads
-use Rattle.regions.proofs.read_row.Reads as read-row-reads
 
 abbrev Inv-loop : tie.InvT-loop
 Inv-loop s i a j b k₀ k = (i ≤ k) × (k ≤ a) × Iff (Apart (rowsIn (words s) j b) (rowsIn (words s) i a)) (Apart (rowsIn (words s) j b) (rowsIn (words s) k a))

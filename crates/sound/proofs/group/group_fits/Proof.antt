@@ -14,10 +14,6 @@ use Rattle.sound.proofs.Decide.{passed, failed}
 use Rattle.sound.proofs.Groups.{in-none, apart-iff, group-decides}
 use Rattle.sound.proofs.group.group_fits.Statement.{statement}
 use Rattle.sound.proofs.group.group_fits.Tie as tie
-use Rattle.sound.proofs.group.group_fits.Reads as reads
-use Rattle.sound.proofs.group.group_fits.Lts as lts
-use Rattle.sound.proofs.group.apart.Reads as apart-reads
-use Rattle.sound.proofs.group.owners.Reads as owners-reads
 
 sub-if1 : tie.Need-sub-if1
 sub-if1 c = search needs

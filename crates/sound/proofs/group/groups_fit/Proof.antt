@@ -12,12 +12,6 @@ use Rattle.sound.proofs.Groups.{group-off, group-some, off-turn, off-st
 use Rattle.sound.proofs.Halves.{txid-level, wtxid-level}
 use Rattle.sound.proofs.group.groups_fit.Statement.{statement}
 use Rattle.sound.proofs.group.groups_fit.Tie as tie
-use Rattle.sound.proofs.group.groups_fit.Reads as reads
-use Rattle.sound.proofs.group.groups_fit.Lts as lts
-use Rattle.regions.proofs.seek_row.Reads as seek-row-reads
-use Rattle.sound.proofs.group.group_fits.Reads as group-fits-reads
-use Rattle.sound.proofs.group.least_hash.Reads as least-hash-reads
-use Rattle.sound.proofs.group.run_end.Reads as run-end-reads
 
 abbrev Inv-loop : tie.InvT-loop
 Inv-loop s n m i₀ j₀ i j = (i ≤ m) × (m ≤ j) × (j ≤ n) × (RowsSound (recs rowSize readRow n (words s)) → Iff (GroupsSound (recs rowSize readRow n (words s))) (GroupsSound (rowsIn (words s) i m ++ rowsIn (words s) j n)))

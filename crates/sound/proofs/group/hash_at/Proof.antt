@@ -5,9 +5,6 @@ use Rattle.regions.specs.declared.Row.{Row}
 use Rattle.store.specs.FlatSound.{hashAt}
 use Rattle.sound.proofs.group.hash_at.Statement.{statement}
 use Rattle.sound.proofs.group.hash_at.Tie as tie
-use Rattle.sound.proofs.group.hash_at.Reads as reads
-use Rattle.sound.proofs.group.hash_at.Lts as lts
-use Rattle.regions.proofs.read_row.Reads as read-row-reads
 
 read-row-requires : tie.Need-read-row-requires
 read-row-requires c κs = search needs

@@ -7,10 +7,6 @@ use Rattle.regions.specs.Rows.{quadNumber}
 use borrow.Author.Tests.{ltb-true, ltb-false}
 use Rattle.sound.proofs.group.least_hash.Statement.{statement}
 use Rattle.sound.proofs.group.least_hash.Tie as tie
-use Rattle.sound.proofs.group.least_hash.Reads as reads
-use Rattle.sound.proofs.group.least_hash.Lts as lts
-use Rattle.regions.proofs.quad_less.Reads as quad-less-reads
-use Rattle.sound.proofs.group.hash_at.Reads as hash-at-reads
 
 hash-at-requires : tie.Need-hash-at-requires
 hash-at-requires c κs = search needs

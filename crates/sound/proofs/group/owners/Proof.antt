@@ -8,9 +8,6 @@ use Rattle.sound.specs.Groups.{rowsIn}
 use Rattle.sound.proofs.Groups.{owners-turn, owners-none}
 use Rattle.sound.proofs.group.owners.Statement.{statement}
 use Rattle.sound.proofs.group.owners.Tie as tie
-use Rattle.sound.proofs.group.owners.Reads as reads
-use Rattle.sound.proofs.group.owners.Lts as lts
-use Rattle.regions.proofs.read_row.Reads as read-row-reads
 
 abbrev Inv-loop : tie.InvT-loop
 Inv-loop s from to sum₀ i₀ sum i = (from ≤ i) × (i ≤ to) × (sum ≤ i - from) × (sum + countRows owns (rowsIn (words s) i to) ≡ countRows owns (rowsIn (words s) from to))

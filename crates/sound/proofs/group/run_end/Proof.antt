@@ -10,10 +10,6 @@ use Rattle.sound.specs.Groups.{rowAt}
 use Rattle.sound.proofs.Groups.{upto-more}
 use Rattle.sound.proofs.group.run_end.Statement.{statement}
 use Rattle.sound.proofs.group.run_end.Tie as tie
-use Rattle.sound.proofs.group.run_end.Reads as reads
-use Rattle.sound.proofs.group.run_end.Lts as lts
-use Rattle.regions.proofs.quad_less.Reads as quad-less-reads
-use Rattle.sound.proofs.group.hash_at.Reads as hash-at-reads
 
 abbrev Inv-loop : tie.InvT-loop
 Inv-loop s from to h i₀ i = (from ≤ i) × (i ≤ to) × ((k : ℕ) → from ≤ k → k < i → hashAt (rowAt (words s) k) ≤ quadNumber h)

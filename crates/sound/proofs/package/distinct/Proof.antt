@@ -10,10 +10,6 @@ use Rattle.sound.proofs.Decide.{Iff, iff-self}
 use Rattle.sound.proofs.Hashes.{repeat-turn, repeat-stop, repeat-end}
 use Rattle.sound.proofs.package.distinct.Statement.{statement}
 use Rattle.sound.proofs.package.distinct.Tie as tie
-use Rattle.sound.proofs.package.distinct.Reads as reads
-use Rattle.sound.proofs.package.distinct.Lts as lts
-use Rattle.regions.proofs.read_quad.Reads as read-quad-reads
-use Rattle.sound.proofs.package.has_hash.Reads as has-hash-reads
 
 abbrev Inv-loop : tie.InvT-loop
 Inv-loop s a n k₀ k = (k ≤ n) × Iff (NoRepeat (hashesIn (words s) a 0 n)) (NoRepeat (hashesIn (words s) a k n))

@@ -9,10 +9,6 @@ use Rattle.sound.specs.Places.{hashesIn}
 use Rattle.sound.proofs.Hashes.{elem-here, elem-past, elem-end}
 use Rattle.sound.proofs.package.has_hash.Statement.{statement}
 use Rattle.sound.proofs.package.has_hash.Tie as tie
-use Rattle.sound.proofs.package.has_hash.Reads as reads
-use Rattle.sound.proofs.package.has_hash.Lts as lts
-use Rattle.regions.proofs.read_quad.Reads as read-quad-reads
-use Rattle.sound.proofs.package.same_hash.Reads as same-hash-reads
 
 abbrev Inv-loop : tie.InvT-loop
 Inv-loop s a from to h k₀ k = (from ≤ k) × (k ≤ to) × (elem (quadNumber h) (hashesIn (words s) a from to) ≡ elem (quadNumber h) (hashesIn (words s) a k to))

@@ -5,11 +5,6 @@ use Rattle.sound.proofs.Owned.{owned-count}
 use Rattle.sound.proofs.Stage.{some-decides}
 use Rattle.sound.proofs.package.is_owned.Statement.{statement}
 use Rattle.sound.proofs.package.is_owned.Tie as tie
-use Rattle.sound.proofs.package.is_owned.Reads as reads
-use Rattle.sound.proofs.package.is_owned.Lts as lts
-use Rattle.regions.proofs.seek_row.Reads as seek-row-reads
-use Rattle.sound.proofs.group.owners.Reads as owners-reads
-use Rattle.sound.proofs.group.run_end.Reads as run-end-reads
 
 seek-row-requires : tie.Need-seek-row-requires
 seek-row-requires c κs = search needs

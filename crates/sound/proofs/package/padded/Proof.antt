@@ -6,12 +6,10 @@ use lib.ListN.{replicate}
 use lib.Seq.{slice}
 use Rattle.words.specs.Words.{words}
 use Rattle.places.specs.Places.{wtxidsAt, parentsAt}
+use Rattle.sound.specs.Places.{keptAt}
 use Rattle.sound.proofs.Decide.{decides-iff, passed, failed}
 use Rattle.sound.proofs.package.padded.Statement.{statement}
 use Rattle.sound.proofs.package.padded.Tie as tie
-use Rattle.sound.proofs.package.padded.Reads as reads
-use Rattle.sound.proofs.package.padded.Lts as lts
-use Rattle.words.proofs.is_zero.Reads as is-zero-reads
 
 mul-is-zero : tie.Need-mul-is-zero
 mul-is-zero c = search needs
@@ -35,7 +33,7 @@ is-zero-requires-2 : tie.Need-is-zero-requires-2
 is-zero-requires-2 c κs = search needs
 
 returns-2 : tie.Need-returns-2
-returns-2 c = λ p. failed (slice (parentsAt + c .before .before .before .before .before .args .n * 4) 811 (words (c .before .before .before .before .before .args .p .now)) ≡ replicate (811 - (parentsAt + c .before .before .before .before .before .args .n * 4)) 0) (c .before .is-zero2 .result) (c .if2 .taken) (c .before .is-zero2 .ensures) (p .parents)
+returns-2 c = λ p. failed (slice (parentsAt + c .before .before .before .before .before .args .n * 4) keptAt (words (c .before .before .before .before .before .args .p .now)) ≡ replicate (keptAt - (parentsAt + c .before .before .before .before .before .args .n * 4)) 0) (c .before .is-zero2 .result) (c .if2 .taken) (c .before .is-zero2 .ensures) (p .parents)
 
 is-zero-requires-3 : tie.Need-is-zero-requires-3
 is-zero-requires-3 c κs = search needs
@@ -43,7 +41,7 @@ is-zero-requires-3 c κs = search needs
 returns-3 : tie.Need-returns-3
 returns-3 c =
     let a = passed (slice (wtxidsAt + c .before .before .before .before .before .before .args .m * 4) parentsAt (words (c .before .before .before .before .before .before .args .p .now)) ≡ replicate (parentsAt - (wtxidsAt + c .before .before .before .before .before .before .args .m * 4)) 0) (c .before .before .before .before .is-zero .result) (c .before .before .before .if1 .left) (c .before .before .before .before .is-zero .ensures) in
-    let b = passed (slice (parentsAt + c .before .before .before .before .before .before .args .n * 4) 811 (words (c .before .before .before .before .before .before .args .p .now)) ≡ replicate (811 - (parentsAt + c .before .before .before .before .before .before .args .n * 4)) 0) (c .before .before .is-zero2 .result) (c .before .if2 .left) (c .before .before .is-zero2 .ensures) in
+    let b = passed (slice (parentsAt + c .before .before .before .before .before .before .args .n * 4) keptAt (words (c .before .before .before .before .before .before .args .p .now)) ≡ replicate (keptAt - (parentsAt + c .before .before .before .before .before .before .args .n * 4)) 0) (c .before .before .is-zero2 .result) (c .before .if2 .left) (c .before .before .is-zero2 .ensures) in
     decides-iff (c .is-zero3 .result) (record { to = λ z. record { wtxids = a; parents = b; kept = z }; from = λ p. p .kept }) (c .is-zero3 .ensures)
 
 pub padded-spec : {M : Type 1} → statement M

@@ -16,14 +16,6 @@ use Rattle.sound.proofs.Stage.{stage-few}
 use Rattle.sound.proofs.PlaceTests.{refuse-stage, refuse-parents, refuse-padded, refuse-repeat, decide-owned}
 use Rattle.sound.proofs.package.place_fits.Statement.{statement}
 use Rattle.sound.proofs.package.place_fits.Tie as tie
-use Rattle.sound.proofs.package.place_fits.Reads as reads
-use Rattle.sound.proofs.package.place_fits.Lts as lts
-use Rattle.regions.proofs.read_quad.Reads as read-quad-reads
-use Rattle.sound.proofs.package.distinct.Reads as distinct-reads
-use Rattle.sound.proofs.package.is_owned.Reads as is-owned-reads
-use Rattle.sound.proofs.package.padded.Reads as padded-reads
-use Rattle.sound.proofs.package.stage_fits.Reads as stage-fits-reads
-use Rattle.words.proofs.get.Reads as get-reads
 
 get-requires : tie.Need-get-requires
 get-requires c κs = search needs

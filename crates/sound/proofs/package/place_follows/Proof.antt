@@ -4,10 +4,6 @@ use Rattle.words.specs.Words.{words}
 use Rattle.sound.proofs.PlaceWalk.{follows-decides}
 use Rattle.sound.proofs.package.place_follows.Statement.{statement}
 use Rattle.sound.proofs.package.place_follows.Tie as tie
-use Rattle.sound.proofs.package.place_follows.Reads as reads
-use Rattle.sound.proofs.package.place_follows.Lts as lts
-use Rattle.regions.proofs.quad_less.Reads as quad-less-reads
-use Rattle.regions.proofs.read_quad.Reads as read-quad-reads
 
 returns : tie.Need-returns
 returns c = search needs

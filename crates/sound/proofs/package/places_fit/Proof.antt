@@ -13,10 +13,6 @@ use Rattle.sound.proofs.Decide.{passed, failed}
 use Rattle.sound.proofs.PlaceWalk.{places-made, place-of, follow-iff, below-more, place-lent}
 use Rattle.sound.proofs.package.places_fit.Statement.{statement}
 use Rattle.sound.proofs.package.places_fit.Tie as tie
-use Rattle.sound.proofs.package.places_fit.Reads as reads
-use Rattle.sound.proofs.package.places_fit.Lts as lts
-use Rattle.sound.proofs.package.place_fits.Reads as place-fits-reads
-use Rattle.sound.proofs.package.place_follows.Reads as place-follows-reads
 
 abbrev Inv-loop : tie.InvT-loop
 Inv-loop s q rows n i₀ i = (i ≤ q) × (RowsSound (recs rowSize readRow n (words rows)) → (k : ℕ) → k < i → PlaceSound (recs rowSize readRow n (words rows)) (placeAt (words s) k)) × ((k : ℕ) → k < i → PlaceFollows (words s) k)

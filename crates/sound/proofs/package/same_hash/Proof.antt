@@ -5,8 +5,6 @@ use Rattle.regions.specs.declared.Quad.{Quad}
 use Rattle.sound.proofs.Hashes.{same-quad, quad-same}
 use Rattle.sound.proofs.package.same_hash.Statement.{statement}
 use Rattle.sound.proofs.package.same_hash.Tie as tie
-use Rattle.sound.proofs.package.same_hash.Reads as reads
-use Rattle.sound.proofs.package.same_hash.Lts as lts
 
 returns : tie.Need-returns
 returns c = λ e. c .if1 .taken (ap (λ (q : Quad). q .w0) (same-quad (c .before .before .before .args .a) (c .before .before .before .args .b) (record { w0 = omega arith; w1 = omega arith; w2 = omega arith; w3 = omega arith }) (record { w0 = omega arith; w1 = omega arith; w2 = omega arith; w3 = omega arith }) e))

@@ -6,9 +6,6 @@ use Rattle.sound.proofs.Hashes.{zero-number}
 use Rattle.sound.proofs.Stage.{stage-cases, flag-decides, packed-decides}
 use Rattle.sound.proofs.package.stage_fits.Statement.{statement}
 use Rattle.sound.proofs.package.stage_fits.Tie as tie
-use Rattle.sound.proofs.package.stage_fits.Reads as reads
-use Rattle.sound.proofs.package.stage_fits.Lts as lts
-use Rattle.sound.proofs.package.same_hash.Reads as same-hash-reads
 
 returns : tie.Need-returns
 returns c = λ p. elim (stage-cases (c .before .before .args .stage) (quadNumber (c .before .before .args .combined)) (c .before .before .args .n) p) [ inl f ↦ omega (arith, f .stage, f .wtxids) | inr f ↦ omega (arith, f .some, f .most, f .some-wtxid) ]

@@ -1,0 +1,16 @@
+-- What the numbers of an exported call say, in document 01's numbers and values.
+-- Assumes nothing.
+use Prim.Native.Nat.{ℕ, zero, suc}
+use Rattle.machine.specs.Step.{Reply, Refused, Number}
+use Rattle.tracker.specs.declared.Answer.{Answer}
+use Rattle.tracker.specs.declared.Answer.the-variants.{Refused as No, Number as Yes}
+
+-- the status of an answer
+abbrev pub statusOf : Answer → ℕ
+statusOf (No n) = n
+statusOf (Yes n) = 0
+
+-- the reply of a status and of the number handed out
+abbrev pub numbered : ℕ → ℕ → Reply
+numbered zero n = Number n
+numbered (suc k) n = Refused (suc k)

@@ -1,0 +1,37 @@
+// The public calls for programs in C and Rust (bindings/c/tracker.h): `rt staticlib exports` writes the archive.
+//
+// A call returns a status, 0 if it was carried out and else the number of document 01's table, and hands the numbers of its reply
+// out. Each contract is the one of the public call (crates/tracker), its reply said by these numbers (specs/Status).
+ghost use mathlib.Core.List.{[]};
+ghost use mathlib.Core.Path.{_≡_};
+ghost use Rattle.words.specs.Words.{Decides};
+ghost use Rattle.machine.specs.Call.{Open};
+ghost use Rattle.store.specs.Image.{SoundStore};
+ghost use Rattle.tracker.specs.Outcome.{Does};
+ghost use Rattle.exports.specs.Status.{numbered, statusOf};
+
+// The status of an answer.
+fn status(a: tracker::Answer) -> u64
+    ensures { λ r. ⌜ r ≡ statusOf a ⌝ }
+{
+    match a {
+        tracker::Answer::Refused(n) => n,
+        tracker::Answer::Number(_) => 0,
+    }
+}
+
+// Makes the store an empty tracker for l announcements and q package places.
+#[no_mangle]
+pub extern "C" fn tracker_open(s: &mut [u8], l: u64, q: u64) -> u64
+    ensures { λ r. ⌜ Does (Open l q) (now (s .entry)) (record { reply = numbered r 1; buffer = []; store = now (s .exit) }) ⌝ }
+{
+    status(tracker::open(s, l, q))
+}
+
+// Whether the bytes, as far as their need, write a sound state: what a call tests first.
+#[no_mangle]
+pub extern "C" fn tracker_sound(s: &[u8]) -> bool
+    ensures { λ r. ⌜ Decides r (SoundStore (now (s .entry))) ⌝ }
+{
+    sound::sound(s)
+}
