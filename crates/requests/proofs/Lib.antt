@@ -1,0 +1,4 @@
+pub mod Hashes
+pub mod Keeping
+pub mod Pushing
+pub mod Cutting

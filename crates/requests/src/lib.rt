@@ -1,0 +1,172 @@
+// The machine's changes of one request, in the lent bytes (document 01, modules 2 and 3): one candidate more, one less, an owner.
+//
+// A contract speaks of every sound state that the bytes write and cites the machine's own definition of the change. A `requires`
+// asks that the bytes write some sound state, and room where a row is added.
+ghost use mathlib.Core.Path.{_≡_};
+ghost use Prim.Native.Nat.{_≤_, _<_};
+ghost use Rattle.ident.specs.Words.{keyNum};
+ghost use Rattle.regions.specs.Rows.{keyNumber};
+ghost use Rattle.machine.specs.State.{ownerIs};
+ghost use Rattle.machine.specs.Table.{at, has, one};
+ghost use Rattle.machine.specs.Announce as machine;
+ghost use mathlib.Core.Bool.{true, false};
+ghost use Rattle.store.specs.Flat.{kindBit, witnessBit};
+ghost use Rattle.store.specs.Shown.{limitIn, rowsIn, Kept, Shown};
+ghost use Rattle.requests.specs.Changes.{candidateOf, Words, KeyWords, Spans, Spotted, MarkIn, RowFor, Makes};
+
+// One announcement: who can deliver, as what item, from when on, and how it ranks.
+pub struct Candidate {
+    pub connection: u64,
+    pub item: ident::Item,
+    pub ready: u64,
+    pub preferred: bool,
+    pub priority: u64,
+}
+
+// Where the rows of a key stand.
+pub struct Window {
+    pub from: usize,
+    pub to: usize,
+}
+
+// ---- keys and bits as rows have them
+
+pub fn hash_quad(h: ident::Hash) -> regions::Quad
+    ensures { λ r. ⌜ Words h r ⌝ }
+{
+    let w = h.words;
+    regions::Quad {
+        w0: w[0],
+        w1: w[1],
+        w2: w[2],
+        w3: w[3],
+    }
+}
+
+fn kind_bit(k: ident::Kind) -> u64
+    ensures { λ r. ⌜ (r ≡ kindBit k) × (r ≤ 1) ⌝ }
+{
+    match k {
+        ident::Kind::Txid => 0,
+        ident::Kind::Wtxid => 1,
+    }
+}
+
+fn witness_bit(k: ident::ItemKind) -> u64
+    ensures { λ r. ⌜ (r ≡ witnessBit k) × (r ≤ 1) ⌝ }
+{
+    match k {
+        ident::ItemKind::Transaction => 0,
+        ident::ItemKind::WitnessTransaction => 1,
+        ident::ItemKind::WTx => 0,
+        ident::ItemKind::Other(_) => 0,
+    }
+}
+
+fn bit(b: bool) -> u64
+    ensures { λ r. ⌜ (r ≡ one b) × (r ≤ 1) ⌝ }
+{
+    if b {
+        1
+    } else {
+        0
+    }
+}
+
+pub fn key_words(k: ident::Key) -> regions::Key
+    ensures { λ r. ⌜ KeyWords k r ⌝ }
+{
+    let h = k.hash;
+    let t = k.kind;
+    let hash = hash_quad(h);
+    let kind = kind_bit(t);
+    regions::Key { kind, hash }
+}
+
+// The row of a candidate that does not own its request.
+fn new_row(k: regions::Key, c: Candidate, mark: u64) -> regions::Row
+    requires { ⌜ (k .kind ≤ 1) × (mark ≤ 1) ⌝ }
+    ensures { λ r. ⌜ RowFor k c mark r ⌝ }
+{
+    let item = c.item;
+    let t = item.kind;
+    let hash = k.hash;
+    let bits = k.kind + 2 * witness_bit(t) + 4 * bit(c.preferred) + 16 * mark;
+    regions::Row {
+        hash,
+        conn: c.connection,
+        ready: c.ready,
+        prio: c.priority,
+        deadline: 0,
+        bits,
+    }
+}
+
+// ---- the rows of a key
+
+pub fn window_of(s: &[u8], k: regions::Key) -> Window
+    requires { ⌜ Kept (now s) ⌝ }
+    ensures { λ r. ⌜ Spans (now (s .entry)) (keyNumber k) (r .from) (r .to) ⌝ }
+{
+    let from = store::rows::seek_row(s, k, false);
+    let to = store::rows::seek_row(s, k, true);
+    Window { from, to }
+}
+
+// The mark of the request whose rows are from .. to: that of its first row.
+fn mark_in(s: &[u8], from: usize, to: usize) -> u64
+    requires { ⌜ Shown (now s) × (to ≤ rowsIn (now s)) ⌝ }
+    ensures { λ r. ⌜ MarkIn (now (s .entry)) from to r ⌝ }
+{
+    if from < to {
+        let r = store::rows::row_at(s, from);
+        r.bits / 16 % 2
+    } else {
+        0
+    }
+}
+
+// Where the row of a connection stands among those of a key; `end`, if it has none there.
+pub struct Spot {
+    pub at: usize,
+    pub end: usize,
+}
+
+pub fn spot_of(s: &[u8], k: regions::Key, n: u64) -> Spot
+    requires { ⌜ Kept (now s) ⌝ }
+    ensures { λ r. ⌜ Spotted (now (s .entry)) (keyNumber k) n (r .at) (r .end) ⌝ }
+{
+    let w = window_of(s, k);
+    let end = w.to;
+    let at = store::rows::find_row(s, w.from, end, n);
+    Spot { at, end }
+}
+
+// ---- one candidate more, one less
+
+// Adds a candidate of the request at k, behind those that are there.
+pub fn push(s: &mut [u8], k: ident::Key, c: Candidate)
+    requires { ⌜ Kept (now s) × (rowsIn (now s) < limitIn (now s)) ⌝ }
+    ensures { λ _. ⌜ Makes (now (s .entry)) (now (s .exit)) (λ t. ownerIs (c .connection) ((at (keyNum k) t) .owner) ≡ false) (machine.push (keyNum k) (candidateOf c)) ⌝ }
+{
+    let key = key_words(k);
+    let w = window_of(s, key);
+    let mark = mark_in(s, w.from, w.to);
+    let r = new_row(key, c, mark);
+    store::rows::add_row(s, w.to, r);
+    store::counting::count_in(s, c.connection);
+}
+
+// Takes the candidate of the connection n out of the request at k, which it does not own.
+pub fn cut(s: &mut [u8], k: ident::Key, n: u64)
+    requires { ⌜ Kept (now s) ⌝ }
+    ensures { λ _. ⌜ Makes (now (s .entry)) (now (s .exit)) (λ t. (has n ((at (keyNum k) t) .candidates) ≡ true) × (ownerIs n ((at (keyNum k) t) .owner) ≡ false)) (machine.cut (keyNum k) n) ⌝ }
+{
+    let key = key_words(k);
+    let p = spot_of(s, key, n);
+    let i = p.at;
+    if i < p.end {
+        store::rows::drop_row(s, i);
+        store::counting::count_out(s, n);
+    }
+}
