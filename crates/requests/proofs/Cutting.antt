@@ -96,7 +96,11 @@ module _ (k : Key) (n lo : ℕ) (t : Table) (o : Ordered lo t) (f : Among n ((at
       let l = ahead-in in
       let z = long in
       let w = first-seam (rowConns (rowsBelow k t)) (rowConns (map (rowOf r) (f .front))) (rowConns (behind k n lo t o f)) to n (hasnt-at r n (f .front) (f .none)) (omega arith) in
-      first-same (rowConns (rowsOf t)) from to n i (length (ahead k n lo t o f)) m (subst (λ (a : ℕ). First (rowConns (rowsOf t)) from to n a) (sym z) (subst (λ (a : ℕ). First (rowConns (rowsOf t)) a to n _) (sym e) (subst (λ (a : List ℕ). First a _ to n _) (sym split) w)))
+      let a₀ = length (rowConns (rowsBelow k t)) in
+      let i₀ = a₀ + length (rowConns (map (rowOf r) (f .front))) in
+      let w₁ : First (rowConns (rowsOf t)) a₀ to n i₀ = subst (λ (a : List ℕ). First a a₀ to n i₀) (sym split) w in
+      let w₂ : First (rowConns (rowsOf t)) from to n i₀ = subst (λ (a : ℕ). First (rowConns (rowsOf t)) a to n i₀) (sym e) w₁ in
+      first-same (rowConns (rowsOf t)) from to n i (length (ahead k n lo t o f)) m (subst (λ (a : ℕ). First (rowConns (rowsOf t)) from to n a) (sym z) w₂)
 
   pub row-there : (d : Row) {i : ℕ} → i ≡ length (ahead k n lo t o f) → getD (rowsOf t) i d ≡ rowOf (at k t) (f .one)
   row-there d {i} e = ap (λ (l : List Row). getD l i d) (rows-among k n lo t o f) ∙ getD-at (ahead k n lo t o f) (rowOf r (f .one)) (behind k n lo t o f) d i (sym e)

@@ -2,3 +2,4 @@ pub mod Hashes
 pub mod Keeping
 pub mod Pushing
 pub mod Cutting
+pub mod Owning
