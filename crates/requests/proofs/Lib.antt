@@ -3,3 +3,4 @@ pub mod Keeping
 pub mod Pushing
 pub mod Cutting
 pub mod Owning
+pub mod ConnFigures

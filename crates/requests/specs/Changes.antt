@@ -4,6 +4,7 @@ use Prim.Native.Nat.{ℕ, _+_, _≤_, _<_}
 use mathlib.Core.Path.{_≡_}
 use mathlib.Core.Bool.{Bool, true, false}
 use mathlib.Core.List.{List}
+use mathlib.Core.Option.{none}
 use lib.Dec.{ltb}
 use lib.ListN.{length, getD}
 use Rattle.ident.specs.declared.Hash.{Hash}
@@ -18,7 +19,7 @@ use Rattle.regions.specs.Order.{Bound}
 use Rattle.regions.specs.Rows.{quadOf, keyNumber}
 use Rattle.machine.specs.State as machine
 use Rattle.machine.specs.State.{Table, State, Request, onTable, ownerIs}
-use Rattle.machine.specs.Table.{one}
+use Rattle.machine.specs.Table.{one, heldBy, ownedBy}
 use Rattle.machine.specs.Sound.{Sound}
 use Rattle.store.specs.Flat.{Flat, kindBit, rowOf, rowsOf}
 use Rattle.store.specs.FlatSound.{markBit}
@@ -71,8 +72,25 @@ pub record MarkIn (b : List ℕ) (from to r : ℕ) : Type 0 where
 abbrev pub RowFor : RowKey → Candidate → ℕ → Row → Type 0
 RowFor k c m r = (q : Request) → k .hash ≡ quadOf (q .key .hash) → k .kind ≡ kindBit (q .key .kind) → ownerIs (c .connection) (q .owner) ≡ false → m ≡ one (q .fallback) → r ≡ rowOf q (candidateOf c)
 
+-- the connection owns a request that has neither flag nor package
+pub record OwnedBare (n : ℕ) (r : Request) : Type 0 where
+  pub owns : ownerIs n (r .owner) ≡ true
+  pub info : r .info ≡ false
+  pub bare : r .«package» ≡ none
+
 -- ---- changes of the table
 
 -- whatever sound state the bytes b write, if P holds of it, b′ write it with g of its table
 abbrev pub Makes : List ℕ → List ℕ → (Table → Type 0) → (Table → Table) → Type 0
 Makes b b′ P g = (st : State) → Sound st → Writes b st → P (st .table) → Writes b′ (onTable (g (st .table)) st)
+
+-- ---- what a table says of a connection
+
+-- its announcements, and its owned requests
+pub record FiguresOf (t : Table) (n h o : ℕ) : Type 0 where
+  pub held : h ≡ heldBy n t
+  pub owned : o ≡ ownedBy n t
+
+-- P holds of the table of every sound state that the bytes write
+abbrev pub Tells : List ℕ → (Table → Type 0) → Type 0
+Tells b P = (st : State) → Sound st → Writes b st → P (st .table)

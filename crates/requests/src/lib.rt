@@ -3,16 +3,17 @@
 // A contract speaks of every sound state that the bytes write and cites the machine's own definition of the change. A `requires`
 // asks that the bytes write some sound state, and room where a row is added.
 ghost use mathlib.Core.Path.{_≡_};
-ghost use Prim.Native.Nat.{_≤_, _<_};
+ghost use Prim.Native.Nat.{_+_, _-_, _≤_, _<_};
+ghost use mathlib.Core.Option.{none};
 ghost use Rattle.ident.specs.Words.{keyNum};
-ghost use Rattle.regions.specs.Rows.{keyNumber};
-ghost use Rattle.machine.specs.State.{ownerIs};
-ghost use Rattle.machine.specs.Table.{at, has, one};
+ghost use Rattle.regions.specs.Rows.{keyNumber, withDeadline, withBits};
+ghost use Rattle.machine.specs.State.{ownerIs, ownedUntil, unowned};
+ghost use Rattle.machine.specs.Table.{at, change, has, one};
 ghost use Rattle.machine.specs.Announce as machine;
 ghost use mathlib.Core.Bool.{true, false};
 ghost use Rattle.store.specs.Flat.{kindBit, witnessBit};
 ghost use Rattle.store.specs.Shown.{limitIn, rowsIn, Kept, Shown};
-ghost use Rattle.requests.specs.Changes.{candidateOf, Words, KeyWords, Spans, Spotted, MarkIn, RowFor, Makes};
+ghost use Rattle.requests.specs.Changes.{candidateOf, Words, KeyWords, Spans, Spotted, MarkIn, RowFor, OwnedBare, FiguresOf, Makes, Tells};
 
 // One announcement: who can deliver, as what item, from when on, and how it ranks.
 pub struct Candidate {
@@ -142,6 +143,25 @@ pub fn spot_of(s: &[u8], k: regions::Key, n: u64) -> Spot
     Spot { at, end }
 }
 
+// ---- a connection
+
+// The announcements of the connection n, and the requests that it owns.
+pub fn figures(s: &[u8], n: u64) -> regions::Conn
+    requires { ⌜ Kept (now s) ⌝ }
+    ensures { λ r. ⌜ Tells (now (s .entry)) (λ t. FiguresOf t n (r .held) (r .owned)) ⌝ }
+{
+    let i = store::conns::seek_conn(s, n);
+    if store::counting::is_entry(s, i, n) {
+        store::conns::conn_at(s, i)
+    } else {
+        regions::Conn {
+            conn: n,
+            held: 0,
+            owned: 0,
+        }
+    }
+}
+
 // ---- one candidate more, one less
 
 // Adds a candidate of the request at k, behind those that are there.
@@ -168,5 +188,67 @@ pub fn cut(s: &mut [u8], k: ident::Key, n: u64)
     if i < p.end {
         store::rows::drop_row(s, i);
         store::counting::count_out(s, n);
+    }
+}
+
+// ---- the owner
+
+// The row of who comes to own its request, and of who ceases to.
+fn owned_row(r: regions::Row, deadline: u64) -> regions::Row
+    requires { ⌜ r .bits < 32 ⌝ }
+    ensures { λ q. ⌜ q ≡ withDeadline deadline (withBits (r .bits + 8) r) ⌝ }
+{
+    let hash = r.hash;
+    regions::Row {
+        hash,
+        conn: r.conn,
+        ready: r.ready,
+        prio: r.prio,
+        deadline,
+        bits: r.bits + 8,
+    }
+}
+
+fn unowned_row(r: regions::Row) -> regions::Row
+    ensures { λ q. ⌜ q ≡ withDeadline 0 (withBits (r .bits - 8) r) ⌝ }
+{
+    let hash = r.hash;
+    regions::Row {
+        hash,
+        conn: r.conn,
+        ready: r.ready,
+        prio: r.prio,
+        deadline: 0,
+        bits: store::counting::less(r.bits, 8),
+    }
+}
+
+// The candidate of the connection n becomes the owner of the request at k, which has none.
+pub fn own(s: &mut [u8], k: ident::Key, n: u64, deadline: u64)
+    requires { ⌜ Kept (now s) ⌝ }
+    ensures { λ _. ⌜ Makes (now (s .entry)) (now (s .exit)) (λ t. (has n ((at (keyNum k) t) .candidates) ≡ true) × ((at (keyNum k) t) .owner ≡ none)) (change (keyNum k) (ownedUntil n deadline)) ⌝ }
+{
+    let key = key_words(k);
+    let p = spot_of(s, key, n);
+    let i = p.at;
+    if i < p.end {
+        let r = store::rows::row_at(s, i);
+        store::rows::set_row(s, i, owned_row(r, deadline));
+        store::counting::recount(s, n, 0, 1);
+    }
+}
+
+// The owner n of the request at k goes, where flag and package have gone.
+pub fn disown(s: &mut [u8], k: ident::Key, n: u64)
+    requires { ⌜ Kept (now s) ⌝ }
+    ensures { λ _. ⌜ Makes (now (s .entry)) (now (s .exit)) (λ t. OwnedBare n (at (keyNum k) t)) (change (keyNum k) unowned) ⌝ }
+{
+    let key = key_words(k);
+    let p = spot_of(s, key, n);
+    let i = p.at;
+    if i < p.end {
+        let r = store::rows::row_at(s, i);
+        store::rows::set_row(s, i, unowned_row(r));
+        store::counting::recount(s, n, 1, 0);
     }
 }
