@@ -4,3 +4,4 @@ pub mod Pushing
 pub mod Cutting
 pub mod Owning
 pub mod ConnFigures
+pub mod Readying

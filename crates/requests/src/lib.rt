@@ -4,12 +4,14 @@
 // asks that the bytes write some sound state, and room where a row is added.
 ghost use mathlib.Core.Path.{_≡_};
 ghost use Prim.Native.Nat.{_+_, _-_, _≤_, _<_};
+ghost use mathlib.Core.List.{map};
 ghost use mathlib.Core.Option.{none};
 ghost use Rattle.ident.specs.Words.{keyNum};
 ghost use Rattle.regions.specs.Rows.{keyNumber, withDeadline, withBits};
-ghost use Rattle.machine.specs.State.{ownerIs, ownedUntil, unowned};
+ghost use Rattle.machine.specs.State.{ownerIs, ownedUntil, unowned, withCandidates, readyAt};
 ghost use Rattle.machine.specs.Table.{at, change, has, one};
 ghost use Rattle.machine.specs.Announce as machine;
+ghost use Rattle.machine.specs.Fail as fail;
 ghost use mathlib.Core.Bool.{true, false};
 ghost use Rattle.store.specs.Flat.{kindBit, witnessBit};
 ghost use Rattle.store.specs.Shown.{limitIn, rowsIn, Kept, Shown};
@@ -251,4 +253,26 @@ pub fn disown(s: &mut [u8], k: ident::Key, n: u64)
         store::rows::set_row(s, i, unowned_row(r));
         store::counting::recount(s, n, 1, 0);
     }
+}
+
+// ---- every candidate of a request
+
+// Every candidate of the request at k gets the ready time v.
+pub fn ready_all(s: &mut [u8], k: ident::Key, v: u64)
+    requires { ⌜ Kept (now s) ⌝ }
+    ensures { λ _. ⌜ Makes (now (s .entry)) (now (s .exit)) (λ t. Unit {0}) (change (keyNum k) (λ r. withCandidates (map (readyAt v) (r .candidates)) r)) ⌝ }
+{
+    let key = key_words(k);
+    let w = window_of(s, key);
+    store::stamps::ready_rows(s, w.from, w.to, v);
+}
+
+// The request at k, if there is one, gets the fallback mark.
+pub fn mark(s: &mut [u8], k: ident::Key)
+    requires { ⌜ Kept (now s) ⌝ }
+    ensures { λ _. ⌜ Makes (now (s .entry)) (now (s .exit)) (λ t. Unit {0}) (fail.mark (keyNum k)) ⌝ }
+{
+    let key = key_words(k);
+    let w = window_of(s, key);
+    store::stamps::mark_rows(s, w.from, w.to);
 }

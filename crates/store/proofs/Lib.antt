@@ -24,3 +24,4 @@ pub mod Frame
 pub mod Searches
 pub mod Missing
 pub mod Counted
+pub mod Stamping

@@ -7,3 +7,4 @@ pub mod head;
 pub mod rows;
 pub mod conns;
 pub mod counting;
+pub mod stamps;
