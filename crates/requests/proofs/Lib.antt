@@ -5,3 +5,4 @@ pub mod Cutting
 pub mod Owning
 pub mod ConnFigures
 pub mod Readying
+pub mod Adopting

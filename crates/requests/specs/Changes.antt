@@ -1,6 +1,6 @@
 -- What the contracts of the changes of one request say.
 -- Assumes nothing.
-use Prim.Native.Nat.{ℕ, _+_, _≤_, _<_}
+use Prim.Native.Nat.{ℕ, _+_, _/_, _%_, _≤_, _<_}
 use mathlib.Core.Path.{_≡_}
 use mathlib.Core.Bool.{Bool, true, false}
 use mathlib.Core.List.{List}
@@ -8,6 +8,7 @@ use mathlib.Core.Option.{none}
 use lib.Dec.{ltb}
 use lib.ListN.{length, getD}
 use Rattle.ident.specs.declared.Hash.{Hash}
+use Rattle.ident.specs.declared.ItemKind.{ItemKind}
 use Rattle.ident.specs.declared.Key.{Key}
 use Rattle.ident.specs.If.{if_then_else_}
 use Rattle.ident.specs.Number.{top, place}
@@ -18,10 +19,10 @@ use Rattle.regions.specs.declared.Row.{Row}
 use Rattle.regions.specs.Order.{Bound}
 use Rattle.regions.specs.Rows.{quadOf, keyNumber}
 use Rattle.machine.specs.State as machine
-use Rattle.machine.specs.State.{Table, State, Request, onTable, ownerIs}
+use Rattle.machine.specs.State.{Table, State, Request, onTable, ownerIs, adopting}
 use Rattle.machine.specs.Table.{one, heldBy, ownedBy}
 use Rattle.machine.specs.Sound.{Sound}
-use Rattle.store.specs.Flat.{Flat, kindBit, rowOf, rowsOf}
+use Rattle.store.specs.Flat.{Flat, kindBit, witnessBit, rowOf, rowsOf}
 use Rattle.store.specs.FlatSound.{markBit}
 use Rattle.store.specs.Image.{Shows, Writes}
 use Rattle.store.specs.Shown.{rowsIn, rowNumbers, Met}
@@ -71,6 +72,14 @@ pub record MarkIn (b : List ℕ) (from to r : ℕ) : Type 0 where
 -- the row of a candidate that does not own its request
 abbrev pub RowFor : RowKey → Candidate → ℕ → Row → Type 0
 RowFor k c m r = (q : Request) → k .hash ≡ quadOf (q .key .hash) → k .kind ≡ kindBit (q .key .kind) → ownerIs (c .connection) (q .owner) ≡ false → m ≡ one (q .fallback) → r ≡ rowOf q (candidateOf c)
+
+-- the item bit of a candidate that adopts another's item, or keeps its own
+abbrev pub witnessAs : Bool → ItemKind → ℕ → ℕ
+witnessAs same k bits = if same then witnessBit k else bits / 2 % 2
+
+-- a candidate's row once it has adopted what c brings
+abbrev pub RowAdopting : Bool → Candidate → Row → Row → Type 0
+RowAdopting same c r x = (q : Request) (d : machine.Candidate) → r ≡ rowOf q d → x ≡ rowOf q (adopting same (candidateOf c) d)
 
 -- the connection owns a request that has neither flag nor package
 pub record OwnedBare (n : ℕ) (r : Request) : Type 0 where

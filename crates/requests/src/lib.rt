@@ -3,7 +3,7 @@
 // A contract speaks of every sound state that the bytes write and cites the machine's own definition of the change. A `requires`
 // asks that the bytes write some sound state, and room where a row is added.
 ghost use mathlib.Core.Path.{_≡_};
-ghost use Prim.Native.Nat.{_+_, _-_, _≤_, _<_};
+ghost use Prim.Native.Nat.{min, _+_, _-_, _≤_, _<_};
 ghost use mathlib.Core.List.{map};
 ghost use mathlib.Core.Option.{none};
 ghost use Rattle.ident.specs.Words.{keyNum};
@@ -15,7 +15,7 @@ ghost use Rattle.machine.specs.Fail as fail;
 ghost use mathlib.Core.Bool.{true, false};
 ghost use Rattle.store.specs.Flat.{kindBit, witnessBit};
 ghost use Rattle.store.specs.Shown.{limitIn, rowsIn, Kept, Shown};
-ghost use Rattle.requests.specs.Changes.{candidateOf, Words, KeyWords, Spans, Spotted, MarkIn, RowFor, OwnedBare, FiguresOf, Makes, Tells};
+ghost use Rattle.requests.specs.Changes.{candidateOf, Words, KeyWords, Spans, Spotted, MarkIn, RowFor, witnessAs, RowAdopting, OwnedBare, FiguresOf, Makes, Tells};
 
 // One announcement: who can deliver, as what item, from when on, and how it ranks.
 pub struct Candidate {
@@ -190,6 +190,60 @@ pub fn cut(s: &mut [u8], k: ident::Key, n: u64)
     if i < p.end {
         store::rows::drop_row(s, i);
         store::counting::count_out(s, n);
+    }
+}
+
+// ---- a candidate that adopts what another brings
+
+fn least(a: u64, b: u64) -> u64
+    ensures { λ r. ⌜ r ≡ min a b ⌝ }
+{
+    if a < b {
+        a
+    } else {
+        b
+    }
+}
+
+fn witness_as(same: bool, k: ident::ItemKind, bits: u64) -> u64
+    ensures { λ r. ⌜ (r ≡ witnessAs same k bits) × (r ≤ 1) ⌝ }
+{
+    if same {
+        witness_bit(k)
+    } else {
+        bits / 2 % 2
+    }
+}
+
+// The smaller ready time and priority, preferred, and the item where the kind is the same.
+fn adopted_row(r: regions::Row, c: Candidate, same: bool) -> regions::Row
+    ensures { λ x. ⌜ RowAdopting same c r x ⌝ }
+{
+    let hash = r.hash;
+    let item = c.item;
+    let t = item.kind;
+    let w = witness_as(same, t, r.bits);
+    regions::Row {
+        hash,
+        conn: r.conn,
+        ready: least(r.ready, c.ready),
+        prio: least(r.prio, c.priority),
+        deadline: r.deadline,
+        bits: r.bits % 2 + 2 * w + 4 + 8 * (r.bits / 8 % 2) + 16 * (r.bits / 16 % 2),
+    }
+}
+
+// The candidate of c's connection at k adopts what c brings; `same` says that c is of k's kind.
+pub fn adopt(s: &mut [u8], k: ident::Key, c: Candidate, same: bool)
+    requires { ⌜ Kept (now s) ⌝ }
+    ensures { λ _. ⌜ Makes (now (s .entry)) (now (s .exit)) (λ t. has (c .connection) ((at (keyNum k) t) .candidates) ≡ true) (machine.adopted same (keyNum k) (candidateOf c)) ⌝ }
+{
+    let key = key_words(k);
+    let p = spot_of(s, key, c.connection);
+    let i = p.at;
+    if i < p.end {
+        let r = store::rows::row_at(s, i);
+        store::rows::set_row(s, i, adopted_row(r, c, same));
     }
 }
 
