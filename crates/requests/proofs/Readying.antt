@@ -50,7 +50,7 @@ module _ (x : Row → Row) (cn : (q : Row) → (x q) .conn ≡ q .conn) (ow : (q
   tally-within (q ∷ a) b c = rw (tally-within a b c)
 
   module _ (st : State) (s : Sound st) (k : Key) (g : Request → Request) (rows : rowsFor (g (at k (st .table))) ≡ map x (rowsFor (at k (st .table)))) (pl : placesFor (g (at k (st .table))) ≡ placesFor (at k (st .table)))
-    (gone : (g (at k (st .table))) .candidates ≡ [] → (at k (st .table)) .candidates ≡ []) where
+      (gone : (g (at k (st .table))) .candidates ≡ [] → (at k (st .table)) .candidates ≡ []) where
     pub window-made : {b : List ℕ} {from to : ℕ} → from ≡ length (rowsBelow k (st .table)) → to ≡ length (rowsBelow k (st .table) ++ rowsFor (at k (st .table))) → Shows b (withRows (mapIn x from to (rowsOf (st .table))) (flatOf st)) → Writes b (onTable (change k g (st .table)) st)
     window-made {b} {from} {to} e f h =
         let t = st .table in

@@ -69,11 +69,7 @@ fn witness_bit(k: ident::ItemKind) -> u64
 fn bit(b: bool) -> u64
     ensures { λ r. ⌜ (r ≡ one b) × (r ≤ 1) ⌝ }
 {
-    if b {
-        1
-    } else {
-        0
-    }
+    if b { 1 } else { 0 }
 }
 
 pub fn key_words(k: ident::Key) -> regions::Key
@@ -198,21 +194,13 @@ pub fn cut(s: &mut [u8], k: ident::Key, n: u64)
 fn least(a: u64, b: u64) -> u64
     ensures { λ r. ⌜ r ≡ min a b ⌝ }
 {
-    if a < b {
-        a
-    } else {
-        b
-    }
+    if a < b { a } else { b }
 }
 
 fn witness_as(same: bool, k: ident::ItemKind, bits: u64) -> u64
     ensures { λ r. ⌜ (r ≡ witnessAs same k bits) × (r ≤ 1) ⌝ }
 {
-    if same {
-        witness_bit(k)
-    } else {
-        bits / 2 % 2
-    }
+    if same { witness_bit(k) } else { bits / 2 % 2 }
 }
 
 // The smaller ready time and priority, preferred, and the item where the kind is the same.

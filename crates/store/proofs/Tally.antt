@@ -13,7 +13,6 @@ use Rattle.machine.proofs.Tests.{test}
 use Rattle.regions.specs.declared.Row.{Row}
 use Rattle.regions.specs.declared.Conn.{Conn}
 use Rattle.store.specs.Flat.{ownBit, bump, tally}
-
 unfoldable pub use Rattle.store.specs.Counting.{fewer, unbump, reowned, retally}
 
 -- below, equal or above

@@ -1,6 +1,6 @@
 // The tally: a connection's entry follows its rows.
-use crate::head;
 use crate::conns;
+use crate::head;
 ghost use mathlib.Core.Path.{_≡_};
 ghost use Prim.Native.Nat.{ℕ, _-_, _≤_, _<_};
 ghost use lib.ListN.{length, getD};
@@ -14,11 +14,7 @@ ghost use Rattle.store.specs.Shown.{limitIn, connsIn, connNames, Shown, 
 pub fn less(a: u64, b: u64) -> u64
     ensures { λ r. ⌜ r ≡ a - b ⌝ }
 {
-    if b < a {
-        a - b
-    } else {
-        0
-    }
+    if b < a { a - b } else { 0 }
 }
 
 // Whether the i-th entry is x's.

@@ -1,3 +1,4 @@
+use native.Mathlib.Omega.{arith}
 use borrow.Author.Needs.{needs}
 use Rattle.requests.proofs.witness_as.Statement.{statement}
 use Rattle.requests.proofs.witness_as.Tie as tie
@@ -5,17 +6,14 @@ use Rattle.requests.proofs.witness_as.Reads as reads
 use Rattle.requests.proofs.witness_as.Lts as lts
 use Rattle.requests.proofs.witness_bit.Reads as witness-bit-reads
 
--- src/lib.rt:212:9
 witness-bit-requires : tie.Need-witness-bit-requires
 witness-bit-requires c κs = search needs
 
--- src/lib.rt:208:1
 returns : tie.Need-returns
 returns c = search needs
 
--- src/lib.rt:208:1
 returns-2 : tie.Need-returns-2
-returns-2 c = ?
+returns-2 c = (rw (c .if1 .left), omega arith)
 
 pub witness-as-spec : {M : Type 1} → statement M
 witness-as-spec = tie.close (tie.spec witness-bit-requires returns returns-2)
