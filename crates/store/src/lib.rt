@@ -8,3 +8,4 @@ pub mod counting;
 pub mod head;
 pub mod rows;
 pub mod stamps;
+pub mod packages;
