@@ -150,6 +150,24 @@ module _ {b : List ℕ} {f : Flat} (h : Shows b f) where
         → words (take ((24 + l * 9) * 8) b ++ (p ++ drop ((24 + l * 9 + l * 3) * 8 - (24 + l * 9) * 8) (drop ((24 + l * 9) * 8) b))) ≡ framing (length (f .rows)) (length (f .conns)) (length (f .places)) (f .rows) xs (f .places)
     conns-back p xs lp k = back-is b (24 + l * 9) (24 + l * 9 + l * 3) (A ++ rs) cs ps by-conns lar lc (omega (arith, sizes)) p lp ∙ rw k (append-assoc A rs (connPart (f .head .limit) xs ++ ps))
 
+    -- the places, `s[(24 + l * 9 + l * 3) * 8..(24 + l * 9 + l * 3 + q * 824) * 8]`
+    module _ {q : ℕ} (eq : q ≡ f .head .places) where
+      by-places : words b ≡ (A ++ (rs ++ cs)) ++ (ps ++ [])
+      by-places = words-framed ∙ rw append-nil (simp append-assoc)
+
+      lac : length (A ++ (rs ++ cs)) ≡ 24 + l * 9 + l * 3
+      lac = rw (length-append, length-append) (omega (arith, la, lr, lc))
+
+      lp : 24 + l * 9 + l * 3 + length ps ≡ 24 + l * 9 + l * 3 + q * 824
+      lp = rw (length-padded (placeSize * f .head .places) (each placeWords (f .places))) (omega arith)
+
+      pub places-lent : Holds placeSize placeWords (f .head .places) (f .places) (words (take ((24 + l * 9 + l * 3 + q * 824) * 8 - (24 + l * 9 + l * 3) * 8) (drop ((24 + l * 9 + l * 3) * 8) b)))
+      places-lent = lent-is b (24 + l * 9 + l * 3) (24 + l * 9 + l * 3 + q * 824) (A ++ (rs ++ cs)) ps [] by-places lac lp (omega (arith, sizes))
+
+      pub places-back : (p : List ℕ) (xs : List Place) → length p ≡ length (take ((24 + l * 9 + l * 3 + q * 824) * 8 - (24 + l * 9 + l * 3) * 8) (drop ((24 + l * 9 + l * 3) * 8) b)) → Holds placeSize placeWords (f .head .places) xs (words p)
+          → words (take ((24 + l * 9 + l * 3) * 8) b ++ (p ++ drop ((24 + l * 9 + l * 3 + q * 824) * 8 - (24 + l * 9 + l * 3) * 8) (drop ((24 + l * 9 + l * 3) * 8) b))) ≡ framing (length (f .rows)) (length (f .conns)) (length (f .places)) (f .rows) (f .conns) xs
+      places-back p xs n k = back-is b (24 + l * 9 + l * 3) (24 + l * 9 + l * 3 + q * 824) (A ++ (rs ++ cs)) ps [] by-places lac lp (omega (arith, sizes)) p n ∙ rw (k, append-nil) (simp append-assoc)
+
   -- ---- and what they show afterwards
 
   module _ {b′ : List ℕ} (l : length b′ ≡ length b) where
@@ -166,6 +184,12 @@ module _ {b : List ℕ} {f : Flat} (h : Shows b f) where
 
     pub conns-counted : {w : List ℕ} (xs : List Conn) (v : ℕ) → length xs ≡ v → w ≡ framing (length (f .rows)) (length (f .conns)) (length (f .places)) (f .rows) xs (f .places) → words b′ ≡ set w connsAt v → Shows b′ (withConns xs f)
     conns-counted xs v n e g = record { long = l ∙ h .long; words-are = g ∙ rw (e, ← n) (set-conns (f .head) (length (f .rows)) (length (f .conns)) (length (f .places)) (length xs) _ ∙ sym (framed-is (withConns xs f))) }
+
+    pub places-same : (xs : List Place) → length xs ≡ length (f .places) → words b′ ≡ framing (length (f .rows)) (length (f .conns)) (length (f .places)) (f .rows) (f .conns) xs → Shows b′ (withPlaces xs f)
+    places-same xs n e = record { long = l ∙ h .long; words-are = e ∙ rw (← n) (sym (framed-is (withPlaces xs f))) }
+
+    pub places-counted : {w : List ℕ} (xs : List Place) (v : ℕ) → length xs ≡ v → w ≡ framing (length (f .rows)) (length (f .conns)) (length (f .places)) (f .rows) (f .conns) xs → words b′ ≡ set w heldPlacesAt v → Shows b′ (withPlaces xs f)
+    places-counted xs v n e g = record { long = l ∙ h .long; words-are = g ∙ rw (e, ← n) (set-places (f .head) (length (f .rows)) (length (f .conns)) (length (f .places)) (length xs) _ ∙ sym (framed-is (withPlaces xs f))) }
 
 -- ---- lists with one element more or less
 

@@ -31,3 +31,4 @@ pub mod SoundWords
 pub mod Searches
 pub mod Missing
 pub mod Counted
+pub mod Stamping

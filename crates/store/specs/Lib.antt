@@ -5,3 +5,4 @@ pub mod Image
 pub mod Read
 pub mod Shown
 pub mod Counting
+pub mod Stamps

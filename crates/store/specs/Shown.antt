@@ -35,7 +35,7 @@ connsAt = 4
 abbrev pub heldPlacesAt : ℕ
 heldPlacesAt = 5
 
--- L, and how many rows and connections are in use
+-- L and Q, and how many rows, connections and places are in use
 abbrev pub limitIn : List ℕ → ℕ
 limitIn b = getD (words b) limitAt 0
 
@@ -44,6 +44,12 @@ rowsIn b = getD (words b) rowsAt 0
 
 abbrev pub connsIn : List ℕ → ℕ
 connsIn b = getD (words b) connsAt 0
+
+abbrev pub placesIn : List ℕ → ℕ
+placesIn b = getD (words b) placesAt 0
+
+abbrev pub heldPlacesIn : List ℕ → ℕ
+heldPlacesIn b = getD (words b) heldPlacesAt 0
 
 -- a number read from the header: a word, and what it says of every flat state that the bytes write
 pub record Field (b : List ℕ) (i : ℕ) (g : Flat → ℕ) (r : ℕ) : Type 0 where

@@ -11,7 +11,7 @@ ghost use Rattle.store.specs.Image.{Shows};
 ghost use Rattle.store.specs.Shown.{limitIn, connsIn, connNames, Shown, withConns, EntryOf, Tallies};
 
 // a - b, or 0.
-fn less(a: u64, b: u64) -> u64
+pub fn less(a: u64, b: u64) -> u64
     ensures { λ r. ⌜ r ≡ a - b ⌝ }
 {
     if b < a { a - b } else { 0 }

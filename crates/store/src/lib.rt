@@ -7,3 +7,5 @@ pub mod conns;
 pub mod counting;
 pub mod head;
 pub mod rows;
+pub mod stamps;
+pub mod packages;

@@ -1,0 +1,78 @@
+use native.Mathlib.Omega.{arith}
+use mathlib.Core.Path.{_≡_, _∙_}
+use Rattle.ident.specs.Words.{keyNum}
+use Rattle.machine.specs.Table.{at}
+use Rattle.store.specs.Flat.{flatOf}
+use Rattle.store.proofs.RowsAt.{among}
+use Rattle.requests.specs.Changes.{candidateOf}
+use Rattle.requests.proofs.Keeping.{kept-shown, from-at, to-at}
+use Rattle.requests.proofs.Cutting.{ahead-in, found-at, row-there}
+use Rattle.requests.proofs.Adopting.{adopt-made}
+use borrow.Author.Needs.{needs}
+use Rattle.requests.proofs.adopt.Statement.{statement}
+use Rattle.requests.proofs.adopt.Tie as tie
+use Rattle.requests.proofs.adopt.Reads as reads
+use Rattle.requests.proofs.adopt.Lts as lts
+use Rattle.requests.proofs.adopted_row.Reads as adopted-row-reads
+use Rattle.requests.proofs.key_words.Reads as key-words-reads
+use Rattle.requests.proofs.spot_of.Reads as spot-of-reads
+use Rattle.store.proofs.rows.row_at.Reads as row-at-reads
+use Rattle.store.proofs.rows.set_row.Reads as set-row-reads
+
+key-words-requires : tie.Need-key-words-requires
+key-words-requires c κs = search needs
+
+spot-of-requires : tie.Need-spot-of-requires
+spot-of-requires c κs = search needs
+
+row-at-requires : tie.Need-row-at-requires
+row-at-requires c κs = (kept-shown (c .before .before .before .before .before .before .before .pre), omega (arith, c .before .before .before .spot-of .ensures .spans .most, c .before .if1 .taken))
+
+adopted-row-requires : tie.Need-adopted-row-requires
+adopted-row-requires c κs = search needs
+
+set-row-requires : tie.Need-set-row-requires
+set-row-requires c κs = (kept-shown (c .before .before .before .before .before .before .before .before .before .before .pre), omega (arith, c .before .before .before .before .before .before .spot-of .ensures .spans .most, c .before .before .before .before .if1 .taken))
+
+same-length : tie.Need-same-length
+same-length c = search needs
+
+returns : tie.Need-returns
+returns c = λ st s w p.
+    let k = keyNum (c .before .before .before .before .before .before .before .before .before .before .before .before .before .args .k) in
+    let n = c .before .before .before .before .before .before .before .before .before .before .before .before .before .args .c .connection in
+    let key = c .before .before .before .before .before .before .before .before .before .before .before .key-words .ensures in
+    let f = among n ((at k (st .table)) .candidates) p in
+    let from = from-at st s k (key .small) (key .number) (c .before .before .before .before .before .before .before .before .before .spot-of .ensures .spans .from-is st s w) in
+    let to = to-at st s k (key .small) (key .number) (c .before .before .before .before .before .before .before .before .before .spot-of .ensures .spans .to-is st s w) in
+    let i = found-at k n 0 (st .table) (s .bounded .ordered) f from to (c .before .before .before .before .before .before .before .before .before .spot-of .ensures .met .first (flatOf st) w) in
+    let q = c .before .before .before .before .before .row-at .ensures (flatOf st) (c .before .before .before .before .before .row-at .result) w ∙ row-there k n 0 (st .table) (s .bounded .ordered) f (c .before .before .before .before .before .row-at .result) i in
+    adopt-made st s k (candidateOf (c .before .before .before .before .before .before .before .before .before .before .before .before .before .args .c)) (c .before .before .before .before .before .before .before .before .before .before .before .before .before .args .same) f i (c .before .before .before .adopted-row .ensures (at k (st .table)) (f .one) q) (c .before .before .set-row .ensures (flatOf st) w)
+
+same-length-2 : tie.Need-same-length-2
+same-length-2 c = search needs
+
+returns-2 : tie.Need-returns-2
+returns-2 c = λ st s w p.
+    let k = keyNum (c .before .before .before .before .before .before .args .k) in
+    let n = c .before .before .before .before .before .before .args .c .connection in
+    let key = c .before .before .before .before .key-words .ensures in
+    let f = among n ((at k (st .table)) .candidates) p in
+    let from = from-at st s k (key .small) (key .number) (c .before .before .spot-of .ensures .spans .from-is st s w) in
+    let to = to-at st s k (key .small) (key .number) (c .before .before .spot-of .ensures .spans .to-is st s w) in
+    let i = found-at k n 0 (st .table) (s .bounded .ordered) f from to (c .before .before .spot-of .ensures .met .first (flatOf st) w) in
+    absurd (omega (arith, ahead-in k n 0 (st .table) (s .bounded .ordered) f, c .if1 .left))
+
+pub adopt-spec : {M : Type 1} → statement M
+adopt-spec =
+    tie.close
+    (tie.spec
+    key-words-requires
+    spot-of-requires
+    row-at-requires
+    adopted-row-requires
+    set-row-requires
+    same-length
+    returns
+    same-length-2
+    returns-2)

@@ -1,0 +1,42 @@
+use mathlib.Core.Path.{refl}
+use Rattle.ident.specs.Words.{keyNum}
+use Rattle.machine.specs.State.{marked}
+use Rattle.machine.specs.Table.{at}
+use Rattle.store.specs.Flat.{flatOf}
+use Rattle.requests.proofs.Keeping.{kept-shown, from-at, to-at}
+use Rattle.regions.specs.Rows.{withReady}
+use Rattle.requests.proofs.Readying.{window-made, readied, readied-rows, readied-places, readied-gone}
+use borrow.Author.Needs.{needs}
+use Rattle.requests.proofs.ready_all.Statement.{statement}
+use Rattle.requests.proofs.ready_all.Tie as tie
+use Rattle.requests.proofs.ready_all.Reads as reads
+use Rattle.requests.proofs.ready_all.Lts as lts
+use Rattle.requests.proofs.key_words.Reads as key-words-reads
+use Rattle.requests.proofs.window_of.Reads as window-of-reads
+use Rattle.store.proofs.stamps.ready_rows.Reads as ready-rows-reads
+
+key-words-requires : tie.Need-key-words-requires
+key-words-requires c κs = search needs
+
+window-of-requires : tie.Need-window-of-requires
+window-of-requires c κs = search needs
+
+ready-rows-requires : tie.Need-ready-rows-requires
+ready-rows-requires c κs = (kept-shown (c .before .before .before .before .before .pre), c .before .window-of .ensures .order, c .before .window-of .ensures .most)
+
+same-length : tie.Need-same-length
+same-length c = search needs
+
+returns : tie.Need-returns
+returns c = λ st s w u.
+    let k = keyNum (c .before .before .before .before .before .before .before .before .args .k) in
+    let key = c .before .before .before .before .before .before .key-words .ensures in
+    let from = from-at st s k (key .small) (key .number) (c .before .before .before .before .window-of .ensures .from-is st s w) in
+    let to = to-at st s k (key .small) (key .number) (c .before .before .before .before .window-of .ensures .to-is st s w) in
+    let v = c .before .before .before .before .before .before .before .before .args .v in
+    window-made (withReady v) (λ q. refl) (λ q. refl) st s k (readied v) (readied-rows v (at k (st .table))) (readied-places v (at k (st .table))) (readied-gone v ((at k (st .table)) .candidates)) from to (c .before .before .ready-rows .ensures (flatOf st) w)
+
+pub ready-all-spec : {M : Type 1} → statement M
+ready-all-spec =
+    tie.close
+    (tie.spec key-words-requires window-of-requires ready-rows-requires same-length returns)

@@ -1,0 +1,21 @@
+use native.Mathlib.Omega.{arith}
+use Rattle.requests.proofs.Keeping.{kept-shown}
+use borrow.Author.Needs.{needs}
+use Rattle.requests.proofs.spot_of.Statement.{statement}
+use Rattle.requests.proofs.spot_of.Tie as tie
+use Rattle.requests.proofs.spot_of.Reads as reads
+use Rattle.requests.proofs.spot_of.Lts as lts
+use Rattle.requests.proofs.window_of.Reads as window-of-reads
+use Rattle.store.proofs.rows.find_row.Reads as find-row-reads
+
+window-of-requires : tie.Need-window-of-requires
+window-of-requires c κs = search needs
+
+find-row-requires : tie.Need-find-row-requires
+find-row-requires c κs = (kept-shown (c .before .before .pre), c .window-of .ensures .order, c .window-of .ensures .most)
+
+returns : tie.Need-returns
+returns c = record { from = c .before .window-of .result .from; spans = c .before .window-of .ensures; met = c .find-row .ensures }
+
+pub spot-of-spec : {M : Type 1} → statement M
+spot-of-spec = tie.close (tie.spec window-of-requires find-row-requires returns)

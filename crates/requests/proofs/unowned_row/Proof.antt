@@ -1,0 +1,18 @@
+use Prim.Native.Nat.{ℕ}
+use mathlib.Core.Path.{ap}
+use Rattle.regions.specs.Rows.{withDeadline, withBits}
+use borrow.Author.Needs.{needs}
+use Rattle.requests.proofs.unowned_row.Statement.{statement}
+use Rattle.requests.proofs.unowned_row.Tie as tie
+use Rattle.requests.proofs.unowned_row.Reads as reads
+use Rattle.requests.proofs.unowned_row.Lts as lts
+use Rattle.store.proofs.counting.less.Reads as less-reads
+
+less-requires : tie.Need-less-requires
+less-requires c κs = search needs
+
+returns : tie.Need-returns
+returns c = ap (λ (m : ℕ). withDeadline 0 (withBits m (c .before .before .args .r))) (c .less .ensures)
+
+pub unowned-row-spec : {M : Type 1} → statement M
+unowned-row-spec = tie.close (tie.spec less-requires returns)
