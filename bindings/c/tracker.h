@@ -26,6 +26,10 @@ uint64_t tracker_open(uint8_t *store, size_t length, uint64_t l, uint64_t q);
 /* Whether the bytes, as far as their need, write a sound state: what every call but opening tests first (refusal 3). */
 bool tracker_sound(const uint8_t *store, size_t length);
 
+/* How many announcements are held, how many more fit, and how full the tracker is in thousandths, rounded down. Refusal 3 if the store is
+ * not sound; then nothing is handed out. */
+uint64_t tracker_sum(const uint8_t *store, size_t length, uint64_t *held, uint64_t *free, uint64_t *permille);
+
 #ifdef __cplusplus
 }
 #endif

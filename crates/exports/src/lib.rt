@@ -5,10 +5,10 @@
 ghost use mathlib.Core.List.{[]};
 ghost use mathlib.Core.Path.{_≡_};
 ghost use Rattle.words.specs.Words.{Decides};
-ghost use Rattle.machine.specs.Call.{Open};
+ghost use Rattle.machine.specs.Call.{Open, On, Sum};
 ghost use Rattle.store.specs.Image.{SoundStore};
 ghost use Rattle.tracker.specs.Outcome.{Does};
-ghost use Rattle.exports.specs.Status.{numbered, statusOf};
+ghost use Rattle.exports.specs.Status.{numbered, figured, statusOf};
 
 // The status of an answer.
 fn status(a: tracker::Answer) -> u64
@@ -34,4 +34,21 @@ pub extern "C" fn tracker_sound(s: &[u8]) -> bool
     ensures { λ r. ⌜ Decides r (SoundStore (now (s .entry))) ⌝ }
 {
     sound::sound(s)
+}
+
+// How many announcements are held, how many more fit, and how full the tracker is in thousandths. Refused, it hands nothing out.
+#[no_mangle]
+pub extern "C" fn tracker_sum(s: &[u8], held: &mut u64, free: &mut u64, permille: &mut u64) -> u64
+    ensures { λ r. ⌜ Does (On Sum) (now (s .entry)) (record { reply = figured r (now (held .exit)) (now (free .exit)) (now (permille .exit)); buffer = []; store = now (s .entry) }) ⌝ }
+{
+    let f = tracker::sum(s);
+    match f {
+        tracker::Figures::Refused(n) => n,
+        tracker::Figures::Are(a, b, c) => {
+            *held = a;
+            *free = b;
+            *permille = c;
+            0
+        }
+    }
 }
