@@ -1,14 +1,10 @@
-use Prim.Native.Nat.{_+_}
-use mathlib.Core.Path.{_≡_, sym, _∙_}
+use mathlib.Core.Path.{sym}
 use Rattle.ident.specs.Words.{hashNum}
 use Rattle.ident.proofs.Words.{hash-four, hash-below}
 use Rattle.requests.proofs.AtHash.{held-at}
 use borrow.Author.Needs.{needs}
 use Rattle.requests.proofs.candidates_at.Statement.{statement}
 use Rattle.requests.proofs.candidates_at.Tie as tie
-use Rattle.requests.proofs.candidates_at.Reads as reads
-use Rattle.requests.proofs.candidates_at.Lts as lts
-use Rattle.requests.proofs.candidates_of.Reads as candidates-of-reads
 
 candidates-of-requires : tie.Need-candidates-of-requires
 candidates-of-requires c κs = search needs

@@ -5,10 +5,6 @@ use Rattle.requests.proofs.AtHash.{window-size}
 use borrow.Author.Needs.{needs}
 use Rattle.requests.proofs.candidates_of.Statement.{statement}
 use Rattle.requests.proofs.candidates_of.Tie as tie
-use Rattle.requests.proofs.candidates_of.Reads as reads
-use Rattle.requests.proofs.candidates_of.Lts as lts
-use Rattle.requests.proofs.key_words.Reads as key-words-reads
-use Rattle.requests.proofs.window_of.Reads as window-of-reads
 
 key-words-requires : tie.Need-key-words-requires
 key-words-requires c κs = search needs
@@ -21,11 +17,13 @@ sub-result c = search needs
 
 returns : tie.Need-returns
 returns c =
-    let shown = kept-shown (c .before .before .before .before .pre) in
-    (omega (arith, shown .sizes, shown .sized, c .before .window-of .ensures .most), λ st s w.
-        let k = keyNum (c .before .before .before .before .args .k) in
-        let key = c .before .before .key-words .ensures in
-        window-size k (st .table) (from-at st s k (key .small) (key .number) (c .before .window-of .ensures .from-is st s w)) (to-at st s k (key .small) (key .number) (c .before .window-of .ensures .to-is st s w)))
+    let shown = kept-shown (c .before .before .before .before .pre) in (
+      omega (arith, shown .sizes, shown .sized, c .before .window-of .ensures .most),
+      λ st s w.
+          let k = keyNum (c .before .before .before .before .args .k) in
+          let key = c .before .before .key-words .ensures in
+          window-size k (st .table) (from-at st s k (key .small) (key .number) (c .before .window-of .ensures .from-is st s w)) (to-at st s k (key .small) (key .number) (c .before .window-of .ensures .to-is st s w)),
+    )
 
 pub candidates-of-spec : {M : Type 1} → statement M
 candidates-of-spec = tie.close (tie.spec key-words-requires window-of-requires sub-result returns)
