@@ -1,26 +1,24 @@
 -- A candidate that adopts what another brings, in the records and in bytes.
 -- Assumes nothing.
-use Prim.Native.Nat.{ℕ, suc, min, _+_, _*_, _/_, _%_, _≤_, _<_}
-use mathlib.Core.Path.{_≡_, refl, sym, ap, subst, _∙_}
+use Prim.Native.Nat.{ℕ, suc, min, _+_, _*_, _/_, _%_, _<_}
+use mathlib.Core.Path.{_≡_, refl, sym, ap, _∙_}
 use mathlib.Core.Logic.{inl, inr}
 use mathlib.Core.Bool.{Bool, true, false}
-use mathlib.Core.List.{List, [], _∷_, _++_}
+use mathlib.Core.List.{List, [], _∷_}
 use mathlib.Core.Option.{Option, none, some}
 use native.Mathlib.Omega.{arith}
 use lib.Dec.{eqb}
 use lib.ListN.{length, take, drop, getD, set}
 use lib.Seq.{set-split}
-use Rattle.ident.specs.declared.ItemKind.{ItemKind}
-use Rattle.ident.specs.If.{if_then_else_}
 use Rattle.ident.specs.Number.{Key}
 use Rattle.regions.specs.declared.Row.{Row}
-use Rattle.machine.specs.State.{Candidate, Package, Request, Table, State, onTable, withCandidates, adopting, ownerIs}
+use Rattle.machine.specs.State.{Candidate, Package, Request, State, onTable, withCandidates, adopting, ownerIs}
 use Rattle.machine.specs.Table.{at, one}
 use Rattle.machine.specs.Announce.{adopt, adopted}
 use Rattle.machine.specs.Sound.{Sound}
 use Rattle.machine.proofs.Table.{lawful-at}
 use Rattle.machine.proofs.Tests.{test}
-use Rattle.store.specs.Flat.{flatOf, kindBit, witnessBit, deadlineFor, ownBit, rowOf, rowsOf, placeFor, placesFor, tally}
+use Rattle.store.specs.Flat.{flatOf, kindBit, deadlineFor, ownBit, rowOf, rowsOf, placeFor, placesFor, tally}
 use Rattle.store.specs.Image.{Shows, Writes}
 use Rattle.store.specs.Shown.{withRows}
 use Rattle.store.proofs.Bits.{bits-kind, bits-witness, bits-own, bits-mark, own-row}

@@ -2,7 +2,6 @@
 -- Assumes nothing.
 use Prim.Native.Nat.{ℕ, _<_}
 use mathlib.Core.Path.{_≡_, sym, ap, _∙_}
-use mathlib.Core.List.{List}
 use lib.ListN.{length, getD}
 use Rattle.regions.specs.declared.Conn.{Conn}
 use Rattle.regions.specs.Order.{Bound}

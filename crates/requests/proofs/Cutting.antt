@@ -1,12 +1,11 @@
 -- One candidate less, in the records and in bytes.
 -- Assumes nothing.
-use Prim.Native.Nat.{ℕ, zero, suc, _+_, _-_, _≤_, _<_}
+use Prim.Native.Nat.{ℕ, zero, suc, _+_, _-_, _<_}
 use mathlib.Core.Path.{_≡_, refl, sym, ap, subst, _∙_}
 use mathlib.Core.Logic.{inl, inr}
 use mathlib.Core.Bool.{Bool, true, false, _||_}
 use mathlib.Core.List.{List, [], _∷_, _++_, map, append-assoc}
 use mathlib.Core.Option.{Option, none, some}
-use native.Mathlib.Nat.{le-refl}
 use native.Mathlib.Omega.{arith}
 use lib.Dec.{eqb}
 use lib.ListN.{length, getD, length-append, length-map, List·getD-append}
@@ -23,12 +22,12 @@ use Rattle.machine.specs.Sound.{Sound, OwnerFits, Packed, Lawful, Ordered}
 use Rattle.machine.proofs.Change.{has-without}
 use Rattle.machine.proofs.Tests.{never}
 use Rattle.machine.proofs.Table.{lawful-at}
-use Rattle.store.specs.Flat.{Flat, flatOf, ownBit, rowOf, rowsOf, rowsFor, placeFor, placesFor, tally}
+use Rattle.store.specs.Flat.{flatOf, ownBit, rowOf, rowsOf, rowsFor, placeFor, placesFor, tally}
 use Rattle.store.specs.Counting.{unbump}
 use Rattle.store.specs.Image.{Shows, Writes}
 use Rattle.store.specs.Shown.{rowConns, Shown, withRows, withConns}
 use Rattle.store.proofs.Bits.{own-row, conn-row}
-use Rattle.store.proofs.Frame.{sizes, shown, length-remove}
+use Rattle.store.proofs.Frame.{shown, length-remove}
 use Rattle.store.proofs.RowsAt.{Among, ahead, behind, rows-among, cut-rows, cut-places, tally-remove}
 use Rattle.store.proofs.Split.{rowsBelow}
 use Rattle.store.proofs.Tally.{order}

@@ -1,24 +1,23 @@
 -- A hash's words as rows have them.
 -- Assumes nothing.
-use Prim.Native.Nat.{ℕ, zero, suc, _+_, _^_, _≤_, _<_}
+use Prim.Native.Nat.{ℕ, _+_, _^_, _≤_}
 use mathlib.Core.Path.{_≡_, refl, sym, ap, _∙_}
 use mathlib.Core.List.{List, [], _∷_}
 use native.Mathlib.Omega.{arith}
 use lib.ListN.{length, getD}
 use Rattle.ident.specs.declared.Hash.{Hash}
 use Rattle.ident.specs.declared.Key.{Key}
-use Rattle.ident.specs.Number.{place, base}
-use Rattle.ident.specs.Words.{hashNum, keyNum}
+use Rattle.ident.specs.Number.{base}
+use Rattle.ident.specs.Words.{hashNum}
 use Rattle.ident.specs.declared.Kind.{Kind}
 use Rattle.ident.specs.declared.Kind.the-variants.{Txid, Wtxid}
 use Rattle.ident.proofs.Words.{Four, hash-below}
 use Rattle.words.specs.Words.{number}
 use Rattle.regions.specs.declared.Quad.{Quad}
 use Rattle.regions.specs.declared.Key.{Key as RowKey}
-use Rattle.regions.specs.Rows.{quadNumber, quadOf, quadWords, keyNumber}
+use Rattle.regions.specs.Rows.{quadNumber, quadOf, quadWords}
 use Rattle.store.specs.Flat.{kindBit}
 use Rattle.store.specs.Gather.{kindIs}
-use Rattle.store.specs.FlatSound.{QuadFits}
 use Rattle.store.proofs.Keys.{key-number}
 use Rattle.store.proofs.Quads.{quad-number, number-quad}
 use Rattle.requests.specs.Changes.{Words, KeyWords}

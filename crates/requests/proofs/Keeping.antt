@@ -1,12 +1,12 @@
 -- Bytes that write a sound state: every index and sum is in range, rows and connections are in order.
 -- Assumes nothing.
 use Prim.Native.Nat.{ℕ, _+_, _≤_, _<_}
-use mathlib.Core.Path.{_≡_, refl, sym, ap, _∙_}
+use mathlib.Core.Path.{_≡_}
 use mathlib.Core.Logic.{inl, inr}
 use mathlib.Core.List.{List, _++_}
 use native.Mathlib.Nat.{le-refl}
 use native.Mathlib.Omega.{arith}
-use lib.ListN.{length, getD}
+use lib.ListN.{length}
 use Rattle.ident.specs.Number.{top, Key, place}
 use Rattle.regions.specs.declared.Row.{Row}
 use Rattle.regions.specs.declared.Conn.{Conn}
@@ -16,10 +16,10 @@ use Rattle.machine.specs.State.{State, Table, onTable}
 use Rattle.machine.specs.Table.{at}
 use Rattle.machine.specs.Typed.{Each}
 use Rattle.machine.specs.Sound.{Sound}
-use Rattle.store.specs.Flat.{Flat, headOf, flatOf, rowsOf, rowsFor, tally, placesOf}
-use Rattle.store.specs.FlatSound.{FlatSound, ConnFits}
+use Rattle.store.specs.Flat.{headOf, flatOf, rowsOf, rowsFor, tally, placesOf}
+use Rattle.store.specs.FlatSound.{ConnFits}
 use Rattle.store.specs.Image.{Shows, Writes}
-use Rattle.store.specs.Shown.{rowsIn, limitIn, rowNumbers, connNames, Sized, Light, Shown, Kept}
+use Rattle.store.specs.Shown.{rowNumbers, connNames, Sized, Light, Shown, Kept}
 use Rattle.store.proofs.Bounds.{bound-same}
 use Rattle.store.proofs.Entries.{names-sorted, tally-length}
 use Rattle.store.proofs.Frame.{shown}

@@ -6,3 +6,4 @@ pub mod Owning
 pub mod ConnFigures
 pub mod Readying
 pub mod Adopting
+pub mod AtHash

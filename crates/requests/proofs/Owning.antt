@@ -1,30 +1,29 @@
 -- An owner comes or goes, in the records and in bytes.
 -- Assumes nothing.
-use Prim.Native.Nat.{ℕ, _+_, _-_, _*_, _/_, _%_, _≤_, _<_}
+use Prim.Native.Nat.{ℕ, _+_, _-_, _<_}
 use mathlib.Core.Path.{_≡_, refl, sym, ap, subst, _∙_}
 use mathlib.Core.Bool.{Bool, true, false}
-use mathlib.Core.List.{List, [], _∷_, _++_}
+use mathlib.Core.List.{List, [], _∷_}
 use mathlib.Core.Option.{Option, none, some}
 use native.Mathlib.Omega.{arith}
-use lib.Dec.{eqb}
 use lib.ListN.{length, getD, set, length-append, length-set}
 use borrow.Author.Tests.{eqb-true, eq-eqb}
 use Rattle.ident.specs.Number.{Key}
 use Rattle.regions.specs.declared.Row.{Row}
 use Rattle.regions.specs.Rows.{withDeadline, withBits}
-use Rattle.machine.specs.State.{Candidate, Owner, Package, Request, Table, State, blank, onTable, ownerIs, ownedUntil, unowned}
+use Rattle.machine.specs.State.{Candidate, Owner, Package, Request, State, onTable, ownerIs, ownedUntil, unowned}
 use Rattle.machine.specs.Table.{at, change, has, one, countIn}
-use Rattle.machine.specs.Sound.{Sound, OwnerFits, Lawful}
+use Rattle.machine.specs.Sound.{Sound, OwnerFits}
 use Rattle.machine.proofs.Tests.{never}
-use Rattle.machine.proofs.Table.{all-at, lawful-at}
-use Rattle.store.specs.Flat.{Flat, flatOf, ownBit, rowOf, rowsOf, placeFor, placesFor, placesOf, tally}
+use Rattle.machine.proofs.Table.{all-at}
+use Rattle.store.specs.Flat.{flatOf, ownBit, rowOf, rowsOf, placeFor, placesFor, tally}
 use Rattle.store.specs.FlatSound.{RowFits}
 use Rattle.store.specs.Counting.{retally}
 use Rattle.store.specs.Image.{Shows, Writes}
 use Rattle.store.specs.Shown.{Shown, withRows, withConns}
 use Rattle.store.proofs.Bits.{own-row, conn-row}
 use Rattle.store.proofs.Counts.{Distinct, DistinctIn, distinct-in}
-use Rattle.store.proofs.Frame.{sizes, shown}
+use Rattle.store.proofs.Frame.{shown}
 use Rattle.store.proofs.Missing.{each-at}
 use Rattle.store.proofs.PlacesAt.{places-unchanged}
 use Rattle.store.proofs.RowChanges.{rows-owned, rows-unowned}

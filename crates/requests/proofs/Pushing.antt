@@ -1,36 +1,34 @@
 -- One candidate more, in the records and in bytes.
 -- Assumes nothing.
 use Prim.Native.Nat.{ℕ, _+_, _*_, _≤_, _<_}
-use mathlib.Core.Path.{_≡_, refl, sym, ap, subst, _∙_}
-use mathlib.Core.Bool.{Bool, true, false}
+use mathlib.Core.Path.{_≡_, refl, sym, ap, _∙_}
+use mathlib.Core.Bool.{false}
 use mathlib.Core.List.{List, [], _∷_, _++_, map, append-nil}
 use mathlib.Core.Option.{Option, none, some}
 use native.Mathlib.Omega.{arith}
-use lib.Dec.{ltb}
-use lib.ListN.{length, getD, length-append, length-map}
+use lib.ListN.{length, length-append}
 use lib.Seq.{getD-at}
 use borrow.Author.Tests.{lt-ltb, le-ltb}
-use Rattle.ident.specs.Number.{top, Key, place}
+use Rattle.ident.specs.Number.{top, Key}
 use Rattle.regions.specs.declared.Quad.{Quad}
 use Rattle.regions.specs.declared.Row.{Row}
 use Rattle.regions.specs.Rows.{quadOf}
-use Rattle.regions.specs.Order.{Bound}
 use Rattle.regions.specs.Regions.{insertAt}
 use Rattle.machine.specs.State.{Candidate, Owner, Request, Table, State, onTable, ownerIs}
 use Rattle.machine.specs.Table.{at, one}
 use Rattle.machine.specs.Announce.{push}
 use Rattle.machine.specs.Sound.{Sound, Filled, All}
 use Rattle.machine.proofs.Table.{all-at, at-key}
-use Rattle.store.specs.Flat.{Flat, flatOf, kindBit, witnessBit, deadlineFor, ownBit, rowOf, rowsOf, rowsFor, bump, tally}
+use Rattle.store.specs.Flat.{flatOf, kindBit, witnessBit, deadlineFor, ownBit, rowOf, rowsOf, rowsFor, bump, tally}
 use Rattle.store.specs.Image.{Shows, Writes}
-use Rattle.store.specs.Shown.{rowsIn, connsIn, limitIn, rowNumbers, Shown, Kept, withRows, withConns}
+use Rattle.store.specs.Shown.{connsIn, limitIn, Shown, withRows, withConns}
 use Rattle.store.proofs.Bits.{own-row, mark-row, conn-row}
 use Rattle.store.proofs.Entries.{tally-length}
 use Rattle.store.proofs.Frame.{sizes, shown, length-insert}
 use Rattle.store.proofs.RowsAt.{tally-insert, push-rows, push-places}
 use Rattle.store.proofs.Split.{rowsBelow, rowsAbove, rows-at}
 use Rattle.requests.specs.Changes.{markIn}
-use Rattle.requests.proofs.Keeping.{sized-of, light-of, writes-by, from-at, to-at}
+use Rattle.requests.proofs.Keeping.{sized-of, light-of, writes-by}
 
 -- ---- the row of a candidate that does not own its request
 

@@ -1,23 +1,23 @@
 -- A change that shows in every row of one request in the same way: a ready time, the mark.
 -- Assumes nothing.
-use Prim.Native.Nat.{ℕ, _+_, _/_, _%_, _≤_, _<_}
+use Prim.Native.Nat.{ℕ, _+_, _/_, _%_, _<_}
 use mathlib.Core.Path.{_≡_, refl, sym, ap, _∙_}
 use mathlib.Core.Logic.{inl, inr}
 use mathlib.Core.Bool.{Bool, true, false}
 use mathlib.Core.List.{List, [], _∷_, _++_, map, append-assoc}
 use mathlib.Core.Option.{Option, none, some}
 use native.Mathlib.Omega.{arith}
-use lib.ListN.{length, take, drop, length-append}
+use lib.ListN.{length, take, drop}
 use lib.Seq.{take-at, drop-at}
 use Rattle.ident.specs.Number.{Key}
 use Rattle.regions.specs.declared.Row.{Row}
 use Rattle.regions.specs.Rows.{withReady, withBits}
-use Rattle.machine.specs.State.{Candidate, Package, Request, Table, State, onTable, withCandidates, marked, readyAt, ownerIs}
+use Rattle.machine.specs.State.{Candidate, Package, Request, State, onTable, withCandidates, marked, readyAt, ownerIs}
 use Rattle.machine.specs.Table.{at, change, one}
 use Rattle.machine.specs.Sound.{Sound}
 use Rattle.machine.proofs.Table.{lawful-at}
 use Rattle.machine.proofs.Tests.{test}
-use Rattle.store.specs.Flat.{flatOf, ownBit, witnessBit, rowOf, rowsFor, rowsOf, placeFor, placesFor, bump, tally}
+use Rattle.store.specs.Flat.{flatOf, ownBit, rowOf, rowsFor, rowsOf, placeFor, placesFor, tally}
 use Rattle.store.specs.Image.{Shows, Writes}
 use Rattle.store.specs.Shown.{withRows}
 use Rattle.store.specs.Stamps.{markedRow, mapIn}

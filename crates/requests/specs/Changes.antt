@@ -6,7 +6,7 @@ use mathlib.Core.Bool.{Bool, true, false}
 use mathlib.Core.List.{List}
 use mathlib.Core.Option.{none}
 use lib.Dec.{ltb}
-use lib.ListN.{length, getD}
+use lib.ListN.{getD}
 use Rattle.ident.specs.declared.Hash.{Hash}
 use Rattle.ident.specs.declared.ItemKind.{ItemKind}
 use Rattle.ident.specs.declared.Key.{Key}

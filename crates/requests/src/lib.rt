@@ -5,11 +5,13 @@
 ghost use mathlib.Core.Path.{_≡_};
 ghost use Prim.Native.Nat.{min, _+_, _-_, _≤_, _<_};
 ghost use mathlib.Core.List.{map};
+ghost use lib.ListN.{length};
 ghost use mathlib.Core.Option.{none};
-ghost use Rattle.ident.specs.Words.{keyNum};
+ghost use Rattle.ident.specs.Words.{hashNum, keyNum};
+ghost use Rattle.machine.specs.Limits.{maxAnnouncements};
 ghost use Rattle.regions.specs.Rows.{keyNumber, withDeadline, withBits};
 ghost use Rattle.machine.specs.State.{ownerIs, ownedUntil, unowned, withCandidates, readyAt};
-ghost use Rattle.machine.specs.Table.{at, change, has, one};
+ghost use Rattle.machine.specs.Table.{at, change, has, heldAt, one};
 ghost use Rattle.machine.specs.Announce as machine;
 ghost use Rattle.machine.specs.Fail as fail;
 ghost use mathlib.Core.Bool.{true, false};
@@ -158,6 +160,34 @@ pub fn figures(s: &[u8], n: u64) -> regions::Conn
             owned: 0,
         }
     }
+}
+
+// ---- a hash
+
+// How many candidates the key k has.
+fn candidates_of(s: &[u8], k: ident::Key) -> usize
+    requires { ⌜ Kept (now s) ⌝ }
+    ensures { λ r. ⌜ (r ≤ maxAnnouncements) × Tells (now (s .entry)) (λ t. r ≡ length ((at (keyNum k) t) .candidates)) ⌝ }
+{
+    let key = key_words(k);
+    let w = window_of(s, key);
+    w.to - w.from
+}
+
+// How many candidates the hash h has, over both kinds.
+pub fn candidates_at(s: &[u8], h: ident::Hash) -> usize
+    requires { ⌜ Kept (now s) ⌝ }
+    ensures { λ r. ⌜ Tells (now (s .entry)) (λ t. r ≡ heldAt (hashNum h) t) ⌝ }
+{
+    let a = ident::Key {
+        kind: ident::Kind::Txid,
+        hash: h,
+    };
+    let b = ident::Key {
+        kind: ident::Kind::Wtxid,
+        hash: h,
+    };
+    candidates_of(s, a) + candidates_of(s, b)
 }
 
 // ---- one candidate more, one less

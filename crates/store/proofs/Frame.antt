@@ -2,10 +2,10 @@
 -- Assumes nothing.
 use Prim.Native.Nat.{ℕ, _+_, _-_, _*_, _≤_, _<_}
 use mathlib.Core.Path.{_≡_, refl, sym, ap, _∙_}
-use mathlib.Core.List.{List, [], _∷_, _++_, append-assoc, append-nil}
+use mathlib.Core.List.{List, [], _++_, append-assoc, append-nil}
 use mathlib.Core.Option.{Option, none, some}
 use native.Mathlib.Omega.{arith}
-use lib.ListN.{length, take, drop, getD, set, length-append, length-take, length-drop, length-set, replicate, length-replicate, replicate-append-replicate, drop-of-length-le}
+use lib.ListN.{length, take, drop, getD, set, length-append, length-take, length-drop, replicate, length-replicate, replicate-append-replicate, drop-of-length-le}
 use lib.Seq.{take-at, drop-at}
 use Rattle.ident.specs.Number.{Key}
 use Rattle.words.specs.Words.{words, splice}
@@ -21,7 +21,7 @@ use Rattle.machine.specs.Step.{empty}
 use Rattle.machine.specs.Typed.{Each}
 use Rattle.store.specs.Flat.{Head, Flat, flatOf, tally}
 use Rattle.store.specs.Image.{headSize, pollWords, cursorWords, headWords, wordsOf, Shows, Writes}
-use Rattle.store.specs.Shown.{limitIn, rowsIn, connsIn, limitAt, placesAt, rowsAt, connsAt, heldPlacesAt, Sizes, Sized, Light, Shown, withRows, withConns, withPlaces}
+use Rattle.store.specs.Shown.{limitAt, placesAt, rowsAt, connsAt, heldPlacesAt, Sizes, Sized, Light, Shown, withRows, withConns, withPlaces}
 
 -- ---- the header
 

@@ -6,11 +6,11 @@ use mathlib.Core.List.{List, [], _∷_, _++_, map, append-assoc}
 use native.Mathlib.Numerals.{add-one}
 use native.Mathlib.Omega.{arith}
 use lib.ListN.{length, take, drop, getD, set, length-append, length-take, length-drop, length-map, length-set, take-append-drop}
-use lib.Seq.{slice-empty, drop-cons, take-suc, drop-append-le, set-at, getD-at, length-take-le}
+use lib.Seq.{slice-empty, drop-cons, take-suc, drop-append-le, set-at, getD-at}
 use Rattle.regions.specs.declared.Row.{Row}
 use Rattle.store.specs.Flat.{Flat}
 use Rattle.store.specs.Image.{Shows}
-use Rattle.store.specs.Shown.{rowsIn, Sized, Shown, withRows, Turns}
+use Rattle.store.specs.Shown.{rowsIn, Shown, withRows, Turns}
 use Rattle.store.specs.Stamps.{mapIn}
 use Rattle.store.proofs.Frame.{sizes, shown}
 

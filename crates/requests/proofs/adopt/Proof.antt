@@ -1,5 +1,5 @@
 use native.Mathlib.Omega.{arith}
-use mathlib.Core.Path.{_≡_, _∙_}
+use mathlib.Core.Path.{_∙_}
 use Rattle.ident.specs.Words.{keyNum}
 use Rattle.machine.specs.Table.{at}
 use Rattle.store.specs.Flat.{flatOf}
@@ -11,13 +11,6 @@ use Rattle.requests.proofs.Adopting.{adopt-made}
 use borrow.Author.Needs.{needs}
 use Rattle.requests.proofs.adopt.Statement.{statement}
 use Rattle.requests.proofs.adopt.Tie as tie
-use Rattle.requests.proofs.adopt.Reads as reads
-use Rattle.requests.proofs.adopt.Lts as lts
-use Rattle.requests.proofs.adopted_row.Reads as adopted-row-reads
-use Rattle.requests.proofs.key_words.Reads as key-words-reads
-use Rattle.requests.proofs.spot_of.Reads as spot-of-reads
-use Rattle.store.proofs.rows.row_at.Reads as row-at-reads
-use Rattle.store.proofs.rows.set_row.Reads as set-row-reads
 
 key-words-requires : tie.Need-key-words-requires
 key-words-requires c κs = search needs

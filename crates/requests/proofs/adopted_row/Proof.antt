@@ -1,4 +1,4 @@
-use Prim.Native.Nat.{ℕ, min, _+_, _*_, _/_, _%_}
+use Prim.Native.Nat.{min, _+_, _*_, _/_, _%_}
 use mathlib.Core.Path.{_≡_, ap, _∙_}
 use Rattle.regions.specs.declared.Row.{Row}
 use Rattle.store.specs.Flat.{rowOf}
@@ -7,10 +7,6 @@ use Rattle.requests.proofs.Adopting.{adopted-row}
 use borrow.Author.Needs.{needs}
 use Rattle.requests.proofs.adopted_row.Statement.{statement}
 use Rattle.requests.proofs.adopted_row.Tie as tie
-use Rattle.requests.proofs.adopted_row.Reads as reads
-use Rattle.requests.proofs.adopted_row.Lts as lts
-use Rattle.requests.proofs.least.Reads as least-reads
-use Rattle.requests.proofs.witness_as.Reads as witness-as-reads
 
 witness-as-requires : tie.Need-witness-as-requires
 witness-as-requires c κs = search needs

@@ -1,6 +1,5 @@
 use native.Mathlib.Omega.{arith}
-use Prim.Native.Nat.{_<_, _≤_}
-use mathlib.Core.Path.{_≡_, refl, sym, _∙_}
+use Prim.Native.Nat.{_<_}
 use lib.ListN.{length}
 use Rattle.ident.specs.Words.{keyNum}
 use Rattle.machine.specs.Table.{at}
@@ -12,12 +11,6 @@ use Rattle.requests.proofs.Cutting.{ahead-in, found-at, dropped-shown, 
 use borrow.Author.Needs.{needs}
 use Rattle.requests.proofs.cut.Statement.{statement}
 use Rattle.requests.proofs.cut.Tie as tie
-use Rattle.requests.proofs.cut.Reads as reads
-use Rattle.requests.proofs.cut.Lts as lts
-use Rattle.requests.proofs.key_words.Reads as key-words-reads
-use Rattle.requests.proofs.spot_of.Reads as spot-of-reads
-use Rattle.store.proofs.counting.count_out.Reads as count-out-reads
-use Rattle.store.proofs.rows.drop_row.Reads as drop-row-reads
 
 key-words-requires : tie.Need-key-words-requires
 key-words-requires c κs = search needs

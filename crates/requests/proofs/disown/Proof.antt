@@ -1,11 +1,8 @@
 use native.Mathlib.Omega.{arith}
-use Prim.Native.Nat.{_<_}
-use mathlib.Core.Path.{_≡_, _∙_}
-use lib.ListN.{length}
+use mathlib.Core.Path.{_∙_}
 use Rattle.ident.specs.Words.{keyNum}
 use Rattle.machine.specs.Table.{at}
 use Rattle.store.specs.Flat.{flatOf, rowsOf}
-use Rattle.store.proofs.Frame.{sizes}
 use Rattle.store.proofs.RowsAt.{among}
 use Rattle.requests.proofs.Keeping.{kept-shown, conns-in-order, from-at, to-at}
 use Rattle.requests.proofs.Cutting.{ahead-in, found-at, row-there}
@@ -14,14 +11,6 @@ use Rattle.requests.proofs.Owning.{replaced-shown, disown-made, owner-i
 use borrow.Author.Needs.{needs}
 use Rattle.requests.proofs.disown.Statement.{statement}
 use Rattle.requests.proofs.disown.Tie as tie
-use Rattle.requests.proofs.disown.Reads as reads
-use Rattle.requests.proofs.disown.Lts as lts
-use Rattle.requests.proofs.key_words.Reads as key-words-reads
-use Rattle.requests.proofs.spot_of.Reads as spot-of-reads
-use Rattle.requests.proofs.unowned_row.Reads as unowned-row-reads
-use Rattle.store.proofs.counting.recount.Reads as recount-reads
-use Rattle.store.proofs.rows.row_at.Reads as row-at-reads
-use Rattle.store.proofs.rows.set_row.Reads as set-row-reads
 
 key-words-requires : tie.Need-key-words-requires
 key-words-requires c κs = search needs

@@ -8,11 +8,6 @@ use Rattle.requests.proofs.Keeping.{kept-shown, conns-in-order}
 use Rattle.requests.proofs.ConnFigures.{figures-found, figures-missing}
 use Rattle.requests.proofs.figures.Statement.{statement}
 use Rattle.requests.proofs.figures.Tie as tie
-use Rattle.requests.proofs.figures.Reads as reads
-use Rattle.requests.proofs.figures.Lts as lts
-use Rattle.store.proofs.conns.conn_at.Reads as conn-at-reads
-use Rattle.store.proofs.conns.seek_conn.Reads as seek-conn-reads
-use Rattle.store.proofs.counting.is_entry.Reads as is-entry-reads
 
 seek-conn-requires : tie.Need-seek-conn-requires
 seek-conn-requires c κs = kept-shown (c .before .pre)

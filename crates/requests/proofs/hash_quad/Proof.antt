@@ -3,8 +3,6 @@ use Rattle.requests.proofs.Hashes.{quad-of}
 use borrow.Author.Needs.{needs}
 use Rattle.requests.proofs.hash_quad.Statement.{statement}
 use Rattle.requests.proofs.hash_quad.Tie as tie
-use Rattle.requests.proofs.hash_quad.Reads as reads
-use Rattle.requests.proofs.hash_quad.Lts as lts
 
 array-read-t5 : tie.Need-array-read-t5
 array-read-t5 c = search needs

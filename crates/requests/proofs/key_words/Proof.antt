@@ -2,10 +2,6 @@ use Rattle.requests.proofs.Hashes.{key-words-of}
 use borrow.Author.Needs.{needs}
 use Rattle.requests.proofs.key_words.Statement.{statement}
 use Rattle.requests.proofs.key_words.Tie as tie
-use Rattle.requests.proofs.key_words.Reads as reads
-use Rattle.requests.proofs.key_words.Lts as lts
-use Rattle.requests.proofs.hash_quad.Reads as hash-quad-reads
-use Rattle.requests.proofs.kind_bit.Reads as kind-bit-reads
 
 hash-quad-requires : tie.Need-hash-quad-requires
 hash-quad-requires c κs = search needs

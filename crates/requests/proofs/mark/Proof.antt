@@ -9,11 +9,6 @@ use Rattle.requests.proofs.Readying.{window-made, marked-rows, marked-p
 use borrow.Author.Needs.{needs}
 use Rattle.requests.proofs.mark.Statement.{statement}
 use Rattle.requests.proofs.mark.Tie as tie
-use Rattle.requests.proofs.mark.Reads as reads
-use Rattle.requests.proofs.mark.Lts as lts
-use Rattle.requests.proofs.key_words.Reads as key-words-reads
-use Rattle.requests.proofs.window_of.Reads as window-of-reads
-use Rattle.store.proofs.stamps.mark_rows.Reads as mark-rows-reads
 
 key-words-requires : tie.Need-key-words-requires
 key-words-requires c κs = search needs

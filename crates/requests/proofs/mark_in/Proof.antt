@@ -1,13 +1,10 @@
 use native.Mathlib.Omega.{arith}
-use mathlib.Core.Path.{refl, ap}
+use mathlib.Core.Path.{ap}
 use borrow.Author.Tests.{lt-ltb, le-ltb}
 use Rattle.store.specs.FlatSound.{markBit}
 use borrow.Author.Needs.{needs}
 use Rattle.requests.proofs.mark_in.Statement.{statement}
 use Rattle.requests.proofs.mark_in.Tie as tie
-use Rattle.requests.proofs.mark_in.Reads as reads
-use Rattle.requests.proofs.mark_in.Lts as lts
-use Rattle.store.proofs.rows.row_at.Reads as row-at-reads
 
 row-at-requires : tie.Need-row-at-requires
 row-at-requires c κs = search needs

@@ -3,10 +3,6 @@ use Rattle.requests.specs.Changes.{candidateOf}
 use borrow.Author.Needs.{needs}
 use Rattle.requests.proofs.new_row.Statement.{statement}
 use Rattle.requests.proofs.new_row.Tie as tie
-use Rattle.requests.proofs.new_row.Reads as reads
-use Rattle.requests.proofs.new_row.Lts as lts
-use Rattle.requests.proofs.bit.Reads as bit-reads
-use Rattle.requests.proofs.witness_bit.Reads as witness-bit-reads
 
 witness-bit-requires : tie.Need-witness-bit-requires
 witness-bit-requires c κs = search needs

@@ -1,6 +1,6 @@
 use native.Mathlib.Omega.{arith}
 use Prim.Native.Nat.{_<_}
-use mathlib.Core.Path.{_≡_, _∙_}
+use mathlib.Core.Path.{_∙_}
 use lib.ListN.{length}
 use Rattle.ident.specs.Words.{keyNum}
 use Rattle.machine.specs.Table.{at}
@@ -10,18 +10,9 @@ use Rattle.store.proofs.RowsAt.{among}
 use Rattle.requests.proofs.Keeping.{kept-shown, conns-in-order, from-at, to-at}
 use Rattle.requests.proofs.Cutting.{ahead-in, found-at, row-there}
 use Rattle.requests.proofs.Owning.{bits-few, replaced-shown, own-made}
-use Rattle.store.proofs.Tally.{fresh}
 use borrow.Author.Needs.{needs}
 use Rattle.requests.proofs.own.Statement.{statement}
 use Rattle.requests.proofs.own.Tie as tie
-use Rattle.requests.proofs.own.Reads as reads
-use Rattle.requests.proofs.own.Lts as lts
-use Rattle.requests.proofs.key_words.Reads as key-words-reads
-use Rattle.requests.proofs.owned_row.Reads as owned-row-reads
-use Rattle.requests.proofs.spot_of.Reads as spot-of-reads
-use Rattle.store.proofs.counting.recount.Reads as recount-reads
-use Rattle.store.proofs.rows.row_at.Reads as row-at-reads
-use Rattle.store.proofs.rows.set_row.Reads as set-row-reads
 
 key-words-requires : tie.Need-key-words-requires
 key-words-requires c κs = search needs

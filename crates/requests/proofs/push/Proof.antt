@@ -1,6 +1,6 @@
 use native.Mathlib.Omega.{arith}
 use Prim.Native.Nat.{_<_, _≤_}
-use mathlib.Core.Path.{_≡_, refl, sym, _∙_}
+use mathlib.Core.Path.{refl, _∙_}
 use lib.ListN.{length}
 use Rattle.ident.specs.Words.{keyNum}
 use Rattle.machine.specs.Table.{at}
@@ -12,14 +12,6 @@ use Rattle.requests.proofs.Pushing.{its-hash, its-kind, mark-of, added-
 use borrow.Author.Needs.{needs}
 use Rattle.requests.proofs.push.Statement.{statement}
 use Rattle.requests.proofs.push.Tie as tie
-use Rattle.requests.proofs.push.Reads as reads
-use Rattle.requests.proofs.push.Lts as lts
-use Rattle.requests.proofs.key_words.Reads as key-words-reads
-use Rattle.requests.proofs.mark_in.Reads as mark-in-reads
-use Rattle.requests.proofs.new_row.Reads as new-row-reads
-use Rattle.requests.proofs.window_of.Reads as window-of-reads
-use Rattle.store.proofs.counting.count_in.Reads as count-in-reads
-use Rattle.store.proofs.rows.add_row.Reads as add-row-reads
 
 key-words-requires : tie.Need-key-words-requires
 key-words-requires c κs = search needs

@@ -1,6 +1,5 @@
 use mathlib.Core.Path.{refl}
 use Rattle.ident.specs.Words.{keyNum}
-use Rattle.machine.specs.State.{marked}
 use Rattle.machine.specs.Table.{at}
 use Rattle.store.specs.Flat.{flatOf}
 use Rattle.requests.proofs.Keeping.{kept-shown, from-at, to-at}
@@ -9,11 +8,6 @@ use Rattle.requests.proofs.Readying.{window-made, readied, readied-rows
 use borrow.Author.Needs.{needs}
 use Rattle.requests.proofs.ready_all.Statement.{statement}
 use Rattle.requests.proofs.ready_all.Tie as tie
-use Rattle.requests.proofs.ready_all.Reads as reads
-use Rattle.requests.proofs.ready_all.Lts as lts
-use Rattle.requests.proofs.key_words.Reads as key-words-reads
-use Rattle.requests.proofs.window_of.Reads as window-of-reads
-use Rattle.store.proofs.stamps.ready_rows.Reads as ready-rows-reads
 
 key-words-requires : tie.Need-key-words-requires
 key-words-requires c κs = search needs

@@ -1,12 +1,7 @@
-use native.Mathlib.Omega.{arith}
 use Rattle.requests.proofs.Keeping.{kept-shown}
 use borrow.Author.Needs.{needs}
 use Rattle.requests.proofs.spot_of.Statement.{statement}
 use Rattle.requests.proofs.spot_of.Tie as tie
-use Rattle.requests.proofs.spot_of.Reads as reads
-use Rattle.requests.proofs.spot_of.Lts as lts
-use Rattle.requests.proofs.window_of.Reads as window-of-reads
-use Rattle.store.proofs.rows.find_row.Reads as find-row-reads
 
 window-of-requires : tie.Need-window-of-requires
 window-of-requires c κs = search needs

@@ -4,9 +4,6 @@ use Rattle.regions.specs.Rows.{withDeadline, withBits}
 use borrow.Author.Needs.{needs}
 use Rattle.requests.proofs.unowned_row.Statement.{statement}
 use Rattle.requests.proofs.unowned_row.Tie as tie
-use Rattle.requests.proofs.unowned_row.Reads as reads
-use Rattle.requests.proofs.unowned_row.Lts as lts
-use Rattle.store.proofs.counting.less.Reads as less-reads
 
 less-requires : tie.Need-less-requires
 less-requires c κs = search needs

@@ -4,9 +4,6 @@ use Rattle.store.specs.Flat.{flatOf, rowsOf}
 use Rattle.store.specs.Shown.{rowNumbers}
 use Rattle.requests.proofs.window_of.Statement.{statement}
 use Rattle.requests.proofs.window_of.Tie as tie
-use Rattle.requests.proofs.window_of.Reads as reads
-use Rattle.requests.proofs.window_of.Lts as lts
-use Rattle.store.proofs.rows.seek_row.Reads as seek-row-reads
 
 seek-row-requires : tie.Need-seek-row-requires
 seek-row-requires c κs = kept-shown (c .before .pre)

@@ -2,9 +2,6 @@ use native.Mathlib.Omega.{arith}
 use borrow.Author.Needs.{needs}
 use Rattle.requests.proofs.witness_as.Statement.{statement}
 use Rattle.requests.proofs.witness_as.Tie as tie
-use Rattle.requests.proofs.witness_as.Reads as reads
-use Rattle.requests.proofs.witness_as.Lts as lts
-use Rattle.requests.proofs.witness_bit.Reads as witness-bit-reads
 
 witness-bit-requires : tie.Need-witness-bit-requires
 witness-bit-requires c κs = search needs

@@ -1,16 +1,8 @@
 use native.Mathlib.Omega.{arith}
-use Prim.Native.Nat.{_+_, _-_, _<_, _≤_}
-use mathlib.Core.Path.{_≡_, sym, ap, _∙_}
-use lib.ListN.{length, set, length-set}
-use Rattle.regions.specs.Regions.{insertAt, removeAt}
-use Rattle.store.proofs.Frame.{sizes, conns-lent, conns-back, conns-same, conns-counted, length-insert, length-remove}
+use Rattle.store.proofs.Frame.{sizes, conns-lent}
 use borrow.Author.Needs.{needs}
 use Rattle.store.proofs.conns.conn_at.Statement.{statement}
 use Rattle.store.proofs.conns.conn_at.Tie as tie
-use Rattle.store.proofs.conns.conn_at.Reads as reads
-use Rattle.store.proofs.conns.conn_at.Lts as lts
-use Rattle.regions.proofs.read_conn.Reads as read-conn-reads
-use Rattle.store.proofs.head.limit.Reads as limit-reads
 
 limit-requires : tie.Need-limit-requires
 limit-requires c κs = search needs

@@ -1,18 +1,12 @@
 use native.Mathlib.Omega.{arith}
-use Prim.Native.Nat.{_+_, _-_, _<_, _≤_}
+use Prim.Native.Nat.{_-_, _<_}
 use mathlib.Core.Path.{_≡_, sym, ap, _∙_}
-use lib.ListN.{length, set, length-set}
-use Rattle.regions.specs.Regions.{insertAt, removeAt}
-use Rattle.store.proofs.Frame.{sizes, conns-lent, conns-back, conns-same, conns-counted, length-insert, length-remove}
+use lib.ListN.{length}
+use Rattle.regions.specs.Regions.{removeAt}
+use Rattle.store.proofs.Frame.{sizes, conns-lent, conns-back, conns-counted, length-remove}
 use borrow.Author.Needs.{needs}
 use Rattle.store.proofs.conns.drop_conn.Statement.{statement}
 use Rattle.store.proofs.conns.drop_conn.Tie as tie
-use Rattle.store.proofs.conns.drop_conn.Reads as reads
-use Rattle.store.proofs.conns.drop_conn.Lts as lts
-use Rattle.regions.proofs.remove_conn.Reads as remove-conn-reads
-use Rattle.store.proofs.head.conns.Reads as conns-reads
-use Rattle.store.proofs.head.limit.Reads as limit-reads
-use Rattle.words.proofs.put.Reads as put-reads
 
 conns-requires : tie.Need-conns-requires
 conns-requires c κs = search needs

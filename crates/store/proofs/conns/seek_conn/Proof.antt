@@ -6,11 +6,6 @@ use Rattle.store.proofs.Searches.{conn-sought}
 use borrow.Author.Needs.{needs}
 use Rattle.store.proofs.conns.seek_conn.Statement.{statement}
 use Rattle.store.proofs.conns.seek_conn.Tie as tie
-use Rattle.store.proofs.conns.seek_conn.Reads as reads
-use Rattle.store.proofs.conns.seek_conn.Lts as lts
-use Rattle.regions.proofs.seek_conn.Reads as seek-conn-reads
-use Rattle.store.proofs.head.conns.Reads as conns-reads
-use Rattle.store.proofs.head.limit.Reads as limit-reads
 
 conns-requires : tie.Need-conns-requires
 conns-requires c κs = search needs

@@ -1,16 +1,10 @@
 use native.Mathlib.Omega.{arith}
-use Prim.Native.Nat.{_+_, _-_, _<_, _≤_}
-use mathlib.Core.Path.{_≡_, sym, ap, _∙_}
+use Prim.Native.Nat.{_<_}
 use lib.ListN.{length, set, length-set}
-use Rattle.regions.specs.Regions.{insertAt, removeAt}
-use Rattle.store.proofs.Frame.{sizes, conns-lent, conns-back, conns-same, conns-counted, length-insert, length-remove}
+use Rattle.store.proofs.Frame.{sizes, conns-lent, conns-back, conns-same}
 use borrow.Author.Needs.{needs}
 use Rattle.store.proofs.conns.set_conn.Statement.{statement}
 use Rattle.store.proofs.conns.set_conn.Tie as tie
-use Rattle.store.proofs.conns.set_conn.Reads as reads
-use Rattle.store.proofs.conns.set_conn.Lts as lts
-use Rattle.regions.proofs.write_conn.Reads as write-conn-reads
-use Rattle.store.proofs.head.limit.Reads as limit-reads
 
 limit-requires : tie.Need-limit-requires
 limit-requires c κs = search needs

@@ -1,22 +1,12 @@
 use native.Mathlib.Omega.{arith}
 use Prim.Native.Nat.{_<_}
-use mathlib.Core.Path.{_≡_}
-use lib.ListN.{length, getD}
-use borrow.Author.Tests.{eqb-true, eqb-false}
+use lib.ListN.{length}
 use Rattle.store.proofs.Frame.{sizes}
 use Rattle.store.proofs.Tally.{fresh}
 use Rattle.store.proofs.Counted.{counted-last, counted-out, nothing-out}
 use borrow.Author.Needs.{needs}
 use Rattle.store.proofs.counting.count_out.Statement.{statement}
 use Rattle.store.proofs.counting.count_out.Tie as tie
-use Rattle.store.proofs.counting.count_out.Reads as reads
-use Rattle.store.proofs.counting.count_out.Lts as lts
-use Rattle.store.proofs.conns.conn_at.Reads as conn-at-reads
-use Rattle.store.proofs.conns.drop_conn.Reads as drop-conn-reads
-use Rattle.store.proofs.conns.seek_conn.Reads as seek-conn-reads
-use Rattle.store.proofs.conns.set_conn.Reads as set-conn-reads
-use Rattle.store.proofs.counting.is_entry.Reads as is-entry-reads
-use Rattle.store.proofs.counting.less.Reads as less-reads
 
 seek-conn-requires : tie.Need-seek-conn-requires
 seek-conn-requires c κs = search needs

@@ -3,14 +3,9 @@ use mathlib.Core.Path.{sym, ap, _∙_}
 use borrow.Author.Tests.{eqb-true, eqb-false}
 use Rattle.regions.specs.declared.Conn.{Conn}
 use Rattle.machine.proofs.Tests.{never}
-use Rattle.store.proofs.Frame.{sizes}
 use borrow.Author.Needs.{needs}
 use Rattle.store.proofs.counting.is_entry.Statement.{statement}
 use Rattle.store.proofs.counting.is_entry.Tie as tie
-use Rattle.store.proofs.counting.is_entry.Reads as reads
-use Rattle.store.proofs.counting.is_entry.Lts as lts
-use Rattle.store.proofs.conns.conn_at.Reads as conn-at-reads
-use Rattle.store.proofs.head.conns.Reads as conns-reads
 
 conns-requires : tie.Need-conns-requires
 conns-requires c κs = search needs

@@ -9,10 +9,6 @@ use Rattle.store.proofs.Frame.{filled}
 use borrow.Author.Needs.{needs}
 use Rattle.store.proofs.head.fill.Statement.{statement}
 use Rattle.store.proofs.head.fill.Tie as tie
-use Rattle.store.proofs.head.fill.Reads as reads
-use Rattle.store.proofs.head.fill.Lts as lts
-use Rattle.words.proofs.clear.Reads as clear-reads
-use Rattle.words.proofs.put.Reads as put-reads
 
 clear-requires : tie.Need-clear-requires
 clear-requires c κs = search needs

@@ -1,21 +1,12 @@
 use native.Mathlib.Omega.{arith}
-use Prim.Native.Nat.{_+_, _-_, _<_, _≤_}
+use Prim.Native.Nat.{_-_, _<_}
 use mathlib.Core.Path.{_≡_, sym, ap, _∙_}
-use lib.ListN.{length, set, length-set}
-use Rattle.regions.specs.Regions.{insertAt, removeAt}
-use Rattle.regions.specs.Rows.{quadNumber}
-use Rattle.places.specs.Places.{blank}
-use Rattle.store.proofs.Frame.{sizes, places-lent, places-back, places-same, places-counted, length-insert, length-remove}
+use lib.ListN.{length}
+use Rattle.regions.specs.Regions.{removeAt}
+use Rattle.store.proofs.Frame.{sizes, places-lent, places-back, places-counted, length-remove}
 use borrow.Author.Needs.{needs}
 use Rattle.store.proofs.packages.close_place.Statement.{statement}
 use Rattle.store.proofs.packages.close_place.Tie as tie
-use Rattle.store.proofs.packages.close_place.Reads as reads
-use Rattle.store.proofs.packages.close_place.Lts as lts
-use Rattle.places.proofs.remove_place.Reads as remove-place-reads
-use Rattle.store.proofs.head.held_places.Reads as held-places-reads
-use Rattle.store.proofs.head.limit.Reads as limit-reads
-use Rattle.store.proofs.head.places.Reads as places-reads
-use Rattle.words.proofs.put.Reads as put-reads
 
 held-places-requires : tie.Need-held-places-requires
 held-places-requires c κs = search needs

@@ -1,19 +1,10 @@
 use native.Mathlib.Omega.{arith}
-use Prim.Native.Nat.{_+_, _-_, _<_, _≤_}
-use mathlib.Core.Path.{_≡_, sym, ap, _∙_}
-use lib.ListN.{length, set, length-set}
-use Rattle.regions.specs.Regions.{insertAt, removeAt}
-use Rattle.regions.specs.Rows.{quadNumber}
-use Rattle.places.specs.Places.{blank}
-use Rattle.store.proofs.Frame.{sizes, places-lent, places-back, places-same, places-counted, length-insert, length-remove}
+use Prim.Native.Nat.{_<_}
+use lib.ListN.{length, length-set}
+use Rattle.store.proofs.Frame.{sizes, places-lent, places-back, places-same}
 use borrow.Author.Needs.{needs}
 use Rattle.store.proofs.packages.set_stage.Statement.{statement}
 use Rattle.store.proofs.packages.set_stage.Tie as tie
-use Rattle.store.proofs.packages.set_stage.Reads as reads
-use Rattle.store.proofs.packages.set_stage.Lts as lts
-use Rattle.places.proofs.set_stage.Reads as set-stage-reads
-use Rattle.store.proofs.head.limit.Reads as limit-reads
-use Rattle.store.proofs.head.places.Reads as places-reads
 
 limit-requires : tie.Need-limit-requires
 limit-requires c κs = search needs

@@ -1,18 +1,12 @@
 use native.Mathlib.Omega.{arith}
-use Prim.Native.Nat.{_+_, _-_, _<_, _≤_}
+use Prim.Native.Nat.{_-_, _<_}
 use mathlib.Core.Path.{_≡_, sym, ap, _∙_}
-use lib.ListN.{length, set, length-set}
-use Rattle.regions.specs.Regions.{insertAt, removeAt}
-use Rattle.store.proofs.Frame.{sizes, rows-lent, rows-back, rows-same, rows-counted, length-insert, length-remove}
+use lib.ListN.{length}
+use Rattle.regions.specs.Regions.{removeAt}
+use Rattle.store.proofs.Frame.{sizes, rows-lent, rows-back, rows-counted, length-remove}
 use borrow.Author.Needs.{needs}
 use Rattle.store.proofs.rows.drop_row.Statement.{statement}
 use Rattle.store.proofs.rows.drop_row.Tie as tie
-use Rattle.store.proofs.rows.drop_row.Reads as reads
-use Rattle.store.proofs.rows.drop_row.Lts as lts
-use Rattle.regions.proofs.remove_row.Reads as remove-row-reads
-use Rattle.store.proofs.head.limit.Reads as limit-reads
-use Rattle.store.proofs.head.rows.Reads as rows-reads
-use Rattle.words.proofs.put.Reads as put-reads
 
 rows-requires : tie.Need-rows-requires
 rows-requires c κs = search needs

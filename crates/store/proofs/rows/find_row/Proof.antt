@@ -6,10 +6,6 @@ use Rattle.store.proofs.Searches.{row-met}
 use borrow.Author.Needs.{needs}
 use Rattle.store.proofs.rows.find_row.Statement.{statement}
 use Rattle.store.proofs.rows.find_row.Tie as tie
-use Rattle.store.proofs.rows.find_row.Reads as reads
-use Rattle.store.proofs.rows.find_row.Lts as lts
-use Rattle.regions.proofs.find_conn_in.Reads as find-conn-in-reads
-use Rattle.store.proofs.head.limit.Reads as limit-reads
 
 mul-x : tie.Need-mul-x
 mul-x c = search needs

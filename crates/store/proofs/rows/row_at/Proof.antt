@@ -1,16 +1,8 @@
 use native.Mathlib.Omega.{arith}
-use Prim.Native.Nat.{_+_, _-_, _<_, _≤_}
-use mathlib.Core.Path.{_≡_, sym, ap, _∙_}
-use lib.ListN.{length, set, length-set}
-use Rattle.regions.specs.Regions.{insertAt, removeAt}
-use Rattle.store.proofs.Frame.{sizes, rows-lent, rows-back, rows-same, rows-counted, length-insert, length-remove}
+use Rattle.store.proofs.Frame.{sizes, rows-lent}
 use borrow.Author.Needs.{needs}
 use Rattle.store.proofs.rows.row_at.Statement.{statement}
 use Rattle.store.proofs.rows.row_at.Tie as tie
-use Rattle.store.proofs.rows.row_at.Reads as reads
-use Rattle.store.proofs.rows.row_at.Lts as lts
-use Rattle.regions.proofs.read_row.Reads as read-row-reads
-use Rattle.store.proofs.head.limit.Reads as limit-reads
 
 mul-x : tie.Need-mul-x
 mul-x c = search needs

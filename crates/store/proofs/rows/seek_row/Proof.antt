@@ -6,11 +6,6 @@ use Rattle.store.proofs.Searches.{row-sought}
 use borrow.Author.Needs.{needs}
 use Rattle.store.proofs.rows.seek_row.Statement.{statement}
 use Rattle.store.proofs.rows.seek_row.Tie as tie
-use Rattle.store.proofs.rows.seek_row.Reads as reads
-use Rattle.store.proofs.rows.seek_row.Lts as lts
-use Rattle.regions.proofs.seek_row.Reads as seek-row-reads
-use Rattle.store.proofs.head.limit.Reads as limit-reads
-use Rattle.store.proofs.head.rows.Reads as rows-reads
 
 rows-requires : tie.Need-rows-requires
 rows-requires c κs = search needs

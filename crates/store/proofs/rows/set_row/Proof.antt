@@ -1,16 +1,11 @@
 use native.Mathlib.Omega.{arith}
-use Prim.Native.Nat.{_+_, _-_, _<_, _≤_}
-use mathlib.Core.Path.{_≡_, sym, ap, _∙_}
+use Prim.Native.Nat.{_<_}
+use mathlib.Core.Path.{_≡_}
 use lib.ListN.{length, set, length-set}
-use Rattle.regions.specs.Regions.{insertAt, removeAt}
-use Rattle.store.proofs.Frame.{sizes, rows-lent, rows-back, rows-same, rows-counted, length-insert, length-remove}
+use Rattle.store.proofs.Frame.{sizes, rows-lent, rows-back, rows-same}
 use borrow.Author.Needs.{needs}
 use Rattle.store.proofs.rows.set_row.Statement.{statement}
 use Rattle.store.proofs.rows.set_row.Tie as tie
-use Rattle.store.proofs.rows.set_row.Reads as reads
-use Rattle.store.proofs.rows.set_row.Lts as lts
-use Rattle.regions.proofs.write_row.Reads as write-row-reads
-use Rattle.store.proofs.head.limit.Reads as limit-reads
 
 mul-x : tie.Need-mul-x
 mul-x c = search needs

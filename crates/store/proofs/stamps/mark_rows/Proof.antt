@@ -8,11 +8,6 @@ use Rattle.store.specs.Shown.{withRows}
 use Rattle.store.proofs.Stamping.{Stamped, stamped-none, stamped-more}
 use Rattle.store.proofs.stamps.mark_rows.Statement.{statement}
 use Rattle.store.proofs.stamps.mark_rows.Tie as tie
-use Rattle.store.proofs.stamps.mark_rows.Reads as reads
-use Rattle.store.proofs.stamps.mark_rows.Lts as lts
-use Rattle.store.proofs.rows.row_at.Reads as row-at-reads
-use Rattle.store.proofs.rows.set_row.Reads as set-row-reads
-use Rattle.store.proofs.stamps.marked_row.Reads as marked-row-reads
 
 abbrev Inv-loop : tie.InvT-loop
 Inv-loop s₀ from to i₀ s i = Stamped s₀ s markedRow from to i

@@ -9,11 +9,6 @@ use Rattle.store.specs.Shown.{withRows}
 use Rattle.store.proofs.Stamping.{Stamped, stamped-none, stamped-more}
 use Rattle.store.proofs.stamps.ready_rows.Statement.{statement}
 use Rattle.store.proofs.stamps.ready_rows.Tie as tie
-use Rattle.store.proofs.stamps.ready_rows.Reads as reads
-use Rattle.store.proofs.stamps.ready_rows.Lts as lts
-use Rattle.store.proofs.rows.row_at.Reads as row-at-reads
-use Rattle.store.proofs.rows.set_row.Reads as set-row-reads
-use Rattle.store.proofs.stamps.ready_row.Reads as ready-row-reads
 
 abbrev Inv-loop : tie.InvT-loop
 Inv-loop s₀ from to v i₀ s i = Stamped s₀ s (withReady v) from to i
