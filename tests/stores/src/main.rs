@@ -1,5 +1,5 @@
 //! Images of random sound states, damaged in many ways: the library's sound test must
-//! say of every one what `oracle::image::read` says of it.
+//! say of every one what `oracle::image::read` says of it, and `sum` must give its figures.
 //!
 //!     stores [--count N] [--seed N]
 //!
@@ -12,6 +12,8 @@ mod forge;
 #[cfg(feature = "library")]
 mod opening;
 mod report;
+#[cfg(feature = "library")]
+mod summing;
 
 use std::process::ExitCode;
 
@@ -32,6 +34,8 @@ const JUDGES: &[Judge] = &[
     ("the second reading", again::sound),
     #[cfg(feature = "library")]
     ("the library", tracker::sound),
+    #[cfg(feature = "library")]
+    ("the library's sum", summing::takes),
 ];
 
 struct Trial {
