@@ -19,4 +19,4 @@ use Rattle.machine.specs.Edges.{Edges}
 
 pub edges : Edges
 unfolding top digits bytesOf need at keep change keys countIn total has without victimsIn victims after greatestFrom greatest evicting announceAt announceKeyed adopt requestParentAt requestParentKeyed left failed unclaim forget but dedup parentsFrom announceParents solicit claimPackage sameList beginResolution listedAfter failedWithParents failedPackageInfo packageInfoOwner releasePackage claimKey someKeys failEach failedPackageClaims packageKeys leftIfOwned tearEach teardown guarded forgetKnown keysOf announceEach dropAt dropEach insertKey sortKeys disconnected only round lastOf handed chosenBy chosenAt able sooner better orElse leastIn leastAt choice consider phase due expire insertByPriority sortByPriority plan sameEntry takes claim elem forWitness insertByConnection sortByConnection arrange partOf offersFrom announceTransactions responseCompleted notFoundOne notFoundEach packagesIn notFound sum named anyLate takesPlace openingRefusal askRefusal refusal perform carryOut keysAnswer entriesAnswer written stepIf
-edges = record { worked-lines = refl; ninth-preferred = refl; all-stay = refl; one-unpreferred = refl; it-goes = refl; nine-goes = refl; wtxid-goes = refl; greater-goes = refl; keeps = refl; fails = refl; no-wtxids = refl; one-wtxid = refl; enqueued = refl; parents = refl; delayed = refl; two-of-three = refl }
+edges = record { worked-lines = refl; ninth-preferred = refl; all-stay = refl; one-unpreferred = refl; it-goes = refl; nine-goes = refl; nine-goes-first = refl; wtxid-goes = refl; greater-goes = refl; keeps = refl; fails = refl; no-wtxids = refl; one-wtxid = refl; enqueued = refl; parents = refl; delayed = refl; two-of-three = refl }

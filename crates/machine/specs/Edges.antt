@@ -117,6 +117,7 @@ pub record Edges : Type 0 where
   pub it-goes : evicted (w 3 77 false 0) (w 6 77 true 0) ≡ (1 ∷ 2 ∷ 4 ∷ 5 ∷ 6 ∷ 7 ∷ 8 ∷ 9 ∷ []) ∷ []
   -- "Unpreferred 5 and 9: the 9 goes."
   pub nine-goes : evicted (w 3 77 false 5) (w 6 77 false 9) ≡ (1 ∷ 2 ∷ 3 ∷ 4 ∷ 5 ∷ 7 ∷ 8 ∷ 9 ∷ []) ∷ []
+  pub nine-goes-first : evicted (w 3 77 false 9) (w 6 77 false 5) ≡ (1 ∷ 2 ∷ 4 ∷ 5 ∷ 6 ∷ 7 ∷ 8 ∷ 9 ∷ []) ∷ []
   -- "Equal: Wtxid goes before Txid, then the greater connection."
   pub wtxid-goes : evicted (w 3 77 false 5) (t 6 77 false 5) ≡ (6 ∷ []) ∷ (1 ∷ 2 ∷ 4 ∷ 5 ∷ 7 ∷ 8 ∷ 9 ∷ []) ∷ []
   pub greater-goes : evicted (w 3 77 false 5) (w 6 77 false 5) ≡ (1 ∷ 2 ∷ 3 ∷ 4 ∷ 5 ∷ 7 ∷ 8 ∷ 9 ∷ []) ∷ []
