@@ -1,3 +1,5 @@
 pub mod Lending
 pub mod Seeking
 pub mod Owners
+pub mod Placing
+pub mod Filling

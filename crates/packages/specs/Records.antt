@@ -6,10 +6,10 @@ use mathlib.Core.List.{List, [], _∷_, _++_, map}
 use lib.ListN.{length, getD, set}
 use Rattle.regions.specs.declared.Quad.{Quad}
 use Rattle.regions.specs.Rows.{quadOf, rowSize, connSize}
-use Rattle.places.specs.Places.{Place, placeSize}
+use Rattle.places.specs.Places.{Place, placeSize, withWtxids}
 use Rattle.store.specs.Flat.{Flat}
 use Rattle.store.specs.Image.{headSize, Shows}
-use Rattle.store.specs.Shown.{limitIn, placesIn, withPlaces}
+use Rattle.store.specs.Shown.{limitIn, placesIn, heldPlacesIn, Shown, withPlaces}
 
 -- the bytes from .. to are the region of the places
 pub record PartOf (b : List ℕ) (from to : ℕ) : Type 0 where
@@ -29,3 +29,13 @@ HashIn b i list j r = (f : Flat) (d : Place) → Shows b f → j < length (list 
 abbrev pub PushedIn : List ℕ → List ℕ → ℕ → (Place → List ℕ) → (List ℕ → Place → Place) → ℕ → ℕ → Type 0
 PushedIn b b′ i list with-list n h =
     (f : Flat) (d : Place) → length (list (getD (f .places) i d)) ≡ n → Shows b f → Shows b′ (withPlaces (set (f .places) i (with-list (list (getD (f .places) i d) ++ (h ∷ [])) (getD (f .places) i d))) f)
+
+-- the i-th place has no wtxids
+pub record NoWtxids (b : List ℕ) (i : ℕ) : Type 0 where
+  pub is-shown : Shown b
+  pub inside : i < heldPlacesIn b
+  pub none-yet : (d : Place) → (getD (is-shown .flat .places) i d) .wtxids ≡ []
+
+-- the hashes hs become the wtxids of the i-th place, which had none
+abbrev pub ListedIn : List ℕ → List ℕ → ℕ → List ℕ → Type 0
+ListedIn b b′ i hs = (f : Flat) (d : Place) → (getD (f .places) i d) .wtxids ≡ [] → Shows b f → Shows b′ (withPlaces (set (f .places) i (withWtxids hs (getD (f .places) i d))) f)

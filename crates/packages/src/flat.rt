@@ -2,11 +2,12 @@
 ghost use mathlib.Core.Path.{_≡_};
 ghost use Prim.Native.Nat.{ℕ, _+_, _≤_, _<_};
 ghost use lib.ListN.{length, getD, set};
+ghost use Rattle.lists.specs.Lists.{hashesIn};
 ghost use Rattle.regions.specs.Rows.{quadNumber};
 ghost use Rattle.places.specs.Places.{Place, listMost, withCombined, withWtxids, withParents};
 ghost use Rattle.store.specs.Flat.{Flat};
 ghost use Rattle.store.specs.Shown.{placesIn, heldPlacesIn, Shown, withPlaces, Turns, Seek};
-ghost use Rattle.packages.specs.Records.{PartOf, placeHashes, HashIn, PushedIn};
+ghost use Rattle.packages.specs.Records.{PartOf, placeHashes, HashIn, PushedIn, NoWtxids, ListedIn};
 
 // Words of a row, of a connection's entry and of a place.
 const ROW: usize = 9;
@@ -86,6 +87,21 @@ pub fn push_wtxid(s: &mut [u8], i: usize, n: usize, h: regions::Quad)
     let x = p.from;
     let y = p.to;
     places::push_wtxid(&mut s[x..y], i, n, h);
+}
+
+// Makes the hashes of a list of 32 bytes each the wtxids of the i-th place, which has none.
+pub fn push_wtxids(s: &mut [u8], i: usize, list: &[u8])
+    requires { ⌜ NoWtxids (now s) i × (length (hashesIn (now list)) ≤ listMost) ⌝ }
+    ensures { λ _. ⌜ ListedIn (now (s .entry)) (now (s .exit)) i (hashesIn (now (list .entry))) ⌝ }
+{
+    let n = list.len() / ident::HASH_BYTES;
+    let mut j = 0;
+    while j < n {
+        let h = ident::hash_at(list, j * ident::HASH_BYTES);
+        let q = requests::hash_quad(h);
+        push_wtxid(s, i, j, q);
+        j += 1;
+    }
 }
 
 // Puts h behind the n parents of the i-th place.

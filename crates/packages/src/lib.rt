@@ -4,18 +4,31 @@
 // it is found by the hash of the request's Wtxid key.
 ghost use mathlib.Core.Path.{_≡_};
 ghost use Prim.Native.Nat.{_≤_, _<_};
+ghost use mathlib.Core.Option.{some};
 ghost use mathlib.Core.Bool.{true, false};
 ghost use lib.ListN.{length, getD};
 ghost use Rattle.ident.specs.Number.{wtxid};
 ghost use Rattle.ident.specs.Words.{hashNum, keyNum};
 ghost use Rattle.regions.specs.Rows.{quadNumber};
+ghost use Rattle.lists.specs.Lists.{hashesIn};
+ghost use Rattle.machine.specs.State.{Package};
 ghost use Rattle.machine.specs.Table.{at, change};
+ghost use Rattle.machine.specs.Package.{packaged};
 ghost use Rattle.places.specs.Places.{listMost};
 ghost use Rattle.store.specs.Shown.{rowsIn, placesIn, heldPlacesIn, Kept, Shown};
 ghost use Rattle.requests.specs.Changes.{Tells, Makes};
-ghost use Rattle.packages.specs.Changes.{stageOf, wtxidsOf, combinedOf, OwnerAmong, RequestAt, SpotOf, ReadAt};
+ghost use Rattle.packages.specs.Changes.{stageOf, wtxidsOf, combinedOf, OwnerAmong, RequestAt, SpotOf, ReadAt, OwnedPlain, flagged, TakesParent, withParent, FlagOnly, begun, closed};
 
 pub mod flat;
+
+// Stages of a place.
+const FLAG: u64 = 1;
+
+const AWAITING: u64 = 2;
+
+const ENQUEUED: u64 = 3;
+
+const MOST_PARENTS: usize = 100;
 
 // ---- where the place of a hash stands
 
@@ -171,4 +184,72 @@ pub fn wtxid_at(s: &[u8], i: usize, j: usize) -> ident::Hash
 {
     let q = flat::read_wtxid(s, i, j);
     quad_hash(q)
+}
+
+// ---- flag, package and parents changed, at the Wtxid key with hash h
+
+// The request has an owner, and neither flag nor package: it gets the flag, with no parents yet.
+pub fn open_info(s: &mut [u8], h: ident::Hash)
+    requires { ⌜ Kept (now s) × (heldPlacesIn (now s) < placesIn (now s)) ⌝ }
+    ensures { λ _. ⌜ Makes (now (s .entry)) (now (s .exit)) (λ t. OwnedPlain (at (wtxid (hashNum h)) t)) (change (wtxid (hashNum h)) flagged) ⌝ }
+{
+    let p = seek(s, h);
+    let q = requests::hash_quad(h);
+    store::packages::open_place(s, p.at, q, FLAG);
+}
+
+// Puts a hash behind the parents of the request, which are fewer than 100.
+pub fn add_parent(s: &mut [u8], h: ident::Hash, parent: ident::Hash)
+    requires { ⌜ Kept (now s) ⌝ }
+    ensures { λ _. ⌜ Makes (now (s .entry)) (now (s .exit)) (λ t. TakesParent (at (wtxid (hashNum h)) t)) (change (wtxid (hashNum h)) (withParent (hashNum parent))) ⌝ }
+{
+    let p = seek(s, h);
+    if p.held {
+        let i = p.at;
+        let n = parents(s, i);
+        let q = requests::hash_quad(parent);
+        if n < MOST_PARENTS {
+            flat::push_parent(s, i, n, q);
+        }
+    }
+}
+
+// The flag becomes a package, Awaiting; `list` has its wtxids, 32 bytes each. The parents stay.
+pub fn claim(s: &mut [u8], h: ident::Hash, combined: ident::Hash, list: &[u8])
+    requires { ⌜ Kept (now s) × (length (hashesIn (now list)) ≤ listMost) ⌝ }
+    ensures { λ _. ⌜ Makes (now (s .entry)) (now (s .exit)) (λ t. FlagOnly (at (wtxid (hashNum h)) t)) (change (wtxid (hashNum h)) (packaged (record { combined = hashNum combined; wtxids = hashesIn (now (list .entry)); enqueued = false }))) ⌝ }
+{
+    let p = seek(s, h);
+    if p.held {
+        let i = p.at;
+        let x = store::packages::place_at(s, i);
+        let q = requests::hash_quad(combined);
+        if x.stage == FLAG {
+            flat::push_wtxids(s, i, list);
+            flat::set_combined(s, i, q);
+            store::packages::set_stage(s, i, AWAITING);
+        }
+    }
+}
+
+// The package is Enqueued from now on.
+pub fn enqueue(s: &mut [u8], h: ident::Hash)
+    requires { ⌜ Kept (now s) ⌝ }
+    ensures { λ _. ⌜ ((p : Package) → Makes (now (s .entry)) (now (s .exit)) (λ t. (at (wtxid (hashNum h)) t) .«package» ≡ some p) (change (wtxid (hashNum h)) (packaged (begun p)))) ⌝ }
+{
+    let p = seek(s, h);
+    if p.held {
+        store::packages::set_stage(s, p.at, ENQUEUED);
+    }
+}
+
+// Flag, package and parents go; the owner stays.
+pub fn close(s: &mut [u8], h: ident::Hash)
+    requires { ⌜ Kept (now s) ⌝ }
+    ensures { λ _. ⌜ Makes (now (s .entry)) (now (s .exit)) (λ t. Unit {0}) (change (wtxid (hashNum h)) closed) ⌝ }
+{
+    let p = seek(s, h);
+    if p.held {
+        store::packages::close_place(s, p.at);
+    }
 }
