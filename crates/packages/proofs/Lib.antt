@@ -3,3 +3,4 @@ pub mod Seeking
 pub mod Owners
 pub mod Placing
 pub mod Filling
+pub mod Compacting

@@ -17,12 +17,12 @@ const CONN: usize = 3;
 const PLACE: usize = 824;
 
 // The bytes of a store that its places lie in.
-struct Part {
-    from: usize,
-    to: usize,
+pub struct Part {
+    pub from: usize,
+    pub to: usize,
 }
 
-fn places_part(s: &[u8]) -> Part
+pub fn places_part(s: &[u8]) -> Part
     requires { ⌜ Shown (now s) ⌝ }
     ensures { λ r. ⌜ PartOf (now (s .entry)) (r .from) (r .to) ⌝ }
 {

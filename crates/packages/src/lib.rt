@@ -19,6 +19,7 @@ ghost use Rattle.store.specs.Shown.{rowsIn, placesIn, heldPlacesIn, Kept, Shown
 ghost use Rattle.requests.specs.Changes.{Tells, Makes};
 ghost use Rattle.packages.specs.Changes.{stageOf, wtxidsOf, combinedOf, OwnerAmong, RequestAt, SpotOf, ReadAt, OwnedPlain, flagged, TakesParent, withParent, FlagOnly, begun, closed};
 
+pub mod dead;
 pub mod flat;
 
 // Stages of a place.
