@@ -23,16 +23,16 @@ use Rattle.packages.proofs.Seeking.{head-stage}
 -- ---- filters
 
 module _ {A : Type 0} (p : A → Bool) where
-  filter-append : (a b : List A) → filter p (a ++ b) ≡ filter p a ++ filter p b
+  pub filter-append : (a b : List A) → filter p (a ++ b) ≡ filter p a ++ filter p b
   unfolding filter
   filter-append [] b = refl
   filter-append (x ∷ a) b = elim (test (p x)) [ inl e ↦ rw (e, filter-append a b) | inr e ↦ rw (e, filter-append a b) ]
 
-  filter-one : (x : A) → p x ≡ true → filter p (x ∷ []) ≡ x ∷ []
+  pub filter-one : (x : A) → p x ≡ true → filter p (x ∷ []) ≡ x ∷ []
   unfolding filter
   filter-one x e = rw e
 
-  filter-none : (x : A) → p x ≡ false → filter p (x ∷ []) ≡ []
+  pub filter-none : (x : A) → p x ≡ false → filter p (x ∷ []) ≡ []
   unfolding filter
   filter-none x e = rw e
 

@@ -4,3 +4,4 @@ pub mod Owners
 pub mod Placing
 pub mod Filling
 pub mod Compacting
+pub mod ClosingSets

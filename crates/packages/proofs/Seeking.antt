@@ -119,7 +119,7 @@ module _ (x : Place) {p : Head} (e : p ≡ headOf x) where
 
 -- ---- where a search stops
 
-hash-at : (ps : List Place) (i : ℕ) (d : Place) → i < length ps → getD (placeHashes ps) i 0 ≡ (getD ps i d) .hash
+pub hash-at : (ps : List Place) (i : ℕ) (d : Place) → i < length ps → getD (placeHashes ps) i 0 ≡ (getD ps i d) .hash
 hash-at [] i d h = absurd (omega arith)
 hash-at (p ∷ ps) zero d h = refl
 hash-at (p ∷ ps) (suc i) d h = hash-at ps i d (omega arith)
