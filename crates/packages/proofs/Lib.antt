@@ -5,3 +5,5 @@ pub mod Placing
 pub mod Filling
 pub mod Compacting
 pub mod ClosingSets
+pub mod Sounds
+pub mod Steps
