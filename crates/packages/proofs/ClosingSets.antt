@@ -1,37 +1,31 @@
 -- The places of a set of requests: marked dead, one hash after the other, and what is left when the dead are gone.
 -- Assumes nothing.
-use Prim.Native.Nat.{ℕ, zero, suc, _+_, _≤_, _<_}
+use Prim.Native.Nat.{ℕ, zero, suc, _≤_, _<_}
 use mathlib.Core.Path.{_≡_, refl, sym, ap, subst, _∙_}
 use mathlib.Core.Logic.{inl, inr}
 use mathlib.Core.Bool.{Bool, true, false, _&&_, _||_}
-use mathlib.Core.List.{List, [], _∷_, _++_, map, map-append}
+use mathlib.Core.List.{List, [], _∷_, map, map-append}
 use mathlib.Core.Option.{Option, none, some}
 use native.Mathlib.Nat.{le-refl}
 use native.Mathlib.Omega.{arith}
-use lib.Dec.{ltb, eqb}
+use lib.Dec.{ltb}
 use lib.ListN.{length, getD, set, length-map}
 use borrow.Author.Tests.{eq-eqb, ne-eqb, lt-ltb, ltb-true, ltb-false}
-use Rattle.ident.specs.declared.Kind.{Kind}
-use Rattle.ident.specs.declared.Kind.the-variants.{Txid, Wtxid}
 use Rattle.ident.specs.If.{if_then_else_}
-use Rattle.ident.specs.Number.{Key}
 use Rattle.regions.specs.declared.Quad.{Quad}
-use Rattle.regions.specs.declared.Row.{Row}
 use Rattle.regions.specs.Order.{Sorted, Bound}
 use Rattle.regions.specs.Regions.{each}
 use Rattle.regions.specs.Rows.{quadNumber, quadOf}
 use Rattle.places.specs.declared.Head.{Head}
 use Rattle.places.specs.Places.{Place, headOf, blank, withStage}
-use Rattle.machine.specs.State.{Owner, Package, Request, Table, State, onTable, isSome}
-use Rattle.machine.specs.Table.{one}
-use Rattle.machine.specs.Sound.{Sound, Packed, Lawful, All}
+use Rattle.machine.specs.State.{Package, Request, Table, State, onTable, isSome}
+use Rattle.machine.specs.Sound.{Sound, Lawful, All}
 use Rattle.machine.proofs.Tests.{test, by-test, never}
-use Rattle.store.specs.Flat.{Flat, flatOf, rowOf, rowsFor, rowsOf, placesFor, placesOf, tally}
+use Rattle.store.specs.Flat.{Flat, flatOf, rowsFor, rowsOf, placesFor, placesOf, tally}
 use Rattle.store.specs.FlatSound.{PlacesAscend}
 use Rattle.store.specs.Image.{Shows, Writes}
 use Rattle.store.specs.Shown.{Shown, Seek, withPlaces, Turns}
 use Rattle.store.proofs.Frame.{shown}
-use Rattle.store.proofs.Placed.{Kept}
 use Rattle.store.proofs.Quads.{number-quad}
 use Rattle.store.proofs.RowBack.{rows-like}
 use Rattle.store.proofs.ToFlat.{flat-sound}
@@ -40,7 +34,7 @@ use Rattle.requests.proofs.Keeping.{sized-of, light-of, writes-by}
 use Rattle.packages.specs.Records.{placeHashes}
 use Rattle.packages.specs.Changes.{stageOf, hasPlace, closed}
 use Rattle.packages.specs.Dead.{filter, live, isWtxid, closedIf, closeAll, deadIf, with-hash, Marks}
-use Rattle.packages.proofs.Seeking.{placeIn, place-held, place-free, head-hash, hash-at}
+use Rattle.packages.proofs.Seeking.{placeIn, place-held, place-free, holding, head-hash, hash-at}
 use Rattle.packages.proofs.Compacting.{filter-append, filter-one, filter-none}
 
 -- ---- one place
@@ -171,15 +165,6 @@ stage-some i (some p) e = omega arith
 stage-some true none e = omega arith
 stage-some false none e = never e
 
-on-wtxid : (q : Request) → Lawful q → hasPlace q ≡ true → isWtxid (q .key .kind) ≡ true
-on-wtxid q l e = go (q .info) (q .«package») (l .packed) e
-  where
-    go : (i : Bool) (p : Option Package) → Packed (q .key .kind) (q .owner) i p (q .parents) → (i || isSome p) ≡ true → isWtxid (q .key .kind) ≡ true
-    go true (some p) k e = absurd k
-    go true none k e = ap isWtxid (k .1)
-    go false (some p) k e = ap isWtxid (k .1)
-    go false none k e = never e
-
 closed-none : (q : Request) → placesFor (closed q) ≡ []
 unfolding placesFor
 closed-none q = refl
@@ -192,7 +177,7 @@ module _ (S : ℕ → Bool) where
   closed-one : (q : Request) → Lawful q → placesFor (closedIf S q) ≡ filter live (map (deadIf S) (placesFor q))
   unfolding closedIf
   closed-one q l = elim (test (hasPlace q)) [
-    | inl e ↦ rw (on-wtxid q l e, place-held q e) (elim (test (S (q .key .hash))) [
+    | inl e ↦ rw (ap isWtxid (holding q l e .kind), place-held q e) (elim (test (S (q .key .hash))) [
       | inl t ↦ rw (t, dead-in S (placeIn q) t) (closed-none q ∙ sym (filter-none live (withStage 0 (placeIn q)) refl))
       | inr t ↦ rw (t, dead-out S (placeIn q) t) (place-held q e ∙ sym (filter-one live (placeIn q) (lt-ltb 0 _ (stage-some (q .info) (q .«package») e))))
     ])

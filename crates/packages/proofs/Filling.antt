@@ -1,6 +1,6 @@
 -- The wtxids of a place, put in one after the other; and one place changed several times.
 -- Assumes nothing.
-use Prim.Native.Nat.{ℕ, suc, _+_, _*_, _/_, _≤_, _<_}
+use Prim.Native.Nat.{ℕ, _+_, _*_, _/_, _≤_, _<_}
 use mathlib.Core.Path.{_≡_, refl, sym, ap, subst, _∙_}
 use mathlib.Core.List.{List, [], _∷_, _++_}
 use native.Mathlib.Nat.{mul-comm}
@@ -65,9 +65,15 @@ module _ {b b′ : List ℕ} {i : ℕ} {hs : List ℕ} (k : NoWtxids b i) (d : P
   pub listed-inside : i < heldPlacesIn b′
   listed-inside = set-inside (k .is-shown) i _ (turn (k .is-shown .flat) d (k .none-yet d) (k .is-shown .shows)) (k .inside)
 
--- a place changed again
-pub set-again : (ps : List Place) (i : ℕ) (a d : Place) (g : Place → Place) → i < length ps → set (set ps i a) i (g (getD (set ps i a) i d)) ≡ set ps i (g a)
+-- a place changed again, and a third time
+set-again : (ps : List Place) (i : ℕ) (a d : Place) (g : Place → Place) → i < length ps → set (set ps i a) i (g (getD (set ps i a) i d)) ≡ set ps i (g a)
 set-again ps i a d g l = ap (λ (p : Place). set (set ps i a) i (g p)) (getD-set-same ps i a d l) ∙ set-set ps i a (g a)
+
+pub set-thrice : {b : List ℕ} (f : Flat) (i : ℕ) (a d : Place) (g k : Place → Place) → i < length (f .places)
+    → Shows b (withPlaces (set (set (set (f .places) i a) i (g (getD (set (f .places) i a) i d))) i (k (getD (set (set (f .places) i a) i (g (getD (set (f .places) i a) i d))) i d))) f) → Shows b (withPlaces (set (f .places) i (k (g a))) f)
+set-thrice {b} f i a d g k l h =
+    let ps = f .places in
+    subst (λ (qs : List Place). Shows b (withPlaces qs f)) (ap (λ (qs : List Place). set qs i (k (getD qs i d))) (set-again ps i a d g l) ∙ set-again ps i (g a) d k l) h
 
 -- a place with the flag has no wtxids yet
 flag-empty : (st : State) (s : Sound st) (i : ℕ) (d : Place) → i < length (placesOf (st .table)) → (getD (placesOf (st .table)) i d) .stage ≡ 1 → (getD (placesOf (st .table)) i d) .wtxids ≡ []

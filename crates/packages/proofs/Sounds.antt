@@ -1,7 +1,7 @@
 -- Changes of flag, package and parents keep a state sound, so that one call can follow another.
 -- Assumes nothing.
 use Prim.Native.Nat.{ℕ, _+_, _≤_, _<_}
-use mathlib.Core.Path.{_≡_, refl, sym, ap, _∙_}
+use mathlib.Core.Path.{_≡_, refl, ap}
 use mathlib.Core.Bool.{Bool, true, false, _&&_, _||_}
 use mathlib.Core.List.{List, [], _∷_, _++_}
 use mathlib.Core.Option.{Option, none, some}
@@ -11,7 +11,7 @@ use Rattle.ident.specs.declared.Kind.{Kind}
 use Rattle.ident.specs.declared.Kind.the-variants.{Wtxid}
 use Rattle.ident.specs.Number.{top, Key, wtxid}
 use Rattle.machine.specs.Limits.{maxParents}
-use Rattle.machine.specs.State.{Candidate, Owner, Package, Request, Table, State, onTable, isSome}
+use Rattle.machine.specs.State.{Owner, Package, Request, Table, State, onTable, isSome}
 use Rattle.machine.specs.Table.{at, change, total, any, by, under, byUnder, count, countIn, owners, ownerIn, placeIn, placesHeld}
 use Rattle.machine.specs.Claim.{elem}
 use Rattle.machine.specs.Package.{packaged}
@@ -25,6 +25,7 @@ use Rattle.machine.proofs.Tests.{by-test, never}
 use Rattle.store.proofs.Placed.{Kept}
 use Rattle.packages.specs.Changes.{hasPlace, OwnedPlain, flagged, TakesParent, withParent, closed}
 use Rattle.packages.specs.Dead.{isWtxid, closedIf, closeAll}
+use Rattle.packages.proofs.Seeking.{holding}
 
 -- ---- a change beside the rows
 
@@ -68,22 +69,6 @@ hashes-more (h ∷ hs) n l f = (f .0, hashes-more hs n l (f .1))
 
 parents-more : (hs : List ℕ) (n : ℕ) → n < top → elem n hs ≡ false → length hs < maxParents → ParentsFit hs → ParentsFit (hs ++ (n ∷ []))
 parents-more hs n l e m f = record { hashes = hashes-more hs n l (f .hashes); distinct = distinct-snoc n hs (f .distinct) e; few = omega (arith, length-append hs (n ∷ [])) }
-
--- ---- what `Packed` says by cases
-
--- flag or package: an owner, on a Wtxid key
-pub record Holding (q : Request) : Type 0 where
-  pub owner : isSome (q .owner) ≡ true
-  pub kind : q .key .kind ≡ Wtxid
-
-pub holding : (q : Request) → Lawful q → hasPlace q ≡ true → Holding q
-holding q l e = go (q .info) (q .«package») (l .packed) e
-  where
-    go : (i : Bool) (p : Option Package) → Packed (q .key .kind) (q .owner) i p (q .parents) → (i || isSome p) ≡ true → Holding q
-    go true (some p) k e = absurd k
-    go true none k e = record { owner = k .0; kind = k .1 }
-    go false (some p) k e = record { owner = k .0; kind = k .1 }
-    go false none k e = never e
 
 -- other parents beside flag or package
 repacked : (k : Kind) (o : Option Owner) (i : Bool) (p : Option Package) (hs hs′ : List ℕ) → (i || isSome p) ≡ true → Packed k o i p hs → Packed k o i p hs′

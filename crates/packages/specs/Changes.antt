@@ -12,11 +12,10 @@ use Rattle.regions.specs.declared.Row.{Row}
 use Rattle.regions.specs.Order.{Bound}
 use Rattle.machine.specs.Limits.{maxParents}
 use Rattle.machine.specs.State as machine
-use Rattle.machine.specs.State.{Owner, Package, Table, State, isSome}
+use Rattle.machine.specs.State.{Owner, Package, Table, isSome}
 use Rattle.machine.specs.Table.{at, one}
-use Rattle.machine.specs.Sound.{Sound}
 use Rattle.store.specs.Flat.{Flat, ownBit, placesOf}
-use Rattle.store.specs.Image.{Shows, Writes}
+use Rattle.store.specs.Image.{Shows}
 use Rattle.store.specs.Shown.{heldPlacesIn}
 use Rattle.requests.specs.Changes.{Spans, Tells}
 use Rattle.packages.specs.declared.Request.{Request}

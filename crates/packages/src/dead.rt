@@ -3,7 +3,6 @@
 // The places of a set of requests are closed by `mark_dead` of each and then one `drop_dead`. Between these the bytes write no sound
 // state, but a sound state with some places marked (`Marks`).
 use crate::flat;
-ghost use mathlib.Core.Path.{_≡_};
 ghost use Prim.Native.Nat.{_+_, _*_, _≤_, _<_};
 ghost use lib.ListN.{length};
 ghost use Rattle.ident.specs.Words.{hashNum};
