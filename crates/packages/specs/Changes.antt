@@ -47,7 +47,7 @@ abbrev pub combinedOf : Option Package → ℕ
 combinedOf none = 0
 combinedOf (some p) = p .combined
 
--- "a place is held by a request with a package-info flag or a package"
+-- "A place is held by a request with a package-info flag or a package, and by no other."
 abbrev pub hasPlace : machine.Request → Bool
 hasPlace q = q .info || isSome (q .«package»)
 

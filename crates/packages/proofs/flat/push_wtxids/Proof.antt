@@ -41,8 +41,12 @@ loop-less c = search needs
 
 loop-again : tie.Need-loop-again Inv-loop μ-loop
 loop-again c =
-    let l : c .before .before .before .before .before .before .before .loop .j < length (hashesIn (c .before .before .before .before .before .before .before .before .before .before .args .list .now)) = omega (arith, c .before .before .before .before .before .before .before .loop .inv .1, c .before .before .before .before .before .before .loop-test .taken) in
-    (filled-more (c .before .before .before .before .before .before .before .before .before .before .pre .0) (c .before .before .before .before .before .before .before .loop .inv .0) l (hash-in (c .before .before .before .before .before .before .before .before .before .before .args .list .now) (c .before .before .before .before .before .before .before .loop .j) l (c .before .before .before .before .hash-quad .ensures) (c .before .before .before .before .before .hash-at .ensures)) (c .before .before .push-wtxid .kept .0) (c .before .before .push-wtxid .ensures), c .before .before .before .before .before .before .before .loop .inv .1)
+    let list = c .before .before .before .before .before .before .before .before .before .before .args .list .now in
+    let j = c .before .before .before .before .before .before .before .loop .j in
+    let inv = c .before .before .before .before .before .before .before .loop .inv in
+    let l : j < length (hashesIn list) = omega (arith, inv .1, c .before .before .before .before .before .before .loop-test .taken) in
+    let x = hash-in list j l (c .before .before .before .before .hash-quad .ensures) (c .before .before .before .before .before .hash-at .ensures) in
+    (filled-more (c .before .before .before .before .before .before .before .before .before .before .pre .0) (inv .0) l x (c .before .before .push-wtxid .kept .0) (c .before .before .push-wtxid .ensures), inv .1)
 
 same-length : tie.Need-same-length Inv-loop μ-loop
 same-length c = c .before .loop .inv .0 .long
