@@ -1,1 +1,3 @@
 pub mod KeysBack
+pub mod Given
+pub mod Answer
