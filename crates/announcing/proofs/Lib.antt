@@ -1,2 +1,4 @@
 pub mod Scanning
 pub mod Victims
+pub mod Deciding
+pub mod Entering

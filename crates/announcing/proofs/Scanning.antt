@@ -1,6 +1,6 @@
 -- A scan of rows for the greatest victim: what each test shows, and what one row more does.
 -- Assumes nothing.
-use Prim.Native.Nat.{ℕ, suc, _+_, _-_, _≤_, _<_}
+use Prim.Native.Nat.{ℕ, zero, suc, _+_, _-_, _%_, _^_, _≤_, _<_}
 use mathlib.Core.Path.{_≡_, refl, sym, ap, _∙_}
 use mathlib.Core.Bool.{Bool, true, false, not, _||_}
 use mathlib.Core.List.{List}
@@ -10,16 +10,20 @@ use lib.Dec.{ltb, eqb}
 use lib.ListN.{length, getD}
 use lib.Seq.{drop-cons}
 use borrow.Author.Tests.{lt-ltb, le-ltb, eq-eqb, ne-eqb}
+use Rattle.ident.specs.declared.Kind.{Kind}
+use Rattle.ident.specs.declared.Kind.the-variants.{Wtxid}
 use Rattle.ident.specs.If.{if_then_else_}
 use Rattle.ident.specs.Number.{place}
+use Rattle.words.specs.Words.{number}
 use Rattle.regions.specs.declared.Row.{Row}
 use Rattle.regions.specs.declared.Key.{Key as RowKey}
-use Rattle.regions.specs.Rows.{keyNumber, keyOf}
+use Rattle.regions.specs.Rows.{quadWords, quadNumber, keyNumber, keyOf}
 use Rattle.machine.specs.State.{Entry}
 use Rattle.machine.specs.Announce.{after}
-use Rattle.store.specs.Gather.{keyAt, candidateAt}
+use Rattle.store.specs.Gather.{kindIs, keyAt, candidateAt}
 use Rattle.store.proofs.Keys.{row-number}
-use Rattle.announcing.specs.Evicts.{entryAt, keyAfter, protected, greater, orRow, greatestOver, part}
+use Rattle.announcing.specs.declared.evict.Victim.{Victim}
+use Rattle.announcing.specs.Evicts.{entryAt, found, keyAfter, protected, greater, orRow, greatestOver, part}
 
 -- ---- which of two rows comes after the other
 
@@ -68,13 +72,16 @@ module _ (x y : ℕ) where
   pub second-bit : (x ≡ 1 → ⊥) → eqb y 1 ≡ (eqb x 1 || eqb y 1)
   second-bit n = rw (ne-eqb x 1 n)
 
-unless : (a : Bool) → not a ≡ true → a ≡ false
+pub unless : (a : Bool) → not a ≡ true → a ≡ false
 unless true e = sym e
 unless false e = refl
 
-indeed : (a : Bool) → not a ≡ false → a ≡ true
+pub indeed : (a : Bool) → not a ≡ false → a ≡ true
 indeed true e = refl
 indeed false e = sym e
+
+pub none-found : (v : Victim) → v .some ≡ false → found v ≡ none
+none-found v e = ap (λ (b : Bool). if b then some (entryAt (v .row)) else none) e
 
 -- what a scan has found, as a flag and a row
 abbrev is : Bool → Row → Option Entry
@@ -116,3 +123,13 @@ module _ (rs : List Row) where
   -- a turn of the scan
   pub over-step : (v : Option Entry) {v′ w : Option Entry} {r : Row} (d : Row) (i to : ℕ) → i < to → to ≤ length rs → v′ ≡ orRow v r → r ≡ getD rs i d → greatestOver v (part i to rs) ≡ w → greatestOver v′ (part (i + 1) to rs) ≡ w
   over-step v d i to l h e f q = ap (λ (o : Option Entry). greatestOver o (part (i + 1) to rs)) (e ∙ ap (orRow v) f) ∙ sym (over-more v i to d l h) ∙ q
+
+-- ---- the key of a row
+
+pub kind-not-zero : (b : ℕ) → (b ≡ 0 → ⊥) → Wtxid ≡ kindIs b
+kind-not-zero zero n = absurd (n refl)
+kind-not-zero (suc b) n = refl
+
+pub key-read : (r : Row) {k : Kind} → k ≡ kindIs (r .bits % 2) → record { kind = k; hash = number (2 ^ 64) (quadWords (r .hash)) } ≡ keyAt r
+unfolding keyAt quadNumber
+key-read r e = rw e

@@ -1,12 +1,13 @@
 // Which announcement gives way to a preferred one: of the unpreferred candidates that do not own their request, the one with the
 // greatest (priority, key, connection) (document 01, "announce").
 ghost use mathlib.Core.Path.{_≡_};
-ghost use mathlib.Core.Option.{none};
+ghost use mathlib.Core.Bool.{false};
 ghost use Prim.Native.Nat.{_≤_};
-ghost use Rattle.ident.specs.Words.{hashNum};
+ghost use Rattle.ident.specs.Words.{hashNum, keyNum};
 ghost use Rattle.regions.specs.Rows.{keyOf};
 ghost use Rattle.machine.specs.Announce as machine;
 ghost use Rattle.store.specs.Flat.{Flat};
+ghost use Rattle.store.specs.Gather.{kindIs, keyAt};
 ghost use Rattle.store.specs.Image.{Shows};
 ghost use Rattle.store.specs.Shown.{rowsIn, Shown, Kept};
 ghost use Rattle.requests.specs.Changes.{Tells};
@@ -18,8 +19,9 @@ pub struct Victim {
     pub row: regions::Row,
 }
 
-fn nobody() -> Victim
-    ensures { λ r. ⌜ found r ≡ none ⌝ }
+// Nothing found.
+pub fn nobody() -> Victim
+    ensures { λ r. ⌜ r .some ≡ false ⌝ }
 {
     let hash = regions::Quad {
         w0: 0,
@@ -140,4 +142,27 @@ pub fn victim_anywhere(s: &[u8]) -> Victim
 {
     let n = store::head::rows(s);
     greatest_in(s, 0, n, nobody())
+}
+
+// ---- the victim's key
+
+fn kind_of(b: u64) -> ident::Kind
+    ensures { λ k. ⌜ k ≡ kindIs b ⌝ }
+{
+    if b == 0 {
+        ident::Kind::Txid
+    } else {
+        ident::Kind::Wtxid
+    }
+}
+
+// The key of a row's request.
+pub fn key_of(r: regions::Row) -> ident::Key
+    ensures { λ k. ⌜ keyNum k ≡ keyAt r ⌝ }
+{
+    let q = r.hash;
+    let words = [q.w0, q.w1, q.w2, q.w3];
+    let hash = ident::Hash { words };
+    let kind = kind_of(r.bits % 2);
+    ident::Key { kind, hash }
 }

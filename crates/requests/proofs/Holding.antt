@@ -74,7 +74,7 @@ or-sum a b =
       | inr e ↦ let z : a ≡ 0 = omega (arith, ltb-false) in rw (e, z, zero-add)
     ]
 
-either-kind : (n h : ℕ) → h < top → (t : Table) → Ordered 0 t → (has n ((at (txid h) t) .candidates) || has n ((at (wtxid h) t) .candidates)) ≡ isCandidate n h t
+pub either-kind : (n h : ℕ) → h < top → (t : Table) → Ordered 0 t → (has n ((at (txid h) t) .candidates) || has n ((at (wtxid h) t) .candidates)) ≡ isCandidate n h t
 either-kind n h s t o =
     rw (has-counts n ((at (txid h) t) .candidates), has-counts n ((at (wtxid h) t) .candidates), at-hash h s (λ m. eqb m n) 0 t o) (or-sum (countIn (λ m. eqb m n) ((at (txid h) t) .candidates)) (countIn (λ m. eqb m n) ((at (wtxid h) t) .candidates)))
 

@@ -2,6 +2,7 @@ use Rattle.ident.specs.Number.{txid, wtxid}
 use Rattle.ident.specs.Words.{hashNum}
 use Rattle.store.specs.Flat.{flatOf}
 use Rattle.requests.proofs.Keeping.{kept-shown, from-at, to-at}
+use Rattle.announcing.proofs.Scanning.{none-found}
 use Rattle.announcing.proofs.Victims.{found-at-hash}
 use borrow.Author.Needs.{needs}
 use Rattle.announcing.proofs.evict.victim_at.Statement.{statement}
@@ -35,7 +36,7 @@ returns c = λ st s w.
     let b = c .before .before .before .before .before .key-words2 .ensures in
     let x = c .before .before .before .before .window-of .ensures in
     let y = c .before .before .before .window-of2 .ensures in
-    found-at-hash h (a .small) (st .table) (s .bounded .ordered) (s .bounded .lawful) (c .before .before .nobody .ensures)
+    found-at-hash h (a .small) (st .table) (s .bounded .ordered) (s .bounded .lawful) (none-found (c .before .before .nobody .result) (c .before .before .nobody .ensures))
     (from-at st s (txid h) (a .small) (a .number) (x .from-is st s w)) (to-at st s (txid h) (a .small) (a .number) (x .to-is st s w)) (c .before .greatest-in .ensures (flatOf st) w)
     (from-at st s (wtxid h) (b .small) (b .number) (y .from-is st s w)) (to-at st s (wtxid h) (b .small) (b .number) (y .to-is st s w)) (c .greatest-in2 .ensures (flatOf st) w)
 
