@@ -1,3 +1,7 @@
+pub mod Scanning
+pub mod Victims
+pub mod Deciding
+pub mod Entering
 pub mod Adopting
 pub mod OneParent
 pub mod Repeats
