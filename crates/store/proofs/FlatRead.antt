@@ -24,8 +24,8 @@ use Rattle.store.specs.Read.{readPlace, headIn, flatIn, stateOf}
 use Rattle.store.proofs.Dress.{state-back}
 use Rattle.store.proofs.ToFlat.{flat-sound}
 use Rattle.store.proofs.ReadBack.{PlaceShort, rows-back, conns-back, places-back}
-use Rattle.store.proofs.HeadWords.{inWords, head-words, head-back}
-use Rattle.store.proofs.Frame.{head-length, rowPart, connPart, placePart}
+use Rattle.store.proofs.HeadWords.{inWords, head-words, head-length, head-back}
+use Rattle.store.proofs.Frame.{rowPart, connPart, placePart}
 use Rattle.store.proofs.WordsFit.{staged, few-conns}
 
 -- ---- how long it is
