@@ -4,7 +4,7 @@ use Prim.Native.Nat.{ℕ, zero, suc, _+_, _-_, _≤_, _<_}
 use mathlib.Core.Path.{_≡_, refl, sym, ap, _∙_}
 use mathlib.Core.Bool.{not}
 use mathlib.Core.List.{List, [], _∷_}
-use mathlib.Core.Option.{Option, none, some}
+use mathlib.Core.Option.{some}
 use native.Mathlib.Omega.{arith}
 use lib.Dec.{T as Holds, eqb}
 use lib.ListN.{length, take, drop, getD, set, length-set, length-drop}
@@ -14,7 +14,6 @@ use Rattle.ident.specs.declared.Key.{Key}
 use Rattle.ident.specs.Words.{keyNum}
 use Rattle.words.specs.Words.{splice}
 use Rattle.words.proofs.Splice.{set-splice, splice-more}
-use Rattle.regions.specs.declared.Quad.{Quad}
 use Rattle.regions.specs.declared.Key.{Key as RowKey}
 use Rattle.regions.specs.Rows.{quadWords}
 use Rattle.requests.specs.Changes.{KeyWords}

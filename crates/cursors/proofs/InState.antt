@@ -15,7 +15,7 @@ use Rattle.machine.specs.Wrapper.{dueAt}
 use Rattle.machine.specs.Call.{PollGate}
 use Rattle.machine.specs.Step.{Number, perform}
 use Rattle.store.specs.Flat.{Head, Flat, flatOf}
-use Rattle.store.specs.Image.{pollWords, cursorWords, headWords, Shows, Writes}
+use Rattle.store.specs.Image.{pollWords, cursorWords, headWords, Writes}
 use Rattle.store.specs.Read.{pollIs, headIn}
 use Rattle.store.proofs.Frame.{rowPart, connPart, placePart, framed-is, words-framed}
 use Rattle.store.proofs.HeadWords.{poll-words, cursor-words, inWords, head-words, head-back}
