@@ -5,3 +5,6 @@ pub mod Demands
 pub mod Contract
 pub mod Opening
 pub mod Summing
+pub mod Turns
+pub mod Carried
+pub mod Instances

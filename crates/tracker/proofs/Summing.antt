@@ -38,6 +38,10 @@ module _ (b : List ℕ) (w : SoundStore b) where
   unfolding stateOf flatIn headIn
   limit-word = ap (λ (s : State). s .limit) (state-shown b w)
 
+  pub places-word : getD (words b) 2 0 ≡ w .state .places
+  unfolding stateOf flatIn headIn
+  places-word = ap (λ (s : State). s .places) (state-shown b w)
+
   pub held-word : getD (words b) 3 0 ≡ held (w .state .table)
   unfolding flatIn image
   held-word =
@@ -75,7 +79,7 @@ pub is-sound : (b : List ℕ) (r : Bool) → r ≡ true → Decides r (SoundStor
 is-sound b true e d = d
 is-sound b false e d = never e
 
-not-sound : (b : List ℕ) (r : Bool) → r ≡ false → Decides r (SoundStore b) → SoundStore b → ⊥
+pub not-sound : (b : List ℕ) (r : Bool) → r ≡ false → Decides r (SoundStore b) → SoundStore b → ⊥
 not-sound b true e d = never (sym e)
 not-sound b false e d = d
 
