@@ -2,6 +2,7 @@ pub mod Sizes
 pub mod Stepped
 pub mod Calls
 pub mod Demands
+pub mod Typed
 pub mod Contract
 pub mod Opening
 pub mod Summing
