@@ -15,7 +15,7 @@ use Rattle.machine.specs.Table.{one}
 use Rattle.machine.specs.Fail.{Listed}
 use Rattle.machine.specs.Typed.{Each, KeyTyped}
 use Rattle.machine.specs.Call.{Buffer, Ask, On, keyBytes, plain, keyed, named, takesPlace, askRefusal}
-use Rattle.machine.specs.Step.{Reply, Refused, Number, Keys, Result, answered, listed, perform, keysAnswer, answerBytes, written}
+use Rattle.machine.specs.Step.{Reply, Refused, Number, Keys, Result, answered, listed, perform, answerBytes, written}
 use Rattle.store.specs.Image.{Writes, SoundStore}
 use Rattle.store.specs.Read.{stateOf}
 use Rattle.store.specs.Shown.{Kept}

@@ -1,12 +1,12 @@
 -- What sum does on a sound store: its figures are words of the header; the store stays.
 -- Assumes nothing.
-use Prim.Native.Nat.{ℕ, _+_, _-_, _*_, _/_, _≤_}
+use Prim.Native.Nat.{ℕ, _-_, _*_, _/_, _≤_}
 use mathlib.Core.Path.{_≡_, refl, sym, ap, _∙_}
 use mathlib.Core.Bool.{Bool, true, false}
 use mathlib.Core.List.{List, []}
 use native.Mathlib.Omega.{arith}
 use lib.ListN.{length, drop, getD}
-use Rattle.words.specs.Words.{words, recs, Decides}
+use Rattle.words.specs.Words.{words, Decides}
 use Rattle.words.proofs.Records.{length-recs}
 use Rattle.regions.specs.Rows.{rowSize, readRow}
 use Rattle.machine.specs.Limits.{maxAnnouncements, need}
