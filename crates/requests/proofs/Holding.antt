@@ -1,7 +1,7 @@
 -- Whether a connection is a candidate, from where its row stands.
 -- Assumes nothing.
 use Prim.Native.Nat.{ℕ, _+_, _-_, _≤_, _<_}
-use mathlib.Core.Path.{_≡_, refl, sym, ap, _∙_}
+use mathlib.Core.Path.{_≡_, sym, ap, _∙_}
 use mathlib.Core.Logic.{inl, inr}
 use mathlib.Core.Bool.{Bool, true, false, _||_}
 use mathlib.Core.List.{List, [], _∷_, _++_, map}
@@ -14,7 +14,7 @@ use borrow.Author.Tests.{lt-ltb, le-ltb, ltb-true, ltb-false}
 use Rattle.ident.specs.Number.{top, Key, txid, wtxid}
 use Rattle.regions.specs.declared.Row.{Row}
 use Rattle.regions.specs.Order.{First}
-use Rattle.machine.specs.State.{Candidate, Request, Table}
+use Rattle.machine.specs.State.{Candidate, Table}
 use Rattle.machine.specs.Table.{at, has, countIn, isCandidate}
 use Rattle.machine.specs.Sound.{Ordered}
 use Rattle.machine.proofs.Tests.{test}
@@ -74,7 +74,7 @@ or-sum a b =
       | inr e ↦ let z : a ≡ 0 = omega (arith, ltb-false) in rw (e, z, zero-add)
     ]
 
-either-kind : (n h : ℕ) → h < top → (t : Table) → Ordered 0 t → (has n ((at (txid h) t) .candidates) || has n ((at (wtxid h) t) .candidates)) ≡ isCandidate n h t
+pub either-kind : (n h : ℕ) → h < top → (t : Table) → Ordered 0 t → (has n ((at (txid h) t) .candidates) || has n ((at (wtxid h) t) .candidates)) ≡ isCandidate n h t
 either-kind n h s t o =
     rw (has-counts n ((at (txid h) t) .candidates), has-counts n ((at (wtxid h) t) .candidates), at-hash h s (λ m. eqb m n) 0 t o) (or-sum (countIn (λ m. eqb m n) ((at (txid h) t) .candidates)) (countIn (λ m. eqb m n) ((at (wtxid h) t) .candidates)))
 
