@@ -10,6 +10,8 @@ ghost use Rattle.store.specs.Image.{SoundStore};
 ghost use Rattle.tracker.specs.Outcome.{Does};
 ghost use Rattle.exports.specs.Status.{numbered, figured, statusOf, handedOut};
 
+pub mod candidates;
+
 // The status of an answer.
 fn status(a: tracker::Answer) -> u64
     ensures { λ r. ⌜ r ≡ statusOf a ⌝ }
