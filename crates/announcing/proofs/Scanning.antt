@@ -9,7 +9,7 @@ use native.Mathlib.Omega.{arith}
 use lib.Dec.{ltb, eqb}
 use lib.ListN.{length, getD}
 use lib.Seq.{drop-cons}
-use borrow.Author.Tests.{lt-ltb, le-ltb, eq-eqb, ne-eqb}
+use borrow.Author.Tests.{lt-ltb, le-ltb, eq-eqb, ne-eqb, not-true, not-false}
 use Rattle.ident.specs.declared.Kind.{Kind}
 use Rattle.ident.specs.declared.Kind.the-variants.{Wtxid}
 use Rattle.ident.specs.If.{if_then_else_}
@@ -72,14 +72,6 @@ module _ (x y : ℕ) where
   pub second-bit : (x ≡ 1 → ⊥) → eqb y 1 ≡ (eqb x 1 || eqb y 1)
   second-bit n = rw (ne-eqb x 1 n)
 
-pub unless : (a : Bool) → not a ≡ true → a ≡ false
-unless true e = sym e
-unless false e = refl
-
-pub indeed : (a : Bool) → not a ≡ false → a ≡ true
-indeed true e = refl
-indeed false e = sym e
-
 pub none-found : (v : Victim) → v .some ≡ false → found v ≡ none
 none-found v e = ap (λ (b : Bool). if b then some (entryAt (v .row)) else none) e
 
@@ -100,10 +92,10 @@ module _ (r : Row) {x : Bool} (ex : x ≡ protected (r .bits)) where
 
     module _ {a : Bool} (ea : a ≡ after (entryAt r) (entryAt row)) where
       pub row-less : (b : Bool) → b ≡ true → not a ≡ true → is b row ≡ orRow (is b row) r
-      row-less b n d = rw n (sym (row-goes e (some (entryAt row)) ∙ rw (sym ea ∙ unless a d)))
+      row-less b n d = rw n (sym (row-goes e (some (entryAt row)) ∙ rw (sym ea ∙ not-true a d)))
 
       pub row-more : (b : Bool) → b ≡ true → not a ≡ false → some (entryAt r) ≡ orRow (is b row) r
-      row-more b n d = rw n (sym (row-goes e (some (entryAt row)) ∙ rw (sym ea ∙ indeed a d)))
+      row-more b n d = rw n (sym (row-goes e (some (entryAt row)) ∙ rw (sym ea ∙ not-false a d)))
 
 -- ---- a part of a list of rows
 
