@@ -92,10 +92,10 @@ pub fn push_wtxids(s: &mut [u8], i: usize, list: &[u8])
     requires { ⌜ NoWtxids (now s) i × (length (hashesIn (now list)) ≤ listMost) ⌝ }
     ensures { λ _. ⌜ ListedIn (now (s .entry)) (now (s .exit)) i (hashesIn (now (list .entry))) ⌝ }
 {
-    let n = list.len() / ident::HASH_BYTES;
+    let n = lists::hashes(list);
     let mut j = 0;
     while j < n {
-        let h = ident::hash_at(list, j * ident::HASH_BYTES);
+        let h = lists::hash_in(list, j);
         let q = requests::hash_quad(h);
         push_wtxid(s, i, j, q);
         j += 1;
