@@ -15,7 +15,7 @@ enum-known-f-2 : tie.Need-enum-known-f-2
 enum-known-f-2 c = search needs
 
 returns : tie.Need-returns
-returns c = sum-refused _ _ _ _ (c .before .before .before .before .before .args .s .now) (sum-told (c .before .before .before .before .before .args .s .now) (c .before .before .before .sum .ensures) (c .before .f .given .1))
+returns c = sum-refused (c .before .before .before .before .before .args .s .now) _ _ _ _ (sum-told (c .before .before .before .before .before .args .s .now) (c .before .before .before .sum .ensures) (c .before .f .given .1))
 
 returns-2 : tie.Need-returns-2
 returns-2 c = sum-told (c .before .before .before .before .before .args .s .now) (c .before .before .before .sum .ensures) (c .before .f2 .given .1)
