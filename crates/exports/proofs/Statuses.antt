@@ -20,7 +20,7 @@ use Rattle.tracker.specs.declared.Answer.{Answer}
 use Rattle.tracker.specs.declared.Figures.{Figures}
 use Rattle.tracker.specs.declared.Listing.{Listing}
 use Rattle.tracker.specs.declared.Answer.the-variants.{Refused as No, Number as Yes}
-use Rattle.exports.specs.Status.{statusOf, handedOut, numbered, figured, counted}
+use Rattle.exports.specs.Status.{statusOf, handedOut, numbered, figured, counted, Stays}
 
 -- ---- a refusal's number is not 0
 
@@ -54,6 +54,15 @@ module _ (c : Call) (h : Replies c) {b z : List ℕ} {u : Buffer} where
   numbered-told (No zero) was d e = absurd (refused-zero c h d)
   numbered-told (No (suc k)) was d e = rw (e .0) d
   numbered-told (Yes k) was d e = rw (e .0, e .1) d
+
+-- and refused, what stood there stays
+pub stays : (r was : ℕ) → Stays r was was
+stays zero was = tt
+stays (suc k) was = refl
+
+pub handed-stays : (a : Answer) (was : ℕ) {r n : ℕ} → (r ≡ statusOf a) × (n ≡ handedOut a was) → Stays r was n
+handed-stays (No k) was e = rw (e .0, e .1) (stays k was)
+handed-stays (Yes k) was e = rw (e .0) tt
 
 pub announces : (c : Candidate) → Replies (On (Announce c))
 unfolding carryOut perform

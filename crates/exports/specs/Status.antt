@@ -1,6 +1,7 @@
 -- What the numbers of an exported call say, in document 01's numbers and values.
 -- Assumes nothing.
 use Prim.Native.Nat.{ℕ, zero, suc}
+use mathlib.Core.Path.{_≡_}
 use Rattle.machine.specs.Wrapper.{Sums}
 use Rattle.machine.specs.Call.{Buffer}
 use Rattle.machine.specs.Step.{Reply, Refused, Number, Keys, Summed}
@@ -32,3 +33,8 @@ figured (suc k) held free permille = Refused (suc k)
 abbrev pub counted : ℕ → ℕ → Buffer → Reply
 counted zero n u = Keys (keysIn n u)
 counted (suc k) n u = Refused (suc k)
+
+-- a call that is refused hands nothing out: what stood there stays
+abbrev pub Stays : ℕ → ℕ → ℕ → Type 0
+Stays zero was is = Unit {0}
+Stays (suc k) was is = is ≡ was

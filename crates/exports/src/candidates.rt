@@ -7,7 +7,7 @@ ghost use Rattle.lists.specs.Lists.{hashesIn};
 ghost use Rattle.requests.specs.Changes.{candidateOf};
 ghost use Rattle.tracker.specs.Outcome.{Does};
 ghost use Rattle.exports.specs.Arguments.{candidateIn};
-ghost use Rattle.exports.specs.Status.{numbered, counted};
+ghost use Rattle.exports.specs.Status.{numbered, counted, Stays};
 
 // One announcement from its parts, the item by its type number.
 fn candidate(
@@ -45,6 +45,7 @@ pub extern "C" fn tracker_announce(
     reply: &mut u64,
 ) -> u64
     ensures { λ r. ⌜ Does (On (Announce (candidateIn connection «item_type» (now (hash .entry)) ready preferred priority))) (now (s .entry)) (record { reply = numbered r (now (reply .exit)); buffer = []; store = now (s .exit) }) ⌝ }
+    ensures kept { λ r. ⌜ Stays r (now (reply .entry)) (now (reply .exit)) ⌝ }
 {
     let c = candidate(connection, item_type, hash, ready, preferred, priority);
     let a = tracker::candidates::announce(s, c);
@@ -64,6 +65,7 @@ pub extern "C" fn tracker_request_parent(
     reply: &mut u64,
 ) -> u64
     ensures { λ r. ⌜ Does (On (RequestParent (candidateIn connection «item_type» (now (hash .entry)) ready preferred priority))) (now (s .entry)) (record { reply = numbered r (now (reply .exit)); buffer = []; store = now (s .exit) }) ⌝ }
+    ensures kept { λ r. ⌜ Stays r (now (reply .entry)) (now (reply .exit)) ⌝ }
 {
     let c = candidate(connection, item_type, hash, ready, preferred, priority);
     let a = tracker::candidates::request_parent(s, c);
@@ -81,6 +83,7 @@ pub extern "C" fn tracker_announce_parents(
     count: &mut u64,
 ) -> u64
     ensures { λ r. ⌜ Does (On (AnnounceParents connection (hashesIn (now (parents .entry))) clock (now (answer .entry)))) (now (s .entry)) (record { reply = counted r (now (count .exit)) (now (answer .exit)); buffer = now (answer .exit); store = now (s .exit) }) ⌝ }
+    ensures kept { λ r. ⌜ Stays r (now (count .entry)) (now (count .exit)) ⌝ }
 {
     let l = tracker::candidates::announce_parents(s, connection, parents, clock, answer);
     match l {

@@ -28,8 +28,8 @@ pub fn announce(s: &mut [u8], c: requests::Candidate) -> Answer
     replied(announcing::announce(&mut s[..n], c))
 }
 
-// The same for a parent that is missing. A connection that is a candidate already is no longer refused: it takes the smaller ready time and
-// priority, and turns preferred.
+// The same for a parent that is missing. A connection that is a candidate already gets 1: it takes the smaller ready time and priority, and
+// turns preferred.
 pub fn request_parent(s: &mut [u8], c: requests::Candidate) -> Answer
     ensures { λ r. ⌜ Does (On (RequestParent (candidateOf c))) (now (s .entry)) (record { reply = replyOf r; buffer = []; store = now (s .exit) }) ⌝ }
 {
@@ -44,7 +44,7 @@ pub fn request_parent(s: &mut [u8], c: requests::Candidate) -> Answer
     replied(announcing::request_parent(&mut s[..n], c))
 }
 
-// Requests the parents of a transaction, 32 bytes each, of the connection. The keys of those that it keeps stand in the answer.
+// Requests the parents of a transaction, 32 bytes each, of the connection. The keys of those that are kept stand in the answer.
 pub fn announce_parents(
     s: &mut [u8],
     connection: u64,

@@ -2,7 +2,7 @@
 -- Assumes nothing.
 use borrow.Author.Needs.{needs}
 use Rattle.machine.specs.Call.{On, RequestParent}
-use Rattle.exports.proofs.Statuses.{asked-for, numbered-told, requests-parent}
+use Rattle.exports.proofs.Statuses.{asked-for, numbered-told, handed-stays, requests-parent}
 use Rattle.exports.proofs.candidates.tracker_request_parent.Statement.{statement}
 use Rattle.exports.proofs.candidates.tracker_request_parent.Tie as tie
 
@@ -19,7 +19,7 @@ same-length : tie.Need-same-length
 same-length c = search needs
 
 returns : tie.Need-returns
-returns c = numbered-told _ (requests-parent _) (c .before .before .before .before .request-parent .result) _ (asked-for (λ x. On (RequestParent x)) (c .before .before .before .before .before .before .candidate .ensures) (c .before .before .before .before .request-parent .ensures)) (c .hand-out .ensures)
+returns c = (numbered-told _ (requests-parent _) (c .before .before .before .before .request-parent .result) _ (asked-for (λ x. On (RequestParent x)) (c .before .before .before .before .before .before .candidate .ensures) (c .before .before .before .before .request-parent .ensures)) (c .hand-out .ensures), handed-stays (c .before .before .before .before .request-parent .result) _ (c .hand-out .ensures))
 
 pub tracker-request-parent-spec : {M : Type 1} → statement M
 tracker-request-parent-spec =
