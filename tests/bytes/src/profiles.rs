@@ -1,6 +1,6 @@
 //! Named profiles: the sizes, states and values that a run draws from.
 
-use oracle::calls::Hash;
+use oracle::calls::{Hash, Kind};
 use oracle::random::{self, Rng, Shape};
 use oracle::sound::MAX_OF_CONNECTION;
 use oracle::state::State;
@@ -22,6 +22,8 @@ pub enum Start {
     Any,
     /// L held, or a few less.
     Full,
+    /// L held, all unpreferred and unowned, every Txid request marked.
+    Marked,
     /// One connection with 5,000, or as many as fit, or a few less.
     OneConnection,
 }
@@ -68,6 +70,15 @@ const LARGE: Profile = Profile {
 pub const PROFILES: &[Profile] = &[
     SMALL,
     Profile { name: "few of each, any state", start: Start::Any, ..SMALL },
+    Profile {
+        name: "the first calls on few of each, marked",
+        sizes: &[(1, 1), (2, 1), (3, 1)],
+        start: Start::Marked,
+        width: 1,
+        connections: 3,
+        calls: 8,
+        ..SMALL
+    },
     Profile {
         name: "more than eight connections at two hashes",
         sizes: &[(9, 1), (40, 1), (100, 2)],
@@ -144,11 +155,16 @@ impl Profile {
             Start::Opened => Shape { held: 0, ..shape },
             Start::Any => Shape::any(rng, l, q),
             Start::Full => shape,
+            Start::Marked => Shape { held: l, places: 0, ..shape },
             Start::OneConnection => {
                 Shape { held: l.min(MAX_OF_CONNECTION) - less, connections: 1, spread: 1, ..shape }
             }
         };
-        random::state(rng, shape)
+        let mut state = random::state(rng, shape);
+        if matches!(self.start, Start::Marked) {
+            mark(&mut state);
+        }
+        state
     }
 
     pub fn hash(&self, rng: &mut Rng) -> Hash {
@@ -160,5 +176,13 @@ impl Profile {
         };
         word.copy_from_slice(&rng.word().to_le_bytes());
         hash
+    }
+}
+
+fn mark(state: &mut State) {
+    for request in &mut state.requests {
+        request.owner = None;
+        request.fallback = request.key.kind == Kind::Txid;
+        request.candidates.iter_mut().for_each(|candidate| candidate.preferred = false);
     }
 }

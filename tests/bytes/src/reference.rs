@@ -15,6 +15,16 @@ type Rank = (u64, [u64; HASH]);
 /// What eviction goes by.
 type Weight = (u64, Rank, u64);
 
+/// A row that is to go.
+#[derive(Clone, Copy)]
+struct Victim {
+    i: usize,
+    weight: Weight,
+    /// The next that would go, and the greatest that is spared for owning its request.
+    second: Option<Weight>,
+    owner: Option<Weight>,
+}
+
 pub struct Reference {
     pub words: Vec<u64>,
 }
@@ -117,24 +127,29 @@ impl Reference {
         }
     }
 
-    /// The greatest by priority, key and connection among unpreferred rows that do not own their request, and the
-    /// one after it.
-    fn victims(&self, among: impl Iterator<Item = usize>) -> Option<(usize, Weight, Option<Weight>)> {
-        let mut found: Option<(usize, Weight, Option<Weight>)> = None;
+    /// The victim among these rows: the greatest by priority, key and connection of those that are unpreferred and do
+    /// not own their request.
+    fn victim(&self, among: impl Iterator<Item = usize>) -> Option<Victim> {
+        let mut found: Option<Victim> = None;
+        let mut owner = None;
         for i in among {
             let row = &self.rows()[i];
-            if row[row::BITS] & (row::PREFERRED | row::OWNS) != 0 {
+            let weight = (row[row::PRIORITY], rank_of(row), row[row::CONNECTION]);
+            if row[row::BITS] & row::PREFERRED != 0 {
                 continue;
             }
-            let weight = (row[row::PRIORITY], rank_of(row), row[row::CONNECTION]);
-            found = match found {
-                Some((best, greatest, second)) if weight < greatest => {
-                    Some((best, greatest, second.max(Some(weight))))
+            if row[row::BITS] & row::OWNS != 0 {
+                owner = owner.max(Some(weight));
+                continue;
+            }
+            match &mut found {
+                Some(victim) if weight < victim.weight => victim.second = victim.second.max(Some(weight)),
+                _ => {
+                    found = Some(Victim { i, weight, second: found.map(|victim| victim.weight), owner: None })
                 }
-                other => Some((i, weight, other.map(|(_, greatest, _)| greatest))),
-            };
+            }
         }
-        found
+        found.map(|victim| Victim { owner, ..victim })
     }
 
     fn candidate_at(&self, hash: Hash, connection: u64) -> Option<usize> {
@@ -157,29 +172,31 @@ impl Reference {
         let event = match (crowded, full) {
             (false, false) => Event::Added,
             _ if !c.preferred => return if crowded { Event::EightThere } else { Event::Full },
-            (true, _) => match self.victims(at_hash) {
+            (true, _) => match self.victim(at_hash) {
                 None => return Event::NoneAtHash,
-                Some(found) => self.evict(found, Event::EvictedAtHash, tally),
+                Some(victim) => self.evict(victim, key, tally, Event::EvictedAtHash),
             },
-            (false, true) => match self.victims(0..self.rows().len()) {
+            (false, true) => match self.victim(0..self.rows().len()) {
                 None => return Event::NoneAnywhere,
-                Some(found) => self.evict(found, Event::EvictedAnywhere, tally),
+                Some(victim) => self.evict(victim, key, tally, Event::EvictedAnywhere),
             },
         };
         self.insert(key, c);
         event
     }
 
-    fn evict(
-        &mut self,
-        (i, greatest, second): (usize, Weight, Option<Weight>),
-        event: Event,
-        tally: &mut Tally,
-    ) -> Event {
-        if let Some(tie) = second.and_then(|second| tie(greatest, second)) {
+    fn evict(&mut self, victim: Victim, key: Key, tally: &mut Tally, event: Event) -> Event {
+        if let Some(tie) = victim.second.and_then(|second| tie(victim.weight, second)) {
             tally.event(tie);
         }
-        self.remove(i);
+        if victim.owner > Some(victim.weight) {
+            tally.event(Event::OwnerSpared);
+        }
+        let last = self.at(key) == (victim.i..victim.i + 1);
+        if last && self.rows()[victim.i][row::BITS] & row::MARK != 0 {
+            tally.event(Event::MarkGone);
+        }
+        self.remove(victim.i);
         event
     }
 

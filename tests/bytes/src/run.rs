@@ -12,6 +12,8 @@ use crate::trial::{Library, Trial};
 
 /// Calls in which every size of a large profile has one run.
 pub const ROUND: u64 = 20_000;
+/// A profile of short runs has several at once, of about so many calls.
+const SHARE: u64 = 150;
 /// One call in so many is on a damaged copy of the store.
 const DAMAGED: u64 = 30;
 /// Bytes past the need are fewer than this.
@@ -31,7 +33,7 @@ pub fn run(
     let tail = draw.bytes(past);
     let mut trial = Trial::new(library, tally, &state, tail);
     let mut calls = 0;
-    let about = |calls, text| format!("{}, L {l}, Q {q}, call {calls}: {text}", profile.name);
+    let about = |calls, text| format!("profile \"{}\", L {l}, Q {q}, call {calls}: {text}", profile.name);
     if matches!(profile.start, Start::Opened) {
         trial.store = draw.bytes(trial.store.len());
         trial.step(&Ask::Open { l, q }).map_err(|text| about(0, text))?;
@@ -74,10 +76,13 @@ pub fn rounds(calls: u64, seed: u64, library: Library, tally: &mut Tally) -> Res
             .flat_map(|profile| profile.sizes.iter().map(move |sizes| (profile, *sizes)));
         while tally.calls < end {
             let (profile, sizes) = large.next().unwrap_or_else(|| small(&mut rng));
-            let own = Rng::new(rng.next());
-            let number = tally.runs + 1;
-            run(profile, sizes, own, library, tally)
-                .map_err(|text| format!("seed {seed}, run {number}: {text}"))?;
+            let times = if profile.large { 1 } else { (SHARE / profile.calls).max(1) };
+            for _ in 0..times {
+                let own = Rng::new(rng.next());
+                let number = tally.runs + 1;
+                run(profile, sizes, own, library, tally)
+                    .map_err(|text| format!("seed {seed}, run {number}: {text}"))?;
+            }
         }
     }
     Ok(())

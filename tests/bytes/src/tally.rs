@@ -32,6 +32,8 @@ events! {
     TieOfHash: "evicted of equal priorities, by the hash",
     TieOfLowWord: "evicted of equal priorities, by the hash's lowest word",
     TieOfConnection: "evicted of equal priorities, by the connection",
+    OwnerSpared: "evicted, a greater one spared as it owns its request",
+    MarkGone: "evicted, the announced request with its mark, made anew",
 }
 
 impl Event {
