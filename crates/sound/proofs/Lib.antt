@@ -8,6 +8,7 @@ pub mod Groups
 pub mod Halves
 pub mod Owned
 pub mod Hashes
+pub mod Marks
 pub mod Stage
 pub mod Exact
 pub mod PlaceTests

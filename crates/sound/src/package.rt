@@ -1,7 +1,8 @@
 // The test of the package places: each written out by its words, fit, with its owner among the rows, ascending by hash.
 ghost use mathlib.Core.Path.{_≡_};
-ghost use Prim.Native.Nat.{_+_, _*_, _≤_};
+ghost use Prim.Native.Nat.{_+_, _*_, _≤_, _<_};
 ghost use lib.ListN.{length};
+ghost use mathlib.Core.Bool.{false};
 ghost use Rattle.words.specs.Words.{words, recs, Decides};
 ghost use Rattle.regions.specs.Rows.{rowSize, readRow, quadNumber};
 ghost use Rattle.places.specs.Places.{placeSize, listMost};
@@ -9,7 +10,7 @@ ghost use Rattle.machine.specs.Claim.{elem};
 ghost use Rattle.machine.specs.Sound.{NoRepeat};
 ghost use Rattle.store.specs.FlatSound.{countRows, ownsKey};
 ghost use Rattle.sound.specs.Rows.{RowsSound};
-ghost use Rattle.sound.specs.Places.{PlaceSound, PlacesSound, PlaceFollows, hashesIn, Padded, StagePlain};
+ghost use Rattle.sound.specs.Places.{PlaceSound, PlacesSound, PlaceFollows, hashesIn, Padded, StagePlain, foldOf, slots, slotOf};
 use super::group::owners;
 use super::group::run_end;
 
@@ -32,6 +33,11 @@ const KEPT: usize = 811;
 
 // Wtxids of a package at most, and parents of a request.
 const LIST: u64 = 100;
+
+// Marks of `distinct`, and a factor that spreads them.
+const SLOTS: u64 = 4096;
+
+const SPREAD: u64 = 0x1E37_79B1;
 
 // Whether two hashes are equal.
 pub fn same_hash(a: regions::Quad, b: regions::Quad) -> bool
@@ -67,18 +73,49 @@ fn has_hash(s: &[u8], a: usize, from: usize, to: usize, h: regions::Quad) -> boo
     false
 }
 
-// Whether the n hashes of the list that starts at the word a are distinct.
+// A hash's words in one.
+fn fold(h: regions::Quad) -> u64
+    ensures { λ r. ⌜ r ≡ foldOf h ⌝ }
+{
+    h.w0 ^ h.w1 ^ h.w2 ^ h.w3
+}
+
+// Where `distinct` marks a hash.
+fn slot(h: regions::Quad) -> usize
+    ensures { λ r. ⌜ (r ≡ slotOf (quadNumber h)) × (r < slots) ⌝ }
+{
+    let a = fold(h);
+    let b = a % 0x1_0000_0000 + a / 0x1_0000_0000;
+    (b * SPREAD / 0x10_0000 % SLOTS) as usize
+}
+
+// The same of an h that is not among them if it has no mark.
+fn has_marked(s: &[u8], a: usize, from: usize, to: usize, h: regions::Quad, mark: u8) -> bool
+    requires { ⌜ (from ≤ to) × (8 * (a + 4 * to) ≤ length (now s)) × (mark ≡ 0 → elem (quadNumber h) (hashesIn (words (now s)) a from to) ≡ false) ⌝ }
+    ensures { λ r. ⌜ r ≡ elem (quadNumber h) (hashesIn (words (now (s .entry))) a from to) ⌝ }
+{
+    if mark == 0 {
+        return false;
+    }
+    has_hash(s, a, from, to, h)
+}
+
+// Whether the n hashes of the list that starts at the word a are distinct. The last comes first; a hash without a mark is compared
+// with no other.
 fn distinct(s: &[u8], a: usize, n: usize) -> bool
     requires { ⌜ 8 * (a + 4 * n) ≤ length (now s) ⌝ }
     ensures { λ r. ⌜ Decides r (NoRepeat (hashesIn (words (now (s .entry))) a 0 n)) ⌝ }
 {
-    let mut k = 0;
-    while k < n {
-        let h = regions::read_quad(s, a + k * 4);
-        if has_hash(s, a, k + 1, n, h) {
+    let mut marks: [u8; 4096] = [0; 4096];
+    let mut k = n;
+    while 0 < k {
+        let h = regions::read_quad(s, a + (k - 1) * 4);
+        let x = slot(h);
+        if has_marked(s, a, k, n, h, marks[x]) {
             return false;
         }
-        k += 1;
+        marks[x] = 1;
+        k -= 1;
     }
     true
 }
