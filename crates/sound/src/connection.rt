@@ -27,8 +27,10 @@ const MANY: usize = 16384;
 
 const FEW: usize = 512;
 
-// Guesses where a connection's entry is.
-const GUESSES: u64 = 256;
+// Where a window's entries are guessed by the low bits of a connection: masks of those bits.
+const MANY_MASK: u64 = 32767;
+
+const FEW_MASK: u64 = 2047;
 
 // Whether the entry c is fit to stand right behind p.
 fn entry_fits(p: regions::Conn, c: regions::Conn) -> bool
@@ -111,21 +113,58 @@ fn bump(t: &mut [u64], lo: usize, k: usize, w: u64)
     }
 }
 
+// Where the guess of x's entry is kept.
+fn low_bits(x: u64, mask: u64) -> usize
+    ensures { λ r. ⌜ r ≤ mask ⌝ }
+{
+    (x & mask) as usize
+}
+
+fn wide(x: u16) -> usize
+    ensures { λ r. ⌜ r < 2 ^ 16 ⌝ }
+{
+    x as usize
+}
+
+// Keeps for the entries from lo on where they are, counted from lo. (Of two that meet, the later; a guess is only tried.)
+fn fill_guesses(s: &[u8], n: usize, lo: usize, guess: &mut [u16], mask: u64)
+    requires { ⌜ (8 * (connSize * n) ≤ length (now s)) × (mask < length (now guess)) ⌝ }
+    ensures { λ _. ⌜ length (now (guess .exit)) ≡ length (now (guess .entry)) ⌝ }
+{
+    let mut i = lo;
+    while i < n {
+        let j = i - lo;
+        if j >= MANY {
+            return;
+        }
+        let at = low_bits(words::get(s, i * CONN), mask);
+        guess[at] = j as u16;
+        i += 1;
+    }
+}
+
 // Counts the n rows of the entries from lo on, of which there are c in all. False if a row's connection has no entry.
-fn count_rows(rows: &[u8], n: usize, conns: &[u8], c: usize, lo: usize, t: &mut [u64]) -> bool
-    requires { ⌜ (8 * (rowSize * n) ≤ length (now rows)) × (8 * (connSize * c) ≤ length (now conns)) × (n ≤ maxAnnouncements) × Rising (names c (words (now conns))) × ((j : ℕ) → getD (now t) j 0 ≡ 0) ⌝ }
+fn count_rows(
+    rows: &[u8],
+    n: usize,
+    conns: &[u8],
+    c: usize,
+    lo: usize,
+    t: &mut [u64],
+    guess: &[u16],
+    mask: u64,
+) -> bool
+    requires { ⌜ (8 * (rowSize * n) ≤ length (now rows)) × (8 * (connSize * c) ≤ length (now conns)) × (n ≤ maxAnnouncements) × Rising (names c (words (now conns))) × ((j : ℕ) → getD (now t) j 0 ≡ 0) × (lo ≤ c) × (mask < length (now guess)) ⌝ }
     ensures { λ b. ⌜ Tallying b (names c (words (now (conns .entry)))) (recs rowSize readRow n (words (now (rows .entry)))) lo (now (t .exit)) × (length (now (t .exit)) ≡ length (now (t .entry))) ⌝ }
 {
-    let mut guess: [usize; 256] = [0; 256];
     let mut i = 0;
     while i < n {
         let r = regions::read_row(rows, i);
-        let g = (r.conn % GUESSES) as usize;
-        let k = find_entry(conns, c, r.conn, guess[g]);
+        let at = low_bits(r.conn, mask);
+        let k = find_entry(conns, c, r.conn, lo + wide(guess[at]));
         if k >= c {
             return false;
         }
-        guess[g] = k;
         bump(t, lo, k, 1 + r.bits / 8 % 2 * HALF);
         i += 1;
     }
@@ -166,11 +205,20 @@ fn counts_match(s: &[u8], n: usize, lo: usize, t: &[u64]) -> bool
 }
 
 // Whether each of the entries from lo on that t has a counter for has its rows' counts, and each row's connection has an entry.
-fn window_fits(rows: &[u8], n: usize, conns: &[u8], c: usize, lo: usize, t: &mut [u64]) -> bool
-    requires { ⌜ (8 * (rowSize * n) ≤ length (now rows)) × (8 * (connSize * c) ≤ length (now conns)) × (n ≤ maxAnnouncements) × Rising (names c (words (now conns))) × ((j : ℕ) → getD (now t) j 0 ≡ 0) × (lo ≤ c) ⌝ }
+fn window_fits(
+    rows: &[u8],
+    n: usize,
+    conns: &[u8],
+    c: usize,
+    lo: usize,
+    t: &mut [u64],
+    guess: &[u16],
+    mask: u64,
+) -> bool
+    requires { ⌜ (8 * (rowSize * n) ≤ length (now rows)) × (8 * (connSize * c) ≤ length (now conns)) × (n ≤ maxAnnouncements) × Rising (names c (words (now conns))) × ((j : ℕ) → getD (now t) j 0 ≡ 0) × (lo ≤ c) × (mask < length (now guess)) ⌝ }
     ensures { λ b. ⌜ Decides b (Window (names c (words (now (conns .entry)))) (recs rowSize readRow n (words (now (rows .entry)))) (recs connSize readConn c (words (now (conns .entry)))) lo (length (now (t .entry)))) ⌝ }
 {
-    if !count_rows(rows, n, conns, c, lo, t) {
+    if !count_rows(rows, n, conns, c, lo, t, guess, mask) {
         return false;
     }
     counts_match(conns, c, lo, t)
@@ -181,8 +229,10 @@ fn few_fit(rows: &[u8], n: usize, conns: &[u8], c: usize) -> bool
     requires { ⌜ (8 * (rowSize * n) ≤ length (now rows)) × (8 * (connSize * c) ≤ length (now conns)) × (n ≤ maxAnnouncements) × Rising (names c (words (now conns))) ⌝ }
     ensures { λ b. ⌜ Decides b (Window (names c (words (now (conns .entry)))) (recs rowSize readRow n (words (now (rows .entry)))) (recs connSize readConn c (words (now (conns .entry)))) 0 few) ⌝ }
 {
+    let mut guess: [u16; 2048] = [0; 2048];
+    fill_guesses(conns, c, 0, &mut guess, FEW_MASK);
     let mut t: [u64; FEW] = [0; FEW];
-    window_fits(rows, n, conns, c, 0, &mut t)
+    window_fits(rows, n, conns, c, 0, &mut t, &guess, FEW_MASK)
 }
 
 // The window of the many entries from lo on.
@@ -190,8 +240,10 @@ fn many_fit(rows: &[u8], n: usize, conns: &[u8], c: usize, lo: usize) -> bool
     requires { ⌜ (8 * (rowSize * n) ≤ length (now rows)) × (8 * (connSize * c) ≤ length (now conns)) × (n ≤ maxAnnouncements) × Rising (names c (words (now conns))) × (lo ≤ c) ⌝ }
     ensures { λ b. ⌜ Decides b (Window (names c (words (now (conns .entry)))) (recs rowSize readRow n (words (now (rows .entry)))) (recs connSize readConn c (words (now (conns .entry)))) lo many) ⌝ }
 {
+    let mut guess: [u16; 32768] = [0; 32768];
+    fill_guesses(conns, c, lo, &mut guess, MANY_MASK);
     let mut t: [u64; MANY] = [0; MANY];
-    window_fits(rows, n, conns, c, lo, &mut t)
+    window_fits(rows, n, conns, c, lo, &mut t, &guess, MANY_MASK)
 }
 
 // Whether the c entries are the tally of the n rows, within the limits of a connection.
