@@ -1,6 +1,7 @@
 pub mod Decide
 pub mod Ranges
 pub mod Rows
+pub mod Ahead
 pub mod Entries
 pub mod Tally
 pub mod Conns
