@@ -1,4 +1,4 @@
--- Marks of hashes: a hash whose mark is not set is not among those that were marked.
+-- Marks of hashes: a hash whose slot has no mark is not among those that were marked.
 -- Assumes nothing.
 use Prim.Native.Nat.{ℕ, zero, suc, _+_, _-_, _*_, _≤_, _<_}
 use mathlib.Core.Path.{_≡_, sym, ap, _∙_}
@@ -18,23 +18,23 @@ use Rattle.machine.proofs.Tests.{test, never}
 use Rattle.sound.specs.Places.{hashesIn, slotOf}
 use Rattle.sound.proofs.Hashes.{hash-read, hashes-turn, hashes-none}
 
--- the hashes l have their marks
-abbrev pub Marked : List ℕ → List ℕ → Type 0
-Marked marks l = (x : ℕ) → elem x l ≡ true → getD marks (slotOf x) 0 ≡ 1
+-- the slots of the hashes l have the mark v
+abbrev pub Marked : ℕ → List ℕ → List ℕ → Type 0
+Marked v marks l = (x : ℕ) → elem x l ≡ true → getD marks (slotOf x) 0 ≡ v
 
-pub unmarked : (marks l : List ℕ) (x : ℕ) → Marked marks l → getD marks (slotOf x) 0 ≡ 0 → elem x l ≡ false
-unmarked marks l x m z = elim (test (elem x l)) [
-  | inl e ↦ absurd (omega (arith, m x e))
+pub unmarked : (v : ℕ) (marks l : List ℕ) (x : ℕ) {y : ℕ} → Marked v marks l → y ≡ slotOf x → eqb (getD marks y 0) v ≡ false → elem x l ≡ false
+unmarked v marks l x m s z = elim (test (elem x l)) [
+  | inl e ↦ absurd (eqb-false _ v z (ap (λ (i : ℕ). getD marks i 0) s ∙ m x e))
   | inr e ↦ e
 ]
 
-marked-more : (marks l : List ℕ) (y : ℕ) → slotOf y < length marks → Marked marks l → Marked (set marks (slotOf y) 1) (y ∷ l)
+marked-more : (v : ℕ) (marks l : List ℕ) (y : ℕ) → slotOf y < length marks → Marked v marks l → Marked v (set marks (slotOf y) v) (y ∷ l)
 unfolding elem
-marked-more marks l y h m x e = elim (test (eqb (slotOf x) (slotOf y))) [
-  | inl b ↦ rw (eqb-true (slotOf x) (slotOf y) b) (getD-set-same marks (slotOf y) 1 0 h)
+marked-more v marks l y h m x e = elim (test (eqb (slotOf x) (slotOf y))) [
+  | inl b ↦ rw (eqb-true (slotOf x) (slotOf y) b) (getD-set-same marks (slotOf y) v 0 h)
   | inr b ↦
       let n : y ≡ x → ⊥ = λ z. eqb-false (slotOf x) (slotOf y) b (ap slotOf (sym z)) in
-      getD-set-other marks (slotOf y) (slotOf x) 1 0 (eqb-false (slotOf x) (slotOf y) b) ∙ m x (rw (ne-eqb y x n) at e)
+      getD-set-other marks (slotOf y) (slotOf x) v 0 (eqb-false (slotOf x) (slotOf y) b) ∙ m x (rw (ne-eqb y x n) at e)
 ]
 
 module _ (w : List ℕ) (a n : ℕ) where
@@ -57,8 +57,8 @@ module _ (w : List ℕ) (a n : ℕ) where
         let g : k - 1 + 1 ≡ k = omega arith in
         rw (hash-read w a (k - 1) e) (rw g at (hashes-turn w a (k - 1) n (omega arith)))
 
-    pub marked-turn : (marks : List ℕ) {x : ℕ} → x ≡ slotOf (quadNumber q) → x < length marks → Marked marks (hashesIn w a k n) → Marked (set marks x 1) (hashesIn w a (k - 1) n)
-    marked-turn marks g b m = rw (turn, g) (marked-more marks (hashesIn w a k n) (quadNumber q) (rw g at b) m)
+    pub marked-turn : (v : ℕ) (marks : List ℕ) {x : ℕ} → x ≡ slotOf (quadNumber q) → x < length marks → Marked v marks (hashesIn w a k n) → Marked v (set marks x v) (hashesIn w a (k - 1) n)
+    marked-turn v marks g b m = rw (turn, g) (marked-more v marks (hashesIn w a k n) (quadNumber q) (rw g at b) m)
 
     pub repeat-back : elem (quadNumber q) (hashesIn w a k n) ≡ false → NoRepeat (hashesIn w a k n) → NoRepeat (hashesIn w a (k - 1) n)
     repeat-back z d = rw turn (z, d)

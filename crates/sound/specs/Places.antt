@@ -39,14 +39,14 @@ abbrev pub hashesIn : List ℕ → ℕ → ℕ → ℕ → List ℕ
 hashesIn w a from to = recs 4 readHash (to - from) (drop (4 * from) (drop a w))
 
 -- where a hash of a list is marked, by its words
-abbrev pub slots : ℕ
-slots = 4096
+abbrev pub slotCount : ℕ
+slotCount = 4096
 
 unfoldable pub foldOf : Quad → ℕ
 foldOf q = bitXor (bitXor (bitXor (q .w0) (q .w1)) (q .w2)) (q .w3)
 
 abbrev pub slotOf : ℕ → ℕ
-slotOf h = (foldOf (quadOf h) % 4294967296 + foldOf (quadOf h) / 4294967296) * 506952113 / 1048576 % slots
+slotOf h = (foldOf (quadOf h) % 4294967296 + foldOf (quadOf h) / 4294967296) * 506952113 / 1048576 % slotCount
 
 -- where the kept flags lie
 abbrev pub keptAt : ℕ

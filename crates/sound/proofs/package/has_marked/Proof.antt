@@ -1,11 +1,11 @@
 use borrow.Author.Needs.{needs}
-use native.Mathlib.Omega.{arith}
 use mathlib.Core.Path.{sym}
+use borrow.Author.Tests.{not-true}
 use Rattle.sound.proofs.package.has_marked.Statement.{statement}
 use Rattle.sound.proofs.package.has_marked.Tie as tie
 
 returns : tie.Need-returns
-returns c = sym (c .before .before .pre .2 (omega arith))
+returns c = sym (c .before .before .pre .2 (not-true _ (c .if1 .taken)))
 
 has-hash-requires : tie.Need-has-hash-requires
 has-hash-requires c κs = search needs
