@@ -6,6 +6,7 @@ pub mod Entries
 pub mod Tally
 pub mod Conns
 pub mod Groups
+pub mod ConnMarks
 pub mod Halves
 pub mod Owned
 pub mod Hashes
