@@ -122,6 +122,6 @@ pub kind-not-zero : (b : ℕ) → (b ≡ 0 → ⊥) → Wtxid ≡ kindIs b
 kind-not-zero zero n = absurd (n refl)
 kind-not-zero (suc b) n = refl
 
-pub key-read : (r : Row) {k : Kind} → k ≡ kindIs (r .bits % 2) → record { kind = k; hash = number (2 ^ 64) (quadWords (r .hash)) } ≡ keyAt r
-unfolding keyAt quadNumber
-key-read r e = rw e
+pub key-read : (r : Row) {k : Kind} {h : ℕ} → h ≡ quadNumber (r .hash) → k ≡ kindIs (r .bits % 2) → record { kind = k; hash = h } ≡ keyAt r
+unfolding keyAt
+key-read r q e = rw (q, e)

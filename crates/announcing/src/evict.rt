@@ -161,8 +161,7 @@ pub fn key_of(r: regions::Row) -> ident::Key
     ensures { λ k. ⌜ keyNum k ≡ keyAt r ⌝ }
 {
     let q = r.hash;
-    let words = [q.w0, q.w1, q.w2, q.w3];
-    let hash = ident::Hash { words };
+    let hash = requests::quad_hash(q);
     let kind = kind_of(r.bits % 2);
     ident::Key { kind, hash }
 }

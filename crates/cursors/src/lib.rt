@@ -7,9 +7,8 @@ ghost use mathlib.Core.Path.{_≡_};
 ghost use Prim.Native.Nat.{ℕ, _+_, _*_, _≤_, _<_};
 ghost use mathlib.Core.Option.{none, some};
 ghost use lib.ListN.{length, getD};
-ghost use Rattle.ident.specs.Words.{hashNum, keyNum, maybeKeyNum};
+ghost use Rattle.ident.specs.Words.{keyNum, maybeKeyNum};
 ghost use Rattle.words.specs.Words.{words, splice};
-ghost use Rattle.regions.specs.Rows.{quadNumber};
 ghost use Rattle.machine.specs.Limits.{latestClock};
 ghost use Rattle.machine.specs.Wrapper.{dueAt, nextPollAfter};
 ghost use Rattle.store.specs.Image.{headSize, pollWords};
@@ -142,13 +141,6 @@ pub fn write(s: &mut [u8], f: Fields)
 
 // ---- a cursor as a key, and back
 
-fn quad_hash(q: regions::Quad) -> ident::Hash
-    ensures { λ r. ⌜ hashNum r ≡ quadNumber q ⌝ }
-{
-    let words = [q.w0, q.w1, q.w2, q.w3];
-    ident::Hash { words }
-}
-
 fn kind_in(tag: u64) -> ident::Kind
     ensures { λ r. ⌜ (0 < tag → (h : ℕ) → cursorIs tag h ≡ some (record { kind = r; hash = h })) ⌝ }
 {
@@ -164,7 +156,7 @@ fn stored_key(c: Stored) -> ident::Key
 {
     let q = c.hash;
     let kind = kind_in(c.tag);
-    let hash = quad_hash(q);
+    let hash = requests::quad_hash(q);
     ident::Key { kind, hash }
 }
 

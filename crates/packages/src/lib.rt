@@ -9,7 +9,6 @@ ghost use mathlib.Core.Bool.{false};
 ghost use lib.ListN.{length, getD};
 ghost use Rattle.ident.specs.Number.{wtxid};
 ghost use Rattle.ident.specs.Words.{hashNum, keyNum};
-ghost use Rattle.regions.specs.Rows.{quadNumber};
 ghost use Rattle.lists.specs.Lists.{hashesIn};
 ghost use Rattle.machine.specs.State.{Package};
 ghost use Rattle.machine.specs.Table.{at, change};
@@ -137,13 +136,6 @@ pub fn request_at(s: &[u8], k: ident::Key) -> Request
 
 // ---- what the i-th place holds
 
-fn quad_hash(q: regions::Quad) -> ident::Hash
-    ensures { λ r. ⌜ hashNum r ≡ quadNumber q ⌝ }
-{
-    let words = [q.w0, q.w1, q.w2, q.w3];
-    ident::Hash { words }
-}
-
 // How many parents its request has.
 pub fn parents(s: &[u8], i: usize) -> usize
     requires { ⌜ Kept (now s) × (i < heldPlacesIn (now s)) ⌝ }
@@ -168,7 +160,7 @@ pub fn combined_at(s: &[u8], i: usize) -> ident::Hash
 {
     let p = store::packages::place_at(s, i);
     let c = p.combined;
-    quad_hash(c)
+    requests::quad_hash(c)
 }
 
 pub fn parent_at(s: &[u8], i: usize, j: usize) -> ident::Hash
@@ -176,7 +168,7 @@ pub fn parent_at(s: &[u8], i: usize, j: usize) -> ident::Hash
     ensures { λ r. ⌜ ReadAt (now (s .entry)) i (λ q. j < length (q .parents) → hashNum r ≡ getD (q .parents) j 0) ⌝ }
 {
     let q = flat::read_parent(s, i, j);
-    quad_hash(q)
+    requests::quad_hash(q)
 }
 
 pub fn wtxid_at(s: &[u8], i: usize, j: usize) -> ident::Hash
@@ -184,7 +176,7 @@ pub fn wtxid_at(s: &[u8], i: usize, j: usize) -> ident::Hash
     ensures { λ r. ⌜ ReadAt (now (s .entry)) i (λ q. j < length (wtxidsOf (q .«package»)) → hashNum r ≡ getD (wtxidsOf (q .«package»)) j 0) ⌝ }
 {
     let q = flat::read_wtxid(s, i, j);
-    quad_hash(q)
+    requests::quad_hash(q)
 }
 
 // ---- flag, package and parents changed, at the Wtxid key with hash h

@@ -9,7 +9,7 @@ ghost use lib.ListN.{length};
 ghost use mathlib.Core.Option.{none};
 ghost use Rattle.ident.specs.Words.{hashNum, keyNum};
 ghost use Rattle.machine.specs.Limits.{maxAnnouncements};
-ghost use Rattle.regions.specs.Rows.{keyNumber, withDeadline, withBits};
+ghost use Rattle.regions.specs.Rows.{quadNumber, keyNumber, withDeadline, withBits};
 ghost use Rattle.machine.specs.State.{ownerIs, ownedUntil, unowned, withCandidates, readyAt};
 ghost use Rattle.machine.specs.Table.{at, change, has, heldAt, isCandidate, one};
 ghost use Rattle.machine.specs.Announce as machine;
@@ -46,6 +46,13 @@ pub fn hash_quad(h: ident::Hash) -> regions::Quad
         w2: w[2],
         w3: w[3],
     }
+}
+
+pub fn quad_hash(q: regions::Quad) -> ident::Hash
+    ensures { λ r. ⌜ hashNum r ≡ quadNumber q ⌝ }
+{
+    let words = [q.w0, q.w1, q.w2, q.w3];
+    ident::Hash { words }
 }
 
 fn kind_bit(k: ident::Kind) -> u64

@@ -1,8 +1,10 @@
+-- `requests::quad_hash` meets its contract: both numbers are the same four words.
+-- Assumes nothing.
 use mathlib.Core.Path.{refl}
 use Rattle.words.specs.Words.{number}
 use Rattle.regions.specs.Rows.{quadNumber}
-use Rattle.cursors.proofs.quad_hash.Statement.{statement}
-use Rattle.cursors.proofs.quad_hash.Tie as tie
+use Rattle.requests.proofs.quad_hash.Statement.{statement}
+use Rattle.requests.proofs.quad_hash.Tie as tie
 
 returns : tie.Need-returns
 unfolding quadNumber number
