@@ -60,3 +60,11 @@ text-digit c h = elim (test (leb 48 c && leb c 57)) [
     | inr e′ ↦ let g : 16 < 16 = rw (e, e′) at h in absurd (omega arith)
   ]
 ]
+
+pub text-figure : (d : ℕ) → d < 10 → digitText d ≡ 48 + d
+unfolding digitText
+text-figure d h = rw (lt-ltb d 10 h)
+
+pub text-letter : (d : ℕ) → 10 ≤ d → digitText d ≡ 97 - 10 + d
+unfolding digitText
+text-letter d h = rw (le-ltb d 10 h)

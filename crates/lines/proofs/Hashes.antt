@@ -4,6 +4,7 @@ use Prim.Native.Nat.{ℕ, _+_, _*_, _/_, _%_, _^_, _<_, _≤_}
 use mathlib.Core.Path.{_≡_, refl, sym, ap, _∙_}
 use mathlib.Core.Bool.{Bool, true, false, _&&_}
 use mathlib.Core.Logic.{_⊎_, inl, inr}
+use native.Mathlib.Nat.{pos-of-ne-zero}
 use native.Mathlib.Omega.{arith}
 use lib.Dec.{ltb}
 use borrow.Author.Tests.{lt-ltb, le-ltb, ltb-true, ltb-false}
@@ -76,4 +77,82 @@ pub digit-in : (w v : ℕ) → v < 2 ^ 64 → w % 2 ^ 60 * 16 + v / 2 ^ 60 < 2 ^
 digit-in w v h =
     let r : w % 2 ^ 60 < 2 ^ 60 = omega arith in
     let d : v / 2 ^ 60 < 16 = omega arith in
+    omega arith
+
+-- ---- one digit fewer
+
+-- a word without its lowest digit, and with the lowest of the word above in the highest place
+shift : (w x : ℕ) → (w / 16 + x % 16 * 2 ^ 60) + 2 ^ 64 * (x / 16) ≡ (w + 2 ^ 64 * x) / 16
+shift w x = omega arith
+
+low : (w x : ℕ) → (w + 2 ^ 64 * x) % 16 ≡ w % 16
+low w x = omega arith
+
+pub without-digit : (q : Quad) →
+    quadNumber (record { w0 = q .w0 / 16 + q .w1 % 16 * 2 ^ 60; w1 = q .w1 / 16 + q .w2 % 16 * 2 ^ 60; w2 = q .w2 / 16 + q .w3 % 16 * 2 ^ 60; w3 = q .w3 / 16 }) ≡ quadNumber q / 16
+unfolding four
+without-digit q =
+    let x : ℕ = q .w2 + 2 ^ 64 * q .w3 in
+    let y : ℕ = q .w1 + 2 ^ 64 * x in
+    quad-four _ ∙ rw (shift (q .w2) (q .w3), ← low (q .w2) (q .w3), shift (q .w1) x, ← low (q .w1) x, shift (q .w0) y, quad-four q)
+
+pub last-digit : (q : Quad) → q .w0 % 16 ≡ quadNumber q % 16
+unfolding four
+last-digit q = rw (quad-four q) (sym (low (q .w0) (q .w1 + 2 ^ 64 * (q .w2 + 2 ^ 64 * q .w3))))
+
+-- ---- a number of one digit
+
+more : (w : ℕ) {x : ℕ} → 0 < x → 0 < w + 2 ^ 64 * x
+more w h = omega arith
+
+kept : {w : ℕ} (x : ℕ) → 0 < w → 0 < w + 2 ^ 64 * x
+kept x h = omega arith
+
+large : (w : ℕ) {x : ℕ} → 0 < x → 16 ≤ w + 2 ^ 64 * x
+large w h = omega arith
+
+alone : (w x : ℕ) → w + 2 ^ 64 * x < 16 → w ≡ w + 2 ^ 64 * x
+alone w x g = omega arith
+
+module _ (q : Quad) where
+  large-w3 : 0 < q .w3 → 16 ≤ quadNumber q
+  unfolding four
+  large-w3 h = rw (quad-four q) (large (q .w0) (more (q .w1) (more (q .w2) h)))
+
+  large-w2 : 0 < q .w2 → 16 ≤ quadNumber q
+  unfolding four
+  large-w2 h = rw (quad-four q) (large (q .w0) (more (q .w1) (kept (q .w3) h)))
+
+  large-w1 : 0 < q .w1 → 16 ≤ quadNumber q
+  unfolding four
+  large-w1 h = rw (quad-four q) (large (q .w0) (kept (q .w2 + 2 ^ 64 * q .w3) h))
+
+  pub not-digit-3 : (q .w3 ≡ 0 → ⊥) → false ≡ ltb (quadNumber q) 16
+  not-digit-3 h = sym (le-ltb (quadNumber q) 16 (large-w3 (pos-of-ne-zero h)))
+
+  pub not-digit-2 : (q .w2 ≡ 0 → ⊥) → false ≡ ltb (quadNumber q) 16
+  not-digit-2 h = sym (le-ltb (quadNumber q) 16 (large-w2 (pos-of-ne-zero h)))
+
+  pub not-digit-1 : (q .w1 ≡ 0 → ⊥) → false ≡ ltb (quadNumber q) 16
+  not-digit-1 h = sym (le-ltb (quadNumber q) 16 (large-w1 (pos-of-ne-zero h)))
+
+  pub low-word : q .w3 ≡ 0 → q .w2 ≡ 0 → q .w1 ≡ 0 → q .w0 ≡ quadNumber q
+  unfolding four
+  low-word h₃ h₂ h₁ = rw (quad-four q, h₃, h₂, h₁) (omega arith)
+
+  -- of a number of one digit, that is the lowest word
+  pub digit-word : quadNumber q < 16 → q .w0 ≡ quadNumber q
+  unfolding four
+  digit-word h = rw (quad-four q) (alone (q .w0) (q .w1 + 2 ^ 64 * (q .w2 + 2 ^ 64 * q .w3)) (rw (quad-four q) at h))
+
+  pub quad-below : Small q → quadNumber q < 16 ^ 64
+  unfolding four
+  quad-below s = let e : 16 ^ 64 ≡ 2 ^ 64 * (2 ^ 64 * (2 ^ 64 * 2 ^ 64)) = refl in rw (quad-four q, e) (above (s .w0) (above (s .w1) (above (s .w2) (s .w3))))
+
+-- ---- a word without its lowest digit fits
+
+pub shift-in : (w v : ℕ) → w < 2 ^ 64 → w / 16 + v % 16 * 2 ^ 60 < 2 ^ 64
+shift-in w v h =
+    let r : w / 16 < 2 ^ 60 = omega arith in
+    let d : v % 16 < 16 = omega arith in
     omega arith

@@ -19,6 +19,10 @@ use Rattle.lines.proofs.Digits.{digit-text, text-digit}
 
 -- ---- a numeral's lines
 
+pub numeral-none : (b n : ℕ) → numeral b 0 n ≡ []
+unfolding numeral
+numeral-none b n = refl
+
 pub numeral-one : (b k n : ℕ) → n < b → numeral b (suc k) n ≡ digitText n ∷ []
 unfolding numeral
 numeral-one b k n h = rw (lt-ltb n b h)
@@ -95,7 +99,7 @@ module _ (b m : ℕ) (two : 1 < b) (small : b ≤ 16) where
   first-digit : {n : ℕ} → n < b ^ 1 → n < b
   first-digit {n} h = let e : b ^ 1 ≡ b = pow-suc b 0 ∙ rw (pow-zero, one-mul) in omega arith
 
-  rest-below : (k : ℕ) {n : ℕ} → n < b ^ suc (suc k) → n / b < b ^ suc k
+  pub rest-below : (k : ℕ) {n : ℕ} → n < b ^ suc (suc k) → n / b < b ^ suc k
   rest-below k h = let p : 0 < b = omega arith in div-lt-iff-lt-mul p .1 (rw pow-suc at h)
 
   pub numeral-read : (k n : ℕ) → n < b ^ suc k → n < m → numeralOf b m (numeral b (suc k) n) ≡ some n
@@ -115,7 +119,7 @@ module _ (b m : ℕ) (two : 1 < b) (small : b ≤ 16) where
 
   -- ---- what is accepted is the one text of its value
 
-  numeral-fuel : (k n : ℕ) → n < b ^ suc k → numeral b (suc k) n ≡ numeral b (suc (suc k)) n
+  pub numeral-fuel : (k n : ℕ) → n < b ^ suc k → numeral b (suc k) n ≡ numeral b (suc (suc k)) n
   numeral-fuel zero n h = let p = first-digit h in numeral-one b 0 n p ∙ sym (numeral-one b 1 n p)
   numeral-fuel (suc k) n h = elim (test (ltb n b)) [
     | inl t ↦ let p = ltb-true n b t in numeral-one b (suc k) n p ∙ sym (numeral-one b (suc (suc k)) n p)

@@ -97,6 +97,13 @@ itemOf (c ∷ f) = if eqb c 111 then otherOf f else itemWith (letterKind c) (has
 
 -- ---- a line's fields
 
+-- whether two texts are one
+unfoldable pub sameText : List ℕ → List ℕ → Bool
+sameText [] [] = true
+sameText [] (b ∷ t) = false
+sameText (a ∷ s) [] = false
+sameText (a ∷ s) (b ∷ t) = eqb a b && sameText s t
+
 unfoldable pub push : ℕ → List (List ℕ) → List (List ℕ)
 push c [] = (c ∷ []) ∷ []
 push c (f ∷ fs) = (c ∷ f) ∷ fs
@@ -105,3 +112,7 @@ push c (f ∷ fs) = (c ∷ f) ∷ fs
 unfoldable pub fields : List ℕ → List (List ℕ)
 fields [] = [] ∷ []
 fields (c ∷ l) = if eqb c 44 then [] ∷ fields l else push c (fields l)
+
+-- the fields from index p of a line on; none past its end
+unfoldable pub rest : List ℕ → ℕ → List (List ℕ)
+rest l p = if leb p (length l) then fields (drop p l) else []

@@ -4,3 +4,4 @@
 // the text of the value stands where it was asked for and every other byte is as it was (specs/Text). Laws of proofs/RoundTrips
 // join the two: what was written is read back, and each value has one text that is accepted.
 pub mod read;
+pub mod write;

@@ -6,7 +6,7 @@ ghost use lib.Dec.{ltb};
 ghost use lib.ListN.{length, drop};
 ghost use Rattle.regions.specs.Rows.{quadNumber};
 ghost use Rattle.ident.specs.Number.{top};
-ghost use Rattle.lines.specs.Fields.{digitOf, numeralOf, numberOf, typeOf, hashOf, boolOf, kindOf, keyOf, letterKind, otherKind, otherOf, itemOf, before};
+ghost use Rattle.lines.specs.Fields.{digitOf, numeralOf, numberOf, typeOf, hashOf, boolOf, kindOf, keyOf, letterKind, otherKind, otherOf, itemOf, sameText, before};
 ghost use Rattle.lines.specs.Values.{numberIn, hashIn, boolIn, keyIn, itemKindIn, itemIn};
 ghost use Rattle.ident.specs.Words.{maybeKind};
 
@@ -109,7 +109,7 @@ pub fn number(f: &[u8]) -> MaybeNumber
 
 // ---- Hashes
 
-// What is left of a word's 64 bits beside one hexadecimal digit.
+// The weight of a word's highest hexadecimal digit.
 const HIGH_DIGIT: u64 = 0x1000_0000_0000_0000;
 
 // Whether d is a hexadecimal digit, and four words hold a number that ends in it, behind the digits of q.
@@ -289,4 +289,28 @@ pub fn find(s: &[u8], from: usize, x: u8) -> usize
         i += 1;
     }
     i
+}
+
+// Where the field that starts at from ends: at the next comma, or with the line.
+pub fn field_end(line: &[u8], from: usize) -> usize
+    requires { ⌜ from ≤ length (now line) ⌝ }
+    ensures { λ r. ⌜ r ≡ from + length (before 44 (drop from (now (line .entry)))) ⌝ }
+{
+    find(line, from, b',')
+}
+
+pub fn same(s: &[u8], t: &[u8]) -> bool
+    ensures { λ r. ⌜ r ≡ sameText (now (s .entry)) (now (t .entry)) ⌝ }
+{
+    if s.len() != t.len() {
+        return false;
+    }
+    let mut i = 0;
+    while i < s.len() {
+        if s[i] != t[i] {
+            return false;
+        }
+        i += 1;
+    }
+    true
 }
