@@ -9,7 +9,7 @@ use native.Mathlib.Nat.{mod-lt, suc-add}
 use native.Mathlib.Numerals.{add-one}
 use native.Mathlib.Omega.{arith}
 use lib.Dec.{eqb, ltb}
-use lib.ListN.{length, take, drop, getD, drop-of-length-le}
+use lib.ListN.{length, take, drop, getD, drop-of-length-le, length-drop}
 use lib.Seq.{drop-cons}
 use borrow.Author.Tests.{eq-eqb, ne-eqb, eqb-true, eqb-false, ltb-true, ltb-false}
 use Rattle.ident.specs.If.{if_then_else_}
@@ -93,3 +93,7 @@ before-digits b (suc k) n f l u = elim (test (ltb n b)) [
       let r : n % b < b = mod-lt n (omega arith) in
       rw (numeral-more b k n h, append-assoc, append-assoc, before-digits b k (n / b) (digitText (n % b) ∷ f) l u) (ap (λ (t : List ℕ). numeral b k (n / b) ++ t) (before-skip 58 (digitText (n % b)) f (no-colon (n % b) (omega arith))))
 ]
+
+-- a search from p on ends in the list
+pub end-most : (x : ℕ) (s : List ℕ) (p : ℕ) {e : ℕ} → p ≤ length s → e ≡ p + length (before x (drop p s)) → e ≤ length s
+end-most x s p h g = omega (arith, before-length x (drop p s), length-drop p s)

@@ -1,0 +1,4 @@
+pub mod Taking
+pub mod Openings
+pub mod FirstFields
+pub mod Printing
