@@ -1,1 +1,3 @@
 pub mod Answers
+pub mod Evicts
+pub mod Enters

@@ -55,7 +55,7 @@ module _ (h : ℕ) (small : h < top) (p : ℕ → Bool) where
   weightless : (r : Request) → eqb (r .key .hash) h ≡ false → countIn (hashed h p (r .key)) (r .candidates) ≡ 0
   weightless r e = in-same _ (λ m. false) (r .candidates) (λ m. rw e) ∙ none-in (r .candidates)
 
-  apart : (r : Request) (a b : Kind) → (r .key .hash ≡ h → ⊥) → r .key .hash < top → base a + h ≡ base b + r .key .hash → ⊥
+  pub apart : (r : Request) (a b : Kind) → (r .key .hash ≡ h → ⊥) → r .key .hash < top → base a + h ≡ base b + r .key .hash → ⊥
   apart r Txid Txid n l z = n (omega arith)
   apart r Txid Wtxid n l z = omega arith
   apart r Wtxid Txid n l z = omega arith

@@ -54,11 +54,11 @@ first-seam a m rest to x n l = record {
   found = λ p. getD-append-add a (m ++ (x ∷ rest)) (length m) 0 ∙ getD-at m x rest 0 (length m) refl;
 }
 
-conns-append : (a b : List Row) → rowConns (a ++ b) ≡ rowConns a ++ rowConns b
+pub conns-append : (a b : List Row) → rowConns (a ++ b) ≡ rowConns a ++ rowConns b
 conns-append [] b = refl
 conns-append (r ∷ a) b = rw (conns-append a b)
 
-hasnt-at : (q : Request) (n : ℕ) (cs : List Candidate) → has n cs ≡ false → (j : ℕ) → j < length (rowConns (map (rowOf q) cs)) → getD (rowConns (map (rowOf q) cs)) j 0 ≡ n → ⊥
+pub hasnt-at : (q : Request) (n : ℕ) (cs : List Candidate) → has n cs ≡ false → (j : ℕ) → j < length (rowConns (map (rowOf q) cs)) → getD (rowConns (map (rowOf q) cs)) j 0 ≡ n → ⊥
 unfolding has
 hasnt-at q n [] h j l z = omega arith
 hasnt-at q n (c ∷ cs) h zero l z = eqb-false (c .connection) n (left (eqb (c .connection) n) (has n cs) h) (sym (conn-row q c) ∙ z)

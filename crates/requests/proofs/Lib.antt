@@ -7,3 +7,4 @@ pub mod ConnFigures
 pub mod Readying
 pub mod Adopting
 pub mod AtHash
+pub mod Holding

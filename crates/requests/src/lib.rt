@@ -11,7 +11,7 @@ ghost use Rattle.ident.specs.Words.{hashNum, keyNum};
 ghost use Rattle.machine.specs.Limits.{maxAnnouncements};
 ghost use Rattle.regions.specs.Rows.{keyNumber, withDeadline, withBits};
 ghost use Rattle.machine.specs.State.{ownerIs, ownedUntil, unowned, withCandidates, readyAt};
-ghost use Rattle.machine.specs.Table.{at, change, has, heldAt, one};
+ghost use Rattle.machine.specs.Table.{at, change, has, heldAt, isCandidate, one};
 ghost use Rattle.machine.specs.Announce as machine;
 ghost use Rattle.machine.specs.Fail as fail;
 ghost use mathlib.Core.Bool.{true, false};
@@ -143,6 +143,16 @@ pub fn spot_of(s: &[u8], k: regions::Key, n: u64) -> Spot
     Spot { at, end }
 }
 
+// Whether the connection n is a candidate of the request at k.
+pub fn holds(s: &[u8], k: ident::Key, n: u64) -> bool
+    requires { ⌜ Kept (now s) ⌝ }
+    ensures { λ r. ⌜ Tells (now (s .entry)) (λ t. r ≡ has n ((at (keyNum k) t) .candidates)) ⌝ }
+{
+    let key = key_words(k);
+    let p = spot_of(s, key, n);
+    p.at < p.end
+}
+
 // ---- a connection
 
 // The announcements of the connection n, and the requests that it owns.
@@ -188,6 +198,22 @@ pub fn candidates_at(s: &[u8], h: ident::Hash) -> usize
         hash: h,
     };
     candidates_of(s, a) + candidates_of(s, b)
+}
+
+// Whether the connection n is a candidate at the hash h, under either kind.
+pub fn is_candidate(s: &[u8], h: ident::Hash, n: u64) -> bool
+    requires { ⌜ Kept (now s) ⌝ }
+    ensures { λ r. ⌜ Tells (now (s .entry)) (λ t. r ≡ isCandidate n (hashNum h) t) ⌝ }
+{
+    let a = ident::Key {
+        kind: ident::Kind::Txid,
+        hash: h,
+    };
+    let b = ident::Key {
+        kind: ident::Kind::Wtxid,
+        hash: h,
+    };
+    holds(s, a, n) || holds(s, b, n)
 }
 
 // ---- one candidate more, one less
