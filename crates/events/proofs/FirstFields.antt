@@ -8,10 +8,10 @@ use mathlib.Core.Option.{Option, none, some}
 use native.Mathlib.Omega.{arith}
 use lib.ListN.{length, take, drop}
 use Rattle.ident.specs.If.{if_then_else_}
-use Rattle.machine.specs.Call.{Sum, Call, On}
+use Rattle.machine.specs.Call.{Announce, RequestParent, Sum, Call, On}
 use Rattle.lines.specs.Fields.{sameText, before, fields, rest}
 use Rattle.lines.proofs.Splitting.{rest-field, rest-start}
-use Rattle.events.specs.Calls.{ending, openOf, openWord, sumWord, called, callOf}
+use Rattle.events.specs.Calls.{ending, openOf, candidateOf, openWord, annWord, parWord, sumWord, called, callOf}
 
 module _ (l : List ℕ) (e : ℕ) (g : e ≡ 0 + length (before 44 (drop 0 l))) where
   word : callOf l ≡ called (take e l ∷ rest l (e + 1))
@@ -22,11 +22,21 @@ module _ (l : List ℕ) (e : ℕ) (g : e ≡ 0 + length (before 44 (drop 0 l))) 
   unfolding called
   is-open t = sym (word ∙ rw (← t))
 
-  module _ (n : false ≡ sameText (take e l) openWord) where
-    pub is-sum : true ≡ sameText (take e l) sumWord → ending (some (On Sum)) (rest l (e + 1)) ≡ callOf l
+  module _ (n₁ : false ≡ sameText (take e l) openWord) where
+    pub is-ann : true ≡ sameText (take e l) annWord → candidateOf Announce (rest l (e + 1)) ≡ callOf l
     unfolding called
-    is-sum t = sym (word ∙ rw (← n, ← t))
+    is-ann t = sym (word ∙ rw (← n₁, ← t))
 
-    pub is-none : false ≡ sameText (take e l) sumWord → none ≡ callOf l
-    unfolding called
-    is-none t = sym (word ∙ rw (← n, ← t))
+    module _ (n₂ : false ≡ sameText (take e l) annWord) where
+      pub is-par : true ≡ sameText (take e l) parWord → candidateOf RequestParent (rest l (e + 1)) ≡ callOf l
+      unfolding called
+      is-par t = sym (word ∙ rw (← n₁, ← n₂, ← t))
+
+      module _ (n₃ : false ≡ sameText (take e l) parWord) where
+        pub is-sum : true ≡ sameText (take e l) sumWord → ending (some (On Sum)) (rest l (e + 1)) ≡ callOf l
+        unfolding called
+        is-sum t = sym (word ∙ rw (← n₁, ← n₂, ← n₃, ← t))
+
+        pub is-none : false ≡ sameText (take e l) sumWord → none ≡ callOf l
+        unfolding called
+        is-none t = sym (word ∙ rw (← n₁, ← n₂, ← n₃, ← t))

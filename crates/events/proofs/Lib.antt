@@ -2,3 +2,4 @@ pub mod Taking
 pub mod Openings
 pub mod FirstFields
 pub mod Printing
+pub mod Offers

@@ -1,19 +1,20 @@
 -- Answers as text.
 -- Assumes nothing.
 use Prim.Native.Nat.{ℕ, _+_, _<_, _≤_}
-use mathlib.Core.Path.{_≡_, refl, sym, ap, _∙_}
+use mathlib.Core.Path.{_≡_, refl, sym, ap, subst, _∙_}
 use mathlib.Core.List.{List, [], _∷_, _++_, append-assoc}
 use mathlib.Core.Option.{Option, none, some}
 use native.Mathlib.Omega.{arith}
 use lib.ListN.{length, length-append}
-use Rattle.machine.specs.Call.{Sum, Call, Open, On}
+use Rattle.machine.specs.State.{Candidate}
+use Rattle.machine.specs.Call.{Ask, Sum, Call, Open, On}
 use Rattle.machine.specs.Step.{Reply, Refused, Number, Summed}
 use Rattle.tracker.specs.Outcome.{Effect, Does}
 use Rattle.lines.specs.Text.{decimalDigits, decimal, Wrote}
 use Rattle.lines.proofs.Numerals.{length-numeral}
 use Rattle.lines.proofs.Writing.{wrote-more, wrote-length}
 use Rattle.events.specs.Replies.{refusalText, joined, unreadable, replyText}
-use Rattle.events.specs.Given.{answerRoom, Printed, Carried, AnsweredAs, Answered}
+use Rattle.events.specs.Given.{answerRoom, Printed, Numbered, Carried, AnsweredAs, Answered}
 
 -- where a number's text ends
 pub decimal-end : {s s′ : List ℕ} {a r : ℕ} (n : ℕ) → Wrote s s′ a (decimal n) r → r ≤ a + decimalDigits
@@ -55,6 +56,20 @@ module _ {out out′ : List ℕ} {r : ℕ} where
       → Printed out out′ (replyText (On Sum) y) r
   unfolding replyText
   reply-figures e w = rw e w
+
+-- ---- a number as the reply
+
+module _ {out out′ : List ℕ} {r : ℕ} {y : Reply} {n : ℕ} where
+  pub numbered-refused : y ≡ Refused n → Printed out out′ (refusalText n) r → Numbered out out′ y r
+  numbered-refused e p = record { text = λ a. reply-refused (On a) e p }
+
+  pub numbered-is : y ≡ Number n → Wrote out out′ 0 (decimal n) r → Numbered out out′ y r
+  unfolding replyText
+  numbered-is e w = record { text = λ a. rw e (record { wrote = w; room = omega (arith, decimal-end n w) }) }
+
+-- the candidate of a call, as the code has it and as the line has it
+pub carried-as : (ask : Candidate → Ask) {x y : Candidate} {b b′ out out′ : List ℕ} {r : ℕ} → x ≡ y → (e : Effect) → Does (On (ask x)) b e → b′ ≡ e .store → Numbered out out′ (e .reply) r → Carried (On (ask y)) b b′ out out′ r
+carried-as ask {x} {y} {b} g e d s t = record { effect = e; does = subst (λ (z : Candidate). Does (On (ask z)) b e) g d; store = s; text = t .text (ask y) }
 
 -- ---- a line, by what it asks for
 

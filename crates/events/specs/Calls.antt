@@ -7,7 +7,7 @@ use mathlib.Core.Option.{Option, none, some}
 use lib.Dec.{leb}
 use Rattle.ident.specs.If.{if_then_else_}
 use Rattle.machine.specs.State.{Candidate}
-use Rattle.machine.specs.Call.{Ask, Sum, Call, Open, On}
+use Rattle.machine.specs.Call.{Ask, Announce, RequestParent, Sum, Call, Open, On}
 use Rattle.lines.specs.Fields.{numberOf, boolOf, itemOf, sameText, fields}
 
 -- ---- one field after the other
@@ -47,9 +47,15 @@ candidateOf ask fs =
     taking numberOf (λ n. taking itemOf (λ i. taking numberOf (λ ready. taking boolOf (λ preferred. taking numberOf (λ priority.
     ending (some (On (ask (record { connection = n; item = i; ready = ready; preferred = preferred; priority = priority }))))))))) fs
 
--- `open`, `sum`
+-- `open`, `ann`, `par`, `sum`
 abbrev pub openWord : List ℕ
 openWord = 111 ∷ 112 ∷ 101 ∷ 110 ∷ []
+
+abbrev pub annWord : List ℕ
+annWord = 97 ∷ 110 ∷ 110 ∷ []
+
+abbrev pub parWord : List ℕ
+parWord = 112 ∷ 97 ∷ 114 ∷ []
 
 abbrev pub sumWord : List ℕ
 sumWord = 115 ∷ 117 ∷ 109 ∷ []
@@ -58,6 +64,8 @@ unfoldable pub called : List (List ℕ) → Option Call
 called [] = none
 called (w ∷ fs) =
     if sameText w openWord then openOf fs
+    else if sameText w annWord then candidateOf Announce fs
+    else if sameText w parWord then candidateOf RequestParent fs
     else if sameText w sumWord then ending (some (On Sum)) fs
     else none
 

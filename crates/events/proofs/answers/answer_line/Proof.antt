@@ -22,6 +22,18 @@ enum-known-asked c = search needs
 answer-open-requires : tie.Need-answer-open-requires
 answer-open-requires c κs = search needs
 
+enum-known-asked-2 : tie.Need-enum-known-asked-2
+enum-known-asked-2 c = search needs
+
+announce-requires : tie.Need-announce-requires
+announce-requires c κs = search needs
+
+enum-known-asked-3 : tie.Need-enum-known-asked-3
+enum-known-asked-3 c = search needs
+
+request-parent-requires : tie.Need-request-parent-requires
+request-parent-requires c κs = search needs
+
 enum-told-2 : tie.Need-enum-told-2
 enum-told-2 c = search needs
 
@@ -50,7 +62,25 @@ same-length-5 : tie.Need-same-length-5
 same-length-5 c = search needs
 
 returns-3 : tie.Need-returns-3
-returns-3 c = as-call (sym (ap askedCall (c .before .before .before .before .before .enum-told2 .given .1)) ∙ c .before .before .before .before .before .before .before .call-of .ensures) (c .before .before .answer-sum .ensures)
+returns-3 c = as-call (sym (ap askedCall (c .before .before .before .before .before .before .before .before .asked2 .given .1)) ∙ c .before .before .before .before .before .before .before .before .before .before .call-of .ensures) (c .before .before .before .before .announce .ensures)
+
+same-length-6 : tie.Need-same-length-6
+same-length-6 c = search needs
+
+same-length-7 : tie.Need-same-length-7
+same-length-7 c = search needs
+
+returns-4 : tie.Need-returns-4
+returns-4 c = as-call (sym (ap askedCall (c .before .before .before .before .before .before .before .before .asked3 .given .1)) ∙ c .before .before .before .before .before .before .before .before .before .before .call-of .ensures) (c .before .before .before .before .request-parent .ensures)
+
+same-length-8 : tie.Need-same-length-8
+same-length-8 c = search needs
+
+same-length-9 : tie.Need-same-length-9
+same-length-9 c = search needs
+
+returns-5 : tie.Need-returns-5
+returns-5 c = as-call (sym (ap askedCall (c .before .before .before .before .before .enum-told2 .given .1)) ∙ c .before .before .before .before .before .before .before .call-of .ensures) (c .before .before .answer-sum .ensures)
 
 pub answer-line-spec : {M : Type 1} → statement M
 answer-line-spec =
@@ -61,6 +91,10 @@ answer-line-spec =
     unreadable-requires
     enum-known-asked
     answer-open-requires
+    enum-known-asked-2
+    announce-requires
+    enum-known-asked-3
+    request-parent-requires
     enum-told-2
     answer-sum-requires
     same-length
@@ -70,4 +104,10 @@ answer-line-spec =
     returns-2
     same-length-4
     same-length-5
-    returns-3)
+    returns-3
+    same-length-6
+    same-length-7
+    returns-4
+    same-length-8
+    same-length-9
+    returns-5)
