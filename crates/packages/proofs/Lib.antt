@@ -1,0 +1,9 @@
+pub mod Lending
+pub mod Seeking
+pub mod Owners
+pub mod Placing
+pub mod Filling
+pub mod Compacting
+pub mod ClosingSets
+pub mod Sounds
+pub mod Steps
