@@ -1,15 +1,14 @@
 -- The first field of a line, which is the call's word.
 -- Assumes nothing.
 use Prim.Native.Nat.{ℕ, _+_, _-_}
-use mathlib.Core.Path.{_≡_, refl, sym, ap, _∙_}
-use mathlib.Core.Bool.{Bool, true, false}
+use mathlib.Core.Path.{_≡_, sym, ap, _∙_}
+use mathlib.Core.Bool.{true, false}
 use mathlib.Core.List.{List, [], _∷_}
-use mathlib.Core.Option.{Option, none, some}
+use mathlib.Core.Option.{none, some}
 use native.Mathlib.Omega.{arith}
 use lib.ListN.{length, take, drop}
-use Rattle.ident.specs.If.{if_then_else_}
-use Rattle.machine.specs.Call.{Announce, RequestParent, Sum, Call, On}
-use Rattle.lines.specs.Fields.{sameText, before, fields, rest}
+use Rattle.machine.specs.Call.{Announce, RequestParent, Sum, On}
+use Rattle.lines.specs.Fields.{sameText, before, rest}
 use Rattle.lines.proofs.Splitting.{rest-field, rest-start}
 use Rattle.events.specs.Calls.{ending, openOf, candidateOf, openWord, annWord, parWord, sumWord, called, callOf}
 

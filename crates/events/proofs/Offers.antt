@@ -1,7 +1,7 @@
 -- The fields of a candidate, one after the other.
 -- Assumes nothing.
 use Prim.Native.Nat.{ℕ, _+_, _<_, _≤_}
-use mathlib.Core.Path.{_≡_, refl, sym, ap, _∙_}
+use mathlib.Core.Path.{_≡_, ap, _∙_}
 use mathlib.Core.Bool.{Bool}
 use mathlib.Core.List.{List}
 use mathlib.Core.Option.{Option, none, some}
@@ -12,7 +12,6 @@ use Rattle.machine.specs.State.{Candidate}
 use Rattle.machine.specs.Call.{Ask, Call, On}
 use Rattle.lines.specs.Fields.{numberOf, boolOf, itemOf, rest}
 use Rattle.events.specs.declared.calls.Offer.{Offer}
-use Rattle.events.specs.declared.calls.MaybeOffer.{MaybeOffer}
 use Rattle.events.specs.declared.calls.MaybeOffer.the-variants.{Not}
 use Rattle.events.specs.Calls.{taking, ending, candidateOf}
 use Rattle.events.specs.Given.{At, FieldRead, OfferRead, offerOf}

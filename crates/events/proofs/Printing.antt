@@ -1,18 +1,18 @@
 -- Answers as text.
 -- Assumes nothing.
 use Prim.Native.Nat.{ℕ, _+_, _<_, _≤_}
-use mathlib.Core.Path.{_≡_, refl, sym, ap, subst, _∙_}
-use mathlib.Core.List.{List, [], _∷_, _++_, append-assoc}
+use mathlib.Core.Path.{_≡_, subst}
+use mathlib.Core.List.{List, [], _∷_, append-assoc}
 use mathlib.Core.Option.{Option, none, some}
 use native.Mathlib.Omega.{arith}
-use lib.ListN.{length, length-append}
+use lib.ListN.{length}
 use Rattle.machine.specs.State.{Candidate}
 use Rattle.machine.specs.Call.{Ask, Sum, Call, Open, On}
 use Rattle.machine.specs.Step.{Reply, Refused, Number, Summed}
 use Rattle.tracker.specs.Outcome.{Effect, Does}
 use Rattle.lines.specs.Text.{decimalDigits, decimal, Wrote}
 use Rattle.lines.proofs.Numerals.{length-numeral}
-use Rattle.lines.proofs.Writing.{wrote-more, wrote-length}
+use Rattle.lines.proofs.Writing.{wrote-more}
 use Rattle.events.specs.Replies.{refusalText, joined, unreadable, replyText}
 use Rattle.events.specs.Given.{answerRoom, Printed, Numbered, Carried, AnsweredAs, Answered}
 

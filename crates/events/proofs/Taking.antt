@@ -1,14 +1,14 @@
 -- Fields of a line taken one after the other.
 -- Assumes nothing.
 use Prim.Native.Nat.{ℕ, _+_, _-_, _<_, _≤_}
-use mathlib.Core.Path.{_≡_, refl, sym, ap, _∙_}
+use mathlib.Core.Path.{_≡_, refl, ap, _∙_}
 use mathlib.Core.List.{List, [], _∷_}
 use mathlib.Core.Option.{Option, none, some}
 use native.Mathlib.Omega.{arith}
 use lib.ListN.{length, take, drop}
 use Rattle.machine.specs.Call.{Call}
 use Rattle.lines.specs.Fields.{before, rest}
-use Rattle.lines.proofs.Splitting.{rest-field, rest-past, rest-start}
+use Rattle.lines.proofs.Splitting.{rest-field, rest-past}
 use Rattle.events.specs.Calls.{withValue, taking, ending}
 use Rattle.events.specs.Given.{At, thenOf, FieldRead}
 

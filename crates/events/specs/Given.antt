@@ -24,7 +24,7 @@ use Rattle.events.specs.declared.fields.ItemAt.the-variants.{Not as NoIt
 use Rattle.events.specs.declared.calls.Offer.{Offer}
 use Rattle.events.specs.declared.calls.MaybeOffer.{MaybeOffer}
 use Rattle.events.specs.declared.calls.MaybeOffer.the-variants.{Not as NoOffer, Is as IsOffer}
-use Rattle.events.specs.Calls.{taking, candidateOf, callOf}
+use Rattle.events.specs.Calls.{taking, candidateOf}
 use Rattle.events.specs.Replies.{refusalText, unreadable, replyText}
 
 -- ---- fields

@@ -1,7 +1,6 @@
 -- What is printed of a reply (docs/EVENTS.md, "Answers").
 -- Assumes nothing.
 use Prim.Native.Nat.{ℕ}
-use mathlib.Core.Bool.{Bool, true, false}
 use mathlib.Core.List.{List, [], _∷_, _++_}
 use lib.ListN.{length}
 use Rattle.ident.specs.Number.{Key}

@@ -1,8 +1,8 @@
 -- Fields that begin with a letter: keys and items; and bools.
 -- Assumes nothing.
-use Prim.Native.Nat.{ℕ, suc, _+_, _-_, _<_, _≤_}
+use Prim.Native.Nat.{ℕ, _+_, _-_, _≤_}
 use mathlib.Core.Path.{_≡_, refl, sym, ap, _∙_}
-use mathlib.Core.Bool.{Bool, true, false}
+use mathlib.Core.Bool.{true, false}
 use mathlib.Core.List.{List, [], _∷_}
 use mathlib.Core.Option.{Option, none, some}
 use native.Mathlib.Omega.{arith}
@@ -14,7 +14,7 @@ use Rattle.ident.specs.declared.Kind.{Kind}
 use Rattle.ident.specs.declared.ItemKind.{ItemKind}
 use Rattle.ident.specs.declared.ItemKind.the-variants.{Other}
 use Rattle.ident.specs.If.{if_then_else_}
-use Rattle.ident.specs.Number.{Item, isPlain}
+use Rattle.ident.specs.Number.{isPlain}
 use Rattle.lines.specs.Fields.{boolOf, kindOf, keyWith, keyOf, before, behind, itemWith, letterKind, otherKind, otherOf, itemOf, hashOf, typeOf}
 use Rattle.lines.proofs.Scans.{scan-empty}
 use Rattle.lines.proofs.Parting.{take-before, before-length}

@@ -2,17 +2,16 @@
 -- Assumes nothing.
 use Prim.Native.Nat.{ℕ, zero, suc, _+_, _-_, _*_, _/_, _%_, _^_, _<_, _≤_}
 use mathlib.Core.Path.{_≡_, refl, sym, ap, _∙_}
-use mathlib.Core.Bool.{Bool, true, false, _&&_}
+use mathlib.Core.Bool.{true, false, _&&_}
 use mathlib.Core.List.{List, [], _∷_, _++_, append-assoc, append-nil}
-use mathlib.Core.Option.{Option, none, some}
-use mathlib.Core.Logic.{_⊎_, inl, inr}
+use mathlib.Core.Option.{none, some}
+use mathlib.Core.Logic.{inl, inr}
 use native.Mathlib.Nat.{pow-zero, pow-suc, div-lt-iff-lt-mul, mod-lt, div-le-self, div-add-mod', mul-add-div-right, div-eq-of-lt, mul-add-mod-self-right, mod-eq-of-lt, add-zero, mul-le-mul-right, one-mul, le-div-iff-mul-le}
 use native.Mathlib.Omega.{arith}
 use lib.Dec.{ltb}
 use lib.ListN.{length, length-append}
 use borrow.Author.Tests.{ltb-true, ltb-false, lt-ltb, le-ltb}
-use Rattle.ident.specs.If.{if_then_else_}
-use Rattle.machine.proofs.Tests.{test, by-test, and-left, and-right, never}
+use Rattle.machine.proofs.Tests.{test, by-test, and-left, and-right}
 use Rattle.lines.specs.Text.{digitText, numeral}
 use Rattle.lines.specs.Fields.{digitOf, follows, further, numeralOf}
 use Rattle.lines.proofs.Digits.{digit-text, text-digit}

@@ -3,7 +3,7 @@
 use Prim.Native.Nat.{ℕ, _+_, _^_, _<_, _≤_}
 use mathlib.Core.Path.{_≡_, refl, sym, ap, _∙_}
 use mathlib.Core.Bool.{Bool, true, false}
-use mathlib.Core.Logic.{_⊎_, inl, inr}
+use mathlib.Core.Logic.{inl, inr}
 use mathlib.Core.List.{List, [], _∷_, _++_, append-assoc, append-nil}
 use mathlib.Core.Option.{Option, none, some}
 use native.Mathlib.Nat.{lt-of-lt-of-le}
@@ -11,18 +11,17 @@ use native.Mathlib.Omega.{arith}
 use lib.Dec.{lit<, lit≤, eqb, ltb}
 use lib.ListN.{length, drop, drop-of-length-le}
 use lib.Seq.{drop-append-add}
-use borrow.Author.Tests.{eqb-true, eqb-false, ltb-true, ltb-false}
+use borrow.Author.Tests.{eqb-true, ltb-true, ltb-false}
 use Rattle.ident.specs.declared.Kind.{Kind}
 use Rattle.ident.specs.declared.Kind.the-variants.{Txid, Wtxid}
 use Rattle.ident.specs.declared.ItemKind.{ItemKind}
 use Rattle.ident.specs.declared.ItemKind.the-variants.{Transaction, WitnessTransaction, WTx, Other}
-use Rattle.ident.specs.If.{if_then_else_}
 use Rattle.ident.specs.Number.{Key, Item, top, isPlain}
-use Rattle.lines.specs.Text.{numeral, decimalDigits, decimal, hexadecimal, boolText, kindLetter, keyText, itemKindText, itemText}
-use Rattle.lines.specs.Fields.{numeralOf, numberOf, typeOf, hashOf, boolOf, kindOf, keyWith, keyOf, before, behind, itemWith, letterKind, otherKind, otherOf, itemOf}
+use Rattle.lines.specs.Text.{decimalDigits, decimal, hexadecimal, boolText, kindLetter, keyText, itemKindText, itemText}
+use Rattle.lines.specs.Fields.{numberOf, typeOf, hashOf, boolOf, kindOf, keyWith, keyOf, before, behind, itemWith, letterKind, otherKind, otherOf, itemOf}
 use Rattle.machine.proofs.Tests.{test}
 use Rattle.lines.proofs.Numerals.{numeral-read, numeral-text, numeralOf-empty}
-use Rattle.lines.proofs.Parting.{before-digits, before-stop, parted, before-length}
+use Rattle.lines.proofs.Parting.{before-digits, before-stop, parted}
 
 never-some : {A : Type 0} {a : A} → none ≡ some a → ⊥
 never-some e = let z : _≡_ {A = ℕ} 0 1 = cc in omega arith

@@ -1,11 +1,11 @@
 -- A field read byte by byte, the loop of every reader of numbers.
 -- Assumes nothing.
 use Prim.Native.Nat.{ℕ, suc, _+_, _-_, _*_, _/_, _<_, _≤_}
-use mathlib.Core.Path.{_≡_, refl, sym, ap, _∙_}
+use mathlib.Core.Path.{_≡_}
 use mathlib.Core.Bool.{Bool, true, false, _&&_}
-use mathlib.Core.Logic.{_⊎_, inl, inr}
+use mathlib.Core.Logic.{inl, inr}
 use mathlib.Core.List.{List, [], _∷_}
-use mathlib.Core.Option.{Option, none, some}
+use mathlib.Core.Option.{none, some}
 use native.Mathlib.Numerals.{add-one}
 use native.Mathlib.Omega.{arith}
 use lib.Dec.{ltb, leb}
@@ -13,7 +13,7 @@ use lib.ListN.{length, drop, getD, drop-of-length-le}
 use lib.Seq.{drop-cons}
 use borrow.Author.Tests.{lt-ltb, le-ltb, leb-true, leb-false, ltb-true}
 use Rattle.machine.proofs.Tests.{test, and-left, and-right}
-use Rattle.lines.specs.Fields.{digitOf, follows, further, numeralOf}
+use Rattle.lines.specs.Fields.{digitOf, further, numeralOf}
 use Rattle.lines.proofs.Numerals.{further-step, further-stop, further-end, numeralOf-first, numeralOf-not, numeralOf-empty}
 
 pub scan-empty : (b m : ℕ) (f : List ℕ) → length f ≡ 0 → numeralOf b m f ≡ none

@@ -7,7 +7,7 @@ use native.Mathlib.Nat.{lt-of-lt-of-le, add-zero}
 use native.Mathlib.Numerals.{add-one}
 use native.Mathlib.Omega.{arith}
 use lib.Dec.{lit<, lit≤}
-use lib.ListN.{length, take, drop, set, getD, take-append-drop, length-append, length-set}
+use lib.ListN.{length, take, set, getD, take-append-drop, length-append}
 use lib.Seq.{set-split, take-suc, take-all}
 use Rattle.ident.specs.declared.Kind.{Kind}
 use Rattle.words.specs.Words.{splice}

@@ -11,7 +11,7 @@ use Rattle.ident.specs.declared.Kind.the-variants.{Txid, Wtxid}
 use Rattle.ident.specs.declared.ItemKind.{ItemKind}
 use Rattle.ident.specs.declared.ItemKind.the-variants.{Transaction, WitnessTransaction, WTx, Other}
 use Rattle.ident.specs.If.{if_then_else_}
-use Rattle.ident.specs.Number.{Key, Item, top, isPlain, keyAs}
+use Rattle.ident.specs.Number.{Key, Item, top, isPlain}
 
 -- ---- numbers
 

@@ -2,10 +2,9 @@ use borrow.Author.Needs.{needs}
 -- The proof of the cycle of calls {put_decimal}. The measure is the number: without its last digit it is smaller.
 -- Assumes nothing.
 use borrow.Author.Needs.{needs}
-use Prim.Native.Nat.{_≤_, _/_, _^_}
+use Prim.Native.Nat.{_≤_}
 use native.Mathlib.Omega.{arith}
 use lib.Dec.{lit<, lit≤}
-use lib.ListN.{length-set}
 use Rattle.lines.proofs.Writing.{wrote-one, wrote-last, rest-end, decimal-fits}
 use Prim.Native.Nat.{ℕ, _<_}
 use borrow.Fn.Kinds.{In}

@@ -8,9 +8,7 @@ use Rattle.lines.proofs.Hashes.{digit-word}
 -- Assumes nothing.
 use borrow.Author.Needs.{needs}
 use native.Mathlib.Omega.{arith}
-use lib.Dec.{lit<, lit≤}
 use Rattle.regions.specs.Rows.{quadNumber}
-use Rattle.lines.proofs.Writing.{wrote-one, wrote-last, rest-end}
 use Prim.Native.Nat.{ℕ, _<_}
 use borrow.Fn.Kinds.{In}
 use borrow.Fn.PlainCycle.{Measures, is, falls, and}
