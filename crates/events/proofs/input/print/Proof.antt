@@ -1,0 +1,39 @@
+-- `events::input::print` meets its contract.
+-- Assumes nothing.
+use Rattle.events.proofs.Printing.{room-of}
+use borrow.Author.Needs.{needs}
+use Rattle.events.proofs.input.print.Statement.{statement}
+use Rattle.events.proofs.input.print.Tie as tie
+
+unreadable-requires : tie.Need-unreadable-requires
+unreadable-requires c κs = search needs
+
+same-length : tie.Need-same-length
+same-length c = search needs
+
+returns : tie.Need-returns
+returns c = search needs
+
+answer-line-requires : tie.Need-answer-line-requires
+answer-line-requires c κs = search needs
+
+same-length-2 : tie.Need-same-length-2
+same-length-2 c = search needs
+
+same-length-3 : tie.Need-same-length-3
+same-length-3 c = search needs
+
+returns-2 : tie.Need-returns-2
+returns-2 c = room-of (c .before .before .before .before .answer-line .ensures)
+
+pub print-spec : {M : Type 1} → statement M
+print-spec =
+    tie.close
+    (tie.spec
+    unreadable-requires
+    same-length
+    returns
+    answer-line-requires
+    same-length-2
+    same-length-3
+    returns-2)

@@ -1,0 +1,133 @@
+// Calls carried out, and their replies as text at the front of the answer buffer.
+ghost use Prim.Native.Nat.{_≤_};
+ghost use mathlib.Core.List.{[], _∷_};
+ghost use lib.ListN.{length};
+ghost use Rattle.machine.specs.Call.{Open, On, Announce, RequestParent, Sum};
+ghost use mathlib.Core.Path.{_≡_};
+ghost use Rattle.ident.specs.Words.{hashNum};
+ghost use Rattle.regions.specs.Rows.{quadNumber};
+ghost use Rattle.requests.specs.Changes.{candidateOf};
+ghost use Rattle.tracker.specs.Reply.{replyOf};
+ghost use Rattle.lines.specs.Text.{decimal};
+ghost use Rattle.events.specs.Calls.{callOf};
+ghost use Rattle.events.specs.Replies.{refusalText, joined, unreadable};
+ghost use Rattle.events.specs.Given.{answerRoom, Printed, Numbered, Carried, Answered, offerOf};
+use crate::calls::Asked;
+use crate::calls::Offer;
+use lines::write::put_bytes;
+use lines::write::put_decimal;
+
+fn refusal(out: &mut [u8], n: u64) -> usize
+    requires { ⌜ answerRoom ≤ length (now out) ⌝ }
+    ensures { λ r. ⌜ Printed (now (out .entry)) (now (out .exit)) (refusalText n) r ⌝ }
+{
+    let e = put_bytes(out, 0, b"no,");
+    put_decimal(out, e, n)
+}
+
+// The answer to a line of no listed form.
+pub fn unreadable(out: &mut [u8]) -> usize
+    requires { ⌜ answerRoom ≤ length (now out) ⌝ }
+    ensures { λ r. ⌜ Printed (now (out .entry)) (now (out .exit)) (refusalText unreadable) r ⌝ }
+{
+    refusal(out, 9)
+}
+
+fn figures(out: &mut [u8], held: u64, free: u64, permille: u64) -> usize
+    requires { ⌜ answerRoom ≤ length (now out) ⌝ }
+    ensures { λ r. ⌜ Printed (now (out .entry)) (now (out .exit)) (joined (decimal held ∷ decimal free ∷ decimal permille ∷ [])) r ⌝ }
+{
+    let e = put_decimal(out, 0, held);
+    let from = put_bytes(out, e, b",");
+    let e = put_decimal(out, from, free);
+    let from = put_bytes(out, e, b",");
+    put_decimal(out, from, permille)
+}
+
+fn answer_open(store: &mut [u8], out: &mut [u8], l: u64, q: u64) -> usize
+    requires { ⌜ answerRoom ≤ length (now out) ⌝ }
+    ensures { λ r. ⌜ Carried (Open l q) (now (store .entry)) (now (store .exit)) (now (out .entry)) (now (out .exit)) r ⌝ }
+{
+    let a = tracker::open(store, l, q);
+    match a {
+        tracker::Answer::Refused(n) => refusal(out, n),
+        tracker::Answer::Number(_) => put_bytes(out, 0, b"ok"),
+    }
+}
+
+fn answer_sum(store: &[u8], out: &mut [u8]) -> usize
+    requires { ⌜ answerRoom ≤ length (now out) ⌝ }
+    ensures { λ r. ⌜ Carried (On Sum) (now (store .entry)) (now (store .entry)) (now (out .entry)) (now (out .exit)) r ⌝ }
+{
+    let a = tracker::sum(store);
+    match a {
+        tracker::Figures::Refused(n) => refusal(out, n),
+        tracker::Figures::Are(held, free, permille) => figures(out, held, free, permille),
+    }
+}
+
+// A hash of plain words as the tracker takes it.
+fn hash_of(q: regions::Quad) -> ident::Hash
+    ensures { λ r. ⌜ hashNum r ≡ quadNumber q ⌝ }
+{
+    let words = [q.w0, q.w1, q.w2, q.w3];
+    ident::Hash { words }
+}
+
+fn candidate(o: Offer) -> requests::Candidate
+    ensures { λ r. ⌜ candidateOf r ≡ offerOf o ⌝ }
+{
+    let kind = o.kind;
+    let q = o.hash;
+    let hash = hash_of(q);
+    let item = ident::Item { kind, hash };
+    requests::Candidate {
+        connection: o.connection,
+        item,
+        ready: o.ready,
+        preferred: o.preferred,
+        priority: o.priority,
+    }
+}
+
+// A refusal, or a number.
+fn number(out: &mut [u8], a: tracker::Answer) -> usize
+    requires { ⌜ answerRoom ≤ length (now out) ⌝ }
+    ensures { λ r. ⌜ Numbered (now (out .entry)) (now (out .exit)) (replyOf a) r ⌝ }
+{
+    match a {
+        tracker::Answer::Refused(n) => refusal(out, n),
+        tracker::Answer::Number(n) => put_decimal(out, 0, n),
+    }
+}
+
+fn announce(store: &mut [u8], out: &mut [u8], o: Offer) -> usize
+    requires { ⌜ answerRoom ≤ length (now out) ⌝ }
+    ensures { λ r. ⌜ Carried (On (Announce (offerOf o))) (now (store .entry)) (now (store .exit)) (now (out .entry)) (now (out .exit)) r ⌝ }
+{
+    let a = tracker::candidates::announce(store, candidate(o));
+    number(out, a)
+}
+
+fn request_parent(store: &mut [u8], out: &mut [u8], o: Offer) -> usize
+    requires { ⌜ answerRoom ≤ length (now out) ⌝ }
+    ensures { λ r. ⌜ Carried (On (RequestParent (offerOf o))) (now (store .entry)) (now (store .exit)) (now (out .entry)) (now (out .exit)) r ⌝ }
+{
+    let a = tracker::candidates::request_parent(store, candidate(o));
+    number(out, a)
+}
+
+// The step on one line.
+pub fn answer_line(store: &mut [u8], line: &[u8], out: &mut [u8]) -> usize
+    requires { ⌜ answerRoom ≤ length (now out) ⌝ }
+    ensures { λ r. ⌜ Answered (callOf (now (line .entry))) (now (store .entry)) (now (store .exit)) (now (out .entry)) (now (out .exit)) r ⌝ }
+{
+    let asked = crate::calls::call_of(line);
+    match asked {
+        Asked::Unreadable => unreadable(out),
+        Asked::Opening(l, q) => answer_open(store, out, l, q),
+        Asked::Announcing(o) => announce(store, out, o),
+        Asked::Requesting(o) => request_parent(store, out, o),
+        Asked::Summing => answer_sum(store, out),
+    }
+}

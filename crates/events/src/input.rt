@@ -1,0 +1,125 @@
+// Standard input parted into lines. A line is counted without its line feed; the last one may lack it.
+ghost use Prim.Native.Nat.{_≤_, _<_};
+ghost use lib.ListN.{length};
+ghost use Rattle.events.specs.Given.{lineRoom, answerRoom};
+use libc::STDIN_FILENO;
+use libc::STDOUT_FILENO;
+
+// The longest line that is read, and the longest answer with its line feed.
+pub const LINE: usize = 65_536;
+
+pub const OUT: usize = 8_192;
+
+// What came of a line so far: how many bytes are kept, and whether there were more than the buffer holds.
+pub struct Kept {
+    pub len: usize,
+    pub long: bool,
+}
+
+struct Read {
+    more: bool,
+    kept: Kept,
+}
+
+fn print(store: &mut [u8], line: &[u8], long: bool, out: &mut [u8]) -> usize
+    requires { ⌜ answerRoom ≤ length (now out) ⌝ }
+    ensures { λ r. ⌜ r < answerRoom ⌝ }
+{
+    if long {
+        return crate::answers::unreadable(out);
+    }
+    crate::answers::answer_line(store, line, out)
+}
+
+// Answers one line. Nothing is left to do where standard output takes no more.
+fn answer(store: &mut [u8], line: &[u8], long: bool, out: &mut [u8])
+    requires { ⌜ answerRoom ≤ length (now out) ⌝ }
+{
+    let n = print(store, line, long, out);
+    out[n] = b'\n';
+    let end = n + 1;
+    io::write_all(STDOUT_FILENO, &out[..end]);
+}
+
+// One byte of the input.
+fn take(store: &mut [u8], line: &mut [u8], out: &mut [u8], kept: Kept, b: u8) -> Kept
+    requires { ⌜ (lineRoom ≤ length (now line)) × (answerRoom ≤ length (now out)) × (kept .len ≤ lineRoom) ⌝ }
+    ensures { λ r. ⌜ r .len ≤ lineRoom ⌝ }
+{
+    let len = kept.len;
+    if b == b'\n' {
+        answer(store, &line[..len], kept.long, out);
+        return Kept {
+            len: 0,
+            long: false,
+        };
+    }
+    if len == LINE {
+        return Kept { len, long: true };
+    }
+    line[len] = b;
+    Kept {
+        len: len + 1,
+        long: false,
+    }
+}
+
+fn take_all(store: &mut [u8], line: &mut [u8], out: &mut [u8], kept: Kept, bytes: &[u8]) -> Kept
+    requires { ⌜ (lineRoom ≤ length (now line)) × (answerRoom ≤ length (now out)) × (kept .len ≤ lineRoom) ⌝ }
+    ensures { λ r. ⌜ r .len ≤ lineRoom ⌝ }
+{
+    let mut now = kept;
+    let mut i = 0;
+    while i < bytes.len() {
+        now = take(store, line, out, now, bytes[i]);
+        i += 1;
+    }
+    now
+}
+
+// Reads once.
+fn read_some(store: &mut [u8], line: &mut [u8], out: &mut [u8], kept: Kept) -> Read
+    requires { ⌜ (lineRoom ≤ length (now line)) × (answerRoom ≤ length (now out)) × (kept .len ≤ lineRoom) ⌝ }
+    ensures { λ r. ⌜ r .kept .len ≤ lineRoom ⌝ }
+{
+    let mut bytes = io::buffer();
+    let got = libc::read(STDIN_FILENO, &mut bytes);
+    if got <= 0 {
+        return Read { more: false, kept };
+    }
+    let n = io::count(got, &bytes);
+    let kept = take_all(store, line, out, kept, &bytes[..n]);
+    Read { more: true, kept }
+}
+
+// Reads to the end of the input, and answers what is left of a line without its line feed. The turns are counted because a proved loop
+// ends: no run uses them up.
+pub fn read_lines(store: &mut [u8], line: &mut [u8], out: &mut [u8]) -> Kept
+    requires { ⌜ (lineRoom ≤ length (now line)) × (answerRoom ≤ length (now out)) ⌝ }
+    ensures { λ r. ⌜ r .len ≤ lineRoom ⌝ }
+{
+    let mut kept = Kept {
+        len: 0,
+        long: false,
+    };
+    let mut turns = u64::MAX;
+    while turns > 0 {
+        let read = read_some(store, line, out, kept);
+        kept = read.kept;
+        if !read.more {
+            return kept;
+        }
+        turns -= 1;
+    }
+    kept
+}
+
+// The end of the input: a last line may lack its line feed.
+pub fn end(store: &mut [u8], line: &[u8], out: &mut [u8], kept: Kept)
+    requires { ⌜ (lineRoom ≤ length (now line)) × (answerRoom ≤ length (now out)) × (kept .len ≤ lineRoom) ⌝ }
+{
+    let len = kept.len;
+    if 0 < len {
+        answer(store, &line[..len], kept.long, out);
+    }
+}

@@ -1,0 +1,10 @@
+pub mod Digits
+pub mod Numerals
+pub mod RoundTrips
+pub mod Writing
+pub mod Scans
+pub mod Parting
+pub mod Letters
+pub mod Splitting
+pub mod Sameness
+pub mod Hashes
