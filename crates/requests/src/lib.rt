@@ -115,7 +115,7 @@ pub fn window_of(s: &[u8], k: regions::Key) -> Window
 }
 
 // The mark of the request whose rows are from .. to: that of its first row.
-fn mark_in(s: &[u8], from: usize, to: usize) -> u64
+pub fn mark_in(s: &[u8], from: usize, to: usize) -> u64
     requires { ⌜ Shown (now s) × (to ≤ rowsIn (now s)) ⌝ }
     ensures { λ r. ⌜ MarkIn (now (s .entry)) from to r ⌝ }
 {

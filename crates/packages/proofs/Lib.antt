@@ -1,0 +1,6 @@
+pub mod Lending
+pub mod Seeking
+pub mod Owners
+pub mod Placing
+pub mod Filling
+pub mod Compacting

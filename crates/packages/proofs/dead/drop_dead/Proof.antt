@@ -1,0 +1,53 @@
+use mathlib.Core.Path.{sym}
+use Rattle.store.proofs.Frame.{places-counted}
+use Rattle.packages.specs.Dead.{filter, live}
+use Rattle.packages.proofs.Lending.{lent, came-back}
+use borrow.Author.Needs.{needs}
+use Rattle.packages.proofs.dead.drop_dead.Statement.{statement}
+use Rattle.packages.proofs.dead.drop_dead.Tie as tie
+
+held-places-requires : tie.Need-held-places-requires
+held-places-requires c κs = search needs
+
+places-part-requires : tie.Need-places-part-requires
+places-part-requires c κs = search needs
+
+sub-compact : tie.Need-sub-compact
+sub-compact c = search needs
+
+part-compact-start : tie.Need-part-compact-start
+part-compact-start c = search needs
+
+part-compact-end : tie.Need-part-compact-end
+part-compact-end c = search needs
+
+compact-requires : tie.Need-compact-requires
+compact-requires c κs = search needs
+
+put-requires : tie.Need-put-requires
+put-requires c κs = search needs
+
+same-length : tie.Need-same-length
+same-length c = search needs
+
+returns : tie.Need-returns
+returns c = λ f h.
+    let part = c .before .before .before .before .before .before .before .before .places-part .ensures in
+    let held = lent h part in
+    let n = sym (c .before .before .before .before .before .before .before .before .before .before .held-places .ensures .field f h) in
+    let m = c .before .before .before .before .before .before .compact .ensures .count (f .head .places) (f .places) n held in
+    places-counted h (search needs) (filter live (f .places)) (c .before .before .before .before .before .before .compact .result) (sym m) (came-back h part _ _ (c .before .before .before .before .before .before .compact .kept .0) (c .before .before .before .before .before .before .compact .ensures .region (f .head .places) (f .places) n held)) (c .before .before .put .ensures .word)
+
+pub drop-dead-spec : {M : Type 1} → statement M
+drop-dead-spec =
+    tie.close
+    (tie.spec
+    held-places-requires
+    places-part-requires
+    sub-compact
+    part-compact-start
+    part-compact-end
+    compact-requires
+    put-requires
+    same-length
+    returns)

@@ -1,0 +1,45 @@
+use native.Mathlib.Omega.{arith}
+use Prim.Native.Nat.{_<_}
+use lib.ListN.{length, length-set}
+use Rattle.store.proofs.Frame.{sizes, places-same}
+use Rattle.packages.proofs.Lending.{lent, came-back}
+use borrow.Author.Needs.{needs}
+use Rattle.packages.proofs.flat.push_parent.Statement.{statement}
+use Rattle.packages.proofs.flat.push_parent.Tie as tie
+
+places-part-requires : tie.Need-places-part-requires
+places-part-requires c κs = search needs
+
+sub-push-parent : tie.Need-sub-push-parent
+sub-push-parent c = search needs
+
+part-push-parent-start : tie.Need-part-push-parent-start
+part-push-parent-start c = search needs
+
+part-push-parent-end : tie.Need-part-push-parent-end
+part-push-parent-end c = search needs
+
+push-parent-requires : tie.Need-push-parent-requires
+push-parent-requires c κs = search needs
+
+same-length : tie.Need-same-length
+same-length c = search needs
+
+returns : tie.Need-returns
+returns c = λ f d e h.
+    let z = sizes h in
+    let i : c .before .before .before .before .before .before .before .args .i < length (f .places) = omega (arith, c .before .before .before .before .before .before .before .pre) in
+    let held = c .before .before .push-parent .ensures .region (f .head .places) (f .places) d i e (lent h (c .before .before .before .before .places-part .ensures)) in
+    places-same h (search needs) _ (length-set (f .places) (c .before .before .before .before .before .before .before .args .i) _) (came-back h (c .before .before .before .before .places-part .ensures) _ _ (c .before .before .push-parent .kept .0) held)
+
+pub push-parent-spec : {M : Type 1} → statement M
+push-parent-spec =
+    tie.close
+    (tie.spec
+    places-part-requires
+    sub-push-parent
+    part-push-parent-start
+    part-push-parent-end
+    push-parent-requires
+    same-length
+    returns)

@@ -1,0 +1,45 @@
+use native.Mathlib.Omega.{arith}
+use Prim.Native.Nat.{_<_}
+use lib.ListN.{length, length-set}
+use Rattle.store.proofs.Frame.{sizes, places-same}
+use Rattle.packages.proofs.Lending.{lent, came-back}
+use borrow.Author.Needs.{needs}
+use Rattle.packages.proofs.flat.push_wtxid.Statement.{statement}
+use Rattle.packages.proofs.flat.push_wtxid.Tie as tie
+
+places-part-requires : tie.Need-places-part-requires
+places-part-requires c κs = search needs
+
+sub-push-wtxid : tie.Need-sub-push-wtxid
+sub-push-wtxid c = search needs
+
+part-push-wtxid-start : tie.Need-part-push-wtxid-start
+part-push-wtxid-start c = search needs
+
+part-push-wtxid-end : tie.Need-part-push-wtxid-end
+part-push-wtxid-end c = search needs
+
+push-wtxid-requires : tie.Need-push-wtxid-requires
+push-wtxid-requires c κs = search needs
+
+same-length : tie.Need-same-length
+same-length c = search needs
+
+returns : tie.Need-returns
+returns c = λ f d e h.
+    let z = sizes h in
+    let i : c .before .before .before .before .before .before .before .args .i < length (f .places) = omega (arith, c .before .before .before .before .before .before .before .pre) in
+    let held = c .before .before .push-wtxid .ensures .region (f .head .places) (f .places) d i e (lent h (c .before .before .before .before .places-part .ensures)) in
+    places-same h (search needs) _ (length-set (f .places) (c .before .before .before .before .before .before .before .args .i) _) (came-back h (c .before .before .before .before .places-part .ensures) _ _ (c .before .before .push-wtxid .kept .0) held)
+
+pub push-wtxid-spec : {M : Type 1} → statement M
+push-wtxid-spec =
+    tie.close
+    (tie.spec
+    places-part-requires
+    sub-push-wtxid
+    part-push-wtxid-start
+    part-push-wtxid-end
+    push-wtxid-requires
+    same-length
+    returns)

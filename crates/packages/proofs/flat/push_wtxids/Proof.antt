@@ -1,0 +1,71 @@
+use borrow.Author.Needs.{needs}
+use native.Mathlib.Omega.{arith}
+use native.Mathlib.Nat.{le-refl}
+use Prim.Native.Nat.{ℕ, _-_, _<_}
+use mathlib.Core.Path.{_≡_, sym, ap, subst, _∙_}
+use lib.ListN.{length, take}
+use lib.Seq.{take-all}
+use Rattle.lists.specs.Lists.{hashesIn}
+use Rattle.places.specs.Places.{blank}
+use Rattle.packages.specs.Records.{ListedIn}
+use Rattle.packages.proofs.Filling.{Filled, filled-none, listed-shown, listed-inside, filled-more, hashes-length, hash-in}
+use Rattle.packages.proofs.flat.push_wtxids.Statement.{statement}
+use Rattle.packages.proofs.flat.push_wtxids.Tie as tie
+
+abbrev Inv-loop : tie.InvT-loop
+Inv-loop s₀ i list n j₀ s j = Filled s₀ s i (hashesIn list) j × (n ≡ length (hashesIn list))
+
+abbrev μ-loop : tie.MeasureT-loop
+μ-loop s₀ i list n j₀ s j = n - j
+
+loop-holds : tie.Need-loop-holds Inv-loop μ-loop
+loop-holds c = (filled-none (c .before .before .args .i) (hashesIn (c .before .before .args .list .now)), sym (hashes-length (c .before .before .args .list .now)))
+
+mul-hash-at : tie.Need-mul-hash-at Inv-loop μ-loop
+mul-hash-at c = let n = hashes-length (c .before .before .before .before .args .list .now) in omega (arith, c .before .loop .inv .1, c .loop-test .taken)
+
+hash-at-requires : tie.Need-hash-at-requires Inv-loop μ-loop
+hash-at-requires c κs = let n = hashes-length (c .before .before .before .before .args .list .now) in omega (arith, c .before .loop .inv .1, c .loop-test .taken)
+
+hash-quad-requires : tie.Need-hash-quad-requires Inv-loop μ-loop
+hash-quad-requires c κs = search needs
+
+push-wtxid-requires : tie.Need-push-wtxid-requires Inv-loop μ-loop
+push-wtxid-requires c κs = (listed-shown (c .before .before .before .before .before .before .before .pre .0) (blank 0 0) (c .before .before .before .before .loop .inv .0 .turns), listed-inside (c .before .before .before .before .before .before .before .pre .0) (blank 0 0) (c .before .before .before .before .loop .inv .0 .turns), omega (arith, c .before .before .before .before .before .before .before .pre .1, c .before .before .before .before .loop .inv .1, c .before .before .before .loop-test .taken))
+
+add-j : tie.Need-add-j Inv-loop μ-loop
+add-j c = search needs
+
+loop-less : tie.Need-loop-less Inv-loop μ-loop
+loop-less c = search needs
+
+loop-again : tie.Need-loop-again Inv-loop μ-loop
+loop-again c =
+    let l : c .before .before .before .before .before .before .before .loop .j < length (hashesIn (c .before .before .before .before .before .before .before .before .before .before .args .list .now)) = omega (arith, c .before .before .before .before .before .before .before .loop .inv .1, c .before .before .before .before .before .before .loop-test .taken) in
+    (filled-more (c .before .before .before .before .before .before .before .before .before .before .pre .0) (c .before .before .before .before .before .before .before .loop .inv .0) l (hash-in (c .before .before .before .before .before .before .before .before .before .before .args .list .now) (c .before .before .before .before .before .before .before .loop .j) l (c .before .before .before .before .hash-quad .ensures) (c .before .before .before .before .before .hash-at .ensures)) (c .before .before .push-wtxid .kept .0) (c .before .before .push-wtxid .ensures), c .before .before .before .before .before .before .before .loop .inv .1)
+
+same-length : tie.Need-same-length Inv-loop μ-loop
+same-length c = c .before .loop .inv .0 .long
+
+returns : tie.Need-returns Inv-loop μ-loop
+returns c =
+    let hs = hashesIn (c .before .before .before .before .args .list .now) in
+    let e : c .before .loop .j ≡ length hs = omega (arith, c .before .loop .inv .0 .most, c .before .loop .inv .1, c .loop-test .left) in
+    subst (ListedIn (c .before .before .before .before .args .s .now) (c .before .loop .s) (c .before .before .before .before .args .i)) (ap (λ (j : ℕ). take j hs) e ∙ take-all (length hs) hs (le-refl (length hs))) (c .before .loop .inv .0 .turns)
+
+pub push-wtxids-spec : {M : Type 1} → statement M
+push-wtxids-spec =
+    tie.close
+    (tie.spec
+    Inv-loop
+    μ-loop
+    loop-holds
+    mul-hash-at
+    hash-at-requires
+    hash-quad-requires
+    push-wtxid-requires
+    add-j
+    loop-less
+    loop-again
+    same-length
+    returns)

@@ -1,0 +1,47 @@
+use native.Mathlib.Omega.{arith}
+use Prim.Native.Nat.{_≤_}
+use lib.ListN.{length}
+use Rattle.store.proofs.Frame.{sizes}
+use Rattle.packages.proofs.Lending.{lent, place-sought}
+use borrow.Author.Needs.{needs}
+use Rattle.packages.proofs.flat.seek_place.Statement.{statement}
+use Rattle.packages.proofs.flat.seek_place.Tie as tie
+
+held-places-requires : tie.Need-held-places-requires
+held-places-requires c κs = search needs
+
+places-part-requires : tie.Need-places-part-requires
+places-part-requires c κs = search needs
+
+sub-seek-place : tie.Need-sub-seek-place
+sub-seek-place c = search needs
+
+part-seek-place-start : tie.Need-part-seek-place-start
+part-seek-place-start c = search needs
+
+part-seek-place-end : tie.Need-part-seek-place-end
+part-seek-place-end c = search needs
+
+seek-place-requires : tie.Need-seek-place-requires
+seek-place-requires c κs = search needs
+
+returns : tie.Need-returns
+returns c = record {
+  most = omega (arith, c .seek-place .ensures, c .before .before .before .held-places .ensures);
+  bound = λ f h.
+      let z = sizes h in
+      let few : length (f .places) ≤ f .head .places = omega (arith, c .before .before .before .before .before .pre) in
+      place-sought (f .head .places) (f .places) few (lent h (c .before .before .places-part .ensures)) (c .before .before .before .held-places .ensures .field f h) (c .seek-place .ensures);
+}
+
+pub seek-place-spec : {M : Type 1} → statement M
+seek-place-spec =
+    tie.close
+    (tie.spec
+    held-places-requires
+    places-part-requires
+    sub-seek-place
+    part-seek-place-start
+    part-seek-place-end
+    seek-place-requires
+    returns)
