@@ -1,0 +1,4 @@
+pub mod Fusing
+pub mod Clearing
+pub mod Leaving
+pub mod Releasing
