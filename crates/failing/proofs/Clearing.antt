@@ -32,6 +32,12 @@ shrinks-closed = record {
   at-each = λ r. record { fewer = λ p. omega arith; less = λ p. omega arith; place = omega arith; lawful = λ h. record { candidates = h .candidates; owner = h .owner; packed = refl; parents = parents-none; mark = h .mark } };
 }
 
+pub shrinks-unowned : Shrinks unowned
+shrinks-unowned = record {
+  key = λ r. refl;
+  at-each = λ r. record { fewer = λ p. omega arith; less = λ p. omega arith; place = omega arith; lawful = λ h. record { candidates = h .candidates; owner = tt; packed = refl; parents = parents-none; mark = h .mark } };
+}
+
 -- an owner is a candidate
 pub owner-held : (n : ℕ) (o : Option Owner) (cs : List Candidate) → OwnerFits o cs → ownerIs n o ≡ true → 1 ≤ length cs
 owner-held n none cs f e = never e

@@ -19,13 +19,14 @@ use Rattle.machine.proofs.Tests.{never, or-left, or-right, and-left}
 use Rattle.machine.proofs.Table.{at-key, owners-change}
 use Rattle.machine.proofs.At.{at-other, other-place}
 use Rattle.machine.proofs.Change.{bounded-cut, bounded-change, unowned-at}
-use Rattle.machine.proofs.Fail.{shrinks-left, bounded-unclaim}
+use Rattle.machine.proofs.Fail.{shrinks-left}
 use Rattle.machine.proofs.Kept.{sound-table}
 use Rattle.store.specs.Image.{image, Writes}
 use Rattle.store.specs.Shown.{Kept}
 use Rattle.store.proofs.FlatRead.{image-injective}
 use Rattle.requests.specs.Changes.{Makes, Tells}
 use Rattle.announcing.specs.Answers.{Answered}
+use Rattle.failing.proofs.Clearing.{shrinks-unowned}
 use Rattle.failing.proofs.Fusing.{change-fuse, change-same, change-none}
 
 -- what holds of one sound state that bytes write holds of all
@@ -97,7 +98,7 @@ module _ (st : State) (s : Sound st) (k : Key) (small : k .hash < top) (n : ℕ)
   unclaim-is = rw e
 
   pub freed-sound : Sound freed
-  freed-sound = sound-table s (rw unclaim-is at (bounded-unclaim k n small (s .bounded)))
+  freed-sound = sound-table s (bounded-change k unowned small shrinks-unowned (s .bounded))
 
   pub freed-kept : {b : List ℕ} → Writes b freed → Kept b
   freed-kept w = record { state = freed; sound = freed-sound; writes = w }

@@ -21,7 +21,7 @@ use Rattle.packages.specs.Changes.{ownerNum, stageOf, RequestOf}
 
 -- ---- no connection is 0
 
-positive : (n : ℕ) (k : Key) (cs : List Candidate) → has n cs ≡ true → AllFit k cs → 0 < n
+pub positive : (n : ℕ) (k : Key) (cs : List Candidate) → has n cs ≡ true → AllFit k cs → 0 < n
 unfolding has
 positive n k [] h f = never h
 positive n k (c ∷ cs) h f =
