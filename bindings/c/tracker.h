@@ -30,6 +30,31 @@ bool tracker_sound(const uint8_t *store, size_t length);
  * not sound; then nothing is handed out. */
 uint64_t tracker_sum(const uint8_t *store, size_t length, uint64_t *held, uint64_t *free, uint64_t *permille);
 
+/* A hash is 32 bytes, byte 31 the most significant. An item is named by its type and its hash: type 1 (a transaction) and 0x40000001 (one
+ * with its witness) stand for the txid, 5 for the wtxid; an item of any other type is kept by no call. */
+
+/* announce: the connection can deliver the item, from the time ready on (milliseconds); preferred and priority say how it ranks. The reply
+ * is 1 if it is kept and 0 if it is not. Refusals: 3; 4 if the connection is 0. Refused, the call leaves *reply as it was. */
+uint64_t tracker_announce(uint8_t *store, size_t length, uint64_t connection, uint32_t item_type, const uint8_t hash[32], uint64_t ready,
+                          bool preferred, uint64_t priority, uint64_t *reply);
+
+/* request_parent: the same for a parent that is missing. A connection that is a candidate already takes the smaller ready time and
+ * priority and turns preferred, reply 1. */
+uint64_t tracker_request_parent(uint8_t *store, size_t length, uint64_t connection, uint32_t item_type, const uint8_t hash[32],
+                                uint64_t ready, bool preferred, uint64_t priority, uint64_t *reply);
+
+/* Bytes of a key in an answer buffer (8 that hold 0 for a txid and 1 for a wtxid, the least first; then the hash), and of the buffer that a
+ * list of keys needs: 101 keys. */
+#define TRACKER_KEY_BYTES 40
+#define TRACKER_KEYS_NEED (101 * TRACKER_KEY_BYTES)
+
+/* announce_parents: requests the parents of a transaction, by txid, of the connection. The parents are 32 bytes each; up to 31 bytes behind
+ * the last are no hash. The keys of those that are kept stand in the answer, *count of them; bytes behind them stay. Refusals: 3; 4 if the
+ * connection is 0; 5 if now is above 2^64 - 60,001; 6 if there are more than 100 parents; 7 if the answer is shorter than
+ * TRACKER_KEYS_NEED. Refused, the call leaves answer and *count as they were. Store, parents and answer may not overlap. */
+uint64_t tracker_announce_parents(uint8_t *store, size_t length, uint64_t connection, const uint8_t *parents, size_t parents_length,
+                                  uint64_t now, uint8_t *answer, size_t answer_length, uint64_t *count);
+
 #ifdef __cplusplus
 }
 #endif

@@ -4,7 +4,46 @@
 unsafe extern "C" {
     fn tracker_open(store: *mut u8, length: usize, l: u64, q: u64) -> u64;
     fn tracker_sound(store: *const u8, length: usize) -> bool;
-    fn tracker_sum(store: *const u8, length: usize, held: &mut u64, free: &mut u64, permille: &mut u64) -> u64;
+    fn tracker_sum(
+        store: *const u8,
+        length: usize,
+        held: &mut u64,
+        free: &mut u64,
+        permille: &mut u64,
+    ) -> u64;
+    fn tracker_announce(
+        store: *mut u8,
+        length: usize,
+        connection: u64,
+        item_type: u32,
+        hash: &[u8; 32],
+        ready: u64,
+        preferred: bool,
+        priority: u64,
+        reply: &mut u64,
+    ) -> u64;
+    fn tracker_request_parent(
+        store: *mut u8,
+        length: usize,
+        connection: u64,
+        item_type: u32,
+        hash: &[u8; 32],
+        ready: u64,
+        preferred: bool,
+        priority: u64,
+        reply: &mut u64,
+    ) -> u64;
+    fn tracker_announce_parents(
+        store: *mut u8,
+        length: usize,
+        connection: u64,
+        parents: *const u8,
+        parents_length: usize,
+        now: u64,
+        answer: *mut u8,
+        answer_length: usize,
+        count: &mut u64,
+    ) -> u64;
 }
 
 /// Makes the store an empty tracker for L announcements and Q package places.
@@ -37,6 +76,113 @@ pub fn sum(store: &[u8]) -> Result<Figures, u64> {
     // SAFETY: the bytes are lent for the call, which only reads them, and so are the figures.
     match unsafe { tracker_sum(store.as_ptr(), store.len(), &mut f.held, &mut f.free, &mut f.permille) } {
         0 => Ok(f),
+        refusal => Err(refusal),
+    }
+}
+
+/// One announcement: who can deliver, what item, from when on, and how it ranks. Item types 1
+/// and 0x40000001 stand for the txid, 5 for the wtxid; any other has no key.
+#[derive(Clone, Copy, Debug, Eq, PartialEq)]
+pub struct Candidate {
+    pub connection: u64,
+    pub item_type: u32,
+    /// Byte 31 is the most significant.
+    pub hash: [u8; 32],
+    pub ready: u64,
+    pub preferred: bool,
+    pub priority: u64,
+}
+
+/// Whether the candidate is kept. Refusals 3 and 4.
+pub fn announce(store: &mut [u8], c: &Candidate) -> Result<bool, u64> {
+    let mut reply = 0;
+    // SAFETY: the bytes are lent to this call alone, the hash and the reply for its length.
+    match unsafe {
+        tracker_announce(
+            store.as_mut_ptr(),
+            store.len(),
+            c.connection,
+            c.item_type,
+            &c.hash,
+            c.ready,
+            c.preferred,
+            c.priority,
+            &mut reply,
+        )
+    } {
+        0 => Ok(reply == 1),
+        refusal => Err(refusal),
+    }
+}
+
+/// The same for a parent that is missing; a candidate that is there already takes the smaller
+/// ready time and priority and turns preferred.
+pub fn request_parent(store: &mut [u8], c: &Candidate) -> Result<bool, u64> {
+    let mut reply = 0;
+    // SAFETY: the bytes are lent to this call alone, the hash and the reply for its length.
+    match unsafe {
+        tracker_request_parent(
+            store.as_mut_ptr(),
+            store.len(),
+            c.connection,
+            c.item_type,
+            &c.hash,
+            c.ready,
+            c.preferred,
+            c.priority,
+            &mut reply,
+        )
+    } {
+        0 => Ok(reply == 1),
+        refusal => Err(refusal),
+    }
+}
+
+/// Bytes of a key in an answer buffer, and of the buffer that a list of keys needs.
+pub const KEY_BYTES: usize = 40;
+pub const KEYS_NEED: usize = 101 * KEY_BYTES;
+
+/// A request's key.
+#[derive(Clone, Copy, Debug, Eq, PartialEq)]
+pub enum Key {
+    Txid([u8; 32]),
+    Wtxid([u8; 32]),
+}
+
+/// The first `count` keys of an answer buffer.
+pub fn keys(answer: &[u8], count: usize) -> impl Iterator<Item = Key> + '_ {
+    answer.chunks_exact(KEY_BYTES).take(count).map(|key| {
+        let hash = key[8..].try_into().expect("32 bytes");
+        if key[..8] == [0; 8] { Key::Txid(hash) } else { Key::Wtxid(hash) }
+    })
+}
+
+/// Requests the parents of a transaction of the connection. How many keys stand in the answer
+/// (`keys` reads them); bytes behind them stay. Refusals 3 to 7.
+pub fn announce_parents(
+    store: &mut [u8],
+    connection: u64,
+    parents: &[[u8; 32]],
+    now: u64,
+    answer: &mut [u8],
+) -> Result<usize, u64> {
+    let parents = parents.as_flattened();
+    let mut count = 0;
+    // SAFETY: store and answer are lent to this call alone, parents and count for its length.
+    match unsafe {
+        tracker_announce_parents(
+            store.as_mut_ptr(),
+            store.len(),
+            connection,
+            parents.as_ptr(),
+            parents.len(),
+            now,
+            answer.as_mut_ptr(),
+            answer.len(),
+            &mut count,
+        )
+    } {
+        0 => Ok(count as usize),
         refusal => Err(refusal),
     }
 }

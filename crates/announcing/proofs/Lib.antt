@@ -2,3 +2,9 @@ pub mod Scanning
 pub mod Victims
 pub mod Deciding
 pub mod Entering
+pub mod Adopting
+pub mod OneParent
+pub mod Repeats
+pub mod Listing
+pub mod Heads
+pub mod Taking

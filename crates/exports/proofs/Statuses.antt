@@ -10,16 +10,69 @@ use borrow.Author.Tests.{ne-eqb}
 use lib.ListN.{length}
 use Rattle.ident.specs.If.{if_then_else_}
 use Rattle.words.specs.Words.{words}
-use Rattle.machine.specs.Wrapper.{Sums}
-use Rattle.machine.specs.Call.{Open, On, Sum, refusal}
+use Rattle.machine.specs.State.{State, Candidate}
+use Rattle.machine.specs.Call.{Buffer, Announce, RequestParent, AnnounceParents, Call, Open, On, Sum, refusal}
 use Rattle.machine.specs.Step.{Reply, Refused, Number, Keys, Left, Entries, Chosen, Summed, perform, carryOut, stepIf}
 use Rattle.store.specs.Read.{stateOf}
-use Rattle.tracker.specs.Outcome.{outcomeIf, Does}
-use Rattle.tracker.specs.Reply.{replyOf, figuresOf}
+use Rattle.tracker.specs.Outcome.{Effect, outcomeIf, Does}
+use Rattle.tracker.specs.Reply.{replyOf, figuresOf, listingOf}
 use Rattle.tracker.specs.declared.Answer.{Answer}
 use Rattle.tracker.specs.declared.Figures.{Figures}
+use Rattle.tracker.specs.declared.Listing.{Listing}
 use Rattle.tracker.specs.declared.Answer.the-variants.{Refused as No, Number as Yes}
-use Rattle.exports.specs.Status.{statusOf, numbered, figured}
+use Rattle.exports.specs.Status.{statusOf, handedOut, numbered, figured, counted, Stays}
+
+-- ---- a refusal's number is not 0
+
+-- r is no refusal
+abbrev Carried : Reply → Type 0
+Carried r = (n : ℕ) → r ≡ Refused n → ⊥
+
+not-zero : (k : ℕ) (r : Reply) → Carried r → (if eqb k 0 then r else Refused k) ≡ Refused 0 → ⊥
+not-zero zero r h e = h 0 e
+not-zero (suc k) r h e =
+    let d : Refused (suc k) ≡ Refused 0 = rw (ne-eqb (suc k) 0 (λ q. omega (arith, q))) at e in
+    let z : suc k ≡ 0 = cc in
+    omega arith
+
+-- of a call that does not reply a refusal when it is carried out
+abbrev pub Replies : Call → Type 0
+Replies c = (s : State) → Carried ((carryOut c s) .reply)
+
+refused-zero : (c : Call) {b z : List ℕ} {u : Buffer} → Replies c → Does c b (record { reply = Refused 0; buffer = u; store = z }) → ⊥
+unfolding outcomeIf stepIf
+refused-zero c {b} h d = not-zero (refusal (length b) (d .sound) c (stateOf (words b))) ((carryOut c (stateOf (words b))) .reply) (h (stateOf (words b))) (sym (ap (λ x. x .reply) (d .effect)))
+
+-- ---- answers that are a number
+
+-- a call of a candidate, by what the candidate is
+pub asked-for : (f : Candidate → Call) {x y : Candidate} {b : List ℕ} {e : Effect} → x ≡ y → Does (f x) b e → Does (f y) b e
+asked-for f {x} {y} {b} {e} q d = subst (λ (x : Candidate). Does (f x) b e) q d
+
+module _ (c : Call) (h : Replies c) {b z : List ℕ} {u : Buffer} where
+  pub numbered-told : (a : Answer) (was : ℕ) {r n : ℕ} → Does c b (record { reply = replyOf a; buffer = u; store = z }) → (r ≡ statusOf a) × (n ≡ handedOut a was) → Does c b (record { reply = numbered r n; buffer = u; store = z })
+  numbered-told (No zero) was d e = absurd (refused-zero c h d)
+  numbered-told (No (suc k)) was d e = rw (e .0) d
+  numbered-told (Yes k) was d e = rw (e .0, e .1) d
+
+-- and refused, what stood there stays
+pub stays : (r was : ℕ) → Stays r was was
+stays zero was = tt
+stays (suc k) was = refl
+
+pub handed-stays : (a : Answer) (was : ℕ) {r n : ℕ} → (r ≡ statusOf a) × (n ≡ handedOut a was) → Stays r was n
+handed-stays (No k) was e = rw (e .0, e .1) (stays k was)
+handed-stays (Yes k) was e = rw (e .0) tt
+
+pub announces : (c : Candidate) → Replies (On (Announce c))
+unfolding carryOut perform
+announces c s n e = let z : _≡_ {A = ℕ} 0 1 = cc in omega arith
+
+pub requests-parent : (c : Candidate) → Replies (On (RequestParent c))
+unfolding carryOut perform
+requests-parent c s n e = let z : _≡_ {A = ℕ} 0 1 = cc in omega arith
+
+-- ---- an opening that is carried out replies 1
 
 abbrev statusIn : Reply → ℕ
 statusIn (Refused n) = n
@@ -39,7 +92,6 @@ settled : (k n : ℕ) → numbered (statusIn (if eqb k 0 then Number n else Refu
 settled zero n = refl
 settled (suc k) n = rw (ne-eqb (suc k) 0 (λ e. omega (arith, e)))
 
--- an opening that is carried out replies 1
 opening : (L Q : ℕ) (b : List ℕ) (sound : Bool) → numbered (statusIn (outcomeIf sound b (Open L Q) .reply)) 1 ≡ outcomeIf sound b (Open L Q) .reply
 unfolding outcomeIf stepIf carryOut
 opening L Q b sound = settled (refusal (length b) sound (Open L Q) (stateOf (words b))) 1
@@ -51,21 +103,29 @@ opened {L} {Q} {r} {b} {z} a d e =
 
 -- ---- sum
 
-never-zero : (k : ℕ) (s : Sums) → (if eqb k 0 then Summed s else Refused k) ≡ Refused 0 → ⊥
-never-zero zero s e = let z : _≡_ {A = ℕ} 0 1 = cc in omega arith
-never-zero (suc k) s e =
-    let d : Refused (suc k) ≡ Refused 0 = rw (ne-eqb (suc k) 0 (λ q. omega (arith, q))) at e in
-    let z : suc k ≡ 0 = cc in
-    omega arith
+sums : Replies (On Sum)
+unfolding carryOut perform
+sums s n e = let z : _≡_ {A = ℕ} 0 1 = cc in omega arith
 
-sum-refusal : (b : List ℕ) (sound : Bool) → outcomeIf sound b (On Sum) .reply ≡ Refused 0 → ⊥
-unfolding outcomeIf stepIf carryOut perform
-sum-refusal b sound e = never-zero (refusal (length b) sound (On Sum) (stateOf (words b))) _ e
+module _ (b : List ℕ) where
+  pub sum-refused : (n held free permille : ℕ) → Does (On Sum) b (record { reply = Refused n; buffer = []; store = b }) → Does (On Sum) b (record { reply = figured n held free permille; buffer = []; store = b })
+  sum-refused zero held free permille d = absurd (refused-zero (On Sum) sums d)
+  sum-refused (suc n) held free permille d = d
 
-pub sum-refused : (n held free permille : ℕ) (b : List ℕ) → Does (On Sum) b (record { reply = Refused n; buffer = []; store = b }) → Does (On Sum) b (record { reply = figured n held free permille; buffer = []; store = b })
-sum-refused zero held free permille b d = absurd (sum-refusal b (d .sound) (sym (ap (λ x. x .reply) (d .effect))))
-sum-refused (suc n) held free permille b d = d
+  -- the answer that was matched on
+  pub sum-told : {f g : Figures} → Does (On Sum) b (record { reply = figuresOf f; buffer = []; store = b }) → f ≡ g → Does (On Sum) b (record { reply = figuresOf g; buffer = []; store = b })
+  sum-told d e = subst (λ (x : Figures). Does (On Sum) b (record { reply = figuresOf x; buffer = []; store = b })) e d
 
--- the answer that was matched on
-pub sum-told : (b : List ℕ) {f g : Figures} → Does (On Sum) b (record { reply = figuresOf f; buffer = []; store = b }) → f ≡ g → Does (On Sum) b (record { reply = figuresOf g; buffer = []; store = b })
-sum-told b d e = subst (λ (x : Figures). Does (On Sum) b (record { reply = figuresOf x; buffer = []; store = b })) e d
+-- ---- answers that list keys
+
+pub announces-parents : (n : ℕ) (hs : List ℕ) (clock : ℕ) (v : Buffer) → Replies (On (AnnounceParents n hs clock v))
+unfolding carryOut perform
+announces-parents n hs clock v s k e = let z : _≡_ {A = ℕ} 0 1 = cc in omega arith
+
+module _ (c : Call) {b z : List ℕ} {u : Buffer} where
+  pub count-refused : (n k : ℕ) → Replies c → Does c b (record { reply = Refused n; buffer = u; store = z }) → Does c b (record { reply = counted n k u; buffer = u; store = z })
+  count-refused zero k h d = absurd (refused-zero c h d)
+  count-refused (suc n) k h d = d
+
+  pub listing-told : {f g : Listing} → Does c b (record { reply = listingOf f u; buffer = u; store = z }) → f ≡ g → Does c b (record { reply = listingOf g u; buffer = u; store = z })
+  listing-told d e = subst (λ (x : Listing). Does c b (record { reply = listingOf x u; buffer = u; store = z })) e d

@@ -8,7 +8,9 @@ ghost use Rattle.words.specs.Words.{Decides};
 ghost use Rattle.machine.specs.Call.{Open, On, Sum};
 ghost use Rattle.store.specs.Image.{SoundStore};
 ghost use Rattle.tracker.specs.Outcome.{Does};
-ghost use Rattle.exports.specs.Status.{numbered, figured, statusOf};
+ghost use Rattle.exports.specs.Status.{numbered, figured, statusOf, handedOut, Stays};
+
+pub mod candidates;
 
 // The status of an answer.
 fn status(a: tracker::Answer) -> u64
@@ -17,6 +19,19 @@ fn status(a: tracker::Answer) -> u64
     match a {
         tracker::Answer::Refused(n) => n,
         tracker::Answer::Number(_) => 0,
+    }
+}
+
+// The same, and the number of a reply handed out.
+fn hand_out(a: tracker::Answer, reply: &mut u64) -> u64
+    ensures { λ r. ⌜ (r ≡ statusOf a) × (now (reply .exit) ≡ handedOut a (now (reply .entry))) ⌝ }
+{
+    match a {
+        tracker::Answer::Refused(refusal) => refusal,
+        tracker::Answer::Number(n) => {
+            *reply = n;
+            0
+        }
     }
 }
 
@@ -40,6 +55,7 @@ pub extern "C" fn tracker_sound(s: &[u8]) -> bool
 #[no_mangle]
 pub extern "C" fn tracker_sum(s: &[u8], held: &mut u64, free: &mut u64, permille: &mut u64) -> u64
     ensures { λ r. ⌜ Does (On Sum) (now (s .entry)) (record { reply = figured r (now (held .exit)) (now (free .exit)) (now (permille .exit)); buffer = []; store = now (s .entry) }) ⌝ }
+    ensures kept { λ r. ⌜ Stays r (now (held .entry)) (now (held .exit)) × Stays r (now (free .entry)) (now (free .exit)) × Stays r (now (permille .entry)) (now (permille .exit)) ⌝ }
 {
     let f = tracker::sum(s);
     match f {

@@ -1,0 +1,3 @@
+pub mod KeysBack
+pub mod Given
+pub mod Answer

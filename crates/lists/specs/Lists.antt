@@ -1,8 +1,8 @@
 -- Lists in lent bytes: hashes given to a call, keys written to its answer buffer (document 01, "Buffer needs in entries").
 -- Assumes nothing.
-use Prim.Native.Nat.{ℕ, _/_, _%_}
-use mathlib.Core.List.{List, []}
-use lib.ListN.{length, take, drop, getD}
+use Prim.Native.Nat.{ℕ, _/_}
+use mathlib.Core.List.{List}
+use lib.ListN.{length, take, drop}
 use lib.Dec.{eqb}
 use Rattle.ident.specs.declared.Kind.the-variants.{Txid, Wtxid}
 use Rattle.ident.specs.If.{if_then_else_}

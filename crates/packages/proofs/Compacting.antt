@@ -1,17 +1,16 @@
 -- The live places moved to the front, one after the other.
 -- Assumes nothing.
-use Prim.Native.Nat.{ℕ, zero, suc, _+_, _≤_, _<_}
+use Prim.Native.Nat.{ℕ, _+_, _≤_, _<_}
 use mathlib.Core.Path.{_≡_, refl, sym, ap, subst, _∙_}
 use mathlib.Core.Logic.{inl, inr}
 use mathlib.Core.Bool.{Bool, true, false}
 use mathlib.Core.List.{List, [], _∷_, _++_, append-nil}
-use native.Mathlib.Nat.{add-zero, le-refl}
+use native.Mathlib.Nat.{add-zero}
 use native.Mathlib.Numerals.{add-one}
 use native.Mathlib.Omega.{arith}
 use lib.ListN.{length, take, drop, getD, set, length-set}
 use lib.Seq.{length-take-le, take-all, take-suc, drop-drop, getD-drop, take-suc-set, drop-set-lt, set-getD}
 use borrow.Author.Tests.{lt-ltb, le-ltb}
-use Rattle.ident.specs.If.{if_then_else_}
 use Rattle.places.specs.declared.Head.{Head}
 use Rattle.places.specs.Places.{Place, blank, placeSize, placeWords, HeadAt}
 use Rattle.regions.specs.Regions.{Truncated}
@@ -23,16 +22,16 @@ use Rattle.packages.proofs.Seeking.{head-stage}
 -- ---- filters
 
 module _ {A : Type 0} (p : A → Bool) where
-  filter-append : (a b : List A) → filter p (a ++ b) ≡ filter p a ++ filter p b
+  pub filter-append : (a b : List A) → filter p (a ++ b) ≡ filter p a ++ filter p b
   unfolding filter
   filter-append [] b = refl
   filter-append (x ∷ a) b = elim (test (p x)) [ inl e ↦ rw (e, filter-append a b) | inr e ↦ rw (e, filter-append a b) ]
 
-  filter-one : (x : A) → p x ≡ true → filter p (x ∷ []) ≡ x ∷ []
+  pub filter-one : (x : A) → p x ≡ true → filter p (x ∷ []) ≡ x ∷ []
   unfolding filter
   filter-one x e = rw e
 
-  filter-none : (x : A) → p x ≡ false → filter p (x ∷ []) ≡ []
+  pub filter-none : (x : A) → p x ≡ false → filter p (x ∷ []) ≡ []
   unfolding filter
   filter-none x e = rw e
 

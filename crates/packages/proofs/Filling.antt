@@ -1,20 +1,12 @@
 -- The wtxids of a place, put in one after the other; and one place changed several times.
 -- Assumes nothing.
-use Prim.Native.Nat.{ℕ, suc, _+_, _*_, _/_, _≤_, _<_}
+use Prim.Native.Nat.{ℕ, _+_, _≤_, _<_}
 use mathlib.Core.Path.{_≡_, refl, sym, ap, subst, _∙_}
 use mathlib.Core.List.{List, [], _∷_, _++_}
-use native.Mathlib.Nat.{mul-comm}
 use native.Mathlib.Numerals.{add-one}
 use native.Mathlib.Omega.{arith}
-use lib.ListN.{length, take, drop, getD, set, length-set}
+use lib.ListN.{length, take, getD, set, length-set}
 use lib.Seq.{length-take-le, take-suc, set-getD, set-set, getD-set-same}
-use Rattle.ident.specs.declared.Hash.{Hash}
-use Rattle.ident.specs.Words.{hashBytes, hashNum}
-use Rattle.words.specs.Words.{number}
-use Rattle.words.proofs.Records.{length-recs, recs-at}
-use Rattle.lists.specs.Lists.{hashesIn}
-use Rattle.regions.specs.declared.Quad.{Quad}
-use Rattle.regions.specs.Rows.{quadNumber}
 use Rattle.places.specs.declared.Head.{Head}
 use Rattle.places.specs.Places.{Place, headOf, withWtxids}
 use Rattle.machine.specs.State.{State}
@@ -25,9 +17,7 @@ use Rattle.store.specs.Image.{Shows}
 use Rattle.store.specs.Shown.{heldPlacesIn, Shown, Kept, withPlaces, Turns}
 use Rattle.store.proofs.Frame.{sizes, shown}
 use Rattle.store.proofs.Missing.{each-at}
-use Rattle.store.proofs.Quads.{number-quad}
 use Rattle.store.proofs.ToFlat.{flat-sound}
-use Rattle.requests.specs.Changes.{Words}
 use Rattle.requests.proofs.Keeping.{sized-of, light-of}
 use Rattle.packages.specs.Records.{PushedIn, NoWtxids, ListedIn}
 use Rattle.packages.proofs.Seeking.{head-stage}
@@ -65,9 +55,15 @@ module _ {b b′ : List ℕ} {i : ℕ} {hs : List ℕ} (k : NoWtxids b i) (d : P
   pub listed-inside : i < heldPlacesIn b′
   listed-inside = set-inside (k .is-shown) i _ (turn (k .is-shown .flat) d (k .none-yet d) (k .is-shown .shows)) (k .inside)
 
--- a place changed again
-pub set-again : (ps : List Place) (i : ℕ) (a d : Place) (g : Place → Place) → i < length ps → set (set ps i a) i (g (getD (set ps i a) i d)) ≡ set ps i (g a)
+-- a place changed again, and a third time
+set-again : (ps : List Place) (i : ℕ) (a d : Place) (g : Place → Place) → i < length ps → set (set ps i a) i (g (getD (set ps i a) i d)) ≡ set ps i (g a)
 set-again ps i a d g l = ap (λ (p : Place). set (set ps i a) i (g p)) (getD-set-same ps i a d l) ∙ set-set ps i a (g a)
+
+pub set-thrice : {b : List ℕ} (f : Flat) (i : ℕ) (a d : Place) (g k : Place → Place) → i < length (f .places)
+    → Shows b (withPlaces (set (set (set (f .places) i a) i (g (getD (set (f .places) i a) i d))) i (k (getD (set (set (f .places) i a) i (g (getD (set (f .places) i a) i d))) i d))) f) → Shows b (withPlaces (set (f .places) i (k (g a))) f)
+set-thrice {b} f i a d g k l h =
+    let ps = f .places in
+    subst (λ (qs : List Place). Shows b (withPlaces qs f)) (ap (λ (qs : List Place). set qs i (k (getD qs i d))) (set-again ps i a d g l) ∙ set-again ps i (g a) d k l) h
 
 -- a place with the flag has no wtxids yet
 flag-empty : (st : State) (s : Sound st) (i : ℕ) (d : Place) → i < length (placesOf (st .table)) → (getD (placesOf (st .table)) i d) .stage ≡ 1 → (getD (placesOf (st .table)) i d) .wtxids ≡ []
@@ -122,16 +118,3 @@ module _ {b b′ : List ℕ} {i : ℕ} {hs : List ℕ} {j : ℕ} (k : NoWtxids b
         ap (λ (w : Place). set (set ps i a) i (withWtxids (w .wtxids ++ (x ∷ [])) w)) there ∙ set-set ps i a _ ∙ ap (λ (w : List ℕ). set ps i (withWtxids w p)) longer in
         subst (λ (qs : List Place). Shows b″ (withPlaces qs f)) new y;
   }
-
--- ---- the hashes of a list of 32 bytes each
-
-pub hashes-length : (list : List ℕ) → length (hashesIn list) ≡ length list / hashBytes
-unfolding hashesIn
-hashes-length list = length-recs hashBytes (number 256) (length list / hashBytes) list
-
-pub hash-in : (list : List ℕ) (j : ℕ) {h : Hash} {q : Quad} → j < length (hashesIn list) → Words h q → hashNum h ≡ number 256 (take hashBytes (drop (j * hashBytes) list)) → quadNumber q ≡ getD (hashesIn list) j 0
-unfolding hashesIn
-hash-in list j {h} l w e =
-    let n = hashes-length list in
-    ap quadNumber (w .words-are) ∙ number-quad (hashNum h) ∙ e ∙ ap (λ (a : ℕ). number 256 (take hashBytes (drop a list))) (mul-comm j hashBytes)
-    ∙ sym (recs-at hashBytes (number 256) (length list / hashBytes) list j 0 (omega arith))

@@ -4,3 +4,6 @@ pub mod Owners
 pub mod Placing
 pub mod Filling
 pub mod Compacting
+pub mod ClosingSets
+pub mod Sounds
+pub mod Steps

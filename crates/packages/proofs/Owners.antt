@@ -3,7 +3,7 @@
 use Prim.Native.Nat.{ℕ, zero, suc, _+_, _-_, _/_, _%_, _≤_, _<_}
 use mathlib.Core.Path.{_≡_, refl, sym, ap, subst, _∙_}
 use mathlib.Core.Logic.{_⊎_, inl, inr}
-use mathlib.Core.Bool.{Bool, true, false}
+use mathlib.Core.Bool.{true, false}
 use mathlib.Core.List.{List, [], _∷_, _++_, map}
 use mathlib.Core.Option.{Option, none, some}
 use native.Mathlib.Omega.{arith}
@@ -18,7 +18,7 @@ use Rattle.machine.specs.State.{Candidate, Owner, Request, State, ownerIs}
 use Rattle.machine.specs.Table.{at, has, one}
 use Rattle.machine.specs.Sound.{Sound, OwnerFits}
 use Rattle.machine.proofs.Table.{lawful-at}
-use Rattle.machine.proofs.Tests.{test, never}
+use Rattle.machine.proofs.Tests.{test}
 use Rattle.store.specs.Flat.{Flat, deadlineFor, ownBit, rowOf, rowsFor, rowsOf}
 use Rattle.store.specs.Image.{Shows}
 use Rattle.store.proofs.Bits.{own-row, conn-row}

@@ -5,7 +5,7 @@ use mathlib.Core.Path.{_≡_, refl, sym, ap, subst, _∙_}
 use mathlib.Core.Bool.{Bool, true, false, _||_}
 use mathlib.Core.List.{List, [], _∷_, _++_, map}
 use mathlib.Core.Option.{Option, none, some}
-use lib.ListN.{length, getD, set}
+use lib.ListN.{getD, set}
 use Rattle.ident.specs.Number.{top, Key, wtxid}
 use Rattle.regions.specs.declared.Row.{Row}
 use Rattle.regions.specs.Order.{Bound}
@@ -14,7 +14,7 @@ use Rattle.places.specs.Places.{Place, blank, withStage, withCombined, withWtxi
 use Rattle.machine.specs.State.{Candidate, Owner, Package, Request, State, onTable, isSome}
 use Rattle.machine.specs.Table.{at, change, has}
 use Rattle.machine.specs.Package.{packaged}
-use Rattle.machine.specs.Sound.{Sound, OwnerFits, Packed, Lawful}
+use Rattle.machine.specs.Sound.{Sound, OwnerFits, Lawful}
 use Rattle.machine.proofs.Table.{at-key, lawful-at}
 use Rattle.machine.proofs.Tests.{never}
 use Rattle.store.specs.Flat.{flatOf, rowOf, rowsFor, rowsOf, placesFor, placesOf, tally}
@@ -27,18 +27,9 @@ use Rattle.store.proofs.Split.{rowsBelow, rowsAbove, rows-at, rows-change}
 use Rattle.requests.proofs.Keeping.{writes-by}
 use Rattle.packages.specs.Records.{placeHashes}
 use Rattle.packages.specs.Changes.{stageOf, hasPlace, OwnedPlain, flagged, withParent, FlagOnly, begun, closed}
-use Rattle.packages.proofs.Seeking.{placeIn, place-held, place-free, spot-is, its-place}
+use Rattle.packages.proofs.Seeking.{placeIn, place-held, place-free, holding, spot-is, its-place}
 
 -- ---- a request with a place has an owner, who is a candidate
-
-held-owner : (q : Request) → Lawful q → hasPlace q ≡ true → isSome (q .owner) ≡ true
-held-owner q l e = go (q .info) (q .«package») (l .packed) e
-  where
-    go : (i : Bool) (p : Option Package) → Packed (q .key .kind) (q .owner) i p (q .parents) → (i || isSome p) ≡ true → isSome (q .owner) ≡ true
-    go true (some p) k e = absurd k
-    go true none k e = k .0
-    go false (some p) k e = k .0
-    go false none k e = never e
 
 manned : (q : Request) → Lawful q → isSome (q .owner) ≡ true → q .candidates ≡ [] → ⊥
 manned q l e z = go (q .owner) (q .candidates) (l .owner) e z
@@ -96,7 +87,7 @@ module _ (st : State) (s : Sound st) (h : ℕ) (small : h < top) {i : ℕ} (bd :
     replaced e p w x =
         let k = wtxid h in
         let t = st .table in
-        let u = held-owner q (lawful-at k t (s .bounded .lawful)) e in
+        let u = holding q (lawful-at k t (s .bounded .lawful)) e .owner in
         made st s k g same (place-replaced k 0 t (s .bounded .ordered) g (some-one st s k g same u) (placeIn q) p (place-held q e) w ∙ ap (λ (j : ℕ). set (placesOf t) j p) (sym (spot-is st s h small bd))) x
 
   -- "owner .., flag"

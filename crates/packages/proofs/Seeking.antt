@@ -22,7 +22,7 @@ use Rattle.places.specs.declared.Head.{Head}
 use Rattle.places.specs.Places.{Place, listMost, headOf}
 use Rattle.machine.specs.State.{Owner, Package, Request, State, isSome}
 use Rattle.machine.specs.Table.{at}
-use Rattle.machine.specs.Sound.{Sound, Packed}
+use Rattle.machine.specs.Sound.{Sound, Packed, Lawful}
 use Rattle.machine.proofs.Table.{at-key, lawful-at}
 use Rattle.machine.proofs.Tests.{test, never}
 use Rattle.store.specs.Flat.{flatOf, rowsOf, placeFor, placesFor, placesOf}
@@ -36,7 +36,7 @@ use Rattle.store.proofs.Split.{placesBelow, placesAbove, places-at}
 use Rattle.store.proofs.ToFlat.{flat-sound}
 use Rattle.store.proofs.Window.{places-sorted, places-from, place-found, place-missing}
 use Rattle.packages.specs.Records.{placeHashes}
-use Rattle.packages.specs.Changes.{stageOf, wtxidsOf, combinedOf, hasPlace, PlaceSpot}
+use Rattle.packages.specs.Changes.{stageOf, wtxidsOf, combinedOf, hasPlace}
 
 -- ---- a request and its place
 
@@ -70,6 +70,20 @@ held-by q e = elim (test (hasPlace q)) [ inl h ↦ h | inr h ↦ let z : _≡_ {
 
 free-by : (q : Request) → placesFor q ≡ [] → hasPlace q ≡ false
 free-by q e = elim (test (hasPlace q)) [ inl h ↦ let z : _≡_ {A = ℕ} 0 1 = ap length (sym e ∙ place-held q h) in absurd (omega arith) | inr h ↦ h ]
+
+-- flag or package: an owner, on a Wtxid key
+pub record Holding (q : Request) : Type 0 where
+  pub owner : isSome (q .owner) ≡ true
+  pub kind : q .key .kind ≡ Wtxid
+
+pub holding : (q : Request) → Lawful q → hasPlace q ≡ true → Holding q
+holding q l e = go (q .info) (q .«package») (l .packed) e
+  where
+    go : (i : Bool) (p : Option Package) → Packed (q .key .kind) (q .owner) i p (q .parents) → (i || isSome p) ≡ true → Holding q
+    go true (some p) k e = absurd k
+    go true none k e = record { owner = k .0; kind = k .1 }
+    go false (some p) k e = record { owner = k .0; kind = k .1 }
+    go false none k e = never e
 
 stage-free : (i : Bool) (p : Option Package) → (i || isSome p) ≡ false → stageOf i p ≡ 0
 stage-free true p e = never (sym e)
@@ -119,7 +133,7 @@ module _ (x : Place) {p : Head} (e : p ≡ headOf x) where
 
 -- ---- where a search stops
 
-hash-at : (ps : List Place) (i : ℕ) (d : Place) → i < length ps → getD (placeHashes ps) i 0 ≡ (getD ps i d) .hash
+pub hash-at : (ps : List Place) (i : ℕ) (d : Place) → i < length ps → getD (placeHashes ps) i 0 ≡ (getD ps i d) .hash
 hash-at [] i d h = absurd (omega arith)
 hash-at (p ∷ ps) zero d h = refl
 hash-at (p ∷ ps) (suc i) d h = hash-at ps i d (omega arith)

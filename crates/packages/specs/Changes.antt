@@ -12,11 +12,10 @@ use Rattle.regions.specs.declared.Row.{Row}
 use Rattle.regions.specs.Order.{Bound}
 use Rattle.machine.specs.Limits.{maxParents}
 use Rattle.machine.specs.State as machine
-use Rattle.machine.specs.State.{Owner, Package, Table, State, isSome}
+use Rattle.machine.specs.State.{Owner, Package, Table, isSome}
 use Rattle.machine.specs.Table.{at, one}
-use Rattle.machine.specs.Sound.{Sound}
 use Rattle.store.specs.Flat.{Flat, ownBit, placesOf}
-use Rattle.store.specs.Image.{Shows, Writes}
+use Rattle.store.specs.Image.{Shows}
 use Rattle.store.specs.Shown.{heldPlacesIn}
 use Rattle.requests.specs.Changes.{Spans, Tells}
 use Rattle.packages.specs.declared.Request.{Request}
@@ -48,7 +47,7 @@ abbrev pub combinedOf : Option Package → ℕ
 combinedOf none = 0
 combinedOf (some p) = p .combined
 
--- "a place is held by a request with a package-info flag or a package"
+-- "A place is held by a request with a package-info flag or a package, and by no other."
 abbrev pub hasPlace : machine.Request → Bool
 hasPlace q = q .info || isSome (q .«package»)
 

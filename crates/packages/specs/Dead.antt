@@ -2,14 +2,22 @@
 -- Assumes nothing.
 use Prim.Native.Nat.{ℕ, _+_, _≤_, _<_}
 use mathlib.Core.Path.{_≡_}
-use mathlib.Core.Bool.{Bool, true, false}
-use mathlib.Core.List.{List, [], _∷_}
-use lib.Dec.{ltb}
+use mathlib.Core.Bool.{Bool, true, false, _&&_, _||_}
+use mathlib.Core.List.{List, [], _∷_, map}
+use lib.Dec.{ltb, eqb}
 use lib.ListN.{length, getD, set}
+use Rattle.ident.specs.declared.Kind.{Kind}
+use Rattle.ident.specs.declared.Kind.the-variants.{Txid, Wtxid}
 use Rattle.ident.specs.If.{if_then_else_}
 use Rattle.regions.specs.Regions.{Holds}
-use Rattle.places.specs.Places.{Place, placeSize, placeWords}
+use Rattle.places.specs.Places.{Place, placeSize, placeWords, withStage}
+use Rattle.machine.specs.State.{Request, Table, State}
+use Rattle.machine.specs.Sound.{Sound}
 use Rattle.machine.specs.Table.{one}
+use Rattle.store.specs.Flat.{flatOf, placesOf}
+use Rattle.store.specs.Image.{Shows}
+use Rattle.store.specs.Shown.{withPlaces}
+use Rattle.packages.specs.Changes.{closed}
 
 -- the elements that pass a test, in their order
 unfoldable pub filter : {A : Type 0} → (A → Bool) → List A → List A
@@ -39,3 +47,31 @@ pub record Compacted (w w′ : List ℕ) (n m : ℕ) : Type 0 where
   pub most : m ≤ n
   pub count : (Q : ℕ) (ps : List Place) → length ps ≡ n → Region Q ps w → m ≡ length (filter live ps)
   pub region : (Q : ℕ) (ps : List Place) → length ps ≡ n → Region Q ps w → Region Q (filter live ps) w′
+
+-- ---- a set of requests: those at a Wtxid key whose hash is in S
+
+abbrev pub isWtxid : Kind → Bool
+isWtxid Txid = false
+isWtxid Wtxid = true
+
+unfoldable pub closedIf : (ℕ → Bool) → Request → Request
+closedIf S q = if isWtxid (q .key .kind) && S (q .key .hash) then closed q else q
+
+-- "flag, package and parents go" of each of them
+abbrev pub closeAll : (ℕ → Bool) → Table → Table
+closeAll S t = map (closedIf S) t
+
+-- the place of one of them marked dead
+unfoldable pub deadIf : (ℕ → Bool) → Place → Place
+deadIf S p = if S (p .hash) then withStage 0 p else p
+
+-- one hash more in the set
+abbrev pub with-hash : (ℕ → Bool) → ℕ → ℕ → Bool
+with-hash S h x = S x || eqb x h
+
+-- the bytes write a state, but with the places of the set marked dead
+abbrev pub Marks : List ℕ → State → (ℕ → Bool) → Type 0
+Marks b st S = Shows b (withPlaces (map (deadIf S) (placesOf (st .table))) (flatOf st))
+
+abbrev pub MarksMore : List ℕ → List ℕ → ℕ → Type 0
+MarksMore b b′ h = (st : State) (S : ℕ → Bool) → Sound st → Marks b st S → Marks b′ st (with-hash S h)

@@ -1,12 +1,10 @@
 // The package places of a store as records, beyond store::packages: searched, their lists read and lengthened.
-ghost use mathlib.Core.Path.{_≡_};
-ghost use Prim.Native.Nat.{ℕ, _+_, _≤_, _<_};
+ghost use Prim.Native.Nat.{_+_, _≤_, _<_};
 ghost use lib.ListN.{length, getD, set};
 ghost use Rattle.lists.specs.Lists.{hashesIn};
 ghost use Rattle.regions.specs.Rows.{quadNumber};
 ghost use Rattle.places.specs.Places.{Place, listMost, withCombined, withWtxids, withParents};
-ghost use Rattle.store.specs.Flat.{Flat};
-ghost use Rattle.store.specs.Shown.{placesIn, heldPlacesIn, Shown, withPlaces, Turns, Seek};
+ghost use Rattle.store.specs.Shown.{heldPlacesIn, Shown, withPlaces, Turns, Seek};
 ghost use Rattle.packages.specs.Records.{PartOf, placeHashes, HashIn, PushedIn, NoWtxids, ListedIn};
 
 // Words of a row, of a connection's entry and of a place.
@@ -94,10 +92,10 @@ pub fn push_wtxids(s: &mut [u8], i: usize, list: &[u8])
     requires { ⌜ NoWtxids (now s) i × (length (hashesIn (now list)) ≤ listMost) ⌝ }
     ensures { λ _. ⌜ ListedIn (now (s .entry)) (now (s .exit)) i (hashesIn (now (list .entry))) ⌝ }
 {
-    let n = list.len() / ident::HASH_BYTES;
+    let n = lists::hashes(list);
     let mut j = 0;
     while j < n {
-        let h = ident::hash_at(list, j * ident::HASH_BYTES);
+        let h = lists::hash_in(list, j);
         let q = requests::hash_quad(h);
         push_wtxid(s, i, j, q);
         j += 1;

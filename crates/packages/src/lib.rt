@@ -5,7 +5,7 @@
 ghost use mathlib.Core.Path.{_≡_};
 ghost use Prim.Native.Nat.{_≤_, _<_};
 ghost use mathlib.Core.Option.{some};
-ghost use mathlib.Core.Bool.{true, false};
+ghost use mathlib.Core.Bool.{false};
 ghost use lib.ListN.{length, getD};
 ghost use Rattle.ident.specs.Number.{wtxid};
 ghost use Rattle.ident.specs.Words.{hashNum, keyNum};
@@ -67,9 +67,9 @@ pub struct Request {
     pub mark: bool,
 }
 
-pub struct Owner {
-    pub connection: u64,
-    pub deadline: u64,
+struct Owner {
+    connection: u64,
+    deadline: u64,
 }
 
 // Whom the rows from .. to name as owner; zeros, if nobody.

@@ -1,6 +1,6 @@
 -- Package places as words.
 -- Assumes nothing.
-use Prim.Native.Nat.{ℕ, _+_, _*_, _^_, _≤_, _<_}
+use Prim.Native.Nat.{ℕ, _+_, _*_, _≤_, _<_}
 use mathlib.Core.Path.{_≡_}
 use mathlib.Core.List.{List, [], _∷_, _++_}
 use lib.ListN.{length, take, drop, getD, set, replicate}
@@ -80,26 +80,22 @@ placeKey w = quadNumber (readQuad w)
 
 -- ---- a place read back
 
+unfoldable pub readHash : List ℕ → ℕ
+readHash w = quadNumber (readQuad w)
+
 unfoldable pub readPlace : List ℕ → Place
 readPlace w = record {
-  hash = quadNumber (readQuad w);
-  combined = quadNumber (readQuad (drop combinedAt w));
+  hash = readHash w;
+  combined = readHash (drop combinedAt w);
   stage = getD w stageAt 0;
-  wtxids = recs 4 (λ l. quadNumber (readQuad l)) (getD w wtxidCountAt 0) (drop wtxidsAt w);
-  parents = recs 4 (λ l. quadNumber (readQuad l)) (getD w parentCountAt 0) (drop parentsAt w);
+  wtxids = recs 4 readHash (getD w wtxidCountAt 0) (drop wtxidsAt w);
+  parents = recs 4 readHash (getD w parentCountAt 0) (drop parentsAt w);
 }
 
--- a list of hashes fits a place
-pub record FewHashes (hs : List ℕ) : Type 0 where
-  pub few : length hs ≤ listMost
-  pub small : (i : ℕ) → i < length hs → getD hs i 0 < (2 ^ 64) ^ 4
-
--- a place whose words say all of it
-pub record Fitting (p : Place) : Type 0 where
-  pub hash : p .hash < (2 ^ 64) ^ 4
-  pub combined : p .combined < (2 ^ 64) ^ 4
-  pub wtxids : FewHashes (p .wtxids)
-  pub parents : FewHashes (p .parents)
+-- the lists of a place have room
+pub record PlaceShort (p : Place) : Type 0 where
+  pub wtxids : length (p .wtxids) ≤ listMost
+  pub parents : length (p .parents) ≤ listMost
 
 -- ---- places changed
 

@@ -26,7 +26,7 @@ use Rattle.store.specs.Read.{readHash, readPlace, pollIs, cursorIs, cursorAt, h
 use Rattle.store.proofs.Quads.{number-top}
 use Rattle.store.proofs.ToFlat.{flat-sound}
 use Rattle.store.proofs.FromFlat.{sound-state, flat-back}
-use Rattle.store.proofs.Frame.{head-length}
+use Rattle.store.proofs.HeadWords.{head-length}
 use Rattle.store.proofs.WordsFit.{few-conns}
 use Rattle.store.proofs.FlatRead.{length-image, flat-read}
 use Rattle.store.proofs.Stored.{words-front}

@@ -11,7 +11,7 @@ use Rattle.regions.specs.declared.Row.{Row}
 use Rattle.regions.specs.Regions.{each}
 use Rattle.regions.specs.Rows.{rowSize, rowWords, readRow, connSize, connWords, readConn}
 use Rattle.regions.proofs.Regions.{length-padded}
-use Rattle.places.specs.Places.{Place, placeSize, placeWords}
+use Rattle.places.specs.Places.{Place, placeSize, placeWords, PlaceShort}
 use Rattle.machine.specs.Limits.{need}
 use Rattle.machine.specs.State.{State}
 use Rattle.machine.specs.Sound.{Sound}
@@ -23,9 +23,9 @@ use Rattle.store.specs.Image.{headSize, headWords, wordsOf, image}
 use Rattle.store.specs.Read.{readPlace, headIn, flatIn, stateOf}
 use Rattle.store.proofs.Dress.{state-back}
 use Rattle.store.proofs.ToFlat.{flat-sound}
-use Rattle.store.proofs.ReadBack.{PlaceShort, rows-back, conns-back, places-back}
-use Rattle.store.proofs.HeadWords.{inWords, head-words, head-back}
-use Rattle.store.proofs.Frame.{head-length, rowPart, connPart, placePart}
+use Rattle.store.proofs.ReadBack.{rows-back, conns-back, places-back}
+use Rattle.store.proofs.HeadWords.{inWords, head-words, head-length, head-back}
+use Rattle.store.proofs.Frame.{rowPart, connPart, placePart}
 use Rattle.store.proofs.WordsFit.{staged, few-conns}
 
 -- ---- how long it is

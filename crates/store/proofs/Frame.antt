@@ -1,13 +1,11 @@
--- The words of a flat state: its header word by word, each region as a part that is lent and comes back.
+-- The words of a flat state: its header and counts, each region as a part that is lent and comes back.
 -- Assumes nothing.
 use Prim.Native.Nat.{ℕ, _+_, _-_, _*_, _≤_, _<_}
 use mathlib.Core.Path.{_≡_, refl, sym, ap, _∙_}
 use mathlib.Core.List.{List, [], _++_, append-assoc, append-nil}
-use mathlib.Core.Option.{Option, none, some}
 use native.Mathlib.Omega.{arith}
 use lib.ListN.{length, take, drop, getD, set, length-append, length-take, length-drop, replicate, length-replicate, replicate-append-replicate, drop-of-length-le}
 use lib.Seq.{take-at, drop-at}
-use Rattle.ident.specs.Number.{Key}
 use Rattle.words.specs.Words.{words, splice}
 use Rattle.words.proofs.Parts.{words-lent, words-back}
 use Rattle.regions.specs.declared.Row.{Row}
@@ -20,22 +18,9 @@ use Rattle.machine.specs.Limits.{need}
 use Rattle.machine.specs.Step.{empty}
 use Rattle.machine.specs.Typed.{Each}
 use Rattle.store.specs.Flat.{Head, Flat, flatOf, tally}
-use Rattle.store.specs.Image.{headSize, pollWords, cursorWords, headWords, wordsOf, Shows, Writes}
+use Rattle.store.specs.Image.{headWords, wordsOf, Shows, Writes}
 use Rattle.store.specs.Shown.{limitAt, placesAt, rowsAt, connsAt, heldPlacesAt, Sizes, Sized, Light, Shown, withRows, withConns, withPlaces}
-
--- ---- the header
-
-poll-length : (o : Option ℕ) → length (pollWords o) ≡ 2
-poll-length none = refl
-poll-length (some n) = refl
-
-cursor-length : (o : Option Key) → length (cursorWords o) ≡ 5
-cursor-length none = refl
-cursor-length (some k) = refl
-
-pub head-length : (h : Head) (n c q : ℕ) → length (headWords h n c q) ≡ headSize
-unfolding headWords
-head-length h n c q = simp (length-append, poll-length, cursor-length)
+use Rattle.store.proofs.HeadWords.{head-length}
 
 -- ---- the whole, with counts that need not be those of the lists
 

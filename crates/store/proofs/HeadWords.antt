@@ -4,13 +4,14 @@ use Prim.Native.Nat.{ℕ}
 use mathlib.Core.Path.{_≡_, refl, ap, _∙_}
 use mathlib.Core.List.{List, [], _∷_, _++_}
 use mathlib.Core.Option.{Option, none, some}
+use lib.ListN.{length}
 use Rattle.ident.specs.declared.Kind.{Kind}
 use Rattle.ident.specs.declared.Kind.the-variants.{Txid, Wtxid}
 use Rattle.ident.specs.Number.{Key}
 use Rattle.regions.specs.declared.Quad.{Quad}
 use Rattle.regions.specs.Rows.{quadNumber, quadOf}
 use Rattle.store.specs.Flat.{Head}
-use Rattle.store.specs.Image.{format, cursorTag, pollWords, cursorWords, headWords}
+use Rattle.store.specs.Image.{headSize, format, cursorTag, pollWords, cursorWords, headWords}
 use Rattle.store.specs.Read.{pollIs, cursorIs, headIn}
 use Rattle.store.proofs.Quads.{number-quad}
 
@@ -24,7 +25,7 @@ abbrev pub pollTime : Option ℕ → ℕ
 pollTime none = 0
 pollTime (some n) = n
 
-poll-words : (p : Option ℕ) → pollWords p ≡ pollTag p ∷ pollTime p ∷ []
+pub poll-words : (p : Option ℕ) → pollWords p ≡ pollTag p ∷ pollTime p ∷ []
 poll-words none = refl
 poll-words (some n) = refl
 
@@ -40,7 +41,7 @@ abbrev pub quadIn : Option Key → Quad
 quadIn none = record { w0 = 0; w1 = 0; w2 = 0; w3 = 0 }
 quadIn (some k) = quadOf (k .hash)
 
-cursor-words : (c : Option Key) → cursorWords c ≡ tagOf c ∷ (quadIn c) .w0 ∷ (quadIn c) .w1 ∷ (quadIn c) .w2 ∷ (quadIn c) .w3 ∷ []
+pub cursor-words : (c : Option Key) → cursorWords c ≡ tagOf c ∷ (quadIn c) .w0 ∷ (quadIn c) .w1 ∷ (quadIn c) .w2 ∷ (quadIn c) .w3 ∷ []
 cursor-words none = refl
 cursor-words (some k) = refl
 
@@ -89,6 +90,9 @@ module _ (h : Head) (rows conns places : ℕ) where
   pub head-words : headWords h rows conns places ≡ inWords
   unfolding headWords
   head-words = rw (poll-words (h .nextPoll), cursor-words (h .knownCursor), cursor-words (h .readyCursor))
+
+  pub head-length : length (headWords h rows conns places) ≡ headSize
+  head-length = ap length head-words
 
   pub head-back : (z : List ℕ) → headIn (headWords h rows conns places ++ z) ≡ h
   unfolding headIn

@@ -1,10 +1,10 @@
 -- Rows, connections and places read back from the words that they were written as.
 -- Assumes nothing.
 use Prim.Native.Nat.{ℕ, _+_, _-_, _*_, _≤_}
-use mathlib.Core.Path.{_≡_, refl, ap, _∙_}
+use mathlib.Core.Path.{_≡_, refl}
 use mathlib.Core.List.{List, [], _∷_, _++_, append-assoc}
 use native.Mathlib.Omega.{arith}
-use lib.ListN.{length, drop, replicate}
+use lib.ListN.{length, replicate}
 use lib.Seq.{take-at, drop-at}
 use Rattle.words.specs.Words.{recs}
 use Rattle.regions.specs.declared.Row.{Row}
@@ -12,11 +12,10 @@ use Rattle.regions.specs.declared.Conn.{Conn}
 use Rattle.regions.specs.Regions.{each, padded}
 use Rattle.regions.specs.Rows.{rowSize, rowWords, readRow, connSize, connWords, readConn}
 use Rattle.regions.proofs.Regions.{padded-fit, length-each}
-use Rattle.places.specs.Places.{Place, listMost, placeSize, combinedAt, wtxidsAt, parentsAt, keptSize, hashWords, listWords, placeWords}
-use Rattle.places.proofs.Places.{length-hash, length-list, length-place}
+use Rattle.places.specs.Places.{Place, placeSize, placeWords, readPlace, PlaceShort}
+use Rattle.places.proofs.Places.{length-place}
+use Rattle.places.proofs.Columns.{place-back}
 use Rattle.machine.specs.Typed.{Each}
-use Rattle.store.specs.Read.{readHash, readPlace}
-use Rattle.store.proofs.Quads.{number-quad}
 
 -- ---- records of a region
 
@@ -63,32 +62,7 @@ conn-back c = refl
 pub conns-back : (n : ℕ) (cs : List Conn) (z : List ℕ) → length cs ≤ n → recs connSize readConn (length cs) (padded (connSize * n) (each connWords cs) ++ z) ≡ cs
 conns-back n cs z l = region-back connSize connWords length-conn readConn (connSize * n) cs z (omega arith) (each-of _ conn-back cs)
 
--- ---- hashes and places
-
-hash-back : (h : ℕ) → readHash (hashWords h) ≡ h
-unfolding hashWords readHash
-hash-back h = number-quad h
-
-list-back : (hs : List ℕ) (z : List ℕ) → length hs ≤ listMost → recs 4 readHash (length hs) (listWords hs ++ z) ≡ hs
-unfolding listWords
-list-back hs z l = region-back 4 hashWords length-hash readHash (4 * listMost) hs z (omega arith) (each-of _ hash-back hs)
-
--- the lists of a place have room
-pub record PlaceShort (p : Place) : Type 0 where
-  pub wtxids : length (p .wtxids) ≤ listMost
-  pub parents : length (p .parents) ≤ listMost
-
-place-back : (p : Place) → PlaceShort p → readPlace (placeWords p) ≡ p
-unfolding placeWords readPlace readHash hashWords
-place-back p s =
-    let behind : List ℕ = listWords (p .parents) ++ replicate keptSize 0 in
-    let h : readHash (placeWords p) ≡ p .hash = number-quad (p .hash) in
-    let c : readHash (drop combinedAt (placeWords p)) ≡ p .combined = number-quad (p .combined) in
-    let ws : recs 4 readHash (length (p .wtxids)) (drop wtxidsAt (placeWords p)) ≡ p .wtxids = list-back (p .wtxids) behind (s .wtxids) in
-    let d : drop parentsAt (placeWords p) ≡ behind = drop-at (listWords (p .wtxids)) behind (4 * listMost) (length-list (p .wtxids)) in
-    let ps : recs 4 readHash (length (p .parents)) (drop parentsAt (placeWords p)) ≡ p .parents =
-    ap (recs 4 readHash (length (p .parents))) d ∙ list-back (p .parents) (replicate keptSize 0) (s .parents) in
-    λ i. record { hash = h i; combined = c i; stage = p .stage; wtxids = ws i; parents = ps i }
+-- ---- places
 
 places-read : (ps : List Place) → Each PlaceShort ps → Each (λ p. readPlace (placeWords p) ≡ p) ps
 places-read [] a = tt

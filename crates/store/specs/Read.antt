@@ -3,32 +3,17 @@
 use Prim.Native.Nat.{ℕ, zero, suc, _+_, _*_}
 use mathlib.Core.List.{List}
 use mathlib.Core.Option.{Option, none, some}
-use lib.ListN.{drop, getD, take}
+use lib.ListN.{drop, getD}
 use Rattle.ident.specs.declared.Kind.the-variants.{Txid, Wtxid}
 use Rattle.ident.specs.Number.{Key}
 use Rattle.words.specs.Words.{recs}
 use Rattle.regions.specs.Rows.{readQuad, quadNumber, rowSize, readRow, connSize, readConn}
-use Rattle.places.specs.Places.{Place, placeSize, wtxidsAt, parentsAt, combinedAt, stageAt}
+use Rattle.places.specs.Places.{placeSize}
+unfoldable pub use Rattle.places.specs.Places.{readHash, readPlace}
 use Rattle.machine.specs.State.{State}
 use Rattle.store.specs.Flat.{Head, Flat}
 use Rattle.store.specs.Gather.{stateIn}
 use Rattle.store.specs.Image.{headSize}
-
--- ---- a place
-
-unfoldable pub readHash : List ℕ → ℕ
-readHash w = quadNumber (readQuad w)
-
-unfoldable pub readPlace : List ℕ → Place
-readPlace w = record {
-  hash = readHash w;
-  combined = readHash (drop combinedAt w);
-  stage = getD w stageAt 0;
-  wtxids = recs 4 readHash (getD w 9 0) (drop wtxidsAt w);
-  parents = recs 4 readHash (getD w 10 0) (drop parentsAt w);
-}
-
--- ---- the whole
 
 abbrev pub pollIs : ℕ → ℕ → Option ℕ
 pollIs zero n = none

@@ -2,6 +2,10 @@ pub mod Sizes
 pub mod Stepped
 pub mod Calls
 pub mod Demands
+pub mod Typed
 pub mod Contract
 pub mod Opening
 pub mod Summing
+pub mod Turns
+pub mod Carried
+pub mod Instances

@@ -1,16 +1,15 @@
 -- What opening does, case by case of its refusals.
 -- Assumes nothing.
 use Prim.Native.Nat.{ℕ, zero, suc, _≤_, _<_}
-use mathlib.Core.Path.{_≡_, refl, sym, ap, _∙_}
-use mathlib.Core.Bool.{Bool, true, false, _&&_}
+use mathlib.Core.Path.{_≡_, refl}
+use mathlib.Core.Bool.{true, false, _&&_}
 use mathlib.Core.List.{List, [], _∷_, _++_}
-use lib.Dec.{ltb, leb}
+use lib.Dec.{leb}
 use native.Mathlib.Omega.{arith}
 use lib.ListN.{length, drop, getD}
 use borrow.Author.Tests.{lt-ltb, le-ltb, leb-true}
-use Rattle.words.specs.Words.{words}
 use Rattle.machine.specs.Limits.{maxAnnouncements, maxPlaces, need}
-use Rattle.machine.specs.Call.{Call, Open, sizesTaken, openingRefusal, refusal}
+use Rattle.machine.specs.Call.{Open, sizesTaken, openingRefusal, refusal}
 use Rattle.machine.specs.Step.{Refused, Number, empty, carryOut, written, stepIf}
 use Rattle.machine.proofs.Tests.{and-left, and-right}
 use Rattle.store.specs.Image.{Writes, stored}

@@ -15,7 +15,7 @@ use Rattle.machine.specs.Step.{perform, carryOut, stepIf, step}
 use Rattle.machine.proofs.Tests.{test, by-test}
 use Rattle.store.proofs.Stored.{needOf}
 
-need-kept : (a : Ask) (s : State) → needOf ((perform a s) .state) ≡ needOf s
+pub need-kept : (a : Ask) (s : State) → needOf ((perform a s) .state) ≡ needOf s
 unfolding perform plan
 need-kept (Announce c) s = refl
 need-kept (RequestParent c) s = refl

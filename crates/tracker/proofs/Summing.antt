@@ -1,12 +1,12 @@
 -- What sum does on a sound store: its figures are words of the header; the store stays.
 -- Assumes nothing.
-use Prim.Native.Nat.{ℕ, _+_, _-_, _*_, _/_, _≤_}
+use Prim.Native.Nat.{ℕ, _-_, _*_, _/_, _≤_}
 use mathlib.Core.Path.{_≡_, refl, sym, ap, _∙_}
 use mathlib.Core.Bool.{Bool, true, false}
 use mathlib.Core.List.{List, []}
 use native.Mathlib.Omega.{arith}
 use lib.ListN.{length, drop, getD}
-use Rattle.words.specs.Words.{words, recs, Decides}
+use Rattle.words.specs.Words.{words, Decides}
 use Rattle.words.proofs.Records.{length-recs}
 use Rattle.regions.specs.Rows.{rowSize, readRow}
 use Rattle.machine.specs.Limits.{maxAnnouncements, need}
@@ -37,6 +37,10 @@ module _ (b : List ℕ) (w : SoundStore b) where
   pub limit-word : getD (words b) 1 0 ≡ w .state .limit
   unfolding stateOf flatIn headIn
   limit-word = ap (λ (s : State). s .limit) (state-shown b w)
+
+  pub places-word : getD (words b) 2 0 ≡ w .state .places
+  unfolding stateOf flatIn headIn
+  places-word = ap (λ (s : State). s .places) (state-shown b w)
 
   pub held-word : getD (words b) 3 0 ≡ held (w .state .table)
   unfolding flatIn image
@@ -75,7 +79,7 @@ pub is-sound : (b : List ℕ) (r : Bool) → r ≡ true → Decides r (SoundStor
 is-sound b true e d = d
 is-sound b false e d = never e
 
-not-sound : (b : List ℕ) (r : Bool) → r ≡ false → Decides r (SoundStore b) → SoundStore b → ⊥
+pub not-sound : (b : List ℕ) (r : Bool) → r ≡ false → Decides r (SoundStore b) → SoundStore b → ⊥
 not-sound b true e d = never (sym e)
 not-sound b false e d = d
 

@@ -7,10 +7,15 @@ ghost use mathlib.Core.List.{[]};
 ghost use mathlib.Core.Path.{_≡_};
 ghost use Prim.Native.Nat.{_-_, _*_, _/_, _≤_};
 ghost use Rattle.machine.specs.Limits as limits;
+ghost use Rattle.machine.specs.Table.{one};
+ghost use Rattle.machine.specs.Step.{Number};
 ghost use Rattle.machine.specs.Call.{Open, On, Sum, sizesTaken};
 ghost use Rattle.tracker.specs.Outcome.{Does};
 ghost use Rattle.tracker.specs.declared.Figures.the-variants.{Are};
 ghost use Rattle.tracker.specs.Reply.{replyOf, figuresOf};
+
+pub mod candidates;
+pub mod refusals;
 
 // An answer that is a number: a refusal of document 01's table, or the reply.
 pub enum Answer {
@@ -24,12 +29,22 @@ pub enum Figures {
     Are(u64, u64, u64),
 }
 
-// Refusals of document 01's table.
-const SHORT_STORE: u64 = 1;
+// How many keys stand in the answer buffer, or a refusal.
+pub enum Listing {
+    Refused(u64),
+    Listed(u64),
+}
 
-const BAD_SIZES: u64 = 2;
-
-const UNSOUND_STORE: u64 = 3;
+// "A reply of 0 is the Rust's `false`", 1 its `true`.
+fn replied(yes: bool) -> Answer
+    ensures { λ r. ⌜ replyOf r ≡ Number (one yes) ⌝ }
+{
+    if yes {
+        Answer::Number(1)
+    } else {
+        Answer::Number(0)
+    }
+}
 
 // The greatest L and the greatest Q.
 const MAX_ANNOUNCEMENTS: u64 = 100_000;
@@ -65,11 +80,11 @@ pub fn open(s: &mut [u8], l: u64, q: u64) -> Answer
     ensures { λ r. ⌜ Does (Open l q) (now (s .entry)) (record { reply = replyOf r; buffer = []; store = now (s .exit) }) ⌝ }
 {
     if !sizes_taken(l, q) {
-        return Answer::Refused(BAD_SIZES);
+        return Answer::Refused(refusals::BAD_SIZES);
     }
     let n = need(l as usize, q as usize);
     if s.len() < n {
-        return Answer::Refused(SHORT_STORE);
+        return Answer::Refused(refusals::SHORT_STORE);
     }
     store::head::fill(&mut s[..n], l as usize, q as usize);
     Answer::Number(1)
@@ -80,7 +95,7 @@ pub fn sum(s: &[u8]) -> Figures
     ensures { λ r. ⌜ Does (On Sum) (now (s .entry)) (record { reply = figuresOf r; buffer = []; store = now (s .entry) }) ⌝ }
 {
     if !sound::sound(s) {
-        return Figures::Refused(UNSOUND_STORE);
+        return Figures::Refused(refusals::UNSOUND_STORE);
     }
     let l = words::get(s, 1);
     let n = words::get(s, 3);

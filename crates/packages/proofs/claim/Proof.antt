@@ -2,8 +2,8 @@ use borrow.Author.Needs.{needs}
 use native.Mathlib.Omega.{arith}
 use Prim.Native.Nat.{_<_}
 use mathlib.Core.Path.{_≡_, sym, ap, _∙_}
-use mathlib.Core.List.{List, []}
-use lib.ListN.{length, getD, set}
+use mathlib.Core.List.{[]}
+use lib.ListN.{length, getD}
 use Rattle.ident.specs.Number.{wtxid}
 use Rattle.ident.specs.Words.{hashNum}
 use Rattle.lists.specs.Lists.{hashesIn}
@@ -18,7 +18,7 @@ use Rattle.requests.proofs.Keeping.{kept-shown}
 use Rattle.packages.specs.Changes.{wtxidsOf}
 use Rattle.packages.proofs.Seeking.{its-place, head-stage}
 use Rattle.packages.proofs.Placing.{claimed, flag-held, flag-stage}
-use Rattle.packages.proofs.Filling.{no-wtxids, listed-shown, listed-inside, turned-shown, turned-inside, set-again}
+use Rattle.packages.proofs.Filling.{no-wtxids, listed-shown, listed-inside, turned-shown, turned-inside, set-thrice}
 use Rattle.packages.proofs.claim.Statement.{statement}
 use Rattle.packages.proofs.claim.Tie as tie
 
@@ -44,9 +44,11 @@ set-stage-requires c κs =
     let d = blank 0 0 in
     let k = no-wtxids (c .before .before .before .before .before .before .before .before .before .before .before .before .before .before .before .before .before .before .before .pre .0) (c .before .before .before .before .before .before .before .before .before .before .before .before .before .before .before .seek .ensures .inside (c .before .before .before .before .before .before .before .before .before .before .before .before .before .before .if1 .taken)) (c .before .before .before .before .before .before .before .before .before .before .before .before .place-at .ensures) (c .before .before .before .before .before .before .before .before .before .if2 .taken) in
     let x = listed-shown k d (c .before .before .before .before .before .before .before .push-wtxids .ensures) in
+    let y = listed-inside k d (c .before .before .before .before .before .before .before .push-wtxids .ensures) in
     let i = c .before .before .before .before .before .before .before .before .before .before .before .before .before .before .before .seek .result .at in
     let g = withCombined (quadNumber (c .before .before .before .before .before .before .before .before .before .before .before .hash-quad .result)) in
-    (turned-shown x i g d (c .before .before .before .set-combined .ensures d), turned-inside x i g d (c .before .before .before .set-combined .ensures d) (listed-inside k d (c .before .before .before .before .before .before .before .push-wtxids .ensures)))
+    let turn = c .before .before .before .set-combined .ensures d in
+    (turned-shown x i g d turn, turned-inside x i g d turn y)
 
 same-length : tie.Need-same-length
 same-length c = search needs
@@ -59,17 +61,17 @@ returns c = λ st s w o.
     let d = blank 0 0 in
     let i = c .before .before .before .before .before .before .before .before .before .before .before .before .before .before .before .before .before .before .seek .result .at in
     let ps = placesOf (st .table) in
+    let small = c .before .before .before .before .before .before .before .before .before .before .before .before .before .before .before .before .before .before .seek .ensures .small in
     let p = c .before .before .before .before .before .before .before .before .before .before .before .before .before .before .before .before .before .before .seek .ensures .is st s w in
+    let q = c .before .before .before .before .before .before .before .before .before .before .before .before .before .before .hash-quad .result in
     let z = sizes w in
     let l : i < length ps = omega (arith, c .before .before .before .before .before .before .before .before .before .before .before .before .before .before .before .before .before .before .seek .ensures .inside (c .before .before .before .before .before .before .before .before .before .before .before .before .before .before .before .before .before .if1 .taken)) in
-    let there = its-place st s h (c .before .before .before .before .before .before .before .before .before .before .before .before .before .before .before .before .before .before .seek .ensures .small) (p .bound) (sym (p .held-is) ∙ c .before .before .before .before .before .before .before .before .before .before .before .before .before .before .before .before .before .if1 .taken) d in
+    let there = its-place st s h small (p .bound) (sym (p .held-is) ∙ c .before .before .before .before .before .before .before .before .before .before .before .before .before .before .before .before .before .if1 .taken) d in
     let none-yet : (getD ps i d) .wtxids ≡ [] = ap (λ (x : Place). x .wtxids) there ∙ ap wtxidsOf (o .bare) in
-    let c₁ = withCombined (quadNumber (c .before .before .before .before .before .before .before .before .before .before .before .before .before .before .hash-quad .result)) in
-    let a = withWtxids hs (getD ps i d) in
-    let e : set (set (set ps i a) i (c₁ (getD (set ps i a) i d))) i (withStage 2 (getD (set (set ps i a) i (c₁ (getD (set ps i a) i d))) i d)) ≡ set ps i (withStage 2 (c₁ a)) = ap (λ (qs : List Place). set qs i (withStage 2 (getD qs i d))) (set-again ps i a d c₁ l) ∙ set-again ps i (c₁ a) d (withStage 2) l in
-    let x : quadNumber (c .before .before .before .before .before .before .before .before .before .before .before .before .before .before .hash-quad .result) ≡ n = ap quadNumber (c .before .before .before .before .before .before .before .before .before .before .before .before .before .before .hash-quad .ensures .words-are) ∙ number-quad n in
-    let b = c .before .before .set-stage .ensures d _ (c .before .before .before .before .before .before .set-combined .ensures d _ (c .before .before .before .before .before .before .before .before .before .before .push-wtxids .ensures (flatOf st) d none-yet w)) in
-    claimed st s h (c .before .before .before .before .before .before .before .before .before .before .before .before .before .before .before .before .before .before .seek .ensures .small) (p .bound) n hs o d (rw (e, x) at b)
+    let x : quadNumber q ≡ n = ap quadNumber (c .before .before .before .before .before .before .before .before .before .before .before .before .before .before .hash-quad .ensures .words-are) ∙ number-quad n in
+    let listed = c .before .before .before .before .before .before .before .before .before .before .push-wtxids .ensures (flatOf st) d none-yet w in
+    let b = c .before .before .set-stage .ensures d _ (c .before .before .before .before .before .before .set-combined .ensures d _ listed) in
+    claimed st s h small (p .bound) n hs o d (rw x at (set-thrice (flatOf st) i (withWtxids hs (getD ps i d)) d (withCombined (quadNumber q)) (withStage 2) l b))
 
 same-length-2 : tie.Need-same-length-2
 same-length-2 c = search needs

@@ -1,9 +1,6 @@
 -- `tracker::sizes_taken` meets its contract: each test that fails is a part of `sizesTaken` that is false.
 -- Assumes nothing.
-use mathlib.Core.Path.{_≡_}
-use mathlib.Core.Bool.{true, false}
 use native.Mathlib.Omega.{arith}
-use lib.Dec.{leb}
 use borrow.Author.Tests.{le-leb, lt-leb}
 use Rattle.machine.specs.Limits.{maxAnnouncements}
 use Rattle.tracker.proofs.sizes_taken.Statement.{statement}

@@ -1,0 +1,2 @@
+pub mod HeaderWords
+pub mod InState

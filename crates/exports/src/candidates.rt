@@ -1,0 +1,96 @@
+// The calls that bring candidates, for C and Rust. A call that is refused hands nothing out.
+use super::hand_out;
+ghost use mathlib.Core.List.{[]};
+ghost use mathlib.Core.Path.{_≡_};
+ghost use Rattle.machine.specs.Call.{On, Announce, RequestParent, AnnounceParents};
+ghost use Rattle.lists.specs.Lists.{hashesIn};
+ghost use Rattle.requests.specs.Changes.{candidateOf};
+ghost use Rattle.tracker.specs.Outcome.{Does};
+ghost use Rattle.exports.specs.Arguments.{candidateIn};
+ghost use Rattle.exports.specs.Status.{numbered, counted, Stays};
+
+// One announcement from its parts, the item by its type number.
+fn candidate(
+    connection: u64,
+    item_type: u32,
+    hash: &[u8; 32],
+    ready: u64,
+    preferred: bool,
+    priority: u64,
+) -> requests::Candidate
+    ensures { λ r. ⌜ candidateOf r ≡ candidateIn connection «item_type» (now (hash .entry)) ready preferred priority ⌝ }
+{
+    let kind = ident::item_kind(item_type);
+    let hash = ident::hash_from_bytes(hash);
+    let item = ident::Item { kind, hash };
+    requests::Candidate {
+        connection,
+        item,
+        ready,
+        preferred,
+        priority,
+    }
+}
+
+// A connection can deliver an item. The reply is 1 if it is kept.
+#[no_mangle]
+pub extern "C" fn tracker_announce(
+    s: &mut [u8],
+    connection: u64,
+    item_type: u32,
+    hash: &[u8; 32],
+    ready: u64,
+    preferred: bool,
+    priority: u64,
+    reply: &mut u64,
+) -> u64
+    ensures { λ r. ⌜ Does (On (Announce (candidateIn connection «item_type» (now (hash .entry)) ready preferred priority))) (now (s .entry)) (record { reply = numbered r (now (reply .exit)); buffer = []; store = now (s .exit) }) ⌝ }
+    ensures kept { λ r. ⌜ Stays r (now (reply .entry)) (now (reply .exit)) ⌝ }
+{
+    let c = candidate(connection, item_type, hash, ready, preferred, priority);
+    let a = tracker::candidates::announce(s, c);
+    hand_out(a, reply)
+}
+
+// The same for a parent that is missing.
+#[no_mangle]
+pub extern "C" fn tracker_request_parent(
+    s: &mut [u8],
+    connection: u64,
+    item_type: u32,
+    hash: &[u8; 32],
+    ready: u64,
+    preferred: bool,
+    priority: u64,
+    reply: &mut u64,
+) -> u64
+    ensures { λ r. ⌜ Does (On (RequestParent (candidateIn connection «item_type» (now (hash .entry)) ready preferred priority))) (now (s .entry)) (record { reply = numbered r (now (reply .exit)); buffer = []; store = now (s .exit) }) ⌝ }
+    ensures kept { λ r. ⌜ Stays r (now (reply .entry)) (now (reply .exit)) ⌝ }
+{
+    let c = candidate(connection, item_type, hash, ready, preferred, priority);
+    let a = tracker::candidates::request_parent(s, c);
+    hand_out(a, reply)
+}
+
+// Requests the parents of a transaction, 32 bytes each. The keys of those that are kept stand in the answer: so many as `count` says.
+#[no_mangle]
+pub extern "C" fn tracker_announce_parents(
+    s: &mut [u8],
+    connection: u64,
+    parents: &[u8],
+    clock: u64,
+    answer: &mut [u8],
+    count: &mut u64,
+) -> u64
+    ensures { λ r. ⌜ Does (On (AnnounceParents connection (hashesIn (now (parents .entry))) clock (now (answer .entry)))) (now (s .entry)) (record { reply = counted r (now (count .exit)) (now (answer .exit)); buffer = now (answer .exit); store = now (s .exit) }) ⌝ }
+    ensures kept { λ r. ⌜ Stays r (now (count .entry)) (now (count .exit)) ⌝ }
+{
+    let l = tracker::candidates::announce_parents(s, connection, parents, clock, answer);
+    match l {
+        tracker::Listing::Refused(refusal) => refusal,
+        tracker::Listing::Listed(n) => {
+            *count = n;
+            0
+        }
+    }
+}

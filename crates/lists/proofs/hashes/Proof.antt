@@ -1,0 +1,11 @@
+-- `lists::hashes` meets its contract. Assumes nothing.
+use mathlib.Core.Path.{sym}
+use Rattle.lists.proofs.Given.{length-hashes}
+use Rattle.lists.proofs.hashes.Statement.{statement}
+use Rattle.lists.proofs.hashes.Tie as tie
+
+returns : tie.Need-returns
+returns c = sym (length-hashes (c .args .s .now))
+
+pub hashes-spec : {M : Type 1} → statement M
+hashes-spec = tie.close (tie.spec returns)

@@ -1,0 +1,69 @@
+-- The calls that the code can make have arguments of their widths, so that demands 2 and 3 (proofs/Demands) speak of every list of them.
+-- Assumes nothing.
+use Prim.Native.Nat.{ℕ, _<_}
+use mathlib.Core.Path.{_≡_}
+use mathlib.Core.List.{List, [], _∷_}
+use lib.ListN.{length}
+use denote.Laws.{Is}
+use denote.Struct.Laws as LL
+use Rattle.ident.specs.declared.Item.{Item}
+use Rattle.ident.specs.Number.{top}
+use Rattle.ident.specs.Words.{hashNum}
+use Rattle.ident.proofs.Item as I
+use Rattle.ident.proofs.Item.Laws as I′
+use Rattle.ident.proofs.Words.{hash-four, hash-below}
+use Rattle.machine.specs.Limits.{word}
+use Rattle.machine.specs.Typed.{Each, CandidateTyped, CallTyped}
+use Rattle.machine.specs.Call.{Buffer, Announce, RequestParent, AnnounceParents, Sum, Call, Open, On, openingRefusal}
+use Rattle.machine.specs.Step.{empty}
+use Rattle.store.specs.Image.{SoundStore}
+use Rattle.store.proofs.BytesBack.{Bytes}
+use Rattle.lists.specs.Lists.{hashesIn}
+use Rattle.lists.proofs.Given.{hashes-fit}
+use Rattle.requests.specs.declared.Candidate.{Candidate}
+use Rattle.requests.specs.Changes.{candidateOf}
+use Rattle.requests.proofs.Candidate as C
+use Rattle.requests.proofs.Candidate.Laws as C′
+use Rattle.tracker.specs.Outcome.{Effect}
+use Rattle.tracker.proofs.Demands.{Ran, Tracked, tracked, tracked-open}
+
+-- ---- a value of the declared type `Candidate`
+
+abbrev pub IsCandidate : Candidate → Type 0
+IsCandidate c = Is C.the-row c (LL.vals C.the-type C′.the-laws c)
+
+item-below : (i : Item) → Is I.the-row i (LL.vals I.the-type I′.the-laws i) → hashNum (i .hash) < top
+item-below i g = hash-below (i .hash) (hash-four (i .hash) (LL.owed I.the-type I′.the-laws i _ g .1 .0))
+
+candidate-typed : (c : Candidate) → IsCandidate c → CandidateTyped (candidateOf c)
+candidate-typed c g =
+    let f = LL.owed C.the-type C′.the-laws c _ g in
+    record { connection = f .0 .1; hash = item-below (c .item) (f .1 .0); ready = f .1 .1 .0 .1; priority = f .1 .1 .1 .1 .0 .1 }
+
+-- ---- the calls that the code has, with arguments of its types
+
+pub data Made : Call → Type 0 where
+  opens : (l q : ℕ) → l < word → q < word → Made (Open l q)
+  sums : Made (On Sum)
+  announces : (c : Candidate) → IsCandidate c → Made (On (Announce (candidateOf c)))
+  requests-parent : (c : Candidate) → IsCandidate c → Made (On (RequestParent (candidateOf c)))
+  announces-parents : (n clock : ℕ) (b : List ℕ) (u : Buffer) → n < word → clock < word → Bytes b → Made (On (AnnounceParents n (hashesIn b) clock u))
+
+pub made-typed : (c : Call) → Made c → CallTyped c
+made-typed c (opens l q g h) = (g, h)
+made-typed c sums = tt
+made-typed c (announces d g) = candidate-typed d g
+made-typed c (requests-parent d g) = candidate-typed d g
+made-typed c (announces-parents n clock b u g h p) = (g, hashes-fit b p, h)
+
+each-typed : (cs : List Call) → Each Made cs → Each CallTyped cs
+each-typed [] m = tt
+each-typed (c ∷ cs) m = (made-typed c (m .0), each-typed cs (m .1))
+
+-- demands 2 and 3 of every list of them, from any sound store
+pub tracked-made : (b : List ℕ) (calls : List Call) (es : List Effect) (w : SoundStore b) → Bytes b → Each Made calls → Ran b calls es → Tracked b (w .state) calls es
+tracked-made b calls es w p m r = tracked b calls es w p (each-typed calls m) r
+
+-- and from an empty tracker, by an opening that is carried out
+pub tracked-opened : (b : List ℕ) (L Q : ℕ) (e : Effect) (calls : List Call) (es : List Effect) → openingRefusal (length b) L Q ≡ 0 → Bytes b → Each Made calls → Ran b (Open L Q ∷ calls) (e ∷ es) → Tracked (e .store) (empty L Q) calls es
+tracked-opened b L Q e calls es z p m r = tracked-open b L Q e calls es z p (each-typed calls m) r .1

@@ -1,0 +1,34 @@
+-- The tests of document 01's table that calls share, each by itself: its number, or 0 if it has nothing against the call.
+-- Assumes nothing.
+use Prim.Native.Nat.{ℕ, zero, suc}
+use mathlib.Core.List.{List}
+use lib.Dec.{ltb}
+use Rattle.ident.specs.If.{if_then_else_}
+use Rattle.machine.specs.Limits.{maxParents}
+use Rattle.machine.specs.Claim.{elem}
+use Rattle.machine.specs.Call.{anyLate}
+
+-- "in turn": the first that refuses
+abbrev pub firstOf : ℕ → ℕ → ℕ
+firstOf zero b = b
+firstOf (suc a) b = suc a
+
+-- "connection 0"
+unfoldable pub ofConnections : List ℕ → ℕ
+ofConnections ns = if elem 0 ns then 4 else 0
+
+-- "clock above 2^64 − 60,001"
+unfoldable pub ofClocks : List ℕ → ℕ
+ofClocks ts = if anyLate ts then 5 else 0
+
+-- "more than 100 parents given"
+unfoldable pub ofParents : ℕ → ℕ
+ofParents n = if ltb maxParents n then 6 else 0
+
+-- "answer buffer shorter than its need"
+unfoldable pub ofBuffer : ℕ → ℕ → ℕ
+ofBuffer long needs = if ltb long needs then 7 else 0
+
+-- tests 4 to 7 in turn, of what a call names: connections, clocks, so many parents, a buffer of so many bytes and its need
+abbrev pub inTurn : List ℕ → List ℕ → ℕ → ℕ → ℕ → ℕ
+inTurn ns ts parents long needs = firstOf (firstOf (ofConnections ns) (ofClocks ts)) (firstOf (ofParents parents) (ofBuffer long needs))
