@@ -49,7 +49,7 @@ module _ (b : List ℕ) (v : SoundStore b) (n : ℕ) (e : n ≡ needOf (v .state
   pub need-inside : n ≤ length b
   need-inside = omega (arith, v .long)
 
-  front-writes : Writes (take n b) (v .state)
+  pub front-writes : Writes (take n b) (v .state)
   front-writes = rw e (v .writes)
 
   -- what the core call is lent

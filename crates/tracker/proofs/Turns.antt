@@ -81,6 +81,11 @@ pub clockless : (a : ℕ) → a ≡ firstOf a (ofClocks [])
 unfolding ofClocks anyLate
 clockless a = sym (first-none a)
 
+-- or without a connection
+pub connectionless : (a : ℕ) → a ≡ firstOf (ofConnections []) a
+unfolding ofConnections elem
+connectionless a = refl
+
 pub first-left : (a b : ℕ) → firstOf a b ≡ 0 → a ≡ 0
 first-left zero b e = refl
 first-left (suc a) b e = e
