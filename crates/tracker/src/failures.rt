@@ -9,6 +9,9 @@ ghost use Rattle.machine.specs.Call.{On, Failed, Unclaim, Forget, FailedPackage
 ghost use Rattle.tracker.specs.Outcome.{Does};
 ghost use Rattle.tracker.specs.Reply.{replyOf};
 
+// "Where the Rust returns nothing, the reply is 1."
+const RETURNED: u64 = 1;
+
 // The owner of the request at the key failed to deliver. The reply is 0 unless the connection owns it and its package is not Enqueued.
 pub fn failed(s: &mut [u8], key: ident::Key, connection: u64, clock: u64) -> Answer
     ensures { λ r. ⌜ Does (On (Failed (keyNum key) connection clock)) (now (s .entry)) (record { reply = replyOf r; buffer = []; store = now (s .exit) }) ⌝ }
@@ -37,7 +40,7 @@ pub fn unclaim(s: &mut [u8], key: ident::Key, connection: u64) -> Answer
     }
     let n = refusals::need_of(s);
     failing::unclaim(&mut s[..n], key, connection);
-    Answer::Number(1)
+    Answer::Number(RETURNED)
 }
 
 // The request at the key goes.
@@ -49,7 +52,7 @@ pub fn forget(s: &mut [u8], key: ident::Key) -> Answer
     }
     let n = refusals::need_of(s);
     failing::forget(&mut s[..n], key);
-    Answer::Number(1)
+    Answer::Number(RETURNED)
 }
 
 // failed, of a connection that is asked for package info. The reply is 0 unless it is.
