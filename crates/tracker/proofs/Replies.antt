@@ -6,10 +6,9 @@ use mathlib.Core.Bool.{Bool, true, false}
 use mathlib.Core.List.{List, []}
 use lib.ListN.{take}
 use Rattle.words.specs.Words.{words, Decides}
-use Rattle.machine.specs.Limits.{Limits}
-use Rattle.machine.specs.State.{State, Table, Answer, done}
+use Rattle.machine.specs.State.{State, Table, done}
 use Rattle.machine.specs.Call.{Ask, On, plain, named, takesPlace, askRefusal}
-use Rattle.machine.specs.Step.{Reply, Refused, Number, Result, perform, written}
+use Rattle.machine.specs.Step.{Refused, Number, Result, perform, written}
 use Rattle.store.specs.Image.{SoundStore}
 use Rattle.store.specs.Read.{stateOf}
 use Rattle.store.proofs.BytesBack.{Bytes}
@@ -17,8 +16,8 @@ use Rattle.store.proofs.Stored.{needOf}
 use Rattle.requests.specs.Changes.{Makes, Tells}
 use Rattle.announcing.specs.Answers.{Answered}
 use Rattle.tracker.specs.Outcome.{Does}
-use Rattle.tracker.specs.Tests.{firstOf, ofConnections, ofClocks, ofParents, ofBuffer}
-use Rattle.tracker.proofs.Turns.{first-none, in-turn}
+use Rattle.tracker.specs.Tests.{firstOf, ofConnections, ofClocks}
+use Rattle.tracker.proofs.Turns.{plain-turn}
 use Rattle.tracker.proofs.Contract.{does-nothing}
 use Rattle.tracker.proofs.Carried.{unsound-store, tested-refused, front-writes}
 
@@ -40,8 +39,7 @@ module _ {a : Ask} {ns ts : List ℕ} {f : Table → ℕ} (k : Reads a ns ts f) 
   tests = firstOf (ofConnections ns) (ofClocks ts)
 
   tested : (s : State) → askRefusal true a s ≡ tests
-  unfolding ofParents ofBuffer
-  tested s = in-turn a s (k .placeless s) ∙ rw (k .names s) (first-none tests)
+  tested s = plain-turn a s (k .names s) (k .placeless s)
 
   pub reads-unsound : (r : Bool) → r ≡ false → Decides r (SoundStore b) → Does (On a) b (record { reply = Refused 3; buffer = []; store = b })
   reads-unsound = unsound-store b a [] (rw (k .names (stateOf (words b))))
