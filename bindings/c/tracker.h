@@ -55,6 +55,30 @@ uint64_t tracker_request_parent(uint8_t *store, size_t length, uint64_t connecti
 uint64_t tracker_announce_parents(uint8_t *store, size_t length, uint64_t connection, const uint8_t *parents, size_t parents_length,
                                   uint64_t now, uint8_t *answer, size_t answer_length, uint64_t *count);
 
+/* A request's key is named by a kind, 0 for a txid and any other number for a wtxid, and a hash. */
+
+/* failed: the connection, which owns the request, did not deliver. Owner, flag, package and parents go, the connection leaves both kinds of
+ * the hash, and every remaining candidate there is ready at now. The reply is 0, and nothing changes, unless the connection owns the request
+ * and its package is not enqueued. Refusals: 3; 4 if the connection is 0; 5 if now is above 2^64 - 60,001. Refused, the call leaves *reply as
+ * it was. */
+uint64_t tracker_failed(uint8_t *store, size_t length, uint64_t kind, const uint8_t hash[32], uint64_t connection, uint64_t now,
+                        uint64_t *reply);
+
+/* unclaim: by the same test owner, flag, package and parents go, and the connection stays a candidate. Refusals: 3; 4. */
+uint64_t tracker_unclaim(uint8_t *store, size_t length, uint64_t kind, const uint8_t hash[32], uint64_t connection);
+
+/* forget: the request goes, if there is one. Refusal: 3. */
+uint64_t tracker_forget(uint8_t *store, size_t length, uint64_t kind, const uint8_t hash[32]);
+
+/* failed_package_info: failed, of a connection that is asked for package info; the reply is 0 of any other. Refusals: 3; 4; 5. */
+uint64_t tracker_failed_package_info(uint8_t *store, size_t length, uint64_t kind, const uint8_t hash[32], uint64_t connection,
+                                     uint64_t now, uint64_t *reply);
+
+/* package_info_owner: the connection that is asked for package info of the request, if now is before its deadline; else 0. The store is only
+ * read. Refusals: 3; 5. Refused, the call leaves *owner as it was. */
+uint64_t tracker_package_info_owner(const uint8_t *store, size_t length, uint64_t kind, const uint8_t hash[32], uint64_t now,
+                                    uint64_t *owner);
+
 #ifdef __cplusplus
 }
 #endif

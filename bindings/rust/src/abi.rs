@@ -48,4 +48,32 @@ unsafe extern "C" {
         answer_length: usize,
         count: &mut u64,
     ) -> u64;
+    pub fn tracker_failed(
+        store: *mut u8,
+        length: usize,
+        kind: u64,
+        hash: &[u8; 32],
+        connection: u64,
+        now: u64,
+        reply: &mut u64,
+    ) -> u64;
+    pub fn tracker_unclaim(store: *mut u8, length: usize, kind: u64, hash: &[u8; 32], connection: u64) -> u64;
+    pub fn tracker_forget(store: *mut u8, length: usize, kind: u64, hash: &[u8; 32]) -> u64;
+    pub fn tracker_failed_package_info(
+        store: *mut u8,
+        length: usize,
+        kind: u64,
+        hash: &[u8; 32],
+        connection: u64,
+        now: u64,
+        reply: &mut u64,
+    ) -> u64;
+    pub fn tracker_package_info_owner(
+        store: *const u8,
+        length: usize,
+        kind: u64,
+        hash: &[u8; 32],
+        now: u64,
+        owner: &mut u64,
+    ) -> u64;
 }

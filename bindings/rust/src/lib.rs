@@ -121,3 +121,71 @@ pub fn announce_parents(
         refusal => Err(refusal),
     }
 }
+
+/// The number of a key's kind, and its hash.
+fn parts(key: &Key) -> (u64, &[u8; 32]) {
+    match key {
+        Key::Txid(hash) => (0, hash),
+        Key::Wtxid(hash) => (1, hash),
+    }
+}
+
+/// The owner of a request did not deliver: owner, flag, package and parents go, and the
+/// connection leaves both kinds of the hash. False, and nothing changes, unless the connection
+/// owns the request and its package is not enqueued. Refusals 3, 4 and 5.
+pub fn failed(store: &mut [u8], key: &Key, connection: u64, now: u64) -> Result<bool, u64> {
+    let (kind, hash) = parts(key);
+    let mut reply = 0;
+    // SAFETY: the bytes are lent to this call alone, the hash and the reply for its length.
+    match unsafe { abi::tracker_failed(store.as_mut_ptr(), store.len(), kind, hash, connection, now, &mut reply) }
+    {
+        0 => Ok(reply == 1),
+        refusal => Err(refusal),
+    }
+}
+
+/// The owner gives a request back, by the same test, and stays a candidate. Refusals 3 and 4.
+pub fn unclaim(store: &mut [u8], key: &Key, connection: u64) -> Result<(), u64> {
+    let (kind, hash) = parts(key);
+    // SAFETY: the bytes are lent to this call alone, the hash for its length.
+    match unsafe { abi::tracker_unclaim(store.as_mut_ptr(), store.len(), kind, hash, connection) } {
+        0 => Ok(()),
+        refusal => Err(refusal),
+    }
+}
+
+/// The request at a key goes, if there is one. Refusal 3.
+pub fn forget(store: &mut [u8], key: &Key) -> Result<(), u64> {
+    let (kind, hash) = parts(key);
+    // SAFETY: the bytes are lent to this call alone, the hash for its length.
+    match unsafe { abi::tracker_forget(store.as_mut_ptr(), store.len(), kind, hash) } {
+        0 => Ok(()),
+        refusal => Err(refusal),
+    }
+}
+
+/// `failed`, of a connection that is asked for package info; false of any other. Refusals 3,
+/// 4 and 5.
+pub fn failed_package_info(store: &mut [u8], key: &Key, connection: u64, now: u64) -> Result<bool, u64> {
+    let (kind, hash) = parts(key);
+    let mut reply = 0;
+    // SAFETY: the bytes are lent to this call alone, the hash and the reply for its length.
+    match unsafe {
+        abi::tracker_failed_package_info(store.as_mut_ptr(), store.len(), kind, hash, connection, now, &mut reply)
+    } {
+        0 => Ok(reply == 1),
+        refusal => Err(refusal),
+    }
+}
+
+/// The connection that is asked for package info of a request, if `now` is before its deadline.
+/// Refusals 3 and 5.
+pub fn package_info_owner(store: &[u8], key: &Key, now: u64) -> Result<Option<u64>, u64> {
+    let (kind, hash) = parts(key);
+    let mut owner = 0;
+    // SAFETY: the bytes are lent for the call, which only reads them, and so are hash and owner.
+    match unsafe { abi::tracker_package_info_owner(store.as_ptr(), store.len(), kind, hash, now, &mut owner) } {
+        0 => Ok((owner != 0).then_some(owner)),
+        refusal => Err(refusal),
+    }
+}

@@ -1,2 +1,3 @@
 pub mod Statuses
+pub mod Failed
 pub mod Typed

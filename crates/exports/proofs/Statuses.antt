@@ -45,9 +45,9 @@ refused-zero c {b} h d = not-zero (refusal (length b) (d .sound) c (stateOf (wor
 
 -- ---- answers that are a number
 
--- a call of a candidate, by what the candidate is
-pub asked-for : (f : Candidate → Call) {x y : Candidate} {b : List ℕ} {e : Effect} → x ≡ y → Does (f x) b e → Does (f y) b e
-asked-for f {x} {y} {b} {e} q d = subst (λ (x : Candidate). Does (f x) b e) q d
+-- a call of a candidate or of a key, by what it is
+pub asked-for : {A : Type 0} (f : A → Call) {x y : A} {b : List ℕ} {e : Effect} → x ≡ y → Does (f x) b e → Does (f y) b e
+asked-for {A} f {x} {y} {b} {e} q d = subst (λ (x : A). Does (f x) b e) q d
 
 module _ (c : Call) (h : Replies c) {b z : List ℕ} {u : Buffer} where
   pub numbered-told : (a : Answer) (was : ℕ) {r n : ℕ} → Does c b (record { reply = replyOf a; buffer = u; store = z }) → (r ≡ statusOf a) × (n ≡ handedOut a was) → Does c b (record { reply = numbered r n; buffer = u; store = z })
@@ -72,7 +72,7 @@ pub requests-parent : (c : Candidate) → Replies (On (RequestParent c))
 unfolding carryOut perform
 requests-parent c s n e = let z : _≡_ {A = ℕ} 0 1 = cc in omega arith
 
--- ---- an opening that is carried out replies 1
+-- ---- opening and the calls of which the Rust returns nothing: carried out, they reply 1
 
 abbrev statusIn : Reply → ℕ
 statusIn (Refused n) = n
@@ -92,14 +92,22 @@ settled : (k n : ℕ) → numbered (statusIn (if eqb k 0 then Number n else Refu
 settled zero n = refl
 settled (suc k) n = rw (ne-eqb (suc k) 0 (λ e. omega (arith, e)))
 
-opening : (L Q : ℕ) (b : List ℕ) (sound : Bool) → numbered (statusIn (outcomeIf sound b (Open L Q) .reply)) 1 ≡ outcomeIf sound b (Open L Q) .reply
-unfolding outcomeIf stepIf carryOut
-opening L Q b sound = settled (refusal (length b) sound (Open L Q) (stateOf (words b))) 1
+-- of a call that replies 1 when it is carried out
+abbrev pub RepliesOne : Call → Type 0
+RepliesOne c = (s : State) → (carryOut c s) .reply ≡ Number 1
 
-pub opened : {L Q r : ℕ} {b z : List ℕ} (a : Answer) → Does (Open L Q) b (record { reply = replyOf a; buffer = []; store = z }) → r ≡ statusOf a → Does (Open L Q) b (record { reply = numbered r 1; buffer = []; store = z })
-opened {L} {Q} {r} {b} {z} a d e =
-    let told : numbered (statusIn (replyOf a)) 1 ≡ replyOf a = subst (λ x. numbered (statusIn x) 1 ≡ x) (sym (ap (λ x. x .reply) (d .effect))) (opening L Q b (d .sound)) in
+one-settled : (c : Call) → RepliesOne c → (b : List ℕ) (sound : Bool) → numbered (statusIn (outcomeIf sound b c .reply)) 1 ≡ outcomeIf sound b c .reply
+unfolding outcomeIf stepIf
+one-settled c h b sound = rw (h (stateOf (words b))) (settled (refusal (length b) sound c (stateOf (words b))) 1)
+
+pub one-told : (c : Call) → RepliesOne c → {r : ℕ} {b z : List ℕ} (a : Answer) → Does c b (record { reply = replyOf a; buffer = []; store = z }) → r ≡ statusOf a → Does c b (record { reply = numbered r 1; buffer = []; store = z })
+one-told c h {r} {b} {z} a d e =
+    let told : numbered (statusIn (replyOf a)) 1 ≡ replyOf a = subst (λ x. numbered (statusIn x) 1 ≡ x) (sym (ap (λ x. x .reply) (d .effect))) (one-settled c h b (d .sound)) in
     record { sound = d .sound; tested = d .tested; effect = ap (λ x. record { reply = x; buffer = []; store = z }) (ap (λ x. numbered x 1) (e ∙ status-in a) ∙ told) ∙ d .effect }
+
+pub opens : (L Q : ℕ) → RepliesOne (Open L Q)
+unfolding carryOut
+opens L Q s = refl
 
 -- ---- sum
 

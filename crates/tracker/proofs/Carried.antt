@@ -25,10 +25,10 @@ use Rattle.lists.specs.Lists.{keysIn}
 use Rattle.lists.proofs.KeysBack.{keys-back}
 use Rattle.announcing.specs.Answers.{Answered, KeysListed}
 use Rattle.tracker.specs.Outcome.{Does}
-use Rattle.tracker.specs.Tests.{firstOf, ofConnections, ofClocks, ofParents, ofBuffer, inTurn}
+use Rattle.tracker.specs.Tests.{firstOf, ofConnections, ofClocks, inTurn}
 use Rattle.tracker.proofs.Sizes.{need-kept}
 use Rattle.tracker.proofs.Summing.{not-sound}
-use Rattle.tracker.proofs.Turns.{first-none, in-turn}
+use Rattle.tracker.proofs.Turns.{in-turn, plain-turn}
 use Rattle.tracker.proofs.Contract.{does-carried, does-refused, does-unsound}
 
 -- ---- refused
@@ -49,7 +49,7 @@ module _ (b : List ℕ) (v : SoundStore b) (n : ℕ) (e : n ≡ needOf (v .state
   pub need-inside : n ≤ length b
   need-inside = omega (arith, v .long)
 
-  front-writes : Writes (take n b) (v .state)
+  pub front-writes : Writes (take n b) (v .state)
   front-writes = rw e (v .writes)
 
   -- what the core call is lent
@@ -81,8 +81,7 @@ module _ {a : Ask} {ns ts : List ℕ} {f : Limits → Table → Answer} (k : Yes
   tests = firstOf (ofConnections ns) (ofClocks ts)
 
   tested : (s : State) → askRefusal true a s ≡ tests
-  unfolding ofParents ofBuffer
-  tested s = in-turn a s (k .placeless s) ∙ rw (k .names s) (first-none tests)
+  tested s = plain-turn a s (k .names s) (k .placeless s)
 
   pub yes-no-unsound : (r : Bool) → r ≡ false → Decides r (SoundStore b) → Does (On a) b (record { reply = Refused 3; buffer = []; store = b })
   yes-no-unsound = unsound-store b a [] (rw (k .names (stateOf (words b))))

@@ -8,4 +8,6 @@ pub mod Opening
 pub mod Summing
 pub mod Turns
 pub mod Carried
+pub mod Replies
 pub mod Instances
+pub mod Failed

@@ -1,10 +1,10 @@
 -- The tests that calls share, one by one and in turn.
 -- Assumes nothing.
 use Prim.Native.Nat.{ℕ, zero, suc, _≤_, _<_}
-use mathlib.Core.Path.{_≡_, refl, sym}
+use mathlib.Core.Path.{_≡_, refl, sym, _∙_}
 use mathlib.Core.Logic.{inl, inr}
 use mathlib.Core.Bool.{Bool, true, false}
-use mathlib.Core.List.{[], _∷_}
+use mathlib.Core.List.{List, [], _∷_}
 use native.Mathlib.Omega.{arith}
 use lib.Dec.{ltb}
 use lib.ListN.{length}
@@ -13,7 +13,7 @@ use Rattle.ident.specs.If.{if_then_else_}
 use Rattle.machine.specs.Limits.{maxParents, latestClock}
 use Rattle.machine.specs.State.{State}
 use Rattle.machine.specs.Claim.{elem}
-use Rattle.machine.specs.Call.{Ask, Named, named, anyLate, takesPlace, askRefusal}
+use Rattle.machine.specs.Call.{Ask, Named, plain, named, anyLate, takesPlace, askRefusal}
 use Rattle.machine.proofs.Tests.{test}
 use Rattle.tracker.specs.Tests.{firstOf, ofConnections, ofClocks, ofParents, ofBuffer, inTurn}
 
@@ -81,6 +81,11 @@ pub clockless : (a : ℕ) → a ≡ firstOf a (ofClocks [])
 unfolding ofClocks anyLate
 clockless a = sym (first-none a)
 
+-- or without a connection
+pub connectionless : (a : ℕ) → a ≡ firstOf (ofConnections []) a
+unfolding ofConnections elem
+connectionless a = refl
+
 pub first-left : (a b : ℕ) → firstOf a b ≡ 0 → a ≡ 0
 first-left zero b e = refl
 first-left (suc a) b e = e
@@ -120,3 +125,8 @@ module _ (a : Ask) (s : State) where
   pub in-turn : takesPlace a s ≡ false → askRefusal true a s ≡ inTurn (w .connections) (w .clocks) (w .parents) (length (w .buffer)) (w .needs)
   unfolding askRefusal ofConnections ofClocks ofParents ofBuffer
   in-turn e = rw e (turns (elem 0 (w .connections)) (anyLate (w .clocks)) (ltb maxParents (w .parents)) (ltb (length (w .buffer)) (w .needs)))
+
+  -- and of one that has neither parents nor an answer buffer
+  pub plain-turn : {ns ts : List ℕ} → named a s ≡ plain ns ts 0 → takesPlace a s ≡ false → askRefusal true a s ≡ firstOf (ofConnections ns) (ofClocks ts)
+  unfolding ofParents ofBuffer
+  plain-turn {ns} {ts} q e = in-turn e ∙ rw q (first-none (firstOf (ofConnections ns) (ofClocks ts)))

@@ -7,14 +7,17 @@ use lib.ListN.{length}
 use denote.Laws.{Is}
 use denote.Struct.Laws as LL
 use Rattle.ident.specs.declared.Item.{Item}
+use Rattle.ident.specs.declared.Key.{Key}
 use Rattle.ident.specs.Number.{top}
-use Rattle.ident.specs.Words.{hashNum}
+use Rattle.ident.specs.Words.{hashNum, keyNum}
 use Rattle.ident.proofs.Item as I
 use Rattle.ident.proofs.Item.Laws as I′
+use Rattle.ident.proofs.Key as K
+use Rattle.ident.proofs.Key.Laws as K′
 use Rattle.ident.proofs.Words.{hash-four, hash-below}
 use Rattle.machine.specs.Limits.{word}
-use Rattle.machine.specs.Typed.{Each, CandidateTyped, CallTyped}
-use Rattle.machine.specs.Call.{Buffer, Announce, RequestParent, AnnounceParents, Sum, Call, Open, On, openingRefusal}
+use Rattle.machine.specs.Typed.{Each, KeyTyped, CandidateTyped, CallTyped}
+use Rattle.machine.specs.Call.{Buffer, Announce, RequestParent, AnnounceParents, Failed, Unclaim, Forget, FailedPackageInfo, PackageInfoOwner, Sum, Call, Open, On, openingRefusal}
 use Rattle.machine.specs.Step.{empty}
 use Rattle.store.specs.Image.{SoundStore}
 use Rattle.store.proofs.BytesBack.{Bytes}
@@ -40,6 +43,14 @@ candidate-typed c g =
     let f = LL.owed C.the-type C′.the-laws c _ g in
     record { connection = f .0 .1; hash = item-below (c .item) (f .1 .0); ready = f .1 .1 .0 .1; priority = f .1 .1 .1 .1 .0 .1 }
 
+-- ---- and one of `Key`
+
+abbrev pub IsKey : Key → Type 0
+IsKey k = Is K.the-row k (LL.vals K.the-type K′.the-laws k)
+
+key-typed : (k : Key) → IsKey k → KeyTyped (keyNum k)
+key-typed k g = hash-below (k .hash) (hash-four (k .hash) (LL.owed K.the-type K′.the-laws k _ g .1 .0))
+
 -- ---- the calls that the code has, with arguments of its types
 
 pub data Made : Call → Type 0 where
@@ -48,6 +59,11 @@ pub data Made : Call → Type 0 where
   announces : (c : Candidate) → IsCandidate c → Made (On (Announce (candidateOf c)))
   requests-parent : (c : Candidate) → IsCandidate c → Made (On (RequestParent (candidateOf c)))
   announces-parents : (n clock : ℕ) (b : List ℕ) (u : Buffer) → n < word → clock < word → Bytes b → Made (On (AnnounceParents n (hashesIn b) clock u))
+  fails : (k : Key) (n clock : ℕ) → IsKey k → n < word → clock < word → Made (On (Failed (keyNum k) n clock))
+  unclaims : (k : Key) (n : ℕ) → IsKey k → n < word → Made (On (Unclaim (keyNum k) n))
+  forgets : (k : Key) → IsKey k → Made (On (Forget (keyNum k)))
+  fails-info : (k : Key) (n clock : ℕ) → IsKey k → n < word → clock < word → Made (On (FailedPackageInfo (keyNum k) n clock))
+  reads-owner : (k : Key) (clock : ℕ) → IsKey k → clock < word → Made (On (PackageInfoOwner (keyNum k) clock))
 
 pub made-typed : (c : Call) → Made c → CallTyped c
 made-typed c (opens l q g h) = (g, h)
@@ -55,6 +71,11 @@ made-typed c sums = tt
 made-typed c (announces d g) = candidate-typed d g
 made-typed c (requests-parent d g) = candidate-typed d g
 made-typed c (announces-parents n clock b u g h p) = (g, hashes-fit b p, h)
+made-typed c (fails k n clock i g h) = (key-typed k i, g, h)
+made-typed c (unclaims k n i g) = (key-typed k i, g)
+made-typed c (forgets k i) = key-typed k i
+made-typed c (fails-info k n clock i g h) = (key-typed k i, g, h)
+made-typed c (reads-owner k clock i h) = (key-typed k i, h)
 
 each-typed : (cs : List Call) → Each Made cs → Each CallTyped cs
 each-typed [] m = tt

@@ -1,7 +1,7 @@
 -- `exports::tracker_open` meets its contract.
 -- Assumes nothing.
 use borrow.Author.Needs.{needs}
-use Rattle.exports.proofs.Statuses.{opened}
+use Rattle.exports.proofs.Statuses.{one-told, opens}
 use Rattle.exports.proofs.tracker_open.Statement.{statement}
 use Rattle.exports.proofs.tracker_open.Tie as tie
 
@@ -15,7 +15,7 @@ same-length : tie.Need-same-length
 same-length c = search needs
 
 returns : tie.Need-returns
-returns c = opened (c .before .before .before .«open» .result) (c .before .before .before .«open» .ensures) (c .status .ensures)
+returns c = one-told _ (opens _ _) (c .before .before .before .«open» .result) (c .before .before .before .«open» .ensures) (c .status .ensures)
 
 pub tracker-open-spec : {M : Type 1} → statement M
 tracker-open-spec = tie.close (tie.spec open-requires status-requires same-length returns)

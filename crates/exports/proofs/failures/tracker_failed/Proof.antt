@@ -1,0 +1,27 @@
+-- `exports::failures::tracker_failed` meets its contract: the reply of the public call, or its refusal, which is not 0.
+-- Assumes nothing.
+use borrow.Author.Needs.{needs}
+use Rattle.machine.specs.Call.{On, Failed}
+use Rattle.exports.proofs.Statuses.{asked-for, numbered-told, handed-stays}
+use Rattle.exports.proofs.Failed.{fails}
+use Rattle.exports.proofs.failures.tracker_failed.Statement.{statement}
+use Rattle.exports.proofs.failures.tracker_failed.Tie as tie
+
+key-given-requires : tie.Need-key-given-requires
+key-given-requires c κs = search needs
+
+failed-requires : tie.Need-failed-requires
+failed-requires c κs = search needs
+
+hand-out-requires : tie.Need-hand-out-requires
+hand-out-requires c κs = search needs
+
+same-length : tie.Need-same-length
+same-length c = search needs
+
+returns : tie.Need-returns
+returns c = (numbered-told _ (fails _ _ _) (c .before .before .before .before .failed .result) _ (asked-for (λ x. On (Failed x (c .before .before .before .before .before .before .before .before .args .connection) (c .before .before .before .before .before .before .before .before .args .clock))) (c .before .before .before .before .before .before .key-given .ensures) (c .before .before .before .before .failed .ensures)) (c .hand-out .ensures), handed-stays (c .before .before .before .before .failed .result) _ (c .hand-out .ensures))
+
+pub tracker-failed-spec : {M : Type 1} → statement M
+tracker-failed-spec =
+    tie.close (tie.spec key-given-requires failed-requires hand-out-requires same-length returns)

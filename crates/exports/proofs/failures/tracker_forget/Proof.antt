@@ -1,0 +1,27 @@
+-- `exports::failures::tracker_forget` meets its contract: carried out, it replies 1.
+-- Assumes nothing.
+use borrow.Author.Needs.{needs}
+use Rattle.machine.specs.Call.{On, Forget}
+use Rattle.exports.proofs.Statuses.{asked-for, one-told}
+use Rattle.exports.proofs.Failed.{forgets}
+use Rattle.exports.proofs.failures.tracker_forget.Statement.{statement}
+use Rattle.exports.proofs.failures.tracker_forget.Tie as tie
+
+key-given-requires : tie.Need-key-given-requires
+key-given-requires c κs = search needs
+
+forget-requires : tie.Need-forget-requires
+forget-requires c κs = search needs
+
+status-requires : tie.Need-status-requires
+status-requires c κs = search needs
+
+same-length : tie.Need-same-length
+same-length c = search needs
+
+returns : tie.Need-returns
+returns c = one-told _ (forgets _) (c .before .before .before .forget .result) (asked-for (λ x. On (Forget x)) (c .before .before .before .before .before .key-given .ensures) (c .before .before .before .forget .ensures)) (c .status .ensures)
+
+pub tracker-forget-spec : {M : Type 1} → statement M
+tracker-forget-spec =
+    tie.close (tie.spec key-given-requires forget-requires status-requires same-length returns)

@@ -1,0 +1,100 @@
+// The calls of a failed or withdrawn request, for C and Rust. A call that is refused hands nothing out.
+use super::hand_out;
+use super::status;
+ghost use mathlib.Core.List.{[]};
+ghost use mathlib.Core.Path.{_≡_};
+ghost use Rattle.ident.specs.Words.{keyNum};
+ghost use Rattle.machine.specs.Call.{On, Failed, Unclaim, Forget, FailedPackageInfo, PackageInfoOwner};
+ghost use Rattle.tracker.specs.Outcome.{Does};
+ghost use Rattle.exports.specs.Arguments.{kindGiven, keyGiven};
+ghost use Rattle.exports.specs.Status.{numbered, Stays};
+
+// The kind of a key by its number, as answer buffers have it.
+fn kind_given(number: u64) -> ident::Kind
+    ensures { λ r. ⌜ r ≡ kindGiven number ⌝ }
+{
+    if number == 0 {
+        ident::Kind::Txid
+    } else {
+        ident::Kind::Wtxid
+    }
+}
+
+fn key_given(kind: u64, hash: &[u8; 32]) -> ident::Key
+    ensures { λ r. ⌜ keyNum r ≡ keyGiven kind (now (hash .entry)) ⌝ }
+{
+    let kind = kind_given(kind);
+    let hash = ident::hash_from_bytes(hash);
+    ident::Key { kind, hash }
+}
+
+// The owner of the request at the key failed to deliver. The reply is 0 unless the connection owns it and its package is not Enqueued.
+#[no_mangle]
+pub extern "C" fn tracker_failed(
+    s: &mut [u8],
+    kind: u64,
+    hash: &[u8; 32],
+    connection: u64,
+    clock: u64,
+    reply: &mut u64,
+) -> u64
+    ensures { λ r. ⌜ Does (On (Failed (keyGiven kind (now (hash .entry))) connection clock)) (now (s .entry)) (record { reply = numbered r (now (reply .exit)); buffer = []; store = now (s .exit) }) ⌝ }
+    ensures kept { λ r. ⌜ Stays r (now (reply .entry)) (now (reply .exit)) ⌝ }
+{
+    let k = key_given(kind, hash);
+    let a = tracker::failures::failed(s, k, connection, clock);
+    hand_out(a, reply)
+}
+
+// The owner gives the request back and stays a candidate. Carried out, it replies 1.
+#[no_mangle]
+pub extern "C" fn tracker_unclaim(s: &mut [u8], kind: u64, hash: &[u8; 32], connection: u64) -> u64
+    ensures { λ r. ⌜ Does (On (Unclaim (keyGiven kind (now (hash .entry))) connection)) (now (s .entry)) (record { reply = numbered r 1; buffer = []; store = now (s .exit) }) ⌝ }
+{
+    let k = key_given(kind, hash);
+    status(tracker::failures::unclaim(s, k, connection))
+}
+
+// The request at the key goes. Carried out, it replies 1.
+#[no_mangle]
+pub extern "C" fn tracker_forget(s: &mut [u8], kind: u64, hash: &[u8; 32]) -> u64
+    ensures { λ r. ⌜ Does (On (Forget (keyGiven kind (now (hash .entry))))) (now (s .entry)) (record { reply = numbered r 1; buffer = []; store = now (s .exit) }) ⌝ }
+{
+    let k = key_given(kind, hash);
+    status(tracker::failures::forget(s, k))
+}
+
+// failed, of a connection that is asked for package info. The reply is 0 unless it is.
+#[no_mangle]
+pub extern "C" fn tracker_failed_package_info(
+    s: &mut [u8],
+    kind: u64,
+    hash: &[u8; 32],
+    connection: u64,
+    clock: u64,
+    reply: &mut u64,
+) -> u64
+    ensures { λ r. ⌜ Does (On (FailedPackageInfo (keyGiven kind (now (hash .entry))) connection clock)) (now (s .entry)) (record { reply = numbered r (now (reply .exit)); buffer = []; store = now (s .exit) }) ⌝ }
+    ensures kept { λ r. ⌜ Stays r (now (reply .entry)) (now (reply .exit)) ⌝ }
+{
+    let k = key_given(kind, hash);
+    let a = tracker::failures::failed_package_info(s, k, connection, clock);
+    hand_out(a, reply)
+}
+
+// The connection that is asked for package info of the request at the key, and in time; 0, if there is none.
+#[no_mangle]
+pub extern "C" fn tracker_package_info_owner(
+    s: &[u8],
+    kind: u64,
+    hash: &[u8; 32],
+    clock: u64,
+    owner: &mut u64,
+) -> u64
+    ensures { λ r. ⌜ Does (On (PackageInfoOwner (keyGiven kind (now (hash .entry))) clock)) (now (s .entry)) (record { reply = numbered r (now (owner .exit)); buffer = []; store = now (s .entry) }) ⌝ }
+    ensures kept { λ r. ⌜ Stays r (now (owner .entry)) (now (owner .exit)) ⌝ }
+{
+    let k = key_given(kind, hash);
+    let a = tracker::failures::package_info_owner(s, k, clock);
+    hand_out(a, owner)
+}

@@ -1,0 +1,6 @@
+pub mod Fusing
+pub mod Clearing
+pub mod Leaving
+pub mod Releasing
+pub mod Forgetting
+pub mod PackageInfo
