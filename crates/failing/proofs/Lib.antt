@@ -4,3 +4,5 @@ pub mod Leaving
 pub mod Releasing
 pub mod Forgetting
 pub mod PackageInfo
+pub mod Copying
+pub mod Handing

@@ -56,7 +56,7 @@ stage-read true none = refl
 stage-read false none = refl
 
 module _ {q : Request} {r : Read} (x : RequestOf q r) (n : ℕ) (h : 1 ≤ n) where
-  owner-is : eqb (r .owner) n ≡ ownerIs n (q .owner)
+  pub owner-is : eqb (r .owner) n ≡ ownerIs n (q .owner)
   owner-is = ap (λ (m : ℕ). eqb m n) (x .owner) ∙ owner-read n (q .owner) h
 
   stage-is : eqb (r .stage) 3 ≡ enqueuedIn (q .«package»)

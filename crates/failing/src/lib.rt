@@ -1,18 +1,25 @@
-// failed, unclaim and what shares their test, on the bytes of a sound store (document 01, "The request machine").
+// failed, unclaim, forget, failed_with_parents and package info on the bytes of a sound store (document 01, "The request machine").
 ghost use mathlib.Core.Path.{_≡_};
+ghost use Prim.Native.Nat.{_+_, _*_, _≤_};
 ghost use mathlib.Core.Bool.{true, false};
 ghost use mathlib.Core.Option.{none};
+ghost use lib.ListN.{length};
 ghost use Rattle.ident.specs.Words.{keyNum};
+ghost use Rattle.machine.specs.Limits.{maxParents};
 ghost use Rattle.machine.specs.State.{unowned, ownerIs};
 ghost use Rattle.machine.specs.Table.{at, change};
 ghost use Rattle.machine.specs.Announce.{cut};
+ghost use Rattle.machine.specs.Call.{keyBytes};
 ghost use Rattle.machine.specs.Fail as machine;
-ghost use Rattle.machine.specs.Package.{infoOwned, failedPackageInfo, packageInfoOwner};
+ghost use Rattle.machine.specs.Package.{failedWithParents, infoOwned, failedPackageInfo, packageInfoOwner};
 ghost use Rattle.store.specs.Shown.{Kept};
+ghost use Rattle.lists.specs.Lists.{hashesIn};
 ghost use Rattle.requests.specs.Changes.{Makes, Tells};
 ghost use Rattle.packages.specs.Changes.{closed};
-ghost use Rattle.announcing.specs.Answers.{Answered};
-ghost use Rattle.failing.specs.Changes.{behind};
+ghost use Rattle.announcing.specs.Answers.{Answered, KeysListed};
+ghost use Rattle.failing.specs.Changes.{behind, led};
+
+pub mod parents;
 
 // Stages of a place: the flag, and an Enqueued package.
 const FLAG: u64 = 1;
@@ -180,4 +187,44 @@ pub fn failed_package_info(s: &mut [u8], k: ident::Key, n: u64, clock: u64) -> b
         return false;
     }
     failed(s, k, n, clock)
+}
+
+// ---- parents
+
+// Bytes of a key, and of 100 hashes.
+const KEY: usize = 40;
+
+const LIST: usize = 3_200;
+
+// Announces the parents, and lists in `out` the key k and behind it the keys of those kept. Answers how many keys these are.
+fn announce_behind(
+    s: &mut [u8],
+    k: ident::Key,
+    n: u64,
+    clock: u64,
+    list: &[u8],
+    out: &mut [u8],
+) -> usize
+    requires { ⌜ Kept (now s) × (1 ≤ n) × (length (hashesIn (now list)) ≤ maxParents) × (keyBytes * (length (hashesIn (now list)) + 1) ≤ length (now out)) ⌝ }
+    ensures { λ r. ⌜ KeysListed (now (s .entry)) (now (s .exit)) (now (out .entry)) (now (out .exit)) r (λ m t. led (keyNum k) (machine.announceParents m n clock (hashesIn (now (list .entry))) t)) ⌝ }
+{
+    lists::put_key(out, 0, k);
+    let y = out.len();
+    let c = announcing::parents::announce_parents(s, n, clock, list, &mut out[KEY..y]);
+    c + 1
+}
+
+// failed, and the parents of the package announced for the same connection. Lists in `out` the key and the parents' keys, if the
+// failing was carried out; answers how many these are.
+pub fn failed_with_parents(s: &mut [u8], k: ident::Key, n: u64, clock: u64, out: &mut [u8]) -> usize
+    requires { ⌜ Kept (now s) × (1 ≤ n) × (keyBytes * (maxParents + 1) ≤ length (now out)) ⌝ }
+    ensures { λ r. ⌜ KeysListed (now (s .entry)) (now (s .exit)) (now (out .entry)) (now (out .exit)) r (λ m t. failedWithParents m (keyNum k) n clock t) ⌝ }
+{
+    let mut list = [0; LIST];
+    let m = parents::parents_for(s, k, n, &mut list);
+    if !failed(s, k, n, clock) {
+        return 0;
+    }
+    let e = m * ident::HASH_BYTES;
+    announce_behind(s, k, n, clock, &list[0..e], out)
 }
