@@ -80,7 +80,18 @@ fn leave(s: &mut [u8], k: ident::Key, n: u64, clock: u64)
     requests::ready_all(s, k, clock);
 }
 
-// The owner n of the request at k failed to deliver: owner, flag, package and parents go, and n leaves both kinds.
+// The owner n of the request at k leaves both kinds of the hash: owner, flag, package and parents go with it.
+fn leave_both(s: &mut [u8], k: ident::Key, n: u64, clock: u64)
+    requires { ⌜ Kept (now s) × Tells (now s) (λ t. ownerIs n ((at (keyNum k) t) .owner) ≡ true) ⌝ }
+    ensures { λ _. ⌜ Makes (now (s .entry)) (now (s .exit)) (λ t. Unit {0}) (machine.leaves (keyNum k) n clock) ⌝ }
+{
+    let o = ident::same_hash_other_kind(k);
+    clear(s, k, n);
+    leave(s, k, n, clock);
+    leave(s, o, n, clock);
+}
+
+// The owner n of the request at k failed to deliver; says whether it owned it, with no Enqueued package.
 pub fn failed(s: &mut [u8], k: ident::Key, n: u64, clock: u64) -> bool
     requires { ⌜ Kept (now s) ⌝ }
     ensures { λ r. ⌜ Answered (now (s .entry)) (now (s .exit)) r (λ m t. machine.failed (keyNum k) n clock t) ⌝ }
@@ -88,10 +99,7 @@ pub fn failed(s: &mut [u8], k: ident::Key, n: u64, clock: u64) -> bool
     if !releasable(s, k, n) {
         return false;
     }
-    let o = ident::same_hash_other_kind(k);
-    clear(s, k, n);
-    leave(s, k, n, clock);
-    leave(s, o, n, clock);
+    leave_both(s, k, n, clock);
     true
 }
 
