@@ -6,3 +6,4 @@ pub mod Forgetting
 pub mod PackageInfo
 pub mod Copying
 pub mod Handing
+pub mod Enqueued

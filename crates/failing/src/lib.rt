@@ -1,17 +1,17 @@
-// failed, unclaim, forget, failed_with_parents and package info on the bytes of a sound store (document 01, "The request machine").
+// failed, unclaim, forget, failed_with_parents, release_package and package info on the bytes of a sound store (document 01, "The request machine").
 ghost use mathlib.Core.Path.{_≡_};
 ghost use Prim.Native.Nat.{_+_, _*_, _≤_};
 ghost use mathlib.Core.Bool.{true, false};
 ghost use mathlib.Core.Option.{none};
 ghost use lib.ListN.{length};
-ghost use Rattle.ident.specs.Words.{keyNum};
+ghost use Rattle.ident.specs.Words.{hashNum, keyNum};
 ghost use Rattle.machine.specs.Limits.{maxParents};
 ghost use Rattle.machine.specs.State.{unowned, ownerIs};
 ghost use Rattle.machine.specs.Table.{at, change};
 ghost use Rattle.machine.specs.Announce.{cut};
 ghost use Rattle.machine.specs.Call.{keyBytes};
 ghost use Rattle.machine.specs.Fail as machine;
-ghost use Rattle.machine.specs.Package.{failedWithParents, infoOwned, failedPackageInfo, packageInfoOwner};
+ghost use Rattle.machine.specs.Package.{failedWithParents, infoOwned, failedPackageInfo, packageInfoOwner, enqueuedBy, releasePackage};
 ghost use Rattle.store.specs.Shown.{Kept};
 ghost use Rattle.lists.specs.Lists.{hashesIn};
 ghost use Rattle.requests.specs.Changes.{Makes, Tells};
@@ -233,6 +233,34 @@ pub fn failed_with_parents(s: &mut [u8], k: ident::Key, n: u64, clock: u64, out:
     if !failed(s, k, n, clock) {
         return 0;
     }
+    let e = m * ident::HASH_BYTES;
+    announce_behind(s, k, n, clock, &list[0..e], out)
+}
+
+// ---- release_package
+
+// Whether the connection n owns the request at k, with an Enqueued package.
+fn enqueued_by(s: &[u8], k: ident::Key, n: u64) -> bool
+    requires { ⌜ Kept (now s) ⌝ }
+    ensures { λ r. ⌜ Tells (now (s .entry)) (λ t. r ≡ enqueuedBy n (at (keyNum k) t)) ⌝ }
+{
+    let r = packages::request_at(s, k);
+    r.stage == ENQUEUED && r.owner == n
+}
+
+// An Enqueued package of the connection n is given up: n leaves the hash, and the parents are announced for it. Lists in `out` the key
+// and the parents' keys, if there was such a package; answers how many these are.
+pub fn release_package(s: &mut [u8], n: u64, h: ident::Hash, clock: u64, out: &mut [u8]) -> usize
+    requires { ⌜ Kept (now s) × (1 ≤ n) × (keyBytes * (maxParents + 1) ≤ length (now out)) ⌝ }
+    ensures { λ r. ⌜ KeysListed (now (s .entry)) (now (s .exit)) (now (out .entry)) (now (out .exit)) r (λ m t. releasePackage m n (hashNum h) clock t) ⌝ }
+{
+    let k = ident::wtxid_key(ident::Wtxid(h));
+    if !enqueued_by(s, k, n) {
+        return 0;
+    }
+    let mut list = [0; LIST];
+    let m = parents::parents_for(s, k, n, &mut list);
+    leave_both(s, k, n, clock);
     let e = m * ident::HASH_BYTES;
     announce_behind(s, k, n, clock, &list[0..e], out)
 }
