@@ -57,7 +57,8 @@ unsafe extern "C" {
         now: u64,
         reply: &mut u64,
     ) -> u64;
-    pub fn tracker_unclaim(store: *mut u8, length: usize, kind: u64, hash: &[u8; 32], connection: u64) -> u64;
+    pub fn tracker_unclaim(store: *mut u8, length: usize, kind: u64, hash: &[u8; 32], connection: u64)
+    -> u64;
     pub fn tracker_forget(store: *mut u8, length: usize, kind: u64, hash: &[u8; 32]) -> u64;
     pub fn tracker_failed_package_info(
         store: *mut u8,

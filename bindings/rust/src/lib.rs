@@ -137,8 +137,9 @@ pub fn failed(store: &mut [u8], key: &Key, connection: u64, now: u64) -> Result<
     let (kind, hash) = parts(key);
     let mut reply = 0;
     // SAFETY: the bytes are lent to this call alone, the hash and the reply for its length.
-    match unsafe { abi::tracker_failed(store.as_mut_ptr(), store.len(), kind, hash, connection, now, &mut reply) }
-    {
+    match unsafe {
+        abi::tracker_failed(store.as_mut_ptr(), store.len(), kind, hash, connection, now, &mut reply)
+    } {
         0 => Ok(reply == 1),
         refusal => Err(refusal),
     }
@@ -171,7 +172,15 @@ pub fn failed_package_info(store: &mut [u8], key: &Key, connection: u64, now: u6
     let mut reply = 0;
     // SAFETY: the bytes are lent to this call alone, the hash and the reply for its length.
     match unsafe {
-        abi::tracker_failed_package_info(store.as_mut_ptr(), store.len(), kind, hash, connection, now, &mut reply)
+        abi::tracker_failed_package_info(
+            store.as_mut_ptr(),
+            store.len(),
+            kind,
+            hash,
+            connection,
+            now,
+            &mut reply,
+        )
     } {
         0 => Ok(reply == 1),
         refusal => Err(refusal),
@@ -184,7 +193,8 @@ pub fn package_info_owner(store: &[u8], key: &Key, now: u64) -> Result<Option<u6
     let (kind, hash) = parts(key);
     let mut owner = 0;
     // SAFETY: the bytes are lent for the call, which only reads them, and so are hash and owner.
-    match unsafe { abi::tracker_package_info_owner(store.as_ptr(), store.len(), kind, hash, now, &mut owner) } {
+    match unsafe { abi::tracker_package_info_owner(store.as_ptr(), store.len(), kind, hash, now, &mut owner) }
+    {
         0 => Ok((owner != 0).then_some(owner)),
         refusal => Err(refusal),
     }

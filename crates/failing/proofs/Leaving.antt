@@ -10,7 +10,7 @@ use lib.Dec.{eqb}
 use borrow.Author.Tests.{eq-eqb}
 use Rattle.ident.specs.Number.{top, Key, other}
 use Rattle.machine.specs.Limits.{word}
-use Rattle.machine.specs.State.{Candidate, Owner, Request, Table, State, Answer, done, onTable, withCandidates, unowned, readyAt, ownerIs, enqueuedIn}
+use Rattle.machine.specs.State.{Candidate, Owner, Request, Table, State, onTable, withCandidates, unowned, readyAt, ownerIs, enqueuedIn}
 use Rattle.machine.specs.Table.{at, change, has, one, under, ownerIn, ownedAt}
 use Rattle.machine.specs.Announce.{without, cut}
 use Rattle.machine.specs.Fail.{releasable, left, leaves, failed, unclaim}
@@ -86,16 +86,9 @@ owner-one q n (some o) a e = ap one (a (o .connection))
 none-owns : (n : ℕ) {o : Option Owner} → o ≡ none → ownerIs n o ≡ false
 none-owns n e = ap (ownerIs n) e
 
-module _ (st : State) (s : Sound st) (k : Key) (small : k .hash < top) (n : ℕ) (e : releasable n (at k (st .table)) ≡ true) where
-  pub owns : ownerIs n ((at k (st .table)) .owner) ≡ true
-  owns = and-left (ownerIs n ((at k (st .table)) .owner)) (not (enqueuedIn ((at k (st .table)) .«package»))) e
-
+module _ (st : State) (s : Sound st) (k : Key) (small : k .hash < top) (n : ℕ) (owns : ownerIs n ((at k (st .table)) .owner) ≡ true) where
   abbrev freed : State
   freed = onTable (change k unowned (st .table)) st
-
-  pub unclaim-is : unclaim k n (st .table) ≡ change k unowned (st .table)
-  unfolding unclaim
-  unclaim-is = rw e
 
   pub freed-sound : Sound freed
   freed-sound = sound-table s (bounded-change k unowned small shrinks-unowned (s .bounded))
@@ -145,22 +138,54 @@ module _ (st : State) (s : Sound st) (k : Key) (small : k .hash < top) (n : ℕ)
     pub leaves-is : change (other k) (left n v) (once .table) ≡ leaves k n v (st .table)
     leaves-is = ap (change (other k) (left n v)) once-is
 
-    pub failed-is : failed k n v (st .table) ≡ done (leaves k n v (st .table))
-    unfolding failed
-    failed-is = rw e
+-- what clearing a request makes of bytes
+abbrev pub Clears : List ℕ → List ℕ → Key → ℕ → Type 0
+Clears b b′ k n = Makes b b′ (λ t. ownerIs n ((at k t) .owner) ≡ true) (change k unowned)
+
+-- what leaving a request makes of bytes, and what it asks of them
+abbrev pub Leaves : List ℕ → List ℕ → Key → ℕ → ℕ → Type 0
+Leaves b b′ k n v = Makes b b′ (λ t. Unit {0}) (change k (left n v))
+
+abbrev pub Free : List ℕ → Key → ℕ → Type 0
+Free b k n = Kept b × Tells b (λ t. ownerIs n ((at k t) .owner) ≡ false)
+
+-- the three steps from b: cleared in b₁, left under k in b₂, left under the other kind in b₃
+module _ {b b₁ : List ℕ} (k : Key) (small : k .hash < top) (n : ℕ) (r : Tells b (λ t. ownerIs n ((at k t) .owner) ≡ true)) (c : Clears b b₁ k n) where
+  pub first-leave : Kept b → Free b₁ k n
+  first-leave kept =
+      let st = kept .state in
+      let s = kept .sound in
+      let e = r st s (kept .writes) in
+      let w = c st s (kept .writes) e in
+      (freed-kept st s k small n e w, told (λ t. ownerIs n ((at k t) .owner) ≡ false) _ (freed-sound st s k small n e) w (free-here st s k small n e))
+
+  pub second-leave : {b₂ : List ℕ} {v : ℕ} {j : Key} → Kept b → v < word → j ≡ other k → Leaves b₁ b₂ k n v → Free b₂ j n
+  second-leave {b₂} {v} {j} kept small-v q l =
+      let st = kept .state in
+      let s = kept .sound in
+      let e = r st s (kept .writes) in
+      let x = l _ (freed-sound st s k small n e) (c st s (kept .writes) e) tt in
+      rw q (once-kept st s k small n e v small-v x, told (λ t. ownerIs n ((at (other k) t) .owner) ≡ false) _ (once-sound st s k small n e v small-v) x (once-free st s k small n e v small-v))
+
+  pub both-left : {b₂ b₃ : List ℕ} {v : ℕ} {j : Key} → v < word → j ≡ other k → Leaves b₁ b₂ k n v → Leaves b₂ b₃ j n v → Makes b b₃ (λ t. Unit {0}) (leaves k n v)
+  both-left {b₂} {b₃} {v} {j} small-v q l l₂ st s w u =
+      let e = r st s w in
+      let x = l _ (freed-sound st s k small n e) (c st s w e) tt in
+      let h : Leaves b₂ b₃ (other k) n v = rw q at l₂ in
+      subst (λ (t : Table). Writes b₃ (onTable t st)) (leaves-is st s k small n e v small-v) (h _ (once-sound st s k small n e v small-v) x tt)
 
 -- ---- unclaim
+
+pub owner-of : (n : ℕ) (r : Request) → releasable n r ≡ true → ownerIs n (r .owner) ≡ true
+owner-of n r e = and-left (ownerIs n (r .owner)) (not (enqueuedIn (r .«package»))) e
 
 pub unclaim-refused : (st : State) (k : Key) (n : ℕ) → releasable n (at k (st .table)) ≡ false → {b : List ℕ} → Writes b st → Writes b (onTable (unclaim k n (st .table)) st)
 unfolding unclaim
 unclaim-refused st k n e w = rw e w
 
--- what clearing a request makes of bytes
-abbrev pub Clears : List ℕ → List ℕ → Key → ℕ → Type 0
-Clears b b′ k n = Makes b b′ (λ t. ownerIs n ((at k t) .owner) ≡ true) (change k unowned)
-
-pub unclaimed : (st : State) (s : Sound st) (k : Key) (small : k .hash < top) (n : ℕ) (e : releasable n (at k (st .table)) ≡ true) {b b′ : List ℕ} → Writes b st → Clears b b′ k n → Writes b′ (onTable (unclaim k n (st .table)) st)
-unclaimed st s k small n e {b} {b′} w h = subst (λ (t : Table). Writes b′ (onTable t st)) (sym (unclaim-is st s k small n e)) (h st s w (owns st s k small n e))
+pub unclaimed : (st : State) → Sound st → (k : Key) (n : ℕ) → releasable n (at k (st .table)) ≡ true → {b b′ : List ℕ} → Writes b st → Clears b b′ k n → Writes b′ (onTable (unclaim k n (st .table)) st)
+unfolding unclaim
+unclaimed st s k n e w h = rw e (h st s w (owner-of n (at k (st .table)) e))
 
 -- ---- failed
 
@@ -171,39 +196,9 @@ failed-refused {b} k n v r = record {
   table = λ st s w. rw (r st s w) w;
 }
 
--- what leaving a request makes of bytes, and what it asks of them
-abbrev pub Leaves : List ℕ → List ℕ → Key → ℕ → ℕ → Type 0
-Leaves b b′ k n v = Makes b b′ (λ t. Unit {0}) (change k (left n v))
-
-abbrev pub Free : List ℕ → Key → ℕ → Type 0
-Free b k n = Kept b × Tells b (λ t. ownerIs n ((at k t) .owner) ≡ false)
-
--- the three steps from b: cleared in b₁, left under k in b₂, left under the other kind in b₃
-module _ {b b₁ : List ℕ} (k : Key) (small : k .hash < top) (n : ℕ) where
-  pub first-leave : Kept b → Tells b (λ t. releasable n (at k t) ≡ true) → Clears b b₁ k n → Free b₁ k n
-  first-leave kept r c =
-      let st = kept .state in
-      let s = kept .sound in
-      let e = r st s (kept .writes) in
-      let w = c st s (kept .writes) (owns st s k small n e) in
-      (freed-kept st s k small n e w, told (λ t. ownerIs n ((at k t) .owner) ≡ false) _ (freed-sound st s k small n e) w (free-here st s k small n e))
-
-  pub second-leave : {b₂ : List ℕ} {v : ℕ} {j : Key} → Kept b → Tells b (λ t. releasable n (at k t) ≡ true) → Clears b b₁ k n → v < word → j ≡ other k → Leaves b₁ b₂ k n v → Free b₂ j n
-  second-leave {b₂} {v} {j} kept r c small-v q l =
-      let st = kept .state in
-      let s = kept .sound in
-      let e = r st s (kept .writes) in
-      let w = c st s (kept .writes) (owns st s k small n e) in
-      let x = l _ (freed-sound st s k small n e) w tt in
-      rw q (once-kept st s k small n e v small-v x, told (λ t. ownerIs n ((at (other k) t) .owner) ≡ false) _ (once-sound st s k small n e v small-v) x (once-free st s k small n e v small-v))
-
-  pub failed-done : {b₂ b₃ : List ℕ} {v : ℕ} {j : Key} → Tells b (λ t. releasable n (at k t) ≡ true) → Clears b b₁ k n → v < word → j ≡ other k → Leaves b₁ b₂ k n v → Leaves b₂ b₃ j n v → Answered b b₃ true (λ m t. failed k n v t)
-  failed-done {b₂} {b₃} {v} {j} r c small-v q l l₂ = record {
-    reply = λ st s w. ap (λ (a : Answer). a .reply) (sym (failed-is st s k small n (r st s w) v small-v));
-    table = λ st s w.
-        let e = r st s w in
-        let x = l _ (freed-sound st s k small n e) (c st s w (owns st s k small n e)) tt in
-        let h : Leaves b₂ b₃ (other k) n v = rw q at l₂ in
-        let y = h _ (once-sound st s k small n e v small-v) x tt in
-        subst (λ (t : Table). Writes b₃ (onTable t st)) (leaves-is st s k small n e v small-v ∙ ap (λ (a : Answer). a .table) (sym (failed-is st s k small n e v small-v))) y;
-  }
+pub failed-done : {b b′ : List ℕ} (k : Key) (n v : ℕ) → Tells b (λ t. releasable n (at k t) ≡ true) → Makes b b′ (λ t. Unit {0}) (leaves k n v) → Answered b b′ true (λ m t. failed k n v t)
+unfolding failed
+failed-done {b} {b′} k n v r h = record {
+  reply = λ st s w. rw (r st s w);
+  table = λ st s w. rw (r st s w) (h st s w tt);
+}

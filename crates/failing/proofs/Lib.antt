@@ -4,3 +4,6 @@ pub mod Leaving
 pub mod Releasing
 pub mod Forgetting
 pub mod PackageInfo
+pub mod Copying
+pub mod Handing
+pub mod Enqueued

@@ -35,7 +35,7 @@ info-manned j o hs true (some p) k e = absurd k
 info-manned j o hs true none k e = k .0
 info-manned j o hs false p k e = never e
 
-manned-is : (n : ℕ) (o : Option Owner) → isSome o ≡ true → eqb (ownerNum o) n ≡ ownerIs n o
+pub manned-is : (n : ℕ) (o : Option Owner) → isSome o ≡ true → eqb (ownerNum o) n ≡ ownerIs n o
 manned-is n none e = never e
 manned-is n (some o) e = refl
 

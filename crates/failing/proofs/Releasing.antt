@@ -46,7 +46,7 @@ owner-read : (n : ℕ) (o : Option Owner) → 1 ≤ n → eqb (ownerNum o) n ≡
 owner-read n none h = ne-eqb 0 n (λ e. omega arith)
 owner-read n (some o) h = refl
 
-stage-read : (i : Bool) (p : Option Package) → eqb (stageOf i p) 3 ≡ enqueuedIn p
+pub stage-read : (i : Bool) (p : Option Package) → eqb (stageOf i p) 3 ≡ enqueuedIn p
 stage-read i (some p) = go (p .enqueued)
   where
     go : (e : Bool) → eqb (stageOf i (some (record { combined = p .combined; wtxids = p .wtxids; enqueued = e }))) 3 ≡ e
@@ -56,7 +56,7 @@ stage-read true none = refl
 stage-read false none = refl
 
 module _ {q : Request} {r : Read} (x : RequestOf q r) (n : ℕ) (h : 1 ≤ n) where
-  owner-is : eqb (r .owner) n ≡ ownerIs n (q .owner)
+  pub owner-is : eqb (r .owner) n ≡ ownerIs n (q .owner)
   owner-is = ap (λ (m : ℕ). eqb m n) (x .owner) ∙ owner-read n (q .owner) h
 
   stage-is : eqb (r .stage) 3 ≡ enqueuedIn (q .«package»)

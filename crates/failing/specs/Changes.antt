@@ -1,9 +1,22 @@
--- What the contracts of forgetting a request say.
+-- What the contracts say of a request that is forgotten, and of parents that are copied.
 -- Assumes nothing.
 use Prim.Native.Nat.{ℕ}
+use mathlib.Core.List.{List, _∷_}
 use lib.ListN.{drop}
+use Rattle.ident.specs.Number.{Key}
+use Rattle.ident.specs.Words.{hashBytes}
+use Rattle.words.specs.Words.{number, recs}
 use Rattle.machine.specs.State.{Request, withCandidates}
+use Rattle.machine.specs.Fail.{Listed}
 
 -- without its first i candidates
 abbrev pub behind : ℕ → Request → Request
 behind i r = withCandidates (drop i (r .candidates)) r
+
+-- the first n hashes of 32 bytes each
+abbrev pub firstHashes : ℕ → List ℕ → List ℕ
+firstHashes n b = recs hashBytes (number 256) n b
+
+-- keys listed behind the key k
+abbrev pub led : Key → Listed → Listed
+led k p = record { keys = k ∷ p .keys; table = p .table }

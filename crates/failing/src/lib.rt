@@ -1,18 +1,25 @@
-// failed, unclaim and what shares their test, on the bytes of a sound store (document 01, "The request machine").
+// failed, unclaim, forget, failed_with_parents, release_package and package info on the bytes of a sound store (document 01, "The request machine").
 ghost use mathlib.Core.Path.{_≡_};
+ghost use Prim.Native.Nat.{_+_, _*_, _≤_};
 ghost use mathlib.Core.Bool.{true, false};
 ghost use mathlib.Core.Option.{none};
-ghost use Rattle.ident.specs.Words.{keyNum};
+ghost use lib.ListN.{length};
+ghost use Rattle.ident.specs.Words.{hashNum, keyNum};
+ghost use Rattle.machine.specs.Limits.{maxParents};
 ghost use Rattle.machine.specs.State.{unowned, ownerIs};
 ghost use Rattle.machine.specs.Table.{at, change};
 ghost use Rattle.machine.specs.Announce.{cut};
+ghost use Rattle.machine.specs.Call.{keyBytes};
 ghost use Rattle.machine.specs.Fail as machine;
-ghost use Rattle.machine.specs.Package.{infoOwned, failedPackageInfo, packageInfoOwner};
+ghost use Rattle.machine.specs.Package.{failedWithParents, infoOwned, failedPackageInfo, packageInfoOwner, enqueuedBy, releasePackage};
 ghost use Rattle.store.specs.Shown.{Kept};
+ghost use Rattle.lists.specs.Lists.{hashesIn};
 ghost use Rattle.requests.specs.Changes.{Makes, Tells};
 ghost use Rattle.packages.specs.Changes.{closed};
-ghost use Rattle.announcing.specs.Answers.{Answered};
-ghost use Rattle.failing.specs.Changes.{behind};
+ghost use Rattle.announcing.specs.Answers.{Answered, KeysListed};
+ghost use Rattle.failing.specs.Changes.{behind, led};
+
+pub mod parents;
 
 // Stages of a place: the flag, and an Enqueued package.
 const FLAG: u64 = 1;
@@ -73,7 +80,18 @@ fn leave(s: &mut [u8], k: ident::Key, n: u64, clock: u64)
     requests::ready_all(s, k, clock);
 }
 
-// The owner n of the request at k failed to deliver: owner, flag, package and parents go, and n leaves both kinds.
+// The owner n of the request at k leaves both kinds of the hash: owner, flag, package and parents go with it.
+fn leave_both(s: &mut [u8], k: ident::Key, n: u64, clock: u64)
+    requires { ⌜ Kept (now s) × Tells (now s) (λ t. ownerIs n ((at (keyNum k) t) .owner) ≡ true) ⌝ }
+    ensures { λ _. ⌜ Makes (now (s .entry)) (now (s .exit)) (λ t. Unit {0}) (machine.leaves (keyNum k) n clock) ⌝ }
+{
+    let o = ident::same_hash_other_kind(k);
+    clear(s, k, n);
+    leave(s, k, n, clock);
+    leave(s, o, n, clock);
+}
+
+// The owner n of the request at k failed to deliver; says whether it owned it, with no Enqueued package.
 pub fn failed(s: &mut [u8], k: ident::Key, n: u64, clock: u64) -> bool
     requires { ⌜ Kept (now s) ⌝ }
     ensures { λ r. ⌜ Answered (now (s .entry)) (now (s .exit)) r (λ m t. machine.failed (keyNum k) n clock t) ⌝ }
@@ -81,10 +99,7 @@ pub fn failed(s: &mut [u8], k: ident::Key, n: u64, clock: u64) -> bool
     if !releasable(s, k, n) {
         return false;
     }
-    let o = ident::same_hash_other_kind(k);
-    clear(s, k, n);
-    leave(s, k, n, clock);
-    leave(s, o, n, clock);
+    leave_both(s, k, n, clock);
     true
 }
 
@@ -180,4 +195,72 @@ pub fn failed_package_info(s: &mut [u8], k: ident::Key, n: u64, clock: u64) -> b
         return false;
     }
     failed(s, k, n, clock)
+}
+
+// ---- parents
+
+// Bytes of a key, and of 100 hashes.
+const KEY: usize = 40;
+
+const LIST: usize = 3_200;
+
+// Announces the parents, and lists in `out` the key k and behind it the keys of those kept. Answers how many keys these are.
+fn announce_behind(
+    s: &mut [u8],
+    k: ident::Key,
+    n: u64,
+    clock: u64,
+    list: &[u8],
+    out: &mut [u8],
+) -> usize
+    requires { ⌜ Kept (now s) × (1 ≤ n) × (length (hashesIn (now list)) ≤ maxParents) × (keyBytes * (length (hashesIn (now list)) + 1) ≤ length (now out)) ⌝ }
+    ensures { λ r. ⌜ KeysListed (now (s .entry)) (now (s .exit)) (now (out .entry)) (now (out .exit)) r (λ m t. led (keyNum k) (machine.announceParents m n clock (hashesIn (now (list .entry))) t)) ⌝ }
+{
+    lists::put_key(out, 0, k);
+    let y = out.len();
+    let c = announcing::parents::announce_parents(s, n, clock, list, &mut out[KEY..y]);
+    c + 1
+}
+
+// failed, and the parents of the package announced for the same connection. Lists in `out` the key and the parents' keys, if the
+// failing was carried out; answers how many these are.
+pub fn failed_with_parents(s: &mut [u8], k: ident::Key, n: u64, clock: u64, out: &mut [u8]) -> usize
+    requires { ⌜ Kept (now s) × (1 ≤ n) × (keyBytes * (maxParents + 1) ≤ length (now out)) ⌝ }
+    ensures { λ r. ⌜ KeysListed (now (s .entry)) (now (s .exit)) (now (out .entry)) (now (out .exit)) r (λ m t. failedWithParents m (keyNum k) n clock t) ⌝ }
+{
+    let mut list = [0; LIST];
+    let m = parents::parents_for(s, k, n, &mut list);
+    if !failed(s, k, n, clock) {
+        return 0;
+    }
+    let e = m * ident::HASH_BYTES;
+    announce_behind(s, k, n, clock, &list[0..e], out)
+}
+
+// ---- release_package
+
+// Whether the connection n owns the request at k, with an Enqueued package.
+fn enqueued_by(s: &[u8], k: ident::Key, n: u64) -> bool
+    requires { ⌜ Kept (now s) ⌝ }
+    ensures { λ r. ⌜ Tells (now (s .entry)) (λ t. r ≡ enqueuedBy n (at (keyNum k) t)) ⌝ }
+{
+    let r = packages::request_at(s, k);
+    r.stage == ENQUEUED && r.owner == n
+}
+
+// An Enqueued package of the connection n is given up: n leaves the hash, and the parents are announced for it. Lists in `out` the key
+// and the parents' keys, if there was such a package; answers how many these are.
+pub fn release_package(s: &mut [u8], n: u64, h: ident::Hash, clock: u64, out: &mut [u8]) -> usize
+    requires { ⌜ Kept (now s) × (1 ≤ n) × (keyBytes * (maxParents + 1) ≤ length (now out)) ⌝ }
+    ensures { λ r. ⌜ KeysListed (now (s .entry)) (now (s .exit)) (now (out .entry)) (now (out .exit)) r (λ m t. releasePackage m n (hashNum h) clock t) ⌝ }
+{
+    let k = ident::wtxid_key(ident::Wtxid(h));
+    if !enqueued_by(s, k, n) {
+        return 0;
+    }
+    let mut list = [0; LIST];
+    let m = parents::parents_for(s, k, n, &mut list);
+    leave_both(s, k, n, clock);
+    let e = m * ident::HASH_BYTES;
+    announce_behind(s, k, n, clock, &list[0..e], out)
 }

@@ -1,6 +1,5 @@
 use mathlib.Core.Path.{sym, _∙_}
 use Rattle.ident.specs.Words.{keyNum}
-use Rattle.ident.proofs.Words.{key-four, hash-below}
 use Rattle.failing.proofs.Leaving.{unclaimed, unclaim-refused}
 use borrow.Author.Needs.{needs}
 use Rattle.failing.proofs.unclaim.Statement.{statement}
@@ -18,7 +17,7 @@ same-length c = search needs
 returns : tie.Need-returns
 returns c = λ st s w u.
     let e = sym (c .before .before .before .before .before .releasable .ensures st s w) ∙ c .before .before .before .before .if1 .taken in
-    unclaimed st s (keyNum (c .before .before .before .before .before .before .before .before .args .k)) (hash-below (c .before .before .before .before .before .before .before .before .args .k .hash) (key-four (c .before .before .before .before .before .before .before .before .args .k) (c .before .before .before .before .before .before .before .before .good .1 .0))) (c .before .before .before .before .before .before .before .before .args .n) e w (c .before .before .clear .ensures)
+    unclaimed st s (keyNum (c .before .before .before .before .before .before .before .before .args .k)) (c .before .before .before .before .before .before .before .before .args .n) e w (c .before .before .clear .ensures)
 
 same-length-2 : tie.Need-same-length-2
 same-length-2 c = search needs
