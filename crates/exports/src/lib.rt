@@ -11,6 +11,7 @@ ghost use Rattle.tracker.specs.Outcome.{Does};
 ghost use Rattle.exports.specs.Status.{numbered, figured, statusOf, handedOut, Stays};
 
 pub mod candidates;
+pub mod sweeps;
 
 // The status of an answer.
 fn status(a: tracker::Answer) -> u64
