@@ -1,99 +1,15 @@
-//! Times of the sound test, beside one read of the same bytes in the same run. Prints the
-//! tables of docs/BENCHMARKS.md.
+//! Times of the sound test and of announce. Prints the tables of docs/BENCHMARKS.md.
 //!
 //!     bench [--runs N]
 
-use std::hint::black_box;
-use std::time::{Duration, Instant};
+#[cfg(feature = "source")]
+mod announcing;
+mod soundness;
+mod timing;
+
 use std::{env, fs};
 
-use oracle::image::{WORD, header, image, need};
-use oracle::random::{Rng, Shape, state};
-
 const RUNS: usize = 31;
-/// Runs before the first that counts.
-const WARM: usize = 3;
-/// A short test is repeated until one measurement takes as long.
-const LEAST: Duration = Duration::from_millis(2);
-
-struct Case {
-    name: &'static str,
-    shape: Shape,
-}
-
-fn cases() -> Vec<Case> {
-    let case = |name, l, q, held, places, connections| {
-        let list = Some(oracle::sound::MAX_PARENTS);
-        Case { name, shape: Shape { l, q, held, places, connections, spread: 4, owned: 1, list } }
-    };
-    vec![
-        case("full", 100_000, 16, 100_000, 16, 125),
-        case("full", 10_000, 64, 10_000, 64, 125),
-        case("empty", 100_000, 4_096, 0, 0, 125),
-        case("full, each place with 100 parents and 100 wtxids", 100_000, 4_096, 100_000, 4_096, 125),
-        case("full", 100_000, 16, 100_000, 16, 100_000),
-        case("full", 100, 2, 100, 2, 12),
-    ]
-}
-
-/// One read of the bytes.
-fn sum(bytes: &[u8]) -> u64 {
-    let words = bytes.chunks_exact(8).map(|word| u64::from_le_bytes(word.try_into().expect("a word")));
-    words.fold(0, u64::wrapping_add)
-}
-
-/// The time of one call, taken over as many as last long enough.
-fn time(calls: u32, mut call: impl FnMut()) -> Duration {
-    let start = Instant::now();
-    for _ in 0..calls {
-        call();
-    }
-    start.elapsed() / calls
-}
-
-fn calls_for(mut call: impl FnMut()) -> u32 {
-    let once = time(1, &mut call).max(Duration::from_nanos(50));
-    1 + (LEAST.as_nanos() / once.as_nanos()) as u32
-}
-
-fn median(mut times: Vec<Duration>) -> Duration {
-    times.sort_unstable();
-    times[times.len() / 2]
-}
-
-fn micros(time: Duration) -> String {
-    format!("{:.1}", time.as_nanos() as f64 / 1_000.0)
-}
-
-/// Read and test by turns, so that both meet the same machine.
-fn row(case: &Case, runs: usize) -> String {
-    let state = state(&mut Rng::new(7), case.shape);
-    assert_eq!((state.held(), state.places_held()), (case.shape.held, case.shape.places), "{:?}", case.shape);
-    let bytes = image(&state);
-    let Shape { l, q, .. } = case.shape;
-    assert_eq!(bytes.len(), need(l, q));
-    assert!(tracker::sound(&bytes), "the library refuses the image");
-    let read = || {
-        black_box(sum(black_box(&bytes)));
-    };
-    let test = || {
-        black_box(tracker::sound(black_box(&bytes)));
-    };
-    let (reads, tests) = (calls_for(read), calls_for(test));
-    let (mut read_times, mut test_times) = (Vec::new(), Vec::new());
-    for run in 0..WARM + runs {
-        let (one, other) = (time(reads, read), time(tests, test));
-        if run >= WARM {
-            read_times.push(one);
-            test_times.push(other);
-        }
-    }
-    let (one, other) = (median(read_times), median(test_times));
-    let ratio = other.as_nanos() as f64 / one.as_nanos().max(1) as f64;
-    let (read, test) = (micros(one), micros(other));
-    let entries = u64::from_le_bytes(bytes[WORD * header::ENTRIES..][..WORD].try_into().expect("a word"));
-    format!("| {l} | {q} | {} | {entries} | {} | {read} | {test} | {ratio:.2} |", case.name, bytes.len())
-}
 
 fn machine() -> String {
     let field = |path: &str, start: &str| {
@@ -108,9 +24,10 @@ fn main() {
     let mut arguments = env::args().skip_while(|argument| argument != "--runs").skip(1);
     let runs = arguments.next().map_or(RUNS, |text| text.parse().expect("--runs wants a number"));
     println!("{}; medians of {runs} runs\n", machine());
-    println!("| L | Q | store | connections | bytes | one read, µs | sound test, µs | ratio |");
-    println!("|---|---|---|---|---|---|---|---|");
-    for case in cases() {
-        println!("{}", row(&case, runs));
-    }
+    soundness::table(runs);
+    println!();
+    #[cfg(feature = "source")]
+    announcing::table(runs);
+    #[cfg(not(feature = "source"))]
+    println!("Without the Rust: no table of announce.");
 }

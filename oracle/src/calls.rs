@@ -61,6 +61,16 @@ impl Item {
             Self::Other(..) => None,
         }
     }
+
+    /// Its type number and its hash.
+    pub fn parts(self) -> (u32, Hash) {
+        match self {
+            Self::Transaction(hash) => (TYPE_TRANSACTION, hash),
+            Self::WitnessTransaction(hash) => (TYPE_WITNESS_TRANSACTION, hash),
+            Self::WTx(hash) => (TYPE_WTX, hash),
+            Self::Other(number, hash) => (number, hash),
+        }
+    }
 }
 
 #[derive(Clone, Copy, Debug, Eq, PartialEq)]

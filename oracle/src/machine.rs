@@ -80,14 +80,9 @@ impl Machine {
     /// A solicitation that would reply 1, as a trial on a copy tells, while all places
     /// are held.
     fn lacks_place(&self, call: &Call) -> bool {
-        let held = self
-            .policy
-            .requests
-            .values()
-            .filter(|request| request.package_info || request.package.is_some())
-            .count() as u64;
+        let holds = |request: &&Request| request.package_info || request.package.is_some();
         matches!(call, Call::SolicitPackageInfo { .. })
-            && held >= self.q
+            && self.policy.requests.values().filter(holds).count() as u64 >= self.q
             && self.clone().carry_out(call) == Reply::Number(1)
     }
 

@@ -28,6 +28,19 @@ pub struct Request {
 }
 
 impl Request {
+    /// A request with nothing but its key and its mark.
+    pub fn new(key: Key, fallback: bool) -> Self {
+        Self {
+            key,
+            candidates: Vec::new(),
+            owner: None,
+            package_info: false,
+            package: None,
+            parents: Vec::new(),
+            fallback,
+        }
+    }
+
     /// "A place is held by a request with a package-info flag or a package."
     pub fn holds_place(&self) -> bool {
         self.package_info || self.package.is_some()

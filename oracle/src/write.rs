@@ -28,7 +28,7 @@ fn item(item: Item) -> String {
     }
 }
 
-fn candidate(candidate: &Candidate) -> String {
+pub fn candidate(candidate: &Candidate) -> String {
     format!(
         "{},{},{},{},{}",
         candidate.connection,
@@ -69,7 +69,7 @@ fn or_none(value: Option<String>) -> String {
     value.unwrap_or_else(|| "none".to_owned())
 }
 
-fn hashes(list: &[Hash]) -> String {
+pub fn hashes(list: &[Hash]) -> String {
     counted(list.len() as u64, list.iter().copied().map(hash))
 }
 

@@ -15,7 +15,7 @@ ROOT = os.path.dirname(os.path.dirname(os.path.dirname(os.path.abspath(__file__)
 sys.dont_write_bytecode = True
 sys.path.insert(0, os.path.join(ROOT, "tools"))
 import anttrun
-from anttrun.library import NIL, Some, inward
+from anttrun.values import NIL, Some, inward
 
 import lines
 from lines import Unreadable

@@ -1,7 +1,7 @@
 """Event lines to the definitions' values, and values to text."""
 import re
 
-from anttrun.library import Some, inward
+from anttrun.values import Some, inward
 
 NUMBER = re.compile(rb"(0|[1-9][0-9]{0,19})\Z")
 HASH = re.compile(rb"(0|[1-9a-f][0-9a-f]{0,63})\Z")

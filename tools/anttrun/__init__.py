@@ -6,7 +6,7 @@
 
 README.md says what is understood.
 """
-from .library import RunError, Some, plain
+from .values import RunError, Some, plain
 from .program import Program
 from .tokens import Unread
 

@@ -4,7 +4,7 @@ Arguments that a definition surely needs are computed before its call; others wa
 not surely needed.  Fields of constructors, records and tuples, and arguments of unknown functions, are computed at once.
 antt's definitions all end, so this order changes the cost of a run and never its result.
 """
-from .library import attr
+from .values import attr
 from .strictness import LAZY_TAIL
 from .tokens import Unread, fail
 

@@ -1,6 +1,6 @@
 """What names mean: definitions, types, modules' scopes."""
 from .expressions import Ops
-from .library import Kind, Thunk
+from .values import Kind, Thunk
 
 
 class Defn:
@@ -17,7 +17,7 @@ class Skipped:
 
 
 class Unknown:
-    """A library name that is not in `library.LIBRARY`: what runs may not need it."""
+    """A library name that is not in `values.LIBRARY`: what runs may not need it."""
 
     def __init__(self, name):
         self.name = name

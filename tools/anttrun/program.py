@@ -7,7 +7,7 @@ from .declarations import Data, Record, read_module
 from .emit import Emit
 from .entities import Defn, Scope, Skipped, TypeName, Unknown, remember
 from .expressions import Parser
-from .library import FIXITIES, LIBRARY, NAMES, Con, Kind, attr, con_class, inward, outward, record_class
+from .values import FIXITIES, LIBRARY, NAMES, Con, Kind, attr, con_class, inward, outward, record_class
 from .resolve import Resolver
 from .strictness import Strictness
 from .tokens import Unread, fail, split, tokens

@@ -8,7 +8,7 @@ Core patterns: ("v", v)  ("_",)  ("n", int)  ("c", Con, [p])  ("t", [p])  ("r", 
 """
 from .entities import Defn, Skipped, TypeName, Unknown
 from .expressions import Parser
-from .library import LIBRARY, Builtin, Con, Kind
+from .values import LIBRARY, Builtin, Con, Kind
 from .tokens import Unread, depths, fail, find, split
 
 

@@ -1,63 +1,12 @@
 //! The tracker's C ABI (../c/tracker.h) as safe Rust. A store is bytes that the caller
 //! lends; docs/STORE.md says how many it needs. A refusal is its number in document 01.
 
-unsafe extern "C" {
-    fn tracker_open(store: *mut u8, length: usize, l: u64, q: u64) -> u64;
-    fn tracker_sound(store: *const u8, length: usize) -> bool;
-    fn tracker_sum(
-        store: *const u8,
-        length: usize,
-        held: &mut u64,
-        free: &mut u64,
-        permille: &mut u64,
-    ) -> u64;
-    fn tracker_announce(
-        store: *mut u8,
-        length: usize,
-        connection: u64,
-        item_type: u32,
-        hash: &[u8; 32],
-        ready: u64,
-        preferred: bool,
-        priority: u64,
-        reply: &mut u64,
-    ) -> u64;
-    fn tracker_request_parent(
-        store: *mut u8,
-        length: usize,
-        connection: u64,
-        item_type: u32,
-        hash: &[u8; 32],
-        ready: u64,
-        preferred: bool,
-        priority: u64,
-        reply: &mut u64,
-    ) -> u64;
-    fn tracker_announce_parents(
-        store: *mut u8,
-        length: usize,
-        connection: u64,
-        parents: *const u8,
-        parents_length: usize,
-        now: u64,
-        answer: *mut u8,
-        answer_length: usize,
-        count: &mut u64,
-    ) -> u64;
-    fn tracker_sweep(
-        store: *mut u8,
-        length: usize,
-        answer: *mut u8,
-        answer_length: usize,
-        count: &mut u64,
-    ) -> u64;
-    fn tracker_poll_gate(store: *mut u8, length: usize, now: u64, reply: &mut u64) -> u64;
-}
+pub mod abi;
 
 /// Makes the store an empty tracker for L announcements and Q package places.
 pub fn open(store: &mut [u8], l: u64, q: u64) -> Result<(), u64> {
     // SAFETY: the bytes are lent to this call alone.
-    match unsafe { tracker_open(store.as_mut_ptr(), store.len(), l, q) } {
+    match unsafe { abi::tracker_open(store.as_mut_ptr(), store.len(), l, q) } {
         0 => Ok(()),
         refusal => Err(refusal),
     }
@@ -66,7 +15,7 @@ pub fn open(store: &mut [u8], l: u64, q: u64) -> Result<(), u64> {
 /// Whether the bytes, as far as their need, write a sound state.
 pub fn sound(store: &[u8]) -> bool {
     // SAFETY: the bytes are lent for the call, which only reads them.
-    unsafe { tracker_sound(store.as_ptr(), store.len()) }
+    unsafe { abi::tracker_sound(store.as_ptr(), store.len()) }
 }
 
 /// How many announcements are held, how many more fit, and how full the tracker is in
@@ -82,7 +31,8 @@ pub struct Figures {
 pub fn sum(store: &[u8]) -> Result<Figures, u64> {
     let mut f = Figures::default();
     // SAFETY: the bytes are lent for the call, which only reads them, and so are the figures.
-    match unsafe { tracker_sum(store.as_ptr(), store.len(), &mut f.held, &mut f.free, &mut f.permille) } {
+    match unsafe { abi::tracker_sum(store.as_ptr(), store.len(), &mut f.held, &mut f.free, &mut f.permille) }
+    {
         0 => Ok(f),
         refusal => Err(refusal),
     }
@@ -101,49 +51,26 @@ pub struct Candidate {
     pub priority: u64,
 }
 
-/// Whether the candidate is kept. Refusals 3 and 4.
-pub fn announce(store: &mut [u8], c: &Candidate) -> Result<bool, u64> {
+/// A call that brings one candidate. Refusals 3 and 4.
+fn bring(call: abi::OfCandidate, s: &mut [u8], c: &Candidate) -> Result<bool, u64> {
     let mut reply = 0;
+    let (start, length) = (s.as_mut_ptr(), s.len());
     // SAFETY: the bytes are lent to this call alone, the hash and the reply for its length.
-    match unsafe {
-        tracker_announce(
-            store.as_mut_ptr(),
-            store.len(),
-            c.connection,
-            c.item_type,
-            &c.hash,
-            c.ready,
-            c.preferred,
-            c.priority,
-            &mut reply,
-        )
-    } {
-        0 => Ok(reply == 1),
-        refusal => Err(refusal),
-    }
+    let status = unsafe {
+        call(start, length, c.connection, c.item_type, &c.hash, c.ready, c.preferred, c.priority, &mut reply)
+    };
+    if status == 0 { Ok(reply == 1) } else { Err(status) }
+}
+
+/// Whether the candidate is kept. Refusals 3 and 4.
+pub fn announce(store: &mut [u8], candidate: &Candidate) -> Result<bool, u64> {
+    bring(abi::tracker_announce, store, candidate)
 }
 
 /// The same for a parent that is missing; a candidate that is there already takes the smaller
 /// ready time and priority and turns preferred.
-pub fn request_parent(store: &mut [u8], c: &Candidate) -> Result<bool, u64> {
-    let mut reply = 0;
-    // SAFETY: the bytes are lent to this call alone, the hash and the reply for its length.
-    match unsafe {
-        tracker_request_parent(
-            store.as_mut_ptr(),
-            store.len(),
-            c.connection,
-            c.item_type,
-            &c.hash,
-            c.ready,
-            c.preferred,
-            c.priority,
-            &mut reply,
-        )
-    } {
-        0 => Ok(reply == 1),
-        refusal => Err(refusal),
-    }
+pub fn request_parent(store: &mut [u8], candidate: &Candidate) -> Result<bool, u64> {
+    bring(abi::tracker_request_parent, store, candidate)
 }
 
 /// Bytes of a key in an answer buffer, and of the buffer that a list of keys needs.
@@ -178,7 +105,7 @@ pub fn announce_parents(
     let mut count = 0;
     // SAFETY: store and answer are lent to this call alone, parents and count for its length.
     match unsafe {
-        tracker_announce_parents(
+        abi::tracker_announce_parents(
             store.as_mut_ptr(),
             store.len(),
             connection,
@@ -204,13 +131,7 @@ pub fn sweep(store: &mut [u8], answer: &mut [u8]) -> Result<usize, u64> {
     let mut count = 0;
     // SAFETY: store and answer are lent to this call alone, count for its length.
     match unsafe {
-        tracker_sweep(
-            store.as_mut_ptr(),
-            store.len(),
-            answer.as_mut_ptr(),
-            answer.len(),
-            &mut count,
-        )
+        abi::tracker_sweep(store.as_mut_ptr(), store.len(), answer.as_mut_ptr(), answer.len(), &mut count)
     } {
         0 => Ok(count as usize),
         refusal => Err(refusal),
@@ -221,7 +142,7 @@ pub fn sweep(store: &mut [u8], answer: &mut [u8]) -> Result<usize, u64> {
 pub fn poll_gate(store: &mut [u8], now: u64) -> Result<bool, u64> {
     let mut reply = 0;
     // SAFETY: the bytes are lent to this call alone, reply for its length.
-    match unsafe { tracker_poll_gate(store.as_mut_ptr(), store.len(), now, &mut reply) } {
+    match unsafe { abi::tracker_poll_gate(store.as_mut_ptr(), store.len(), now, &mut reply) } {
         0 => Ok(reply == 1),
         refusal => Err(refusal),
     }

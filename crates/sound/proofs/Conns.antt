@@ -22,9 +22,9 @@ use Rattle.store.specs.FlatSound.{RowFits, ConnFits}
 use Rattle.store.proofs.Tally as whole
 use Rattle.store.proofs.Tally.{order, bump-nil, bump-lt, bump-eq, bump-gt, bump-tallied}
 use Rattle.store.proofs.Certify.{Counted, listed, listed-at, certified, tally-counted}
-use Rattle.sound.specs.Conns.{Rise, Entries, Counts, Unpacks, packed, names, Named, Tallied, blank, Within, Window, ConnsSound}
+use Rattle.sound.specs.Conns.{Rise, Entries, Counts, Unpacks, packed, names, Named, Inside, Holds, NamedIn, Tallied, blank, Within, Window, LastOf, many, most, ConnsSound}
 use Rattle.sound.proofs.Decide.{Iff}
-use Rattle.sound.proofs.Entries.{length-names, name-entry}
+use Rattle.sound.proofs.Entries.{length-names, name-entry, entries-positive}
 use Rattle.sound.proofs.Tally.{unpacks-iff}
 
 -- ---- the tally lists each row's connection
@@ -54,6 +54,10 @@ listed-keep x n o (c ∷ cs) e = elim (order n (c .conn)) [
 each-to : {A : Type 0} {P Q : A → Type 0} → ((a : A) → P a → Q a) → (l : List A) → Each P l → Each Q l
 each-to f [] e = tt
 each-to f (a ∷ l) e = (f a (e .0), each-to f l (e .1))
+
+each-zip : {A : Type 0} {P Q R : A → Type 0} → ((a : A) → P a → Q a → R a) → (l : List A) → Each P l → Each Q l → Each R l
+each-zip f [] d e = tt
+each-zip f (a ∷ l) d e = (f a (d .0) (e .0), each-zip f l (d .1) (e .1))
 
 tally-listed : (rs : List Row) → Each (λ r. listed (r .conn) (tally rs) ≡ true) rs
 unfolding tally
@@ -108,9 +112,9 @@ conns-entries rs cs f s = record { rise = tallied-rise 1 cs (rw (s .tally) (tall
 -- ---- a window, and all of them
 
 module _ (rs : List Row) (c : ℕ) (v : List ℕ) where
-  pub window-iff : (lo : ℕ) (t : List ℕ) → length rs ≤ maxAnnouncements → Tallied (names c v) rs lo t
-      → Iff (Within (λ e j. Unpacks (getD t j 0) e) (recs connSize readConn c v) lo (length t)) (Window (names c v) rs (recs connSize readConn c v) lo (length t))
-  window-iff lo t few s = record {
+  pub window-iff : (done last lo : ℕ) (t : List ℕ) → length rs ≤ maxAnnouncements → Tallied (names c v) rs done last lo t
+      → Iff (Within (λ e j. Unpacks (getD t j 0) e) (recs connSize readConn c v) lo (length t)) (Window (names c v) rs (recs connSize readConn c v) done last lo (length t))
+  window-iff done last lo t few s = record {
     to = λ u. record { counted = λ j h l. unpacks-iff rs few _ (value j h l) .to (u j h l); named = s .named };
     from = λ d. λ j h l. unpacks-iff rs few _ (value j h l) .from (d .counted j h l);
   }
@@ -120,10 +124,10 @@ module _ (rs : List Row) (c : ℕ) (v : List ℕ) where
           let m : lo + j < c = rw (length-recs connSize readConn c v) at l in
           s .counts j h (rw (length-names c v) m) ∙ ap (λ (x : ℕ). packed x rs) (name-entry c v (lo + j) m)
 
-  pub sound-window : (lo m : ℕ) → ConnsSound rs (recs connSize readConn c v) → Window (names c v) rs (recs connSize readConn c v) lo m
-  sound-window lo m s = record {
+  pub sound-window : (done last lo m : ℕ) → ConnsSound rs (recs connSize readConn c v) → Window (names c v) rs (recs connSize readConn c v) done last lo m
+  sound-window done last lo m s = record {
     counted = λ j h l. let a = each-at (recs connSize readConn c v) (lo + j) l (rw (s .tally) (tally-counted rs)) in record { held = a .held; owned = a .owned };
-    named = each-to named rs (tally-listed rs);
+    named = each-to (λ r e _. named r e) rs (tally-listed rs);
   }
     where
       named : (r : Row) → listed (r .conn) (tally rs) ≡ true → Named (names c v) (r .conn)
@@ -152,15 +156,64 @@ module _ (rs : List Row) (c : ℕ) (v : List ℕ) where
   abbrev pub CountedTo : ℕ → Type 0
   CountedTo hi = (j : ℕ) → j < hi → j < c → Counts rs (getD (recs connSize readConn c v) j blank)
 
-  pub counted-turn : (lo m : ℕ) → CountedTo lo → Window (names c v) rs (recs connSize readConn c v) lo m → CountedTo (lo + m)
-  counted-turn lo m k w j h l = elim (test (ltb j lo)) [
+  pub counted-turn : (done last lo m : ℕ) → CountedTo lo → Window (names c v) rs (recs connSize readConn c v) done last lo m → CountedTo (lo + m)
+  counted-turn done last lo m k w j h l = elim (test (ltb j lo)) [
     | inl b ↦ k j (ltb-true j lo b) l
     | inr b ↦ let g : lo + (j - lo) ≡ j = omega (arith, ltb-false j lo b) in
         rw g at (w .counted (j - lo) (omega (arith, ltb-false j lo b)) (rw (length-recs connSize readConn c v, g) l))
   ]
 
-  pub few-iff : (m : ℕ) → c ≤ m → Entries (recs connSize readConn c v) → Iff (Window (names c v) rs (recs connSize readConn c v) 0 m) (ConnsSound rs (recs connSize readConn c v))
-  few-iff m h e = record {
-    to = λ w. windows-sound e (λ j l. counted-turn 0 m (λ i b. absurd (omega arith)) w j (omega arith) l) (w .named);
-    from = sound-window 0 m;
+  -- the connections that are not above done have their entries
+  abbrev pub DoneTo : ℕ → Type 0
+  DoneTo done = Each (λ r. r .conn ≤ done → Named (names c v) (r .conn)) rs
+
+  pub done-start : Each RowFits rs → DoneTo 0
+  done-start f = each-to (λ r p h. absurd (omega (arith, p .positive))) rs f
+
+  pub done-turn : (done last : ℕ) → DoneTo done → NamedIn (names c v) done last rs → DoneTo last
+  done-turn done last d m = each-zip turn rs d m
+    where
+      turn : (r : Row) → (r .conn ≤ done → Named (names c v) (r .conn)) → (Inside done last (r .conn) → Named (names c v) (r .conn)) → r .conn ≤ last → Named (names c v) (r .conn)
+      turn r p q h = elim (test (ltb done (r .conn))) [
+        | inl b ↦ q (ltb-true done (r .conn) b, h)
+        | inr b ↦ p (ltb-false done (r .conn) b)
+      ]
+
+  pub done-end : Each RowFits rs → DoneTo most → Each (λ r. Named (names c v) (r .conn)) rs
+  done-end f d = each-zip (λ r p q. q (omega (arith, p .conn))) rs f d
+
+  pub few-iff : (m : ℕ) → c ≤ m → Each RowFits rs → Entries (recs connSize readConn c v) → Iff (Window (names c v) rs (recs connSize readConn c v) 0 most 0 m) (ConnsSound rs (recs connSize readConn c v))
+  few-iff m h f e = record {
+    to = λ w. windows-sound e (λ j l. counted-turn 0 most 0 m (λ i b. absurd (omega arith)) w j (omega arith) l) (done-end f (done-turn 0 most (done-start f) (w .named)));
+    from = sound-window 0 most 0 m;
   }
+
+  -- the entries before lo are those up to done, and have their counts
+  pub record Walked (done lo : ℕ) : Type 0 where
+    pub counted : CountedTo lo
+    pub named : Each RowFits rs → DoneTo done
+    pub above : (j : ℕ) → lo ≤ j → j < c → done < getD (names c v) j 0
+    pub ended : c ≤ lo → done ≡ most
+
+  pub walked-start : Entries (recs connSize readConn c v) → 0 < c → Walked 0 0
+  walked-start e h = record {
+    counted = λ j l. absurd (omega arith);
+    named = done-start;
+    above = λ j l m. entries-positive c v e j m;
+    ended = λ l. absurd (omega arith);
+  }
+
+  module _ {done lo last : ℕ} (w : Walked done lo) (l : LastOf (names c v) lo many last) where
+    pub walked-holds : Holds done last (names c v) lo many
+    walked-holds j h m = (w .above (lo + j) (omega arith) (rw (length-names c v) at m), l .upto (lo + j) (omega arith) m)
+
+    pub walked-turn : Window (names c v) rs (recs connSize readConn c v) done last lo many → Walked last (lo + many)
+    walked-turn o = record {
+      counted = counted-turn done last lo many (w .counted) o;
+      named = λ f. done-turn done last (w .named f) (o .named);
+      above = λ j h m. l .past j h (rw (length-names c v) m);
+      ended = λ h. l .whole (rw (length-names c v) h);
+    }
+
+  pub walked-end : {done lo : ℕ} → Walked done lo → c ≤ lo → Each RowFits rs → Entries (recs connSize readConn c v) → ConnsSound rs (recs connSize readConn c v)
+  walked-end w h f e = windows-sound e (λ j l. w .counted j (omega arith) l) (done-end f (rw (w .ended h) at (w .named f)))

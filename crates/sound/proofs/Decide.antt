@@ -2,13 +2,16 @@
 -- Assumes nothing.
 use Prim.Native.Nat.{ℕ, zero, suc, _+_, _-_, _*_, _≤_, _<_}
 use mathlib.Core.Path.{_≡_, refl, sym, ap, _∙_}
-use mathlib.Core.Bool.{Bool, true, false, not}
-use borrow.Author.Tests.{not-true, not-false}
+use mathlib.Core.Logic.{_⊎_, inl, inr}
+use mathlib.Core.Bool.{Bool, true, false, not, _&&_, _||_}
+use borrow.Author.Tests.{not-true, not-false, eqb-true, eqb-false, ltb-true, ltb-false}
 use mathlib.Core.List.{List, [], _∷_}
 use native.Mathlib.Omega.{arith}
+use lib.Dec.{eqb, ltb}
 use lib.ListN.{take, drop}
 use lib.Seq.{drop-drop}
 use Rattle.words.specs.Words.{recs, Decides}
+use Rattle.machine.proofs.Tests.{never}
 
 -- ---- tests
 
@@ -22,6 +25,43 @@ iff-self = record { to = λ p. p; from = λ p. p }
 pub decides-iff : {P Q : Type 0} (b : Bool) → Iff P Q → Decides b P → Decides b Q
 decides-iff true e d = e .to d
 decides-iff false e d = λ q. d (e .from q)
+
+-- the same as Decides, in a form from which P is inferred: for tests that are put together without a branch
+pub record Test (b : Bool) (P : Type 0) : Type 0 where
+  pub holds : b ≡ true → P
+  pub fails : b ≡ false → P → ⊥
+
+pub test-decides : {P : Type 0} (b : Bool) → Test b P → Decides b P
+test-decides true t = t .holds refl
+test-decides false t = t .fails refl
+
+pub test-iff : {b : Bool} {P Q : Type 0} → Test b P → Iff P Q → Test b Q
+test-iff t i = record { holds = λ e. i .to (t .holds e); fails = λ e q. t .fails e (i .from q) }
+
+pub test-and : {P Q : Type 0} (a b : Bool) → Test a P → Test b Q → Test (a && b) (P × Q)
+test-and true true p q = record { holds = λ _. (p .holds refl, q .holds refl); fails = λ e. never (sym e) }
+test-and true false p q = record { holds = λ e. never e; fails = λ _ z. q .fails refl (z .1) }
+test-and false b p q = record { holds = λ e. never e; fails = λ _ z. p .fails refl (z .0) }
+
+pub test-or : {P Q : Type 0} (a b : Bool) → Test a P → Test b Q → Test (a || b) (P ⊎ Q)
+test-or true b p q = record { holds = λ _. inl (p .holds refl); fails = λ e. never (sym e) }
+test-or false true p q = record { holds = λ _. inr (q .holds refl); fails = λ e. never (sym e) }
+test-or false false p q = record {
+  holds = λ e. never e;
+  fails = λ _ z. elim z [
+    | inl x ↦ p .fails refl x
+    | inr x ↦ q .fails refl x
+  ];
+}
+
+pub test-same : (x y : ℕ) → Test (eqb x y) (x ≡ y)
+test-same x y = record { holds = eqb-true x y; fails = eqb-false x y }
+
+pub test-other : (x y : ℕ) → Test (not (eqb x y)) (x ≡ y → ⊥)
+test-other x y = record { holds = λ e. eqb-false x y (not-true (eqb x y) e); fails = λ e n. n (eqb-true x y (not-false (eqb x y) e)) }
+
+pub test-less : (x y : ℕ) → Test (ltb x y) (x < y)
+test-less x y = record { holds = ltb-true x y; fails = λ e h. absurd (omega (arith, ltb-false x y e)) }
 
 -- what the test `!b` of the code says
 pub passed : (P : Type 0) (b : Bool) → not b ≡ false → Decides b P → P

@@ -16,12 +16,14 @@ use Rattle.words.proofs.Records.{length-recs, recs-at}
 use Rattle.regions.specs.declared.Conn.{Conn}
 use Rattle.regions.specs.Order.{Sorted, Bound, Sought}
 use Rattle.regions.specs.Rows.{connSize, readConn, connKey}
+use Rattle.machine.specs.Limits.{word}
 use Rattle.machine.specs.Typed.{Each}
 use Rattle.machine.proofs.Tests.{test}
 use Rattle.store.specs.FlatSound.{ConnFits}
 use Rattle.store.proofs.Tally.{order}
-use Rattle.sound.specs.Conns.{Rise, Entries, EntryStep, names, Rising, Named, Place, blank}
+use Rattle.sound.specs.Conns.{Rise, Entries, EntryStep, names, Rising, Named, Place, LastOf, blank, many, most}
 use Rattle.sound.proofs.Decide.{Iff, Chain}
+use Rattle.sound.proofs.Ranges.{Below}
 
 -- ---- a walk along the entries
 
@@ -84,7 +86,15 @@ entries-rising n w e p q h l =
     let g : q < length (recs connSize readConn n w) = rw (length-recs connSize readConn n w) m in
     rw (name-entry n w p (omega arith), name-entry n w q m) (rise-rising 1 (recs connSize readConn n w) (e .rise) p q h g)
 
--- ---- the search
+pub entries-positive : (n : ℕ) (w : List ℕ) → Entries (recs connSize readConn n w) → (j : ℕ) → j < n → 0 < getD (names n w) j 0
+entries-positive n w e j h =
+    let g : j < length (recs connSize readConn n w) = rw (length-recs connSize readConn n w) h in
+    rw (name-entry n w j h) (rise-from 1 (recs connSize readConn n w) (e .rise) j g)
+
+pub names-most : (n : ℕ) (w : List ℕ) → Below word w → (j : ℕ) → j < n → getD (names n w) j 0 ≤ most
+names-most n w b j h = rw (name-word n w j h) (omega (arith, b (j * 3)))
+
+-- ---- the last entry of a window
 
 rising-sorted : (ks : List ℕ) → Rising ks → Sorted ks
 unfolding Sorted
@@ -93,6 +103,25 @@ rising-sorted ks r p q h l = elim (order p q) [
   | inr (inl b) ↦ rw b (le-refl _)
   | inr (inr b) ↦ absurd (omega arith)
 ]
+
+pub last-whole : (n : ℕ) (w : List ℕ) (lo : ℕ) → n ≤ lo + many → Below word w → LastOf (names n w) lo many most
+last-whole n w lo h b = record {
+  upto = λ j m l. names-most n w b j (rw (length-names n w) at l);
+  past = λ j m l. absurd (omega (arith, length-names n w));
+  whole = λ _. refl;
+}
+
+pub last-at : (n : ℕ) (w : List ℕ) (lo : ℕ) {x : ℕ} → lo + many < n → Rising (names n w) → x ≡ getD w ((lo + many - 1) * 3) 0 → LastOf (names n w) lo many x
+unfolding Sorted
+last-at n w lo {x} h r e =
+    let g : x ≡ getD (names n w) (lo + many - 1) 0 = e ∙ sym (name-word n w (lo + many - 1) (omega arith)) in
+    rw g (record {
+      upto = λ j m l. rising-sorted (names n w) r j (lo + many - 1) (omega arith) (omega (arith, length-names n w));
+      past = λ j m l. r (lo + many - 1) j (omega arith) l;
+      whole = λ z. absurd (omega (arith, length-names n w));
+    })
+
+-- ---- the search
 
 pub place-found : (ks : List ℕ) (n x r : ℕ) → (r < n) × (getD ks r 0 ≡ x) → Place ks n x r
 place-found ks n x r f = record { found = λ _. f .1; absent = λ h. absurd (omega (arith, f .0)) }

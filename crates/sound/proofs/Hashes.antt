@@ -46,7 +46,7 @@ module _ (w : List ℕ) (a : ℕ) where
       let g : a + k * 4 ≡ a + 4 * k = omega arith in
       ap quadNumber (e ∙ ap (λ (i : ℕ). readQuad (drop i w)) g ∙ ap readQuad (sym (drop-drop (4 * k) a w)) ∙ sym (quad-take (drop (4 * k) (drop a w))))
 
-  hashes-turn : (k n : ℕ) → k < n → hashesIn w a k n ≡ readHash (take 4 (drop (4 * k) (drop a w))) ∷ hashesIn w a (k + 1) n
+  pub hashes-turn : (k n : ℕ) → k < n → hashesIn w a k n ≡ readHash (take 4 (drop (4 * k) (drop a w))) ∷ hashesIn w a (k + 1) n
   hashes-turn k n h = rest-turn 4 readHash n k (drop a w) h
 
   pub hashes-none : (k n : ℕ) → n ≤ k → hashesIn w a k n ≡ []

@@ -3,7 +3,7 @@
 use Prim.Native.Nat.{ℕ, zero, suc, _+_, _*_, _/_, _%_, _^_, _≤_, _<_}
 use mathlib.Core.Path.{_≡_, refl, sym, ap, _∙_}
 use mathlib.Core.Logic.{_⊎_, inl, inr}
-use mathlib.Core.Bool.{Bool, true, false}
+use mathlib.Core.Bool.{Bool, true, false, not, _&&_, _||_}
 use mathlib.Core.List.{List, [], _∷_}
 use native.Mathlib.Nat.{le-refl, le-antisymm, le-of-lt, lt-irrefl, not-le-of-lt}
 use native.Mathlib.Omega.{arith}
@@ -23,7 +23,7 @@ use Rattle.store.specs.Gather.{kindIs, keyAt}
 use Rattle.store.specs.FlatSound.{markBit, RowFits, Ascending, MarkedAs, SameMarks}
 use Rattle.store.proofs.Keys.{row-number}
 use Rattle.sound.specs.Rows.{RowPlain, Follows, RowsSound}
-use Rattle.sound.proofs.Decide.{Iff, Chain, rest, rest-all, rest-turn}
+use Rattle.sound.proofs.Decide.{Iff, test-decides, test-iff, test-and, test-or, test-same, test-other, test-less, Chain, rest, rest-all, rest-turn}
 use Rattle.sound.proofs.Ranges.{Below, below-words, each-recs, RowRanges, row-ranges}
 
 -- ---- the walk
@@ -70,14 +70,44 @@ rows-sound r rs g = record {
   from = λ s. (record { plain = row-plain (s .fit .0); follows = follows-self r }, chained r rs (record { fit = s .fit .1; ascending = s .ascending .1; marks = s .marks }));
 }
 
--- the last test of a row on a Wtxid key
-pub plain-bits : (r : Row) → 0 < r .conn → (ownBit r ≡ 0 → r .deadline ≡ 0) → r .bits < 32 → r .bits % 2 ≡ 1 → r .bits / 2 % 2 ≡ 0 → Decides (ltb (r .bits) 16) (RowPlain r)
-plain-bits r p i b k v = elim (test (ltb (r .bits) 16)) [
-  | inl e ↦ let l : r .bits < 16 = ltb-true (r .bits) 16 e in
-      let m : markBit r ≡ 0 = omega arith in
-      rw e (record { positive = p; idle = i; bits = b; plain = λ _. (v, m) })
-  | inr e ↦ rw e (λ f. let m : markBit r ≡ 0 = f .plain k .1 in omega (arith, ltb-false (r .bits) 16 e))
-]
+-- ---- a row by itself, tested without a branch
+
+abbrev Parts : Row → Type 0
+Parts r = (((r .conn ≡ 0 → ⊥) × (r .bits < 32)) × ((r .bits / 8 % 2 ≡ 1) ⊎ (r .deadline ≡ 0))) × ((r .bits % 2 ≡ 0) ⊎ ((r .bits / 2 % 2 ≡ 0) × (r .bits < 16)))
+
+parts-plain : (r : Row) → Parts r → RowPlain r
+parts-plain r f = record {
+  positive = omega (arith, f .0 .0 .0);
+  idle = λ e. elim (f .0 .1) [
+    | inl o ↦ absurd (omega (arith, e))
+    | inr d ↦ d
+  ];
+  bits = f .0 .0 .1;
+  plain = λ e. elim (f .1) [
+    | inl o ↦ absurd (omega arith)
+    | inr d ↦ (d .0, omega (arith, d .1))
+  ];
+}
+
+plain-parts : (r : Row) → RowPlain r → Parts r
+plain-parts r f = (
+  (
+    (λ e. absurd (omega (arith, f .positive)), f .bits),
+    elim (test (eqb (r .bits / 8 % 2) 1)) [
+      | inl e ↦ inl (eqb-true (r .bits / 8 % 2) 1 e)
+      | inr e ↦ inr (f .idle (omega (arith, eqb-false (r .bits / 8 % 2) 1 e)))
+    ],
+  ),
+  elim (test (eqb (r .bits % 2) 0)) [
+    | inl e ↦ inl (eqb-true (r .bits % 2) 0 e)
+    | inr e ↦ let q = f .plain (omega (arith, eqb-false (r .bits % 2) 0 e)) in inr (q .0, omega (arith, q .1, f .bits))
+  ],
+)
+
+pub row-decides : (r : Row) → Decides (((not (eqb (r .conn) 0) && ltb (r .bits) 32) && (eqb (r .bits / 8 % 2) 1 || eqb (r .deadline) 0)) && (eqb (r .bits % 2) 0 || (eqb (r .bits / 2 % 2) 0 && ltb (r .bits) 16))) (RowPlain r)
+row-decides r =
+    let t = test-and _ _ (test-and _ _ (test-and _ _ (test-other (r .conn) 0) (test-less (r .bits) 32)) (test-or _ _ (test-same (r .bits / 8 % 2) 1) (test-same (r .deadline) 0))) (test-or _ _ (test-same (r .bits % 2) 0) (test-and _ _ (test-same (r .bits / 2 % 2) 0) (test-less (r .bits) 16))) in
+    test-decides _ (test-iff t (record { to = parts-plain r; from = plain-parts r }))
 
 -- the last test of a row behind another: keys that are neither less nor greater are equal
 pub follows-mark : (p r : Row) → ltb (keyNumber (keyOf p)) (keyNumber (keyOf r)) ≡ false → ltb (keyNumber (keyOf r)) (keyNumber (keyOf p)) ≡ false → Decides (eqb (markBit p) (markBit r)) (Follows p r)

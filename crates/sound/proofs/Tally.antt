@@ -24,7 +24,7 @@ use Rattle.store.specs.FlatSound.{countRows, owns, ConnFits}
 use Rattle.store.proofs.Counts.{rows-append, rows-most}
 use Rattle.store.proofs.Tally.{order}
 use Rattle.store.proofs.Certify.{own-bit}
-use Rattle.sound.specs.Conns.{half, weight, packed, heldBy, ownedBy, Counts, Unpacks, names, Rising, Named, Bumped, Tallied, blank, Within, Window}
+use Rattle.sound.specs.Conns.{half, weight, packed, heldBy, ownedBy, Counts, Unpacks, names, Rising, Named, Bumped, Inside, Holds, NamedIn, Took, Tallied, blank, Within, Window}
 use Rattle.sound.proofs.Decide.{Iff}
 use Rattle.sound.proofs.Entries.{length-names, name-entry}
 
@@ -69,46 +69,68 @@ rising-apart ks r p q h l e = elim (order p q) [
   | inr (inr b) ↦ absurd (omega (arith, r q p b h))
 ]
 
-pub tallied-none : (ks : List ℕ) (w : List ℕ) (lo : ℕ) (t : List ℕ) → ((j : ℕ) → getD t j 0 ≡ 0) → Tallied ks (recs rowSize readRow 0 w) lo t
-unfolding recs countRows
-tallied-none ks w lo t z = record { counts = λ j h l. z j; named = tt }
-
--- a turn: the row's entry is k
-pub tallied-turn : (ks w : List ℕ) (lo i k : ℕ) (t t′ : List ℕ) (r : Row) → Rising ks → r ≡ readRow (take rowSize (drop (rowSize * i) w)) → k < length ks → getD ks k 0 ≡ r .conn
-    → Tallied ks (recs rowSize readRow i w) lo t → Bumped t t′ lo k (weight r) → Tallied ks (recs rowSize readRow (i + 1) w) lo t′
-tallied-turn ks w lo i k t t′ r u e h q s b =
-    let rs : List Row = recs rowSize readRow i w in
-    let g : recs rowSize readRow (i + 1) w ≡ rs ++ (r ∷ []) = rw e (recs-last rowSize readRow i w) in
-    rw g (record {
-      counts = λ j m l. elim (test (eqb (lo + j) k)) [
-        | inl d ↦ let d′ = eqb-true (lo + j) k d in
-            let m′ : j < length t = omega (arith, b .same-length) in
-            b .here j m′ d′ ∙ rw (s .counts j m′ l, packed-own (getD ks (lo + j) 0) rs r (sym q ∙ ap (λ (n : ℕ). getD ks n 0) (sym d′)))
-        | inr d ↦ let n = eqb-false (lo + j) k d in
-            let m′ : j < length t = omega (arith, b .same-length) in
-            b .other j n ∙ rw (s .counts j m′ l, packed-other (getD ks (lo + j) 0) rs r (λ z. n (sym (rising-apart ks u k (lo + j) h l (q ∙ z)))))
-      ];
-      named = each-last (λ r. Named ks (r .conn)) rs r (s .named) (record { at = k; within = h; is = q });
-    })
-
--- a row whose connection has no entry
-pub tallied-stop : (ks w : List ℕ) (n i : ℕ) (r : Row) → i < n → r ≡ readRow (take rowSize (drop (rowSize * i) w)) → (Named ks (r .conn) → ⊥) → Each (λ r. Named ks (r .conn)) (recs rowSize readRow n w) → ⊥
-tallied-stop ks w n i r h e none all = none (rw (e, ← (recs-at rowSize readRow n w i r h)) (each-at (recs rowSize readRow n w) i (rw (length-recs rowSize readRow n w) h) all))
-  where
-    each-at : (rs : List Row) (j : ℕ) → j < length rs → Each (λ r. Named ks (r .conn)) rs → Named ks ((getD rs j r) .conn)
-    each-at [] j h a = absurd (omega arith)
-    each-at (x ∷ rs) zero h a = a .0
-    each-at (x ∷ rs) (suc j) h a = each-at rs j (omega arith) (a .1)
-
 -- a counter stays below 2^64
 packed-most : (x : ℕ) (rs : List Row) → packed x rs ≤ length rs * (1 + half)
 packed-most x rs = omega (arith, rows-most (λ r. eqb (r .conn) x) rs, rows-most (λ r. eqb (r .conn) x && owns r) rs)
 
-pub tallied-small : (ks w : List ℕ) (lo i k : ℕ) (t : List ℕ) (r : Row) → i < maxAnnouncements → k < length ks → Tallied ks (recs rowSize readRow i w) lo t
-    → (j : ℕ) → j < length t → lo + j ≡ k → getD t j 0 + weight r < 2 ^ 64
-tallied-small ks w lo i k t r m h s j l e =
-    let c = s .counts j l (omega arith) in
-    omega (arith, packed-most (getD ks (lo + j) 0) (recs rowSize readRow i w), length-recs rowSize readRow i w)
+-- ---- a row is taken
+
+module _ (ks : List ℕ) (done last lo x w : ℕ) (t : List ℕ) where
+  pub took-outside : (Inside done last x → ⊥) → Holds done last ks lo (length t) → Took ks done last lo x w t t
+  took-outside n h = record {
+    same-length = refl;
+    here = λ j b l e. absurd (n (rw e at (h j b l)));
+    other = λ j b l e. refl;
+    named = λ i. absurd (n i);
+  }
+
+  pub took-bump : (k : ℕ) (t′ : List ℕ) → Rising ks → k < length ks → getD ks k 0 ≡ x → Bumped t t′ lo k w → Took ks done last lo x w t t′
+  took-bump k t′ u h q b = record {
+    same-length = b .same-length;
+    here = λ j m l e. b .here j m (rising-apart ks u (lo + j) k l h (e ∙ sym q));
+    other = λ j m l n. b .other j (λ e. n (ap (λ (i : ℕ). getD ks i 0) e ∙ q));
+    named = λ i. record { at = k; within = h; is = q };
+  }
+
+module _ (ks w : List ℕ) (done last lo : ℕ) where
+  pub tallied-none : (t : List ℕ) → ((j : ℕ) → getD t j 0 ≡ 0) → Tallied ks (recs rowSize readRow 0 w) done last lo t
+  unfolding recs countRows
+  tallied-none t z = record { counts = λ j h l. z j; named = tt }
+
+  pub tallied-turn : (i : ℕ) (t t′ : List ℕ) (r : Row) → r ≡ readRow (take rowSize (drop (rowSize * i) w)) → Tallied ks (recs rowSize readRow i w) done last lo t
+      → Took ks done last lo (r .conn) (weight r) t t′ → Tallied ks (recs rowSize readRow (i + 1) w) done last lo t′
+  tallied-turn i t t′ r e s b =
+      let rs : List Row = recs rowSize readRow i w in
+      let g : recs rowSize readRow (i + 1) w ≡ rs ++ (r ∷ []) = rw e (recs-last rowSize readRow i w) in
+      rw g (record {
+        counts = λ j m l. let m′ : j < length t = omega (arith, b .same-length) in elim (test (eqb (getD ks (lo + j) 0) (r .conn))) [
+          | inl d ↦ let d′ = eqb-true (getD ks (lo + j) 0) (r .conn) d in
+              b .here j m′ l d′ ∙ rw (s .counts j m′ l, packed-own (getD ks (lo + j) 0) rs r (sym d′))
+          | inr d ↦ let n = eqb-false (getD ks (lo + j) 0) (r .conn) d in
+              b .other j m′ l n ∙ rw (s .counts j m′ l, packed-other (getD ks (lo + j) 0) rs r (λ z. n (sym z)))
+        ];
+        named = each-last (λ r. Inside done last (r .conn) → Named ks (r .conn)) rs r (s .named) (b .named);
+      })
+
+  -- a row whose connection has no entry
+  pub tallied-stop : (n i : ℕ) (r : Row) → i < n → r ≡ readRow (take rowSize (drop (rowSize * i) w)) → Inside done last (r .conn) × (Named ks (r .conn) → ⊥) → NamedIn ks done last (recs rowSize readRow n w) → ⊥
+  tallied-stop n i r h e none all = none .1 (found (none .0))
+    where
+      each-at : (rs : List Row) (j : ℕ) → j < length rs → NamedIn ks done last rs → Inside done last ((getD rs j r) .conn) → Named ks ((getD rs j r) .conn)
+      each-at [] j h a = absurd (omega arith)
+      each-at (x ∷ rs) zero h a = a .0
+      each-at (x ∷ rs) (suc j) h a = each-at rs j (omega arith) (a .1)
+
+      found : Inside done last (r .conn) → Named ks (r .conn)
+      found =
+          let g : getD (recs rowSize readRow n w) i r ≡ r = recs-at rowSize readRow n w i r h ∙ sym e in
+          rw g at (each-at (recs rowSize readRow n w) i (rw (length-recs rowSize readRow n w) h) all)
+
+  pub tallied-small : (i : ℕ) (t : List ℕ) (r : Row) → i < maxAnnouncements → Tallied ks (recs rowSize readRow i w) done last lo t
+      → (j : ℕ) → j < length t → lo + j < length ks → getD t j 0 + weight r < 2 ^ 64
+  tallied-small i t r m s j l h =
+      let c = s .counts j l h in
+      omega (arith, packed-most (getD ks (lo + j) 0) (recs rowSize readRow i w), length-recs rowSize readRow i w)
 
 -- ---- counters compared
 

@@ -81,6 +81,10 @@ pub record Place (ks : List ℕ) (n x r : ℕ) : Type 0 where
   pub found : r < n → getD ks r 0 ≡ x
   pub absent : n ≤ r → Rising ks → Named ks x → ⊥
 
+-- the greatest number of 64 bits
+abbrev pub most : ℕ
+most = 18446744073709551615
+
 -- ---- counters t of the entries from lo on
 
 -- w more in the counter of the entry k, if it is among them
@@ -89,14 +93,38 @@ pub record Bumped (t t′ : List ℕ) (lo k w : ℕ) : Type 0 where
   pub here : (j : ℕ) → j < length t → lo + j ≡ k → getD t′ j 0 ≡ getD t j 0 + w
   pub other : (j : ℕ) → (lo + j ≡ k → ⊥) → getD t′ j 0 ≡ getD t j 0
 
--- the counters of rows whose connections are all named
-pub record Tallied (ks : List ℕ) (rs : List Row) (lo : ℕ) (t : List ℕ) : Type 0 where
-  pub counts : (j : ℕ) → j < length t → lo + j < length ks → getD t j 0 ≡ packed (getD ks (lo + j) 0) rs
-  pub named : Each (λ r. Named ks (r .conn)) rs
+-- ---- connections above done and not above last: those that a pass over the rows takes
 
-abbrev pub Tallying : Bool → List ℕ → List Row → ℕ → List ℕ → Type 0
-Tallying true ks rs lo t = Tallied ks rs lo t
-Tallying false ks rs lo t = Each (λ r. Named ks (r .conn)) rs → ⊥
+abbrev pub Inside : ℕ → ℕ → ℕ → Type 0
+Inside done last x = (done < x) × (x ≤ last)
+
+-- m entries from lo on are inside
+abbrev pub Holds : ℕ → ℕ → List ℕ → ℕ → ℕ → Type 0
+Holds done last ks lo m = (j : ℕ) → j < m → lo + j < length ks → Inside done last (getD ks (lo + j) 0)
+
+-- the connections of the rows that are inside are named
+abbrev pub NamedIn : List ℕ → ℕ → ℕ → List Row → Type 0
+NamedIn ks done last rs = Each (λ r. Inside done last (r .conn) → Named ks (r .conn)) rs
+
+-- a row of the connection x, of the weight w, is counted; x has no entry
+pub record Took (ks : List ℕ) (done last lo x w : ℕ) (t t′ : List ℕ) : Type 0 where
+  pub same-length : length t′ ≡ length t
+  pub here : (j : ℕ) → j < length t → lo + j < length ks → getD ks (lo + j) 0 ≡ x → getD t′ j 0 ≡ getD t j 0 + w
+  pub other : (j : ℕ) → j < length t → lo + j < length ks → (getD ks (lo + j) 0 ≡ x → ⊥) → getD t′ j 0 ≡ getD t j 0
+  pub named : Inside done last x → Named ks x
+
+abbrev pub Taking : Bool → List ℕ → ℕ → ℕ → ℕ → ℕ → ℕ → List ℕ → List ℕ → Type 0
+Taking true ks done last lo x w t t′ = Took ks done last lo x w t t′
+Taking false ks done last lo x w t t′ = Inside done last x × (Named ks x → ⊥)
+
+-- the counters of the rows
+pub record Tallied (ks : List ℕ) (rs : List Row) (done last lo : ℕ) (t : List ℕ) : Type 0 where
+  pub counts : (j : ℕ) → j < length t → lo + j < length ks → getD t j 0 ≡ packed (getD ks (lo + j) 0) rs
+  pub named : NamedIn ks done last rs
+
+abbrev pub Tallying : Bool → List ℕ → List Row → ℕ → ℕ → ℕ → List ℕ → Type 0
+Tallying true ks rs done last lo t = Tallied ks rs done last lo t
+Tallying false ks rs done last lo t = NamedIn ks done last rs → ⊥
 
 abbrev pub blank : Conn
 blank = record { conn = 0; held = 0; owned = 0 }
@@ -105,9 +133,15 @@ blank = record { conn = 0; held = 0; owned = 0 }
 abbrev pub Within : (Conn → ℕ → Type 0) → List Conn → ℕ → ℕ → Type 0
 Within P cs lo m = (j : ℕ) → j < m → lo + j < length cs → P (getD cs (lo + j) blank) j
 
-pub record Window (ks : List ℕ) (rs : List Row) (cs : List Conn) (lo m : ℕ) : Type 0 where
+pub record Window (ks : List ℕ) (rs : List Row) (cs : List Conn) (done last lo m : ℕ) : Type 0 where
   pub counted : Within (λ c j. Counts rs c) cs lo m
-  pub named : Each (λ r. Named ks (r .conn)) rs
+  pub named : NamedIn ks done last rs
+
+-- last is at the end of the m entries from lo on
+pub record LastOf (ks : List ℕ) (lo m last : ℕ) : Type 0 where
+  pub upto : (j : ℕ) → j < lo + m → j < length ks → getD ks j 0 ≤ last
+  pub past : (j : ℕ) → lo + m ≤ j → j < length ks → last < getD ks j 0
+  pub whole : length ks ≤ lo + m → last ≡ most
 
 -- how many entries a window has
 abbrev pub few : ℕ

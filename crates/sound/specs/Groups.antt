@@ -1,12 +1,12 @@
 -- What the test of the rows of one hash decides, in the words of FlatSound, and what its parts decide.
 -- Assumes nothing.
-use Prim.Native.Nat.{ℕ, _+_, _-_, _*_, _≤_, _<_}
+use Prim.Native.Nat.{ℕ, _+_, _-_, _*_, _%_, _≤_, _<_}
 use mathlib.Core.Path.{_≡_}
 use mathlib.Core.Logic.{_⊎_}
-use mathlib.Core.Bool.{Bool, _&&_}
+use mathlib.Core.Bool.{Bool, true, false, _&&_}
 use mathlib.Core.List.{List, [], _∷_}
 use lib.Dec.{eqb}
-use lib.ListN.{length, take, drop}
+use lib.ListN.{length, take, drop, getD}
 use Rattle.words.specs.Words.{recs}
 use Rattle.regions.specs.declared.Row.{Row}
 use Rattle.regions.specs.Rows.{rowSize, readRow}
@@ -51,6 +51,24 @@ rowsBy n rs = countRows (λ r. eqb (r .conn) n) rs
 abbrev pub Apart : List Row → List Row → Type 0
 Apart others [] = Unit {0}
 Apart others (r ∷ rs) = (rowsBy (r .conn) rs ≡ 0) × (rowsBy (r .conn) others ≡ 0) × Apart others rs
+
+-- no connection is in two of the rows a and b
+abbrev pub Once : List Row → List Row → Type 0
+Once a b = Apart b a × Apart [] b
+
+-- ---- slots of connections
+
+abbrev pub connSlots : ℕ
+connSlots = 1024
+
+-- the slots of the rows' connections have the mark v
+abbrev pub ConnsMarked : ℕ → List ℕ → List Row → Type 0
+ConnsMarked v t rs = (x : ℕ) → 0 < rowsBy x rs → getD t (x % connSlots) 0 ≡ v
+
+-- if true: the rows from .. to are apart from each other and from those that were marked, and are marked
+abbrev pub Marking : Bool → List ℕ → ℕ → ℕ → ℕ → List ℕ → List ℕ → Type 0
+Marking true w from to v t t′ = (others : List Row) → ConnsMarked v t others → Apart others (rowsIn w from to) × ConnsMarked v t′ (rowsIn w from to)
+Marking false w from to v t t′ = Unit {0}
 
 pub record GroupFits (a b : List Row) : Type 0 where
   pub few : length a + length b ≤ maxAlternates

@@ -1,13 +1,16 @@
 -- What the test of the package places decides, in the words of FlatSound, and what its parts decide.
 -- Assumes nothing.
-use Prim.Native.Nat.{ℕ, zero, suc, _+_, _-_, _*_, _≤_, _<_}
+use Prim.Native.Nat.{ℕ, zero, suc, _+_, _-_, _*_, _/_, _%_, _≤_, _<_}
 use mathlib.Core.Path.{_≡_}
 use mathlib.Core.List.{List}
 use lib.ListN.{take, drop, replicate}
+use lib.Bits.{bitXor}
 use lib.Seq.{slice}
 use Rattle.words.specs.Words.{recs}
 use Rattle.regions.specs.declared.Row.{Row}
+use Rattle.regions.specs.declared.Quad.{Quad}
 use Rattle.regions.specs.Regions.{each}
+use Rattle.regions.specs.Rows.{quadOf}
 use Rattle.places.specs.Places.{placeSize, placeWords, placeKey, wtxidsAt, parentsAt, keptSize, listMost}
 use Rattle.machine.specs.Limits.{maxWtxids}
 use Rattle.machine.specs.Typed.{Each}
@@ -34,6 +37,16 @@ placeAt w i = take placeSize (drop (placeSize * i) w)
 -- the hashes from .. to of a list that starts at the word a
 abbrev pub hashesIn : List ℕ → ℕ → ℕ → ℕ → List ℕ
 hashesIn w a from to = recs 4 readHash (to - from) (drop (4 * from) (drop a w))
+
+-- where a hash of a list is marked, by its words
+abbrev pub slotCount : ℕ
+slotCount = 4096
+
+unfoldable pub foldOf : Quad → ℕ
+foldOf q = bitXor (bitXor (bitXor (q .w0) (q .w1)) (q .w2)) (q .w3)
+
+abbrev pub slotOf : ℕ → ℕ
+slotOf h = (foldOf (quadOf h) % 4294967296 + foldOf (quadOf h) / 4294967296) * 506952113 / 1048576 % slotCount
 
 -- where the kept flags lie
 abbrev pub keptAt : ℕ

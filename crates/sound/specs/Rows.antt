@@ -2,7 +2,9 @@
 -- Assumes nothing.
 use Prim.Native.Nat.{ℕ, _/_, _%_, _≤_, _<_}
 use mathlib.Core.Path.{_≡_}
+use mathlib.Core.Bool.{Bool, _&&_, _||_}
 use mathlib.Core.List.{List}
+use lib.Dec.{ltb, eqb}
 use Rattle.ident.specs.Number.{place}
 use Rattle.regions.specs.declared.Row.{Row}
 use Rattle.machine.specs.Typed.{Each}
@@ -21,6 +23,10 @@ pub record RowPlain (r : Row) : Type 0 where
 pub record Follows (p r : Row) : Type 0 where
   pub order : place (keyAt p) ≤ place (keyAt r)
   pub mark : place (keyAt p) ≡ place (keyAt r) → markBit p ≡ markBit r
+
+-- u is less than v, or equal to it and what stands behind them is fit
+abbrev pub isAhead : ℕ → ℕ → Bool → Bool
+isAhead u v rest = ltb u v || (eqb u v && rest)
 
 pub record RowsSound (rs : List Row) : Type 0 where
   pub fit : Each RowFits rs

@@ -1,32 +1,27 @@
 // The test of the rows by themselves and of neighbours: fit, in the order of keys, one mark for each request.
+ghost use mathlib.Core.Path.{_≡_};
 ghost use Prim.Native.Nat.{_*_, _≤_};
 ghost use lib.ListN.{length};
 ghost use Rattle.words.specs.Words.{words, recs, Decides};
 ghost use Rattle.regions.specs.Rows.{rowSize, readRow};
-ghost use Rattle.sound.specs.Rows.{RowPlain, Follows, RowsSound};
+ghost use Rattle.sound.specs.Rows.{RowPlain, Follows, isAhead, RowsSound};
 
-// Whether a row is fit by itself.
+// Whether a row is fit by itself. (No branch: which of two rows has an owner cannot be foretold.)
 fn row_fits(r: regions::Row) -> bool
     ensures { λ b. ⌜ Decides b (RowPlain r) ⌝ }
 {
-    if r.conn == 0 {
-        return false;
-    }
-    if r.bits >= 32 {
-        return false;
-    }
-    if r.bits / 8 % 2 == 0 {
-        if r.deadline != 0 {
-            return false;
-        }
-    }
-    if r.bits % 2 == 1 {
-        if r.bits / 2 % 2 == 1 {
-            return false;
-        }
-        return r.bits < 16;
-    }
-    true
+    let idle = (r.bits / 8 % 2 == 1) | (r.deadline == 0);
+    let txid = r.bits % 2 == 0;
+    let bare = (r.bits / 2 % 2 == 0) & (r.bits < 16);
+    let known = r.bits < 32;
+    (r.conn != 0) & known & idle & (txid | bare)
+}
+
+// Whether u is less than v, or equal to it and what stands behind them is fit.
+fn ahead(u: u64, v: u64, rest: bool) -> bool
+    ensures { λ b. ⌜ b ≡ isAhead u v rest ⌝ }
+{
+    (u < v) | ((u == v) & rest)
 }
 
 // Whether r may stand right behind p.
@@ -35,21 +30,12 @@ fn follows(p: regions::Row, r: regions::Row) -> bool
 {
     let x = p.hash;
     let y = r.hash;
-    let a = regions::Key {
-        kind: p.bits % 2,
-        hash: x,
-    };
-    let b = regions::Key {
-        kind: r.bits % 2,
-        hash: y,
-    };
-    if regions::key_less(a, b) {
-        return true;
-    }
-    if regions::key_less(b, a) {
-        return false;
-    }
-    p.bits / 16 % 2 == r.bits / 16 % 2
+    let mark = p.bits / 16 % 2 == r.bits / 16 % 2;
+    let w0 = ahead(x.w0, y.w0, mark);
+    let w1 = ahead(x.w1, y.w1, w0);
+    let w2 = ahead(x.w2, y.w2, w1);
+    let w3 = ahead(x.w3, y.w3, w2);
+    ahead(p.bits % 2, r.bits % 2, w3)
 }
 
 // Whether each of the n rows is fit, keys do not fall, and rows of one key have one mark.

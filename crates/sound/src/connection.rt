@@ -1,7 +1,8 @@
 // The test of the connections: entries that rise, within the limits, with the counts of the rows.
 //
 // A pass over the rows counts those of up to MANY connections in an array of 128 KiB (4 KiB where there are FEW), so that one pass is
-// enough unless there are more.
+// enough unless there are more. A pass takes only the rows whose connection is above the last entry of the pass before (`done`), and
+// not above its own last entry (`last`).
 ghost use mathlib.Core.Path.{_≡_};
 ghost use Prim.Native.Nat.{ℕ, _+_, _*_, _^_, _≤_, _<_};
 ghost use lib.ListN.{length, getD};
@@ -9,7 +10,7 @@ ghost use Rattle.words.specs.Words.{words, recs, Decides};
 ghost use Rattle.machine.specs.Limits.{maxAnnouncements};
 ghost use Rattle.regions.specs.Rows.{rowSize, readRow, connSize, readConn};
 ghost use Rattle.sound.specs.Rows.{RowsSound};
-ghost use Rattle.sound.specs.Conns.{Entries, EntryStep, names, Rising, Place, Bumped, Tallying, Unpacks, Within, Window, few, many, ConnsSound};
+ghost use Rattle.sound.specs.Conns.{Entries, EntryStep, names, Rising, Place, Bumped, Holds, Taking, Tallying, Unpacks, Within, Window, LastOf, few, many, most, ConnsSound};
 
 // MAX_PEER_ANNOUNCEMENTS and MAX_PEER_IN_FLIGHT.
 const PEER_ANNOUNCEMENTS: u64 = 5000;
@@ -27,8 +28,10 @@ const MANY: usize = 16384;
 
 const FEW: usize = 512;
 
-// Guesses where a connection's entry is.
-const GUESSES: u64 = 256;
+// Where a window's entries are guessed by the low bits of a connection: masks of those bits.
+const MANY_MASK: u64 = 32767;
+
+const FEW_MASK: u64 = 2047;
 
 // Whether the entry c is fit to stand right behind p.
 fn entry_fits(p: regions::Conn, c: regions::Conn) -> bool
@@ -111,22 +114,100 @@ fn bump(t: &mut [u64], lo: usize, k: usize, w: u64)
     }
 }
 
-// Counts the n rows of the entries from lo on, of which there are c in all. False if a row's connection has no entry.
-fn count_rows(rows: &[u8], n: usize, conns: &[u8], c: usize, lo: usize, t: &mut [u64]) -> bool
-    requires { ⌜ (8 * (rowSize * n) ≤ length (now rows)) × (8 * (connSize * c) ≤ length (now conns)) × (n ≤ maxAnnouncements) × Rising (names c (words (now conns))) × ((j : ℕ) → getD (now t) j 0 ≡ 0) ⌝ }
-    ensures { λ b. ⌜ Tallying b (names c (words (now (conns .entry)))) (recs rowSize readRow n (words (now (rows .entry)))) lo (now (t .exit)) × (length (now (t .exit)) ≡ length (now (t .entry))) ⌝ }
+// Where the guess of x's entry is kept.
+fn low_bits(x: u64, mask: u64) -> usize
+    ensures { λ r. ⌜ r ≤ mask ⌝ }
 {
-    let mut guess: [usize; 256] = [0; 256];
+    (x & mask) as usize
+}
+
+fn wide(x: u16) -> usize
+    ensures { λ r. ⌜ r < 2 ^ 16 ⌝ }
+{
+    x as usize
+}
+
+// Keeps for the entries from lo on where they are, counted from lo. (Of two that meet, the later; a guess is only tried.)
+fn fill_guesses(s: &[u8], n: usize, lo: usize, guess: &mut [u16], mask: u64)
+    requires { ⌜ (8 * (connSize * n) ≤ length (now s)) × (mask < length (now guess)) ⌝ }
+    ensures { λ _. ⌜ length (now (guess .exit)) ≡ length (now (guess .entry)) ⌝ }
+{
+    let mut i = lo;
+    while i < n {
+        let j = i - lo;
+        if j >= MANY {
+            return;
+        }
+        let at = low_bits(words::get(s, i * CONN), mask);
+        guess[at] = j as u16;
+        i += 1;
+    }
+}
+
+// Counts a row of the connection x, of the weight w, if x is inside. False if x has no entry.
+fn take_row(
+    s: &[u8],
+    n: usize,
+    lo: usize,
+    t: &mut [u64],
+    guess: &[u16],
+    mask: u64,
+    done: u64,
+    last: u64,
+    x: u64,
+    w: u64,
+) -> bool
+    requires { ⌜ (8 * (connSize * n) ≤ length (now s)) × Rising (names n (words (now s))) × (lo ≤ n) × (mask < length (now guess)) × Holds done last (names n (words (now s))) lo (length (now t)) × ((j : ℕ) → j < length (now t) → lo + j < n → getD (now t) j 0 + w < 2 ^ 64) ⌝ }
+    ensures { λ b. ⌜ Taking b (names n (words (now (s .entry)))) done last lo x w (now (t .entry)) (now (t .exit)) × (length (now (t .exit)) ≡ length (now (t .entry))) ⌝ }
+{
+    if x <= done {
+        return true;
+    }
+    if last < x {
+        return true;
+    }
+    let at = low_bits(x, mask);
+    let k = find_entry(s, n, x, lo + wide(guess[at]));
+    if k >= n {
+        return false;
+    }
+    bump(t, lo, k, w);
+    true
+}
+
+// Counts the n rows of the entries from lo on, of which there are c in all. False if a row inside has a connection without an entry.
+fn count_rows(
+    rows: &[u8],
+    n: usize,
+    conns: &[u8],
+    c: usize,
+    lo: usize,
+    t: &mut [u64],
+    guess: &[u16],
+    mask: u64,
+    done: u64,
+    last: u64,
+) -> bool
+    requires { ⌜ (8 * (rowSize * n) ≤ length (now rows)) × (8 * (connSize * c) ≤ length (now conns)) × (n ≤ maxAnnouncements) × Rising (names c (words (now conns))) × ((j : ℕ) → getD (now t) j 0 ≡ 0) × (lo ≤ c) × (mask < length (now guess)) × Holds done last (names c (words (now conns))) lo (length (now t)) ⌝ }
+    ensures { λ b. ⌜ Tallying b (names c (words (now (conns .entry)))) (recs rowSize readRow n (words (now (rows .entry)))) done last lo (now (t .exit)) × (length (now (t .exit)) ≡ length (now (t .entry))) ⌝ }
+{
     let mut i = 0;
     while i < n {
         let r = regions::read_row(rows, i);
-        let g = (r.conn % GUESSES) as usize;
-        let k = find_entry(conns, c, r.conn, guess[g]);
-        if k >= c {
+        if !take_row(
+            conns,
+            c,
+            lo,
+            t,
+            guess,
+            mask,
+            done,
+            last,
+            r.conn,
+            1 + r.bits / 8 % 2 * HALF,
+        ) {
             return false;
         }
-        guess[g] = k;
-        bump(t, lo, k, 1 + r.bits / 8 % 2 * HALF);
         i += 1;
     }
     true
@@ -165,12 +246,23 @@ fn counts_match(s: &[u8], n: usize, lo: usize, t: &[u64]) -> bool
     true
 }
 
-// Whether each of the entries from lo on that t has a counter for has its rows' counts, and each row's connection has an entry.
-fn window_fits(rows: &[u8], n: usize, conns: &[u8], c: usize, lo: usize, t: &mut [u64]) -> bool
-    requires { ⌜ (8 * (rowSize * n) ≤ length (now rows)) × (8 * (connSize * c) ≤ length (now conns)) × (n ≤ maxAnnouncements) × Rising (names c (words (now conns))) × ((j : ℕ) → getD (now t) j 0 ≡ 0) × (lo ≤ c) ⌝ }
-    ensures { λ b. ⌜ Decides b (Window (names c (words (now (conns .entry)))) (recs rowSize readRow n (words (now (rows .entry)))) (recs connSize readConn c (words (now (conns .entry)))) lo (length (now (t .entry)))) ⌝ }
+// Whether each of the entries from lo on that t has a counter for has its rows' counts, and each connection inside has an entry.
+fn window_fits(
+    rows: &[u8],
+    n: usize,
+    conns: &[u8],
+    c: usize,
+    lo: usize,
+    t: &mut [u64],
+    guess: &[u16],
+    mask: u64,
+    done: u64,
+    last: u64,
+) -> bool
+    requires { ⌜ (8 * (rowSize * n) ≤ length (now rows)) × (8 * (connSize * c) ≤ length (now conns)) × (n ≤ maxAnnouncements) × Rising (names c (words (now conns))) × ((j : ℕ) → getD (now t) j 0 ≡ 0) × (lo ≤ c) × (mask < length (now guess)) × Holds done last (names c (words (now conns))) lo (length (now t)) ⌝ }
+    ensures { λ b. ⌜ Decides b (Window (names c (words (now (conns .entry)))) (recs rowSize readRow n (words (now (rows .entry)))) (recs connSize readConn c (words (now (conns .entry)))) done last lo (length (now (t .entry)))) ⌝ }
 {
-    if !count_rows(rows, n, conns, c, lo, t) {
+    if !count_rows(rows, n, conns, c, lo, t, guess, mask, done, last) {
         return false;
     }
     counts_match(conns, c, lo, t)
@@ -178,20 +270,35 @@ fn window_fits(rows: &[u8], n: usize, conns: &[u8], c: usize, lo: usize, t: &mut
 
 // The window of the first few entries.
 fn few_fit(rows: &[u8], n: usize, conns: &[u8], c: usize) -> bool
-    requires { ⌜ (8 * (rowSize * n) ≤ length (now rows)) × (8 * (connSize * c) ≤ length (now conns)) × (n ≤ maxAnnouncements) × Rising (names c (words (now conns))) ⌝ }
-    ensures { λ b. ⌜ Decides b (Window (names c (words (now (conns .entry)))) (recs rowSize readRow n (words (now (rows .entry)))) (recs connSize readConn c (words (now (conns .entry)))) 0 few) ⌝ }
+    requires { ⌜ (8 * (rowSize * n) ≤ length (now rows)) × (8 * (connSize * c) ≤ length (now conns)) × (n ≤ maxAnnouncements) × Rising (names c (words (now conns))) × Holds 0 most (names c (words (now conns))) 0 few ⌝ }
+    ensures { λ b. ⌜ Decides b (Window (names c (words (now (conns .entry)))) (recs rowSize readRow n (words (now (rows .entry)))) (recs connSize readConn c (words (now (conns .entry)))) 0 most 0 few) ⌝ }
 {
+    let mut guess: [u16; 2048] = [0; 2048];
+    fill_guesses(conns, c, 0, &mut guess, FEW_MASK);
     let mut t: [u64; FEW] = [0; FEW];
-    window_fits(rows, n, conns, c, 0, &mut t)
+    window_fits(rows, n, conns, c, 0, &mut t, &guess, FEW_MASK, 0, u64::MAX)
 }
 
 // The window of the many entries from lo on.
-fn many_fit(rows: &[u8], n: usize, conns: &[u8], c: usize, lo: usize) -> bool
-    requires { ⌜ (8 * (rowSize * n) ≤ length (now rows)) × (8 * (connSize * c) ≤ length (now conns)) × (n ≤ maxAnnouncements) × Rising (names c (words (now conns))) × (lo ≤ c) ⌝ }
-    ensures { λ b. ⌜ Decides b (Window (names c (words (now (conns .entry)))) (recs rowSize readRow n (words (now (rows .entry)))) (recs connSize readConn c (words (now (conns .entry)))) lo many) ⌝ }
+fn many_fit(rows: &[u8], n: usize, conns: &[u8], c: usize, lo: usize, done: u64, last: u64) -> bool
+    requires { ⌜ (8 * (rowSize * n) ≤ length (now rows)) × (8 * (connSize * c) ≤ length (now conns)) × (n ≤ maxAnnouncements) × Rising (names c (words (now conns))) × (lo ≤ c) × Holds done last (names c (words (now conns))) lo many ⌝ }
+    ensures { λ b. ⌜ Decides b (Window (names c (words (now (conns .entry)))) (recs rowSize readRow n (words (now (rows .entry)))) (recs connSize readConn c (words (now (conns .entry)))) done last lo many) ⌝ }
 {
+    let mut guess: [u16; 32768] = [0; 32768];
+    fill_guesses(conns, c, lo, &mut guess, MANY_MASK);
     let mut t: [u64; MANY] = [0; MANY];
-    window_fits(rows, n, conns, c, lo, &mut t)
+    window_fits(rows, n, conns, c, lo, &mut t, &guess, MANY_MASK, done, last)
+}
+
+// The last connection of the many entries from lo on, or the greatest number if no entry is behind them.
+fn last_of(s: &[u8], n: usize, lo: usize) -> u64
+    requires { ⌜ (8 * (connSize * n) ≤ length (now s)) × (lo < n) × Rising (names n (words (now s))) ⌝ }
+    ensures { λ r. ⌜ LastOf (names n (words (now (s .entry)))) lo many r ⌝ }
+{
+    if n - lo <= MANY {
+        return u64::MAX;
+    }
+    words::get(s, (lo + MANY - 1) * CONN)
 }
 
 // Whether the c entries are the tally of the n rows, within the limits of a connection.
@@ -206,10 +313,13 @@ pub fn conns_fit(rows: &[u8], n: usize, conns: &[u8], c: usize) -> bool
         return few_fit(rows, n, conns, c);
     }
     let mut lo = 0;
+    let mut done = 0;
     while lo < c {
-        if !many_fit(rows, n, conns, c, lo) {
+        let last = last_of(conns, c, lo);
+        if !many_fit(rows, n, conns, c, lo, done, last) {
             return false;
         }
+        done = last;
         lo += MANY;
     }
     true

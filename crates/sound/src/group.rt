@@ -1,15 +1,19 @@
 // The test of the rows of one hash over both kinds: few, no connection twice, one owner at most.
 ghost use mathlib.Core.Path.{_≡_};
 ghost use Prim.Native.Nat.{_+_, _*_, _≤_, _<_};
+ghost use mathlib.Core.Bool.{true};
 ghost use lib.ListN.{length};
 ghost use Rattle.words.specs.Words.{words, recs, Decides};
 ghost use Rattle.regions.specs.Rows.{rowSize, readRow, quadNumber};
 ghost use Rattle.store.specs.FlatSound.{countRows, hashAt, owns};
 ghost use Rattle.sound.specs.Rows.{RowsSound};
-ghost use Rattle.sound.specs.Groups.{rowAt, rowsIn, Least, Run, Apart, GroupFits, GroupsSound};
+ghost use Rattle.sound.specs.Groups.{rowAt, rowsIn, Least, Run, Apart, Once, connSlots, Marking, GroupFits, GroupsSound};
 
 // MAX_ALTERNATES.
 const ALTERNATES: usize = 8;
+
+// Slots in which the connections of a hash are marked.
+const SLOTS: u64 = 1024;
 
 // The hash of the i-th row.
 fn hash_at(s: &[u8], i: usize) -> regions::Quad
@@ -88,18 +92,83 @@ pub fn owners(s: &[u8], from: usize, to: usize) -> u64
     sum
 }
 
-// Whether the rows i .. a and j .. b, which are those of one hash, are few, of distinct connections, and have one owner at most.
-fn group_fits(s: &[u8], i: usize, a: usize, j: usize, b: usize) -> bool
-    requires { ⌜ (i ≤ a) × (8 * (rowSize * a) ≤ length (now s)) × (j ≤ b) × (8 * (rowSize * b) ≤ length (now s)) ⌝ }
-    ensures { λ r. ⌜ Decides r (GroupFits (rowsIn (words (now (s .entry))) i a) (rowsIn (words (now (s .entry))) j b)) ⌝ }
+// Marks the slots of the connections of the rows from .. to, the last first, and whether no slot had the mark already. If none had, the
+// connections are distinct, and not among those that were marked before.
+fn mark_conns(s: &[u8], from: usize, to: usize, slots: &mut [u64], mark: u64) -> bool
+    requires { ⌜ (from ≤ to) × (8 * (rowSize * to) ≤ length (now s)) × (length (now slots) ≡ connSlots) ⌝ }
+    ensures { λ r. ⌜ Marking r (words (now (s .entry))) from to mark (now (slots .entry)) (now (slots .exit)) × (length (now (slots .exit)) ≡ connSlots) ⌝ }
 {
-    if a - i + (b - j) > ALTERNATES {
+    let mut k = to;
+    while from < k {
+        let r = regions::read_row(s, k - 1);
+        let x = (r.conn % SLOTS) as usize;
+        if slots[x] == mark {
+            return false;
+        }
+        slots[x] = mark;
+        k -= 1;
+    }
+    true
+}
+
+// Whether marks show that the rows i .. a and j .. b are of distinct connections. (They do not always where it is so.)
+fn marked_once(
+    s: &[u8],
+    i: usize,
+    a: usize,
+    j: usize,
+    b: usize,
+    slots: &mut [u64],
+    mark: u64,
+) -> bool
+    requires { ⌜ (i ≤ a) × (8 * (rowSize * a) ≤ length (now s)) × (j ≤ b) × (8 * (rowSize * b) ≤ length (now s)) × (length (now slots) ≡ connSlots) ⌝ }
+    ensures { λ r. ⌜ (r ≡ true → Once (rowsIn (words (now (s .entry))) i a) (rowsIn (words (now (s .entry))) j b)) × (length (now (slots .exit)) ≡ connSlots) ⌝ }
+{
+    if !mark_conns(s, j, b, slots, mark) {
         return false;
+    }
+    mark_conns(s, i, a, slots, mark)
+}
+
+// Whether the rows i .. a and j .. b are of distinct connections. The mark should be new to the slots, else all are compared.
+fn conns_once(
+    s: &[u8],
+    i: usize,
+    a: usize,
+    j: usize,
+    b: usize,
+    slots: &mut [u64],
+    mark: u64,
+) -> bool
+    requires { ⌜ (i ≤ a) × (8 * (rowSize * a) ≤ length (now s)) × (j ≤ b) × (8 * (rowSize * b) ≤ length (now s)) × (length (now slots) ≡ connSlots) ⌝ }
+    ensures { λ r. ⌜ Decides r (Once (rowsIn (words (now (s .entry))) i a) (rowsIn (words (now (s .entry))) j b)) × (length (now (slots .exit)) ≡ connSlots) ⌝ }
+{
+    if marked_once(s, i, a, j, b, slots, mark) {
+        return true;
     }
     if !apart(s, i, a, j, b) {
         return false;
     }
-    if !apart(s, j, b, b, b) {
+    apart(s, j, b, b, b)
+}
+
+// Whether the rows i .. a and j .. b, which are those of one hash, are few, of distinct connections, and have one owner at most.
+fn group_fits(
+    s: &[u8],
+    i: usize,
+    a: usize,
+    j: usize,
+    b: usize,
+    slots: &mut [u64],
+    mark: u64,
+) -> bool
+    requires { ⌜ (i ≤ a) × (8 * (rowSize * a) ≤ length (now s)) × (j ≤ b) × (8 * (rowSize * b) ≤ length (now s)) × (length (now slots) ≡ connSlots) ⌝ }
+    ensures { λ r. ⌜ Decides r (GroupFits (rowsIn (words (now (s .entry))) i a) (rowsIn (words (now (s .entry))) j b)) × (length (now (slots .exit)) ≡ connSlots) ⌝ }
+{
+    if a - i + (b - j) > ALTERNATES {
+        return false;
+    }
+    if !conns_once(s, i, a, j, b, slots, mark) {
         return false;
     }
     owners(s, i, a) + owners(s, j, b) <= 1
@@ -122,13 +191,14 @@ pub fn groups_fit(s: &[u8], n: usize) -> bool
         hash: zero,
     };
     let m = regions::seek_row(s, n, first, false);
+    let mut slots: [u64; 1024] = [0; 1024];
     let mut i = 0;
     let mut j = m;
     while i + j < m + n {
         let h = least_hash(s, i, m, j, n);
         let a = run_end(s, i, m, h);
         let b = run_end(s, j, n, h);
-        if !group_fits(s, i, a, j, b) {
+        if !group_fits(s, i, a, j, b, &mut slots, (i + j + 1) as u64) {
             return false;
         }
         i = a;

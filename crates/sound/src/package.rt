@@ -1,7 +1,8 @@
 // The test of the package places: each written out by its words, fit, with its owner among the rows, ascending by hash.
 ghost use mathlib.Core.Path.{_≡_};
-ghost use Prim.Native.Nat.{_+_, _*_, _≤_};
+ghost use Prim.Native.Nat.{_+_, _*_, _≤_, _<_};
 ghost use lib.ListN.{length};
+ghost use mathlib.Core.Bool.{false};
 ghost use Rattle.words.specs.Words.{words, recs, Decides};
 ghost use Rattle.regions.specs.Rows.{rowSize, readRow, quadNumber};
 ghost use Rattle.places.specs.Places.{placeSize, listMost};
@@ -9,7 +10,7 @@ ghost use Rattle.machine.specs.Claim.{elem};
 ghost use Rattle.machine.specs.Sound.{NoRepeat};
 ghost use Rattle.store.specs.FlatSound.{countRows, ownsKey};
 ghost use Rattle.sound.specs.Rows.{RowsSound};
-ghost use Rattle.sound.specs.Places.{PlaceSound, PlacesSound, PlaceFollows, hashesIn, Padded, StagePlain};
+ghost use Rattle.sound.specs.Places.{PlaceSound, PlacesSound, PlaceFollows, hashesIn, Padded, StagePlain, foldOf, slotCount, slotOf};
 use super::group::owners;
 use super::group::run_end;
 
@@ -32,6 +33,11 @@ const KEPT: usize = 811;
 
 // Wtxids of a package at most, and parents of a request.
 const LIST: u64 = 100;
+
+// Slots in which `distinct` marks hashes, and a factor that spreads these.
+const SLOTS: u64 = 4096;
+
+const SPREAD: u64 = 0x1E37_79B1;
 
 // Whether two hashes are equal.
 pub fn same_hash(a: regions::Quad, b: regions::Quad) -> bool
@@ -67,18 +73,48 @@ fn has_hash(s: &[u8], a: usize, from: usize, to: usize, h: regions::Quad) -> boo
     false
 }
 
-// Whether the n hashes of the list that starts at the word a are distinct.
-fn distinct(s: &[u8], a: usize, n: usize) -> bool
-    requires { ⌜ 8 * (a + 4 * n) ≤ length (now s) ⌝ }
-    ensures { λ r. ⌜ Decides r (NoRepeat (hashesIn (words (now (s .entry))) a 0 n)) ⌝ }
+// A hash's words in one.
+fn fold(h: regions::Quad) -> u64
+    ensures { λ r. ⌜ r ≡ foldOf h ⌝ }
 {
-    let mut k = 0;
-    while k < n {
-        let h = regions::read_quad(s, a + k * 4);
-        if has_hash(s, a, k + 1, n, h) {
+    h.w0 ^ h.w1 ^ h.w2 ^ h.w3
+}
+
+// Where `distinct` marks a hash.
+fn slot(h: regions::Quad) -> usize
+    ensures { λ r. ⌜ (r ≡ slotOf (quadNumber h)) × (r < slotCount) ⌝ }
+{
+    let a = fold(h);
+    let b = a % 0x1_0000_0000 + a / 0x1_0000_0000;
+    (b * SPREAD / 0x10_0000 % SLOTS) as usize
+}
+
+// The same of an h that is not among them unless it is marked.
+fn has_marked(s: &[u8], a: usize, from: usize, to: usize, h: regions::Quad, marked: bool) -> bool
+    requires { ⌜ (from ≤ to) × (8 * (a + 4 * to) ≤ length (now s)) × (marked ≡ false → elem (quadNumber h) (hashesIn (words (now s)) a from to) ≡ false) ⌝ }
+    ensures { λ r. ⌜ r ≡ elem (quadNumber h) (hashesIn (words (now (s .entry))) a from to) ⌝ }
+{
+    if !marked {
+        return false;
+    }
+    has_hash(s, a, from, to, h)
+}
+
+// Whether the n hashes of the list that starts at the word a are distinct. The last comes first; a hash is compared with others only
+// if its slot has the mark already. Slots may have any content before: the mark should be new to them, else all are compared.
+fn distinct(s: &[u8], a: usize, n: usize, slots: &mut [u16], mark: u16) -> bool
+    requires { ⌜ (8 * (a + 4 * n) ≤ length (now s)) × (length (now slots) ≡ slotCount) ⌝ }
+    ensures { λ r. ⌜ Decides r (NoRepeat (hashesIn (words (now (s .entry))) a 0 n)) × (length (now (slots .exit)) ≡ slotCount) ⌝ }
+{
+    let mut k = n;
+    while 0 < k {
+        let h = regions::read_quad(s, a + (k - 1) * 4);
+        let x = slot(h);
+        if has_marked(s, a, k, n, h, slots[x] == mark) {
             return false;
         }
-        k += 1;
+        slots[x] = mark;
+        k -= 1;
     }
     true
 }
@@ -137,9 +173,9 @@ fn padded(p: &[u8], m: usize, n: usize) -> bool
 }
 
 // Whether the words of one place write it out, and it is fit.
-fn place_fits(p: &[u8], rows: &[u8], n: usize) -> bool
-    requires { ⌜ (length (now p) ≡ 8 * placeSize) × (8 * (rowSize * n) ≤ length (now rows)) ⌝ }
-    ensures { λ r. ⌜ (RowsSound (recs rowSize readRow n (words (now (rows .entry)))) → Decides r (PlaceSound (recs rowSize readRow n (words (now (rows .entry)))) (words (now (p .entry))))) ⌝ }
+fn place_fits(p: &[u8], rows: &[u8], n: usize, slots: &mut [u16], mark: u16) -> bool
+    requires { ⌜ (length (now p) ≡ 8 * placeSize) × (8 * (rowSize * n) ≤ length (now rows)) × (length (now slots) ≡ slotCount) ⌝ }
+    ensures { λ r. ⌜ (RowsSound (recs rowSize readRow n (words (now (rows .entry)))) → Decides r (PlaceSound (recs rowSize readRow n (words (now (rows .entry)))) (words (now (p .entry))))) × (length (now (slots .exit)) ≡ slotCount) ⌝ }
 {
     let stage = words::get(p, STAGE);
     let combined = regions::read_quad(p, COMBINED);
@@ -154,7 +190,7 @@ fn place_fits(p: &[u8], rows: &[u8], n: usize) -> bool
     if !padded(p, wtxids as usize, parents as usize) {
         return false;
     }
-    if !distinct(p, PARENTS, parents as usize) {
+    if !distinct(p, PARENTS, parents as usize, slots, mark) {
         return false;
     }
     is_owned(rows, n, regions::read_quad(p, 0))
@@ -178,12 +214,13 @@ pub fn places_fit(s: &[u8], q: usize, rows: &[u8], n: usize) -> bool
     requires { ⌜ (8 * (placeSize * q) ≤ length (now s)) × (8 * (rowSize * n) ≤ length (now rows)) ⌝ }
     ensures { λ r. ⌜ (RowsSound (recs rowSize readRow n (words (now (rows .entry)))) → Decides r (PlacesSound (recs rowSize readRow n (words (now (rows .entry)))) q (words (now (s .entry))))) ⌝ }
 {
+    let mut slots: [u16; 4096] = [0; 4096];
     let mut i = 0;
     while i < q {
         let a = i * PLACE;
         let x = a * 8;
         let y = (a + PLACE) * 8;
-        if !place_fits(&s[x..y], rows, n) {
+        if !place_fits(&s[x..y], rows, n, &mut slots, (i % 0xffff + 1) as u16) {
             return false;
         }
         if !place_follows(s, i) {

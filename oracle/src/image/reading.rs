@@ -261,15 +261,7 @@ fn requests(rows: Vec<Row>) -> Vec<Request> {
     let mut requests: Vec<Request> = Vec::new();
     for row in rows {
         if requests.last().is_none_or(|last| last.key != row.key) {
-            requests.push(Request {
-                key: row.key,
-                candidates: Vec::new(),
-                owner: None,
-                package_info: false,
-                package: None,
-                parents: Vec::new(),
-                fallback: row.mark,
-            });
+            requests.push(Request::new(row.key, row.mark));
         }
         let request = requests.last_mut().expect("pushed above if there was none");
         let connection = row.candidate.connection;

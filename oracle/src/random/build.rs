@@ -112,15 +112,7 @@ impl Build<'_> {
         let candidate = Candidate { connection, item, ready, preferred: self.rng.one_in(2), priority };
         let key = item.key().expect("one of the three kinds");
         let fallback = key.kind == Kind::Txid && self.rng.one_in(2);
-        let request = self.requests.entry(key).or_insert(Request {
-            key,
-            candidates: Vec::new(),
-            owner: None,
-            package_info: false,
-            package: None,
-            parents: Vec::new(),
-            fallback,
-        });
+        let request = self.requests.entry(key).or_insert(Request::new(key, fallback));
         request.candidates.push(candidate);
         true
     }

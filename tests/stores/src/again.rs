@@ -69,15 +69,7 @@ fn put_row(bytes: &[u8], at: usize, requests: &mut BTreeMap<Key, Request>) {
         _ => Item::Transaction(hash),
     };
     let key = item.key().expect("one of the three kinds");
-    let request = requests.entry(key).or_insert(Request {
-        key,
-        candidates: Vec::new(),
-        owner: None,
-        package_info: false,
-        package: None,
-        parents: Vec::new(),
-        fallback: has(row::MARK),
-    });
+    let request = requests.entry(key).or_insert(Request::new(key, has(row::MARK)));
     let [connection, ready, priority, deadline] =
         [row::CONNECTION, row::READY, row::PRIORITY, row::DEADLINE].map(|field| word(bytes, at + field));
     request.candidates.push(Candidate { connection, item, ready, preferred: has(row::PREFERRED), priority });

@@ -70,15 +70,8 @@ fn of_one(state: &mut State, rng: &mut Rng, count: u64, owned: u64) -> bool {
 
 fn request(key: Key, connection: u64) -> Request {
     let item = if key == Key::wtxid(key.hash) { Item::WTx(key.hash) } else { Item::Transaction(key.hash) };
-    Request {
-        key,
-        candidates: vec![Candidate { connection, item, ready: 0, preferred: false, priority: 0 }],
-        owner: None,
-        package_info: false,
-        package: None,
-        parents: Vec::new(),
-        fallback: false,
-    }
+    let candidates = vec![Candidate { connection, item, ready: 0, preferred: false, priority: 0 }];
+    Request { candidates, ..Request::new(key, false) }
 }
 
 fn one<'a>(state: &'a mut State, rng: &mut Rng, of: impl Fn(&Request) -> bool) -> Option<&'a mut Request> {

@@ -1,24 +1,41 @@
 use borrow.Author.Needs.{needs}
-use mathlib.Core.Path.{sym, _∙_}
-use Rattle.sound.proofs.Rows.{follows-less, follows-not, follows-mark}
+use native.Mathlib.Omega.{arith}
+use mathlib.Core.Path.{ap, _∙_}
+use mathlib.Core.Bool.{Bool}
+use Rattle.words.specs.Words.{Decides}
+use Rattle.sound.specs.Rows.{Follows, isAhead}
+use Rattle.sound.proofs.Ahead.{ahead-follows}
 use Rattle.sound.proofs.candidate.follows.Statement.{statement}
 use Rattle.sound.proofs.candidate.follows.Tie as tie
 
-key-less-requires : tie.Need-key-less-requires
-key-less-requires c κs = search needs
+ahead-requires : tie.Need-ahead-requires
+ahead-requires c κs = search needs
+
+ahead-requires-2 : tie.Need-ahead-requires-2
+ahead-requires-2 c κs = search needs
+
+ahead-requires-3 : tie.Need-ahead-requires-3
+ahead-requires-3 c κs = search needs
+
+ahead-requires-4 : tie.Need-ahead-requires-4
+ahead-requires-4 c κs = search needs
+
+ahead-requires-5 : tie.Need-ahead-requires-5
+ahead-requires-5 c κs = search needs
 
 returns : tie.Need-returns
-returns c = follows-less (c .before .before .before .before .before .before .args .p) (c .before .before .before .before .before .before .args .r) (sym (c .before .key-less .ensures) ∙ c .if1 .taken)
-
-key-less-requires-2 : tie.Need-key-less-requires-2
-key-less-requires-2 c κs = search needs
-
-returns-2 : tie.Need-returns-2
-returns-2 c = follows-not (c .before .before .before .before .before .before .before .before .args .p) (c .before .before .before .before .before .before .before .before .args .r) (sym (c .before .key-less2 .ensures) ∙ c .if2 .taken)
-
-returns-3 : tie.Need-returns-3
-returns-3 c = follows-mark (c .before .before .before .before .before .before .before .before .before .before .args .p) (c .before .before .before .before .before .before .before .before .before .before .args .r) (sym (c .before .before .before .before .before .key-less .ensures) ∙ c .before .before .before .before .if1 .left) (sym (c .before .before .before .key-less2 .ensures) ∙ c .before .before .if2 .left)
+returns c =
+    let p = c .before .before .before .before .before .before .before .before .before .before .before .args .p in
+    let r = c .before .before .before .before .before .before .before .before .before .before .before .args .r in
+    rw (c .ahead5 .ensures, c .before .before .before .ahead4 .ensures, c .before .before .before .before .ahead3 .ensures, c .before .before .before .before .before .ahead2 .ensures, c .before .before .before .before .before .before .ahead .ensures) (ahead-follows p r (record { w0 = omega arith; w1 = omega arith; w2 = omega arith; w3 = omega arith }) (record { w0 = omega arith; w1 = omega arith; w2 = omega arith; w3 = omega arith }))
 
 pub follows-spec : {M : Type 1} → statement M
 follows-spec =
-    tie.close (tie.spec key-less-requires returns key-less-requires-2 returns-2 returns-3)
+    tie.close
+    (tie.spec
+    ahead-requires
+    ahead-requires-2
+    ahead-requires-3
+    ahead-requires-4
+    ahead-requires-5
+    returns)

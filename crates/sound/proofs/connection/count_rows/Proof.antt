@@ -1,7 +1,9 @@
 use borrow.Author.Needs.{needs}
 use native.Mathlib.Omega.{arith}
 use Prim.Native.Nat.{_-_, _≤_, _<_}
-use mathlib.Core.Path.{_≡_}
+use mathlib.Core.Path.{_≡_, _∙_}
+use mathlib.Core.Bool.{true, false}
+use borrow.Author.Tests.{not-true, not-false}
 use lib.ListN.{length}
 use Rattle.words.specs.Words.{recs, words}
 use Rattle.regions.specs.Rows.{rowSize, readRow}
@@ -12,51 +14,39 @@ use Rattle.sound.proofs.connection.count_rows.Statement.{statement}
 use Rattle.sound.proofs.connection.count_rows.Tie as tie
 
 abbrev Inv-loop : tie.InvT-loop
-Inv-loop rows n conns c lo t₀ guess₀ i₀ t guess i = (i ≤ n) × (length t ≡ length t₀) × Tallied (names c (words conns)) (recs rowSize readRow i (words rows)) lo t
+Inv-loop rows n conns c lo t₀ guess mask done last i₀ t i = (i ≤ n) × (length t ≡ length t₀) × Tallied (names c (words conns)) (recs rowSize readRow i (words rows)) done last lo t
 
 abbrev μ-loop : tie.MeasureT-loop
-μ-loop rows n conns c lo t₀ guess₀ i₀ t guess i = n - i
+μ-loop rows n conns c lo t₀ guess mask done last i₀ t i = n - i
 
 loop-holds : tie.Need-loop-holds Inv-loop μ-loop
-loop-holds c = (omega arith, search needs, tallied-none (names (c .before .before .before .args .c) (words (c .before .before .before .args .conns .now))) (words (c .before .before .before .args .rows .now)) (c .before .before .before .args .lo) (c .before .before .before .args .t .now) (c .before .before .before .pre .4))
+loop-holds c =
+    let a = c .before .before .before .before .args in
+    (omega arith, search needs, tallied-none (names (a .c) (words (a .conns .now))) (words (a .rows .now)) (a .done) (a .last) (a .lo) (a .t .now) (c .before .before .before .before .pre .4))
 
 read-row-requires : tie.Need-read-row-requires Inv-loop μ-loop
 read-row-requires c κs = search needs
 
-mul-find-entry : tie.Need-mul-find-entry Inv-loop μ-loop
-mul-find-entry c = search needs
+mul-take-row : tie.Need-mul-take-row Inv-loop μ-loop
+mul-take-row c = search needs
 
-array-read-find-entry : tie.Need-array-read-find-entry Inv-loop μ-loop
-array-read-find-entry c = search needs
+add-take-row : tie.Need-add-take-row Inv-loop μ-loop
+add-take-row c = search needs
 
-find-entry-requires : tie.Need-find-entry-requires Inv-loop μ-loop
-find-entry-requires c κs = search needs
+take-row-requires : tie.Need-take-row-requires Inv-loop μ-loop
+take-row-requires c κs =
+    let a = c .before .before .before .before .before .before .before .before .before .args in
+    let v = words (a .conns .now) in
+    (c .before .before .before .before .before .before .before .before .before .pre .1, c .before .before .before .before .before .before .before .before .before .pre .3, c .before .before .before .before .before .before .before .before .before .pre .5, c .before .before .before .before .before .before .before .before .before .pre .6, (λ j h l. c .before .before .before .before .before .before .before .before .before .pre .7 j (omega (arith, c .before .before .before .before .loop .inv .1)) l), λ j h l. tallied-small (names (a .c) v) (words (a .rows .now)) (a .done) (a .last) (a .lo) (c .before .before .before .before .loop .i) (c .before .before .before .before .loop .t) (c .before .before .read-row .result) (omega arith) (c .before .before .before .before .loop .inv .2) j h (omega (arith, length-names (a .c) v)))
 
 same-length : tie.Need-same-length Inv-loop μ-loop
 same-length c = search needs
 
 returns : tie.Need-returns Inv-loop μ-loop
 returns c =
-    let ks = names (c .before .before .before .before .before .before .before .before .before .args .c) (words (c .before .before .before .before .before .before .before .before .before .args .conns .now)) in
-    (tallied-stop ks (words (c .before .before .before .before .before .before .before .before .before .args .rows .now)) (c .before .before .before .before .before .before .before .before .before .args .n) (c .before .before .before .before .before .loop .i) (c .before .before .before .read-row .result) (omega arith) (c .before .before .before .read-row .ensures .words-are) (c .before .find-entry .ensures .absent (omega arith) (c .before .before .before .before .before .before .before .before .before .pre .3)), search needs)
-
-mul-guess : tie.Need-mul-guess Inv-loop μ-loop
-mul-guess c = search needs
-
-array-write-guess : tie.Need-array-write-guess Inv-loop μ-loop
-array-write-guess c = search needs
-
-mul-bump : tie.Need-mul-bump Inv-loop μ-loop
-mul-bump c = search needs
-
-add-bump : tie.Need-add-bump Inv-loop μ-loop
-add-bump c = search needs
-
-bump-requires : tie.Need-bump-requires Inv-loop μ-loop
-bump-requires c κs =
-    let v = words (c .before .before .before .before .before .before .before .before .before .before .before .args .conns .now) in
-    let ks = names (c .before .before .before .before .before .before .before .before .before .before .before .args .c) v in
-    tallied-small ks (words (c .before .before .before .before .before .before .before .before .before .before .before .args .rows .now)) (c .before .before .before .before .before .before .before .before .before .before .before .args .lo) (c .before .before .before .before .before .before .before .loop .i) (c .before .before .before .find-entry .result) (c .before .before .before .before .before .before .before .loop .t) (c .before .before .before .before .before .read-row .result) (omega arith) (omega (arith, length-names (c .before .before .before .before .before .before .before .before .before .before .before .args .c) v)) (c .before .before .before .before .before .before .before .loop .inv .2)
+    let a = c .before .before .before .before .before .before .before .before .before .before .before .before .before .args in
+    let e : c .before .before .before .take-row .result ≡ false = not-true _ (c .if1 .taken) in
+    (tallied-stop (names (a .c) (words (a .conns .now))) (words (a .rows .now)) (a .done) (a .last) (a .lo) (a .n) (c .before .before .before .before .before .before .before .before .loop .i) (c .before .before .before .before .before .before .read-row .result) (omega arith) (c .before .before .before .before .before .before .read-row .ensures .words-are) (rw e at (c .before .before .before .take-row .ensures .0)), c .before .before .before .take-row .ensures .1 ∙ c .before .before .before .before .before .before .before .before .loop .inv .1)
 
 add-i : tie.Need-add-i Inv-loop μ-loop
 add-i c = search needs
@@ -66,16 +56,17 @@ loop-less c = search needs
 
 loop-again : tie.Need-loop-again Inv-loop μ-loop
 loop-again c =
-    let v = words (c .before .before .before .before .before .before .before .before .before .before .before .before .before .before .args .conns .now) in
-    let ks = names (c .before .before .before .before .before .before .before .before .before .before .before .before .before .before .args .c) v in
-    (search needs, search needs, tallied-turn ks (words (c .before .before .before .before .before .before .before .before .before .before .before .before .before .before .args .rows .now)) (c .before .before .before .before .before .before .before .before .before .before .before .before .before .before .args .lo) (c .before .before .before .before .before .before .before .before .before .before .loop .i) (c .before .before .before .before .before .before .find-entry .result) (c .before .before .before .before .before .before .before .before .before .before .loop .t) _ (c .before .before .before .before .before .before .before .before .read-row .result) (c .before .before .before .before .before .before .before .before .before .before .before .before .before .before .pre .3) (c .before .before .before .before .before .before .before .before .read-row .ensures .words-are) (omega (arith, length-names (c .before .before .before .before .before .before .before .before .before .before .before .before .before .before .args .c) v)) (c .before .before .before .before .before .before .find-entry .ensures .found (omega arith)) (c .before .before .before .before .before .before .before .before .before .before .loop .inv .2) (c .before .before .bump .ensures))
+    let a = c .before .before .before .before .before .before .before .before .before .before .before .before .before .args in
+    let v = words (a .conns .now) in
+    let e : c .before .before .before .take-row .result ≡ true = not-false _ (c .if1 .left) in
+    (search needs, c .before .before .before .take-row .ensures .1 ∙ c .before .before .before .before .before .before .before .before .loop .inv .1, tallied-turn (names (a .c) v) (words (a .rows .now)) (a .done) (a .last) (a .lo) (c .before .before .before .before .before .before .before .before .loop .i) (c .before .before .before .before .before .before .before .before .loop .t) _ (c .before .before .before .before .before .before .read-row .result) (c .before .before .before .before .before .before .read-row .ensures .words-are) (c .before .before .before .before .before .before .before .before .loop .inv .2) (rw e at (c .before .before .before .take-row .ensures .0)))
 
 same-length-2 : tie.Need-same-length-2 Inv-loop μ-loop
 same-length-2 c = search needs
 
 returns-2 : tie.Need-returns-2 Inv-loop μ-loop
 returns-2 c =
-    let e : c .before .loop .i ≡ c .before .before .before .before .before .args .n = omega arith in
+    let e : c .before .loop .i ≡ c .before .before .before .before .before .before .args .n = omega arith in
     (rw e at (c .before .loop .inv .2), search needs)
 
 pub count-rows-spec : {M : Type 1} → statement M
@@ -86,16 +77,11 @@ count-rows-spec =
     μ-loop
     loop-holds
     read-row-requires
-    mul-find-entry
-    array-read-find-entry
-    find-entry-requires
+    mul-take-row
+    add-take-row
+    take-row-requires
     same-length
     returns
-    mul-guess
-    array-write-guess
-    mul-bump
-    add-bump
-    bump-requires
     add-i
     loop-less
     loop-again

@@ -2,26 +2,26 @@ use borrow.Author.Needs.{needs}
 use native.Mathlib.Omega.{arith}
 use Prim.Native.Nat.{ℕ, _*_, _-_, _≤_, _<_}
 use mathlib.Core.Path.{_≡_}
-use lib.ListN.{length}
+use lib.ListN.{length, length-replicate}
 use Rattle.words.specs.Words.{words, recs, Decides}
 use Rattle.words.proofs.Words.{length-words}
 use Rattle.regions.specs.Rows.{rowSize, readRow}
 use Rattle.places.specs.Places.{placeSize}
 use Rattle.sound.specs.Rows.{RowsSound}
-use Rattle.sound.specs.Places.{PlaceSound, placeAt, PlaceFollows}
+use Rattle.sound.specs.Places.{PlaceSound, placeAt, PlaceFollows, slotCount}
 use Rattle.sound.proofs.Decide.{passed, failed}
 use Rattle.sound.proofs.PlaceWalk.{places-made, place-of, follow-iff, below-more, place-lent}
 use Rattle.sound.proofs.package.places_fit.Statement.{statement}
 use Rattle.sound.proofs.package.places_fit.Tie as tie
 
 abbrev Inv-loop : tie.InvT-loop
-Inv-loop s q rows n i₀ i = (i ≤ q) × (RowsSound (recs rowSize readRow n (words rows)) → (k : ℕ) → k < i → PlaceSound (recs rowSize readRow n (words rows)) (placeAt (words s) k)) × ((k : ℕ) → k < i → PlaceFollows (words s) k)
+Inv-loop s q rows n slots₀ i₀ slots i = (length slots ≡ slotCount) × (i ≤ q) × (RowsSound (recs rowSize readRow n (words rows)) → (k : ℕ) → k < i → PlaceSound (recs rowSize readRow n (words rows)) (placeAt (words s) k)) × ((k : ℕ) → k < i → PlaceFollows (words s) k)
 
 abbrev μ-loop : tie.MeasureT-loop
-μ-loop s q rows n i₀ i = q - i
+μ-loop s q rows n slots₀ i₀ slots i = q - i
 
 loop-holds : tie.Need-loop-holds Inv-loop μ-loop
-loop-holds c = (omega arith, (λ r k h. absurd (omega arith)), λ k h. absurd (omega arith))
+loop-holds c = (length-replicate {A = ℕ} slotCount 0, omega arith, (λ r k h. absurd (omega arith)), λ k h. absurd (omega arith))
 
 mul-a : tie.Need-mul-a Inv-loop μ-loop
 mul-a c = search needs
@@ -44,26 +44,35 @@ part-place-fits-start c = search needs
 part-place-fits-end : tie.Need-part-place-fits-end Inv-loop μ-loop
 part-place-fits-end c = search needs
 
+slice-aggregate-place-fits : tie.Need-slice-aggregate-place-fits Inv-loop μ-loop
+slice-aggregate-place-fits c = search needs
+
+add-place-fits : tie.Need-add-place-fits Inv-loop μ-loop
+add-place-fits c = search needs
+
+cast-place-fits : tie.Need-cast-place-fits Inv-loop μ-loop
+cast-place-fits c = search needs
+
 place-fits-requires : tie.Need-place-fits-requires Inv-loop μ-loop
-place-fits-requires c κs = search needs
+place-fits-requires c κs = (omega arith, search needs, c .before .before .before .loop .inv .0)
 
 returns : tie.Need-returns Inv-loop μ-loop
 returns c =
-    let w = words (c .before .before .before .before .before .before .before .args .s .now) in
-    let rs = recs rowSize readRow (c .before .before .before .before .before .before .before .args .n) (words (c .before .before .before .before .before .before .before .args .rows .now)) in
-    let h : placeSize * c .before .before .before .before .before .before .before .args .q ≤ length w = omega (arith, length-words (c .before .before .before .before .before .before .before .args .s .now)) in
-    λ r z. let d : Decides (c .before .place-fits .result) (PlaceSound rs (placeAt w (c .before .before .before .before .loop .i))) = rw (place-lent (c .before .before .before .before .before .before .before .args .s .now) (c .before .before .before .before .loop .i) (omega arith)) at (c .before .place-fits .ensures r) in
-    failed (PlaceSound rs (placeAt w (c .before .before .before .before .loop .i))) (c .before .place-fits .result) (c .if1 .taken) d (place-of rs (c .before .before .before .before .before .before .before .args .q) w h z (c .before .before .before .before .loop .i) (omega arith))
+    let w = words (c .before .before .before .before .before .before .before .before .before .args .s .now) in
+    let rs = recs rowSize readRow (c .before .before .before .before .before .before .before .before .before .args .n) (words (c .before .before .before .before .before .before .before .before .before .args .rows .now)) in
+    let h : placeSize * c .before .before .before .before .before .before .before .before .before .args .q ≤ length w = omega (arith, length-words (c .before .before .before .before .before .before .before .before .before .args .s .now)) in
+    λ r z. let d : Decides (c .before .before .place-fits .result) (PlaceSound rs (placeAt w (c .before .before .before .before .before .before .loop .i))) = rw (place-lent (c .before .before .before .before .before .before .before .before .before .args .s .now) (c .before .before .before .before .before .before .loop .i) (omega arith)) at (c .before .before .place-fits .ensures .0 r) in
+    failed (PlaceSound rs (placeAt w (c .before .before .before .before .before .before .loop .i))) (c .before .before .place-fits .result) (c .if1 .taken) d (place-of rs (c .before .before .before .before .before .before .before .before .before .args .q) w h z (c .before .before .before .before .before .before .loop .i) (omega arith))
 
 place-follows-requires : tie.Need-place-follows-requires Inv-loop μ-loop
 place-follows-requires c κs = search needs
 
 returns-2 : tie.Need-returns-2 Inv-loop μ-loop
 returns-2 c =
-    let w = words (c .before .before .before .before .before .before .before .before .before .args .s .now) in
-    let rs = recs rowSize readRow (c .before .before .before .before .before .before .before .before .before .args .n) (words (c .before .before .before .before .before .before .before .before .before .args .rows .now)) in
-    let h : placeSize * c .before .before .before .before .before .before .before .before .before .args .q ≤ length w = omega (arith, length-words (c .before .before .before .before .before .before .before .before .before .args .s .now)) in
-    λ r z. failed (PlaceFollows w (c .before .before .before .before .before .before .loop .i)) (c .before .place-follows .result) (c .if2 .taken) (c .before .place-follows .ensures) (follow-iff (c .before .before .before .before .before .before .before .before .before .args .q) w .from (z .ascend) (c .before .before .before .before .before .before .loop .i) (omega arith))
+    let w = words (c .before .before .before .before .before .before .before .before .before .before .before .args .s .now) in
+    let rs = recs rowSize readRow (c .before .before .before .before .before .before .before .before .before .before .before .args .n) (words (c .before .before .before .before .before .before .before .before .before .before .before .args .rows .now)) in
+    let h : placeSize * c .before .before .before .before .before .before .before .before .before .before .before .args .q ≤ length w = omega (arith, length-words (c .before .before .before .before .before .before .before .before .before .before .before .args .s .now)) in
+    λ r z. failed (PlaceFollows w (c .before .before .before .before .before .before .before .before .loop .i)) (c .before .place-follows .result) (c .if2 .taken) (c .before .place-follows .ensures) (follow-iff (c .before .before .before .before .before .before .before .before .before .before .before .args .q) w .from (z .ascend) (c .before .before .before .before .before .before .before .before .loop .i) (omega arith))
 
 add-i : tie.Need-add-i Inv-loop μ-loop
 add-i c = search needs
@@ -73,10 +82,10 @@ loop-less c = search needs
 
 loop-again : tie.Need-loop-again Inv-loop μ-loop
 loop-again c =
-    let w = words (c .before .before .before .before .before .before .before .before .before .args .s .now) in
-    let rs = recs rowSize readRow (c .before .before .before .before .before .before .before .before .before .args .n) (words (c .before .before .before .before .before .before .before .before .before .args .rows .now)) in
-    let h : placeSize * c .before .before .before .before .before .before .before .before .before .args .q ≤ length w = omega (arith, length-words (c .before .before .before .before .before .before .before .before .before .args .s .now)) in
-    (search needs, (λ r. let d : Decides (c .before .before .before .place-fits .result) (PlaceSound rs (placeAt w (c .before .before .before .before .before .before .loop .i))) = rw (place-lent (c .before .before .before .before .before .before .before .before .before .args .s .now) (c .before .before .before .before .before .before .loop .i) (omega arith)) at (c .before .before .before .place-fits .ensures r) in below-more (λ k. PlaceSound rs (placeAt w k)) (c .before .before .before .before .before .before .loop .i) (c .before .before .before .before .before .before .loop .inv .1 r) (passed (PlaceSound rs (placeAt w (c .before .before .before .before .before .before .loop .i))) (c .before .before .before .place-fits .result) (c .before .before .if1 .left) d)), below-more (λ k. PlaceFollows w k) (c .before .before .before .before .before .before .loop .i) (c .before .before .before .before .before .before .loop .inv .2) (passed (PlaceFollows w (c .before .before .before .before .before .before .loop .i)) (c .before .place-follows .result) (c .if2 .left) (c .before .place-follows .ensures)))
+    let w = words (c .before .before .before .before .before .before .before .before .before .before .before .args .s .now) in
+    let rs = recs rowSize readRow (c .before .before .before .before .before .before .before .before .before .before .before .args .n) (words (c .before .before .before .before .before .before .before .before .before .before .before .args .rows .now)) in
+    let h : placeSize * c .before .before .before .before .before .before .before .before .before .before .before .args .q ≤ length w = omega (arith, length-words (c .before .before .before .before .before .before .before .before .before .before .before .args .s .now)) in
+    (c .before .before .before .before .place-fits .ensures .1, search needs, (λ r. let d : Decides (c .before .before .before .before .place-fits .result) (PlaceSound rs (placeAt w (c .before .before .before .before .before .before .before .before .loop .i))) = rw (place-lent (c .before .before .before .before .before .before .before .before .before .before .before .args .s .now) (c .before .before .before .before .before .before .before .before .loop .i) (omega arith)) at (c .before .before .before .before .place-fits .ensures .0 r) in below-more (λ k. PlaceSound rs (placeAt w k)) (c .before .before .before .before .before .before .before .before .loop .i) (c .before .before .before .before .before .before .before .before .loop .inv .2 r) (passed (PlaceSound rs (placeAt w (c .before .before .before .before .before .before .before .before .loop .i))) (c .before .before .before .before .place-fits .result) (c .before .before .if1 .left) d)), below-more (λ k. PlaceFollows w k) (c .before .before .before .before .before .before .before .before .loop .i) (c .before .before .before .before .before .before .before .before .loop .inv .3) (passed (PlaceFollows w (c .before .before .before .before .before .before .before .before .loop .i)) (c .before .place-follows .result) (c .if2 .left) (c .before .place-follows .ensures)))
 
 returns-3 : tie.Need-returns-3 Inv-loop μ-loop
 returns-3 c =
@@ -84,7 +93,7 @@ returns-3 c =
     let rs = recs rowSize readRow (c .before .before .before .before .args .n) (words (c .before .before .before .before .args .rows .now)) in
     let h : placeSize * c .before .before .before .before .args .q ≤ length w = omega (arith, length-words (c .before .before .before .before .args .s .now)) in
     let e : c .before .loop .i ≡ c .before .before .before .before .args .q = omega arith in
-    λ r. places-made rs (c .before .before .before .before .args .q) w h (λ k l. c .before .loop .inv .1 r k (omega arith)) (λ k l. c .before .loop .inv .2 k (omega arith))
+    λ r. places-made rs (c .before .before .before .before .args .q) w h (λ k l. c .before .loop .inv .2 r k (omega arith)) (λ k l. c .before .loop .inv .3 k (omega arith))
 
 pub places-fit-spec : {M : Type 1} → statement M
 places-fit-spec =
@@ -100,6 +109,9 @@ places-fit-spec =
     sub-place-fits
     part-place-fits-start
     part-place-fits-end
+    slice-aggregate-place-fits
+    add-place-fits
+    cast-place-fits
     place-fits-requires
     returns
     place-follows-requires

@@ -1,0 +1,12 @@
+use borrow.Author.Needs.{needs}
+use native.Mathlib.Omega.{arith}
+use mathlib.Core.Path.{refl}
+use Rattle.sound.specs.Places.{foldOf}
+use Rattle.sound.proofs.package.fold.Statement.{statement}
+use Rattle.sound.proofs.package.fold.Tie as tie
+
+returns : tie.Need-returns
+returns c = unfold foldOf in refl
+
+pub fold-spec : {M : Type 1} → statement M
+fold-spec = tie.close (tie.spec returns)

@@ -1,0 +1,17 @@
+use borrow.Author.Needs.{needs}
+use mathlib.Core.Path.{sym}
+use borrow.Author.Tests.{not-true}
+use Rattle.sound.proofs.package.has_marked.Statement.{statement}
+use Rattle.sound.proofs.package.has_marked.Tie as tie
+
+returns : tie.Need-returns
+returns c = sym (c .before .before .pre .2 (not-true _ (c .if1 .taken)))
+
+has-hash-requires : tie.Need-has-hash-requires
+has-hash-requires c κs = search needs
+
+returns-2 : tie.Need-returns-2
+returns-2 c = search needs
+
+pub has-marked-spec : {M : Type 1} → statement M
+has-marked-spec = tie.close (tie.spec returns has-hash-requires returns-2)

@@ -1,0 +1,26 @@
+use borrow.Author.Needs.{needs}
+use native.Mathlib.Omega.{arith}
+use Prim.Native.Nat.{ℕ, _+_, _*_, _/_, _%_}
+use mathlib.Core.Path.{_≡_, sym, ap, _∙_}
+use Rattle.regions.specs.Rows.{quadNumber, quadOf}
+use Rattle.sound.specs.Places.{foldOf, slotCount}
+use Rattle.store.proofs.Quads.{quad-number}
+use Rattle.sound.proofs.package.slot.Statement.{statement}
+use Rattle.sound.proofs.package.slot.Tie as tie
+
+fold-requires : tie.Need-fold-requires
+fold-requires c κs = search needs
+
+add-b : tie.Need-add-b
+add-b c = omega arith
+
+mul-result : tie.Need-mul-result
+mul-result c = omega arith
+
+returns : tie.Need-returns
+returns c =
+    let f : c .fold .result ≡ foldOf (quadOf (quadNumber (c .before .args .h))) = c .fold .ensures ∙ ap foldOf (sym (quad-number (c .before .args .h) (record { w0 = omega arith; w1 = omega arith; w2 = omega arith; w3 = omega arith }))) in
+    (ap (λ (x : ℕ). (x % 4294967296 + x / 4294967296) * 506952113 / 1048576 % slotCount) f, omega arith)
+
+pub slot-spec : {M : Type 1} → statement M
+slot-spec = tie.close (tie.spec fold-requires add-b mul-result returns)

@@ -1,0 +1,188 @@
+//! Named profiles: the sizes, states and values that a run draws from.
+
+use oracle::calls::{Hash, Kind};
+use oracle::random::{self, Rng, Shape};
+use oracle::sound::MAX_OF_CONNECTION;
+use oracle::state::State;
+
+/// Hashes of a run: any, or equal in all words but one.
+#[derive(Clone, Copy)]
+pub enum Hashes {
+    Any,
+    HighWord,
+    LowWord,
+}
+
+/// What the store holds before the first call.
+#[derive(Clone, Copy)]
+pub enum Start {
+    /// Any bytes, which the run opens first.
+    Opened,
+    /// Any sound state, owners, marks and packages among it.
+    Any,
+    /// L held, or a few less.
+    Full,
+    /// L held, all unpreferred and unowned, every Txid request marked.
+    Marked,
+    /// One connection with 5,000, or as many as fit, or a few less.
+    OneConnection,
+}
+
+pub struct Profile {
+    pub name: &'static str,
+    pub sizes: &'static [(u64, u64)],
+    pub start: Start,
+    pub hashes: Hashes,
+    /// How many hashes and connections there are to draw from beside those of the state.
+    pub width: usize,
+    pub connections: usize,
+    /// Priorities are below this; any 64 bits if it is 0.
+    pub priorities: u64,
+    pub calls: u64,
+    /// Stores at which a call takes long: one run of each size in a round.
+    pub large: bool,
+}
+
+const SMALL: Profile = Profile {
+    name: "few of each, L reached",
+    sizes: &[(1, 1), (2, 1), (3, 2), (8, 1), (9, 1)],
+    start: Start::Opened,
+    hashes: Hashes::Any,
+    width: 6,
+    connections: 5,
+    priorities: 3,
+    calls: 150,
+    large: false,
+};
+
+const LARGE: Profile = Profile {
+    name: "L = 100,000",
+    sizes: &[(100_000, 1), (100_000, 16)],
+    start: Start::Full,
+    hashes: Hashes::Any,
+    width: 20,
+    connections: 20,
+    priorities: 0,
+    calls: 30,
+    large: true,
+};
+
+pub const PROFILES: &[Profile] = &[
+    SMALL,
+    Profile { name: "few of each, any state", start: Start::Any, ..SMALL },
+    Profile {
+        name: "the first calls on few of each, marked",
+        sizes: &[(1, 1), (2, 1), (3, 1)],
+        start: Start::Marked,
+        width: 1,
+        connections: 3,
+        calls: 8,
+        ..SMALL
+    },
+    Profile {
+        name: "more than eight connections at two hashes",
+        sizes: &[(9, 1), (40, 1), (100, 2)],
+        width: 2,
+        connections: 14,
+        calls: 300,
+        ..SMALL
+    },
+    Profile {
+        name: "hashes that differ in the lowest word",
+        sizes: &[(8, 1), (9, 2), (30, 1)],
+        hashes: Hashes::LowWord,
+        priorities: 2,
+        ..SMALL
+    },
+    Profile {
+        name: "hashes that differ in the highest word",
+        sizes: &[(8, 1), (9, 2), (30, 1)],
+        hashes: Hashes::HighWord,
+        priorities: 1,
+        ..SMALL
+    },
+    Profile {
+        name: "any values",
+        sizes: &[(6, 1), (30, 2), (100, 3)],
+        start: Start::Any,
+        width: 30,
+        connections: 10,
+        priorities: 0,
+        ..SMALL
+    },
+    Profile {
+        name: "full, any values",
+        sizes: &[(9, 1), (60, 1), (100, 2)],
+        start: Start::Full,
+        width: 12,
+        connections: 12,
+        ..SMALL
+    },
+    LARGE,
+    Profile { name: "L = 10,000", sizes: &[(10_000, 1), (10_000, 3)], priorities: 3, calls: 150, ..LARGE },
+    Profile {
+        name: "one connection, L = 10,000",
+        sizes: &[(10_000, 1)],
+        start: Start::OneConnection,
+        calls: 100,
+        ..LARGE
+    },
+    Profile {
+        name: "one connection, L = 4,999 to 5,001",
+        sizes: &[(4_999, 1), (5_000, 1), (5_001, 2)],
+        start: Start::OneConnection,
+        connections: 10,
+        priorities: 3,
+        calls: 150,
+        ..LARGE
+    },
+];
+
+impl Profile {
+    pub fn state(&self, rng: &mut Rng, l: u64, q: u64) -> State {
+        let less = rng.below(4);
+        let shape = Shape {
+            l,
+            q,
+            held: l.saturating_sub(less),
+            places: rng.below(q + 1),
+            connections: rng.pick(&[12, 60, 600]),
+            spread: 4,
+            owned: 3,
+            list: None,
+        };
+        let shape = match self.start {
+            Start::Opened => Shape { held: 0, ..shape },
+            Start::Any => Shape::any(rng, l, q),
+            Start::Full => shape,
+            Start::Marked => Shape { held: l, places: 0, ..shape },
+            Start::OneConnection => {
+                Shape { held: l.min(MAX_OF_CONNECTION) - less, connections: 1, spread: 1, ..shape }
+            }
+        };
+        let mut state = random::state(rng, shape);
+        if matches!(self.start, Start::Marked) {
+            mark(&mut state);
+        }
+        state
+    }
+
+    pub fn hash(&self, rng: &mut Rng) -> Hash {
+        let mut hash = Hash([0x77; 32]);
+        let word = match self.hashes {
+            Hashes::Any => return rng.hash(),
+            Hashes::HighWord => &mut hash.0[24..],
+            Hashes::LowWord => &mut hash.0[..8],
+        };
+        word.copy_from_slice(&rng.word().to_le_bytes());
+        hash
+    }
+}
+
+fn mark(state: &mut State) {
+    for request in &mut state.requests {
+        request.owner = None;
+        request.fallback = request.key.kind == Kind::Txid;
+        request.candidates.iter_mut().for_each(|candidate| candidate.preferred = false);
+    }
+}

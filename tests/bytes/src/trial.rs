@@ -1,0 +1,169 @@
+//! One store under a run of calls, each on both sides and compared.
+
+use oracle::Machine;
+use oracle::calls::{Call, Reply};
+use oracle::image::{WORD, image, need, read};
+use oracle::sound::assert_sound;
+use oracle::state::State;
+
+use crate::ask::{Answer, Ask};
+use crate::names;
+use crate::oracles;
+use crate::reference::Reference;
+use crate::tally::Tally;
+
+/// A library: the call on the bytes, which it may change.
+pub type Library<'a> = &'a mut dyn FnMut(&mut [u8], &Ask) -> Answer;
+
+/// A whole image of the Rust's state costs as much as its length: the reference is held against it after each call up
+/// to so many bytes, else after every k-th call, k growing with the need, and after the run's last.
+const AT_EACH_CALL: usize = 1 << 15;
+
+pub struct Trial<'a> {
+    library: Library<'a>,
+    tally: &'a mut Tally,
+    pub l: u64,
+    pub q: u64,
+    pub store: Vec<u8>,
+    /// The bytes past the need, as they were.
+    tail: Vec<u8>,
+    machine: Machine,
+    reference: Reference,
+    since: usize,
+}
+
+impl<'a> Trial<'a> {
+    /// A store in a state, with bytes past its need.
+    pub fn new(library: Library<'a>, tally: &'a mut Tally, state: &State, tail: Vec<u8>) -> Self {
+        let machine = Machine::load(state).expect("a sound state");
+        let mut store = image(state);
+        let reference = Reference::new(&store);
+        store.extend_from_slice(&tail);
+        tally.runs += 1;
+        tally.limits.insert(state.l);
+        Self { library, tally, l: state.l, q: state.q, store, tail, machine, reference, since: 0 }
+    }
+
+    pub fn step(&mut self, ask: &Ask) -> Result<(), String> {
+        match ask {
+            Ask::Open { l, q } => self.open(ask, *l, *q),
+            Ask::On { call, buffer, .. } => self.on(ask, call, buffer.len()),
+        }
+        .map_err(|text| format!("{ask}\n  {text}"))
+    }
+
+    fn open(&mut self, ask: &Ask, l: u64, q: u64) -> Result<(), String> {
+        let before = self.store.clone();
+        let got = (self.library)(&mut self.store, ask);
+        let refusal = oracles::opening_refusal(before.len(), l, q);
+        self.tally.call("open", refusal.unwrap_or(0));
+        same_answer(ask, &got, &Answer::refused(refusal.unwrap_or(0), ask))?;
+        if refusal.is_some() {
+            return same_bytes(self.l, self.q, "a refused opening", &self.store, &before);
+        }
+        self.tally.limits.insert(l);
+        (self.l, self.q) = (l, q);
+        self.machine = Machine::open(l, q).expect("not refused");
+        self.reference = Reference::new(&image(&self.machine.state()));
+        self.tail = before[need(l, q)..].to_vec();
+        self.same_store()
+    }
+
+    fn on(&mut self, ask: &Ask, call: &Call, buffer: usize) -> Result<(), String> {
+        let got = (self.library)(&mut self.store, ask);
+        let refusals = oracles::refusals(call, buffer);
+        let wanted = match refusals.first() {
+            Some(number) => Answer::refused(*number, ask),
+            None => self.carried_out(ask, call)?,
+        };
+        self.tally.call(name(call), wanted.status);
+        self.tally.several += u64::from(refusals.len() > 1);
+        same_answer(ask, &got, &wanted)?;
+        self.same_store()?;
+        self.since += 1;
+        if self.since >= self.reference.words.len() * WORD / AT_EACH_CALL { self.whole() } else { Ok(()) }
+    }
+
+    /// The Rust's answer; the reference must give it too.
+    fn carried_out(&mut self, ask: &Ask, call: &Call) -> Result<Answer, String> {
+        let reply = self.machine.call(call);
+        let second = self.reference.call(call, self.tally);
+        if matches!(reply, Reply::Refused(_)) || reply != second {
+            return Err(format!("the reference replies {second:?}, the Rust {reply:?}"));
+        }
+        Ok(Answer::done(&reply, ask))
+    }
+
+    /// The store is the reference's image as far as the need; the bytes past it are as they were.
+    fn same_store(&self) -> Result<(), String> {
+        let (bytes, tail) = self.store.split_at(need(self.l, self.q));
+        if self.reference.holds(bytes) && tail == self.tail {
+            return Ok(());
+        }
+        let mut wanted: Vec<u8> = self.reference.words.iter().flat_map(|word| word.to_le_bytes()).collect();
+        wanted.extend_from_slice(&self.tail);
+        same_bytes(self.l, self.q, "the store", &self.store, &wanted)
+    }
+
+    fn whole(&mut self) -> Result<(), String> {
+        self.since = 0;
+        self.tally.wholes += 1;
+        let whole = image(&self.machine.state());
+        if self.reference.holds(&whole) {
+            return Ok(());
+        }
+        let bytes: Vec<u8> = self.reference.words.iter().flat_map(|word| word.to_le_bytes()).collect();
+        same_bytes(self.l, self.q, "the reference beside the Rust's image", &bytes, &whole)
+    }
+
+    /// The call on other bytes than the run's, which stay.
+    pub fn aside(&mut self, ask: &Ask, bytes: &[u8], about: &str) -> Result<(), String> {
+        let (mut store, mut after) = (bytes.to_vec(), bytes.to_vec());
+        let got = (self.library)(&mut store, ask);
+        let wanted = oracles::call(&mut after, ask);
+        let name = if let Ask::On { call, .. } = ask { name(call) } else { "open" };
+        self.tally.call(name, wanted.status);
+        self.tally.on_damaged += 1;
+        same_answer(ask, &got, &wanted)
+            .and_then(|()| same_bytes(self.l, self.q, "the store", &store, &after))
+            .map_err(|text| format!("{ask}\n  on a store of {} bytes, {about}: {text}", bytes.len()))
+    }
+
+    /// After a run's last call: the Rust's whole image, its own books, and the state read back from the store.
+    pub fn end(mut self) -> Result<(), String> {
+        assert_sound(&self.machine);
+        self.whole()?;
+        match read(&self.store) {
+            Ok(state) if state == self.machine.state() => Ok(()),
+            other => Err(format!("the store is read back otherwise: {:?}", other.err())),
+        }
+    }
+}
+
+fn name(call: &Call) -> &'static str {
+    match call {
+        Call::Announce { .. } => "announce",
+        Call::RequestParent { .. } => "request_parent",
+        Call::AnnounceParents { .. } => "announce_parents",
+        Call::Sum => "sum",
+        _ => "other",
+    }
+}
+
+fn same_answer(ask: &Ask, got: &Answer, wanted: &Answer) -> Result<(), String> {
+    if (got.status, got.out) != (wanted.status, wanted.out) {
+        return Err(format!("library: {got}; wanted: {wanted}"));
+    }
+    match got.buffer.iter().zip(&wanted.buffer).position(|(one, other)| one != other) {
+        None => Ok(()),
+        Some(byte) => {
+            let place = if byte < wanted.written(ask) { "in the reply" } else { "past the reply" };
+            let (one, other) = (got.buffer[byte], wanted.buffer[byte]);
+            Err(format!("answer buffer, byte {byte} ({place}): {one:02x}, not {other:02x}"))
+        }
+    }
+}
+
+fn same_bytes(l: u64, q: u64, about: &str, got: &[u8], wanted: &[u8]) -> Result<(), String> {
+    if got == wanted { Ok(()) } else { Err(format!("{about}: {}", names::first(l, q, got, wanted))) }
+}
