@@ -79,6 +79,18 @@ uint64_t tracker_failed_package_info(uint8_t *store, size_t length, uint64_t kin
 uint64_t tracker_package_info_owner(const uint8_t *store, size_t length, uint64_t kind, const uint8_t hash[32], uint64_t now,
                                     uint64_t *owner);
 
+/* Bytes of the answer that a sweep needs: the smaller of 1,024 and L keys, so at most this. */
+#define TRACKER_SWEEP_NEED (1024 * TRACKER_KEY_BYTES)
+
+/* sweep: hands out the next keys after the known cursor and round to it, which becomes the last of them. They stand in the answer, *count
+ * of them; bytes behind them stay. Refusals: 3; 7 if the answer is shorter than the smaller of 1,024 and L keys. Refused, the call leaves
+ * answer and *count as they were. Store and answer may not overlap. */
+uint64_t tracker_sweep(uint8_t *store, size_t length, uint8_t *answer, size_t answer_length, uint64_t *count);
+
+/* The poll gate: the reply is 1 if a poll is due, and the next one is then 100 milliseconds later; else 0. Refusals: 3; 5 if now is above
+ * 2^64 - 60,001. Refused, the call leaves *reply as it was. */
+uint64_t tracker_poll_gate(uint8_t *store, size_t length, uint64_t now, uint64_t *reply);
+
 #ifdef __cplusplus
 }
 #endif

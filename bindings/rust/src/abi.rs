@@ -77,4 +77,12 @@ unsafe extern "C" {
         now: u64,
         owner: &mut u64,
     ) -> u64;
+    pub fn tracker_sweep(
+        store: *mut u8,
+        length: usize,
+        answer: *mut u8,
+        answer_length: usize,
+        count: &mut u64,
+    ) -> u64;
+    pub fn tracker_poll_gate(store: *mut u8, length: usize, now: u64, reply: &mut u64) -> u64;
 }

@@ -199,3 +199,29 @@ pub fn package_info_owner(store: &[u8], key: &Key, now: u64) -> Result<Option<u6
         refusal => Err(refusal),
     }
 }
+
+/// Bytes of the answer that a sweep needs at most: it needs the smaller of 1,024 and L keys.
+pub const SWEEP_NEED: usize = 1_024 * KEY_BYTES;
+
+/// The next keys after the known cursor and round to it, which becomes the last of them. How many
+/// stand in the answer (`keys` reads them); bytes behind them stay. Refusals 3 and 7.
+pub fn sweep(store: &mut [u8], answer: &mut [u8]) -> Result<usize, u64> {
+    let mut count = 0;
+    // SAFETY: store and answer are lent to this call alone, count for its length.
+    match unsafe {
+        abi::tracker_sweep(store.as_mut_ptr(), store.len(), answer.as_mut_ptr(), answer.len(), &mut count)
+    } {
+        0 => Ok(count as usize),
+        refusal => Err(refusal),
+    }
+}
+
+/// Whether a poll is due; if it is, the next one is 100 milliseconds later. Refusals 3 and 5.
+pub fn poll_gate(store: &mut [u8], now: u64) -> Result<bool, u64> {
+    let mut reply = 0;
+    // SAFETY: the bytes are lent to this call alone, reply for its length.
+    match unsafe { abi::tracker_poll_gate(store.as_mut_ptr(), store.len(), now, &mut reply) } {
+        0 => Ok(reply == 1),
+        refusal => Err(refusal),
+    }
+}

@@ -47,7 +47,7 @@ fn stays(bits: u64) -> bool
     bits / 4 % 2 == 1 || bits / 8 % 2 == 1
 }
 
-fn row_key(r: regions::Row) -> regions::Key
+pub fn row_key(r: regions::Row) -> regions::Key
     ensures { λ k. ⌜ k ≡ keyOf r ⌝ }
 {
     let hash = r.hash;

@@ -35,7 +35,7 @@ pub const POLL_INTERVAL: u64 = 100;
 // Where they stand: next poll, known cursor, ready cursor.
 const NEXT: usize = 6;
 
-const KNOWN: usize = 8;
+pub const KNOWN: usize = 8;
 
 const READY: usize = 13;
 
@@ -170,7 +170,7 @@ fn key_in(c: Stored) -> ident::MaybeKey
     ident::MaybeKey::Is(stored_key(c))
 }
 
-fn no_cursor() -> Stored
+pub fn no_cursor() -> Stored
     ensures { λ r. ⌜ Stands r none ⌝ }
 {
     let hash = regions::Quad {
@@ -182,7 +182,7 @@ fn no_cursor() -> Stored
     Stored { tag: 0, hash }
 }
 
-fn key_stored(k: ident::Key) -> Stored
+pub fn key_stored(k: ident::Key) -> Stored
     ensures { λ r. ⌜ Stands r (some (keyNum k)) ⌝ }
 {
     let w = requests::key_words(k);
@@ -229,7 +229,7 @@ pub fn save(s: &mut [u8], c: Cursors)
 
 // ---- the poll gate
 
-fn due(m: MaybeTime, clock: u64) -> bool
+pub fn due(m: MaybeTime, clock: u64) -> bool
     ensures { λ r. ⌜ r ≡ dueAt clock (timeNum m) ⌝ }
 {
     match m {
@@ -238,7 +238,7 @@ fn due(m: MaybeTime, clock: u64) -> bool
     }
 }
 
-fn poll_after(m: MaybeTime, clock: u64) -> MaybeTime
+pub fn poll_after(m: MaybeTime, clock: u64) -> MaybeTime
     requires { ⌜ clock ≤ latestClock ⌝ }
     ensures { λ r. ⌜ timeNum r ≡ nextPollAfter clock (timeNum m) ⌝ }
 {

@@ -11,7 +11,7 @@ use lib.ListN.{length}
 use Rattle.ident.specs.If.{if_then_else_}
 use Rattle.words.specs.Words.{words}
 use Rattle.machine.specs.State.{State, Candidate}
-use Rattle.machine.specs.Call.{Buffer, Announce, RequestParent, AnnounceParents, Call, Open, On, Sum, refusal}
+use Rattle.machine.specs.Call.{Buffer, Announce, RequestParent, AnnounceParents, Sweep, PollGate, Call, Open, On, Sum, refusal}
 use Rattle.machine.specs.Step.{Reply, Refused, Number, Keys, Left, Entries, Chosen, Summed, perform, carryOut, stepIf}
 use Rattle.store.specs.Read.{stateOf}
 use Rattle.tracker.specs.Outcome.{Effect, outcomeIf, Does}
@@ -72,6 +72,10 @@ pub requests-parent : (c : Candidate) → Replies (On (RequestParent c))
 unfolding carryOut perform
 requests-parent c s n e = let z : _≡_ {A = ℕ} 0 1 = cc in omega arith
 
+pub gates : (clock : ℕ) → Replies (On (PollGate clock))
+unfolding carryOut perform
+gates clock s n e = let z : _≡_ {A = ℕ} 0 1 = cc in omega arith
+
 -- ---- opening and the calls of which the Rust returns nothing: carried out, they reply 1
 
 abbrev statusIn : Reply → ℕ
@@ -129,6 +133,10 @@ module _ (b : List ℕ) where
 pub announces-parents : (n : ℕ) (hs : List ℕ) (clock : ℕ) (v : Buffer) → Replies (On (AnnounceParents n hs clock v))
 unfolding carryOut perform
 announces-parents n hs clock v s k e = let z : _≡_ {A = ℕ} 0 1 = cc in omega arith
+
+pub sweeps : (v : Buffer) → Replies (On (Sweep v))
+unfolding carryOut perform
+sweeps v s k e = let z : _≡_ {A = ℕ} 0 1 = cc in omega arith
 
 module _ (c : Call) {b z : List ℕ} {u : Buffer} where
   pub count-refused : (n k : ℕ) → Replies c → Does c b (record { reply = Refused n; buffer = u; store = z }) → Does c b (record { reply = counted n k u; buffer = u; store = z })

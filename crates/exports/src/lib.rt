@@ -12,6 +12,7 @@ ghost use Rattle.exports.specs.Status.{numbered, figured, statusOf, hand
 
 pub mod candidates;
 pub mod failures;
+pub mod sweeps;
 
 // The status of an answer.
 fn status(a: tracker::Answer) -> u64

@@ -1,25 +1,30 @@
--- announce, request_parent and announce_parents as instances of proofs/Carried, and their arguments: numbers of their widths.
+-- The public calls as instances of proofs/Carried, and the keys that they list: of 256 bits.
 -- Assumes nothing.
-use Prim.Native.Nat.{ℕ, suc, _+_, _≤_}
+use Prim.Native.Nat.{ℕ, zero, suc, min, _+_, _≤_}
 use mathlib.Core.Path.{refl}
 use mathlib.Core.List.{List, [], _∷_}
 use Rattle.ident.specs.If.{if_then_else_}
-use lib.ListN.{length}
-use Rattle.ident.specs.Number.{txid}
-use Rattle.machine.specs.Limits.{Limits, maxParents}
-use Rattle.machine.specs.State.{Table, Candidate}
-use Rattle.machine.specs.Sound.{Hashes}
+use lib.ListN.{length, take}
+use Rattle.ident.specs.Number.{Key, txid}
+use Rattle.machine.specs.Limits.{Limits, maxParents, maxKnownChecks}
+use Rattle.machine.specs.State.{Table, State, Candidate, withNextPoll, withKnownCursor}
+use Rattle.machine.specs.Table.{keys}
+use Rattle.machine.specs.Sound.{Hashes, Sound}
 use Rattle.machine.specs.Typed.{Each, KeyTyped}
 use Rattle.machine.specs.Announce.{announce, requestParentAt, requestParent}
 use Rattle.machine.specs.Fail.{dedup, parentOf, mark, parentsFrom, announceParents}
-use Rattle.machine.specs.Call.{Buffer, Announce, RequestParent, AnnounceParents, named, takesPlace}
+use Rattle.machine.specs.Sweep.{round, lastOf, handed}
+use Rattle.machine.specs.Wrapper.{dueAt, nextPollAfter}
+use Rattle.machine.specs.Call.{Buffer, Announce, RequestParent, AnnounceParents, Sweep, PollGate, named, takesPlace}
 use Rattle.machine.specs.Step.{perform}
 use Rattle.machine.proofs.Tests.{by-test}
 use Rattle.machine.proofs.Fail.{parents-dedup}
+use Rattle.machine.proofs.Plan.{round-typed, keys-typed}
 use Rattle.store.proofs.BytesBack.{Bytes}
 use Rattle.lists.specs.Lists.{hashesIn}
 use Rattle.lists.proofs.Given.{hashes-fit}
-use Rattle.tracker.proofs.Carried.{YesNo, Lists}
+use Rattle.sweeping.specs.Batches.{nextBatch}
+use Rattle.tracker.proofs.Carried.{YesNo, Lists, Answers, Hands}
 
 pub announces : (c : Candidate) → YesNo (Announce c) (c .connection ∷ []) [] (λ m t. announce m c t)
 unfolding named takesPlace perform
@@ -32,6 +37,25 @@ requests-parent c = record { names = λ s. refl; placeless = λ s. refl; perform
 pub announces-parents : (n : ℕ) (hs : List ℕ) (clock : ℕ) (u : Buffer) → Lists (AnnounceParents n hs clock u) (n ∷ []) (clock ∷ []) (length hs) u (λ s. maxParents + 1) (λ m t. announceParents m n clock hs t)
 unfolding named takesPlace perform
 announces-parents n hs clock u = record { names = λ s. refl; placeless = λ s. refl; performs = λ s. refl }
+
+pub sweeps : (u : Buffer) → Hands (Sweep u) [] [] 0 u (λ s. min maxKnownChecks (s .limit)) (λ s. nextBatch s) (λ s. withKnownCursor (lastOf (nextBatch s)) s)
+unfolding named takesPlace perform
+sweeps u = record { names = λ s. refl; placeless = λ s. refl; performs = λ s. refl }
+
+pub gates : (clock : ℕ) → Answers (PollGate clock) [] (clock ∷ []) (λ s. dueAt clock (s .nextPoll)) (λ s. withNextPoll (nextPollAfter clock (s .nextPoll)) s)
+unfolding named takesPlace perform
+gates clock = record { names = λ s. refl; placeless = λ s. refl; performs = λ s. refl }
+
+-- ---- the keys that sweep hands out are those of the table
+
+take-typed : (n : ℕ) (ks : List Key) → Each KeyTyped ks → Each KeyTyped (take n ks)
+take-typed zero ks a = tt
+take-typed (suc n) [] a = tt
+take-typed (suc n) (k ∷ ks) a = (a .0, take-typed n ks (a .1))
+
+pub sweep-typed : (s : State) → Sound s → Each KeyTyped (nextBatch s)
+unfolding handed
+sweep-typed s g = take-typed maxKnownChecks (round (s .knownCursor) (keys (s .table))) (round-typed (s .knownCursor) (keys (s .table)) (keys-typed 0 (s .table) (g .bounded .ordered)))
 
 -- ---- the keys that announce_parents lists are of the hashes given
 

@@ -58,6 +58,10 @@ unfolding ofConnections elem
 some-connection zero e = absurd (omega (arith, e))
 some-connection (suc n) e = omega arith
 
+pub early-clock : (t : ℕ) → 0 ≡ ofClocks (t ∷ []) → t ≤ latestClock
+unfolding ofClocks anyLate
+early-clock t e = elim (test (ltb latestClock t)) [ inl d ↦ absurd (omega (arith, rw d at e)) | inr d ↦ ltb-false latestClock t d ]
+
 pub few-parents : (n : ℕ) → 0 ≡ ofParents n → n ≤ maxParents
 unfolding ofParents
 few-parents n e = elim (test (ltb maxParents n)) [ inl t ↦ absurd (omega (arith, rw t at e)) | inr t ↦ ltb-false maxParents n t ]
@@ -81,10 +85,14 @@ pub clockless : (a : ℕ) → a ≡ firstOf a (ofClocks [])
 unfolding ofClocks anyLate
 clockless a = sym (first-none a)
 
--- or without a connection
+-- or without a connection; one that has an answer buffer only
 pub connectionless : (a : ℕ) → a ≡ firstOf (ofConnections []) a
 unfolding ofConnections elem
 connectionless a = refl
+
+pub buffer-only : (l n : ℕ) → ofBuffer l n ≡ inTurn [] [] 0 l n
+unfolding ofConnections ofClocks ofParents elem anyLate
+buffer-only l n = refl
 
 pub first-left : (a b : ℕ) → firstOf a b ≡ 0 → a ≡ 0
 first-left zero b e = refl

@@ -17,7 +17,7 @@ use Rattle.ident.proofs.Key.Laws as K′
 use Rattle.ident.proofs.Words.{hash-four, hash-below}
 use Rattle.machine.specs.Limits.{word}
 use Rattle.machine.specs.Typed.{Each, KeyTyped, CandidateTyped, CallTyped}
-use Rattle.machine.specs.Call.{Buffer, Announce, RequestParent, AnnounceParents, Failed, Unclaim, Forget, FailedPackageInfo, PackageInfoOwner, Sum, Call, Open, On, openingRefusal}
+use Rattle.machine.specs.Call.{Buffer, Announce, RequestParent, AnnounceParents, Failed, Unclaim, Forget, FailedPackageInfo, PackageInfoOwner, Sweep, PollGate, Sum, Call, Open, On, openingRefusal}
 use Rattle.machine.specs.Step.{empty}
 use Rattle.store.specs.Image.{SoundStore}
 use Rattle.store.proofs.BytesBack.{Bytes}
@@ -64,6 +64,8 @@ pub data Made : Call → Type 0 where
   forgets : (k : Key) → IsKey k → Made (On (Forget (keyNum k)))
   fails-info : (k : Key) (n clock : ℕ) → IsKey k → n < word → clock < word → Made (On (FailedPackageInfo (keyNum k) n clock))
   reads-owner : (k : Key) (clock : ℕ) → IsKey k → clock < word → Made (On (PackageInfoOwner (keyNum k) clock))
+  sweeps : (u : Buffer) → Made (On (Sweep u))
+  gates : (clock : ℕ) → clock < word → Made (On (PollGate clock))
 
 pub made-typed : (c : Call) → Made c → CallTyped c
 made-typed c (opens l q g h) = (g, h)
@@ -76,6 +78,8 @@ made-typed c (unclaims k n i g) = (key-typed k i, g)
 made-typed c (forgets k i) = key-typed k i
 made-typed c (fails-info k n clock i g h) = (key-typed k i, g, h)
 made-typed c (reads-owner k clock i h) = (key-typed k i, h)
+made-typed c (sweeps u) = tt
+made-typed c (gates clock g) = g
 
 each-typed : (cs : List Call) → Each Made cs → Each CallTyped cs
 each-typed [] m = tt

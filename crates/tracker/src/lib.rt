@@ -17,6 +17,7 @@ ghost use Rattle.tracker.specs.Reply.{replyOf, figuresOf};
 pub mod candidates;
 pub mod failures;
 pub mod refusals;
+pub mod sweeps;
 
 // An answer that is a number: a refusal of document 01's table, or the reply.
 pub enum Answer {

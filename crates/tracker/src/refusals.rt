@@ -61,7 +61,7 @@ fn of_parents(count: usize) -> u64
 }
 
 // Of an answer buffer of so many bytes, where so many may be needed.
-fn of_buffer(length: usize, needs: usize) -> u64
+pub fn of_buffer(length: usize, needs: usize) -> u64
     ensures { λ r. ⌜ r ≡ ofBuffer length needs ⌝ }
 {
     if length < needs { SHORT_BUFFER } else { 0 }

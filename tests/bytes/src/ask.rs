@@ -54,6 +54,8 @@ impl fmt::Display for Ask {
                     write!(f, "kin,{connection},{now},{parents}")?;
                     write!(f, " ({} bytes behind the list, a buffer of {})", rest.len(), buffer.len())
                 }
+                Call::Sweep => write!(f, "swp (a buffer of {})", buffer.len()),
+                Call::PollGate { now } => write!(f, "poll,{now}"),
                 Call::Sum => write!(f, "sum"),
                 other => write!(f, "{other:?}"),
             },
@@ -95,7 +97,7 @@ impl Answer {
     /// How many bytes of the buffer are reply.
     pub fn written(&self, ask: &Ask) -> usize {
         match ask {
-            Ask::On { call: Call::AnnounceParents { .. }, .. } if self.status == 0 => {
+            Ask::On { call: Call::AnnounceParents { .. } | Call::Sweep, .. } if self.status == 0 => {
                 KEY * self.out[0] as usize
             }
             _ => 0,

@@ -103,15 +103,29 @@ impl<'a> Draw<'a> {
         let (connection, now, parents) = (self.connection(), self.clock(), self.parents());
         let call = Call::AnnounceParents { connection, now, parents };
         let rest = if self.rng.one_in(4) { self.rng.index(HASH_BYTES) } else { 0 };
-        let need = buffer_need(&call);
+        let (rest, buffer) = (self.bytes(rest), self.buffer(buffer_need(&call, 0)));
+        Ask::On { call, rest, buffer }
+    }
+
+    /// An answer buffer of the need as a rule, at times shorter.
+    fn buffer(&mut self, need: usize) -> Vec<u8> {
         let length = match self.rng.below(30) {
             0 => need - 1,
             1 => self.rng.index(need),
             2..=9 => need,
             _ => need + self.rng.index(100),
         };
-        let (rest, buffer) = (self.bytes(rest), self.bytes(length));
-        Ask::On { call, rest, buffer }
+        self.bytes(length)
+    }
+
+    fn sweep(&mut self, l: u64) -> Ask {
+        Ask::On { call: Call::Sweep, rest: Vec::new(), buffer: self.buffer(buffer_need(&Call::Sweep, l)) }
+    }
+
+    /// Times near each other as a rule, so that a poll is met that is not due.
+    fn poll_gate(&mut self) -> Ask {
+        let now = if self.rng.one_in(4) { self.clock() } else { self.rng.below(300) };
+        Ask::plain(Call::PollGate { now })
     }
 
     /// Sizes that are not taken or do not fit into the store; where the store is small, also ones that do.
@@ -134,7 +148,9 @@ impl<'a> Draw<'a> {
 
     pub fn ask(&mut self, l: u64, q: u64) -> Ask {
         match self.rng.below(200) {
-            0..=139 => Ask::plain(Call::Announce { candidate: self.candidate() }),
+            0..=129 => Ask::plain(Call::Announce { candidate: self.candidate() }),
+            130..=134 => self.sweep(l),
+            135..=139 => self.poll_gate(),
             140..=164 => Ask::plain(Call::RequestParent { candidate: self.candidate() }),
             165..=181 => self.announce_parents(),
             182..=189 => Ask::plain(Call::Sum),

@@ -35,6 +35,12 @@ fn announce_parents(
     unsafe { call(start, length, connection, list, list_length, now, answer, room, count) }
 }
 
+fn sweep(s: &mut [u8], buffer: &mut [u8], count: &mut u64) -> u64 {
+    let (start, length) = (s.as_mut_ptr(), s.len());
+    // SAFETY: store, buffer and count are lent to this call alone.
+    unsafe { abi::tracker_sweep(start, length, buffer.as_mut_ptr(), buffer.len(), count) }
+}
+
 pub fn call(store: &mut [u8], ask: &Ask) -> Answer {
     let mut out = UNTOUCHED;
     let [one, two, three] = &mut out;
@@ -52,6 +58,9 @@ pub fn call(store: &mut [u8], ask: &Ask) -> Answer {
                 let parents = list_bytes(parents, rest);
                 announce_parents(store, *connection, &parents, *now, &mut buffer, one)
             }
+            Call::Sweep => sweep(store, &mut buffer, one),
+            // SAFETY: the bytes and the reply are lent to this call alone.
+            Call::PollGate { now } => unsafe { abi::tracker_poll_gate(start, length, *now, one) },
             // SAFETY: the bytes are only read, the numbers are lent to this call alone.
             Call::Sum => unsafe { abi::tracker_sum(start, length, one, two, three) },
             other => unreachable!("not called by bytes yet: {other:?}"),

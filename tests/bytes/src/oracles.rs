@@ -15,18 +15,25 @@ const LATE_CLOCK: u64 = 5;
 const MANY_PARENTS: u64 = 6;
 const SHORT_BUFFER: u64 = 7;
 
-/// What the answer buffer of a call needs, in bytes.
-pub fn buffer_need(call: &Call) -> usize {
-    if matches!(call, Call::AnnounceParents { .. }) { KEY * (MAX_PARENTS + 1) } else { 0 }
+/// Keys that one sweep hands out at most.
+pub const MAX_SWEPT: usize = 1_024;
+
+/// What the answer buffer of a call on a store of this L needs, in bytes.
+pub fn buffer_need(call: &Call, l: u64) -> usize {
+    match call {
+        Call::AnnounceParents { .. } => KEY * (MAX_PARENTS + 1),
+        Call::Sweep => KEY * MAX_SWEPT.min(l as usize),
+        _ => 0,
+    }
 }
 
 /// The refusals from 4 on that apply to a call, in their order: the first is the answer.
-pub fn refusals(call: &Call, buffer: usize) -> Vec<u64> {
+pub fn refusals(call: &Call, l: u64, buffer: usize) -> Vec<u64> {
     let tests = [
         (CONNECTION_0, call.names_connection_0()),
         (LATE_CLOCK, call.clock().is_some_and(|now| now > LAST_CLOCK)),
         (MANY_PARENTS, call.parents_given() > MAX_PARENTS),
-        (SHORT_BUFFER, buffer < buffer_need(call)),
+        (SHORT_BUFFER, buffer < buffer_need(call, l)),
     ];
     tests.into_iter().filter(|(_, applies)| *applies).map(|(number, _)| number).collect()
 }
@@ -53,7 +60,7 @@ pub fn call(store: &mut [u8], ask: &Ask) -> Answer {
             let Ok(state) = read(store) else {
                 return Answer::refused(UNSOUND, ask);
             };
-            if let Some(number) = refusals(call, buffer.len()).first() {
+            if let Some(number) = refusals(call, state.l, buffer.len()).first() {
                 return Answer::refused(*number, ask);
             }
             let mut machine = Machine::load(&state).expect("read has tested it");

@@ -8,7 +8,11 @@ use oracle::calls::{Call, Candidate, Hash, Item, Key, Kind, Reply};
 use oracle::image::{ENTRY, HASH, HEADER, ROW, WORD, entries_at, header, row};
 use oracle::sound::{MAX_AT_HASH, MAX_OF_CONNECTION};
 
+use crate::oracles::MAX_SWEPT;
 use crate::tally::{Event, Tally};
+
+/// Milliseconds between polls.
+const POLL_INTERVAL: u64 = 100;
 
 /// A key in the order of the rows: the kind, then the hash from its most significant word.
 type Rank = (u64, [u64; HASH]);
@@ -42,6 +46,12 @@ fn rank(key: Key) -> Rank {
 
 fn rank_of(row: &[u64; ROW]) -> Rank {
     (row[row::BITS] & row::WTXID, [row[3], row[2], row[1], row[0]])
+}
+
+fn key_of((kind, mut hash): Rank) -> Key {
+    hash.reverse();
+    let hash = Hash(hash.map(u64::to_le_bytes).as_flattened().try_into().expect("32 bytes"));
+    if kind == 0 { Key::txid(hash) } else { Key::wtxid(hash) }
 }
 
 impl Reference {
@@ -245,6 +255,39 @@ impl Reference {
         keys
     }
 
+    /// The next keys after the known cursor and round to it, which becomes the last of them.
+    fn sweep(&mut self, tally: &mut Tally) -> Vec<Key> {
+        let cursor = &self.words[header::KNOWN_CURSOR..][..1 + HASH];
+        let at = (cursor[0].wrapping_sub(1), [cursor[4], cursor[3], cursor[2], cursor[1]]);
+        let rows = self.rows();
+        let from = if cursor[0] == 0 { 0 } else { rows.partition_point(|row| rank_of(row) <= at) };
+        let mut ranks: Vec<Rank> = rows[from..].iter().chain(&rows[..from]).map(rank_of).collect();
+        ranks.dedup();
+        tally.event(match ranks.len() {
+            0 => Event::SweptNone,
+            n if n > MAX_SWEPT => Event::SweptPart,
+            _ if cursor[0] == 0 => Event::SweptStart,
+            _ => Event::SweptRound,
+        });
+        ranks.truncate(MAX_SWEPT);
+        let last = match ranks.last() {
+            None => [0; 1 + HASH],
+            Some((kind, [w3, w2, w1, w0])) => [kind + 1, *w0, *w1, *w2, *w3],
+        };
+        self.words[header::KNOWN_CURSOR..][..1 + HASH].copy_from_slice(&last);
+        ranks.into_iter().map(key_of).collect()
+    }
+
+    fn poll_gate(&mut self, now: u64, tally: &mut Tally) -> bool {
+        let [set, next] = [0, 1].map(|i| self.words[header::NEXT_POLL + i]);
+        let due = set == 0 || next <= now;
+        tally.event(if due { Event::Due } else { Event::NotDue });
+        if due {
+            self.words[header::NEXT_POLL..][..2].copy_from_slice(&[1, now + POLL_INTERVAL]);
+        }
+        due
+    }
+
     /// A call that is not refused.
     pub fn call(&mut self, call: &Call, tally: &mut Tally) -> Reply {
         match call {
@@ -261,6 +304,8 @@ impl Reference {
             Call::AnnounceParents { connection, now, parents } => {
                 Reply::Keys(self.announce_parents(*connection, *now, parents, tally))
             }
+            Call::Sweep => Reply::Keys(self.sweep(tally)),
+            Call::PollGate { now } => Reply::Number(u64::from(self.poll_gate(*now, tally))),
             Call::Sum => {
                 let [l, held] = [header::L, header::ROWS].map(|at| self.words[at]);
                 Reply::Sum(held, l - held, held * 1_000 / l)

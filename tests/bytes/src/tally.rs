@@ -34,6 +34,12 @@ events! {
     TieOfConnection: "evicted of equal priorities, by the connection",
     OwnerSpared: "evicted, a greater one spared as it owns its request",
     MarkGone: "evicted, the announced request with its mark, made anew",
+    SweptNone: "swept: no key",
+    SweptStart: "swept: no cursor, all keys",
+    SweptRound: "swept: all keys, round to the cursor",
+    SweptPart: "swept: 1,024 keys of more",
+    Due: "a poll, due",
+    NotDue: "a poll, not due",
 }
 
 impl Event {

@@ -71,7 +71,7 @@ impl<'a> Trial<'a> {
 
     fn on(&mut self, ask: &Ask, call: &Call, buffer: usize) -> Result<(), String> {
         let got = (self.library)(&mut self.store, ask);
-        let refusals = oracles::refusals(call, buffer);
+        let refusals = oracles::refusals(call, self.l, buffer);
         let wanted = match refusals.first() {
             Some(number) => Answer::refused(*number, ask),
             None => self.carried_out(ask, call)?,
@@ -145,6 +145,8 @@ fn name(call: &Call) -> &'static str {
         Call::Announce { .. } => "announce",
         Call::RequestParent { .. } => "request_parent",
         Call::AnnounceParents { .. } => "announce_parents",
+        Call::Sweep => "sweep",
+        Call::PollGate { .. } => "poll_gate",
         Call::Sum => "sum",
         _ => "other",
     }

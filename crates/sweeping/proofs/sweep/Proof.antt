@@ -1,0 +1,25 @@
+use native.Mathlib.Omega.{arith}
+use borrow.Author.Needs.{needs}
+use Rattle.requests.proofs.Keeping.{kept-shown}
+use Rattle.sweeping.proofs.Polling.{sweep-kept}
+use Rattle.sweeping.proofs.sweep.Statement.{statement}
+use Rattle.sweeping.proofs.sweep.Tie as tie
+
+known-batch-requires : tie.Need-known-batch-requires
+known-batch-requires c κs = search needs
+
+set-cursor-requires : tie.Need-set-cursor-requires
+set-cursor-requires c κs = let z = kept-shown (c .before .before .before .before .before .before .before .before .before .pre .0) .sizes in omega arith
+
+same-length : tie.Need-same-length
+same-length c = search needs
+
+same-length-2 : tie.Need-same-length-2
+same-length-2 c = search needs
+
+returns : tie.Need-returns
+returns c = sweep-kept (c .before .before .set-cursor .kept .0) (c .before .before .before .before .before .before .before .known-batch .ensures) (c .before .before .set-cursor .ensures)
+
+pub sweep-spec : {M : Type 1} → statement M
+sweep-spec =
+    tie.close (tie.spec known-batch-requires set-cursor-requires same-length same-length-2 returns)
