@@ -10,10 +10,7 @@ use Rattle.ident.specs.Number.{Key}
 use Rattle.ident.specs.Words.{maybeKeyNum}
 use Rattle.words.specs.Words.{words, splice}
 use Rattle.machine.specs.State.{State, withNextPoll, withKnownCursor, withReadyCursor}
-use Rattle.machine.specs.Table.{one}
-use Rattle.machine.specs.Wrapper.{dueAt}
-use Rattle.machine.specs.Call.{PollGate}
-use Rattle.machine.specs.Step.{Number, perform}
+use Rattle.machine.specs.Wrapper.{dueAt, nextPollAfter}
 use Rattle.store.specs.Flat.{Head, Flat, flatOf}
 use Rattle.store.specs.Image.{pollWords, cursorWords, headWords, Writes}
 use Rattle.store.specs.Read.{pollIs, headIn}
@@ -130,9 +127,8 @@ module _ {b b′ : List ℕ} (c c′ : Cursors) (l : Loads b c) (v : Saves b b�
   saved g e = subst (λ (n : Numbers). Writes b′ (withCursors n s)) (e ∙ ap g (l s w)) (v s w)
 
   -- the poll gate
-  pub gated : (now : ℕ) (r : Bool) → r ≡ dueAt now (timeNum (c .next)) → numbersOf c′ ≡ gateAt now (numbersOf c) → (Number (one r) ≡ (perform (PollGate now) s) .reply) × Writes b′ ((perform (PollGate now) s) .state)
-  unfolding perform
-  gated now r d e = (ap (λ (x : Bool). Number (one x)) (d ∙ ap (λ (n : Numbers). dueAt now (n .next)) (l s w)), saved (gateAt now) e)
+  pub gated : (clock : ℕ) (r : Bool) → r ≡ dueAt clock (timeNum (c .next)) → numbersOf c′ ≡ gateAt clock (numbersOf c) → (r ≡ dueAt clock (s .nextPoll)) × Writes b′ (withNextPoll (nextPollAfter clock (s .nextPoll)) s)
+  gated clock r d e = (d ∙ ap (λ (n : Numbers). dueAt clock (n .next)) (l s w), saved (gateAt clock) e)
 
   -- a cursor set
   pub known-saved : (k : Option Key) → numbersOf c′ ≡ withKnown k (numbersOf c) → Writes b′ (withKnownCursor k s)

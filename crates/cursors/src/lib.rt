@@ -14,7 +14,7 @@ ghost use Rattle.machine.specs.Limits.{latestClock};
 ghost use Rattle.machine.specs.Wrapper.{dueAt, nextPollAfter};
 ghost use Rattle.store.specs.Image.{headSize, pollWords};
 ghost use Rattle.store.specs.Read.{pollIs, cursorIs};
-ghost use Rattle.cursors.specs.Numbers.{timeNum, numbersOf, withKnown, withReady, gateAt, Loads, Saves};
+ghost use Rattle.cursors.specs.Numbers.{timeNum, numbersOf, withKnown, withReady, gateAt, Loads, Saves, Gated, KnownMoved};
 ghost use Rattle.cursors.specs.InWords.{pollAt, storedWords, storedKey, storedAt, Reads, written, Stands};
 
 pub enum MaybeTime {
@@ -279,4 +279,28 @@ pub fn set_ready(c: &mut Cursors, k: ident::MaybeKey)
     ensures { λ _. ⌜ numbersOf (now (c .exit)) ≡ withReady (maybeKeyNum k) (numbersOf (now (c .entry))) ⌝ }
 {
     c.ready = k;
+}
+
+// ---- on the bytes of a store
+
+// The poll gate of a store.
+pub fn gate(s: &mut [u8], clock: u64) -> bool
+    requires { ⌜ (8 * headSize ≤ length (now s)) × (clock ≤ latestClock) ⌝ }
+    ensures { λ r. ⌜ Gated (now (s .entry)) (now (s .exit)) clock r ⌝ }
+{
+    let mut c = load(s);
+    let due = poll_gate(&mut c, clock);
+    save(s, c);
+    due
+}
+
+// The known cursor of a store becomes `last`.
+pub fn move_known(s: &mut [u8], last: Stored)
+    requires { ⌜ 8 * headSize ≤ length (now s) ⌝ }
+    ensures { λ _. ⌜ KnownMoved (now (s .entry)) (now (s .exit)) (storedKey last) ⌝ }
+{
+    let mut c = load(s);
+    let k = key_in(last);
+    set_known(&mut c, k);
+    save(s, c);
 }
