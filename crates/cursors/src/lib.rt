@@ -237,7 +237,7 @@ pub fn save(s: &mut [u8], c: Cursors)
 
 // ---- the poll gate
 
-pub fn due(m: MaybeTime, clock: u64) -> bool
+fn due(m: MaybeTime, clock: u64) -> bool
     ensures { λ r. ⌜ r ≡ dueAt clock (timeNum m) ⌝ }
 {
     match m {
@@ -246,7 +246,7 @@ pub fn due(m: MaybeTime, clock: u64) -> bool
     }
 }
 
-pub fn poll_after(m: MaybeTime, clock: u64) -> MaybeTime
+fn poll_after(m: MaybeTime, clock: u64) -> MaybeTime
     requires { ⌜ clock ≤ latestClock ⌝ }
     ensures { λ r. ⌜ timeNum r ≡ nextPollAfter clock (timeNum m) ⌝ }
 {
