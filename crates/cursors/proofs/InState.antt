@@ -3,17 +3,14 @@
 use Prim.Native.Nat.{ℕ, _+_}
 use mathlib.Core.Path.{_≡_, sym, ap, subst, _∙_}
 use mathlib.Core.Bool.{Bool}
-use mathlib.Core.List.{List, _++_}
-use mathlib.Core.Option.{Option}
+use mathlib.Core.List.{List, [], _++_}
+use mathlib.Core.Option.{Option, none}
 use lib.ListN.{length, getD}
 use Rattle.ident.specs.Number.{Key}
 use Rattle.ident.specs.Words.{maybeKeyNum}
 use Rattle.words.specs.Words.{words, splice}
 use Rattle.machine.specs.State.{State, withNextPoll, withKnownCursor, withReadyCursor}
-use Rattle.machine.specs.Table.{one}
-use Rattle.machine.specs.Wrapper.{dueAt}
-use Rattle.machine.specs.Call.{PollGate}
-use Rattle.machine.specs.Step.{Number, perform}
+use Rattle.machine.specs.Wrapper.{dueAt, nextPollAfter}
 use Rattle.store.specs.Flat.{Head, Flat, flatOf}
 use Rattle.store.specs.Image.{pollWords, cursorWords, headWords, Writes}
 use Rattle.store.specs.Read.{pollIs, headIn}
@@ -21,6 +18,7 @@ use Rattle.store.proofs.Frame.{rowPart, connPart, placePart, framed-is, words-f
 use Rattle.store.proofs.HeadWords.{poll-words, cursor-words, inWords, head-words, head-back}
 use Rattle.cursors.specs.declared.Cursors.{Cursors}
 use Rattle.cursors.specs.declared.Fields.{Fields}
+use Rattle.cursors.specs.declared.Stored.{Stored}
 use Rattle.cursors.specs.Numbers.{Numbers, timeNum, numbersOf, cursorsOf, withCursors, withKnown, withReady, gateAt, Loads, Saves}
 use Rattle.cursors.specs.InWords.{pollAt, knownAt, readyAt, storedKey, storedAt, Reads, written, Stands}
 
@@ -47,15 +45,6 @@ module _ (h : Head) (rows conns places : ℕ) (z : List ℕ) where
   ready-in : storedKey (storedAt W readyAt) ≡ h .readyCursor
   unfolding headIn
   ready-in = ap (λ (x : Head). x .readyCursor) back
-
-  -- one of them written
-  next-over : (p : Option ℕ) → splice (headWords h rows conns places ++ z) pollAt (pollWords p) ≡ headWords (record { limit = h .limit; places = h .places; nextPoll = p; knownCursor = h .knownCursor; readyCursor = h .readyCursor }) rows conns places ++ z
-  unfolding splice
-  next-over p = rw (head-words h rows conns places, head-words (record { limit = h .limit; places = h .places; nextPoll = p; knownCursor = h .knownCursor; readyCursor = h .readyCursor }) rows conns places, poll-words p)
-
-  known-over : (k : Option Key) → splice (headWords h rows conns places ++ z) knownAt (cursorWords k) ≡ headWords (record { limit = h .limit; places = h .places; nextPoll = h .nextPoll; knownCursor = k; readyCursor = h .readyCursor }) rows conns places ++ z
-  unfolding splice
-  known-over k = rw (head-words h rows conns places, head-words (record { limit = h .limit; places = h .places; nextPoll = h .nextPoll; knownCursor = k; readyCursor = h .readyCursor }) rows conns places, cursor-words k)
 
   -- other words in the header
   over : (n : Numbers) → splice (splice (splice (headWords h rows conns places ++ z) pollAt (pollWords (n .next))) knownAt (cursorWords (n .known))) readyAt (cursorWords (n .ready)) ≡ headWords (withNumbers n h) rows conns places ++ z
@@ -92,7 +81,7 @@ saves {b} {b′} f c l e en ek er s w =
       words-are = e ∙ rw (en, ek, er, words-framed w) (over h a d q (behind (flatOf s)) (numbersOf c)) ∙ sym (framed-is (flatOf (withCursors (numbersOf c) s)));
     }
 
--- ---- one of them by itself
+-- ---- the known cursor by itself
 
 module _ {b : List ℕ} (s : State) (w : Writes b s) where
   abbrev flat : Flat
@@ -104,24 +93,12 @@ module _ {b : List ℕ} (s : State) (w : Writes b s) where
   in-head : words b ≡ headed
   in-head = words-framed w ∙ ap (λ (x : List ℕ). x ++ behind flat) (head-words (flat .head) (length (flat .rows)) (length (flat .conns)) (length (flat .places)))
 
-  pub next-read : pollIs (getD (words b) pollAt 0) (getD (words b) (pollAt + 1) 0) ≡ s .nextPoll
-  next-read = ap (λ (x : List ℕ). pollIs (getD x 6 0) (getD x 7 0)) in-head ∙ next-in (flat .head) (length (flat .rows)) (length (flat .conns)) (length (flat .places)) (behind flat)
-
   pub known-read : storedKey (storedAt (words b) knownAt) ≡ s .knownCursor
   known-read = ap (λ (x : List ℕ). storedKey (storedAt x knownAt)) in-head ∙ known-in (flat .head) (length (flat .rows)) (length (flat .conns)) (length (flat .places)) (behind flat)
 
-  module _ {b′ : List ℕ} (l : length b′ ≡ length b) where
-    pub next-put : (p : Option ℕ) → words b′ ≡ splice (words b) pollAt (pollWords p) → Writes b′ (withNextPoll p s)
-    next-put p e = record {
-      long = l ∙ w .long;
-      words-are = e ∙ rw (words-framed w) (next-over (flat .head) (length (flat .rows)) (length (flat .conns)) (length (flat .places)) (behind flat) p) ∙ sym (framed-is (flatOf (withNextPoll p s)));
-    }
-
-    pub known-put : (k : Option Key) → words b′ ≡ splice (words b) knownAt (cursorWords k) → Writes b′ (withKnownCursor k s)
-    known-put k e = record {
-      long = l ∙ w .long;
-      words-are = e ∙ rw (words-framed w) (known-over (flat .head) (length (flat .rows)) (length (flat .conns)) (length (flat .places)) (behind flat) k) ∙ sym (framed-is (flatOf (withKnownCursor k s)));
-    }
+-- a cursor in words says the cursor that it stands for: it would be read so out of a header
+pub stands-key : (c : Stored) (k : Option Key) → Stands c k → storedKey c ≡ k
+stands-key c k e = ap (λ (w : List ℕ). storedKey (storedAt w 0)) (e ∙ cursor-words k) ∙ known-in (record { limit = 0; places = 0; nextPoll = none; knownCursor = k; readyCursor = none }) 0 0 0 []
 
 -- ---- a record loaded, changed and saved
 
@@ -130,9 +107,8 @@ module _ {b b′ : List ℕ} (c c′ : Cursors) (l : Loads b c) (v : Saves b b�
   saved g e = subst (λ (n : Numbers). Writes b′ (withCursors n s)) (e ∙ ap g (l s w)) (v s w)
 
   -- the poll gate
-  pub gated : (now : ℕ) (r : Bool) → r ≡ dueAt now (timeNum (c .next)) → numbersOf c′ ≡ gateAt now (numbersOf c) → (Number (one r) ≡ (perform (PollGate now) s) .reply) × Writes b′ ((perform (PollGate now) s) .state)
-  unfolding perform
-  gated now r d e = (ap (λ (x : Bool). Number (one x)) (d ∙ ap (λ (n : Numbers). dueAt now (n .next)) (l s w)), saved (gateAt now) e)
+  pub gated : (clock : ℕ) (r : Bool) → r ≡ dueAt clock (timeNum (c .next)) → numbersOf c′ ≡ gateAt clock (numbersOf c) → (r ≡ dueAt clock (s .nextPoll)) × Writes b′ (withNextPoll (nextPollAfter clock (s .nextPoll)) s)
+  gated clock r d e = (d ∙ ap (λ (n : Numbers). dueAt clock (n .next)) (l s w), saved (gateAt clock) e)
 
   -- a cursor set
   pub known-saved : (k : Option Key) → numbersOf c′ ≡ withKnown k (numbersOf c) → Writes b′ (withKnownCursor k s)

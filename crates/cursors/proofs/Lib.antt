@@ -1,2 +1,3 @@
 pub mod HeaderWords
 pub mod InState
+pub mod Lent

@@ -2,12 +2,13 @@
 -- Assumes nothing.
 use Prim.Native.Nat.{ℕ}
 use mathlib.Core.Path.{_≡_}
+use mathlib.Core.Bool.{Bool}
 use mathlib.Core.List.{List}
 use mathlib.Core.Option.{Option, none, some}
 use Rattle.ident.specs.Number.{Key}
 use Rattle.ident.specs.Words.{maybeKeyNum}
-use Rattle.machine.specs.State.{State}
-use Rattle.machine.specs.Wrapper.{nextPollAfter}
+use Rattle.machine.specs.State.{State, withNextPoll, withKnownCursor}
+use Rattle.machine.specs.Wrapper.{dueAt, nextPollAfter}
 use Rattle.store.specs.Image.{Writes}
 use Rattle.cursors.specs.declared.MaybeTime.{MaybeTime}
 use Rattle.cursors.specs.declared.MaybeTime.the-variants.{None, Is}
@@ -57,3 +58,13 @@ Loads b c = (s : State) → Writes b s → numbersOf c ≡ cursorsOf s
 -- whatever state the bytes b write, b′ write it with c in it
 abbrev pub Saves : List ℕ → List ℕ → Cursors → Type 0
 Saves b b′ c = (s : State) → Writes b s → Writes b′ (withCursors (numbersOf c) s)
+
+-- ---- the poll gate and the known cursor on bytes
+
+-- whatever state the bytes b write, due is whether a poll is due, and b′ write the state with the next poll after it
+abbrev pub Gated : List ℕ → List ℕ → ℕ → Bool → Type 0
+Gated b b′ clock due = (s : State) → Writes b s → (due ≡ dueAt clock (s .nextPoll)) × Writes b′ (withNextPoll (nextPollAfter clock (s .nextPoll)) s)
+
+-- whatever state the bytes b write, b′ write it with the known cursor k
+abbrev pub KnownMoved : List ℕ → List ℕ → Option Key → Type 0
+KnownMoved b b′ k = (s : State) → Writes b s → Writes b′ (withKnownCursor k s)

@@ -13,7 +13,7 @@ ghost use Rattle.machine.specs.Limits.{latestClock};
 ghost use Rattle.machine.specs.Wrapper.{dueAt, nextPollAfter};
 ghost use Rattle.store.specs.Image.{headSize, pollWords};
 ghost use Rattle.store.specs.Read.{pollIs, cursorIs};
-ghost use Rattle.cursors.specs.Numbers.{timeNum, numbersOf, withKnown, withReady, gateAt, Loads, Saves};
+ghost use Rattle.cursors.specs.Numbers.{timeNum, numbersOf, withKnown, withReady, gateAt, Loads, Saves, Gated, KnownMoved};
 ghost use Rattle.cursors.specs.InWords.{pollAt, storedWords, storedKey, storedAt, Reads, written, Stands};
 
 pub enum MaybeTime {
@@ -229,7 +229,7 @@ pub fn save(s: &mut [u8], c: Cursors)
 
 // ---- the poll gate
 
-pub fn due(m: MaybeTime, clock: u64) -> bool
+fn due(m: MaybeTime, clock: u64) -> bool
     ensures { λ r. ⌜ r ≡ dueAt clock (timeNum m) ⌝ }
 {
     match m {
@@ -238,7 +238,7 @@ pub fn due(m: MaybeTime, clock: u64) -> bool
     }
 }
 
-pub fn poll_after(m: MaybeTime, clock: u64) -> MaybeTime
+fn poll_after(m: MaybeTime, clock: u64) -> MaybeTime
     requires { ⌜ clock ≤ latestClock ⌝ }
     ensures { λ r. ⌜ timeNum r ≡ nextPollAfter clock (timeNum m) ⌝ }
 {
@@ -271,4 +271,28 @@ pub fn set_ready(c: &mut Cursors, k: ident::MaybeKey)
     ensures { λ _. ⌜ numbersOf (now (c .exit)) ≡ withReady (maybeKeyNum k) (numbersOf (now (c .entry))) ⌝ }
 {
     c.ready = k;
+}
+
+// ---- on the bytes of a store
+
+// The poll gate of a store.
+pub fn gate(s: &mut [u8], clock: u64) -> bool
+    requires { ⌜ (8 * headSize ≤ length (now s)) × (clock ≤ latestClock) ⌝ }
+    ensures { λ r. ⌜ Gated (now (s .entry)) (now (s .exit)) clock r ⌝ }
+{
+    let mut c = load(s);
+    let due = poll_gate(&mut c, clock);
+    save(s, c);
+    due
+}
+
+// The known cursor of a store becomes `last`.
+pub fn move_known(s: &mut [u8], last: Stored)
+    requires { ⌜ 8 * headSize ≤ length (now s) ⌝ }
+    ensures { λ _. ⌜ KnownMoved (now (s .entry)) (now (s .exit)) (storedKey last) ⌝ }
+{
+    let mut c = load(s);
+    let k = key_in(last);
+    set_known(&mut c, k);
+    save(s, c);
 }

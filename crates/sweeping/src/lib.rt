@@ -34,7 +34,7 @@ pub fn sweep(s: &mut [u8], out: &mut [u8]) -> usize
 {
     let v = known_batch(s, out);
     let last = v.last;
-    cursors::set_cursor(s, cursors::KNOWN, last);
+    cursors::move_known(s, last);
     v.count
 }
 
@@ -43,9 +43,5 @@ pub fn poll_gate(s: &mut [u8], clock: u64) -> bool
     requires { ⌜ Kept (now s) × (clock ≤ latestClock) ⌝ }
     ensures { λ r. ⌜ Replied (now (s .entry)) (now (s .exit)) r (λ st. dueAt clock (st .nextPoll)) (λ st. withNextPoll (nextPollAfter clock (st .nextPoll)) st) ⌝ }
 {
-    let next = cursors::next_poll(s);
-    let due = cursors::due(next, clock);
-    let after = cursors::poll_after(next, clock);
-    cursors::set_next_poll(s, after);
-    due
+    cursors::gate(s, clock)
 }

@@ -8,8 +8,8 @@ use Rattle.sweeping.proofs.sweep.Tie as tie
 known-batch-requires : tie.Need-known-batch-requires
 known-batch-requires c κs = search needs
 
-set-cursor-requires : tie.Need-set-cursor-requires
-set-cursor-requires c κs = let z = kept-shown (c .before .before .before .before .before .before .before .before .before .pre .0) .sizes in omega arith
+move-known-requires : tie.Need-move-known-requires
+move-known-requires c κs = let z = kept-shown (c .before .before .before .before .before .before .before .before .before .pre .0) .sizes in omega arith
 
 same-length : tie.Need-same-length
 same-length c = search needs
@@ -18,8 +18,8 @@ same-length-2 : tie.Need-same-length-2
 same-length-2 c = search needs
 
 returns : tie.Need-returns
-returns c = sweep-kept (c .before .before .set-cursor .kept .0) (c .before .before .before .before .before .before .before .known-batch .ensures) (c .before .before .set-cursor .ensures)
+returns c = sweep-kept (c .before .before .before .before .before .before .before .known-batch .ensures) (c .before .before .move-known .ensures)
 
 pub sweep-spec : {M : Type 1} → statement M
 sweep-spec =
-    tie.close (tie.spec known-batch-requires set-cursor-requires same-length same-length-2 returns)
+    tie.close (tie.spec known-batch-requires move-known-requires same-length same-length-2 returns)
