@@ -1,0 +1,4 @@
+pub mod Owned
+pub mod Claiming
+pub mod SamePackage
+pub mod Beginning
