@@ -2,3 +2,8 @@ pub mod Owned
 pub mod Claiming
 pub mod SamePackage
 pub mod Beginning
+pub mod Free
+pub mod Entered
+pub mod Opening
+pub mod Adding
+pub mod Soliciting

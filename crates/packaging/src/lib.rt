@@ -13,6 +13,8 @@ ghost use Rattle.requests.specs.Changes.{Tells};
 ghost use Rattle.packages.specs.Changes.{stageOf, wtxidsOf, combinedOf, ReadAt};
 ghost use Rattle.announcing.specs.Answers.{Answered};
 
+pub mod info;
+
 // Stages of a request.
 const FLAG: u64 = 1;
 
