@@ -1,8 +1,8 @@
 -- begin_package_resolution: when it is refused, and what it does.
 -- Assumes nothing.
 use Prim.Native.Nat.{ℕ, _<_}
-use mathlib.Core.Path.{_≡_, refl, sym, ap, subst, _∙_}
-use mathlib.Core.Bool.{Bool, true, false, not, _&&_}
+use mathlib.Core.Path.{_≡_, refl, sym, subst, _∙_}
+use mathlib.Core.Bool.{Bool, true, false, _&&_}
 use mathlib.Core.List.{List}
 use mathlib.Core.Option.{Option, none, some}
 use lib.Dec.{eqb}
@@ -19,7 +19,7 @@ use Rattle.requests.specs.Changes.{Makes, Tells}
 use Rattle.packages.specs.Changes.{stageOf, wtxidsOf, combinedOf, hasPlace, SpotOf, ReadAt, begun}
 use Rattle.packages.proofs.Placing.{packed-held}
 use Rattle.announcing.specs.Answers.{Answered}
-use Rattle.packaging.proofs.Owned.{and-false, awaiting-is}
+use Rattle.packaging.proofs.Owned.{awaiting-is}
 use Rattle.packaging.proofs.SamePackage.{same-equal}
 
 -- ---- the two tests of the code

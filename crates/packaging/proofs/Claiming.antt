@@ -11,7 +11,7 @@ use lib.ListN.{length}
 use borrow.Author.Tests.{le-leb, lt-leb}
 use Rattle.ident.specs.Number.{wtxid}
 use Rattle.machine.specs.Limits.{maxWtxids}
-use Rattle.machine.specs.State.{Package, Request, State, isNone}
+use Rattle.machine.specs.State.{Request, State, isNone}
 use Rattle.machine.specs.Sound.{Sound}
 use Rattle.machine.specs.Table.{at, change}
 use Rattle.machine.specs.Package.{liveOwner, packaged, mayClaim, claimPackage}

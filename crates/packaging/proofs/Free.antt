@@ -1,10 +1,10 @@
 -- Who owns a hash, read at its two keys.
 -- Assumes nothing.
-use Prim.Native.Nat.{ℕ, _≤_, _<_}
+use Prim.Native.Nat.{ℕ, _<_}
 use mathlib.Core.Path.{_≡_, refl, sym, ap, _∙_}
 use mathlib.Core.Logic.{inl, inr}
-use mathlib.Core.Bool.{Bool, true, false, _&&_}
-use mathlib.Core.List.{List, [], _∷_}
+use mathlib.Core.Bool.{Bool, false, _&&_}
+use mathlib.Core.List.{[], _∷_}
 use mathlib.Core.Option.{Option, none, some}
 use native.Mathlib.Omega.{arith}
 use lib.Dec.{ltb, eqb}
@@ -13,7 +13,7 @@ use Rattle.ident.specs.declared.Kind.{Kind}
 use Rattle.ident.specs.declared.Kind.the-variants.{Txid, Wtxid}
 use Rattle.ident.specs.Number.{top, Key, place, txid, wtxid}
 use Rattle.machine.specs.Limits.{maxInFlight}
-use Rattle.machine.specs.State.{Owner, Request, Table, State, blank}
+use Rattle.machine.specs.State.{Owner, Request, Table, State}
 use Rattle.machine.specs.Table.{at, one, total, under, owners, ownerIn, ownedAt, ownedBy}
 use Rattle.machine.specs.Sound.{Lawful, Ordered, Sound}
 use Rattle.machine.proofs.Change.{unowned-at}

@@ -9,7 +9,7 @@ use lib.Dec.{ltb, eqb}
 use borrow.Author.Tests.{ltb-true, eqb-true}
 use Rattle.ident.specs.Number.{top, Key, wtxid}
 use Rattle.machine.specs.Limits.{maxInFlight, requestLifetime, latestClock}
-use Rattle.machine.specs.State.{Candidate, Table, State, Answer, onTable, limitsOf}
+use Rattle.machine.specs.State.{Candidate, Table, State, onTable, limitsOf}
 use Rattle.machine.specs.Table.{at, change, has, by, under, ownedAt, ownedBy, placesHeld}
 use Rattle.machine.specs.Announce.{announceAt}
 use Rattle.machine.specs.Fail.{dedup}

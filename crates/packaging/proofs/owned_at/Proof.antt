@@ -1,5 +1,5 @@
 -- `packaging::owned_at` meets its contract. Assumes nothing.
-use mathlib.Core.Path.{_≡_, subst}
+use mathlib.Core.Path.{subst}
 use mathlib.Core.Logic.{⊎-elim}
 use borrow.Author.Needs.{needs}
 use Rattle.ident.specs.Number.{Key}
