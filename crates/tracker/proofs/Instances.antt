@@ -1,4 +1,4 @@
--- announce, request_parent and announce_parents as instances of proofs/Carried, and their arguments: numbers of their widths.
+-- announce, request_parent, claim_package, begin_package_resolution and announce_parents as instances of proofs/Carried, and their arguments: numbers of their widths.
 -- Assumes nothing.
 use Prim.Native.Nat.{ℕ, suc, _+_, _≤_}
 use mathlib.Core.Path.{refl}
@@ -12,7 +12,8 @@ use Rattle.machine.specs.Sound.{Hashes}
 use Rattle.machine.specs.Typed.{Each, KeyTyped}
 use Rattle.machine.specs.Announce.{announce, requestParentAt, requestParent}
 use Rattle.machine.specs.Fail.{dedup, parentOf, mark, parentsFrom, announceParents}
-use Rattle.machine.specs.Call.{Buffer, Announce, RequestParent, AnnounceParents, named, takesPlace}
+use Rattle.machine.specs.Package.{claimPackage, beginResolution}
+use Rattle.machine.specs.Call.{Buffer, Announce, RequestParent, ClaimPackage, BeginPackageResolution, AnnounceParents, named, takesPlace}
 use Rattle.machine.specs.Step.{perform}
 use Rattle.machine.proofs.Tests.{by-test}
 use Rattle.machine.proofs.Fail.{parents-dedup}
@@ -28,6 +29,14 @@ announces c = record { names = λ s. refl; placeless = λ s. refl; performs = λ
 pub requests-parent : (c : Candidate) → YesNo (RequestParent c) (c .connection ∷ []) [] (λ m t. requestParent m c t)
 unfolding named takesPlace perform
 requests-parent c = record { names = λ s. refl; placeless = λ s. refl; performs = λ s. refl }
+
+pub claims-package : (n h c : ℕ) (ws : List ℕ) (clock : ℕ) → YesNo (ClaimPackage n h c ws clock) (n ∷ []) (clock ∷ []) (λ m t. claimPackage n h c ws clock t)
+unfolding named takesPlace perform
+claims-package n h c ws clock = record { names = λ s. refl; placeless = λ s. refl; performs = λ s. refl }
+
+pub begins-resolution : (n h c : ℕ) (ws : List ℕ) (clock : ℕ) → YesNo (BeginPackageResolution n h c ws clock) (n ∷ []) (clock ∷ []) (λ m t. beginResolution n h c ws clock t)
+unfolding named takesPlace perform
+begins-resolution n h c ws clock = record { names = λ s. refl; placeless = λ s. refl; performs = λ s. refl }
 
 pub announces-parents : (n : ℕ) (hs : List ℕ) (clock : ℕ) (u : Buffer) → Lists (AnnounceParents n hs clock u) (n ∷ []) (clock ∷ []) (length hs) u (λ s. maxParents + 1) (λ m t. announceParents m n clock hs t)
 unfolding named takesPlace perform

@@ -14,7 +14,7 @@ use Rattle.ident.proofs.Item.Laws as I′
 use Rattle.ident.proofs.Words.{hash-four, hash-below}
 use Rattle.machine.specs.Limits.{word}
 use Rattle.machine.specs.Typed.{Each, CandidateTyped, CallTyped}
-use Rattle.machine.specs.Call.{Buffer, Announce, RequestParent, AnnounceParents, Sum, Call, Open, On, openingRefusal}
+use Rattle.machine.specs.Call.{Buffer, Announce, RequestParent, ClaimPackage, BeginPackageResolution, AnnounceParents, Sum, Call, Open, On, openingRefusal}
 use Rattle.machine.specs.Step.{empty}
 use Rattle.store.specs.Image.{SoundStore}
 use Rattle.store.proofs.BytesBack.{Bytes}
@@ -48,6 +48,8 @@ pub data Made : Call → Type 0 where
   announces : (c : Candidate) → IsCandidate c → Made (On (Announce (candidateOf c)))
   requests-parent : (c : Candidate) → IsCandidate c → Made (On (RequestParent (candidateOf c)))
   announces-parents : (n clock : ℕ) (b : List ℕ) (u : Buffer) → n < word → clock < word → Bytes b → Made (On (AnnounceParents n (hashesIn b) clock u))
+  claims-package : (n h c clock : ℕ) (b : List ℕ) → n < word → h < top → c < top → clock < word → Bytes b → Made (On (ClaimPackage n h c (hashesIn b) clock))
+  begins-resolution : (n h c clock : ℕ) (b : List ℕ) → n < word → h < top → c < top → clock < word → Bytes b → Made (On (BeginPackageResolution n h c (hashesIn b) clock))
 
 pub made-typed : (c : Call) → Made c → CallTyped c
 made-typed c (opens l q g h) = (g, h)
@@ -55,6 +57,8 @@ made-typed c sums = tt
 made-typed c (announces d g) = candidate-typed d g
 made-typed c (requests-parent d g) = candidate-typed d g
 made-typed c (announces-parents n clock b u g h p) = (g, hashes-fit b p, h)
+made-typed c (claims-package n k d clock b g h i j p) = (g, h, i, hashes-fit b p, j)
+made-typed c (begins-resolution n k d clock b g h i j p) = (g, h, i, hashes-fit b p, j)
 
 each-typed : (cs : List Call) → Each Made cs → Each CallTyped cs
 each-typed [] m = tt

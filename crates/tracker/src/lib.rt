@@ -15,6 +15,7 @@ ghost use Rattle.tracker.specs.declared.Figures.the-variants.{Are};
 ghost use Rattle.tracker.specs.Reply.{replyOf, figuresOf};
 
 pub mod candidates;
+pub mod package_calls;
 pub mod refusals;
 
 // An answer that is a number: a refusal of document 01's table, or the reply.

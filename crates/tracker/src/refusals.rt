@@ -46,6 +46,13 @@ pub fn of_clock(clock: u64) -> u64
     if LATEST_CLOCK < clock { LATE_CLOCK } else { 0 }
 }
 
+// Tests 4 and 5 of a call that has both.
+pub fn of_named(connection: u64, clock: u64) -> u64
+    ensures { λ r. ⌜ r ≡ firstOf (ofConnections (connection ∷ [])) (ofClocks (clock ∷ [])) ⌝ }
+{
+    first(of_connection(connection), of_clock(clock))
+}
+
 // Of a call that is given so many parents.
 fn of_parents(count: usize) -> u64
     ensures { λ r. ⌜ r ≡ ofParents count ⌝ }
@@ -64,7 +71,7 @@ fn of_buffer(length: usize, needs: usize) -> u64
 pub fn in_turn(connection: u64, clock: u64, parents: usize, length: usize, needs: usize) -> u64
     ensures { λ r. ⌜ r ≡ inTurn (connection ∷ []) (clock ∷ []) parents length needs ⌝ }
 {
-    let named = first(of_connection(connection), of_clock(clock));
+    let named = of_named(connection, clock);
     let sizes = first(of_parents(parents), of_buffer(length, needs));
     first(named, sizes)
 }

@@ -4,14 +4,8 @@ use borrow.Author.Needs.{needs}
 use Rattle.tracker.proofs.refusals.in_turn.Statement.{statement}
 use Rattle.tracker.proofs.refusals.in_turn.Tie as tie
 
-of-connection-requires : tie.Need-of-connection-requires
-of-connection-requires c κs = search needs
-
-of-clock-requires : tie.Need-of-clock-requires
-of-clock-requires c κs = search needs
-
-first-requires : tie.Need-first-requires
-first-requires c κs = search needs
+of-named-requires : tie.Need-of-named-requires
+of-named-requires c κs = search needs
 
 of-parents-requires : tie.Need-of-parents-requires
 of-parents-requires c κs = search needs
@@ -19,11 +13,11 @@ of-parents-requires c κs = search needs
 of-buffer-requires : tie.Need-of-buffer-requires
 of-buffer-requires c κs = search needs
 
+first-requires : tie.Need-first-requires
+first-requires c κs = search needs
+
 first-requires-2 : tie.Need-first-requires-2
 first-requires-2 c κs = search needs
-
-first-requires-3 : tie.Need-first-requires-3
-first-requires-3 c κs = search needs
 
 returns : tie.Need-returns
 returns c = cc
@@ -32,11 +26,9 @@ pub in-turn-spec : {M : Type 1} → statement M
 in-turn-spec =
     tie.close
     (tie.spec
-    of-connection-requires
-    of-clock-requires
-    first-requires
+    of-named-requires
     of-parents-requires
     of-buffer-requires
+    first-requires
     first-requires-2
-    first-requires-3
     returns)
