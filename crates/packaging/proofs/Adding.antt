@@ -30,17 +30,12 @@ use Rattle.requests.specs.Changes.{Makes}
 use Rattle.packages.specs.Changes.{TakesParent, withParent}
 use Rattle.packages.proofs.Seeking.{holding}
 use Rattle.packages.proofs.Sounds.{repacked, sound-beside}
-use Rattle.packages.proofs.Steps.{change-twice}
+use Rattle.packages.proofs.Steps.{keep-some, change-twice}
 use Rattle.announcing.proofs.Listing.{hashes-take}
 use Rattle.announcing.proofs.Repeats.{dedup-new, dedup-met}
 use Rattle.packaging.specs.Solicits.{Keeps, Opened, given}
 
 -- ---- a change that leaves its request alone leaves the table alone
-
-keep-some : (r : Request) (cs : List Candidate) (t : Table) → 1 ≤ length cs → keep r cs t ≡ r ∷ t
-unfolding keep
-keep-some r [] t h = absurd (omega arith)
-keep-some r (c ∷ cs) t h = refl
 
 change-none : (k : Key) (f : Request → Request) (lo : ℕ) (t : Table) → Ordered lo t → f (at k t) ≡ at k t → 1 ≤ length ((at k t) .candidates) → change k f t ≡ t
 unfolding change at
