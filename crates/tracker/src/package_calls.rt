@@ -24,7 +24,7 @@ pub fn claim_package(
     if !sound::sound(s) {
         return Answer::Refused(refusals::UNSOUND_STORE);
     }
-    let refusal = refusals::of_named(connection, clock);
+    let refusal = refusals::of_connection_and_clock(connection, clock);
     if refusal != 0 {
         return Answer::Refused(refusal);
     }
@@ -47,7 +47,7 @@ pub fn begin_package_resolution(
     if !sound::sound(s) {
         return Answer::Refused(refusals::UNSOUND_STORE);
     }
-    let refusal = refusals::of_named(connection, clock);
+    let refusal = refusals::of_connection_and_clock(connection, clock);
     if refusal != 0 {
         return Answer::Refused(refusal);
     }

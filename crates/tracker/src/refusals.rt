@@ -46,8 +46,8 @@ pub fn of_clock(clock: u64) -> u64
     if LATEST_CLOCK < clock { LATE_CLOCK } else { 0 }
 }
 
-// Tests 4 and 5 of a call that has both.
-pub fn of_named(connection: u64, clock: u64) -> u64
+// Of a call that names both.
+pub fn of_connection_and_clock(connection: u64, clock: u64) -> u64
     ensures { λ r. ⌜ r ≡ firstOf (ofConnections (connection ∷ [])) (ofClocks (clock ∷ [])) ⌝ }
 {
     first(of_connection(connection), of_clock(clock))
@@ -71,7 +71,7 @@ fn of_buffer(length: usize, needs: usize) -> u64
 pub fn in_turn(connection: u64, clock: u64, parents: usize, length: usize, needs: usize) -> u64
     ensures { λ r. ⌜ r ≡ inTurn (connection ∷ []) (clock ∷ []) parents length needs ⌝ }
 {
-    let named = of_named(connection, clock);
+    let named = of_connection_and_clock(connection, clock);
     let sizes = first(of_parents(parents), of_buffer(length, needs));
     first(named, sizes)
 }

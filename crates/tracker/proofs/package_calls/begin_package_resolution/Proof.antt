@@ -20,8 +20,8 @@ same-length c = search needs
 returns : tie.Need-returns
 returns c = yes-no-unsound (begins-resolution _ _ _ _ _) _ (c .before .sound .result) (not-true _ (c .if1 .taken)) (c .before .sound .ensures)
 
-of-named-requires : tie.Need-of-named-requires
-of-named-requires c κs = search needs
+of-connection-and-clock-requires : tie.Need-of-connection-and-clock-requires
+of-connection-and-clock-requires c κs = search needs
 
 same-length-2 : tie.Need-same-length-2
 same-length-2 c = search needs
@@ -29,7 +29,7 @@ same-length-2 c = search needs
 returns-2 : tie.Need-returns-2
 returns-2 c =
     let v = is-sound (c .before .before .before .before .before .before .before .args .s .now) (c .before .before .before .sound .result) (not-false _ (c .before .before .if1 .left)) (c .before .before .before .sound .ensures) in
-    yes-no-refused (begins-resolution _ _ _ _ _) _ v _ (c .before .of-named .ensures) (c .if2 .taken)
+    yes-no-refused (begins-resolution _ _ _ _ _) _ v _ (c .before .of-connection-and-clock .ensures) (c .if2 .taken)
 
 need-of-requires : tie.Need-need-of-requires
 need-of-requires c κs = is-sound (c .before .before .before .before .before .before .before .before .args .s .now) (c .before .before .before .before .sound .result) (not-false _ (c .before .before .before .if1 .left)) (c .before .before .before .before .sound .ensures)
@@ -58,7 +58,7 @@ same-length-3 c = search needs
 returns-3 : tie.Need-returns-3
 returns-3 c =
     let v = is-sound (c .before .before .before .before .before .before .before .before .before .before .before .before .before .before .args .s .now) (c .before .before .before .before .before .before .before .before .before .before .sound .result) (not-false _ (c .before .before .before .before .before .before .before .before .before .if1 .left)) (c .before .before .before .before .before .before .before .before .before .before .sound .ensures) in
-    yes-no-done (begins-resolution _ _ _ _ _) _ v _ _ _ (sym (c .before .before .before .before .before .before .before .before .of-named .ensures) ∙ c .before .before .before .before .before .before .before .if2 .left) (c .before .before .before .before .before .need-of .ensures v) (λ i. omega (arith, c .before .slice-known2 .given i)) (c .before .before .before .begin-package-resolution .ensures) (c .replied .ensures)
+    yes-no-done (begins-resolution _ _ _ _ _) _ v _ _ _ (sym (c .before .before .before .before .before .before .before .before .of-connection-and-clock .ensures) ∙ c .before .before .before .before .before .before .before .if2 .left) (c .before .before .before .before .before .need-of .ensures v) (λ i. omega (arith, c .before .slice-known2 .given i)) (c .before .before .before .begin-package-resolution .ensures) (c .replied .ensures)
 
 pub begin-package-resolution-spec : {M : Type 1} → statement M
 begin-package-resolution-spec =
@@ -67,7 +67,7 @@ begin-package-resolution-spec =
     sound-requires
     same-length
     returns
-    of-named-requires
+    of-connection-and-clock-requires
     same-length-2
     returns-2
     need-of-requires

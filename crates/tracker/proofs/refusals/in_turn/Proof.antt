@@ -4,8 +4,8 @@ use borrow.Author.Needs.{needs}
 use Rattle.tracker.proofs.refusals.in_turn.Statement.{statement}
 use Rattle.tracker.proofs.refusals.in_turn.Tie as tie
 
-of-named-requires : tie.Need-of-named-requires
-of-named-requires c κs = search needs
+of-connection-and-clock-requires : tie.Need-of-connection-and-clock-requires
+of-connection-and-clock-requires c κs = search needs
 
 of-parents-requires : tie.Need-of-parents-requires
 of-parents-requires c κs = search needs
@@ -26,7 +26,7 @@ pub in-turn-spec : {M : Type 1} → statement M
 in-turn-spec =
     tie.close
     (tie.spec
-    of-named-requires
+    of-connection-and-clock-requires
     of-parents-requires
     of-buffer-requires
     first-requires

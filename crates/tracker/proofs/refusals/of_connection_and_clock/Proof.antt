@@ -1,7 +1,8 @@
--- `tracker::refusals::of_named` meets its contract. Assumes nothing.
+-- `tracker::refusals::of_connection_and_clock` meets its contract: the tests, each in its place.
+-- Assumes nothing.
 use borrow.Author.Needs.{needs}
-use Rattle.tracker.proofs.refusals.of_named.Statement.{statement}
-use Rattle.tracker.proofs.refusals.of_named.Tie as tie
+use Rattle.tracker.proofs.refusals.of_connection_and_clock.Statement.{statement}
+use Rattle.tracker.proofs.refusals.of_connection_and_clock.Tie as tie
 
 of-connection-requires : tie.Need-of-connection-requires
 of-connection-requires c κs = search needs
@@ -15,6 +16,6 @@ first-requires c κs = search needs
 returns : tie.Need-returns
 returns c = cc
 
-pub of-named-spec : {M : Type 1} → statement M
-of-named-spec =
+pub of-connection-and-clock-spec : {M : Type 1} → statement M
+of-connection-and-clock-spec =
     tie.close (tie.spec of-connection-requires of-clock-requires first-requires returns)
