@@ -104,7 +104,7 @@ pub turned-start : (n now : ℕ) (hs s u : List ℕ) → Turned n now hs s s u u
 unfolding dedup
 turned-start n now hs s u = record { inside = omega arith; few = omega arith; low = omega arith; rank = refl; store-long = refl; buffer-long = refl; listing = listing-none n now s u }
 
-hashes-take : (i : ℕ) (hs : List ℕ) → Hashes hs → Hashes (take i hs)
+pub hashes-take : (i : ℕ) (hs : List ℕ) → Hashes hs → Hashes (take i hs)
 hashes-take zero hs a = tt
 hashes-take (suc i) [] a = tt
 hashes-take (suc i) (h ∷ hs) a = (a .0, hashes-take i hs (a .1))

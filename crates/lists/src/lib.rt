@@ -26,7 +26,7 @@ pub fn hash_in(s: &[u8], i: usize) -> ident::Hash
     ident::hash_at(s, i * ident::HASH_BYTES)
 }
 
-fn same_hash(a: ident::Hash, b: ident::Hash) -> bool
+pub fn same_hash(a: ident::Hash, b: ident::Hash) -> bool
     ensures { λ r. ⌜ r ≡ eqb (hashNum a) (hashNum b) ⌝ }
 {
     let o = ident::cmp_hash(a, b);

@@ -71,7 +71,7 @@ parents-more : (hs : List ℕ) (n : ℕ) → n < top → elem n hs ≡ false →
 parents-more hs n l e m f = record { hashes = hashes-more hs n l (f .hashes); distinct = distinct-snoc n hs (f .distinct) e; few = omega (arith, length-append hs (n ∷ [])) }
 
 -- other parents beside flag or package
-repacked : (k : Kind) (o : Option Owner) (i : Bool) (p : Option Package) (hs hs′ : List ℕ) → (i || isSome p) ≡ true → Packed k o i p hs → Packed k o i p hs′
+pub repacked : (k : Kind) (o : Option Owner) (i : Bool) (p : Option Package) (hs hs′ : List ℕ) → (i || isSome p) ≡ true → Packed k o i p hs → Packed k o i p hs′
 repacked k o true (some p) hs hs′ e f = f
 repacked k o true none hs hs′ e f = f
 repacked k o false (some p) hs hs′ e f = f

@@ -18,7 +18,7 @@ use Rattle.machine.proofs.Table.{at-absent}
 use Rattle.machine.proofs.Tests.{test}
 use Rattle.packages.specs.Changes.{flagged, withParent}
 
-keep-some : (r : Request) (cs : List Candidate) (t : Table) → 1 ≤ length cs → keep r cs t ≡ r ∷ t
+pub keep-some : (r : Request) (cs : List Candidate) (t : Table) → 1 ≤ length cs → keep r cs t ≡ r ∷ t
 unfolding keep
 keep-some r [] t h = absurd (omega arith)
 keep-some r (c ∷ cs) t h = refl

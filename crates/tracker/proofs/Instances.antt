@@ -13,9 +13,10 @@ use Rattle.machine.specs.Sound.{Hashes, Sound}
 use Rattle.machine.specs.Typed.{Each, KeyTyped}
 use Rattle.machine.specs.Announce.{announce, requestParentAt, requestParent}
 use Rattle.machine.specs.Fail.{dedup, parentOf, mark, parentsFrom, announceParents}
+use Rattle.machine.specs.Package.{claimPackage, beginResolution}
 use Rattle.machine.specs.Sweep.{round, lastOf, handed}
 use Rattle.machine.specs.Wrapper.{dueAt, nextPollAfter}
-use Rattle.machine.specs.Call.{Buffer, Announce, RequestParent, AnnounceParents, Sweep, PollGate, named, takesPlace}
+use Rattle.machine.specs.Call.{Buffer, Announce, RequestParent, ClaimPackage, BeginPackageResolution, AnnounceParents, Sweep, PollGate, named, takesPlace}
 use Rattle.machine.specs.Step.{perform}
 use Rattle.machine.proofs.Tests.{by-test}
 use Rattle.machine.proofs.Fail.{parents-dedup}
@@ -33,6 +34,14 @@ announces c = record { names = λ s. refl; placeless = λ s. refl; performs = λ
 pub requests-parent : (c : Candidate) → YesNo (RequestParent c) (c .connection ∷ []) [] (λ m t. requestParent m c t)
 unfolding named takesPlace perform
 requests-parent c = record { names = λ s. refl; placeless = λ s. refl; performs = λ s. refl }
+
+pub claims-package : (n h c : ℕ) (ws : List ℕ) (clock : ℕ) → YesNo (ClaimPackage n h c ws clock) (n ∷ []) (clock ∷ []) (λ m t. claimPackage n h c ws clock t)
+unfolding named takesPlace perform
+claims-package n h c ws clock = record { names = λ s. refl; placeless = λ s. refl; performs = λ s. refl }
+
+pub begins-resolution : (n h c : ℕ) (ws : List ℕ) (clock : ℕ) → YesNo (BeginPackageResolution n h c ws clock) (n ∷ []) (clock ∷ []) (λ m t. beginResolution n h c ws clock t)
+unfolding named takesPlace perform
+begins-resolution n h c ws clock = record { names = λ s. refl; placeless = λ s. refl; performs = λ s. refl }
 
 pub announces-parents : (n : ℕ) (hs : List ℕ) (clock : ℕ) (u : Buffer) → Lists (AnnounceParents n hs clock u) (n ∷ []) (clock ∷ []) (length hs) u (λ s. maxParents + 1) (λ m t. announceParents m n clock hs t)
 unfolding named takesPlace perform

@@ -17,7 +17,7 @@ use Rattle.ident.proofs.Key.Laws as K′
 use Rattle.ident.proofs.Words.{hash-four, hash-below}
 use Rattle.machine.specs.Limits.{word}
 use Rattle.machine.specs.Typed.{Each, KeyTyped, CandidateTyped, CallTyped}
-use Rattle.machine.specs.Call.{Buffer, Announce, RequestParent, AnnounceParents, Failed, Unclaim, Forget, FailedPackageInfo, PackageInfoOwner, Sweep, PollGate, Sum, Call, Open, On, openingRefusal}
+use Rattle.machine.specs.Call.{Buffer, Announce, RequestParent, ClaimPackage, BeginPackageResolution, AnnounceParents, Failed, Unclaim, Forget, FailedPackageInfo, PackageInfoOwner, Sweep, PollGate, Sum, Call, Open, On, openingRefusal}
 use Rattle.machine.specs.Step.{empty}
 use Rattle.store.specs.Image.{SoundStore}
 use Rattle.store.proofs.BytesBack.{Bytes}
@@ -66,6 +66,8 @@ pub data Made : Call → Type 0 where
   reads-owner : (k : Key) (clock : ℕ) → IsKey k → clock < word → Made (On (PackageInfoOwner (keyNum k) clock))
   sweeps : (u : Buffer) → Made (On (Sweep u))
   gates : (clock : ℕ) → clock < word → Made (On (PollGate clock))
+  claims-package : (n h c clock : ℕ) (b : List ℕ) → n < word → h < top → c < top → clock < word → Bytes b → Made (On (ClaimPackage n h c (hashesIn b) clock))
+  begins-resolution : (n h c clock : ℕ) (b : List ℕ) → n < word → h < top → c < top → clock < word → Bytes b → Made (On (BeginPackageResolution n h c (hashesIn b) clock))
 
 pub made-typed : (c : Call) → Made c → CallTyped c
 made-typed c (opens l q g h) = (g, h)
@@ -80,6 +82,8 @@ made-typed c (fails-info k n clock i g h) = (key-typed k i, g, h)
 made-typed c (reads-owner k clock i h) = (key-typed k i, h)
 made-typed c (sweeps u) = tt
 made-typed c (gates clock g) = g
+made-typed c (claims-package n k d clock b g h i j p) = (g, h, i, hashes-fit b p, j)
+made-typed c (begins-resolution n k d clock b g h i j p) = (g, h, i, hashes-fit b p, j)
 
 each-typed : (cs : List Call) → Each Made cs → Each CallTyped cs
 each-typed [] m = tt

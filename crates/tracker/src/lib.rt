@@ -16,6 +16,7 @@ ghost use Rattle.tracker.specs.Reply.{replyOf, figuresOf};
 
 pub mod candidates;
 pub mod failures;
+pub mod package_calls;
 pub mod refusals;
 pub mod sweeps;
 

@@ -1,0 +1,9 @@
+pub mod Owned
+pub mod Claiming
+pub mod SamePackage
+pub mod Beginning
+pub mod Free
+pub mod Entered
+pub mod Opening
+pub mod Adding
+pub mod Soliciting

@@ -1,0 +1,64 @@
+-- `packaging::info::would_solicit` meets its contract. Assumes nothing.
+use mathlib.Core.Path.{sym, ap, _∙_}
+use borrow.Author.Needs.{needs}
+use borrow.Author.Tests.{not-true, not-false}
+use Rattle.ident.specs.Number.{Key, wtxid}
+use Rattle.ident.specs.Words.{hashNum}
+use Rattle.machine.specs.State.{Candidate, limitsOf}
+use Rattle.machine.specs.Table.{at, has}
+use Rattle.machine.specs.Announce.{announceAt}
+use Rattle.requests.specs.Changes.{candidateOf}
+use Rattle.packaging.proofs.Entered.{reply-barred, reply-held, reply-new}
+use Rattle.packaging.proofs.info.would_solicit.Statement.{statement}
+use Rattle.packaging.proofs.info.would_solicit.Tie as tie
+
+may-own-requires : tie.Need-may-own-requires
+may-own-requires c κs = search needs
+
+returns : tie.Need-returns
+returns c = λ hs st s w.
+    let start : tie.Start = c .before .before .before in
+    reply-barred (limitsOf st) (start .args .n) (hashNum (start .args .h)) hs (start .args .clock) (st .table) (sym (c .before .may-own .ensures st s w) ∙ not-true _ (c .if1 .taken))
+
+wtxid-key-requires : tie.Need-wtxid-key-requires
+wtxid-key-requires c κs = search needs
+
+holds-requires : tie.Need-holds-requires
+holds-requires c κs = search needs
+
+returns-2 : tie.Need-returns-2
+returns-2 c = λ hs st s w.
+    let start : tie.Start = c .before .before .before .before .before .before in
+    let n = start .args .n in
+    let here = ap (λ (k : Key). has n ((at k (st .table)) .candidates)) (c .before .before .wtxid-key .ensures) in
+    reply-held (limitsOf st) n (hashNum (start .args .h)) hs (start .args .clock) (st .table) (sym (c .before .before .before .before .may-own .ensures st s w) ∙ not-false _ (c .before .before .before .if1 .left)) (sym here ∙ sym (c .before .holds .ensures st s w) ∙ c .if2 .taken)
+
+soliciting-requires : tie.Need-soliciting-requires
+soliciting-requires c κs = search needs
+
+would-announce-requires : tie.Need-would-announce-requires
+would-announce-requires c κs = search needs
+
+returns-3 : tie.Need-returns-3
+returns-3 c = λ hs st s w.
+    let start : tie.Start = c .before .before .before .before .before .before .before .before in
+    let n = start .args .n in
+    let h = hashNum (start .args .h) in
+    let here = ap (λ (k : Key). has n ((at k (st .table)) .candidates)) (c .before .before .before .before .wtxid-key .ensures) in
+    c .would-announce .ensures st s w
+    ∙ ap (λ (k : Key). (announceAt (limitsOf st) k (candidateOf (c .before .soliciting .result)) (st .table)) .reply) (c .before .before .before .before .wtxid-key .ensures)
+    ∙ ap (λ (x : Candidate). (announceAt (limitsOf st) (wtxid h) x (st .table)) .reply) (c .before .soliciting .ensures)
+    ∙ reply-new (limitsOf st) n h hs (start .args .clock) (st .table) (sym (c .before .before .before .before .before .before .may-own .ensures st s w) ∙ not-false _ (c .before .before .before .before .before .if1 .left)) (sym here ∙ sym (c .before .before .before .holds .ensures st s w) ∙ c .before .before .if2 .left)
+
+pub would-solicit-spec : {M : Type 1} → statement M
+would-solicit-spec =
+    tie.close
+    (tie.spec
+    may-own-requires
+    returns
+    wtxid-key-requires
+    holds-requires
+    returns-2
+    soliciting-requires
+    would-announce-requires
+    returns-3)
