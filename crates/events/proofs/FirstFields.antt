@@ -3,14 +3,14 @@
 use Prim.Native.Nat.{ℕ, _+_, _-_}
 use mathlib.Core.Path.{_≡_, sym, ap, _∙_}
 use mathlib.Core.Bool.{true, false}
-use mathlib.Core.List.{List, [], _∷_}
+use mathlib.Core.List.{List, _∷_}
 use mathlib.Core.Option.{none, some}
 use native.Mathlib.Omega.{arith}
 use lib.ListN.{length, take, drop}
 use Rattle.machine.specs.Call.{Announce, RequestParent, Sum, On}
 use Rattle.lines.specs.Fields.{sameText, before, rest}
 use Rattle.lines.proofs.Splitting.{rest-field, rest-start}
-use Rattle.events.specs.Calls.{ending, openOf, candidateOf, openWord, annWord, parWord, sumWord, called, callOf}
+use Rattle.events.specs.Calls.{ending, openOf, candidateOf, parentsOf, openWord, annWord, parWord, sumWord, kinWord, called, callOf}
 
 module _ (l : List ℕ) (e : ℕ) (g : e ≡ 0 + length (before 44 (drop 0 l))) where
   word : callOf l ≡ called (take e l ∷ rest l (e + 1))
@@ -36,6 +36,11 @@ module _ (l : List ℕ) (e : ℕ) (g : e ≡ 0 + length (before 44 (drop 0 l))) 
         unfolding called
         is-sum t = sym (word ∙ rw (← n₁, ← n₂, ← n₃, ← t))
 
-        pub is-none : false ≡ sameText (take e l) sumWord → none ≡ callOf l
-        unfolding called
-        is-none t = sym (word ∙ rw (← n₁, ← n₂, ← n₃, ← t))
+        module _ (n₄ : false ≡ sameText (take e l) sumWord) where
+          pub is-kin : true ≡ sameText (take e l) kinWord → parentsOf (rest l (e + 1)) ≡ callOf l
+          unfolding called
+          is-kin t = sym (word ∙ rw (← n₁, ← n₂, ← n₃, ← n₄, ← t))
+
+          pub is-none : false ≡ sameText (take e l) kinWord → none ≡ callOf l
+          unfolding called
+          is-none t = sym (word ∙ rw (← n₁, ← n₂, ← n₃, ← n₄, ← t))

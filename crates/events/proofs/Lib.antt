@@ -3,3 +3,7 @@ pub mod Openings
 pub mod FirstFields
 pub mod Printing
 pub mod Offers
+pub mod KeyLists
+pub mod Stored
+pub mod ParentLines
+pub mod LongLists

@@ -6,14 +6,15 @@ use mathlib.Core.List.{List, [], _∷_, append-assoc}
 use mathlib.Core.Option.{Option, none, some}
 use native.Mathlib.Omega.{arith}
 use lib.ListN.{length}
+use Rattle.ident.specs.Number.{Key}
 use Rattle.machine.specs.State.{Candidate}
 use Rattle.machine.specs.Call.{Ask, Sum, Call, Open, On}
-use Rattle.machine.specs.Step.{Reply, Refused, Number, Summed}
+use Rattle.machine.specs.Step.{Reply, Refused, Number, Keys, Summed}
 use Rattle.tracker.specs.Outcome.{Effect, Does}
 use Rattle.lines.specs.Text.{decimalDigits, decimal, Wrote}
 use Rattle.lines.proofs.Numerals.{length-numeral}
 use Rattle.lines.proofs.Writing.{wrote-more}
-use Rattle.events.specs.Replies.{refusalText, joined, unreadable, replyText}
+use Rattle.events.specs.Replies.{refusalText, joined, listed, keyTexts, unreadable, replyText}
 use Rattle.events.specs.Given.{answerRoom, Printed, Numbered, Carried, AnsweredAs, Answered}
 
 -- where a number's text ends
@@ -57,6 +58,10 @@ module _ {out out′ : List ℕ} {r : ℕ} where
   unfolding replyText
   reply-figures e w = rw e w
 
+  pub reply-keys : (a : Ask) {y : Reply} (ks : List Key) → y ≡ Keys ks → Printed out out′ (listed (keyTexts ks)) r → Printed out out′ (replyText (On a) y) r
+  unfolding replyText
+  reply-keys a ks e p = rw e p
+
 -- ---- a number as the reply
 
 module _ {out out′ : List ℕ} {r : ℕ} {y : Reply} {n : ℕ} where
@@ -79,6 +84,9 @@ module _ {o : Option Call} {b b′ out out′ : List ℕ} {r : ℕ} where
 
   pub as-call : {c : Call} → some c ≡ o → Carried c b b′ out out′ r → Answered o b b′ out out′ r
   as-call e d = rw (← e) (record { is = d })
+
+  pub as-line : {p : Option Call} → p ≡ o → Answered p b b′ out out′ r → Answered o b b′ out out′ r
+  as-line e d = subst (λ (x : Option Call). Answered x b b′ out out′ r) e d
 
 pub room-of : {o : Option Call} {b b′ out out′ : List ℕ} {r : ℕ} → Answered o b b′ out out′ r → r < answerRoom
 room-of {o} {b} {b′} {out} {out′} {r} p = go o b b′ out out′ r (p .is)

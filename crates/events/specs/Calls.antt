@@ -1,14 +1,15 @@
 -- Which call a line is (docs/EVENTS.md, "Words"); none for a line of no listed form.
 -- Assumes nothing.
-use Prim.Native.Nat.{ℕ}
+use Prim.Native.Nat.{ℕ, zero, suc}
 use mathlib.Core.Bool.{_&&_}
-use mathlib.Core.List.{List, [], _∷_}
+use mathlib.Core.List.{List, [], _∷_, _++_}
 use mathlib.Core.Option.{Option, none, some}
 use lib.Dec.{leb}
+use lib.ListN.{replicate}
 use Rattle.ident.specs.If.{if_then_else_}
 use Rattle.machine.specs.State.{Candidate}
-use Rattle.machine.specs.Call.{Ask, Announce, RequestParent, Sum, Call, Open, On}
-use Rattle.lines.specs.Fields.{numberOf, boolOf, itemOf, sameText, fields}
+use Rattle.machine.specs.Call.{Buffer, Ask, Announce, RequestParent, AnnounceParents, Sum, Call, Open, On}
+use Rattle.lines.specs.Fields.{numberOf, boolOf, hashOf, itemOf, sameText, fields}
 
 -- ---- one field after the other
 
@@ -47,7 +48,22 @@ candidateOf ask fs =
     taking numberOf (λ n. taking itemOf (λ i. taking numberOf (λ ready. taking boolOf (λ preferred. taking numberOf (λ priority.
     ending (some (On (ask (record { connection = n; item = i; ready = ready; preferred = preferred; priority = priority }))))))))) fs
 
--- `open`, `ann`, `par`, `sum`
+-- "list: its length as a number, then so many elements": n hashes more behind those of hs
+unfoldable pub hashesThen : ℕ → List ℕ → (List ℕ → List (List ℕ) → Option Call) → List (List ℕ) → Option Call
+hashesThen zero hs k fs = k hs fs
+hashesThen (suc n) hs k fs = taking hashOf (λ h. hashesThen n (hs ++ (h ∷ [])) k) fs
+
+-- the answer buffer of a call that lists keys: 101 keys of 40 bytes
+unfoldable pub answerBuffer : Buffer
+answerBuffer = replicate 4040 0
+
+-- "kin: connection, now, list of parent hashes"
+unfoldable pub parentsOf : List (List ℕ) → Option Call
+parentsOf fs =
+    taking numberOf (λ n. taking numberOf (λ now. taking numberOf (λ count. hashesThen count [] (λ hs.
+    ending (some (On (AnnounceParents n hs now answerBuffer))))))) fs
+
+-- `open`, `ann`, `par`, `sum`, `kin`
 abbrev pub openWord : List ℕ
 openWord = 111 ∷ 112 ∷ 101 ∷ 110 ∷ []
 
@@ -60,6 +76,9 @@ parWord = 112 ∷ 97 ∷ 114 ∷ []
 abbrev pub sumWord : List ℕ
 sumWord = 115 ∷ 117 ∷ 109 ∷ []
 
+abbrev pub kinWord : List ℕ
+kinWord = 107 ∷ 105 ∷ 110 ∷ []
+
 unfoldable pub called : List (List ℕ) → Option Call
 called [] = none
 called (w ∷ fs) =
@@ -67,6 +86,7 @@ called (w ∷ fs) =
     else if sameText w annWord then candidateOf Announce fs
     else if sameText w parWord then candidateOf RequestParent fs
     else if sameText w sumWord then ending (some (On Sum)) fs
+    else if sameText w kinWord then parentsOf fs
     else none
 
 unfoldable pub callOf : List ℕ → Option Call

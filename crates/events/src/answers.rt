@@ -17,7 +17,7 @@ use crate::calls::Offer;
 use lines::write::put_bytes;
 use lines::write::put_decimal;
 
-fn refusal(out: &mut [u8], n: u64) -> usize
+pub fn refusal(out: &mut [u8], n: u64) -> usize
     requires { ⌜ answerRoom ≤ length (now out) ⌝ }
     ensures { λ r. ⌜ Printed (now (out .entry)) (now (out .exit)) (refusalText n) r ⌝ }
 {
@@ -67,7 +67,7 @@ fn answer_sum(store: &[u8], out: &mut [u8]) -> usize
 }
 
 // A hash of plain words as the tracker takes it.
-fn hash_of(q: regions::Quad) -> ident::Hash
+pub fn hash_of(q: regions::Quad) -> ident::Hash
     ensures { λ r. ⌜ hashNum r ≡ quadNumber q ⌝ }
 {
     let words = [q.w0, q.w1, q.w2, q.w3];
@@ -129,5 +129,6 @@ pub fn answer_line(store: &mut [u8], line: &[u8], out: &mut [u8]) -> usize
         Asked::Announcing(o) => announce(store, out, o),
         Asked::Requesting(o) => request_parent(store, out, o),
         Asked::Summing => answer_sum(store, out),
+        Asked::Parents(e) => crate::parents::announce_parents(store, line, e, out),
     }
 }

@@ -13,13 +13,14 @@ use crate::fields::bool_at;
 use crate::fields::item_at;
 use crate::fields::number_at;
 
-// What a line asks for.
+// What a line asks for. The parents' fields stand behind the comma at an index: their list is read where the call is carried out.
 pub enum Asked {
     Unreadable,
     Opening(u64, u64),
     Announcing(Offer),
     Requesting(Offer),
     Summing,
+    Parents(usize),
 }
 
 // What a connection offers: a candidate, with the item's hash as plain words.
@@ -39,7 +40,7 @@ pub enum MaybeOffer {
 
 // An opening, whose fields stand behind the comma at index e.
 fn opening(line: &[u8], e: usize) -> Asked
-    ensures { λ r. ⌜ askedCall r ≡ openOf (rest (now (line .entry)) (e + 1)) ⌝ }
+    ensures { λ r. ⌜ askedCall (now (line .entry)) r ≡ openOf (rest (now (line .entry)) (e + 1)) ⌝ }
 {
     let NumberAt::Is(l, to) = number_at(line, e) else {
         return Asked::Unreadable;
@@ -92,7 +93,7 @@ fn read_offer(line: &[u8], e: usize) -> MaybeOffer
 }
 
 fn announcing(line: &[u8], e: usize) -> Asked
-    ensures { λ r. ⌜ askedCall r ≡ candidateOf Announce (rest (now (line .entry)) (e + 1)) ⌝ }
+    ensures { λ r. ⌜ askedCall (now (line .entry)) r ≡ candidateOf Announce (rest (now (line .entry)) (e + 1)) ⌝ }
 {
     let MaybeOffer::Is(o) = read_offer(line, e) else {
         return Asked::Unreadable;
@@ -101,7 +102,7 @@ fn announcing(line: &[u8], e: usize) -> Asked
 }
 
 fn requesting(line: &[u8], e: usize) -> Asked
-    ensures { λ r. ⌜ askedCall r ≡ candidateOf RequestParent (rest (now (line .entry)) (e + 1)) ⌝ }
+    ensures { λ r. ⌜ askedCall (now (line .entry)) r ≡ candidateOf RequestParent (rest (now (line .entry)) (e + 1)) ⌝ }
 {
     let MaybeOffer::Is(o) = read_offer(line, e) else {
         return Asked::Unreadable;
@@ -110,7 +111,7 @@ fn requesting(line: &[u8], e: usize) -> Asked
 }
 
 fn summing(line: &[u8], e: usize) -> Asked
-    ensures { λ r. ⌜ askedCall r ≡ ending (some (On Sum)) (rest (now (line .entry)) (e + 1)) ⌝ }
+    ensures { λ r. ⌜ askedCall (now (line .entry)) r ≡ ending (some (On Sum)) (rest (now (line .entry)) (e + 1)) ⌝ }
 {
     if e < line.len() {
         return Asked::Unreadable;
@@ -120,7 +121,7 @@ fn summing(line: &[u8], e: usize) -> Asked
 
 // The call that a line is.
 pub fn call_of(line: &[u8]) -> Asked
-    ensures { λ r. ⌜ askedCall r ≡ callOf (now (line .entry)) ⌝ }
+    ensures { λ r. ⌜ askedCall (now (line .entry)) r ≡ callOf (now (line .entry)) ⌝ }
 {
     let e = lines::read::field_end(line, 0);
     if lines::read::same(&line[..e], b"open") {
@@ -134,6 +135,9 @@ pub fn call_of(line: &[u8]) -> Asked
     }
     if lines::read::same(&line[..e], b"sum") {
         return summing(line, e);
+    }
+    if lines::read::same(&line[..e], b"kin") {
+        return Asked::Parents(e);
     }
     Asked::Unreadable
 }

@@ -1,6 +1,6 @@
 // A line's fields one after the other, each found behind the comma that ends the one before it.
-ghost use Rattle.lines.specs.Fields.{numberOf, boolOf, itemOf};
-ghost use Rattle.events.specs.Given.{FieldRead, numberAt, boolAt, itemAt};
+ghost use Rattle.lines.specs.Fields.{numberOf, boolOf, hashOf, itemOf};
+ghost use Rattle.events.specs.Given.{FieldRead, numberAt, boolAt, hashAt, itemAt};
 
 // A field as a value, with the index where it ends.
 pub enum NumberAt {
@@ -11,6 +11,11 @@ pub enum NumberAt {
 pub enum BoolAt {
     Not,
     Is(bool, usize),
+}
+
+pub enum HashAt {
+    Not,
+    Is(regions::Quad, usize),
 }
 
 pub enum ItemAt {
@@ -46,6 +51,20 @@ pub fn bool_at(line: &[u8], e: usize) -> BoolAt
         return BoolAt::Not;
     };
     BoolAt::Is(b, to)
+}
+
+pub fn hash_at(line: &[u8], e: usize) -> HashAt
+    ensures { λ r. ⌜ FieldRead hashOf (now (line .entry)) e (hashAt r) ⌝ }
+{
+    if line.len() <= e {
+        return HashAt::Not;
+    }
+    let from = e + 1;
+    let to = lines::read::field_end(line, from);
+    let lines::read::MaybeHash::Is(q) = lines::read::hash(&line[from..to]) else {
+        return HashAt::Not;
+    };
+    HashAt::Is(q, to)
 }
 
 pub fn item_at(line: &[u8], e: usize) -> ItemAt

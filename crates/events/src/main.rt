@@ -6,6 +6,8 @@ mod answers;
 mod calls;
 mod fields;
 mod input;
+mod keys;
+mod parents;
 
 // The bytes that a store needs for L = 100 and Q = 2, the most that a line may open.
 const STORE: usize = 22_976;

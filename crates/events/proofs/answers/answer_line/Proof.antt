@@ -2,7 +2,7 @@
 -- Assumes nothing.
 use mathlib.Core.Path.{refl, sym, ap, _∙_}
 use Rattle.events.specs.Given.{askedCall}
-use Rattle.events.proofs.Printing.{as-unread, as-call}
+use Rattle.events.proofs.Printing.{as-unread, as-call, as-line}
 use borrow.Author.Needs.{needs}
 use Rattle.events.proofs.answers.answer_line.Statement.{statement}
 use Rattle.events.proofs.answers.answer_line.Tie as tie
@@ -40,11 +40,17 @@ enum-told-2 c = search needs
 answer-sum-requires : tie.Need-answer-sum-requires
 answer-sum-requires c κs = search needs
 
+enum-known-asked-4 : tie.Need-enum-known-asked-4
+enum-known-asked-4 c = search needs
+
+announce-parents-requires : tie.Need-announce-parents-requires
+announce-parents-requires c κs = search needs
+
 same-length : tie.Need-same-length
 same-length c = search needs
 
 returns : tie.Need-returns
-returns c = as-unread (sym (ap askedCall (c .before .before .before .before .enum-told .given .1)) ∙ c .before .before .before .before .before .before .call-of .ensures) refl (c .before .before .unreadable .ensures)
+returns c = as-unread (sym (ap (askedCall _) (c .before .before .before .before .enum-told .given .1)) ∙ c .before .before .before .before .before .before .call-of .ensures) refl (c .before .before .unreadable .ensures)
 
 same-length-2 : tie.Need-same-length-2
 same-length-2 c = search needs
@@ -53,7 +59,7 @@ same-length-3 : tie.Need-same-length-3
 same-length-3 c = search needs
 
 returns-2 : tie.Need-returns-2
-returns-2 c = as-call (sym (ap askedCall (c .before .before .before .before .before .before .before .before .asked .given .1)) ∙ c .before .before .before .before .before .before .before .before .before .before .call-of .ensures) (c .before .before .before .before .answer-open .ensures)
+returns-2 c = as-call (sym (ap (askedCall _) (c .before .before .before .before .before .before .before .before .asked .given .1)) ∙ c .before .before .before .before .before .before .before .before .before .before .call-of .ensures) (c .before .before .before .before .answer-open .ensures)
 
 same-length-4 : tie.Need-same-length-4
 same-length-4 c = search needs
@@ -62,7 +68,7 @@ same-length-5 : tie.Need-same-length-5
 same-length-5 c = search needs
 
 returns-3 : tie.Need-returns-3
-returns-3 c = as-call (sym (ap askedCall (c .before .before .before .before .before .before .before .before .asked2 .given .1)) ∙ c .before .before .before .before .before .before .before .before .before .before .call-of .ensures) (c .before .before .before .before .announce .ensures)
+returns-3 c = as-call (sym (ap (askedCall _) (c .before .before .before .before .before .before .before .before .asked2 .given .1)) ∙ c .before .before .before .before .before .before .before .before .before .before .call-of .ensures) (c .before .before .before .before .announce .ensures)
 
 same-length-6 : tie.Need-same-length-6
 same-length-6 c = search needs
@@ -71,7 +77,7 @@ same-length-7 : tie.Need-same-length-7
 same-length-7 c = search needs
 
 returns-4 : tie.Need-returns-4
-returns-4 c = as-call (sym (ap askedCall (c .before .before .before .before .before .before .before .before .asked3 .given .1)) ∙ c .before .before .before .before .before .before .before .before .before .before .call-of .ensures) (c .before .before .before .before .request-parent .ensures)
+returns-4 c = as-call (sym (ap (askedCall _) (c .before .before .before .before .before .before .before .before .asked3 .given .1)) ∙ c .before .before .before .before .before .before .before .before .before .before .call-of .ensures) (c .before .before .before .before .request-parent .ensures)
 
 same-length-8 : tie.Need-same-length-8
 same-length-8 c = search needs
@@ -80,7 +86,16 @@ same-length-9 : tie.Need-same-length-9
 same-length-9 c = search needs
 
 returns-5 : tie.Need-returns-5
-returns-5 c = as-call (sym (ap askedCall (c .before .before .before .before .before .enum-told2 .given .1)) ∙ c .before .before .before .before .before .before .before .call-of .ensures) (c .before .before .answer-sum .ensures)
+returns-5 c = as-call (sym (ap (askedCall _) (c .before .before .before .before .before .enum-told2 .given .1)) ∙ c .before .before .before .before .before .before .before .call-of .ensures) (c .before .before .answer-sum .ensures)
+
+same-length-10 : tie.Need-same-length-10
+same-length-10 c = search needs
+
+same-length-11 : tie.Need-same-length-11
+same-length-11 c = search needs
+
+returns-6 : tie.Need-returns-6
+returns-6 c = as-line (sym (ap (askedCall _) (c .before .before .before .before .before .before .before .before .asked4 .given .1)) ∙ c .before .before .before .before .before .before .before .before .before .before .call-of .ensures) (c .before .before .before .before .announce-parents .ensures)
 
 pub answer-line-spec : {M : Type 1} → statement M
 answer-line-spec =
@@ -97,6 +112,8 @@ answer-line-spec =
     request-parent-requires
     enum-told-2
     answer-sum-requires
+    enum-known-asked-4
+    announce-parents-requires
     same-length
     returns
     same-length-2
@@ -110,4 +127,7 @@ answer-line-spec =
     returns-4
     same-length-8
     same-length-9
-    returns-5)
+    returns-5
+    same-length-10
+    same-length-11
+    returns-6)

@@ -4,7 +4,7 @@ use mathlib.Core.Path.{sym, _∙_}
 use native.Mathlib.Omega.{arith}
 use lib.ListN.{length-take}
 use Rattle.lines.proofs.Parting.{end-most}
-use Rattle.events.proofs.FirstFields.{is-open, is-ann, is-par, is-sum, is-none}
+use Rattle.events.proofs.FirstFields.{is-open, is-ann, is-par, is-sum, is-kin, is-none}
 use borrow.Author.Needs.{needs}
 use Rattle.events.proofs.calls.call_of.Statement.{statement}
 use Rattle.events.proofs.calls.call_of.Tie as tie
@@ -72,8 +72,20 @@ summing-requires c κs = search needs
 returns-4 : tie.Need-returns-4
 returns-4 c = c .summing .ensures ∙ is-sum (c .before .before .before .before .before .before .before .before .before .before .before .before .before .before .before .before .before .before .before .args .line .now) (c .before .before .before .before .before .before .before .before .before .before .before .before .before .before .before .before .before .field-end .result) (c .before .before .before .before .before .before .before .before .before .before .before .before .before .before .before .before .before .field-end .ensures) (sym (c .before .before .before .before .before .before .before .before .before .before .before .before .before .if1 .left) ∙ c .before .before .before .before .before .before .before .before .before .before .before .before .before .before .same .ensures) (sym (c .before .before .before .before .before .before .before .before .before .if2 .left) ∙ c .before .before .before .before .before .before .before .before .before .before .same2 .ensures) (sym (c .before .before .before .before .before .if3 .left) ∙ c .before .before .before .before .before .before .same3 .ensures) (sym (c .before .if4 .taken) ∙ c .before .before .same4 .ensures)
 
+slice-aggregate-same-9 : tie.Need-slice-aggregate-same-9
+slice-aggregate-same-9 c = simp length-take (omega (arith, end-most 44 (c .before .before .before .before .before .before .before .before .before .before .before .before .before .before .before .before .before .before .before .args .line .now) 0 (omega arith) (c .before .before .before .before .before .before .before .before .before .before .before .before .before .before .before .before .before .field-end .ensures)))
+
+slice-aggregate-same-10 : tie.Need-slice-aggregate-same-10
+slice-aggregate-same-10 c = search needs
+
+same-requires-5 : tie.Need-same-requires-5
+same-requires-5 c κs = search needs
+
 returns-5 : tie.Need-returns-5
-returns-5 c = is-none (c .before .before .before .before .before .before .before .before .before .before .before .before .before .before .before .before .before .before .args .line .now) (c .before .before .before .before .before .before .before .before .before .before .before .before .before .before .before .before .field-end .result) (c .before .before .before .before .before .before .before .before .before .before .before .before .before .before .before .before .field-end .ensures) (sym (c .before .before .before .before .before .before .before .before .before .before .before .before .if1 .left) ∙ c .before .before .before .before .before .before .before .before .before .before .before .before .before .same .ensures) (sym (c .before .before .before .before .before .before .before .before .if2 .left) ∙ c .before .before .before .before .before .before .before .before .before .same2 .ensures) (sym (c .before .before .before .before .if3 .left) ∙ c .before .before .before .before .before .same3 .ensures) (sym (c .if4 .left) ∙ c .before .same4 .ensures)
+returns-5 c = is-kin (c .before .before .before .before .before .before .before .before .before .before .before .before .before .before .before .before .before .before .before .before .before .before .args .line .now) (c .before .before .before .before .before .before .before .before .before .before .before .before .before .before .before .before .before .before .before .before .field-end .result) (c .before .before .before .before .before .before .before .before .before .before .before .before .before .before .before .before .before .before .before .before .field-end .ensures) (sym (c .before .before .before .before .before .before .before .before .before .before .before .before .before .before .before .before .if1 .left) ∙ c .before .before .before .before .before .before .before .before .before .before .before .before .before .before .before .before .before .same .ensures) (sym (c .before .before .before .before .before .before .before .before .before .before .before .before .if2 .left) ∙ c .before .before .before .before .before .before .before .before .before .before .before .before .before .same2 .ensures) (sym (c .before .before .before .before .before .before .before .before .if3 .left) ∙ c .before .before .before .before .before .before .before .before .before .same3 .ensures) (sym (c .before .before .before .before .if4 .left) ∙ c .before .before .before .before .before .same4 .ensures) (sym (c .if5 .taken) ∙ c .before .same5 .ensures)
+
+returns-6 : tie.Need-returns-6
+returns-6 c = is-none (c .before .before .before .before .before .before .before .before .before .before .before .before .before .before .before .before .before .before .before .before .before .before .args .line .now) (c .before .before .before .before .before .before .before .before .before .before .before .before .before .before .before .before .before .before .before .before .field-end .result) (c .before .before .before .before .before .before .before .before .before .before .before .before .before .before .before .before .before .before .before .before .field-end .ensures) (sym (c .before .before .before .before .before .before .before .before .before .before .before .before .before .before .before .before .if1 .left) ∙ c .before .before .before .before .before .before .before .before .before .before .before .before .before .before .before .before .before .same .ensures) (sym (c .before .before .before .before .before .before .before .before .before .before .before .before .if2 .left) ∙ c .before .before .before .before .before .before .before .before .before .before .before .before .before .same2 .ensures) (sym (c .before .before .before .before .before .before .before .before .if3 .left) ∙ c .before .before .before .before .before .before .before .before .before .same3 .ensures) (sym (c .before .before .before .before .if4 .left) ∙ c .before .before .before .before .before .same4 .ensures) (sym (c .if5 .left) ∙ c .before .same5 .ensures)
 
 pub call-of-spec : {M : Type 1} → statement M
 call-of-spec =
@@ -100,4 +112,8 @@ call-of-spec =
     same-requires-4
     summing-requires
     returns-4
-    returns-5)
+    slice-aggregate-same-9
+    slice-aggregate-same-10
+    same-requires-5
+    returns-5
+    returns-6)
