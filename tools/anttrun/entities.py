@@ -17,7 +17,7 @@ class Skipped:
 
 
 class Unknown:
-    """A library name that is not in `values.LIBRARY`: what runs may not need it."""
+    """A library name that is not in `values.SUPPLIED`: what runs may not need it."""
 
     def __init__(self, name):
         self.name = name

@@ -7,7 +7,7 @@ from .declarations import Data, Record, read_module
 from .emit import Emit
 from .entities import Defn, Scope, Skipped, TypeName, Unknown, remember
 from .expressions import Parser
-from .values import FIXITIES, LIBRARY, NAMES, Con, Kind, attr, con_class, inward, outward, record_class
+from .values import FIXITIES, SUPPLIED, NAMES, Con, Kind, attr, con_class, inward, outward, record_class
 from .resolve import Resolver
 from .strictness import Strictness
 from .tokens import Unread, fail, split, tokens
@@ -141,7 +141,7 @@ class Program(Resolver, Strictness):
         with open(where, encoding="utf-8") as f:
             module = read_module(f.read(), short)
         scope = Scope(key)
-        for name, entity in LIBRARY["Prim"].items():
+        for name, entity in SUPPLIED["Prim"].items():
             scope.names[name] = entity
         scope.fixities.update({n: FIXITIES[n] for n in scope.names if n in FIXITIES})
         self.scopes[key] = scope
@@ -208,7 +208,7 @@ class Program(Resolver, Strictness):
 
     def member(self, module, name, tok):
         if isinstance(module, str):
-            known = LIBRARY.get(module, {})
+            known = SUPPLIED.get(module, {})
             return (known[name], FIXITIES.get(name)) if name in known else (Unknown(f"{module}.{name}"), None)
         target = self.scope(*module)
         if name not in target.own:

@@ -8,7 +8,7 @@ Core patterns: ("v", v)  ("_",)  ("n", int)  ("c", Con, [p])  ("t", [p])  ("r", 
 """
 from .entities import Defn, Skipped, TypeName, Unknown
 from .expressions import Parser
-from .values import LIBRARY, Builtin, Con, Kind
+from .values import SUPPLIED, Builtin, Con, Kind
 from .tokens import Unread, depths, fail, find, split
 
 
@@ -167,13 +167,13 @@ class Resolver:
         if isinstance(first, TypeName) and parts[1] in first.members:
             return first.members[parts[1]]
         if isinstance(first, Kind):
-            for library in LIBRARY.values():
+            for library in SUPPLIED.values():
                 if library.get(parts[0]) is first and isinstance(library.get(parts[1]), Con):
                     return library[parts[1]]
         if parts[0] in scope.aliases and len(parts) == 2:
             module = scope.aliases[parts[0]]
             if isinstance(module, str):
-                return LIBRARY.get(module, {}).get(parts[1], Unknown(f"{module}.{parts[1]}"))
+                return SUPPLIED.get(module, {}).get(parts[1], Unknown(f"{module}.{parts[1]}"))
             return self.scope(*module).own.get(parts[1])
         return None
 

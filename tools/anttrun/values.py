@@ -281,7 +281,7 @@ def builtins(entries):
 _LISTS = [("length", 1, "len({0})"), ("take", 2, "take({0}, {1})"), ("drop", 2, "drop({0}, {1})"), ("getD", 3, "get_d({0}, {1}, {2})"),
           ("set", 3, "put({0}, {1}, {2})"), ("replicate", 2, "from_list([{1}] * {0})"), ("getElem?", 2, "get_elem({0}, {1})")]
 
-LIBRARY = {
+SUPPLIED = {
     "Prim.Native.Nat": {
         **builtins([
             ("_+_", 2, "({0} + {1})"), ("_*_", 2, "({0} * {1})"), ("_-_", 2, "max({0} - {1}, 0)"), ("_^_", 2, "({0} ** {1})"),

@@ -51,23 +51,23 @@ pub before-skip : (x c : ℕ) (f : List ℕ) → (c ≡ x → ⊥) → before x 
 unfolding before
 before-skip x c f h = rw (ne-eqb c x h)
 
-pub before-stop : (x : ℕ) (f : List ℕ) → before x (x ∷ f) ≡ []
+pub before-met : (x : ℕ) (f : List ℕ) → before x (x ∷ f) ≡ []
 unfolding before
-before-stop x f = rw (eq-eqb x x refl)
+before-met x f = rw (eq-eqb x x refl)
 
 pub behind-skip : (x c : ℕ) (f : List ℕ) → (c ≡ x → ⊥) → behind x (c ∷ f) ≡ behind x f
 unfolding behind
 behind-skip x c f h = rw (before-skip x c f h, suc-add)
 
-pub behind-stop : (x : ℕ) (f : List ℕ) → behind x (x ∷ f) ≡ f
+pub behind-met : (x : ℕ) (f : List ℕ) → behind x (x ∷ f) ≡ f
 unfolding behind
-behind-stop x f = rw (before-stop x f)
+behind-met x f = rw (before-met x f)
 
 -- a byte that stands there parts the list into what is before it and what is behind it
 pub parted : (x : ℕ) (s : List ℕ) → length (before x s) < length s → s ≡ before x s ++ (x ∷ behind x s)
 parted x [] h = absurd (omega arith)
 parted x (c ∷ s) h = elim (test (eqb c x)) [
-  | inl t ↦ let e = eqb-true c x t in rw (e, before-stop x s, behind-stop x s)
+  | inl t ↦ let e = eqb-true c x t in rw (e, before-met x s, behind-met x s)
   | inr t ↦
       let n = eqb-false c x t in
       let l : length (before x s) < length s = omega (arith, rw (before-skip x c s n) at h) in

@@ -21,7 +21,7 @@ use Rattle.lines.specs.Text.{decimalDigits, decimal, hexadecimal, boolTe
 use Rattle.lines.specs.Fields.{numberOf, typeOf, hashOf, boolOf, kindOf, keyWith, keyOf, before, behind, itemWith, letterKind, otherKind, otherOf, itemOf}
 use Rattle.machine.proofs.Tests.{test}
 use Rattle.lines.proofs.Numerals.{numeral-read, numeral-text, numeralOf-empty}
-use Rattle.lines.proofs.Parting.{before-digits, before-stop, parted}
+use Rattle.lines.proofs.Parting.{before-digits, before-met, parted}
 
 never-some : {A : Type 0} {a : A} → none ≡ some a → ⊥
 never-some e = let z : _≡_ {A = ℕ} 0 1 = cc in omega arith
@@ -141,7 +141,7 @@ Written (Other n) = (isPlain (Other n) ≡ true) × (n < 2 ^ 32)
 other-back : (m n : ℕ) → Written (Other m) → n < top → otherOf (decimal m ++ (58 ∷ hexadecimal n)) ≡ some (record { kind = Other m; hash = n })
 unfolding behind
 other-back m n w h =
-    let e : before 58 (decimal m ++ (58 ∷ hexadecimal n)) ≡ decimal m = before-digits 10 decimalDigits m (58 ∷ hexadecimal n) (lit< tt) (lit≤ tt) ∙ rw (before-stop 58 (hexadecimal n)) (append-nil (decimal m)) in
+    let e : before 58 (decimal m ++ (58 ∷ hexadecimal n)) ≡ decimal m = before-digits 10 decimalDigits m (58 ∷ hexadecimal n) (lit< tt) (lit≤ tt) ∙ rw (before-met 58 (hexadecimal n)) (append-nil (decimal m)) in
     let d : drop (length (decimal m) + 1) (decimal m ++ (58 ∷ hexadecimal n)) ≡ hexadecimal n = drop-append-add (decimal m) (58 ∷ hexadecimal n) 1 in
     rw (e, d, type-back m (w .1), hash-back n h, w .0)
 

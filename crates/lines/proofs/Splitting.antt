@@ -12,7 +12,7 @@ use borrow.Author.Tests.{leb-true, leb-false, le-leb, lt-leb, eqb-true, eqb-fals
 use Rattle.ident.specs.If.{if_then_else_}
 use Rattle.machine.proofs.Tests.{test}
 use Rattle.lines.specs.Fields.{before, behind, push, fields, rest}
-use Rattle.lines.proofs.Parting.{take-before, before-nil, before-skip, before-stop, behind-skip, behind-stop}
+use Rattle.lines.proofs.Parting.{take-before, before-nil, before-skip, before-met, behind-skip, behind-met}
 
 -- the first field, and the fields behind its comma
 abbrev split : List ℕ → List (List ℕ)
@@ -22,7 +22,7 @@ fields-split : (s : List ℕ) → fields s ≡ split s
 unfolding fields push
 fields-split [] = rw before-nil
 fields-split (c ∷ s) = elim (test (eqb c 44)) [
-  | inl t ↦ let e = eqb-true c 44 t in rw (e, before-stop 44 s, behind-stop 44 s, lt-ltb 0 (suc (length s)) (omega arith))
+  | inl t ↦ let e = eqb-true c 44 t in rw (e, before-met 44 s, behind-met 44 s, lt-ltb 0 (suc (length s)) (omega arith))
   | inr t ↦ let n = eqb-false c 44 t in rw (t, before-skip 44 c s n, behind-skip 44 c s n, fields-split s, leb·suc-suc (suc (length (before 44 s))) (length s))
 ]
 

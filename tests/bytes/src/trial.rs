@@ -20,7 +20,7 @@ pub type Library<'a> = &'a mut dyn FnMut(&mut [u8], &Ask) -> Answer;
 const AT_EACH_CALL: usize = 1 << 15;
 
 pub struct Trial<'a> {
-    library: Library<'a>,
+    call: Library<'a>,
     tally: &'a mut Tally,
     pub l: u64,
     pub q: u64,
@@ -41,7 +41,7 @@ impl<'a> Trial<'a> {
         store.extend_from_slice(&tail);
         tally.runs += 1;
         tally.limits.insert(state.l);
-        Self { library, tally, l: state.l, q: state.q, store, tail, machine, reference, since: 0 }
+        Self { call: library, tally, l: state.l, q: state.q, store, tail, machine, reference, since: 0 }
     }
 
     pub fn step(&mut self, ask: &Ask) -> Result<(), String> {
@@ -54,7 +54,7 @@ impl<'a> Trial<'a> {
 
     fn open(&mut self, ask: &Ask, l: u64, q: u64) -> Result<(), String> {
         let before = self.store.clone();
-        let got = (self.library)(&mut self.store, ask);
+        let got = (self.call)(&mut self.store, ask);
         let refusal = oracles::opening_refusal(before.len(), l, q);
         self.tally.call("open", refusal.unwrap_or(0));
         same_answer(ask, &got, &Answer::refused(refusal.unwrap_or(0), ask))?;
@@ -70,7 +70,7 @@ impl<'a> Trial<'a> {
     }
 
     fn on(&mut self, ask: &Ask, call: &Call, buffer: usize) -> Result<(), String> {
-        let got = (self.library)(&mut self.store, ask);
+        let got = (self.call)(&mut self.store, ask);
         let refusals = oracles::refusals(call, self.l, buffer);
         let wanted = match refusals.first() {
             Some(number) => Answer::refused(*number, ask),
@@ -119,7 +119,7 @@ impl<'a> Trial<'a> {
     /// The call on other bytes than the run's, which stay.
     pub fn aside(&mut self, ask: &Ask, bytes: &[u8], about: &str) -> Result<(), String> {
         let (mut store, mut after) = (bytes.to_vec(), bytes.to_vec());
-        let got = (self.library)(&mut store, ask);
+        let got = (self.call)(&mut store, ask);
         let wanted = oracles::call(&mut after, ask);
         let name = if let Ask::On { call, .. } = ask { name(call) } else { "open" };
         self.tally.call(name, wanted.status);
