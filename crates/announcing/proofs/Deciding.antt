@@ -86,7 +86,7 @@ module _ (m : Limits) (k : Key) (c : Candidate) (t : Table) where
     unfolding announceAt
     when-full-out f g p = rw (unknown, allowed, f, g) (by-test (λ (z : Answer). z ≡ refused t) (c .preferred) (λ e. clash e p) (λ e. refl))
 
-    when-room : Crowded ≡ false → Full ≡ false → announceAt m k c t ≡ done (push k c t)
+    pub when-room : Crowded ≡ false → Full ≡ false → announceAt m k c t ≡ done (push k c t)
     unfolding announceAt
     when-room f g = rw (unknown, allowed, f, g)
 

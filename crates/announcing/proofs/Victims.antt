@@ -108,7 +108,7 @@ abbrev at-key : Key → Table → List Entry
 at-key k t = victimsIn (at k t) ((at k t) .candidates)
 
 module _ (k : Key) (lo : ℕ) (t : Table) (o : Ordered lo t) {from to : ℕ} (p : from ≡ length (rowsBelow k t)) (q : to ≡ length (rowsBelow k t ++ rowsFor (at k t))) where
-  window-part : part from to (rowsOf t) ≡ rowsFor (at k t)
+  pub window-part : part from to (rowsOf t) ≡ rowsFor (at k t)
   window-part =
       let z : to - from ≡ length (rowsFor (at k t)) = omega (arith, length-append (rowsBelow k t) (rowsFor (at k t))) in
       ap (λ (l : List Row). take (to - from) (drop from l)) (rows-at k lo t o)

@@ -20,7 +20,7 @@ use Rattle.cursors.specs.declared.Cursors.{Cursors}
 use Rattle.cursors.specs.declared.Fields.{Fields}
 use Rattle.cursors.specs.declared.Stored.{Stored}
 use Rattle.cursors.specs.Numbers.{Numbers, timeNum, numbersOf, cursorsOf, withCursors, withKnown, withReady, gateAt, Loads, Saves}
-use Rattle.cursors.specs.InWords.{pollAt, knownAt, readyAt, storedKey, storedAt, Reads, written, Stands}
+use Rattle.cursors.specs.InWords.{pollAt, knownAt, readyAt, storedWords, storedKey, storedAt, Reads, written, Stands, ReadyMoved}
 
 -- ---- the header
 
@@ -47,9 +47,15 @@ module _ (h : Head) (rows conns places : ℕ) (z : List ℕ) where
   ready-in = ap (λ (x : Head). x .readyCursor) back
 
   -- other words in the header
-  over : (n : Numbers) → splice (splice (splice (headWords h rows conns places ++ z) pollAt (pollWords (n .next))) knownAt (cursorWords (n .known))) readyAt (cursorWords (n .ready)) ≡ headWords (withNumbers n h) rows conns places ++ z
+  over : (n : Numbers) → splice (splice (splice (headWords h rows conns places ++ z) pollAt (pollWords (n .next))) knownAt (cursorWords (n .known))) readyAt (cursorWords (n .ready)) ≡ headWords
+      (withNumbers n h) rows conns places ++ z
   unfolding splice
   over n = rw (head-words h rows conns places, head-words (withNumbers n h) rows conns places, poll-words (n .next), cursor-words (n .known), cursor-words (n .ready))
+
+  over-ready : (k : Option Key) → splice (headWords h rows conns places ++ z) readyAt (cursorWords k) ≡ headWords
+      (withNumbers (record { next = h .nextPoll; known = h .knownCursor; ready = k }) h) rows conns places ++ z
+  unfolding splice
+  over-ready k = rw (head-words h rows conns places, head-words (withNumbers (record { next = h .nextPoll; known = h .knownCursor; ready = k }) h) rows conns places, cursor-words k)
 
 -- ---- bytes
 
@@ -57,7 +63,8 @@ module _ (h : Head) (rows conns places : ℕ) (z : List ℕ) where
 abbrev behind : Flat → List ℕ
 behind f = rowPart (f .head .limit) (f .rows) ++ (connPart (f .head .limit) (f .conns) ++ placePart (f .head .places) (f .places))
 
-pub loads : {b : List ℕ} (f : Fields) (c : Cursors) → Reads b f → timeNum (c .next) ≡ timeNum (f .next) → maybeKeyNum (c .known) ≡ storedKey (f .known) → maybeKeyNum (c .ready) ≡ storedKey (f .ready) → Loads b c
+pub loads : {b : List ℕ} (f : Fields) (c : Cursors) → Reads b f → timeNum (c .next) ≡ timeNum (f .next) → maybeKeyNum (c .known) ≡ storedKey (f .known) → maybeKeyNum (c .ready) ≡ storedKey
+    (f .ready) → Loads b c
 loads {b} f c r en ek er s w =
     let h = (flatOf s) .head in
     let a = length ((flatOf s) .rows) in
@@ -70,7 +77,8 @@ loads {b} f c r en ek er s w =
     let y : maybeKeyNum (c .ready) ≡ s .readyCursor = er ∙ ap storedKey (r .ready) ∙ ap (λ (x : List ℕ). storedKey (storedAt x readyAt)) e ∙ ready-in h a d q z in
     (λ i. record { next = n i; known = k i; ready = y i })
 
-pub saves : {b b′ : List ℕ} (f : Fields) (c : Cursors) → length b′ ≡ length b → words b′ ≡ written f (words b) → f .next ≡ c .next → Stands (f .known) (maybeKeyNum (c .known)) → Stands (f .ready) (maybeKeyNum (c .ready)) → Saves b b′ c
+pub saves : {b b′ : List ℕ} (f : Fields) (c : Cursors) → length b′ ≡ length b → words b′ ≡ written f (words b) → f .next ≡ c .next → Stands (f .known) (maybeKeyNum (c .known)) → Stands (f .ready)
+    (maybeKeyNum (c .ready)) → Saves b b′ c
 saves {b} {b′} f c l e en ek er s w =
     let h = (flatOf s) .head in
     let a = length ((flatOf s) .rows) in
@@ -81,7 +89,7 @@ saves {b} {b′} f c l e en ek er s w =
       words-are = e ∙ rw (en, ek, er, words-framed w) (over h a d q (behind (flatOf s)) (numbersOf c)) ∙ sym (framed-is (flatOf (withCursors (numbersOf c) s)));
     }
 
--- ---- the known cursor by itself
+-- ---- a cursor by itself
 
 module _ {b : List ℕ} (s : State) (w : Writes b s) where
   abbrev flat : Flat
@@ -96,6 +104,17 @@ module _ {b : List ℕ} (s : State) (w : Writes b s) where
   pub known-read : storedKey (storedAt (words b) knownAt) ≡ s .knownCursor
   known-read = ap (λ (x : List ℕ). storedKey (storedAt x knownAt)) in-head ∙ known-in (flat .head) (length (flat .rows)) (length (flat .conns)) (length (flat .places)) (behind flat)
 
+  pub ready-read : storedKey (storedAt (words b) readyAt) ≡ s .readyCursor
+  ready-read = ap (λ (x : List ℕ). storedKey (storedAt x readyAt)) in-head ∙ ready-in (flat .head) (length (flat .rows)) (length (flat .conns)) (length (flat .places)) (behind flat)
+
+pub ready-moved : {b b′ : List ℕ} (c : Stored) → length b′ ≡ length b → words b′ ≡ splice (words b) readyAt (storedWords c) → ReadyMoved b b′ c
+ready-moved {b} {b′} c l e k t s w =
+    let f = flatOf s in
+    record {
+      long = l ∙ w .long;
+      words-are = e ∙ rw (t, words-framed w) (over-ready (f .head) (length (f .rows)) (length (f .conns)) (length (f .places)) (behind f) k) ∙ sym (framed-is (flatOf (withReadyCursor k s)));
+    }
+
 -- a cursor in words says the cursor that it stands for: it would be read so out of a header
 pub stands-key : (c : Stored) (k : Option Key) → Stands c k → storedKey c ≡ k
 stands-key c k e = ap (λ (w : List ℕ). storedKey (storedAt w 0)) (e ∙ cursor-words k) ∙ known-in (record { limit = 0; places = 0; nextPoll = none; knownCursor = k; readyCursor = none }) 0 0 0 []
@@ -107,7 +126,8 @@ module _ {b b′ : List ℕ} (c c′ : Cursors) (l : Loads b c) (v : Saves b b�
   saved g e = subst (λ (n : Numbers). Writes b′ (withCursors n s)) (e ∙ ap g (l s w)) (v s w)
 
   -- the poll gate
-  pub gated : (clock : ℕ) (r : Bool) → r ≡ dueAt clock (timeNum (c .next)) → numbersOf c′ ≡ gateAt clock (numbersOf c) → (r ≡ dueAt clock (s .nextPoll)) × Writes b′ (withNextPoll (nextPollAfter clock (s .nextPoll)) s)
+  pub gated : (clock : ℕ) (r : Bool) → r ≡ dueAt clock (timeNum (c .next)) → numbersOf c′ ≡ gateAt clock (numbersOf c) → (r ≡ dueAt clock (s .nextPoll)) × Writes b′
+      (withNextPoll (nextPollAfter clock (s .nextPoll)) s)
   gated clock r d e = (d ∙ ap (λ (n : Numbers). dueAt clock (n .next)) (l s w), saved (gateAt clock) e)
 
   -- a cursor set

@@ -8,7 +8,8 @@ use lib.ListN.{getD, drop}
 use Rattle.ident.specs.Number.{Key}
 use Rattle.words.specs.Words.{words, splice}
 use Rattle.regions.specs.Rows.{quadWords, readQuad, quadNumber}
-use Rattle.store.specs.Image.{pollWords, cursorWords}
+use Rattle.machine.specs.State.{State, withReadyCursor}
+use Rattle.store.specs.Image.{pollWords, cursorWords, Writes}
 use Rattle.store.specs.Read.{pollIs, cursorIs}
 use Rattle.cursors.specs.declared.Stored.{Stored}
 use Rattle.cursors.specs.declared.Fields.{Fields}
@@ -47,3 +48,7 @@ written f w = splice (splice (splice w pollAt (pollWords (timeNum (f .next)))) k
 -- c is how a store holds the cursor k
 abbrev pub Stands : Stored → Option Key → Type 0
 Stands c k = storedWords c ≡ cursorWords k
+
+-- whatever state the bytes b write, b′ write it with the ready cursor that c stands for
+abbrev pub ReadyMoved : List ℕ → List ℕ → Stored → Type 0
+ReadyMoved b b′ c = (k : Option Key) → Stands c k → (s : State) → Writes b s → Writes b′ (withReadyCursor k s)

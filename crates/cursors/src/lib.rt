@@ -14,7 +14,7 @@ ghost use Rattle.machine.specs.Wrapper.{dueAt, nextPollAfter};
 ghost use Rattle.store.specs.Image.{headSize, pollWords};
 ghost use Rattle.store.specs.Read.{pollIs, cursorIs};
 ghost use Rattle.cursors.specs.Numbers.{timeNum, numbersOf, withKnown, withReady, gateAt, Loads, Saves, Gated, KnownMoved};
-ghost use Rattle.cursors.specs.InWords.{pollAt, storedWords, storedKey, storedAt, Reads, written, Stands};
+ghost use Rattle.cursors.specs.InWords.{pollAt, storedWords, storedKey, storedAt, Reads, written, Stands, ReadyMoved};
 
 pub enum MaybeTime {
     None,
@@ -37,7 +37,7 @@ const NEXT: usize = 6;
 
 pub const KNOWN: usize = 8;
 
-const READY: usize = 13;
+pub const READY: usize = 13;
 
 // A cursor as a store holds it: tag 0 none, 1 Txid, 2 Wtxid.
 pub struct Stored {
@@ -295,4 +295,12 @@ pub fn move_known(s: &mut [u8], last: Stored)
     let k = key_in(last);
     set_known(&mut c, k);
     save(s, c);
+}
+
+// The ready cursor of a store becomes `last`.
+pub fn move_ready(s: &mut [u8], last: Stored)
+    requires { ⌜ 8 * headSize ≤ length (now s) ⌝ }
+    ensures { λ _. ⌜ ReadyMoved (now (s .entry)) (now (s .exit)) last ⌝ }
+{
+    set_cursor(s, READY, last);
 }

@@ -43,7 +43,7 @@ one-hash : (z : List ℕ) → firstHashes 1 z ≡ number 256 (take hashBytes z) 
 unfolding recs
 one-hash z = refl
 
-hash-more : (u : List ℕ) (j h : ℕ) → h < top → hashBytes * (j + 1) ≤ length u → firstHashes (j + 1) (splice u (hashBytes * j) (digits 256 hashBytes h)) ≡ firstHashes j u ++ (h ∷ [])
+pub hash-more : (u : List ℕ) (j h : ℕ) → h < top → hashBytes * (j + 1) ≤ length u → firstHashes (j + 1) (splice u (hashBytes * j) (digits 256 hashBytes h)) ≡ firstHashes j u ++ (h ∷ [])
 hash-more u j h small l =
     recs-set hashBytes (number 256) (j + 1) u j (digits 256 hashBytes h) (omega arith) l (length-digits 256 hashBytes h)
     ∙ ap (λ (x : List ℕ). set x j (number 256 (digits 256 hashBytes h))) (recs-add hashBytes (number 256) j 1 u ∙ ap (λ (x : List ℕ). firstHashes j u ++ x) (one-hash (drop (hashBytes * j) u)))

@@ -33,7 +33,7 @@ use Rattle.failing.specs.Changes.{firstHashes, led}
 -- ---- a key before the others
 
 -- x is written over the front of u, and a behind it
-behind-front : (x a u : List ℕ) (n : ℕ) → length x ≡ n → take n (x ++ drop n u) ++ (written a (drop n (x ++ drop n u)) ++ []) ≡ written (x ++ a) u
+pub behind-front : (x a u : List ℕ) (n : ℕ) → length x ≡ n → take n (x ++ drop n u) ++ (written a (drop n (x ++ drop n u)) ++ []) ≡ written (x ++ a) u
 unfolding written
 behind-front x a u n l =
     let e : length (x ++ a) ≡ n + length a = length-append x a ∙ ap (λ (m : ℕ). m + length a) l in

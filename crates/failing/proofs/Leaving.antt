@@ -106,7 +106,7 @@ module _ (st : State) (s : Sound st) (k : Key) (small : k .hash < top) (n : ℕ)
   pub free-here : ownerIs n ((at k (freed .table)) .owner) ≡ false
   free-here = none-owns n (unowned-at k (freed .table) small (freed-sound .bounded .ordered) free-hash)
 
-  free-other : ownerIs n ((at (other k) (freed .table)) .owner) ≡ false
+  pub free-other : ownerIs n ((at (other k) (freed .table)) .owner) ≡ false
   free-other = none-owns n (unowned-at (other k) (freed .table) small (freed-sound .bounded .ordered) free-hash)
 
   module _ (v : ℕ) (w : v < word) where
@@ -130,7 +130,7 @@ module _ (st : State) (s : Sound st) (k : Key) (small : k .hash < top) (n : ℕ)
     unfolding left without
     left-none r z = rw z
 
-    once-is : once .table ≡ change k (left n v) (st .table)
+    pub once-is : once .table ≡ change k (left n v) (st .table)
     once-is =
         change-fuse k unowned (left n v) 0 (st .table) (λ r. refl) left-none (s .bounded .ordered)
         ∙ change-same k (λ r. left n v (unowned r)) (left n v) 0 (st .table) (s .bounded .ordered) (left-freed (at k (st .table)) owns)

@@ -27,7 +27,7 @@ const FLAG: u64 = 1;
 const ENQUEUED: u64 = 3;
 
 // Whether the connection n owns the request at k, and its package is not Enqueued.
-fn releasable(s: &[u8], k: ident::Key, n: u64) -> bool
+pub fn releasable(s: &[u8], k: ident::Key, n: u64) -> bool
     requires { ⌜ Kept (now s) ⌝ }
     ensures { λ r. ⌜ Tells (now (s .entry)) (λ t. r ≡ machine.releasable n (at (keyNum k) t)) ⌝ }
 {
@@ -53,7 +53,7 @@ fn close(s: &mut [u8], k: ident::Key)
 }
 
 // Owner, flag, package and parents of the request at k go; n is the owner.
-fn clear(s: &mut [u8], k: ident::Key, n: u64)
+pub fn clear(s: &mut [u8], k: ident::Key, n: u64)
     requires { ⌜ Kept (now s) ⌝ }
     ensures { λ _. ⌜ Makes (now (s .entry)) (now (s .exit)) (λ t. ownerIs n ((at (keyNum k) t) .owner) ≡ true) (change (keyNum k) unowned) ⌝ }
 {
@@ -72,7 +72,7 @@ fn withdraw(s: &mut [u8], k: ident::Key, n: u64)
 }
 
 // The connection n, which does not own the request at k, leaves it; every remaining candidate there gets the ready time clock.
-fn leave(s: &mut [u8], k: ident::Key, n: u64, clock: u64)
+pub fn leave(s: &mut [u8], k: ident::Key, n: u64, clock: u64)
     requires { ⌜ Kept (now s) × Tells (now s) (λ t. ownerIs n ((at (keyNum k) t) .owner) ≡ false) ⌝ }
     ensures { λ _. ⌜ Makes (now (s .entry)) (now (s .exit)) (λ t. Unit {0}) (change (keyNum k) (machine.left n clock)) ⌝ }
 {
@@ -178,7 +178,7 @@ pub fn package_info_owner(s: &[u8], k: ident::Key, clock: u64) -> u64
 }
 
 // Whether the connection n is asked for package info of the request at k.
-fn info_owned(s: &[u8], k: ident::Key, n: u64) -> bool
+pub fn info_owned(s: &[u8], k: ident::Key, n: u64) -> bool
     requires { ⌜ Kept (now s) ⌝ }
     ensures { λ r. ⌜ Tells (now (s .entry)) (λ t. r ≡ infoOwned n (at (keyNum k) t)) ⌝ }
 {

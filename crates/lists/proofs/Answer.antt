@@ -26,10 +26,14 @@ key-put {u} n v k h e p q =
     ∙ splice-more u (8 * (n * 5)) (n * 5 * 8 + 8) (digits 256 8 v) (digits 256 32 (k .hash)) (omega arith) (omega arith)
     ∙ rw (a, e, append-nil)
 
+pub keys-append : (ks js : List Key) → keysAnswer (ks ++ js) ≡ keysAnswer ks ++ keysAnswer js
+unfolding keysAnswer
+keys-append [] js = refl
+keys-append (k ∷ ks) js = ap (λ (x : List ℕ). keyAnswer k ++ x) (keys-append ks js) ∙ sym (append-assoc (keyAnswer k) (keysAnswer ks) (keysAnswer js))
+
 keys-more : (ks : List Key) (k : Key) → keysAnswer (ks ++ (k ∷ [])) ≡ keysAnswer ks ++ keyAnswer k
 unfolding keysAnswer
-keys-more [] k = append-nil (keyAnswer k)
-keys-more (j ∷ ks) k = ap (λ (x : List ℕ). keyAnswer j ++ x) (keys-more ks k) ∙ sym (append-assoc (keyAnswer j) (keysAnswer ks) (keyAnswer k))
+keys-more ks k = keys-append ks (k ∷ []) ∙ ap (λ (x : List ℕ). keysAnswer ks ++ x) (append-nil (keyAnswer k))
 
 over-front : (x u : List ℕ) → written x u ≡ splice u 0 x
 unfolding written splice

@@ -1,3 +1,4 @@
 pub mod KeysBack
 pub mod Given
 pub mod Answer
+pub mod Inventory

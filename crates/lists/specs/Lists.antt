@@ -4,6 +4,7 @@ use Prim.Native.Nat.{ℕ, _/_}
 use mathlib.Core.List.{List}
 use lib.ListN.{length, take, drop}
 use lib.Dec.{eqb}
+use Rattle.ident.specs.declared.Kind.{Kind}
 use Rattle.ident.specs.declared.Kind.the-variants.{Txid, Wtxid}
 use Rattle.ident.specs.If.{if_then_else_}
 use Rattle.ident.specs.Number.{Key}
@@ -15,9 +16,13 @@ use Rattle.machine.specs.Call.{keyBytes}
 unfoldable pub hashesIn : List ℕ → List ℕ
 hashesIn b = recs hashBytes (number 256) (length b / hashBytes) b
 
--- the key that 40 bytes of an answer buffer hold: a word that is 0 for Txid and else Wtxid, then the hash
+-- a word that is 0 for Txid and else Wtxid
+abbrev pub kindIn : ℕ → Kind
+kindIn v = if eqb v 0 then Txid else Wtxid
+
+-- the key that 40 bytes of an answer buffer hold: the word of its kind, then the hash
 unfoldable pub keyIn : List ℕ → Key
-keyIn b = record { kind = if eqb (number 256 (take 8 b)) 0 then Txid else Wtxid; hash = number 256 (drop 8 b) }
+keyIn b = record { kind = kindIn (number 256 (take 8 b)); hash = number 256 (drop 8 b) }
 
 -- the first n keys of an answer buffer
 unfoldable pub keysIn : ℕ → List ℕ → List Key

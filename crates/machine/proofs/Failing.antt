@@ -163,7 +163,7 @@ length-packagesIn : (i : Item) (l : List Item) → length (packagesIn (i ∷ l))
 unfolding packagesIn
 length-packagesIn i l = elim (test (isType msgPkgTxns (i .kind))) [ inl e ↦ rw e (omega arith) | inr e ↦ rw e (omega arith) ]
 
-length-notFoundEach : {m : Limits} {Q : ℕ} {t : Table} (n now : ℕ) (l : List Item) → Peer n → now < word → Each (λ (i : Item). i .hash < top) l → Bounded m Q t
+pub length-notFoundEach : {m : Limits} {Q : ℕ} {t : Table} (n now : ℕ) (l : List Item) → Peer n → now < word → Each (λ (i : Item). i .hash < top) l → Bounded m Q t
     → length ((notFoundEach m n now l t) .keys) + length (packagesIn l) + maxParents * placesHeld ((notFoundEach m n now l t) .table) ≤ length l + maxParents * placesHeld t
 unfolding notFoundEach packagesIn
 length-notFoundEach n now [] p w s b = omega arith

@@ -16,6 +16,7 @@ pub mod Same
 pub mod OneKey
 pub mod Batches
 pub mod Edges
+pub mod Owning
 pub mod FairLists
 pub mod Fairness
 pub mod Sweeps

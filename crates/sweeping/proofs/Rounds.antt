@@ -41,7 +41,7 @@ one-row : (r : Row) → keys (join r []) ≡ keyAt r ∷ keys []
 unfolding join keys
 one-row r = refl
 
-keys-step : (r : Row) (rs : List Row) → keys (gather (r ∷ rs)) ≡ (if lastRow r rs then keyAt r ∷ keys (gather rs) else keys (gather rs))
+pub keys-step : (r : Row) (rs : List Row) → keys (gather (r ∷ rs)) ≡ (if lastRow r rs then keyAt r ∷ keys (gather rs) else keys (gather rs))
 unfolding gather lastRow
 keys-step r [] = one-row r
 keys-step r (q ∷ rs) = join-keys r q (gather rs)
@@ -133,7 +133,7 @@ unfolding keys
 keys-bare [] = refl
 keys-bare (r ∷ t) = ap (λ (l : List Key). r .key ∷ l) (keys-bare t)
 
-keys-rows : (lo : ℕ) (t : Table) → Ordered lo t → All Lawful t → All Filled t → keys (gather (rowsOf t)) ≡ keys t
+pub keys-rows : (lo : ℕ) (t : Table) → Ordered lo t → All Lawful t → All Filled t → keys (gather (rowsOf t)) ≡ keys t
 keys-rows lo t o l f = ap keys (gather-table lo t o l f) ∙ keys-bare t
 
 module _ (t : Table) (o : Ordered 0 t) (l : All Lawful t) (f : All Filled t) {n : ℕ} (long : n ≡ length (rowsOf t)) where

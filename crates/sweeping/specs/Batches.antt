@@ -4,7 +4,7 @@ use Prim.Native.Nat.{ℕ, _+_, _*_, _≤_}
 use mathlib.Core.Path.{_≡_}
 use mathlib.Core.Bool.{Bool, true, not}
 use mathlib.Core.List.{List, [], _∷_, _++_}
-use mathlib.Core.Option.{some}
+use mathlib.Core.Option.{Option, some}
 use lib.Dec.{eqb}
 use lib.ListN.{length, take}
 use Rattle.ident.specs.Number.{Key, place}
@@ -12,7 +12,7 @@ use Rattle.words.specs.Words.{splice}
 use Rattle.regions.specs.declared.Row.{Row}
 use Rattle.machine.specs.State.{State}
 use Rattle.machine.specs.Table.{keys}
-use Rattle.machine.specs.Sound.{Sound}
+use Rattle.machine.specs.Sound.{CursorFits, Sound}
 use Rattle.machine.specs.Sweep.{round, lastOf, handed}
 use Rattle.machine.specs.Call.{keyBytes}
 use Rattle.machine.specs.Step.{keyAnswer, keysAnswer, written}
@@ -58,7 +58,12 @@ pub record Walks (b : List ℕ) (from to most : ℕ) (u u′ : List ℕ) (v w : 
   pub near : w .count + from ≤ v .count + to
   pub hands : (f : Flat) (all rest : List Key) (u₀ : List ℕ) → Shows b f → Handing most all u₀ u v (keysOver from to (f .rows) ++ rest) → Handing most all u₀ u′ w rest
 
--- the rows from r on, and then those before r, have the keys after the known cursor, and then those round to it
+-- the rows from r on, and then those before r, have the keys after the cursor k, and then those round to it
+pub record AfterCursor (b : List ℕ) (k : Option Key) (r : ℕ) : Type 0 where
+  pub most : r ≤ rowsIn b
+  pub round-is : CursorFits k → (st : State) → Sound st → Writes b st → keysOver r (rowsIn b) (rowsOf (st .table)) ++ keysOver 0 r (rowsOf (st .table)) ≡ round k (keys (st .table))
+
+-- the same of the known cursor
 pub record AfterKnown (b : List ℕ) (r : ℕ) : Type 0 where
   pub most : r ≤ rowsIn b
   pub round-is : (st : State) → Sound st → Writes b st → keysOver r (rowsIn b) (rowsOf (st .table)) ++ keysOver 0 r (rowsOf (st .table)) ≡ round (st .knownCursor) (keys (st .table))

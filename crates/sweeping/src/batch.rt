@@ -14,8 +14,8 @@ ghost use Rattle.store.specs.Image.{Shows};
 ghost use Rattle.store.specs.Read.{cursorIs};
 ghost use Rattle.store.specs.Shown.{limitIn, rowsIn, Shown, Kept};
 ghost use Rattle.announcing.specs.Evicts.{part};
-ghost use Rattle.cursors.specs.InWords.{Stands};
-ghost use Rattle.sweeping.specs.Batches.{lastRow, Put, Walks, AfterKnown};
+ghost use Rattle.cursors.specs.InWords.{storedKey, Stands};
+ghost use Rattle.sweeping.specs.Batches.{lastRow, Put, Walks, AfterCursor, AfterKnown};
 
 // How many keys are handed out, and the last of them as a store holds a cursor.
 pub struct Batch {
@@ -42,7 +42,7 @@ fn same_key(a: regions::Row, b: regions::Row) -> bool
 }
 
 // Whether r, the row before the j-th, is the last of its key among those before `to`.
-fn ends_key(s: &[u8], r: regions::Row, j: usize, to: usize) -> bool
+pub fn ends_key(s: &[u8], r: regions::Row, j: usize, to: usize) -> bool
     requires { ⌜ Shown (now s) × (j ≤ to) × (to ≤ rowsIn (now s)) ⌝ }
     ensures { λ e. ⌜ ((f : Flat) → Shows (now (s .entry)) f → e ≡ lastRow r (part j to (f .rows))) ⌝ }
 {
@@ -85,7 +85,7 @@ pub fn keys_in(s: &[u8], from: usize, to: usize, most: usize, out: &mut [u8], v:
     w
 }
 
-// ---- the known cursor
+// ---- a cursor
 
 // The kind of a cursor that is not none, as rows have it.
 fn cursor_kind(tag: u64) -> u64
@@ -94,16 +94,24 @@ fn cursor_kind(tag: u64) -> u64
     if tag == 1 { 0 } else { 1 }
 }
 
-// The first row whose key comes after the known cursor; the first of all, if there is no cursor.
-pub fn after_known(s: &[u8]) -> usize
+// The first row whose key comes after the cursor c; the first of all, if that is none.
+pub fn after_cursor(s: &[u8], c: cursors::Stored) -> usize
     requires { ⌜ Kept (now s) ⌝ }
-    ensures { λ r. ⌜ AfterKnown (now (s .entry)) r ⌝ }
+    ensures { λ r. ⌜ AfterCursor (now (s .entry)) (storedKey c) r ⌝ }
 {
-    let c = cursors::cursor_at(s, cursors::KNOWN);
     if c.tag == 0 {
         return 0;
     }
     let hash = c.hash;
     let kind = cursor_kind(c.tag);
     store::rows::seek_row(s, regions::Key { kind, hash }, true)
+}
+
+// The first row whose key comes after the known cursor.
+pub fn after_known(s: &[u8]) -> usize
+    requires { ⌜ Kept (now s) ⌝ }
+    ensures { λ r. ⌜ AfterKnown (now (s .entry)) r ⌝ }
+{
+    let c = cursors::cursor_at(s, cursors::KNOWN);
+    after_cursor(s, c)
 }

@@ -1,26 +1,18 @@
 use native.Mathlib.Omega.{arith}
 use borrow.Author.Needs.{needs}
 use Rattle.requests.proofs.Keeping.{kept-shown}
-use Rattle.sweeping.proofs.Known.{after-none, after-some}
+use Rattle.sweeping.proofs.Known.{after-known}
 use Rattle.sweeping.proofs.batch.after_known.Statement.{statement}
 use Rattle.sweeping.proofs.batch.after_known.Tie as tie
 
 cursor-at-requires : tie.Need-cursor-at-requires
 cursor-at-requires c κs = let z = kept-shown (c .before .pre) .sizes in omega arith
 
+after-cursor-requires : tie.Need-after-cursor-requires
+after-cursor-requires c κs = search needs
+
 returns : tie.Need-returns
-returns c = after-none (c .before .before .cursor-at .ensures) (c .if1 .taken)
-
-cursor-kind-requires : tie.Need-cursor-kind-requires
-cursor-kind-requires c κs = search needs
-
-seek-row-requires : tie.Need-seek-row-requires
-seek-row-requires c κs = kept-shown (c .before .before .before .before .before .before .pre)
-
-returns-2 : tie.Need-returns-2
-returns-2 c = after-some (c .before .before .before .before .before .cursor-at .ensures) (c .before .cursor-kind .result) (c .before .cursor-kind .ensures .0) (c .before .cursor-kind .ensures .1 (omega arith)) (c .seek-row .ensures)
+returns c = after-known (c .before .cursor-at .ensures) (c .after-cursor .ensures)
 
 pub after-known-spec : {M : Type 1} → statement M
-after-known-spec =
-    tie.close
-    (tie.spec cursor-at-requires returns cursor-kind-requires seek-row-requires returns-2)
+after-known-spec = tie.close (tie.spec cursor-at-requires after-cursor-requires returns)

@@ -1,0 +1,11 @@
+-- `lists::items` meets its contract. Assumes nothing.
+use mathlib.Core.Path.{sym}
+use Rattle.lists.proofs.Inventory.{length-items}
+use Rattle.lists.proofs.items.Statement.{statement}
+use Rattle.lists.proofs.items.Tie as tie
+
+returns : tie.Need-returns
+returns c = sym (length-items (c .args .b .now))
+
+pub items-spec : {M : Type 1} → statement M
+items-spec = tie.close (tie.spec returns)
