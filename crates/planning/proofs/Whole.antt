@@ -1,0 +1,158 @@
+-- A plan whose scan is one phase: from the first key to the answer.
+-- Assumes nothing.
+use Prim.Native.Nat.{ℕ, min, _+_, _-_, _≤_, _<_}
+use mathlib.Core.Path.{_≡_, sym, ap, subst, _∙_}
+use mathlib.Core.Bool.{Bool}
+use mathlib.Core.List.{List, [], map}
+use mathlib.Core.Option.{Option}
+use native.Mathlib.Omega.{arith}
+use lib.ListN.{length, getD}
+use Rattle.ident.specs.Number.{Key}
+use Rattle.machine.specs.Limits.{word, maxRequestChecks}
+use Rattle.machine.specs.State.{Entry, State, onTable, withReadyCursor}
+use Rattle.machine.specs.Step.{entriesAnswer, written}
+use Rattle.machine.specs.Table.{keys}
+use Rattle.machine.specs.Plan as machine
+use Rattle.machine.specs.Claim.{elem}
+use Rattle.machine.specs.Sound.{Sound}
+use Rattle.machine.specs.Sweep.{round}
+use Rattle.machine.specs.Typed.{Each, KeyTyped}
+use Rattle.machine.proofs.Chosen.{sparse-phase, sparse-held, length-phase}
+use Rattle.machine.proofs.Plan.{bounded-expired, keys-typed, round-typed}
+use Rattle.machine.proofs.Kept.{sound-table}
+use Rattle.machine.proofs.Tests.{never}
+use Rattle.store.specs.Flat.{flatOf, rowsOf}
+use Rattle.store.specs.Image.{Writes}
+use Rattle.store.specs.Shown.{limitIn, Kept}
+use Rattle.store.proofs.BytesBack.{Bytes}
+use Rattle.store.proofs.Frame.{sizes}
+use Rattle.store.proofs.Stored.{written-bytes}
+use Rattle.announcing.specs.Evicts.{entryAt}
+use Rattle.cursors.specs.InWords.{Stands}
+use Rattle.planning.specs.declared.selecting.Scan.{Scan}
+use Rattle.planning.specs.declared.answering.Reply.{Reply}
+use Rattle.planning.specs.Selecting.{markAll, until, Marks, Numbered, Scanning, Marked, GivenBack, RowsOfStore, EntriesPut}
+use Rattle.planning.specs.Phasing.{Phased}
+use Rattle.planning.specs.Ordering.{SortedRows}
+use Rattle.planning.specs.Answering.{Fresh, Closed, Plans, asks, Asks, AsksOf, PlansOf}
+use Rattle.planning.specs.Expiring.{Expires}
+use Rattle.planning.proofs.GivingBack.{some-entry}
+use Rattle.planning.proofs.InOrder.{sort-count}
+use Rattle.planning.proofs.SameRows.{marked-rows, numbered-as}
+
+-- ---- before the first key
+
+pub fresh-scan : {b p : List ℕ} (now : ℕ) (st : State) (v : Scan) → Fresh v → Sound st → Writes b st → Scanning now st machine.start b p v
+unfolding markAll
+fresh-scan now st v f s w = record {
+  sound = s;
+  marks = record { sound = s; writes = w; free = tt; count = f .chosen; numbers = λ j d h. absurd (omega (arith, h, f .chosen)) };
+  considered = f .considered;
+  last = f .last;
+}
+
+-- ---- after the last
+
+module _ {b p : List ℕ} {now n : ℕ} {st : State} {l : List Entry} (s : Sound st) (m : Marks now st l b p n) where
+  same : map entryAt (rowsOf (st .table)) ≡ map entryAt (rowsOf (markAll (until now) l (st .table)))
+  same = sym (marked-rows (until now) l (st .table) (s .bounded .ordered) (m .free))
+
+  numbers-in : RowsOfStore b p n
+  numbers-in j h =
+      let e = some-entry l (omega (arith, m .count)) in
+      let g : Numbered (rowsOf (markAll (until now) l (st .table))) (getD p j 0) (getD l j e) = numbered-as same (m .numbers j e h) in
+      omega (arith, g .inside, (sizes (m .writes)) .rows)
+
+pub rows-of : {b p : List ℕ} {n : ℕ} → Marked b p n → Kept b × RowsOfStore b p n
+rows-of m = (
+  record { state = onTable (markAll (until (m .clock)) (m .chosen) (m .state .table)) (m .state); sound = m .marks .sound; writes = m .marks .writes },
+  numbers-in (m .sound) (m
+      .marks),
+)
+
+pub closed : {b b′ p q : List ℕ} (u : List ℕ) {u′ : List ℕ} {n : ℕ} → SortedRows b p n q → EntriesPut b q n u u′ → GivenBack b b′ p n → Closed b b′ p n u u′
+closed u z e g now st l s m =
+    let f = flatOf (onTable (markAll (until now) l (st .table)) st) in
+    let a = z .sorted f l (m .writes) (record { count = m .count; numbers = λ j d h. numbered-as (same s m) (m .numbers j d h) }) in
+    (g now st l s m, e f (machine.sortByPriority l) (m .writes) (a .count) (a .numbers))
+
+-- the store is byte for byte the one before the scan
+pub unchanged : {b b₁ b₂ p : List ℕ} {now n : ℕ} {st : State} {l : List Entry} → Bytes b → Bytes b₂ → Writes b st → Sound st → Marks now st l b₁ p n → GivenBack b₁ b₂ p n → b₂ ≡ b
+unchanged {b} {b₂ = b₂} {now = now} {st = st} {l} x y w s m g = written-bytes b₂ st y (g now st l s m) ∙ sym (written-bytes b st x w)
+
+-- ---- a plan of which no parent is kept is one phase
+
+module _ (now : ℕ) (st : State) (asked : Option (List Key)) where
+  abbrev without : State
+  without = onTable ((machine.expired now st) .table) st
+
+  one-phase : (machine.expired now st) .keys ≡ [] → machine.scanned now asked st ≡ asks now asked without
+  unfolding machine.phase
+  one-phase e =
+      let t = (machine.expired now st) .table in
+      ap (λ (ks : List Key). machine.phase now t (machine.askedKeys asked (st .readyCursor) t) (machine.phase now t ks machine.start)) e
+
+  pub as-plan : {b u u′ : List ℕ} {r : Reply} → (machine.expired now st) .keys ≡ [] → Asks now asked without b u u′ r → Plans now asked st b u u′ r
+  unfolding machine.plan
+  as-plan {b} {u} e a =
+      let q = sym (one-phase e) in
+      record {
+        count = a .count ∙ sym (sort-count ((asks now asked without) .chosen)) ∙ ap (λ (c : machine.Scan). length (machine.sortByPriority (c .chosen))) q;
+        entries = a .entries ∙ ap (λ (c : machine.Scan). written (entriesAnswer (machine.sortByPriority (c .chosen))) u) q;
+        considered = a .considered ∙ ap (λ (c : machine.Scan). c .considered) q;
+        state = subst (λ (c : machine.Scan). Writes b (withReadyCursor (machine.cursorAfter asked (c .last) (st .readyCursor)) without)) q (a .state);
+      }
+
+-- the owners that are due expire first
+pub after-expiry : {b b₁ b₂ u u′ : List ℕ} {kept : Bool} (now : ℕ) (asked : Option (List Key)) {r : Reply} → now < word → Expires b b₁ now kept → AsksOf b₁ b₂ u u′ now asked r
+    → PlansOf b b₂ u u′ now asked r
+after-expiry now asked w x a st s o e =
+    as-plan now st asked e (a (onTable ((machine.expired now st) .table) st) (sound-table s (bounded-expired now st w s)) (x .table st s o))
+
+pub expired-kept : {b b₁ : List ℕ} {now : ℕ} {kept : Bool} → now < word → Expires b b₁ now kept → Kept b → Kept b₁
+expired-kept {now = now} w x p = record {
+  state = onTable ((machine.expired now (p .state)) .table) (p .state);
+  sound = sound-table (p .sound) (bounded-expired now (p .state) w (p .sound));
+  writes = x .table (p .state) (p .sound) (p .writes);
+}
+
+pub expired-limit : {b b₁ : List ℕ} {now : ℕ} {kept : Bool} → Expires b b₁ now kept → Kept b → limitIn b₁ ≡ limitIn b
+expired-limit x p = omega (arith, (sizes (p .writes)) .limit, (sizes (x .table (p .state) (p .sound) (p .writes))) .limit)
+
+-- ---- the phase, and what comes after it
+
+abbrev keysFor : Option (List Key) → State → List Key
+keysFor asked st = machine.askedKeys asked (st .readyCursor) (st .table)
+
+pub round-keys : (st : State) → Sound st → Each KeyTyped (round (st .readyCursor) (keys (st .table)))
+round-keys st s = round-typed (st .readyCursor) (keys (st .table)) (keys-typed 0 (st .table) (s .bounded .ordered))
+
+module _ {b b₁ p p₁ : List ℕ} {now n : ℕ} {v w : Scan} (asked : Option (List Key)) (f : Fresh v) (x : Phased b b₁ p p₁ now (keysFor asked) v w n) where
+  abbrev end : State → machine.Scan
+  end st = machine.phase now (st .table) (keysFor asked st) machine.start
+
+  scan : (st : State) → Sound st → Writes b st → Scanning now st (end st) b₁ p₁ w
+  scan st s o = x .goes st machine.start (fresh-scan now st v f s o)
+
+  pub marked-after : Kept b → Marked b₁ p₁ (w .chosen)
+  marked-after k = record { clock = now; state = k .state; chosen = (end (k .state)) .chosen; sound = k .sound; marks = (scan (k .state) (k .sound) (k .writes)) .marks }
+
+  pub few-chosen : ((st : State) → Sound st → Each KeyTyped (keysFor asked st)) → Kept b → w .chosen ≤ min (maxRequestChecks + 1) (limitIn b)
+  unfolding elem
+  few-chosen typed k =
+      let st = k .state in
+      let t = st .table in
+      let q = k .sound .bounded in
+      let few = length-phase now t (keysFor asked st) machine.start (maxRequestChecks - 1) (omega arith) (omega arith) (omega arith) in
+      let sparse = sparse-held t ((end st) .chosen) (q .filled)
+      (sparse-phase now t (keysFor asked st) machine.start (typed st (k .sound)) (q .ordered) (record { distinct = tt; within = λ x e. never e })) in
+      omega (arith, (scan st (k .sound) (k .writes)) .marks .count, few, sparse, q .fits, (sizes (k .writes)) .limit)
+
+  -- what is left to do is the ready cursor
+  pub planned : {b₂ b₃ : List ℕ} (u : List ℕ) {u′ : List ℕ} → Closed b₁ b₂ p₁ (w .chosen) u u′
+      → ((st : State) (k : Option Key) → Stands (w .last) k → Writes b₂ st → Writes b₃ (withReadyCursor (machine.cursorAfter asked k (st .readyCursor)) st))
+      → AsksOf b b₃ u u′ now asked (record { count = w .chosen; considered = w .considered })
+  planned {b₂} {b₃} u {u′} y z st s o =
+      let g = scan st s o in
+      let c = y now st ((end st) .chosen) s (g .marks) in
+      record { count = g .marks .count; entries = c .1; considered = g .considered; state = z st ((end st) .last) (g .last) (c .0) }

@@ -1,0 +1,7 @@
+pub mod Choosing
+pub mod Claiming
+pub mod Selecting
+pub mod Expiring
+pub mod Ordering
+pub mod Phasing
+pub mod Answering

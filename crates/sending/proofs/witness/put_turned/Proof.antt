@@ -1,0 +1,39 @@
+-- `sending::witness::put_turned` meets its contract. Assumes nothing.
+use Prim.Native.Nat.{_*_}
+use mathlib.Core.Path.{ap, _∙_}
+use borrow.Author.Needs.{needs}
+use Rattle.words.specs.Words.{words, splice}
+use Rattle.machine.specs.Call.{entryBytes}
+use Rattle.machine.specs.Claim.{forWitness}
+use Rattle.machine.specs.State.{Entry}
+use Rattle.machine.specs.Step.{entryAnswer}
+use Rattle.sending.proofs.witness.put_turned.Statement.{statement}
+use Rattle.sending.proofs.witness.put_turned.Tie as tie
+
+entry-in-requires : tie.Need-entry-in-requires
+entry-in-requires c κs = search needs
+
+for-witness-requires : tie.Need-for-witness-requires
+for-witness-requires c κs = search needs
+
+put-entry-requires : tie.Need-put-entry-requires
+put-entry-requires c κs = search needs
+
+same-length : tie.Need-same-length
+same-length c = search needs
+
+returns : tie.Need-returns
+returns c =
+    let start : tie.Start = c .before .before .before .before .before .before .before .before .before .before .before .before in
+    let a = start .args in
+    let turned = c .before .before .before .before .before .before .for-witness .ensures in
+    record {
+      entry = λ st s w. c .before .before .before .put-entry .ensures ∙ ap (λ (e : Entry). splice (a .out .now) (entryBytes * a .i) (entryAnswer e))
+          (turned .entry st s w ∙ ap (forWitness (words (a .witnesses .now)) (st .table)) (c .before .before .before .before .before .before .before .entry-in .ensures));
+      known = turned .known;
+    }
+
+pub put-turned-spec : {M : Type 1} → statement M
+put-turned-spec =
+    tie.close
+    (tie.spec entry-in-requires for-witness-requires put-entry-requires same-length returns)

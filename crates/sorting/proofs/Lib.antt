@@ -1,0 +1,12 @@
+pub mod Merging
+pub mod Turns
+pub mod Inserting
+pub mod Halves
+pub mod Copies
+pub mod Slotted
+pub mod SlotTurns
+pub mod SlotHalves
+pub mod Reading
+pub mod ReadingSlots
+pub mod Gathering
+pub mod Answers
