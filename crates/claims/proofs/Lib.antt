@@ -1,0 +1,8 @@
+pub mod Known
+pub mod Noting
+pub mod Gathering
+pub mod LastOnes
+pub mod Naming
+pub mod Listing
+pub mod Tearing
+pub mod Undoing

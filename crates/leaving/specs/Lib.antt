@@ -1,0 +1,4 @@
+pub mod Cuts
+pub mod Merges
+pub mod Hands
+pub mod Parting

@@ -1,0 +1,20 @@
+-- `wrapping::offering::offered` meets its contract. Assumes nothing.
+use mathlib.Core.Path.{ap}
+use native.Mathlib.Omega.{arith}
+use Prim.Native.Nat.{ℕ, _+_}
+use Rattle.ident.specs.Words.{itemNum}
+use borrow.Author.Needs.{needs}
+use Rattle.wrapping.proofs.offering.offered.Statement.{statement}
+use Rattle.wrapping.proofs.offering.offered.Tie as tie
+
+delay-requires : tie.Need-delay-requires
+delay-requires c κs = search needs
+
+add-ready : tie.Need-add-ready
+add-ready c = omega arith
+
+returns : tie.Need-returns
+returns c = ap (λ (d : ℕ). record { connection = c .before .args .n; item = itemNum (c .before .args .item); ready = c .before .args .clock + d; preferred = c .before .args .preferred; priority = c .before .args .priority }) (c .delay .ensures .0)
+
+pub offered-spec : {M : Type 1} → statement M
+offered-spec = tie.close (tie.spec delay-requires add-ready returns)

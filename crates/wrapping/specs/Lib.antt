@@ -1,0 +1,3 @@
+pub mod Wraps
+pub mod Waits
+pub mod Merges
