@@ -1,3 +1,4 @@
 pub mod Statuses
 pub mod Failed
 pub mod Typed
+pub mod Wrapped

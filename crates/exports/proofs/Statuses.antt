@@ -10,17 +10,20 @@ use borrow.Author.Tests.{ne-eqb}
 use lib.ListN.{length}
 use Rattle.ident.specs.If.{if_then_else_}
 use Rattle.words.specs.Words.{words}
-use Rattle.machine.specs.State.{State, Candidate}
-use Rattle.machine.specs.Call.{Buffer, Announce, RequestParent, AnnounceParents, Sweep, PollGate, Call, Open, On, Sum, refusal}
+use Rattle.machine.specs.State.{State, Candidate, Entry}
+use Rattle.machine.specs.Call.{Buffer, Announce, RequestParent, SolicitPackageInfo, ClaimPackage, BeginPackageResolution, AnnounceParents, Claim, Disconnected, Sweep, PollGate, Call, Open, On, Sum, refusal}
 use Rattle.machine.specs.Step.{Reply, Refused, Number, Keys, Left, Entries, Chosen, Summed, perform, carryOut, stepIf}
 use Rattle.store.specs.Read.{stateOf}
-use Rattle.tracker.specs.Outcome.{Effect, outcomeIf, Does}
-use Rattle.tracker.specs.Reply.{replyOf, figuresOf, listingOf}
+use Rattle.tracker.specs.Outcome.{outcomeIf, Does, Leaves, LeavesWith}
+use Rattle.tracker.specs.Reply.{replyOf, figuresOf, listingOf, entriesOf, departureOf}
 use Rattle.tracker.specs.declared.Answer.{Answer}
 use Rattle.tracker.specs.declared.Figures.{Figures}
 use Rattle.tracker.specs.declared.Listing.{Listing}
+use Rattle.tracker.specs.declared.Departure.{Departure}
 use Rattle.tracker.specs.declared.Answer.the-variants.{Refused as No, Number as Yes}
-use Rattle.exports.specs.Status.{statusOf, handedOut, numbered, figured, counted, Stays}
+use Rattle.tracker.specs.declared.Listing.the-variants.{Refused as NoKeys, Listed}
+use Rattle.tracker.specs.declared.Departure.the-variants.{Refused as NotLeft, Left as LeftKeys}
+use Rattle.exports.specs.Status.{statusOf, handedOut, listingStatus, countOut, departureStatus, ownOut, parentsOut, numbered, figured, Stays, HandsOut, HandsKeys, HandsEntries, HandsDeparture}
 
 -- ---- a refusal's number is not 0
 
@@ -45,24 +48,19 @@ refused-zero c {b} h d = not-zero (refusal (length b) (d .sound) c (stateOf (wor
 
 -- ---- answers that are a number
 
--- a call of a candidate or of a key, by what it is
-pub asked-for : {A : Type 0} (f : A → Call) {x y : A} {b : List ℕ} {e : Effect} → x ≡ y → Does (f x) b e → Does (f y) b e
-asked-for {A} f {x} {y} {b} {e} q d = subst (λ (x : A). Does (f x) b e) q d
-
-module _ (c : Call) (h : Replies c) {b z : List ℕ} {u : Buffer} where
-  pub numbered-told : (a : Answer) (was : ℕ) {r n : ℕ} → Does c b (record { reply = replyOf a; buffer = u; store = z }) → (r ≡ statusOf a) × (n ≡ handedOut a was) → Does c b (record { reply = numbered r n; buffer = u; store = z })
-  numbered-told (No zero) was d e = absurd (refused-zero c h d)
-  numbered-told (No (suc k)) was d e = rw (e .0) d
-  numbered-told (Yes k) was d e = rw (e .0, e .1) d
-
--- and refused, what stood there stays
+-- refused, what stood there stays
 pub stays : (r was : ℕ) → Stays r was was
 stays zero was = tt
 stays (suc k) was = refl
 
-pub handed-stays : (a : Answer) (was : ℕ) {r n : ℕ} → (r ≡ statusOf a) × (n ≡ handedOut a was) → Stays r was n
-handed-stays (No k) was e = rw (e .0, e .1) (stays k was)
-handed-stays (Yes k) was e = rw (e .0) tt
+handed : (c : Call) → Replies c → (a : Answer) (was : ℕ) {b z : List ℕ} {r n : ℕ} → Leaves c b z (replyOf a) → (r ≡ statusOf a) × (n ≡ handedOut a was) → HandsOut c b z r was n
+handed c h (No zero) was d e = absurd (refused-zero c h d)
+handed c h (No (suc k)) was d e = rw (e .0, e .1) (d, refl)
+handed c h (Yes k) was d e = rw (e .0, e .1) (d, tt)
+
+-- the export of a call: c₀ is what was asked, c what it says of the arguments
+pub hands-out : {c₀ c : Call} → Replies c → (a : Answer) (was : ℕ) {b z : List ℕ} {r n : ℕ} → Leaves c₀ b z (replyOf a) → (r ≡ statusOf a) × (n ≡ handedOut a was) → c₀ ≡ c → HandsOut c b z r was n
+hands-out {c₀} {c} h a was {b} {z} d e q = handed c h a was (subst (λ (x : Call). Leaves x b z (replyOf a)) q d) e
 
 pub announces : (c : Candidate) → Replies (On (Announce c))
 unfolding carryOut perform
@@ -71,6 +69,18 @@ announces c s n e = let z : _≡_ {A = ℕ} 0 1 = cc in omega arith
 pub requests-parent : (c : Candidate) → Replies (On (RequestParent c))
 unfolding carryOut perform
 requests-parent c s n e = let z : _≡_ {A = ℕ} 0 1 = cc in omega arith
+
+pub solicits : (n h : ℕ) (hs : List ℕ) (clock : ℕ) → Replies (On (SolicitPackageInfo n h hs clock))
+unfolding carryOut perform
+solicits n h hs clock s k e = let z : _≡_ {A = ℕ} 0 1 = cc in omega arith
+
+pub claims-package : (n h d : ℕ) (ws : List ℕ) (clock : ℕ) → Replies (On (ClaimPackage n h d ws clock))
+unfolding carryOut perform
+claims-package n h d ws clock s k e = let z : _≡_ {A = ℕ} 0 1 = cc in omega arith
+
+pub begins-resolution : (n h d : ℕ) (ws : List ℕ) (clock : ℕ) → Replies (On (BeginPackageResolution n h d ws clock))
+unfolding carryOut perform
+begins-resolution n h d ws clock s k e = let z : _≡_ {A = ℕ} 0 1 = cc in omega arith
 
 pub gates : (clock : ℕ) → Replies (On (PollGate clock))
 unfolding carryOut perform
@@ -104,8 +114,9 @@ one-settled : (c : Call) → RepliesOne c → (b : List ℕ) (sound : Bool) → 
 unfolding outcomeIf stepIf
 one-settled c h b sound = rw (h (stateOf (words b))) (settled (refusal (length b) sound c (stateOf (words b))) 1)
 
-pub one-told : (c : Call) → RepliesOne c → {r : ℕ} {b z : List ℕ} (a : Answer) → Does c b (record { reply = replyOf a; buffer = []; store = z }) → r ≡ statusOf a → Does c b (record { reply = numbered r 1; buffer = []; store = z })
-one-told c h {r} {b} {z} a d e =
+pub one-told : {c₀ c : Call} → RepliesOne c → (a : Answer) {r : ℕ} {b z : List ℕ} → Leaves c₀ b z (replyOf a) → r ≡ statusOf a → c₀ ≡ c → Leaves c b z (numbered r 1)
+one-told {c₀} {c} h a {r} {b} {z} d₀ e q =
+    let d : Leaves c b z (replyOf a) = subst (λ (x : Call). Leaves x b z (replyOf a)) q d₀ in
     let told : numbered (statusIn (replyOf a)) 1 ≡ replyOf a = subst (λ x. numbered (statusIn x) 1 ≡ x) (sym (ap (λ x. x .reply) (d .effect))) (one-settled c h b (d .sound)) in
     record { sound = d .sound; tested = d .tested; effect = ap (λ x. record { reply = x; buffer = []; store = z }) (ap (λ x. numbered x 1) (e ∙ status-in a) ∙ told) ∙ d .effect }
 
@@ -120,13 +131,13 @@ unfolding carryOut perform
 sums s n e = let z : _≡_ {A = ℕ} 0 1 = cc in omega arith
 
 module _ (b : List ℕ) where
-  pub sum-refused : (n held free permille : ℕ) → Does (On Sum) b (record { reply = Refused n; buffer = []; store = b }) → Does (On Sum) b (record { reply = figured n held free permille; buffer = []; store = b })
+  pub sum-refused : (n held free permille : ℕ) → Leaves (On Sum) b b (Refused n) → Leaves (On Sum) b b (figured n held free permille)
   sum-refused zero held free permille d = absurd (refused-zero (On Sum) sums d)
   sum-refused (suc n) held free permille d = d
 
   -- the answer that was matched on
-  pub sum-told : {f g : Figures} → Does (On Sum) b (record { reply = figuresOf f; buffer = []; store = b }) → f ≡ g → Does (On Sum) b (record { reply = figuresOf g; buffer = []; store = b })
-  sum-told d e = subst (λ (x : Figures). Does (On Sum) b (record { reply = figuresOf x; buffer = []; store = b })) e d
+  pub sum-told : {f g : Figures} → Leaves (On Sum) b b (figuresOf f) → f ≡ g → Leaves (On Sum) b b (figuresOf g)
+  sum-told d e = subst (λ (x : Figures). Leaves (On Sum) b b (figuresOf x)) e d
 
 -- ---- answers that list keys
 
@@ -138,10 +149,36 @@ pub sweeps : (v : Buffer) → Replies (On (Sweep v))
 unfolding carryOut perform
 sweeps v s k e = let z : _≡_ {A = ℕ} 0 1 = cc in omega arith
 
-module _ (c : Call) {b z : List ℕ} {u : Buffer} where
-  pub count-refused : (n k : ℕ) → Replies c → Does c b (record { reply = Refused n; buffer = u; store = z }) → Does c b (record { reply = counted n k u; buffer = u; store = z })
-  count-refused zero k h d = absurd (refused-zero c h d)
-  count-refused (suc n) k h d = d
+keys-handed : (c : Call) → Replies c → (l : Listing) (was : ℕ) {b z : List ℕ} {u : Buffer} {r n : ℕ} → LeavesWith c b z u (listingOf l) → (r ≡ listingStatus l) × (n ≡ countOut l was)
+    → HandsKeys c b z u r was n
+keys-handed c h (NoKeys zero) was d e = absurd (refused-zero c h d)
+keys-handed c h (NoKeys (suc k)) was d e = rw (e .0, e .1) (d, refl)
+keys-handed c h (Listed k) was d e = rw (e .0, e .1) (d, tt)
 
-  pub listing-told : {f g : Listing} → Does c b (record { reply = listingOf f u; buffer = u; store = z }) → f ≡ g → Does c b (record { reply = listingOf g u; buffer = u; store = z })
-  listing-told d e = subst (λ (x : Listing). Does c b (record { reply = listingOf x u; buffer = u; store = z })) e d
+pub hands-keys : {c₀ c : Call} → Replies c → (l : Listing) (was : ℕ) {b z : List ℕ} {u : Buffer} {r n : ℕ} → LeavesWith c₀ b z u (listingOf l) → (r ≡ listingStatus l) × (n ≡ countOut l was)
+    → c₀ ≡ c → HandsKeys c b z u r was n
+hands-keys {c₀} {c} h l was {b} {z} {u} d e q = keys-handed c h l was (subst (λ (x : Call). LeavesWith x b z u (listingOf l)) q d) e
+
+-- ---- answers that list entries
+
+pub claims : (clock : ℕ) (l : List Entry) (v : Buffer) → Replies (On (Claim clock l v))
+unfolding carryOut perform
+claims clock l v s k e = let z : _≡_ {A = ℕ} 0 1 = cc in omega arith
+
+pub hands-entries : {c : Call} → Replies c → (l : Listing) (was : ℕ) {b z : List ℕ} {u : Buffer} {r n : ℕ} → LeavesWith c b z u (entriesOf l) → (r ≡ listingStatus l) × (n ≡ countOut l was)
+    → HandsEntries c b z u r was n
+hands-entries {c} h (NoKeys zero) was d e = absurd (refused-zero c h d)
+hands-entries h (NoKeys (suc k)) was d e = rw (e .0, e .1) (d, refl)
+hands-entries h (Listed k) was d e = rw (e .0, e .1) (d, tt)
+
+-- ---- of a connection that left
+
+pub departs : (n clock : ℕ) (v : Buffer) → Replies (On (Disconnected n clock v))
+unfolding carryOut perform
+departs n clock v s k e = let z : _≡_ {A = ℕ} 0 1 = cc in omega arith
+
+pub hands-departure : {c : Call} → Replies c → (d : Departure) (was was′ : ℕ) {b z : List ℕ} {u : Buffer} {r n m : ℕ} → LeavesWith c b z u (departureOf d)
+    → (r ≡ departureStatus d) × (n ≡ ownOut d was) × (m ≡ parentsOut d was′) → HandsDeparture c b z u r was n was′ m
+hands-departure {c} h (NotLeft zero) was was′ l e = absurd (refused-zero c h l)
+hands-departure h (NotLeft (suc k)) was was′ l e = rw (e .0, e .1, e .2) (l, refl, refl)
+hands-departure h (LeftKeys own parents) was was′ l e = rw (e .0, e .1, e .2) (l, tt, tt)

@@ -11,14 +11,18 @@ use Rattle.ident.specs.Number.{Key, itemKindOf}
 use Rattle.words.specs.Words.{number}
 use Rattle.machine.specs.State.{Candidate}
 
--- a candidate: the item by its type number, its hash by 32 bytes, "byte 31 the most significant"
+-- a hash: by 32 bytes, "byte 31 the most significant"
+abbrev pub hashGiven : List ℕ → ℕ
+hashGiven hash = number 256 hash
+
+-- a candidate: the item by its type number
 abbrev pub candidateIn : ℕ → ℕ → List ℕ → ℕ → Bool → ℕ → Candidate
 candidateIn connection type hash ready preferred priority =
-    record { connection = connection; item = record { kind = itemKindOf type; hash = number 256 hash }; ready = ready; preferred = preferred; priority = priority }
+    record { connection = connection; item = record { kind = itemKindOf type; hash = hashGiven hash }; ready = ready; preferred = preferred; priority = priority }
 
--- a key: its kind by a number that is 0 for Txid and else Wtxid, as in answer buffers, its hash by 32 bytes
+-- a key: its kind by a number that is 0 for Txid and else Wtxid, as in answer buffers
 abbrev pub kindGiven : ℕ → Kind
 kindGiven n = if eqb n 0 then Txid else Wtxid
 
 abbrev pub keyGiven : ℕ → List ℕ → Key
-keyGiven kind hash = record { kind = kindGiven kind; hash = number 256 hash }
+keyGiven kind hash = record { kind = kindGiven kind; hash = hashGiven hash }

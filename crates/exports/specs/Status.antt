@@ -1,13 +1,21 @@
 -- What the numbers of an exported call say, in document 01's numbers and values.
 -- Assumes nothing.
-use Prim.Native.Nat.{ℕ, zero, suc}
+use Prim.Native.Nat.{ℕ, zero, suc, _*_}
 use mathlib.Core.Path.{_≡_}
+use mathlib.Core.List.{List}
+use lib.ListN.{drop}
 use Rattle.machine.specs.Wrapper.{Sums}
-use Rattle.machine.specs.Call.{Buffer}
-use Rattle.machine.specs.Step.{Reply, Refused, Number, Keys, Summed}
+use Rattle.machine.specs.Call.{Buffer, Call, keyBytes}
+use Rattle.machine.specs.Step.{Reply, Refused, Number, Keys, Left, Entries, Summed}
 use Rattle.lists.specs.Lists.{keysIn}
+use Rattle.planning.specs.Claiming.{entriesFrom}
 use Rattle.tracker.specs.declared.Answer.{Answer}
 use Rattle.tracker.specs.declared.Answer.the-variants.{Refused as No, Number as Yes}
+use Rattle.tracker.specs.declared.Listing.{Listing}
+use Rattle.tracker.specs.declared.Listing.the-variants.{Refused as NoKeys, Listed}
+use Rattle.tracker.specs.declared.Departure.{Departure}
+use Rattle.tracker.specs.declared.Departure.the-variants.{Refused as NotLeft, Left as LeftKeys}
+use Rattle.tracker.specs.Outcome.{Leaves, LeavesWith}
 
 -- the status of an answer
 abbrev pub statusOf : Answer → ℕ
@@ -18,6 +26,28 @@ statusOf (Yes n) = 0
 abbrev pub handedOut : Answer → ℕ → ℕ
 handedOut (No n) was = was
 handedOut (Yes n) was = n
+
+-- the same of an answer that lists keys or entries: their count
+abbrev pub listingStatus : Listing → ℕ
+listingStatus (NoKeys n) = n
+listingStatus (Listed n) = 0
+
+abbrev pub countOut : Listing → ℕ → ℕ
+countOut (NoKeys n) was = was
+countOut (Listed n) was = n
+
+-- and of a connection that left: the count of its own keys, and that of its parents'
+abbrev pub departureStatus : Departure → ℕ
+departureStatus (NotLeft n) = n
+departureStatus (LeftKeys own parents) = 0
+
+abbrev pub ownOut : Departure → ℕ → ℕ
+ownOut (NotLeft n) was = was
+ownOut (LeftKeys own parents) was = own
+
+abbrev pub parentsOut : Departure → ℕ → ℕ
+parentsOut (NotLeft n) was = was
+parentsOut (LeftKeys own parents) was = parents
 
 -- the reply of a status and of the number handed out
 abbrev pub numbered : ℕ → ℕ → Reply
@@ -34,7 +64,36 @@ abbrev pub counted : ℕ → ℕ → Buffer → Reply
 counted zero n u = Keys (keysIn n u)
 counted (suc k) n u = Refused (suc k)
 
+-- or so many entries
+abbrev pub entered : ℕ → ℕ → Buffer → Reply
+entered zero n u = Entries (entriesFrom u 0 n)
+entered (suc k) n u = Refused (suc k)
+
+-- the reply of a status and of the two counts handed out: so many keys stand there, and so many behind them
+abbrev pub parted : ℕ → ℕ → ℕ → Buffer → Reply
+parted zero own parents u = Left (keysIn own u) (keysIn parents (drop (keyBytes * own) u))
+parted (suc k) own parents u = Refused (suc k)
+
 -- a call that is refused hands nothing out: what stood there stays
 abbrev pub Stays : ℕ → ℕ → ℕ → Type 0
 Stays zero was is = Unit {0}
 Stays (suc k) was is = is ≡ was
+
+-- ---- the contract of an exported call in a line
+
+-- What the public call leaves, its reply said by the status and by the number handed out, which stood at `was` and is now `is`. A call that is refused
+-- hands nothing out.
+abbrev pub HandsOut : Call → List ℕ → List ℕ → ℕ → ℕ → ℕ → Type 0
+HandsOut c b b′ status was is = Leaves c b b′ (numbered status is) × Stays status was is
+
+-- the same of a call that lists keys: u is left in the answer buffer, and their count is handed out
+abbrev pub HandsKeys : Call → List ℕ → List ℕ → Buffer → ℕ → ℕ → ℕ → Type 0
+HandsKeys c b b′ u status was is = LeavesWith c b b′ u (counted status is) × Stays status was is
+
+-- or entries
+abbrev pub HandsEntries : Call → List ℕ → List ℕ → Buffer → ℕ → ℕ → ℕ → Type 0
+HandsEntries c b b′ u status was is = LeavesWith c b b′ u (entered status is) × Stays status was is
+
+-- the same of a connection that left: the count of its own keys and that of its parents' are handed out
+abbrev pub HandsDeparture : Call → List ℕ → List ℕ → Buffer → ℕ → ℕ → ℕ → ℕ → ℕ → Type 0
+HandsDeparture c b b′ u status wasOwn own wasParents parents = LeavesWith c b b′ u (parted status own parents) × Stays status wasOwn own × Stays status wasParents parents

@@ -1,16 +1,15 @@
 // The calls that bring candidates, for C and Rust. A call that is refused hands nothing out.
+use super::hand_count;
 use super::hand_out;
-ghost use mathlib.Core.List.{[]};
 ghost use mathlib.Core.Path.{_≡_};
 ghost use Rattle.machine.specs.Call.{On, Announce, RequestParent, AnnounceParents};
 ghost use Rattle.lists.specs.Lists.{hashesIn};
 ghost use Rattle.requests.specs.Changes.{candidateOf};
-ghost use Rattle.tracker.specs.Outcome.{Does};
 ghost use Rattle.exports.specs.Arguments.{candidateIn};
-ghost use Rattle.exports.specs.Status.{numbered, counted, Stays};
+ghost use Rattle.exports.specs.Status.{HandsOut, HandsKeys};
 
 // One announcement from its parts, the item by its type number.
-fn candidate(
+pub fn candidate(
     connection: u64,
     item_type: u32,
     hash: &[u8; 32],
@@ -44,8 +43,8 @@ pub extern "C" fn tracker_announce(
     priority: u64,
     reply: &mut u64,
 ) -> u64
-    ensures { λ r. ⌜ Does (On (Announce (candidateIn connection «item_type» (now (hash .entry)) ready preferred priority))) (now (s .entry)) (record { reply = numbered r (now (reply .exit)); buffer = []; store = now (s .exit) }) ⌝ }
-    ensures kept { λ r. ⌜ Stays r (now (reply .entry)) (now (reply .exit)) ⌝ }
+    ensures { λ r. ⌜ HandsOut (On (Announce (candidateIn connection «item_type» (now (hash .entry)) ready preferred priority)))
+        (now (s .entry)) (now (s .exit)) r (now (reply .entry)) (now (reply .exit)) ⌝ }
 {
     let c = candidate(connection, item_type, hash, ready, preferred, priority);
     let a = tracker::candidates::announce(s, c);
@@ -64,8 +63,8 @@ pub extern "C" fn tracker_request_parent(
     priority: u64,
     reply: &mut u64,
 ) -> u64
-    ensures { λ r. ⌜ Does (On (RequestParent (candidateIn connection «item_type» (now (hash .entry)) ready preferred priority))) (now (s .entry)) (record { reply = numbered r (now (reply .exit)); buffer = []; store = now (s .exit) }) ⌝ }
-    ensures kept { λ r. ⌜ Stays r (now (reply .entry)) (now (reply .exit)) ⌝ }
+    ensures { λ r. ⌜ HandsOut (On (RequestParent (candidateIn connection «item_type» (now (hash .entry)) ready preferred priority)))
+        (now (s .entry)) (now (s .exit)) r (now (reply .entry)) (now (reply .exit)) ⌝ }
 {
     let c = candidate(connection, item_type, hash, ready, preferred, priority);
     let a = tracker::candidates::request_parent(s, c);
@@ -82,15 +81,9 @@ pub extern "C" fn tracker_announce_parents(
     answer: &mut [u8],
     count: &mut u64,
 ) -> u64
-    ensures { λ r. ⌜ Does (On (AnnounceParents connection (hashesIn (now (parents .entry))) clock (now (answer .entry)))) (now (s .entry)) (record { reply = counted r (now (count .exit)) (now (answer .exit)); buffer = now (answer .exit); store = now (s .exit) }) ⌝ }
-    ensures kept { λ r. ⌜ Stays r (now (count .entry)) (now (count .exit)) ⌝ }
+    ensures { λ r. ⌜ HandsKeys (On (AnnounceParents connection (hashesIn (now (parents .entry))) clock (now (answer .entry))))
+        (now (s .entry)) (now (s .exit)) (now (answer .exit)) r (now (count .entry)) (now (count .exit)) ⌝ }
 {
     let l = tracker::candidates::announce_parents(s, connection, parents, clock, answer);
-    match l {
-        tracker::Listing::Refused(refusal) => refusal,
-        tracker::Listing::Listed(n) => {
-            *count = n;
-            0
-        }
-    }
+    hand_count(l, count)
 }

@@ -1,13 +1,13 @@
 // The calls of a failed or withdrawn request, for C and Rust. A call that is refused hands nothing out.
+use super::hand_count;
 use super::hand_out;
 use super::status;
-ghost use mathlib.Core.List.{[]};
 ghost use mathlib.Core.Path.{_≡_};
 ghost use Rattle.ident.specs.Words.{keyNum};
-ghost use Rattle.machine.specs.Call.{On, Failed, Unclaim, Forget, FailedPackageInfo, PackageInfoOwner};
-ghost use Rattle.tracker.specs.Outcome.{Does};
+ghost use Rattle.machine.specs.Call.{On, Failed, FailedWithParents, Unclaim, Forget, ForgetKnown, FailedPackageInfo, PackageInfoOwner};
+ghost use Rattle.tracker.specs.Outcome.{Leaves};
 ghost use Rattle.exports.specs.Arguments.{kindGiven, keyGiven};
-ghost use Rattle.exports.specs.Status.{numbered, Stays};
+ghost use Rattle.exports.specs.Status.{numbered, HandsOut, HandsKeys};
 
 // The kind of a key by its number, as answer buffers have it.
 fn kind_given(number: u64) -> ident::Kind
@@ -20,7 +20,7 @@ fn kind_given(number: u64) -> ident::Kind
     }
 }
 
-fn key_given(kind: u64, hash: &[u8; 32]) -> ident::Key
+pub fn key_given(kind: u64, hash: &[u8; 32]) -> ident::Key
     ensures { λ r. ⌜ keyNum r ≡ keyGiven kind (now (hash .entry)) ⌝ }
 {
     let kind = kind_given(kind);
@@ -38,18 +38,37 @@ pub extern "C" fn tracker_failed(
     clock: u64,
     reply: &mut u64,
 ) -> u64
-    ensures { λ r. ⌜ Does (On (Failed (keyGiven kind (now (hash .entry))) connection clock)) (now (s .entry)) (record { reply = numbered r (now (reply .exit)); buffer = []; store = now (s .exit) }) ⌝ }
-    ensures kept { λ r. ⌜ Stays r (now (reply .entry)) (now (reply .exit)) ⌝ }
+    ensures { λ r. ⌜ HandsOut (On (Failed (keyGiven kind (now (hash .entry))) connection clock)) (now (s .entry)) (now (s .exit)) r (now (reply .entry)) (now (reply .exit)) ⌝ }
 {
     let k = key_given(kind, hash);
     let a = tracker::failures::failed(s, k, connection, clock);
     hand_out(a, reply)
 }
 
+// failed, and the parents of the request are requested of the connection. The key and those of the parents that are kept stand in the answer: so many as
+// `count` says, and none where failed would reply 0.
+#[no_mangle]
+pub extern "C" fn tracker_failed_with_parents(
+    s: &mut [u8],
+    kind: u64,
+    hash: &[u8; 32],
+    connection: u64,
+    clock: u64,
+    answer: &mut [u8],
+    count: &mut u64,
+) -> u64
+    ensures { λ r. ⌜ HandsKeys (On (FailedWithParents (keyGiven kind (now (hash .entry))) connection clock (now (answer .entry))))
+        (now (s .entry)) (now (s .exit)) (now (answer .exit)) r (now (count .entry)) (now (count .exit)) ⌝ }
+{
+    let k = key_given(kind, hash);
+    let l = tracker::failures::failed_with_parents(s, k, connection, clock, answer);
+    hand_count(l, count)
+}
+
 // The owner gives the request back and stays a candidate. Carried out, it replies 1.
 #[no_mangle]
 pub extern "C" fn tracker_unclaim(s: &mut [u8], kind: u64, hash: &[u8; 32], connection: u64) -> u64
-    ensures { λ r. ⌜ Does (On (Unclaim (keyGiven kind (now (hash .entry))) connection)) (now (s .entry)) (record { reply = numbered r 1; buffer = []; store = now (s .exit) }) ⌝ }
+    ensures { λ r. ⌜ Leaves (On (Unclaim (keyGiven kind (now (hash .entry))) connection)) (now (s .entry)) (now (s .exit)) (numbered r 1) ⌝ }
 {
     let k = key_given(kind, hash);
     status(tracker::failures::unclaim(s, k, connection))
@@ -58,10 +77,20 @@ pub extern "C" fn tracker_unclaim(s: &mut [u8], kind: u64, hash: &[u8; 32], conn
 // The request at the key goes. Carried out, it replies 1.
 #[no_mangle]
 pub extern "C" fn tracker_forget(s: &mut [u8], kind: u64, hash: &[u8; 32]) -> u64
-    ensures { λ r. ⌜ Does (On (Forget (keyGiven kind (now (hash .entry))))) (now (s .entry)) (record { reply = numbered r 1; buffer = []; store = now (s .exit) }) ⌝ }
+    ensures { λ r. ⌜ Leaves (On (Forget (keyGiven kind (now (hash .entry))))) (now (s .entry)) (now (s .exit)) (numbered r 1) ⌝ }
 {
     let k = key_given(kind, hash);
     status(tracker::failures::forget(s, k))
+}
+
+// The transaction of the request at the key is known: the request goes, and its parents are announced for its owner. It stays if a package is still to come of it.
+// Carried out, it replies 1.
+#[no_mangle]
+pub extern "C" fn tracker_forget_known(s: &mut [u8], kind: u64, hash: &[u8; 32], clock: u64) -> u64
+    ensures { λ r. ⌜ Leaves (On (ForgetKnown (keyGiven kind (now (hash .entry))) clock)) (now (s .entry)) (now (s .exit)) (numbered r 1) ⌝ }
+{
+    let k = key_given(kind, hash);
+    status(tracker::failures::forget_known(s, k, clock))
 }
 
 // failed, of a connection that is asked for package info. The reply is 0 unless it is.
@@ -74,8 +103,7 @@ pub extern "C" fn tracker_failed_package_info(
     clock: u64,
     reply: &mut u64,
 ) -> u64
-    ensures { λ r. ⌜ Does (On (FailedPackageInfo (keyGiven kind (now (hash .entry))) connection clock)) (now (s .entry)) (record { reply = numbered r (now (reply .exit)); buffer = []; store = now (s .exit) }) ⌝ }
-    ensures kept { λ r. ⌜ Stays r (now (reply .entry)) (now (reply .exit)) ⌝ }
+    ensures { λ r. ⌜ HandsOut (On (FailedPackageInfo (keyGiven kind (now (hash .entry))) connection clock)) (now (s .entry)) (now (s .exit)) r (now (reply .entry)) (now (reply .exit)) ⌝ }
 {
     let k = key_given(kind, hash);
     let a = tracker::failures::failed_package_info(s, k, connection, clock);
@@ -91,8 +119,7 @@ pub extern "C" fn tracker_package_info_owner(
     clock: u64,
     owner: &mut u64,
 ) -> u64
-    ensures { λ r. ⌜ Does (On (PackageInfoOwner (keyGiven kind (now (hash .entry))) clock)) (now (s .entry)) (record { reply = numbered r (now (owner .exit)); buffer = []; store = now (s .entry) }) ⌝ }
-    ensures kept { λ r. ⌜ Stays r (now (owner .entry)) (now (owner .exit)) ⌝ }
+    ensures { λ r. ⌜ HandsOut (On (PackageInfoOwner (keyGiven kind (now (hash .entry))) clock)) (now (s .entry)) (now (s .entry)) r (now (owner .entry)) (now (owner .exit)) ⌝ }
 {
     let k = key_given(kind, hash);
     let a = tracker::failures::package_info_owner(s, k, clock);

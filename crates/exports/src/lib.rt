@@ -2,20 +2,23 @@
 //
 // A call returns a status, 0 if it was carried out and else the number of document 01's table, and hands the numbers of its reply
 // out. Each contract is the one of the public call (crates/tracker), its reply said by these numbers (specs/Status).
-ghost use mathlib.Core.List.{[]};
 ghost use mathlib.Core.Path.{_≡_};
 ghost use Rattle.words.specs.Words.{Decides};
 ghost use Rattle.machine.specs.Call.{Open, On, Sum};
 ghost use Rattle.store.specs.Image.{SoundStore};
-ghost use Rattle.tracker.specs.Outcome.{Does};
-ghost use Rattle.exports.specs.Status.{numbered, figured, statusOf, handedOut, Stays};
+ghost use Rattle.tracker.specs.Outcome.{Leaves};
+ghost use Rattle.exports.specs.Status.{numbered, figured, statusOf, handedOut, listingStatus, countOut, departureStatus, ownOut, parentsOut, Stays};
 
 pub mod candidates;
+pub mod departures;
 pub mod failures;
+pub mod package_calls;
+pub mod plans;
 pub mod sweeps;
+pub mod wrappers;
 
 // The status of an answer.
-fn status(a: tracker::Answer) -> u64
+pub fn status(a: tracker::Answer) -> u64
     ensures { λ r. ⌜ r ≡ statusOf a ⌝ }
 {
     match a {
@@ -25,7 +28,7 @@ fn status(a: tracker::Answer) -> u64
 }
 
 // The same, and the number of a reply handed out.
-fn hand_out(a: tracker::Answer, reply: &mut u64) -> u64
+pub fn hand_out(a: tracker::Answer, reply: &mut u64) -> u64
     ensures { λ r. ⌜ (r ≡ statusOf a) × (now (reply .exit) ≡ handedOut a (now (reply .entry))) ⌝ }
 {
     match a {
@@ -37,10 +40,37 @@ fn hand_out(a: tracker::Answer, reply: &mut u64) -> u64
     }
 }
 
+// The same of an answer that lists keys or entries: their count is handed out.
+pub fn hand_count(l: tracker::Listing, count: &mut u64) -> u64
+    ensures { λ r. ⌜ (r ≡ listingStatus l) × (now (count .exit) ≡ countOut l (now (count .entry))) ⌝ }
+{
+    match l {
+        tracker::Listing::Refused(refusal) => refusal,
+        tracker::Listing::Listed(n) => {
+            *count = n;
+            0
+        }
+    }
+}
+
+// The same of a connection that left: the counts of its own keys and of its parents' are handed out.
+pub fn hand_departure(d: tracker::Departure, own: &mut u64, parents: &mut u64) -> u64
+    ensures { λ r. ⌜ (r ≡ departureStatus d) × (now (own .exit) ≡ ownOut d (now (own .entry))) × (now (parents .exit) ≡ parentsOut d (now (parents .entry))) ⌝ }
+{
+    match d {
+        tracker::Departure::Refused(refusal) => refusal,
+        tracker::Departure::Left(a, b) => {
+            *own = a;
+            *parents = b;
+            0
+        }
+    }
+}
+
 // Makes the store an empty tracker for l announcements and q package places.
 #[no_mangle]
 pub extern "C" fn tracker_open(s: &mut [u8], l: u64, q: u64) -> u64
-    ensures { λ r. ⌜ Does (Open l q) (now (s .entry)) (record { reply = numbered r 1; buffer = []; store = now (s .exit) }) ⌝ }
+    ensures { λ r. ⌜ Leaves (Open l q) (now (s .entry)) (now (s .exit)) (numbered r 1) ⌝ }
 {
     status(tracker::open(s, l, q))
 }
@@ -56,7 +86,7 @@ pub extern "C" fn tracker_sound(s: &[u8]) -> bool
 // How many announcements are held, how many more fit, and how full the tracker is in thousandths. Refused, it hands nothing out.
 #[no_mangle]
 pub extern "C" fn tracker_sum(s: &[u8], held: &mut u64, free: &mut u64, permille: &mut u64) -> u64
-    ensures { λ r. ⌜ Does (On Sum) (now (s .entry)) (record { reply = figured r (now (held .exit)) (now (free .exit)) (now (permille .exit)); buffer = []; store = now (s .entry) }) ⌝ }
+    ensures { λ r. ⌜ Leaves (On Sum) (now (s .entry)) (now (s .entry)) (figured r (now (held .exit)) (now (free .exit)) (now (permille .exit))) ⌝ }
     ensures kept { λ r. ⌜ Stays r (now (held .entry)) (now (held .exit)) × Stays r (now (free .entry)) (now (free .exit)) × Stays r (now (permille .entry)) (now (permille .exit)) ⌝ }
 {
     let f = tracker::sum(s);

@@ -1,31 +1,22 @@
 // sweep and the poll gate, for C and Rust. A call that is refused hands nothing out.
+use super::hand_count;
 use super::hand_out;
-ghost use mathlib.Core.List.{[]};
 ghost use Rattle.machine.specs.Call.{On, Sweep, PollGate};
-ghost use Rattle.tracker.specs.Outcome.{Does};
-ghost use Rattle.exports.specs.Status.{numbered, counted, Stays};
+ghost use Rattle.exports.specs.Status.{HandsOut, HandsKeys};
 
 // The next keys after the known cursor, which becomes the last of them. They stand in the answer: so many as `count` says.
 #[no_mangle]
 pub extern "C" fn tracker_sweep(s: &mut [u8], answer: &mut [u8], count: &mut u64) -> u64
-    ensures { λ r. ⌜ Does (On (Sweep (now (answer .entry)))) (now (s .entry)) (record { reply = counted r (now (count .exit)) (now (answer .exit)); buffer = now (answer .exit); store = now (s .exit) }) ⌝ }
-    ensures kept { λ r. ⌜ Stays r (now (count .entry)) (now (count .exit)) ⌝ }
+    ensures { λ r. ⌜ HandsKeys (On (Sweep (now (answer .entry)))) (now (s .entry)) (now (s .exit)) (now (answer .exit)) r (now (count .entry)) (now (count .exit)) ⌝ }
 {
     let l = tracker::sweeps::sweep(s, answer);
-    match l {
-        tracker::Listing::Refused(refusal) => refusal,
-        tracker::Listing::Listed(n) => {
-            *count = n;
-            0
-        }
-    }
+    hand_count(l, count)
 }
 
 // Whether a poll is due. If the reply is 1, the next one is 100 milliseconds later.
 #[no_mangle]
 pub extern "C" fn tracker_poll_gate(s: &mut [u8], clock: u64, reply: &mut u64) -> u64
-    ensures { λ r. ⌜ Does (On (PollGate clock)) (now (s .entry)) (record { reply = numbered r (now (reply .exit)); buffer = []; store = now (s .exit) }) ⌝ }
-    ensures kept { λ r. ⌜ Stays r (now (reply .entry)) (now (reply .exit)) ⌝ }
+    ensures { λ r. ⌜ HandsOut (On (PollGate clock)) (now (s .entry)) (now (s .exit)) r (now (reply .entry)) (now (reply .exit)) ⌝ }
 {
     let a = tracker::sweeps::poll_gate(s, clock);
     hand_out(a, reply)

@@ -1,25 +1,26 @@
 -- The public calls as instances of proofs/Carried, and the keys that they list: of 256 bits.
 -- Assumes nothing.
-use Prim.Native.Nat.{ℕ, zero, suc, min, _+_, _≤_}
+use Prim.Native.Nat.{ℕ, zero, suc, min, _+_, _≤_, _<_}
 use mathlib.Core.Path.{refl}
 use mathlib.Core.List.{List, [], _∷_}
 use Rattle.ident.specs.If.{if_then_else_}
 use lib.ListN.{length, take}
-use Rattle.ident.specs.Number.{Key, txid}
+use Rattle.ident.specs.Number.{Key, txid, wtxid, top}
 use Rattle.machine.specs.Limits.{Limits, maxParents, maxKnownChecks}
-use Rattle.machine.specs.State.{Table, State, Candidate, withNextPoll, withKnownCursor}
-use Rattle.machine.specs.Table.{keys}
+use Rattle.machine.specs.State.{Table, State, Candidate, Answer, limitsOf, withNextPoll, withKnownCursor}
+use Rattle.machine.specs.Table.{at, keys}
 use Rattle.machine.specs.Sound.{Hashes, Sound}
 use Rattle.machine.specs.Typed.{Each, KeyTyped}
 use Rattle.machine.specs.Announce.{announce, requestParentAt, requestParent}
-use Rattle.machine.specs.Fail.{dedup, parentOf, mark, parentsFrom, announceParents}
-use Rattle.machine.specs.Package.{claimPackage, beginResolution}
+use Rattle.machine.specs.Fail.{Listed, dedup, parentOf, mark, parentsFrom, announceParents}
+use Rattle.machine.specs.Package.{claimPackage, beginResolution, listedAfter, failedWithParents, enqueuedBy, releasePackage}
 use Rattle.machine.specs.Sweep.{round, lastOf, handed}
 use Rattle.machine.specs.Wrapper.{dueAt, nextPollAfter}
 use Rattle.machine.specs.Call.{Buffer, Announce, RequestParent, ClaimPackage, BeginPackageResolution, AnnounceParents, Sweep, PollGate, named, takesPlace}
 use Rattle.machine.specs.Step.{perform}
 use Rattle.machine.proofs.Tests.{by-test}
-use Rattle.machine.proofs.Fail.{parents-dedup}
+use Rattle.machine.proofs.Table.{lawful-at}
+use Rattle.machine.proofs.Fail.{FewHashes, parents-dedup, few-for}
 use Rattle.machine.proofs.Plan.{round-typed, keys-typed}
 use Rattle.store.proofs.BytesBack.{Bytes}
 use Rattle.lists.specs.Lists.{hashesIn}
@@ -29,31 +30,31 @@ use Rattle.tracker.proofs.Carried.{YesNo, Lists, Answers, Hands}
 
 pub announces : (c : Candidate) → YesNo (Announce c) (c .connection ∷ []) [] (λ m t. announce m c t)
 unfolding named takesPlace perform
-announces c = record { names = λ s. refl; placeless = λ s. refl; performs = λ s. refl }
+announces c = record { names = record { are = λ s. refl; placeless = λ s. refl }; performs = λ s. refl }
 
 pub requests-parent : (c : Candidate) → YesNo (RequestParent c) (c .connection ∷ []) [] (λ m t. requestParent m c t)
 unfolding named takesPlace perform
-requests-parent c = record { names = λ s. refl; placeless = λ s. refl; performs = λ s. refl }
+requests-parent c = record { names = record { are = λ s. refl; placeless = λ s. refl }; performs = λ s. refl }
 
 pub claims-package : (n h c : ℕ) (ws : List ℕ) (clock : ℕ) → YesNo (ClaimPackage n h c ws clock) (n ∷ []) (clock ∷ []) (λ m t. claimPackage n h c ws clock t)
 unfolding named takesPlace perform
-claims-package n h c ws clock = record { names = λ s. refl; placeless = λ s. refl; performs = λ s. refl }
+claims-package n h c ws clock = record { names = record { are = λ s. refl; placeless = λ s. refl }; performs = λ s. refl }
 
 pub begins-resolution : (n h c : ℕ) (ws : List ℕ) (clock : ℕ) → YesNo (BeginPackageResolution n h c ws clock) (n ∷ []) (clock ∷ []) (λ m t. beginResolution n h c ws clock t)
 unfolding named takesPlace perform
-begins-resolution n h c ws clock = record { names = λ s. refl; placeless = λ s. refl; performs = λ s. refl }
+begins-resolution n h c ws clock = record { names = record { are = λ s. refl; placeless = λ s. refl }; performs = λ s. refl }
 
 pub announces-parents : (n : ℕ) (hs : List ℕ) (clock : ℕ) (u : Buffer) → Lists (AnnounceParents n hs clock u) (n ∷ []) (clock ∷ []) (length hs) u (λ s. maxParents + 1) (λ m t. announceParents m n clock hs t)
 unfolding named takesPlace perform
-announces-parents n hs clock u = record { names = λ s. refl; placeless = λ s. refl; performs = λ s. refl }
+announces-parents n hs clock u = record { names = record { are = λ s. refl; placeless = λ s. refl }; performs = λ s. refl }
 
 pub sweeps : (u : Buffer) → Hands (Sweep u) [] [] 0 u (λ s. min maxKnownChecks (s .limit)) (λ s. nextBatch s) (λ s. withKnownCursor (lastOf (nextBatch s)) s)
 unfolding named takesPlace perform
-sweeps u = record { names = λ s. refl; placeless = λ s. refl; performs = λ s. refl }
+sweeps u = record { names = record { are = λ s. refl; placeless = λ s. refl }; performs = λ s. refl }
 
 pub gates : (clock : ℕ) → Answers (PollGate clock) [] (clock ∷ []) (λ s. dueAt clock (s .nextPoll)) (λ s. withNextPoll (nextPollAfter clock (s .nextPoll)) s)
 unfolding named takesPlace perform
-gates clock = record { names = λ s. refl; placeless = λ s. refl; performs = λ s. refl }
+gates clock = record { names = record { are = λ s. refl; placeless = λ s. refl }; performs = λ s. refl }
 
 -- ---- the keys that sweep hands out are those of the table
 
@@ -76,6 +77,25 @@ listed-typed m n clock i (h ∷ hs) t a =
     let l = listed-typed m n clock (suc i) hs (if x .reply then mark (txid h) (x .table) else x .table) (a .1) in
     by-test (Each KeyTyped) (x .reply) (λ e. (a .0, l)) (λ e. l)
 
-pub parents-typed : (m : Limits) (n clock : ℕ) (b : List ℕ) (t : Table) → Bytes b → length (hashesIn b) ≤ maxParents → Each KeyTyped ((announceParents m n clock (hashesIn b) t) .keys)
+hashes-typed : (m : Limits) (n clock : ℕ) (hs : List ℕ) (t : Table) → FewHashes hs → Each KeyTyped ((announceParents m n clock hs t) .keys)
 unfolding announceParents
-parents-typed m n clock b t p f = listed-typed m n clock 0 (dedup (hashesIn b)) t (parents-dedup (hashesIn b) (record { hashes = hashes-fit b p; few = f }) .hashes)
+hashes-typed m n clock hs t f = listed-typed m n clock 0 (dedup hs) t (parents-dedup hs f .hashes)
+
+pub parents-typed : (m : Limits) (n clock : ℕ) (b : List ℕ) (t : Table) → Bytes b → length (hashesIn b) ≤ maxParents → Each KeyTyped ((announceParents m n clock (hashesIn b) t) .keys)
+parents-typed m n clock b t p f = hashes-typed m n clock (hashesIn b) t (record { hashes = hashes-fit b p; few = f })
+
+-- ---- and those of failed_with_parents and release_package: the key itself, and parents of its request
+
+after-typed : (m : Limits) (k : Key) (n clock : ℕ) (hs : List ℕ) (a : Answer) → KeyTyped k → FewHashes hs → Each KeyTyped ((listedAfter m k n clock hs a) .keys)
+unfolding listedAfter
+after-typed m k n clock hs a g f = by-test (λ (l : Listed). Each KeyTyped (l .keys)) (a .reply) (λ e. (g, hashes-typed m n clock hs (a .table) f)) (λ e. tt)
+
+pub failed-typed : (s : State) → Sound s → (k : Key) (n clock : ℕ) → KeyTyped k → Each KeyTyped ((failedWithParents (limitsOf s) k n clock (s .table)) .keys)
+unfolding failedWithParents
+failed-typed s g k n clock h = after-typed (limitsOf s) k n clock _ _ h (few-for n (at k (s .table)) (lawful-at k (s .table) (g .bounded .lawful)))
+
+pub released-typed : (s : State) → Sound s → (n h clock : ℕ) → h < top → Each KeyTyped ((releasePackage (limitsOf s) n h clock (s .table)) .keys)
+unfolding releasePackage
+released-typed s g n h clock l =
+    let f = few-for n (at (wtxid h) (s .table)) (lawful-at (wtxid h) (s .table) (g .bounded .lawful)) in
+    by-test (λ (x : Listed). Each KeyTyped (x .keys)) (enqueuedBy n (at (wtxid h) (s .table))) (λ e. after-typed (limitsOf s) (wtxid h) n clock _ _ l f) (λ e. tt)

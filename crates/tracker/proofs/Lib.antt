@@ -11,3 +11,9 @@ pub mod Carried
 pub mod Replies
 pub mod Instances
 pub mod Failed
+pub mod Departed
+pub mod Entered
+pub mod Taken
+pub mod Owned
+pub mod Solicited
+pub mod Wrapped

@@ -15,7 +15,7 @@ use Rattle.machine.proofs.Tests.{and-left, and-right}
 use Rattle.store.specs.Image.{Writes, stored}
 use Rattle.store.proofs.BytesBack.{Bytes}
 use Rattle.store.proofs.Stored.{written-bytes}
-use Rattle.tracker.specs.Outcome.{outcomeIf, Does}
+use Rattle.tracker.specs.Outcome.{outcomeIf, Leaves}
 use Rattle.tracker.proofs.Contract.{does-not-open}
 
 -- what is known of the bytes of a store is known of its front
@@ -25,15 +25,15 @@ bytes-front (x ∷ a) z p zero = p 0
 bytes-front (x ∷ a) z p (suc i) = bytes-front a z (λ j. p (suc j)) i
 
 module _ (L Q : ℕ) (b : List ℕ) where
-  pub bad-sizes : sizesTaken L Q ≡ false → Does (Open L Q) b (record { reply = Refused 2; buffer = []; store = b })
+  pub bad-sizes : sizesTaken L Q ≡ false → Leaves (Open L Q) b b (Refused 2)
   unfolding openingRefusal
   bad-sizes e = does-not-open b _ L Q refl 1 (rw e) refl refl
 
-  pub short-store : sizesTaken L Q ≡ true → length b < need L Q → Does (Open L Q) b (record { reply = Refused 1; buffer = []; store = b })
+  pub short-store : sizesTaken L Q ≡ true → length b < need L Q → Leaves (Open L Q) b b (Refused 1)
   unfolding openingRefusal
   short-store e h = does-not-open b _ L Q refl 0 (rw (e, lt-ltb (length b) (need L Q) h)) refl refl
 
-  pub opened : (p : List ℕ) → sizesTaken L Q ≡ true → need L Q ≤ length b → Bytes p → Writes p (empty L Q) → Does (Open L Q) b (record { reply = Number 1; buffer = []; store = p ++ drop (need L Q) b })
+  pub opened : (p : List ℕ) → sizesTaken L Q ≡ true → need L Q ≤ length b → Bytes p → Writes p (empty L Q) → Leaves (Open L Q) b (p ++ drop (need L Q) b) (Number 1)
   unfolding outcomeIf stepIf refusal openingRefusal carryOut written stored
   opened p e h q w = record { sound = false; tested = tt; effect = rw (e, le-ltb (length b) (need L Q) h, ← written-bytes p (empty L Q) q w) }
 

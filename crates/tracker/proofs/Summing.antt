@@ -3,7 +3,7 @@
 use Prim.Native.Nat.{ℕ, _-_, _*_, _/_, _≤_}
 use mathlib.Core.Path.{_≡_, refl, sym, ap, _∙_}
 use mathlib.Core.Bool.{Bool, true, false}
-use mathlib.Core.List.{List, []}
+use mathlib.Core.List.{List}
 use native.Mathlib.Omega.{arith}
 use lib.ListN.{length, drop, getD}
 use Rattle.words.specs.Words.{words, Decides}
@@ -15,7 +15,7 @@ use Rattle.machine.specs.Table.{held}
 use Rattle.machine.specs.Wrapper.{sum}
 use Rattle.machine.specs.Claim.{elem}
 use Rattle.machine.specs.Call.{Sum, On, named, anyLate, takesPlace, askRefusal}
-use Rattle.machine.specs.Step.{Refused, Summed, perform, written}
+use Rattle.machine.specs.Step.{Summed, perform, written}
 use Rattle.machine.proofs.Tests.{never}
 use Rattle.store.specs.Flat.{Flat, flatOf}
 use Rattle.store.specs.Image.{headSize, image, SoundStore}
@@ -27,9 +27,9 @@ use Rattle.store.proofs.FlatRead.{flat-read}
 use Rattle.store.proofs.Stored.{needOf, words-front, state-shown}
 use Rattle.tracker.specs.declared.Figures.{Figures}
 use Rattle.tracker.specs.declared.Figures.the-variants.{Are}
-use Rattle.tracker.specs.Outcome.{Does}
+use Rattle.tracker.specs.Outcome.{Leaves}
 use Rattle.tracker.specs.Reply.{figuresOf}
-use Rattle.tracker.proofs.Contract.{does-nothing, does-unsound}
+use Rattle.tracker.proofs.Contract.{does-nothing}
 
 module _ (b : List ℕ) (w : SoundStore b) where
   -- ---- the header's figures
@@ -64,12 +64,12 @@ module _ (b : List ℕ) (w : SoundStore b) where
 
   -- ---- sum
 
-  pub summed : Bytes b → Does (On Sum) b (record { reply = Summed (sum (w .state)); buffer = []; store = b })
+  pub summed : Bytes b → Leaves (On Sum) b b (Summed (sum (w .state)))
   unfolding askRefusal named anyLate takesPlace elem perform written
   summed p = does-nothing b _ Sum w refl refl refl refl p refl
 
   pub sum-figures : (n l : ℕ) {r : Figures} → Bytes b → n ≡ getD (words b) 3 0 → l ≡ getD (words b) 1 0 → r ≡ Are n (l - n) (n * 1000 / l)
-      → Does (On Sum) b (record { reply = figuresOf r; buffer = []; store = b })
+      → Leaves (On Sum) b b (figuresOf r)
   unfolding sum
   sum-figures n l p u v e = rw (e, u ∙ held-word, v ∙ limit-word) (summed p)
 
@@ -82,7 +82,3 @@ is-sound b false e d = never e
 pub not-sound : (b : List ℕ) (r : Bool) → r ≡ false → Decides r (SoundStore b) → SoundStore b → ⊥
 not-sound b true e d = never (sym e)
 not-sound b false e d = d
-
-pub sum-refused : (b : List ℕ) (r : Bool) → r ≡ false → Decides r (SoundStore b) → Does (On Sum) b (record { reply = Refused 3; buffer = []; store = b })
-unfolding named
-sum-refused b r e d = does-unsound b _ Sum (not-sound b r e d) refl refl refl

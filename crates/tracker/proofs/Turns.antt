@@ -1,21 +1,22 @@
 -- The tests that calls share, one by one and in turn.
 -- Assumes nothing.
 use Prim.Native.Nat.{ℕ, zero, suc, _≤_, _<_}
-use mathlib.Core.Path.{_≡_, refl, sym, _∙_}
+use mathlib.Core.Path.{_≡_, refl, sym, ap, _∙_}
 use mathlib.Core.Logic.{inl, inr}
-use mathlib.Core.Bool.{Bool, true, false}
+use mathlib.Core.Bool.{Bool, true, false, _&&_}
 use mathlib.Core.List.{List, [], _∷_}
 use native.Mathlib.Omega.{arith}
-use lib.Dec.{ltb}
+use lib.Dec.{ltb, leb}
 use lib.ListN.{length}
-use borrow.Author.Tests.{lt-ltb, le-ltb, ne-eqb, ltb-false}
+use borrow.Author.Tests.{lt-ltb, le-ltb, lt-leb, le-leb, leb-false, ne-eqb, ltb-false}
 use Rattle.ident.specs.If.{if_then_else_}
 use Rattle.machine.specs.Limits.{maxParents, latestClock}
 use Rattle.machine.specs.State.{State}
+use Rattle.machine.specs.Table.{placesHeld}
 use Rattle.machine.specs.Claim.{elem}
-use Rattle.machine.specs.Call.{Ask, Named, plain, named, anyLate, takesPlace, askRefusal}
+use Rattle.machine.specs.Call.{Ask, Named, named, anyLate, takesPlace, askRefusal}
 use Rattle.machine.proofs.Tests.{test}
-use Rattle.tracker.specs.Tests.{firstOf, ofConnections, ofClocks, ofParents, ofBuffer, inTurn}
+use Rattle.tracker.specs.Tests.{firstOf, ofConnections, ofClocks, ofParents, ofBuffer, ofPlace, inTurn}
 
 -- ---- what a test answers
 
@@ -51,6 +52,19 @@ pub buffer-long : (l n : ℕ) → n ≤ l → 0 ≡ ofBuffer l n
 unfolding ofBuffer
 buffer-long l n h = rw (le-ltb l n h)
 
+-- a place is taken, or not
+pub place-untaken : (places held : ℕ) → 0 ≡ ofPlace false places held
+unfolding ofPlace
+place-untaken places held = refl
+
+pub place-held : (places held : ℕ) → places ≤ held → 8 ≡ ofPlace true places held
+unfolding ofPlace
+place-held places held h = rw (le-leb places held h)
+
+pub place-free : (places held : ℕ) → held < places → 0 ≡ ofPlace true places held
+unfolding ofPlace
+place-free places held h = rw (lt-leb places held h)
+
 -- ---- and what its 0 says
 
 pub some-connection : (n : ℕ) → 0 ≡ ofConnections (n ∷ []) → 1 ≤ n
@@ -70,6 +84,10 @@ pub long-buffer : (l n : ℕ) → 0 ≡ ofBuffer l n → n ≤ l
 unfolding ofBuffer
 long-buffer l n e = elim (test (ltb l n)) [ inl t ↦ absurd (omega (arith, rw t at e)) | inr t ↦ ltb-false l n t ]
 
+pub free-place : (places held : ℕ) → 0 ≡ ofPlace true places held → held < places
+unfolding ofPlace
+free-place places held e = elim (test (leb places held)) [ inl t ↦ absurd (omega (arith, rw t at e)) | inr t ↦ leb-false places held t ]
+
 -- ---- in turn
 
 pub first-some : (a b : ℕ) → (a ≡ 0 → ⊥) → a ≡ firstOf a b
@@ -80,19 +98,43 @@ pub first-none : (a : ℕ) → firstOf a 0 ≡ a
 first-none zero = refl
 first-none (suc a) = refl
 
--- a call without a clock
-pub clockless : (a : ℕ) → a ≡ firstOf a (ofClocks [])
-unfolding ofClocks anyLate
-clockless a = sym (first-none a)
+-- a test by itself is all of them in turn, of a call that names nothing else
+pub connection-only : (n : ℕ) → ofConnections (n ∷ []) ≡ inTurn (n ∷ []) [] 0 0 0
+unfolding ofClocks ofParents ofBuffer anyLate
+connection-only n = sym (first-none (firstOf (ofConnections (n ∷ [])) 0) ∙ first-none (ofConnections (n ∷ [])))
 
--- or without a connection; one that has an answer buffer only
-pub connectionless : (a : ℕ) → a ≡ firstOf (ofConnections []) a
-unfolding ofConnections elem
-connectionless a = refl
+pub clock-only : (t : ℕ) → ofClocks (t ∷ []) ≡ inTurn [] (t ∷ []) 0 0 0
+unfolding ofConnections ofParents ofBuffer elem
+clock-only t = sym (first-none (ofClocks (t ∷ [])))
 
 pub buffer-only : (l n : ℕ) → ofBuffer l n ≡ inTurn [] [] 0 l n
 unfolding ofConnections ofClocks ofParents elem anyLate
 buffer-only l n = refl
+
+-- tests 4 and 5 alone
+named-alone : (n t : ℕ) → inTurn (n ∷ []) (t ∷ []) 0 0 0 ≡ firstOf (ofConnections (n ∷ [])) (ofClocks (t ∷ []))
+unfolding ofParents ofBuffer
+named-alone n t = first-none (firstOf (ofConnections (n ∷ [])) (ofClocks (t ∷ [])))
+
+-- and one after the other
+pub both-named : (n t : ℕ) → firstOf (inTurn (n ∷ []) [] 0 0 0) (inTurn [] (t ∷ []) 0 0 0) ≡ inTurn (n ∷ []) (t ∷ []) 0 0 0
+both-named n t = rw (← connection-only n, ← clock-only t) (sym (named-alone n t))
+
+pub sizes-named : (n t parents long needs : ℕ) → firstOf (inTurn (n ∷ []) (t ∷ []) 0 0 0) (firstOf (ofParents parents) (inTurn [] [] 0 long needs)) ≡ inTurn (n ∷ []) (t ∷ []) parents long needs
+sizes-named n t parents long needs = rw (← buffer-only long needs) (ap (λ (x : ℕ). firstOf x (firstOf (ofParents parents) (ofBuffer long needs))) (named-alone n t))
+
+-- a clock and a buffer
+clock-buffer : (t long needs : ℕ) → firstOf (ofClocks (t ∷ [])) (ofBuffer long needs) ≡ inTurn [] (t ∷ []) 0 long needs
+unfolding ofConnections ofParents elem
+clock-buffer t long needs = refl
+
+pub clock-sized : (t long needs : ℕ) → firstOf (inTurn [] (t ∷ []) 0 0 0) (inTurn [] [] 0 long needs) ≡ inTurn [] (t ∷ []) 0 long needs
+clock-sized t long needs = (λ i. firstOf (sym (clock-only t) i) (sym (buffer-only long needs) i)) ∙ clock-buffer t long needs
+
+-- a call that names nothing
+pub nothing-named : 0 ≡ inTurn [] [] 0 0 0
+unfolding ofConnections ofClocks ofParents ofBuffer elem anyLate
+nothing-named = refl
 
 pub first-left : (a b : ℕ) → firstOf a b ≡ 0 → a ≡ 0
 first-left zero b e = refl
@@ -103,38 +145,48 @@ first-right zero b e = e
 first-right (suc a) b e = absurd (omega arith)
 
 -- what a call may rely on that passed them
-pub record Passed (n parents long needs : ℕ) : Type 0 where
-  pub connection : 1 ≤ n
+pub record Passed (ns ts : List ℕ) (parents long needs : ℕ) : Type 0 where
+  pub connections : 0 ≡ ofConnections ns
+  pub clocks : 0 ≡ ofClocks ts
   pub few : parents ≤ maxParents
   pub room : needs ≤ long
 
-pub passed : (n t parents long needs : ℕ) → inTurn (n ∷ []) (t ∷ []) parents long needs ≡ 0 → Passed n parents long needs
-passed n t parents long needs e =
-    let x = first-left (firstOf (ofConnections (n ∷ [])) (ofClocks (t ∷ []))) (firstOf (ofParents parents) (ofBuffer long needs)) e in
-    let y = first-right (firstOf (ofConnections (n ∷ [])) (ofClocks (t ∷ []))) (firstOf (ofParents parents) (ofBuffer long needs)) e in
+pub passed : {ns ts : List ℕ} {parents long needs r : ℕ} → r ≡ inTurn ns ts parents long needs → r ≡ 0 → Passed ns ts parents long needs
+passed {ns} {ts} {parents} {long} {needs} q z =
+    let x = first-left (firstOf (ofConnections ns) (ofClocks ts)) (firstOf (ofParents parents) (ofBuffer long needs)) (sym q ∙ z) in
+    let y = first-right (firstOf (ofConnections ns) (ofClocks ts)) (firstOf (ofParents parents) (ofBuffer long needs)) (sym q ∙ z) in
     record {
-      connection = some-connection n (sym (first-left (ofConnections (n ∷ [])) (ofClocks (t ∷ [])) x));
+      connections = sym (first-left (ofConnections ns) (ofClocks ts) x);
+      clocks = sym (first-right (ofConnections ns) (ofClocks ts) x);
       few = few-parents parents (sym (first-left (ofParents parents) (ofBuffer long needs) y));
       room = long-buffer long needs (sym (first-right (ofParents parents) (ofBuffer long needs) y));
     }
 
-turns : (a b c d : Bool) → (if a then 4 else if b then 5 else if c then 6 else if d then 7 else 0) ≡ firstOf (firstOf (if a then 4 else 0) (if b then 5 else 0)) (firstOf (if c then 6 else 0) (if d then 7 else 0))
-turns true b c d = refl
-turns false true c d = refl
-turns false false true d = refl
-turns false false false true = refl
-turns false false false false = refl
+turns : (a b c d e : Bool) → (if a then 4 else if b then 5 else if c then 6 else if d then 7 else if e then 8 else 0)
+    ≡ firstOf (firstOf (firstOf (if a then 4 else 0) (if b then 5 else 0)) (firstOf (if c then 6 else 0) (if d then 7 else 0))) (if e then 8 else 0)
+turns true b c d e = refl
+turns false true c d e = refl
+turns false false true d e = refl
+turns false false false true e = refl
+turns false false false false true = refl
+turns false false false false false = refl
 
--- "Other calls test 3 to 8 in turn", of a call that takes no place
+-- "Other calls test 3 to 8 in turn"
 module _ (a : Ask) (s : State) where
   abbrev w : Named
   w = named a s
 
-  pub in-turn : takesPlace a s ≡ false → askRefusal true a s ≡ inTurn (w .connections) (w .clocks) (w .parents) (length (w .buffer)) (w .needs)
-  unfolding askRefusal ofConnections ofClocks ofParents ofBuffer
-  in-turn e = rw e (turns (elem 0 (w .connections)) (anyLate (w .clocks)) (ltb maxParents (w .parents)) (ltb (length (w .buffer)) (w .needs)))
+  pub whole-turn : askRefusal true a s ≡ firstOf (inTurn (w .connections) (w .clocks) (w .parents) (length (w .buffer)) (w .needs)) (ofPlace (takesPlace a s) (s .places) (placesHeld (s .table)))
+  unfolding askRefusal ofConnections ofClocks ofParents ofBuffer ofPlace
+  whole-turn =
+      turns
+      (elem 0 (w .connections))
+      (anyLate (w .clocks))
+      (ltb maxParents (w .parents))
+      (ltb (length (w .buffer)) (w .needs))
+      (takesPlace a s && leb (s .places) (placesHeld (s .table)))
 
-  -- and of one that has neither parents nor an answer buffer
-  pub plain-turn : {ns ts : List ℕ} → named a s ≡ plain ns ts 0 → takesPlace a s ≡ false → askRefusal true a s ≡ firstOf (ofConnections ns) (ofClocks ts)
-  unfolding ofParents ofBuffer
-  plain-turn {ns} {ts} q e = in-turn e ∙ rw q (first-none (firstOf (ofConnections ns) (ofClocks ts)))
+  -- of a call that takes no place
+  pub in-turn : takesPlace a s ≡ false → askRefusal true a s ≡ inTurn (w .connections) (w .clocks) (w .parents) (length (w .buffer)) (w .needs)
+  unfolding ofPlace
+  in-turn e = whole-turn ∙ rw e (first-none (inTurn (w .connections) (w .clocks) (w .parents) (length (w .buffer)) (w .needs)))

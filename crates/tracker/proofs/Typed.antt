@@ -2,6 +2,7 @@
 -- Assumes nothing.
 use Prim.Native.Nat.{ℕ, _<_}
 use mathlib.Core.Path.{_≡_}
+use mathlib.Core.Bool.{Bool}
 use mathlib.Core.List.{List, [], _∷_}
 use lib.ListN.{length}
 use denote.Laws.{Is}
@@ -17,17 +18,21 @@ use Rattle.ident.proofs.Key.Laws as K′
 use Rattle.ident.proofs.Words.{hash-four, hash-below}
 use Rattle.machine.specs.Limits.{word}
 use Rattle.machine.specs.Typed.{Each, KeyTyped, CandidateTyped, CallTyped}
-use Rattle.machine.specs.Call.{Buffer, Announce, RequestParent, ClaimPackage, BeginPackageResolution, AnnounceParents, Failed, Unclaim, Forget, FailedPackageInfo, PackageInfoOwner, Sweep, PollGate, Sum, Call, Open, On, openingRefusal}
+use Rattle.machine.specs.Call.{Buffer, Announce, RequestParent, SolicitPackageInfo, ClaimPackage, BeginPackageResolution, AnnounceParents, Failed, FailedWithParents, ReleasePackage, Claim, Disconnected, Unclaim, Forget, ForgetKnown, FailedPackageInfo, PackageInfoOwner, AnnounceTransactions, TransactionResponseCompleted, Sweep, PollGate, Sum, Call, Open, On, openingRefusal}
 use Rattle.machine.specs.Step.{empty}
 use Rattle.store.specs.Image.{SoundStore}
 use Rattle.store.proofs.BytesBack.{Bytes}
 use Rattle.lists.specs.Lists.{hashesIn}
+use Rattle.lists.specs.Items.{offersIn}
 use Rattle.lists.proofs.Given.{hashes-fit}
+use Rattle.lists.proofs.Inventory.{offers-fit}
+use Rattle.planning.specs.Claiming.{entriesIn}
 use Rattle.requests.specs.declared.Candidate.{Candidate}
 use Rattle.requests.specs.Changes.{candidateOf}
 use Rattle.requests.proofs.Candidate as C
 use Rattle.requests.proofs.Candidate.Laws as C′
 use Rattle.tracker.specs.Outcome.{Effect}
+use Rattle.tracker.proofs.Entered.{entries-whole, whole-typed}
 use Rattle.tracker.proofs.Demands.{Ran, Tracked, tracked, tracked-open}
 
 -- ---- a value of the declared type `Candidate`
@@ -48,7 +53,7 @@ candidate-typed c g =
 abbrev pub IsKey : Key → Type 0
 IsKey k = Is K.the-row k (LL.vals K.the-type K′.the-laws k)
 
-key-typed : (k : Key) → IsKey k → KeyTyped (keyNum k)
+pub key-typed : (k : Key) → IsKey k → KeyTyped (keyNum k)
 key-typed k g = hash-below (k .hash) (hash-four (k .hash) (LL.owed K.the-type K′.the-laws k _ g .1 .0))
 
 -- ---- the calls that the code has, with arguments of its types
@@ -60,12 +65,21 @@ pub data Made : Call → Type 0 where
   requests-parent : (c : Candidate) → IsCandidate c → Made (On (RequestParent (candidateOf c)))
   announces-parents : (n clock : ℕ) (b : List ℕ) (u : Buffer) → n < word → clock < word → Bytes b → Made (On (AnnounceParents n (hashesIn b) clock u))
   fails : (k : Key) (n clock : ℕ) → IsKey k → n < word → clock < word → Made (On (Failed (keyNum k) n clock))
+  fails-with-parents : (k : Key) (n clock : ℕ) (u : Buffer) → IsKey k → n < word → clock < word → Made (On (FailedWithParents (keyNum k) n clock u))
+  releases-package : (n h clock : ℕ) (u : Buffer) → n < word → h < top → clock < word → Made (On (ReleasePackage n h clock u))
+  claims : (clock : ℕ) (b : List ℕ) (u : Buffer) → clock < word → Bytes b → Made (On (Claim clock (entriesIn b) u))
+  departs : (n clock : ℕ) (u : Buffer) → n < word → clock < word → Made (On (Disconnected n clock u))
   unclaims : (k : Key) (n : ℕ) → IsKey k → n < word → Made (On (Unclaim (keyNum k) n))
   forgets : (k : Key) → IsKey k → Made (On (Forget (keyNum k)))
+  forgets-known : (k : Key) (clock : ℕ) → IsKey k → clock < word → Made (On (ForgetKnown (keyNum k) clock))
   fails-info : (k : Key) (n clock : ℕ) → IsKey k → n < word → clock < word → Made (On (FailedPackageInfo (keyNum k) n clock))
   reads-owner : (k : Key) (clock : ℕ) → IsKey k → clock < word → Made (On (PackageInfoOwner (keyNum k) clock))
+  announces-transactions : (n clock : ℕ) (preferred source : Bool) (b d : List ℕ) → n < word → clock < word → Bytes b → Bytes d
+      → Made (On (AnnounceTransactions n clock preferred source (offersIn b d)))
+  completes : (n x w clock : ℕ) → n < word → x < top → w < top → clock < word → Made (On (TransactionResponseCompleted n x w clock))
   sweeps : (u : Buffer) → Made (On (Sweep u))
   gates : (clock : ℕ) → clock < word → Made (On (PollGate clock))
+  solicits : (n h clock : ℕ) (b : List ℕ) → n < word → h < top → clock < word → Bytes b → Made (On (SolicitPackageInfo n h (hashesIn b) clock))
   claims-package : (n h c clock : ℕ) (b : List ℕ) → n < word → h < top → c < top → clock < word → Bytes b → Made (On (ClaimPackage n h c (hashesIn b) clock))
   begins-resolution : (n h c clock : ℕ) (b : List ℕ) → n < word → h < top → c < top → clock < word → Bytes b → Made (On (BeginPackageResolution n h c (hashesIn b) clock))
 
@@ -76,12 +90,20 @@ made-typed c (announces d g) = candidate-typed d g
 made-typed c (requests-parent d g) = candidate-typed d g
 made-typed c (announces-parents n clock b u g h p) = (g, hashes-fit b p, h)
 made-typed c (fails k n clock i g h) = (key-typed k i, g, h)
+made-typed c (fails-with-parents k n clock u i g h) = (key-typed k i, g, h)
+made-typed c (releases-package n h clock u g i j) = (g, i, j)
+made-typed c (claims clock b u g p) = (g, whole-typed (entriesIn b) (entries-whole b p))
+made-typed c (departs n clock u g h) = (g, h)
 made-typed c (unclaims k n i g) = (key-typed k i, g)
 made-typed c (forgets k i) = key-typed k i
+made-typed c (forgets-known k clock i g) = (key-typed k i, g)
 made-typed c (fails-info k n clock i g h) = (key-typed k i, g, h)
 made-typed c (reads-owner k clock i h) = (key-typed k i, h)
+made-typed c (announces-transactions n clock p v b d g h i j) = (g, h, offers-fit b d i j)
+made-typed c (completes n x w clock g h i j) = (g, h, i, j)
 made-typed c (sweeps u) = tt
 made-typed c (gates clock g) = g
+made-typed c (solicits n k clock b g h j p) = (g, h, hashes-fit b p, j)
 made-typed c (claims-package n k d clock b g h i j p) = (g, h, i, hashes-fit b p, j)
 made-typed c (begins-resolution n k d clock b g h i j p) = (g, h, i, hashes-fit b p, j)
 

@@ -3,7 +3,7 @@
 use Prim.Native.Nat.{ℕ}
 use mathlib.Core.Bool.{Bool, true, false}
 use mathlib.Core.Path.{_≡_}
-use mathlib.Core.List.{List}
+use mathlib.Core.List.{List, []}
 use lib.Dec.{eqb}
 use lib.ListN.{length}
 use Rattle.ident.specs.If.{if_then_else_}
@@ -37,3 +37,11 @@ pub record Does (c : Call) (b : List ℕ) (e : Effect) : Type 0 where
   pub sound : Bool
   pub tested : Tested c sound b
   pub effect : e ≡ outcomeIf sound b c
+
+-- The same in a line. A call without an answer buffer replies r, and leaves b′ of the bytes b.
+abbrev pub Leaves : Call → List ℕ → List ℕ → Reply → Type 0
+Leaves c b b′ r = Does c b (record { reply = r; buffer = []; store = b′ })
+
+-- One with an answer buffer leaves u in it; the reply, where it is a list, stands there.
+abbrev pub LeavesWith : Call → List ℕ → List ℕ → Buffer → (Buffer → Reply) → Type 0
+LeavesWith c b b′ u r = Does c b (record { reply = r u; buffer = u; store = b′ })

@@ -1,16 +1,20 @@
 -- What the answers of the public calls say, in document 01's numbers and values.
 -- Assumes nothing.
-use Prim.Native.Nat.{ℕ}
+use Prim.Native.Nat.{ℕ, _*_}
+use lib.ListN.{drop}
 use Rattle.machine.specs.Wrapper.{Sums}
-use Rattle.machine.specs.Call.{Buffer}
-use Rattle.machine.specs.Step.{Reply, Refused, Number, Keys, Summed}
+use Rattle.machine.specs.Call.{Buffer, keyBytes}
+use Rattle.machine.specs.Step.{Reply, Refused, Number, Keys, Left, Entries, Summed}
 use Rattle.lists.specs.Lists.{keysIn}
+use Rattle.planning.specs.Claiming.{entriesFrom}
 use Rattle.tracker.specs.declared.Answer.{Answer}
 use Rattle.tracker.specs.declared.Answer.the-variants.{Refused as No, Number as Yes}
 use Rattle.tracker.specs.declared.Figures.{Figures}
 use Rattle.tracker.specs.declared.Figures.the-variants.{Refused as NoFigures, Are}
 use Rattle.tracker.specs.declared.Listing.{Listing}
 use Rattle.tracker.specs.declared.Listing.the-variants.{Refused as NoKeys, Listed}
+use Rattle.tracker.specs.declared.Departure.{Departure}
+use Rattle.tracker.specs.declared.Departure.the-variants.{Refused as NotLeft, Left as LeftKeys}
 
 abbrev pub replyOf : Answer → Reply
 replyOf (No n) = Refused n
@@ -24,3 +28,13 @@ figuresOf (Are held free permille) = Summed (record { held = held; free = free; 
 abbrev pub listingOf : Listing → Buffer → Reply
 listingOf (NoKeys n) u = Refused n
 listingOf (Listed n) u = Keys (keysIn n u)
+
+-- or entries do
+abbrev pub entriesOf : Listing → Buffer → Reply
+entriesOf (NoKeys n) u = Refused n
+entriesOf (Listed n) u = Entries (entriesFrom u 0 n)
+
+-- those of its own stand first, the parents' behind them
+abbrev pub departureOf : Departure → Buffer → Reply
+departureOf (NotLeft n) u = Refused n
+departureOf (LeftKeys own parents) u = Left (keysIn own u) (keysIn parents (drop (keyBytes * own) u))

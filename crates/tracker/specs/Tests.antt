@@ -1,8 +1,9 @@
 -- The tests of document 01's table that calls share, each by itself: its number, or 0 if it has nothing against the call.
 -- Assumes nothing.
 use Prim.Native.Nat.{ℕ, zero, suc}
+use mathlib.Core.Bool.{Bool, _&&_}
 use mathlib.Core.List.{List}
-use lib.Dec.{ltb}
+use lib.Dec.{ltb, leb}
 use Rattle.ident.specs.If.{if_then_else_}
 use Rattle.machine.specs.Limits.{maxParents}
 use Rattle.machine.specs.Claim.{elem}
@@ -28,6 +29,10 @@ ofParents n = if ltb maxParents n then 6 else 0
 -- "answer buffer shorter than its need"
 unfoldable pub ofBuffer : ℕ → ℕ → ℕ
 ofBuffer long needs = if ltb long needs then 7 else 0
+
+-- "a solicitation that would reply 1, with all Q package places held"
+unfoldable pub ofPlace : Bool → ℕ → ℕ → ℕ
+ofPlace takes places held = if takes && leb places held then 8 else 0
 
 -- tests 4 to 7 in turn, of what a call names: connections, clocks, so many parents, a buffer of so many bytes and its need
 abbrev pub inTurn : List ℕ → List ℕ → ℕ → ℕ → ℕ → ℕ

@@ -3,22 +3,25 @@
 // Each takes the store that the caller lends, of any length and with any bytes, and asks nothing of it. Its contract says that reply,
 // answer buffer and store are what one definition gives, `outcomeIf` (specs/Outcome): the number of document 01's table and every byte as it
 // was, or what the request machine does to the state that the bytes write, and the bytes past the need as they were.
-ghost use mathlib.Core.List.{[]};
 ghost use mathlib.Core.Path.{_≡_};
 ghost use Prim.Native.Nat.{_-_, _*_, _/_, _≤_};
 ghost use Rattle.machine.specs.Limits as limits;
 ghost use Rattle.machine.specs.Table.{one};
 ghost use Rattle.machine.specs.Step.{Number};
 ghost use Rattle.machine.specs.Call.{Open, On, Sum, sizesTaken};
-ghost use Rattle.tracker.specs.Outcome.{Does};
+ghost use Rattle.tracker.specs.Outcome.{Leaves};
 ghost use Rattle.tracker.specs.declared.Figures.the-variants.{Are};
 ghost use Rattle.tracker.specs.Reply.{replyOf, figuresOf};
 
 pub mod candidates;
+pub mod departures;
 pub mod failures;
+pub mod on_sound;
 pub mod package_calls;
+pub mod plans;
 pub mod refusals;
 pub mod sweeps;
+pub mod wrappers;
 
 // An answer that is a number: a refusal of document 01's table, or the reply.
 pub enum Answer {
@@ -32,10 +35,16 @@ pub enum Figures {
     Are(u64, u64, u64),
 }
 
-// How many keys stand in the answer buffer, or a refusal.
+// How many keys, or entries, stand in the answer buffer, or a refusal.
 pub enum Listing {
     Refused(u64),
     Listed(u64),
+}
+
+// How many keys of a connection that left stand in the answer buffer, and how many of parents behind them, or a refusal.
+pub enum Departure {
+    Refused(u64),
+    Left(u64, u64),
 }
 
 // "A reply of 0 is the Rust's `false`", 1 its `true`.
@@ -80,7 +89,7 @@ fn need(l: usize, q: usize) -> usize
 
 // Makes the store an empty tracker for L announcements and Q package places. It takes any store that is long enough.
 pub fn open(s: &mut [u8], l: u64, q: u64) -> Answer
-    ensures { λ r. ⌜ Does (Open l q) (now (s .entry)) (record { reply = replyOf r; buffer = []; store = now (s .exit) }) ⌝ }
+    ensures { λ r. ⌜ Leaves (Open l q) (now (s .entry)) (now (s .exit)) (replyOf r) ⌝ }
 {
     if !sizes_taken(l, q) {
         return Answer::Refused(refusals::BAD_SIZES);
@@ -95,14 +104,12 @@ pub fn open(s: &mut [u8], l: u64, q: u64) -> Answer
 
 // How many announcements are held, how many more fit, and how full the tracker is in thousandths, rounded down.
 pub fn sum(s: &[u8]) -> Figures
-    ensures { λ r. ⌜ Does (On Sum) (now (s .entry)) (record { reply = figuresOf r; buffer = []; store = now (s .entry) }) ⌝ }
+    ensures { λ r. ⌜ Leaves (On Sum) (now (s .entry)) (now (s .entry)) (figuresOf r) ⌝ }
 {
     if !sound::sound(s) {
         return Figures::Refused(refusals::UNSOUND_STORE);
     }
-    let l = words::get(s, 1);
-    let n = words::get(s, 3);
-    figures_of(n, l)
+    on_sound::sum(s)
 }
 
 // The figures of n held of L.

@@ -1,13 +1,31 @@
-// The public calls on packages: claim_package and begin_package_resolution (document 01, "The request machine").
+// The public calls on packages: solicit_package_info, claim_package, begin_package_resolution and release_package (document 01, "The request
+// machine").
 use super::Answer;
+use super::Listing;
+use super::on_sound;
 use super::refusals;
-use super::replied;
-ghost use mathlib.Core.List.{[]};
 ghost use Rattle.ident.specs.Words.{hashNum};
-ghost use Rattle.machine.specs.Call.{On, ClaimPackage, BeginPackageResolution};
+ghost use Rattle.machine.specs.Call.{On, SolicitPackageInfo, ClaimPackage, BeginPackageResolution, ReleasePackage};
 ghost use Rattle.lists.specs.Lists.{hashesIn};
-ghost use Rattle.tracker.specs.Outcome.{Does};
-ghost use Rattle.tracker.specs.Reply.{replyOf};
+ghost use Rattle.tracker.specs.Outcome.{Leaves, LeavesWith};
+ghost use Rattle.tracker.specs.Reply.{replyOf, listingOf};
+
+// The connection is asked for the package info of the transaction with wtxid h, whose parents are given in 32 bytes each. The reply is 0 if the hash is owned, if the
+// connection owns 100 requests, or if it is no candidate and is not kept as one.
+pub fn solicit_package_info(
+    s: &mut [u8],
+    connection: u64,
+    h: ident::Hash,
+    parents: &[u8],
+    clock: u64,
+) -> Answer
+    ensures { λ r. ⌜ Leaves (On (SolicitPackageInfo connection (hashNum h) (hashesIn (now (parents .entry))) clock)) (now (s .entry)) (now (s .exit)) (replyOf r) ⌝ }
+{
+    if !sound::sound(s) {
+        return Answer::Refused(refusals::UNSOUND_STORE);
+    }
+    on_sound::package_calls::solicit_package_info(s, connection, h, parents, clock)
+}
 
 // The package info of the request at the Wtxid key with hash h has come: its owner has until the deadline to get the package, whose
 // wtxids are given in 32 bytes each. The reply is 0 unless they are 1 to 100.
@@ -19,17 +37,12 @@ pub fn claim_package(
     wtxids: &[u8],
     clock: u64,
 ) -> Answer
-    ensures { λ r. ⌜ Does (On (ClaimPackage connection (hashNum h) (hashNum combined) (hashesIn (now (wtxids .entry))) clock)) (now (s .entry)) (record { reply = replyOf r; buffer = []; store = now (s .exit) }) ⌝ }
+    ensures { λ r. ⌜ Leaves (On (ClaimPackage connection (hashNum h) (hashNum combined) (hashesIn (now (wtxids .entry))) clock)) (now (s .entry)) (now (s .exit)) (replyOf r) ⌝ }
 {
     if !sound::sound(s) {
         return Answer::Refused(refusals::UNSOUND_STORE);
     }
-    let refusal = refusals::of_connection_and_clock(connection, clock);
-    if refusal != 0 {
-        return Answer::Refused(refusal);
-    }
-    let n = refusals::need_of(s);
-    replied(packaging::claim_package(&mut s[..n], connection, h, combined, wtxids, clock))
+    on_sound::package_calls::claim_package(s, connection, h, combined, wtxids, clock)
 }
 
 // The package itself has come: it waits in the queue from now on, and no deadline ends it. The reply is 0 unless combined hash and
@@ -42,22 +55,27 @@ pub fn begin_package_resolution(
     wtxids: &[u8],
     clock: u64,
 ) -> Answer
-    ensures { λ r. ⌜ Does (On (BeginPackageResolution connection (hashNum h) (hashNum combined) (hashesIn (now (wtxids .entry))) clock)) (now (s .entry)) (record { reply = replyOf r; buffer = []; store = now (s .exit) }) ⌝ }
+    ensures { λ r. ⌜ Leaves (On (BeginPackageResolution connection (hashNum h) (hashNum combined) (hashesIn (now (wtxids .entry))) clock)) (now (s .entry)) (now (s .exit)) (replyOf r) ⌝ }
 {
     if !sound::sound(s) {
         return Answer::Refused(refusals::UNSOUND_STORE);
     }
-    let refusal = refusals::of_connection_and_clock(connection, clock);
-    if refusal != 0 {
-        return Answer::Refused(refusal);
+    on_sound::package_calls::begin_package_resolution(s, connection, h, combined, wtxids, clock)
+}
+
+// The package in the queue at the Wtxid key with hash h, if the connection owns it, is given up: the connection leaves, and is asked for the parents. The key
+// and those of the parents that are kept stand in the answer; none does where there is no such package.
+pub fn release_package(
+    s: &mut [u8],
+    connection: u64,
+    h: ident::Hash,
+    clock: u64,
+    answer: &mut [u8],
+) -> Listing
+    ensures { λ r. ⌜ LeavesWith (On (ReleasePackage connection (hashNum h) clock (now (answer .entry)))) (now (s .entry)) (now (s .exit)) (now (answer .exit)) (listingOf r) ⌝ }
+{
+    if !sound::sound(s) {
+        return Listing::Refused(refusals::UNSOUND_STORE);
     }
-    let n = refusals::need_of(s);
-    replied(packaging::begin_package_resolution(
-        &mut s[..n],
-        connection,
-        h,
-        combined,
-        wtxids,
-        clock,
-    ))
+    on_sound::package_calls::release_package(s, connection, h, clock, answer)
 }

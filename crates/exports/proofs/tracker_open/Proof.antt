@@ -1,5 +1,6 @@
 -- `exports::tracker_open` meets its contract.
 -- Assumes nothing.
+use mathlib.Core.Path.{refl}
 use borrow.Author.Needs.{needs}
 use Rattle.exports.proofs.Statuses.{one-told, opens}
 use Rattle.exports.proofs.tracker_open.Statement.{statement}
@@ -15,7 +16,7 @@ same-length : tie.Need-same-length
 same-length c = search needs
 
 returns : tie.Need-returns
-returns c = one-told _ (opens _ _) (c .before .before .before .«open» .result) (c .before .before .before .«open» .ensures) (c .status .ensures)
+returns c = one-told (opens _ _) (c .before .before .before .«open» .result) (c .before .before .before .«open» .ensures) (c .status .ensures) refl
 
 pub tracker-open-spec : {M : Type 1} → statement M
 tracker-open-spec = tie.close (tie.spec open-requires status-requires same-length returns)

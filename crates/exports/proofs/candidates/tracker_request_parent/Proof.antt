@@ -1,8 +1,9 @@
--- `exports::candidates::tracker_request_parent` meets its contract: the reply of the public call, or its refusal, which is not 0.
+-- `exports::candidates::tracker_request_parent` meets its contract: the public call's, its reply said by the numbers handed out.
 -- Assumes nothing.
+use mathlib.Core.Path.{ap}
 use borrow.Author.Needs.{needs}
 use Rattle.machine.specs.Call.{On, RequestParent}
-use Rattle.exports.proofs.Statuses.{asked-for, numbered-told, handed-stays, requests-parent}
+use Rattle.exports.proofs.Statuses.{hands-out, requests-parent}
 use Rattle.exports.proofs.candidates.tracker_request_parent.Statement.{statement}
 use Rattle.exports.proofs.candidates.tracker_request_parent.Tie as tie
 
@@ -19,9 +20,7 @@ same-length : tie.Need-same-length
 same-length c = search needs
 
 returns : tie.Need-returns
-returns c = (numbered-told _ (requests-parent _) (c .before .before .before .before .request-parent .result) _ (asked-for (λ x. On (RequestParent x)) (c .before .before .before .before .before .before .candidate .ensures) (c .before .before .before .before .request-parent .ensures)) (c .hand-out .ensures), handed-stays (c .before .before .before .before .request-parent .result) _ (c .hand-out .ensures))
+returns c = hands-out (requests-parent _) (c .before .before .before .before .request-parent .result) _ (c .before .before .before .before .request-parent .ensures) (c .hand-out .ensures) (ap (λ x. On (RequestParent x)) (c .before .before .before .before .before .before .candidate .ensures))
 
 pub tracker-request-parent-spec : {M : Type 1} → statement M
-tracker-request-parent-spec =
-    tie.close
-    (tie.spec candidate-requires request-parent-requires hand-out-requires same-length returns)
+tracker-request-parent-spec = tie.close (tie.spec candidate-requires request-parent-requires hand-out-requires same-length returns)

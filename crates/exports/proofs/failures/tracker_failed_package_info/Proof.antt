@@ -1,8 +1,9 @@
--- `exports::failures::tracker_failed_package_info` meets its contract: the reply of the public call, or its refusal, which is not 0.
+-- `exports::failures::tracker_failed_package_info` meets its contract: the public call's, its reply said by the numbers handed out.
 -- Assumes nothing.
+use mathlib.Core.Path.{ap}
 use borrow.Author.Needs.{needs}
 use Rattle.machine.specs.Call.{On, FailedPackageInfo}
-use Rattle.exports.proofs.Statuses.{asked-for, numbered-told, handed-stays}
+use Rattle.exports.proofs.Statuses.{hands-out}
 use Rattle.exports.proofs.Failed.{fails-info}
 use Rattle.exports.proofs.failures.tracker_failed_package_info.Statement.{statement}
 use Rattle.exports.proofs.failures.tracker_failed_package_info.Tie as tie
@@ -20,14 +21,7 @@ same-length : tie.Need-same-length
 same-length c = search needs
 
 returns : tie.Need-returns
-returns c = (numbered-told _ (fails-info _ _ _) (c .before .before .before .before .failed-package-info .result) _ (asked-for (λ x. On (FailedPackageInfo x (c .before .before .before .before .before .before .before .before .args .connection) (c .before .before .before .before .before .before .before .before .args .clock))) (c .before .before .before .before .before .before .key-given .ensures) (c .before .before .before .before .failed-package-info .ensures)) (c .hand-out .ensures), handed-stays (c .before .before .before .before .failed-package-info .result) _ (c .hand-out .ensures))
+returns c = hands-out (fails-info _ _ _) (c .before .before .before .before .failed-package-info .result) _ (c .before .before .before .before .failed-package-info .ensures) (c .hand-out .ensures) (ap (λ x. On (FailedPackageInfo x (c .before .before .before .before .before .before .before .before .args .connection) (c .before .before .before .before .before .before .before .before .args .clock))) (c .before .before .before .before .before .before .key-given .ensures))
 
 pub tracker-failed-package-info-spec : {M : Type 1} → statement M
-tracker-failed-package-info-spec =
-    tie.close
-    (tie.spec
-    key-given-requires
-    failed-package-info-requires
-    hand-out-requires
-    same-length
-    returns)
+tracker-failed-package-info-spec = tie.close (tie.spec key-given-requires failed-package-info-requires hand-out-requires same-length returns)

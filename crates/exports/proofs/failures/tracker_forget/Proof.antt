@@ -1,8 +1,9 @@
--- `exports::failures::tracker_forget` meets its contract: carried out, it replies 1.
+-- `exports::failures::tracker_forget` meets its contract: the public call's, its reply said by the numbers handed out.
 -- Assumes nothing.
+use mathlib.Core.Path.{ap}
 use borrow.Author.Needs.{needs}
 use Rattle.machine.specs.Call.{On, Forget}
-use Rattle.exports.proofs.Statuses.{asked-for, one-told}
+use Rattle.exports.proofs.Statuses.{one-told}
 use Rattle.exports.proofs.Failed.{forgets}
 use Rattle.exports.proofs.failures.tracker_forget.Statement.{statement}
 use Rattle.exports.proofs.failures.tracker_forget.Tie as tie
@@ -20,8 +21,7 @@ same-length : tie.Need-same-length
 same-length c = search needs
 
 returns : tie.Need-returns
-returns c = one-told _ (forgets _) (c .before .before .before .forget .result) (asked-for (λ x. On (Forget x)) (c .before .before .before .before .before .key-given .ensures) (c .before .before .before .forget .ensures)) (c .status .ensures)
+returns c = one-told (forgets _) (c .before .before .before .forget .result) (c .before .before .before .forget .ensures) (c .status .ensures) (ap (λ x. On (Forget x)) (c .before .before .before .before .before .key-given .ensures))
 
 pub tracker-forget-spec : {M : Type 1} → statement M
-tracker-forget-spec =
-    tie.close (tie.spec key-given-requires forget-requires status-requires same-length returns)
+tracker-forget-spec = tie.close (tie.spec key-given-requires forget-requires status-requires same-length returns)

@@ -1,8 +1,9 @@
--- `exports::failures::tracker_package_info_owner` meets its contract: the reply of the public call, or its refusal, which is not 0.
+-- `exports::failures::tracker_package_info_owner` meets its contract: the public call's, its reply said by the numbers handed out.
 -- Assumes nothing.
+use mathlib.Core.Path.{ap}
 use borrow.Author.Needs.{needs}
 use Rattle.machine.specs.Call.{On, PackageInfoOwner}
-use Rattle.exports.proofs.Statuses.{asked-for, numbered-told, handed-stays}
+use Rattle.exports.proofs.Statuses.{hands-out}
 use Rattle.exports.proofs.Failed.{reads-owner}
 use Rattle.exports.proofs.failures.tracker_package_info_owner.Statement.{statement}
 use Rattle.exports.proofs.failures.tracker_package_info_owner.Tie as tie
@@ -17,8 +18,7 @@ hand-out-requires : tie.Need-hand-out-requires
 hand-out-requires c κs = search needs
 
 returns : tie.Need-returns
-returns c = (numbered-told _ (reads-owner _ _) (c .before .before .package-info-owner .result) _ (asked-for (λ x. On (PackageInfoOwner x (c .before .before .before .before .before .args .clock))) (c .before .before .before .key-given .ensures) (c .before .before .package-info-owner .ensures)) (c .hand-out .ensures), handed-stays (c .before .before .package-info-owner .result) _ (c .hand-out .ensures))
+returns c = hands-out (reads-owner _ _) (c .before .before .package-info-owner .result) _ (c .before .before .package-info-owner .ensures) (c .hand-out .ensures) (ap (λ x. On (PackageInfoOwner x (c .before .before .before .before .before .args .clock))) (c .before .before .before .key-given .ensures))
 
 pub tracker-package-info-owner-spec : {M : Type 1} → statement M
-tracker-package-info-owner-spec =
-    tie.close (tie.spec key-given-requires package-info-owner-requires hand-out-requires returns)
+tracker-package-info-owner-spec = tie.close (tie.spec key-given-requires package-info-owner-requires hand-out-requires returns)

@@ -1,8 +1,9 @@
--- `exports::failures::tracker_unclaim` meets its contract: carried out, it replies 1.
+-- `exports::failures::tracker_unclaim` meets its contract: the public call's, its reply said by the numbers handed out.
 -- Assumes nothing.
+use mathlib.Core.Path.{ap}
 use borrow.Author.Needs.{needs}
 use Rattle.machine.specs.Call.{On, Unclaim}
-use Rattle.exports.proofs.Statuses.{asked-for, one-told}
+use Rattle.exports.proofs.Statuses.{one-told}
 use Rattle.exports.proofs.Failed.{unclaims}
 use Rattle.exports.proofs.failures.tracker_unclaim.Statement.{statement}
 use Rattle.exports.proofs.failures.tracker_unclaim.Tie as tie
@@ -20,8 +21,7 @@ same-length : tie.Need-same-length
 same-length c = search needs
 
 returns : tie.Need-returns
-returns c = one-told _ (unclaims _ _) (c .before .before .before .unclaim .result) (asked-for (λ x. On (Unclaim x (c .before .before .before .before .before .before .before .args .connection))) (c .before .before .before .before .before .key-given .ensures) (c .before .before .before .unclaim .ensures)) (c .status .ensures)
+returns c = one-told (unclaims _ _) (c .before .before .before .unclaim .result) (c .before .before .before .unclaim .ensures) (c .status .ensures) (ap (λ x. On (Unclaim x (c .before .before .before .before .before .before .before .args .connection))) (c .before .before .before .before .before .key-given .ensures))
 
 pub tracker-unclaim-spec : {M : Type 1} → statement M
-tracker-unclaim-spec =
-    tie.close (tie.spec key-given-requires unclaim-requires status-requires same-length returns)
+tracker-unclaim-spec = tie.close (tie.spec key-given-requires unclaim-requires status-requires same-length returns)

@@ -1,14 +1,9 @@
--- `tracker::candidates::request_parent` meets its contract: an instance of proofs/Carried.
+-- `tracker::candidates::request_parent` meets its contract: the sound test, and `on_sound::candidates::request_parent`.
 -- Assumes nothing.
-use mathlib.Core.Path.{sym, _∙_}
-use native.Mathlib.Omega.{arith}
-use lib.ListN.{length-take}
+use mathlib.Core.Path.{refl}
 use borrow.Author.Needs.{needs}
-use borrow.Author.Tests.{not-true, not-false}
-use Rattle.tracker.proofs.Summing.{is-sound}
-use Rattle.tracker.proofs.Turns.{clockless}
-use Rattle.tracker.proofs.Carried.{need-inside, front-kept, yes-no-unsound, yes-no-refused, yes-no-done}
-use Rattle.tracker.proofs.Instances.{requests-parent}
+use Rattle.machine.specs.Call.{RequestParent, named}
+use Rattle.tracker.proofs.Owned.{test-refuses, test-passes}
 use Rattle.tracker.proofs.candidates.request_parent.Statement.{statement}
 use Rattle.tracker.proofs.candidates.request_parent.Tie as tie
 
@@ -19,62 +14,17 @@ same-length : tie.Need-same-length
 same-length c = search needs
 
 returns : tie.Need-returns
-returns c = yes-no-unsound (requests-parent _) _ (c .before .sound .result) (not-true _ (c .if1 .taken)) (c .before .sound .ensures)
+unfolding named
+returns c = test-refuses (c .before .sound .result) (c .before .sound .ensures) (c .if1 .taken) (RequestParent _) refl
 
-of-connection-requires : tie.Need-of-connection-requires
-of-connection-requires c κs = search needs
+request-parent-requires : tie.Need-request-parent-requires
+request-parent-requires c κs = test-passes (c .before .before .sound .result) (c .before .before .sound .ensures) (c .before .if1 .left)
 
 same-length-2 : tie.Need-same-length-2
 same-length-2 c = search needs
 
 returns-2 : tie.Need-returns-2
-returns-2 c =
-    let v = is-sound (c .before .before .before .before .before .before .args .s .now) (c .before .before .before .sound .result) (not-false _ (c .before .before .if1 .left)) (c .before .before .before .sound .ensures) in
-    yes-no-refused (requests-parent _) _ v _ (c .before .of-connection .ensures ∙ clockless _) (c .if2 .taken)
-
-need-of-requires : tie.Need-need-of-requires
-need-of-requires c κs = is-sound (c .before .before .before .before .before .before .before .args .s .now) (c .before .before .before .before .sound .result) (not-false _ (c .before .before .before .if1 .left)) (c .before .before .before .before .sound .ensures)
-
-slice-relend-prefix-request-parent : tie.Need-slice-relend-prefix-request-parent
-slice-relend-prefix-request-parent c =
-    let v = is-sound (c .before .before .before .before .before .before .before .before .args .s .now) (c .before .before .before .before .before .sound .result) (not-false _ (c .before .before .before .before .if1 .left)) (c .before .before .before .before .before .sound .ensures) in
-    need-inside (c .before .before .before .before .before .before .before .before .args .s .now) v _ (c .need-of .ensures v)
-
-slice-aggregate-request-parent : tie.Need-slice-aggregate-request-parent
-slice-aggregate-request-parent c =
-    let v = is-sound (c .before .before .before .before .before .before .before .before .before .args .s .now) (c .before .before .before .before .before .before .sound .result) (not-false _ (c .before .before .before .before .before .if1 .left)) (c .before .before .before .before .before .before .sound .ensures) in
-    simp length-take (omega (arith, need-inside (c .before .before .before .before .before .before .before .before .before .args .s .now) v _ (c .before .need-of .ensures v)))
-
-request-parent-requires : tie.Need-request-parent-requires
-request-parent-requires c κs =
-    let v = is-sound (c .before .before .before .before .before .before .before .before .before .args .s .now) (c .before .before .before .before .before .before .sound .result) (not-false _ (c .before .before .before .before .before .if1 .left)) (c .before .before .before .before .before .before .sound .ensures) in
-    front-kept (c .before .before .before .before .before .before .before .before .before .args .s .now) v _ (c .before .need-of .ensures v)
-
-replied-requires : tie.Need-replied-requires
-replied-requires c κs = search needs
-
-same-length-3 : tie.Need-same-length-3
-same-length-3 c = search needs
-
-returns-3 : tie.Need-returns-3
-returns-3 c =
-    let v = is-sound (c .before .before .before .before .before .before .before .before .before .before .before .before .before .args .s .now) (c .before .before .before .before .before .before .before .before .before .before .sound .result) (not-false _ (c .before .before .before .before .before .before .before .before .before .if1 .left)) (c .before .before .before .before .before .before .before .before .before .before .sound .ensures) in
-    yes-no-done (requests-parent _) _ v _ _ _ (sym (clockless _) ∙ sym (c .before .before .before .before .before .before .before .before .of-connection .ensures) ∙ c .before .before .before .before .before .before .before .if2 .left) (c .before .before .before .before .before .need-of .ensures v) (λ i. omega (arith, c .before .slice-known2 .given i)) (c .before .before .before .request-parent .ensures) (c .replied .ensures)
+returns-2 c = search needs
 
 pub request-parent-spec : {M : Type 1} → statement M
-request-parent-spec =
-    tie.close
-    (tie.spec
-    sound-requires
-    same-length
-    returns
-    of-connection-requires
-    same-length-2
-    returns-2
-    need-of-requires
-    slice-relend-prefix-request-parent
-    slice-aggregate-request-parent
-    request-parent-requires
-    replied-requires
-    same-length-3
-    returns-3)
+request-parent-spec = tie.close (tie.spec sound-requires same-length returns request-parent-requires same-length-2 returns-2)

@@ -1,6 +1,7 @@
 -- `tracker::refusals::in_turn` meets its contract: the tests, each in its place.
 -- Assumes nothing.
 use borrow.Author.Needs.{needs}
+use Rattle.tracker.proofs.Turns.{sizes-named}
 use Rattle.tracker.proofs.refusals.in_turn.Statement.{statement}
 use Rattle.tracker.proofs.refusals.in_turn.Tie as tie
 
@@ -20,7 +21,7 @@ first-requires-2 : tie.Need-first-requires-2
 first-requires-2 c κs = search needs
 
 returns : tie.Need-returns
-returns c = cc
+returns c = cc (sizes-named (c .before .before .before .before .before .args .connection) (c .before .before .before .before .before .args .clock) (c .before .before .before .before .before .args .parents) (c .before .before .before .before .before .args .length) (c .before .before .before .before .before .args .needs))
 
 pub in-turn-spec : {M : Type 1} → statement M
 in-turn-spec =

@@ -3,6 +3,7 @@
 use mathlib.Core.Path.{_∙_}
 use native.Mathlib.Omega.{arith}
 use Rattle.tracker.proofs.Summing.{head-inside, limit-word, places-word}
+use Rattle.tracker.proofs.Carried.{lent}
 use Rattle.tracker.proofs.refusals.need_of.Statement.{statement}
 use Rattle.tracker.proofs.refusals.need_of.Tie as tie
 
@@ -19,9 +20,9 @@ need-requires c κs =
     (omega (arith, c .before .limit .ensures .word, limit-word b w, w .sound .most-limit), omega (arith, c .places .ensures .word, places-word b w, w .sound .most-places))
 
 returns : tie.Need-returns
-returns c w =
+returns c =
     let b = c .before .before .before .before .args .s .now in
-    c .need .ensures ∙ rw (c .before .before .limit .ensures .word ∙ limit-word b w, c .before .places .ensures .word ∙ places-word b w)
+    lent (c .before .before .before .before .pre) (λ w. c .need .ensures ∙ rw (c .before .before .limit .ensures .word ∙ limit-word b w, c .before .places .ensures .word ∙ places-word b w))
 
 pub need-of-spec : {M : Type 1} → statement M
 need-of-spec = tie.close (tie.spec limit-requires places-requires need-requires returns)

@@ -1,6 +1,7 @@
 -- `tracker::refusals::of_connection_and_clock` meets its contract: the tests, each in its place.
 -- Assumes nothing.
 use borrow.Author.Needs.{needs}
+use Rattle.tracker.proofs.Turns.{both-named}
 use Rattle.tracker.proofs.refusals.of_connection_and_clock.Statement.{statement}
 use Rattle.tracker.proofs.refusals.of_connection_and_clock.Tie as tie
 
@@ -14,7 +15,7 @@ first-requires : tie.Need-first-requires
 first-requires c κs = search needs
 
 returns : tie.Need-returns
-returns c = cc
+returns c = cc (both-named (c .before .before .before .args .connection) (c .before .before .before .args .clock))
 
 pub of-connection-and-clock-spec : {M : Type 1} → statement M
 of-connection-and-clock-spec =

@@ -1,0 +1,31 @@
+-- `owned::failures::tracker_owned_failed_package_info` meets its contract: that of the checked call, behind its sound test, and the store stays sound.
+-- Assumes nothing.
+use mathlib.Core.Path.{ap}
+use native.Mathlib.Omega.{arith}
+use borrow.Author.Needs.{needs}
+use Rattle.machine.specs.Call.{On, FailedPackageInfo}
+use Rattle.tracker.proofs.Typed.{fails-info as makes}
+use Rattle.exports.proofs.Failed.{fails-info}
+use Rattle.owned.proofs.Owner.{owner-number}
+use Rattle.owned.proofs.failures.tracker_owned_failed_package_info.Statement.{statement}
+use Rattle.owned.proofs.failures.tracker_owned_failed_package_info.Tie as tie
+
+key-given-requires : tie.Need-key-given-requires
+key-given-requires c κs = search needs
+
+failed-package-info-requires : tie.Need-failed-package-info-requires
+failed-package-info-requires c κs = search needs
+
+hand-out-requires : tie.Need-hand-out-requires
+hand-out-requires c κs = search needs
+
+same-length : tie.Need-same-length
+same-length c = search needs
+
+returns : tie.Need-returns
+returns c =
+    let m = (makes (c .before .before .before .before .before .before .key-given .result) (c .before .before .before .before .before .before .before .before .args .connection) (c .before .before .before .before .before .before .before .before .args .clock) (c .before .before .before .before .before .before .key-given .ok) (omega arith) (omega arith)) in
+    owner-number m (c .before .before .before .before .before .before .before .before .pre) (λ i. omega (arith, c .before .before .before .before .before .before .before .slice-known .given i)) (fails-info _ _ _) (c .before .before .before .before .failed-package-info .result) _ (c .before .before .before .before .failed-package-info .ensures) (c .hand-out .ensures) (ap (λ x. On (FailedPackageInfo x (c .before .before .before .before .before .before .before .before .args .connection) (c .before .before .before .before .before .before .before .before .args .clock))) (c .before .before .before .before .before .before .key-given .ensures))
+
+pub tracker-owned-failed-package-info-spec : {M : Type 1} → statement M
+tracker-owned-failed-package-info-spec = tie.close (tie.spec key-given-requires failed-package-info-requires hand-out-requires same-length returns)

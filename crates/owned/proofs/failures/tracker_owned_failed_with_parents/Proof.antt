@@ -1,0 +1,34 @@
+-- `owned::failures::tracker_owned_failed_with_parents` meets its contract: that of the checked call, behind its sound test, and the store stays sound.
+-- Assumes nothing.
+use mathlib.Core.Path.{ap}
+use native.Mathlib.Omega.{arith}
+use borrow.Author.Needs.{needs}
+use Rattle.machine.specs.Call.{On, FailedWithParents}
+use Rattle.tracker.proofs.Typed.{fails-with-parents as makes}
+use Rattle.exports.proofs.Failed.{fails-with-parents}
+use Rattle.owned.proofs.Owner.{owner-keys}
+use Rattle.owned.proofs.failures.tracker_owned_failed_with_parents.Statement.{statement}
+use Rattle.owned.proofs.failures.tracker_owned_failed_with_parents.Tie as tie
+
+key-given-requires : tie.Need-key-given-requires
+key-given-requires c κs = search needs
+
+failed-with-parents-requires : tie.Need-failed-with-parents-requires
+failed-with-parents-requires c κs = search needs
+
+hand-count-requires : tie.Need-hand-count-requires
+hand-count-requires c κs = search needs
+
+same-length : tie.Need-same-length
+same-length c = search needs
+
+same-length-2 : tie.Need-same-length-2
+same-length-2 c = search needs
+
+returns : tie.Need-returns
+returns c =
+    let m = (makes (c .before .before .before .before .before .before .before .before .before .key-given .result) (c .before .before .before .before .before .before .before .before .before .before .before .before .args .connection) (c .before .before .before .before .before .before .before .before .before .before .before .before .args .clock) (c .before .before .before .before .before .before .before .before .before .before .before .before .args .answer .now) (c .before .before .before .before .before .before .before .before .before .key-given .ok) (omega arith) (omega arith)) in
+    owner-keys m (c .before .before .before .before .before .before .before .before .before .before .before .before .pre) (λ i. omega (arith, c .before .before .before .before .before .before .before .before .before .before .before .slice-known .given i)) (fails-with-parents _ _ _ _) (c .before .before .before .before .before .before .failed-with-parents .result) _ (c .before .before .before .before .before .before .failed-with-parents .ensures) (c .hand-count .ensures) (ap (λ x. On (FailedWithParents x (c .before .before .before .before .before .before .before .before .before .before .before .before .args .connection) (c .before .before .before .before .before .before .before .before .before .before .before .before .args .clock) (c .before .before .before .before .before .before .before .before .before .before .before .before .args .answer .now))) (c .before .before .before .before .before .before .before .before .before .key-given .ensures))
+
+pub tracker-owned-failed-with-parents-spec : {M : Type 1} → statement M
+tracker-owned-failed-with-parents-spec = tie.close (tie.spec key-given-requires failed-with-parents-requires hand-count-requires same-length same-length-2 returns)

@@ -1,0 +1,30 @@
+-- `owned::sweeps::tracker_owned_sweep` meets its contract: that of the checked call, behind its sound test, and the store stays sound.
+-- Assumes nothing.
+use mathlib.Core.Path.{refl}
+use native.Mathlib.Omega.{arith}
+use borrow.Author.Needs.{needs}
+use Rattle.tracker.proofs.Typed.{sweeps as makes}
+use Rattle.exports.proofs.Statuses.{sweeps}
+use Rattle.owned.proofs.Owner.{owner-keys}
+use Rattle.owned.proofs.sweeps.tracker_owned_sweep.Statement.{statement}
+use Rattle.owned.proofs.sweeps.tracker_owned_sweep.Tie as tie
+
+sweep-requires : tie.Need-sweep-requires
+sweep-requires c κs = search needs
+
+hand-count-requires : tie.Need-hand-count-requires
+hand-count-requires c κs = search needs
+
+same-length : tie.Need-same-length
+same-length c = search needs
+
+same-length-2 : tie.Need-same-length-2
+same-length-2 c = search needs
+
+returns : tie.Need-returns
+returns c =
+    let m = (makes (c .before .before .before .before .before .before .before .before .before .before .before .args .answer .now)) in
+    owner-keys m (c .before .before .before .before .before .before .before .before .before .before .before .pre) (λ i. omega (arith, c .before .before .before .before .before .before .before .before .before .before .slice-known .given i)) (sweeps _) (c .before .before .before .before .before .before .sweep .result) _ (c .before .before .before .before .before .before .sweep .ensures) (c .hand-count .ensures) refl
+
+pub tracker-owned-sweep-spec : {M : Type 1} → statement M
+tracker-owned-sweep-spec = tie.close (tie.spec sweep-requires hand-count-requires same-length same-length-2 returns)

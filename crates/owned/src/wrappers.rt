@@ -1,0 +1,61 @@
+// The wrappers' calls, of an owner.
+ghost use Rattle.machine.specs.Call.{On, AnnounceTransactions, TransactionResponseCompleted};
+ghost use Rattle.store.specs.Image.{SoundStore};
+ghost use Rattle.lists.specs.Items.{offersIn};
+ghost use Rattle.tracker.specs.Outcome.{Leaves};
+ghost use Rattle.exports.specs.Arguments.{hashGiven};
+ghost use Rattle.exports.specs.Status.{numbered};
+
+// The connection announces the items, which are given in 40 bytes each, with the priorities beside them in 8; the shorter list decides. source: a wtxid source exists.
+// Carried out, it replies 1.
+#[no_mangle]
+pub extern "C" fn tracker_owned_announce_transactions(
+    s: &mut [u8],
+    connection: u64,
+    clock: u64,
+    preferred: bool,
+    source: bool,
+    items: &[u8],
+    priorities: &[u8],
+) -> u64
+    requires { ⌜ SoundStore (now s) ⌝ }
+    ensures { λ r. ⌜ Leaves (On (AnnounceTransactions connection clock preferred source (offersIn (now (items .entry)) (now (priorities .entry))))) (now (s .entry)) (now (s .exit)) (numbered r 1) ⌝ }
+    ensures sound { λ r. ⌜ SoundStore (now (s .exit)) ⌝ }
+{
+    let a = tracker::on_sound::wrappers::announce_transactions(
+        s,
+        connection,
+        clock,
+        preferred,
+        source,
+        items,
+        priorities,
+    );
+    exports::status(a)
+}
+
+// A response of the connection is complete: what it still owns of this transaction, under either identity, has failed. Carried out, it replies 1.
+#[no_mangle]
+pub extern "C" fn tracker_owned_transaction_response_completed(
+    s: &mut [u8],
+    connection: u64,
+    txid: &[u8; 32],
+    wtxid: &[u8; 32],
+    clock: u64,
+) -> u64
+    requires { ⌜ SoundStore (now s) ⌝ }
+    ensures { λ r. ⌜ Leaves (On (TransactionResponseCompleted connection (hashGiven (now (txid .entry))) (hashGiven (now (wtxid .entry))) clock)) (now (s .entry)) (now (s .exit)) (numbered r 1) ⌝ }
+    ensures sound { λ r. ⌜ SoundStore (now (s .exit)) ⌝ }
+{
+    let g = ident::hash_from_bytes(txid);
+    let h = ident::hash_from_bytes(wtxid);
+    let x = ident::Txid(g);
+    let w = ident::Wtxid(h);
+    exports::status(tracker::on_sound::wrappers::transaction_response_completed(
+        s,
+        connection,
+        x,
+        w,
+        clock,
+    ))
+}
