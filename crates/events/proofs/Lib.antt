@@ -1,9 +1,6 @@
-pub mod Taking
-pub mod Openings
-pub mod FirstFields
 pub mod Printing
-pub mod Offers
 pub mod KeyLists
-pub mod Stored
-pub mod ParentLines
 pub mod LongLists
+pub mod Bytewise
+pub mod Unopened
+pub mod KeyCounts

@@ -27,7 +27,8 @@ use Rattle.tracker.specs.Reply.{listingOf}
 use Rattle.tracker.specs.Outcome.{Effect, outcomeIf, Does}
 use Rattle.lists.specs.Lists.{keysIn}
 use Rattle.events.specs.Replies.{replyText}
-use Rattle.events.specs.Given.{Printed, Carried, mostHashes, mostKeys}
+use Rattle.reading.specs.Given.{mostHashes}
+use Rattle.events.specs.Given.{Printed, Carried, mostKeys}
 use Rattle.events.proofs.KeyLists.{length-keys}
 
 -- ---- a list that is too long
@@ -87,7 +88,7 @@ listing-same u e = ap (λ (x : Listing). listingOf x u) e
 
 -- ---- how many keys are listed
 
-abbrev keyCount : Reply → ℕ
+abbrev pub keyCount : Reply → ℕ
 keyCount (Refused n) = 0
 keyCount (Number n) = 0
 keyCount (Keys ks) = length ks

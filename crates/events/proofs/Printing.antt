@@ -1,7 +1,7 @@
 -- Answers as text.
 -- Assumes nothing.
 use Prim.Native.Nat.{ℕ, _+_, _<_, _≤_}
-use mathlib.Core.Path.{_≡_, subst}
+use mathlib.Core.Path.{_≡_, sym, subst}
 use mathlib.Core.List.{List, [], _∷_, append-assoc}
 use mathlib.Core.Option.{Option, none, some}
 use native.Mathlib.Omega.{arith}
@@ -10,7 +10,9 @@ use Rattle.ident.specs.Number.{Key}
 use Rattle.machine.specs.State.{Candidate}
 use Rattle.machine.specs.Call.{Ask, Sum, Call, Open, On}
 use Rattle.machine.specs.Step.{Reply, Refused, Number, Keys, Summed}
-use Rattle.tracker.specs.Outcome.{Effect, Does}
+use Rattle.tracker.specs.Outcome.{Effect, Does, Leaves}
+use Rattle.reading.specs.declared.vocabulary.NumberWord.{NumberWord}
+use Rattle.reading.specs.Calls.{Values, numberAsk}
 use Rattle.lines.specs.Text.{decimalDigits, decimal, Wrote}
 use Rattle.lines.proofs.Numerals.{length-numeral}
 use Rattle.lines.proofs.Writing.{wrote-more}
@@ -75,6 +77,10 @@ module _ {out out′ : List ℕ} {r : ℕ} {y : Reply} {n : ℕ} where
 -- the candidate of a call, as the code has it and as the line has it
 pub carried-as : (ask : Candidate → Ask) {x y : Candidate} {b b′ out out′ : List ℕ} {r : ℕ} → x ≡ y → (e : Effect) → Does (On (ask x)) b e → b′ ≡ e .store → Numbered out out′ (e .reply) r → Carried (On (ask y)) b b′ out out′ r
 carried-as ask {x} {y} {b} g e d s t = record { effect = e; does = subst (λ (z : Candidate). Does (On (ask z)) b e) g d; store = s; text = t .text (ask y) }
+
+-- the call of a word that is known, with its values as the code has them and as the line has them
+pub did : (v : Values) {w x : NumberWord} {a : Ask} {b b′ : List ℕ} {y : Reply} → w ≡ x → a ≡ numberAsk x v → Leaves (On a) b b′ y → Leaves (On (numberAsk w v)) b b′ y
+did v {w} {x} {a} {b} {b′} {y} g h d = subst (λ (z : NumberWord). Leaves (On (numberAsk z v)) b b′ y) (sym g) (subst (λ (z : Ask). Leaves (On z) b b′ y) h d)
 
 -- ---- a line, by what it asks for
 

@@ -1,3 +1,3 @@
-pub mod Calls
 pub mod Replies
 pub mod Given
+pub mod Input

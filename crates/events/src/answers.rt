@@ -4,18 +4,22 @@ ghost use mathlib.Core.List.{[], _∷_};
 ghost use lib.ListN.{length};
 ghost use Rattle.machine.specs.Call.{Open, On, Announce, RequestParent, Sum};
 ghost use mathlib.Core.Path.{_≡_};
-ghost use Rattle.ident.specs.Words.{hashNum};
-ghost use Rattle.regions.specs.Rows.{quadNumber};
+ghost use Rattle.ident.specs.Words.{keyNum};
 ghost use Rattle.requests.specs.Changes.{candidateOf};
+ghost use Rattle.tracker.specs.Outcome.{Leaves};
 ghost use Rattle.tracker.specs.Reply.{replyOf};
 ghost use Rattle.lines.specs.Text.{decimal};
-ghost use Rattle.events.specs.Calls.{callOf};
+ghost use Rattle.reading.specs.Calls.{keyIn, numberAsk, callOf};
 ghost use Rattle.events.specs.Replies.{refusalText, joined, unreadable};
-ghost use Rattle.events.specs.Given.{answerRoom, Printed, Numbered, Carried, Answered, offerOf};
-use crate::calls::Asked;
-use crate::calls::Offer;
+ghost use Rattle.reading.specs.Given.{offerOf, valuesOf};
+ghost use Rattle.events.specs.Given.{answerRoom, Printed, Numbered, Carried, Answered};
 use lines::write::put_bytes;
 use lines::write::put_decimal;
+use reading::calls::Asked;
+use reading::calls::Offer;
+use reading::forms::Values;
+use reading::hashes::hash_of;
+use reading::vocabulary::NumberWord;
 
 pub fn refusal(out: &mut [u8], n: u64) -> usize
     requires { ⌜ answerRoom ≤ length (now out) ⌝ }
@@ -66,14 +70,6 @@ fn answer_sum(store: &[u8], out: &mut [u8]) -> usize
     }
 }
 
-// A hash of plain words as the tracker takes it.
-pub fn hash_of(q: regions::Quad) -> ident::Hash
-    ensures { λ r. ⌜ hashNum r ≡ quadNumber q ⌝ }
-{
-    let words = [q.w0, q.w1, q.w2, q.w3];
-    ident::Hash { words }
-}
-
 fn candidate(o: Offer) -> requests::Candidate
     ensures { λ r. ⌜ candidateOf r ≡ offerOf o ⌝ }
 {
@@ -117,18 +113,55 @@ fn request_parent(store: &mut [u8], out: &mut [u8], o: Offer) -> usize
     number(out, a)
 }
 
+pub fn key_of(v: Values) -> ident::Key
+    ensures { λ r. ⌜ keyNum r ≡ keyIn (valuesOf v) ⌝ }
+{
+    let kind = v.kind;
+    let hash = hash_of(v.hash);
+    ident::Key { kind, hash }
+}
+
+fn carry_out(store: &mut [u8], w: NumberWord, v: Values) -> tracker::Answer
+    ensures { λ r. ⌜ Leaves (On (numberAsk w (valuesOf v))) (now (store .entry)) (now (store .exit)) (replyOf r) ⌝ }
+{
+    let key = key_of(v);
+    match w {
+        NumberWord::Failed => tracker::failures::failed(store, key, v.connection, v.clock),
+        NumberWord::Unclaim => tracker::failures::unclaim(store, key, v.connection),
+        NumberWord::Forget => tracker::failures::forget(store, key),
+        NumberWord::FailedPackageInfo => tracker::failures::failed_package_info(
+            store,
+            key,
+            v.connection,
+            v.clock,
+        ),
+        NumberWord::PackageInfoOwner => tracker::failures::package_info_owner(store, key, v.clock),
+        NumberWord::PollGate => tracker::sweeps::poll_gate(store, v.clock),
+    }
+}
+
+fn answer_number(store: &mut [u8], out: &mut [u8], w: NumberWord, v: Values) -> usize
+    requires { ⌜ answerRoom ≤ length (now out) ⌝ }
+    ensures { λ r. ⌜ Carried (On (numberAsk w (valuesOf v))) (now (store .entry)) (now (store .exit)) (now (out .entry)) (now (out .exit)) r ⌝ }
+{
+    let a = carry_out(store, w, v);
+    number(out, a)
+}
+
 // The step on one line.
 pub fn answer_line(store: &mut [u8], line: &[u8], out: &mut [u8]) -> usize
     requires { ⌜ answerRoom ≤ length (now out) ⌝ }
     ensures { λ r. ⌜ Answered (callOf (now (line .entry))) (now (store .entry)) (now (store .exit)) (now (out .entry)) (now (out .exit)) r ⌝ }
 {
-    let asked = crate::calls::call_of(line);
+    let asked = reading::calls::call_of(line);
     match asked {
         Asked::Unreadable => unreadable(out),
         Asked::Opening(l, q) => answer_open(store, out, l, q),
         Asked::Announcing(o) => announce(store, out, o),
         Asked::Requesting(o) => request_parent(store, out, o),
         Asked::Summing => answer_sum(store, out),
+        Asked::Number(w, v) => answer_number(store, out, w, v),
+        Asked::Keys(w, v) => crate::listings::answer_keys(store, out, w, v),
         Asked::Parents(e) => crate::parents::announce_parents(store, line, e, out),
     }
 }

@@ -1,7 +1,11 @@
 // Standard input parted into lines. A line is counted without its line feed; the last one may lack it.
-ghost use Prim.Native.Nat.{_≤_, _<_};
+ghost use Prim.Native.Nat.{_≤_};
 ghost use lib.ListN.{length};
-ghost use Rattle.events.specs.Given.{lineRoom, answerRoom};
+ghost use mathlib.Core.Option.{none};
+ghost use Rattle.ident.specs.If.{if_then_else_};
+ghost use Rattle.reading.specs.Calls.{callOf};
+ghost use Rattle.events.specs.Given.{lineRoom, answerRoom, Answered};
+ghost use Rattle.events.specs.Input.{Reading, started, Held, Said, Took, TookAll, TookSome, Ended, Ran};
 use libc::STDIN_FILENO;
 use libc::STDOUT_FILENO;
 
@@ -21,9 +25,10 @@ struct Read {
     kept: Kept,
 }
 
+// The text of a line's answer: of no call, if the line is too long.
 fn print(store: &mut [u8], line: &[u8], long: bool, out: &mut [u8]) -> usize
     requires { ⌜ answerRoom ≤ length (now out) ⌝ }
-    ensures { λ r. ⌜ r < answerRoom ⌝ }
+    ensures { λ r. ⌜ Answered (if long then none else callOf (now (line .entry))) (now (store .entry)) (now (store .exit)) (now (out .entry)) (now (out .exit)) r ⌝ }
 {
     if long {
         return crate::answers::unreadable(out);
@@ -31,20 +36,24 @@ fn print(store: &mut [u8], line: &[u8], long: bool, out: &mut [u8]) -> usize
     crate::answers::answer_line(store, line, out)
 }
 
-// Answers one line. Nothing is left to do where standard output takes no more.
-fn answer(store: &mut [u8], line: &[u8], long: bool, out: &mut [u8])
+// Answers one line: the text with its line feed stands at the front of `out`, and so many bytes are written. Nothing is left to do where standard
+// output takes no more.
+fn answer(store: &mut [u8], line: &[u8], long: bool, out: &mut [u8]) -> usize
     requires { ⌜ answerRoom ≤ length (now out) ⌝ }
+    ensures { λ r. ⌜ Said (if long then none else callOf (now (line .entry))) (now (store .entry)) (now (store .exit)) (now (out .exit)) r ⌝ }
 {
     let n = print(store, line, long, out);
     out[n] = b'\n';
     let end = n + 1;
     io::write_all(STDOUT_FILENO, &out[..end]);
+    end
 }
 
 // One byte of the input.
 fn take(store: &mut [u8], line: &mut [u8], out: &mut [u8], kept: Kept, b: u8) -> Kept
     requires { ⌜ (lineRoom ≤ length (now line)) × (answerRoom ≤ length (now out)) × (kept .len ≤ lineRoom) ⌝ }
     ensures { λ r. ⌜ r .len ≤ lineRoom ⌝ }
+    ensures took { λ r. ⌜ ((p : Reading) → Held kept (now (line .entry)) (now (store .entry)) p → Took p b r (now (line .exit)) (now (store .exit)) (now (out .exit))) ⌝ }
 {
     let len = kept.len;
     if b == b'\n' {
@@ -67,6 +76,7 @@ fn take(store: &mut [u8], line: &mut [u8], out: &mut [u8], kept: Kept, b: u8) ->
 fn take_all(store: &mut [u8], line: &mut [u8], out: &mut [u8], kept: Kept, bytes: &[u8]) -> Kept
     requires { ⌜ (lineRoom ≤ length (now line)) × (answerRoom ≤ length (now out)) × (kept .len ≤ lineRoom) ⌝ }
     ensures { λ r. ⌜ r .len ≤ lineRoom ⌝ }
+    ensures took { λ r. ⌜ ((p : Reading) → Held kept (now (line .entry)) (now (store .entry)) p → TookAll p (now (bytes .entry)) r (now (line .exit)) (now (store .exit))) ⌝ }
 {
     let mut now = kept;
     let mut i = 0;
@@ -81,6 +91,7 @@ fn take_all(store: &mut [u8], line: &mut [u8], out: &mut [u8], kept: Kept, bytes
 fn read_some(store: &mut [u8], line: &mut [u8], out: &mut [u8], kept: Kept) -> Read
     requires { ⌜ (lineRoom ≤ length (now line)) × (answerRoom ≤ length (now out)) × (kept .len ≤ lineRoom) ⌝ }
     ensures { λ r. ⌜ r .kept .len ≤ lineRoom ⌝ }
+    ensures took { λ r. ⌜ ((p : Reading) → Held kept (now (line .entry)) (now (store .entry)) p → TookSome p (r .kept) (now (line .exit)) (now (store .exit))) ⌝ }
 {
     let mut bytes = io::buffer();
     let got = libc::read(STDIN_FILENO, &mut bytes);
@@ -94,9 +105,10 @@ fn read_some(store: &mut [u8], line: &mut [u8], out: &mut [u8], kept: Kept) -> R
 
 // Reads to the end of the input, and answers what is left of a line without its line feed. The turns are counted because a proved loop
 // ends: no run uses them up.
-pub fn read_lines(store: &mut [u8], line: &mut [u8], out: &mut [u8]) -> Kept
+fn read_lines(store: &mut [u8], line: &mut [u8], out: &mut [u8]) -> Kept
     requires { ⌜ (lineRoom ≤ length (now line)) × (answerRoom ≤ length (now out)) ⌝ }
     ensures { λ r. ⌜ r .len ≤ lineRoom ⌝ }
+    ensures took { λ r. ⌜ TookSome (started (now (store .entry))) r (now (line .exit)) (now (store .exit)) ⌝ }
 {
     let mut kept = Kept {
         len: 0,
@@ -115,11 +127,21 @@ pub fn read_lines(store: &mut [u8], line: &mut [u8], out: &mut [u8]) -> Kept
 }
 
 // The end of the input: a last line may lack its line feed.
-pub fn end(store: &mut [u8], line: &[u8], out: &mut [u8], kept: Kept)
+fn end(store: &mut [u8], line: &[u8], out: &mut [u8], kept: Kept)
     requires { ⌜ (lineRoom ≤ length (now line)) × (answerRoom ≤ length (now out)) × (kept .len ≤ lineRoom) ⌝ }
+    ensures { λ r. ⌜ ((p : Reading) → Held kept (now (line .entry)) (now (store .entry)) p → Ended p (now (store .exit)) (now (out .exit))) ⌝ }
 {
     let len = kept.len;
     if 0 < len {
         answer(store, &line[..len], kept.long, out);
     }
+}
+
+// The whole input.
+pub fn run(store: &mut [u8], line: &mut [u8], out: &mut [u8])
+    requires { ⌜ (lineRoom ≤ length (now line)) × (answerRoom ≤ length (now out)) ⌝ }
+    ensures { λ r. ⌜ Ran (now (store .entry)) (now (store .exit)) ⌝ }
+{
+    let last = read_lines(store, line, out);
+    end(store, line, out, last);
 }

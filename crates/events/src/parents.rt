@@ -1,84 +1,29 @@
 // A connection's parents (`kin`): the list read from the line, the call carried out, its keys as text.
 ghost use mathlib.Core.Path.{_≡_};
-ghost use Prim.Native.Nat.{_+_, _≤_, min};
+ghost use Prim.Native.Nat.{_+_, _≤_};
 ghost use lib.ListN.{length};
-ghost use Rattle.regions.specs.Rows.{quadNumber};
 ghost use Rattle.machine.specs.Call.{On, AnnounceParents};
 ghost use Rattle.lists.specs.Lists.{hashesIn};
 ghost use Rattle.lines.specs.Fields.{rest};
-ghost use Rattle.events.specs.Calls.{answerBuffer, parentsOf};
-ghost use Rattle.events.specs.Given.{answerRoom, mostHashes, storedBytes, HashPut, ListRead, Carried, Answered};
+ghost use Rattle.reading.specs.Calls.{answerBuffer, parentsOf};
+ghost use Rattle.events.specs.Given.{answerRoom, Carried, Answered};
 use crate::answers::refusal;
 use crate::answers::unreadable;
-use crate::fields::HashAt;
-use crate::fields::NumberAt;
-use crate::fields::hash_at;
-use crate::fields::number_at;
-
-// Hashes that are stored, one more than a call takes: with more it is refused, whichever they are.
-const HASHES: usize = 101;
-
-const HASH: usize = 32;
-
-const STORED: usize = HASHES * HASH;
+use reading::fields::NumberAt;
+use reading::fields::number_at;
+use reading::hashes::HASH;
+use reading::hashes::ListAt;
+use reading::hashes::hash_buffer;
+use reading::hashes::read_hashes;
+use reading::hashes::stored;
 
 // Bytes of the longest answer: 101 keys of 40 bytes.
 const ANSWER: usize = 4_040;
 
-// A list that was read, with the index where its last field ends.
-pub enum ListAt {
-    Not,
-    Is(usize),
-}
-
-fn hash_buffer() -> [u8; STORED]
-    ensures { λ r. ⌜ length r ≡ storedBytes ⌝ }
-{
-    [0u8; STORED]
-}
-
-fn answer_buffer() -> [u8; ANSWER]
+pub fn answer_buffer() -> [u8; ANSWER]
     ensures { λ r. ⌜ r ≡ answerBuffer ⌝ }
 {
     [0u8; ANSWER]
-}
-
-fn put_hash(hashes: &mut [u8], i: usize, q: regions::Quad)
-    requires { ⌜ storedBytes ≤ length (now hashes) ⌝ }
-    ensures { λ _. ⌜ HashPut (now (hashes .entry)) (now (hashes .exit)) i (quadNumber q) ⌝ }
-{
-    if HASHES <= i {
-        return;
-    }
-    ident::put_hash(hashes, i * HASH, crate::answers::hash_of(q));
-}
-
-// The n hashes whose fields stand behind the comma at index e.
-fn read_hashes(line: &[u8], e: usize, n: usize, hashes: &mut [u8]) -> ListAt
-    requires { ⌜ storedBytes ≤ length (now hashes) ⌝ }
-    ensures { λ r. ⌜ ListRead (now (line .entry)) e n (now (hashes .exit)) r ⌝ }
-{
-    let mut to = e;
-    let mut i = 0;
-    while i < n {
-        let HashAt::Is(q, end) = hash_at(line, to) else {
-            return ListAt::Not;
-        };
-        put_hash(hashes, i, q);
-        to = end;
-        i += 1;
-    }
-    ListAt::Is(to)
-}
-
-// How many of n hashes are stored.
-fn stored(n: usize) -> usize
-    ensures { λ r. ⌜ r ≡ min n mostHashes ⌝ }
-{
-    if n < HASHES {
-        return n;
-    }
-    HASHES
 }
 
 fn carry_out(store: &mut [u8], out: &mut [u8], connection: u64, parents: &[u8], clock: u64) -> usize

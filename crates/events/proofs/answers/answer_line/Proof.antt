@@ -1,7 +1,7 @@
 -- `events::answers::answer_line` meets its contract.
 -- Assumes nothing.
 use mathlib.Core.Path.{refl, sym, ap, _∙_}
-use Rattle.events.specs.Given.{askedCall}
+use Rattle.reading.specs.Given.{askedCall}
 use Rattle.events.proofs.Printing.{as-unread, as-call, as-line}
 use borrow.Author.Needs.{needs}
 use Rattle.events.proofs.answers.answer_line.Statement.{statement}
@@ -42,6 +42,18 @@ answer-sum-requires c κs = search needs
 
 enum-known-asked-4 : tie.Need-enum-known-asked-4
 enum-known-asked-4 c = search needs
+
+answer-number-requires : tie.Need-answer-number-requires
+answer-number-requires c κs = search needs
+
+enum-known-asked-5 : tie.Need-enum-known-asked-5
+enum-known-asked-5 c = search needs
+
+answer-keys-requires : tie.Need-answer-keys-requires
+answer-keys-requires c κs = search needs
+
+enum-known-asked-6 : tie.Need-enum-known-asked-6
+enum-known-asked-6 c = search needs
 
 announce-parents-requires : tie.Need-announce-parents-requires
 announce-parents-requires c κs = search needs
@@ -95,7 +107,25 @@ same-length-11 : tie.Need-same-length-11
 same-length-11 c = search needs
 
 returns-6 : tie.Need-returns-6
-returns-6 c = as-line (sym (ap (askedCall _) (c .before .before .before .before .before .before .before .before .asked4 .given .1)) ∙ c .before .before .before .before .before .before .before .before .before .before .call-of .ensures) (c .before .before .before .before .announce-parents .ensures)
+returns-6 c = as-call (sym (ap (askedCall _) (c .before .before .before .before .before .before .before .before .asked4 .given .1)) ∙ c .before .before .before .before .before .before .before .before .before .before .call-of .ensures) (c .before .before .before .before .answer-number .ensures)
+
+same-length-12 : tie.Need-same-length-12
+same-length-12 c = search needs
+
+same-length-13 : tie.Need-same-length-13
+same-length-13 c = search needs
+
+returns-7 : tie.Need-returns-7
+returns-7 c = as-call (sym (ap (askedCall _) (c .before .before .before .before .before .before .before .before .asked5 .given .1)) ∙ c .before .before .before .before .before .before .before .before .before .before .call-of .ensures) (c .before .before .before .before .answer-keys .ensures)
+
+same-length-14 : tie.Need-same-length-14
+same-length-14 c = search needs
+
+same-length-15 : tie.Need-same-length-15
+same-length-15 c = search needs
+
+returns-8 : tie.Need-returns-8
+returns-8 c = as-line (sym (ap (askedCall _) (c .before .before .before .before .before .before .before .before .asked6 .given .1)) ∙ c .before .before .before .before .before .before .before .before .before .before .call-of .ensures) (c .before .before .before .before .announce-parents .ensures)
 
 pub answer-line-spec : {M : Type 1} → statement M
 answer-line-spec =
@@ -113,6 +143,10 @@ answer-line-spec =
     enum-told-2
     answer-sum-requires
     enum-known-asked-4
+    answer-number-requires
+    enum-known-asked-5
+    answer-keys-requires
+    enum-known-asked-6
     announce-parents-requires
     same-length
     returns
@@ -130,4 +164,10 @@ answer-line-spec =
     returns-5
     same-length-10
     same-length-11
-    returns-6)
+    returns-6
+    same-length-12
+    same-length-13
+    returns-7
+    same-length-14
+    same-length-15
+    returns-8)

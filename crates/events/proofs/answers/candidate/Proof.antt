@@ -1,6 +1,6 @@
 -- `events::answers::candidate` meets its contract.
 -- Assumes nothing.
-use Rattle.events.proofs.Offers.{same-offer}
+use Rattle.reading.proofs.Offers.{same-offer}
 use borrow.Author.Needs.{needs}
 use Rattle.events.proofs.answers.candidate.Statement.{statement}
 use Rattle.events.proofs.answers.candidate.Tie as tie

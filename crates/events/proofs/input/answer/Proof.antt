@@ -1,7 +1,9 @@
--- `events::input::answer` is safe and ends.
+-- `events::input::answer` meets its contract: the text, and a line feed.
 -- Assumes nothing.
 use native.Mathlib.Omega.{arith}
 use lib.ListN.{length-set, length-take}
+use Rattle.events.proofs.Printing.{room-of}
+use Rattle.events.proofs.Bytewise.{fed}
 use borrow.Author.Needs.{needs}
 use Rattle.events.proofs.input.answer.Statement.{statement}
 use Rattle.events.proofs.input.answer.Tie as tie
@@ -10,16 +12,16 @@ print-requires : tie.Need-print-requires
 print-requires c κs = search needs
 
 slice-write-out : tie.Need-slice-write-out
-slice-write-out c = search needs
+slice-write-out c = omega (arith, room-of (c .before .before .before .before .print .ensures))
 
 add-end : tie.Need-add-end
-add-end c = search needs
+add-end c = omega (arith, room-of (c .before .before .before .before .print .ensures))
 
 slice-reshare-prefix-write-all : tie.Need-slice-reshare-prefix-write-all
-slice-reshare-prefix-write-all c = simp length-set (omega arith)
+slice-reshare-prefix-write-all c = simp length-set (omega (arith, room-of (c .before .before .before .before .print .ensures)))
 
 slice-aggregate-write-all : tie.Need-slice-aggregate-write-all
-slice-aggregate-write-all c = simp (length-take, length-set) (omega arith)
+slice-aggregate-write-all c = simp (length-take, length-set) (omega (arith, room-of (c .before .before .before .before .before .print .ensures)))
 
 write-all-requires : tie.Need-write-all-requires
 write-all-requires c κs = search needs
@@ -31,7 +33,7 @@ same-length-2 : tie.Need-same-length-2
 same-length-2 c = search needs
 
 returns : tie.Need-returns
-returns c = search needs
+returns c = fed (c .before .before .before .before .before .before .print .ensures) (omega (arith, room-of (c .before .before .before .before .before .before .print .ensures))) (omega arith)
 
 pub answer-spec : {M : Type 1} → statement M
 answer-spec =

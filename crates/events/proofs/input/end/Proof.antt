@@ -1,7 +1,8 @@
--- `events::input::end` is safe and ends.
+-- `events::input::end` meets its contract: the last line, if there is one.
 -- Assumes nothing.
 use native.Mathlib.Omega.{arith}
 use lib.ListN.{length-take}
+use Rattle.events.proofs.Bytewise.{ended-line, ended-empty}
 use borrow.Author.Needs.{needs}
 use Rattle.events.proofs.input.end.Statement.{statement}
 use Rattle.events.proofs.input.end.Tie as tie
@@ -19,10 +20,10 @@ same-length-2 : tie.Need-same-length-2
 same-length-2 c = search needs
 
 returns : tie.Need-returns
-returns c = search needs
+returns c p g = ended-line g (c .before .before .before .before .before .before .before .before .if1 .taken) (c .before .before .before .before .answer .ensures)
 
 returns-2 : tie.Need-returns-2
-returns-2 c = search needs
+returns-2 c p g = ended-empty g (omega (arith, c .if1 .left))
 
 pub end-spec : {M : Type 1} → statement M
 end-spec =

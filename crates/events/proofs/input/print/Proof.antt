@@ -1,6 +1,6 @@
--- `events::input::print` meets its contract.
+-- `events::input::print` meets its contract: a line that is too long is no call.
 -- Assumes nothing.
-use Rattle.events.proofs.Printing.{room-of}
+use Rattle.events.proofs.Bytewise.{printed-long, printed-line}
 use borrow.Author.Needs.{needs}
 use Rattle.events.proofs.input.print.Statement.{statement}
 use Rattle.events.proofs.input.print.Tie as tie
@@ -12,7 +12,7 @@ same-length : tie.Need-same-length
 same-length c = search needs
 
 returns : tie.Need-returns
-returns c = search needs
+returns c = printed-long (c .before .before .before .before .before .before .before .before .args .line .now) (c .before .before .before .before .if1 .taken) (c .before .before .unreadable .ensures)
 
 answer-line-requires : tie.Need-answer-line-requires
 answer-line-requires c κs = search needs
@@ -24,7 +24,7 @@ same-length-3 : tie.Need-same-length-3
 same-length-3 c = search needs
 
 returns-2 : tie.Need-returns-2
-returns-2 c = room-of (c .before .before .before .before .answer-line .ensures)
+returns-2 c = printed-line (c .before .before .before .before .before .before .before .before .before .before .before .args .line .now) (c .before .before .before .before .before .before .before .if1 .left) (c .before .before .before .before .answer-line .ensures)
 
 pub print-spec : {M : Type 1} → statement M
 print-spec =

@@ -1,7 +1,9 @@
--- `events::input::take` meets its contract.
+-- `events::input::take` meets its contract: the byte is read.
 -- Assumes nothing.
 use native.Mathlib.Omega.{arith}
+use mathlib.Core.Path.{refl}
 use lib.ListN.{length-take}
+use Rattle.events.proofs.Bytewise.{took-feed, took-over, took-byte}
 use borrow.Author.Needs.{needs}
 use Rattle.events.proofs.input.take.Statement.{statement}
 use Rattle.events.proofs.input.take.Tie as tie
@@ -25,10 +27,10 @@ same-length-3 : tie.Need-same-length-3
 same-length-3 c = search needs
 
 returns : tie.Need-returns
-returns c = search needs
+returns c = (omega arith, λ p g. took-feed g (c .before .before .before .before .before .before .before .before .if1 .taken) refl refl (c .before .before .before .before .answer .ensures))
 
 returns-2 : tie.Need-returns-2
-returns-2 c = search needs
+returns-2 c = (omega arith, λ p g. took-over g (c .before .if1 .left) (c .if2 .taken) refl refl)
 
 slice-write-line : tie.Need-slice-write-line
 slice-write-line c = search needs
@@ -40,7 +42,7 @@ same-length-4 : tie.Need-same-length-4
 same-length-4 c = search needs
 
 returns-3 : tie.Need-returns-3
-returns-3 c = search needs
+returns-3 c = (omega (arith, c .if2 .left), λ p g. took-byte g (c .before .if1 .left) (omega (arith, c .if2 .left)) (omega arith) refl refl)
 
 pub take-spec : {M : Type 1} → statement M
 take-spec =

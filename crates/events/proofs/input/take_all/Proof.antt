@@ -1,21 +1,24 @@
--- `events::input::take_all` meets its contract. The loop's invariant: the buffers keep their lengths, and the kept bytes fit.
+-- `events::input::take_all` meets its contract. The loop's invariant: what the program keeps is the first i bytes, read.
 -- Assumes nothing.
 use borrow.Author.Needs.{needs}
 use Prim.Native.Nat.{_≤_, _-_}
-use mathlib.Core.Path.{_≡_}
-use lib.ListN.{length}
+use mathlib.Core.Path.{_≡_, refl}
+use native.Mathlib.Omega.{arith}
+use lib.ListN.{length, take}
 use Rattle.events.specs.Given.{lineRoom}
+use Rattle.events.specs.Input.{Reading, Held, TookAll}
+use Rattle.events.proofs.Bytewise.{took-none, took-one, take-next, took-whole}
 use Rattle.events.proofs.input.take_all.Statement.{statement}
 use Rattle.events.proofs.input.take_all.Tie as tie
 
 abbrev Inv-loop : tie.InvT-loop
-Inv-loop store₀ line₀ out₀ bytes now₀ i₀ store line out now i = (length store ≡ length store₀) × (length line ≡ length line₀) × (length out ≡ length out₀) × (now .len ≤ lineRoom) × (i ≤ length bytes)
+Inv-loop store₀ line₀ out₀ bytes now₀ i₀ store line out now i = (length store ≡ length store₀) × (length line ≡ length line₀) × (length out ≡ length out₀) × (now .len ≤ lineRoom) × (i ≤ length bytes) × ((p : Reading) → Held now₀ line₀ store₀ p → TookAll p (take i bytes) now line store)
 
 abbrev μ-loop : tie.MeasureT-loop
 μ-loop store₀ line₀ out₀ bytes now₀ i₀ store line out now i = length bytes - i
 
 loop-holds : tie.Need-loop-holds Inv-loop μ-loop
-loop-holds c = search needs
+loop-holds c = (refl, refl, refl, omega arith, omega arith, λ p g. took-none g)
 
 shared-slice-read-take : tie.Need-shared-slice-read-take Inv-loop μ-loop
 shared-slice-read-take c = search needs
@@ -30,7 +33,8 @@ loop-less : tie.Need-loop-less Inv-loop μ-loop
 loop-less c = search needs
 
 loop-again : tie.Need-loop-again Inv-loop μ-loop
-loop-again c = search needs
+loop-again c =
+    (omega arith, omega arith, omega arith, c .before .before .before .before .before .before .take .ensures .0, omega arith, λ p g. let t = c .before .before .before .before .before .before .before .before .before .before .before .before .loop .inv .5 p g in took-one t (c .before .before .before .before .before .before .take .ensures .1 (t .next) (t .held)) (take-next (c .before .before .before .before .before .before .before .before .before .before .before .before .before .before .before .before .before .args .bytes .now) (c .before .before .before .before .before .before .before .before .before .before .before .before .loop .i) (omega arith)))
 
 same-length : tie.Need-same-length Inv-loop μ-loop
 same-length c = search needs
@@ -42,7 +46,7 @@ same-length-3 : tie.Need-same-length-3 Inv-loop μ-loop
 same-length-3 c = search needs
 
 returns : tie.Need-returns Inv-loop μ-loop
-returns c = search needs
+returns c = (c .before .loop .inv .3, λ p g. took-whole (c .before .loop .i) (omega arith) (c .before .loop .inv .5 p g))
 
 pub take-all-spec : {M : Type 1} → statement M
 take-all-spec =

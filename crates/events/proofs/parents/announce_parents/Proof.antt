@@ -3,10 +3,10 @@
 use mathlib.Core.Path.{refl, ap}
 use native.Mathlib.Omega.{arith}
 use lib.ListN.{length-take}
-use Rattle.events.specs.Given.{numberAt}
+use Rattle.reading.specs.Given.{numberAt}
 use Rattle.events.proofs.Printing.{as-unread, as-call}
-use Rattle.events.proofs.Stored.{hashes-stored}
-use Rattle.events.proofs.ParentLines.{list-is, no-connection, no-clock, no-count, no-list, more-fields, parents-are}
+use Rattle.reading.proofs.Stored.{hashes-stored}
+use Rattle.reading.proofs.ParentLines.{list-is, no-connection, no-clock, no-count, no-list, more-fields, parents-are}
 use Rattle.events.proofs.LongLists.{carried-first}
 use borrow.Author.Needs.{needs}
 use Rattle.events.proofs.parents.announce_parents.Statement.{statement}

@@ -1,7 +1,7 @@
 -- `events::parents::answer_buffer` meets its contract.
 -- Assumes nothing.
 use mathlib.Core.Path.{refl}
-use Rattle.events.specs.Calls.{answerBuffer}
+use Rattle.reading.specs.Calls.{answerBuffer}
 use Rattle.events.proofs.parents.answer_buffer.Statement.{statement}
 use Rattle.events.proofs.parents.answer_buffer.Tie as tie
 

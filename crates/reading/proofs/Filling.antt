@@ -1,0 +1,113 @@
+-- The fields of a form, one after the other.
+-- Assumes nothing.
+use Prim.Native.Nat.{ℕ, suc, _+_, _<_, _≤_}
+use mathlib.Core.Path.{_≡_, refl, sym, ap, subst, _∙_}
+use mathlib.Core.Bool.{true, false}
+use mathlib.Core.List.{List, [], _∷_}
+use mathlib.Core.Option.{Option, none, some}
+use native.Mathlib.Omega.{arith}
+use lib.Dec.{eqb}
+use lib.ListN.{length, drop, getD}
+use lib.Seq.{drop-cons, drop-length}
+use borrow.Author.Tests.{eq-eqb, ne-eqb}
+use Rattle.ident.specs.Number.{Key}
+use Rattle.machine.specs.Call.{Ask, Call, On}
+use Rattle.lines.specs.Fields.{numberOf, hashOf, keyOf, rest}
+use Rattle.reading.specs.declared.forms.Values as forms
+use Rattle.reading.specs.declared.forms.ValuesAt.{ValuesAt}
+use Rattle.reading.specs.declared.forms.ValuesAt.the-variants.{Not, Is}
+use Rattle.reading.specs.Calls.{taking, ending, Values, blank, isHash, putKey, putHash, putNumber, fieldThen, formThen}
+use Rattle.reading.specs.Given.{At, FieldRead, valuesOf, thenValues, FieldTaken, FormRead}
+use Rattle.reading.proofs.Taking.{field-not, field-is, ending-end, ending-more}
+
+-- ---- one field
+
+module _ {l : List ℕ} {e f : ℕ} {v : Values} where
+  module _ (g : f ≡ 107) {o : Option (At Key)} (p : FieldRead keyOf l e o) where
+    pub no-key : o ≡ none → FieldTaken l e f v Not
+    unfolding fieldThen
+    no-key n = record { is = λ k. rw (eq-eqb f 107 g) (field-not p (λ x. k (putKey v x)) n) }
+
+    pub key-is : {a : At Key} {w : forms.Values} → o ≡ some a → valuesOf w ≡ putKey v (a .value) → FieldTaken l e f v (Is w (a .end))
+    unfolding fieldThen
+    key-is {a} {w} n h = record { is = λ k. rw (eq-eqb f 107 g) (field-is p (λ x. k (putKey v x)) n ∙ ap (λ (x : Values). k x (rest l (a .end + 1))) (sym h)) }
+
+  module _ (d : f ≡ 107 → ⊥) where
+    module _ (g : true ≡ isHash f) {o : Option (At ℕ)} (p : FieldRead hashOf l e o) where
+      pub no-hash : o ≡ none → FieldTaken l e f v Not
+      unfolding fieldThen
+      no-hash n = record { is = λ k. rw (ne-eqb f 107 d, ← g) (field-not p (λ x. k (putHash f v x)) n) }
+
+      pub hash-is : {a : At ℕ} {w : forms.Values} → o ≡ some a → valuesOf w ≡ putHash f v (a .value) → FieldTaken l e f v (Is w (a .end))
+      unfolding fieldThen
+      hash-is {a} {w} n h = record { is = λ k. rw (ne-eqb f 107 d, ← g) (field-is p (λ x. k (putHash f v x)) n ∙ ap (λ (x : Values). k x (rest l (a .end + 1))) (sym h)) }
+
+    module _ (g : false ≡ isHash f) {o : Option (At ℕ)} (p : FieldRead numberOf l e o) where
+      pub no-number : o ≡ none → FieldTaken l e f v Not
+      unfolding fieldThen
+      no-number n = record { is = λ k. rw (ne-eqb f 107 d, ← g) (field-not p (λ x. k (putNumber f v x)) n) }
+
+      pub number-is : {a : At ℕ} {w : forms.Values} → o ≡ some a → valuesOf w ≡ putNumber f v (a .value) → FieldTaken l e f v (Is w (a .end))
+      unfolding fieldThen
+      number-is {a} {w} n h = record { is = λ k. rw (ne-eqb f 107 d, ← g) (field-is p (λ x. k (putNumber f v x)) n ∙ ap (λ (x : Values). k x (rest l (a .end + 1))) (sym h)) }
+
+-- ---- the loop over the letters
+
+-- the fields of the first i letters are read, and come to v
+pub record Begun (l : List ℕ) (e : ℕ) (form : List ℕ) (i : ℕ) (v : forms.Values) (to : ℕ) : Type 0 where
+  pub is : (k : Values → List (List ℕ) → Option Call) → formThen form blank k (rest l (e + 1)) ≡ formThen (drop i form) (valuesOf v) k (rest l (to + 1))
+
+pub begun : (l : List ℕ) (e : ℕ) (form : List ℕ) {v : forms.Values} → valuesOf v ≡ blank → Begun l e form 0 v e
+begun l e form {v} g = record { is = λ k. ap (λ (x : Values). formThen form x k (rest l (e + 1))) (sym g) }
+
+drop-next : (i : ℕ) (form : List ℕ) → i < length form → drop i form ≡ getD form i 0 ∷ drop (i + 1) form
+drop-next i form h = let e : i + 1 ≡ suc i = omega arith in rw e (drop-cons form i 0 h)
+
+form-next : (f : ℕ) (form : List ℕ) (v : Values) (k : Values → List (List ℕ) → Option Call) (fs : List (List ℕ)) → formThen (f ∷ form) v k fs ≡ fieldThen f v (λ w. formThen form w k) fs
+unfolding formThen
+form-next f form v k fs = refl
+
+form-none : (v : Values) (k : Values → List (List ℕ) → Option Call) (fs : List (List ℕ)) → formThen [] v k fs ≡ k v fs
+unfolding formThen
+form-none v k fs = refl
+
+drop-none : (i : ℕ) (form : List ℕ) → length form ≤ i → i ≤ length form → drop i form ≡ []
+drop-none i form h g = let e : i ≡ length form = omega arith in rw e (drop-length form)
+
+module _ {l : List ℕ} {e : ℕ} {form : List ℕ} {i : ℕ} {v : forms.Values} {to : ℕ} (b : Begun l e form i v to) where
+  module _ (h : i < length form) {r : ValuesAt} (t : FieldTaken l to (getD form i 0) (valuesOf v) r) where
+    turn : (k : Values → List (List ℕ) → Option Call) → formThen form blank k (rest l (e + 1)) ≡ thenValues l (λ w. formThen (drop (i + 1) form) w k) r
+    turn k =
+        b .is k
+        ∙ ap (λ (x : List ℕ). formThen x (valuesOf v) k (rest l (to + 1))) (drop-next i form h)
+        ∙ form-next (getD form i 0) (drop (i + 1) form) (valuesOf v) k (rest l (to + 1))
+        ∙ t .is (λ w. formThen (drop (i + 1) form) w k)
+
+    pub stopped : r ≡ Not → FormRead l e form Not
+    stopped g = record { is = λ k. turn k ∙ ap (thenValues l (λ w. formThen (drop (i + 1) form) w k)) g }
+
+    pub further : {w : forms.Values} {end : ℕ} → r ≡ Is w end → Begun l e form (i + 1) w end
+    further g = record { is = λ k. turn k ∙ ap (thenValues l (λ w. formThen (drop (i + 1) form) w k)) g }
+
+  pub whole : length form ≤ i → i ≤ length form → FormRead l e form (Is v to)
+  whole h g = record { is = λ k. b .is k ∙ ap (λ (x : List ℕ). formThen x (valuesOf v) k (rest l (to + 1))) (drop-none i form h g) ∙ form-none (valuesOf v) k (rest l (to + 1)) }
+
+-- ---- the whole line
+
+module _ {l : List ℕ} {e : ℕ} {form : List ℕ} {r : ValuesAt} (p : FormRead l e form r) (ask : Values → Ask) where
+  pub form-not : r ≡ Not → none ≡ formThen form blank (λ v. ending (some (On (ask v)))) (rest l (e + 1))
+  form-not g = sym (p .is (λ v. ending (some (On (ask v)))) ∙ ap (thenValues l (λ v. ending (some (On (ask v))))) g)
+
+  module _ {v : forms.Values} {end : ℕ} (g : r ≡ Is v end) where
+    to-end : formThen form blank (λ v. ending (some (On (ask v)))) (rest l (e + 1)) ≡ ending (some (On (ask (valuesOf v)))) (rest l (end + 1))
+    to-end = p .is (λ v. ending (some (On (ask v)))) ∙ ap (thenValues l (λ v. ending (some (On (ask v))))) g
+
+    pub form-longer : end < length l → none ≡ formThen form blank (λ v. ending (some (On (ask v)))) (rest l (e + 1))
+    form-longer h = sym (to-end ∙ ending-more l end _ h)
+
+    pub form-is : length l ≤ end → some (On (ask (valuesOf v))) ≡ formThen form blank (λ v. ending (some (On (ask v)))) (rest l (e + 1))
+    form-is h = sym (to-end ∙ ending-end l end _ h)
+
+-- the form of a word that is known
+pub formed : {W : Type 0} (form : W → List ℕ) {x y : W} {l : List ℕ} {e : ℕ} {r : ValuesAt} → x ≡ y → FormRead l e (form y) r → FormRead l e (form x) r
+formed {W} form {x} {y} {l} {e} {r} g p = subst (λ (w : W). FormRead l e (form w) r) (sym g) p

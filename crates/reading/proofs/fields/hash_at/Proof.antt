@@ -1,0 +1,60 @@
+-- `reading::fields::hash_at` meets its contract.
+-- Assumes nothing.
+use mathlib.Core.Path.{sym, ap, _∙_}
+use native.Mathlib.Omega.{arith}
+use Rattle.lines.specs.Fields.{hashOf}
+use Rattle.lines.specs.Values.{hashIn}
+use Rattle.lines.proofs.Parting.{end-most}
+use Rattle.reading.proofs.Taking.{taking-past, taking-not, taking-is}
+use borrow.Author.Needs.{needs}
+use Rattle.reading.proofs.fields.hash_at.Statement.{statement}
+use Rattle.reading.proofs.fields.hash_at.Tie as tie
+
+returns : tie.Need-returns
+returns c = taking-past hashOf (c .before .before .args .line .now) (c .before .before .args .e) (c .if1 .taken)
+
+add-from : tie.Need-add-from
+add-from c = search needs
+
+field-end-requires : tie.Need-field-end-requires
+field-end-requires c κs = search needs
+
+sub-hash : tie.Need-sub-hash
+sub-hash c = search needs
+
+part-hash-start : tie.Need-part-hash-start
+part-hash-start c = search needs
+
+part-hash-end : tie.Need-part-hash-end
+part-hash-end c = omega (arith, end-most 44 (c .before .before .before .args .line .now) _ (omega arith) (c .field-end .ensures))
+
+hash-requires : tie.Need-hash-requires
+hash-requires c κs = search needs
+
+enum-known-q : tie.Need-enum-known-q
+enum-known-q c = search needs
+
+enum-told : tie.Need-enum-told
+enum-told c = search needs
+
+returns-2 : tie.Need-returns-2
+returns-2 c = taking-not hashOf (c .before .before .before .before .before .before .before .args .line .now) (c .before .before .before .before .before .before .before .args .e) (c .before .before .before .before .before .if1 .left) (c .before .before .before .before .field-end .ensures) (sym (c .before .before .hash .ensures) ∙ ap hashIn (c .enum-told .given .1))
+
+returns-3 : tie.Need-returns-3
+returns-3 c = taking-is hashOf (c .before .before .before .before .before .before .before .before .args .line .now) (c .before .before .before .before .before .before .before .before .args .e) (c .before .before .before .before .before .before .if1 .left) (c .before .before .before .before .before .field-end .ensures) (sym (c .before .before .before .hash .ensures) ∙ ap hashIn (c .before .q .given .1))
+
+pub hash-at-spec : {M : Type 1} → statement M
+hash-at-spec =
+    tie.close
+    (tie.spec
+    returns
+    add-from
+    field-end-requires
+    sub-hash
+    part-hash-start
+    part-hash-end
+    hash-requires
+    enum-known-q
+    enum-told
+    returns-2
+    returns-3)

@@ -1,0 +1,148 @@
+-- What the contracts of the readers say.
+-- Assumes nothing.
+use Prim.Native.Nat.{ℕ, _+_, _*_, _-_, _<_, min}
+use mathlib.Core.Path.{_≡_}
+use mathlib.Core.Bool.{Bool}
+use mathlib.Core.List.{List, []}
+use mathlib.Core.Option.{Option, none, some}
+use lib.Dec.{ltb}
+use Rattle.ident.specs.If.{if_then_else_}
+use lib.ListN.{length, take}
+use Rattle.ident.specs.Number.{Key, Item, top}
+use Rattle.ident.specs.Words.{hashBytes}
+use Rattle.words.specs.Words.{number, digits, recs, splice}
+use Rattle.regions.specs.Rows.{quadNumber}
+use Rattle.machine.specs.State.{Candidate}
+use Rattle.machine.specs.Call.{Ask, Announce, RequestParent, Sum, Call, Open, On}
+use Rattle.lines.specs.Fields.{rest}
+use Rattle.reading.specs.declared.calls.Asked.{Asked}
+use Rattle.reading.specs.declared.calls.Asked.the-variants.{Unreadable, Opening, Announcing, Requesting, Summing, Parents, Number, Keys as KeysAsked}
+use Rattle.reading.specs.declared.fields.NumberAt.{NumberAt}
+use Rattle.reading.specs.declared.fields.NumberAt.the-variants.{Not as NoNumber, Is as IsNumber}
+use Rattle.reading.specs.declared.fields.BoolAt.{BoolAt}
+use Rattle.reading.specs.declared.fields.BoolAt.the-variants.{Not as NoBool, Is as IsBool}
+use Rattle.reading.specs.declared.fields.HashAt.{HashAt}
+use Rattle.reading.specs.declared.fields.HashAt.the-variants.{Not as NoHash, Is as IsHash}
+use Rattle.reading.specs.declared.fields.KeyAt.{KeyAt}
+use Rattle.reading.specs.declared.fields.KeyAt.the-variants.{Not as NoKey, Is as IsKey}
+use Rattle.reading.specs.declared.fields.ItemAt.{ItemAt}
+use Rattle.reading.specs.declared.fields.ItemAt.the-variants.{Not as NoItem, Is as IsItem}
+use Rattle.reading.specs.declared.calls.Offer.{Offer}
+use Rattle.reading.specs.declared.calls.MaybeOffer.{MaybeOffer}
+use Rattle.reading.specs.declared.calls.MaybeOffer.the-variants.{Not as NoOffer, Is as IsOffer}
+use Rattle.reading.specs.declared.forms.Values as forms
+use Rattle.reading.specs.declared.forms.ValuesAt.{ValuesAt}
+use Rattle.reading.specs.declared.forms.ValuesAt.the-variants.{Not as NoValues, Is as IsValues}
+use Rattle.reading.specs.declared.hashes.ListAt.{ListAt}
+use Rattle.reading.specs.declared.hashes.ListAt.the-variants.{Not as NoList, Is as IsList}
+use Rattle.reading.specs.Calls.{taking, hashesThen, candidateOf, parentsOf, Values, blank, fieldThen, formThen, numberAsk, keysAsk}
+
+-- ---- fields
+
+-- a field's value, and the index where the field ends
+pub record At (A : Type 0) : Type 0 where
+  pub value : A
+  pub end : ℕ
+
+abbrev pub numberAt : NumberAt → Option (At ℕ)
+numberAt NoNumber = none
+numberAt (IsNumber n e) = some (record { value = n; end = e })
+
+abbrev pub boolAt : BoolAt → Option (At Bool)
+boolAt NoBool = none
+boolAt (IsBool b e) = some (record { value = b; end = e })
+
+abbrev pub hashAt : HashAt → Option (At ℕ)
+hashAt NoHash = none
+hashAt (IsHash q e) = some (record { value = quadNumber q; end = e })
+
+abbrev pub keyAt : KeyAt → Option (At Key)
+keyAt NoKey = none
+keyAt (IsKey k q e) = some (record { value = record { kind = k; hash = quadNumber q }; end = e })
+
+abbrev pub itemAt : ItemAt → Option (At Item)
+itemAt NoItem = none
+itemAt (IsItem k q e) = some (record { value = record { kind = k; hash = quadNumber q }; end = e })
+
+-- what k makes of the value and of the fields behind it
+abbrev pub thenOf : {A : Type 0} → List ℕ → (A → List (List ℕ) → Option Call) → Option (At A) → Option Call
+thenOf l k none = none
+thenOf l k (some a) = k (a .value) (rest l (a .end + 1))
+
+-- the field behind the comma at index e, which `read` says to be o
+pub record FieldRead {A : Type 0} (read : List ℕ → Option A) (l : List ℕ) (e : ℕ) (o : Option (At A)) : Type 0 where
+  pub is : (k : A → List (List ℕ) → Option Call) → taking read k (rest l (e + 1)) ≡ thenOf l k o
+
+-- ---- forms
+
+abbrev pub valuesOf : forms.Values → Values
+valuesOf v = record { kind = v .kind; hash = quadNumber (v .hash); combined = quadNumber (v .combined); connection = v .connection; now = v .clock }
+
+-- what k makes of the values and of the fields behind them
+abbrev pub thenValues : List ℕ → (Values → List (List ℕ) → Option Call) → ValuesAt → Option Call
+thenValues l k NoValues = none
+thenValues l k (IsValues v e) = k (valuesOf v) (rest l (e + 1))
+
+-- one field more, of the letter f
+pub record FieldTaken (l : List ℕ) (e f : ℕ) (v : Values) (r : ValuesAt) : Type 0 where
+  pub is : (k : Values → List (List ℕ) → Option Call) → fieldThen f v k (rest l (e + 1)) ≡ thenValues l k r
+
+-- the fields of a form behind the comma at index e
+pub record FormRead (l : List ℕ) (e : ℕ) (form : List ℕ) (r : ValuesAt) : Type 0 where
+  pub is : (k : Values → List (List ℕ) → Option Call) → formThen form blank k (rest l (e + 1)) ≡ thenValues l k r
+
+-- ---- a list of hashes
+
+-- the hashes that are stored: one more than a call takes, so that a call with a longer list is refused as it is with these
+abbrev pub mostHashes : ℕ
+mostHashes = 101
+
+abbrev pub storedBytes : ℕ
+storedBytes = 3232
+
+-- the bytes b with the i-th hash stored
+abbrev pub withHash : List ℕ → ℕ → ℕ → List ℕ
+withHash b i h = if ltb i mostHashes then splice b (i * hashBytes) (digits 256 hashBytes h) else b
+
+pub record HashPut (b b′ : List ℕ) (i h : ℕ) : Type 0 where
+  pub bytes : b′ ≡ withHash b i h
+  pub small : h < top
+
+-- i hashes of the n behind the comma at index e, of which the last field ends at index to; the bytes b hold the first of them
+pub record HashesRead (l : List ℕ) (e n to i : ℕ) (b : List ℕ) : Type 0 where
+  pub hashes : List ℕ
+  pub count : length hashes ≡ i
+  pub stored : recs hashBytes (number 256) (min i mostHashes) b ≡ take mostHashes hashes
+  pub is : (k : List ℕ → List (List ℕ) → Option Call) → hashesThen n [] k (rest l (e + 1)) ≡ hashesThen (n - i) hashes k (rest l (to + 1))
+
+abbrev pub ListAs : List ℕ → ℕ → ℕ → List ℕ → ListAt → Type 0
+ListAs l e n b NoList = (k : List ℕ → List (List ℕ) → Option Call) → hashesThen n [] k (rest l (e + 1)) ≡ none
+ListAs l e n b (IsList to) = HashesRead l e n to n b
+
+-- the n hashes behind the comma at index e
+pub record ListRead (l : List ℕ) (e n : ℕ) (b : List ℕ) (r : ListAt) : Type 0 where
+  pub is : ListAs l e n b r
+
+-- ---- calls
+
+abbrev pub offerOf : Offer → Candidate
+offerOf o = record { connection = o .connection; item = record { kind = o .kind; hash = quadNumber (o .hash) }; ready = o .ready; preferred = o .preferred; priority = o .priority }
+
+abbrev pub offered : (Candidate → Ask) → MaybeOffer → Option Call
+offered ask NoOffer = none
+offered ask (IsOffer o) = some (On (ask (offerOf o)))
+
+-- the fields behind the comma at index e, as a candidate
+pub record OfferRead (l : List ℕ) (e : ℕ) (r : MaybeOffer) : Type 0 where
+  pub is : (ask : Candidate → Ask) → candidateOf ask (rest l (e + 1)) ≡ offered ask r
+
+-- what the line l asks for
+abbrev pub askedCall : List ℕ → Asked → Option Call
+askedCall l Unreadable = none
+askedCall l (Opening L Q) = some (Open L Q)
+askedCall l (Announcing o) = some (On (Announce (offerOf o)))
+askedCall l (Requesting o) = some (On (RequestParent (offerOf o)))
+askedCall l Summing = some (On Sum)
+askedCall l (Parents e) = parentsOf (rest l (e + 1))
+askedCall l (Number w v) = some (On (numberAsk w (valuesOf v)))
+askedCall l (KeysAsked w v) = some (On (keysAsk w (valuesOf v)))

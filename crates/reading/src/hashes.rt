@@ -1,0 +1,74 @@
+// Lists of hashes, read into bytes that are lent: 32 bytes each.
+ghost use mathlib.Core.Path.{_≡_};
+ghost use Prim.Native.Nat.{_≤_, min};
+ghost use lib.ListN.{length};
+ghost use Rattle.ident.specs.Words.{hashNum};
+ghost use Rattle.regions.specs.Rows.{quadNumber};
+ghost use Rattle.reading.specs.Given.{mostHashes, storedBytes, HashPut, ListRead};
+use crate::fields::HashAt;
+use crate::fields::hash_at;
+
+// Hashes that are stored, one more than a call takes: with more it is refused, whichever they are.
+const HASHES: usize = 101;
+
+pub const HASH: usize = 32;
+
+const STORED: usize = HASHES * HASH;
+
+// A list that was read, with the index where its last field ends.
+pub enum ListAt {
+    Not,
+    Is(usize),
+}
+
+pub fn hash_buffer() -> [u8; STORED]
+    ensures { λ r. ⌜ length r ≡ storedBytes ⌝ }
+{
+    [0u8; STORED]
+}
+
+// A hash of plain words as the tracker takes it.
+pub fn hash_of(q: regions::Quad) -> ident::Hash
+    ensures { λ r. ⌜ hashNum r ≡ quadNumber q ⌝ }
+{
+    let words = [q.w0, q.w1, q.w2, q.w3];
+    ident::Hash { words }
+}
+
+fn put_hash(hashes: &mut [u8], i: usize, q: regions::Quad)
+    requires { ⌜ storedBytes ≤ length (now hashes) ⌝ }
+    ensures { λ _. ⌜ HashPut (now (hashes .entry)) (now (hashes .exit)) i (quadNumber q) ⌝ }
+{
+    if HASHES <= i {
+        return;
+    }
+    ident::put_hash(hashes, i * HASH, hash_of(q));
+}
+
+// The n hashes whose fields stand behind the comma at index e.
+pub fn read_hashes(line: &[u8], e: usize, n: usize, hashes: &mut [u8]) -> ListAt
+    requires { ⌜ storedBytes ≤ length (now hashes) ⌝ }
+    ensures { λ r. ⌜ ListRead (now (line .entry)) e n (now (hashes .exit)) r ⌝ }
+{
+    let mut to = e;
+    let mut i = 0;
+    while i < n {
+        let HashAt::Is(q, end) = hash_at(line, to) else {
+            return ListAt::Not;
+        };
+        put_hash(hashes, i, q);
+        to = end;
+        i += 1;
+    }
+    ListAt::Is(to)
+}
+
+// How many of n hashes are stored.
+pub fn stored(n: usize) -> usize
+    ensures { λ r. ⌜ r ≡ min n mostHashes ⌝ }
+{
+    if n < HASHES {
+        return n;
+    }
+    HASHES
+}
