@@ -3,7 +3,7 @@
 use crate::calls::{Candidate, Entry, Hash, Item, Key, Kind, Reply};
 use crate::state::{Request, State};
 
-fn hash(hash: Hash) -> String {
+pub fn hash(hash: Hash) -> String {
     let digits: String = hash.0.iter().rev().map(|byte| format!("{byte:02x}")).collect();
     match digits.trim_start_matches('0') {
         "" => "0".to_owned(),
@@ -11,7 +11,7 @@ fn hash(hash: Hash) -> String {
     }
 }
 
-fn key(key: Key) -> String {
+pub fn key(key: Key) -> String {
     let letter = match key.kind {
         Kind::Txid => 't',
         Kind::Wtxid => 'w',

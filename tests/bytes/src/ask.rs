@@ -2,8 +2,9 @@
 
 use std::fmt;
 
-use oracle::calls::{Call, Key, Kind, Reply};
-use oracle::write;
+use oracle::calls::{Call, Hash, Key, Kind, Reply};
+
+use crate::calls::{Hands, Spec};
 
 /// Bytes of a key in an answer buffer: a word for its kind, then the hash.
 pub const KEY: usize = 40;
@@ -12,55 +13,67 @@ pub const HASH_BYTES: usize = 32;
 /// What the caller's numbers hold before a call.
 pub const UNTOUCHED: [u64; 3] = [0x5a5a_5a5a_5a5a_5a5a, 0xa5a5_a5a5_a5a5_a5a5, 0x3c3c_3c3c_3c3c_3c3c];
 
-#[derive(Clone)]
-pub enum Ask {
-    Open {
-        l: u64,
-        q: u64,
-    },
-    On {
-        call: Call,
-        /// Bytes behind the last whole hash of a list of parents.
-        rest: Vec<u8>,
-        /// The answer buffer as it is lent.
-        buffer: Vec<u8>,
-    },
+/// The arguments.
+#[derive(Clone, Debug)]
+pub enum Given {
+    Open { l: u64, q: u64 },
+    On(Call),
 }
 
-impl Ask {
-    /// A call without a list and without a buffer.
-    pub fn plain(call: Call) -> Self {
-        Self::On { call, rest: Vec::new(), buffer: Vec::new() }
-    }
-
-    pub fn buffer(&self) -> &[u8] {
-        match self {
-            Self::Open { .. } => &[],
-            Self::On { buffer, .. } => buffer,
-        }
-    }
+#[derive(Clone)]
+pub struct Ask {
+    pub spec: &'static Spec,
+    pub given: Given,
+    /// Bytes behind the last whole hash of a list.
+    pub rest: Vec<u8>,
+    /// The answer buffer as it is lent.
+    pub buffer: Vec<u8>,
+    /// How far the store stands from an address that is a multiple of eight.
+    pub shift: usize,
 }
 
 /// In the words of event lines, with what they have no field for behind it.
 impl fmt::Display for Ask {
     fn fmt(&self, f: &mut fmt::Formatter<'_>) -> fmt::Result {
-        match self {
-            Self::Open { l, q } => write!(f, "open,{l},{q}"),
-            Self::On { call, rest, buffer } => match call {
-                Call::Announce { candidate } => write!(f, "ann,{}", write::candidate(candidate)),
-                Call::RequestParent { candidate } => write!(f, "par,{}", write::candidate(candidate)),
-                Call::AnnounceParents { connection, now, parents } => {
-                    let parents = write::hashes(parents);
-                    write!(f, "kin,{connection},{now},{parents}")?;
-                    write!(f, " ({} bytes behind the list, a buffer of {})", rest.len(), buffer.len())
-                }
-                Call::Sweep => write!(f, "swp (a buffer of {})", buffer.len()),
-                Call::PollGate { now } => write!(f, "poll,{now}"),
-                Call::Sum => write!(f, "sum"),
-                other => write!(f, "{other:?}"),
-            },
-        }
+        let line = (self.spec.line)(&self.given);
+        let (rest, buffer, shift) = (self.rest.len(), self.buffer.len(), self.shift);
+        write!(f, "{}: {line}", self.spec.name)?;
+        write!(f, " ({rest} bytes behind a list, a buffer of {buffer}, the store at {shift} past a word)")
     }
+}
+
+/// What is lent to one call of the library.
+pub struct Lent<'a> {
+    pub store: &'a mut [u8],
+    pub rest: &'a [u8],
+    pub buffer: &'a mut [u8],
+    pub out: &'a mut [u64; 3],
+}
+
+impl Lent<'_> {
+    /// A list of hashes as it is lent.
+    pub fn list(&self, hashes: &[Hash]) -> Vec<u8> {
+        hashes.iter().flat_map(|hash| hash.0).chain(self.rest.iter().copied()).collect()
+    }
+}
+
+/// The library's call, as C calls it.
+pub fn library(store: &mut [u8], ask: &Ask) -> Answer {
+    let (mut out, mut buffer) = (UNTOUCHED, ask.buffer.clone());
+    let mut status = |store: &mut [u8]| {
+        let lent = Lent { store, rest: &ask.rest, buffer: &mut buffer, out: &mut out };
+        (ask.spec.link)(&ask.given, lent)
+    };
+    let status = if ask.shift == 0 {
+        status(store)
+    } else {
+        let mut moved = vec![0; ask.shift];
+        moved.extend_from_slice(store);
+        let number = status(&mut moved[ask.shift..]);
+        store.copy_from_slice(&moved[ask.shift..]);
+        number
+    };
+    Answer { status, out, buffer }
 }
 
 /// What a call hands back beside the store.
@@ -74,13 +87,14 @@ pub struct Answer {
 
 impl Answer {
     pub fn refused(number: u64, ask: &Ask) -> Self {
-        Self { status: number, out: UNTOUCHED, buffer: ask.buffer().to_vec() }
+        Self { status: number, out: UNTOUCHED, buffer: ask.buffer.clone() }
     }
 
     /// A call that was carried out with this reply.
     pub fn done(reply: &Reply, ask: &Ask) -> Self {
         let mut answer = Self::refused(0, ask);
         match reply {
+            _ if ask.spec.hands == Hands::Nothing => {}
             Reply::Number(number) => answer.out[0] = *number,
             Reply::Sum(held, free, permille) => answer.out = [*held, *free, *permille],
             Reply::Keys(keys) => {
@@ -96,12 +110,7 @@ impl Answer {
 
     /// How many bytes of the buffer are reply.
     pub fn written(&self, ask: &Ask) -> usize {
-        match ask {
-            Ask::On { call: Call::AnnounceParents { .. } | Call::Sweep, .. } if self.status == 0 => {
-                KEY * self.out[0] as usize
-            }
-            _ => 0,
-        }
+        if self.status == 0 && ask.spec.hands == Hands::Keys { KEY * self.out[0] as usize } else { 0 }
     }
 }
 

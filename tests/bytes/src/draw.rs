@@ -1,53 +1,64 @@
 //! Random calls, refused ones among them.
 
 use oracle::calls::{
-    Call, Candidate, Hash, Item, LAST_CLOCK, MAX_PARENTS, TYPE_TRANSACTION, TYPE_WITNESS_TRANSACTION,
+    Candidate, Hash, Item, Key, Kind, LAST_CLOCK, MAX_PARENTS, TYPE_TRANSACTION, TYPE_WITNESS_TRANSACTION,
     TYPE_WTX,
 };
+use oracle::image::{WORD, row};
 use oracle::random::Rng;
-use oracle::sound::{MAX_L, MAX_Q};
 use oracle::state::State;
 
-use crate::ask::{Ask, HASH_BYTES};
-use crate::oracles::buffer_need;
+use crate::ask::{Ask, Given, HASH_BYTES};
+use crate::calls::{ALL, OPEN};
 use crate::profiles::Profile;
+use crate::reference::Reference;
 
 /// One call in so many is given something that is refused.
 const ODD: u64 = 60;
 /// Hashes and connections taken over from the state.
 const OF_STATE: usize = 40;
+/// Rows among which an owner is looked for, and places among which a stage is.
+const LOOKED_AT: usize = 2_000;
+const PLACES_LOOKED_AT: usize = 6;
 
 pub struct Draw<'a> {
     pub rng: Rng,
-    profile: &'a Profile,
-    hashes: Vec<Hash>,
+    pub profile: &'a Profile,
+    known: Vec<Hash>,
     connections: Vec<u64>,
+}
+
+/// A request's key, a connection, and when its ownership ends.
+pub struct Named {
+    pub key: Key,
+    pub connection: u64,
+    pub deadline: u64,
 }
 
 impl<'a> Draw<'a> {
     pub fn new(mut rng: Rng, profile: &'a Profile, state: &State) -> Self {
-        let mut hashes: Vec<Hash> = (0..profile.width).map(|_| profile.hash(&mut rng)).collect();
+        let mut known: Vec<Hash> = (0..profile.width).map(|_| profile.hash(&mut rng)).collect();
         let mut connections: Vec<u64> = (0..profile.connections).map(|i| i as u64 + 1).collect();
         if profile.priorities == 0 {
             connections.iter_mut().for_each(|connection| *connection = rng.word().max(1));
         }
         for _ in 0..OF_STATE.min(state.requests.len()) {
             let request = &state.requests[rng.index(state.requests.len())];
-            hashes.push(request.key.hash);
+            known.push(request.key.hash);
             connections.push(request.candidates[rng.index(request.candidates.len())].connection);
         }
-        Self { rng, profile, hashes, connections }
+        Self { rng, profile, known, connections }
     }
 
     pub fn bytes(&mut self, length: usize) -> Vec<u8> {
         std::iter::repeat_with(|| self.rng.next().to_le_bytes()).flatten().take(length).collect()
     }
 
-    fn hash(&mut self) -> Hash {
-        if self.rng.one_in(12) { self.profile.hash(&mut self.rng) } else { self.rng.pick(&self.hashes) }
+    pub fn hash(&mut self) -> Hash {
+        if self.rng.one_in(12) { self.profile.hash(&mut self.rng) } else { self.rng.pick(&self.known) }
     }
 
-    fn connection(&mut self) -> u64 {
+    pub fn connection(&mut self) -> u64 {
         if self.rng.one_in(ODD) { 0 } else { self.rng.pick(&self.connections) }
     }
 
@@ -69,7 +80,7 @@ impl<'a> Draw<'a> {
         if three.contains(&number) { 0 } else { number }
     }
 
-    fn candidate(&mut self) -> Candidate {
+    pub fn candidate(&mut self) -> Candidate {
         let (connection, item) = (self.connection(), self.item());
         let ready = if self.rng.one_in(2) { self.rng.below(4) } else { self.rng.word() };
         let preferred = self.rng.one_in(3);
@@ -78,7 +89,7 @@ impl<'a> Draw<'a> {
         Candidate { connection, item, ready, preferred, priority }
     }
 
-    fn clock(&mut self) -> u64 {
+    pub fn clock(&mut self) -> u64 {
         match self.rng.below(ODD) {
             0 => LAST_CLOCK + 1 + self.rng.below(60_000),
             1 => u64::MAX,
@@ -87,8 +98,8 @@ impl<'a> Draw<'a> {
         }
     }
 
-    /// Few parents as a rule, repeats among them, and at times as many as fit or more.
-    fn parents(&mut self) -> Vec<Hash> {
+    /// A list of parents or wtxids: few as a rule, repeats among them, and at times as many as fit or more.
+    pub fn hashes(&mut self) -> Vec<Hash> {
         let count = match self.rng.below(40) {
             0 => MAX_PARENTS + 1,
             1 => MAX_PARENTS + 1 + self.rng.index(200),
@@ -97,14 +108,6 @@ impl<'a> Draw<'a> {
             _ => self.rng.index(4),
         };
         (0..count).map(|_| if count > 9 { self.rng.hash() } else { self.hash() }).collect()
-    }
-
-    fn announce_parents(&mut self) -> Ask {
-        let (connection, now, parents) = (self.connection(), self.clock(), self.parents());
-        let call = Call::AnnounceParents { connection, now, parents };
-        let rest = if self.rng.one_in(4) { self.rng.index(HASH_BYTES) } else { 0 };
-        let (rest, buffer) = (self.bytes(rest), self.buffer(buffer_need(&call, 0)));
-        Ask::On { call, rest, buffer }
     }
 
     /// An answer buffer of the need as a rule, at times shorter.
@@ -118,43 +121,102 @@ impl<'a> Draw<'a> {
         self.bytes(length)
     }
 
-    fn sweep(&mut self, l: u64) -> Ask {
-        Ask::On { call: Call::Sweep, rest: Vec::new(), buffer: self.buffer(buffer_need(&Call::Sweep, l)) }
-    }
-
-    /// Times near each other as a rule, so that a poll is met that is not due.
-    fn poll_gate(&mut self) -> Ask {
-        let now = if self.rng.one_in(4) { self.clock() } else { self.rng.below(300) };
-        Ask::plain(Call::PollGate { now })
-    }
-
-    /// Sizes that are not taken or do not fit into the store; where the store is small, also ones that do.
-    fn opening(&mut self, l: u64, q: u64) -> Ask {
-        let word = self.rng.word();
-        let (l, q) = match self.rng.below(if self.profile.large { 8 } else { 12 }) {
-            0 => (0, q),
-            1 => (l, 0),
-            2 => (MAX_L + 1, q),
-            3 => (l, MAX_Q + 1),
-            4 => (word, q),
-            5 => (l, word),
-            6 => (MAX_L, MAX_Q),
-            7 => (l, q + 1 + self.rng.below(4)),
-            8..=10 => (l, q),
-            _ => (1 + self.rng.below(l), 1 + self.rng.below(q)),
+    /// A time about a deadline, as a rule before it.
+    pub fn near(&mut self, deadline: u64) -> u64 {
+        let now = match self.rng.below(10) {
+            0 | 1 => return self.clock(),
+            2 => deadline,
+            3 => deadline.saturating_add(1),
+            4..=6 => deadline.saturating_sub(1),
+            _ => deadline / 2,
         };
-        Ask::Open { l, q }
+        now.min(LAST_CLOCK)
     }
 
-    pub fn ask(&mut self, l: u64, q: u64) -> Ask {
-        match self.rng.below(200) {
-            0..=129 => Ask::plain(Call::Announce { candidate: self.candidate() }),
-            130..=134 => self.sweep(l),
-            135..=139 => self.poll_gate(),
-            140..=164 => Ask::plain(Call::RequestParent { candidate: self.candidate() }),
-            165..=181 => self.announce_parents(),
-            182..=189 => Ask::plain(Call::Sum),
-            _ => self.opening(l, q),
+    /// A key and a connection, of nothing that is there as a rule.
+    fn any(&mut self) -> Named {
+        let (hash, connection) = (self.hash(), self.connection());
+        let key = if self.rng.one_in(2) { Key::txid(hash) } else { Key::wtxid(hash) };
+        Named { key, connection, deadline: self.rng.word() }
+    }
+
+    fn row_at(&self, seen: &Reference, i: usize) -> Named {
+        let row = &seen.rows()[i];
+        Named { key: seen.key_at(i), connection: row[row::CONNECTION], deadline: row[row::DEADLINE] }
+    }
+
+    /// Any row.
+    pub fn row(&mut self, seen: &Reference) -> Option<Named> {
+        let count = seen.rows().len();
+        (count > 0).then(|| self.rng.index(count)).map(|i| self.row_at(seen, i))
+    }
+
+    fn owning(&mut self, seen: &Reference) -> Option<Named> {
+        let from = self.rng.index(seen.rows().len().max(1));
+        seen.owning(from, LOOKED_AT).map(|i| self.row_at(seen, i))
+    }
+
+    /// The owner of a place; of the stage, if there is one near.
+    fn holding(&mut self, seen: &Reference, stage: Option<u64>) -> Option<Named> {
+        let count = seen.places_held();
+        let from = self.rng.index(count.max(1));
+        let places = (0..count.min(PLACES_LOOKED_AT)).map(|n| seen.place((from + n) % count));
+        let held = places.reduce(|first, next| if Some(first.stage) == stage { first } else { next })?;
+        let key = Key::wtxid(held.hash);
+        let owner = seen.owner_of(key).expect("a place has an owner");
+        Some(Named { key, connection: owner.connection, deadline: owner.deadline })
+    }
+
+    /// A request and its owner as a rule, at times with something else in one's place.
+    pub fn request(&mut self, seen: &Reference) -> Named {
+        let found = match self.rng.below(9) {
+            0 => None,
+            1 | 2 => self.row(seen),
+            3..=5 => self.owning(seen),
+            _ => self.holding(seen, None),
+        };
+        let found = found.unwrap_or_else(|| self.any());
+        self.mistaken(found)
+    }
+
+    /// The same of a place at the stage.
+    pub fn at_place(&mut self, seen: &Reference, stage: u64) -> Named {
+        match self.holding(seen, Some(stage)) {
+            Some(found) if !self.rng.one_in(4) => self.mistaken(found),
+            _ => self.request(seen),
         }
+    }
+
+    fn mistaken(&mut self, mut found: Named) -> Named {
+        let Key { kind, hash } = found.key;
+        match self.rng.below(40) {
+            0 => found.connection = 0,
+            1..=3 => found.connection = self.connection(),
+            4 | 5 => found.key = if kind == Kind::Txid { Key::wtxid(hash) } else { Key::txid(hash) },
+            _ => {}
+        }
+        found
+    }
+
+    /// The store opened as the run has it.
+    pub fn opening(&self, l: u64, q: u64) -> Ask {
+        Ask { spec: OPEN, given: Given::Open { l, q }, rest: Vec::new(), buffer: Vec::new(), shift: 0 }
+    }
+
+    pub fn ask(&mut self, seen: &Reference) -> Ask {
+        let theme = self.profile.theme as usize;
+        let mut left = self.rng.below(ALL.iter().map(|spec| spec.weights[theme]).sum());
+        let drawn = ALL.iter().find(|spec| {
+            let here = left < spec.weights[theme];
+            left = left.saturating_sub(spec.weights[theme]);
+            here
+        });
+        let spec = drawn.expect("below the sum of the weights");
+        let given = (spec.draw)(self, seen);
+        let rest = if self.rng.one_in(4) { self.rng.index(HASH_BYTES) } else { 0 };
+        let (rest, need) = (self.bytes(rest), (spec.need)(&given, seen.sizes()));
+        let buffer = if need == 0 { Vec::new() } else { self.buffer(need) };
+        let shift = if self.profile.large || self.rng.one_in(2) { 0 } else { self.rng.index(WORD) };
+        Ask { spec, given, rest, buffer, shift }
     }
 }

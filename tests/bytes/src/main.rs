@@ -1,14 +1,15 @@
 //! The library's calls against the Rust's tracker by bytes: answers, answer buffers and whole stores after every call.
 //!
-//!     bytes [CALLS [SEED]]        generated calls
-//!     bytes self-test             the program on calls with planted errors
+//!     bytes [CALLS [SEED [SECONDS]]] [--table]    generated calls, as many as there is time for; the table has each call by
+//!                                                 replies, refusals and cases
+//!     bytes self-test                             the program on calls with planted errors
 
 mod ask;
+mod calls;
 #[path = "../../stores/src/damage.rs"]
 mod damage;
 mod draw;
-#[cfg(feature = "library")]
-mod linked;
+mod look;
 mod names;
 mod oracles;
 mod planted;
@@ -19,44 +20,51 @@ mod tally;
 mod trial;
 
 use std::process::ExitCode;
+use std::time::{Duration, Instant};
 
 use tally::Tally;
 
 const CALLS: u64 = 1_000_000;
+/// A run of so many calls must have met every reply, refusal and case of each call.
+const LONG: u64 = 200_000;
 
-#[cfg(feature = "library")]
-use linked::call as library;
-#[cfg(not(feature = "library"))]
-use oracles::call as library;
-
-fn number(at: usize, default: u64) -> Result<u64, String> {
-    let Some(text) = std::env::args().nth(at) else {
+fn number(words: &[String], at: usize, default: u64) -> Result<u64, String> {
+    let Some(text) = words.get(at) else {
         return Ok(default);
     };
     text.parse().map_err(|_| format!("a number is wanted, not {text:?}"))
 }
 
-fn generated() -> Result<(), String> {
-    let (calls, seed) = (number(1, CALLS)?, number(2, 1)?);
+fn generated(words: &[String], table: bool) -> Result<(), String> {
+    let (calls, seed) = (number(words, 0, CALLS)?, number(words, 1, 1)?);
+    let stop = Instant::now().checked_add(Duration::from_secs(number(words, 2, u64::MAX)?));
     let mut tally = Tally::default();
-    let done = run::rounds(calls, seed, &mut library, &mut tally);
+    let done = run::rounds(calls, seed, stop, &mut ask::library, &mut tally);
     tally.print();
-    done?;
-    let missing = tally.missing();
-    if calls >= run::ROUND && !missing.is_empty() {
+    if table {
+        tally.print_table();
+    }
+    if done? {
+        println!("ended by the clock after {} calls", tally.calls);
+    }
+    let mut missing = if tally.calls >= run::ROUND { tally.missing() } else { Vec::new() };
+    if tally.calls >= LONG {
+        missing.append(&mut tally.missing_of_calls());
+    }
+    if !missing.is_empty() {
         return Err(format!("never met: {}", missing.join("; ")));
     }
-    let side =
-        if cfg!(feature = "library") { "the library" } else { "the Rust on bytes (no library linked)" };
-    println!("no difference between {side} and the Rust, seed {seed}");
+    println!("no difference between the library and the Rust, seed {seed}");
     Ok(())
 }
 
 fn main() -> ExitCode {
-    let done = if std::env::args().nth(1).is_some_and(|word| word == "self-test") {
+    let (options, words): (Vec<String>, Vec<String>) =
+        std::env::args().skip(1).partition(|word| word == "--table");
+    let done = if words.first().is_some_and(|word| word == "self-test") {
         planted::all().map(|text| println!("{text}"))
     } else {
-        generated()
+        generated(&words, !options.is_empty())
     };
     match done {
         Ok(()) => ExitCode::SUCCESS,

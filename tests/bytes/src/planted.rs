@@ -1,11 +1,11 @@
 //! The program tested: calls with a planted error, each of which must be told at the very call.
 
-use oracle::calls::{Call, Item};
 use oracle::image::{HEADER, ROW, WORD, header, need};
 use oracle::random::Rng;
 use oracle::sound::opens;
 
-use crate::ask::{Answer, Ask};
+use crate::ask::{Answer, Ask, Given};
+use crate::calls::{ALL, Hands, Mistake, Spec};
 use crate::oracles;
 use crate::run::{run, small};
 use crate::tally::Tally;
@@ -36,16 +36,16 @@ const FAULTS: &[(&str, Fault)] = &[
     ("two rows exchanged", |done, rng| done.exchange(rng)),
     ("another reply", |done, _| {
         done.answer.out[0] ^= 1;
-        done.answer.status == 0 && !matches!(done.ask, Ask::Open { .. })
+        done.answer.status == 0
     }),
     ("another figure of a sum", |done, rng| {
-        let sum = matches!(done.ask, Ask::On { call: Call::Sum, .. });
+        let sum = done.ask.spec.hands == Hands::Figures;
         done.answer.out[rng.index(3)] += u64::from(sum);
         sum && done.answer.status == 0
     }),
     ("a status for a call that was carried out", |done, rng| {
         let carried_out = done.answer.status == 0;
-        done.answer.status = 1 + rng.below(7);
+        done.answer.status = 1 + rng.below(8);
         carried_out
     }),
     ("another refusal", |done, _| {
@@ -114,44 +114,6 @@ impl Done<'_> {
     }
 }
 
-/// A rule mistaken: the call that is carried out instead.
-type Mistake = fn(&Call) -> Option<Call>;
-
-const MISTAKES: &[(&str, Mistake)] = &[
-    ("request_parent taken for announce", |call| match call {
-        Call::RequestParent { candidate } => Some(Call::Announce { candidate: *candidate }),
-        _ => None,
-    }),
-    ("announce taken for request_parent", |call| match call {
-        Call::Announce { candidate } => Some(Call::RequestParent { candidate: *candidate }),
-        _ => None,
-    }),
-    ("v taken for t", |call| match *call {
-        Call::Announce { mut candidate } => match candidate.item {
-            Item::WitnessTransaction(hash) => {
-                candidate.item = Item::Transaction(hash);
-                Some(Call::Announce { candidate })
-            }
-            _ => None,
-        },
-        _ => None,
-    }),
-    ("unpreferred taken for preferred", |call| match *call {
-        Call::Announce { mut candidate } => {
-            candidate.preferred = true;
-            Some(Call::Announce { candidate })
-        }
-        _ => None,
-    }),
-    ("parents from the last to the first", |call| match call.clone() {
-        Call::AnnounceParents { connection, now, mut parents } => {
-            parents.reverse();
-            Some(Call::AnnounceParents { connection, now, parents })
-        }
-        _ => None,
-    }),
-];
-
 /// Runs of a small profile, rightly carried out but for what `wrong` does. How many calls the library got and what was
 /// found.
 fn trial(seed: u64, library: &mut dyn FnMut(&mut [u8], &Ask) -> Answer) -> (u64, Result<(), String>) {
@@ -168,6 +130,8 @@ fn trial(seed: u64, library: &mut dyn FnMut(&mut [u8], &Ask) -> Answer) -> (u64,
 
 /// Runs for each planted error.
 const TRIALS: u64 = 28;
+/// Runs in one of which a mistaken rule is found.
+const MISTAKE_TRIALS: u64 = 80;
 /// An error waits for a call before this one.
 const LATEST: u64 = 120;
 
@@ -206,20 +170,21 @@ fn fault_found(name: &str, fault: Fault) -> Result<(), String> {
     if found == 0 { Err(format!("{name}: never planted")) } else { Ok(()) }
 }
 
-fn mistake_found(name: &str, mistake: Mistake) -> Result<(), String> {
-    for seed in 0..TRIALS {
-        let (_, result) = trial(seed, &mut |store, ask| match ask {
-            Ask::On { call, rest, buffer } => {
+/// The call that is carried out in the place of one of the spec.
+fn mistake_found(spec: &Spec, name: &str, mistake: Mistake) -> Result<(), String> {
+    for seed in 0..MISTAKE_TRIALS {
+        let (_, result) = trial(seed, &mut |store, ask| match &ask.given {
+            Given::On(call) if ask.spec.name == spec.name => {
                 let call = mistake(call).unwrap_or_else(|| call.clone());
-                oracles::call(store, &Ask::On { call, rest: rest.clone(), buffer: buffer.clone() })
+                oracles::call(store, &Ask { given: Given::On(call), ..ask.clone() })
             }
-            Ask::Open { .. } => oracles::call(store, ask),
+            _ => oracles::call(store, ask),
         });
         if result.is_err() {
             return Ok(());
         }
     }
-    Err(format!("{name}: not found in {TRIALS} runs"))
+    Err(format!("{}, {name}: not found in {MISTAKE_TRIALS} runs", spec.name))
 }
 
 /// No error is found where there is none, and each planted one is.
@@ -231,8 +196,12 @@ pub fn all() -> Result<String, String> {
     for (name, fault) in FAULTS {
         fault_found(name, *fault)?;
     }
-    for (name, mistake) in MISTAKES {
-        mistake_found(name, *mistake)?;
+    let mut mistakes = 0;
+    for spec in ALL {
+        for (name, mistake) in spec.mistakes {
+            mistake_found(spec, name, *mistake)?;
+            mistakes += 1;
+        }
     }
-    Ok(format!("{} planted errors and {} mistaken rules found", FAULTS.len(), MISTAKES.len()))
+    Ok(format!("{} planted errors and {mistakes} mistaken rules found", FAULTS.len()))
 }

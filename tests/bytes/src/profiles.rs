@@ -26,10 +26,24 @@ pub enum Start {
     Marked,
     /// One connection with 5,000, or as many as fit, or a few less.
     OneConnection,
+    /// Every request owned, all places held, a quarter of L free.
+    AllPlaces,
+    /// One or two connections that own 100 requests, or as many as there are.
+    Owning,
+    /// Reached by calls.
+    Walked,
+}
+
+/// Which calls are frequent.
+#[derive(Clone, Copy)]
+pub enum Theme {
+    Announcements,
+    Packages,
 }
 
 pub struct Profile {
     pub name: &'static str,
+    pub theme: Theme,
     pub sizes: &'static [(u64, u64)],
     pub start: Start,
     pub hashes: Hashes,
@@ -45,6 +59,7 @@ pub struct Profile {
 
 const SMALL: Profile = Profile {
     name: "few of each, L reached",
+    theme: Theme::Announcements,
     sizes: &[(1, 1), (2, 1), (3, 2), (8, 1), (9, 1)],
     start: Start::Opened,
     hashes: Hashes::Any,
@@ -55,8 +70,28 @@ const SMALL: Profile = Profile {
     large: false,
 };
 
+const MARKED: Profile = Profile {
+    name: "the first calls on few of each, marked",
+    sizes: &[(1, 1), (2, 1), (3, 1)],
+    start: Start::Marked,
+    width: 1,
+    connections: 3,
+    calls: 8,
+    ..SMALL
+};
+
+const CROWDED: Profile = Profile {
+    name: "more than eight connections at two hashes",
+    sizes: &[(9, 1), (40, 1), (100, 2)],
+    width: 2,
+    connections: 14,
+    calls: 300,
+    ..SMALL
+};
+
 const LARGE: Profile = Profile {
     name: "L = 100,000",
+    theme: Theme::Announcements,
     sizes: &[(100_000, 1), (100_000, 16)],
     start: Start::Full,
     hashes: Hashes::Any,
@@ -67,26 +102,21 @@ const LARGE: Profile = Profile {
     large: true,
 };
 
+const PACKAGES: Profile = Profile {
+    name: "packages, any state",
+    theme: Theme::Packages,
+    sizes: &[(6, 1), (9, 2), (30, 2), (60, 16)],
+    start: Start::Any,
+    ..SMALL
+};
+
 pub const PROFILES: &[Profile] = &[
     SMALL,
     Profile { name: "few of each, any state", start: Start::Any, ..SMALL },
-    Profile {
-        name: "the first calls on few of each, marked",
-        sizes: &[(1, 1), (2, 1), (3, 1)],
-        start: Start::Marked,
-        width: 1,
-        connections: 3,
-        calls: 8,
-        ..SMALL
-    },
-    Profile {
-        name: "more than eight connections at two hashes",
-        sizes: &[(9, 1), (40, 1), (100, 2)],
-        width: 2,
-        connections: 14,
-        calls: 300,
-        ..SMALL
-    },
+    MARKED,
+    Profile { name: "the first calls on two hashes, marked", width: 2, ..MARKED },
+    CROWDED,
+    Profile { name: "more than eight connections at a hash", width: 1, ..CROWDED },
     Profile {
         name: "hashes that differ in the lowest word",
         sizes: &[(8, 1), (9, 2), (30, 1)],
@@ -118,6 +148,38 @@ pub const PROFILES: &[Profile] = &[
         connections: 12,
         ..SMALL
     },
+    PACKAGES,
+    Profile { name: "packages, opened", start: Start::Opened, ..PACKAGES },
+    Profile { name: "packages, reached by calls", start: Start::Walked, ..PACKAGES },
+    Profile {
+        name: "all places held",
+        sizes: &[(6, 1), (12, 2), (40, 16), (100, 16)],
+        start: Start::AllPlaces,
+        ..PACKAGES
+    },
+    Profile {
+        name: "packages, full, any values",
+        sizes: &[(9, 1), (30, 2), (60, 16)],
+        start: Start::Full,
+        priorities: 0,
+        ..PACKAGES
+    },
+    Profile {
+        name: "connections that own 100",
+        sizes: &[(140, 2), (280, 16)],
+        start: Start::Owning,
+        connections: 1,
+        ..PACKAGES
+    },
+    Profile {
+        name: "Q = 4,096, all held",
+        sizes: &[(6_000, 4_096)],
+        start: Start::AllPlaces,
+        calls: 12,
+        large: true,
+        ..PACKAGES
+    },
+    Profile { name: "Q = 4,096", sizes: &[(500, 4_096)], calls: 12, large: true, ..PACKAGES },
     LARGE,
     Profile { name: "L = 10,000", sizes: &[(10_000, 1), (10_000, 3)], priorities: 3, calls: 150, ..LARGE },
     Profile {
@@ -159,6 +221,13 @@ impl Profile {
             Start::OneConnection => {
                 Shape { held: l.min(MAX_OF_CONNECTION) - less, connections: 1, spread: 1, ..shape }
             }
+            Start::AllPlaces => {
+                Shape { held: l - l / 4, places: q, connections: 90, spread: 1, owned: 1, ..shape }
+            }
+            Start::Owning => {
+                Shape { held: l - l / 4, connections: 1 + rng.index(2), spread: 1, owned: 1, ..shape }
+            }
+            Start::Walked => return random::walk(rng, l, q, 40 + less as usize * 40),
         };
         let mut state = random::state(rng, shape);
         if matches!(self.start, Start::Marked) {

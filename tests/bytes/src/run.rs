@@ -1,12 +1,15 @@
 //! Runs: a store, a profile, and calls drawn for it.
 
+use std::time::Instant;
+
+use oracle::calls::LAST_CLOCK;
 use oracle::image::need;
 use oracle::random::Rng;
 
 use crate::ask::Ask;
 use crate::damage::{self, Store};
 use crate::draw::Draw;
-use crate::profiles::{PROFILES, Profile, Start};
+use crate::profiles::{PROFILES, Profile, Start, Theme};
 use crate::tally::Tally;
 use crate::trial::{Library, Trial};
 
@@ -16,6 +19,8 @@ pub const ROUND: u64 = 20_000;
 const SHARE: u64 = 150;
 /// One call in so many is on a damaged copy of the store.
 const DAMAGED: u64 = 30;
+/// In runs of packages requests get owners, and lose those that are late, before one call in so many.
+const MEANWHILE: u64 = 20;
 /// Bytes past the need are fewer than this.
 const PAST: usize = 100;
 
@@ -36,11 +41,15 @@ pub fn run(
     let about = |calls, text| format!("profile \"{}\", L {l}, Q {q}, call {calls}: {text}", profile.name);
     if matches!(profile.start, Start::Opened) {
         trial.store = draw.bytes(trial.store.len());
-        trial.step(&Ask::Open { l, q }).map_err(|text| about(0, text))?;
+        trial.step(&draw.opening(l, q)).map_err(|text| about(0, text))?;
     }
     while calls < profile.calls {
         calls += 1;
-        let ask = draw.ask(trial.l, trial.q);
+        if matches!(profile.theme, Theme::Packages) && !profile.large && draw.rng.one_in(MEANWHILE) {
+            let now = draw.rng.word().min(LAST_CLOCK);
+            trial.meanwhile(now);
+        }
+        let ask = draw.ask(&trial.reference);
         let done = if draw.rng.one_in(DAMAGED) {
             damaged(&mut trial, &ask, &mut draw.rng)
         } else {
@@ -65,9 +74,16 @@ fn damaged(trial: &mut Trial, ask: &Ask, rng: &mut Rng) -> Result<(), String> {
     trial.aside(ask, &store.bytes, name)
 }
 
-/// Rounds of runs until there were so many calls.
-pub fn rounds(calls: u64, seed: u64, library: Library, tally: &mut Tally) -> Result<(), String> {
+/// Rounds of runs until there were so many calls, or the time has come; whether it has.
+pub fn rounds(
+    calls: u64,
+    seed: u64,
+    stop: Option<Instant>,
+    library: Library,
+    tally: &mut Tally,
+) -> Result<bool, String> {
     let mut rng = Rng::new(seed);
+    let late = || stop.is_some_and(|stop| Instant::now() >= stop);
     while tally.calls < calls {
         let end = calls.min(tally.calls + ROUND);
         let mut large = PROFILES
@@ -75,6 +91,9 @@ pub fn rounds(calls: u64, seed: u64, library: Library, tally: &mut Tally) -> Res
             .filter(|profile| profile.large)
             .flat_map(|profile| profile.sizes.iter().map(move |sizes| (profile, *sizes)));
         while tally.calls < end {
+            if late() {
+                return Ok(true);
+            }
             let (profile, sizes) = large.next().unwrap_or_else(|| small(&mut rng));
             let times = if profile.large { 1 } else { (SHARE / profile.calls).max(1) };
             for _ in 0..times {
@@ -85,7 +104,7 @@ pub fn rounds(calls: u64, seed: u64, library: Library, tally: &mut Tally) -> Res
             }
         }
     }
-    Ok(())
+    Ok(false)
 }
 
 /// A profile that is not large, and its sizes.

@@ -2,6 +2,9 @@
 
 use std::collections::{BTreeMap, BTreeSet};
 
+use crate::ask::Answer;
+use crate::calls::{ALL, Hands, Spec};
+
 macro_rules! events {
     ($($name:ident: $text:literal,)*) => {
         #[derive(Clone, Copy, Debug, Eq, Ord, PartialEq, PartialOrd)]
@@ -56,8 +59,26 @@ impl Event {
     }
 }
 
-/// Refusals that the calls can meet.
-const REFUSALS: std::ops::RangeInclusive<u64> = 1..=7;
+/// Numbers of refusals.
+const REFUSALS: std::ops::RangeInclusive<u64> = 1..=8;
+
+/// What the calls of one name came to.
+#[derive(Clone, Default)]
+struct Row {
+    /// By the number that is handed out: 0, 1, more. Of a call that hands none out all are in the last.
+    replied: [u64; 3],
+    refused: BTreeMap<u64, u64>,
+}
+
+impl Row {
+    fn carried_out(&self) -> u64 {
+        self.replied.iter().sum()
+    }
+
+    fn refused(&self, number: u64) -> u64 {
+        self.refused.get(&number).copied().unwrap_or_default()
+    }
+}
 
 #[derive(Default)]
 pub struct Tally {
@@ -69,9 +90,10 @@ pub struct Tally {
     /// Refused calls to which a later refusal applies as well.
     pub several: u64,
     pub limits: BTreeSet<u64>,
-    words: BTreeMap<&'static str, u64>,
-    refused: BTreeMap<u64, u64>,
+    pub places: BTreeSet<u64>,
+    rows: BTreeMap<&'static str, Row>,
     events: BTreeMap<Event, u64>,
+    cases: BTreeMap<(&'static str, &'static str), u64>,
 }
 
 impl Tally {
@@ -79,13 +101,20 @@ impl Tally {
         *self.events.entry(event).or_default() += 1;
     }
 
-    /// A call by its name, and its status.
-    pub fn call(&mut self, name: &'static str, status: u64) {
+    /// A call and its right answer.
+    pub fn call(&mut self, spec: &Spec, answer: &Answer) {
         self.calls += 1;
-        *self.words.entry(name).or_default() += 1;
-        if status != 0 {
-            *self.refused.entry(status).or_default() += 1;
+        let row = self.rows.entry(spec.name).or_default();
+        match (answer.status, spec.hands) {
+            (0, Hands::Nothing | Hands::Figures) => row.replied[2] += 1,
+            (0, _) => row.replied[answer.out[0].min(2) as usize] += 1,
+            (number, _) => *row.refused.entry(number).or_default() += 1,
         }
+    }
+
+    /// A case of a call that was carried out.
+    pub fn case(&mut self, spec: &Spec, case: &'static str) {
+        *self.cases.entry((spec.name, case)).or_default() += 1;
     }
 
     pub fn print(&self) {
@@ -93,31 +122,63 @@ impl Tally {
             "{} calls in {} runs, {} of them on damaged or short stores; {} whole images of the Rust's state",
             self.calls, self.runs, self.on_damaged, self.wholes
         );
-        let limits: Vec<String> = self.limits.iter().map(u64::to_string).collect();
-        println!("L: {}", limits.join(", "));
-        let words: Vec<String> = self.words.iter().map(|(name, count)| format!("{name} {count}")).collect();
-        println!("{}", words.join(", "));
-        let refused: Vec<String> =
-            REFUSALS.map(|number| format!("{number}: {}", self.refused(number))).collect();
-        println!(
-            "refused by number: {}; where a later one applies too: {}",
-            refused.join(", "),
-            self.several
-        );
+        println!("L: {}", joined(&self.limits, u64::to_string));
+        println!("Q: {}", joined(&self.places, u64::to_string));
+        let count = |row: &Row| row.carried_out() + row.refused.values().sum::<u64>();
+        println!("{}", joined(&self.rows, |(name, row)| format!("{name} {}", count(row))));
+        let refused: Vec<u64> = REFUSALS.collect();
+        let refused = joined(&refused, |number| format!("{number}: {}", self.refused(*number)));
+        println!("refused by number: {refused}; where a later one applies too: {}", self.several);
         for (event, text) in Event::ALL {
             println!("{text:56}{:10}", self.met(*event));
         }
+    }
+
+    /// Each call by replies and refusals, then its cases.
+    pub fn print_table(&self) {
+        print!("{:26}{:>10}{:>9}{:>9}{:>9}", "call", "carried", "0", "1", "more");
+        REFUSALS.for_each(|number| print!("{:>8}", format!("no,{number}")));
+        println!();
+        for spec in ALL {
+            let row = self.row(spec);
+            print!("{:26}{:>10}", spec.name, row.carried_out());
+            let counted = !matches!(spec.hands, Hands::Nothing | Hands::Figures);
+            row.replied.iter().for_each(|n| {
+                print!("{:>9}", if counted { n.to_string() } else { "-".to_owned() });
+            });
+            for number in REFUSALS {
+                let shown = if spec.refusals.contains(&number) {
+                    row.refused(number).to_string()
+                } else {
+                    "-".to_owned()
+                };
+                print!("{shown:>8}");
+            }
+            println!();
+        }
+        for spec in ALL.iter().filter(|spec| !spec.cases.is_empty()) {
+            let cases = joined(spec.cases, |case| format!("{case} {}", self.met_case(spec, case)));
+            println!("{}: {cases}", spec.name);
+        }
+    }
+
+    fn row(&self, spec: &Spec) -> Row {
+        self.rows.get(spec.name).cloned().unwrap_or_default()
     }
 
     fn met(&self, event: Event) -> u64 {
         self.events.get(&event).copied().unwrap_or_default()
     }
 
-    fn refused(&self, number: u64) -> u64 {
-        self.refused.get(&number).copied().unwrap_or_default()
+    fn met_case(&self, spec: &Spec, case: &'static str) -> u64 {
+        self.cases.get(&(spec.name, case)).copied().unwrap_or_default()
     }
 
-    /// What a run of this many calls should have met and has not.
+    fn refused(&self, number: u64) -> u64 {
+        self.rows.values().map(|row| row.refused(number)).sum()
+    }
+
+    /// What a run of a round's calls should have met and has not.
     pub fn missing(&self) -> Vec<String> {
         let events = Event::ALL.iter().filter(|(event, _)| self.met(*event) == 0);
         let refused = REFUSALS.filter(|number| self.refused(*number) == 0);
@@ -126,4 +187,30 @@ impl Tally {
             .chain(refused.map(|number| format!("refusal {number}")))
             .collect()
     }
+
+    /// What each call of a long run should have met and has not: carried out with 0 and not, each refusal, each case.
+    pub fn missing_of_calls(&self) -> Vec<String> {
+        let mut missing = Vec::new();
+        for spec in ALL {
+            let row = self.row(spec);
+            let [none, one, more] = row.replied;
+            let counted = !matches!(spec.hands, Hands::Nothing | Hands::Figures);
+            if one + more == 0 || (counted && none == 0) {
+                missing.push(format!(
+                    "{} replying {}",
+                    spec.name,
+                    if one + more == 0 { "not 0" } else { "0" }
+                ));
+            }
+            let refusals = spec.refusals.iter().filter(|number| row.refused(**number) == 0);
+            missing.extend(refusals.map(|number| format!("{} refused by {number}", spec.name)));
+            let cases = spec.cases.iter().filter(|case| self.met_case(spec, case) == 0);
+            missing.extend(cases.map(|case| format!("{}: {case}", spec.name)));
+        }
+        missing
+    }
+}
+
+fn joined<T>(list: impl IntoIterator<Item = T>, text: impl Fn(T) -> String) -> String {
+    list.into_iter().map(text).collect::<Vec<_>>().join(", ")
 }

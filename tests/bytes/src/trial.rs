@@ -5,8 +5,9 @@ use oracle::calls::{Call, Reply};
 use oracle::image::{WORD, image, need, read};
 use oracle::sound::assert_sound;
 use oracle::state::State;
+use oracle::write;
 
-use crate::ask::{Answer, Ask};
+use crate::ask::{Answer, Ask, Given};
 use crate::names;
 use crate::oracles;
 use crate::reference::Reference;
@@ -19,6 +20,9 @@ pub type Library<'a> = &'a mut dyn FnMut(&mut [u8], &Ask) -> Answer;
 /// to so many bytes, else after every k-th call, k growing with the need, and after the run's last.
 const AT_EACH_CALL: usize = 1 << 15;
 
+/// The state before a call that differs is shown, as the oracle loads it, if the store has fewer bytes.
+const SHOWN: usize = 1 << 16;
+
 pub struct Trial<'a> {
     call: Library<'a>,
     tally: &'a mut Tally,
@@ -28,7 +32,7 @@ pub struct Trial<'a> {
     /// The bytes past the need, as they were.
     tail: Vec<u8>,
     machine: Machine,
-    reference: Reference,
+    pub reference: Reference,
     since: usize,
 }
 
@@ -41,27 +45,49 @@ impl<'a> Trial<'a> {
         store.extend_from_slice(&tail);
         tally.runs += 1;
         tally.limits.insert(state.l);
+        tally.places.insert(state.q);
         Self { call: library, tally, l: state.l, q: state.q, store, tail, machine, reference, since: 0 }
     }
 
     pub fn step(&mut self, ask: &Ask) -> Result<(), String> {
-        match ask {
-            Ask::Open { l, q } => self.open(ask, *l, *q),
-            Ask::On { call, buffer, .. } => self.on(ask, call, buffer.len()),
+        let before = if self.store.len() < SHOWN { self.store.clone() } else { Vec::new() };
+        match &ask.given {
+            Given::Open { l, q } => self.open(ask, *l, *q),
+            Given::On(call) => self.on(ask, call),
         }
-        .map_err(|text| format!("{ask}\n  {text}"))
+        .map_err(|text| match read(&before) {
+            Ok(state) => format!("{ask}\n  {text}\n  on load,{}", write::dump(&state)),
+            Err(_) => format!("{ask}\n  {text}"),
+        })
+    }
+
+    /// Calls that the library does not have yet, by the Rust alone; the store is written from its state.
+    pub fn meanwhile(&mut self, now: u64) {
+        if let Reply::Planned(_, checked) = self.machine.call(&Call::Plan { now, keys: None }) {
+            self.machine.call(&Call::Claim { now, checked });
+        }
+        self.renew();
+        self.store = self.reference.words.iter().flat_map(|word| word.to_le_bytes()).collect();
+        self.store.extend_from_slice(&self.tail);
+    }
+
+    fn renew(&mut self) {
+        (self.since, self.tally.wholes) = (0, self.tally.wholes + 1);
+        self.reference = Reference::new(&image(&self.machine.state()));
     }
 
     fn open(&mut self, ask: &Ask, l: u64, q: u64) -> Result<(), String> {
         let before = self.store.clone();
         let got = (self.call)(&mut self.store, ask);
         let refusal = oracles::opening_refusal(before.len(), l, q);
-        self.tally.call("open", refusal.unwrap_or(0));
-        same_answer(ask, &got, &Answer::refused(refusal.unwrap_or(0), ask))?;
+        let wanted = Answer::refused(refusal.unwrap_or(0), ask);
+        self.tally.call(ask.spec, &wanted);
+        same_answer(ask, &got, &wanted)?;
         if refusal.is_some() {
             return same_bytes(self.l, self.q, "a refused opening", &self.store, &before);
         }
         self.tally.limits.insert(l);
+        self.tally.places.insert(q);
         (self.l, self.q) = (l, q);
         self.machine = Machine::open(l, q).expect("not refused");
         self.reference = Reference::new(&image(&self.machine.state()));
@@ -69,14 +95,17 @@ impl<'a> Trial<'a> {
         self.same_store()
     }
 
-    fn on(&mut self, ask: &Ask, call: &Call, buffer: usize) -> Result<(), String> {
+    fn on(&mut self, ask: &Ask, call: &Call) -> Result<(), String> {
         let got = (self.call)(&mut self.store, ask);
-        let refusals = oracles::refusals(call, self.l, buffer);
+        let refusals = oracles::refusals(ask, call, [self.l, self.q]);
         let wanted = match refusals.first() {
             Some(number) => Answer::refused(*number, ask),
             None => self.carried_out(ask, call)?,
         };
-        self.tally.call(name(call), wanted.status);
+        if wanted.status != 0 && !ask.spec.refusals.contains(&wanted.status) {
+            return Err(format!("refusal {}, which the call is said not to meet", wanted.status));
+        }
+        self.tally.call(ask.spec, &wanted);
         self.tally.several += u64::from(refusals.len() > 1);
         same_answer(ask, &got, &wanted)?;
         self.same_store()?;
@@ -84,12 +113,21 @@ impl<'a> Trial<'a> {
         if self.since >= self.reference.words.len() * WORD / AT_EACH_CALL { self.whole() } else { Ok(()) }
     }
 
-    /// The Rust's answer; the reference must give it too.
+    /// The Rust's answer; the reference must give it too, if it has the call.
     fn carried_out(&mut self, ask: &Ask, call: &Call) -> Result<Answer, String> {
         let reply = self.machine.call(call);
-        let second = self.reference.call(call, self.tally);
-        if matches!(reply, Reply::Refused(_)) || reply != second {
-            return Err(format!("the reference replies {second:?}, the Rust {reply:?}"));
+        if let Reply::Refused(number) = reply {
+            return Ok(Answer::refused(number.into(), ask));
+        }
+        self.tally.case(ask.spec, (ask.spec.case)(call, &self.reference, &reply));
+        match ask.spec.follow {
+            None => self.renew(),
+            Some(follow) => {
+                let second = follow(&mut self.reference, call, self.tally);
+                if reply != second {
+                    return Err(format!("the reference replies {second:?}, the Rust {reply:?}"));
+                }
+            }
         }
         Ok(Answer::done(&reply, ask))
     }
@@ -121,8 +159,7 @@ impl<'a> Trial<'a> {
         let (mut store, mut after) = (bytes.to_vec(), bytes.to_vec());
         let got = (self.call)(&mut store, ask);
         let wanted = oracles::call(&mut after, ask);
-        let name = if let Ask::On { call, .. } = ask { name(call) } else { "open" };
-        self.tally.call(name, wanted.status);
+        self.tally.call(ask.spec, &wanted);
         self.tally.on_damaged += 1;
         same_answer(ask, &got, &wanted)
             .and_then(|()| same_bytes(self.l, self.q, "the store", &store, &after))
@@ -137,18 +174,6 @@ impl<'a> Trial<'a> {
             Ok(state) if state == self.machine.state() => Ok(()),
             other => Err(format!("the store is read back otherwise: {:?}", other.err())),
         }
-    }
-}
-
-fn name(call: &Call) -> &'static str {
-    match call {
-        Call::Announce { .. } => "announce",
-        Call::RequestParent { .. } => "request_parent",
-        Call::AnnounceParents { .. } => "announce_parents",
-        Call::Sweep => "sweep",
-        Call::PollGate { .. } => "poll_gate",
-        Call::Sum => "sum",
-        _ => "other",
     }
 }
 

@@ -1,0 +1,334 @@
+//! The calls.
+
+use crate::{Candidate, Figures, Key, Left, abi};
+
+/// The value of a call that was carried out, else the number of its refusal.
+fn done<T>(status: u64, value: T) -> Result<T, u64> {
+    if status == 0 { Ok(value) } else { Err(status) }
+}
+
+// begin: written by bindings/generate out of crates/exports/src
+
+/// Makes the store an empty tracker for l announcements and q package places.
+pub fn open(store: &mut [u8], l: u64, q: u64) -> Result<(), u64> {
+    // SAFETY: what is lent is lent for the call, and what it may write is lent to it alone.
+    let status = unsafe {
+        abi::tracker_open(store.as_mut_ptr(), store.len(), l, q)
+    };
+    done(status, ())
+}
+
+/// Whether the bytes, as far as their need, write a sound state: what a call tests first.
+pub fn sound(store: &[u8]) -> bool {
+    // SAFETY: what is lent is lent for the call, and what it may write is lent to it alone.
+    unsafe {
+        abi::tracker_sound(store.as_ptr(), store.len())
+    }
+}
+
+/// How many announcements are held, how many more fit, and how full the tracker is in thousandths. Refused,
+/// it hands nothing out.
+pub fn sum(store: &[u8]) -> Result<Figures, u64> {
+    let mut held = 0;
+    let mut free = 0;
+    let mut permille = 0;
+    // SAFETY: what is lent is lent for the call, and what it may write is lent to it alone.
+    let status = unsafe {
+        abi::tracker_sum(store.as_ptr(), store.len(), &mut held, &mut free, &mut permille)
+    };
+    done(status, Figures { held, free, permille })
+}
+
+/// A connection can deliver an item. The reply is 1 if it is kept.
+pub fn announce(store: &mut [u8], candidate: &Candidate) -> Result<bool, u64> {
+    let &Candidate { connection, item_type, ref hash, ready, preferred, priority } = candidate;
+    let mut reply = 0;
+    // SAFETY: what is lent is lent for the call, and what it may write is lent to it alone.
+    let status = unsafe {
+        abi::tracker_announce(store.as_mut_ptr(), store.len(), connection, item_type, hash, ready, preferred,
+            priority, &mut reply)
+    };
+    done(status, reply == 1)
+}
+
+/// The same for a parent that is missing.
+pub fn request_parent(store: &mut [u8], candidate: &Candidate) -> Result<bool, u64> {
+    let &Candidate { connection, item_type, ref hash, ready, preferred, priority } = candidate;
+    let mut reply = 0;
+    // SAFETY: what is lent is lent for the call, and what it may write is lent to it alone.
+    let status = unsafe {
+        abi::tracker_request_parent(store.as_mut_ptr(), store.len(), connection, item_type, hash, ready,
+            preferred, priority, &mut reply)
+    };
+    done(status, reply == 1)
+}
+
+/// Requests the parents of a transaction, 32 bytes each. The keys of those that are kept stand in the
+/// answer: so many as `count` says.
+pub fn announce_parents(
+    store: &mut [u8],
+    connection: u64,
+    parents: &[[u8; 32]],
+    now: u64,
+    answer: &mut [u8],
+) -> Result<usize, u64> {
+    let parents = parents.as_flattened();
+    let mut count = 0;
+    // SAFETY: what is lent is lent for the call, and what it may write is lent to it alone.
+    let status = unsafe {
+        abi::tracker_announce_parents(store.as_mut_ptr(), store.len(), connection, parents.as_ptr(),
+            parents.len(), now, answer.as_mut_ptr(), answer.len(), &mut count)
+    };
+    done(status, count as usize)
+}
+
+/// The connection leaves every request that it is a candidate of. The keys of these stand in the answer, so
+/// many as `own` says, and behind them the keys of parents that are announced for the candidates left, so
+/// many as `parents` says.
+pub fn disconnected(store: &mut [u8], connection: u64, now: u64, answer: &mut [u8]) -> Result<Left, u64> {
+    let mut own = 0;
+    let mut parents = 0;
+    // SAFETY: what is lent is lent for the call, and what it may write is lent to it alone.
+    let status = unsafe {
+        abi::tracker_disconnected(store.as_mut_ptr(), store.len(), connection, now, answer.as_mut_ptr(),
+            answer.len(), &mut own, &mut parents)
+    };
+    done(status, Left { own: own as usize, parents: parents as usize })
+}
+
+/// The owner of the request at the key failed to deliver. The reply is 0 unless the connection owns it and
+/// its package is not Enqueued.
+pub fn failed(store: &mut [u8], key: &Key, connection: u64, now: u64) -> Result<bool, u64> {
+    let (kind, hash) = key.parts();
+    let mut reply = 0;
+    // SAFETY: what is lent is lent for the call, and what it may write is lent to it alone.
+    let status = unsafe {
+        abi::tracker_failed(store.as_mut_ptr(), store.len(), kind, hash, connection, now, &mut reply)
+    };
+    done(status, reply == 1)
+}
+
+/// failed, and the parents of the request are requested of the connection. The key and those of the parents
+/// that are kept stand in the answer: so many as `count` says, and none where failed would reply 0.
+pub fn failed_with_parents(
+    store: &mut [u8],
+    key: &Key,
+    connection: u64,
+    now: u64,
+    answer: &mut [u8],
+) -> Result<usize, u64> {
+    let (kind, hash) = key.parts();
+    let mut count = 0;
+    // SAFETY: what is lent is lent for the call, and what it may write is lent to it alone.
+    let status = unsafe {
+        abi::tracker_failed_with_parents(store.as_mut_ptr(), store.len(), kind, hash, connection, now,
+            answer.as_mut_ptr(), answer.len(), &mut count)
+    };
+    done(status, count as usize)
+}
+
+/// The owner gives the request back and stays a candidate. Carried out, it replies 1.
+pub fn unclaim(store: &mut [u8], key: &Key, connection: u64) -> Result<(), u64> {
+    let (kind, hash) = key.parts();
+    // SAFETY: what is lent is lent for the call, and what it may write is lent to it alone.
+    let status = unsafe {
+        abi::tracker_unclaim(store.as_mut_ptr(), store.len(), kind, hash, connection)
+    };
+    done(status, ())
+}
+
+/// The request at the key goes. Carried out, it replies 1.
+pub fn forget(store: &mut [u8], key: &Key) -> Result<(), u64> {
+    let (kind, hash) = key.parts();
+    // SAFETY: what is lent is lent for the call, and what it may write is lent to it alone.
+    let status = unsafe {
+        abi::tracker_forget(store.as_mut_ptr(), store.len(), kind, hash)
+    };
+    done(status, ())
+}
+
+/// The transaction of the request at the key is known: the request goes, and its parents are announced for
+/// its owner. It stays if a package is still to come of it. Carried out, it replies 1.
+pub fn forget_known(store: &mut [u8], key: &Key, now: u64) -> Result<(), u64> {
+    let (kind, hash) = key.parts();
+    // SAFETY: what is lent is lent for the call, and what it may write is lent to it alone.
+    let status = unsafe {
+        abi::tracker_forget_known(store.as_mut_ptr(), store.len(), kind, hash, now)
+    };
+    done(status, ())
+}
+
+/// failed, of a connection that is asked for package info. The reply is 0 unless it is.
+pub fn failed_package_info(store: &mut [u8], key: &Key, connection: u64, now: u64) -> Result<bool, u64> {
+    let (kind, hash) = key.parts();
+    let mut reply = 0;
+    // SAFETY: what is lent is lent for the call, and what it may write is lent to it alone.
+    let status = unsafe {
+        abi::tracker_failed_package_info(store.as_mut_ptr(), store.len(), kind, hash, connection, now,
+            &mut reply)
+    };
+    done(status, reply == 1)
+}
+
+/// The connection that is asked for package info of the request at the key, and in time; 0, if there is
+/// none.
+pub fn package_info_owner(store: &[u8], key: &Key, now: u64) -> Result<Option<u64>, u64> {
+    let (kind, hash) = key.parts();
+    let mut owner = 0;
+    // SAFETY: what is lent is lent for the call, and what it may write is lent to it alone.
+    let status = unsafe {
+        abi::tracker_package_info_owner(store.as_ptr(), store.len(), kind, hash, now, &mut owner)
+    };
+    done(status, (owner != 0).then_some(owner))
+}
+
+/// The connection is asked for the package info of the transaction with that wtxid, whose parents are given
+/// in 32 bytes each. The reply is 0 if the hash is owned, if the connection owns 100 requests, or if it is
+/// no candidate and is not kept as one.
+pub fn solicit_package_info(
+    store: &mut [u8],
+    connection: u64,
+    hash: &[u8; 32],
+    parents: &[[u8; 32]],
+    now: u64,
+) -> Result<bool, u64> {
+    let parents = parents.as_flattened();
+    let mut reply = 0;
+    // SAFETY: what is lent is lent for the call, and what it may write is lent to it alone.
+    let status = unsafe {
+        abi::tracker_solicit_package_info(store.as_mut_ptr(), store.len(), connection, hash, parents.as_ptr(),
+            parents.len(), now, &mut reply)
+    };
+    done(status, reply == 1)
+}
+
+/// The package info of the request at the Wtxid key has come: its owner has until the deadline to get the
+/// package, whose wtxids are given in 32 bytes each. The reply is 0 unless they are 1 to 100.
+pub fn claim_package(
+    store: &mut [u8],
+    connection: u64,
+    hash: &[u8; 32],
+    combined: &[u8; 32],
+    wtxids: &[[u8; 32]],
+    now: u64,
+) -> Result<bool, u64> {
+    let wtxids = wtxids.as_flattened();
+    let mut reply = 0;
+    // SAFETY: what is lent is lent for the call, and what it may write is lent to it alone.
+    let status = unsafe {
+        abi::tracker_claim_package(store.as_mut_ptr(), store.len(), connection, hash, combined,
+            wtxids.as_ptr(), wtxids.len(), now, &mut reply)
+    };
+    done(status, reply == 1)
+}
+
+/// The package itself has come: it waits in the queue from now on, and no deadline ends it. The reply is 0
+/// unless combined hash and wtxids are those that were claimed, in their order.
+pub fn begin_package_resolution(
+    store: &mut [u8],
+    connection: u64,
+    hash: &[u8; 32],
+    combined: &[u8; 32],
+    wtxids: &[[u8; 32]],
+    now: u64,
+) -> Result<bool, u64> {
+    let wtxids = wtxids.as_flattened();
+    let mut reply = 0;
+    // SAFETY: what is lent is lent for the call, and what it may write is lent to it alone.
+    let status = unsafe {
+        abi::tracker_begin_package_resolution(store.as_mut_ptr(), store.len(), connection, hash, combined,
+            wtxids.as_ptr(), wtxids.len(), now, &mut reply)
+    };
+    done(status, reply == 1)
+}
+
+/// The package in the queue at the Wtxid key, if the connection owns it, is given up: the connection leaves,
+/// and is asked for the parents. The key and those of the parents that are kept stand in the answer: so many
+/// as `count` says, and none where there is no such package.
+pub fn release_package(
+    store: &mut [u8],
+    connection: u64,
+    hash: &[u8; 32],
+    now: u64,
+    answer: &mut [u8],
+) -> Result<usize, u64> {
+    let mut count = 0;
+    // SAFETY: what is lent is lent for the call, and what it may write is lent to it alone.
+    let status = unsafe {
+        abi::tracker_release_package(store.as_mut_ptr(), store.len(), connection, hash, now,
+            answer.as_mut_ptr(), answer.len(), &mut count)
+    };
+    done(status, count as usize)
+}
+
+/// Takes, in order, each entry of the checked list, which is given in 112 bytes each, whose hash is unowned
+/// and that is still what plan would choose for it. Those that are taken stand in the answer: so many as
+/// `taken` says.
+pub fn claim(store: &mut [u8], now: u64, checked: &[u8], answer: &mut [u8]) -> Result<usize, u64> {
+    let mut taken = 0;
+    // SAFETY: what is lent is lent for the call, and what it may write is lent to it alone.
+    let status = unsafe {
+        abi::tracker_claim(store.as_mut_ptr(), store.len(), now, checked.as_ptr(), checked.len(),
+            answer.as_mut_ptr(), answer.len(), &mut taken)
+    };
+    done(status, taken as usize)
+}
+
+/// The next keys after the known cursor, which becomes the last of them. They stand in the answer: so many
+/// as `count` says.
+pub fn sweep(store: &mut [u8], answer: &mut [u8]) -> Result<usize, u64> {
+    let mut count = 0;
+    // SAFETY: what is lent is lent for the call, and what it may write is lent to it alone.
+    let status = unsafe {
+        abi::tracker_sweep(store.as_mut_ptr(), store.len(), answer.as_mut_ptr(), answer.len(), &mut count)
+    };
+    done(status, count as usize)
+}
+
+/// Whether a poll is due. If the reply is 1, the next one is 100 milliseconds later.
+pub fn poll_gate(store: &mut [u8], now: u64) -> Result<bool, u64> {
+    let mut reply = 0;
+    // SAFETY: what is lent is lent for the call, and what it may write is lent to it alone.
+    let status = unsafe {
+        abi::tracker_poll_gate(store.as_mut_ptr(), store.len(), now, &mut reply)
+    };
+    done(status, reply == 1)
+}
+
+/// The connection announces the items, which are given in 40 bytes each, with the priorities beside them in
+/// 8; the shorter list decides. source: a wtxid source exists. Carried out, it replies 1.
+pub fn announce_transactions(
+    store: &mut [u8],
+    connection: u64,
+    now: u64,
+    preferred: bool,
+    source: bool,
+    items: &[u8],
+    priorities: &[u8],
+) -> Result<(), u64> {
+    // SAFETY: what is lent is lent for the call, and what it may write is lent to it alone.
+    let status = unsafe {
+        abi::tracker_announce_transactions(store.as_mut_ptr(), store.len(), connection, now, preferred,
+            source, items.as_ptr(), items.len(), priorities.as_ptr(), priorities.len())
+    };
+    done(status, ())
+}
+
+/// A response of the connection is complete: what it still owns of this transaction, under either identity,
+/// has failed. Carried out, it replies 1.
+pub fn transaction_response_completed(
+    store: &mut [u8],
+    connection: u64,
+    txid: &[u8; 32],
+    wtxid: &[u8; 32],
+    now: u64,
+) -> Result<(), u64> {
+    // SAFETY: what is lent is lent for the call, and what it may write is lent to it alone.
+    let status = unsafe {
+        abi::tracker_transaction_response_completed(store.as_mut_ptr(), store.len(), connection, txid, wtxid,
+            now)
+    };
+    done(status, ())
+}
+
+// end: written by bindings/generate

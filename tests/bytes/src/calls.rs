@@ -1,0 +1,111 @@
+//! The public calls, a file each: how a call is drawn, what it hands out and may refuse, how the library is called.
+
+use oracle::calls::{Call, Hash, Key, Kind, MAX_PARENTS, Reply};
+
+use crate::ask::{Given, KEY, Lent};
+use crate::draw::Draw;
+use crate::reference::Reference;
+use crate::tally::Tally;
+
+macro_rules! listed {
+    ($($name:ident,)*) => {
+        $(mod $name;)*
+
+        pub static ALL: &[&Spec] = &[$(&$name::SPEC,)*];
+        pub static OPEN: &Spec = &open::SPEC;
+    };
+}
+
+listed! {
+    open,
+    sum,
+    announce,
+    request_parent,
+    announce_parents,
+    failed,
+    unclaim,
+    forget,
+    failed_package_info,
+    package_info_owner,
+    failed_with_parents,
+    solicit_package_info,
+    claim_package,
+    begin_package_resolution,
+    release_package,
+    sweep,
+    poll_gate,
+}
+
+/// What a call that is carried out hands to the caller.
+#[derive(Clone, Copy, Debug, Eq, PartialEq)]
+pub enum Hands {
+    Nothing,
+    Number,
+    /// Keys in the answer buffer, and their count.
+    Keys,
+    Figures,
+}
+
+/// The call that is carried out in the place of this one, where a rule is mistaken.
+pub type Mistake = fn(&Call) -> Option<Call>;
+
+pub struct Spec {
+    pub name: &'static str,
+    /// How often it is drawn beside the others: in runs of announcements, in runs of packages.
+    pub weights: [u64; 2],
+    /// The numbers of the refusals that it can meet.
+    pub refusals: &'static [u64],
+    pub hands: Hands,
+    /// Bytes that its answer buffer needs, at L and Q.
+    pub need: fn(&Given, [u64; 2]) -> usize,
+    pub draw: fn(&mut Draw, &Reference) -> Given,
+    /// The exported function.
+    pub link: fn(&Given, Lent) -> u64,
+    /// As an event line.
+    pub line: fn(&Given) -> String,
+    /// The call on the reference; without it the reference is written anew from the Rust's state.
+    pub follow: Option<fn(&mut Reference, &Call, &mut Tally) -> Reply>,
+    /// Cases that a long run must meet, and which of them a call that is carried out on this state is.
+    pub cases: &'static [&'static str],
+    pub case: fn(&Call, &Reference, &Reply) -> &'static str,
+    pub mistakes: &'static [(&'static str, Mistake)],
+}
+
+/// What most calls have in common.
+const COMMON: Spec = Spec {
+    name: "",
+    weights: [1, 10],
+    refusals: &[],
+    hands: Hands::Number,
+    need: |_, _| 0,
+    draw: |_, _| unreachable!("every call is drawn its own way"),
+    link: |_, _| unreachable!("every call is linked"),
+    line: |given| format!("{given:?}"),
+    follow: None,
+    cases: &[],
+    case: |_, _, _| "",
+    mistakes: &[],
+};
+
+/// Bytes of a list of keys that has no need of its own.
+fn keys_need(_: &Given, _: [u64; 2]) -> usize {
+    KEY * (MAX_PARENTS + 1)
+}
+
+/// A key as C names it. Any number but 0 is a Wtxid's kind.
+fn named(key: &Key) -> (u64, &[u8; 32]) {
+    let Hash(hash) = &key.hash;
+    match key.kind {
+        Kind::Txid => (0, hash),
+        Kind::Wtxid => (if hash[0] % 2 == 0 { 1 } else { 1 << (hash[1] % 64) }, hash),
+    }
+}
+
+/// Whether a reply lists a key or is not 0.
+fn some(reply: &Reply) -> bool {
+    match reply {
+        Reply::Number(number) => *number != 0,
+        Reply::Keys(keys) => !keys.is_empty(),
+        _ => true,
+    }
+}

@@ -1,0 +1,33 @@
+//! sum.
+
+use oracle::calls::{Call, Reply};
+use oracle::image::header;
+use tracker::abi;
+
+use super::{COMMON, Hands, Spec};
+use crate::ask::{Given, Lent};
+use crate::reference::Reference;
+use crate::tally::Tally;
+
+pub static SPEC: Spec = Spec {
+    name: "sum",
+    weights: [8, 4],
+    refusals: &[3],
+    hands: Hands::Figures,
+    draw: |_, _| Given::On(Call::Sum),
+    link,
+    line: |_| "sum".to_owned(),
+    follow: Some(follow),
+    ..COMMON
+};
+
+fn link(_: &Given, lent: Lent) -> u64 {
+    let [held, free, permille] = lent.out;
+    // SAFETY: the bytes are only read, the numbers are lent to this call alone.
+    unsafe { abi::tracker_sum(lent.store.as_ptr(), lent.store.len(), held, free, permille) }
+}
+
+fn follow(reference: &mut Reference, _: &Call, _: &mut Tally) -> Reply {
+    let [l, held] = [header::L, header::ROWS].map(|at| reference.words[at]);
+    Reply::Sum(held, l - held, held * 1_000 / l)
+}
