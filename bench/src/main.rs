@@ -1,9 +1,15 @@
-//! Times of the sound test and of announce. Prints the tables of docs/BENCHMARKS.md.
+//! Times of the sound test, of announce and of the other calls. Prints the tables of docs/BENCHMARKS.md.
 //!
-//!     bench [--runs N]
+//!     bench [--runs N] [--calls]     --calls: the table of the other calls alone
 
 #[cfg(feature = "source")]
 mod announcing;
+#[cfg(feature = "source")]
+mod calls;
+#[cfg(feature = "source")]
+mod linked;
+#[cfg(feature = "source")]
+mod scenes;
 mod soundness;
 mod timing;
 
@@ -24,10 +30,19 @@ fn main() {
     let mut arguments = env::args().skip_while(|argument| argument != "--runs").skip(1);
     let runs = arguments.next().map_or(RUNS, |text| text.parse().expect("--runs wants a number"));
     println!("{}; medians of {runs} runs\n", machine());
-    soundness::table(runs);
-    println!();
+    let alone = env::args().any(|argument| argument == "--calls");
+    if !alone {
+        soundness::table(runs);
+        println!();
+    }
     #[cfg(feature = "source")]
-    announcing::table(runs);
+    {
+        if !alone {
+            announcing::table(runs);
+            println!();
+        }
+        calls::table(runs);
+    }
     #[cfg(not(feature = "source"))]
-    println!("Without the Rust: no table of announce.");
+    println!("Without the Rust: no table of announce and of the other calls.");
 }

@@ -19,7 +19,7 @@ pub fn key(key: Key) -> String {
     format!("{letter}{}", hash(key.hash))
 }
 
-fn item(item: Item) -> String {
+pub fn item(item: Item) -> String {
     match item {
         Item::Transaction(id) => format!("t{}", hash(id)),
         Item::WitnessTransaction(id) => format!("v{}", hash(id)),

@@ -2,12 +2,15 @@
 
 use std::fmt;
 
-use oracle::calls::{Call, Hash, Key, Kind, Reply};
+use oracle::calls::{Call, Entry, Hash, Key, Kind, Reply};
 
 use crate::calls::{Hands, Spec};
 
 /// Bytes of a key in an answer buffer: a word for its kind, then the hash.
 pub const KEY: usize = 40;
+/// Bytes of an entry in an answer buffer and in a checked list: key, connection, item type and hash, ready, preferred,
+/// priority.
+pub const ENTRY: usize = 112;
 pub const HASH_BYTES: usize = 32;
 
 /// What the caller's numbers hold before a call.
@@ -24,7 +27,7 @@ pub enum Given {
 pub struct Ask {
     pub spec: &'static Spec,
     pub given: Given,
-    /// Bytes behind the last whole hash of a list.
+    /// Bytes behind the last whole hash, item or entry of a list.
     pub rest: Vec<u8>,
     /// The answer buffer as it is lent.
     pub buffer: Vec<u8>,
@@ -99,8 +102,16 @@ impl Answer {
             Reply::Sum(held, free, permille) => answer.out = [*held, *free, *permille],
             Reply::Keys(keys) => {
                 answer.out[0] = keys.len() as u64;
-                for (key, place) in keys.iter().zip(answer.buffer.chunks_exact_mut(KEY)) {
-                    place.copy_from_slice(&key_bytes(*key));
+                answer.put_keys(keys.iter());
+            }
+            Reply::Gone(own, parents) => {
+                [answer.out[0], answer.out[1]] = [own, parents].map(|keys| keys.len() as u64);
+                answer.put_keys(own.iter().chain(parents));
+            }
+            Reply::Entries(entries) => {
+                answer.out[0] = entries.len() as u64;
+                for (entry, place) in entries.iter().zip(answer.buffer.chunks_exact_mut(ENTRY)) {
+                    place.copy_from_slice(&entry_bytes(entry));
                 }
             }
             other => unreachable!("no call of these replies {other:?}"),
@@ -108,9 +119,22 @@ impl Answer {
         answer
     }
 
+    fn put_keys<'a>(&mut self, keys: impl Iterator<Item = &'a Key>) {
+        for (key, place) in keys.zip(self.buffer.chunks_exact_mut(KEY)) {
+            place.copy_from_slice(&key_bytes(*key));
+        }
+    }
+
     /// How many bytes of the buffer are reply.
     pub fn written(&self, ask: &Ask) -> usize {
-        if self.status == 0 && ask.spec.hands == Hands::Keys { KEY * self.out[0] as usize } else { 0 }
+        let [first, second, _] = self.out.map(|number| number as usize);
+        match ask.spec.hands {
+            _ if self.status != 0 => 0,
+            Hands::Keys => KEY * first,
+            Hands::Departure => KEY * (first + second),
+            Hands::Entries => ENTRY * first,
+            Hands::Nothing | Hands::Number | Hands::Figures => 0,
+        }
     }
 }
 
@@ -129,4 +153,17 @@ fn key_bytes(key: Key) -> [u8; KEY] {
     bytes[0] = u8::from(key.kind == Kind::Wtxid);
     bytes[KEY - HASH_BYTES..].copy_from_slice(&key.hash.0);
     bytes
+}
+
+pub fn entry_bytes(entry: &Entry) -> [u8; ENTRY] {
+    let (key, candidate) = (key_bytes(entry.key), &entry.candidate);
+    let (number, hash) = candidate.item.parts();
+    let words = |words: &[u64]| words.iter().flat_map(|word| word.to_le_bytes()).collect::<Vec<u8>>();
+    let fields = [
+        key.to_vec(),
+        words(&[candidate.connection, number.into()]),
+        hash.0.to_vec(),
+        words(&[candidate.ready, candidate.preferred.into(), candidate.priority]),
+    ];
+    fields.concat().try_into().expect("112 bytes")
 }

@@ -13,6 +13,7 @@ macro_rules! listed {
 
         pub static ALL: &[&Spec] = &[$(&$name::SPEC,)*];
         pub static OPEN: &Spec = &open::SPEC;
+        pub static CLAIM: &Spec = &claim::SPEC;
     };
 }
 
@@ -22,16 +23,21 @@ listed! {
     announce,
     request_parent,
     announce_parents,
+    announce_transactions,
     failed,
     unclaim,
     forget,
+    forget_known,
     failed_package_info,
     package_info_owner,
     failed_with_parents,
+    transaction_response_completed,
+    disconnected,
     solicit_package_info,
     claim_package,
     begin_package_resolution,
     release_package,
+    claim,
     sweep,
     poll_gate,
 }
@@ -43,6 +49,10 @@ pub enum Hands {
     Number,
     /// Keys in the answer buffer, and their count.
     Keys,
+    /// The keys of a connection that left and those of the parents behind them, and both counts.
+    Departure,
+    /// Entries in the answer buffer, and their count.
+    Entries,
     Figures,
 }
 
@@ -68,6 +78,8 @@ pub struct Spec {
     /// Cases that a long run must meet, and which of them a call that is carried out on this state is.
     pub cases: &'static [&'static str],
     pub case: fn(&Call, &Reference, &Reply) -> &'static str,
+    /// Further ones of them, of which a call can be several.
+    pub also: fn(&Call, &Reference, &Reply) -> Vec<&'static str>,
     pub mistakes: &'static [(&'static str, Mistake)],
 }
 
@@ -84,6 +96,7 @@ const COMMON: Spec = Spec {
     follow: None,
     cases: &[],
     case: |_, _, _| "",
+    also: |_, _, _| Vec::new(),
     mistakes: &[],
 };
 
@@ -106,6 +119,8 @@ fn some(reply: &Reply) -> bool {
     match reply {
         Reply::Number(number) => *number != 0,
         Reply::Keys(keys) => !keys.is_empty(),
+        Reply::Gone(own, _) => !own.is_empty(),
+        Reply::Entries(entries) => !entries.is_empty(),
         _ => true,
     }
 }

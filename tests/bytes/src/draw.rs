@@ -1,15 +1,15 @@
 //! Random calls, refused ones among them.
 
 use oracle::calls::{
-    Candidate, Hash, Item, Key, Kind, LAST_CLOCK, MAX_PARENTS, TYPE_TRANSACTION, TYPE_WITNESS_TRANSACTION,
-    TYPE_WTX,
+    Call, Candidate, Entry, Hash, Item, Key, Kind, LAST_CLOCK, MAX_PARENTS, TYPE_TRANSACTION,
+    TYPE_WITNESS_TRANSACTION, TYPE_WTX,
 };
 use oracle::image::{WORD, row};
 use oracle::random::Rng;
 use oracle::state::State;
 
-use crate::ask::{Ask, Given, HASH_BYTES};
-use crate::calls::{ALL, OPEN};
+use crate::ask::{Ask, ENTRY, Given, HASH_BYTES};
+use crate::calls::{ALL, CLAIM, OPEN};
 use crate::profiles::Profile;
 use crate::reference::Reference;
 
@@ -26,6 +26,14 @@ pub struct Draw<'a> {
     pub profile: &'a Profile,
     known: Vec<Hash>,
     connections: Vec<u64>,
+    /// The run's last plan.
+    pub planned: Planned,
+}
+
+#[derive(Default)]
+pub struct Planned {
+    pub now: u64,
+    pub entries: Vec<Entry>,
 }
 
 /// A request's key, a connection, and when its ownership ends.
@@ -47,7 +55,7 @@ impl<'a> Draw<'a> {
             known.push(request.key.hash);
             connections.push(request.candidates[rng.index(request.candidates.len())].connection);
         }
-        Self { rng, profile, known, connections }
+        Self { rng, profile, known, connections, planned: Planned::default() }
     }
 
     pub fn bytes(&mut self, length: usize) -> Vec<u8> {
@@ -62,7 +70,7 @@ impl<'a> Draw<'a> {
         if self.rng.one_in(ODD) { 0 } else { self.rng.pick(&self.connections) }
     }
 
-    fn item(&mut self) -> Item {
+    pub fn item(&mut self) -> Item {
         let hash = self.hash();
         match self.rng.below(20) {
             0..=5 => Item::Transaction(hash),
@@ -73,7 +81,7 @@ impl<'a> Draw<'a> {
     }
 
     /// A type number that is none of the three.
-    fn other_type(&mut self) -> u32 {
+    pub fn other_type(&mut self) -> u32 {
         let any = self.rng.next() as u32;
         let number = self.rng.pick(&[0, 2, 3, 4, 6, 7, 0x4000_0000, 0x4000_0005, 0x8000_0001, u32::MAX, any]);
         let three = [TYPE_TRANSACTION, TYPE_WITNESS_TRANSACTION, TYPE_WTX];
@@ -123,9 +131,9 @@ impl<'a> Draw<'a> {
 
     /// A time about a deadline, as a rule before it.
     pub fn near(&mut self, deadline: u64) -> u64 {
-        let now = match self.rng.below(10) {
+        let now = match self.rng.below(11) {
             0 | 1 => return self.clock(),
-            2 => deadline,
+            2 | 10 => deadline,
             3 => deadline.saturating_add(1),
             4..=6 => deadline.saturating_sub(1),
             _ => deadline / 2,
@@ -154,6 +162,18 @@ impl<'a> Draw<'a> {
     fn owning(&mut self, seen: &Reference) -> Option<Named> {
         let from = self.rng.index(seen.rows().len().max(1));
         seen.owning(from, LOOKED_AT).map(|i| self.row_at(seen, i))
+    }
+
+    /// The hash of a key of this kind that the connection owns.
+    pub fn owned_by(&mut self, seen: &Reference, connection: u64, kind: Kind) -> Option<Hash> {
+        let (count, wanted) = (seen.rows().len(), u64::from(kind == Kind::Wtxid));
+        let from = self.rng.index(count.max(1));
+        let found = (0..count.min(LOOKED_AT)).map(|n| (from + n) % count).find(|i| {
+            let row = &seen.rows()[*i];
+            let bits = row[row::BITS];
+            row[row::CONNECTION] == connection && bits & row::OWNS != 0 && bits & row::WTXID == wanted
+        })?;
+        Some(seen.key_at(found).hash)
     }
 
     /// The owner of a place; of the stage, if there is one near.
@@ -201,6 +221,14 @@ impl<'a> Draw<'a> {
     /// The store opened as the run has it.
     pub fn opening(&self, l: u64, q: u64) -> Ask {
         Ask { spec: OPEN, given: Given::Open { l, q }, rest: Vec::new(), buffer: Vec::new(), shift: 0 }
+    }
+
+    /// A claim of the whole of the last plan.
+    pub fn claim(&mut self) -> Ask {
+        let (now, checked) = (self.planned.now, self.planned.entries.clone());
+        let buffer = self.bytes(ENTRY * checked.len());
+        let given = Given::On(Call::Claim { now, checked });
+        Ask { spec: CLAIM, given, rest: Vec::new(), buffer, shift: 0 }
     }
 
     pub fn ask(&mut self, seen: &Reference) -> Ask {

@@ -1,6 +1,6 @@
 //! What a drawn call and the count of its cases see of a state: owners and places, out of the reference.
 
-use oracle::calls::{Hash, Key, Kind};
+use oracle::calls::{Candidate, Entry, Hash, Item, Key, Kind};
 use oracle::image::{HASH, PLACE, header, place, places_at, row};
 use oracle::sound::MAX_AT_HASH;
 use oracle::state::Owner;
@@ -9,6 +9,9 @@ use crate::reference::{Reference, key_of, rank, rank_of};
 
 pub const ASKED: &str = "package info";
 pub const AWAITING: &str = "Awaiting";
+
+/// A case of every call that can free a place.
+pub const FREED: &str = "a place given back, all held before";
 
 /// How a connection stands to a request.
 pub const STANDINGS: &[&str] =
@@ -33,6 +36,14 @@ pub struct Held {
     pub stage: u64,
     pub combined: Hash,
     pub wtxids: Vec<Hash>,
+    pub parents: Vec<Hash>,
+}
+
+impl Held {
+    /// Whether the request can fail: no package of it is in the queue.
+    pub fn releasable(&self) -> bool {
+        self.stage != place::ENQUEUED
+    }
 }
 
 fn hash_in(words: &[u64]) -> Hash {
@@ -48,6 +59,19 @@ impl Reference {
 
     pub fn key_at(&self, i: usize) -> Key {
         key_of(rank_of(&self.rows()[i]))
+    }
+
+    /// A candidate and its request's key.
+    pub fn entry_at(&self, i: usize) -> Entry {
+        let (key, row) = (self.key_at(i), &self.rows()[i]);
+        let item = match key.kind {
+            Kind::Wtxid => Item::WTx(key.hash),
+            Kind::Txid if row[row::BITS] & row::WITNESS != 0 => Item::WitnessTransaction(key.hash),
+            Kind::Txid => Item::Transaction(key.hash),
+        };
+        let [connection, ready, priority] = [row::CONNECTION, row::READY, row::PRIORITY].map(|at| row[at]);
+        let preferred = row[row::BITS] & row::PREFERRED != 0;
+        Entry { key, candidate: Candidate { connection, item, ready, preferred, priority } }
     }
 
     pub fn owner_of(&self, key: Key) -> Option<Owner> {
@@ -71,14 +95,21 @@ impl Reference {
         self.words[header::PLACES] as usize
     }
 
+    pub fn all_held(&self) -> bool {
+        self.places_held() as u64 == self.words[header::Q]
+    }
+
     pub fn place(&self, i: usize) -> Held {
         let words = &self.places()[i];
-        let wtxids = words[place::WTXIDS..][..HASH * words[place::WTXID_COUNT] as usize].chunks(HASH);
+        let list = |at: usize, count: usize| {
+            words[at..][..HASH * words[count] as usize].chunks(HASH).map(hash_in).collect()
+        };
         Held {
             hash: hash_in(&words[..HASH]),
             stage: words[place::STAGE],
             combined: hash_in(&words[place::COMBINED..][..HASH]),
-            wtxids: wtxids.map(hash_in).collect(),
+            wtxids: list(place::WTXIDS, place::WTXID_COUNT),
+            parents: list(place::PARENTS, place::PARENT_COUNT),
         }
     }
 

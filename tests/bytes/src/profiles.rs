@@ -30,6 +30,8 @@ pub enum Start {
     AllPlaces,
     /// One or two connections that own 100 requests, or as many as there are.
     Owning,
+    /// One or two connections that own nothing and can deliver at any time.
+    Unowned,
     /// Reached by calls.
     Walked,
 }
@@ -107,6 +109,7 @@ const PACKAGES: Profile = Profile {
     theme: Theme::Packages,
     sizes: &[(6, 1), (9, 2), (30, 2), (60, 16)],
     start: Start::Any,
+    calls: 75,
     ..SMALL
 };
 
@@ -172,6 +175,14 @@ pub const PROFILES: &[Profile] = &[
         ..PACKAGES
     },
     Profile {
+        name: "connections that own nothing of 150",
+        sizes: &[(150, 1), (280, 2)],
+        start: Start::Unowned,
+        connections: 1,
+        calls: 60,
+        ..PACKAGES
+    },
+    Profile {
         name: "Q = 4,096, all held",
         sizes: &[(6_000, 4_096)],
         start: Start::AllPlaces,
@@ -219,19 +230,26 @@ impl Profile {
             Start::Full => shape,
             Start::Marked => Shape { held: l, places: 0, ..shape },
             Start::OneConnection => {
+                let less = rng.pick(&[0, 0, less, 100 - less]);
                 Shape { held: l.min(MAX_OF_CONNECTION) - less, connections: 1, spread: 1, ..shape }
             }
             Start::AllPlaces => {
                 Shape { held: l - l / 4, places: q, connections: 90, spread: 1, owned: 1, ..shape }
             }
             Start::Owning => {
-                Shape { held: l - l / 4, connections: 1 + rng.index(2), spread: 1, owned: 1, ..shape }
+                let shape = Shape { held: l - l / 4, connections: 1 + rng.index(2), ..shape };
+                Shape { places: if rng.one_in(2) { q } else { shape.places }, spread: 1, owned: 1, ..shape }
+            }
+            Start::Unowned => {
+                Shape { held: l, connections: 1 + rng.index(2), spread: 1, owned: u64::MAX, ..shape }
             }
             Start::Walked => return random::walk(rng, l, q, 40 + less as usize * 40),
         };
         let mut state = random::state(rng, shape);
-        if matches!(self.start, Start::Marked) {
-            mark(&mut state);
+        match self.start {
+            Start::Marked => mark(&mut state),
+            Start::Unowned => ready(&mut state),
+            _ => {}
         }
         state
     }
@@ -246,6 +264,10 @@ impl Profile {
         word.copy_from_slice(&rng.word().to_le_bytes());
         hash
     }
+}
+
+fn ready(state: &mut State) {
+    state.requests.iter_mut().flat_map(|request| &mut request.candidates).for_each(|one| one.ready %= 2);
 }
 
 fn mark(state: &mut State) {

@@ -19,8 +19,8 @@ pub const ROUND: u64 = 20_000;
 const SHARE: u64 = 150;
 /// One call in so many is on a damaged copy of the store.
 const DAMAGED: u64 = 30;
-/// In runs of packages requests get owners, and lose those that are late, before one call in so many.
-const MEANWHILE: u64 = 20;
+/// In runs of packages there is a plan, which is claimed at once as a rule, before one call in so many.
+const PLANNED: u64 = 20;
 /// Bytes past the need are fewer than this.
 const PAST: usize = 100;
 
@@ -45,11 +45,13 @@ pub fn run(
     }
     while calls < profile.calls {
         calls += 1;
-        if matches!(profile.theme, Theme::Packages) && !profile.large && draw.rng.one_in(MEANWHILE) {
+        let ask = if matches!(profile.theme, Theme::Packages) && draw.rng.one_in(PLANNED) {
             let now = draw.rng.word().min(LAST_CLOCK);
-            trial.meanwhile(now);
-        }
-        let ask = draw.ask(&trial.reference);
+            draw.planned = trial.plan(now);
+            draw.claim()
+        } else {
+            draw.ask(&trial.reference)
+        };
         let done = if draw.rng.one_in(DAMAGED) {
             damaged(&mut trial, &ask, &mut draw.rng)
         } else {

@@ -8,6 +8,7 @@ use oracle::state::State;
 use oracle::write;
 
 use crate::ask::{Answer, Ask, Given};
+use crate::draw::Planned;
 use crate::names;
 use crate::oracles;
 use crate::reference::Reference;
@@ -61,14 +62,16 @@ impl<'a> Trial<'a> {
         })
     }
 
-    /// Calls that the library does not have yet, by the Rust alone; the store is written from its state.
-    pub fn meanwhile(&mut self, now: u64) {
-        if let Reply::Planned(_, checked) = self.machine.call(&Call::Plan { now, keys: None }) {
-            self.machine.call(&Call::Claim { now, checked });
-        }
+    /// A plan, which the library does not have yet, by the Rust alone; the store is written from its state.
+    pub fn plan(&mut self, now: u64) -> Planned {
+        let reply = self.machine.call(&Call::Plan { now, keys: None });
         self.renew();
         self.store = self.reference.words.iter().flat_map(|word| word.to_le_bytes()).collect();
         self.store.extend_from_slice(&self.tail);
+        match reply {
+            Reply::Planned(_, entries) => Planned { now, entries },
+            _ => Planned::default(),
+        }
     }
 
     fn renew(&mut self) {
@@ -120,6 +123,9 @@ impl<'a> Trial<'a> {
             return Ok(Answer::refused(number.into(), ask));
         }
         self.tally.case(ask.spec, (ask.spec.case)(call, &self.reference, &reply));
+        for case in (ask.spec.also)(call, &self.reference, &reply) {
+            self.tally.case(ask.spec, case);
+        }
         match ask.spec.follow {
             None => self.renew(),
             Some(follow) => {

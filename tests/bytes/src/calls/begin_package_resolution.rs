@@ -13,7 +13,7 @@ use crate::reference::Reference;
 
 pub static SPEC: Spec = Spec {
     name: "begin_package_resolution",
-    weights: [1, 16],
+    weights: [1, 20],
     refusals: &[3, 4, 5],
     draw,
     link,

@@ -6,7 +6,7 @@ use tracker::abi;
 
 use super::{COMMON, Hands, Spec, named};
 use crate::ask::{Given, Lent};
-use crate::look::{ASKED, AWAITING, standing};
+use crate::look::{ASKED, AWAITING, FREED, standing};
 
 pub static SPEC: Spec = Spec {
     name: "forget",
@@ -19,11 +19,15 @@ pub static SPEC: Spec = Spec {
         Given::On(Call::Forget { key }) => format!("drop,{}", write::key(*key)),
         _ => unreachable!(),
     },
-    cases: &["no request", "no owner", "owned", ASKED, AWAITING, "Enqueued"],
+    cases: &["no request", "no owner", "owned", ASKED, AWAITING, "Enqueued", FREED],
     case: |call, seen, _| match call {
         // Of the owner, or of no connection at all.
         Call::Forget { key } => standing(seen, *key, seen.owner_of(*key).map_or(0, |owner| owner.connection)),
         _ => unreachable!(),
+    },
+    also: |call, seen, _| match call {
+        Call::Forget { key } if seen.all_held() && seen.place_of(*key).is_some() => vec![FREED],
+        _ => Vec::new(),
     },
     mistakes: &[("a Txid taken for a Wtxid", |call| match call {
         Call::Forget { key: Key { kind: Kind::Txid, hash } } => Some(Call::Forget { key: Key::wtxid(*hash) }),

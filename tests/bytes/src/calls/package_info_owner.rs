@@ -12,7 +12,7 @@ pub static SPEC: Spec = Spec {
     name: "package_info_owner",
     refusals: &[3, 5],
     draw: |draw, seen| {
-        let request = draw.request(seen);
+        let request = draw.at_place(seen, place::FLAG);
         Given::On(Call::PackageInfoOwner { key: request.key, now: draw.near(request.deadline) })
     },
     link,

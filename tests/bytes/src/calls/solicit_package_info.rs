@@ -12,7 +12,7 @@ use crate::reference::Reference;
 
 pub static SPEC: Spec = Spec {
     name: "solicit_package_info",
-    weights: [2, 20],
+    weights: [2, 24],
     refusals: &[3, 4, 5, 6, 8],
     draw,
     link,
@@ -30,8 +30,13 @@ pub static SPEC: Spec = Spec {
         "1: a candidate already",
         "1: kept, with room",
         "1: kept, evicting another",
+        "1: the last free place",
     ],
     case,
+    also: |_, seen, reply| {
+        let last = seen.places_held() as u64 + 1 == seen.sizes()[1];
+        if some(reply) && last { vec!["1: the last free place"] } else { Vec::new() }
+    },
     mistakes: &[
         ("parents from the last to the first", |call| match call.clone() {
             Call::SolicitPackageInfo { connection, hash, now, mut parents } => {

@@ -1,0 +1,139 @@
+//! The library's calls as C calls them: the checked ones, and those for the owner of a store.
+
+use oracle::calls::{Call, Entry, Hash, Item, Key, Kind};
+use tracker::abi;
+
+/// Which of the two.
+#[derive(Clone, Copy, Debug, Eq, PartialEq)]
+pub enum Side {
+    Checked,
+    Owned,
+}
+
+#[rustfmt::skip]
+mod owned {
+    unsafe extern "C" {
+        pub fn tracker_owned_sum(store: *const u8, length: usize, held: &mut u64, free: &mut u64, permille: &mut u64) -> u64;
+        pub fn tracker_owned_failed(store: *mut u8, length: usize, kind: u64, hash: &[u8; 32], connection: u64, now: u64, reply: &mut u64) -> u64;
+        pub fn tracker_owned_forget(store: *mut u8, length: usize, kind: u64, hash: &[u8; 32]) -> u64;
+        pub fn tracker_owned_solicit_package_info(store: *mut u8, length: usize, connection: u64, hash: &[u8; 32], parents: *const u8, parents_length: usize, now: u64, reply: &mut u64) -> u64;
+        pub fn tracker_owned_disconnected(store: *mut u8, length: usize, connection: u64, now: u64, answer: *mut u8, answer_length: usize, own: &mut u64, parents: &mut u64) -> u64;
+        pub fn tracker_owned_claim(store: *mut u8, length: usize, now: u64, checked: *const u8, checked_length: usize, answer: *mut u8, answer_length: usize, taken: &mut u64) -> u64;
+        pub fn tracker_owned_sweep(store: *mut u8, length: usize, answer: *mut u8, answer_length: usize, count: &mut u64) -> u64;
+        pub fn tracker_owned_announce_transactions(store: *mut u8, length: usize, connection: u64, now: u64, preferred: bool, source: bool, items: *const u8, items_length: usize, priorities: *const u8, priorities_length: usize) -> u64;
+    }
+}
+
+/// A call with its lists in bytes, as they are lent.
+pub struct Prepared {
+    call: Call,
+    list: Vec<u8>,
+    priorities: Vec<u8>,
+}
+
+impl Prepared {
+    pub fn new(call: &Call) -> Self {
+        let (list, priorities) = match call {
+            Call::SolicitPackageInfo { parents, .. } => (hashes(parents), Vec::new()),
+            Call::Claim { checked, .. } => (checked.iter().flat_map(entry).collect(), Vec::new()),
+            Call::AnnounceTransactions { items, .. } => (
+                items.iter().flat_map(|(one, _)| item(*one)).collect(),
+                items.iter().flat_map(|(_, priority)| priority.to_le_bytes()).collect(),
+            ),
+            _ => Default::default(),
+        };
+        Self { call: call.clone(), list, priorities }
+    }
+
+    /// The status.
+    pub fn run(&self, side: Side, store: &mut [u8], answer: &mut [u8]) -> u64 {
+        let (start, length) = (store.as_mut_ptr(), store.len());
+        let (list, list_length) = (self.list.as_ptr(), self.list.len());
+        let (room, room_length) = (answer.as_mut_ptr(), answer.len());
+        let (mut a, mut b, mut c) = (0, 0, 0);
+        let checked = side == Side::Checked;
+        // SAFETY: store, answer and numbers are lent to this call alone, the lists are only read; what an owned call is given
+        // is what an earlier call left or a sound state's image.
+        unsafe {
+            match &self.call {
+                Call::Sum => {
+                    let call = if checked { abi::tracker_sum } else { owned::tracker_owned_sum };
+                    call(start, length, &mut a, &mut b, &mut c)
+                }
+                Call::Failed { key, connection, now } => {
+                    let call = if checked { abi::tracker_failed } else { owned::tracker_owned_failed };
+                    call(start, length, kind(key), &key.hash.0, *connection, *now, &mut a)
+                }
+                Call::Forget { key } => {
+                    let call = if checked { abi::tracker_forget } else { owned::tracker_owned_forget };
+                    call(start, length, kind(key), &key.hash.0)
+                }
+                Call::SolicitPackageInfo { connection, hash, now, .. } => {
+                    let call = if checked {
+                        abi::tracker_solicit_package_info
+                    } else {
+                        owned::tracker_owned_solicit_package_info
+                    };
+                    call(start, length, *connection, &hash.0, list, list_length, *now, &mut a)
+                }
+                Call::Disconnected { connection, now } => {
+                    let call =
+                        if checked { abi::tracker_disconnected } else { owned::tracker_owned_disconnected };
+                    call(start, length, *connection, *now, room, room_length, &mut a, &mut b)
+                }
+                Call::Claim { now, .. } => {
+                    let call = if checked { abi::tracker_claim } else { owned::tracker_owned_claim };
+                    call(start, length, *now, list, list_length, room, room_length, &mut a)
+                }
+                Call::Sweep => {
+                    let call = if checked { abi::tracker_sweep } else { owned::tracker_owned_sweep };
+                    call(start, length, room, room_length, &mut a)
+                }
+                Call::AnnounceTransactions { connection, now, preferred, wtxid_source, .. } => {
+                    let call = if checked {
+                        abi::tracker_announce_transactions
+                    } else {
+                        owned::tracker_owned_announce_transactions
+                    };
+                    let (more, more_length) = (self.priorities.as_ptr(), self.priorities.len());
+                    let (preferred, source) = (*preferred, *wtxid_source);
+                    call(
+                        start,
+                        length,
+                        *connection,
+                        *now,
+                        preferred,
+                        source,
+                        list,
+                        list_length,
+                        more,
+                        more_length,
+                    )
+                }
+                other => unreachable!("{other:?} is not timed"),
+            }
+        }
+    }
+}
+
+fn kind(key: &Key) -> u64 {
+    u64::from(key.kind == Kind::Wtxid)
+}
+
+fn hashes(list: &[Hash]) -> Vec<u8> {
+    list.iter().flat_map(|hash| hash.0).collect()
+}
+
+fn item(item: Item) -> Vec<u8> {
+    let (number, Hash(hash)) = item.parts();
+    [&u64::from(number).to_le_bytes()[..], &hash].concat()
+}
+
+/// 112 bytes, as docs/DECISIONS.md lays an entry out.
+fn entry(entry: &Entry) -> Vec<u8> {
+    let (key, c) = (&entry.key, &entry.candidate);
+    let word = |word: u64| word.to_le_bytes().to_vec();
+    let parts = [word(kind(key)), key.hash.0.to_vec(), word(c.connection), item(c.item)];
+    let rest = [word(c.ready), word(c.preferred.into()), word(c.priority)];
+    [parts.concat(), rest.concat()].concat()
+}
