@@ -4,16 +4,14 @@ use Prim.Native.Nat.{ℕ}
 use mathlib.Core.Path.{_≡_, refl, sym, ap, _∙_}
 use mathlib.Core.Logic.{inl, inr}
 use mathlib.Core.Bool.{Bool, true, false, not, _&&_}
-use mathlib.Core.List.{List, [], _∷_, _++_}
-use mathlib.Core.Option.{Option}
+use mathlib.Core.List.{List, [], _∷_}
 use lib.Dec.{ltb, eqb}
-use Rattle.ident.specs.If.{if_then_else_}
 use Rattle.ident.specs.Number.{Key, place, other}
-use Rattle.machine.specs.State.{Candidate, Package, Request, Table, Answer, blank, ownerIs, enqueuedIn}
+use Rattle.machine.specs.State.{Candidate, Request, Table, blank, ownerIs, enqueuedIn}
 use Rattle.machine.specs.Table.{at, keep, change}
 use Rattle.machine.specs.Announce.{push, cut, adopted}
 use Rattle.machine.specs.Fail.{releasable, left, leaves, failed, mark}
-use Rattle.machine.proofs.Tests.{test, by-test}
+use Rattle.machine.proofs.Tests.{test}
 use Rattle.apart.specs.Bare.{bareRequest, bare, bareAnswer}
 use Rattle.apart.proofs.BareTable.{at-bare}
 

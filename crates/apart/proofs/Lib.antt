@@ -2,3 +2,5 @@ pub mod BareTable
 pub mod BareChange
 pub mod BareAnnounce
 pub mod BareChoice
+pub mod BarePlaces
+pub mod BareExpiry
