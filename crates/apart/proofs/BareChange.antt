@@ -73,7 +73,8 @@ module _ (k : Key) (n now : ℕ) (t : Table) where
   pub failed-bare : enqueuedIn ((at k t) .«package») ≡ false → failed k n now (bare t) ≡ bareAnswer (failed k n now t)
   unfolding failed
   failed-bare e =
-      let same : releasable n (at k (bare t)) ≡ releasable n (at k t) = releasable-bare n k t ∙ sym (ap (λ (b : Bool). ownerIs n ((at k t) .owner) && not b) e ∙ and-true (ownerIs n ((at k t) .owner))) in
+      let own = ownerIs n ((at k t) .owner) in
+      let same : releasable n (at k (bare t)) ≡ releasable n (at k t) = releasable-bare n k t ∙ sym (ap (λ (b : Bool). own && not b) e ∙ and-true own) in
       elim (test (releasable n (at k t))) [
         | inl d ↦ rw (same, d) (λ i. record { reply = true; table = leaves-bare k n now t i })
         | inr d ↦ rw (same, d)

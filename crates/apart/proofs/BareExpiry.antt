@@ -157,12 +157,16 @@ module _ {m : Limits} {Q : ℕ} {t : Table} (k : Key) (n now : ℕ) (s : k .hash
       where
         same : (j : Key) → j .hash < top → placesBut (k .hash) (at j after) ≡ placesBut (k .hash) (at j t)
         same j u = elim (test (eqb (place j) (place k))) [
-          | inl d ↦ rw (place-inj j k u s (eqb-true _ _ d)) (ap (filter (otherThan (k .hash))) emptied ∙ filter-nil (otherThan (k .hash)) ∙ sym (its-own (at k t) (k .hash) (ap (λ (i : Key). i .hash) (at-key k 0 t s (b .ordered)))))
+          | inl d ↦
+              rw (place-inj j k u s (eqb-true _ _ d))
+              (ap (filter (otherThan (k .hash))) emptied ∙ filter-nil (otherThan (k .hash)) ∙ sym (its-own (at k t) (k .hash) (ap (λ (i : Key). i .hash) (at-key k 0 t s (b .ordered)))))
           | inr d ↦ ap (filter (otherThan (k .hash))) (elsewhere j u (eqb-false _ _ d))
         ]
 
         others : (j : Key) → j .hash < top → Each (λ p. otherThan (k .hash) p ≡ true) (placesFor (at j after))
         others j u = elim (test (eqb (place j) (place k))) [
           | inl d ↦ subst (Each (λ p. otherThan (k .hash) p ≡ true)) (sym (ap (λ (i : Key). placesFor (at i after)) (place-inj j k u s (eqb-true _ _ d)) ∙ emptied)) tt
-          | inr d ↦ another (at j after) (lawful-at j after (bounded-after .lawful)) (k .hash) (λ x y. eqb-false _ _ d (ap place (wtxid-of (at j after) j (k .hash) (at-key j 0 after u (bounded-after .ordered)) x y ∙ sym (wtxid-is k f))))
+          | inr d ↦
+              another (at j after) (lawful-at j after (bounded-after .lawful)) (k .hash)
+              (λ x y. eqb-false _ _ d (ap place (wtxid-of (at j after) j (k .hash) (at-key j 0 after u (bounded-after .ordered)) x y ∙ sym (wtxid-is k f))))
         ]
