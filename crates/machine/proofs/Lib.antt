@@ -12,6 +12,8 @@ pub mod Leaving
 pub mod Lengths
 pub mod Expired
 pub mod Claimed
+pub mod LeastChoice
+pub mod TakenExactly
 pub mod Same
 pub mod OneKey
 pub mod Batches

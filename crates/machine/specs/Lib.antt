@@ -13,5 +13,6 @@ pub mod Call
 pub mod Step
 pub mod Sound
 pub mod Typed
+pub mod Choosing
 pub mod Demand3
 pub mod Edges
