@@ -47,7 +47,8 @@ claimed-then {d} {t} {t′} {t″} a b = record { keys = b .keys ∙ a .keys; re
 -- ---- one entry
 
 -- the request of an entry that is taken
-taken-here : (a : Entry) (d : ℕ) (t : Table) → Ordered 0 t → Takes t a → at (a .key) (change (a .key) (ownedUntil (a .candidate .connection) d) t) ≡ ownedUntil (a .candidate .connection) d (at (a .key) t)
+taken-here : (a : Entry) (d : ℕ) (t : Table) → Ordered 0 t → Takes t a
+    → at (a .key) (change (a .key) (ownedUntil (a .candidate .connection) d) t) ≡ ownedUntil (a .candidate .connection) d (at (a .key) t)
 taken-here a d t o x =
     let f = ownedUntil (a .candidate .connection) d in
     at-same (a .key) f 0 t (λ r. refl) o ∙ kept-some (a .key) (f (at (a .key) t)) ((at (a .key) t) .candidates) (has-some (a .candidate .connection) ((at (a .key) t) .candidates) (x .held))
@@ -56,7 +57,8 @@ claimed-take : {m : Limits} {Q : ℕ} {t : Table} (a : Entry) (d : ℕ) → a .k
 claimed-take {m} {Q} {t} a d s x b = record {
   keys = keys-stay k f 0 t (λ r. refl) (b .ordered) some-candidate some-candidate;
   rest = at-either (λ j r. ownerless r ≡ ownerless (at j t)) k f t s (λ r. refl) (b .ordered) (ap ownerless here) (λ j h. refl);
-  owner = at-either (λ j r. OwnedBy d (at j t) r) k f t s (λ r. refl) (b .ordered) (inr (unowned-at k t s (b .ordered) (x .free), (n, ap (λ (r : Request). r .owner) here, x .held))) (λ j h. inl refl);
+  owner = at-either (λ j r. OwnedBy d (at j t) r) k f t s (λ r. refl) (b .ordered)
+      (inr (unowned-at k t s (b .ordered) (x .free), (n, ap (λ (r : Request). r .owner) here, x .held))) (λ j h. inl refl);
 }
   where
     k : Key
@@ -76,7 +78,8 @@ claimed-take {m} {Q} {t} a d s x b = record {
 
 -- ---- claim
 
-pub claimed : {m : Limits} {Q : ℕ} {t : Table} (now : ℕ) (l : List Entry) → now + requestLifetime < word → Each EntryTyped l → Bounded m Q t → Claimed (now + requestLifetime) t ((claim now l t) .table)
+pub claimed : {m : Limits} {Q : ℕ} {t : Table} (now : ℕ) (l : List Entry) → now + requestLifetime < word → Each EntryTyped l → Bounded m Q t
+    → Claimed (now + requestLifetime) t ((claim now l t) .table)
 unfolding claim
 claimed now [] w s b = claimed-same
 claimed {m} {Q} {t} now (a ∷ l) w s b =

@@ -76,6 +76,9 @@ record Stands (cs : List Candidate) (j : ℕ) (x : Candidate) : Type 0 where
   inside : j < length cs
   is : (d : Candidate) → getD cs j d ≡ x
 
+behind-one : {c : Candidate} {cs : List Candidate} {j : ℕ} {x : Candidate} → Stands cs j x → Stands (c ∷ cs) (suc j) x
+behind-one s = record { inside = omega (arith, s .inside); is = λ d. s .is d }
+
 further : {c : Candidate} {cs : List Candidate} {j : ℕ} {x : Candidate} → Stands (c ∷ cs) (suc j) x → Stands cs j x
 further s = record { inside = omega (arith, s .inside); is = λ d. s .is d }
 
@@ -99,7 +102,7 @@ module _ (p : Candidate → Bool) (k : Key) (c : Candidate) (cs : List Candidate
       none-here : (j : ℕ) (x : Candidate) → Stands (c ∷ cs) j x → p x ≡ true → ⊥
       none-here zero x s y = never (sym e ∙ ap p (s .is c) ∙ y)
       none-here (suc j) x s y = h j x (further s) y
-  skips (some b) e h = (h .0, record { index = suc (g .index); stands = record { inside = omega (arith, g .stands .inside); is = λ d. g .stands .is d }; passes = g .passes; least = least; first = first })
+  skips (some b) e h = (h .0, record { index = suc (g .index); stands = behind-one (g .stands); passes = g .passes; least = least; first = first })
     where
       g : Best p cs (b .candidate)
       g = h .1
@@ -129,7 +132,7 @@ module _ (p : Candidate → Bool) (k : Key) (c : Candidate) (cs : List Candidate
       g = h .1
 
       behind : Sooner (b .candidate) c → BestOf p k (c ∷ cs) (some b)
-      behind d = (h .0, record { index = suc (g .index); stands = record { inside = omega (arith, g .stands .inside); is = λ d. g .stands .is d }; passes = g .passes; least = least; first = first })
+      behind d = (h .0, record { index = suc (g .index); stands = behind-one (g .stands); passes = g .passes; least = least; first = first })
         where
           least : (j : ℕ) (x : Candidate) → Stands (c ∷ cs) j x → p x ≡ true → NotSooner x (b .candidate)
           least zero x s y = rw (sym (s .is c)) (never-both (b .candidate) c d)
@@ -205,7 +208,8 @@ module _ (now : ℕ) (t : Table) (l : List Entry) where
   -- ---- the two kinds of a hash
 
   -- the only way to come before one that is not later by the first two
-  before-then : (k j : Key) (i n : ℕ) (c b : Candidate) → NotSooner c b → Before (rankOf k i c) (rankOf j n b) → (late c ≡ late b) × (c .priority ≡ b .priority) × ((kindNumber (k .kind) < kindNumber (j .kind)) ⊎ ((kindNumber (k .kind) ≡ kindNumber (j .kind)) × (i < n)))
+  before-then : (k j : Key) (i n : ℕ) (c b : Candidate) → NotSooner c b → Before (rankOf k i c) (rankOf j n b)
+      → (late c ≡ late b) × (c .priority ≡ b .priority) × ((kindNumber (k .kind) < kindNumber (j .kind)) ⊎ ((kindNumber (k .kind) ≡ kindNumber (j .kind)) × (i < n)))
   before-then k j i n c b (inl x) (inl y) = absurd (omega arith)
   before-then k j i n c b (inr x) (inl y) = absurd (omega (arith, x .0))
   before-then k j i n c b (inl x) (inr y) = absurd (omega (arith, y .0))
@@ -240,7 +244,8 @@ module _ (now : ℕ) (t : Table) (l : List Entry) where
   of-both h j b e d g f = subst (LeastOf now t l h) (λ i. record { key = sym e i; candidate = b .candidate }) (record { hash = d; arrival = g .index; eligible = g .eligible; least = least })
     where
       least : (k : Key) (i : ℕ) (c : Candidate) → k .hash ≡ h → Eligible now t l k i c → Before (rankOf k i c) (rankOf j (g .index) (b .candidate)) → ⊥
-      least k i c u x y = f k i c (λ z. same-kind j (b .candidate) g i c (subst (λ (a : Key). Eligible now t l a i c) z x) (subst (λ (a : Key). Before (rankOf a i c) (rankOf j (g .index) (b .candidate))) z y)) u x y
+      least k i c u x y =
+          f k i c (λ z. same-kind j (b .candidate) g i c (subst (λ (a : Key). Eligible now t l a i c) z x) (subst (λ (a : Key). Before (rankOf a i c) (rankOf j (g .index) (b .candidate))) z y)) u x y
 
   -- what one kind has, with what the other has
   module _ (h : ℕ) where

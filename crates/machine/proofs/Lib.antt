@@ -16,6 +16,9 @@ pub mod LeastChoice
 pub mod TakenExactly
 pub mod Same
 pub mod OneKey
+pub mod Entered
+pub mod KeptAtZero
+pub mod Demand1
 pub mod Batches
 pub mod Edges
 pub mod Owning

@@ -1,5 +1,6 @@
 -- claim takes an entry if and only if its hash is unowned and it is what plan would choose, in every field; it changes owners alone.
 -- Assumes nothing.
+use Prim.Native.Nat.{ℕ}
 use mathlib.Core.Path.{_≡_, refl, sym, ap, _∙_}
 use mathlib.Core.Bool.{Bool, true, false}
 use mathlib.Core.List.{[]}
@@ -81,11 +82,15 @@ bool-itself : (x : Bool) → sameBool x x ≡ true
 bool-itself true = refl
 bool-itself false = refl
 
+itself : (n : ℕ) → eqb n n ≡ true
+itself n = eq-eqb n n refl
+
 pub entry-itself : (a : Entry) → sameEntry a a ≡ true
 unfolding sameEntry
 entry-itself a =
     let c = a .candidate in
-    rw (kind-itself (a .key .kind), eq-eqb (a .key .hash) (a .key .hash) refl, eq-eqb (c .connection) (c .connection) refl, eq-eqb (kindRank (c .item .kind)) (kindRank (c .item .kind)) refl, eq-eqb (c .item .hash) (c .item .hash) refl, eq-eqb (c .ready) (c .ready) refl, bool-itself (c .preferred), eq-eqb (c .priority) (c .priority) refl)
+    rw (kind-itself (a .key .kind), itself (a .key .hash), itself (c .connection), itself (kindRank (c .item .kind)), itself (c .item .hash))
+    (rw (itself (c .ready), bool-itself (c .preferred), itself (c .priority)))
 
 -- ---- claim
 
