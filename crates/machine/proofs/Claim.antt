@@ -93,7 +93,7 @@ same-kind Wtxid Wtxid e = refl
 same-kind Txid Wtxid e = never e
 same-kind Wtxid Txid e = never e
 
-same-key : (a b : Key) → sameKey a b ≡ true → a ≡ b
+pub same-key : (a b : Key) → sameKey a b ≡ true → a ≡ b
 same-key a b e = λ i. record { kind = same-kind (a .kind) (b .kind) (and-left _ _ e) i; hash = eqb-true (a .hash) (b .hash) (and-right (sameKind (a .kind) (b .kind)) _ e) i }
 
 entry-key : (a b : Entry) → sameEntry a b ≡ true → a .key ≡ b .key

@@ -12,8 +12,13 @@ pub mod Leaving
 pub mod Lengths
 pub mod Expired
 pub mod Claimed
+pub mod LeastChoice
+pub mod TakenExactly
 pub mod Same
 pub mod OneKey
+pub mod Entered
+pub mod KeptAtZero
+pub mod Demand1
 pub mod Batches
 pub mod Edges
 pub mod Owning

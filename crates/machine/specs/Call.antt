@@ -1,10 +1,10 @@
 -- The calls, what each names, and the refusals (document 01, "Refusals and replies", "Buffer needs in entries").
 -- Assumes nothing.
 use Prim.Native.Nat.{ℕ, _+_, _*_, min}
-use mathlib.Core.Bool.{Bool, true, false, not, _&&_, _||_}
+use mathlib.Core.Bool.{Bool, false, not, _&&_, _||_}
 use mathlib.Core.List.{List, [], _∷_}
-use mathlib.Core.Option.{Option, none, some}
-use lib.Dec.{ltb, leb, eqb}
+use mathlib.Core.Option.{Option}
+use lib.Dec.{ltb, leb}
 use lib.ListN.{length}
 use Rattle.ident.specs.If.{if_then_else_}
 use Rattle.ident.specs.Number.{Key, Item}
@@ -115,34 +115,49 @@ unfoldable pub anyLate : List ℕ → Bool
 anyLate [] = false
 anyLate (now ∷ l) = ltb latestClock now || anyLate l
 
+-- ---- what kind of call it is, where something is said of one kind alone
+
+pub data Role : Type 0 where
+  AsSolicitation : (connection hash : ℕ) (parents : List ℕ) (now : ℕ) → Role
+  AsSweep : Role
+  AsOther : Role
+
+abbrev pub roleOf : Ask → Role
+roleOf (Announce c) = AsOther
+roleOf (RequestParent c) = AsOther
+roleOf (Failed k n now) = AsOther
+roleOf (Unclaim k n) = AsOther
+roleOf (SolicitPackageInfo n h hs now) = AsSolicitation n h hs now
+roleOf (ClaimPackage n h c ws now) = AsOther
+roleOf (BeginPackageResolution n h c ws now) = AsOther
+roleOf (AnnounceParents n hs now b) = AsOther
+roleOf (FailedPackageClaims n cs now b) = AsOther
+roleOf (Plan now ks b) = AsOther
+roleOf (Claim now l b) = AsOther
+roleOf (Sweep b) = AsSweep
+roleOf (Disconnected n now b) = AsOther
+roleOf (ReleasePackage n h now b) = AsOther
+roleOf (TeardownPackageClaims now) = AsOther
+roleOf (Forget k) = AsOther
+roleOf (ForgetKnown k now) = AsOther
+roleOf (FailedWithParents k n now b) = AsOther
+roleOf (FailedPackageInfo k n now) = AsOther
+roleOf (PackageInfoOwner k now) = AsOther
+roleOf (AnnounceTransactions n now p w os) = AsOther
+roleOf (TransactionResponseCompleted n x w now) = AsOther
+roleOf (TransactionNotFound n l now b) = AsOther
+roleOf (PollGate now) = AsOther
+roleOf (Arrange ws l b) = AsOther
+roleOf Sum = AsOther
+
 -- "a solicitation that would reply 1"
+abbrev pub placeTaken : Role → State → Bool
+placeTaken (AsSolicitation n h hs now) s = (solicit (limitsOf s) n h hs now (s .table)) .reply
+placeTaken AsSweep s = false
+placeTaken AsOther s = false
+
 unfoldable pub takesPlace : Ask → State → Bool
-takesPlace (Announce c) s = false
-takesPlace (RequestParent c) s = false
-takesPlace (Failed k n now) s = false
-takesPlace (Unclaim k n) s = false
-takesPlace (SolicitPackageInfo n h hs now) s = (solicit (limitsOf s) n h hs now (s .table)) .reply
-takesPlace (ClaimPackage n h c ws now) s = false
-takesPlace (BeginPackageResolution n h c ws now) s = false
-takesPlace (AnnounceParents n hs now b) s = false
-takesPlace (FailedPackageClaims n cs now b) s = false
-takesPlace (Plan now ks b) s = false
-takesPlace (Claim now l b) s = false
-takesPlace (Sweep b) s = false
-takesPlace (Disconnected n now b) s = false
-takesPlace (ReleasePackage n h now b) s = false
-takesPlace (TeardownPackageClaims now) s = false
-takesPlace (Forget k) s = false
-takesPlace (ForgetKnown k now) s = false
-takesPlace (FailedWithParents k n now b) s = false
-takesPlace (FailedPackageInfo k n now) s = false
-takesPlace (PackageInfoOwner k now) s = false
-takesPlace (AnnounceTransactions n now p w os) s = false
-takesPlace (TransactionResponseCompleted n x w now) s = false
-takesPlace (TransactionNotFound n l now b) s = false
-takesPlace (PollGate now) s = false
-takesPlace (Arrange ws l b) s = false
-takesPlace Sum s = false
+takesPlace a s = placeTaken (roleOf a) s
 
 -- ---- the table of refusals; 0: carried out
 

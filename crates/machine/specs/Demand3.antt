@@ -4,16 +4,15 @@ use Prim.Native.Nat.{ℕ, _+_, _-_, _/_, _≤_, _<_}
 use mathlib.Core.Path.{_≡_}
 use mathlib.Core.Bool.{Bool, true, false, _||_}
 use mathlib.Core.List.{List, [], _∷_, _++_, map}
-use mathlib.Core.Option.{Option, none, some}
 use lib.Dec.{eqb}
 use lib.ListN.{length}
 use Rattle.ident.specs.If.{if_then_else_}
 use Rattle.ident.specs.Number.{Key, place}
 use Rattle.machine.specs.Limits.{maxAlternates, maxPeerAnnouncements, maxInFlight, maxKnownChecks}
-use Rattle.machine.specs.State.{Table, Request, State}
+use Rattle.machine.specs.State.{Request, State}
 use Rattle.machine.specs.Table.{keys, held, heldBy, heldAt, ownedBy, ownedAt}
 use Rattle.machine.specs.Sound.{All, OwnerFits, Sound}
-use Rattle.machine.specs.Call.{Ask, Announce, RequestParent, Failed, Unclaim, SolicitPackageInfo, ClaimPackage, BeginPackageResolution, AnnounceParents, FailedPackageClaims, Plan, Claim, Sweep, Disconnected, ReleasePackage, TeardownPackageClaims, Forget, ForgetKnown, FailedWithParents, FailedPackageInfo, PackageInfoOwner, AnnounceTransactions, TransactionResponseCompleted, TransactionNotFound, PollGate, Arrange, Sum, Call, Open, On, refusal}
+use Rattle.machine.specs.Call.{Ask, Role, AsSolicitation, AsSweep, AsOther, roleOf, Call, Open, On, refusal}
 use Rattle.machine.specs.Step.{Reply, Refused, Number, Keys, Left, Entries, Chosen, Summed, step}
 use Rattle.machine.specs.Typed.{CallTyped, Each}
 
@@ -33,33 +32,13 @@ pub record Swept : Type 0 where
   pub held : List Key
   pub out : List Key
 
+abbrev pub sweepRole : Role → Bool
+sweepRole (AsSolicitation n h hs now) = false
+sweepRole AsSweep = true
+sweepRole AsOther = false
+
 abbrev pub isSweep : Ask → Bool
-isSweep (Announce c) = false
-isSweep (RequestParent c) = false
-isSweep (Failed k n now) = false
-isSweep (Unclaim k n) = false
-isSweep (SolicitPackageInfo n h hs now) = false
-isSweep (ClaimPackage n h c ws now) = false
-isSweep (BeginPackageResolution n h c ws now) = false
-isSweep (AnnounceParents n hs now b) = false
-isSweep (FailedPackageClaims n cs now b) = false
-isSweep (Plan now ks b) = false
-isSweep (Claim now l b) = false
-isSweep (Sweep b) = true
-isSweep (Disconnected n now b) = false
-isSweep (ReleasePackage n h now b) = false
-isSweep (TeardownPackageClaims now) = false
-isSweep (Forget k) = false
-isSweep (ForgetKnown k now) = false
-isSweep (FailedWithParents k n now b) = false
-isSweep (FailedPackageInfo k n now) = false
-isSweep (PackageInfoOwner k now) = false
-isSweep (AnnounceTransactions n now p w os) = false
-isSweep (TransactionResponseCompleted n x w now) = false
-isSweep (TransactionNotFound n l now b) = false
-isSweep (PollGate now) = false
-isSweep (Arrange ws l b) = false
-isSweep Sum = false
+isSweep a = sweepRole (roleOf a)
 
 abbrev pub sweeping : Call → Bool
 sweeping (Open L Q) = false

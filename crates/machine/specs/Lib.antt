@@ -13,5 +13,8 @@ pub mod Call
 pub mod Step
 pub mod Sound
 pub mod Typed
+pub mod Choosing
+pub mod Replies
+pub mod Demand1
 pub mod Demand3
 pub mod Edges

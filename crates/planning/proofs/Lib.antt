@@ -19,6 +19,7 @@ pub mod Rowwise
 pub mod GivingBack
 pub mod InOrder
 pub mod Overdue
+pub mod BareDue
 pub mod OneExpired
 pub mod RowsDue
 pub mod NextDue

@@ -1,0 +1,7 @@
+pub mod BareTable
+pub mod BareChange
+pub mod BareAnnounce
+pub mod BareChoice
+pub mod BarePlaces
+pub mod BareExpiry
+pub mod BareTurn

@@ -1,0 +1,233 @@
+-- Demand 1: the refusal of every call is 0, or the number of the first of the table's causes that applies.
+-- Assumes nothing.
+use Prim.Native.Nat.{ℕ, _≤_, _<_}
+use mathlib.Core.Path.{_≡_, refl, sym, ap, _∙_}
+use mathlib.Core.Logic.{_⊎_, inl, inr}
+use mathlib.Core.Bool.{Bool, true, false, not, _&&_, _||_}
+use mathlib.Core.List.{List, [], _∷_}
+use native.Mathlib.Omega.{arith}
+use lib.Dec.{ltb, leb, eqb}
+use lib.ListN.{length}
+use borrow.Author.Tests.{ltb-true, ltb-false, leb-true, leb-false, eqb-true, eqb-false, eq-eqb, ne-eqb}
+use Rattle.machine.specs.Limits.{need, maxAnnouncements, maxPlaces, maxParents, latestClock}
+use Rattle.machine.specs.State.{State}
+use Rattle.machine.specs.Table.{placesHeld}
+use Rattle.machine.specs.Claim.{elem}
+use Rattle.machine.specs.Call.{Ask, Role, AsSolicitation, AsSweep, AsOther, roleOf, placeTaken, Call, Open, On, Named, named, anyLate, takesPlace, sizesTaken, openingRefusal, askRefusal, refusal}
+use Rattle.machine.specs.Step.{stepIf}
+use Rattle.machine.specs.Demand1.{Any, WrongSizes, WouldSolicit, OpeningCause, short-store, wrong-sizes, AskCause, unsound-store, connection-0, late-clock, many-parents, short-buffer, no-place, Cause, Sooner, FirstCause, carried, refusedAs, Demand1}
+use Rattle.machine.proofs.Tests.{test, never, and-left, and-right}
+
+-- ---- a test and what it decides
+
+order : (i j : ℕ) → (i < j) ⊎ ((i ≡ j) ⊎ (j < i))
+order i j =
+    elim (test (ltb i j)) [
+      | inl e ↦ inl (ltb-true i j e)
+      | inr e ↦ inr (elim (test (eqb i j)) [ inl d ↦ inl (eqb-true i j d) | inr d ↦ inr (omega (arith, ltb-false i j e, eqb-false i j d)) ])
+    ]
+
+record Decides (b : Bool) (P : Type 0) : Type 0 where
+  holds : b ≡ true → P
+  fails : b ≡ false → P → ⊥
+
+either-one : (a b : Bool) {P Q : Type 0} → Decides a P → Decides b Q → Decides (a || b) (P ⊎ Q)
+either-one true b p q = record { holds = λ e. inl (p .holds refl); fails = λ e. never (sym e) }
+either-one false b p q = record { holds = λ e. inr (q .holds e); fails = λ e z. elim z [ inl x ↦ p .fails refl x | inr x ↦ q .fails e x ] }
+
+both : (a b : Bool) {P Q : Type 0} → Decides a P → Decides b Q → Decides (a && b) (P × Q)
+both true b p q = record { holds = λ e. (p .holds refl, q .holds e); fails = λ e z. q .fails e (z .1) }
+both false b p q = record { holds = λ e. never e; fails = λ e z. p .fails refl (z .0) }
+
+less : (m n : ℕ) → Decides (ltb m n) (m < n)
+less m n = record { holds = ltb-true m n; fails = λ e p. omega (arith, ltb-false m n e) }
+
+at-most : (m n : ℕ) → Decides (leb m n) (m ≤ n)
+at-most m n = record { holds = leb-true m n; fails = λ e p. omega (arith, leb-false m n e) }
+
+any-zero : (l : List ℕ) → Decides (elem 0 l) (Any (λ c. c ≡ 0) l)
+unfolding elem
+any-zero [] = record { holds = λ e. never e; fails = λ e p. p }
+any-zero (n ∷ l) = either-one (eqb n 0) (elem 0 l) (record { holds = eqb-true n 0; fails = eqb-false n 0 }) (any-zero l)
+
+any-late : (l : List ℕ) → Decides (anyLate l) (Any (λ now. latestClock < now) l)
+unfolding anyLate
+any-late [] = record { holds = λ e. never e; fails = λ e p. p }
+any-late (n ∷ l) = either-one (ltb latestClock n) (anyLate l) (less latestClock n) (any-late l)
+
+solicits : (r : Role) (s : State) → Decides (placeTaken r s) (WouldSolicit r s)
+solicits (AsSolicitation n h hs now) s = record { holds = λ e. e; fails = λ e p. never (sym e ∙ p) }
+solicits AsSweep s = record { holds = λ e. never e; fails = λ e p. p }
+solicits AsOther s = record { holds = λ e. never e; fails = λ e p. p }
+
+-- ---- a verdict
+
+-- what is known of a refusal: it is 0 and no cause applies, or it is the first cause's number
+record Refuses (n : ℕ) (sound : Bool) (s : State) (c : Call) (r : ℕ) : Type 0 where
+  number : refusal n sound c s ≡ r
+  some-number : 0 < r
+  cause : FirstCause n sound s c r
+
+abbrev Verdict : ℕ → Bool → State → Call → Type 0
+Verdict n sound s c = ((refusal n sound c s ≡ 0) × ((r : ℕ) → Cause n sound s c r → ⊥)) ⊎ ((r : ℕ) × Refuses n sound s c r)
+
+-- ---- calls on a sound store: 3 to 8 in turn
+
+not-true : (b : Bool) → not b ≡ true → b ≡ false
+not-true true e = sym e
+not-true false e = refl
+
+not-false : (b : Bool) → not b ≡ false → b ≡ false → ⊥
+not-false b e d = let z : _≡_ {A = Bool} true false = sym (ap not d) ∙ e in let y : _≡_ {A = ℕ} 0 1 = cc in omega arith
+
+module _ (n : ℕ) (sound : Bool) (s : State) (a : Ask) where
+  abbrev w : Named
+  w = named a s
+
+  -- the tests 4 to 8
+  abbrev test-4 : Bool
+  test-4 = elem 0 (w .connections)
+
+  abbrev test-5 : Bool
+  test-5 = anyLate (w .clocks)
+
+  abbrev test-6 : Bool
+  test-6 = ltb maxParents (w .parents)
+
+  abbrev test-7 : Bool
+  test-7 = ltb (length (w .buffer)) (w .needs)
+
+  abbrev test-8 : Bool
+  test-8 = placeTaken (roleOf a) s && leb (s .places) (placesHeld (s .table))
+
+  decides-8 : Decides test-8 (WouldSolicit (roleOf a) s × (s .places ≤ placesHeld (s .table)))
+  decides-8 = both (placeTaken (roleOf a) s) (leb (s .places) (placesHeld (s .table))) (solicits (roleOf a) s) (at-most (s .places) (placesHeld (s .table)))
+
+  -- a cause below r has been tested
+  none-below : (r : ℕ) → (3 < r → not sound ≡ false) → (4 < r → test-4 ≡ false) → (5 < r → test-5 ≡ false) → (6 < r → test-6 ≡ false) → (7 < r → test-7 ≡ false) → (8 < r → test-8 ≡ false)
+      → (i : ℕ) → i < r → AskCause sound s a i → ⊥
+  none-below r e₃ e₄ e₅ e₆ e₇ e₈ i h (unsound-store e p) = not-false sound (e₃ (omega arith)) p
+  none-below r e₃ e₄ e₅ e₆ e₇ e₈ i h (connection-0 e p) = (any-zero (w .connections)) .fails (e₄ (omega arith)) p
+  none-below r e₃ e₄ e₅ e₆ e₇ e₈ i h (late-clock e p) = (any-late (w .clocks)) .fails (e₅ (omega arith)) p
+  none-below r e₃ e₄ e₅ e₆ e₇ e₈ i h (many-parents e p) = (less maxParents (w .parents)) .fails (e₆ (omega arith)) p
+  none-below r e₃ e₄ e₅ e₆ e₇ e₈ i h (short-buffer e p) = (less (length (w .buffer)) (w .needs)) .fails (e₇ (omega arith)) p
+  none-below r e₃ e₄ e₅ e₆ e₇ e₈ i h (no-place e p q) = decides-8 .fails (e₈ (omega arith)) (p, q)
+
+  cause-small : (i : ℕ) → AskCause sound s a i → i < 9
+  cause-small i (unsound-store e p) = omega arith
+  cause-small i (connection-0 e p) = omega arith
+  cause-small i (late-clock e p) = omega arith
+  cause-small i (many-parents e p) = omega arith
+  cause-small i (short-buffer e p) = omega arith
+  cause-small i (no-place e p q) = omega arith
+
+  refused-by : (r : ℕ) → refusal n sound (On a) s ≡ r → 0 < r → AskCause sound s a r → ((i : ℕ) → i < r → AskCause sound s a i → ⊥) → Verdict n sound s (On a)
+  refused-by r e h c k = inr (r, record { number = e; some-number = h; cause = record { applies = c; none-sooner = k } })
+
+  in-turn : Verdict n sound s (On a)
+  unfolding refusal askRefusal takesPlace
+  in-turn =
+      elim (test (not sound)) [
+        | inl e₃ ↦
+            refused-by 3 (rw e₃) (omega arith) (unsound-store refl (not-true sound e₃))
+            (none-below 3 (λ h. absurd (omega arith)) (λ h. absurd (omega arith)) (λ h. absurd (omega arith)) (λ h. absurd (omega arith)) (λ h. absurd (omega arith)) (λ h. absurd (omega arith)))
+        | inr e₃ ↦ elim (test test-4) [
+          | inl e₄ ↦
+              refused-by 4 (rw (e₃, e₄)) (omega arith) (connection-0 refl ((any-zero (w .connections)) .holds e₄))
+              (none-below 4 (λ h. e₃) (λ h. absurd (omega arith)) (λ h. absurd (omega arith)) (λ h. absurd (omega arith)) (λ h. absurd (omega arith)) (λ h. absurd (omega arith)))
+          | inr e₄ ↦ elim (test test-5) [
+            | inl e₅ ↦
+                refused-by 5 (rw (e₃, e₄, e₅)) (omega arith) (late-clock refl ((any-late (w .clocks)) .holds e₅))
+                (none-below 5 (λ h. e₃) (λ h. e₄) (λ h. absurd (omega arith)) (λ h. absurd (omega arith)) (λ h. absurd (omega arith)) (λ h. absurd (omega arith)))
+            | inr e₅ ↦ elim (test test-6) [
+              | inl e₆ ↦
+                  refused-by 6 (rw (e₃, e₄, e₅, e₆)) (omega arith) (many-parents refl (ltb-true maxParents (w .parents) e₆))
+                  (none-below 6 (λ h. e₃) (λ h. e₄) (λ h. e₅) (λ h. absurd (omega arith)) (λ h. absurd (omega arith)) (λ h. absurd (omega arith)))
+              | inr e₆ ↦ elim (test test-7) [
+                | inl e₇ ↦
+                    refused-by 7 (rw (e₃, e₄, e₅, e₆, e₇)) (omega arith) (short-buffer refl (ltb-true (length (w .buffer)) (w .needs) e₇))
+                    (none-below 7 (λ h. e₃) (λ h. e₄) (λ h. e₅) (λ h. e₆) (λ h. absurd (omega arith)) (λ h. absurd (omega arith)))
+                | inr e₇ ↦ elim (test test-8) [
+                  | inl e₈ ↦
+                      refused-by 8 (rw (e₃, e₄, e₅, e₆, e₇, e₈)) (omega arith) (no-place refl (decides-8 .holds e₈ .0) (decides-8 .holds e₈ .1))
+                      (none-below 8 (λ h. e₃) (λ h. e₄) (λ h. e₅) (λ h. e₆) (λ h. e₇) (λ h. absurd (omega arith)))
+                  | inr e₈ ↦ inl (rw (e₃, e₄, e₅, e₆, e₇, e₈), λ i c. none-below 9 (λ h. e₃) (λ h. e₄) (λ h. e₅) (λ h. e₆) (λ h. e₇) (λ h. e₈) i (cause-small i c) c)
+                ]
+              ]
+            ]
+          ]
+        ]
+      ]
+
+-- ---- openings: 2, then 1
+
+in-range : (x m : ℕ) → (leb 1 x && leb x m) ≡ true → (x < 1) ⊎ (m < x) → ⊥
+in-range x m e (inl h) = omega (arith, leb-true 1 x (and-left (leb 1 x) (leb x m) e))
+in-range x m e (inr h) = omega (arith, leb-true x m (and-right (leb 1 x) (leb x m) e))
+
+out-of-range : (x m : ℕ) → (leb 1 x && leb x m) ≡ false → (x < 1) ⊎ (m < x)
+out-of-range x m e = elim (test (leb 1 x)) [ inl d ↦ inr (leb-false x m (rw d at e)) | inr d ↦ inl (omega (arith, leb-false 1 x d)) ]
+
+taken-sizes : (L Q : ℕ) → sizesTaken L Q ≡ true → WrongSizes L Q → ⊥
+taken-sizes L Q e (inl h) = in-range L maxAnnouncements (and-left (leb 1 L && leb L maxAnnouncements) (leb 1 Q && leb Q maxPlaces) e) h
+taken-sizes L Q e (inr h) = in-range Q maxPlaces (and-right (leb 1 L && leb L maxAnnouncements) (leb 1 Q && leb Q maxPlaces) e) h
+
+wrong-ones : (L Q : ℕ) → sizesTaken L Q ≡ false → WrongSizes L Q
+wrong-ones L Q e = elim (test (leb 1 L && leb L maxAnnouncements)) [ inl d ↦ inr (out-of-range Q maxPlaces (rw d at e)) | inr d ↦ inl (out-of-range L maxAnnouncements d) ]
+
+module _ (n : ℕ) (sound : Bool) (s : State) (L Q : ℕ) where
+  no-opening-cause : sizesTaken L Q ≡ true → ltb n (need L Q) ≡ false → (r : ℕ) → OpeningCause n L Q r → ⊥
+  no-opening-cause e d r (short-store z p) = (less n (need L Q)) .fails d p
+  no-opening-cause e d r (wrong-sizes z p) = taken-sizes L Q e p
+
+  none-before-1 : sizesTaken L Q ≡ true → (i : ℕ) → 1 < i → OpeningCause n L Q i → ⊥
+  none-before-1 e i h (short-store z p) = omega arith
+  none-before-1 e i h (wrong-sizes z p) = taken-sizes L Q e p
+
+  none-before-2 : (i : ℕ) → 2 < i → OpeningCause n L Q i → ⊥
+  none-before-2 i h (short-store z p) = omega arith
+  none-before-2 i h (wrong-sizes z p) = omega arith
+
+  opening : Verdict n sound s (Open L Q)
+  unfolding refusal openingRefusal
+  opening =
+      elim (test (sizesTaken L Q)) [
+        | inl e ↦ elim (test (ltb n (need L Q))) [
+          | inl d ↦ inr (1, record { number = rw (e, d); some-number = omega arith; cause = record { applies = short-store refl (ltb-true n (need L Q) d); none-sooner = none-before-1 e } })
+          | inr d ↦ inl (rw (e, d), no-opening-cause e d)
+        ]
+        | inr e ↦ inr (2, record { number = rw e; some-number = omega arith; cause = record { applies = wrong-sizes refl (wrong-ones L Q e); none-sooner = none-before-2 } })
+      ]
+
+-- ---- every call
+
+verdict : (n : ℕ) (sound : Bool) (s : State) (c : Call) → Verdict n sound s c
+verdict n sound s (Open L Q) = opening n sound s L Q
+verdict n sound s (On a) = in-turn n sound s a
+
+sooner-one : (c : Call) (i j : ℕ) → (Sooner c i j → ⊥) → (Sooner c j i → ⊥) → i ≡ j
+sooner-one (Open L Q) i j p q = elim (order i j) [ inl h ↦ absurd (q h) | inr h ↦ elim h [ inl e ↦ e | inr g ↦ absurd (p g) ] ]
+sooner-one (On a) i j p q = elim (order i j) [ inl h ↦ absurd (p h) | inr h ↦ elim h [ inl e ↦ e | inr g ↦ absurd (q g) ] ]
+
+module _ (n : ℕ) (sound : Bool) (c : Call) (s : State) where
+  -- there is one first cause
+  first-one : {i j : ℕ} → FirstCause n sound s c i → FirstCause n sound s c j → i ≡ j
+  first-one {i} {j} a b = sooner-one c i j (λ h. b .none-sooner i h (a .applies)) (λ h. a .none-sooner j h (b .applies))
+
+  done : refusal n sound c s ≡ 0 → stepIf n sound c s ≡ carried c s
+  unfolding stepIf
+  done e = rw (eq-eqb (refusal n sound c s) 0 e)
+
+  turned-away : {r : ℕ} → refusal n sound c s ≡ r → 0 < r → stepIf n sound c s ≡ refusedAs r c s
+  unfolding stepIf
+  turned-away {r} e h = rw (ne-eqb (refusal n sound c s) 0 (λ z. omega arith)) (ap (λ (i : ℕ). refusedAs i c s) e)
+
+  pub demand-1 : Demand1 n sound c s
+  demand-1 = record {
+    within = λ f. elim (verdict n sound s c) [ inl v ↦ (v .0, done (v .0)) | inr v ↦ absurd (f (v .0) (v .1 .cause .applies)) ];
+    beyond = λ r f. elim (verdict n sound s c) [
+      | inl v ↦ absurd (v .1 r (f .applies))
+      | inr v ↦ let e = v .1 .number ∙ first-one (v .1 .cause) f in let h = v .1 .some-number in (e, turned-away e (omega (arith, v .1 .some-number, v .1 .number)))
+    ];
+    either = elim (verdict n sound s c) [ inl v ↦ inl (v .1) | inr v ↦ inr (v .0, v .1 .cause) ];
+  }
