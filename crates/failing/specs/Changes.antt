@@ -1,17 +1,11 @@
--- What the contracts say of a request that is forgotten, and of parents that are copied.
+-- What the contracts say of parents that are copied, and of keys that are listed.
 -- Assumes nothing.
 use Prim.Native.Nat.{ℕ}
 use mathlib.Core.List.{List, _∷_}
-use lib.ListN.{drop}
 use Rattle.ident.specs.Number.{Key}
 use Rattle.ident.specs.Words.{hashBytes}
 use Rattle.words.specs.Words.{number, recs}
-use Rattle.machine.specs.State.{Request, withCandidates}
 use Rattle.machine.specs.Fail.{Listed}
-
--- without its first i candidates
-abbrev pub behind : ℕ → Request → Request
-behind i r = withCandidates (drop i (r .candidates)) r
 
 -- the first n hashes of 32 bytes each
 abbrev pub firstHashes : ℕ → List ℕ → List ℕ

@@ -2,7 +2,6 @@
 ghost use mathlib.Core.Path.{_≡_};
 ghost use Prim.Native.Nat.{_+_, _*_, _≤_};
 ghost use mathlib.Core.Bool.{true, false};
-ghost use mathlib.Core.Option.{none};
 ghost use lib.ListN.{length};
 ghost use Rattle.ident.specs.Words.{hashNum, keyNum};
 ghost use Rattle.machine.specs.Limits.{maxParents};
@@ -17,7 +16,7 @@ ghost use Rattle.lists.specs.Lists.{hashesIn};
 ghost use Rattle.requests.specs.Changes.{Makes, Tells};
 ghost use Rattle.packages.specs.Changes.{closed};
 ghost use Rattle.announcing.specs.Answers.{Answered, KeysListed};
-ghost use Rattle.failing.specs.Changes.{behind, led};
+ghost use Rattle.failing.specs.Changes.{led};
 
 pub mod parents;
 
@@ -125,42 +124,13 @@ fn release(s: &mut [u8], k: ident::Key)
     }
 }
 
-// The first candidate of the request at k, which nobody owns, leaves it.
-fn drop_first(s: &mut [u8], k: ident::Key)
-    requires { ⌜ Kept (now s) ⌝ }
-    ensures { λ _. ⌜ Makes (now (s .entry)) (now (s .exit)) (λ t. (at (keyNum k) t) .owner ≡ none) (change (keyNum k) (behind 1)) ⌝ }
-{
-    let key = requests::key_words(k);
-    let w = requests::window_of(s, key);
-    let i = w.from;
-    if i < w.to {
-        let r = store::rows::row_at(s, i);
-        requests::cut(s, k, r.conn);
-    }
-}
-
-// Every candidate of the request at k, which nobody owns, leaves it.
-fn drop_all(s: &mut [u8], k: ident::Key)
-    requires { ⌜ Kept (now s) × Tells (now s) (λ t. (at (keyNum k) t) .owner ≡ none) ⌝ }
-    ensures { λ _. ⌜ Makes (now (s .entry)) (now (s .exit)) (λ t. Unit {0}) (machine.forget (keyNum k)) ⌝ }
-{
-    let key = requests::key_words(k);
-    let w = requests::window_of(s, key);
-    let n = w.to - w.from;
-    let mut i = 0;
-    while i < n {
-        drop_first(s, k);
-        i += 1;
-    }
-}
-
 // The request at k goes, with its place.
 pub fn forget(s: &mut [u8], k: ident::Key)
     requires { ⌜ Kept (now s) ⌝ }
     ensures { λ _. ⌜ Makes (now (s .entry)) (now (s .exit)) (λ t. Unit {0}) (machine.forget (keyNum k)) ⌝ }
 {
     release(s, k);
-    drop_all(s, k);
+    requests::whole::drop_all(s, k);
 }
 
 // ---- package info

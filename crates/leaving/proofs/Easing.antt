@@ -1,7 +1,7 @@
--- Changes at two keys may be made in either order; so an owner without parents to hand on may wait to be cut with the other keys.
+-- Changes at two keys may be made in either order; so an owner with nothing to announce may wait to be cut with the other keys.
 -- Assumes nothing.
 use Prim.Native.Nat.{ℕ, suc, _+_, _≤_, _<_}
-use mathlib.Core.Path.{_≡_, refl, sym, ap, _∙_}
+use mathlib.Core.Path.{_≡_, refl, sym, ap, subst, _∙_}
 use mathlib.Core.Logic.{inl, inr}
 use mathlib.Core.Bool.{Bool, true, false}
 use mathlib.Core.List.{List, [], _∷_, _++_, map}
@@ -24,6 +24,7 @@ use Rattle.machine.proofs.Tests.{test, by-test, and-left}
 use Rattle.machine.proofs.Table.{place-inj, ordered-change, filled-change}
 use Rattle.machine.proofs.At.{KeepsKey, kept, at-same, at-other, other-place}
 use Rattle.leaving.specs.Cuts.{cutAt, cutEach, listed, Rising, Unowned, Within, readied, eased}
+use Rattle.leaving.specs.Hands.{Silent}
 use Rattle.leaving.proofs.Segments.{table-same, ordered-cut, filled-cut, ordered-each, filled-each, drop-part}
 use Rattle.leaving.proofs.Parts.{each-else}
 use Rattle.leaving.proofs.Newcomers.{fewer-eased}
@@ -136,20 +137,37 @@ unfolding cutEach
 each-last n [] k t = refl
 each-last n (i ∷ ks) k t = each-last n ks k (cutAt n i t)
 
--- dropped where there is nothing to announce
-drop-plain : (m : Limits) (n now : ℕ) (k : Key) (t : Table) → ownerIs n ((at k t) .owner) ≡ true → releasable n (at k t) ≡ true → parentsFor n (at k t) ≡ [] → dropAt m n now k t ≡ nothing (leaves k n now t)
-unfolding dropAt
-drop-plain m n now k t w e h =
-    ap (λ (b : Bool). if b then announceEach m now (parentsFor n (at k t)) (if isEmpty (parentsFor n (at k t)) then [] else (at k ((failed k n now t) .table)) .candidates) ((failed k n now t) .table) else nothing (cut k n t)) w
-    ∙ ap (λ (hs : List ℕ). announceEach m now hs (if isEmpty hs then [] else (at k ((failed k n now t) .table)) .candidates) ((failed k n now t) .table)) h
-    ∙ none ((failed k n now t) .table)
-    ∙ ap (λ (a : Answer). nothing (a .table)) (went e)
+-- who left was the only candidate
+left-alone : (n now : ℕ) (k : Key) (t : Table) → k .hash < top → Ordered 0 t → without n ((at k t) .candidates) ≡ [] → (at k (leaves k n now t)) .candidates ≡ []
+left-alone n now k t s o e =
+    ap (λ (r : Request). r .candidates) (at-other k (other k) (left n now) (change k (left n now) t) (left-key n now) (λ z. other-place k s (sym z)) ∙ at-same k (left n now) 0 t (left-key n now) o)
+    ∙ ap (λ (cs : List Candidate). (kept k (left n now (at k t)) cs) .candidates) (gone ∙ ap (map (readyAt now)) e)
   where
-    none : (x : Table) → announceEach m now [] [] x ≡ nothing x
-    none x = unfold announceEach in refl
+    gone : (left n now (at k t)) .candidates ≡ map (readyAt now) (without n ((at k t) .candidates))
+    gone = unfold left in refl
+
+-- dropped where there is nothing to announce
+drop-plain : (m : Limits) (n now : ℕ) (k : Key) (t : Table) → k .hash < top → Ordered 0 t → ownerIs n ((at k t) .owner) ≡ true → releasable n (at k t) ≡ true → Silent n (at k t)
+    → dropAt m n now k t ≡ nothing (leaves k n now t)
+unfolding dropAt
+drop-plain m n now k t s o w e h =
+    ap (λ (b : Bool). if b then announced (parentsFor n (at k t)) ((at k ((failed k n now t) .table)) .candidates) ((failed k n now t) .table) else nothing (cut k n t)) w
+    ∙ ap (λ (a : Answer). announced (parentsFor n (at k t)) ((at k (a .table)) .candidates) (a .table)) (went e)
+    ∙ silent h
+  where
+    announced : List ℕ → List Candidate → Table → Listed
+    announced hs cs x = announceEach m now hs (if isEmpty hs then [] else cs) x
 
     went : releasable n (at k t) ≡ true → failed k n now t ≡ done (leaves k n now t)
     went q = unfold failed in rw q
+
+    nobody : (hs : List ℕ) (b : Bool) (x : Table) → announceEach m now hs (if b then [] else []) x ≡ nothing x
+    nobody hs true x = unfold announceEach in refl
+    nobody hs false x = unfold announceEach in refl
+
+    silent : Silent n (at k t) → announced (parentsFor n (at k t)) ((at k (leaves k n now t)) .candidates) (leaves k n now t) ≡ nothing (leaves k n now t)
+    silent (inl z) = ap (λ (hs : List ℕ). announced hs ((at k (leaves k n now t)) .candidates) (leaves k n now t)) z ∙ nobody [] true (leaves k n now t)
+    silent (inr z) = ap (λ (cs : List Candidate). announced (parentsFor n (at k t)) cs (leaves k n now t)) (left-alone n now k t s o z) ∙ nobody (parentsFor n (at k t)) (isEmpty (parentsFor n (at k t))) (leaves k n now t)
 
 drop-next : (m : Limits) (n now : ℕ) (k : Key) (js : List Key) (t x : Table) → dropAt m n now k t ≡ nothing x → dropEach m n now (k ∷ js) t ≡ dropEach m n now js x
 unfolding dropEach
@@ -161,18 +179,18 @@ drop-next m n now k js t x e = ap (λ (a : Listed). after a) e
 owned-of : (n : ℕ) (r : Request) → releasable n r ≡ true → ownerIs n (r .owner) ≡ true
 owned-of n r e = and-left (ownerIs n (r .owner)) _ e
 
--- an owned key that has no parents to announce and no Enqueued package waits with the others: it forces no pass of its own
+-- an owned key that has nothing to announce and no Enqueued package waits with the others: it forces no pass of its own
 pub drop-eased : (m : Limits) (n now lo : ℕ) (ks : List Key) (k : Key) (js : List Key) (t : Table) → Rising lo ks → Unowned n t ks → listed k ks ≡ false → k .hash < top
-    → Each (λ i. place i ≡ place k → ⊥) ks → Each (λ i. place i ≡ place (other k) → ⊥) ks → Ordered 0 t → All Filled t → releasable n (at k t) ≡ true → parentsFor n (at k t) ≡ []
+    → Each (λ i. place i ≡ place k → ⊥) ks → Each (λ i. place i ≡ place (other k) → ⊥) ks → Ordered 0 t → All Filled t → releasable n (at k t) ≡ true → Silent n (at k t)
     → dropEach m n now (ks ++ (k ∷ js)) t ≡ dropEach m n now js (cutEach n (ks ++ (k ∷ [])) (eased n now k t))
 drop-eased m n now lo ks k js t r u l s d d′ o a e h =
     let t₁ = cutEach n ks t in
     let here : at k t₁ ≡ at k t = each-else n k ks t l in
     let e₁ : releasable n (at k t₁) ≡ true = ap (releasable n) here ∙ e in
-    let h₁ : parentsFor n (at k t₁) ≡ [] = ap (parentsFor n) here ∙ h in
+    let h₁ : Silent n (at k t₁) = subst (Silent n) (sym here) h in
     let w₁ = owned-of n (at k t₁) e₁ in
     drop-part m n now lo ks (k ∷ js) t r u
-    ∙ drop-next m n now k js t₁ (leaves k n now t₁) (drop-plain m n now k t₁ w₁ e₁ h₁)
+    ∙ drop-next m n now k js t₁ (leaves k n now t₁) (drop-plain m n now k t₁ s (ordered-each n lo ks t r o) w₁ e₁ h₁)
     ∙ ap (dropEach m n now js) (sym (each-last n ks k (eased n now k t) ∙ ap (cutAt n k) (eased-swap n now lo ks k t r s d d′ o a) ∙ eased-cut n now k t₁ s (ordered-each n lo ks t r o) (filled-each n ks t a) w₁))
 
 -- what the loop keeps: the key waits with the others, and no key came in

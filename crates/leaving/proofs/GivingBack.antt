@@ -1,20 +1,25 @@
--- An owner without parents to hand on gives its request back in place: in bytes.
+-- An owner with nothing to announce gives its request back in place: in bytes.
 -- Assumes nothing.
 use Prim.Native.Nat.{ℕ, _<_}
 use mathlib.Core.Path.{_≡_, refl, sym, ap, _∙_}
 use mathlib.Core.Logic.{inl, inr}
-use mathlib.Core.Bool.{Bool, true, false}
+use mathlib.Core.Bool.{Bool, true, false, _||_}
 use mathlib.Core.List.{List, [], _∷_, map}
 use mathlib.Core.Option.{Option, none, some}
 use native.Mathlib.Omega.{arith}
+use lib.Dec.{eqb}
+use lib.ListN.{length}
+use borrow.Author.Tests.{eqb-true, eq-eqb}
 use Rattle.ident.specs.Number.{top, Key, other}
 use Rattle.words.specs.Words.{recs}
 use Rattle.machine.specs.Limits.{Limits, word}
 use Rattle.machine.specs.State.{Candidate, Owner, Request, Table, State, onTable, unowned, readyAt, ownerIs}
-use Rattle.machine.specs.Table.{at, change, countIn}
+use Rattle.machine.specs.Table.{at, change, has, countIn}
+use Rattle.machine.specs.Announce.{without}
 use Rattle.machine.specs.Fail.{releasable, left, unclaim, parentsFor}
 use Rattle.machine.specs.Sound.{AllFit, OwnerFits, Sound, Bounded}
-use Rattle.machine.proofs.Tests.{never}
+use Rattle.machine.proofs.Tests.{never, and-left}
+use Rattle.machine.proofs.Table.{lawful-at}
 use Rattle.machine.proofs.At.{at-other, other-place}
 use Rattle.machine.proofs.Change.{Shrinks, bounded-change}
 use Rattle.machine.proofs.Fail.{shrinks-left}
@@ -26,7 +31,7 @@ use Rattle.failing.specs.Changes.{firstHashes}
 use Rattle.failing.proofs.Leaving.{told, owner-of, free-other}
 use Rattle.failing.proofs.Clearing.{shrinks-unowned}
 use Rattle.leaving.specs.Cuts.{readied, eased}
-use Rattle.leaving.specs.Hands.{Waits}
+use Rattle.leaving.specs.Hands.{Silent, Waits}
 use Rattle.leaving.proofs.Newcomers.{has-ready}
 
 -- ---- a ready time more
@@ -112,9 +117,28 @@ module _ {b : List ℕ} (n now : ℕ) (k : Key) where
   pub waits-not : Tells b (λ t. ownerIs n ((at k t) .owner) ≡ true) → Waits n now k b b false
   waits-not f = record { rests = λ e. never e; same = λ e. refl; owns = λ e. f }
 
-  pub waits-eased : {b₁ : List ℕ} → Tells b (λ t. releasable n (at k t) ≡ true) → Tells b (λ t. parentsFor n (at k t) ≡ []) → Makes b b₁ (λ t. Unit {0}) (eased n now k) → Waits n now k b b₁ true
-  waits-eased f g h = record { rests = λ e st s w. inr (f st s w, g st s w, h st s w tt); same = λ e. never (sym e); owns = λ e. never (sym e) }
+  pub waits-eased : {b₁ : List ℕ} → Tells b (λ t. releasable n (at k t) ≡ true) → Tells b (λ t. ownerIs n ((at k t) .owner) ≡ true → Silent n (at k t)) → Makes b b₁ (λ t. Unit {0}) (eased n now k) → Waits n now k b b₁ true
+  waits-eased f g h = record { rests = λ e st s w. inr (f st s w, g st s w (and-left _ _ (f st s w)), h st s w tt); same = λ e. never (sym e); owns = λ e. never (sym e) }
 
 pub no-parents : {p : ℕ} (u : List ℕ) {hs : List ℕ} → p ≡ 0 → firstHashes p u ≡ hs → hs ≡ []
 unfolding recs
 no-parents u e h = sym (sym (ap (λ (j : ℕ). firstHashes j u) e) ∙ h)
+
+-- ---- nobody else
+
+-- an owner that is the only candidate leaves nobody behind
+only-one : (n : ℕ) (o : Option Owner) (cs : List Candidate) → OwnerFits o cs → ownerIs n o ≡ true → length cs ≡ 1 → without n cs ≡ []
+unfolding has without
+only-one n none cs f e l = never e
+only-one n (some o) [] f e l = absurd (omega arith)
+only-one n (some o) (c ∷ []) f e l =
+    let a : c .connection ≡ o .connection = eqb-true (c .connection) (o .connection) (sym (or-false (eqb (c .connection) (o .connection))) ∙ f .0) in
+    rw (eq-eqb (c .connection) n (a ∙ eqb-true (o .connection) n e))
+  where
+    or-false : (b : Bool) → (b || false) ≡ b
+    or-false true = refl
+    or-false false = refl
+only-one n (some o) (c ∷ d ∷ cs) f e l = absurd (omega arith)
+
+pub single-silent : (st : State) → Sound st → (n : ℕ) (k : Key) → length ((at k (st .table)) .candidates) ≡ 1 → ownerIs n ((at k (st .table)) .owner) ≡ true → Silent n (at k (st .table))
+single-silent st s n k l e = let q = at k (st .table) in inr (only-one n (q .owner) (q .candidates) (lawful-at k (st .table) (s .bounded .lawful) .owner) e l)

@@ -22,3 +22,4 @@ pub mod Departing
 pub mod Ending
 pub mod Turning
 pub mod Cutting
+pub mod RowOwners

@@ -9,8 +9,9 @@ use lib.ListN.{take}
 use Rattle.ident.specs.Number.{Key}
 use Rattle.words.specs.Words.{words}
 use Rattle.machine.specs.Limits.{Limits, word}
-use Rattle.machine.specs.State.{Candidate, State, Table, limitsOf, onTable, ownerIs}
+use Rattle.machine.specs.State.{Candidate, Request, State, Table, limitsOf, onTable, ownerIs}
 use Rattle.machine.specs.Table.{at}
+use Rattle.machine.specs.Announce.{without}
 use Rattle.machine.specs.Sound.{Sound}
 use Rattle.machine.specs.Fail.{Listed, nothing, announceParents, parentsFor, releasable}
 use Rattle.machine.specs.Typed.{Each}
@@ -49,11 +50,15 @@ pub record KeysMerged (b b′ u u′ : List ℕ) (n r : ℕ) (f : Limits → Tab
 
 -- ---- a key that waits
 
--- n does not own the request at k, and nothing is done; or n gives it back, with no parents to hand on
+-- the owner n has no parents to hand on, or nobody to hand them to
+abbrev pub Silent : ℕ → Request → Type 0
+Silent n r = (parentsFor n r ≡ []) ⊎ (without n (r .candidates) ≡ [])
+
+-- n does not own the request at k, and nothing is done; or n gives it back, with nothing to announce
 abbrev pub Rests : ℕ → ℕ → Key → List ℕ → State → Type 0
 Rests n now k b′ st =
     ((ownerIs n ((at k (st .table)) .owner) ≡ false) × Writes b′ st)
-    ⊎ ((releasable n (at k (st .table)) ≡ true) × (parentsFor n (at k (st .table)) ≡ []) × Writes b′ (onTable (eased n now k (st .table)) st))
+    ⊎ ((releasable n (at k (st .table)) ≡ true) × Silent n (at k (st .table)) × Writes b′ (onTable (eased n now k (st .table)) st))
 
 -- r says that the key k waits; else n owns the request there
 pub record Waits (n now : ℕ) (k : Key) (b b′ : List ℕ) (r : Bool) : Type 0 where

@@ -192,11 +192,15 @@ pub struct Left {
     pub parents: usize,
 }
 
-// Which of its keys is the first that waits to be cut, and how many parents' keys are listed.
+// Which of its keys is the first that waits to be cut, how many parents' keys are listed, and the row from which to look for its next row.
 struct Progress {
     from: usize,
     parents: usize,
+    next: usize,
 }
+
+// No row: there are at most 100,000. (Rows have moved, and the next one is to be searched.)
+const NOWHERE: usize = 100_000;
 
 // Cuts the candidates of n under the keys from .. to of `out`.
 fn cut_listed(s: &mut [u8], n: u64, out: &[u8], from: usize, to: usize)
@@ -224,8 +228,13 @@ fn take_turn(
     ensures { λ r. ⌜ ((st : State) (u₀ : List ℕ) → Going n clock st u₀ (now (s .entry)) (now (out .entry)) own (p .from) i (p .parents) → Going n clock st u₀ (now (s .exit)) (now (out .exit)) own (r .from) (i + 1) (r .parents)) ⌝ }
 {
     let k = lists::key_at(out, i);
-    if owner::waits(s, k, n, clock) {
-        return p;
+    let w = owner::waits(s, k, n, clock, p.next);
+    if w.waits {
+        return Progress {
+            from: p.from,
+            parents: p.parents,
+            next: w.next,
+        };
     }
     cut_listed(s, n, out, p.from, i);
     let x = own * KEY;
@@ -234,6 +243,7 @@ fn take_turn(
     Progress {
         from: i + 1,
         parents,
+        next: NOWHERE,
     }
 }
 
@@ -255,6 +265,7 @@ fn drop_keys(s: &mut [u8], n: u64, clock: u64, out: &mut [u8], own: usize) -> us
     let mut p = Progress {
         from: 0,
         parents: 0,
+        next: 0,
     };
     let mut i = idle_keys(s, n, own);
     while i < own {

@@ -7,6 +7,7 @@ ghost use mathlib.Core.Bool.{true, false};
 ghost use mathlib.Core.List.{[]};
 ghost use lib.ListN.{length};
 ghost use Rattle.ident.specs.Words.{keyNum};
+ghost use Rattle.regions.specs.Rows.{keyNumber, keyOf as rowKeyOf};
 ghost use Rattle.machine.specs.Limits.{maxAlternates, maxParents};
 ghost use Rattle.machine.specs.State.{ownerIs};
 ghost use Rattle.machine.specs.Table.{at};
@@ -18,7 +19,7 @@ ghost use Rattle.lists.specs.Lists.{hashesIn};
 ghost use Rattle.requests.specs.Changes.{Makes, Tells};
 ghost use Rattle.leaving.specs.Cuts.{eased};
 ghost use Rattle.leaving.specs.Merges.{InOrder};
-ghost use Rattle.leaving.specs.Hands.{connsOf, connsIn, Peers, announceFor, Roomy, KeysMerged, Waits};
+ghost use Rattle.leaving.specs.Hands.{connsOf, connsIn, Peers, announceFor, Roomy, KeysMerged, Silent, Waits};
 
 // Bytes of 100 keys, of 100 hashes, and of 8 connections.
 const KEYS: usize = 4_000;
@@ -100,13 +101,56 @@ pub fn drop_owned(s: &mut [u8], k: ident::Key, n: u64, clock: u64, u: &mut [u8],
 
 // ---- a key that waits to be cut with others
 
-// Whether the connection n owns the request at k.
-fn is_owner(s: &[u8], k: ident::Key, n: u64) -> bool
+// Whether a connection owns a request, and the row from which to look for its next one.
+struct Seen {
+    owner: bool,
+    next: usize,
+}
+
+// Whether the row r is one of the key k.
+fn has_key(r: regions::Row, k: regions::Key) -> bool
+    ensures { λ b. ⌜ (b ≡ true → keyNumber (rowKeyOf r) ≡ keyNumber k) ⌝ }
+{
+    let hash = r.hash;
+    let x = regions::Key {
+        kind: r.bits % 2,
+        hash,
+    };
+    !regions::key_less(x, k) & !regions::key_less(k, x)
+}
+
+// Whether the connection n owns the request at k, by a search.
+fn search_owner(s: &[u8], k: ident::Key, n: u64) -> Seen
     requires { ⌜ Kept (now s) × (1 ≤ n) ⌝ }
-    ensures { λ r. ⌜ Tells (now (s .entry)) (λ t. r ≡ ownerIs n ((at (keyNum k) t) .owner)) ⌝ }
+    ensures { λ r. ⌜ Tells (now (s .entry)) (λ t. r .owner ≡ ownerIs n ((at (keyNum k) t) .owner)) ⌝ }
 {
     let r = packages::request_at(s, k);
-    r.owner == n
+    Seen {
+        owner: r.owner == n,
+        next: r.to,
+    }
+}
+
+// The same by the first row of n from `guess` on, if that is one of the key: where keys are asked for in order, that row is the next one of n.
+fn is_owner(s: &[u8], k: ident::Key, n: u64, guess: usize) -> Seen
+    requires { ⌜ Kept (now s) × (1 ≤ n) ⌝ }
+    ensures { λ r. ⌜ Tells (now (s .entry)) (λ t. r .owner ≡ ownerIs n ((at (keyNum k) t) .owner)) ⌝ }
+{
+    let rows = store::head::rows(s);
+    if guess < rows {
+        let i = store::rows::find_row(s, guess, rows, n);
+        if i < rows {
+            let r = store::rows::row_at(s, i);
+            let key = requests::key_words(k);
+            if has_key(r, key) {
+                return Seen {
+                    owner: r.bits / 8 % 2 == 1,
+                    next: i + 1,
+                };
+            }
+        }
+    }
+    search_owner(s, k, n)
 }
 
 // Whether the connection n has no parents to hand on at k.
@@ -117,6 +161,24 @@ fn is_childless(s: &[u8], k: ident::Key, n: u64) -> bool
     let mut list = [0u8; LIST];
     let p = failing::parents::parents_for(s, k, n, &mut list);
     p == 0
+}
+
+// Whether the request at k has one candidate.
+fn is_single(s: &[u8], k: ident::Key) -> bool
+    requires { ⌜ Kept (now s) ⌝ }
+    ensures { λ r. ⌜ (r ≡ true → Tells (now (s .entry)) (λ t. length ((at (keyNum k) t) .candidates) ≡ 1)) ⌝ }
+{
+    let key = requests::key_words(k);
+    let w = requests::window_of(s, key);
+    w.to - w.from == 1
+}
+
+// Whether nothing is to be announced when the owner n leaves k: it has no parents to hand on, or nobody to hand them to.
+fn is_silent(s: &[u8], k: ident::Key, n: u64) -> bool
+    requires { ⌜ Kept (now s) × (1 ≤ n) ⌝ }
+    ensures { λ r. ⌜ (r ≡ true → Tells (now (s .entry)) (λ t. ownerIs n ((at (keyNum k) t) .owner) ≡ true → Silent n (at (keyNum k) t))) ⌝ }
+{
+    is_single(s, k) || is_childless(s, k, n)
 }
 
 // The owner n gives the request at k back in place; it stays a candidate there, and leaves the other kind of the hash. Every other
@@ -131,20 +193,28 @@ fn ease(s: &mut [u8], k: ident::Key, n: u64, clock: u64)
     failing::leave(s, o, n, clock);
 }
 
-// Whether n may wait to be cut at k: it does not own the request there, or has no parents to hand on and gives it back.
-pub fn waits(s: &mut [u8], k: ident::Key, n: u64, clock: u64) -> bool
+// Whether a key waits, and the row from which to look for the next row of its connection.
+pub struct Rest {
+    pub waits: bool,
+    pub next: usize,
+}
+
+// Whether n may wait to be cut at k: it does not own the request there, or has nothing to announce and gives it back.
+pub fn waits(s: &mut [u8], k: ident::Key, n: u64, clock: u64, guess: usize) -> Rest
     requires { ⌜ Kept (now s) × (1 ≤ n) ⌝ }
-    ensures { λ r. ⌜ Waits n clock (keyNum k) (now (s .entry)) (now (s .exit)) r ⌝ }
+    ensures { λ r. ⌜ Waits n clock (keyNum k) (now (s .entry)) (now (s .exit)) (r .waits) ⌝ }
 {
-    if !is_owner(s, k, n) {
-        return true;
+    let seen = is_owner(s, k, n, guess);
+    let next = seen.next;
+    if !seen.owner {
+        return Rest { waits: true, next };
     }
-    if !is_childless(s, k, n) {
-        return false;
+    if !is_silent(s, k, n) {
+        return Rest { waits: false, next };
     }
     if !failing::releasable(s, k, n) {
-        return false;
+        return Rest { waits: false, next };
     }
     ease(s, k, n, clock);
-    true
+    Rest { waits: true, next }
 }

@@ -3,3 +3,4 @@ pub mod Regions
 pub mod Rows
 pub mod Order
 pub mod Columns
+pub mod Removing

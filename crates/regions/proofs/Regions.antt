@@ -46,7 +46,7 @@ module _ (a b x : List ℕ) (n : ℕ) (h : length x + (length a + length b) ≤ 
   padded-open : opened (length a) (length a + length b) x (padded n (a ++ b)) ≡ padded n (a ++ (x ++ b))
   padded-open = rw (without, with-it) (opened-at a b (replicate (length x) 0) (replicate (n - length (a ++ (x ++ b))) 0) x (length-replicate (length x) 0))
 
-  padded-shut : shut (length x) (length a) (length a + (length x + length b)) (padded n (a ++ (x ++ b))) ≡ padded n (a ++ b)
+  pub padded-shut : shut (length x) (length a) (length a + (length x + length b)) (padded n (a ++ (x ++ b))) ≡ padded n (a ++ b)
   padded-shut = rw (without, with-it) (shut-at a x b (replicate (n - length (a ++ (x ++ b))) 0) (length x) refl)
 
 -- zeros behind the words change nothing

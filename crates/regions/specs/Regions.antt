@@ -29,6 +29,9 @@ insertAt i x xs = take i xs ++ (x ∷ drop i xs)
 unfoldable pub removeAt : {A : Type 0} → ℕ → List A → List A
 removeAt i xs = take i xs ++ drop (suc i) xs
 
+unfoldable pub removeRange : {A : Type 0} → ℕ → ℕ → List A → List A
+removeRange from to xs = take from xs ++ drop to xs
+
 -- ---- words with a part put in or taken out
 
 -- x put in at a: what stood from a to b moves up
@@ -49,6 +52,11 @@ module _ {A : Type 0} (k : ℕ) (enc : A → List ℕ) (w : List ℕ) where
   pub record Removed (w′ : List ℕ) (n i : ℕ) : Type 0 where
     pub words-are : w′ ≡ shut k (k * i) (k * n) w
     pub region : (L : ℕ) (xs : List A) → length xs ≡ n → Holds k enc L xs w → Holds k enc L (removeAt i xs) w′
+
+  -- the records from .. to taken out
+  pub record RangeRemoved (w′ : List ℕ) (n from to : ℕ) : Type 0 where
+    pub words-are : w′ ≡ shut (k * (to - from)) (k * from) (k * n) w
+    pub region : (L : ℕ) (xs : List A) → length xs ≡ n → Holds k enc L xs w → Holds k enc L (removeRange from to xs) w′
 
   pub record Replaced (w′ : List ℕ) (i : ℕ) (x : A) : Type 0 where
     pub words-are : w′ ≡ splice w (k * i) (enc x)

@@ -14,6 +14,8 @@ ghost use Rattle.regions.specs.Regions.{shut, Inserted, Removed, Replace
 ghost use Rattle.regions.specs.Order.{Sought, First, one};
 ghost use Rattle.regions.specs.Rows.{rowSize, readyAt, deadlineAt, bitsAt, connSize, quadWords, readQuad, quadNumber, rowWords, readRow, keyNumber, keyOf, rowKey, rowConn, withReady, withDeadline, withBits, connWords, readConn, connKey};
 
+pub mod ranges;
+
 // Words of a row, and where in it some of them lie.
 const ROW: usize = 9;
 

@@ -8,3 +8,4 @@ pub mod Readying
 pub mod Adopting
 pub mod AtHash
 pub mod Holding
+pub mod Shearing

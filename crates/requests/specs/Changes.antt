@@ -22,10 +22,10 @@ use Rattle.machine.specs.State as machine
 use Rattle.machine.specs.State.{Table, State, Request, onTable, ownerIs, adopting}
 use Rattle.machine.specs.Table.{one, heldBy, ownedBy}
 use Rattle.machine.specs.Sound.{Sound}
-use Rattle.store.specs.Flat.{Flat, kindBit, witnessBit, rowOf, rowsOf}
+use Rattle.store.specs.Flat.{Flat, flatOf, kindBit, witnessBit, rowOf, rowsOf, tally}
 use Rattle.store.specs.FlatSound.{markBit}
 use Rattle.store.specs.Image.{Shows, Writes}
-use Rattle.store.specs.Shown.{rowsIn, rowNumbers, Met}
+use Rattle.store.specs.Shown.{rowsIn, rowNumbers, withRows, withConns, Met}
 use Rattle.requests.specs.declared.Candidate.{Candidate}
 
 -- ---- declared values as the machine's
@@ -92,6 +92,10 @@ pub record OwnedBare (n : ℕ) (r : Request) : Type 0 where
 -- whatever sound state the bytes b write, if P holds of it, b′ write it with g of its table
 abbrev pub Makes : List ℕ → List ℕ → (Table → Type 0) → (Table → Table) → Type 0
 Makes b b′ P g = (st : State) → Sound st → Writes b st → P (st .table) → Writes b′ (onTable (g (st .table)) st)
+
+-- the bytes write a state, but with the rows rs, and the tally of the rows ls: on the way to fewer rows
+abbrev pub Shorn : List ℕ → State → List Row → List Row → Type 0
+Shorn b st rs ls = Shows b (withConns (tally ls) (withRows rs (flatOf st)))
 
 -- ---- what a table says of a connection
 

@@ -19,6 +19,8 @@ ghost use Rattle.store.specs.Flat.{kindBit, witnessBit};
 ghost use Rattle.store.specs.Shown.{limitIn, rowsIn, Kept, Shown};
 ghost use Rattle.requests.specs.Changes.{candidateOf, Words, KeyWords, Spans, Spotted, MarkIn, RowFor, witnessAs, RowAdopting, OwnedBare, FiguresOf, Makes, Tells};
 
+pub mod whole;
+
 // One announcement: who can deliver, as what item, from when on, and how it ranks.
 pub struct Candidate {
     pub connection: u64,
@@ -248,7 +250,7 @@ pub fn cut(s: &mut [u8], k: ident::Key, n: u64)
     let i = p.at;
     if i < p.end {
         store::rows::drop_row(s, i);
-        store::counting::count_out(s, n);
+        store::counting::count_out(s, n, 0);
     }
 }
 

@@ -33,14 +33,13 @@ module _ {b′ : List ℕ} (f : Flat) {x i : ℕ} (bd : Bound (connNames (f .con
         let q : _≡_ {A = Conn} (record { conn = c .conn; held = c .held + 1; owned = c .owned }) (more 0 (getD (f .conns) i d)) = more-none c ∙ ap (more 0) k in
         subst (With b′ f) (ap (set (f .conns) i) q ∙ sym (bump-found (f .conns) bd d l e 0)) s
 
-    pub counted-last : c .held ≡ 1 → With b′ f (removeAt i (f .conns)) → With b′ f (unbump x 0 (f .conns))
-    counted-last h s = subst (With b′ f) (sym (unbump-last (f .conns) bd d l e 0 (sym (ap (λ (a : Conn). a .held) k) ∙ h))) s
+    pub counted-last : (o : ℕ) → c .held ≡ 1 → With b′ f (removeAt i (f .conns)) → With b′ f (unbump x o (f .conns))
+    counted-last o h s = subst (With b′ f) (sym (unbump-last (f .conns) bd d l e o (sym (ap (λ (a : Conn). a .held) k) ∙ h))) s
 
-    pub counted-out : (c .held ≡ 1 → ⊥) → With b′ f (set (f .conns) i (record { conn = c .conn; held = c .held - 1; owned = c .owned })) → With b′ f (unbump x 0 (f .conns))
-    counted-out h s =
-        let z : c .owned ≡ c .owned - 0 = omega arith in
-        let q : _≡_ {A = Conn} (record { conn = c .conn; held = c .held - 1; owned = c .owned }) (record { conn = (getD (f .conns) i d) .conn; held = (getD (f .conns) i d) .held - 1; owned = (getD (f .conns) i d) .owned - 0 }) = ap (λ (n : ℕ). record { conn = c .conn; held = c .held - 1; owned = n }) z ∙ ap (λ (a : Conn). record { conn = a .conn; held = a .held - 1; owned = a .owned - 0 }) k in
-        subst (With b′ f) (ap (set (f .conns) i) q ∙ sym (unbump-found (f .conns) bd d l e 0 (λ z. h (ap (λ (a : Conn). a .held) k ∙ z)))) s
+    pub counted-out : (o : ℕ) → (c .held ≡ 1 → ⊥) → With b′ f (set (f .conns) i (record { conn = c .conn; held = c .held - 1; owned = c .owned - o })) → With b′ f (unbump x o (f .conns))
+    counted-out o h s =
+        let q : _≡_ {A = Conn} (record { conn = c .conn; held = c .held - 1; owned = c .owned - o }) (record { conn = (getD (f .conns) i d) .conn; held = (getD (f .conns) i d) .held - 1; owned = (getD (f .conns) i d) .owned - o }) = ap (λ (a : Conn). record { conn = a .conn; held = a .held - 1; owned = a .owned - o }) k in
+        subst (With b′ f) (ap (set (f .conns) i) q ∙ sym (unbump-found (f .conns) bd d l e o (λ z. h (ap (λ (a : Conn). a .held) k ∙ z)))) s
 
     pub recounted : (o p : ℕ) → With b′ f (set (f .conns) i (reowned o p c)) → With b′ f (retally x o p (f .conns))
     recounted o p s = subst (With b′ f) (ap (λ (a : Conn). set (f .conns) i (reowned o p a)) k ∙ sym (retally-found (f .conns) bd d l e o p)) s
@@ -50,8 +49,8 @@ module _ {b′ : List ℕ} (f : Flat) {x i : ℕ} (bd : Bound (connNames (f .con
     counted-new s = subst (With b′ f) (sym (bump-missing (f .conns) bd d n 0)) s
 
     module _ (so : Sorted (connNames (f .conns))) where
-      pub nothing-out : With b′ f (f .conns) → With b′ f (unbump x 0 (f .conns))
-      nothing-out s = subst (With b′ f) (sym (unbump-missing (f .conns) so bd d n 0)) s
+      pub nothing-out : (o : ℕ) → With b′ f (f .conns) → With b′ f (unbump x o (f .conns))
+      nothing-out o s = subst (With b′ f) (sym (unbump-missing (f .conns) so bd d n o)) s
 
       pub nothing-owned : (o p : ℕ) → With b′ f (f .conns) → With b′ f (retally x o p (f .conns))
       nothing-owned o p s = subst (With b′ f) (sym (retally-missing (f .conns) so bd d n o p)) s

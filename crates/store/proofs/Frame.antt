@@ -10,7 +10,7 @@ use Rattle.words.specs.Words.{words, splice}
 use Rattle.words.proofs.Parts.{words-lent, words-back}
 use Rattle.regions.specs.declared.Row.{Row}
 use Rattle.regions.specs.declared.Conn.{Conn}
-use Rattle.regions.specs.Regions.{each, padded, Holds, insertAt, removeAt}
+use Rattle.regions.specs.Regions.{each, padded, Holds, insertAt, removeAt, removeRange}
 use Rattle.regions.specs.Rows.{rowSize, rowWords, connSize, connWords}
 use Rattle.regions.proofs.Regions.{length-padded, padded-fit}
 use Rattle.places.specs.Places.{Place, placeSize, placeWords}
@@ -186,6 +186,10 @@ module _ {A : Type 0} (l : List A) (i : ℕ) where
   pub length-remove : i < length l → length (removeAt i l) ≡ length l - 1
   unfolding removeAt
   length-remove h = simp (length-append, length-take, length-drop) (omega arith)
+
+pub length-remove-range : {A : Type 0} (l : List A) (from to : ℕ) → from ≤ to → to ≤ length l → length (removeRange from to l) ≡ length l - (to - from)
+unfolding removeRange
+length-remove-range l from to h g = simp (length-append, length-take, length-drop) (omega arith)
 
 -- ---- an empty store
 

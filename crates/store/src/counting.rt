@@ -54,10 +54,10 @@ pub fn count_in(s: &mut [u8], x: u64)
     }
 }
 
-// One row less of the connection x, which did not own its request by it.
-pub fn count_out(s: &mut [u8], x: u64)
+// One row less of the connection x, whose bit of owning was o.
+pub fn count_out(s: &mut [u8], x: u64, o: u64)
     requires { ⌜ Shown (now s) ⌝ }
-    ensures { λ _. ⌜ Tallies (now (s .entry)) (now (s .exit)) (unbump x 0) ⌝ }
+    ensures { λ _. ⌜ Tallies (now (s .entry)) (now (s .exit)) (unbump x o) ⌝ }
 {
     let i = conns::seek_conn(s, x);
     if is_entry(s, i, x) {
@@ -68,7 +68,7 @@ pub fn count_out(s: &mut [u8], x: u64)
             let d = regions::Conn {
                 conn: c.conn,
                 held: less(c.held, 1),
-                owned: c.owned,
+                owned: less(c.owned, o),
             };
             conns::set_conn(s, i, d);
         }

@@ -5,7 +5,7 @@ ghost use Prim.Native.Nat.{ℕ, _+_, _≤_, _<_};
 ghost use lib.ListN.{length, getD, set};
 ghost use Rattle.regions.specs.declared.Row.{Row};
 ghost use Rattle.regions.specs.Order.{one};
-ghost use Rattle.regions.specs.Regions.{insertAt, removeAt};
+ghost use Rattle.regions.specs.Regions.{insertAt, removeAt, removeRange};
 ghost use Rattle.regions.specs.Rows.{keyNumber};
 ghost use Rattle.store.specs.Flat.{Flat};
 ghost use Rattle.store.specs.Image.{Shows};
@@ -56,6 +56,18 @@ pub fn drop_row(s: &mut [u8], i: usize)
     let y = (head::HEAD + head::limit(s) * ROW) * 8;
     regions::remove_row(&mut s[x..y], n, i);
     words::put(s, 3, (n - 1) as u64);
+}
+
+// Takes the rows from .. to out.
+pub fn drop_rows(s: &mut [u8], from: usize, to: usize)
+    requires { ⌜ Shown (now s) × (from ≤ to) × (to ≤ rowsIn (now s)) ⌝ }
+    ensures { λ _. ⌜ Turns (now (s .entry)) (now (s .exit)) (λ f. withRows (removeRange from to (f .rows)) f) ⌝ }
+{
+    let n = head::rows(s);
+    let x = head::HEAD * 8;
+    let y = (head::HEAD + head::limit(s) * ROW) * 8;
+    regions::ranges::remove_rows(&mut s[x..y], n, from, to);
+    words::put(s, 3, (n - (to - from)) as u64);
 }
 
 // The first row whose key does not come before k; with `after`, the first whose key comes after it. Or how many rows there are.

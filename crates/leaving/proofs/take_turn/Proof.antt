@@ -49,8 +49,8 @@ drop-owned-requires : tie.Need-drop-owned-requires
 drop-owned-requires c κs = let late : c .before .before .before .before .before .before .before .before .before .before .before .before .before .before .before .before .args .clock < word = omega (arith, c .before .before .before .before .before .before .before .before .before .before .before .before .before .before .before .before .good .1 .1 .0) in
     drop-asks (c .before .before .before .before .before .before .before .before .before .before .before .before .before .before .before .before .pre .0 .going) late (keyNum (c .before .before .before .before .before .before .before .before .before .before .before .before .key-at .result)) (c .before .before .before .before .before .before .before .before .before .before .before .before .before .before .before .before .pre .2) (c .before .before .before .before .before .before .before .before .before .before .before .before .key-at .ensures) (c .before .before .before .before .before .before .before .before .before .before .waits .ensures) (c .before .before .before .before .before .before .before .if1 .left) (c .before .before .before .before .cut-listed .ensures) (c .before .before .before .before .before .before .before .before .before .before .before .before .before .before .before .before .pre .1)
 
-add-t25 : tie.Need-add-t25
-add-t25 c = search needs
+add-t26 : tie.Need-add-t26
+add-t26 c = search needs
 
 same-length-3 : tie.Need-same-length-3
 same-length-3 c = search needs
@@ -78,7 +78,7 @@ take-turn-spec =
     part-drop-owned-start
     part-drop-owned-end
     drop-owned-requires
-    add-t25
+    add-t26
     same-length-3
     same-length-4
     returns-2)
