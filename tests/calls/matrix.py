@@ -13,6 +13,11 @@ def ticked(cell):
     return re.findall(r"`([^`]+)`", cell)
 
 
+def names(cell, usual):
+    """✔: the usual name. Other names stand between backquotes."""
+    return [usual] if cell == "✔" else ticked(cell)
+
+
 def row(cells):
     call, word, rust, definition, code, public, c, safe, refusals, need, by_bytes, recorded = cells
     (call,) = ticked(call)
@@ -23,12 +28,12 @@ def row(cells):
         rust=[call] if rust == "same" else ticked(rust),
         definitions=re.findall(r"((?:`[^`]+`(?:, )?)+) \((\w+)\)", definition),
         code=ticked(code),
-        public=next((f"{module}::{call}" for module in ticked(public)), None),
-        c="tracker_" + call if c == "✔" else None,
-        safe=call if safe == "✔" else None,
+        public=[f"{module}::{call}" for module in ticked(public)],
+        c=names(c, "tracker_" + call),
+        safe=names(safe, call),
         refusals=[int(number) for number in re.findall(r"\d+", refusals)],
         need="" if need == "–" else need,
-        bytes=by_bytes == "✔",
+        bytes=names(by_bytes, call),
         recorded=recorded == "✔",
     )
 
