@@ -85,7 +85,9 @@ def refusals(root):
     """By call: the numbers of the refusals that it can meet, and the need of its answer buffer ('' if it has none)."""
     text = read(root, "crates/machine/specs/Call.antt")
     limits = {name: int(n) for name, n in re.findall(r"^(\w+) = (\d+)$", read(root, "crates/machine/specs/Limits.antt"), re.M)}
-    places = {name for name, value in re.findall(r"^takesPlace \(?(\w+).* = (.*)$", text, re.M) if value != "false" and name != "a"}
+    taken = {role for role, value in re.findall(r"^placeTaken \(?(\w+).* s = (.*)$", text, re.M) if value != "false"}
+    places = {name for name, role in re.findall(r"^roleOf \(?(\w+).* = (\w+)", text, re.M) if role in taken}
+    places |= {name for name, value in re.findall(r"^takesPlace \((\w+).* = (.*)$", text, re.M) if value != "false"}
     found = {"open": ([2, 1], "")}
     for name, form, rest in re.findall(r"^named \(?(\w+)[^=]*= (plain|keyed|entered) (.*)$", text, re.M):
         given = arguments(rest)
