@@ -1,7 +1,7 @@
 //! The tracker's C ABI (../c/tracker.h) as safe Rust. A store is bytes that the caller lends; docs/STORE.md says how
 //! many it needs.
 //!
-//! A refusal is its number in document 01, and then nothing is changed. A call tests, in this order, what its arguments
+//! A refusal is its number in the table of docs/API.md, and then nothing is changed. A call tests, in this order, what its arguments
 //! can meet: 3, the store is not sound; 4, the connection is 0; 5, `now` is above 2^64 - 60,001; 6, more than 100 parents
 //! are given; 7, the answer is shorter than its need; 8, a solicitation that would reply 1 while all places are held.
 //! `open` tests 2, a size out of range, then 1, a store shorter than its need. A reply of 1 is true, one of 0 false.
