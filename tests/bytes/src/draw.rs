@@ -27,8 +27,9 @@ pub struct Draw<'a> {
     pub profile: &'a Profile,
     known: Vec<Hash>,
     connections: Vec<u64>,
-    /// The run's last plan.
+    /// The run's last plan, and what the last claim took.
     pub planned: Planned,
+    pub taken: Vec<Entry>,
 }
 
 #[derive(Default)]
@@ -56,7 +57,7 @@ impl<'a> Draw<'a> {
             known.push(request.key.hash);
             connections.push(request.candidates[rng.index(request.candidates.len())].connection);
         }
-        Self { rng, profile, known, connections, planned: Planned::default() }
+        Self { rng, profile, known, connections, planned: Planned::default(), taken: Vec::new() }
     }
 
     pub fn bytes(&mut self, length: usize) -> Vec<u8> {
