@@ -116,6 +116,11 @@ impl Prepared {
     }
 }
 
+/// Whether the library has the call.
+pub fn has(call: &Call) -> bool {
+    !matches!(call, Call::TeardownPackageClaims { .. } | Call::TransactionNotFound { .. } | Call::Plan { .. })
+}
+
 fn kind(key: &Key) -> u64 {
     u64::from(key.kind == Kind::Wtxid)
 }

@@ -5,7 +5,9 @@ use std::collections::BTreeMap;
 use oracle::Machine;
 use oracle::calls::{Call, Candidate, Hash, Item, Key, Kind, Reply};
 use oracle::random::Rng;
-use oracle::state::{Owner, Request, State};
+use oracle::state::{Owner, Package, Request, State};
+
+use crate::linked;
 
 /// Connections that hold the state, and the one that the calls are about.
 const CONNECTIONS: u64 = 125;
@@ -165,10 +167,83 @@ fn claiming(l: u64) -> Scene {
     )
 }
 
+/// Every third or so request of the table holds a package with two parents, half of them in the queue, and has a second candidate.
+fn tearing(l: u64) -> Scene {
+    let rng = &mut Rng::new(31);
+    let places = (l / 4).min(4_096);
+    let mut state = state(l, places, requests(rng, l - places));
+    let mut held = 0;
+    for request in state.requests.iter_mut().filter(|request| request.key.kind == Kind::Wtxid) {
+        let first = request.candidates[0].connection;
+        if held < places {
+            join(request);
+            request.candidates[1].connection = OWN + held % CONNECTIONS;
+            own(request, first);
+            package(rng, request, held % 2 == 0);
+            held += 1;
+        }
+    }
+    let calls = vec![Call::TeardownPackageClaims { now: NOW }];
+    scene(format!("teardown_package_claims, {held} packages"), state, calls)
+}
+
+fn package(rng: &mut Rng, request: &mut Request, enqueued: bool) {
+    request.package = Some(Package { combined: fresh(rng), wtxids: vec![fresh(rng)], enqueued });
+    request.parents = vec![fresh(rng), fresh(rng)];
+}
+
+/// 1,000 items, of which the connection owns a hundred.
+fn missing(l: u64) -> Scene {
+    let rng = &mut Rng::new(37);
+    let mut state = state(l, 16, requests(rng, l - 100));
+    let picked = spread(rng, state.requests.len());
+    let mut items: Vec<Item> = (0..900).map(|_| Item::WTx(fresh(rng))).collect();
+    for i in &picked[..100] {
+        let request = &mut state.requests[*i];
+        join(request);
+        own(request, OWN);
+        items.push(request.candidates[0].item);
+    }
+    rng.shuffle(&mut items);
+    let calls = vec![Call::TransactionNotFound { connection: OWN, now: NOW, items }];
+    scene("transaction_not_found, 1,000 items, 100 owned", state, calls)
+}
+
+/// A plan over all keys: ready or not; so many owners that are late, with so many parents each.
+fn planning(l: u64, ready: bool, owners: u64, parents: usize) -> Scene {
+    let rng = &mut Rng::new(41);
+    let held = if parents > 0 { l / 2 } else { l };
+    let places = if parents > 0 { owners } else { 16 };
+    let mut state = state(l, places, requests(rng, held));
+    let mut late = 0;
+    for request in &mut state.requests {
+        if !ready {
+            request.candidates[0].ready = LATE;
+        }
+        if late < owners && request.key.kind == Kind::Wtxid {
+            let connection = request.candidates[0].connection;
+            request.owner = Some(Owner { connection, deadline: NOW });
+            request.package_info = parents > 0;
+            request.parents = (0..parents).map(|_| fresh(rng)).collect();
+            late += 1;
+        }
+    }
+    let what = if ready { "all ready" } else { "none ready" };
+    let name = format!("plan, {what}, {late} owners late, {parents} parents each");
+    scene(name, state, vec![Call::Plan { now: NOW, keys: None }])
+}
+
 pub fn all(l: u64) -> Vec<Scene> {
     let mut scenes = plain(l);
     scenes.extend([1, 100, 1_000].into_iter().filter(|count| *count < l).map(|count| announcing(l, count)));
     scenes.extend([(0, 0), (100, 0), (100, 100)].map(|(owned, places)| leaving(l, owned, places)));
     scenes.push(claiming(l));
+    scenes.extend([tearing(l), missing(l)]);
+    let late = (l / 4).min(1_000);
+    scenes.extend(
+        [(false, 0, 0), (true, 0, 0), (true, late, 0), (true, late, 100)]
+            .map(|(ready, owners, parents)| planning(l, ready, owners, parents)),
+    );
+    scenes.retain(|scene| scene.calls.iter().all(linked::has));
     scenes
 }

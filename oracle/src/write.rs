@@ -73,6 +73,10 @@ pub fn hashes(list: &[Hash]) -> String {
     counted(list.len() as u64, list.iter().copied().map(hash))
 }
 
+pub fn numbers(list: &[u64]) -> String {
+    counted(list.len() as u64, list.iter().map(u64::to_string))
+}
+
 fn request(request: &Request) -> String {
     let package = request.package.as_ref().map(|package| {
         let phase = if package.enqueued { "enqueued" } else { "awaiting" };

@@ -105,6 +105,11 @@ fn keys_need(_: &Given, _: [u64; 2]) -> usize {
     KEY * (MAX_PARENTS + 1)
 }
 
+/// Bytes of the keys that package claims list.
+fn claims_need(_: &Given, [_, q]: [u64; 2]) -> usize {
+    KEY * (MAX_PARENTS + 1) * q as usize
+}
+
 /// A key as C names it. Any number but 0 is a Wtxid's kind.
 fn named(key: &Key) -> (u64, &[u8; 32]) {
     let Hash(hash) = &key.hash;

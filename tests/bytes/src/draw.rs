@@ -10,6 +10,7 @@ use oracle::state::State;
 
 use crate::ask::{Ask, ENTRY, Given, HASH_BYTES};
 use crate::calls::{ALL, CLAIM, OPEN};
+use crate::look::Held;
 use crate::profiles::Profile;
 use crate::reference::Reference;
 
@@ -26,8 +27,9 @@ pub struct Draw<'a> {
     pub profile: &'a Profile,
     known: Vec<Hash>,
     connections: Vec<u64>,
-    /// The run's last plan.
+    /// The run's last plan, and what the last claim took.
     pub planned: Planned,
+    pub taken: Vec<Entry>,
 }
 
 #[derive(Default)]
@@ -55,7 +57,7 @@ impl<'a> Draw<'a> {
             known.push(request.key.hash);
             connections.push(request.candidates[rng.index(request.candidates.len())].connection);
         }
-        Self { rng, profile, known, connections, planned: Planned::default() }
+        Self { rng, profile, known, connections, planned: Planned::default(), taken: Vec::new() }
     }
 
     pub fn bytes(&mut self, length: usize) -> Vec<u8> {
@@ -185,6 +187,23 @@ impl<'a> Draw<'a> {
         let key = Key::wtxid(held.hash);
         let owner = seen.owner_of(key).expect("a place has an owner");
         Some(Named { key, connection: owner.connection, deadline: owner.deadline })
+    }
+
+    /// Any place.
+    pub fn package(&mut self, seen: &Reference) -> Option<Held> {
+        let count = seen.places_held();
+        (count > 0).then(|| self.rng.index(count)).map(|i| seen.place(i))
+    }
+
+    /// The places of a connection, as far as they are looked for.
+    pub fn packages_of(&mut self, seen: &Reference, connection: u64) -> Vec<Held> {
+        let count = seen.places_held();
+        let from = self.rng.index(count.max(1));
+        let places = (0..count.min(LOOKED_AT)).map(|n| seen.place((from + n) % count));
+        let owned = places.filter(|held| {
+            seen.owner_of(Key::wtxid(held.hash)).is_some_and(|owner| owner.connection == connection)
+        });
+        owned.collect()
     }
 
     /// A request and its owner as a rule, at times with something else in one's place.

@@ -113,6 +113,11 @@ impl Reference {
         }
     }
 
+    /// Places with a package, Awaiting or Enqueued.
+    pub fn packages(&self) -> impl Iterator<Item = Held> {
+        (0..self.places_held()).map(|i| self.place(i)).filter(|held| held.stage != place::FLAG)
+    }
+
     pub fn place_of(&self, key: Key) -> Option<Held> {
         let (_, hash) = rank(key);
         let at = |words: &[u64; PLACE]| [words[3], words[2], words[1], words[0]];

@@ -32,6 +32,8 @@ pub enum Start {
     Owning,
     /// One or two connections that own nothing and can deliver at any time.
     Unowned,
+    /// Packages of one to three connections, most of them Awaiting, two combined hashes in all.
+    Awaiting,
     /// Reached by calls.
     Walked,
 }
@@ -168,6 +170,14 @@ pub const PROFILES: &[Profile] = &[
         ..PACKAGES
     },
     Profile {
+        name: "packages of one combined hash",
+        sizes: &[(12, 4), (30, 6), (80, 16)],
+        start: Start::Awaiting,
+        connections: 2,
+        calls: 30,
+        ..PACKAGES
+    },
+    Profile {
         name: "connections that own 100",
         sizes: &[(140, 2), (280, 16)],
         start: Start::Owning,
@@ -243,12 +253,16 @@ impl Profile {
             Start::Unowned => {
                 Shape { held: l, connections: 1 + rng.index(2), spread: 1, owned: u64::MAX, ..shape }
             }
+            Start::Awaiting => {
+                Shape { held: l - l / 4, connections: 1 + rng.index(3), places: q, owned: 1, ..shape }
+            }
             Start::Walked => return random::walk(rng, l, q, 40 + less as usize * 40),
         };
         let mut state = random::state(rng, shape);
         match self.start {
             Start::Marked => mark(&mut state),
             Start::Unowned => ready(&mut state),
+            Start::Awaiting => alike(&mut state, rng),
             _ => {}
         }
         state
@@ -268,6 +282,14 @@ impl Profile {
 
 fn ready(state: &mut State) {
     state.requests.iter_mut().flat_map(|request| &mut request.candidates).for_each(|one| one.ready %= 2);
+}
+
+/// Packages that are alike.
+fn alike(state: &mut State, rng: &mut Rng) {
+    let combined = [rng.hash(), rng.hash()];
+    for package in state.requests.iter_mut().filter_map(|request| request.package.as_mut()) {
+        (package.combined, package.enqueued) = (rng.pick(&combined), rng.one_in(5));
+    }
 }
 
 fn mark(state: &mut State) {

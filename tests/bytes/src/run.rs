@@ -2,11 +2,11 @@
 
 use std::time::Instant;
 
-use oracle::calls::LAST_CLOCK;
+use oracle::calls::{Call, LAST_CLOCK, Reply};
 use oracle::image::need;
 use oracle::random::Rng;
 
-use crate::ask::Ask;
+use crate::ask::{Ask, Given};
 use crate::damage::{self, Store};
 use crate::draw::Draw;
 use crate::profiles::{PROFILES, Profile, Start, Theme};
@@ -58,6 +58,10 @@ pub fn run(
             trial.step(&ask)
         };
         done.map_err(|text| about(calls, text))?;
+        if let (Given::On(Call::Claim { .. }), Some(Reply::Entries(taken))) = (&ask.given, trial.reply.take())
+        {
+            draw.taken = taken;
+        }
     }
     trial.end().map_err(|text| about(calls, text))
 }

@@ -34,6 +34,8 @@ pub struct Trial<'a> {
     tail: Vec<u8>,
     machine: Machine,
     pub reference: Reference,
+    /// The reply of the last call that was carried out.
+    pub reply: Option<Reply>,
     since: usize,
 }
 
@@ -47,7 +49,8 @@ impl<'a> Trial<'a> {
         tally.runs += 1;
         tally.limits.insert(state.l);
         tally.places.insert(state.q);
-        Self { call: library, tally, l: state.l, q: state.q, store, tail, machine, reference, since: 0 }
+        let (l, q) = (state.l, state.q);
+        Self { call: library, tally, l, q, store, tail, machine, reference, reply: None, since: 0 }
     }
 
     pub fn step(&mut self, ask: &Ask) -> Result<(), String> {
@@ -135,7 +138,9 @@ impl<'a> Trial<'a> {
                 }
             }
         }
-        Ok(Answer::done(&reply, ask))
+        let answer = Answer::done(&reply, ask);
+        self.reply = Some(reply);
+        Ok(answer)
     }
 
     /// The store is the reference's image as far as the need; the bytes past it are as they were.

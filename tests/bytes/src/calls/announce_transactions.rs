@@ -183,21 +183,25 @@ fn also(call: &Call, seen: &Reference, _: &Reply) -> Vec<&'static str> {
     cases.into_iter().collect()
 }
 
-/// The word of an item's type. Of an other item only the low 32 bits count, and from 2^32 on they may be any.
+/// The word of an item's type. Of an other item the low 32 bits count, which from 2^32 on may be those of a listed type.
 fn type_word(item: Item) -> u64 {
     let (number, Hash(hash)) = item.parts();
     let high = u64::from(hash[3]) << 32;
     match item {
+        Item::Other(6 | 7, _) => high | u64::from(number),
         Item::Other(..) if high != 0 && hash[4] % 2 == 0 => high | [1, 5, 0x4000_0001][hash[5] as usize % 3],
         Item::Other(..) => high | u64::from(number),
         _ => number.into(),
     }
 }
 
+pub fn item_bytes(item: Item) -> Vec<u8> {
+    [&type_word(item).to_le_bytes()[..], &item.parts().1.0].concat()
+}
+
 /// Items and priorities in bytes. The shorter list decides: the other one has more than it by what stands behind.
 fn lists(items: &[(Item, u64)], rest: &[u8]) -> [Vec<u8>; 2] {
-    let bytes = |(item, _): &(Item, u64)| [&type_word(*item).to_le_bytes()[..], &item.parts().1.0].concat();
-    let mut list: Vec<u8> = items.iter().flat_map(bytes).collect();
+    let mut list: Vec<u8> = items.iter().flat_map(|(item, _)| item_bytes(*item)).collect();
     let mut priorities: Vec<u8> = items.iter().flat_map(|(_, priority)| priority.to_le_bytes()).collect();
     list.extend(rest);
     if rest.len() % 2 == 0 {

@@ -117,12 +117,12 @@ fn draw(draw: &mut Draw, seen: &Reference) -> Given {
 }
 
 /// A candidate of the state as an entry.
-fn entry_at(draw: &mut Draw, seen: &Reference) -> Entry {
+pub fn entry_at(draw: &mut Draw, seen: &Reference) -> Entry {
     let i = draw.rng.index(seen.rows().len());
     seen.entry_at(i)
 }
 
-fn change(draw: &mut Draw, entry: &mut Entry) {
+pub fn change(draw: &mut Draw, entry: &mut Entry) {
     let (hash, candidate) = (entry.key.hash, &mut entry.candidate);
     match draw.rng.below(14) {
         0 | 1 => candidate.connection = 0,
@@ -206,7 +206,7 @@ fn passed_over(
 }
 
 /// An entry as C may write it: any number but 0 is a Wtxid's kind and a preference, and a type has 32 bits.
-fn odd(entry: &Entry) -> [u8; ENTRY] {
+pub fn odd(entry: &Entry) -> [u8; ENTRY] {
     let mut bytes = entry_bytes(entry);
     let Hash(hash) = entry.key.hash;
     if hash[6] % 4 == 0 {
