@@ -125,11 +125,8 @@ places-whose lo (r ∷ t) o l = each-append (PlaceFrom lo (r ∷ t)) (placesFor 
         record { from = omega (arith, x .from, o .0); whose = record { held = ap hasPlace a ∙ x .whose .held; is = ap placeIn a ∙ x .whose .is } }
 
 module _ (t : Table) (o : Ordered 0 t) (l : All Lawful t) where
-  pub each-place-whose : Each (PlaceOf t) (placesOf t)
-  each-place-whose = each-map (PlaceFrom 0 t) (PlaceOf t) (placesOf t) (λ p x. x .whose) (places-whose 0 t o l)
-
   pub place-whose : (i : ℕ) (d : Place) → i < length (placesOf t) → PlaceOf t (getD (placesOf t) i d)
-  place-whose i d h = each-at (PlaceOf t) (placesOf t) i d each-place-whose h
+  place-whose i d h = (each-at (PlaceFrom 0 t) (placesOf t) i d (places-whose 0 t o l) h) .whose
 
   -- a request that has a place has it among them
   pub place-stands : (h : ℕ) (d : Place) → hasPlace (at (wtxid h) t) ≡ true

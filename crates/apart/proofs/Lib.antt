@@ -4,4 +4,3 @@ pub mod BareAnnounce
 pub mod BareChoice
 pub mod BarePlaces
 pub mod BareExpiry
-pub mod BareTurn
