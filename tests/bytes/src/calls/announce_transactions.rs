@@ -96,11 +96,11 @@ fn draw(draw: &mut Draw, seen: &Reference) -> Given {
     Given::On(Call::AnnounceTransactions { connection, now, preferred, wtxid_source, items })
 }
 
-/// A connection that can announce a hundred more at most, and one more than these.
+/// A connection that can announce a hundred more at most, and more items than that.
 fn near_last(seen: &Reference) -> Option<(u64, usize)> {
     let entry = seen.entries().iter().max_by_key(|entry| entry[1])?;
     let more = MAX_OF_CONNECTION - entry[1];
-    (1..=100).contains(&more).then_some((entry[0], more as usize + 1))
+    (1..=100).contains(&more).then_some((entry[0], 2 * more as usize + 1))
 }
 
 fn line(given: &Given) -> String {
