@@ -19,6 +19,8 @@ mod owned {
         pub fn tracker_owned_solicit_package_info(store: *mut u8, length: usize, connection: u64, hash: &[u8; 32], parents: *const u8, parents_length: usize, now: u64, reply: &mut u64) -> u64;
         pub fn tracker_owned_disconnected(store: *mut u8, length: usize, connection: u64, now: u64, answer: *mut u8, answer_length: usize, own: &mut u64, parents: &mut u64) -> u64;
         pub fn tracker_owned_claim(store: *mut u8, length: usize, now: u64, checked: *const u8, checked_length: usize, answer: *mut u8, answer_length: usize, taken: &mut u64) -> u64;
+        pub fn tracker_owned_teardown_package_claims(store: *mut u8, length: usize, now: u64, count: &mut u64) -> u64;
+        pub fn tracker_owned_transaction_not_found(store: *mut u8, length: usize, connection: u64, items: *const u8, items_length: usize, now: u64, answer: *mut u8, answer_length: usize, count: &mut u64) -> u64;
         pub fn tracker_owned_sweep(store: *mut u8, length: usize, answer: *mut u8, answer_length: usize, count: &mut u64) -> u64;
         pub fn tracker_owned_announce_transactions(store: *mut u8, length: usize, connection: u64, now: u64, preferred: bool, source: bool, items: *const u8, items_length: usize, priorities: *const u8, priorities_length: usize) -> u64;
     }
@@ -40,6 +42,9 @@ impl Prepared {
                 items.iter().flat_map(|(one, _)| item(*one)).collect(),
                 items.iter().flat_map(|(_, priority)| priority.to_le_bytes()).collect(),
             ),
+            Call::TransactionNotFound { items, .. } => {
+                (items.iter().flat_map(|one| item(*one)).collect(), Vec::new())
+            }
             _ => Default::default(),
         };
         Self { call: call.clone(), list, priorities }
@@ -110,6 +115,22 @@ impl Prepared {
                         more_length,
                     )
                 }
+                Call::TeardownPackageClaims { now } => {
+                    let call = if checked {
+                        abi::tracker_teardown_package_claims
+                    } else {
+                        owned::tracker_owned_teardown_package_claims
+                    };
+                    call(start, length, *now, &mut a)
+                }
+                Call::TransactionNotFound { connection, now, .. } => {
+                    let call = if checked {
+                        abi::tracker_transaction_not_found
+                    } else {
+                        owned::tracker_owned_transaction_not_found
+                    };
+                    call(start, length, *connection, list, list_length, *now, room, room_length, &mut a)
+                }
                 other => unreachable!("{other:?} is not timed"),
             }
         }
@@ -118,7 +139,7 @@ impl Prepared {
 
 /// Whether the library has the call.
 pub fn has(call: &Call) -> bool {
-    !matches!(call, Call::TeardownPackageClaims { .. } | Call::TransactionNotFound { .. } | Call::Plan { .. })
+    !matches!(call, Call::Plan { .. })
 }
 
 fn kind(key: &Key) -> u64 {

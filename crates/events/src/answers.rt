@@ -135,7 +135,11 @@ fn carry_out(store: &mut [u8], w: NumberWord, v: Values) -> outcome::Answer
             v.connection,
             v.clock,
         ),
-        NumberWord::PackageInfoOwner => public_packages::package_info::package_info_owner(store, key, v.clock),
+        NumberWord::PackageInfoOwner => public_packages::package_info::package_info_owner(
+            store,
+            key,
+            v.clock,
+        ),
         NumberWord::PollGate => public_requests::sweeps::poll_gate(store, v.clock),
     }
 }

@@ -240,7 +240,7 @@ impl Profile {
             Start::Full => shape,
             Start::Marked => Shape { held: l, places: 0, ..shape },
             Start::OneConnection => {
-                let less = rng.pick(&[0, 0, less, 100 - less]);
+                let less = rng.pick(&[0, less, 100 - less, 100 - less]);
                 Shape { held: l.min(MAX_OF_CONNECTION) - less, connections: 1, spread: 1, ..shape }
             }
             Start::AllPlaces => {

@@ -20,7 +20,7 @@ const SOURCE_DELAY: u64 = 2_000;
 
 pub static SPEC: Spec = Spec {
     name: "announce_transactions",
-    weights: [10, 12],
+    weights: [14, 12],
     refusals: &[3, 4, 5],
     hands: Hands::Nothing,
     draw,
@@ -84,14 +84,23 @@ fn draw(draw: &mut Draw, seen: &Reference) -> Given {
         2 => draw.rng.index(40),
         _ => 1 + draw.rng.index(5),
     };
-    let new = draw.rng.one_in(3);
+    let owner = draw.request(seen).connection;
+    let connection = if draw.rng.one_in(3) { owner } else { draw.connection() };
+    let last = near_last(seen).filter(|_| draw.rng.one_in(2));
+    let (connection, count) = last.unwrap_or((connection, count));
+    let new = last.is_some() || draw.rng.one_in(3);
     let items = (0..count)
         .map(|_| (if new { Item::WTx(draw.rng.hash()) } else { draw.item() }, draw.rng.word()))
         .collect();
-    let owner = draw.request(seen).connection;
-    let connection = if draw.rng.one_in(3) { owner } else { draw.connection() };
     let (now, preferred, wtxid_source) = (draw.clock(), draw.rng.one_in(2), draw.rng.one_in(2));
     Given::On(Call::AnnounceTransactions { connection, now, preferred, wtxid_source, items })
+}
+
+/// A connection that can announce a hundred more at most, and more items than that.
+fn near_last(seen: &Reference) -> Option<(u64, usize)> {
+    let entry = seen.entries().iter().max_by_key(|entry| entry[1])?;
+    let more = MAX_OF_CONNECTION - entry[1];
+    (1..=100).contains(&more).then_some((entry[0], 2 * more as usize + 1))
 }
 
 fn line(given: &Given) -> String {
