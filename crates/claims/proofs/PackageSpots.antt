@@ -31,7 +31,7 @@ use Rattle.store.proofs.Window.{places-sorted}
 use Rattle.requests.specs.Changes.{Shorn}
 use Rattle.packages.specs.Changes.{stageOf, hasPlace}
 use Rattle.packages.specs.Records.{placeHashes}
-use Rattle.packages.proofs.Seeking.{placeIn, txid-stage, head-hash, head-stage, hash-at, missing, tested, its-place}
+use Rattle.packages.proofs.Seeking.{txid-stage, head-hash, head-stage, hash-at, missing, tested, its-place}
 use Rattle.claims.specs.Torn.{packagedRow, PackageAt}
 use Rattle.claims.proofs.TornTables.{staged}
 
@@ -120,7 +120,8 @@ module _ {b : List ℕ} (r : Row) where
       bare-stage true none z = refl
       bare-stage false none z = refl
 
-  pub wtxid-row : (r .bits % 2 ≡ 0 → ⊥) → {held : Bool} → PackageAt b (hashAt r) held → (st : State) (xs ls : List Row) → Sound st → Shorn b st xs ls → hashAt r < top → held ≡ packagedRow (st .table) r
+  pub wtxid-row : (r .bits % 2 ≡ 0 → ⊥) → {held : Bool} → PackageAt b (hashAt r) held
+      → (st : State) (xs ls : List Row) → Sound st → Shorn b st xs ls → hashAt r < top → held ≡ packagedRow (st .table) r
   wtxid-row e p st xs ls s h small = p st xs ls s h small ∙ ap (λ (k : Key). isSome ((at k (st .table)) .«package»)) (sym key)
     where
       key : keyAt r ≡ wtxid (hashAt r)

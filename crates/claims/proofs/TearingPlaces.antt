@@ -2,7 +2,6 @@
 -- Assumes nothing.
 use Prim.Native.Nat.{ℕ, _+_, _≤_, _<_}
 use mathlib.Core.Path.{_≡_, refl, sym, ap, subst, _∙_}
-use mathlib.Core.Logic.{inl, inr}
 use mathlib.Core.Bool.{Bool, true, false}
 use mathlib.Core.List.{List, [], _∷_, _++_, map, append-nil}
 use native.Mathlib.Numerals.{add-one}
@@ -19,8 +18,7 @@ use Rattle.machine.specs.Table.{one}
 use Rattle.machine.specs.State.{Table, State, onTable}
 use Rattle.machine.specs.Package.{Torn, teardown}
 use Rattle.machine.specs.Sound.{Sound}
-use Rattle.machine.proofs.Tests.{test}
-use Rattle.store.specs.Flat.{Flat, rowsOf, tally}
+use Rattle.store.specs.Flat.{Flat, tally}
 use Rattle.store.specs.Image.{Shows, Writes}
 use Rattle.store.specs.Shown.{heldPlacesIn, withPlaces, Turns, Shown}
 use Rattle.store.specs.Stamps.{mapIn}
@@ -42,7 +40,9 @@ module _ {b : List ℕ} {i : ℕ} (c : ℕ) {x : Head} (r : (f : Flat) (d : Plac
   place-goes l {b′} t = record {
     most = omega arith;
     count = λ f d h. sym (ap (λ (y : Bool). c + one y) (is f d h));
-    place = λ f d h m. subst (λ (p : Place). Shows b′ (withPlaces (set (f .places) i p) f)) (sym (ap (λ (y : Bool). if y then withStage 0 (getD (f .places) i d) else getD (f .places) i d) (is f d h))) (t d f h);
+    place = λ f d h m.
+        let p = getD (f .places) i d in
+        subst (λ (x : Place). Shows b′ (withPlaces (set (f .places) i x) f)) (sym (ap (λ (y : Bool). if y then withStage 0 p else p) (is f d h))) (t d f h);
   }
     where
       is : (f : Flat) (d : Place) → Shows b f → isPackage (getD (f .places) i d) ≡ true
@@ -52,7 +52,10 @@ module _ {b : List ℕ} {i : ℕ} (c : ℕ) {x : Head} (r : (f : Flat) (d : Plac
   place-stays l = record {
     most = omega arith;
     count = λ f d h. let e = ap (λ (y : Bool). c + one y) (is f d h) in omega (arith, e);
-    place = λ f d h m. subst (λ (ps : List Place). Shows b (withPlaces ps f)) (sym (ap (λ (y : Bool). set (f .places) i (if y then withStage 0 (getD (f .places) i d) else getD (f .places) i d)) (is f d h) ∙ set-getD (f .places) i d)) h;
+    place = λ f d h m.
+        let p = getD (f .places) i d in
+        let same = ap (λ (y : Bool). set (f .places) i (if y then withStage 0 p else p)) (is f d h) ∙ set-getD (f .places) i d in
+        subst (λ (ps : List Place). Shows b (withPlaces ps f)) (sym same) h;
   }
     where
       is : (f : Flat) (d : Place) → Shows b f → isPackage (getD (f .places) i d) ≡ false
@@ -103,13 +106,18 @@ module _ {b₀ b : List ℕ} {i c : ℕ} (g : Marking b₀ b i c) where
             let q = t .count (withPlaces (mapIn tornPlace 0 i (f .places)) f) d (g .places f w) in
             let same = map-read tornPlace 0 (f .places) i (omega arith) j d in
             let one-more : length (filter isPackage (take (i + 1) (f .places))) ≡ length (filter isPackage (take i (f .places))) + one (isPackage p) =
-            ap (λ (x : List Place). length (filter isPackage x)) (rw (add-one i) (take-suc (f .places) i d j)) ∙ ap length (filter-append isPackage (take i (f .places)) (p ∷ [])) ∙ length-append (filter isPackage (take i (f .places))) (filter isPackage (p ∷ [])) ∙ ap (λ (x : ℕ). length (filter isPackage (take i (f .places))) + x) (single p) in
+            ap (λ (x : List Place). length (filter isPackage x)) (rw (add-one i) (take-suc (f .places) i d j))
+            ∙ ap length (filter-append isPackage (take i (f .places)) (p ∷ []))
+            ∙ length-append (filter isPackage (take i (f .places))) (filter isPackage (p ∷ []))
+            ∙ ap (λ (x : ℕ). length (filter isPackage (take i (f .places))) + x) (single p) in
             q ∙ ap (λ (x : Place). c + one (isPackage x)) same ∙ ap (λ (x : ℕ). x + one (isPackage p)) (g .count f w) ∙ sym one-more;
         places = λ f w.
             let u = sizes w in
             let j : i < length (f .places) = omega arith in
             let n = length-mapIn tornPlace 0 (f .places) i (omega arith) (omega arith) in
-            subst (λ (ps : List Place). Shows b′ (withPlaces ps f)) (ap (λ (x : Place). set (mapIn tornPlace 0 i (f .places)) i (tornPlace x)) (map-read tornPlace 0 (f .places) i (omega arith) j d) ∙ map-more tornPlace 0 (f .places) i (omega arith) j d)
+            let read = map-read tornPlace 0 (f .places) i (omega arith) j d in
+            let next = ap (λ (x : Place). set (mapIn tornPlace 0 i (f .places)) i (tornPlace x)) read ∙ map-more tornPlace 0 (f .places) i (omega arith) j d in
+            subst (λ (ps : List Place). Shows b′ (withPlaces ps f)) next
             (t .place (withPlaces (mapIn tornPlace 0 i (f .places)) f) d (g .places f w) (omega arith));
       }
     where
@@ -127,7 +135,10 @@ module _ {b₀ b : List ℕ} {i c : ℕ} (g : Marking b₀ b i c) where
   }
     where
       whole : (ps : List Place) → length ps ≤ i → mapIn tornPlace 0 i ps ≡ map tornPlace ps
-      whole ps h = unfold mapIn in (ap (λ (x : List Place). map tornPlace x ++ drop i ps) (take-all i ps h) ∙ ap (λ (x : List Place). map tornPlace ps ++ x) (drop-of-length-le ps h) ∙ append-nil (map tornPlace ps))
+      whole ps h = unfold mapIn in (
+          ap (λ (x : List Place). map tornPlace x ++ drop i ps) (take-all i ps h)
+          ∙ ap (λ (x : List Place). map tornPlace ps ++ x) (drop-of-length-le ps h)
+          ∙ append-nil (map tornPlace ps))
 
 -- ---- rows, then places
 
@@ -137,5 +148,6 @@ cleared {b} {b₁} {b₂} {r} now late h p = record {
   table = λ st s w.
       let t = st .table in
       let rows = rows-left now t (s .bounded .ordered) (s .bounded .lawful) (distinct-in t (s .bounded .once)) in
-      subst (λ (x : Table). Writes b₂ (onTable x st)) (sym (ap (λ (a : Torn). a .table) (teardown-is now late t (s .bounded)))) (writes-by st (tornAll now t) rows (ap tally rows) (places-left now t (s .bounded .lawful)) (p .places _ (h st s w)));
+      let made = writes-by st (tornAll now t) rows (ap tally rows) (places-left now t (s .bounded .lawful)) (p .places _ (h st s w)) in
+      subst (λ (x : Table). Writes b₂ (onTable x st)) (sym (ap (λ (a : Torn). a .table) (teardown-is now late t (s .bounded)))) made;
 }

@@ -60,7 +60,13 @@ pub kept-there : {b : List ℕ} {m i : ℕ} {r : Row} → m ≡ i → ((f : Flat
 kept-there {b} {m} {i} {r} e row f h = subst (λ (rs : List Row). Shows b (withRows rs f)) (sym (ap (λ (j : ℕ). set (f .rows) j r) e ∙ ap (set (f .rows) i) (row f r h) ∙ set-getD (f .rows) i r)) h
 
 -- as the code tests it
-module _ {b : List ℕ} (now m i : ℕ) {r₀ : Row} (row : (f : Flat) (d : Row) → Shows b f → r₀ ≡ getD (f .rows) i d) {held : Bool} (found : (st : State) (xs ls : List Row) → Sound st → Shorn b st xs ls → hashAt r₀ < top → held ≡ packagedRow (st .table) r₀) where
+abbrev Reads : List ℕ → ℕ → Row → Type 0
+Reads b i r = (f : Flat) (d : Row) → Shows b f → r ≡ getD (f .rows) i d
+
+abbrev Finds : List ℕ → Row → Bool → Type 0
+Finds b r held = (st : State) (xs ls : List Row) → Sound st → Shorn b st xs ls → hashAt r < top → held ≡ packagedRow (st .table) r
+
+module _ {b : List ℕ} (now m i : ℕ) {r₀ : Row} (row : Reads b i r₀) {held : Bool} (found : Finds b r₀ held) where
   module _ (st : State) (xs ls : List Row) (r : Row) (s : Sound st) (h : Shorn b st xs ls) (e : getD xs i r ≡ r) (small : hashAt r < top) where
     is-row : r₀ ≡ r
     is-row = row _ r h ∙ e
@@ -185,11 +191,17 @@ module _ {b₀ b : List ℕ} {now i m : ℕ} (c : Tearing b₀ b now i m) where
           let small : hashAt r < top = number-top (r .hash) ((each-at RowFits rs i none ((flat-sound st s) .rows-fit) n) .hash) in
           let now-are : Shorn b st xs (F ++ (r ∷ D)) = subst (λ (x : List Row). Shorn b st xs (F ++ x)) split (g .shorn) in
           let count = t .count st xs (F ++ (r ∷ D)) r s now-are here small in
-          let longer : each (tornRow now (st .table)) (take (i + 1) rs) ≡ F ++ T = ap (λ (x : List Row). each (tornRow now (st .table)) x) (rw (add-one i) (take-suc rs i none n)) ∙ each-append (tornRow now (st .table)) (take i rs) (r ∷ []) ∙ ap (λ (x : List Row). F ++ x) (single (tornRow now (st .table)) r) in
+          let keep = tornRow now (st .table) in
+          let longer : each keep (take (i + 1) rs) ≡ F ++ T =
+          ap (each keep) (rw (add-one i) (take-suc rs i none n)) ∙ each-append keep (take i rs) (r ∷ []) ∙ ap (λ (x : List Row). F ++ x) (single keep r) in
           record {
             rows = putAt m T xs;
             long = put-long m T xs ∙ g .long;
-            front = ap (λ (j : ℕ). take j (putAt m T xs)) count ∙ put-front m T xs (row-short now (st .table) r) (omega (arith, g .long, c .less)) ∙ ap (λ (x : List Row). x ++ T) (g .front) ∙ sym longer;
+            front =
+                ap (λ (j : ℕ). take j (putAt m T xs)) count
+                ∙ put-front m T xs (row-short now (st .table) r) (omega (arith, g .long, c .less))
+                ∙ ap (λ (x : List Row). x ++ T) (g .front)
+                ∙ sym longer;
             rest = put-rest m i T xs (c .less) ∙ sym (drop-drop 1 i xs) ∙ ap (drop 1) (g .rest) ∙ drop-drop 1 i rs;
             shorn = subst (λ (x : List Row). Shorn b′ st (putAt m T xs) x) (sym (ap (λ (x : List Row). x ++ D) longer ∙ append-assoc F T D)) (t .rows st xs F r D s now-are here small);
           }
@@ -207,7 +219,8 @@ module _ {b₀ b : List ℕ} {now i m : ℕ} (c : Tearing b₀ b now i m) where
       let R = tornRows now (st .table) in
       let front : take m (g .rows) ≡ R = g .front ∙ ap (each (tornRow now (st .table))) all in
       let cut : removeRange m n (g .rows) ≡ R = range-front m n (g .rows) (omega (arith, g .long)) ∙ front in
-      let live : each (tornRow now (st .table)) (take i rs) ++ drop i rs ≡ R = ap (λ (x : List Row). each (tornRow now (st .table)) (take i rs) ++ x) none ∙ append-nil _ ∙ ap (each (tornRow now (st .table))) all in
+      let F = each (tornRow now (st .table)) (take i rs) in
+      let live : F ++ drop i rs ≡ R = ap (λ (x : List Row). F ++ x) none ∙ append-nil F ∙ ap (each (tornRow now (st .table))) all in
       subst (λ (x : List Row). Shorn b′ st x R) cut (subst (λ (x : List Row). Shorn b′ st (removeRange m n (g .rows)) x) live (turn _ (g .shorn)))
     where
       range-front : (a b : ℕ) (xs : List Row) → length xs ≤ b → removeRange a b xs ≡ take a xs

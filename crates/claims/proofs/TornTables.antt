@@ -1,6 +1,6 @@
 -- The rows and the places of the table that teardown_package_claims leaves.
 -- Assumes nothing.
-use Prim.Native.Nat.{ℕ, suc, _+_, _≤_, _<_}
+use Prim.Native.Nat.{ℕ, suc, _+_, _≤_}
 use mathlib.Core.Path.{_≡_, refl, sym, ap, _∙_}
 use mathlib.Core.Logic.{inl, inr}
 use mathlib.Core.Bool.{Bool, true, false}
@@ -62,7 +62,9 @@ found-all lo (q ∷ t) o = (
 -- who owns it leaves it
 left-is : (now : ℕ) (q : Request) (o : Owner) → q .owner ≡ some o → left (o .connection) now q ≡ withCandidates (map (readyAt now) (without (o .connection) (q .candidates))) (unowned q)
 unfolding left
-left-is now q o own = ap (λ (b : Bool). withCandidates (map (readyAt now) (without (o .connection) (q .candidates))) (if b then unowned q else q)) (ap (ownerIs (o .connection)) own ∙ eq-eqb (o .connection) (o .connection) refl)
+left-is now q o own =
+    ap (λ (b : Bool). withCandidates (map (readyAt now) (without (o .connection) (q .candidates))) (if b then unowned q else q))
+    (ap (ownerIs (o .connection)) own ∙ eq-eqb (o .connection) (o .connection) refl)
 
 module _ (now : ℕ) (T : Table) (q : Request) (f : (k : Key) → place k ≡ place (q .key) → at k T ≡ q) where
   row-packaged : (c : Candidate) → packagedRow T (rowOf q c) ≡ isSome (q .«package»)
@@ -90,7 +92,9 @@ module _ (now : ℕ) (T : Table) (q : Request) (f : (k : Key) → place k ≡ pl
 
     -- a row, by what it says of the owner
     mk : Candidate → ℕ → Bool → Row
-    mk c d w = record { hash = quadOf (q .key .hash); conn = c .connection; ready = now; prio = c .priority; deadline = d; bits = bitsOf (q .key .kind) (witnessBit (c .item .kind)) (c .preferred) w (q .fallback) }
+    mk c d w =
+        let bits = bitsOf (q .key .kind) (witnessBit (c .item .kind)) (c .preferred) w (q .fallback) in
+        record { hash = quadOf (q .key .hash); conn = c .connection; ready = now; prio = c .priority; deadline = d; bits = bits }
 
     readied : (c : Candidate) → eqb (o .connection) (c .connection) ≡ false → withReady now (rowOf q c) ≡ rowOf (unowned q) (readyAt now c)
     unfolding rowOf mk
@@ -135,7 +139,9 @@ module _ (now : ℕ) (T : Table) (q : Request) (f : (k : Key) → place k ≡ pl
 
     torn-owned : Distinct (q .candidates) → each (tornRow now T) (rowsFor q) ≡ rowsFor (left (o .connection) now q)
     unfolding rowsFor
-    torn-owned d = torn-cands (q .candidates) d ∙ sym (ap (λ (r : Request). map (rowOf r) (r .candidates)) (left-is now q o own) ∙ with-cands (map (readyAt now) (without (o .connection) (q .candidates))) (map (readyAt now) (without (o .connection) (q .candidates))))
+    torn-owned d =
+        let cs = map (readyAt now) (without (o .connection) (q .candidates)) in
+        torn-cands (q .candidates) d ∙ sym (ap (λ (r : Request). map (rowOf r) (r .candidates)) (left-is now q o own) ∙ with-cands cs cs)
       where
         with-cands : (xs cs : List Candidate) → map (rowOf (withCandidates xs (unowned q))) cs ≡ map (rowOf (unowned q)) cs
         with-cands xs cs = unfold rowOf in refl
@@ -247,7 +253,11 @@ places-left now (q ∷ t) l =
 pub packages-are : (t : Table) → length (filter isPackage (placesOf t)) ≡ length (packageKeys t)
 unfolding packageKeys each placesFor
 packages-are [] = unfold filter in refl
-packages-are (q ∷ t) = ap length (filter-append isPackage (placeFor q (q .info) (q .«package»)) (placesOf t)) ∙ length-append (filter isPackage (placeFor q (q .info) (q .«package»))) (filter isPackage (placesOf t)) ∙ go (q .info) (q .«package») (packages-are t)
+packages-are (q ∷ t) =
+    let ps = placeFor q (q .info) (q .«package») in
+    ap length (filter-append isPackage ps (placesOf t))
+    ∙ length-append (filter isPackage ps) (filter isPackage (placesOf t))
+    ∙ go (q .info) (q .«package») (packages-are t)
   where
     go : (i : Bool) (p : Option Package) → length (filter isPackage (placesOf t)) ≡ length (packageKeys t)
         → length (filter isPackage (placeFor q i p)) + length (filter isPackage (placesOf t)) ≡ length (if isSome p then q .key ∷ packageKeys t else packageKeys t)

@@ -4,20 +4,20 @@ use Prim.Native.Nat.{ℕ, suc, _≤_, _<_}
 use mathlib.Core.Path.{_≡_, refl, sym, ap, subst, _∙_}
 use mathlib.Core.Logic.{inl, inr}
 use mathlib.Core.Bool.{Bool, true, false}
-use mathlib.Core.List.{List, [], _∷_, _++_}
+use mathlib.Core.List.{List, [], _∷_}
 use mathlib.Core.Option.{Option, none, some}
 use native.Mathlib.Omega.{arith}
 use lib.Dec.{eqb}
 use lib.ListN.{length}
-use borrow.Author.Tests.{eqb-true, eqb-false, eq-eqb, ne-eqb, le-ltb}
+use borrow.Author.Tests.{eq-eqb, ne-eqb, le-ltb}
 use Rattle.ident.specs.If.{if_then_else_}
-use Rattle.ident.specs.Number.{top, Key, place, wtxid, other}
+use Rattle.ident.specs.Number.{top, Key, place, other}
 use Rattle.machine.specs.Limits.{Limits, word}
-use Rattle.machine.specs.State.{Owner, Package, Request, Table, State, limitsOf, onTable, ownerIs, isSome}
+use Rattle.machine.specs.State.{Owner, Request, Table, ownerIs, isSome}
 use Rattle.machine.specs.Table.{at, keep, change}
 use Rattle.machine.specs.Fail.{left}
 use Rattle.machine.specs.Package.{packageKeys, leftIfOwned, Torn, tearOne, tearEach, teardown}
-use Rattle.machine.specs.Sound.{Ordered, All, Lawful, Bounded, Sound}
+use Rattle.machine.specs.Sound.{Ordered, All, Lawful, Bounded}
 use Rattle.machine.specs.Typed.{Each}
 use Rattle.machine.proofs.Tests.{test, never}
 use Rattle.machine.proofs.Table.{lawful-at, ordered-change, filled-change}
@@ -27,7 +27,7 @@ use Rattle.machine.proofs.Package.{shrinks-leftIfOwned, bounded-tearOne}
 use Rattle.packages.specs.Changes.{ownerNum}
 use Rattle.failing.proofs.Fusing.{change-same, change-none}
 use Rattle.claims.specs.Torn.{quit, tornAll}
-use Rattle.claims.proofs.Tearing.{owned, wtxid-key, quit-bare, absent-bare, torn-step, keys-keep, keys-step, cons-some, torn-none, keys-from}
+use Rattle.claims.proofs.Tearing.{owned, quit-bare, torn-step, keys-keep, cons-some, torn-none, keys-from}
 
 -- ---- the first package
 
