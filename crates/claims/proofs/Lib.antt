@@ -6,3 +6,7 @@ pub mod Naming
 pub mod Listing
 pub mod Tearing
 pub mod Undoing
+pub mod TornTables
+pub mod PackageSpots
+pub mod TearingRows
+pub mod TearingPlaces

@@ -21,9 +21,6 @@ use Rattle.machine.specs.Sound.{Ordered, All, Filled, Lawful}
 use Rattle.machine.specs.Typed.{Each}
 use Rattle.machine.proofs.Tests.{test, never}
 use Rattle.machine.proofs.Table.{at-absent}
-use Rattle.machine.proofs.At.{KeepsKey}
-use Rattle.machine.proofs.Loosened.{left-key}
-use Rattle.packages.specs.Changes.{ownerNum}
 use Rattle.packages.proofs.Seeking.{holding}
 use Rattle.claims.specs.Torn.{quit, tornIn, tornAll}
 
@@ -55,9 +52,6 @@ unfolding keep tornAll
 torn-keep v r [] t e c = refl
 torn-keep v r (x ∷ cs) t e c = ap (λ (y : Request). keep y (y .candidates) (tornAll v t)) e ∙ ap (λ (y : List Candidate). keep r y (tornAll v t)) c
 
-pub quit-key : (v : ℕ) → KeepsKey (quit v)
-quit-key v r = left-key (ownerNum (r .owner)) v r
-
 -- ---- one key, and the one pass
 
 pub absent-bare : (k : Key) (lo : ℕ) (t : Table) → place k < lo → Ordered lo t → isSome ((at k t) .«package») ≡ true → ⊥
@@ -80,23 +74,6 @@ pub keys-keep : (r : Request) (cs : List Candidate) (t : Table) → r .«package
 unfolding keep packageKeys
 keys-keep r [] t e = refl
 keys-keep r (c ∷ cs) t e = rw e
-
--- one package less
-pub keys-step : (k : Key) (v lo : ℕ) (t : Table) → Ordered lo t → All Lawful t → isSome ((at k t) .«package») ≡ true → suc (length (packageKeys (change k (quit v) t))) ≡ length (packageKeys t)
-unfolding change at packageKeys
-keys-step k v lo [] o l e = never e
-keys-step k v lo (q ∷ t) o l e =
-    elim (test (ltb (place k) (place (q .key)))) [
-      | inl a ↦ absurd (absent-bare k (place (q .key)) (q ∷ t) (ltb-true _ _ a) (omega arith, o .1, o .2) e)
-      | inr a ↦ rw a (elim (test (eqb (place k) (place (q .key)))) [
-        | inl d ↦ let p : isSome (q .«package») ≡ true = rw d at e in
-            rw (d, p) (ap (λ (x : List Key). suc (length x)) (keys-keep (quit v q) ((quit v q) .candidates) t (quit-bare v q (q .owner) refl (owned q (l .0) p))))
-        | inr d ↦ rw d (elim (test (isSome (q .«package»))) [
-          | inl p ↦ rw p (ap suc (keys-step k v _ t (o .2) (l .1) (rw d at e)))
-          | inr p ↦ rw p (keys-step k v _ t (o .2) (l .1) (rw d at e))
-        ])
-      ])
-    ]
 
 keep-filled : (r : Request) (cs : List Candidate) (t : Table) → 1 ≤ length cs → keep r cs t ≡ r ∷ t
 unfolding keep

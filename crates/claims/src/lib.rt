@@ -8,6 +8,7 @@ ghost use Rattle.store.specs.Shown.{Kept};
 ghost use Rattle.requests.specs.Changes.{Tells};
 ghost use Rattle.claims.specs.Changes.{MakesWithin};
 
+pub mod packaged;
 pub mod teardown;
 pub mod waiting;
 

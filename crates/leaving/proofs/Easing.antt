@@ -167,7 +167,9 @@ drop-plain m n now k t s o w e h =
 
     silent : Silent n (at k t) → announced (parentsFor n (at k t)) ((at k (leaves k n now t)) .candidates) (leaves k n now t) ≡ nothing (leaves k n now t)
     silent (inl z) = ap (λ (hs : List ℕ). announced hs ((at k (leaves k n now t)) .candidates) (leaves k n now t)) z ∙ nobody [] true (leaves k n now t)
-    silent (inr z) = ap (λ (cs : List Candidate). announced (parentsFor n (at k t)) cs (leaves k n now t)) (left-alone n now k t s o z) ∙ nobody (parentsFor n (at k t)) (isEmpty (parentsFor n (at k t))) (leaves k n now t)
+    silent (inr z) =
+        ap (λ (cs : List Candidate). announced (parentsFor n (at k t)) cs (leaves k n now t)) (left-alone n now k t s o z)
+        ∙ nobody (parentsFor n (at k t)) (isEmpty (parentsFor n (at k t))) (leaves k n now t)
 
 drop-next : (m : Limits) (n now : ℕ) (k : Key) (js : List Key) (t x : Table) → dropAt m n now k t ≡ nothing x → dropEach m n now (k ∷ js) t ≡ dropEach m n now js x
 unfolding dropEach

@@ -16,7 +16,7 @@ use Rattle.machine.specs.Limits.{Limits, word}
 use Rattle.machine.specs.State.{Candidate, Owner, Request, Table, State, onTable, unowned, readyAt, ownerIs}
 use Rattle.machine.specs.Table.{at, change, has, countIn}
 use Rattle.machine.specs.Announce.{without}
-use Rattle.machine.specs.Fail.{releasable, left, unclaim, parentsFor}
+use Rattle.machine.specs.Fail.{releasable, left, unclaim}
 use Rattle.machine.specs.Sound.{AllFit, OwnerFits, Sound, Bounded}
 use Rattle.machine.proofs.Tests.{never, and-left}
 use Rattle.machine.proofs.Table.{lawful-at}
@@ -117,7 +117,8 @@ module _ {b : List ℕ} (n now : ℕ) (k : Key) where
   pub waits-not : Tells b (λ t. ownerIs n ((at k t) .owner) ≡ true) → Waits n now k b b false
   waits-not f = record { rests = λ e. never e; same = λ e. refl; owns = λ e. f }
 
-  pub waits-eased : {b₁ : List ℕ} → Tells b (λ t. releasable n (at k t) ≡ true) → Tells b (λ t. ownerIs n ((at k t) .owner) ≡ true → Silent n (at k t)) → Makes b b₁ (λ t. Unit {0}) (eased n now k) → Waits n now k b b₁ true
+  pub waits-eased : {b₁ : List ℕ} → Tells b (λ t. releasable n (at k t) ≡ true) → Tells b (λ t. ownerIs n ((at k t) .owner) ≡ true → Silent n (at k t))
+      → Makes b b₁ (λ t. Unit {0}) (eased n now k) → Waits n now k b b₁ true
   waits-eased f g h = record { rests = λ e st s w. inr (f st s w, g st s w (and-left _ _ (f st s w)), h st s w tt); same = λ e. never (sym e); owns = λ e. never (sym e) }
 
 pub no-parents : {p : ℕ} (u : List ℕ) {hs : List ℕ} → p ≡ 0 → firstHashes p u ≡ hs → hs ≡ []

@@ -51,7 +51,10 @@ module _ (q : Request) (t : Table) where
   first-says : (lo : ℕ) → lo ≤ place (q .key) → (c : Candidate) → Says (q ∷ t) lo (rowOf q c)
   first-says lo l c = record {
     least = let e = ap place (key-row q c) in omega arith;
-    owner = λ k e. owns-row q c ∙ ap (λ (x : Request). ownerIs (c .connection) (x .owner)) (sym (at-first k (e ∙ ap place (key-row q c)))) ∙ ap (λ (n : ℕ). ownerIs n ((at k (q ∷ t)) .owner)) (sym (conn-row q c));
+    owner = λ k e.
+        owns-row q c
+        ∙ ap (λ (x : Request). ownerIs (c .connection) (x .owner)) (sym (at-first k (e ∙ ap place (key-row q c))))
+        ∙ ap (λ (n : ℕ). ownerIs n ((at k (q ∷ t)) .owner)) (sym (conn-row q c));
   }
 
   firsts : (lo : ℕ) → lo ≤ place (q .key) → (cs : List Candidate) → Each (Says (q ∷ t) lo) (map (rowOf q) cs)
@@ -67,7 +70,9 @@ module _ (q : Request) (t : Table) where
 rows-say : (lo : ℕ) (t : Table) → Ordered lo t → Each (Says t lo) (rowsOf t)
 unfolding each rowsFor
 rows-say lo [] o = tt
-rows-say lo (q ∷ t) o = says-both (Says (q ∷ t) lo) (map (rowOf q) (q .candidates)) (rowsOf t) (firsts q t lo (o .0) (q .candidates)) (each-by (rowsOf t) (later-says q t lo (o .0)) (rows-say (suc (place (q .key))) t (o .2)))
+rows-say lo (q ∷ t) o =
+    says-both (Says (q ∷ t) lo) (map (rowOf q) (q .candidates)) (rowsOf t) (firsts q t lo (o .0) (q .candidates))
+    (each-by (rowsOf t) (later-says q t lo (o .0)) (rows-say (suc (place (q .key))) t (o .2)))
 
 conn-at : (rs : List Row) (i : ℕ) (d : Row) → i < length rs → getD (rowConns rs) i 0 ≡ (getD rs i d) .conn
 conn-at [] i d l = absurd (omega arith)
@@ -75,7 +80,8 @@ conn-at (r ∷ rs) zero d l = refl
 conn-at (r ∷ rs) (suc i) d l = conn-at rs i d (omega arith)
 
 -- the row of n under the key k
-pub row-says : (st : State) → Sound st → (n : ℕ) (k : KeyGiven) {key : RowKey} → KeyWords k key → {i : ℕ} {r : Row} → i < length (rowsOf (st .table)) → r ≡ getD (rowsOf (st .table)) i r → getD (rowConns (rowsOf (st .table))) i 0 ≡ n → keyNumber (rowKeyOf r) ≡ keyNumber key
+pub row-says : (st : State) → Sound st → (n : ℕ) (k : KeyGiven) {key : RowKey} → KeyWords k key → {i : ℕ} {r : Row} → i < length (rowsOf (st .table)) → r ≡ getD (rowsOf (st .table)) i r
+    → getD (rowConns (rowsOf (st .table))) i 0 ≡ n → keyNumber (rowKeyOf r) ≡ keyNumber key
     → eqb (r .bits / 8 % 2) 1 ≡ ownerIs n ((at (keyNum k) (st .table)) .owner)
 row-says st s n k {key} w {i} {r} l e c same =
     let t = st .table in
