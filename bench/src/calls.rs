@@ -1,7 +1,7 @@
 //! The calls: the library's, checked and for the owner of a store, beside the Rust's, on the same arguments in the same states.
 
 use std::hint::black_box;
-use std::time::{Duration, Instant};
+use std::time::Duration;
 
 use oracle::Machine;
 use oracle::calls::{Call, Reply};
@@ -9,7 +9,7 @@ use oracle::image::image;
 
 use crate::linked::{Prepared, Side};
 use crate::scenes::{Scene, all};
-use crate::timing::{median, micros};
+use crate::timing::{median, micros, processor_time};
 
 /// Bytes of an answer buffer that every timed call fits in.
 const ANSWER: usize = 40 * (5_000 + 100 * 4_096);
@@ -30,23 +30,23 @@ impl Ready {
 
     fn rust(&self, after: &mut Vec<u8>) -> Duration {
         let mut machine = self.machine.clone();
-        let start = Instant::now();
+        let start = processor_time();
         for call in &self.calls {
             let reply = machine.call(black_box(call));
             assert!(!matches!(reply, Reply::Refused(_)), "refused: {call:?}");
         }
-        let time = start.elapsed();
+        let time = processor_time() - start;
         *after = image(&machine.state());
         time
     }
 
     fn library(&self, side: Side, answer: &mut [u8], after: &[u8]) -> Duration {
         let mut store = self.image.clone();
-        let start = Instant::now();
+        let start = processor_time();
         for call in &self.prepared {
             assert_eq!(black_box(call).run(side, &mut store, answer), 0);
         }
-        let time = start.elapsed();
+        let time = processor_time() - start;
         assert!(store == after, "the library and the Rust differ");
         time
     }

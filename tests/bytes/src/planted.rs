@@ -131,7 +131,7 @@ fn trial(seed: u64, library: &mut dyn FnMut(&mut [u8], &Ask) -> Answer) -> (u64,
 /// Runs for each planted error.
 const TRIALS: u64 = 28;
 /// Runs in one of which a mistaken rule is found.
-const MISTAKE_TRIALS: u64 = 200;
+const MISTAKE_TRIALS: u64 = 400;
 /// An error waits for a call before this one.
 const LATEST: u64 = 120;
 

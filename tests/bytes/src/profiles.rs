@@ -32,7 +32,7 @@ pub enum Start {
     Owning,
     /// One or two connections that own nothing and can deliver at any time.
     Unowned,
-    /// Packages of one to three connections, most of them Awaiting, two combined hashes in all.
+    /// Packages of one to three connections, most of them Awaiting, half of them with one of two combined hashes.
     Awaiting,
     /// Reached by calls.
     Walked,
@@ -171,7 +171,7 @@ pub const PROFILES: &[Profile] = &[
     },
     Profile {
         name: "packages of one combined hash",
-        sizes: &[(12, 4), (30, 6), (80, 16)],
+        sizes: &[(30, 6), (80, 16), (80, 16)],
         start: Start::Awaiting,
         connections: 2,
         calls: 30,
@@ -288,7 +288,10 @@ fn ready(state: &mut State) {
 fn alike(state: &mut State, rng: &mut Rng) {
     let combined = [rng.hash(), rng.hash()];
     for package in state.requests.iter_mut().filter_map(|request| request.package.as_mut()) {
-        (package.combined, package.enqueued) = (rng.pick(&combined), rng.one_in(5));
+        package.enqueued = rng.one_in(5);
+        if rng.one_in(2) {
+            package.combined = rng.pick(&combined);
+        }
     }
 }
 

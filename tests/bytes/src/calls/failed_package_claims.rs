@@ -15,7 +15,7 @@ use crate::reference::Reference;
 
 pub static SPEC: Spec = Spec {
     name: "failed_package_claims",
-    weights: [1, 8],
+    weights: [1, 12],
     refusals: &[3, 4, 5, 7],
     hands: Hands::Keys,
     need: claims_need,
@@ -67,7 +67,7 @@ fn draw(draw: &mut Draw, seen: &Reference) -> Given {
     let request = draw.at_place(seen, stage);
     let connection = request.connection;
     let own: Vec<Hash> = draw.packages_of(seen, connection).iter().map(|held| held.combined).collect();
-    let count = if draw.rng.one_in(20) { draw.rng.index(200) } else { draw.rng.index(5) };
+    let count = if draw.rng.one_in(20) { draw.rng.index(200) } else { draw.rng.index(7) };
     let combined = (0..count)
         .map(|_| match draw.rng.below(8) {
             0 => draw.hash(),
