@@ -62,6 +62,10 @@ uint64_t tracker_sum(const uint8_t *store, size_t length, uint64_t *held, uint64
 uint64_t tracker_arrange(const uint8_t *store, size_t length, const uint8_t *witnesses, size_t witnesses_length, const uint8_t *taken,
                          size_t taken_length, uint8_t *answer, size_t answer_length, uint64_t *count);
 
+/* One connection's part of an arranged list, which is given in 112 bytes an entry: `count` entries from the entry `first` on. Of a list
+ * that is not arranged it is some part. It takes no store, and is never refused. */
+uint64_t tracker_part(const uint8_t *list, size_t length, uint64_t connection, uint64_t *first, uint64_t *count);
+
 /* A connection can deliver an item. The reply is 1 if it is kept. */
 uint64_t tracker_announce(uint8_t *store, size_t length, uint64_t connection, uint32_t item_type, const uint8_t hash[32], uint64_t ready,
                           bool preferred, uint64_t priority, uint64_t *reply);

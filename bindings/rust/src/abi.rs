@@ -35,6 +35,16 @@ unsafe extern "C" {
         answer_length: usize,
         count: &mut u64,
     ) -> u64;
+    /// One connection's part of an arranged list, which is given in 112 bytes an entry: `count` entries from
+    /// the entry `first` on. Of a list that is not arranged it is some part. It takes no store, and is never
+    /// refused.
+    pub fn tracker_part(
+        list: *const u8,
+        length: usize,
+        connection: u64,
+        first: &mut u64,
+        count: &mut u64,
+    ) -> u64;
     /// A connection can deliver an item. The reply is 1 if it is kept.
     pub fn tracker_announce(
         store: *mut u8,

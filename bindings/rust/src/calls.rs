@@ -1,6 +1,7 @@
 //! The calls.
 
 use crate::{Candidate, Figures, Key, Left, abi};
+use std::ops::Range;
 
 /// The value of a call that was carried out, else the number of its refusal.
 fn done<T>(status: u64, value: T) -> Result<T, u64> {
@@ -50,6 +51,19 @@ pub fn arrange(store: &[u8], witnesses: &[u8], taken: &[u8], answer: &mut [u8]) 
             taken.len(), answer.as_mut_ptr(), answer.len(), &mut count)
     };
     done(status, count as usize)
+}
+
+/// One connection's part of an arranged list, which is given in 112 bytes an entry: `count` entries from the
+/// entry `first` on. Of a list that is not arranged it is some part. It takes no store, and is never
+/// refused.
+pub fn part(list: &[u8], connection: u64) -> Result<Range<usize>, u64> {
+    let mut first = 0;
+    let mut count = 0;
+    // SAFETY: what is lent is lent for the call, and what it may write is lent to it alone.
+    let status = unsafe {
+        abi::tracker_part(list.as_ptr(), list.len(), connection, &mut first, &mut count)
+    };
+    done(status, first as usize..(first + count) as usize)
 }
 
 /// A connection can deliver an item. The reply is 1 if it is kept.
