@@ -22,7 +22,7 @@ HANDED = {
     ("taken",): ("usize", "taken as usize"),
     ("own", "parents"): ("Left", "Left { own: own as usize, parents: parents as usize }"),
     ("owner",): ("Option<u64>", "(owner != 0).then_some(owner)"),
-    ("held", "free", "permille"): ("Figures", "Figures { held, free, permille }"),
+    ("held", "room", "permille"): ("Figures", "Figures { held, free: room, permille }"),
 }
 # Slices that are lists of hashes.
 LISTS = ("parents", "wtxids", "combined")
@@ -40,8 +40,8 @@ def listed(parts):
 def in_c(function):
     comment = filled(f"/* {function.comment} */", C_WIDTH, "", " * ")
     head = TYPES[function.result][0].format(function.name).replace(" ", "\0") + "("
-    parts = listed(TYPES[one.kind][0].format(one.name) for one in function.parameters)
-    return f"\n{comment}\n{filled(head + parts + ');', C_WIDTH, '', ' ' * len(head))}\n".replace("\0", " ")
+    parts = listed(TYPES[one.kind][0].format(one.name) for one in function.parameters) + ")\0TRACKER_MUST_USE;"
+    return f"\n{comment}\n{filled(head + parts, C_WIDTH, '', ' ' * len(head))}\n".replace("\0", " ")
 
 
 def signature(indent, name, parts, rest):

@@ -18,7 +18,7 @@ unsafe extern "C" {
         store: *const u8,
         length: usize,
         held: &mut u64,
-        free: &mut u64,
+        room: &mut u64,
         permille: &mut u64,
     ) -> u64;
     /// What a claim has taken, given in 112 bytes an entry, stands in the answer by ascending connection,

@@ -30,13 +30,13 @@ pub fn sound(store: &[u8]) -> bool {
 /// it hands nothing out.
 pub fn sum(store: &[u8]) -> Result<Figures, u64> {
     let mut held = 0;
-    let mut free = 0;
+    let mut room = 0;
     let mut permille = 0;
     // SAFETY: what is lent is lent for the call, and what it may write is lent to it alone.
     let status = unsafe {
-        abi::tracker_sum(store.as_ptr(), store.len(), &mut held, &mut free, &mut permille)
+        abi::tracker_sum(store.as_ptr(), store.len(), &mut held, &mut room, &mut permille)
     };
-    done(status, Figures { held, free, permille })
+    done(status, Figures { held, free: room, permille })
 }
 
 /// What a claim has taken, given in 112 bytes an entry, stands in the answer by ascending connection, then
