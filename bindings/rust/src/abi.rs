@@ -1,5 +1,8 @@
 //! The C ABI as ../c/tracker.h declares it, for programs that call it as C does.
 
+#[cfg(feature = "owned")]
+pub mod owned;
+
 /// A call that brings one candidate: store and its length, connection, item type, hash, ready time, preferred, priority,
 /// reply; the status is returned.
 pub type OfCandidate =
