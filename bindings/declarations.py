@@ -23,7 +23,7 @@ HANDED = {
     ("first", "count"): ("Range<usize>", "first as usize..(first + count) as usize"),
     ("own", "parents"): ("Left", "Left { own: own as usize, parents: parents as usize }"),
     ("owner",): ("Option<u64>", "(owner != 0).then_some(owner)"),
-    ("held", "free", "permille"): ("Figures", "Figures { held, free, permille }"),
+    ("held", "room", "permille"): ("Figures", "Figures { held, free: room, permille }"),
 }
 # Slices that are lists of hashes.
 LISTS = ("parents", "wtxids", "combined")
@@ -41,8 +41,8 @@ def listed(parts):
 def in_c(function):
     comment = filled(f"/* {function.comment} */", C_WIDTH, "", " * ")
     head = TYPES[function.result][0].format(function.name).replace(" ", "\0") + "("
-    parts = listed(TYPES[one.kind][0].format(one.name) for one in function.parameters)
-    return f"\n{comment}\n{filled(head + parts + ');', C_WIDTH, '', ' ' * len(head))}\n".replace("\0", " ")
+    parts = listed(TYPES[one.kind][0].format(one.name) for one in function.parameters) + ")\0TRACKER_MUST_USE;"
+    return f"\n{comment}\n{filled(head + parts, C_WIDTH, '', ' ' * len(head))}\n".replace("\0", " ")
 
 
 def signature(indent, name, parts, rest):
@@ -87,11 +87,10 @@ def safe(function):
     """The status is a Result, and what is handed out its value."""
     takes, first, gives = taken(function.parameters)
     handed = tuple(one.name for one in function.parameters if one.kind == "&mut u64")
-    if handed not in HANDED:
-        raise SystemExit(f"{function.name}: no value of Rust for the numbers {', '.join(handed)}")
-    kind, value = HANDED[handed]
+    # Numbers that have no value of their own are a tuple.
+    kind, value = HANDED.get(handed, (f"({', '.join('u64' for _ in handed)})", f"({', '.join(handed)})"))
     told = function.result == "bool"
-    head = signature("", function.name.removeprefix("tracker_"), takes, " -> bool {" if told else f" -> Result<{kind}, u64> {{")
+    head = signature("", function.name.removeprefix("tracker_"), takes, " -> bool {" if told else f" -> Result<{kind}, Error> {{")
     call = filled(f"abi::{function.name}({listed(gives)})", RUST_WIDTH, " " * 8, " " * 12).replace("\0", " ")
     lines = [filled(function.comment, RUST_WIDTH - 1, "/// ", "/// "), head, *("    " + line for line in first)]
     lines.append("    // SAFETY: what is lent is lent for the call, and what it may write is lent to it alone.")

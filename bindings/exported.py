@@ -1,10 +1,9 @@
-"""The functions that crates/exports hands to C, as its sources declare them."""
+"""The functions that crates/exports and crates/owned hand to C, as their sources declare them."""
 import os
 import re
 from collections import namedtuple
 
 ROOT = os.path.dirname(os.path.dirname(os.path.abspath(__file__)))
-SOURCES = os.path.join(ROOT, "crates", "exports", "src")
 
 # A parameter of C: what it is (a key of TYPES), and its name. A slice is two, its start and its length.
 Parameter = namedtuple("Parameter", "kind name")
@@ -24,8 +23,8 @@ TYPES = {
 SLICES = ("&[u8]", "&mut [u8]")
 RESULTS = ("u64", "bool")
 
-# `now` cannot be a parameter's name where a contract says `now (s .entry)`.
-NAMES = {"s": "store", "clock": "now"}
+# `now` cannot be a parameter's name where a contract says `now (s .entry)`; `free` is a function of C's library.
+NAMES = {"s": "store", "clock": "now", "free": "room"}
 
 EXPORTED = re.compile(r'((?:^//[^\n]*\n)*)^#\[no_mangle\]\npub extern "C" fn (\w+)\(([^)]*)\)\s*(?:->\s*(\w+))?', re.M)
 
@@ -61,9 +60,10 @@ def functions_of(path):
     return found
 
 
-def functions():
+def functions(crate="exports"):
     """Those of lib.rt, then those of its modules in their order."""
-    root = os.path.join(SOURCES, "lib.rt")
+    folder = os.path.join(ROOT, "crates", crate, "src")
+    root = os.path.join(folder, "lib.rt")
     with open(root, encoding="utf-8") as source:
         modules = re.findall(r"^pub mod (\w+);", source.read(), re.M)
-    return [one for path in [root, *(os.path.join(SOURCES, name + ".rt") for name in modules)] for one in functions_of(path)]
+    return [one for path in [root, *(os.path.join(folder, name + ".rt") for name in modules)] for one in functions_of(path)]

@@ -104,10 +104,10 @@ fn crowded(state: &State) -> Vec<Hash> {
 }
 
 /// The announcement as the library takes it.
-fn candidate(c: &Candidate) -> tracker::Candidate {
+fn candidate(c: &Candidate) -> tracker::bytes::Candidate {
     let (item_type, Hash(hash)) = c.item.parts();
     let Candidate { connection, ready, preferred, priority, .. } = *c;
-    tracker::Candidate { connection, item_type, hash, ready, preferred, priority }
+    tracker::bytes::Candidate { connection, item_type, hash, ready, preferred, priority }
 }
 
 /// A case made ready: the state on both sides, the announcements as each side takes them.
@@ -116,7 +116,7 @@ struct Ready {
     machine: Machine,
     image: Vec<u8>,
     calls: Vec<Call>,
-    candidates: Vec<tracker::Candidate>,
+    candidates: Vec<tracker::bytes::Candidate>,
 }
 
 impl Ready {
@@ -145,9 +145,9 @@ impl Ready {
         let (mut checked, mut sound) = (Duration::ZERO, Duration::ZERO);
         for candidate in &self.candidates {
             checked += time(1, || {
-                assert_eq!(tracker::announce(black_box(&mut store), candidate), Ok(self.kept));
+                assert_eq!(tracker::bytes::announce(black_box(&mut store), candidate), Ok(self.kept));
             });
-            sound += time(1, || assert!(tracker::sound(black_box(&store))));
+            sound += time(1, || assert!(tracker::bytes::sound(black_box(&store))));
         }
         assert!(store == image(&machine.state()), "the library and the Rust differ");
         [rust, checked, sound]

@@ -1,29 +1,13 @@
 //! The library's calls as C calls them: the checked ones, and those for the owner of a store.
 
 use oracle::calls::{Call, Entry, Hash, Item, Key, Kind};
-use tracker::abi;
+use tracker::abi::{self, owned};
 
 /// Which of the two.
 #[derive(Clone, Copy, Debug, Eq, PartialEq)]
 pub enum Side {
     Checked,
     Owned,
-}
-
-#[rustfmt::skip]
-mod owned {
-    unsafe extern "C" {
-        pub fn tracker_owned_sum(store: *const u8, length: usize, held: &mut u64, free: &mut u64, permille: &mut u64) -> u64;
-        pub fn tracker_owned_failed(store: *mut u8, length: usize, kind: u64, hash: &[u8; 32], connection: u64, now: u64, reply: &mut u64) -> u64;
-        pub fn tracker_owned_forget(store: *mut u8, length: usize, kind: u64, hash: &[u8; 32]) -> u64;
-        pub fn tracker_owned_solicit_package_info(store: *mut u8, length: usize, connection: u64, hash: &[u8; 32], parents: *const u8, parents_length: usize, now: u64, reply: &mut u64) -> u64;
-        pub fn tracker_owned_disconnected(store: *mut u8, length: usize, connection: u64, now: u64, answer: *mut u8, answer_length: usize, own: &mut u64, parents: &mut u64) -> u64;
-        pub fn tracker_owned_claim(store: *mut u8, length: usize, now: u64, checked: *const u8, checked_length: usize, answer: *mut u8, answer_length: usize, taken: &mut u64) -> u64;
-        pub fn tracker_owned_teardown_package_claims(store: *mut u8, length: usize, now: u64, count: &mut u64) -> u64;
-        pub fn tracker_owned_transaction_not_found(store: *mut u8, length: usize, connection: u64, items: *const u8, items_length: usize, now: u64, answer: *mut u8, answer_length: usize, count: &mut u64) -> u64;
-        pub fn tracker_owned_sweep(store: *mut u8, length: usize, answer: *mut u8, answer_length: usize, count: &mut u64) -> u64;
-        pub fn tracker_owned_announce_transactions(store: *mut u8, length: usize, connection: u64, now: u64, preferred: bool, source: bool, items: *const u8, items_length: usize, priorities: *const u8, priorities_length: usize) -> u64;
-    }
 }
 
 /// A call with its lists in bytes, as they are lent.

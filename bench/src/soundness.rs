@@ -40,12 +40,12 @@ fn row(case: &Case, runs: usize) -> String {
     let bytes = image(&state);
     let Shape { l, q, .. } = case.shape;
     assert_eq!(bytes.len(), need(l, q));
-    assert!(tracker::sound(&bytes), "the library refuses the image");
+    assert!(tracker::bytes::sound(&bytes), "the library refuses the image");
     let read = || {
         black_box(sum(black_box(&bytes)));
     };
     let test = || {
-        black_box(tracker::sound(black_box(&bytes)));
+        black_box(tracker::bytes::sound(black_box(&bytes)));
     };
     let (reads, tests) = (calls_for(read), calls_for(test));
     let (mut read_times, mut test_times) = (Vec::new(), Vec::new());

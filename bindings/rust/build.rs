@@ -1,21 +1,27 @@
-//! Links the library's archive: `EXPORTS_LIB` names it, the default is where
-//! `rt staticlib exports` writes it.
+//! Links the library's archives where `rt staticlib` writes them, or where `EXPORTS_LIB` and `OWNED_LIB` say.
 
 use std::path::{Path, PathBuf};
 use std::{env, process};
 
-const DEFAULT: &str = "../../target/staticlib/libexports.a";
-
 fn main() {
-    println!("cargo:rerun-if-env-changed=EXPORTS_LIB");
+    if env::var_os("CARGO_FEATURE_OWNED").is_some() {
+        link("owned", "OWNED_LIB");
+    }
+    link("exports", "EXPORTS_LIB");
+}
+
+/// Links the archive of the crate, which the variable names or which stands at its default place.
+fn link(of: &str, variable: &str) {
+    println!("cargo:rerun-if-env-changed={variable}");
     let package = PathBuf::from(env::var_os("CARGO_MANIFEST_DIR").expect("cargo sets it"));
-    let given = env::var_os("EXPORTS_LIB").map(PathBuf::from);
-    let archive = package.join(given.as_deref().unwrap_or(Path::new(DEFAULT)));
+    let default = format!("../../target/staticlib/lib{of}.a");
+    let given = env::var_os(variable).map(PathBuf::from);
+    let archive = package.join(given.as_deref().unwrap_or(Path::new(&default)));
     println!("cargo:rerun-if-changed={}", archive.display());
     let name = archive.file_stem().and_then(|stem| stem.to_str()).and_then(|stem| stem.strip_prefix("lib"));
     let (Some(folder), Some(name), true) = (archive.parent(), name, archive.is_file()) else {
         eprintln!(
-            "no archive {}: `rt staticlib exports` writes it, EXPORTS_LIB names another",
+            "no archive {}: `rt staticlib {of}` writes it, {variable} names another",
             archive.display()
         );
         process::exit(1);

@@ -1,5 +1,8 @@
 //! The C ABI as ../c/tracker.h declares it, for programs that call it as C does.
 
+#[cfg(feature = "owned")]
+pub mod owned;
+
 /// A call that brings one candidate: store and its length, connection, item type, hash, ready time, preferred, priority,
 /// reply; the status is returned.
 pub type OfCandidate =
@@ -18,7 +21,7 @@ unsafe extern "C" {
         store: *const u8,
         length: usize,
         held: &mut u64,
-        free: &mut u64,
+        room: &mut u64,
         permille: &mut u64,
     ) -> u64;
     /// What a claim has taken, given in 112 bytes an entry, stands in the answer by ascending connection,

@@ -1,17 +1,13 @@
-//! The calls.
+//! The checked calls.
 
-use crate::{Candidate, Figures, Key, Left, abi};
-use std::ops::Range;
-
-/// The value of a call that was carried out, else the number of its refusal.
-fn done<T>(status: u64, value: T) -> Result<T, u64> {
-    if status == 0 { Ok(value) } else { Err(status) }
-}
+use crate::bytes::{Candidate, Left};
+use crate::error::done;
+use crate::{Error, Figures, Key, abi};
 
 // begin: written by bindings/generate out of crates/exports/src
 
 /// Makes the store an empty tracker for l announcements and q package places.
-pub fn open(store: &mut [u8], l: u64, q: u64) -> Result<(), u64> {
+pub fn open(store: &mut [u8], l: u64, q: u64) -> Result<(), Error> {
     // SAFETY: what is lent is lent for the call, and what it may write is lent to it alone.
     let status = unsafe {
         abi::tracker_open(store.as_mut_ptr(), store.len(), l, q)
@@ -29,21 +25,21 @@ pub fn sound(store: &[u8]) -> bool {
 
 /// How many announcements are held, how many more fit, and how full the tracker is in thousandths. Refused,
 /// it hands nothing out.
-pub fn sum(store: &[u8]) -> Result<Figures, u64> {
+pub fn sum(store: &[u8]) -> Result<Figures, Error> {
     let mut held = 0;
-    let mut free = 0;
+    let mut room = 0;
     let mut permille = 0;
     // SAFETY: what is lent is lent for the call, and what it may write is lent to it alone.
     let status = unsafe {
-        abi::tracker_sum(store.as_ptr(), store.len(), &mut held, &mut free, &mut permille)
+        abi::tracker_sum(store.as_ptr(), store.len(), &mut held, &mut room, &mut permille)
     };
-    done(status, Figures { held, free, permille })
+    done(status, Figures { held, free: room, permille })
 }
 
 /// What a claim has taken, given in 112 bytes an entry, stands in the answer by ascending connection, then
 /// claim order: so many as `count` says. A t item of a marked request turns v for a witness connection:
 /// those of the list, which has 8 bytes for each, least first. The store is only read.
-pub fn arrange(store: &[u8], witnesses: &[u8], taken: &[u8], answer: &mut [u8]) -> Result<usize, u64> {
+pub fn arrange(store: &[u8], witnesses: &[u8], taken: &[u8], answer: &mut [u8]) -> Result<usize, Error> {
     let mut count = 0;
     // SAFETY: what is lent is lent for the call, and what it may write is lent to it alone.
     let status = unsafe {
@@ -56,7 +52,7 @@ pub fn arrange(store: &[u8], witnesses: &[u8], taken: &[u8], answer: &mut [u8]) 
 /// One connection's part of an arranged list, which is given in 112 bytes an entry: `count` entries from the
 /// entry `first` on. Of a list that is not arranged it is some part. It takes no store, and is never
 /// refused.
-pub fn part(list: &[u8], connection: u64) -> Result<Range<usize>, u64> {
+pub fn part(list: &[u8], connection: u64) -> Result<Range<usize>, Error> {
     let mut first = 0;
     let mut count = 0;
     // SAFETY: what is lent is lent for the call, and what it may write is lent to it alone.
@@ -67,7 +63,7 @@ pub fn part(list: &[u8], connection: u64) -> Result<Range<usize>, u64> {
 }
 
 /// A connection can deliver an item. The reply is 1 if it is kept.
-pub fn announce(store: &mut [u8], candidate: &Candidate) -> Result<bool, u64> {
+pub fn announce(store: &mut [u8], candidate: &Candidate) -> Result<bool, Error> {
     let &Candidate { connection, item_type, ref hash, ready, preferred, priority } = candidate;
     let mut reply = 0;
     // SAFETY: what is lent is lent for the call, and what it may write is lent to it alone.
@@ -79,7 +75,7 @@ pub fn announce(store: &mut [u8], candidate: &Candidate) -> Result<bool, u64> {
 }
 
 /// The same for a parent that is missing.
-pub fn request_parent(store: &mut [u8], candidate: &Candidate) -> Result<bool, u64> {
+pub fn request_parent(store: &mut [u8], candidate: &Candidate) -> Result<bool, Error> {
     let &Candidate { connection, item_type, ref hash, ready, preferred, priority } = candidate;
     let mut reply = 0;
     // SAFETY: what is lent is lent for the call, and what it may write is lent to it alone.
@@ -98,7 +94,7 @@ pub fn announce_parents(
     parents: &[[u8; 32]],
     now: u64,
     answer: &mut [u8],
-) -> Result<usize, u64> {
+) -> Result<usize, Error> {
     let parents = parents.as_flattened();
     let mut count = 0;
     // SAFETY: what is lent is lent for the call, and what it may write is lent to it alone.
@@ -112,7 +108,7 @@ pub fn announce_parents(
 /// The connection leaves every request that it is a candidate of. The keys of these stand in the answer, so
 /// many as `own` says, and behind them the keys of parents that are announced for the candidates left, so
 /// many as `parents` says.
-pub fn disconnected(store: &mut [u8], connection: u64, now: u64, answer: &mut [u8]) -> Result<Left, u64> {
+pub fn disconnected(store: &mut [u8], connection: u64, now: u64, answer: &mut [u8]) -> Result<Left, Error> {
     let mut own = 0;
     let mut parents = 0;
     // SAFETY: what is lent is lent for the call, and what it may write is lent to it alone.
@@ -125,7 +121,7 @@ pub fn disconnected(store: &mut [u8], connection: u64, now: u64, answer: &mut [u
 
 /// The owner of the request at the key failed to deliver. The reply is 0 unless the connection owns it and
 /// its package is not Enqueued.
-pub fn failed(store: &mut [u8], key: &Key, connection: u64, now: u64) -> Result<bool, u64> {
+pub fn failed(store: &mut [u8], key: &Key, connection: u64, now: u64) -> Result<bool, Error> {
     let (kind, hash) = key.parts();
     let mut reply = 0;
     // SAFETY: what is lent is lent for the call, and what it may write is lent to it alone.
@@ -143,7 +139,7 @@ pub fn failed_with_parents(
     connection: u64,
     now: u64,
     answer: &mut [u8],
-) -> Result<usize, u64> {
+) -> Result<usize, Error> {
     let (kind, hash) = key.parts();
     let mut count = 0;
     // SAFETY: what is lent is lent for the call, and what it may write is lent to it alone.
@@ -155,7 +151,7 @@ pub fn failed_with_parents(
 }
 
 /// The owner gives the request back and stays a candidate. Carried out, it replies 1.
-pub fn unclaim(store: &mut [u8], key: &Key, connection: u64) -> Result<(), u64> {
+pub fn unclaim(store: &mut [u8], key: &Key, connection: u64) -> Result<(), Error> {
     let (kind, hash) = key.parts();
     // SAFETY: what is lent is lent for the call, and what it may write is lent to it alone.
     let status = unsafe {
@@ -165,7 +161,7 @@ pub fn unclaim(store: &mut [u8], key: &Key, connection: u64) -> Result<(), u64> 
 }
 
 /// The request at the key goes. Carried out, it replies 1.
-pub fn forget(store: &mut [u8], key: &Key) -> Result<(), u64> {
+pub fn forget(store: &mut [u8], key: &Key) -> Result<(), Error> {
     let (kind, hash) = key.parts();
     // SAFETY: what is lent is lent for the call, and what it may write is lent to it alone.
     let status = unsafe {
@@ -176,7 +172,7 @@ pub fn forget(store: &mut [u8], key: &Key) -> Result<(), u64> {
 
 /// The transaction of the request at the key is known: the request goes, and its parents are announced for
 /// its owner. It stays if a package is still to come of it. Carried out, it replies 1.
-pub fn forget_known(store: &mut [u8], key: &Key, now: u64) -> Result<(), u64> {
+pub fn forget_known(store: &mut [u8], key: &Key, now: u64) -> Result<(), Error> {
     let (kind, hash) = key.parts();
     // SAFETY: what is lent is lent for the call, and what it may write is lent to it alone.
     let status = unsafe {
@@ -186,7 +182,7 @@ pub fn forget_known(store: &mut [u8], key: &Key, now: u64) -> Result<(), u64> {
 }
 
 /// failed, of a connection that is asked for package info. The reply is 0 unless it is.
-pub fn failed_package_info(store: &mut [u8], key: &Key, connection: u64, now: u64) -> Result<bool, u64> {
+pub fn failed_package_info(store: &mut [u8], key: &Key, connection: u64, now: u64) -> Result<bool, Error> {
     let (kind, hash) = key.parts();
     let mut reply = 0;
     // SAFETY: what is lent is lent for the call, and what it may write is lent to it alone.
@@ -199,7 +195,7 @@ pub fn failed_package_info(store: &mut [u8], key: &Key, connection: u64, now: u6
 
 /// The connection that is asked for package info of the request at the key, and in time; 0, if there is
 /// none.
-pub fn package_info_owner(store: &[u8], key: &Key, now: u64) -> Result<Option<u64>, u64> {
+pub fn package_info_owner(store: &[u8], key: &Key, now: u64) -> Result<Option<u64>, Error> {
     let (kind, hash) = key.parts();
     let mut owner = 0;
     // SAFETY: what is lent is lent for the call, and what it may write is lent to it alone.
@@ -218,7 +214,7 @@ pub fn solicit_package_info(
     hash: &[u8; 32],
     parents: &[[u8; 32]],
     now: u64,
-) -> Result<bool, u64> {
+) -> Result<bool, Error> {
     let parents = parents.as_flattened();
     let mut reply = 0;
     // SAFETY: what is lent is lent for the call, and what it may write is lent to it alone.
@@ -238,7 +234,7 @@ pub fn claim_package(
     combined: &[u8; 32],
     wtxids: &[[u8; 32]],
     now: u64,
-) -> Result<bool, u64> {
+) -> Result<bool, Error> {
     let wtxids = wtxids.as_flattened();
     let mut reply = 0;
     // SAFETY: what is lent is lent for the call, and what it may write is lent to it alone.
@@ -258,7 +254,7 @@ pub fn begin_package_resolution(
     combined: &[u8; 32],
     wtxids: &[[u8; 32]],
     now: u64,
-) -> Result<bool, u64> {
+) -> Result<bool, Error> {
     let wtxids = wtxids.as_flattened();
     let mut reply = 0;
     // SAFETY: what is lent is lent for the call, and what it may write is lent to it alone.
@@ -278,7 +274,7 @@ pub fn release_package(
     hash: &[u8; 32],
     now: u64,
     answer: &mut [u8],
-) -> Result<usize, u64> {
+) -> Result<usize, Error> {
     let mut count = 0;
     // SAFETY: what is lent is lent for the call, and what it may write is lent to it alone.
     let status = unsafe {
@@ -297,7 +293,7 @@ pub fn failed_package_claims(
     combined: &[[u8; 32]],
     now: u64,
     answer: &mut [u8],
-) -> Result<usize, u64> {
+) -> Result<usize, Error> {
     let combined = combined.as_flattened();
     let mut count = 0;
     // SAFETY: what is lent is lent for the call, and what it may write is lent to it alone.
@@ -309,7 +305,7 @@ pub fn failed_package_claims(
 }
 
 /// Every package goes, whatever its phase, and its owner leaves the request. `count` says how many went.
-pub fn teardown_package_claims(store: &mut [u8], now: u64) -> Result<usize, u64> {
+pub fn teardown_package_claims(store: &mut [u8], now: u64) -> Result<usize, Error> {
     let mut count = 0;
     // SAFETY: what is lent is lent for the call, and what it may write is lent to it alone.
     let status = unsafe {
@@ -321,7 +317,7 @@ pub fn teardown_package_claims(store: &mut [u8], now: u64) -> Result<usize, u64>
 /// Takes, in order, each entry of the checked list, which is given in 112 bytes each, whose hash is unowned
 /// and that is still what plan would choose for it. Those that are taken stand in the answer: so many as
 /// `taken` says.
-pub fn claim(store: &mut [u8], now: u64, checked: &[u8], answer: &mut [u8]) -> Result<usize, u64> {
+pub fn claim(store: &mut [u8], now: u64, checked: &[u8], answer: &mut [u8]) -> Result<usize, Error> {
     let mut taken = 0;
     // SAFETY: what is lent is lent for the call, and what it may write is lent to it alone.
     let status = unsafe {
@@ -333,7 +329,7 @@ pub fn claim(store: &mut [u8], now: u64, checked: &[u8], answer: &mut [u8]) -> R
 
 /// The next keys after the known cursor, which becomes the last of them. They stand in the answer: so many
 /// as `count` says.
-pub fn sweep(store: &mut [u8], answer: &mut [u8]) -> Result<usize, u64> {
+pub fn sweep(store: &mut [u8], answer: &mut [u8]) -> Result<usize, Error> {
     let mut count = 0;
     // SAFETY: what is lent is lent for the call, and what it may write is lent to it alone.
     let status = unsafe {
@@ -343,7 +339,7 @@ pub fn sweep(store: &mut [u8], answer: &mut [u8]) -> Result<usize, u64> {
 }
 
 /// Whether a poll is due. If the reply is 1, the next one is 100 milliseconds later.
-pub fn poll_gate(store: &mut [u8], now: u64) -> Result<bool, u64> {
+pub fn poll_gate(store: &mut [u8], now: u64) -> Result<bool, Error> {
     let mut reply = 0;
     // SAFETY: what is lent is lent for the call, and what it may write is lent to it alone.
     let status = unsafe {
@@ -362,7 +358,7 @@ pub fn announce_transactions(
     source: bool,
     items: &[u8],
     priorities: &[u8],
-) -> Result<(), u64> {
+) -> Result<(), Error> {
     // SAFETY: what is lent is lent for the call, and what it may write is lent to it alone.
     let status = unsafe {
         abi::tracker_announce_transactions(store.as_mut_ptr(), store.len(), connection, now, preferred,
@@ -379,7 +375,7 @@ pub fn transaction_response_completed(
     txid: &[u8; 32],
     wtxid: &[u8; 32],
     now: u64,
-) -> Result<(), u64> {
+) -> Result<(), Error> {
     // SAFETY: what is lent is lent for the call, and what it may write is lent to it alone.
     let status = unsafe {
         abi::tracker_transaction_response_completed(store.as_mut_ptr(), store.len(), connection, txid, wtxid,
@@ -397,7 +393,7 @@ pub fn transaction_not_found(
     items: &[u8],
     now: u64,
     answer: &mut [u8],
-) -> Result<usize, u64> {
+) -> Result<usize, Error> {
     let mut count = 0;
     // SAFETY: what is lent is lent for the call, and what it may write is lent to it alone.
     let status = unsafe {

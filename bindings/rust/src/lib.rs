@@ -1,74 +1,49 @@
-//! The tracker's C ABI (../c/tracker.h) as safe Rust. A store is bytes that the caller lends; docs/STORE.md says how
-//! many it needs.
+//! A transaction request tracker: which connection is asked for which transaction, for how long, and who is asked
+//! next. The library is proved (docs/PROVED.md); this package is its safe face, and is not part of what is proved.
 //!
-//! A refusal is its number in the table of docs/API.md, and then nothing is changed. A call tests, in this order, what its arguments
-//! can meet: 3, the store is not sound; 4, the connection is 0; 5, `now` is above 2^64 - 60,001; 6, more than 100 parents
-//! are given; 7, the answer is shorter than its need; 8, a solicitation that would reply 1 while all places are held.
-//! `open` tests 2, a size out of range, then 1, a store shorter than its need. A reply of 1 is true, one of 0 false.
+//! ```
+//! use tracker::{Announcement, Connection, Item, Key, Tracker, Wtxid};
 //!
-//! A list of keys stands in the answer, as many as the call says (`keys` reads them); bytes behind them stay.
+//! let mut tracker = Tracker::new(1_000, 16)?; // room for 1,000 announcements, 16 packages under way
+//! let peer = Connection::new(7).expect("not 0");
+//! let id = Wtxid([0xaa; 32]);
+//! assert!(tracker.announce(&Announcement::new(peer, Item::WTx(id)).preferred().ready_at(1_000)));
+//! assert!(!tracker.announce(&Announcement::new(peer, Item::WTx(id)))); // it is a candidate already
+//!
+//! assert!(tracker.sweep().eq([Key::Wtxid(id)])); // to be looked up among transactions that are known
+//! assert_eq!(tracker.disconnected(peer, 2_000)?.own.count(), 1);
+//! assert_eq!(tracker.sum().held, 0);
+//! # Ok::<(), tracker::Error>(())
+//! ```
+//!
+//! | module | what it has |
+//! |---|---|
+//! | the root | `Tracker`, which owns its bytes, and the types of its calls |
+//! | [`bytes`] | the checked calls on bytes that the caller lends, and may be any |
+//! | [`abi`] | both kinds of calls as C has them |
+//!
+//! Times are milliseconds of any clock, which may go back. docs/API.md has the rule of each call and its refusals.
+#![deny(missing_docs, unsafe_op_in_unsafe_fn)]
 
 pub mod abi;
+mod answers;
+pub mod bytes;
 #[rustfmt::skip]
 mod calls;
+mod error;
+#[cfg(feature = "owned")]
+mod lists;
+#[cfg(feature = "owned")]
+#[rustfmt::skip]
+mod methods;
+#[cfg(feature = "owned")]
+mod owner;
+mod sizes;
+mod values;
 
-pub use calls::*;
-
-/// How many announcements are held, how many more fit, and how full the tracker is in thousandths, rounded down.
-#[derive(Clone, Copy, Debug, Default, Eq, PartialEq)]
-pub struct Figures {
-    pub held: u64,
-    pub free: u64,
-    pub permille: u64,
-}
-
-/// How many keys an answer has of a connection that left: its own, and behind them those of parents that others were asked for.
-#[derive(Clone, Copy, Debug, Default, Eq, PartialEq)]
-pub struct Left {
-    pub own: usize,
-    pub parents: usize,
-}
-
-/// One announcement: who can deliver, what item, from when on, and how it ranks. Item types 1 and 0x40000001 stand for
-/// the txid, 5 for the wtxid; any other has no key.
-#[derive(Clone, Copy, Debug, Eq, PartialEq)]
-pub struct Candidate {
-    pub connection: u64,
-    pub item_type: u32,
-    /// Byte 31 is the most significant.
-    pub hash: [u8; 32],
-    pub ready: u64,
-    pub preferred: bool,
-    pub priority: u64,
-}
-
-/// Bytes of a key in an answer, and of the answer that a list of keys needs.
-pub const KEY_BYTES: usize = 40;
-pub const KEYS_NEED: usize = 101 * KEY_BYTES;
-/// Bytes of the answer that a sweep needs at most: it needs the smaller of 1,024 and L keys.
-pub const SWEEP_NEED: usize = 1_024 * KEY_BYTES;
-
-/// A request's key.
-#[derive(Clone, Copy, Debug, Eq, PartialEq)]
-pub enum Key {
-    Txid([u8; 32]),
-    Wtxid([u8; 32]),
-}
-
-impl Key {
-    /// The number of its kind, and its hash.
-    fn parts(&self) -> (u64, &[u8; 32]) {
-        match self {
-            Self::Txid(hash) => (0, hash),
-            Self::Wtxid(hash) => (1, hash),
-        }
-    }
-}
-
-/// The first `count` keys of an answer.
-pub fn keys(answer: &[u8], count: usize) -> impl Iterator<Item = Key> + '_ {
-    answer.chunks_exact(KEY_BYTES).take(count).map(|key| {
-        let hash = key[8..].try_into().expect("32 bytes");
-        if key[..8] == [0; 8] { Key::Txid(hash) } else { Key::Wtxid(hash) }
-    })
-}
+pub use answers::{Entries, Entry, Figures, Keys};
+pub use error::Error;
+#[cfg(feature = "owned")]
+pub use owner::{Departed, Planned, Tracker};
+pub use sizes::Sizes;
+pub use values::{Announcement, Connection, Item, Key, Txid, Wtxid};

@@ -36,7 +36,7 @@ type Judge = (&'static str, fn(&[u8]) -> bool);
 const JUDGES: &[Judge] = &[
     ("the second reading", again::sound),
     #[cfg(feature = "library")]
-    ("the library", tracker::sound),
+    ("the library", tracker::bytes::sound),
     #[cfg(feature = "library")]
     ("the library's sum", summing::takes),
 ];

@@ -5,6 +5,7 @@ use oracle::image::{image, need};
 use oracle::random::Rng;
 use oracle::sound::{MAX_L, MAX_Q, opens};
 use oracle::state::State;
+use tracker::{Error, bytes};
 
 const TRIALS: u64 = 20_000;
 /// One trial in so many takes sizes at the limits, whose stores are large.
@@ -18,9 +19,9 @@ pub fn trial(rng: &mut Rng) -> Result<String, String> {
     let (mut opened, mut short, mut bad) = (0, 0, 0);
     for _ in 0..TRIALS {
         let (l, q) = sizes(rng);
-        let mut store = bytes(rng, l, q);
+        let mut store = any_bytes(rng, l, q);
         let before = store.clone();
-        let reply = tracker::open(&mut store, l, q);
+        let reply = bytes::open(&mut store, l, q).map_err(Error::number);
         let (expected, after) = expected(&before, l, q);
         if reply != expected || store != after {
             return Err(format!(
@@ -33,7 +34,7 @@ pub fn trial(rng: &mut Rng) -> Result<String, String> {
             Err(SHORT_STORE) => short += 1,
             Err(_) => bad += 1,
         }
-        if reply.is_ok() && !tracker::sound(&store) {
+        if reply.is_ok() && !bytes::sound(&store) {
             return Err(format!("the store opened at {l}, {q} is not sound"));
         }
     }
@@ -66,7 +67,7 @@ fn sizes(rng: &mut Rng) -> (u64, u64) {
 }
 
 /// About as many bytes as the sizes need, of any content.
-fn bytes(rng: &mut Rng, l: u64, q: u64) -> Vec<u8> {
+fn any_bytes(rng: &mut Rng, l: u64, q: u64) -> Vec<u8> {
     let length = if opens(l, q) { need(l, q) } else { need(1, 1) };
     let any = rng.index(2 * length);
     let length = rng.pick(&[length, length - 1, length + 1, any, 0]);

@@ -1,20 +1,18 @@
 //! What `sum` tells of a store: the figures of the state that is read from it, or refusal 3.
 
 use oracle::image::read;
-use tracker::Figures;
-
-const UNSOUND_STORE: u64 = 3;
+use tracker::{Error, Figures};
 
 /// Whether `sum` takes the store. Figures or a refusal other than those that the reading gives stop the run.
 pub fn takes(bytes: &[u8]) -> bool {
-    match (tracker::sum(bytes), read(bytes)) {
+    match (tracker::bytes::sum(bytes), read(bytes)) {
         (Ok(figures), Ok(state)) => {
             let held = state.held();
             let expected = Figures { held, free: state.l - held, permille: held * 1000 / state.l };
             assert_eq!(figures, expected, "sum of a store of L {}", state.l);
             true
         }
-        (Err(UNSOUND_STORE), _) => false,
+        (Err(Error::NotSound), _) => false,
         (Ok(_), Err(_)) => true,
         (Err(refusal), _) => panic!("sum refuses with {refusal}"),
     }

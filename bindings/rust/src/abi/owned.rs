@@ -1,0 +1,282 @@
+//! The calls of the owner of a store, as ../c/tracker_owned.h declares them.
+//!
+//! Each wants a sound store: opened or tested, and written by calls alone since. On other bytes nothing is promised, not even
+//! that a call stays inside them.
+
+#[rustfmt::skip]
+unsafe extern "C" {
+    // begin: written by bindings/generate out of crates/owned/src
+    /// How many announcements are held, how many more fit, and how full the tracker is in thousandths. The
+    /// store is only read.
+    pub fn tracker_owned_sum(
+        store: *const u8,
+        length: usize,
+        held: &mut u64,
+        room: &mut u64,
+        permille: &mut u64,
+    ) -> u64;
+    /// What a claim has taken, given in 112 bytes an entry, stands in the answer by ascending connection,
+    /// then claim order: so many as `count` says. A t item of a marked request turns v for a witness
+    /// connection: those of the list, which has 8 bytes for each, least first. The store is only read.
+    pub fn tracker_owned_arrange(
+        store: *const u8,
+        length: usize,
+        witnesses: *const u8,
+        witnesses_length: usize,
+        taken: *const u8,
+        taken_length: usize,
+        answer: *mut u8,
+        answer_length: usize,
+        count: &mut u64,
+    ) -> u64;
+    /// A connection can deliver an item. The reply is 1 if it is kept.
+    pub fn tracker_owned_announce(
+        store: *mut u8,
+        length: usize,
+        connection: u64,
+        item_type: u32,
+        hash: &[u8; 32],
+        ready: u64,
+        preferred: bool,
+        priority: u64,
+        reply: &mut u64,
+    ) -> u64;
+    /// The same for a parent that is missing.
+    pub fn tracker_owned_request_parent(
+        store: *mut u8,
+        length: usize,
+        connection: u64,
+        item_type: u32,
+        hash: &[u8; 32],
+        ready: u64,
+        preferred: bool,
+        priority: u64,
+        reply: &mut u64,
+    ) -> u64;
+    /// Requests the parents of a transaction, 32 bytes each. The keys of those that are kept stand in the
+    /// answer: so many as `count` says.
+    pub fn tracker_owned_announce_parents(
+        store: *mut u8,
+        length: usize,
+        connection: u64,
+        parents: *const u8,
+        parents_length: usize,
+        now: u64,
+        answer: *mut u8,
+        answer_length: usize,
+        count: &mut u64,
+    ) -> u64;
+    /// The connection leaves every request that it is a candidate of. The keys of these stand in the answer,
+    /// so many as `own` says, and behind them the keys of parents that are announced for the candidates
+    /// left, so many as `parents` says.
+    pub fn tracker_owned_disconnected(
+        store: *mut u8,
+        length: usize,
+        connection: u64,
+        now: u64,
+        answer: *mut u8,
+        answer_length: usize,
+        own: &mut u64,
+        parents: &mut u64,
+    ) -> u64;
+    /// The owner of the request at the key failed to deliver. The reply is 0 unless the connection owns it
+    /// and its package is not Enqueued.
+    pub fn tracker_owned_failed(
+        store: *mut u8,
+        length: usize,
+        kind: u64,
+        hash: &[u8; 32],
+        connection: u64,
+        now: u64,
+        reply: &mut u64,
+    ) -> u64;
+    /// failed, and the parents of the request are requested of the connection. The key and those of the
+    /// parents that are kept stand in the answer: so many as `count` says, and none where failed would reply
+    /// 0.
+    pub fn tracker_owned_failed_with_parents(
+        store: *mut u8,
+        length: usize,
+        kind: u64,
+        hash: &[u8; 32],
+        connection: u64,
+        now: u64,
+        answer: *mut u8,
+        answer_length: usize,
+        count: &mut u64,
+    ) -> u64;
+    /// The owner gives the request back and stays a candidate. Carried out, it replies 1.
+    pub fn tracker_owned_unclaim(
+        store: *mut u8,
+        length: usize,
+        kind: u64,
+        hash: &[u8; 32],
+        connection: u64,
+    ) -> u64;
+    /// The request at the key goes. Carried out, it replies 1.
+    pub fn tracker_owned_forget(store: *mut u8, length: usize, kind: u64, hash: &[u8; 32]) -> u64;
+    /// The transaction of the request at the key is known: the request goes, and its parents are announced
+    /// for its owner. It stays if a package is still to come of it. Carried out, it replies 1.
+    pub fn tracker_owned_forget_known(
+        store: *mut u8,
+        length: usize,
+        kind: u64,
+        hash: &[u8; 32],
+        now: u64,
+    ) -> u64;
+    /// failed, of a connection that is asked for package info. The reply is 0 unless it is.
+    pub fn tracker_owned_failed_package_info(
+        store: *mut u8,
+        length: usize,
+        kind: u64,
+        hash: &[u8; 32],
+        connection: u64,
+        now: u64,
+        reply: &mut u64,
+    ) -> u64;
+    /// The connection that is asked for package info of the request at the key, and in time; 0, if there is
+    /// none.
+    pub fn tracker_owned_package_info_owner(
+        store: *const u8,
+        length: usize,
+        kind: u64,
+        hash: &[u8; 32],
+        now: u64,
+        owner: &mut u64,
+    ) -> u64;
+    /// The connection is asked for the package info of the transaction with that wtxid, whose parents are
+    /// given in 32 bytes each. The reply is 0 if the hash is owned, if the connection owns 100 requests, or
+    /// if it is no candidate and is not kept as one.
+    pub fn tracker_owned_solicit_package_info(
+        store: *mut u8,
+        length: usize,
+        connection: u64,
+        hash: &[u8; 32],
+        parents: *const u8,
+        parents_length: usize,
+        now: u64,
+        reply: &mut u64,
+    ) -> u64;
+    /// The package info of the request at the Wtxid key has come: its owner has until the deadline to get
+    /// the package, whose wtxids are given in 32 bytes each. The reply is 0 unless they are 1 to 100.
+    pub fn tracker_owned_claim_package(
+        store: *mut u8,
+        length: usize,
+        connection: u64,
+        hash: &[u8; 32],
+        combined: &[u8; 32],
+        wtxids: *const u8,
+        wtxids_length: usize,
+        now: u64,
+        reply: &mut u64,
+    ) -> u64;
+    /// The package itself has come: it waits in the queue from now on, and no deadline ends it. The reply is
+    /// 0 unless combined hash and wtxids are those that were claimed, in their order.
+    pub fn tracker_owned_begin_package_resolution(
+        store: *mut u8,
+        length: usize,
+        connection: u64,
+        hash: &[u8; 32],
+        combined: &[u8; 32],
+        wtxids: *const u8,
+        wtxids_length: usize,
+        now: u64,
+        reply: &mut u64,
+    ) -> u64;
+    /// The package in the queue at the Wtxid key, if the connection owns it, is given up: the connection
+    /// leaves, and is asked for the parents. The key and those of the parents that are kept stand in the
+    /// answer: so many as `count` says, and none where there is no such package.
+    pub fn tracker_owned_release_package(
+        store: *mut u8,
+        length: usize,
+        connection: u64,
+        hash: &[u8; 32],
+        now: u64,
+        answer: *mut u8,
+        answer_length: usize,
+        count: &mut u64,
+    ) -> u64;
+    /// The claims of the connection whose packages have one of the combined hashes, which are given in 32
+    /// bytes each, have failed; of two with one hash, that at the greater key. Their keys stand in the
+    /// answer, each followed by those of its parents that are kept: so many as `count` says.
+    pub fn tracker_owned_failed_package_claims(
+        store: *mut u8,
+        length: usize,
+        connection: u64,
+        combined: *const u8,
+        combined_length: usize,
+        now: u64,
+        answer: *mut u8,
+        answer_length: usize,
+        count: &mut u64,
+    ) -> u64;
+    /// Every package goes, whatever its phase, and its owner leaves the request. `count` says how many went.
+    pub fn tracker_owned_teardown_package_claims(
+        store: *mut u8,
+        length: usize,
+        now: u64,
+        count: &mut u64,
+    ) -> u64;
+    /// Takes, in order, each entry of the checked list, which is given in 112 bytes each, whose hash is
+    /// unowned and that is still what plan would choose for it. Those that are taken stand in the answer: so
+    /// many as `taken` says.
+    pub fn tracker_owned_claim(
+        store: *mut u8,
+        length: usize,
+        now: u64,
+        checked: *const u8,
+        checked_length: usize,
+        answer: *mut u8,
+        answer_length: usize,
+        taken: &mut u64,
+    ) -> u64;
+    /// The next keys after the known cursor, which becomes the last of them. They stand in the answer: so
+    /// many as `count` says.
+    pub fn tracker_owned_sweep(
+        store: *mut u8,
+        length: usize,
+        answer: *mut u8,
+        answer_length: usize,
+        count: &mut u64,
+    ) -> u64;
+    /// Whether a poll is due. If the reply is 1, the next one is 100 milliseconds later.
+    pub fn tracker_owned_poll_gate(store: *mut u8, length: usize, now: u64, reply: &mut u64) -> u64;
+    /// The connection announces the items, which are given in 40 bytes each, with the priorities beside them
+    /// in 8; the shorter list decides. source: a wtxid source exists. Carried out, it replies 1.
+    pub fn tracker_owned_announce_transactions(
+        store: *mut u8,
+        length: usize,
+        connection: u64,
+        now: u64,
+        preferred: bool,
+        source: bool,
+        items: *const u8,
+        items_length: usize,
+        priorities: *const u8,
+        priorities_length: usize,
+    ) -> u64;
+    /// A response of the connection is complete: what it still owns of this transaction, under either
+    /// identity, has failed. Carried out, it replies 1.
+    pub fn tracker_owned_transaction_response_completed(
+        store: *mut u8,
+        length: usize,
+        connection: u64,
+        txid: &[u8; 32],
+        wtxid: &[u8; 32],
+        now: u64,
+    ) -> u64;
+    /// The connection does not have the items, which are given in 40 bytes each: what it owns of them has
+    /// failed, and so have its claims to the packages among them. The keys of what failed stand in the
+    /// answer, followed by those of the parents that are kept where there are some: so many as `count` says.
+    pub fn tracker_owned_transaction_not_found(
+        store: *mut u8,
+        length: usize,
+        connection: u64,
+        items: *const u8,
+        items_length: usize,
+        now: u64,
+        answer: *mut u8,
+        answer_length: usize,
+        count: &mut u64,
+    ) -> u64;
+    // end: written by bindings/generate
+}
