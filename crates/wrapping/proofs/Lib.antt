@@ -3,9 +3,3 @@ pub mod Batching
 pub mod Unfound
 pub mod Packaged
 pub mod Behind
-pub mod Waiting
-pub mod Merging
-pub mod Backwards
-pub mod Turning
-pub mod ComingIn
-pub mod Collecting

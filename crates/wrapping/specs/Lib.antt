@@ -1,3 +1,1 @@
 pub mod Wraps
-pub mod Waits
-pub mod Merges

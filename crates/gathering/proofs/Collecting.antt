@@ -17,9 +17,9 @@ use Rattle.machine.specs.Typed.{Each, OfferTyped}
 use Rattle.machine.proofs.Tests.{by-test, or-left}
 use Rattle.machine.proofs.Announce.{item-fits}
 use Rattle.announcing.proofs.Entering.{fresh}
-use Rattle.wrapping.specs.Waits.{waits, barredBeside, fullBeside, besideKeyed, collected}
-use Rattle.wrapping.proofs.Waiting.{Ready, ready-step}
-use Rattle.wrapping.proofs.ComingIn.{Idle}
+use Rattle.gathering.specs.Waits.{waits, barredBeside, fullBeside, besideKeyed, collected}
+use Rattle.gathering.proofs.Waiting.{Ready, ready-step}
+use Rattle.gathering.proofs.ComingIn.{Idle}
 
 module _ (m : Limits) (st : State) (s : Sound st) where
   abbrev t : Table

@@ -20,10 +20,10 @@ use Rattle.store.proofs.Bits.{own-row, conn-row}
 use Rattle.store.proofs.RowsAt.{push-places}
 use Rattle.store.proofs.Tally.{tally-row}
 use Rattle.requests.proofs.Keeping.{writes-by}
-use Rattle.wrapping.specs.Waits.{pushes}
-use Rattle.wrapping.specs.Merges.{numberOf, upto, beyond, merged, placed, gathered, raise}
-use Rattle.wrapping.proofs.Waiting.{Ready}
-use Rattle.wrapping.proofs.Merging.{merged-cons, merged-none, length-merged, parted, placed-is, rows-merged}
+use Rattle.gathering.specs.Waits.{pushes}
+use Rattle.gathering.specs.Merges.{numberOf, upto, beyond, merged, placed, gathered, raise}
+use Rattle.gathering.proofs.Waiting.{Ready}
+use Rattle.gathering.proofs.Merging.{merged-cons, merged-none, length-merged, parted, placed-is, rows-merged}
 
 -- a row of the connection n that does not own its request
 record Plain (n : ℕ) (r : Row) : Type 0 where

@@ -32,7 +32,7 @@ use Rattle.store.proofs.Counts.{rows-append, count-rows}
 use Rattle.store.proofs.RowsAt.{push-rows}
 use Rattle.store.proofs.Split.{rowsBelow}
 use Rattle.announcing.proofs.Deciding.{when-barred, when-crowded-out, when-full-out, when-room}
-use Rattle.wrapping.specs.Waits.{pushes, waits, barredBeside, fullBeside, besideKeyed, calmKeyed, collected, calm}
+use Rattle.gathering.specs.Waits.{pushes, waits, barredBeside, fullBeside, besideKeyed, calmKeyed, collected, calm}
 
 -- ---- counts, exactly
 

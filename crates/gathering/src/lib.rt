@@ -1,0 +1,3 @@
+// Candidates of one connection that wait beside the store, to come in together: rows move once, however many come in.
+pub mod tallying;
+pub mod together;
