@@ -17,24 +17,23 @@ use Rattle.machine.specs.Typed.{Each, OfferTyped}
 use Rattle.machine.proofs.Tests.{by-test, or-left}
 use Rattle.machine.proofs.Announce.{item-fits}
 use Rattle.announcing.proofs.Entering.{fresh}
-use Rattle.gathering.specs.Waits.{waits, barredBeside, fullBeside, besideKeyed, collected}
-use Rattle.gathering.proofs.Waiting.{Ready, ready-step}
-use Rattle.gathering.proofs.ComingIn.{Idle}
+use Rattle.gathering.specs.Waits.{Ready, Idle, waits, barredBeside, fullBeside, besideKeyed, collected}
+use Rattle.gathering.proofs.Waiting.{ready-step}
 
 module _ (m : Limits) (st : State) (s : Sound st) where
   abbrev t : Table
   t = st .table
 
   module _ (c : Candidate) (es : List Entry) where
-    idle-more : (l : List Entry) (b : Entry) → Idle (c .connection) t l → ownerIs (b .candidate .connection) ((at (b .key) t) .owner) ≡ false → Idle (c .connection) t (l ++ (b ∷ []))
+    idle-more : (l : List Entry) (b : Entry) → Idle t l → ownerIs (b .candidate .connection) ((at (b .key) t) .owner) ≡ false → Idle t (l ++ (b ∷ []))
     idle-more [] b h r = (r, tt)
     idle-more (d ∷ l) b h r = (h .0, idle-more l b (h .1) r)
 
-    idle-step : (x : Option Key) → CursorFits x → Idle (c .connection) t es → Idle (c .connection) t (besideKeyed m t c x es)
+    idle-step : (x : Option Key) → CursorFits x → Idle t es → Idle t (besideKeyed m t c x es)
     idle-step none f i = i
     idle-step (some k) f i =
-        by-test (Idle (c .connection) t) (barredBeside es k (c .connection) t) (λ b. i) λ b.
-        by-test (Idle (c .connection) t) (fullBeside m es k t) (λ e. i) (λ e.
+        by-test (Idle t) (barredBeside es k (c .connection) t) (λ b. i) λ b.
+        by-test (Idle t) (fullBeside m es k t) (λ e. i) (λ e.
         idle-more es (record { key = k; candidate = c }) i (owner-other k f (or-left (isCandidate (c .connection) (k .hash) t) (waits (k .hash) es) (or-left (isCandidate (c .connection) (k .hash) t || waits (k .hash) es) (leb maxPeerAnnouncements (heldBy (c .connection) t + length es)) b))))
       where
         owner-other : (k : Key) → CursorFits (some k) → isCandidate (c .connection) (k .hash) t ≡ false → ownerIs (c .connection) ((at k t) .owner) ≡ false
@@ -46,7 +45,7 @@ module _ (m : Limits) (st : State) (s : Sound st) where
     collected-ready [] es h a = a
     collected-ready (o ∷ os) es h a = collected-ready os _ (h .1) (ready-step m (offered n now p v f o) es t a (s .bounded .ordered) (keyOf (o .item)) (item-fits (o .item) (h .0 .hash)))
 
-    pub collected-idle : (os : List Offer) (es : List Entry) → Each OfferTyped os → Idle n t es → Idle n t (collected m n now p v f t os es)
+    pub collected-idle : (os : List Offer) (es : List Entry) → Each OfferTyped os → Idle t es → Idle t (collected m n now p v f t os es)
     unfolding collected
     collected-idle [] es h i = i
     collected-idle (o ∷ os) es h i = collected-idle os _ (h .1) (idle-step (offered n now p v f o) es (keyOf (o .item)) (item-fits (o .item) (h .0 .hash)) i)

@@ -20,9 +20,8 @@ use Rattle.store.proofs.Bits.{own-row, conn-row}
 use Rattle.store.proofs.RowsAt.{push-places}
 use Rattle.store.proofs.Tally.{tally-row}
 use Rattle.requests.proofs.Keeping.{writes-by}
-use Rattle.gathering.specs.Waits.{pushes}
+use Rattle.gathering.specs.Waits.{pushes, Ready, Idle}
 use Rattle.gathering.specs.Merges.{numberOf, upto, beyond, merged, placed, gathered, raise}
-use Rattle.gathering.proofs.Waiting.{Ready}
 use Rattle.gathering.proofs.Merging.{merged-cons, merged-none, length-merged, parted, placed-is, rows-merged}
 
 -- a row of the connection n that does not own its request
@@ -63,10 +62,6 @@ module _ (n : ℕ) where
       let f = plain-front (upto (numberOf r) ys) (beyond (numberOf r) ys) h in
       rw (placed-is r ys) (plain-append (upto (numberOf r) ys) (r ∷ beyond (numberOf r) ys) (f .0) (p, f .1))
 
-  -- none of those that wait owns its request
-  abbrev pub Idle : Table → List Entry → Type 0
-  Idle t es = Each (λ (a : Entry). ownerIs (a .candidate .connection) ((at (a .key) t) .owner) ≡ false) es
-
   plain-row : (t : Table) (a : Entry) → Ready n a → ownerIs (a .candidate .connection) ((at (a .key) t) .owner) ≡ false → Plain n (rowOf (at (a .key) t) (a .candidate))
   plain-row t a r o = record { mine = conn-row (at (a .key) t) (a .candidate) ∙ r .mine; bare = own-row (at (a .key) t) (a .candidate) ∙ ap one o }
 
@@ -75,7 +70,7 @@ module _ (n : ℕ) where
   plain-gathered t [] ys a i p = p
   plain-gathered t (e ∷ es) ys a i p = plain-gathered t es _ (a .1) (i .1) (plain-placed _ ys (plain-row t e (a .0) (i .0)) p)
 
-length-gathered : (t : Table) (es : List Entry) (ys : List Row) → length (gathered t es ys) ≡ length es + length ys
+pub length-gathered : (t : Table) (es : List Entry) (ys : List Row) → length (gathered t es ys) ≡ length es + length ys
 unfolding gathered
 length-gathered t [] ys = omega arith
 length-gathered t (e ∷ es) ys =
@@ -92,7 +87,7 @@ places-pushes n (e ∷ es) t a o = places-pushes n es (push (e .key) (e .candida
 -- ---- the state
 
 -- bytes with the rows merged and the connection's entry raised write the table with all of them
-pub came-in : (n : ℕ) (st : State) → Sound st → (es : List Entry) → Each (Ready n) es → Idle n (st .table) es → {b : List ℕ}
+pub came-in : (n : ℕ) (st : State) → Sound st → (es : List Entry) → Each (Ready n) es → Idle (st .table) es → {b : List ℕ}
     → Shows b (withConns (raise n (length es) (tally (rowsOf (st .table)))) (withRows (merged (rowsOf (st .table)) (gathered (st .table) es [])) (flatOf st))) → Writes b (onTable (pushes es (st .table)) st)
 came-in n st s es a i h =
     let t = st .table in

@@ -5,3 +5,8 @@ pub mod Turning
 pub mod ComingIn
 pub mod Collecting
 pub mod Raising
+pub mod InOrder
+pub mod Looking
+pub mod Faring
+pub mod ItemKeys
+pub mod Arriving

@@ -32,7 +32,7 @@ use Rattle.store.proofs.Counts.{rows-append, count-rows}
 use Rattle.store.proofs.RowsAt.{push-rows}
 use Rattle.store.proofs.Split.{rowsBelow}
 use Rattle.announcing.proofs.Deciding.{when-barred, when-crowded-out, when-full-out, when-room}
-use Rattle.gathering.specs.Waits.{pushes, waits, barredBeside, fullBeside, besideKeyed, calmKeyed, collected, calm}
+use Rattle.gathering.specs.Waits.{pushes, Ready, waits, barredBeside, fullBeside, besideKeyed, calmKeyed, collected, calm}
 
 -- ---- counts, exactly
 
@@ -48,11 +48,6 @@ one-more q k c t s o =
     let i : ℕ = length (rowsBelow k t ++ rowsFor (at k t)) in
     let e : p r ≡ q k (c .connection) = rw (key-row (at k t) c, conn-row (at k t) c, at-key k 0 t s o) in
     sym (count-rows q (push k c t)) ∙ ap (countRows p) (push-rows k 0 t o c) ∙ rows-insert p i r (rowsOf t) ∙ rw (count-rows q t, e)
-
--- those that wait: all of the connection n, under keys of 256 bits
-pub record Ready (n : ℕ) (a : Entry) : Type 0 where
-  pub mine : a .candidate .connection ≡ n
-  pub small : a .key .hash < top
 
 among : (Key → ℕ → Bool) → List Entry → ℕ
 among q [] = 0
@@ -158,7 +153,7 @@ module _ (m : Limits) (c : Candidate) (es : List Entry) (t : Table) (a : Each (R
     abbrev Full : Bool
     Full = leb (m .announcements) (held t + length es)
 
-    taken-barred : Barred ≡ true → Taken k es
+    pub taken-barred : Barred ≡ true → Taken k es
     taken-barred b = ap (λ (x : Answer). x .table) (when-barred m k c (pushes es t) (barred-beside (c .connection) es t a o k ∙ b))
 
     module _ (b : Barred ≡ false) where
@@ -174,14 +169,14 @@ module _ (m : Limits) (c : Candidate) (es : List Entry) (t : Table) (a : Each (R
       full-is : leb (m .announcements) (held (pushes es t)) ≡ Full
       full-is = ap (leb (m .announcements)) (held-beside (c .connection) es t a o)
 
-      taken-out : fullBeside m es k t ≡ true → c .preferred ≡ false → Taken k es
+      pub taken-out : fullBeside m es k t ≡ true → c .preferred ≡ false → Taken k es
       taken-out f p =
           elim (test Crowded) [
             | inl d ↦ ap (λ (x : Answer). x .table) (when-crowded-out m k c (pushes es t) free (crowded-is ∙ d) p)
             | inr d ↦ ap (λ (x : Answer). x .table) (when-full-out m k c (pushes es t) free (crowded-is ∙ d) (full-is ∙ sym (ap (λ (z : Bool). z || Full) d) ∙ f) p)
           ]
 
-      taken-in : fullBeside m es k t ≡ false → Taken k (es ++ (record { key = k; candidate = c } ∷ []))
+      pub taken-in : fullBeside m es k t ≡ false → Taken k (es ++ (record { key = k; candidate = c } ∷ []))
       taken-in f =
           ap (λ (x : Answer). x .table) (when-room m k c (pushes es t) free (crowded-is ∙ or-left Crowded Full f) (full-is ∙ or-right Crowded Full f))
           ∙ sym (pushes-more es (record { key = k; candidate = c }) t)
@@ -193,7 +188,7 @@ module _ (m : Limits) (c : Candidate) (es : List Entry) (t : Table) (a : Each (R
       by-test (Taken k) (barredBeside es k (c .connection) t) (λ b. taken-barred k b) λ b.
       by-test (Taken k) (fullBeside m es k t) (λ f. taken-out k b f (unpreferred (barredBeside es k (c .connection) t) (fullBeside m es k t) (c .preferred) e b f)) (λ f. taken-in k b f)
 
-  each-more : (l : List Entry) (b : Entry) → Each (Ready (c .connection)) l → Ready (c .connection) b → Each (Ready (c .connection)) (l ++ (b ∷ []))
+  pub each-more : (l : List Entry) (b : Entry) → Each (Ready (c .connection)) l → Ready (c .connection) b → Each (Ready (c .connection)) (l ++ (b ∷ []))
   each-more [] b h r = (r, tt)
   each-more (d ∷ l) b h r = (h .0, each-more l b (h .1) r)
 

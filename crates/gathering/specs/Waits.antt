@@ -1,23 +1,34 @@
 -- Candidates of one connection that wait beside the table, to come in together: announce_transactions where nothing has to give way.
 -- Assumes nothing.
-use Prim.Native.Nat.{ℕ, _+_}
+use Prim.Native.Nat.{ℕ, _+_, _<_}
+use mathlib.Core.Path.{_≡_}
 use mathlib.Core.Bool.{Bool, true, false, not, _&&_, _||_}
 use mathlib.Core.List.{List, [], _∷_, _++_}
 use mathlib.Core.Option.{Option, none, some}
 use lib.Dec.{leb, eqb}
 use lib.ListN.{length}
 use Rattle.ident.specs.If.{if_then_else_}
-use Rattle.ident.specs.Number.{Key, keyOf}
+use Rattle.ident.specs.Number.{top, Key, keyOf}
 use Rattle.machine.specs.Limits.{Limits, maxPeerAnnouncements}
-use Rattle.machine.specs.State.{Candidate, Entry, Table}
-use Rattle.machine.specs.Table.{held, heldBy, heldAt, isCandidate}
+use Rattle.machine.specs.State.{Candidate, Entry, Table, ownerIs}
+use Rattle.machine.specs.Table.{at, held, heldBy, heldAt, isCandidate}
 use Rattle.machine.specs.Announce.{push}
+use Rattle.machine.specs.Typed.{Each}
 use Rattle.machine.specs.Wrapper.{Offer, offered}
 
 -- they come in, one after the other
 unfoldable pub pushes : List Entry → Table → Table
 pushes [] t = t
 pushes (a ∷ l) t = pushes l (push (a .key) (a .candidate) t)
+
+-- each is of the connection n, under a key of 256 bits
+pub record Ready (n : ℕ) (a : Entry) : Type 0 where
+  pub mine : a .candidate .connection ≡ n
+  pub small : a .key .hash < top
+
+-- none of them owns its request
+abbrev pub Idle : Table → List Entry → Type 0
+Idle t es = Each (λ (a : Entry). ownerIs (a .candidate .connection) ((at (a .key) t) .owner) ≡ false) es
 
 -- one of them is at this hash
 unfoldable pub waits : ℕ → List Entry → Bool
