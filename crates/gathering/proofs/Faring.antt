@@ -140,7 +140,7 @@ module _ {m : Limits} {t : Table} {es : List Entry} {c : Candidate} {w : List �
 
 module _ {b w : List ℕ} {m : ℕ} {k : Key} {c : Candidate} where
   pub set-not : {r : ℕ} → FaresIn b w m k c r → (r ≡ 1 → ⊥) → SetAside b w w m (some k) c r
-  set-not f n = record { most = f .most; joined = λ l st s g es a. joined-not a (omega (arith, n)) (f .fares st s g es a); alone = λ _. refl }
+  set-not f n = record { most = f .most; joined = λ l st s g es a. joined-not a (omega (arith, n)) (f .fares st s g es a); spare = f .spare; alone = λ _. refl }
 
   pub set-in : {w′ : List ℕ} {r : ℕ} {y : Row} → k .hash < top → FaresIn b w m k c r → r ≡ 1 → RowIn b k c y → PutIn w w′ m y → SetAside b w w′ m (some k) c 1
   set-in {w′} {r} {y} small f e q p = record {
@@ -148,11 +148,12 @@ module _ {b w : List ℕ} {m : ℕ} {k : Key} {c : Candidate} where
     joined = λ l st s g es a.
         let h : Fares (limitsOf st) (st .table) es k c 1 = subst (λ (i : ℕ). Fares (limitsOf st) (st .table) es k c i) e (f .fares st s g es a) in
         joined-in a small (f .spare e) h (q st s g (h .idle refl)) p;
+    spare = λ _. f .spare e;
     alone = λ z. absurd (omega arith);
   }
 
 pub set-none : {b w : List ℕ} {m : ℕ} {c : Candidate} → SetAside b w w m none c 0
-set-none = record { most = omega arith; joined = λ l st s g es a. joined-none a refl; alone = λ _. refl }
+set-none = record { most = omega arith; joined = λ l st s g es a. joined-none a refl; spare = λ e. absurd (omega arith); alone = λ _. refl }
 
 pub set-keyed : {b w w′ : List ℕ} {m : ℕ} {x y : Option Key} {c : Candidate} {r : ℕ} → x ≡ y → SetAside b w w′ m x c r → SetAside b w w′ m y c r
 set-keyed {b} {w} {w′} {m} {x} {y} {c} {r} e a = subst (λ (k : Option Key). SetAside b w w′ m k c r) e a

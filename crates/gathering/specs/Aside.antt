@@ -38,6 +38,10 @@ numbered x (y ∷ ys) = eqb (numberOf y) x || numbered x ys
 abbrev pub KeyIn : List ℕ → ℕ → ℕ → Bool → Type 0
 KeyIn w m x r = (L : ℕ) (ys : List Row) → length ys ≡ m → m ≤ L → Sorted (rowNumbers ys) → Holds rowSize rowWords L ys w → r ≡ numbered x ys
 
+-- no rows
+abbrev pub Empty : List ℕ → Type 0
+Empty w = Holds rowSize rowWords space [] w
+
 -- the row y, put in its place
 abbrev pub PutIn : List ℕ → List ℕ → ℕ → Row → Type 0
 PutIn w w′ m y = (L : ℕ) (ys : List Row) → length ys ≡ m → m < L → Sorted (rowNumbers ys) → Holds rowSize rowWords L ys w → Holds rowSize rowWords L (placed y ys) w′
@@ -93,6 +97,7 @@ pub record Joined (m : Limits) (t : Table) (es : List Entry) (w : List ℕ) (d :
 pub record SetAside (b w w′ : List ℕ) (m : ℕ) (x : Option Key) (c : Candidate) (r : ℕ) : Type 0 where
   pub most : r ≤ 2
   pub joined : r ≤ 1 → (st : State) → Sound st → Writes b st → (es : List Entry) → Aside (c .connection) (st .table) es w m → Joined (limitsOf st) (st .table) es w′ (m + r) x c
+  pub spare : r ≡ 1 → m < space
   pub alone : r ≡ 2 → w′ ≡ w
 
 -- ---- they come in

@@ -1,10 +1,22 @@
 // A region of rows that wait, in the order of their keys: looked up, and one put in.
+ghost use mathlib.Core.Path.{_≡_};
 ghost use Prim.Native.Nat.{_+_, _*_, _≤_};
 ghost use lib.ListN.{length};
 ghost use Rattle.ident.specs.Words.{hashNum};
 ghost use Rattle.words.specs.Words.{words};
 ghost use Rattle.regions.specs.Rows.{rowSize, keyNumber};
-ghost use Rattle.gathering.specs.Aside.{space, KeyIn, PutIn, WaitsAt};
+ghost use Rattle.gathering.specs.Aside.{space, Empty, KeyIn, PutIn, WaitsAt};
+
+// Words of the region.
+const WORDS: usize = 4_608;
+
+// Makes the region empty.
+pub fn clear(new: &mut [u8])
+    requires { ⌜ length (now new) ≡ 8 * (rowSize * space) ⌝ }
+    ensures { λ _. ⌜ Empty (words (now (new .exit))) ⌝ }
+{
+    words::clear(new, 0, WORDS);
+}
 
 // Whether one of the m rows has the key k.
 fn has_key(new: &[u8], m: usize, k: regions::Key) -> bool

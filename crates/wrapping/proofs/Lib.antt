@@ -1,4 +1,6 @@
 pub mod Completing
+pub mod Parts
+pub mod Gathered
 pub mod Batching
 pub mod Unfound
 pub mod Packaged

@@ -1,1 +1,2 @@
 pub mod Wraps
+pub mod Batches
