@@ -6,11 +6,11 @@ use mathlib.Core.List.{List, [], _∷_}
 use native.Mathlib.Omega.{arith}
 use lib.ListN.{length}
 use Rattle.machine.specs.Limits.{maxAnnouncements}
-use Rattle.machine.specs.State.{Entry, State, onTable}
+use Rattle.machine.specs.State.{Entry, State}
 use Rattle.machine.specs.Sound.{Sound}
 use Rattle.store.specs.Flat.{flatOf, rowsOf, tally}
 use Rattle.store.specs.Image.{Shows, Writes}
-use Rattle.store.specs.Shown.{connsIn, limitIn, rowsIn, Kept, Shown, withConns, withRows, Tallies}
+use Rattle.store.specs.Shown.{connsIn, limitIn, rowsIn, Shown, withConns, withRows, Tallies}
 use Rattle.store.proofs.Counts.{held-rows}
 use Rattle.store.proofs.Entries.{tally-length}
 use Rattle.store.proofs.Frame.{sizes, shown}

@@ -20,12 +20,11 @@ use Rattle.machine.specs.Table.{at, held, heldBy, heldAt, isCandidate}
 use Rattle.machine.specs.Announce.{announceKeyed}
 use Rattle.machine.specs.Sound.{Sound}
 use Rattle.machine.specs.Typed.{Each}
-use Rattle.machine.proofs.Tests.{test, or-left, or-right, or-true}
+use Rattle.machine.proofs.Tests.{test, or-left, or-true}
 use Rattle.store.specs.Flat.{rowOf}
-use Rattle.store.specs.Image.{Writes}
 use Rattle.announcing.proofs.Entering.{fresh}
 use Rattle.gathering.specs.Merges.{placed, gathered}
-use Rattle.gathering.specs.Waits.{pushes, Ready, Idle, waits, barredBeside, fullBeside}
+use Rattle.gathering.specs.Waits.{pushes, Ready, waits, barredBeside, fullBeside}
 use Rattle.gathering.specs.Aside.{space, PutIn, Aside, Fares, FaresIn, RowIn, Joined, SetAside}
 use Rattle.gathering.proofs.Waiting.{taken-barred, taken-out, taken-in}
 use Rattle.gathering.proofs.InOrder.{sorted-gathered, gathered-more}

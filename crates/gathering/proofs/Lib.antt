@@ -3,7 +3,6 @@ pub mod Merging
 pub mod Backwards
 pub mod Turning
 pub mod ComingIn
-pub mod Collecting
 pub mod Raising
 pub mod InOrder
 pub mod Looking

@@ -12,16 +12,14 @@ use Rattle.ident.specs.Number.{top, place, txid, wtxid}
 use Rattle.words.specs.Words.{recs, splice}
 use Rattle.regions.specs.declared.Key.{Key as RowKey}
 use Rattle.regions.specs.declared.Row.{Row}
-use Rattle.regions.specs.Order.{Sorted, Bound, Sought}
+use Rattle.regions.specs.Order.{Bound, Sought}
 use Rattle.regions.specs.Regions.{each, padded, Holds, Inserted}
 use Rattle.regions.specs.Rows.{rowSize, rowWords, rowKey, keyNumber, keyOf}
 use Rattle.regions.proofs.Regions.{padded-fit}
 use Rattle.machine.specs.State.{Entry, Table}
-use Rattle.machine.specs.Sound.{Ordered}
 use Rattle.store.specs.Shown.{rowNumbers}
 use Rattle.store.proofs.Searches.{row-sought}
-use Rattle.gathering.specs.Merges.{placed, gathered}
-use Rattle.gathering.specs.Waits.{waits}
+use Rattle.gathering.specs.Merges.{gathered}
 use Rattle.gathering.specs.Aside.{space, numbered, KeyIn, PutIn, Aside, WaitsAt}
 use Rattle.gathering.proofs.ComingIn.{length-gathered}
 use Rattle.gathering.proofs.InOrder.{sorted-gathered, put-placed, numbered-is, waits-is}

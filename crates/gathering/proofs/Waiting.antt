@@ -1,29 +1,25 @@
--- Announcing a batch in which nothing has to give way is one coming in of those that were taken: each test can be made on the table
--- as it was, beside those that wait.
+-- Announcing behind those that wait, where nothing has to give way: each test can be made on the table as it was, beside them.
 -- Assumes nothing.
 use Prim.Native.Nat.{ℕ, _+_, _≤_, _<_}
 use mathlib.Core.Path.{_≡_, refl, sym, ap, _∙_}
 use mathlib.Core.Logic.{inl, inr}
-use mathlib.Core.Bool.{Bool, true, false, not, _||_}
+use mathlib.Core.Bool.{Bool, true, false, _||_}
 use mathlib.Core.List.{List, [], _∷_, _++_}
-use mathlib.Core.Option.{Option, none, some}
 use native.Mathlib.Omega.{arith}
 use lib.Dec.{ltb, leb, eqb}
 use lib.ListN.{length, take, drop, take-append-drop}
 use borrow.Author.Tests.{lt-ltb, eq-eqb}
-use Rattle.ident.specs.Number.{Key, keyOf, top}
+use Rattle.ident.specs.Number.{Key, top}
 use Rattle.regions.specs.declared.Row.{Row}
 use Rattle.regions.specs.Regions.{insertAt}
-use Rattle.machine.specs.Limits.{Limits, maxInFlight, maxPeerAnnouncements}
+use Rattle.machine.specs.Limits.{Limits, maxPeerAnnouncements}
 use Rattle.machine.specs.State.{Candidate, Entry, Table, Answer}
-use Rattle.machine.specs.Table.{at, one, any, by, under, byUnder, count, held, heldBy, heldAt, isCandidate, ownedBy}
-use Rattle.machine.specs.Announce.{push, announceKeyed, announceAt}
-use Rattle.machine.specs.Wrapper.{Offer, offered, offersFrom, announceTransactions}
-use Rattle.machine.specs.Sound.{CursorFits, Ordered}
-use Rattle.machine.specs.Typed.{Each, OfferTyped}
-use Rattle.machine.proofs.Tests.{test, by-test, and-left, and-right, or-left, or-right, or-true}
+use Rattle.machine.specs.Table.{at, one, any, by, under, byUnder, count, held, heldBy, heldAt, isCandidate}
+use Rattle.machine.specs.Announce.{push, announceAt}
+use Rattle.machine.specs.Sound.{Ordered}
+use Rattle.machine.specs.Typed.{Each}
+use Rattle.machine.proofs.Tests.{test, or-left, or-right, or-true}
 use Rattle.machine.proofs.Table.{ordered-change, at-key}
-use Rattle.machine.proofs.Announce.{item-fits}
 use Rattle.store.specs.Flat.{rowOf, rowsOf, rowsFor}
 use Rattle.store.specs.Gather.{keyAt}
 use Rattle.store.specs.FlatSound.{countRows}
@@ -32,7 +28,7 @@ use Rattle.store.proofs.Counts.{rows-append, count-rows}
 use Rattle.store.proofs.RowsAt.{push-rows}
 use Rattle.store.proofs.Split.{rowsBelow}
 use Rattle.announcing.proofs.Deciding.{when-barred, when-crowded-out, when-full-out, when-room}
-use Rattle.gathering.specs.Waits.{pushes, Ready, waits, barredBeside, fullBeside, besideKeyed, calmKeyed, collected, calm}
+use Rattle.gathering.specs.Waits.{pushes, Ready, waits, barredBeside, fullBeside}
 
 -- ---- counts, exactly
 
@@ -135,10 +131,6 @@ unfolding pushes
 pushes-more [] a t = refl
 pushes-more (e ∷ es) a t = pushes-more es a (push (e .key) (e .candidate) t)
 
-unpreferred : (b f p : Bool) → (b || (not f || not p)) ≡ true → b ≡ false → f ≡ true → p ≡ false
-unpreferred b f false e x y = refl
-unpreferred b f true e x y = sym (sym (ap (λ (z : Bool). z || (not f || false)) x ∙ ap (λ (z : Bool). not z || false) y) ∙ e)
-
 module _ (m : Limits) (c : Candidate) (es : List Entry) (t : Table) (a : Each (Ready (c .connection)) es) (o : Ordered 0 t) where
   abbrev Taken : Key → List Entry → Type 0
   Taken k l = (announceAt m k c (pushes es t)) .table ≡ pushes l t
@@ -180,47 +172,3 @@ module _ (m : Limits) (c : Candidate) (es : List Entry) (t : Table) (a : Each (R
       taken-in f =
           ap (λ (x : Answer). x .table) (when-room m k c (pushes es t) free (crowded-is ∙ or-left Crowded Full f) (full-is ∙ or-right Crowded Full f))
           ∙ sym (pushes-more es (record { key = k; candidate = c }) t)
-
-  keyed-step : (x : Option Key) → calmKeyed m t c x es ≡ true → (announceKeyed m x c (pushes es t)) .table ≡ pushes (besideKeyed m t c x es) t
-  unfolding announceKeyed
-  keyed-step none e = refl
-  keyed-step (some k) e =
-      by-test (Taken k) (barredBeside es k (c .connection) t) (λ b. taken-barred k b) λ b.
-      by-test (Taken k) (fullBeside m es k t) (λ f. taken-out k b f (unpreferred (barredBeside es k (c .connection) t) (fullBeside m es k t) (c .preferred) e b f)) (λ f. taken-in k b f)
-
-  pub each-more : (l : List Entry) (b : Entry) → Each (Ready (c .connection)) l → Ready (c .connection) b → Each (Ready (c .connection)) (l ++ (b ∷ []))
-  each-more [] b h r = (r, tt)
-  each-more (d ∷ l) b h r = (h .0, each-more l b (h .1) r)
-
-  pub ready-step : (x : Option Key) → CursorFits x → Each (Ready (c .connection)) (besideKeyed m t c x es)
-  ready-step none s = a
-  ready-step (some k) s =
-      by-test (Each (Ready (c .connection))) (barredBeside es k (c .connection) t) (λ b. a) λ b.
-      by-test (Each (Ready (c .connection))) (fullBeside m es k t) (λ f. a) (λ f. each-more es (record { key = k; candidate = c }) a (record { mine = refl; small = s }))
-
--- ---- a batch
-
-module _ (m : Limits) (n now : ℕ) (p v f : Bool) (t : Table) (o : Ordered 0 t) where
-  offers-collected : (os : List Offer) (es : List Entry) → Each OfferTyped os → Each (Ready n) es → calm m n now p v f t os es ≡ true → offersFrom m n now p v f os (pushes es t) ≡ pushes (collected m n now p v f t os es) t
-  unfolding offersFrom collected calm
-  offers-collected [] es h a e = refl
-  offers-collected (x ∷ os) es h a e =
-      let c : Candidate = offered n now p v f x in
-      let k : Option Key = keyOf (x .item) in
-      ap (offersFrom m n now p v f os) (keyed-step m c es t a o k (and-left (calmKeyed m t c k es) _ e))
-      ∙ offers-collected os (besideKeyed m t c k es) (h .1) (ready-step m c es t a o k (item-fits (x .item) (h .0 .hash))) (and-right (calmKeyed m t c k es) _ e)
-
-  -- the batch is one coming in of those that were collected, each tested on the table as it was
-  pub transactions-collected : (os : List Offer) → Each OfferTyped os → f ≡ leb maxInFlight (ownedBy n t) → calm m n now p v f t os [] ≡ true → announceTransactions m n now p v os t ≡ pushes (collected m n now p v f t os []) t
-  unfolding announceTransactions
-  transactions-collected os h e c = rw (sym e) (unfold pushes in offers-collected os [] h tt c)
-
--- nothing gives way to an unpreferred one
-pub unpreferred-calm : (m : Limits) (n now : ℕ) (v f : Bool) (t : Table) (os : List Offer) (es : List Entry) → calm m n now false v f t os es ≡ true
-unfolding calm
-unpreferred-calm m n now v f t [] es = refl
-unpreferred-calm m n now v f t (o ∷ os) es = rw (calm-one (keyOf (o .item))) (unpreferred-calm m n now v f t os _)
-  where
-    calm-one : (x : Option Key) → calmKeyed m t (offered n now false v f o) x es ≡ true
-    calm-one none = refl
-    calm-one (some k) = or-true (barredBeside es k n t) _ (or-true (not (fullBeside m es k t)) true refl)

@@ -2,19 +2,16 @@
 -- Assumes nothing.
 use Prim.Native.Nat.{ℕ, _+_, _<_}
 use mathlib.Core.Path.{_≡_}
-use mathlib.Core.Bool.{Bool, true, false, not, _&&_, _||_}
-use mathlib.Core.List.{List, [], _∷_, _++_}
-use mathlib.Core.Option.{Option, none, some}
+use mathlib.Core.Bool.{Bool, false, _||_}
+use mathlib.Core.List.{List, [], _∷_}
 use lib.Dec.{leb, eqb}
 use lib.ListN.{length}
-use Rattle.ident.specs.If.{if_then_else_}
-use Rattle.ident.specs.Number.{top, Key, keyOf}
+use Rattle.ident.specs.Number.{top, Key}
 use Rattle.machine.specs.Limits.{Limits, maxPeerAnnouncements}
-use Rattle.machine.specs.State.{Candidate, Entry, Table, ownerIs}
+use Rattle.machine.specs.State.{Entry, Table, ownerIs}
 use Rattle.machine.specs.Table.{at, held, heldBy, heldAt, isCandidate}
 use Rattle.machine.specs.Announce.{push}
 use Rattle.machine.specs.Typed.{Each}
-use Rattle.machine.specs.Wrapper.{Offer, offered}
 
 -- they come in, one after the other
 unfoldable pub pushes : List Entry → Table → Table
@@ -44,31 +41,3 @@ barredBeside es k n t = (isCandidate n (k .hash) t || waits (k .hash) es) || leb
 -- the hash, or the tracker, has as many candidates as it may
 abbrev pub fullBeside : Limits → List Entry → Key → Table → Bool
 fullBeside m es k t = leb (m .alternates) (heldAt (k .hash) t) || leb (m .announcements) (held t + length es)
-
--- one announcement more: it waits too, or is refused
-abbrev pub besideKeyed : Limits → Table → Candidate → Option Key → List Entry → List Entry
-besideKeyed m t c none es = es
-besideKeyed m t c (some k) es =
-    if barredBeside es k (c .connection) t then es
-    else if fullBeside m es k t then es
-    else es ++ (record { key = k; candidate = c } ∷ [])
-
--- it is not one that another would have to give way to
-abbrev pub calmKeyed : Limits → Table → Candidate → Option Key → List Entry → Bool
-calmKeyed m t c none es = true
-calmKeyed m t c (some k) es = barredBeside es k (c .connection) t || (not (fullBeside m es k t) || not (c .preferred))
-
--- ---- a batch
-
--- those that come to wait behind es
-unfoldable pub collected : Limits → ℕ → ℕ → Bool → Bool → Bool → Table → List Offer → List Entry → List Entry
-collected m n now p v f t [] es = es
-collected m n now p v f t (o ∷ os) es = collected m n now p v f t os (besideKeyed m t (offered n now p v f o) (keyOf (o .item)) es)
-
--- nothing has to give way to any of the offers
-unfoldable pub calm : Limits → ℕ → ℕ → Bool → Bool → Bool → Table → List Offer → List Entry → Bool
-calm m n now p v f t [] es = true
-calm m n now p v f t (o ∷ os) es =
-    let c = offered n now p v f o in
-    let k = keyOf (o .item) in
-    calmKeyed m t c k es && calm m n now p v f t os (besideKeyed m t c k es)

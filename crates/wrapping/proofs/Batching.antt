@@ -1,21 +1,19 @@
 -- announce_transactions on the bytes, item by item: what stands after the first i of the items offered.
 -- Assumes nothing.
-use Prim.Native.Nat.{ℕ, zero, suc, _+_, _*_, _≤_, _<_}
+use Prim.Native.Nat.{ℕ, _+_, _*_, _≤_, _<_}
 use mathlib.Core.Path.{_≡_, refl, sym, ap, subst, _∙_}
 use mathlib.Core.Bool.{Bool, not, _&&_}
-use mathlib.Core.List.{List, [], _∷_, _++_}
-use native.Mathlib.Numerals.{add-one}
+use mathlib.Core.List.{List, []}
 use native.Mathlib.Omega.{arith}
 use lib.Dec.{leb}
 use lib.ListN.{length, take, getD}
-use lib.Seq.{take-suc, take-all}
+use lib.Seq.{take-all}
 use Rattle.ident.specs.Number.{Item}
 use Rattle.words.specs.Words.{words}
 use Rattle.machine.specs.Limits.{Limits, maxInFlight, sourceDelay, requestLifetime, word}
-use Rattle.machine.specs.State.{Candidate, State, Table, limitsOf, onTable}
+use Rattle.machine.specs.State.{State, Table, limitsOf, onTable}
 use Rattle.machine.specs.Table.{one, ownedBy}
-use Rattle.machine.specs.Announce.{announce}
-use Rattle.machine.specs.Wrapper.{Offer, isWTx, delay, offered, offersFrom, announceTransactions}
+use Rattle.machine.specs.Wrapper.{Offer, isWTx, delay, offersFrom, announceTransactions}
 use Rattle.machine.specs.Sound.{Sound}
 use Rattle.machine.specs.Typed.{Each, OfferTyped}
 use Rattle.machine.proofs.Fail.{Peer}
@@ -26,7 +24,6 @@ use Rattle.store.specs.Shown.{Kept}
 use Rattle.lists.specs.Items.{itemsIn, offersIn}
 use Rattle.lists.proofs.Inventory.{paired-at}
 use Rattle.requests.specs.Changes.{Tells}
-use Rattle.announcing.specs.Answers.{Answered}
 use Rattle.wrapping.specs.declared.offering.Terms.{Terms}
 use Rattle.wrapping.specs.Wraps.{Becomes}
 use Rattle.wrapping.specs.Batches.{between, announced, Announced}

@@ -4,7 +4,7 @@ use Prim.Native.Nat.{ℕ, _+_, _-_, _≤_, _<_}
 use mathlib.Core.Path.{_≡_, refl, sym, ap, subst, _∙_}
 use mathlib.Core.Logic.{inl, inr}
 use mathlib.Core.Bool.{Bool}
-use mathlib.Core.List.{List, [], _∷_, _++_}
+use mathlib.Core.List.{List, []}
 use native.Mathlib.Omega.{arith}
 use lib.Dec.{eqb}
 use lib.ListN.{length, getD}
@@ -13,9 +13,8 @@ use Rattle.ident.specs.declared.ItemKind.the-variants.{WTx}
 use Rattle.ident.specs.Number.{keyOf}
 use Rattle.machine.specs.Limits.{requestLifetime, word}
 use Rattle.machine.specs.State.{Candidate, State, Table, limitsOf, onTable}
-use Rattle.machine.specs.Table.{held}
-use Rattle.machine.specs.Announce.{announce, announceKeyed}
-use Rattle.machine.specs.Wrapper.{Offer, offered, offersFrom}
+use Rattle.machine.specs.Announce.{announce}
+use Rattle.machine.specs.Wrapper.{Offer, offered}
 use Rattle.machine.specs.Sound.{Sound}
 use Rattle.machine.specs.Typed.{Each, OfferTyped}
 use Rattle.machine.proofs.Fail.{Peer}
@@ -28,10 +27,10 @@ use Rattle.requests.proofs.Keeping.{sized-of}
 use Rattle.announcing.specs.Answers.{Answered}
 use Rattle.gathering.specs.Merges.{gathered}
 use Rattle.gathering.specs.Waits.{pushes}
-use Rattle.gathering.specs.Aside.{space, Empty, Aside, Joined, SetAside, Gathers, ComeIn}
+use Rattle.gathering.specs.Aside.{space, Empty, SetAside, Gathers, ComeIn}
 use Rattle.wrapping.specs.declared.offering.Terms.{Terms}
 use Rattle.wrapping.specs.Wraps.{Becomes}
-use Rattle.wrapping.specs.Batches.{between, announced, Offers, Collected, Collects, Announced}
+use Rattle.wrapping.specs.Batches.{between, announced, Offers, Collected, Collects}
 use Rattle.wrapping.proofs.Parts.{between-none, announced-join, announced-one, each-between, offers-none, bounded-offers}
 
 -- an offer to read lists with

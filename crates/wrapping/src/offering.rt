@@ -163,13 +163,20 @@ fn region() -> [u8; ROOM] {
     [0u8; ROOM]
 }
 
-// Announces some items from the first on, those together that nothing gives way to and that find room beside the store; the next one,
-// if there is one, by itself. Answers which comes next.
+// With fewer items a pass over the rows costs more than it spares.
+const FEW: usize = 4;
+
+// Announces some items from the first on: those together that nothing gives way to and that find room beside the store, and the next
+// one, if there is one, by itself. Answers which comes next.
 fn announce_some(s: &mut [u8], a: Terms, items: &[u8], priorities: &[u8], first: usize) -> usize
     requires { ⌜ Kept (now s) × (1 ≤ a .connection) × (a .clock + requestLifetime < word) × (first < length (offersIn (now items) (now priorities))) ⌝ }
     ensures { λ r. ⌜ Announced (now (s .entry)) (now (s .exit)) a (offersIn (now (items .entry)) (now (priorities .entry))) first r ⌝ }
 {
     let count = lists::offers(items, priorities);
+    if count - first < FEW {
+        announce_one(s, a, items, priorities, first);
+        return first + 1;
+    }
     let mut new = region();
     gathering::region::clear(&mut new);
     let p = collect(s, &mut new, a, items, priorities, first);

@@ -1,6 +1,5 @@
 -- `gathering::beside::fares` meets its contract. Assumes nothing.
 use native.Mathlib.Omega.{arith}
-use mathlib.Core.Path.{refl}
 use Rattle.ident.specs.Words.{keyNum}
 use Rattle.ident.proofs.Words.{key-four, hash-below}
 use Rattle.machine.specs.State.{limitsOf}

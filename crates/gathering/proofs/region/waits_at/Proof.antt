@@ -1,6 +1,6 @@
 -- `gathering::region::waits_at` meets its contract. Assumes nothing.
 use mathlib.Core.Path.{ap, _∙_}
-use Rattle.ident.specs.Number.{Key, place}
+use Rattle.ident.specs.Number.{place}
 use Rattle.ident.proofs.Words.{hash-four, hash-below}
 use Rattle.gathering.proofs.Looking.{waits-first, waits-second}
 use borrow.Author.Needs.{needs}

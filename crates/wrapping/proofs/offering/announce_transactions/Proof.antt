@@ -1,5 +1,5 @@
 -- `wrapping::offering::announce_transactions` meets its contract. Assumes nothing.
-use Prim.Native.Nat.{_-_, _<_}
+use Prim.Native.Nat.{_-_}
 use native.Mathlib.Omega.{arith}
 use lib.ListN.{length}
 use Rattle.machine.specs.Typed.{Each, OfferTyped}
