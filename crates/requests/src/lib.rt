@@ -94,7 +94,7 @@ pub fn key_words(k: ident::Key) -> regions::Key
 }
 
 // The row of a candidate that does not own its request.
-fn new_row(k: regions::Key, c: Candidate, mark: u64) -> regions::Row
+pub fn new_row(k: regions::Key, c: Candidate, mark: u64) -> regions::Row
     requires { ⌜ (k .kind ≤ 1) × (mark ≤ 1) ⌝ }
     ensures { λ r. ⌜ RowFor k c mark r ⌝ }
 {

@@ -1,21 +1,19 @@
 -- announce_transactions on the bytes, item by item: what stands after the first i of the items offered.
 -- Assumes nothing.
-use Prim.Native.Nat.{ℕ, zero, suc, _+_, _*_, _≤_, _<_}
+use Prim.Native.Nat.{ℕ, _+_, _*_, _≤_, _<_}
 use mathlib.Core.Path.{_≡_, refl, sym, ap, subst, _∙_}
 use mathlib.Core.Bool.{Bool, not, _&&_}
-use mathlib.Core.List.{List, [], _∷_, _++_}
-use native.Mathlib.Numerals.{add-one}
+use mathlib.Core.List.{List, []}
 use native.Mathlib.Omega.{arith}
 use lib.Dec.{leb}
 use lib.ListN.{length, take, getD}
-use lib.Seq.{take-suc, take-all}
+use lib.Seq.{take-all}
 use Rattle.ident.specs.Number.{Item}
 use Rattle.words.specs.Words.{words}
 use Rattle.machine.specs.Limits.{Limits, maxInFlight, sourceDelay, requestLifetime, word}
-use Rattle.machine.specs.State.{Candidate, State, Table, limitsOf, onTable}
+use Rattle.machine.specs.State.{State, Table, limitsOf, onTable}
 use Rattle.machine.specs.Table.{one, ownedBy}
-use Rattle.machine.specs.Announce.{announce}
-use Rattle.machine.specs.Wrapper.{Offer, isWTx, delay, offered, offersFrom, announceTransactions}
+use Rattle.machine.specs.Wrapper.{Offer, isWTx, delay, offersFrom, announceTransactions}
 use Rattle.machine.specs.Sound.{Sound}
 use Rattle.machine.specs.Typed.{Each, OfferTyped}
 use Rattle.machine.proofs.Fail.{Peer}
@@ -26,30 +24,31 @@ use Rattle.store.specs.Shown.{Kept}
 use Rattle.lists.specs.Items.{itemsIn, offersIn}
 use Rattle.lists.proofs.Inventory.{paired-at}
 use Rattle.requests.specs.Changes.{Tells}
-use Rattle.announcing.specs.Answers.{Answered}
+use Rattle.wrapping.specs.declared.offering.Terms.{Terms}
 use Rattle.wrapping.specs.Wraps.{Becomes}
+use Rattle.wrapping.specs.Batches.{between, announced, Announced}
+use Rattle.wrapping.proofs.Parts.{take-between, each-take, offers-none, offers-append}
 
 -- ---- how long an item waits
 
 pub delay-is : (p v f : Bool) (i : Item) {w : Bool} {a b c : ℕ} → w ≡ isWTx (i .kind) → a ≡ one (not p) → b ≡ one (v && not w) → c ≡ one f → sourceDelay * (a + b + c) ≡ delay p v f i
 delay-is p v f i e q r s = rw (q, r, s, e)
 
--- ---- the machine, one item more
+-- ---- the machine, one part more
 
-from-more : (m : Limits) (n now : ℕ) (p v f : Bool) (os : List Offer) (o : Offer) (t : Table)
-    → offersFrom m n now p v f (os ++ (o ∷ [])) t ≡ (announce m (offered n now p v f o) (offersFrom m n now p v f os t)) .table
-unfolding offersFrom
-from-more m n now p v f [] o t = refl
-from-more m n now p v f (x ∷ os) o t = from-more m n now p v f os o ((announce m (offered n now p v f x) t) .table)
-
-offers-more : (m : Limits) (n now : ℕ) (p v : Bool) (os : List Offer) (o : Offer) (t : Table) {f : Bool} → f ≡ leb maxInFlight (ownedBy n t)
-    → announceTransactions m n now p v (os ++ (o ∷ [])) t ≡ (announce m (offered n now p v f o) (announceTransactions m n now p v os t)) .table
+transactions-none : (m : Limits) (n now : ℕ) (p v : Bool) (t : Table) → announceTransactions m n now p v [] t ≡ t
 unfolding announceTransactions
-offers-more m n now p v os o t e = rw e (from-more m n now p v (leb maxInFlight (ownedBy n t)) os o t)
+transactions-none m n now p v t = offers-none m n now p v (leb maxInFlight (ownedBy n t)) t
 
-offers-none : (m : Limits) (n now : ℕ) (p v : Bool) (t : Table) → announceTransactions m n now p v [] t ≡ t
-unfolding announceTransactions offersFrom
-offers-none m n now p v t = refl
+transactions-more : (m : Limits) (a : Terms) (os : List Offer) (i j : ℕ) (t : Table) → i ≤ j → a .late ≡ leb maxInFlight (ownedBy (a .connection) t)
+    → announced a (between i j os) m (announceTransactions m (a .connection) (a .clock) (a .preferred) (a .source) (take i os) t) ≡ announceTransactions m (a .connection) (a .clock) (a .preferred) (a .source) (take j os) t
+unfolding announceTransactions
+transactions-more m a os i j t h e =
+    let n = a .connection in
+    let f = leb maxInFlight (ownedBy n t) in
+    ap (λ (b : Bool). offersFrom m n (a .clock) (a .preferred) (a .source) b (between i j os) (offersFrom m n (a .clock) (a .preferred) (a .source) f (take i os) t)) e
+    ∙ sym (offers-append m n (a .clock) (a .preferred) (a .source) f (take i os) (between i j os) t)
+    ∙ ap (λ (l : List Offer). offersFrom m n (a .clock) (a .preferred) (a .source) f l t) (take-between i j os h)
 
 -- ---- the item and the priority at an index
 
@@ -66,12 +65,7 @@ pub record Batched (n now : ℕ) (p v : Bool) (os : List Offer) (s₀ s : List �
   pub table : Becomes s₀ s (λ m t. announceTransactions m n now p v (take i os) t)
 
 pub batched-start : (n now : ℕ) (p v : Bool) (os : List Offer) (s : List ℕ) → Batched n now p v os s s 0
-batched-start n now p v os s = record { inside = omega arith; long = refl; table = λ st g w. rw (offers-none (limitsOf st) n now p v (st .table)) w }
-
-each-take : (i : ℕ) (os : List Offer) → Each OfferTyped os → Each OfferTyped (take i os)
-each-take zero os a = tt
-each-take (suc i) [] a = tt
-each-take (suc i) (o ∷ os) a = (a .0, each-take i os (a .1))
+batched-start n now p v os s = record { inside = omega arith; long = refl; table = λ st g w. rw (transactions-none (limitsOf st) n now p v (st .table)) w }
 
 module _ {n now i : ℕ} {p v : Bool} {os : List Offer} {s₀ s : List ℕ} (b : Batched n now p v os s₀ s i) where
   pub batched-done : i ≡ length os → Becomes s₀ s (λ m t. announceTransactions m n now p v os t)
@@ -87,20 +81,10 @@ module _ {n now i : ℕ} {p v : Bool} {os : List Offer} {s₀ s : List ℕ} (b :
     pub batched-kept : Kept s₀ → Kept s
     batched-kept k = record { state = after (k .state); sound = after-sound (k .state) (k .sound); writes = b .table (k .state) (k .sound) (k .writes) }
 
-    pub batched-more : {f r : Bool} {s₁ : List ℕ} {c : Candidate} (o : Offer) → i < length os → Tells s₀ (λ t. f ≡ leb maxInFlight (ownedBy n t)) → ((d : Offer) → o ≡ getD os i d)
-        → c ≡ offered n now p v f o → Answered s s₁ r (λ m t. announce m c t) → length s₁ ≡ length s → Batched n now p v os s₀ s₁ (i + 1)
-    batched-more {f} {r} {s₁} {c} o h flag e q a l = record {
-      inside = omega arith;
+    pub batched-more : {f : Bool} {s₁ : List ℕ} {j : ℕ} → Tells s₀ (λ t. f ≡ leb maxInFlight (ownedBy n t))
+        → Announced s s₁ (record { connection = n; clock = now; preferred = p; source = v; late = f }) os i j → length s₁ ≡ length s → Batched n now p v os s₀ s₁ j
+    batched-more {f} {s₁} {j} flag x l = record {
+      inside = x .inside;
       long = l ∙ b .long;
-      table = λ st g w. subst (λ (t : Table). Writes s₁ (onTable t st)) (turn st g w) (a .table (after st) (after-sound st g) (b .table st g w));
+      table = λ st g w. subst (λ (t : Table). Writes s₁ (onTable t st)) (transactions-more (limitsOf st) (record { connection = n; clock = now; preferred = p; source = v; late = f }) os i j (st .table) (omega (arith, x .more)) (flag st g w)) (x .table (after st) (after-sound st g) (b .table st g w));
     }
-      where
-        grown : take (i + 1) os ≡ take i os ++ (o ∷ [])
-        grown = rw (add-one i) (take-suc os i o h ∙ ap (λ (x : Offer). take i os ++ (x ∷ [])) (sym (e o)))
-
-        turn : (st : State) → Sound st → Writes s₀ st
-            → (announce (limitsOf st) c (announceTransactions (limitsOf st) n now p v (take i os) (st .table))) .table ≡ announceTransactions (limitsOf st) n now p v (take (i + 1) os) (st .table)
-        turn st g w =
-            ap (λ (x : Candidate). (announce (limitsOf st) x (announceTransactions (limitsOf st) n now p v (take i os) (st .table))) .table) q
-            ∙ sym (offers-more (limitsOf st) n now p v (take i os) o (st .table) (flag st g w))
-            ∙ ap (λ (x : List Offer). announceTransactions (limitsOf st) n now p v x (st .table)) (sym grown)

@@ -1,11 +1,7 @@
 pub mod Completing
+pub mod Parts
+pub mod Gathered
 pub mod Batching
 pub mod Unfound
 pub mod Packaged
 pub mod Behind
-pub mod Waiting
-pub mod Merging
-pub mod Backwards
-pub mod Turning
-pub mod ComingIn
-pub mod Collecting

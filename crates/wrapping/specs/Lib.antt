@@ -1,3 +1,2 @@
 pub mod Wraps
-pub mod Waits
-pub mod Merges
+pub mod Batches

@@ -7,7 +7,6 @@ ghost use Rattle.requests.specs.Changes.{Makes};
 
 pub mod missing;
 pub mod offering;
-pub mod together;
 
 // A response of the connection n is complete: what n still owns of this transaction, under either identity, has failed.
 pub fn transaction_response_completed(

@@ -2,14 +2,19 @@
 ghost use mathlib.Core.Path.{_≡_};
 ghost use Prim.Native.Nat.{_+_, _*_, _≤_, _<_};
 ghost use lib.Dec.{leb};
+ghost use lib.ListN.{length};
 ghost use Rattle.ident.specs.Words.{itemNum};
+ghost use Rattle.words.specs.Words.{words};
+ghost use Rattle.regions.specs.Rows.{rowSize};
 ghost use Rattle.machine.specs.Limits.{maxInFlight, sourceDelay, requestLifetime, word};
 ghost use Rattle.machine.specs.Table as table;
 ghost use Rattle.machine.specs.Wrapper as machine;
 ghost use Rattle.store.specs.Shown.{Kept};
 ghost use Rattle.lists.specs.Items.{offersIn};
 ghost use Rattle.requests.specs.Changes.{candidateOf, Tells};
+ghost use Rattle.gathering.specs.Aside.{space, Empty};
 ghost use Rattle.wrapping.specs.Wraps.{Becomes};
+ghost use Rattle.wrapping.specs.Batches.{between, announced, Offers, Collects, Announced};
 
 // Milliseconds by which a less welcome announcement waits.
 const SOURCE_DELAY: u64 = 2_000;
@@ -76,7 +81,116 @@ fn overloaded(s: &[u8], n: u64) -> bool
     f.owned >= MAX_IN_FLIGHT
 }
 
-// Announces the items one by one. Whether the connection is overloaded is read before the first.
+// What holds of every item of a batch. source: a wtxid source exists; late: the connection owned as many requests as it may before.
+struct Terms {
+    connection: u64,
+    clock: u64,
+    preferred: bool,
+    source: bool,
+    late: bool,
+}
+
+// The candidate that the i-th item makes.
+fn offered_at(a: Terms, items: &[u8], priorities: &[u8], i: usize) -> requests::Candidate
+    requires { ⌜ (a .clock + requestLifetime < word) × (i < length (offersIn (now items) (now priorities))) ⌝ }
+    ensures { λ c. ⌜ Offers a (offersIn (now (items .entry)) (now (priorities .entry))) i (candidateOf c) ⌝ }
+{
+    let item = lists::item_at(items, i);
+    let priority = words::get(priorities, i);
+    offered(
+        a.connection,
+        a.clock,
+        a.preferred,
+        a.source,
+        a.late,
+        item,
+        priority,
+    )
+}
+
+// Announces the i-th item by itself.
+fn announce_one(s: &mut [u8], a: Terms, items: &[u8], priorities: &[u8], i: usize)
+    requires { ⌜ Kept (now s) × (a .clock + requestLifetime < word) × (i < length (offersIn (now items) (now priorities))) ⌝ }
+    ensures { λ _. ⌜ Becomes (now (s .entry)) (now (s .exit)) (announced a (between i (i + 1) (offersIn (now (items .entry)) (now (priorities .entry))))) ⌝ }
+{
+    let c = offered_at(a, items, priorities, i);
+    announcing::announce(s, c);
+}
+
+// Where a part of a batch ends, and how many of it wait.
+struct Part {
+    next: usize,
+    waiting: usize,
+}
+
+// Collects in `new`, which is empty, the rows of the items from the first on that can come in together.
+fn collect(
+    s: &[u8],
+    new: &mut [u8],
+    a: Terms,
+    items: &[u8],
+    priorities: &[u8],
+    first: usize,
+) -> Part
+    requires { ⌜ Kept (now s) × (8 * (rowSize * space) ≤ length (now new)) × Empty (words (now new)) × (a .clock + requestLifetime < word) × (first ≤ length (offersIn (now items) (now priorities))) ⌝ }
+    ensures { λ r. ⌜ Collects (now (s .entry)) (words (now (new .exit))) a (offersIn (now (items .entry)) (now (priorities .entry))) first (r .next) (r .waiting) ⌝ }
+{
+    let count = lists::offers(items, priorities);
+    let mut i = first;
+    let mut m = 0;
+    while i < count {
+        let c = offered_at(a, items, priorities, i);
+        let more = gathering::beside::set_aside(s, new, m, c);
+        if more == 2 {
+            return Part {
+                next: i,
+                waiting: m,
+            };
+        }
+        m += more;
+        i += 1;
+    }
+    Part {
+        next: i,
+        waiting: m,
+    }
+}
+
+// Bytes of the rows that can wait.
+const ROOM: usize = 36_864;
+
+fn region() -> [u8; ROOM] {
+    [0u8; ROOM]
+}
+
+// With fewer items a pass over the rows costs more than it spares.
+const FEW: usize = 4;
+
+// Announces some items from the first on: those together that nothing gives way to and that find room beside the store, and the next
+// one, if there is one, by itself. Answers which comes next.
+fn announce_some(s: &mut [u8], a: Terms, items: &[u8], priorities: &[u8], first: usize) -> usize
+    requires { ⌜ Kept (now s) × (1 ≤ a .connection) × (a .clock + requestLifetime < word) × (first < length (offersIn (now items) (now priorities))) ⌝ }
+    ensures { λ r. ⌜ Announced (now (s .entry)) (now (s .exit)) a (offersIn (now (items .entry)) (now (priorities .entry))) first r ⌝ }
+{
+    let count = lists::offers(items, priorities);
+    if count - first < FEW {
+        announce_one(s, a, items, priorities, first);
+        return first + 1;
+    }
+    let mut new = region();
+    gathering::region::clear(&mut new);
+    let p = collect(s, &mut new, a, items, priorities, first);
+    gathering::coming::come_in(s, a.connection, &new, p.waiting);
+    let next = p.next;
+    if next < count {
+        announce_one(s, a, items, priorities, next);
+        return next + 1;
+    }
+    next
+}
+
+// Announces the items: a part that comes in together costs one pass over the rows. Whether the connection is overloaded is read before
+// the first.
 pub fn announce_transactions(
     s: &mut [u8],
     n: u64,
@@ -91,12 +205,15 @@ pub fn announce_transactions(
 {
     let late = overloaded(s, n);
     let count = lists::offers(items, priorities);
+    let a = Terms {
+        connection: n,
+        clock,
+        preferred,
+        source,
+        late,
+    };
     let mut i = 0;
     while i < count {
-        let item = lists::item_at(items, i);
-        let priority = words::get(priorities, i);
-        let c = offered(n, clock, preferred, source, late, item, priority);
-        announcing::announce(s, c);
-        i += 1;
+        i = announce_some(s, a, items, priorities, i);
     }
 }

@@ -1,6 +1,7 @@
 -- `wrapping::missing::not_found_one` meets its contract. Assumes nothing.
 use Rattle.ident.specs.Words.{hashNum}
-use Rattle.wrapping.proofs.Unfound.{one-room, key-t, key-v, key-w, one-keyed, one-info, one-other}
+use Rattle.gathering.proofs.ItemKeys.{key-t, key-v, key-w}
+use Rattle.wrapping.proofs.Unfound.{one-room, one-keyed, one-info, one-other}
 use borrow.Author.Needs.{needs}
 use Rattle.wrapping.proofs.missing.not_found_one.Statement.{statement}
 use Rattle.wrapping.proofs.missing.not_found_one.Tie as tie

@@ -1,0 +1,11 @@
+pub mod Waiting
+pub mod Merging
+pub mod Backwards
+pub mod Turning
+pub mod ComingIn
+pub mod Raising
+pub mod InOrder
+pub mod Looking
+pub mod Faring
+pub mod ItemKeys
+pub mod Arriving

@@ -1,0 +1,6 @@
+// Candidates of one connection that wait beside the store, to come in together: rows move once, however many come in.
+pub mod beside;
+pub mod coming;
+pub mod region;
+pub mod tallying;
+pub mod together;
