@@ -93,7 +93,8 @@ module _ (st : State) (s : Sound st) (k : Key) (c : Candidate) (small : k .hash 
       let full : leb (st .limit) (held t + length es) ≡ false = ap (λ (i : ℕ). leb (st .limit) (held t + i)) (a .count) ∙ sym qf ∙ ef in
       let crowd : leb maxAlternates (heldAt (k .hash) t) ≡ false = lt-leb maxAlternates (heldAt (k .hash) t) (omega arith) in
       let free : Barred ≡ false = sym qb ∙ eb in
-      let new = or-left (isCandidate (c .connection) (k .hash) t) (waits (k .hash) es) (or-left (isCandidate (c .connection) (k .hash) t || waits (k .hash) es) (leb maxPeerAnnouncements (heldBy (c .connection) t + length es)) free) in
+      let apart = or-left (isCandidate (c .connection) (k .hash) t || waits (k .hash) es) (leb maxPeerAnnouncements (heldBy (c .connection) t + length es)) free in
+      let new = or-left (isCandidate (c .connection) (k .hash) t) (waits (k .hash) es) apart in
       record {
         stays = λ e. absurd (omega arith);
         joins = λ _. taken-in m c es t (a .ready) (s .bounded .ordered) k free (ap (λ (z : Bool). z || leb (st .limit) (held t + length es)) crowd ∙ full);
@@ -123,13 +124,14 @@ module _ {m : Limits} {t : Table} {es : List Entry} {c : Candidate} {w : List �
   unfolding announceKeyed
   joined-in {k} {w′} {y} small l f e p =
       let b : Entry = record { key = k; candidate = c } in
+      let one : placed y (gathered t es []) ≡ gathered t (es ++ (b ∷ [])) [] = ap (λ (z : Row). placed z (gathered t es [])) e ∙ sym (gathered-more t es b []) in
       record {
         entries = es ++ (b ∷ []);
         aside = record {
           ready = each-more (Ready (c .connection)) es b (a .ready) (record { mine = refl; small = small });
           idle = each-more (λ (x : Entry). ownerIs (x .candidate .connection) ((at (x .key) t) .owner) ≡ false) es b (a .idle) (f .idle refl);
           count = length-append es (b ∷ []) ∙ omega (arith, a .count);
-          rows = subst (λ (zs : List Row). Holds rowSize rowWords space zs w′) (ap (λ (z : Row). placed z (gathered t es [])) e ∙ sym (gathered-more t es b [])) (p space (gathered t es []) (few-rows a) l (sorted-gathered t es) (a .rows));
+          rows = subst (λ (zs : List Row). Holds rowSize rowWords space zs w′) one (p space (gathered t es []) (few-rows a) l (sorted-gathered t es) (a .rows));
         };
         table = f .joins refl;
         room = λ h. omega (arith, f .room refl, a .count);

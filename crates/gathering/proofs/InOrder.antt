@@ -183,10 +183,13 @@ named-both n h (e ∷ es) s a =
     ∙ rw (place-either (e .key .kind) (e .key .hash) h (a .0 .small) s, named-both n h es s (a .1))
 
 -- one that waits is at the hash exactly if a row has one of its two keys
-pub waits-is : (n h : ℕ) (t : Table) (es : List Entry) → h < top → Ordered 0 t → Each (Ready n) es → (numbered (place (txid h)) (gathered t es []) || numbered (place (wtxid h)) (gathered t es [])) ≡ waits h es
+pub waits-is : (n h : ℕ) (t : Table) (es : List Entry) → h < top → Ordered 0 t → Each (Ready n) es
+    → (numbered (place (txid h)) (gathered t es []) || numbered (place (wtxid h)) (gathered t es [])) ≡ waits h es
 unfolding numbered
 waits-is n h t es s o a =
-    rw (numbered-gathered n t o (place (txid h)) es [] a, numbered-gathered n t o (place (wtxid h)) es [] a, or-none (named (place (txid h)) es), or-none (named (place (wtxid h)) es)) (named-both n h es s a)
+    let x = place (txid h) in
+    let y = place (wtxid h) in
+    rw (numbered-gathered n t o x es [] a, numbered-gathered n t o y es [] a, or-none (named x es), or-none (named y es)) (named-both n h es s a)
   where
     or-none : (b : Bool) → (b || false) ≡ b
     or-none true = refl

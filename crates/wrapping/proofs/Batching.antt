@@ -41,7 +41,8 @@ unfolding announceTransactions
 transactions-none m n now p v t = offers-none m n now p v (leb maxInFlight (ownedBy n t)) t
 
 transactions-more : (m : Limits) (a : Terms) (os : List Offer) (i j : ℕ) (t : Table) → i ≤ j → a .late ≡ leb maxInFlight (ownedBy (a .connection) t)
-    → announced a (between i j os) m (announceTransactions m (a .connection) (a .clock) (a .preferred) (a .source) (take i os) t) ≡ announceTransactions m (a .connection) (a .clock) (a .preferred) (a .source) (take j os) t
+    → announced a (between i j os) m (announceTransactions m (a .connection) (a .clock) (a .preferred) (a .source) (take i os) t)
+    ≡ announceTransactions m (a .connection) (a .clock) (a .preferred) (a .source) (take j os) t
 unfolding announceTransactions
 transactions-more m a os i j t h e =
     let n = a .connection in
@@ -86,5 +87,8 @@ module _ {n now i : ℕ} {p v : Bool} {os : List Offer} {s₀ s : List ℕ} (b :
     batched-more {f} {s₁} {j} flag x l = record {
       inside = x .inside;
       long = l ∙ b .long;
-      table = λ st g w. subst (λ (t : Table). Writes s₁ (onTable t st)) (transactions-more (limitsOf st) (record { connection = n; clock = now; preferred = p; source = v; late = f }) os i j (st .table) (omega (arith, x .more)) (flag st g w)) (x .table (after st) (after-sound st g) (b .table st g w));
+      table = λ st g w.
+          let a : Terms = record { connection = n; clock = now; preferred = p; source = v; late = f } in
+          let e = transactions-more (limitsOf st) a os i j (st .table) (omega (arith, x .more)) (flag st g w) in
+          subst (λ (t : Table). Writes s₁ (onTable t st)) e (x .table (after st) (after-sound st g) (b .table st g w));
     }

@@ -52,7 +52,8 @@ collects-start a os {i} e l = record {
     entries = [];
     aside = record { ready = tt; idle = tt; count = refl; rows = e };
     room = omega (arith, sized-of st s .rows-few, held-rows (st .table));
-    table = ap (λ (l : List Offer). announced a l (limitsOf st) (st .table)) (between-none i os) ∙ offers-none (limitsOf st) (a .connection) (a .clock) (a .preferred) (a .source) (a .late) (st .table);
+    table = ap (λ (l : List Offer). announced a l (limitsOf st) (st .table)) (between-none i os)
+        ∙ offers-none (limitsOf st) (a .connection) (a .clock) (a .preferred) (a .source) (a .late) (st .table);
   };
 }
 
@@ -108,7 +109,8 @@ module _ {b w : List ℕ} {a : Terms} {os : List Offer} {i j d : ℕ} (x : Colle
 
 -- ---- one by itself, and one part after another
 
-pub one-announced : {b b₁ : List ℕ} (a : Terms) (os : List Offer) (i : ℕ) {c : Candidate} {r : Bool} → i < length os → Offers a os i c → Answered b b₁ r (λ m t. announce m c t) → Becomes b b₁ (announced a (between i (i + 1) os))
+pub one-announced : {b b₁ : List ℕ} (a : Terms) (os : List Offer) (i : ℕ) {c : Candidate} {r : Bool} → i < length os → Offers a os i c
+    → Answered b b₁ r (λ m t. announce m c t) → Becomes b b₁ (announced a (between i (i + 1) os))
 one-announced {b} {b₁} a os i l q h st s g =
     let m = limitsOf st in
     let t = st .table in

@@ -31,7 +31,8 @@ pub between-join : (i j k : ℕ) (os : List Offer) → i ≤ j → j ≤ k → b
 between-join i j k os a b =
     let e : k - i ≡ j - i + (k - j) = omega arith in
     let q : i + (j - i) ≡ j = omega arith in
-    sym (ap (λ (n : ℕ). take n (drop i os)) e ∙ take-add (j - i) (k - j) (drop i os) ∙ ap (λ (l : List Offer). take (j - i) (drop i os) ++ take (k - j) l) (drop-drop (j - i) i os ∙ ap (λ (n : ℕ). drop n os) q))
+    sym (ap (λ (n : ℕ). take n (drop i os)) e ∙ take-add (j - i) (k - j) (drop i os)
+    ∙ ap (λ (l : List Offer). take (j - i) (drop i os) ++ take (k - j) l) (drop-drop (j - i) i os ∙ ap (λ (n : ℕ). drop n os) q))
 
 pub take-between : (i j : ℕ) (os : List Offer) → i ≤ j → take i os ++ between i j os ≡ take j os
 take-between i j os a = let e : j ≡ i + (j - i) = omega arith in sym (ap (λ (n : ℕ). take n os) e ∙ take-add i (j - i) os)
@@ -64,7 +65,8 @@ unfolding offersFrom
 offers-append m n now p v f [] ys t = refl
 offers-append m n now p v f (x ∷ xs) ys t = offers-append m n now p v f xs ys ((announce m (offered n now p v f x) t) .table)
 
-pub bounded-offers : {m : Limits} {Q : ℕ} {t : Table} (n now : ℕ) (p v f : Bool) (os : List Offer) → Peer n → now + requestLifetime < word → Each OfferTyped os → Bounded m Q t → Bounded m Q (offersFrom m n now p v f os t)
+pub bounded-offers : {m : Limits} {Q : ℕ} {t : Table} (n now : ℕ) (p v f : Bool) (os : List Offer) → Peer n → now + requestLifetime < word → Each OfferTyped os
+    → Bounded m Q t → Bounded m Q (offersFrom m n now p v f os t)
 unfolding offersFrom
 bounded-offers n now p v f [] a w h b = b
 bounded-offers n now p v f (o ∷ os) a w h b = bounded-offers n now p v f os a w (h .1) (bounded-announce (offered n now p v f o) (a .positive) (offered-typed n now p v f o a w (h .0)) b)
