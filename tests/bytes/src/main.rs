@@ -12,6 +12,7 @@ mod draw;
 mod look;
 mod names;
 mod oracles;
+mod parts;
 mod planted;
 mod profiles;
 mod reference;

@@ -11,6 +11,7 @@ use crate::ask::{Answer, Ask, Given};
 use crate::draw::Planned;
 use crate::names;
 use crate::oracles;
+use crate::parts;
 use crate::reference::Reference;
 use crate::tally::Tally;
 
@@ -115,8 +116,19 @@ impl<'a> Trial<'a> {
         self.tally.several += u64::from(refusals.len() > 1);
         same_answer(ask, &got, &wanted)?;
         self.same_store()?;
+        self.same_parts(call, &got)?;
         self.since += 1;
         if self.since >= self.reference.words.len() * WORD / AT_EACH_CALL { self.whole() } else { Ok(()) }
+    }
+
+    /// Each connection's part of what was arranged.
+    fn same_parts(&self, call: &Call, got: &Answer) -> Result<(), String> {
+        match (call, &self.reply, got.status) {
+            (Call::Arrange { taken, .. }, Some(Reply::Entries(arranged)), 0) => {
+                parts::wrong(taken, arranged).map_or(Ok(()), Err)
+            }
+            _ => Ok(()),
+        }
     }
 
     /// The Rust's answer; the reference must give it too, if it has the call.
