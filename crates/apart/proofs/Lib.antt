@@ -1,0 +1,4 @@
+pub mod BareTable
+pub mod BareChange
+pub mod BareAnnounce
+pub mod BareChoice
