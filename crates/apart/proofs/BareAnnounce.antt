@@ -1,17 +1,17 @@
 -- Announcing commutes with taking the packages away: announce, request_parent and announce_parents look at candidates and owners alone.
 -- Assumes nothing.
 use Prim.Native.Nat.{ℕ, suc}
-use mathlib.Core.Path.{_≡_, refl, sym, ap, _∙_}
+use mathlib.Core.Path.{_≡_, refl, ap, _∙_}
 use mathlib.Core.Logic.{inl, inr}
 use mathlib.Core.Bool.{Bool, true, false, _||_}
-use mathlib.Core.List.{List, [], _∷_, _++_}
+use mathlib.Core.List.{List, [], _∷_}
 use mathlib.Core.Option.{Option, none, some}
 use lib.Dec.{ltb, leb}
 use Rattle.ident.specs.If.{if_then_else_}
-use Rattle.ident.specs.Number.{Key, place, other, txid}
+use Rattle.ident.specs.Number.{Key, other, txid}
 use Rattle.machine.specs.Limits.{Limits, maxPeerAnnouncements}
 use Rattle.machine.specs.State.{Candidate, Request, Table, Entry, Answer, refused, ownerIs}
-use Rattle.machine.specs.Table.{at, has, held, heldBy, heldAt, isCandidate, any, by, under, byUnder}
+use Rattle.machine.specs.Table.{at, has, any, by, under, byUnder}
 use Rattle.machine.specs.Announce.{push, cut, victimsIn, victims, greatest, evicting, atHash, anywhere, announceAt, adopted, requestParentAt}
 use Rattle.machine.specs.Fail.{Listed, parentOf, mark, dedup, parentsFrom, announceParents}
 use Rattle.machine.proofs.Tests.{test}

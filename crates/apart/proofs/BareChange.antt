@@ -4,16 +4,14 @@ use Prim.Native.Nat.{ℕ}
 use mathlib.Core.Path.{_≡_, refl, sym, ap, _∙_}
 use mathlib.Core.Logic.{inl, inr}
 use mathlib.Core.Bool.{Bool, true, false, not, _&&_}
-use mathlib.Core.List.{List, [], _∷_, _++_}
-use mathlib.Core.Option.{Option}
+use mathlib.Core.List.{List, [], _∷_}
 use lib.Dec.{ltb, eqb}
-use Rattle.ident.specs.If.{if_then_else_}
 use Rattle.ident.specs.Number.{Key, place, other}
-use Rattle.machine.specs.State.{Candidate, Package, Request, Table, Answer, blank, ownerIs, enqueuedIn}
+use Rattle.machine.specs.State.{Candidate, Request, Table, blank, ownerIs, enqueuedIn}
 use Rattle.machine.specs.Table.{at, keep, change}
 use Rattle.machine.specs.Announce.{push, cut, adopted}
 use Rattle.machine.specs.Fail.{releasable, left, leaves, failed, mark}
-use Rattle.machine.proofs.Tests.{test, by-test}
+use Rattle.machine.proofs.Tests.{test}
 use Rattle.apart.specs.Bare.{bareRequest, bare, bareAnswer}
 use Rattle.apart.proofs.BareTable.{at-bare}
 
@@ -75,7 +73,8 @@ module _ (k : Key) (n now : ℕ) (t : Table) where
   pub failed-bare : enqueuedIn ((at k t) .«package») ≡ false → failed k n now (bare t) ≡ bareAnswer (failed k n now t)
   unfolding failed
   failed-bare e =
-      let same : releasable n (at k (bare t)) ≡ releasable n (at k t) = releasable-bare n k t ∙ sym (ap (λ (b : Bool). ownerIs n ((at k t) .owner) && not b) e ∙ and-true (ownerIs n ((at k t) .owner))) in
+      let own = ownerIs n ((at k t) .owner) in
+      let same : releasable n (at k (bare t)) ≡ releasable n (at k t) = releasable-bare n k t ∙ sym (ap (λ (b : Bool). own && not b) e ∙ and-true own) in
       elim (test (releasable n (at k t))) [
         | inl d ↦ rw (same, d) (λ i. record { reply = true; table = leaves-bare k n now t i })
         | inr d ↦ rw (same, d)

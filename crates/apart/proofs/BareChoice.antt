@@ -1,8 +1,8 @@
 -- What a plan looks at is the same without packages: the owners that are due, the choice for a key, and a phase over keys.
 -- Assumes nothing.
 use Prim.Native.Nat.{ℕ, suc, _+_}
-use mathlib.Core.Path.{_≡_, refl, sym, ap, _∙_}
-use mathlib.Core.Bool.{Bool, true, false, _&&_}
+use mathlib.Core.Path.{_≡_, refl, ap, _∙_}
+use mathlib.Core.Bool.{Bool, _&&_}
 use mathlib.Core.List.{List, [], _∷_, _++_}
 use mathlib.Core.Option.{Option, none, some}
 use lib.Dec.{ltb, leb, eqb}
@@ -12,9 +12,10 @@ use Rattle.ident.specs.Number.{Key, txid, wtxid}
 use Rattle.machine.specs.Limits.{maxInFlight, maxRequestChecks}
 use Rattle.machine.specs.State.{Candidate, Request, Table, Entry, isNone}
 use Rattle.machine.specs.Table.{at, by, under}
-use Rattle.machine.specs.Plan.{chosenBy, chosenAt, able, orElse, leastIn, leastAt, choice, Scan, add, consider, phase, Due, dueOf, due}
-use Rattle.apart.specs.Bare.{bareRequest, bare}
-use Rattle.apart.proofs.BareTable.{at-bare, owners-bare}
+use Rattle.machine.specs.Sweep.{round}
+use Rattle.machine.specs.Plan.{chosenBy, chosenAt, able, orElse, leastIn, leastAt, choice, Scan, add, consider, phase, Due, dueOf, due, start, askedKeys}
+use Rattle.apart.specs.Bare.{bare}
+use Rattle.apart.proofs.BareTable.{at-bare, keys-bare, owners-bare}
 
 -- ---- owners that are due
 
@@ -55,3 +56,18 @@ phase-bare now t [] s = refl
 phase-bare now t (k ∷ ks) s =
     ap (λ (x : Scan). if leb maxRequestChecks (length (x .chosen)) then x else phase now (bare t) ks x) (consider-bare now t k s)
     ∙ ap (λ (x : Scan). if leb maxRequestChecks (length ((consider now t k s) .chosen)) then consider now t k s else x) (phase-bare now t ks (consider now t k s))
+
+-- ---- the two phases of a plan
+
+asked-bare : (asked : Option (List Key)) (c : Option Key) (t : Table) → askedKeys asked c (bare t) ≡ askedKeys asked c t
+asked-bare none c t = ap (round c) (keys-bare t)
+asked-bare (some ks) c t = refl
+
+-- the keys ks first, then those asked for
+abbrev twoPhases : ℕ → Option (List Key) → Option Key → List Key → Table → Scan
+twoPhases now asked c ks t = phase now t (askedKeys asked c t) (phase now t ks start)
+
+pub phases-bare : (now : ℕ) (asked : Option (List Key)) (c : Option Key) (ks : List Key) (t : Table) → twoPhases now asked c ks (bare t) ≡ twoPhases now asked c ks t
+phases-bare now asked c ks t =
+    phase-bare now t (askedKeys asked c (bare t)) (phase now (bare t) ks start)
+    ∙ (λ i. phase now t (asked-bare asked c t i) (phase-bare now t ks start i))

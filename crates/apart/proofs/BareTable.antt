@@ -1,18 +1,17 @@
 -- A table without packages: what stands at a key, its keys, counts and rows are those of the table; it holds no place, and is sound.
 -- Assumes nothing.
-use Prim.Native.Nat.{ℕ, _+_}
-use mathlib.Core.Path.{_≡_, refl, sym, ap, _∙_}
+use Prim.Native.Nat.{ℕ}
+use mathlib.Core.Path.{_≡_, refl, ap}
 use mathlib.Core.Logic.{inl, inr}
-use mathlib.Core.Bool.{Bool, true, false}
-use mathlib.Core.List.{List, [], _∷_, _++_}
-use mathlib.Core.Option.{Option, none, some}
+use mathlib.Core.Bool.{Bool}
+use mathlib.Core.List.{List, [], _∷_}
 use native.Mathlib.Omega.{arith}
 use lib.Dec.{eqb}
 use Rattle.ident.specs.Number.{Key, place}
 use Rattle.regions.specs.Regions.{each}
 use Rattle.machine.specs.Limits.{Limits}
-use Rattle.machine.specs.State.{Request, Table, State, limitsOf}
-use Rattle.machine.specs.Table.{at, keys, one, total, count, owners, placesHeld, any, by, under, byUnder}
+use Rattle.machine.specs.State.{Request, Table, State}
+use Rattle.machine.specs.Table.{at, keys, total, count, owners, placesHeld, any, by, under, byUnder}
 use Rattle.machine.specs.Sound.{Ordered, All, Filled, Lawful, Bounded, Sound}
 use Rattle.machine.proofs.Fail.{parents-none}
 use Rattle.machine.proofs.Tests.{test}

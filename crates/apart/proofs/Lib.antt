@@ -2,3 +2,11 @@ pub mod BareTable
 pub mod BareChange
 pub mod BareAnnounce
 pub mod BareChoice
+pub mod BarePlaces
+pub mod BareExpiry
+pub mod Slotted
+pub mod Spotting
+pub mod Parting
+pub mod Notes
+pub mod Overdue
+pub mod OneOwner

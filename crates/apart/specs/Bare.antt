@@ -1,6 +1,10 @@
 -- A state without its packages: every request has lost flag, package and parents, and nothing else.
 -- Assumes nothing.
-use mathlib.Core.List.{List, [], _∷_}
+use Prim.Native.Nat.{ℕ}
+use mathlib.Core.Bool.{Bool, not}
+use mathlib.Core.List.{[], _∷_}
+use lib.Dec.{eqb}
+use Rattle.places.specs.Places.{Place}
 use Rattle.machine.specs.State.{Request, Table, State, Answer}
 use Rattle.machine.specs.Fail.{Listed}
 use Rattle.packages.specs.Changes.{closed}
@@ -23,3 +27,7 @@ bareAnswer a = record { reply = a .reply; table = bare (a .table) }
 
 abbrev pub bareListed : Listed → Listed
 bareListed l = record { keys = l .keys; table = bare (l .table) }
+
+-- a place of another hash
+abbrev pub otherThan : ℕ → Place → Bool
+otherThan h p = not (eqb (p .hash) h)
