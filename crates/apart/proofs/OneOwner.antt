@@ -113,7 +113,7 @@ noted-set (hs ∷ hss) (x ∷ low) (y ∷ high) (suc i) a b h l g c =
 
 -- ---- places that stay the same but for their stage
 
-family-at : (ps : List Place) (i : ℕ) (d : Place) → i < length ps → getD (family ps) i [] ≡ (getD ps i d) .parents
+pub family-at : (ps : List Place) (i : ℕ) (d : Place) → i < length ps → getD (family ps) i [] ≡ (getD ps i d) .parents
 family-at [] i d h = absurd (omega arith)
 family-at (p ∷ ps) zero d h = refl
 family-at (p ∷ ps) (suc i) d h = family-at ps i d (omega arith)

@@ -19,8 +19,10 @@ pub mod Rowwise
 pub mod GivingBack
 pub mod InOrder
 pub mod Overdue
-pub mod OneExpired
+pub mod BareDue
 pub mod RowsDue
 pub mod NextDue
+pub mod Keepings
 pub mod AllExpired
 pub mod Whole
+pub mod Planned
