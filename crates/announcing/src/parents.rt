@@ -11,7 +11,7 @@ ghost use Rattle.lists.specs.Lists.{hashesIn};
 ghost use Rattle.announcing.specs.Answers.{Answered, KeysListed, oneParent};
 
 // Requests one parent as t; if kept, a request under its Txid key is marked, even where the candidate sits under the Wtxid key.
-fn announce_parent(s: &mut [u8], n: u64, clock: u64, h: ident::Hash, priority: u64) -> bool
+pub fn announce_parent(s: &mut [u8], n: u64, clock: u64, h: ident::Hash, priority: u64) -> bool
     requires { ⌜ Kept (now s) × (1 ≤ n) ⌝ }
     ensures { λ r. ⌜ Answered (now (s .entry)) (now (s .exit)) r (λ m t. oneParent m n clock (hashNum h) priority t) ⌝ }
 {

@@ -4,3 +4,9 @@ pub mod BareAnnounce
 pub mod BareChoice
 pub mod BarePlaces
 pub mod BareExpiry
+pub mod Slotted
+pub mod Spotting
+pub mod Parting
+pub mod Notes
+pub mod Overdue
+pub mod OneOwner

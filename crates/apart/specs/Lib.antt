@@ -1,1 +1,4 @@
 pub mod Bare
+pub mod Apart
+pub mod Noting
+pub mod Lapsing

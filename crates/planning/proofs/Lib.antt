@@ -20,8 +20,9 @@ pub mod GivingBack
 pub mod InOrder
 pub mod Overdue
 pub mod BareDue
-pub mod OneExpired
 pub mod RowsDue
 pub mod NextDue
+pub mod Keepings
 pub mod AllExpired
 pub mod Whole
+pub mod Planned

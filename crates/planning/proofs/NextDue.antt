@@ -28,15 +28,10 @@ use Rattle.store.proofs.Frame.{sizes}
 use Rattle.store.proofs.Keys.{row-number}
 use Rattle.requests.specs.Changes.{KeyWords}
 use Rattle.requests.proofs.Keeping.{rows-in-order}
-use Rattle.announcing.specs.Answers.{KeysListed}
-use Rattle.planning.specs.Expiring.{expireOne, dueFrom, isDue, rowDue, dueRows, SeekDue, ExpiresNext}
+use Rattle.planning.specs.Expiring.{dueFrom, isDue, rowDue, dueRows, SeekDue, NextDue}
 use Rattle.planning.proofs.InOrder.{mapped-at}
 use Rattle.planning.proofs.Overdue.{First, due-first}
 use Rattle.planning.proofs.RowsDue.{table-rows, rows-from, rows-next, rows-over}
-
-no-keys : (l : List Key) → length l ≤ 0 → l ≡ []
-no-keys [] h = refl
-no-keys (a ∷ l) h = absurd (omega arith)
 
 row-said : (now x : ℕ) (r : Row) → x ≤ place (keyAt r) → isDue now r ≡ true → rowDue now x r ≡ record { key = keyAt r; connection = r .conn } ∷ []
 row-said now x r h e = rw (le-leb x (place (keyAt r)) h, e) refl
@@ -84,19 +79,12 @@ module _ {b : List ℕ} (now : ℕ) {k : Given} (e : ℕ) {key : RowKey} {from r
 
   -- ---- what a turn answers
 
-  pub next-ends : rowsIn b ≤ r → ExpiresNext b b now x (record { more = false; kept = false; key = k })
-  next-ends h = record { connection = 0; ends = λ e. (refl, λ st s o. due-none st s o h); goes = λ e. never e }
+  pub next-ends : rowsIn b ≤ r → NextDue b now x (record { more = false; key = k; conn = 0 })
+  next-ends h = record { ends = λ e. λ st s o. due-none st s o h; goes = λ e. never e }
 
   module _ (h : r < rowsIn b) (row : Row) (is : (f : Flat) (d : Row) → Shows b f → row ≡ getD (f .rows) r d) where
-    pub conn-some : Kept b → 1 ≤ row .conn
-    conn-some p =
-        let g = due-head (p .state) (p .sound) (p .writes) h row (is (flatOf (p .state)) row (p .writes)) in
-        omega (arith, g .typed .peer .positive)
-
-    pub next-goes : {b′ u u′ : List ℕ} {c : ℕ} (j : Given) → keyNum j ≡ keyAt row → Kept b → KeysListed b b′ u u′ c (λ m t. expireOne m now (keyNum j) (row .conn) t)
-        → ExpiresNext b b′ now x (record { more = true; kept = ltb 0 c; key = j })
-    next-goes {c = c} j e p l = record {
-      connection = row .conn;
+    pub next-goes : (j : Given) → keyNum j ≡ keyAt row → Kept b → NextDue b now x (record { more = true; key = j; conn = row .conn })
+    next-goes j e p = record {
       ends = λ z. never (sym z);
       goes = λ z. record {
         first = λ st s o. subst (λ (a : Key). dueFrom now x (st .table) ≡ record { key = a; connection = row .conn } ∷ dueFrom now (suc (place a)) (st .table)) (sym e)
@@ -104,7 +92,6 @@ module _ {b : List ℕ} (now : ℕ) {k : Given} (e : ℕ) {key : RowKey} {from r
         from = subst (λ (a : Key). x ≤ place a) (ap keyAt (sym (is (flatOf (p .state)) row (p .writes))) ∙ sym e) (late (p .state) (p .sound) (p .writes) h row (is (flatOf (p .state)) row
             (p .writes)));
         small = subst (λ (a : Key). a .hash < top) (sym e) (due-head (p .state) (p .sound) (p .writes) h row (is (flatOf (p .state)) row (p .writes)) .typed .key);
-        table = l .table;
-        none = λ y st s o. no-keys _ (omega (arith, l .count st s o, ltb-false 0 c y));
+        positive = let g = due-head (p .state) (p .sound) (p .writes) h row (is (flatOf (p .state)) row (p .writes)) in omega (arith, g .typed .peer .positive);
       };
     }

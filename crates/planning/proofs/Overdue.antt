@@ -55,11 +55,11 @@ module _ (now x : ℕ) (t′ t : Table) (o′ : Ordered 0 t′) (o : Ordered 0 t
 -- ---- the first of them
 
 -- one is due at r
-record DueOne (now x : ℕ) (r : Request) : Type 0 where
-  connection : ℕ
-  from : x ≤ place (r .key)
-  owns : ownerIs connection (r .owner) ≡ true
-  is : dueHere now x r ≡ record { key = r .key; connection = connection } ∷ []
+pub record DueOne (now x : ℕ) (r : Request) : Type 0 where
+  pub connection : ℕ
+  pub from : x ≤ place (r .key)
+  pub owns : ownerIs connection (r .owner) ≡ true
+  pub is : dueHere now x r ≡ record { key = r .key; connection = connection } ∷ []
 
 due-owner : (now x : ℕ) (r : Request) (o : Option Owner) → r .owner ≡ o → leb x (place (r .key)) ≡ true → (dueHere now x r ≡ []) ⊎ DueOne now x r
 due-owner now x r none e d = inl (ap (dueAs now x (r .key)) e ∙ rw d refl)
@@ -74,7 +74,7 @@ due-owner now x r (some o) e d =
       | inr l ↦ inl (ap (dueAs now x (r .key)) e ∙ rw (d, l) refl)
     ]
 
-due-cases : (now x : ℕ) (r : Request) → (dueHere now x r ≡ []) ⊎ DueOne now x r
+pub due-cases : (now x : ℕ) (r : Request) → (dueHere now x r ≡ []) ⊎ DueOne now x r
 due-cases now x r = elim (test (leb x (place (r .key)))) [ inl d ↦ due-owner now x r (r .owner) refl d | inr d ↦ inl (rw d refl) ]
 
 due-before : (now x : ℕ) (r : Request) → place (r .key) < x → dueHere now x r ≡ []

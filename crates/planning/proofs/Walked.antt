@@ -29,7 +29,7 @@ unfolding machine.phase
 phase-step now t k ks c e = rw e refl
 
 module _ {now : ℕ} {st : State} {b p : List ℕ} {v : Scan} {all : machine.Scan} where
-  phasing-as : {xs ys : List Key} → xs ≡ ys → Phasing now st b p v xs all → Phasing now st b p v ys all
+  pub phasing-as : {xs ys : List Key} → xs ≡ ys → Phasing now st b p v xs all → Phasing now st b p v ys all
   phasing-as e g = subst (λ (ks : List Key). Phasing now st b p v ks all) e g
 
   phasing-full : (xs ys : List Key) → v .full ≡ true → Phasing now st b p v xs all → Phasing now st b p v ys all

@@ -1,4 +1,4 @@
--- A plan whose scan is one phase: from the first key to the answer.
+-- The second phase of a plan: from the first key to the answer.
 -- Assumes nothing.
 use Prim.Native.Nat.{ℕ, min, _+_, _-_, _≤_, _<_}
 use mathlib.Core.Path.{_≡_, sym, ap, subst, _∙_}
@@ -34,8 +34,7 @@ use Rattle.planning.specs.declared.answering.Reply.{Reply}
 use Rattle.planning.specs.Selecting.{markAll, until, Marks, Numbered, Scanning, Marked, GivenBack, RowsOfStore, EntriesPut}
 use Rattle.planning.specs.Phasing.{Phased}
 use Rattle.planning.specs.Ordering.{SortedRows}
-use Rattle.planning.specs.Answering.{Fresh, Closed, Plans, asks, Asks, AsksOf, PlansOf}
-use Rattle.planning.specs.Expiring.{Expires}
+use Rattle.planning.specs.Answering.{Fresh, Closed, Begun, asks, Asks, AsksOf}
 use Rattle.planning.proofs.GivingBack.{some-entry}
 use Rattle.planning.proofs.InOrder.{sort-count}
 use Rattle.planning.proofs.SameRows.{marked-rows, numbered-as}
@@ -80,45 +79,6 @@ closed u z e g now st l s m =
 pub unchanged : {b b₁ b₂ p : List ℕ} {now n : ℕ} {st : State} {l : List Entry} → Bytes b → Bytes b₂ → Writes b st → Sound st → Marks now st l b₁ p n → GivenBack b₁ b₂ p n → b₂ ≡ b
 unchanged {b} {b₂ = b₂} {now = now} {st = st} {l} x y w s m g = written-bytes b₂ st y (g now st l s m) ∙ sym (written-bytes b st x w)
 
--- ---- a plan of which no parent is kept is one phase
-
-module _ (now : ℕ) (st : State) (asked : Option (List Key)) where
-  abbrev without : State
-  without = onTable ((machine.expired now st) .table) st
-
-  one-phase : (machine.expired now st) .keys ≡ [] → machine.scanned now asked st ≡ asks now asked without
-  unfolding machine.phase
-  one-phase e =
-      let t = (machine.expired now st) .table in
-      ap (λ (ks : List Key). machine.phase now t (machine.askedKeys asked (st .readyCursor) t) (machine.phase now t ks machine.start)) e
-
-  pub as-plan : {b u u′ : List ℕ} {r : Reply} → (machine.expired now st) .keys ≡ [] → Asks now asked without b u u′ r → Plans now asked st b u u′ r
-  unfolding machine.plan
-  as-plan {b} {u} e a =
-      let q = sym (one-phase e) in
-      record {
-        count = a .count ∙ sym (sort-count ((asks now asked without) .chosen)) ∙ ap (λ (c : machine.Scan). length (machine.sortByPriority (c .chosen))) q;
-        entries = a .entries ∙ ap (λ (c : machine.Scan). written (entriesAnswer (machine.sortByPriority (c .chosen))) u) q;
-        considered = a .considered ∙ ap (λ (c : machine.Scan). c .considered) q;
-        state = subst (λ (c : machine.Scan). Writes b (withReadyCursor (machine.cursorAfter asked (c .last) (st .readyCursor)) without)) q (a .state);
-      }
-
--- the owners that are due expire first
-pub after-expiry : {b b₁ b₂ u u′ : List ℕ} {kept : Bool} (now : ℕ) (asked : Option (List Key)) {r : Reply} → now < word → Expires b b₁ now kept → AsksOf b₁ b₂ u u′ now asked r
-    → PlansOf b b₂ u u′ now asked r
-after-expiry now asked w x a st s o e =
-    as-plan now st asked e (a (onTable ((machine.expired now st) .table) st) (sound-table s (bounded-expired now st w s)) (x .table st s o))
-
-pub expired-kept : {b b₁ : List ℕ} {now : ℕ} {kept : Bool} → now < word → Expires b b₁ now kept → Kept b → Kept b₁
-expired-kept {now = now} w x p = record {
-  state = onTable ((machine.expired now (p .state)) .table) (p .state);
-  sound = sound-table (p .sound) (bounded-expired now (p .state) w (p .sound));
-  writes = x .table (p .state) (p .sound) (p .writes);
-}
-
-pub expired-limit : {b b₁ : List ℕ} {now : ℕ} {kept : Bool} → Expires b b₁ now kept → Kept b → limitIn b₁ ≡ limitIn b
-expired-limit x p = omega (arith, (sizes (p .writes)) .limit, (sizes (x .table (p .state) (p .sound) (p .writes))) .limit)
-
 -- ---- the phase, and what comes after it
 
 abbrev keysFor : Option (List Key) → State → List Key
@@ -127,32 +87,43 @@ keysFor asked st = machine.askedKeys asked (st .readyCursor) (st .table)
 pub round-keys : (st : State) → Sound st → Each KeyTyped (round (st .readyCursor) (keys (st .table)))
 round-keys st s = round-typed (st .readyCursor) (keys (st .table)) (keys-typed 0 (st .table) (s .bounded .ordered))
 
-module _ {b b₁ p p₁ : List ℕ} {now n : ℕ} {v w : Scan} (asked : Option (List Key)) (f : Fresh v) (x : Phased b b₁ p p₁ now (keysFor asked) v w n) where
-  abbrev end : State → machine.Scan
-  end st = machine.phase now (st .table) (keysFor asked st) machine.start
+-- some first phase stands
+module _ {now : ℕ} {b p : List ℕ} {v : Scan} (g : Begun now b p v) where
+  pub begun-kept : Kept b
+  begun-kept = record { state = onTable (markAll (until now) _ (g .state .table)) (g .state); sound = g .stands .marks .sound; writes = g .stands .marks .writes }
 
-  scan : (st : State) → Sound st → Writes b st → Scanning now st (end st) b₁ p₁ w
-  scan st s o = x .goes st machine.start (fresh-scan now st v f s o)
+  first-few : length ((machine.phase now (g .state .table) (g .some-keys) machine.start) .chosen) ≤ maxRequestChecks
+  first-few = length-phase now (g .state .table) (g .some-keys) machine.start (maxRequestChecks - 1) (omega arith) (omega arith) (omega arith)
 
-  pub marked-after : Kept b → Marked b₁ p₁ (w .chosen)
-  marked-after k = record { clock = now; state = k .state; chosen = (end (k .state)) .chosen; sound = k .sound; marks = (scan (k .state) (k .sound) (k .writes)) .marks }
+  pub begun-few : v .chosen ≤ maxRequestChecks
+  begun-few = let e = first-few in omega (arith, g .stands .marks .count)
 
-  pub few-chosen : ((st : State) → Sound st → Each KeyTyped (keysFor asked st)) → Kept b → w .chosen ≤ min (maxRequestChecks + 1) (limitIn b)
+module _ {b b₁ p p₁ : List ℕ} {now n : ℕ} {v w : Scan} (asked : Option (List Key)) (x : Phased b b₁ p p₁ now (keysFor asked) v w n) where
+  abbrev end : State → machine.Scan → machine.Scan
+  end st c = machine.phase now (st .table) (keysFor asked st) c
+
+  pub marked-after : Begun now b p v → Marked b₁ p₁ (w .chosen)
+  marked-after g =
+      let y = x .goes (g .state) _ (g .stands) in
+      record { clock = now; state = g .state; chosen = _; sound = y .sound; marks = y .marks }
+
+  pub few-chosen : ((st : State) → Sound st → Each KeyTyped (keysFor asked st)) → Begun now b p v → w .chosen ≤ min (maxRequestChecks + 1) (limitIn b)
   unfolding elem
-  few-chosen typed k =
-      let st = k .state in
+  few-chosen typed g =
+      let st = g .state in
       let t = st .table in
-      let q = k .sound .bounded in
-      let few = length-phase now t (keysFor asked st) machine.start (maxRequestChecks - 1) (omega arith) (omega arith) (omega arith) in
-      let sparse = sparse-held t ((end st) .chosen) (q .filled)
-      (sparse-phase now t (keysFor asked st) machine.start (typed st (k .sound)) (q .ordered) (record { distinct = tt; within = λ x e. never e })) in
-      omega (arith, (scan st (k .sound) (k .writes)) .marks .count, few, sparse, q .fits, (sizes (k .writes)) .limit)
+      let q = g .stands .sound .bounded in
+      let c = machine.phase now t (g .some-keys) machine.start in
+      let few = length-phase now t (keysFor asked st) c maxRequestChecks (first-few g) (omega arith) (omega arith) in
+      let sparse = sparse-held t ((end st c) .chosen) (q .filled)
+      (sparse-phase now t (keysFor asked st) c (typed st (g .stands .sound)) (q .ordered) (sparse-phase now t (g .some-keys) machine.start (g .typed) (q .ordered) (record { distinct = tt; within = λ x e. never e }))) in
+      omega (arith, (x .goes st c (g .stands)) .marks .count, few, sparse, q .fits, (sizes (g .stands .marks .writes)) .limit)
 
   -- what is left to do is the ready cursor
   pub planned : {b₂ b₃ : List ℕ} (u : List ℕ) {u′ : List ℕ} → Closed b₁ b₂ p₁ (w .chosen) u u′
       → ((st : State) (k : Option Key) → Stands (w .last) k → Writes b₂ st → Writes b₃ (withReadyCursor (machine.cursorAfter asked k (st .readyCursor)) st))
-      → AsksOf b b₃ u u′ now asked (record { count = w .chosen; considered = w .considered })
-  planned {b₂} {b₃} u {u′} y z st s o =
-      let g = scan st s o in
-      let c = y now st ((end st) .chosen) s (g .marks) in
-      record { count = g .marks .count; entries = c .1; considered = g .considered; state = z st ((end st) .last) (g .last) (c .0) }
+      → AsksOf b b₃ p u u′ now asked v (record { count = w .chosen; considered = w .considered })
+  planned {b₂} {b₃} u {u′} y z st c o =
+      let g = x .goes st c o in
+      let d = y now st ((end st c) .chosen) (g .sound) (g .marks) in
+      record { count = g .marks .count; entries = d .1; considered = g .considered; state = z st ((end st c) .last) (g .last) (d .0) }

@@ -5,7 +5,7 @@ use mathlib.Core.Path.{_≡_}
 use mathlib.Core.Bool.{Bool, true, false, _&&_}
 use mathlib.Core.List.{List, [], _∷_, _++_}
 use lib.Dec.{leb}
-use lib.ListN.{getD, drop}
+use lib.ListN.{length, getD, drop}
 use Rattle.ident.specs.If.{if_then_else_}
 use Rattle.ident.specs.Number.{top, Key, place}
 use Rattle.ident.specs.Words.{keyNum}
@@ -22,6 +22,9 @@ use Rattle.store.specs.Gather.{keyAt}
 use Rattle.store.specs.Image.{Shows, Writes}
 use Rattle.store.specs.Shown.{rowsIn}
 use Rattle.requests.specs.Changes.{Tells}
+use Rattle.places.specs.Places.{Place}
+use Rattle.apart.specs.Apart.{Apart}
+use Rattle.apart.specs.Lapsing.{family, noted, Clear}
 use Rattle.planning.specs.declared.expiring.Turn.{Turn}
 
 -- one owner whose time is over: it fails, and its parents are announced for it
@@ -56,21 +59,32 @@ pub record SeekDue (b : List ℕ) (now from r : ℕ) : Type 0 where
   pub none : (f : Flat) (x : ℕ) → Shows b f → dueRows now x (drop from (f .rows)) ≡ dueRows now x (drop r (f .rows))
   pub found : (f : Flat) (d : Row) → Shows b f → r < rowsIn b → isDue now (getD (f .rows) r d) ≡ true
 
--- one is due at the place x or later, the first with the connection n: it expires
-pub record OneMore (b b′ : List ℕ) (now x : ℕ) (k : Key) (n : ℕ) (kept : Bool) : Type 0 where
+-- one is due at the place x or later, the first at k with the connection n
+pub record DueNext (b : List ℕ) (now x : ℕ) (k : Key) (n : ℕ) : Type 0 where
   pub first : Tells b (λ t. dueFrom now x t ≡ record { key = k; connection = n } ∷ dueFrom now (suc (place k)) t)
   pub from : x ≤ place k
   pub small : k .hash < top
-  pub table : (st : State) → Sound st → Writes b st → Writes b′ (onTable ((expireOne (limitsOf st) now k n (st .table)) .table) st)
-  pub none : kept ≡ false → (st : State) → Sound st → Writes b st → (expireOne (limitsOf st) now k n (st .table)) .keys ≡ []
+  pub positive : 1 ≤ n
 
--- the first that is due at the place x or later expires, if there is one
-pub record ExpiresNext (b b′ : List ℕ) (now x : ℕ) (w : Turn) : Type 0 where
-  pub connection : ℕ
-  pub ends : w .more ≡ false → (b′ ≡ b) × Tells b (λ t. dueFrom now x t ≡ [])
-  pub goes : w .more ≡ true → OneMore b b′ now x (keyNum (w .key)) connection (w .kept)
+-- the first that is due at the place x or later, if there is one
+pub record NextDue (b : List ℕ) (now x : ℕ) (w : Turn) : Type 0 where
+  pub ends : w .more ≡ false → Tells b (λ t. dueFrom now x t ≡ [])
+  pub goes : w .more ≡ true → DueNext b now x (keyNum (w .key)) (w .conn)
 
--- every owner that is due has expired; kept says whether a parent was kept
-pub record Expires (b b′ : List ℕ) (now : ℕ) (kept : Bool) : Type 0 where
-  pub table : (st : State) → Sound st → Writes b st → Writes b′ (onTable ((expired now st) .table) st)
-  pub none : kept ≡ false → (st : State) → Sound st → Writes b st → (expired now st) .keys ≡ []
+-- ---- all that are due, where the places are set apart
+
+-- nothing is noted yet
+pub record Clean (low high : List ℕ) (c : ℕ) : Type 0 where
+  pub low-long : c ≤ length low
+  pub high-long : c ≤ length high
+  pub clear : (j : ℕ) → j < c → Clear low high j
+
+-- every owner that is due has expired; the parents kept are noted
+pub record ExpiredAll (b′ f′ : List ℕ) (m : ℕ) (st : State) (ps : List Place) (low′ high′ : List ℕ) (now : ℕ) : Type 0 where
+  pub places : List Place
+  pub apart : Apart b′ f′ m (onTable ((expired now st) .table) st) places
+  pub family-same : family places ≡ family ps
+  pub keys : noted (family ps) low′ high′ ≡ (expired now st) .keys
+
+abbrev pub ExpiresAll : List ℕ → List ℕ → List ℕ → List ℕ → ℕ → ℕ → List ℕ → List ℕ → ℕ → Type 0
+ExpiresAll b b′ f f′ m c low′ high′ now = (st : State) (ps : List Place) → Apart b f m st ps → c ≡ length ps → ExpiredAll b′ f′ m st ps low′ high′ now

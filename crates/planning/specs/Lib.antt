@@ -5,3 +5,4 @@ pub mod Expiring
 pub mod Ordering
 pub mod Phasing
 pub mod Answering
+pub mod Keeping

@@ -9,10 +9,10 @@ ghost use mathlib.Core.Option.{none, some};
 ghost use lib.ListN.{length};
 ghost use Rattle.machine.specs.Call.{entryBytes};
 ghost use Rattle.machine.specs.Limits.{latestClock, maxRequestChecks};
-ghost use Rattle.store.specs.Shown.{limitIn, Kept};
+ghost use Rattle.store.specs.Shown.{limitIn};
 ghost use Rattle.planning.specs.Selecting.{Marked};
 ghost use Rattle.planning.specs.Phasing.{givenKeys};
-ghost use Rattle.planning.specs.Answering.{Fresh, Closed, AsksOf};
+ghost use Rattle.planning.specs.Answering.{Fresh, Closed, Begun, mostKept, AsksOf};
 
 // How many entries a plan has, and how many keys it considered.
 pub struct Reply {
@@ -76,12 +76,17 @@ fn finish(s: &mut [u8], picks: &[usize], n: usize, out: &mut [u8])
     close(s, picks, n, &mut keys, &mut order, &mut sorted, out);
 }
 
-// Considers all keys after the ready cursor and round to it; the ready cursor becomes the last key considered.
-pub fn ask_round(s: &mut [u8], clock: u64, picks: &mut [usize], out: &mut [u8]) -> Reply
-    requires { ⌜ Kept (now s) × (clock ≤ latestClock) × (maxRequestChecks < length (now picks)) × (entryBytes * min (maxRequestChecks + 1) (limitIn (now s)) ≤ length (now out)) ⌝ }
-    ensures { λ r. ⌜ AsksOf (now (s .entry)) (now (s .exit)) (now (out .entry)) (now (out .exit)) clock none r ⌝ }
+// Considers all keys after the ready cursor and round to it, after the scan v; the ready cursor becomes the last key considered.
+pub fn ask_round(
+    s: &mut [u8],
+    clock: u64,
+    picks: &mut [usize],
+    v: selecting::Scan,
+    out: &mut [u8],
+) -> Reply
+    requires { ⌜ Begun clock (now s) (now picks) v × (clock ≤ latestClock) × (maxRequestChecks < length (now picks)) × (entryBytes * min (maxRequestChecks + 1) (limitIn (now s)) ≤ length (now out)) × (v .considered ≤ mostKept) ⌝ }
+    ensures { λ r. ⌜ AsksOf (now (s .entry)) (now (s .exit)) (now (picks .entry)) (now (out .entry)) (now (out .exit)) clock none v r ⌝ }
 {
-    let v = fresh();
     let w = phase::phase_round(s, clock, picks, v);
     finish(s, picks, w.chosen, out);
     let last = w.last;
@@ -92,18 +97,18 @@ pub fn ask_round(s: &mut [u8], clock: u64, picks: &mut [usize], out: &mut [u8]) 
     }
 }
 
-// Considers the keys that the bytes hold; the ready cursor stays.
+// Considers the keys that the bytes hold, after the scan v; the ready cursor stays.
 pub fn ask_given(
     s: &mut [u8],
     clock: u64,
     given: &[u8],
     picks: &mut [usize],
+    v: selecting::Scan,
     out: &mut [u8],
 ) -> Reply
-    requires { ⌜ Kept (now s) × (clock ≤ latestClock) × (maxRequestChecks < length (now picks)) × (entryBytes * min (maxRequestChecks + 1) (limitIn (now s)) ≤ length (now out)) ⌝ }
-    ensures { λ r. ⌜ AsksOf (now (s .entry)) (now (s .exit)) (now (out .entry)) (now (out .exit)) clock (some (givenKeys (now (given .entry)))) r ⌝ }
+    requires { ⌜ Begun clock (now s) (now picks) v × (clock ≤ latestClock) × (maxRequestChecks < length (now picks)) × (entryBytes * min (maxRequestChecks + 1) (limitIn (now s)) ≤ length (now out)) × (v .considered ≤ mostKept) ⌝ }
+    ensures { λ r. ⌜ AsksOf (now (s .entry)) (now (s .exit)) (now (picks .entry)) (now (out .entry)) (now (out .exit)) clock (some (givenKeys (now (given .entry)))) v r ⌝ }
 {
-    let v = fresh();
     let w = phase::phase_given(s, clock, given, picks, v);
     finish(s, picks, w.chosen, out);
     Reply {

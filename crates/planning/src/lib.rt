@@ -6,6 +6,7 @@ pub mod claiming;
 pub mod entries;
 pub mod expiring;
 pub mod giving;
+pub mod kept;
 pub mod ordering;
 pub mod phase;
 pub mod plan;

@@ -19,7 +19,7 @@ ghost use Rattle.sweeping.specs.Batches.{keysOver};
 ghost use Rattle.planning.specs.Phasing.{keyCount, givenKeys, Roomy, Scans, Phased};
 
 // The same scan, where a phase begins.
-fn opened(v: selecting::Scan) -> selecting::Scan
+pub fn opened(v: selecting::Scan) -> selecting::Scan
     ensures { λ w. ⌜ w ≡ record { chosen = v .chosen; considered = v .considered; full = false; last = v .last } ⌝ }
 {
     let last = v.last;

@@ -1,32 +1,43 @@
-// plan on the bytes of a sound store (document 01, "plan"): the owners that are due expire, then the keys asked for are considered. The
-// parents that expiring keeps are not considered yet, so that the contracts speak of plans that keep none.
+// plan on the bytes of a sound store (document 01, "plan"): the owners that are due expire, the parents kept are considered, then the keys
+// asked for. For the length of a plan the package places are set apart: all but expiry concerns rows alone.
 use crate::answering;
 use crate::expiring;
-ghost use mathlib.Core.Path.{_≡_};
+use crate::kept;
+use crate::selecting;
 ghost use mathlib.Core.Option.{none, some};
-ghost use Prim.Native.Nat.{min, _+_, _*_, _≤_};
+ghost use Prim.Native.Nat.{min, _+_, _*_, _≤_, _<_};
 ghost use lib.ListN.{length};
-ghost use Rattle.machine.specs.Call.{keyBytes, entryBytes};
-ghost use Rattle.machine.specs.Limits.{latestClock, maxParents, maxRequestChecks};
+ghost use Rattle.machine.specs.Call.{entryBytes};
+ghost use Rattle.machine.specs.Limits.{latestClock, maxRequestChecks};
 ghost use Rattle.store.specs.Shown.{limitIn, Kept};
+ghost use Rattle.apart.specs.Apart.{Parted};
 ghost use Rattle.planning.specs.Phasing.{givenKeys};
-ghost use Rattle.planning.specs.Answering.{PlansOf};
-ghost use Rattle.planning.specs.Expiring.{Expires};
+ghost use Rattle.planning.specs.Answering.{Begins, Blank, PlansOf};
 
-// Room for the keys of the parents of a request.
-fn key_list() -> [u8; 4_000]
-    ensures { λ r. ⌜ length r ≡ keyBytes * maxParents ⌝ }
+// Room for half of the notes of every place.
+fn note_room() -> [u64; 4_096]
+    ensures { λ r. ⌜ Blank r ⌝ }
 {
-    [0u8; 4_000]
+    [0u64; 4_096]
 }
 
-// Every owner that is due expires.
-fn expire_all(s: &mut [u8], clock: u64) -> bool
-    requires { ⌜ Kept (now s) ⌝ }
-    ensures { λ r. ⌜ Expires (now (s .entry)) (now (s .exit)) clock r ⌝ }
+// Every owner that is due expires, and the parents kept are considered. The c places of the store are set apart.
+fn begin(
+    s: &mut [u8],
+    m: usize,
+    first: &mut [u8],
+    c: usize,
+    clock: u64,
+    picks: &mut [usize],
+) -> selecting::Scan
+    requires { ⌜ Parted (now s) (now first) m c × (clock ≤ latestClock) × (maxRequestChecks < length (now picks)) ⌝ }
+    ensures { λ w. ⌜ Begins (now (s .entry)) (now (s .exit)) (now (first .entry)) (now (first .exit)) m c (now (picks .exit)) clock w ⌝ }
 {
-    let mut list = key_list();
-    expiring::expire(s, clock, &mut list)
+    let mut low = note_room();
+    let mut high = note_room();
+    expiring::expire(s, m, first, c, &mut low, &mut high, clock);
+    let v = answering::fresh();
+    kept::phase_kept(s, m, first, c, &low, &high, clock, picks, v)
 }
 
 // Plans over all keys after the ready cursor and round to it; the ready cursor becomes the last key considered.
@@ -34,9 +45,15 @@ pub fn plan_round(s: &mut [u8], clock: u64, out: &mut [u8]) -> answering::Reply
     requires { ⌜ Kept (now s) × (clock ≤ latestClock) × (entryBytes * min (maxRequestChecks + 1) (limitIn (now s)) ≤ length (now out)) ⌝ }
     ensures { λ r. ⌜ PlansOf (now (s .entry)) (now (s .exit)) (now (out .entry)) (now (out .exit)) clock none r ⌝ }
 {
-    expire_all(s, clock);
+    let c = store::head::held_places(s);
+    let m = apart::bare_bytes(s);
+    let mut first = apart::slot_room();
+    apart::set_apart(s, m, &mut first);
     let mut picks = answering::numbers();
-    answering::ask_round(s, clock, &mut picks, out)
+    let v = begin(s, m, &mut first, c, clock, &mut picks);
+    let r = answering::ask_round(&mut s[0..m], clock, &mut picks, v, out);
+    apart::put_back(s, m, &first, c);
+    r
 }
 
 // Plans over the keys that the bytes hold; the ready cursor stays.
@@ -44,7 +61,13 @@ pub fn plan_given(s: &mut [u8], clock: u64, given: &[u8], out: &mut [u8]) -> ans
     requires { ⌜ Kept (now s) × (clock ≤ latestClock) × (entryBytes * min (maxRequestChecks + 1) (limitIn (now s)) ≤ length (now out)) ⌝ }
     ensures { λ r. ⌜ PlansOf (now (s .entry)) (now (s .exit)) (now (out .entry)) (now (out .exit)) clock (some (givenKeys (now (given .entry)))) r ⌝ }
 {
-    expire_all(s, clock);
+    let c = store::head::held_places(s);
+    let m = apart::bare_bytes(s);
+    let mut first = apart::slot_room();
+    apart::set_apart(s, m, &mut first);
     let mut picks = answering::numbers();
-    answering::ask_given(s, clock, given, &mut picks, out)
+    let v = begin(s, m, &mut first, c, clock, &mut picks);
+    let r = answering::ask_given(&mut s[0..m], clock, given, &mut picks, v, out);
+    apart::put_back(s, m, &first, c);
+    r
 }

@@ -1,0 +1,43 @@
+-- What the contracts of the first phase say: the parents noted of the places that are set apart, considered place by place.
+-- Assumes nothing.
+use Prim.Native.Nat.{ℕ, _+_, _*_, _≤_, _<_}
+use mathlib.Core.Path.{_≡_}
+use mathlib.Core.List.{List, []}
+use lib.ListN.{length, take, drop, getD}
+use Rattle.places.specs.Places.{Place, listMost}
+use Rattle.machine.specs.Typed.{Each}
+use Rattle.store.specs.Shown.{Kept}
+use Rattle.apart.specs.Apart.{Slots}
+use Rattle.apart.specs.Noting.{pickedIn}
+use Rattle.apart.specs.Lapsing.{family, noted}
+use Rattle.planning.specs.declared.selecting.Scan.{Scan}
+use Rattle.planning.specs.Phasing.{Roomy, Scans, Phased}
+
+-- what stands whatever the places are: the bytes behind m stay
+pub record Ahead (b b′ : List ℕ) (m n : ℕ) (v w : Scan) : Type 0 where
+  pub rest : drop m b′ ≡ drop m b
+  pub kept : Kept (take m b′)
+  pub roomy : Roomy w
+  pub near : w .considered ≤ v .considered + n
+
+-- places with no more parents than there is room for
+abbrev pub Short : List Place → Type 0
+Short ps = Each (λ p. length (p .parents) ≤ listMost) ps
+
+-- the parents noted of the i-th place are considered
+pub record PlaceScans (b b′ f : List ℕ) (m i low high : ℕ) (p p′ : List ℕ) (now : ℕ) (v w : Scan) : Type 0 where
+  pub ahead : Ahead b b′ m listMost v w
+  pub goes : (Q : ℕ) (ps : List Place) (d : Place) → i < length ps → Slots b f m Q ps → Short ps → Scans (take m b) (take m b′) p p′ now (λ st. pickedIn ((getD ps i d) .parents) low high) (λ st. []) v w listMost
+
+-- of c places those noted of the first i
+pub record KeptScans (b b′ f : List ℕ) (m c i : ℕ) (low high p p′ : List ℕ) (now : ℕ) (v w : Scan) : Type 0 where
+  pub ahead : Ahead b b′ m (listMost * i) v w
+  pub goes : (Q : ℕ) (ps : List Place) → c ≡ length ps → Slots b f m Q ps → Short ps
+      → Scans (take m b) (take m b′) p p′ now (λ st. noted (family ps) low high) (λ st. noted (drop i (family ps)) (drop i low) (drop i high)) v w (listMost * i)
+
+-- a whole phase over them
+pub record KeptPhased (b b′ f : List ℕ) (m c : ℕ) (low high p p′ : List ℕ) (now : ℕ) (v w : Scan) : Type 0 where
+  pub rest : drop m b′ ≡ drop m b
+  pub kept : Kept (take m b′)
+  pub near : w .considered ≤ v .considered + listMost * c
+  pub goes : (Q : ℕ) (ps : List Place) → c ≡ length ps → Slots b f m Q ps → Short ps → Phased (take m b) (take m b′) p p′ now (λ st. noted (family ps) low high) v w (listMost * c)
