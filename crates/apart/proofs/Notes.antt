@@ -199,7 +199,8 @@ announced-kept {n = n} {now} {i} {hs = hs} x k = record {
   writes = x .table (k .state) (k .sound) (k .writes);
 }
 
-module _ {b b₁ b₂ : List ℕ} {n now c e low high : ℕ} (w : List ℕ) (h : Halved c e) (x : Announced b b₁ n now 0 (hashesAt w 0 (e - 0)) low) (y : Announced b₁ b₂ n now e (hashesAt w e (c - e)) high) where
+module _ {b b₁ b₂ : List ℕ} {n now c e low high : ℕ} (w : List ℕ) (h : Halved c e) (x : Announced b b₁ n now 0 (hashesAt w 0 (e - 0)) low) (y : Announced b₁ b₂ n now e (hashesAt w e (c -
+    e)) high) where
   abbrev hs : List ℕ
   hs = hashesAt w 0 c
 

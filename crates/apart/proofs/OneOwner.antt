@@ -109,7 +109,8 @@ noted-set (hs ∷ hss) (x ∷ low) (y ∷ high) zero a b h l g c =
     let n = noted-none hss low high (λ j k. clear-next (c (suc j) (omega arith) (omega arith))) in
     rw (n, picked-clear hs (z .low-bits) (z .high-bits)) (append-nil (pickedIn hs a b))
 noted-set (hs ∷ hss) (x ∷ low) (y ∷ high) (suc i) a b h l g c =
-    rw (noted-set hss low high i a b (omega arith) (omega arith) (omega arith) (λ j k v. clear-next (c (suc j) (omega arith) (omega arith)))) (sym (append-assoc (pickedIn hs x y) (noted hss low high) _))
+    rw (noted-set hss low high i a b (omega arith) (omega arith) (omega arith) (λ j k v. clear-next (c (suc j) (omega arith) (omega arith)))) (sym (append-assoc (pickedIn hs x y) (noted hss
+    low high) _))
 
 -- ---- places that stay the same but for their stage
 
@@ -158,7 +159,8 @@ module _ {b f : List ℕ} {m : ℕ} {st : State} {ps : List Place} (o : Apart b 
 
 -- ---- without
 
-module _ {b f : List ℕ} {m : ℕ} {st : State} {ps : List Place} (o : Apart b f m st ps) (k : Key) (n now : ℕ) (late : now < word) (small : k .hash < top) (own : ownerIs n ((at k (st .table)) .owner) ≡ true)
+module _ {b f : List ℕ} {m : ℕ} {st : State} {ps : List Place} (o : Apart b f m st ps) (k : Key) (n now : ℕ) (late : now < word) (small : k .hash < top) (own : ownerIs n ((at k (st .table))
+    .owner) ≡ true)
     (none : SpotNone ps k) where
   abbrev t : Table
   t = st .table
@@ -188,7 +190,8 @@ module _ {b f : List ℕ} {m : ℕ} {st : State} {ps : List Place} (o : Apart b 
   unfolding announceParents dedup parentsFrom
   alone = ap (λ (hs : List ℕ). announceParents (limitsOf st) n now hs ((failed k n now t) .table)) (no-parents n (at k t) free)
 
-  pub expired-without : {v : List ℕ} {reply : Bool} {b′ : List ℕ} (low high : List ℕ) → length v ≡ length (take (m - 0) (drop 0 b)) → Answered (take (m - 0) (drop 0 b)) v reply (λ l x. failed k n now x)
+  pub expired-without : {v : List ℕ} {reply : Bool} {b′ : List ℕ} (low high : List ℕ) → length v ≡ length (take (m - 0) (drop 0 b)) → Answered (take (m - 0) (drop 0 b)) v reply (λ l x.
+      failed k n now x)
       → length b′ ≡ length b → b′ ≡ take 0 b ++ (v ++ drop (m - 0) (drop 0 b)) → ExpiredTo b′ f m st ps low low high high k n now
   expired-without {v} {b′ = b′} low high nv ans nb e = record {
     places = ps;

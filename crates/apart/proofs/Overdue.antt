@@ -69,7 +69,13 @@ module _ (b v : List ℕ) (m : ℕ) (l : m ≤ length b) (n : length v ≡ lengt
   rest-stays = drop-at v (drop (m - 0) b) m long ∙ (let e : m - 0 ≡ m = omega arith in ap (λ (i : ℕ). drop i b) e)
 
 pub slots-rest : {b b′ f : List ℕ} {m Q : ℕ} {ps : List Place} → drop m b′ ≡ drop m b → Slots b f m Q ps → Slots b′ f m Q ps
-slots-rest {Q = Q} {ps = ps} e s = record { some = s .some; few = s .few; first = s .first; rest = subst (λ (z : List ℕ). Holds placeSize placeWords (Q - 1) (drop 1 ps) (words z)) (sym e) (s .rest) }
+slots-rest {Q = Q} {ps = ps} e s = record {
+  some = s .some;
+  few = s .few;
+  first = s .first;
+  rest = subst (λ (z : List ℕ). Holds placeSize placeWords (Q - 1) (drop 1 ps) (words z)) (sym e)
+      (s .rest);
+}
 
 -- ---- filters
 
@@ -99,7 +105,11 @@ module _ {A : Type 0} (q : A → Bool) where
   pub filter-from : (l : List A) (i : ℕ) (d : A) → i < length (filter q l) → From l (getD (filter q l) i d) d
   unfolding filter
   filter-from [] i d h = absurd (omega arith)
-  filter-from (a ∷ l) i d h = elim (test (q a)) [ inl z ↦ rw z (here z (λ j g. filter-from l j d g) i (rw z at h)) | inr z ↦ rw z (later a l (getD (filter q l) i d) d (filter-from l i d (rw z at h))) ]
+  filter-from (a ∷ l) i d h = elim (test (q a)) [
+    | inl z ↦ rw z (here z (λ j g. filter-from l j d g) i (rw z at h))
+    | inr z ↦ rw z (later a l (getD (filter q l) i d) d (filter-from l i d (rw
+        z at h)))
+  ]
     where
       here : q a ≡ true → ((j : ℕ) → j < length (filter q l) → From l (getD (filter q l) j d) d) → (i : ℕ) → i < length (a ∷ filter q l) → From (a ∷ l) (getD (a ∷ filter q l) i d) d
       here z g zero h = record { index = 0; inside = omega arith; is = refl; passes = z }
@@ -239,7 +249,8 @@ module _ {b f : List ℕ} {m : ℕ} {st : State} {ps : List Place} (o : Apart b 
               (sym (places-without k n now small late (o .sound .bounded) own (enqueued-is ∙ e) (h .kind))))
         ]
 
-        module _ {b₂ f₂ : List ℕ} (g : LapsedTo b₂ f₂ m st ps r k n now) (z : List ℕ) {v : List ℕ} {x : Bits} (loaded : SlotOf z p) (l : m ≤ length b₂) (nv : length v ≡ length (take (m - 0) (drop 0 b₂)))
+        module _ {b₂ f₂ : List ℕ} (g : LapsedTo b₂ f₂ m st ps r k n now) (z : List ℕ) {v : List ℕ} {x : Bits} (loaded : SlotOf z p) (l : m ≤ length b₂) (nv : length v ≡ length (take (m - 0)
+            (drop 0 b₂)))
             (a : Noted (take (m - 0) (drop 0 b₂)) v n now (hashesAt (words z) 0 (r .parents)) x) where
           hashes : hashesAt (words z) 0 (r .parents) ≡ p .parents
           hashes = ap (hashesAt (words z) 0) (h .parents (blank 0 0)) ∙ slot-all z p loaded short

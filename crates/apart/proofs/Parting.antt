@@ -93,7 +93,8 @@ set-head h n c q Q v b = refl
 
 -- header, rows and connections of a state with Q places, of which q are held
 abbrev front : State → ℕ → ℕ → List ℕ
-front st Q q = headWords (withRoom Q (headOf st)) (length (rowsOf (st .table))) (length (tally (rowsOf (st .table)))) q ++ (rowPart (st .limit) (rowsOf (st .table)) ++ connPart (st .limit) (tally (rowsOf (st .table))))
+front st Q q = headWords (withRoom Q (headOf st)) (length (rowsOf (st .table))) (length (tally (rowsOf (st .table)))) q ++ (rowPart (st .limit) (rowsOf (st .table)) ++ connPart (st .limit)
+    (tally (rowsOf (st .table))))
 
 abbrev frontSize : ℕ → ℕ
 frontSize L = headSize + L * rowSize + L * connSize
@@ -194,7 +195,8 @@ module _ (b : List ℕ) (st : State) (s : Sound st) (o : Writes b st) {x m : ℕ
   behind : drop (a + placeSize) (words b) ≡ drop placeSize P
   behind = sym (drop-drop placeSize a (words b)) ∙ ap (drop placeSize) from
 
-  pub set-out : {f : List ℕ} (v : List ℕ) {b₁ w₂ b₃ : List ℕ} → f ≡ take (m - x) (drop x b) → length v ≡ length (take (m - x) (drop x b)) → words v ≡ splice (words (take (m - x) (drop x b))) 0 (replicate placeSize 0)
+  pub set-out : {f : List ℕ} (v : List ℕ) {b₁ w₂ b₃ : List ℕ} → f ≡ take (m - x) (drop x b) → length v ≡ length (take (m - x) (drop x b)) → words v ≡ splice (words (take (m - x) (drop x
+      b))) 0 (replicate placeSize 0)
       → b₁ ≡ take x b ++ (v ++ drop (m - x) (drop x b)) → length b₃ ≡ length b → w₂ ≡ set (words b₁) placesAt 1 → words b₃ ≡ set w₂ heldPlacesAt 0
       → Apart b₃ f m st (placesOf (st .table))
   set-out {f} v {b₁} {w₂} {b₃} ef nv ev e₁ n₃ e₂ e₃ = record {
@@ -206,7 +208,8 @@ module _ (b : List ℕ) (st : State) (s : Sound st) (o : Writes b st) {x m : ℕ
     slots = record {
       some = s .some-place;
       few = few;
-      first = ap words ef ∙ part-words b a e ax me (omega arith) (omega (arith, long)) ∙ ap (take (e - a)) from ∙ ap (λ (n : ℕ). take n P) size ∙ cut-first (st .places) (s .some-place) (placesOf (st .table)) few;
+      first = ap words ef ∙ part-words b a e ax me (omega arith) (omega (arith, long)) ∙ ap (take (e - a)) from ∙ ap (λ (n : ℕ). take n P) size ∙ cut-first (st .places) (s .some-place)
+          (placesOf (st .table)) few;
       rest = rest-words b₃ e me (omega (arith, long)) ∙ ap (drop e) after ∙ drop-front ∙ cut-rest (st .places) (s .some-place) (placesOf (st .table)) few;
     };
     lives = all-live (rowsOf (st .table)) (placesOf (st .table)) ((flat-sound st s) .places-fit);

@@ -80,13 +80,15 @@ module _ {b f : List ℕ} {m Q : ℕ} {ps : List Place} (s : Slots b f m Q ps) w
 
   -- ---- it dies
 
-  pub first-dies : (d : Place) → 0 < length ps → {f′ : List ℕ} → Changed placeSize placeWords (words f) (words f′) 0 stageAt (0 ∷ []) (withStage 0) → Slots b f′ m Q (set ps 0 (withStage 0 (getD ps 0 d)))
+  pub first-dies : (d : Place) → 0 < length ps → {f′ : List ℕ} → Changed placeSize placeWords (words f) (words f′) 0 stageAt (0 ∷ []) (withStage 0) → Slots b f′ m Q (set ps 0 (withStage 0
+      (getD ps 0 d)))
   first-dies d h {f′} x =
       let n = length-set ps 0 (withStage 0 (getD ps 0 d)) in
       record {
         some = s .some;
         few = omega (arith, s .few);
-        first = subst (λ (l : List Place). Holds placeSize placeWords 1 l (words f′)) (sym (first-one (set ps 0 (withStage 0 (getD ps 0 d))) d (omega arith) ∙ go ps h)) (x .region 1 (getD ps 0 d ∷ []) d (omega arith) (first-slot d h));
+        first = subst (λ (l : List Place). Holds placeSize placeWords 1 l (words f′)) (sym (first-one (set ps 0 (withStage 0 (getD ps 0 d))) d (omega arith) ∙ go ps h)) (x .region 1 (getD
+            ps 0 d ∷ []) d (omega arith) (first-slot d h));
         rest = subst (λ (l : List Place). Holds placeSize placeWords (Q - 1) l (words (drop m b))) (sym (drop-set-lt 1 ps 0 (withStage 0 (getD ps 0 d)) (omega arith))) (s .rest);
       }
     where

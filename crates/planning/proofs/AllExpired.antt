@@ -97,13 +97,15 @@ way-goes {b′ = b′} {f′ = f′} {m} {c} {now} {x} {low} {low′} {high} {hi
     let g = a st ps o count in
     let t = g .table in
     let s = g .apart .sound in
-    let e : dueFrom now x t ≡ record { key = k; connection = n } ∷ dueFrom now (suc (place k)) (bare t) = sym (due-from-bare now x t) ∙ next .first (bareState (onTable t st)) (sound-bare s) (g .apart .writes) in
+    let e : dueFrom now x t ≡ record { key = k; connection = n } ∷ dueFrom now (suc (place k)) (bare t) = sym (due-from-bare now x t) ∙ next .first (bareState (onTable t st)) (sound-bare s)
+    (g .apart .writes) in
     let y = one (onTable t st) (g .places) (g .apart) (count ∙ sym (same-long ps (g .places) (g .family-same)))
     (due-owns now x 0 t (record { key = k; connection = n }) _ (s .bounded .ordered) (s .bounded .lawful) e) in
     let long = same-long ps (g .places) (g .family-same) in
     let t₁ = (expireOne (limitsOf st) now k n t) .table in
     let ks₁ = (expireOne (limitsOf st) now k n t) .keys in
-    let here : (j : ℕ) → j < length (g .places) → place k ≤ place (wtxid (getD (placeHashes (g .places)) j 0)) → Clear low high j = λ j h l. g .later j (omega arith) (let z = ap (λ (hs : List ℕ). place (wtxid (getD hs j 0))) (g .hashes-same) in omega (arith, next .from)) in
+    let here : (j : ℕ) → j < length (g .places) → place k ≤ place (wtxid (getD (placeHashes (g .places)) j 0)) → Clear low high j = λ j h l. g .later j (omega arith) (let z = ap (λ (hs :
+    List ℕ). place (wtxid (getD hs j 0))) (g .hashes-same) in omega (arith, next .from)) in
     let more = expiring-more (g .going) (record { key = k; connection = n }) _ w (s .bounded) e in
     let keys-are = ap (λ (hss : List (List ℕ)). noted hss low′ high′) (sym (g .family-same)) ∙ y .keys here ∙ ap (λ (hss : List (List ℕ)). noted hss low high ++ ks₁) (g .family-same) in
     record {
@@ -112,7 +114,8 @@ way-goes {b′ = b′} {f′ = f′} {m} {c} {now} {x} {low} {low′} {high} {hi
       apart = y .apart;
       family-same = y .family-same ∙ g .family-same;
       hashes-same = y .hashes-same ∙ g .hashes-same;
-      going = subst (λ (ks : List Key). Expiring (limitsOf st) now (expired now st) (place k + 1) t₁ ks) (sym keys-are) (subst (λ (i : ℕ). Expiring (limitsOf st) now (expired now st) i t₁ (noted (family ps) low high ++ ks₁)) (sym (add-one (place k))) more);
+      going = subst (λ (ks : List Key). Expiring (limitsOf st) now (expired now st) (place k + 1) t₁ ks) (sym keys-are) (subst (λ (i : ℕ). Expiring (limitsOf st) now (expired now st) i t₁
+          (noted (family ps) low high ++ ks₁)) (sym (add-one (place k))) more);
       later = λ j h l.
           let z = ap (λ (hs : List ℕ). place (wtxid (getD hs j 0))) (g .hashes-same) in
           y .later j (omega arith) (omega arith) (g .later j h (omega (arith, next .from)));

@@ -73,7 +73,8 @@ module _ {b f : List ℕ} {m i low high : ℕ} {p : List ℕ} {now : ℕ} {v : S
         (scans-as (scans-start (λ st. []) v k r) (λ st. []) listMost (omega arith) (λ st l u w. refl));
   }
 
-  pub place-scanned : {q : List ℕ} {w : Scan} (z x b′ : List ℕ) {c : ℕ} → Loaded b f m i z → ParentsIn z c → m ≤ length b → length x ≡ length (take (m - 0) (drop 0 b)) → b′ ≡ take 0 b ++ (x ++ drop (m - 0) (drop 0 b))
+  pub place-scanned : {q : List ℕ} {w : Scan} (z x b′ : List ℕ) {c : ℕ} → Loaded b f m i z → ParentsIn z c → m ≤ length b → length x ≡ length (take (m - 0) (drop 0 b)) → b′ ≡ take 0 b ++ (x
+      ++ drop (m - 0) (drop 0 b))
       → Scans (take (m - 0) (drop 0 b)) x p q now (λ st. pickedIn (hashesAt (words z) 0 c) low high) (λ st. []) v w listMost → PlaceScans b b′ f m i low high p q now v w
   place-scanned {q} {w} z x b′ {c} load n l nx e g =
       let g₁ : Scans (take m b) (take m b′) p q now (λ st. pickedIn (hashesAt (words z) 0 c) low high) (λ st. []) v w listMost = rw (e, front-is b x m l nx) (rw (front-lent b m) at g) in
@@ -129,10 +130,12 @@ module _ {b f : List ℕ} {m c : ℕ} {low high p : List ℕ} {now : ℕ} {v : S
           let l : i < length ps = omega arith in
           let t = y .goes Q ps (blank 0 0) l (slots-rest (x .ahead .rest) s) z in
           let hss = family ps in
-          let g = scans-as (x .goes Q ps n s z) (λ st. pickedIn ((getD ps i (blank 0 0)) .parents) (getD low i 0) (getD high i 0) ++ noted (drop (i + 1) hss) (drop (i + 1) low) (drop (i + 1) high)) (listMost * i) (omega arith)
+          let g = scans-as (x .goes Q ps n s z) (λ st. pickedIn ((getD ps i (blank 0 0)) .parents) (getD low i 0) (getD high i 0) ++ noted (drop (i + 1) hss) (drop (i + 1) low) (drop (i +
+          1) high)) (listMost * i) (omega arith)
           (λ st k u o. noted-next hss low high i (omega (arith, length-map ps (λ (p : Place). p .parents)))
           ∙ ap (λ (hs : List ℕ). pickedIn hs (getD low i 0) (getD high i 0) ++ noted (drop (i + 1) hss) (drop (i + 1) low) (drop (i + 1) high)) (family-at ps i (blank 0 0) l)) in
-          scans-as (scans-part (pickedIn ((getD ps i (blank 0 0)) .parents) (getD low i 0) (getD high i 0)) (noted (drop (i + 1) hss) (drop (i + 1) low) (drop (i + 1) high)) g t) (λ st. noted (drop (i + 1) hss) (drop (i + 1) low) (drop (i + 1) high)) (listMost * (i + 1)) (omega arith) (λ st k u o. refl);
+          scans-as (scans-part (pickedIn ((getD ps i (blank 0 0)) .parents) (getD low i 0) (getD high i 0)) (noted (drop (i + 1) hss) (drop (i + 1) low) (drop (i + 1) high)) g t) (λ st.
+          noted (drop (i + 1) hss) (drop (i + 1) low) (drop (i + 1) high)) (listMost * (i + 1)) (omega arith) (λ st k u o. refl);
     }
 
     pub kept-full : i ≤ c → w .full ≡ true → KeptScans b b₁ f m c c low high p q now v w
@@ -144,12 +147,16 @@ module _ {b f : List ℕ} {m c : ℕ} {low high p : List ℕ} {now : ℕ} {v : S
     pub kept-done : i ≡ c → KeptScans b b₁ f m c c low high p q now v w
     kept-done e = subst (λ (j : ℕ). KeptScans b b₁ f m c j low high p q now v w) e x
 
-pub kept-phased : {b b′ f : List ℕ} {m c : ℕ} {low high p p′ : List ℕ} {now : ℕ} {v v₁ w : Scan} → Opened v v₁ → KeptScans b b′ f m c c low high p p′ now v₁ w → KeptPhased b b′ f m c low high p p′ now v w
+pub kept-phased : {b b′ f : List ℕ} {m c : ℕ} {low high p p′ : List ℕ} {now : ℕ} {v v₁ w : Scan} → Opened v v₁ → KeptScans b b′ f m c c low high p p′ now v₁ w → KeptPhased b b′ f m c low
+    high p p′ now v w
 kept-phased {c = c} {low} {high} {v = v} e x = record {
   rest = x .ahead .rest;
   kept = x .ahead .kept;
   near = omega (arith, x .ahead .near, ap (λ (u : Scan). u .considered) e);
-  goes = λ Q ps n s z. phased e (scans-as (x .goes Q ps n s z) (λ st. []) (listMost * c) (omega arith) (λ st l u o. noted-over (family ps) (drop c low) (drop c high) c (omega (arith, length-map ps (λ (p : Place). p .parents)))));
+  goes = λ Q ps n s z. phased e (scans-as (x .goes Q ps n s z) (λ st. []) (listMost * c) (omega arith) (λ st l u o. noted-over (family ps) (drop c low) (drop c high) c (omega (
+    arith,
+    length-map ps (λ (p : Place). p .parents),
+  ))));
 }
 
 -- nothing is noted

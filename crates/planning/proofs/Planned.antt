@@ -52,9 +52,16 @@ blank-clean x y h = record {
 pub expired-parted : {b b₁ f f₁ : List ℕ} {m c now : ℕ} {low high : List ℕ} → ExpiresAll b b₁ f f₁ m c low high now → Parted b f m c → Parted b₁ f₁ m c
 expired-parted {now = now} x p =
     let g = x (p .state) (p .places) (p .apart) (p .count) in
-    record { state = onTable ((machine.expired now (p .state)) .table) (p .state); places = g .places; apart = g .apart; count = p .count ∙ sym (same-long (p .places) (g .places) (g .family-same)) }
+    record {
+      state = onTable ((machine.expired now (p .state)) .table) (p .state);
+      places = g .places;
+      apart = g .apart;
+      count = p .count ∙ sym (same-long (p .places) (g .places) (g
+          .family-same));
+    }
 
-pub begun : {b b₁ b₂ f f₁ : List ℕ} {m c now : ℕ} {low high p p₂ : List ℕ} {v w : Scan} → c ≤ maxPlaces → ExpiresAll b b₁ f f₁ m c low high now → Fresh v → KeptPhased b₁ b₂ f₁ m c low high p p₂ now v w
+pub begun : {b b₁ b₂ f f₁ : List ℕ} {m c now : ℕ} {low high p p₂ : List ℕ} {v w : Scan} → c ≤ maxPlaces → ExpiresAll b b₁ f f₁ m c low high now → Fresh v → KeptPhased b₁ b₂ f₁ m c low high
+    p p₂ now v w
     → Begins b b₂ f f₁ m c p₂ now w
 begun {b₁ = b₁} {b₂} {f₁ = f₁} {m} {c} {now} {low} {high} {p} {p₂} {v} {w} few x fr y = record {
   near = omega (arith, y .near, fr .considered);
@@ -84,7 +91,8 @@ asked-bare : (asked : Option (List Key)) (c : Option Key) (t : Table) → machin
 asked-bare none c t = ap (round c) (keys-bare t)
 asked-bare (some ks) c t = refl
 
-module _ {b₀ b₁ b₂ f₁ f₂ p₂ : List ℕ} {m c now : ℕ} (asked : Option (List Key)) {w : Scan} (late : now < word) (set : SetApart b₀ b₁ f₁ m) (beg : Begins b₁ b₂ f₁ f₂ m c p₂ now w) (held : c ≡ heldPlacesIn b₀) where
+module _ {b₀ b₁ b₂ f₁ f₂ p₂ : List ℕ} {m c now : ℕ} (asked : Option (List Key)) {w : Scan} (late : now < word) (set : SetApart b₀ b₁ f₁ m) (beg : Begins b₁ b₂ f₁ f₂ m c p₂ now w) (held : c
+    ≡ heldPlacesIn b₀) where
   module _ (st : State) (s : Sound st) (o : Writes b₀ st) where
     abbrev st₁ : State
     st₁ = onTable ((machine.expired now st) .table) st
@@ -122,9 +130,19 @@ module _ {b₀ b₁ b₂ f₁ f₂ p₂ : List ℕ} {m c now : ℕ} (asked : Opt
     sound-after : Sound (withReadyCursor cursor st₁)
     sound-after =
         let g = start .apart .sound in
-        record { some-limit = g .some-limit; most-limit = g .most-limit; some-place = g .some-place; most-places = g .most-places; bounded = g .bounded; poll = g .poll; known = g .known; ready = plan-cursor now asked st late s }
+        record {
+          some-limit = g .some-limit;
+          most-limit = g .most-limit;
+          some-place = g .some-place;
+          most-places = g .most-places;
+          bounded = g .bounded;
+          poll = g .poll;
+          known = g .known;
+          ready = plan-cursor now asked st late s;
+        }
 
-    module _ {x b₃ u u′ : List ℕ} {r : Reply} (l : m ≤ length b₂) (nx : length x ≡ length (take (m - 0) (drop 0 b₂))) (e₃ : b₃ ≡ take 0 b₂ ++ (x ++ drop (m - 0) (drop 0 b₂))) (n₃ : length b₃ ≡ length b₁)
+    module _ {x b₃ u u′ : List ℕ} {r : Reply} (l : m ≤ length b₂) (nx : length x ≡ length (take (m - 0) (drop 0 b₂))) (e₃ : b₃ ≡ take 0 b₂ ++ (x ++ drop (m - 0) (drop 0 b₂))) (n₃ : length
+        b₃ ≡ length b₁)
         (nf : length f₂ ≡ length f₁) (ask : AsksOf (take (m - 0) (drop 0 b₂)) x p₂ u u′ now asked w r) where
       answer : Asks now asked (bareState st₁) first x u u′ r
       answer = ask (bareState st₁) first scanning

@@ -116,7 +116,10 @@ module _ {b b₁ p p₁ : List ℕ} {now n : ℕ} {v w : Scan} (asked : Option (
       let c = machine.phase now t (g .some-keys) machine.start in
       let few = length-phase now t (keysFor asked st) c maxRequestChecks (first-few g) (omega arith) (omega arith) in
       let sparse = sparse-held t ((end st c) .chosen) (q .filled)
-      (sparse-phase now t (keysFor asked st) c (typed st (g .stands .sound)) (q .ordered) (sparse-phase now t (g .some-keys) machine.start (g .typed) (q .ordered) (record { distinct = tt; within = λ x e. never e }))) in
+      (sparse-phase now t (keysFor asked st) c (typed st (g .stands .sound)) (q .ordered) (sparse-phase now t (g .some-keys) machine.start (g .typed) (q .ordered) (record {
+        distinct = tt;
+        within = λ x e. never e;
+      }))) in
       omega (arith, (x .goes st c (g .stands)) .marks .count, few, sparse, q .fits, (sizes (g .stands .marks .writes)) .limit)
 
   -- what is left to do is the ready cursor

@@ -74,7 +74,8 @@ pub record BegunTo (b′ f′ : List ℕ) (m c : ℕ) (st : State) (p′ : List 
   pub apart : Apart before f′ m (onTable ((machine.expired now st) .table) st) places
   pub count : c ≡ length places
   pub rest : drop m b′ ≡ drop m before
-  pub stands : Scanning now (bareState (onTable ((machine.expired now st) .table) st)) (machine.phase now (bare ((machine.expired now st) .table)) ((machine.expired now st) .keys) machine.start) (take m b′) p′ w
+  pub stands : Scanning now (bareState (onTable ((machine.expired now st) .table) st)) (machine.phase now (bare ((machine.expired now st) .table)) ((machine.expired now st) .keys)
+      machine.start) (take m b′) p′ w
 
 pub record Begins (b b′ f f′ : List ℕ) (m c : ℕ) (p′ : List ℕ) (now : ℕ) (w : Scan) : Type 0 where
   pub near : w .considered ≤ mostKept

@@ -27,7 +27,8 @@ Short ps = Each (λ p. length (p .parents) ≤ listMost) ps
 -- the parents noted of the i-th place are considered
 pub record PlaceScans (b b′ f : List ℕ) (m i low high : ℕ) (p p′ : List ℕ) (now : ℕ) (v w : Scan) : Type 0 where
   pub ahead : Ahead b b′ m listMost v w
-  pub goes : (Q : ℕ) (ps : List Place) (d : Place) → i < length ps → Slots b f m Q ps → Short ps → Scans (take m b) (take m b′) p p′ now (λ st. pickedIn ((getD ps i d) .parents) low high) (λ st. []) v w listMost
+  pub goes : (Q : ℕ) (ps : List Place) (d : Place) → i < length ps → Slots b f m Q ps → Short ps → Scans (take m b) (take m b′) p p′ now (λ st. pickedIn ((getD ps i d) .parents) low high)
+      (λ st. []) v w listMost
 
 -- of c places those noted of the first i
 pub record KeptScans (b b′ f : List ℕ) (m c i : ℕ) (low high p p′ : List ℕ) (now : ℕ) (v w : Scan) : Type 0 where

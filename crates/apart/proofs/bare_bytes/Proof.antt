@@ -1,41 +1,31 @@
+-- `apart::bare_bytes` meets its contract. Assumes nothing.
 use native.Mathlib.Omega.{arith}
 use Rattle.requests.proofs.Keeping.{kept-shown}
 use borrow.Author.Needs.{needs}
 use Rattle.apart.proofs.bare_bytes.Statement.{statement}
 use Rattle.apart.proofs.bare_bytes.Tie as tie
-use Rattle.apart.proofs.bare_bytes.Reads as reads
-use Rattle.apart.proofs.bare_bytes.Lts as lts
-use Rattle.store.proofs.head.limit.Reads as limit-reads
 
--- src/lib.rt:29:9
 limit-requires : tie.Need-limit-requires
 limit-requires c κs = let z = (kept-shown (c .before .pre)) .sizes .long in omega (arith, z)
 
--- src/lib.rt:30:26
 mul-result : tie.Need-mul-result
 mul-result c = let z = kept-shown (c .before .before .pre) in omega (arith, z .sizes .long, z .sized .limit, c .limit .ensures .word, z .sizes .limit)
 
--- src/lib.rt:30:6
 add-result : tie.Need-add-result
 add-result c = let z = kept-shown (c .before .before .pre) in omega (arith, z .sizes .long, z .sized .limit, c .limit .ensures .word, z .sizes .limit)
 
--- src/lib.rt:30:36
 mul-result-2 : tie.Need-mul-result-2
 mul-result-2 c = let z = kept-shown (c .before .before .pre) in omega (arith, z .sizes .long, z .sized .limit, c .limit .ensures .word, z .sizes .limit)
 
--- src/lib.rt:30:6
 add-result-2 : tie.Need-add-result-2
 add-result-2 c = let z = kept-shown (c .before .before .pre) in omega (arith, z .sizes .long, z .sized .limit, c .limit .ensures .word, z .sizes .limit)
 
--- src/lib.rt:30:5
 mul-result-3 : tie.Need-mul-result-3
 mul-result-3 c = let z = kept-shown (c .before .before .pre) in omega (arith, z .sizes .long, z .sized .limit, c .limit .ensures .word, z .sizes .limit)
 
--- src/lib.rt:30:5
 add-result-3 : tie.Need-add-result-3
 add-result-3 c = let z = kept-shown (c .before .before .pre) in omega (arith, z .sizes .long, z .sized .limit, c .limit .ensures .word, z .sizes .limit)
 
--- src/lib.rt:25:1
 returns : tie.Need-returns
 returns c = search needs
 

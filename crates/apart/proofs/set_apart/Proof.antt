@@ -1,3 +1,4 @@
+-- `apart::set_apart` meets its contract. Assumes nothing.
 use mathlib.Core.Path.{refl, ap, _∙_}
 use native.Mathlib.Omega.{arith}
 use Rattle.store.proofs.Frame.{sizes}
@@ -6,67 +7,55 @@ use Rattle.apart.proofs.Parting.{set-out, room-enough}
 use borrow.Author.Needs.{needs}
 use Rattle.apart.proofs.set_apart.Statement.{statement}
 use Rattle.apart.proofs.set_apart.Tie as tie
-use Rattle.apart.proofs.set_apart.Reads as reads
-use Rattle.apart.proofs.set_apart.Lts as lts
-use Rattle.sorting.proofs.gather.copy_slot.Reads as copy-slot-reads
-use Rattle.words.proofs.clear.Reads as clear-reads
-use Rattle.words.proofs.put.Reads as put-reads
 
--- src/lib.rt:45:13
 sub-x : tie.Need-sub-x
 sub-x c = search needs
 
--- src/lib.rt:46:32
 sub-copy-slot : tie.Need-sub-copy-slot
 sub-copy-slot c = search needs
 
--- src/lib.rt:46:32
 part-copy-slot-start : tie.Need-part-copy-slot-start
 part-copy-slot-start c = search needs
 
--- src/lib.rt:46:32
 part-copy-slot-end : tie.Need-part-copy-slot-end
 part-copy-slot-end c = let l = room-enough (c .before .before .before .pre .0) (c .before .before .before .pre .1) in omega (arith, l)
 
--- src/lib.rt:46:5
 copy-slot-requires : tie.Need-copy-slot-requires
 copy-slot-requires c κs = search needs
 
--- src/lib.rt:47:18
 sub-clear : tie.Need-sub-clear
 sub-clear c = search needs
 
--- src/lib.rt:47:18
 part-clear-start : tie.Need-part-clear-start
 part-clear-start c = search needs
 
--- src/lib.rt:47:18
 part-clear-end : tie.Need-part-clear-end
-part-clear-end c = let l = room-enough (c .before .before .before .before .before .before .before .before .pre .0) (c .before .before .before .before .before .before .before .before .pre .1) in omega (arith, l)
+part-clear-end c = let l = room-enough (c .before .before .before .before .before .before .before .before .pre .0) (c .before .before .before .before .before .before .before .before .pre
+    .1) in omega (arith, l)
 
--- src/lib.rt:47:5
 clear-requires : tie.Need-clear-requires
 clear-requires c κs = search needs
 
--- src/lib.rt:48:5
 put-requires : tie.Need-put-requires
-put-requires c κs = let l = room-enough (c .before .before .before .before .before .before .before .before .before .before .before .before .before .pre .0) (c .before .before .before .before .before .before .before .before .before .before .before .before .before .pre .1) in search needs
+put-requires c κs = let l = room-enough (c .before .before .before .before .before .before .before .before .before .before .before .before .before .pre .0) (c .before .before .before
+    .before .before .before .before .before .before .before .before .before .before .pre .1) in search needs
 
--- src/lib.rt:49:5
 put-requires-2 : tie.Need-put-requires-2
-put-requires-2 c κs = let l = room-enough (c .before .before .before .before .before .before .before .before .before .before .before .before .before .before .before .before .before .pre .0) (c .before .before .before .before .before .before .before .before .before .before .before .before .before .before .before .before .before .pre .1) in search needs
+put-requires-2 c κs = let l = room-enough (c .before .before .before .before .before .before .before .before .before .before .before .before .before .before .before .before .before .pre .0)
+    (c .before .before .before .before .before .before .before .before .before .before .before .before .before .before .before .before .before .pre .1) in search needs
 
--- src/lib.rt:41:1
 same-length : tie.Need-same-length
 same-length c = search needs
 
--- src/lib.rt:41:1
 same-length-2 : tie.Need-same-length-2
 same-length-2 c = search needs
 
--- src/lib.rt:41:1
 returns : tie.Need-returns
-returns c = λ st s o. set-out (c .before .before .before .before .before .before .before .before .before .before .before .before .before .before .before .before .before .before .before .before .args .s .now) st s o (c .before .before .before .before .before .before .before .before .before .before .before .before .before .before .before .before .before .before .before .before .pre .1 ∙ ap bareBytes ((sizes o) .limit)) refl _ (c .before .before .before .before .before .before .before .before .before .before .before .before .before .before .copy-slot .ensures) (c .before .before .before .before .before .before .before .before .before .before .clear .kept .0) (c .before .before .before .before .before .before .before .before .before .before .clear .ensures) refl (search needs) (c .before .before .before .before .before .before .put .ensures .word) (c .before .before .put2 .ensures .word)
+returns c = λ st s o. set-out (c .before .before .before .before .before .before .before .before .before .before .before .before .before .before .before .before .before .before .before
+    .before .args .s .now) st s o (c .before .before .before .before .before .before .before .before .before .before .before .before .before .before .before .before .before .before .before
+    .before .pre .1 ∙ ap bareBytes ((sizes o) .limit)) refl _ (c .before .before .before .before .before .before .before .before .before .before .before .before .before .before .copy-slot
+    .ensures) (c .before .before .before .before .before .before .before .before .before .before .clear .kept .0) (c .before .before .before .before .before .before .before .before .before
+    .before .clear .ensures) refl (search needs) (c .before .before .before .before .before .before .put .ensures .word) (c .before .before .put2 .ensures .word)
 
 pub set-apart-spec : {M : Type 1} → statement M
 set-apart-spec =

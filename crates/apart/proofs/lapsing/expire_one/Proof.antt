@@ -1,3 +1,4 @@
+-- `apart::lapsing::expire_one` meets its contract. Assumes nothing.
 use Prim.Native.Nat.{_<_}
 use mathlib.Core.Path.{refl}
 use native.Mathlib.Omega.{arith}
@@ -8,83 +9,104 @@ use Rattle.apart.proofs.OneOwner.{lent-kept, found-held, found-few, fou
 use borrow.Author.Needs.{needs}
 use Rattle.apart.proofs.lapsing.expire_one.Statement.{statement}
 use Rattle.apart.proofs.lapsing.expire_one.Tie as tie
-use Rattle.apart.proofs.lapsing.expire_one.Reads as reads
-use Rattle.apart.proofs.lapsing.expire_one.Lts as lts
-use Rattle.apart.proofs.lapsing.expire_place.Reads as expire-place-reads
-use Rattle.apart.proofs.slots.find.Reads as find-reads
-use Rattle.failing.proofs.failed.Reads as failed-reads
 
--- src/lapsing.rt:70:9
 find-requires : tie.Need-find-requires
 find-requires c κs = search needs
 
--- src/lapsing.rt:72:25
 sub-failed : tie.Need-sub-failed
 sub-failed c = search needs
 
--- src/lapsing.rt:72:25
 part-failed-start : tie.Need-part-failed-start
 part-failed-start c = search needs
 
--- src/lapsing.rt:72:25
 part-failed-end : tie.Need-part-failed-end
 part-failed-end c = search needs
 
--- src/lapsing.rt:72:9
 failed-requires : tie.Need-failed-requires
 failed-requires c κs = lent-kept (c .before .before .before .before .before .before .before .before .before .before .pre .0 .apart)
 
--- src/lapsing.rt:74:13
 expire-place-requires : tie.Need-expire-place-requires
-expire-place-requires c κs = let x = c .before .before .before .before .before .before .before .before .before .before .before .pre .0 in record { state = x .state; places = x .places; apart = x .apart; held = found-held x (c .before .before .before .before .find .ensures) (omega (arith, c .before .before .if1 .left)); some-stage = (omega (arith, c .before .before .if1 .left)); some-peer = c .before .before .before .before .before .before .before .before .before .before .before .pre .1 }
+expire-place-requires c κs = let x = c .before .before .before .before .before .before .before .before .before .before .before .pre .0 in record {
+  state = x .state;
+  places = x .places;
+  apart = x .apart;
+  held = found-held x (c .before .before .before .before .find .ensures) (omega (arith, c .before .before .if1 .left));
+  some-stage = (omega (
+    arith,
+    c .before .before
+        .if1 .left,
+  ));
+  some-peer = c .before .before .before .before .before .before .before .before .before .before .before .pre .1;
+}
 
--- src/lapsing.rt:76:9
 mul-low : tie.Need-mul-low
-mul-low c = let y = found-few (c .before .before .before .before .before .before .before .before .before .before .before .before .before .before .before .before .pre .0) (c .before .before .before .before .before .before .before .before .before .find .ensures) (omega (arith, c .before .before .before .before .before .before .before .if1 .left)) in omega (arith, y)
+mul-low c = let y = found-few (c .before .before .before .before .before .before .before .before .before .before .before .before .before .before .before .before .pre .0) (c .before .before
+    .before .before .before .before .before .before .before .find .ensures) (omega (arith, c .before .before .before .before .before .before .before .if1 .left)) in omega (arith, y)
 
--- src/lapsing.rt:76:9
 slice-write-low : tie.Need-slice-write-low
-slice-write-low c = let y = found-inside (c .before .before .before .before .before .before .before .before .before .before .before .before .before .before .before .before .pre .0) (c .before .before .before .before .before .before .before .before .before .find .ensures) (omega (arith, c .before .before .before .before .before .before .before .if1 .left)) in omega (arith, y, c .before .before .before .before .before .before .before .before .before .before .before .before .before .before .before .before .pre .2)
+slice-write-low c = let y = found-inside (c .before .before .before .before .before .before .before .before .before .before .before .before .before .before .before .before .pre .0) (c
+    .before .before .before .before .before .before .before .before .before .find .ensures) (omega (arith, c .before .before .before .before .before .before .before .if1 .left)) in omega
+    (arith, y, c .before .before .before .before .before .before .before .before .before .before .before .before .before .before .before .before .pre .2)
 
--- src/lapsing.rt:77:9
 mul-high : tie.Need-mul-high
-mul-high c = let y = found-few (c .before .before .before .before .before .before .before .before .before .before .before .before .before .before .before .before .pre .0) (c .before .before .before .before .before .before .before .before .before .find .ensures) (omega (arith, c .before .before .before .before .before .before .before .if1 .left)) in omega (arith, y)
+mul-high c = let y = found-few (c .before .before .before .before .before .before .before .before .before .before .before .before .before .before .before .before .pre .0) (c .before .before
+    .before .before .before .before .before .before .before .find .ensures) (omega (arith, c .before .before .before .before .before .before .before .if1 .left)) in omega (arith, y)
 
--- src/lapsing.rt:77:9
 slice-write-high : tie.Need-slice-write-high
-slice-write-high c = let y = found-inside (c .before .before .before .before .before .before .before .before .before .before .before .before .before .before .before .before .pre .0) (c .before .before .before .before .before .before .before .before .before .find .ensures) (omega (arith, c .before .before .before .before .before .before .before .if1 .left)) in omega (arith, y, c .before .before .before .before .before .before .before .before .before .before .before .before .before .before .before .before .pre .3)
+slice-write-high c = let y = found-inside (c .before .before .before .before .before .before .before .before .before .before .before .before .before .before .before .before .pre .0) (c
+    .before .before .before .before .before .before .before .before .before .find .ensures) (omega (arith, c .before .before .before .before .before .before .before .if1 .left)) in omega
+    (arith, y, c .before .before .before .before .before .before .before .before .before .before .before .before .before .before .before .before .pre .3)
 
--- src/lapsing.rt:56:1
 same-length : tie.Need-same-length
 same-length c = search needs
 
--- src/lapsing.rt:56:1
 same-length-2 : tie.Need-same-length-2
 same-length-2 c = search needs
 
--- src/lapsing.rt:56:1
 returns : tie.Need-returns
-returns c = λ st ps o n own. let late : c .before .before .before .before .before .before .before .before .before .before .before .before .before .args .clock < word = omega arith in expired-without o (keyNum (c .before .before .before .before .before .before .before .before .before .before .before .before .before .args .k)) (c .before .before .before .before .before .before .before .before .before .before .before .before .before .args .n) (c .before .before .before .before .before .before .before .before .before .before .before .before .before .args .clock) late (hash-below (c .before .before .before .before .before .before .before .before .before .before .before .before .before .args .k .hash) (key-four (c .before .before .before .before .before .before .before .before .before .before .before .before .before .args .k) (c .before .before .before .before .before .before .before .before .before .before .before .before .before .good .1 .1 .1 .1 .1 .1 .0))) own (c .before .before .before .before .before .before .find .ensures .none (st .places) ps n (o .slots) (o .ascend) (omega (arith, c .before .before .before .before .if1 .taken))) (c .before .before .before .before .before .before .before .before .before .before .before .before .before .args .low .now) (c .before .before .before .before .before .before .before .before .before .before .before .before .before .args .high .now) (c .before .before .failed .kept .0) (c .before .before .failed .ensures) (search needs) refl
+returns c = λ st ps o n own. let late : c .before .before .before .before .before .before .before .before .before .before .before .before .before .args .clock < word = omega arith in
+    expired-without o (keyNum (c .before .before .before .before .before .before .before .before .before .before .before .before .before .args .k)) (c .before .before .before .before
+    .before .before .before .before .before .before .before .before .before .args .n) (c .before .before .before .before .before .before .before .before .before .before .before .before
+    .before .args .clock) late (hash-below (c .before .before .before .before .before .before .before .before .before .before .before .before .before .args .k .hash) (key-four (c .before
+    .before .before .before .before .before .before .before .before .before .before .before .before .args .k) (c .before .before .before .before .before .before .before .before .before
+    .before .before .before .before .good .1 .1 .1 .1 .1 .1 .0))) own (c .before .before .before .before .before .before .find .ensures .none (st .places) ps n (o .slots) (o .ascend) (omega
+    (arith, c .before .before .before .before .if1 .taken))) (c .before .before .before .before .before .before .before .before .before .before .before .before .before .args .low .now) (c
+    .before .before .before .before .before .before .before .before .before .before .before .before .before .args .high .now) (c .before .before .failed .kept .0) (c .before .before .failed
+    .ensures) (search needs) refl
 
--- src/lapsing.rt:56:1
 same-length-3 : tie.Need-same-length-3
 same-length-3 c = search needs
 
--- src/lapsing.rt:56:1
 same-length-4 : tie.Need-same-length-4
 same-length-4 c = search needs
 
--- src/lapsing.rt:56:1
 same-length-5 : tie.Need-same-length-5
 same-length-5 c = search needs
 
--- src/lapsing.rt:56:1
 same-length-6 : tie.Need-same-length-6
 same-length-6 c = search needs
 
--- src/lapsing.rt:56:1
 returns-2 : tie.Need-returns-2
-returns-2 c = λ st ps o n own. let h = c .before .before .before .before .before .before .before .before .before .find .ensures .held (st .places) ps n (o .slots) (o .ascend) (omega (arith, c .before .before .before .before .before .before .before .if1 .left)) in expired-with o h (omega (arith, h .inside, n, c .before .before .before .before .before .before .before .before .before .before .before .before .before .before .before .before .pre .2)) (omega (arith, h .inside, n, c .before .before .before .before .before .before .before .before .before .before .before .before .before .before .before .before .pre .3)) (c .before .before .before .before .expire-place .ensures st ps o h (omega (arith, c .before .before .before .before .before .before .before .if1 .left)) own)
+returns-2 c = λ st ps o n own. let h = c .before .before .before .before .before .before .before .before .before .find .ensures .held (st .places) ps n (o .slots) (o .ascend) (omega (
+  arith,
+  c .before .before .before .before .before .before .before .if1 .left,
+)) in expired-with o h (omega (
+  arith,
+  h .inside,
+  n,
+  c .before .before .before .before .before .before .before .before
+      .before .before .before .before .before .before .before .before .pre .2,
+)) (omega (
+  arith,
+  h .inside,
+  n,
+  c .before .before .before .before .before .before .before .before .before .before
+      .before .before .before .before .before .before .pre .3,
+)) (c .before .before .before .before .expire-place .ensures st ps o h (omega (
+  arith,
+  c .before .before .before .before .before
+      .before .before .if1 .left,
+)) own)
 
 pub expire-one-spec : {M : Type 1} → statement M
 expire-one-spec =

@@ -1,3 +1,4 @@
+-- `apart::lapsing::lapse` meets its contract. Assumes nothing.
 use mathlib.Core.Path.{refl, sym, subst}
 use native.Mathlib.Omega.{arith}
 use borrow.Author.Tests.{eq-eqb, ne-eqb}
@@ -6,46 +7,44 @@ use Rattle.apart.proofs.Overdue.{front-lent, lapse-fails, lapse-stays}
 use borrow.Author.Needs.{needs}
 use Rattle.apart.proofs.lapsing.lapse.Statement.{statement}
 use Rattle.apart.proofs.lapsing.lapse.Tie as tie
-use Rattle.apart.proofs.lapsing.lapse.Reads as reads
-use Rattle.apart.proofs.lapsing.lapse.Lts as lts
-use Rattle.apart.proofs.slots.kill.Reads as kill-reads
-use Rattle.failing.proofs.failed.Reads as failed-reads
 
--- src/lapsing.rt:30:25
 sub-failed : tie.Need-sub-failed
 sub-failed c = search needs
 
--- src/lapsing.rt:30:25
 part-failed-start : tie.Need-part-failed-start
 part-failed-start c = search needs
 
--- src/lapsing.rt:30:25
 part-failed-end : tie.Need-part-failed-end
 part-failed-end c = search needs
 
--- src/lapsing.rt:30:9
 failed-requires : tie.Need-failed-requires
-failed-requires c κs = subst Kept (sym (front-lent (c .before .before .before .before .before .args .s .now) (c .before .before .before .before .before .args .m))) (c .before .before .before .before .before .pre .1)
+failed-requires c κs = subst Kept (sym (front-lent (c .before .before .before .before .before .args .s .now) (c .before .before .before .before .before .args .m))) (c .before .before
+    .before .before .before .pre .1)
 
--- src/lapsing.rt:31:9
 kill-requires : tie.Need-kill-requires
 kill-requires c κs = search needs
 
--- src/lapsing.rt:17:1
 same-length : tie.Need-same-length
 same-length c = search needs
 
--- src/lapsing.rt:17:1
 same-length-2 : tie.Need-same-length-2
 same-length-2 c = search needs
 
--- src/lapsing.rt:17:1
 returns : tie.Need-returns
-returns c = λ st ps o h z. lapse-fails o h z (c .before .before .before .before .before .before .before .before .before .before .before .before .before .before .before .args .n) (c .before .before .before .before .before .before .before .before .before .before .before .before .before .before .before .args .clock) (ne-eqb (c .before .before .before .before .before .before .before .before .before .before .before .before .before .before .before .args .p .stage) 3 (λ e. omega (arith, e, c .before .before .before .before .before .before .before .before .before .before .before .if1 .taken))) (c .before .before .before .before .before .before .before .before .before .before .before .before .before .before .before .pre .0 .front) (c .before .before .before .before .before .before .before .before .before .failed .kept .0) (c .before .before .before .before .before .before .before .before .before .failed .ensures) refl (c .before .before .before .before .kill .ensures)
+returns c = λ st ps o h z. lapse-fails o h z (c .before .before .before .before .before .before .before .before .before .before .before .before .before .before .before .args .n) (c .before
+    .before .before .before .before .before .before .before .before .before .before .before .before .before .before .args .clock) (ne-eqb (c .before .before .before .before .before .before
+    .before .before .before .before .before .before .before .before .before .args .p .stage) 3 (λ e. omega (
+      arith,
+      e,
+      c .before .before .before .before .before .before .before .before
+          .before .before .before .if1 .taken,
+    ))) (c .before .before .before .before .before .before .before .before .before .before .before .before .before .before .before .pre .0 .front) (c
+    .before .before .before .before .before .before .before .before .before .failed .kept .0) (c .before .before .before .before .before .before .before .before .before .failed .ensures)
+    refl (c .before .before .before .before .kill .ensures)
 
--- src/lapsing.rt:17:1
 returns-2 : tie.Need-returns-2
-returns-2 c = λ st ps o h z. lapse-stays o h z (c .before .before .before .before .args .n) (c .before .before .before .before .args .clock) (eq-eqb (c .before .before .before .before .args .p .stage) 3 (omega (arith, c .if1 .left)))
+returns-2 c = λ st ps o h z. lapse-stays o h z (c .before .before .before .before .args .n) (c .before .before .before .before .args .clock) (eq-eqb (c .before .before .before .before .args
+    .p .stage) 3 (omega (arith, c .if1 .left)))
 
 pub lapse-spec : {M : Type 1} → statement M
 lapse-spec =

@@ -1,3 +1,4 @@
+-- `apart::noting::first_half` meets its contract. Assumes nothing.
 use borrow.Author.Needs.{needs}
 use native.Mathlib.Omega.{arith}
 use Rattle.apart.proofs.Notes.{halved-less, halved-more}

@@ -1,22 +1,17 @@
+-- `apart::noting::parents_in` meets its contract. Assumes nothing.
 use native.Mathlib.Omega.{arith}
 use mathlib.Core.List.{[], _∷_}
 use Rattle.packages.proofs.Seeking.{head-parents}
 use borrow.Author.Needs.{needs}
 use Rattle.apart.proofs.noting.parents_in.Statement.{statement}
 use Rattle.apart.proofs.noting.parents_in.Tie as tie
-use Rattle.apart.proofs.noting.parents_in.Reads as reads
-use Rattle.apart.proofs.noting.parents_in.Lts as lts
-use Rattle.places.proofs.read_head.Reads as read-head-reads
 
--- src/noting.rt:29:9
 read-head-requires : tie.Need-read-head-requires
 read-head-requires c κs = search needs
 
--- src/noting.rt:25:1
 returns : tie.Need-returns
 returns c = record { most = omega (arith, c .if1 .taken); is = λ p h l. head-parents p (c .before .read-head .ensures .region 1 (p ∷ []) p (omega arith) h) }
 
--- src/noting.rt:25:1
 returns-2 : tie.Need-returns-2
 returns-2 c = record { most = omega arith; is = λ p h l. let e = head-parents p (c .before .read-head .ensures .region 1 (p ∷ []) p (omega arith) h) in omega (arith, c .if1 .left) }
 

@@ -1,19 +1,15 @@
+-- `apart::noting::raised` meets its contract. Assumes nothing.
 use native.Mathlib.Omega.{arith}
 use borrow.Author.Needs.{needs}
 use Rattle.apart.proofs.noting.raised.Statement.{statement}
 use Rattle.apart.proofs.noting.raised.Tie as tie
-use Rattle.apart.proofs.noting.raised.Reads as reads
-use Rattle.apart.proofs.noting.raised.Lts as lts
 
--- src/noting.rt:46:15
 add-result : tie.Need-add-result
 add-result c = search needs
 
--- src/noting.rt:42:1
 returns : tie.Need-returns
 returns c = rw (c .if1 .taken) (omega arith)
 
--- src/noting.rt:42:1
 returns-2 : tie.Need-returns-2
 returns-2 c = rw (c .if1 .left) (omega arith)
 

@@ -1,29 +1,22 @@
+-- `apart::slots::find` meets its contract. Assumes nothing.
 use Rattle.ident.specs.Words.{keyNum}
 use Rattle.apart.proofs.Spotting.{spot-txid}
 use borrow.Author.Needs.{needs}
 use Rattle.apart.proofs.slots.find.Statement.{statement}
 use Rattle.apart.proofs.slots.find.Tie as tie
-use Rattle.apart.proofs.slots.find.Reads as reads
-use Rattle.apart.proofs.slots.find.Lts as lts
-use Rattle.apart.proofs.slots.find_hash.Reads as find-hash-reads
 
--- src/slots.rt:120:30
 enum-told : tie.Need-enum-told
 enum-told c = search needs
 
--- src/slots.rt:125:31
 enum-told-2 : tie.Need-enum-told-2
 enum-told-2 c = search needs
 
--- src/slots.rt:125:31
 find-hash-requires : tie.Need-find-hash-requires
 find-hash-requires c κs = search needs
 
--- src/slots.rt:113:1
 returns : tie.Need-returns
 returns c = spot-txid (keyNum (c .before .before .before .before .before .args .k)) (c .enum-told .given .1)
 
--- src/slots.rt:113:1
 returns-2 : tie.Need-returns-2
 returns-2 c = rw (c .before .enum-told2 .given .1) (c .find-hash .ensures)
 

@@ -1,3 +1,4 @@
+-- `apart::slots::find_hash` meets its contract. Assumes nothing.
 use mathlib.Core.Path.{sym, _∙_}
 use native.Mathlib.Omega.{arith}
 use borrow.Author.Tests.{ltb-true, ltb-false, not-true, not-false}
@@ -7,38 +8,31 @@ use Rattle.apart.proofs.Spotting.{spot-found, spot-missed, spot-over}
 use borrow.Author.Needs.{needs}
 use Rattle.apart.proofs.slots.find_hash.Statement.{statement}
 use Rattle.apart.proofs.slots.find_hash.Tie as tie
-use Rattle.apart.proofs.slots.find_hash.Reads as reads
-use Rattle.apart.proofs.slots.find_hash.Lts as lts
-use Rattle.apart.proofs.slots.head_at.Reads as head-at-reads
-use Rattle.apart.proofs.slots.seek.Reads as seek-reads
-use Rattle.regions.proofs.quad_less.Reads as quad-less-reads
-use Rattle.requests.proofs.hash_quad.Reads as hash-quad-reads
 
--- src/slots.rt:92:9
 hash-quad-requires : tie.Need-hash-quad-requires
 hash-quad-requires c κs = search needs
 
--- src/slots.rt:93:9
 seek-requires : tie.Need-seek-requires
 seek-requires c κs = search needs
 
--- src/slots.rt:95:13
 head-at-requires : tie.Need-head-at-requires
 head-at-requires c κs = search needs
 
--- src/slots.rt:97:13
 quad-less-requires : tie.Need-quad-less-requires
 quad-less-requires c κs = search needs
 
--- src/slots.rt:98:13
 returns : tie.Need-returns
-returns c = spot-found (hashNum (c .before .before .before .before .before .before .before .before .before .args .h)) (c .before .before .before .before .before .before .hash-quad .ensures .words-are) (c .before .before .before .before .before .seek .ensures) (c .before .before .before .before .if1 .taken) (c .before .before .before .head-at .ensures) (ltb-false (quadNumber (c .before .before .before .before .before .before .hash-quad .result)) (quadNumber (c .before .before .before .head-at .result .hash)) (sym (c .before .quad-less .ensures) ∙ not-true (c .before .quad-less .result) (c .if2 .taken)))
+returns c = spot-found (hashNum (c .before .before .before .before .before .before .before .before .before .args .h)) (c .before .before .before .before .before .before .hash-quad .ensures
+    .words-are) (c .before .before .before .before .before .seek .ensures) (c .before .before .before .before .if1 .taken) (c .before .before .before .head-at .ensures) (ltb-false
+    (quadNumber (c .before .before .before .before .before .before .hash-quad .result)) (quadNumber (c .before .before .before .head-at .result .hash)) (sym (c .before .quad-less .ensures)
+    ∙ not-true (c .before .quad-less .result) (c .if2 .taken)))
 
--- src/slots.rt:88:1
 returns-2 : tie.Need-returns-2
-returns-2 c = spot-missed (hashNum (c .before .before .before .before .before .before .before .before .before .args .h)) (c .before .before .before .before .before .before .hash-quad .ensures .words-are) (c .before .before .before .before .before .seek .ensures) (c .before .before .before .before .if1 .taken) (c .before .before .before .head-at .ensures) (ltb-true (quadNumber (c .before .before .before .before .before .before .hash-quad .result)) (quadNumber (c .before .before .before .head-at .result .hash)) (sym (c .before .quad-less .ensures) ∙ not-false (c .before .quad-less .result) (c .if2 .left)))
+returns-2 c = spot-missed (hashNum (c .before .before .before .before .before .before .before .before .before .args .h)) (c .before .before .before .before .before .before .hash-quad
+    .ensures .words-are) (c .before .before .before .before .before .seek .ensures) (c .before .before .before .before .if1 .taken) (c .before .before .before .head-at .ensures) (ltb-true
+    (quadNumber (c .before .before .before .before .before .before .hash-quad .result)) (quadNumber (c .before .before .before .head-at .result .hash)) (sym (c .before .quad-less .ensures)
+    ∙ not-false (c .before .quad-less .result) (c .if2 .left)))
 
--- src/slots.rt:88:1
 returns-3 : tie.Need-returns-3
 returns-3 c = spot-over (hashNum (c .before .before .before .before .before .args .h)) (c .before .before .hash-quad .ensures .words-are) (c .before .seek .ensures) (omega (arith, c .if1 .left))
 

@@ -1,3 +1,4 @@
+-- `apart::slots::seek` meets its contract. Assumes nothing.
 use mathlib.Core.Path.{sym, _∙_}
 use native.Mathlib.Omega.{arith}
 use borrow.Author.Tests.{ltb-true, ltb-false, not-true, not-false}
@@ -6,55 +7,43 @@ use Rattle.apart.proofs.Spotting.{sought-none, sought-first, sought-lat
 use borrow.Author.Needs.{needs}
 use Rattle.apart.proofs.slots.seek.Statement.{statement}
 use Rattle.apart.proofs.slots.seek.Tie as tie
-use Rattle.apart.proofs.slots.seek.Reads as reads
-use Rattle.apart.proofs.slots.seek.Lts as lts
-use Rattle.places.proofs.read_head.Reads as read-head-reads
-use Rattle.places.proofs.seek_place.Reads as seek-place-reads
-use Rattle.regions.proofs.quad_less.Reads as quad-less-reads
 
--- src/slots.rt:76:9
 returns : tie.Need-returns
 returns c = sought-none (omega (arith, c .if1 .taken))
 
--- src/slots.rt:78:9
 read-head-requires : tie.Need-read-head-requires
 read-head-requires c κs = search needs
 
--- src/slots.rt:80:9
 quad-less-requires : tie.Need-quad-less-requires
 quad-less-requires c κs = search needs
 
--- src/slots.rt:81:9
 returns-2 : tie.Need-returns-2
-returns-2 c = sought-first (omega (arith, c .before .before .before .before .if1 .left)) (c .before .before .before .read-head .ensures) (ltb-false (quadNumber (c .before .before .before .read-head .result .hash)) (quadNumber (c .before .before .before .before .before .before .before .args .h)) (sym (c .before .quad-less .ensures) ∙ not-true (c .before .quad-less .result) (c .if2 .taken)))
+returns-2 c = sought-first (omega (arith, c .before .before .before .before .if1 .left)) (c .before .before .before .read-head .ensures) (ltb-false (quadNumber (c .before .before .before
+    .read-head .result .hash)) (quadNumber (c .before .before .before .before .before .before .before .args .h)) (sym (c .before .quad-less .ensures) ∙ not-true (c .before .quad-less
+    .result) (c .if2 .taken)))
 
--- src/slots.rt:84:24
 sub-seek-place : tie.Need-sub-seek-place
 sub-seek-place c = search needs
 
--- src/slots.rt:84:24
 part-seek-place-start : tie.Need-part-seek-place-start
 part-seek-place-start c = search needs
 
--- src/slots.rt:84:24
 part-seek-place-end : tie.Need-part-seek-place-end
 part-seek-place-end c = search needs
 
--- src/slots.rt:84:34
 sub-seek-place-2 : tie.Need-sub-seek-place-2
 sub-seek-place-2 c = search needs
 
--- src/slots.rt:84:5
 seek-place-requires : tie.Need-seek-place-requires
 seek-place-requires c κs = search needs
 
--- src/slots.rt:84:5
 add-result : tie.Need-add-result
 add-result c = search needs
 
--- src/slots.rt:71:1
 returns-3 : tie.Need-returns-3
-returns-3 c = sought-later (omega (arith, c .before .before .before .before .before .before .if1 .left)) (c .before .before .before .before .before .read-head .ensures) (ltb-true (quadNumber (c .before .before .before .before .before .read-head .result .hash)) (quadNumber (c .before .before .before .before .before .before .before .before .before .args .h)) (sym (c .before .before .before .quad-less .ensures) ∙ not-false (c .before .before .before .quad-less .result) (c .before .before .if2 .left))) (c .seek-place .ensures)
+returns-3 c = sought-later (omega (arith, c .before .before .before .before .before .before .if1 .left)) (c .before .before .before .before .before .read-head .ensures) (ltb-true
+    (quadNumber (c .before .before .before .before .before .read-head .result .hash)) (quadNumber (c .before .before .before .before .before .before .before .before .before .args .h)) (sym
+    (c .before .before .before .quad-less .ensures) ∙ not-false (c .before .before .before .quad-less .result) (c .before .before .if2 .left))) (c .seek-place .ensures)
 
 pub seek-spec : {M : Type 1} → statement M
 seek-spec =

@@ -1,3 +1,4 @@
+-- `planning::answering::ask_round` meets its contract. Assumes nothing.
 use mathlib.Core.Option.{none}
 use native.Mathlib.Omega.{arith}
 use Rattle.requests.proofs.Keeping.{kept-shown}
@@ -5,39 +6,68 @@ use Rattle.planning.proofs.Whole.{begun-kept, begun-few, round-keys, ma
 use borrow.Author.Needs.{needs}
 use Rattle.planning.proofs.answering.ask_round.Statement.{statement}
 use Rattle.planning.proofs.answering.ask_round.Tie as tie
-use Rattle.planning.proofs.answering.ask_round.Reads as reads
-use Rattle.planning.proofs.answering.ask_round.Lts as lts
-use Rattle.cursors.proofs.move_ready.Reads as move-ready-reads
-use Rattle.planning.proofs.answering.finish.Reads as finish-reads
-use Rattle.planning.proofs.phase.phase_round.Reads as phase-round-reads
 
--- src/answering.rt:90:9
 phase-round-requires : tie.Need-phase-round-requires
-phase-round-requires c κs = let k = kept-shown (begun-kept (c .before .before .before .before .before .pre .0)) in (begun-kept (c .before .before .before .before .before .pre .0), c .before .before .before .before .before .pre .1, c .before .before .before .before .before .pre .2, begun-few (c .before .before .before .before .before .pre .0), omega (arith, c .before .before .before .before .before .pre .4, k .sizes .rows, k .sized .rows-few, k .sized .limit))
+phase-round-requires c κs = let k = kept-shown (begun-kept (c .before .before .before .before .before .pre .0)) in (
+  begun-kept (c .before .before .before .before .before .pre .0),
+  c .before
+      .before .before .before .before .pre .1,
+  c .before .before .before .before .before .pre .2,
+  begun-few (c .before .before .before .before .before .pre .0),
+  omega (
+    arith,
+    c .before
+        .before .before .before .before .pre .4,
+    k .sizes .rows,
+    k .sized .rows-few,
+    k .sized .limit,
+  ),
+)
 
--- src/answering.rt:91:5
 finish-requires : tie.Need-finish-requires
-finish-requires c κs = let x = c .before .before .before .before .before .before .before .phase-round .ensures in (marked-after none x (c .before .before .before .before .before .before .before .before .before .before .before .before .before .pre .0), omega (arith, x .most, c .before .before .before .before .before .before .before .phase-round .kept .1 .1 .0, c .before .before .before .before .before .before .before .before .before .before .before .before .before .pre .2), x .most, omega (arith, few-chosen none x round-keys (c .before .before .before .before .before .before .before .before .before .before .before .before .before .pre .0), c .before .before .before .before .before .before .before .before .before .before .before .before .before .pre .3))
+finish-requires c κs = let x = c .before .before .before .before .before .before .before .phase-round .ensures in (
+  marked-after none x (c .before .before .before .before .before .before
+      .before .before .before .before .before .before .before .pre .0),
+  omega (
+    arith,
+    x .most,
+    c .before .before .before .before .before .before .before .phase-round .kept .1 .1 .0,
+    c .before
+        .before .before .before .before .before .before .before .before .before .before .before .before .pre .2,
+  ),
+  x .most,
+  omega (
+    arith,
+    few-chosen none x round-keys (c .before .before .before
+        .before .before .before .before .before .before .before .before .before .before .pre .0),
+    c .before .before .before .before .before .before .before .before .before .before .before
+        .before .before .pre .3,
+  ),
+)
 
--- src/answering.rt:93:5
 move-ready-requires : tie.Need-move-ready-requires
-move-ready-requires c κs = let z = kept-shown (begun-kept (c .before .before .before .before .before .before .before .before .before .before .before .before .before .before .before .before .before .before .before .before .pre .0)) .sizes .long in omega (arith, z, c .before .before .before .before .before .before .before .before .before .before .before .before .before .before .phase-round .kept .0, c .before .before .before .before .before .before .finish .kept .0)
+move-ready-requires c κs = let z = kept-shown (begun-kept (c .before .before .before .before .before .before .before .before .before .before .before .before .before .before .before .before
+    .before .before .before .before .pre .0)) .sizes .long in omega (
+      arith,
+      z,
+      c .before .before .before .before .before .before .before .before .before .before .before .before .before
+          .before .phase-round .kept .0,
+      c .before .before .before .before .before .before .finish .kept .0,
+    )
 
--- src/answering.rt:80:1
 same-length : tie.Need-same-length
 same-length c = search needs
 
--- src/answering.rt:80:1
 same-length-2 : tie.Need-same-length-2
 same-length-2 c = search needs
 
--- src/answering.rt:80:1
 same-length-3 : tie.Need-same-length-3
 same-length-3 c = search needs
 
--- src/answering.rt:80:1
 returns : tie.Need-returns
-returns c = planned none (c .before .before .before .before .before .before .before .before .before .before .before .before .before .before .before .before .before .phase-round .ensures) (c .before .before .before .before .before .before .before .before .before .before .before .before .before .before .before .before .before .before .before .before .before .before .before .args .out .now) (c .before .before .before .before .before .before .before .before .before .finish .ensures) (λ st k h w. c .before .before .move-ready .ensures k h st w)
+returns c = planned none (c .before .before .before .before .before .before .before .before .before .before .before .before .before .before .before .before .before .phase-round .ensures) (c
+    .before .before .before .before .before .before .before .before .before .before .before .before .before .before .before .before .before .before .before .before .before .before .before
+    .args .out .now) (c .before .before .before .before .before .before .before .before .before .finish .ensures) (λ st k h w. c .before .before .move-ready .ensures k h st w)
 
 pub ask-round-spec : {M : Type 1} → statement M
 ask-round-spec =

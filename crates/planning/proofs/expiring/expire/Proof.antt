@@ -1,3 +1,4 @@
+-- `planning::expiring::expire` meets its contract. Assumes nothing.
 use borrow.Author.Needs.{needs}
 use Prim.Native.Nat.{_+_, _-_, _≤_, _<_}
 use mathlib.Core.Path.{_≡_, refl, _∙_}
@@ -12,73 +13,114 @@ use Rattle.apart.proofs.OneOwner.{front-within, lent-kept}
 use Rattle.planning.proofs.AllExpired.{place-small, AllOnTheWay, way-starts, way-parted, way-goes, way-ends, lent-next}
 use Rattle.planning.proofs.expiring.expire.Statement.{statement}
 use Rattle.planning.proofs.expiring.expire.Tie as tie
-use Rattle.planning.proofs.expiring.expire.Reads as reads
-use Rattle.planning.proofs.expiring.expire.Lts as lts
-use Rattle.apart.proofs.lapsing.expire_one.Reads as expire-one-reads
-use Rattle.planning.proofs.expiring.first_key.Reads as first-key-reads
-use Rattle.planning.proofs.expiring.next_due.Reads as next-due-reads
 
 abbrev Inv-loop : tie.InvT-loop
-Inv-loop s₀ m first₀ c low₀ high₀ clock k₀ after₀ s first low high k after = (length s ≡ length s₀) × (length first ≡ length first₀) × (length low ≡ length low₀) × (length high ≡ length high₀) × (place (keyNum k) + one after ≤ top + top) × AllOnTheWay s₀ s first₀ first m c clock (place (keyNum k) + one after) low high
+Inv-loop s₀ m first₀ c low₀ high₀ clock k₀ after₀ s first low high k after = (length s ≡ length s₀) × (length first ≡ length first₀) × (length low ≡ length low₀) × (length high ≡ length
+    high₀) × (place (keyNum k) + one after ≤ top + top) × AllOnTheWay s₀ s first₀ first m c clock (place (keyNum k) + one after) low high
 
 abbrev μ-loop : tie.MeasureT-loop
 μ-loop s₀ m first₀ c low₀ high₀ clock k₀ after₀ s first low high k after = top + top + 1 - (place (keyNum k) + one after)
 
--- src/expiring.rt:91:9
 first-key-requires : tie.Need-first-key-requires Inv-loop μ-loop
 first-key-requires c κs = search needs
 
--- src/expiring.rt:93:5
 loop-holds : tie.Need-loop-holds Inv-loop μ-loop
-loop-holds c = (refl, refl, refl, refl, omega (arith, c .first-key .ensures), way-starts (c .before .before .before .before .before .args .clock) _ (omega (arith, c .first-key .ensures)) (c .before .before .before .before .before .pre .1))
+loop-holds c = (
+  refl,
+  refl,
+  refl,
+  refl,
+  omega (arith, c .first-key .ensures),
+  way-starts (c .before .before .before .before .before .args .clock) _ (omega (arith, c .first-key .ensures)) (c
+      .before .before .before .before .before .pre .1),
+)
 
--- src/expiring.rt:94:26
 sub-next-due : tie.Need-sub-next-due Inv-loop μ-loop
 sub-next-due c = search needs
 
--- src/expiring.rt:94:26
 part-next-due-start : tie.Need-part-next-due-start Inv-loop μ-loop
 part-next-due-start c = search needs
 
--- src/expiring.rt:94:26
 part-next-due-end : tie.Need-part-next-due-end Inv-loop μ-loop
 part-next-due-end c = let x = front-within ((way-parted (c .before .before .before .before .before .before .before .pre .0) (c .before .loop .inv .5)) .apart) in omega (arith, x)
 
--- src/expiring.rt:94:13
 next-due-requires : tie.Need-next-due-requires Inv-loop μ-loop
 next-due-requires c κs = lent-kept ((way-parted (c .before .before .before .before .before .before .before .before .pre .0) (c .before .before .loop .inv .5)) .apart)
 
--- src/expiring.rt:96:13
 same-length : tie.Need-same-length Inv-loop μ-loop
 same-length c = c .before .before .before .before .before .loop .inv .0
 
--- src/expiring.rt:96:13
 same-length-2 : tie.Need-same-length-2 Inv-loop μ-loop
 same-length-2 c = c .before .before .before .before .before .loop .inv .1
 
--- src/expiring.rt:96:13
 same-length-3 : tie.Need-same-length-3 Inv-loop μ-loop
 same-length-3 c = c .before .before .before .before .before .loop .inv .2
 
--- src/expiring.rt:96:13
 same-length-4 : tie.Need-same-length-4 Inv-loop μ-loop
 same-length-4 c = c .before .before .before .before .before .loop .inv .3
 
--- src/expiring.rt:96:13
 returns : tie.Need-returns Inv-loop μ-loop
-returns c = way-ends (c .before .before .before .before .before .loop .inv .5) ((lent-next (c .before .before .before .before .before .loop .s) (c .before .before .before .before .before .before .before .before .before .before .before .args .m) (c .before .before .next-due .ensures)) .ends (not-true (c .before .before .next-due .result .more) (c .if1 .taken)))
+returns c = way-ends (c .before .before .before .before .before .loop .inv .5) ((lent-next (c .before .before .before .before .before .loop .s) (c .before .before .before .before .before
+    .before .before .before .before .before .before .args .m) (c .before .before .next-due .ensures)) .ends (not-true (c .before .before .next-due .result .more) (c .if1 .taken)))
 
--- src/expiring.rt:99:9
 expire-one-requires : tie.Need-expire-one-requires Inv-loop μ-loop
-expire-one-requires c κs = let g = (lent-next (c .before .before .before .before .before .before .before .before .before .before .loop .s) (c .before .before .before .before .before .before .before .before .before .before .before .before .before .before .before .before .args .m) (c .before .before .before .before .before .before .before .next-due .ensures)) .goes (not-false (c .before .before .before .before .before .before .before .next-due .result .more) (c .before .before .before .before .before .if1 .left)) in ((way-parted (c .before .before .before .before .before .before .before .before .before .before .before .before .before .before .before .before .pre .0) (c .before .before .before .before .before .before .before .before .before .before .loop .inv .5)), g .positive, omega (arith, c .before .before .before .before .before .before .before .before .before .before .loop .inv .2, c .before .before .before .before .before .before .before .before .before .before .before .before .before .before .before .before .pre .1 .low-long), omega (arith, c .before .before .before .before .before .before .before .before .before .before .loop .inv .3, c .before .before .before .before .before .before .before .before .before .before .before .before .before .before .before .before .pre .1 .high-long))
+expire-one-requires c κs = let g = (lent-next (c .before .before .before .before .before .before .before .before .before .before .loop .s) (c .before .before .before .before .before .before
+    .before .before .before .before .before .before .before .before .before .before .args .m) (c .before .before .before .before .before .before .before .next-due .ensures)) .goes
+    (not-false (c .before .before .before .before .before .before .before .next-due .result .more) (c .before .before .before .before .before .if1 .left)) in (
+      (way-parted (c .before .before
+          .before .before .before .before .before .before .before .before .before .before .before .before .before .before .pre .0) (c .before .before .before .before .before .before .before
+          .before .before .before .loop .inv .5)),
+      g .positive,
+      omega (
+        arith,
+        c .before .before .before .before .before .before .before .before .before .before .loop .inv .2,
+        c .before .before
+            .before .before .before .before .before .before .before .before .before .before .before .before .before .before .pre .1 .low-long,
+      ),
+      omega (
+        arith,
+        c .before .before .before .before
+            .before .before .before .before .before .before .loop .inv .3,
+        c .before .before .before .before .before .before .before .before .before .before .before .before .before .before .before
+            .before .pre .1 .high-long,
+      ),
+    )
 
--- src/expiring.rt:93:5
 loop-less : tie.Need-loop-less Inv-loop μ-loop
-loop-less c = let g = (lent-next (c .before .before .before .before .before .before .before .before .before .before .before .before .before .before .before .before .before .before .before .loop .s) (c .before .before .before .before .before .before .before .before .before .before .before .before .before .before .before .before .before .before .before .before .before .before .before .before .before .args .m) (c .before .before .before .before .before .before .before .before .before .before .before .before .before .before .before .before .next-due .ensures)) .goes (not-false (c .before .before .before .before .before .before .before .before .before .before .before .before .before .before .before .before .next-due .result .more) (c .before .before .before .before .before .before .before .before .before .before .before .before .before .before .if1 .left)) in let p = place-small (keyNum (c .before .before .before .before .before .before .before .before .before .before .before .before .before .before .before .before .next-due .result .key)) (g .small) in omega (arith, g .from, p)
+loop-less c = let g = (lent-next (c .before .before .before .before .before .before .before .before .before .before .before .before .before .before .before .before .before .before .before
+    .loop .s) (c .before .before .before .before .before .before .before .before .before .before .before .before .before .before .before .before .before .before .before .before .before
+    .before .before .before .before .args .m) (c .before .before .before .before .before .before .before .before .before .before .before .before .before .before .before .before .next-due
+    .ensures)) .goes (not-false (c .before .before .before .before .before .before .before .before .before .before .before .before .before .before .before .before .next-due .result .more)
+    (c .before .before .before .before .before .before .before .before .before .before .before .before .before .before .if1 .left)) in let p = place-small (keyNum (c .before .before .before
+    .before .before .before .before .before .before .before .before .before .before .before .before .before .next-due .result .key)) (g .small) in omega (arith, g .from, p)
 
--- src/expiring.rt:93:5
 loop-again : tie.Need-loop-again Inv-loop μ-loop
-loop-again c = let g = (lent-next (c .before .before .before .before .before .before .before .before .before .before .before .before .before .before .before .before .before .before .before .loop .s) (c .before .before .before .before .before .before .before .before .before .before .before .before .before .before .before .before .before .before .before .before .before .before .before .before .before .args .m) (c .before .before .before .before .before .before .before .before .before .before .before .before .before .before .before .before .next-due .ensures)) .goes (not-false (c .before .before .before .before .before .before .before .before .before .before .before .before .before .before .before .before .next-due .result .more) (c .before .before .before .before .before .before .before .before .before .before .before .before .before .before .if1 .left)) in let v : c .before .before .before .before .before .before .before .before .before .before .before .before .before .before .before .before .before .before .before .before .before .before .before .before .before .args .clock < word = omega (arith, c .before .before .before .before .before .before .before .before .before .before .before .before .before .before .before .before .before .before .before .before .before .before .before .before .before .good .1 .1 .1 .1 .1 .1 .0) in (c .before .before .before .before .before .before .before .before .expire-one .kept .0 ∙ c .before .before .before .before .before .before .before .before .before .before .before .before .before .before .before .before .before .before .before .loop .inv .0, c .before .before .before .before .before .before .before .before .expire-one .kept .1 .1 .0 ∙ c .before .before .before .before .before .before .before .before .before .before .before .before .before .before .before .before .before .before .before .loop .inv .1, c .before .before .before .before .before .before .before .before .expire-one .kept .1 .1 .1 .1 .0 ∙ c .before .before .before .before .before .before .before .before .before .before .before .before .before .before .before .before .before .before .before .loop .inv .2, c .before .before .before .before .before .before .before .before .expire-one .kept .1 .1 .1 .1 .1 .0 ∙ c .before .before .before .before .before .before .before .before .before .before .before .before .before .before .before .before .before .before .before .loop .inv .3, place-small (keyNum (c .before .before .before .before .before .before .before .before .before .before .before .before .before .before .before .before .next-due .result .key)) (g .small), way-goes v (c .before .before .before .before .before .before .before .before .before .before .before .before .before .before .before .before .before .before .before .loop .inv .5) g (c .before .before .before .before .before .before .before .before .expire-one .ensures))
+loop-again c = let g = (lent-next (c .before .before .before .before .before .before .before .before .before .before .before .before .before .before .before .before .before .before .before
+    .loop .s) (c .before .before .before .before .before .before .before .before .before .before .before .before .before .before .before .before .before .before .before .before .before
+    .before .before .before .before .args .m) (c .before .before .before .before .before .before .before .before .before .before .before .before .before .before .before .before .next-due
+    .ensures)) .goes (not-false (c .before .before .before .before .before .before .before .before .before .before .before .before .before .before .before .before .next-due .result .more)
+    (c .before .before .before .before .before .before .before .before .before .before .before .before .before .before .if1 .left)) in let v : c .before .before .before .before .before
+    .before .before .before .before .before .before .before .before .before .before .before .before .before .before .before .before .before .before .before .before .args .clock < word =
+    omega (
+      arith,
+      c .before .before .before .before .before .before .before .before .before .before .before .before .before .before .before .before .before .before .before .before .before
+          .before .before .before .before .good .1 .1 .1 .1 .1 .1 .0,
+    ) in (
+      c .before .before .before .before .before .before .before .before .expire-one .kept .0 ∙ c .before .before .before
+          .before .before .before .before .before .before .before .before .before .before .before .before .before .before .before .before .loop .inv .0,
+      c .before .before .before .before .before
+          .before .before .before .expire-one .kept .1 .1 .0 ∙ c .before .before .before .before .before .before .before .before .before .before .before .before .before .before .before .before
+          .before .before .before .loop .inv .1,
+      c .before .before .before .before .before .before .before .before .expire-one .kept .1 .1 .1 .1 .0 ∙ c .before .before .before .before .before
+          .before .before .before .before .before .before .before .before .before .before .before .before .before .before .loop .inv .2,
+      c .before .before .before .before .before .before .before
+          .before .expire-one .kept .1 .1 .1 .1 .1 .0 ∙ c .before .before .before .before .before .before .before .before .before .before .before .before .before .before .before .before .before
+          .before .before .loop .inv .3,
+      place-small (keyNum (c .before .before .before .before .before .before .before .before .before .before .before .before .before .before .before .before
+          .next-due .result .key)) (g .small),
+      way-goes v (c .before .before .before .before .before .before .before .before .before .before .before .before .before .before .before .before
+          .before .before .before .loop .inv .5) g (c .before .before .before .before .before .before .before .before .expire-one .ensures),
+    )
 
 pub expire-spec : {M : Type 1} → statement M
 expire-spec =

@@ -1,3 +1,4 @@
+-- `planning::kept::consider_place` meets its contract. Assumes nothing.
 use mathlib.Core.Path.{refl}
 use mathlib.Core.List.{[]}
 use native.Mathlib.Omega.{arith}
@@ -9,34 +10,60 @@ use Rattle.planning.proofs.Keepings.{both-halves}
 use borrow.Author.Needs.{needs}
 use Rattle.planning.proofs.kept.consider_place.Statement.{statement}
 use Rattle.planning.proofs.kept.consider_place.Tie as tie
-use Rattle.planning.proofs.kept.consider_place.Reads as reads
-use Rattle.planning.proofs.kept.consider_place.Lts as lts
-use Rattle.apart.proofs.noting.first_half.Reads as first-half-reads
-use Rattle.planning.proofs.kept.consider_bits.Reads as consider-bits-reads
 
--- src/kept.rt:65:9
 first-half-requires : tie.Need-first-half-requires
 first-half-requires c κs = search needs
 
--- src/kept.rt:66:9
 consider-bits-requires : tie.Need-consider-bits-requires
 consider-bits-requires c κs = search needs
 
--- src/kept.rt:67:5
 consider-bits-requires-2 : tie.Need-consider-bits-requires-2
-consider-bits-requires-2 c κs = let x = c .before .before .before .before .before .before .consider-bits .ensures in let h = c .before .before .before .before .before .before .before .before .before .first-half .ensures in (x .kept, c .before .before .before .before .before .before .before .before .before .before .before .before .before .pre .1, omega (arith, c .before .before .before .before .before .before .consider-bits .kept .1 .1 .1 .1 .1 .1 .0, c .before .before .before .before .before .before .before .before .before .before .before .before .before .pre .2), x .roomy, (h .within, c .before .before .before .before .before .before .before .before .before .before .before .before .before .pre .4), c .before .before .before .before .before .before .before .before .before .before .before .before .before .pre .5, omega (arith, x .near, h .within, c .before .before .before .before .before .before .before .before .before .before .before .before .before .pre .4, c .before .before .before .before .before .before .before .before .before .before .before .before .before .pre .6))
+consider-bits-requires-2 c κs = let x = c .before .before .before .before .before .before .consider-bits .ensures in let h = c .before .before .before .before .before .before .before
+    .before .before .first-half .ensures in (
+      x .kept,
+      c .before .before .before .before .before .before .before .before .before .before .before .before .before .pre .1,
+      omega (
+        arith,
+        c
+            .before .before .before .before .before .before .consider-bits .kept .1 .1 .1 .1 .1 .1 .0,
+        c .before .before .before .before .before .before .before .before .before .before .before
+            .before .before .pre .2,
+      ),
+      x .roomy,
+      (h .within, c .before .before .before .before .before .before .before .before .before .before .before .before .before .pre .4),
+      c .before .before
+          .before .before .before .before .before .before .before .before .before .before .before .pre .5,
+      omega (
+        arith,
+        x .near,
+        h .within,
+        c .before .before .before .before .before .before
+            .before .before .before .before .before .before .before .pre .4,
+        c .before .before .before .before .before .before .before .before .before .before .before .before .before .pre .6,
+      ),
+    )
 
--- src/kept.rt:52:1
 same-length : tie.Need-same-length
 same-length c = search needs
 
--- src/kept.rt:52:1
 same-length-2 : tie.Need-same-length-2
 same-length-2 c = search needs
 
--- src/kept.rt:52:1
 returns : tie.Need-returns
-returns c = let h = c .before .before .before .before .before .before .before .before .before .before .before .before .before .before .first-half .ensures in scans-as (scans-for (λ st. pickedIn (hashesAt (words (c .before .before .before .before .before .before .before .before .before .before .before .before .before .before .before .before .before .before .args .slot .now)) 0 (c .before .before .before .before .before .before .before .before .before .before .before .before .before .before .before .before .before .before .args .c)) (c .before .before .before .before .before .before .before .before .before .before .before .before .before .before .before .before .before .before .args .low) (c .before .before .before .before .before .before .before .before .before .before .before .before .before .before .before .before .before .before .args .high)) (λ st l u w. both-halves (words (c .before .before .before .before .before .before .before .before .before .before .before .before .before .before .before .before .before .before .args .slot .now)) h (c .before .before .before .before .before .before .before .before .before .before .before .before .before .before .before .before .before .before .args .low) (c .before .before .before .before .before .before .before .before .before .before .before .before .before .before .before .before .before .before .args .high)) (scans-both (c .before .before .before .before .before .before .before .before .before .before .before .consider-bits .ensures) (c .before .before .before .before .consider-bits2 .ensures))) (λ st. []) listMost (omega (arith, h .within, c .before .before .before .before .before .before .before .before .before .before .before .before .before .before .before .before .before .before .pre .4)) (λ st l u w. refl)
+returns c = let h = c .before .before .before .before .before .before .before .before .before .before .before .before .before .before .first-half .ensures in scans-as (scans-for (λ st.
+    pickedIn (hashesAt (words (c .before .before .before .before .before .before .before .before .before .before .before .before .before .before .before .before .before .before .args .slot
+    .now)) 0 (c .before .before .before .before .before .before .before .before .before .before .before .before .before .before .before .before .before .before .args .c)) (c .before .before
+    .before .before .before .before .before .before .before .before .before .before .before .before .before .before .before .before .args .low) (c .before .before .before .before .before
+    .before .before .before .before .before .before .before .before .before .before .before .before .before .args .high)) (λ st l u w. both-halves (words (c .before .before .before .before
+    .before .before .before .before .before .before .before .before .before .before .before .before .before .before .args .slot .now)) h (c .before .before .before .before .before .before
+    .before .before .before .before .before .before .before .before .before .before .before .before .args .low) (c .before .before .before .before .before .before .before .before .before
+    .before .before .before .before .before .before .before .before .before .args .high)) (scans-both (c .before .before .before .before .before .before .before .before .before .before
+    .before .consider-bits .ensures) (c .before .before .before .before .consider-bits2 .ensures))) (λ st. []) listMost (omega (
+      arith,
+      h .within,
+      c .before .before .before .before .before
+          .before .before .before .before .before .before .before .before .before .before .before .before .before .pre .4,
+    )) (λ st l u w. refl)
 
 pub consider-place-spec : {M : Type 1} → statement M
 consider-place-spec =

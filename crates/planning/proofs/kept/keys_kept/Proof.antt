@@ -1,3 +1,4 @@
+-- `planning::kept::keys_kept` meets its contract. Assumes nothing.
 use Prim.Native.Nat.{_-_, _≤_}
 use mathlib.Core.Path.{_≡_, refl, _∙_}
 use native.Mathlib.Omega.{arith}
@@ -6,9 +7,6 @@ use Rattle.planning.specs.Keeping.{KeptScans}
 use Rattle.planning.proofs.Keepings.{kept-starts, kept-full, kept-goes, kept-done}
 use Rattle.planning.proofs.kept.keys_kept.Statement.{statement}
 use Rattle.planning.proofs.kept.keys_kept.Tie as tie
-use Rattle.planning.proofs.kept.keys_kept.Reads as reads
-use Rattle.planning.proofs.kept.keys_kept.Lts as lts
-use Rattle.planning.proofs.kept.consider_noted.Reads as consider-noted-reads
 
 abbrev Inv-loop : tie.InvT-loop
 Inv-loop s₀ m first c low high clock picks₀ w₀ i₀ s picks w i = (i ≤ c) × (length s ≡ length s₀) × (length picks ≡ length picks₀) × KeptScans s₀ s first m c i low high picks₀ picks clock w₀ w
@@ -16,63 +14,97 @@ Inv-loop s₀ m first c low high clock picks₀ w₀ i₀ s picks w i = (i ≤ c
 abbrev μ-loop : tie.MeasureT-loop
 μ-loop s₀ m first c low high clock picks₀ w₀ i₀ s picks w i = c - i
 
--- src/kept.rt:111:5
 loop-holds : tie.Need-loop-holds Inv-loop μ-loop
 loop-holds c = (omega arith, refl, refl, kept-starts (c .before .before .before .before .before .pre .1) (c .before .before .before .before .before .pre .4))
 
--- src/kept.rt:113:13
 same-length : tie.Need-same-length Inv-loop μ-loop
 same-length c = c .before .before .loop .inv .1
 
--- src/kept.rt:113:13
 same-length-2 : tie.Need-same-length-2 Inv-loop μ-loop
 same-length-2 c = c .before .before .loop .inv .2
 
--- src/kept.rt:113:13
 returns : tie.Need-returns Inv-loop μ-loop
 returns c = kept-full (c .before .before .loop .inv .3) (c .before .before .loop .inv .0) (c .if1 .taken)
 
--- src/kept.rt:115:44
 mul-consider-noted : tie.Need-mul-consider-noted Inv-loop μ-loop
 mul-consider-noted c = omega (arith, c .before .before .loop-test .taken, c .before .before .before .before .before .before .before .before .before .pre .5)
 
--- src/kept.rt:115:44
 shared-slice-read-consider-noted : tie.Need-shared-slice-read-consider-noted Inv-loop μ-loop
 shared-slice-read-consider-noted c = omega (arith, c .before .before .before .loop-test .taken, c .before .before .before .before .before .before .before .before .before .before .pre .6 .0)
 
--- src/kept.rt:115:52
 mul-consider-noted-2 : tie.Need-mul-consider-noted-2 Inv-loop μ-loop
 mul-consider-noted-2 c = omega (arith, c .before .before .before .loop-test .taken, c .before .before .before .before .before .before .before .before .before .before .pre .5)
 
--- src/kept.rt:115:52
 shared-slice-read-consider-noted-2 : tie.Need-shared-slice-read-consider-noted-2 Inv-loop μ-loop
-shared-slice-read-consider-noted-2 c = omega (arith, c .before .before .before .before .loop-test .taken, c .before .before .before .before .before .before .before .before .before .before .before .pre .6 .1)
+shared-slice-read-consider-noted-2 c = omega (
+  arith,
+  c .before .before .before .before .loop-test .taken,
+  c .before .before .before .before .before .before .before .before .before .before
+      .before .pre .6 .1,
+)
 
--- src/kept.rt:115:9
 consider-noted-requires : tie.Need-consider-noted-requires Inv-loop μ-loop
-consider-noted-requires c κs = let x = c .before .before .before .before .before .before .loop .inv .3 .ahead in (record { first = c .before .before .before .before .before .before .before .before .before .before .before .before .pre .0 .first; front = omega (arith, c .before .before .before .before .before .before .before .before .before .before .before .before .pre .0 .front, c .before .before .before .before .before .before .loop .inv .1); rest = omega (arith, c .before .before .before .before .before .before .before .before .before .before .before .before .pre .0 .rest, c .before .before .before .before .before .before .loop .inv .1, c .before .before .before .before .before .loop-test .taken) }, x .kept, c .before .before .before .before .before .before .before .before .before .before .before .before .pre .2, omega (arith, c .before .before .before .before .before .before .loop .inv .2, c .before .before .before .before .before .before .before .before .before .before .before .before .pre .3), x .roomy, omega (arith, x .near, c .before .before .before .before .before .loop-test .taken, c .before .before .before .before .before .before .before .before .before .before .before .before .pre .5))
+consider-noted-requires c κs = let x = c .before .before .before .before .before .before .loop .inv .3 .ahead in (
+  record {
+    first = c .before .before .before .before .before .before .before
+        .before .before .before .before .before .pre .0 .first;
+    front = omega (
+      arith,
+      c .before .before .before .before .before .before .before .before .before .before .before .before .pre .0
+          .front,
+      c .before .before .before .before .before .before .loop .inv .1,
+    );
+    rest = omega (
+      arith,
+      c .before .before .before .before .before .before .before .before .before .before .before
+          .before .pre .0 .rest,
+      c .before .before .before .before .before .before .loop .inv .1,
+      c .before .before .before .before .before .loop-test .taken,
+    );
+  },
+  x .kept,
+  c .before .before
+      .before .before .before .before .before .before .before .before .before .before .pre .2,
+  omega (
+    arith,
+    c .before .before .before .before .before .before .loop .inv .2,
+    c .before .before
+        .before .before .before .before .before .before .before .before .before .before .pre .3,
+  ),
+  x .roomy,
+  omega (
+    arith,
+    x .near,
+    c .before .before .before .before .before .loop-test .taken,
+    c
+        .before .before .before .before .before .before .before .before .before .before .before .before .pre .5,
+  ),
+)
 
--- src/kept.rt:116:9
 add-i : tie.Need-add-i Inv-loop μ-loop
 add-i c = omega (arith, c .before .before .before .before .before .before .before .before .before .before .loop-test .taken)
 
--- src/kept.rt:111:5
 loop-less : tie.Need-loop-less Inv-loop μ-loop
 loop-less c = omega (arith, c .before .before .before .before .before .before .before .before .before .before .loop-test .taken)
 
--- src/kept.rt:111:5
 loop-again : tie.Need-loop-again Inv-loop μ-loop
-loop-again c = (omega (arith, c .before .before .before .before .before .before .before .before .before .before .loop-test .taken), c .before .before .before .before .consider-noted .kept .0 ∙ c .before .before .before .before .before .before .before .before .before .before .before .loop .inv .1, c .before .before .before .before .consider-noted .kept .1 .1 .1 .1 .1 .1 .1 .0 ∙ c .before .before .before .before .before .before .before .before .before .before .before .loop .inv .2, kept-goes (c .before .before .before .before .before .before .before .before .before .before .before .loop .inv .3) (c .before .before .before .before .before .before .before .before .before .before .loop-test .taken) (c .before .before .before .before .consider-noted .ensures))
+loop-again c = (
+  omega (arith, c .before .before .before .before .before .before .before .before .before .before .loop-test .taken),
+  c .before .before .before .before .consider-noted .kept
+      .0 ∙ c .before .before .before .before .before .before .before .before .before .before .before .loop .inv .1,
+  c .before .before .before .before .consider-noted .kept .1 .1 .1 .1 .1 .1
+      .1 .0 ∙ c .before .before .before .before .before .before .before .before .before .before .before .loop .inv .2,
+  kept-goes (c .before .before .before .before .before .before .before
+      .before .before .before .before .loop .inv .3) (c .before .before .before .before .before .before .before .before .before .before .loop-test .taken) (c .before .before .before .before
+      .consider-noted .ensures),
+)
 
--- src/kept.rt:95:1
 same-length-3 : tie.Need-same-length-3 Inv-loop μ-loop
 same-length-3 c = c .before .loop .inv .1
 
--- src/kept.rt:95:1
 same-length-4 : tie.Need-same-length-4 Inv-loop μ-loop
 same-length-4 c = c .before .loop .inv .2
 
--- src/kept.rt:95:1
 returns-2 : tie.Need-returns-2 Inv-loop μ-loop
 returns-2 c = kept-done (c .before .loop .inv .3) (omega (arith, c .before .loop .inv .0, c .loop-test .left))
 

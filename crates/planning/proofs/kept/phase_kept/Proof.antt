@@ -1,3 +1,4 @@
+-- `planning::kept::phase_kept` meets its contract. Assumes nothing.
 use native.Mathlib.Omega.{arith}
 use mathlib.Core.Path.{ap}
 use Rattle.planning.specs.declared.selecting.Scan.{Scan}
@@ -6,28 +7,31 @@ use Rattle.planning.proofs.Keepings.{kept-phased}
 use borrow.Author.Needs.{needs}
 use Rattle.planning.proofs.kept.phase_kept.Statement.{statement}
 use Rattle.planning.proofs.kept.phase_kept.Tie as tie
-use Rattle.planning.proofs.kept.phase_kept.Reads as reads
-use Rattle.planning.proofs.kept.phase_kept.Lts as lts
-use Rattle.planning.proofs.kept.keys_kept.Reads as keys-kept-reads
-use Rattle.planning.proofs.phase.opened.Reads as opened-reads
 
--- src/kept.rt:136:9
 opened-requires : tie.Need-opened-requires
 opened-requires c κs = search needs
 
--- src/kept.rt:137:5
 keys-kept-requires : tie.Need-keys-kept-requires
-keys-kept-requires c κs = (c .before .before .before .before .before .before .before .before .pre .0, c .before .before .before .before .before .before .before .before .pre .1, c .before .before .before .before .before .before .before .before .pre .2, c .before .before .before .before .before .before .before .before .pre .3, opened-roomy (c .before .before .before .before .before .before .before .before .args .v) (c .before .before .opened .ensures) (c .before .before .before .before .before .before .before .before .pre .4), (let e = ap (λ (u : Scan). u .considered) (c .before .before .opened .ensures) in omega (arith, e, c .before .before .before .before .before .before .before .before .pre .5)), c .before .before .before .before .before .before .before .before .pre .6)
+keys-kept-requires c κs = (
+  c .before .before .before .before .before .before .before .before .pre .0,
+  c .before .before .before .before .before .before .before .before .pre .1,
+  c .before
+      .before .before .before .before .before .before .before .pre .2,
+  c .before .before .before .before .before .before .before .before .pre .3,
+  opened-roomy (c .before .before .before
+      .before .before .before .before .before .args .v) (c .before .before .opened .ensures) (c .before .before .before .before .before .before .before .before .pre .4),
+  (let e = ap (λ (u :
+      Scan). u .considered) (c .before .before .opened .ensures) in omega (arith, e, c .before .before .before .before .before .before .before .before .pre .5)),
+  c .before .before .before
+      .before .before .before .before .before .pre .6,
+)
 
--- src/kept.rt:122:1
 same-length : tie.Need-same-length
 same-length c = search needs
 
--- src/kept.rt:122:1
 same-length-2 : tie.Need-same-length-2
 same-length-2 c = search needs
 
--- src/kept.rt:122:1
 returns : tie.Need-returns
 returns c = kept-phased (c .before .before .before .before .before .before .before .opened .ensures) (c .before .before .before .before .keys-kept .ensures)
 

@@ -1,11 +1,9 @@
+-- `planning::plan::note_room` meets its contract. Assumes nothing.
 use mathlib.Core.Path.{refl}
 use lib.ListN.{getD-replicate}
 use Rattle.planning.proofs.plan.note_room.Statement.{statement}
 use Rattle.planning.proofs.plan.note_room.Tie as tie
-use Rattle.planning.proofs.plan.note_room.Reads as reads
-use Rattle.planning.proofs.plan.note_room.Lts as lts
 
--- src/plan.rt:18:1
 returns : tie.Need-returns
 returns c = record { long = refl; zero = λ j h. getD-replicate 4096 j 0 0 h }
 

@@ -1,3 +1,4 @@
+-- `planning::plan::plan_given` meets its contract. Assumes nothing.
 use Prim.Native.Nat.{_<_}
 use mathlib.Core.Path.{refl}
 use mathlib.Core.Option.{some}
@@ -10,92 +11,149 @@ use Rattle.planning.proofs.Planned.{set-parted, started, limit-is, part
 use borrow.Author.Needs.{needs}
 use Rattle.planning.proofs.plan.plan_given.Statement.{statement}
 use Rattle.planning.proofs.plan.plan_given.Tie as tie
-use Rattle.planning.proofs.plan.plan_given.Reads as reads
-use Rattle.planning.proofs.plan.plan_given.Lts as lts
-use Rattle.apart.proofs.bare_bytes.Reads as bare-bytes-reads
-use Rattle.apart.proofs.put_back.Reads as put-back-reads
-use Rattle.apart.proofs.set_apart.Reads as set-apart-reads
-use Rattle.apart.proofs.slot_room.Reads as slot-room-reads
-use Rattle.planning.proofs.answering.ask_given.Reads as ask-given-reads
-use Rattle.planning.proofs.answering.numbers.Reads as numbers-reads
-use Rattle.planning.proofs.plan.begin.Reads as begin-reads
-use Rattle.store.proofs.head.held_places.Reads as held-places-reads
 
--- src/plan.rt:64:9
 held-places-requires : tie.Need-held-places-requires
 held-places-requires c κs = let z = kept-shown (c .before .before .before .before .pre .0) .sizes .long in omega (arith, z)
 
--- src/plan.rt:65:9
 bare-bytes-requires : tie.Need-bare-bytes-requires
 bare-bytes-requires c κs = search needs
 
--- src/plan.rt:66:21
 slot-room-requires : tie.Need-slot-room-requires
 slot-room-requires c κs = search needs
 
--- src/plan.rt:67:28
 slice-aggregate-set-apart : tie.Need-slice-aggregate-set-apart
 slice-aggregate-set-apart c = search needs
 
--- src/plan.rt:67:5
 set-apart-requires : tie.Need-set-apart-requires
 set-apart-requires c κs = search needs
 
--- src/plan.rt:68:21
 numbers-requires : tie.Need-numbers-requires
 numbers-requires c κs = search needs
 
--- src/plan.rt:69:25
 slice-aggregate-begin : tie.Need-slice-aggregate-begin
 slice-aggregate-begin c = search needs
 
--- src/plan.rt:69:47
 slice-aggregate-begin-2 : tie.Need-slice-aggregate-begin-2
 slice-aggregate-begin-2 c = search needs
 
--- src/plan.rt:69:9
 begin-requires : tie.Need-begin-requires
-begin-requires c κs = (set-parted (c .before .before .before .before .before .before .before .before .before .before .before .before .before .before .before .before .before .before .pre .0) (c .before .before .before .before .before .before .before .set-apart .ensures) (c .before .before .before .before .before .before .before .before .before .before .before .before .before .held-places .ensures .word), c .before .before .before .before .before .before .before .before .before .before .before .before .before .before .before .before .before .before .pre .1, omega (arith, c .before .before .before .numbers .ensures))
+begin-requires c κs = (
+  set-parted (c .before .before .before .before .before .before .before .before .before .before .before .before .before .before .before .before .before .before .pre .0)
+      (c .before .before .before .before .before .before .before .set-apart .ensures) (c .before .before .before .before .before .before .before .before .before .before .before .before
+      .before .held-places .ensures .word),
+  c .before .before .before .before .before .before .before .before .before .before .before .before .before .before .before .before .before .before
+      .pre .1,
+  omega (arith, c .before .before .before .numbers .ensures),
+)
 
--- src/plan.rt:70:34
 sub-ask-given : tie.Need-sub-ask-given
 sub-ask-given c = search needs
 
--- src/plan.rt:70:34
 part-ask-given-start : tie.Need-part-ask-given-start
 part-ask-given-start c = search needs
 
--- src/plan.rt:70:34
 part-ask-given-end : tie.Need-part-ask-given-end
-part-ask-given-end c = let y = front-within ((set-parted (c .before .before .before .before .before .before .before .before .before .before .before .before .before .before .before .before .before .before .before .before .before .before .before .pre .0) (c .before .before .before .before .before .before .before .before .before .before .before .before .set-apart .ensures) (c .before .before .before .before .before .before .before .before .before .before .before .before .before .before .before .before .before .before .held-places .ensures .word)) .apart) in omega (arith, y, c .before .before .before .before .begin .kept .0)
+part-ask-given-end c = let y = front-within ((set-parted (c .before .before .before .before .before .before .before .before .before .before .before .before .before .before .before .before
+    .before .before .before .before .before .before .before .pre .0) (c .before .before .before .before .before .before .before .before .before .before .before .before .set-apart .ensures)
+    (c .before .before .before .before .before .before .before .before .before .before .before .before .before .before .before .before .before .before .held-places .ensures .word)) .apart)
+    in omega (arith, y, c .before .before .before .before .begin .kept .0)
 
--- src/plan.rt:70:62
 slice-aggregate-ask-given : tie.Need-slice-aggregate-ask-given
 slice-aggregate-ask-given c = search needs
 
--- src/plan.rt:70:9
 ask-given-requires : tie.Need-ask-given-requires
-ask-given-requires c κs = let late : c .before .before .before .before .before .before .before .before .before .before .before .before .before .before .before .before .before .before .before .before .before .before .before .before .before .before .args .clock < word = omega (arith, c .before .before .before .before .before .before .before .before .before .before .before .before .before .before .before .before .before .before .before .before .before .before .before .before .before .before .pre .1) in let k = c .before .before .before .before .before .before .before .before .before .before .before .before .before .before .before .before .before .before .before .before .before .before .before .before .before .before .pre .0 in (started (some (givenKeys (c .before .before .before .before .before .before .before .before .before .before .before .before .before .before .before .before .before .before .before .before .before .before .before .before .before .before .args .given .now))) late (c .before .before .before .before .before .before .before .before .before .before .before .before .before .before .before .set-apart .ensures) (c .before .before .before .before .before .before .before .begin .ensures) (c .before .before .before .before .before .before .before .before .before .before .before .before .before .before .before .before .before .before .before .before .before .held-places .ensures .word) (k .state) (k .sound) (k .writes), c .before .before .before .before .before .before .before .before .before .before .before .before .before .before .before .before .before .before .before .before .before .before .before .before .before .before .pre .1, omega (arith, c .before .before .before .before .before .before .before .before .before .before .before .numbers .ensures, c .before .before .before .before .before .before .before .begin .kept .1 .1 .1 .1 .1 .0), rw (limit-is (some (givenKeys (c .before .before .before .before .before .before .before .before .before .before .before .before .before .before .before .before .before .before .before .before .before .before .before .before .before .before .args .given .now))) late (c .before .before .before .before .before .before .before .before .before .before .before .before .before .before .before .set-apart .ensures) (c .before .before .before .before .before .before .before .begin .ensures) (c .before .before .before .before .before .before .before .before .before .before .before .before .before .before .before .before .before .before .before .before .before .held-places .ensures .word) (k .state) (k .sound) (k .writes)) (c .before .before .before .before .before .before .before .before .before .before .before .before .before .before .before .before .before .before .before .before .before .before .before .before .before .before .pre .2), c .before .before .before .before .before .before .before .begin .ensures .near)
+ask-given-requires c κs = let late : c .before .before .before .before .before .before .before .before .before .before .before .before .before .before .before .before .before .before
+    .before .before .before .before .before .before .before .before .args .clock < word = omega (
+      arith,
+      c .before .before .before .before .before .before .before .before .before .before
+          .before .before .before .before .before .before .before .before .before .before .before .before .before .before .before .before .pre .1,
+    ) in let k = c .before .before .before .before
+    .before .before .before .before .before .before .before .before .before .before .before .before .before .before .before .before .before .before .before .before .before .before .pre .0
+    in (
+      started (some (givenKeys (c .before .before .before .before .before .before .before .before .before .before .before .before .before .before .before .before .before .before .before
+          .before .before .before .before .before .before .before .args .given .now))) late (c .before .before .before .before .before .before .before .before .before .before .before .before
+          .before .before .before .set-apart .ensures) (c .before .before .before .before .before .before .before .begin .ensures) (c .before .before .before .before .before .before .before
+          .before .before .before .before .before .before .before .before .before .before .before .before .before .before .held-places .ensures .word) (k .state) (k .sound) (k .writes),
+      c .before
+          .before .before .before .before .before .before .before .before .before .before .before .before .before .before .before .before .before .before .before .before .before .before .before
+          .before .before .pre .1,
+      omega (
+        arith,
+        c .before .before .before .before .before .before .before .before .before .before .before .numbers .ensures,
+        c .before .before .before .before
+            .before .before .before .begin .kept .1 .1 .1 .1 .1 .0,
+      ),
+      rw (limit-is (some (givenKeys (c .before .before .before .before .before .before .before .before .before .before .before .before
+          .before .before .before .before .before .before .before .before .before .before .before .before .before .before .args .given .now))) late (c .before .before .before .before .before
+          .before .before .before .before .before .before .before .before .before .before .set-apart .ensures) (c .before .before .before .before .before .before .before .begin .ensures) (c
+          .before .before .before .before .before .before .before .before .before .before .before .before .before .before .before .before .before .before .before .before .before .held-places
+          .ensures .word) (k .state) (k .sound) (k .writes)) (c .before .before .before .before .before .before .before .before .before .before .before .before .before .before .before .before
+          .before .before .before .before .before .before .before .before .before .before .pre .2),
+      c .before .before .before .before .before .before .before .begin .ensures .near,
+    )
 
--- src/plan.rt:71:27
 slice-aggregate-put-back : tie.Need-slice-aggregate-put-back
 slice-aggregate-put-back c = search needs
 
--- src/plan.rt:71:5
 put-back-requires : tie.Need-put-back-requires
-put-back-requires c κs = let late : c .before .before .before .before .before .before .before .before .before .before .before .before .before .before .before .before .before .before .before .before .before .before .before .before .before .before .before .before .before .before .before .before .before .before .args .clock < word = omega (arith, c .before .before .before .before .before .before .before .before .before .before .before .before .before .before .before .before .before .before .before .before .before .before .before .before .before .before .before .before .before .before .before .before .before .before .pre .1) in let k = c .before .before .before .before .before .before .before .before .before .before .before .before .before .before .before .before .before .before .before .before .before .before .before .before .before .before .before .before .before .before .before .before .before .before .pre .0 in parted-after (some (givenKeys (c .before .before .before .before .before .before .before .before .before .before .before .before .before .before .before .before .before .before .before .before .before .before .before .before .before .before .before .before .before .before .before .before .before .before .args .given .now))) late (c .before .before .before .before .before .before .before .before .before .before .before .before .before .before .before .before .before .before .before .before .before .before .before .set-apart .ensures) (c .before .before .before .before .before .before .before .before .before .before .before .before .before .before .before .begin .ensures) (c .before .before .before .before .before .before .before .before .before .before .before .before .before .before .before .before .before .before .before .before .before .before .before .before .before .before .before .before .before .held-places .ensures .word) (k .state) (k .sound) (k .writes) (let y = front-within ((set-parted (c .before .before .before .before .before .before .before .before .before .before .before .before .before .before .before .before .before .before .before .before .before .before .before .before .before .before .before .before .before .before .before .before .before .before .pre .0) (c .before .before .before .before .before .before .before .before .before .before .before .before .before .before .before .before .before .before .before .before .before .before .before .set-apart .ensures) (c .before .before .before .before .before .before .before .before .before .before .before .before .before .before .before .before .before .before .before .before .before .before .before .before .before .before .before .before .before .held-places .ensures .word)) .apart) in omega (arith, y, c .before .before .before .before .before .before .before .before .before .before .before .before .before .before .before .begin .kept .0)) (c .before .before .before .before .before .before .before .ask-given .kept .0) refl (search needs) (c .before .before .before .before .before .before .before .before .before .before .before .before .before .before .before .begin .kept .1 .1 .0) (c .before .before .before .before .before .before .before .ask-given .ensures)
+put-back-requires c κs = let late : c .before .before .before .before .before .before .before .before .before .before .before .before .before .before .before .before .before .before .before
+    .before .before .before .before .before .before .before .before .before .before .before .before .before .before .before .args .clock < word = omega (
+      arith,
+      c .before .before .before
+          .before .before .before .before .before .before .before .before .before .before .before .before .before .before .before .before .before .before .before .before .before .before .before
+          .before .before .before .before .before .before .before .before .pre .1,
+    ) in let k = c .before .before .before .before .before .before .before .before .before .before .before .before
+    .before .before .before .before .before .before .before .before .before .before .before .before .before .before .before .before .before .before .before .before .before .before .pre .0
+    in parted-after (some (givenKeys (c .before .before .before .before .before .before .before .before .before .before .before .before .before .before .before .before .before .before
+    .before .before .before .before .before .before .before .before .before .before .before .before .before .before .before .before .args .given .now))) late (c .before .before .before
+    .before .before .before .before .before .before .before .before .before .before .before .before .before .before .before .before .before .before .before .before .set-apart .ensures) (c
+    .before .before .before .before .before .before .before .before .before .before .before .before .before .before .before .begin .ensures) (c .before .before .before .before .before
+    .before .before .before .before .before .before .before .before .before .before .before .before .before .before .before .before .before .before .before .before .before .before .before
+    .before .held-places .ensures .word) (k .state) (k .sound) (k .writes) (let y = front-within ((set-parted (c .before .before .before .before .before .before .before .before .before
+    .before .before .before .before .before .before .before .before .before .before .before .before .before .before .before .before .before .before .before .before .before .before .before
+    .before .before .pre .0) (c .before .before .before .before .before .before .before .before .before .before .before .before .before .before .before .before .before .before .before
+    .before .before .before .before .set-apart .ensures) (c .before .before .before .before .before .before .before .before .before .before .before .before .before .before .before .before
+    .before .before .before .before .before .before .before .before .before .before .before .before .before .held-places .ensures .word)) .apart) in omega (
+      arith,
+      y,
+      c .before .before
+          .before .before .before .before .before .before .before .before .before .before .before .before .before .begin .kept .0,
+    )) (c .before .before .before .before .before .before .before
+    .ask-given .kept .0) refl (search needs) (c .before .before .before .before .before .before .before .before .before .before .before .before .before .before .before .begin .kept .1 .1
+    .0) (c .before .before .before .before .before .before .before .ask-given .ensures)
 
--- src/plan.rt:60:1
 same-length : tie.Need-same-length
 same-length c = search needs
 
--- src/plan.rt:60:1
 same-length-2 : tie.Need-same-length-2
 same-length-2 c = search needs
 
--- src/plan.rt:60:1
 returns : tie.Need-returns
-returns c = let late : c .before .before .before .before .before .before .before .before .before .before .before .before .before .before .before .before .before .before .before .before .before .before .before .before .before .before .before .before .before .before .before .before .before .before .before .before .before .args .clock < word = omega (arith, c .before .before .before .before .before .before .before .before .before .before .before .before .before .before .before .before .before .before .before .before .before .before .before .before .before .before .before .before .before .before .before .before .before .before .before .before .before .pre .1) in λ st s o. plan-is (some (givenKeys (c .before .before .before .before .before .before .before .before .before .before .before .before .before .before .before .before .before .before .before .before .before .before .before .before .before .before .before .before .before .before .before .before .before .before .before .before .before .args .given .now))) late (c .before .before .before .before .before .before .before .before .before .before .before .before .before .before .before .before .before .before .before .before .before .before .before .before .before .before .set-apart .ensures) (c .before .before .before .before .before .before .before .before .before .before .before .before .before .before .before .before .before .before .begin .ensures) (c .before .before .before .before .before .before .before .before .before .before .before .before .before .before .before .before .before .before .before .before .before .before .before .before .before .before .before .before .before .before .before .before .held-places .ensures .word) st s o (let y = front-within ((set-parted (c .before .before .before .before .before .before .before .before .before .before .before .before .before .before .before .before .before .before .before .before .before .before .before .before .before .before .before .before .before .before .before .before .before .before .before .before .before .pre .0) (c .before .before .before .before .before .before .before .before .before .before .before .before .before .before .before .before .before .before .before .before .before .before .before .before .before .before .set-apart .ensures) (c .before .before .before .before .before .before .before .before .before .before .before .before .before .before .before .before .before .before .before .before .before .before .before .before .before .before .before .before .before .before .before .before .held-places .ensures .word)) .apart) in omega (arith, y, c .before .before .before .before .before .before .before .before .before .before .before .before .before .before .before .before .before .before .begin .kept .0)) (c .before .before .before .before .before .before .before .before .before .before .ask-given .kept .0) refl (search needs) (c .before .before .before .before .before .before .before .before .before .before .before .before .before .before .before .before .before .before .begin .kept .1 .1 .0) (c .before .before .before .before .before .before .before .before .before .before .ask-given .ensures) (c .before .before .put-back .ensures)
+returns c = let late : c .before .before .before .before .before .before .before .before .before .before .before .before .before .before .before .before .before .before .before .before
+    .before .before .before .before .before .before .before .before .before .before .before .before .before .before .before .before .before .args .clock < word = omega (
+      arith,
+      c .before
+          .before .before .before .before .before .before .before .before .before .before .before .before .before .before .before .before .before .before .before .before .before .before .before
+          .before .before .before .before .before .before .before .before .before .before .before .before .before .pre .1,
+    ) in λ st s o. plan-is (some (givenKeys (c .before .before .before .before
+    .before .before .before .before .before .before .before .before .before .before .before .before .before .before .before .before .before .before .before .before .before .before .before
+    .before .before .before .before .before .before .before .before .before .before .args .given .now))) late (c .before .before .before .before .before .before .before .before .before
+    .before .before .before .before .before .before .before .before .before .before .before .before .before .before .before .before .before .set-apart .ensures) (c .before .before .before
+    .before .before .before .before .before .before .before .before .before .before .before .before .before .before .before .begin .ensures) (c .before .before .before .before .before
+    .before .before .before .before .before .before .before .before .before .before .before .before .before .before .before .before .before .before .before .before .before .before .before
+    .before .before .before .before .held-places .ensures .word) st s o (let y = front-within ((set-parted (c .before .before .before .before .before .before .before .before .before .before
+    .before .before .before .before .before .before .before .before .before .before .before .before .before .before .before .before .before .before .before .before .before .before .before
+    .before .before .before .before .pre .0) (c .before .before .before .before .before .before .before .before .before .before .before .before .before .before .before .before .before
+    .before .before .before .before .before .before .before .before .before .set-apart .ensures) (c .before .before .before .before .before .before .before .before .before .before .before
+    .before .before .before .before .before .before .before .before .before .before .before .before .before .before .before .before .before .before .before .before .before .held-places
+    .ensures .word)) .apart) in omega (
+      arith,
+      y,
+      c .before .before .before .before .before .before .before .before .before .before .before .before .before .before .before .before .before
+          .before .begin .kept .0,
+    )) (c .before .before .before .before .before .before .before .before .before .before .ask-given .kept .0) refl (search needs) (c .before .before .before .before
+    .before .before .before .before .before .before .before .before .before .before .before .before .before .before .begin .kept .1 .1 .0) (c .before .before .before .before .before .before
+    .before .before .before .before .ask-given .ensures) (c .before .before .put-back .ensures)
 
 pub plan-given-spec : {M : Type 1} → statement M
 plan-given-spec =

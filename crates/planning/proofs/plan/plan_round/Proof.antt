@@ -1,3 +1,4 @@
+-- `planning::plan::plan_round` meets its contract. Assumes nothing.
 use Prim.Native.Nat.{_<_}
 use mathlib.Core.Path.{refl}
 use mathlib.Core.Option.{none}
@@ -9,92 +10,141 @@ use Rattle.planning.proofs.Planned.{set-parted, started, limit-is, part
 use borrow.Author.Needs.{needs}
 use Rattle.planning.proofs.plan.plan_round.Statement.{statement}
 use Rattle.planning.proofs.plan.plan_round.Tie as tie
-use Rattle.planning.proofs.plan.plan_round.Reads as reads
-use Rattle.planning.proofs.plan.plan_round.Lts as lts
-use Rattle.apart.proofs.bare_bytes.Reads as bare-bytes-reads
-use Rattle.apart.proofs.put_back.Reads as put-back-reads
-use Rattle.apart.proofs.set_apart.Reads as set-apart-reads
-use Rattle.apart.proofs.slot_room.Reads as slot-room-reads
-use Rattle.planning.proofs.answering.ask_round.Reads as ask-round-reads
-use Rattle.planning.proofs.answering.numbers.Reads as numbers-reads
-use Rattle.planning.proofs.plan.begin.Reads as begin-reads
-use Rattle.store.proofs.head.held_places.Reads as held-places-reads
 
--- src/plan.rt:48:9
 held-places-requires : tie.Need-held-places-requires
 held-places-requires c κs = let z = kept-shown (c .before .before .before .pre .0) .sizes .long in omega (arith, z)
 
--- src/plan.rt:49:9
 bare-bytes-requires : tie.Need-bare-bytes-requires
 bare-bytes-requires c κs = search needs
 
--- src/plan.rt:50:21
 slot-room-requires : tie.Need-slot-room-requires
 slot-room-requires c κs = search needs
 
--- src/plan.rt:51:28
 slice-aggregate-set-apart : tie.Need-slice-aggregate-set-apart
 slice-aggregate-set-apart c = search needs
 
--- src/plan.rt:51:5
 set-apart-requires : tie.Need-set-apart-requires
 set-apart-requires c κs = search needs
 
--- src/plan.rt:52:21
 numbers-requires : tie.Need-numbers-requires
 numbers-requires c κs = search needs
 
--- src/plan.rt:53:25
 slice-aggregate-begin : tie.Need-slice-aggregate-begin
 slice-aggregate-begin c = search needs
 
--- src/plan.rt:53:47
 slice-aggregate-begin-2 : tie.Need-slice-aggregate-begin-2
 slice-aggregate-begin-2 c = search needs
 
--- src/plan.rt:53:9
 begin-requires : tie.Need-begin-requires
-begin-requires c κs = (set-parted (c .before .before .before .before .before .before .before .before .before .before .before .before .before .before .before .before .before .pre .0) (c .before .before .before .before .before .before .before .set-apart .ensures) (c .before .before .before .before .before .before .before .before .before .before .before .before .before .held-places .ensures .word), c .before .before .before .before .before .before .before .before .before .before .before .before .before .before .before .before .before .pre .1, omega (arith, c .before .before .before .numbers .ensures))
+begin-requires c κs = (
+  set-parted (c .before .before .before .before .before .before .before .before .before .before .before .before .before .before .before .before .before .pre .0) (c
+      .before .before .before .before .before .before .before .set-apart .ensures) (c .before .before .before .before .before .before .before .before .before .before .before .before .before
+      .held-places .ensures .word),
+  c .before .before .before .before .before .before .before .before .before .before .before .before .before .before .before .before .before .pre .1,
+  omega
+      (arith, c .before .before .before .numbers .ensures),
+)
 
--- src/plan.rt:54:34
 sub-ask-round : tie.Need-sub-ask-round
 sub-ask-round c = search needs
 
--- src/plan.rt:54:34
 part-ask-round-start : tie.Need-part-ask-round-start
 part-ask-round-start c = search needs
 
--- src/plan.rt:54:34
 part-ask-round-end : tie.Need-part-ask-round-end
-part-ask-round-end c = let y = front-within ((set-parted (c .before .before .before .before .before .before .before .before .before .before .before .before .before .before .before .before .before .before .before .before .before .before .pre .0) (c .before .before .before .before .before .before .before .before .before .before .before .before .set-apart .ensures) (c .before .before .before .before .before .before .before .before .before .before .before .before .before .before .before .before .before .before .held-places .ensures .word)) .apart) in omega (arith, y, c .before .before .before .before .begin .kept .0)
+part-ask-round-end c = let y = front-within ((set-parted (c .before .before .before .before .before .before .before .before .before .before .before .before .before .before .before .before
+    .before .before .before .before .before .before .pre .0) (c .before .before .before .before .before .before .before .before .before .before .before .before .set-apart .ensures) (c
+    .before .before .before .before .before .before .before .before .before .before .before .before .before .before .before .before .before .before .held-places .ensures .word)) .apart) in
+    omega (arith, y, c .before .before .before .before .begin .kept .0)
 
--- src/plan.rt:54:55
 slice-aggregate-ask-round : tie.Need-slice-aggregate-ask-round
 slice-aggregate-ask-round c = search needs
 
--- src/plan.rt:54:9
 ask-round-requires : tie.Need-ask-round-requires
-ask-round-requires c κs = let late : c .before .before .before .before .before .before .before .before .before .before .before .before .before .before .before .before .before .before .before .before .before .before .before .before .before .args .clock < word = omega (arith, c .before .before .before .before .before .before .before .before .before .before .before .before .before .before .before .before .before .before .before .before .before .before .before .before .before .pre .1) in let k = c .before .before .before .before .before .before .before .before .before .before .before .before .before .before .before .before .before .before .before .before .before .before .before .before .before .pre .0 in (started none late (c .before .before .before .before .before .before .before .before .before .before .before .before .before .before .before .set-apart .ensures) (c .before .before .before .before .before .before .before .begin .ensures) (c .before .before .before .before .before .before .before .before .before .before .before .before .before .before .before .before .before .before .before .before .before .held-places .ensures .word) (k .state) (k .sound) (k .writes), c .before .before .before .before .before .before .before .before .before .before .before .before .before .before .before .before .before .before .before .before .before .before .before .before .before .pre .1, omega (arith, c .before .before .before .before .before .before .before .before .before .before .before .numbers .ensures, c .before .before .before .before .before .before .before .begin .kept .1 .1 .1 .1 .1 .0), rw (limit-is none late (c .before .before .before .before .before .before .before .before .before .before .before .before .before .before .before .set-apart .ensures) (c .before .before .before .before .before .before .before .begin .ensures) (c .before .before .before .before .before .before .before .before .before .before .before .before .before .before .before .before .before .before .before .before .before .held-places .ensures .word) (k .state) (k .sound) (k .writes)) (c .before .before .before .before .before .before .before .before .before .before .before .before .before .before .before .before .before .before .before .before .before .before .before .before .before .pre .2), c .before .before .before .before .before .before .before .begin .ensures .near)
+ask-round-requires c κs = let late : c .before .before .before .before .before .before .before .before .before .before .before .before .before .before .before .before .before .before
+    .before .before .before .before .before .before .before .args .clock < word = omega (
+      arith,
+      c .before .before .before .before .before .before .before .before .before .before .before
+          .before .before .before .before .before .before .before .before .before .before .before .before .before .before .pre .1,
+    ) in let k = c .before .before .before .before .before .before
+    .before .before .before .before .before .before .before .before .before .before .before .before .before .before .before .before .before .before .before .pre .0 in (
+      started none late (c
+          .before .before .before .before .before .before .before .before .before .before .before .before .before .before .before .set-apart .ensures) (c .before .before .before .before .before
+          .before .before .begin .ensures) (c .before .before .before .before .before .before .before .before .before .before .before .before .before .before .before .before .before .before
+          .before .before .before .held-places .ensures .word) (k .state) (k .sound) (k .writes),
+      c .before .before .before .before .before .before .before .before .before .before .before .before
+          .before .before .before .before .before .before .before .before .before .before .before .before .before .pre .1,
+      omega (
+        arith,
+        c .before .before .before .before .before .before .before
+            .before .before .before .before .numbers .ensures,
+        c .before .before .before .before .before .before .before .begin .kept .1 .1 .1 .1 .1 .0,
+      ),
+      rw (limit-is none late (c .before .before
+          .before .before .before .before .before .before .before .before .before .before .before .before .before .set-apart .ensures) (c .before .before .before .before .before .before .before
+          .begin .ensures) (c .before .before .before .before .before .before .before .before .before .before .before .before .before .before .before .before .before .before .before .before
+          .before .held-places .ensures .word) (k .state) (k .sound) (k .writes)) (c .before .before .before .before .before .before .before .before .before .before .before .before .before
+          .before .before .before .before .before .before .before .before .before .before .before .before .pre .2),
+      c .before .before .before .before .before .before .before .begin .ensures .near,
+    )
 
--- src/plan.rt:55:27
 slice-aggregate-put-back : tie.Need-slice-aggregate-put-back
 slice-aggregate-put-back c = search needs
 
--- src/plan.rt:55:5
 put-back-requires : tie.Need-put-back-requires
-put-back-requires c κs = let late : c .before .before .before .before .before .before .before .before .before .before .before .before .before .before .before .before .before .before .before .before .before .before .before .before .before .before .before .before .before .before .before .before .before .args .clock < word = omega (arith, c .before .before .before .before .before .before .before .before .before .before .before .before .before .before .before .before .before .before .before .before .before .before .before .before .before .before .before .before .before .before .before .before .before .pre .1) in let k = c .before .before .before .before .before .before .before .before .before .before .before .before .before .before .before .before .before .before .before .before .before .before .before .before .before .before .before .before .before .before .before .before .before .pre .0 in parted-after none late (c .before .before .before .before .before .before .before .before .before .before .before .before .before .before .before .before .before .before .before .before .before .before .before .set-apart .ensures) (c .before .before .before .before .before .before .before .before .before .before .before .before .before .before .before .begin .ensures) (c .before .before .before .before .before .before .before .before .before .before .before .before .before .before .before .before .before .before .before .before .before .before .before .before .before .before .before .before .before .held-places .ensures .word) (k .state) (k .sound) (k .writes) (let y = front-within ((set-parted (c .before .before .before .before .before .before .before .before .before .before .before .before .before .before .before .before .before .before .before .before .before .before .before .before .before .before .before .before .before .before .before .before .before .pre .0) (c .before .before .before .before .before .before .before .before .before .before .before .before .before .before .before .before .before .before .before .before .before .before .before .set-apart .ensures) (c .before .before .before .before .before .before .before .before .before .before .before .before .before .before .before .before .before .before .before .before .before .before .before .before .before .before .before .before .before .held-places .ensures .word)) .apart) in omega (arith, y, c .before .before .before .before .before .before .before .before .before .before .before .before .before .before .before .begin .kept .0)) (c .before .before .before .before .before .before .before .ask-round .kept .0) refl (search needs) (c .before .before .before .before .before .before .before .before .before .before .before .before .before .before .before .begin .kept .1 .1 .0) (c .before .before .before .before .before .before .before .ask-round .ensures)
+put-back-requires c κs = let late : c .before .before .before .before .before .before .before .before .before .before .before .before .before .before .before .before .before .before .before
+    .before .before .before .before .before .before .before .before .before .before .before .before .before .before .args .clock < word = omega (
+      arith,
+      c .before .before .before .before
+          .before .before .before .before .before .before .before .before .before .before .before .before .before .before .before .before .before .before .before .before .before .before .before
+          .before .before .before .before .before .before .pre .1,
+    ) in let k = c .before .before .before .before .before .before .before .before .before .before .before .before .before .before
+    .before .before .before .before .before .before .before .before .before .before .before .before .before .before .before .before .before .before .before .pre .0 in parted-after none late
+    (c .before .before .before .before .before .before .before .before .before .before .before .before .before .before .before .before .before .before .before .before .before .before
+    .before .set-apart .ensures) (c .before .before .before .before .before .before .before .before .before .before .before .before .before .before .before .begin .ensures) (c .before
+    .before .before .before .before .before .before .before .before .before .before .before .before .before .before .before .before .before .before .before .before .before .before .before
+    .before .before .before .before .before .held-places .ensures .word) (k .state) (k .sound) (k .writes) (let y = front-within ((set-parted (c .before .before .before .before .before
+    .before .before .before .before .before .before .before .before .before .before .before .before .before .before .before .before .before .before .before .before .before .before .before
+    .before .before .before .before .before .pre .0) (c .before .before .before .before .before .before .before .before .before .before .before .before .before .before .before .before
+    .before .before .before .before .before .before .before .set-apart .ensures) (c .before .before .before .before .before .before .before .before .before .before .before .before .before
+    .before .before .before .before .before .before .before .before .before .before .before .before .before .before .before .before .held-places .ensures .word)) .apart) in omega (
+      arith,
+      y,
+      c .before .before .before .before .before .before .before .before .before .before .before .before .before .before .before .begin .kept .0,
+    )) (c .before .before .before .before .before
+    .before .before .ask-round .kept .0) refl (search needs) (c .before .before .before .before .before .before .before .before .before .before .before .before .before .before .before
+    .begin .kept .1 .1 .0) (c .before .before .before .before .before .before .before .ask-round .ensures)
 
--- src/plan.rt:44:1
 same-length : tie.Need-same-length
 same-length c = search needs
 
--- src/plan.rt:44:1
 same-length-2 : tie.Need-same-length-2
 same-length-2 c = search needs
 
--- src/plan.rt:44:1
 returns : tie.Need-returns
-returns c = let late : c .before .before .before .before .before .before .before .before .before .before .before .before .before .before .before .before .before .before .before .before .before .before .before .before .before .before .before .before .before .before .before .before .before .before .before .before .args .clock < word = omega (arith, c .before .before .before .before .before .before .before .before .before .before .before .before .before .before .before .before .before .before .before .before .before .before .before .before .before .before .before .before .before .before .before .before .before .before .before .before .pre .1) in λ st s o. plan-is none late (c .before .before .before .before .before .before .before .before .before .before .before .before .before .before .before .before .before .before .before .before .before .before .before .before .before .before .set-apart .ensures) (c .before .before .before .before .before .before .before .before .before .before .before .before .before .before .before .before .before .before .begin .ensures) (c .before .before .before .before .before .before .before .before .before .before .before .before .before .before .before .before .before .before .before .before .before .before .before .before .before .before .before .before .before .before .before .before .held-places .ensures .word) st s o (let y = front-within ((set-parted (c .before .before .before .before .before .before .before .before .before .before .before .before .before .before .before .before .before .before .before .before .before .before .before .before .before .before .before .before .before .before .before .before .before .before .before .before .pre .0) (c .before .before .before .before .before .before .before .before .before .before .before .before .before .before .before .before .before .before .before .before .before .before .before .before .before .before .set-apart .ensures) (c .before .before .before .before .before .before .before .before .before .before .before .before .before .before .before .before .before .before .before .before .before .before .before .before .before .before .before .before .before .before .before .before .held-places .ensures .word)) .apart) in omega (arith, y, c .before .before .before .before .before .before .before .before .before .before .before .before .before .before .before .before .before .before .begin .kept .0)) (c .before .before .before .before .before .before .before .before .before .before .ask-round .kept .0) refl (search needs) (c .before .before .before .before .before .before .before .before .before .before .before .before .before .before .before .before .before .before .begin .kept .1 .1 .0) (c .before .before .before .before .before .before .before .before .before .before .ask-round .ensures) (c .before .before .put-back .ensures)
+returns c = let late : c .before .before .before .before .before .before .before .before .before .before .before .before .before .before .before .before .before .before .before .before
+    .before .before .before .before .before .before .before .before .before .before .before .before .before .before .before .before .args .clock < word = omega (
+      arith,
+      c .before .before
+          .before .before .before .before .before .before .before .before .before .before .before .before .before .before .before .before .before .before .before .before .before .before .before
+          .before .before .before .before .before .before .before .before .before .before .before .pre .1,
+    ) in λ st s o. plan-is none late (c .before .before .before .before .before .before
+    .before .before .before .before .before .before .before .before .before .before .before .before .before .before .before .before .before .before .before .before .set-apart .ensures) (c
+    .before .before .before .before .before .before .before .before .before .before .before .before .before .before .before .before .before .before .begin .ensures) (c .before .before
+    .before .before .before .before .before .before .before .before .before .before .before .before .before .before .before .before .before .before .before .before .before .before .before
+    .before .before .before .before .before .before .before .held-places .ensures .word) st s o (let y = front-within ((set-parted (c .before .before .before .before .before .before .before
+    .before .before .before .before .before .before .before .before .before .before .before .before .before .before .before .before .before .before .before .before .before .before .before
+    .before .before .before .before .before .before .pre .0) (c .before .before .before .before .before .before .before .before .before .before .before .before .before .before .before
+    .before .before .before .before .before .before .before .before .before .before .before .set-apart .ensures) (c .before .before .before .before .before .before .before .before .before
+    .before .before .before .before .before .before .before .before .before .before .before .before .before .before .before .before .before .before .before .before .before .before .before
+    .held-places .ensures .word)) .apart) in omega (
+      arith,
+      y,
+      c .before .before .before .before .before .before .before .before .before .before .before .before .before .before .before
+          .before .before .before .begin .kept .0,
+    )) (c .before .before .before .before .before .before .before .before .before .before .ask-round .kept .0) refl (search needs) (c .before .before
+    .before .before .before .before .before .before .before .before .before .before .before .before .before .before .before .before .begin .kept .1 .1 .0) (c .before .before .before .before
+    .before .before .before .before .before .before .ask-round .ensures) (c .before .before .put-back .ensures)
 
 pub plan-round-spec : {M : Type 1} → statement M
 plan-round-spec =
