@@ -4,7 +4,7 @@ ghost use lib.ListN.{length};
 ghost use mathlib.Core.Option.{none};
 ghost use Rattle.ident.specs.If.{if_then_else_};
 ghost use Rattle.reading.specs.Calls.{callOf};
-ghost use Rattle.events.specs.Given.{lineRoom, answerRoom, Answered};
+ghost use Rattle.answering.specs.Given.{lineRoom, answerRoom, Answered};
 ghost use Rattle.events.specs.Input.{Reading, started, Held, Said, Took, TookAll, TookSome, Ended, Ran};
 use libc::STDIN_FILENO;
 use libc::STDOUT_FILENO;
@@ -31,9 +31,9 @@ fn print(store: &mut [u8], line: &[u8], long: bool, out: &mut [u8]) -> usize
     ensures { λ r. ⌜ Answered (if long then none else callOf (now (line .entry))) (now (store .entry)) (now (store .exit)) (now (out .entry)) (now (out .exit)) r ⌝ }
 {
     if long {
-        return crate::answers::unreadable(out);
+        return answering::answers::unreadable(out);
     }
-    crate::answers::answer_line(store, line, out)
+    answering::answers::answer_line(store, line, out)
 }
 
 // Answers one line: the text with its line feed stands at the front of `out`, and so many bytes are written. Nothing is left to do where standard

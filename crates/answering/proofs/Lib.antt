@@ -1,0 +1,5 @@
+pub mod Printing
+pub mod KeyLists
+pub mod LongLists
+pub mod KeyCounts
+pub mod Unopened
