@@ -35,11 +35,11 @@ keyAt u i = keyIn (take keyBytes (drop (keyBytes * i) u))
 
 -- ---- one key more
 
-keys-more : (i : ℕ) (u : List ℕ) → keysIn (i + 1) u ≡ keysIn i u ++ (keyAt u i ∷ [])
+pub keys-more : (i : ℕ) (u : List ℕ) → keysIn (i + 1) u ≡ keysIn i u ++ (keyAt u i ∷ [])
 unfolding keysIn recs
 keys-more i u = recs-add keyBytes keyIn i 1 u
 
-texts-append : (ks : List Key) (k : Key) → keyTexts (ks ++ (k ∷ [])) ≡ keyTexts ks ++ (keyText k ∷ [])
+pub texts-append : (ks : List Key) (k : Key) → keyTexts (ks ++ (k ∷ [])) ≡ keyTexts ks ++ (keyText k ∷ [])
 unfolding keyTexts
 texts-append [] k = refl
 texts-append (j ∷ ks) k = ap (λ (l : List (List ℕ)). keyText j ∷ l) (texts-append ks k)
@@ -97,7 +97,7 @@ first-joined u = refl
 
 -- ---- the loop over the keys
 
-key-length : (k : Key) → length (keyText k) ≤ 1 + hashDigits
+pub key-length : (k : Key) → length (keyText k) ≤ 1 + hashDigits
 unfolding keyText
 key-length k = omega (arith, length-numeral 16 hashDigits (k .hash))
 

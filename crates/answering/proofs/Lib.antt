@@ -1,5 +1,6 @@
 pub mod Printing
 pub mod KeyLists
-pub mod LongLists
-pub mod KeyCounts
+pub mod Behind
+pub mod Fitting
+pub mod FirstHashes
 pub mod Unopened

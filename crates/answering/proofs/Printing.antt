@@ -1,18 +1,22 @@
 -- Answers as text.
 -- Assumes nothing.
 use Prim.Native.Nat.{ℕ, _+_, _<_, _≤_}
-use mathlib.Core.Path.{_≡_, sym, subst}
+use mathlib.Core.Path.{_≡_, refl, sym, ap, subst}
 use mathlib.Core.List.{List, [], _∷_, append-assoc}
 use mathlib.Core.Option.{Option, none, some}
 use native.Mathlib.Omega.{arith}
 use lib.ListN.{length}
 use Rattle.ident.specs.Number.{Key}
-use Rattle.machine.specs.State.{Candidate}
-use Rattle.machine.specs.Call.{Ask, Sum, Call, Open, On}
-use Rattle.machine.specs.Step.{Reply, Refused, Number, Keys, Summed}
+use Rattle.machine.specs.Call.{Buffer, Ask, Sum, Call, Open, On}
+use Rattle.machine.specs.Step.{Reply, Refused, Number, Keys, Left, Entries, Chosen, Summed}
+use Rattle.tracker.specs.declared.Listing.{Listing}
+use Rattle.tracker.specs.declared.Departure.{Departure}
+use Rattle.tracker.specs.Reply.{listingOf, departureOf}
 use Rattle.tracker.specs.Outcome.{Effect, Does, Leaves}
 use Rattle.reading.specs.declared.vocabulary.NumberWord.{NumberWord}
-use Rattle.reading.specs.Calls.{Values, numberAsk}
+use Rattle.reading.specs.declared.vocabulary.KeysWord.{KeysWord}
+use Rattle.reading.specs.declared.vocabulary.HashesWord.{HashesWord}
+use Rattle.reading.specs.Calls.{Values, numberAsk, keysAsk, hashesAsk}
 use Rattle.lines.specs.Text.{decimalDigits, decimal, Wrote}
 use Rattle.lines.proofs.Numerals.{length-numeral}
 use Rattle.lines.proofs.Writing.{wrote-more}
@@ -74,13 +78,38 @@ module _ {out out′ : List ℕ} {r : ℕ} {y : Reply} {n : ℕ} where
   unfolding replyText
   numbered-is e w = record { text = λ a. rw e (record { wrote = w; room = omega (arith, decimal-end n w) }) }
 
--- the candidate of a call, as the code has it and as the line has it
-pub carried-as : (ask : Candidate → Ask) {x y : Candidate} {b b′ out out′ : List ℕ} {r : ℕ} → x ≡ y → (e : Effect) → Does (On (ask x)) b e → b′ ≡ e .store → Numbered out out′ (e .reply) r → Carried (On (ask y)) b b′ out out′ r
-carried-as ask {x} {y} {b} g e d s t = record { effect = e; does = subst (λ (z : Candidate). Does (On (ask z)) b e) g d; store = s; text = t .text (ask y) }
-
 -- the call of a word that is known, with its values as the code has them and as the line has them
 pub did : (v : Values) {w x : NumberWord} {a : Ask} {b b′ : List ℕ} {y : Reply} → w ≡ x → a ≡ numberAsk x v → Leaves (On a) b b′ y → Leaves (On (numberAsk w v)) b b′ y
 did v {w} {x} {a} {b} {b′} {y} g h d = subst (λ (z : NumberWord). Leaves (On (numberAsk z v)) b b′ y) (sym g) (subst (λ (z : Ask). Leaves (On z) b b′ y) h d)
+
+-- a reply's text is the same of any call that is no opening
+same-text : (a a′ : Ask) (y : Reply) → replyText (On a) y ≡ replyText (On a′) y
+unfolding replyText
+same-text a a′ (Refused n) = refl
+same-text a a′ (Number n) = refl
+same-text a a′ (Keys ks) = refl
+same-text a a′ (Left own parents) = refl
+same-text a a′ (Entries l) = refl
+same-text a a′ (Chosen n l) = refl
+same-text a a′ (Summed s) = refl
+
+pub carried-same : (a a′ : Ask) {b b′ out out′ : List ℕ} {r : ℕ} → ((e : Effect) → Does (On a) b e → Does (On a′) b e) → Carried (On a) b b′ out out′ r → Carried (On a′) b b′ out out′ r
+carried-same a a′ {b} {b′} {out} {out′} {r} h c =
+    record { effect = c .effect; does = h (c .effect) (c .does); store = c .store; text = subst (λ (t : List ℕ). Printed out out′ t r) (same-text a a′ (c .effect .reply)) (c .text) }
+
+-- the same call, as the code has it and as the line has it
+pub carried-is : {a a′ : Ask} {b b′ out out′ : List ℕ} {r : ℕ} → a ≡ a′ → Carried (On a) b b′ out out′ r → Carried (On a′) b b′ out out′ r
+carried-is {a} {a′} {b} {b′} {out} {out′} {r} g c = subst (λ (z : Ask). Carried (On z) b b′ out out′ r) g c
+
+pub does-is : {a a′ : Ask} {b : List ℕ} {e : Effect} → a ≡ a′ → Does (On a) b e → Does (On a′) b e
+does-is {a} {a′} {b} {e} g d = subst (λ (z : Ask). Does (On z) b e) g d
+
+-- the answer that the code has taken apart
+pub listing-same : {x y : Listing} (u : Buffer) → x ≡ y → listingOf x u ≡ listingOf y u
+listing-same u e = ap (λ (x : Listing). listingOf x u) e
+
+pub departure-same : {x y : Departure} (u : Buffer) → x ≡ y → departureOf x u ≡ departureOf y u
+departure-same u e = ap (λ (x : Departure). departureOf x u) e
 
 -- ---- a line, by what it asks for
 
@@ -100,3 +129,11 @@ room-of {o} {b} {b′} {out} {out′} {r} p = go o b b′ out out′ r (p .is)
     go : (o : Option Call) (b b′ out out′ : List ℕ) (r : ℕ) → AnsweredAs o b b′ out out′ r → r < answerRoom
     go none b b′ out out′ r p = p .text .room
     go (some c) b b′ out out′ r p = p .text .room
+
+-- ---- the call of a word that is known, with its values as the code has them and as the line has them
+
+pub listing-did : (v : Values) {w x : KeysWord} {a : Ask} {b : List ℕ} {e : Effect} → w ≡ x → a ≡ keysAsk x v → Does (On a) b e → Does (On (keysAsk w v)) b e
+listing-did v {w} {x} {a} {b} {e} g h d = subst (λ (z : KeysWord). Does (On (keysAsk z v)) b e) (sym g) (does-is h d)
+
+pub hashes-did : (v : Values) (hs : List ℕ) {w x : HashesWord} {a : Ask} {b b′ out out′ : List ℕ} {r : ℕ} → w ≡ x → a ≡ hashesAsk x v hs → Carried (On a) b b′ out out′ r → Carried (On (hashesAsk w v hs)) b b′ out out′ r
+hashes-did v hs {w} {x} {a} {b} {b′} {out} {out′} {r} g h c = subst (λ (z : HashesWord). Carried (On (hashesAsk z v hs)) b b′ out out′ r) (sym g) (carried-is h c)

@@ -2,7 +2,7 @@
 -- Assumes nothing.
 use Prim.Native.Nat.{ℕ, _<_}
 use mathlib.Core.Path.{_≡_}
-use mathlib.Core.List.{List, _∷_}
+use mathlib.Core.List.{List, [], _∷_, _++_}
 use mathlib.Core.Option.{Option, none, some}
 use lib.Dec.{eqb}
 use Rattle.ident.specs.If.{if_then_else_}
@@ -20,13 +20,13 @@ use Rattle.answering.specs.Replies.{refusalText, unreadable, replyText}
 abbrev pub lineRoom : ℕ
 lineRoom = 65536
 
--- the bytes of the answer buffer: 101 keys of at most 66 bytes each, and a line feed, fit
+-- the bytes of the answer buffer: 300 keys of at most 66 bytes each with a number before them, and a line feed, fit
 abbrev pub answerRoom : ℕ
-answerRoom = 8192
+answerRoom = 32768
 
--- "any other key list 101"
+-- "disconnected min(5,000, L) + 100 × Q", for L = 100 and Q = 2: the most that a call of this program lists
 abbrev pub mostKeys : ℕ
-mostKeys = 101
+mostKeys = 300
 
 -- the kind that a key's word stands for
 abbrev pub kindIn : ℕ → Kind
@@ -35,6 +35,11 @@ kindIn n = if eqb n 0 then Txid else Wtxid
 -- the i-th text of a list: behind a comma if it is not the first
 abbrev pub nextText : ℕ → List ℕ → List ℕ
 nextText i t = if eqb i 0 then t else 44 ∷ t
+
+-- texts that follow others: each behind a comma
+unfoldable pub behind : List (List ℕ) → List ℕ
+behind [] = []
+behind (t ∷ ts) = 44 ∷ (t ++ behind ts)
 
 -- the text of an answer at the front of out, with room for a line feed behind it
 pub record Printed (out out′ : List ℕ) (text : List ℕ) (r : ℕ) : Type 0 where

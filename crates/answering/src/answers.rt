@@ -2,21 +2,21 @@
 ghost use Prim.Native.Nat.{_≤_};
 ghost use mathlib.Core.List.{[], _∷_};
 ghost use lib.ListN.{length};
-ghost use Rattle.machine.specs.Call.{Open, On, Announce, RequestParent, Sum};
+ghost use Rattle.machine.specs.Call.{Open, On, TransactionResponseCompleted, Sum};
 ghost use mathlib.Core.Path.{_≡_};
 ghost use Rattle.ident.specs.Words.{keyNum};
+ghost use Rattle.regions.specs.Rows.{quadNumber};
 ghost use Rattle.requests.specs.Changes.{candidateOf};
 ghost use Rattle.tracker.specs.Outcome.{Leaves};
 ghost use Rattle.tracker.specs.Reply.{replyOf};
 ghost use Rattle.lines.specs.Text.{decimal};
-ghost use Rattle.reading.specs.Calls.{keyIn, numberAsk, callOf};
+ghost use Rattle.reading.specs.Calls.{keyIn, candidateIn, numberAsk, callOf};
 ghost use Rattle.answering.specs.Replies.{refusalText, joined, unreadable};
-ghost use Rattle.reading.specs.Given.{offerOf, valuesOf};
+ghost use Rattle.reading.specs.Given.{valuesOf};
 ghost use Rattle.answering.specs.Given.{answerRoom, Printed, Numbered, Carried, Answered};
 use lines::write::put_bytes;
 use lines::write::put_decimal;
 use reading::calls::Asked;
-use reading::calls::Offer;
 use reading::forms::Values;
 use reading::hashes::hash_of;
 use reading::vocabulary::NumberWord;
@@ -70,24 +70,23 @@ fn answer_sum(store: &[u8], out: &mut [u8]) -> usize
     }
 }
 
-fn candidate(o: Offer) -> requests::Candidate
-    ensures { λ r. ⌜ candidateOf r ≡ offerOf o ⌝ }
+fn candidate(v: Values) -> requests::Candidate
+    ensures { λ r. ⌜ candidateOf r ≡ candidateIn (valuesOf v) ⌝ }
 {
-    let kind = o.kind;
-    let q = o.hash;
-    let hash = hash_of(q);
+    let kind = v.item;
+    let hash = hash_of(v.hash);
     let item = ident::Item { kind, hash };
     requests::Candidate {
-        connection: o.connection,
+        connection: v.connection,
         item,
-        ready: o.ready,
-        preferred: o.preferred,
-        priority: o.priority,
+        ready: v.ready,
+        preferred: v.preferred,
+        priority: v.priority,
     }
 }
 
 // A refusal, or a number.
-fn number(out: &mut [u8], a: tracker::Answer) -> usize
+pub fn number(out: &mut [u8], a: tracker::Answer) -> usize
     requires { ⌜ answerRoom ≤ length (now out) ⌝ }
     ensures { λ r. ⌜ Numbered (now (out .entry)) (now (out .exit)) (replyOf a) r ⌝ }
 {
@@ -95,22 +94,6 @@ fn number(out: &mut [u8], a: tracker::Answer) -> usize
         tracker::Answer::Refused(n) => refusal(out, n),
         tracker::Answer::Number(n) => put_decimal(out, 0, n),
     }
-}
-
-fn announce(store: &mut [u8], out: &mut [u8], o: Offer) -> usize
-    requires { ⌜ answerRoom ≤ length (now out) ⌝ }
-    ensures { λ r. ⌜ Carried (On (Announce (offerOf o))) (now (store .entry)) (now (store .exit)) (now (out .entry)) (now (out .exit)) r ⌝ }
-{
-    let a = tracker::candidates::announce(store, candidate(o));
-    number(out, a)
-}
-
-fn request_parent(store: &mut [u8], out: &mut [u8], o: Offer) -> usize
-    requires { ⌜ answerRoom ≤ length (now out) ⌝ }
-    ensures { λ r. ⌜ Carried (On (RequestParent (offerOf o))) (now (store .entry)) (now (store .exit)) (now (out .entry)) (now (out .exit)) r ⌝ }
-{
-    let a = tracker::candidates::request_parent(store, candidate(o));
-    number(out, a)
 }
 
 pub fn key_of(v: Values) -> ident::Key
@@ -121,14 +104,25 @@ pub fn key_of(v: Values) -> ident::Key
     ident::Key { kind, hash }
 }
 
+fn response_completed(store: &mut [u8], v: Values) -> tracker::Answer
+    ensures { λ r. ⌜ Leaves (On (TransactionResponseCompleted (v .connection) (quadNumber (v .hash)) (quadNumber (v .combined)) (v .clock))) (now (store .entry)) (now (store .exit)) (replyOf r) ⌝ }
+{
+    let x = ident::Txid(hash_of(v.hash));
+    let w = ident::Wtxid(hash_of(v.combined));
+    tracker::wrappers::transaction_response_completed(store, v.connection, x, w, v.clock)
+}
+
 fn carry_out(store: &mut [u8], w: NumberWord, v: Values) -> tracker::Answer
     ensures { λ r. ⌜ Leaves (On (numberAsk w (valuesOf v))) (now (store .entry)) (now (store .exit)) (replyOf r) ⌝ }
 {
     let key = key_of(v);
     match w {
+        NumberWord::Announce => tracker::candidates::announce(store, candidate(v)),
+        NumberWord::RequestParent => tracker::candidates::request_parent(store, candidate(v)),
         NumberWord::Failed => tracker::failures::failed(store, key, v.connection, v.clock),
         NumberWord::Unclaim => tracker::failures::unclaim(store, key, v.connection),
         NumberWord::Forget => tracker::failures::forget(store, key),
+        NumberWord::ForgetKnown => tracker::failures::forget_known(store, key, v.clock),
         NumberWord::FailedPackageInfo => tracker::failures::failed_package_info(
             store,
             key,
@@ -136,6 +130,7 @@ fn carry_out(store: &mut [u8], w: NumberWord, v: Values) -> tracker::Answer
             v.clock,
         ),
         NumberWord::PackageInfoOwner => tracker::failures::package_info_owner(store, key, v.clock),
+        NumberWord::ResponseCompleted => response_completed(store, v),
         NumberWord::PollGate => tracker::sweeps::poll_gate(store, v.clock),
     }
 }
@@ -157,11 +152,10 @@ pub fn answer_line(store: &mut [u8], line: &[u8], out: &mut [u8]) -> usize
     match asked {
         Asked::Unreadable => unreadable(out),
         Asked::Opening(l, q) => answer_open(store, out, l, q),
-        Asked::Announcing(o) => announce(store, out, o),
-        Asked::Requesting(o) => request_parent(store, out, o),
         Asked::Summing => answer_sum(store, out),
+        Asked::Leaving(v) => crate::departures::answer_leaving(store, out, v),
         Asked::Number(w, v) => answer_number(store, out, w, v),
         Asked::Keys(w, v) => crate::listings::answer_keys(store, out, w, v),
-        Asked::Parents(e) => crate::parents::announce_parents(store, line, e, out),
+        Asked::Hashes(w, v, e) => crate::hashes::answer_hashes(store, line, out, w, v, e),
     }
 }

@@ -1,12 +1,13 @@
 // Keys of an answer buffer as text, parted by commas.
 ghost use mathlib.Core.Path.{_≡_};
 ghost use Prim.Native.Nat.{_+_, _*_, _≤_};
+ghost use mathlib.Core.List.{_∷_};
 ghost use lib.ListN.{length, take, drop};
 ghost use Rattle.machine.specs.Call.{keyBytes};
 ghost use Rattle.lists.specs.Lists.{keyIn, keysIn};
-ghost use Rattle.lines.specs.Text.{hashDigits, keyText, Wrote};
-ghost use Rattle.answering.specs.Replies.{listed, keyTexts};
-ghost use Rattle.answering.specs.Given.{answerRoom, mostKeys, kindIn, nextText, Printed};
+ghost use Rattle.lines.specs.Text.{decimal, hashDigits, keyText, Wrote};
+ghost use Rattle.answering.specs.Replies.{joined, listed, keyTexts};
+ghost use Rattle.answering.specs.Given.{answerRoom, mostKeys, kindIn, nextText, behind, Printed};
 use lines::write::put_bytes;
 
 fn kind_of(word: u64) -> ident::Kind
@@ -56,4 +57,28 @@ pub fn put_keys(out: &mut [u8], answer: &[u8], n: usize) -> usize
         i += 1;
     }
     at
+}
+
+// The first n keys, each behind a comma.
+fn put_behind(out: &mut [u8], at: usize, answer: &[u8], n: usize) -> usize
+    requires { ⌜ (at + 66 * n ≤ length (now out)) × (keyBytes * n ≤ length (now answer)) ⌝ }
+    ensures { λ r. ⌜ (r ≤ at + 66 * n) × Wrote (now (out .entry)) (now (out .exit)) at (behind (keyTexts (keysIn n (now (answer .entry))))) r ⌝ }
+{
+    let mut to = at;
+    let mut i = 0;
+    while i < n {
+        let from = put_bytes(out, to, b",");
+        to = put_key(out, from, answer, i);
+        i += 1;
+    }
+    to
+}
+
+// The number of keys that a connection had, and behind it the first n keys of an answer: those, and then the parents'.
+pub fn put_departure(out: &mut [u8], answer: &[u8], own: u64, n: usize) -> usize
+    requires { ⌜ (answerRoom ≤ length (now out)) × (n ≤ mostKeys) × (keyBytes * n ≤ length (now answer)) ⌝ }
+    ensures { λ r. ⌜ Printed (now (out .entry)) (now (out .exit)) (joined (decimal own ∷ keyTexts (keysIn n (now (answer .entry))))) r ⌝ }
+{
+    let at = lines::write::put_decimal(out, 0, own);
+    put_behind(out, at, answer, n)
 }

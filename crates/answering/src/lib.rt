@@ -2,6 +2,8 @@
 //
 // The step on one line is `answers::answer_line`, whose contract says what a line does to the store and what it prints.
 pub mod answers;
+pub mod departures;
+pub mod hashes;
 pub mod keys;
 pub mod listings;
 pub mod parents;

@@ -12,7 +12,7 @@ use libc::STDOUT_FILENO;
 // The longest line that is read, and the longest answer with its line feed.
 pub const LINE: usize = 65_536;
 
-pub const OUT: usize = 8_192;
+pub const OUT: usize = 32_768;
 
 // What came of a line so far: how many bytes are kept, and whether there were more than the buffer holds.
 pub struct Kept {

@@ -4,14 +4,16 @@ ghost use Prim.Native.Nat.{_≤_, min};
 ghost use lib.ListN.{length};
 ghost use Rattle.ident.specs.Words.{hashNum};
 ghost use Rattle.regions.specs.Rows.{quadNumber};
-ghost use Rattle.reading.specs.Given.{mostHashes, storedBytes, HashPut, ListRead};
+ghost use Rattle.reading.specs.Given.{mostHashes, storedBytes, HashPut, ListRead, HashesGiven};
 use crate::fields::HashAt;
+use crate::fields::NumberAt;
 use crate::fields::hash_at;
+use crate::fields::number_at;
 
 // Hashes that are stored, one more than a call takes: with more it is refused, whichever they are.
 const HASHES: usize = 101;
 
-pub const HASH: usize = 32;
+const HASH: usize = 32;
 
 const STORED: usize = HASHES * HASH;
 
@@ -19,6 +21,12 @@ const STORED: usize = HASHES * HASH;
 pub enum ListAt {
     Not,
     Is(usize),
+}
+
+// The list of hashes of a line, or that it has none: the bytes that hold its first hashes.
+pub enum Hashes {
+    None,
+    Are(usize),
 }
 
 pub fn hash_buffer() -> [u8; STORED]
@@ -46,7 +54,7 @@ fn put_hash(hashes: &mut [u8], i: usize, q: regions::Quad)
 }
 
 // The n hashes whose fields stand behind the comma at index e.
-pub fn read_hashes(line: &[u8], e: usize, n: usize, hashes: &mut [u8]) -> ListAt
+fn read_hashes(line: &[u8], e: usize, n: usize, hashes: &mut [u8]) -> ListAt
     requires { ⌜ storedBytes ≤ length (now hashes) ⌝ }
     ensures { λ r. ⌜ ListRead (now (line .entry)) e n (now (hashes .exit)) r ⌝ }
 {
@@ -64,11 +72,29 @@ pub fn read_hashes(line: &[u8], e: usize, n: usize, hashes: &mut [u8]) -> ListAt
 }
 
 // How many of n hashes are stored.
-pub fn stored(n: usize) -> usize
+fn stored(n: usize) -> usize
     ensures { λ r. ⌜ r ≡ min n mostHashes ⌝ }
 {
     if n < HASHES {
         return n;
     }
     HASHES
+}
+
+// The list behind the comma at index e, the line's last fields.
+pub fn read_list(line: &[u8], e: usize, hashes: &mut [u8]) -> Hashes
+    requires { ⌜ storedBytes ≤ length (now hashes) ⌝ }
+    ensures { λ r. ⌜ HashesGiven (now (line .entry)) e (now (hashes .exit)) r ⌝ }
+{
+    let NumberAt::Is(count, to) = number_at(line, e) else {
+        return Hashes::None;
+    };
+    let n = count as usize;
+    let ListAt::Is(end) = read_hashes(line, to, n, hashes) else {
+        return Hashes::None;
+    };
+    if end < line.len() {
+        return Hashes::None;
+    }
+    Hashes::Are(stored(n) * HASH)
 }

@@ -2,10 +2,8 @@
 -- Assumes nothing.
 use mathlib.Core.Path.{refl}
 use native.Mathlib.Omega.{arith}
-use Rattle.reading.specs.Given.{valuesOf}
-use Rattle.answering.proofs.Printing.{carried, reply-refused, reply-keys}
-use Rattle.answering.proofs.LongLists.{listing-same}
-use Rattle.answering.proofs.KeyCounts.{few-of}
+use Rattle.answering.proofs.Printing.{carried, reply-refused, reply-keys, listing-same}
+use Rattle.answering.proofs.Fitting.{keys-fit}
 use borrow.Author.Needs.{needs}
 use Rattle.answering.proofs.listings.answer_keys.Statement.{statement}
 use Rattle.answering.proofs.listings.answer_keys.Tie as tie
@@ -32,7 +30,7 @@ slice-aggregate-put-keys : tie.Need-slice-aggregate-put-keys
 slice-aggregate-put-keys c = search needs
 
 put-keys-requires : tie.Need-put-keys-requires
-put-keys-requires c κs = let f = few-of (c .before .before .before .before .before .before .before .before .before .before .before .before .before .before .args .w) (valuesOf (c .before .before .before .before .before .before .before .before .before .before .before .before .before .before .args .v)) _ _ (c .before .before .before .before .before .before .before .before .carry-out .ensures) (listing-same _ (c .before .before .before .a2 .given .1)) in (omega arith, omega (arith, f), omega (arith, f, c .before .before .before .before .before .before .before .before .carry-out .kept))
+put-keys-requires c κs = let f = keys-fit (c .before .before .before .before .before .before .before .before .carry-out .ensures) _ _ (listing-same _ (c .before .before .before .a2 .given .1)) in (omega arith, omega (arith, f), omega (arith, f, c .before .before .before .before .before .before .before .before .carry-out .kept))
 
 same-length : tie.Need-same-length
 same-length c = search needs

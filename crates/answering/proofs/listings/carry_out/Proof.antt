@@ -6,7 +6,7 @@ use Rattle.ident.specs.Number.{Key}
 use Rattle.machine.specs.Call.{Buffer, Sweep, FailedWithParents, ReleasePackage}
 use Rattle.reading.specs.Calls.{keyIn}
 use Rattle.reading.specs.Given.{valuesOf}
-use Rattle.answering.proofs.KeyCounts.{listing-did}
+use Rattle.answering.proofs.Printing.{listing-did}
 use borrow.Author.Needs.{needs}
 use Rattle.answering.proofs.listings.carry_out.Statement.{statement}
 use Rattle.answering.proofs.listings.carry_out.Tie as tie
