@@ -28,7 +28,7 @@ use Rattle.machine.proofs.Table.{lawful-at}
 use Rattle.store.specs.Image.{SoundStore}
 use Rattle.store.specs.Read.{stateOf}
 use Rattle.store.proofs.Stored.{state-shown}
-use Rattle.tracker.specs.Outcome.{Effect, outcomeIf, Does}
+use Rattle.outcome.specs.Outcome.{Effect, outcomeIf, Does}
 use Rattle.reading.specs.declared.vocabulary.HashesWord.{HashesWord}
 use Rattle.reading.specs.declared.vocabulary.HashesWord.the-variants.{SolicitPackageInfo as SolicitWord, ClaimPackage as ClaimWord}
 use Rattle.reading.specs.declared.vocabulary.HashesWord.the-variants.{BeginPackageResolution as BeginWord, AnnounceParents as ParentsWord}

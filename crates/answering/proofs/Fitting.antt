@@ -15,7 +15,7 @@ use Rattle.machine.specs.Step.{Reply, Refused, Keys, Left, Result, answerBytes,
 use Rattle.machine.proofs.AnswerLengths.{length-keysAnswer}
 use Rattle.store.specs.Image.{stored}
 use Rattle.store.specs.Read.{stateOf}
-use Rattle.tracker.specs.Outcome.{Effect, outcomeIf, Does}
+use Rattle.outcome.specs.Outcome.{Effect, outcomeIf, Does}
 use Rattle.lists.specs.Lists.{keysIn}
 use Rattle.answering.proofs.KeyLists.{length-keys}
 

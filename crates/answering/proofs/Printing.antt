@@ -9,10 +9,10 @@ use lib.ListN.{length}
 use Rattle.ident.specs.Number.{Key}
 use Rattle.machine.specs.Call.{Buffer, Ask, Sum, Call, Open, On}
 use Rattle.machine.specs.Step.{Reply, Refused, Number, Keys, Left, Entries, Chosen, Summed}
-use Rattle.tracker.specs.declared.Listing.{Listing}
-use Rattle.tracker.specs.declared.Departure.{Departure}
-use Rattle.tracker.specs.Reply.{listingOf, departureOf}
-use Rattle.tracker.specs.Outcome.{Effect, Does, Leaves}
+use Rattle.outcome.specs.declared.Listing.{Listing}
+use Rattle.outcome.specs.declared.Departure.{Departure}
+use Rattle.outcome.specs.Reply.{listingOf, departureOf}
+use Rattle.outcome.specs.Outcome.{Effect, Does, Leaves}
 use Rattle.reading.specs.declared.vocabulary.NumberWord.{NumberWord}
 use Rattle.reading.specs.declared.vocabulary.KeysWord.{KeysWord}
 use Rattle.reading.specs.declared.vocabulary.HashesWord.{HashesWord}

@@ -13,10 +13,10 @@ pub fn answer_leaving(store: &mut [u8], out: &mut [u8], v: Values) -> usize
     ensures { λ r. ⌜ Carried (On (leaveAsk (valuesOf v))) (now (store .entry)) (now (store .exit)) (now (out .entry)) (now (out .exit)) r ⌝ }
 {
     let mut answer = crate::parents::answer_buffer();
-    let a = tracker::departures::disconnected(store, v.connection, v.clock, &mut answer);
+    let a = public_packages::departures::disconnected(store, v.connection, v.clock, &mut answer);
     match a {
-        tracker::Departure::Refused(n) => refusal(out, n),
-        tracker::Departure::Left(own, parents) => {
+        outcome::Departure::Refused(n) => refusal(out, n),
+        outcome::Departure::Left(own, parents) => {
             crate::keys::put_departure(out, &answer, own, (own + parents) as usize)
         }
     }

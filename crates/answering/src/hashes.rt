@@ -28,15 +28,15 @@ fn carry_out(store: &mut [u8], out: &mut [u8], w: HashesWord, v: Values, hashes:
     match w {
         HashesWord::SolicitPackageInfo => number(
             out,
-            tracker::package_calls::solicit_package_info(store, n, h, hashes, clock),
+            public_packages::package_info::solicit_package_info(store, n, h, hashes, clock),
         ),
         HashesWord::ClaimPackage => number(
             out,
-            tracker::package_calls::claim_package(store, n, h, combined, hashes, clock),
+            public_packages::package_calls::claim_package(store, n, h, combined, hashes, clock),
         ),
         HashesWord::BeginPackageResolution => number(
             out,
-            tracker::package_calls::begin_package_resolution(store, n, h, combined, hashes, clock),
+            public_packages::package_calls::begin_package_resolution(store, n, h, combined, hashes, clock),
         ),
         HashesWord::AnnounceParents => {
             crate::parents::announce_parents(store, out, n, hashes, clock)

@@ -14,15 +14,16 @@ use Rattle.machine.specs.State.{State, Candidate, Entry}
 use Rattle.machine.specs.Call.{Buffer, Announce, RequestParent, SolicitPackageInfo, ClaimPackage, BeginPackageResolution, AnnounceParents, Claim, Disconnected, Sweep, PollGate, Call, Open, On, Sum, refusal}
 use Rattle.machine.specs.Step.{Reply, Refused, Number, Keys, Left, Entries, Chosen, Summed, perform, carryOut, stepIf}
 use Rattle.store.specs.Read.{stateOf}
-use Rattle.tracker.specs.Outcome.{outcomeIf, Does, Leaves, LeavesWith}
-use Rattle.tracker.specs.Reply.{replyOf, figuresOf, listingOf, entriesOf, departureOf}
-use Rattle.tracker.specs.declared.Answer.{Answer}
-use Rattle.tracker.specs.declared.Figures.{Figures}
-use Rattle.tracker.specs.declared.Listing.{Listing}
-use Rattle.tracker.specs.declared.Departure.{Departure}
-use Rattle.tracker.specs.declared.Answer.the-variants.{Refused as No, Number as Yes}
-use Rattle.tracker.specs.declared.Listing.the-variants.{Refused as NoKeys, Listed}
-use Rattle.tracker.specs.declared.Departure.the-variants.{Refused as NotLeft, Left as LeftKeys}
+use Rattle.outcome.specs.Outcome.{outcomeIf, Does, Leaves, LeavesWith}
+use Rattle.outcome.specs.Reply.{replyOf, figuresOf, listingOf, departureOf}
+use Rattle.public_plans.specs.Entries.{entriesOf}
+use Rattle.outcome.specs.declared.Answer.{Answer}
+use Rattle.outcome.specs.declared.Figures.{Figures}
+use Rattle.outcome.specs.declared.Listing.{Listing}
+use Rattle.outcome.specs.declared.Departure.{Departure}
+use Rattle.outcome.specs.declared.Answer.the-variants.{Refused as No, Number as Yes}
+use Rattle.outcome.specs.declared.Listing.the-variants.{Refused as NoKeys, Listed}
+use Rattle.outcome.specs.declared.Departure.the-variants.{Refused as NotLeft, Left as LeftKeys}
 use Rattle.exports.specs.Status.{statusOf, handedOut, listingStatus, countOut, departureStatus, ownOut, parentsOut, numbered, figured, Stays, HandsOut, HandsKeys, HandsEntries, HandsDeparture}
 
 -- ---- a refusal's number is not 0

@@ -9,13 +9,13 @@ use Rattle.machine.specs.Call.{Buffer, Call, keyBytes}
 use Rattle.machine.specs.Step.{Reply, Refused, Number, Keys, Left, Entries, Summed}
 use Rattle.lists.specs.Lists.{keysIn}
 use Rattle.planning.specs.Claiming.{entriesFrom}
-use Rattle.tracker.specs.declared.Answer.{Answer}
-use Rattle.tracker.specs.declared.Answer.the-variants.{Refused as No, Number as Yes}
-use Rattle.tracker.specs.declared.Listing.{Listing}
-use Rattle.tracker.specs.declared.Listing.the-variants.{Refused as NoKeys, Listed}
-use Rattle.tracker.specs.declared.Departure.{Departure}
-use Rattle.tracker.specs.declared.Departure.the-variants.{Refused as NotLeft, Left as LeftKeys}
-use Rattle.tracker.specs.Outcome.{Leaves, LeavesWith}
+use Rattle.outcome.specs.declared.Answer.{Answer}
+use Rattle.outcome.specs.declared.Answer.the-variants.{Refused as No, Number as Yes}
+use Rattle.outcome.specs.declared.Listing.{Listing}
+use Rattle.outcome.specs.declared.Listing.the-variants.{Refused as NoKeys, Listed}
+use Rattle.outcome.specs.declared.Departure.{Departure}
+use Rattle.outcome.specs.declared.Departure.the-variants.{Refused as NotLeft, Left as LeftKeys}
+use Rattle.outcome.specs.Outcome.{Leaves, LeavesWith}
 
 -- the status of an answer
 abbrev pub statusOf : Answer → ℕ

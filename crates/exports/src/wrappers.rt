@@ -2,7 +2,7 @@
 use super::status;
 ghost use Rattle.machine.specs.Call.{On, AnnounceTransactions, TransactionResponseCompleted};
 ghost use Rattle.lists.specs.Items.{offersIn};
-ghost use Rattle.tracker.specs.Outcome.{Leaves};
+ghost use Rattle.outcome.specs.Outcome.{Leaves};
 ghost use Rattle.exports.specs.Arguments.{hashGiven};
 ghost use Rattle.exports.specs.Status.{numbered};
 
@@ -20,7 +20,7 @@ pub extern "C" fn tracker_announce_transactions(
 ) -> u64
     ensures { λ r. ⌜ Leaves (On (AnnounceTransactions connection clock preferred source (offersIn (now (items .entry)) (now (priorities .entry))))) (now (s .entry)) (now (s .exit)) (numbered r 1) ⌝ }
 {
-    let a = tracker::wrappers::announce_transactions(
+    let a = public_plans::wrappers::announce_transactions(
         s,
         connection,
         clock,
@@ -47,5 +47,5 @@ pub extern "C" fn tracker_transaction_response_completed(
     let h = ident::hash_from_bytes(wtxid);
     let x = ident::Txid(g);
     let w = ident::Wtxid(h);
-    status(tracker::wrappers::transaction_response_completed(s, connection, x, w, clock))
+    status(public_plans::wrappers::transaction_response_completed(s, connection, x, w, clock))
 }

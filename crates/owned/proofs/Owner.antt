@@ -6,13 +6,14 @@ use mathlib.Core.List.{List}
 use Rattle.machine.specs.Call.{Buffer, Call}
 use Rattle.store.specs.Image.{SoundStore}
 use Rattle.store.proofs.BytesBack.{Bytes}
-use Rattle.tracker.specs.declared.Answer.{Answer}
-use Rattle.tracker.specs.declared.Listing.{Listing}
-use Rattle.tracker.specs.declared.Departure.{Departure}
-use Rattle.tracker.specs.Outcome.{Leaves, LeavesWith}
-use Rattle.tracker.specs.Reply.{replyOf, listingOf, entriesOf, departureOf}
+use Rattle.outcome.specs.declared.Answer.{Answer}
+use Rattle.outcome.specs.declared.Listing.{Listing}
+use Rattle.outcome.specs.declared.Departure.{Departure}
+use Rattle.outcome.specs.Outcome.{Leaves, LeavesWith}
+use Rattle.outcome.specs.Reply.{replyOf, listingOf, departureOf}
+use Rattle.public_plans.specs.Entries.{entriesOf}
 use Rattle.tracker.proofs.Typed.{Made, made-typed}
-use Rattle.tracker.proofs.Owned.{does-keeps-sound}
+use Rattle.outcome.proofs.Owned.{does-keeps-sound}
 use Rattle.exports.specs.Status.{statusOf, handedOut, listingStatus, countOut, departureStatus, ownOut, parentsOut, numbered, HandsOut, HandsKeys, HandsEntries, HandsDeparture}
 use Rattle.exports.proofs.Statuses.{Replies, RepliesOne, hands-out, hands-keys, hands-entries, hands-departure, one-told}
 

@@ -2,7 +2,7 @@
 ghost use Rattle.machine.specs.Call.{On, AnnounceTransactions, TransactionResponseCompleted};
 ghost use Rattle.store.specs.Image.{SoundStore};
 ghost use Rattle.lists.specs.Items.{offersIn};
-ghost use Rattle.tracker.specs.Outcome.{Leaves};
+ghost use Rattle.outcome.specs.Outcome.{Leaves};
 ghost use Rattle.exports.specs.Arguments.{hashGiven};
 ghost use Rattle.exports.specs.Status.{numbered};
 
@@ -22,7 +22,7 @@ pub extern "C" fn tracker_owned_announce_transactions(
     ensures { λ r. ⌜ Leaves (On (AnnounceTransactions connection clock preferred source (offersIn (now (items .entry)) (now (priorities .entry))))) (now (s .entry)) (now (s .exit)) (numbered r 1) ⌝ }
     ensures sound { λ r. ⌜ SoundStore (now (s .exit)) ⌝ }
 {
-    let a = tracker::on_sound::wrappers::announce_transactions(
+    let a = public_plans::on_sound::wrappers::announce_transactions(
         s,
         connection,
         clock,
@@ -51,7 +51,7 @@ pub extern "C" fn tracker_owned_transaction_response_completed(
     let h = ident::hash_from_bytes(wtxid);
     let x = ident::Txid(g);
     let w = ident::Wtxid(h);
-    exports::status(tracker::on_sound::wrappers::transaction_response_completed(
+    exports::status(public_plans::on_sound::wrappers::transaction_response_completed(
         s,
         connection,
         x,

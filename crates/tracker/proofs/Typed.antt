@@ -5,19 +5,11 @@ use mathlib.Core.Path.{_≡_}
 use mathlib.Core.Bool.{Bool}
 use mathlib.Core.List.{List, [], _∷_}
 use lib.ListN.{length}
-use denote.Laws.{Is}
-use denote.Struct.Laws as LL
-use Rattle.ident.specs.declared.Item.{Item}
 use Rattle.ident.specs.declared.Key.{Key}
 use Rattle.ident.specs.Number.{top}
-use Rattle.ident.specs.Words.{hashNum, keyNum}
-use Rattle.ident.proofs.Item as I
-use Rattle.ident.proofs.Item.Laws as I′
-use Rattle.ident.proofs.Key as K
-use Rattle.ident.proofs.Key.Laws as K′
-use Rattle.ident.proofs.Words.{hash-four, hash-below}
+use Rattle.ident.specs.Words.{keyNum}
 use Rattle.machine.specs.Limits.{word}
-use Rattle.machine.specs.Typed.{Each, KeyTyped, CandidateTyped, CallTyped}
+use Rattle.machine.specs.Typed.{Each, CallTyped}
 use Rattle.machine.specs.Call.{Buffer, Announce, RequestParent, SolicitPackageInfo, ClaimPackage, BeginPackageResolution, AnnounceParents, Failed, FailedWithParents, ReleasePackage, Claim, Disconnected, Unclaim, Forget, ForgetKnown, FailedPackageInfo, PackageInfoOwner, AnnounceTransactions, TransactionResponseCompleted, Sweep, PollGate, Sum, Call, Open, On, openingRefusal}
 use Rattle.machine.specs.Step.{empty}
 use Rattle.store.specs.Image.{SoundStore}
@@ -29,32 +21,10 @@ use Rattle.lists.proofs.Inventory.{offers-fit}
 use Rattle.planning.specs.Claiming.{entriesIn}
 use Rattle.requests.specs.declared.Candidate.{Candidate}
 use Rattle.requests.specs.Changes.{candidateOf}
-use Rattle.requests.proofs.Candidate as C
-use Rattle.requests.proofs.Candidate.Laws as C′
-use Rattle.tracker.specs.Outcome.{Effect}
-use Rattle.tracker.proofs.Entered.{entries-whole, whole-typed}
+use Rattle.outcome.specs.Outcome.{Effect}
+use Rattle.outcome.proofs.Widths.{IsCandidate, candidate-typed, IsKey, key-typed}
+use Rattle.public_plans.proofs.Entered.{entries-whole, whole-typed}
 use Rattle.tracker.proofs.Demands.{Ran, Tracked, tracked, tracked-open}
-
--- ---- a value of the declared type `Candidate`
-
-abbrev pub IsCandidate : Candidate → Type 0
-IsCandidate c = Is C.the-row c (LL.vals C.the-type C′.the-laws c)
-
-item-below : (i : Item) → Is I.the-row i (LL.vals I.the-type I′.the-laws i) → hashNum (i .hash) < top
-item-below i g = hash-below (i .hash) (hash-four (i .hash) (LL.owed I.the-type I′.the-laws i _ g .1 .0))
-
-candidate-typed : (c : Candidate) → IsCandidate c → CandidateTyped (candidateOf c)
-candidate-typed c g =
-    let f = LL.owed C.the-type C′.the-laws c _ g in
-    record { connection = f .0 .1; hash = item-below (c .item) (f .1 .0); ready = f .1 .1 .0 .1; priority = f .1 .1 .1 .1 .0 .1 }
-
--- ---- and one of `Key`
-
-abbrev pub IsKey : Key → Type 0
-IsKey k = Is K.the-row k (LL.vals K.the-type K′.the-laws k)
-
-pub key-typed : (k : Key) → IsKey k → KeyTyped (keyNum k)
-key-typed k g = hash-below (k .hash) (hash-four (k .hash) (LL.owed K.the-type K′.the-laws k _ g .1 .0))
 
 -- ---- the calls that the code has, with arguments of its types
 

@@ -1,7 +1,7 @@
 -- `answering::answers::answer_sum` meets its contract.
 -- Assumes nothing.
 use mathlib.Core.Path.{refl, ap}
-use Rattle.tracker.specs.Reply.{figuresOf}
+use Rattle.outcome.specs.Reply.{figuresOf}
 use Rattle.answering.proofs.Printing.{carried, reply-refused, reply-figures}
 use borrow.Author.Needs.{needs}
 use Rattle.answering.proofs.answers.answer_sum.Statement.{statement}

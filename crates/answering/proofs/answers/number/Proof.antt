@@ -1,7 +1,7 @@
 -- `answering::answers::number` meets its contract.
 -- Assumes nothing.
 use mathlib.Core.Path.{ap}
-use Rattle.tracker.specs.Reply.{replyOf}
+use Rattle.outcome.specs.Reply.{replyOf}
 use Rattle.answering.proofs.Printing.{numbered-refused, numbered-is}
 use borrow.Author.Needs.{needs}
 use Rattle.answering.proofs.answers.number.Statement.{statement}

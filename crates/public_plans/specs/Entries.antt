@@ -1,0 +1,13 @@
+-- What an answer says that lists entries, in document 01's values.
+-- Assumes nothing.
+use Prim.Native.Nat.{ℕ}
+use Rattle.machine.specs.Call.{Buffer}
+use Rattle.machine.specs.Step.{Reply, Refused, Entries}
+use Rattle.planning.specs.Claiming.{entriesFrom}
+use Rattle.outcome.specs.declared.Listing.{Listing}
+use Rattle.outcome.specs.declared.Listing.the-variants.{Refused as NoEntries, Listed}
+
+-- the entries stand in the answer buffer
+abbrev pub entriesOf : Listing → Buffer → Reply
+entriesOf (NoEntries n) u = Refused n
+entriesOf (Listed n) u = Entries (entriesFrom u 0 n)
