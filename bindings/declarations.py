@@ -25,7 +25,7 @@ HANDED = {
     ("held", "free", "permille"): ("Figures", "Figures { held, free, permille }"),
 }
 # Slices that are lists of hashes.
-LISTS = ("parents", "wtxids")
+LISTS = ("parents", "wtxids", "combined")
 
 
 def filled(text, width, first="", rest=""):

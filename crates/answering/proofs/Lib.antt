@@ -3,4 +3,5 @@ pub mod KeyLists
 pub mod Behind
 pub mod Fitting
 pub mod FirstHashes
+pub mod Batch
 pub mod Unopened

@@ -13,7 +13,7 @@ ghost use Rattle.lines.specs.Text.{decimal};
 ghost use Rattle.reading.specs.Calls.{keyIn, candidateIn, numberAsk, callOf};
 ghost use Rattle.answering.specs.Replies.{refusalText, joined, unreadable};
 ghost use Rattle.reading.specs.Given.{valuesOf};
-ghost use Rattle.answering.specs.Given.{answerRoom, Printed, Numbered, Carried, Answered};
+ghost use Rattle.answering.specs.Given.{lineRoom, answerRoom, Printed, Numbered, Carried, Answered};
 use lines::write::put_bytes;
 use lines::write::put_decimal;
 use reading::calls::Asked;
@@ -118,18 +118,32 @@ fn carry_out(store: &mut [u8], w: NumberWord, v: Values) -> outcome::Answer
     let key = key_of(v);
     match w {
         NumberWord::Announce => public_requests::candidates::announce(store, candidate(v)),
-        NumberWord::RequestParent => public_requests::candidates::request_parent(store, candidate(v)),
+        NumberWord::RequestParent => public_requests::candidates::request_parent(
+            store,
+            candidate(v),
+        ),
         NumberWord::Failed => public_requests::failures::failed(store, key, v.connection, v.clock),
         NumberWord::Unclaim => public_requests::failures::unclaim(store, key, v.connection),
         NumberWord::Forget => public_requests::failures::forget(store, key),
-        NumberWord::ForgetKnown => public_packages::package_claims::forget_known(store, key, v.clock),
+        NumberWord::ForgetKnown => public_packages::package_claims::forget_known(
+            store,
+            key,
+            v.clock,
+        ),
+        NumberWord::Teardown => {
+            public_packages::package_claims::teardown_package_claims(store, v.clock)
+        }
         NumberWord::FailedPackageInfo => public_packages::package_info::failed_package_info(
             store,
             key,
             v.connection,
             v.clock,
         ),
-        NumberWord::PackageInfoOwner => public_packages::package_info::package_info_owner(store, key, v.clock),
+        NumberWord::PackageInfoOwner => public_packages::package_info::package_info_owner(
+            store,
+            key,
+            v.clock,
+        ),
         NumberWord::ResponseCompleted => response_completed(store, v),
         NumberWord::PollGate => public_requests::sweeps::poll_gate(store, v.clock),
     }
@@ -145,7 +159,7 @@ fn answer_number(store: &mut [u8], out: &mut [u8], w: NumberWord, v: Values) -> 
 
 // The step on one line.
 pub fn answer_line(store: &mut [u8], line: &[u8], out: &mut [u8]) -> usize
-    requires { ⌜ answerRoom ≤ length (now out) ⌝ }
+    requires { ⌜ (answerRoom ≤ length (now out)) × (length (now line) ≤ lineRoom) ⌝ }
     ensures { λ r. ⌜ Answered (callOf (now (line .entry))) (now (store .entry)) (now (store .exit)) (now (out .entry)) (now (out .exit)) r ⌝ }
 {
     let asked = reading::calls::call_of(line);
@@ -154,6 +168,7 @@ pub fn answer_line(store: &mut [u8], line: &[u8], out: &mut [u8]) -> usize
         Asked::Opening(l, q) => answer_open(store, out, l, q),
         Asked::Summing => answer_sum(store, out),
         Asked::Leaving(v) => crate::departures::answer_leaving(store, out, v),
+        Asked::Offers(v, e) => crate::offers::answer_offers(store, line, out, v, e),
         Asked::Number(w, v) => answer_number(store, out, w, v),
         Asked::Keys(w, v) => crate::listings::answer_keys(store, out, w, v),
         Asked::Hashes(w, v, e) => crate::hashes::answer_hashes(store, line, out, w, v, e),

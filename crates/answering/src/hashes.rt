@@ -36,7 +36,14 @@ fn carry_out(store: &mut [u8], out: &mut [u8], w: HashesWord, v: Values, hashes:
         ),
         HashesWord::BeginPackageResolution => number(
             out,
-            public_packages::package_calls::begin_package_resolution(store, n, h, combined, hashes, clock),
+            public_packages::package_calls::begin_package_resolution(
+                store,
+                n,
+                h,
+                combined,
+                hashes,
+                clock,
+            ),
         ),
         HashesWord::AnnounceParents => {
             crate::parents::announce_parents(store, out, n, hashes, clock)

@@ -6,4 +6,5 @@ pub mod departures;
 pub mod hashes;
 pub mod keys;
 pub mod listings;
+pub mod offers;
 pub mod parents;

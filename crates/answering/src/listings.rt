@@ -23,10 +23,22 @@ fn carry_out(store: &mut [u8], w: KeysWord, v: Values, answer: &mut [u8]) -> out
     match w {
         KeysWord::Sweep => public_requests::sweeps::sweep(store, answer),
         KeysWord::FailedWithParents => {
-            public_requests::failures::failed_with_parents(store, key, v.connection, v.clock, answer)
+            public_requests::failures::failed_with_parents(
+                store,
+                key,
+                v.connection,
+                v.clock,
+                answer,
+            )
         }
         KeysWord::ReleasePackage => {
-            public_packages::package_calls::release_package(store, v.connection, hash, v.clock, answer)
+            public_packages::package_calls::release_package(
+                store,
+                v.connection,
+                hash,
+                v.clock,
+                answer,
+            )
         }
     }
 }

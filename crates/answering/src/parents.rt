@@ -28,7 +28,13 @@ pub fn announce_parents(
     ensures { λ r. ⌜ Carried (On (AnnounceParents connection (hashesIn (now (parents .entry))) clock answerBuffer)) (now (store .entry)) (now (store .exit)) (now (out .entry)) (now (out .exit)) r ⌝ }
 {
     let mut answer = answer_buffer();
-    let a = public_requests::candidates::announce_parents(store, connection, parents, clock, &mut answer);
+    let a = public_requests::candidates::announce_parents(
+        store,
+        connection,
+        parents,
+        clock,
+        &mut answer,
+    );
     match a {
         outcome::Listing::Refused(n) => refusal(out, n),
         outcome::Listing::Listed(n) => crate::keys::put_keys(out, &answer, n as usize),

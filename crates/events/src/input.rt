@@ -27,7 +27,7 @@ struct Read {
 
 // The text of a line's answer: of no call, if the line is too long.
 fn print(store: &mut [u8], line: &[u8], long: bool, out: &mut [u8]) -> usize
-    requires { ⌜ answerRoom ≤ length (now out) ⌝ }
+    requires { ⌜ (answerRoom ≤ length (now out)) × (length (now line) ≤ lineRoom) ⌝ }
     ensures { λ r. ⌜ Answered (if long then none else callOf (now (line .entry))) (now (store .entry)) (now (store .exit)) (now (out .entry)) (now (out .exit)) r ⌝ }
 {
     if long {
@@ -39,7 +39,7 @@ fn print(store: &mut [u8], line: &[u8], long: bool, out: &mut [u8]) -> usize
 // Answers one line: the text with its line feed stands at the front of `out`, and so many bytes are written. Nothing is left to do where standard
 // output takes no more.
 fn answer(store: &mut [u8], line: &[u8], long: bool, out: &mut [u8]) -> usize
-    requires { ⌜ answerRoom ≤ length (now out) ⌝ }
+    requires { ⌜ (answerRoom ≤ length (now out)) × (length (now line) ≤ lineRoom) ⌝ }
     ensures { λ r. ⌜ Said (if long then none else callOf (now (line .entry))) (now (store .entry)) (now (store .exit)) (now (out .exit)) r ⌝ }
 {
     let n = print(store, line, long, out);

@@ -63,7 +63,14 @@ pub extern "C" fn tracker_begin_package_resolution(
 {
     let h = ident::hash_from_bytes(hash);
     let d = ident::hash_from_bytes(combined);
-    let a = public_packages::package_calls::begin_package_resolution(s, connection, h, d, wtxids, clock);
+    let a = public_packages::package_calls::begin_package_resolution(
+        s,
+        connection,
+        h,
+        d,
+        wtxids,
+        clock,
+    );
     hand_out(a, reply)
 }
 

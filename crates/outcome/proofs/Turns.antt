@@ -131,6 +131,15 @@ clock-buffer t long needs = refl
 pub clock-sized : (t long needs : ℕ) → firstOf (inTurn [] (t ∷ []) 0 0 0) (inTurn [] [] 0 long needs) ≡ inTurn [] (t ∷ []) 0 long needs
 clock-sized t long needs = (λ i. firstOf (sym (clock-only t) i) (sym (buffer-only long needs) i)) ∙ clock-buffer t long needs
 
+-- connections and a buffer
+pub connections-zero : (ns : List ℕ) (long needs : ℕ) → true ≡ elem 0 ns → 4 ≡ inTurn ns [] 0 long needs
+unfolding ofConnections
+connections-zero ns long needs e = rw (← e)
+
+pub connections-sized : (ns : List ℕ) (long needs : ℕ) → false ≡ elem 0 ns → inTurn [] [] 0 long needs ≡ inTurn ns [] 0 long needs
+unfolding ofConnections elem
+connections-sized ns long needs e = rw (← e)
+
 -- a call that names nothing
 pub nothing-named : 0 ≡ inTurn [] [] 0 0 0
 unfolding ofConnections ofClocks ofParents ofBuffer elem anyLate
@@ -143,6 +152,10 @@ first-left (suc a) b e = e
 pub first-right : (a b : ℕ) → firstOf a b ≡ 0 → b ≡ 0
 first-right zero b e = e
 first-right (suc a) b e = absurd (omega arith)
+
+-- the need is said in other words
+pub sized : (ns ts : List ℕ) (parents long : ℕ) {needs needs′ r : ℕ} → r ≡ inTurn ns ts parents long needs → needs ≡ needs′ → r ≡ inTurn ns ts parents long needs′
+sized ns ts parents long q e = q ∙ ap (inTurn ns ts parents long) e
 
 -- what a call may rely on that passed them
 pub record Passed (ns ts : List ℕ) (parents long needs : ℕ) : Type 0 where

@@ -23,12 +23,18 @@ abbrev pub figuresOf : Figures → Reply
 figuresOf (NoFigures n) = Refused n
 figuresOf (Are held free permille) = Summed (record { held = held; free = free; permille = permille })
 
--- the keys stand in the answer buffer
+-- n keys stand in the answer buffer
+abbrev pub keysListed : ℕ → Buffer → Reply
+keysListed n u = Keys (keysIn n u)
+
 abbrev pub listingOf : Listing → Buffer → Reply
 listingOf (NoKeys n) u = Refused n
-listingOf (Listed n) u = Keys (keysIn n u)
+listingOf (Listed n) u = keysListed n u
 
 -- those of its own stand first, the parents' behind them
+abbrev pub leftListed : ℕ → ℕ → Buffer → Reply
+leftListed own parents u = Left (keysIn own u) (keysIn parents (drop (keyBytes * own) u))
+
 abbrev pub departureOf : Departure → Buffer → Reply
 departureOf (NotLeft n) u = Refused n
-departureOf (LeftKeys own parents) u = Left (keysIn own u) (keysIn parents (drop (keyBytes * own) u))
+departureOf (LeftKeys own parents) u = leftListed own parents u

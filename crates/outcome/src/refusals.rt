@@ -4,7 +4,9 @@
 // that names nothing else: a call makes one of them, and one law (proofs/Carried, `refused`) stands for all calls.
 use super::need;
 ghost use mathlib.Core.Path.{_≡_};
-ghost use mathlib.Core.List.{[], _∷_};
+ghost use mathlib.Core.List.{List, [], _∷_};
+ghost use Prim.Native.Nat.{ℕ};
+ghost use Rattle.machine.specs.Claim.{elem};
 ghost use Rattle.store.specs.Image.{SoundStore};
 ghost use Rattle.outcome.specs.Tests.{firstOf, ofParents, inTurn};
 ghost use Rattle.outcome.specs.Lent.{Lent};
@@ -29,6 +31,9 @@ pub const NO_PLACE: u64 = 8;
 const LATEST_CLOCK: u64 = 18_446_744_073_709_491_615;
 
 const MAX_PARENTS: usize = 100;
+
+// Bytes of a key in an answer.
+pub const KEY_BYTES: usize = 40;
 
 // Bytes that the answer of a call needs that lists keys, but those whose need is named: 101 keys of 40 bytes.
 pub const KEYS_ANSWER: usize = 4_040;
@@ -78,6 +83,16 @@ pub fn of_clock_and_buffer(clock: u64, length: usize, needs: usize) -> u64
     ensures { λ r. ⌜ r ≡ inTurn [] (clock ∷ []) 0 length needs ⌝ }
 {
     first(of_clock(clock), of_buffer(length, needs))
+}
+
+// Of a call that names connections, one of them 0 if `zero` says so, and has an answer buffer.
+pub fn of_connections_and_buffer(zero: bool, length: usize, needs: usize) -> u64
+    ensures { λ r. ⌜ ((ns : List ℕ) → zero ≡ elem 0 ns → r ≡ inTurn ns [] 0 length needs) ⌝ }
+{
+    if zero {
+        return NO_CONNECTION;
+    }
+    of_buffer(length, needs)
 }
 
 // Tests 4 to 7 of a call that has all that they look at.

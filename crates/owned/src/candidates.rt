@@ -64,6 +64,12 @@ pub extern "C" fn tracker_owned_announce_parents(
         (now (s .entry)) (now (s .exit)) (now (answer .exit)) r (now (count .entry)) (now (count .exit)) ⌝ }
     ensures sound { λ r. ⌜ SoundStore (now (s .exit)) ⌝ }
 {
-    let l = public_requests::on_sound::candidates::announce_parents(s, connection, parents, clock, answer);
+    let l = public_requests::on_sound::candidates::announce_parents(
+        s,
+        connection,
+        parents,
+        clock,
+        answer,
+    );
     exports::hand_count(l, count)
 }

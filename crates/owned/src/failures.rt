@@ -42,7 +42,13 @@ pub extern "C" fn tracker_owned_failed_with_parents(
     ensures sound { λ r. ⌜ SoundStore (now (s .exit)) ⌝ }
 {
     let k = exports::failures::key_given(kind, hash);
-    let l = public_requests::on_sound::failures::failed_with_parents(s, k, connection, clock, answer);
+    let l = public_requests::on_sound::failures::failed_with_parents(
+        s,
+        k,
+        connection,
+        clock,
+        answer,
+    );
     exports::hand_count(l, count)
 }
 

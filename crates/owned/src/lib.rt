@@ -8,10 +8,12 @@ ghost use Rattle.store.specs.Image.{SoundStore};
 ghost use Rattle.outcome.specs.Outcome.{Leaves};
 ghost use Rattle.exports.specs.Status.{figured, Stays};
 
+pub mod arrangements;
 pub mod candidates;
 pub mod departures;
 pub mod failures;
 pub mod package_calls;
+pub mod package_claims;
 pub mod plans;
 pub mod sweeps;
 pub mod wrappers;

@@ -51,7 +51,14 @@ pub extern "C" fn tracker_owned_claim_package(
 {
     let h = ident::hash_from_bytes(hash);
     let d = ident::hash_from_bytes(combined);
-    let a = public_packages::on_sound::package_calls::claim_package(s, connection, h, d, wtxids, clock);
+    let a = public_packages::on_sound::package_calls::claim_package(
+        s,
+        connection,
+        h,
+        d,
+        wtxids,
+        clock,
+    );
     exports::hand_out(a, reply)
 }
 
@@ -102,6 +109,12 @@ pub extern "C" fn tracker_owned_release_package(
     ensures sound { λ r. ⌜ SoundStore (now (s .exit)) ⌝ }
 {
     let h = ident::hash_from_bytes(hash);
-    let l = public_packages::on_sound::package_calls::release_package(s, connection, h, clock, answer);
+    let l = public_packages::on_sound::package_calls::release_package(
+        s,
+        connection,
+        h,
+        clock,
+        answer,
+    );
     exports::hand_count(l, count)
 }

@@ -1,6 +1,6 @@
 // The public call of a connection that leaves: disconnected (document 01, "The request machine").
-use outcome::Departure;
 use super::on_sound;
+use outcome::Departure;
 use outcome::refusals;
 ghost use Rattle.machine.specs.Call.{On, Disconnected};
 ghost use Rattle.outcome.specs.Outcome.{LeavesWith};

@@ -149,7 +149,7 @@ module _ (b : List ℕ) (p : Bytes b) where
       let l : length (take n (drop i b)) ≡ n = length-take-le n (drop i b) (simp length-drop (omega arith)) in
       rw l at (number-below 256 (take n (drop i b)) (λ k g. bytes-take n (drop i b) (bytes-drop i b p) k))
 
-  word-small : (j : ℕ) → 8 * j + 8 ≤ length b → getD (words b) j 0 < word
+  pub word-small : (j : ℕ) → 8 * j + 8 ≤ length b → getD (words b) j 0 < word
   word-small j h = rw (word-at b j h) (part-below 8 (8 * j) h)
 
   hash-small : (j : ℕ) → j * 8 + 32 ≤ length b → hashFrom b j < top

@@ -1,3 +1,4 @@
 pub mod Entered
 pub mod Taken
 pub mod Instances
+pub mod Sent

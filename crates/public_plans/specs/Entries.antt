@@ -7,7 +7,10 @@ use Rattle.planning.specs.Claiming.{entriesFrom}
 use Rattle.outcome.specs.declared.Listing.{Listing}
 use Rattle.outcome.specs.declared.Listing.the-variants.{Refused as NoEntries, Listed}
 
--- the entries stand in the answer buffer
+-- n entries stand in the answer buffer
+abbrev pub entriesListed : ℕ → Buffer → Reply
+entriesListed n u = Entries (entriesFrom u 0 n)
+
 abbrev pub entriesOf : Listing → Buffer → Reply
 entriesOf (NoEntries n) u = Refused n
-entriesOf (Listed n) u = Entries (entriesFrom u 0 n)
+entriesOf (Listed n) u = entriesListed n u

@@ -1,6 +1,6 @@
 // The public call of a checked list: claim (document 01, "The request machine").
-use outcome::Listing;
 use super::on_sound;
+use outcome::Listing;
 use outcome::refusals;
 ghost use Rattle.machine.specs.Call.{On, Claim};
 ghost use Rattle.planning.specs.Claiming.{entriesIn};

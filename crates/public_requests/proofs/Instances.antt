@@ -25,7 +25,8 @@ pub requests-parent : (c : Candidate) → YesNo (RequestParent c) (c .connection
 unfolding named takesPlace perform
 requests-parent c = record { names = record { are = λ s. refl; placeless = λ s. refl }; performs = λ s. refl }
 
-pub announces-parents : (n : ℕ) (hs : List ℕ) (clock : ℕ) (u : Buffer) → Lists (AnnounceParents n hs clock u) (n ∷ []) (clock ∷ []) (length hs) u (λ s. maxParents + 1) (λ m t. announceParents m n clock hs t)
+pub announces-parents : (n : ℕ) (hs : List ℕ) (clock : ℕ) (u : Buffer) → Lists (AnnounceParents n hs clock u) (n ∷ []) (clock ∷ []) (length hs) u (λ s. maxParents + 1)
+    (λ m t. announceParents m n clock hs t)
 unfolding named takesPlace perform
 announces-parents n hs clock u = record { names = record { are = λ s. refl; placeless = λ s. refl }; performs = λ s. refl }
 

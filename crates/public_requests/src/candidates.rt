@@ -1,7 +1,7 @@
 // The public calls that bring candidates: announce, request_parent and announce_parents (document 01, "The request machine").
+use super::on_sound;
 use outcome::Answer;
 use outcome::Listing;
-use super::on_sound;
 use outcome::refusals;
 ghost use Rattle.machine.specs.Call.{On, Announce, RequestParent, AnnounceParents};
 ghost use Rattle.lists.specs.Lists.{hashesIn};

@@ -2,8 +2,8 @@
 //
 // Each makes the tests 4 to 8 and carries the call out. The public calls are these behind the sound test: their contract is the same, and asks nothing of the
 // store. What they leave of a sound store is sound (crates/outcome/proofs/Owned, `does-keeps-sound`), so that an owner never tests again.
-use outcome::Figures;
 use crate::figures_of;
+use outcome::Figures;
 ghost use Rattle.machine.specs.Call.{On, Sum};
 ghost use Rattle.store.specs.Image.{SoundStore};
 ghost use Rattle.outcome.specs.Outcome.{Leaves};

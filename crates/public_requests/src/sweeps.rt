@@ -1,7 +1,7 @@
 // The public calls of the known cursor and of the poll time: sweep and the poll gate (document 01, module 6).
+use super::on_sound;
 use outcome::Answer;
 use outcome::Listing;
-use super::on_sound;
 use outcome::refusals;
 ghost use Rattle.machine.specs.Call.{On, Sweep, PollGate};
 ghost use Rattle.outcome.specs.Outcome.{Leaves, LeavesWith};

@@ -38,7 +38,7 @@ record-put i b x h l =
     recs-add hashBytes (number 256) i 1 (f ++ (x ++ y))
     ∙ rw (recs-front hashBytes (number 256) i f (x ++ y) (omega arith), recs-take hashBytes (number 256) i b (omega arith), drop-at f (x ++ y) (hashBytes * i) m, take-at x y hashBytes l)
 
-quad-below : (q : Quad) → q .w0 < 2 ^ 64 → q .w1 < 2 ^ 64 → q .w2 < 2 ^ 64 → q .w3 < 2 ^ 64 → quadNumber q < top
+pub quad-below : (q : Quad) → q .w0 < 2 ^ 64 → q .w1 < 2 ^ 64 → q .w2 < 2 ^ 64 → q .w3 < 2 ^ 64 → quadNumber q < top
 unfolding quadNumber top
 quad-below q h₀ h₁ h₂ h₃ = number-below (2 ^ 64) (quadWords q) (λ i _. fits i)
   where

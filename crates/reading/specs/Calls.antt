@@ -13,16 +13,17 @@ use Rattle.ident.specs.declared.ItemKind.{ItemKind}
 use Rattle.ident.specs.declared.ItemKind.the-variants.{Transaction}
 use Rattle.ident.specs.Number.{Key, Item}
 use Rattle.machine.specs.State.{Candidate}
+use Rattle.machine.specs.Wrapper.{Offer}
 use Rattle.machine.specs.Call.{Buffer, Call, Open, On}
-use Rattle.machine.specs.Call.{Ask, Announce, RequestParent, Failed, Unclaim, Forget, ForgetKnown, FailedPackageInfo, PackageInfoOwner, TransactionResponseCompleted, PollGate, Sum}
-use Rattle.machine.specs.Call.{Sweep, FailedWithParents, ReleasePackage, Disconnected, SolicitPackageInfo, ClaimPackage, BeginPackageResolution, AnnounceParents}
+use Rattle.machine.specs.Call.{Ask, Announce, RequestParent, Failed, Unclaim, Forget, ForgetKnown, TeardownPackageClaims, FailedPackageInfo, PackageInfoOwner, TransactionResponseCompleted, PollGate, Sum}
+use Rattle.machine.specs.Call.{Sweep, FailedWithParents, ReleasePackage, Disconnected, AnnounceTransactions, SolicitPackageInfo, ClaimPackage, BeginPackageResolution, AnnounceParents}
 use Rattle.lines.specs.Fields.{numberOf, boolOf, hashOf, keyOf, itemOf, sameText, fields}
 use Rattle.reading.specs.declared.vocabulary.Word.{Word}
-use Rattle.reading.specs.declared.vocabulary.Word.the-variants.{None as NoWord, Open as OpenWord, Sum as SumWord, Leave as LeaveWord}
+use Rattle.reading.specs.declared.vocabulary.Word.the-variants.{None as NoWord, Open as OpenWord, Sum as SumWord, Leave as LeaveWord, Inventory as InventoryWord}
 use Rattle.reading.specs.declared.vocabulary.Word.the-variants.{Number as NumberOf, Keys as KeysOf, Hashes as HashesOf}
 use Rattle.reading.specs.declared.vocabulary.NumberWord.{NumberWord}
 use Rattle.reading.specs.declared.vocabulary.NumberWord.the-variants.{Announce as AnnounceWord, RequestParent as ParentWord, Failed as FailedWord}
-use Rattle.reading.specs.declared.vocabulary.NumberWord.the-variants.{Unclaim as UnclaimWord, Forget as ForgetWord, ForgetKnown as KnownWord}
+use Rattle.reading.specs.declared.vocabulary.NumberWord.the-variants.{Unclaim as UnclaimWord, Forget as ForgetWord, ForgetKnown as KnownWord, Teardown as TearWord}
 use Rattle.reading.specs.declared.vocabulary.NumberWord.the-variants.{FailedPackageInfo as InfoWord, PackageInfoOwner as OwnerWord}
 use Rattle.reading.specs.declared.vocabulary.NumberWord.the-variants.{ResponseCompleted as DoneWord, PollGate as PollWord}
 use Rattle.reading.specs.declared.vocabulary.KeysWord.{KeysWord}
@@ -230,6 +231,7 @@ numberForm FailedWord = keyField ∷ connectionField ∷ nowField ∷ []
 numberForm UnclaimWord = keyField ∷ connectionField ∷ []
 numberForm ForgetWord = keyField ∷ []
 numberForm KnownWord = keyField ∷ nowField ∷ []
+numberForm TearWord = nowField ∷ []
 numberForm InfoWord = keyField ∷ connectionField ∷ nowField ∷ []
 numberForm OwnerWord = keyField ∷ nowField ∷ []
 numberForm DoneWord = connectionField ∷ hashField ∷ combinedField ∷ nowField ∷ []
@@ -242,6 +244,7 @@ numberAsk FailedWord v = Failed (keyIn v) (v .connection) (v .now)
 numberAsk UnclaimWord v = Unclaim (keyIn v) (v .connection)
 numberAsk ForgetWord v = Forget (keyIn v)
 numberAsk KnownWord v = ForgetKnown (keyIn v) (v .now)
+numberAsk TearWord v = TeardownPackageClaims (v .now)
 numberAsk InfoWord v = FailedPackageInfo (keyIn v) (v .connection) (v .now)
 numberAsk OwnerWord v = PackageInfoOwner (keyIn v) (v .now)
 numberAsk DoneWord v = TransactionResponseCompleted (v .connection) (v .hash) (v .combined) (v .now)
@@ -273,6 +276,27 @@ leaveAsk v = Disconnected (v .connection) (v .now) answerBuffer
 
 unfoldable pub leaveCall : List (List ℕ) → Option Call
 leaveCall fs = formThen leaveForm blank (λ v. ending (some (On (leaveAsk v)))) fs
+
+-- "inv: connection, now, preferred, wtxid source exists, list of (item, priority)"
+abbrev pub inventoryForm : List ℕ
+inventoryForm = connectionField ∷ nowField ∷ preferredField ∷ sourceField ∷ []
+
+abbrev pub inventoryAsk : Values → List Offer → Ask
+inventoryAsk v os = AnnounceTransactions (v .connection) (v .now) (v .preferred) (v .source) os
+
+abbrev pub offerOf : Item → ℕ → Offer
+offerOf i p = record { item = i; priority = p }
+
+-- n offers more behind those of os
+unfoldable pub offersThen : ℕ → List Offer → (List Offer → List (List ℕ) → Option Call) → List (List ℕ) → Option Call
+offersThen zero os k fs = k os fs
+offersThen (suc n) os k fs = taking itemOf (λ i. taking numberOf (λ p. offersThen n (os ++ (offerOf i p ∷ [])) k)) fs
+
+unfoldable pub offersCall : (List Offer → Ask) → List (List ℕ) → Option Call
+offersCall ask fs = taking numberOf (λ count. offersThen count [] (λ os. ending (some (On (ask os))))) fs
+
+unfoldable pub inventoryCall : List (List ℕ) → Option Call
+inventoryCall fs = formThen inventoryForm blank (λ v. offersCall (inventoryAsk v)) fs
 
 -- those of the words with a list of hashes behind them
 abbrev pub hashesForm : HashesWord → List ℕ
@@ -317,7 +341,7 @@ hashesWord f =
     else if sameText f kinText then HashesOf ParentsWord
     else NoWord
 
--- `swp`, `fail`, `rel`, `gone`
+-- `swp`, `fail`, `rel`, `gone`, `inv`
 abbrev pub swpText : List ℕ
 swpText = 115 ∷ 119 ∷ 112 ∷ []
 
@@ -330,17 +354,24 @@ relText = 114 ∷ 101 ∷ 108 ∷ []
 abbrev pub goneText : List ℕ
 goneText = 103 ∷ 111 ∷ 110 ∷ 101 ∷ []
 
+abbrev pub invText : List ℕ
+invText = 105 ∷ 110 ∷ 118 ∷ []
+
 unfoldable pub keysWord : List ℕ → Word
 keysWord f =
     if sameText f swpText then KeysOf SweepWord
     else if sameText f failText then KeysOf FailWord
     else if sameText f relText then KeysOf ReleaseWord
     else if sameText f goneText then LeaveWord
+    else if sameText f invText then InventoryWord
     else hashesWord f
 
--- `known`, `info`, `who`, `done`, `poll`
+-- `known`, `tear`, `info`, `who`, `done`, `poll`
 abbrev pub knownText : List ℕ
 knownText = 107 ∷ 110 ∷ 111 ∷ 119 ∷ 110 ∷ []
+
+abbrev pub tearText : List ℕ
+tearText = 116 ∷ 101 ∷ 97 ∷ 114 ∷ []
 
 abbrev pub infoText : List ℕ
 infoText = 105 ∷ 110 ∷ 102 ∷ 111 ∷ []
@@ -357,6 +388,7 @@ pollText = 112 ∷ 111 ∷ 108 ∷ 108 ∷ []
 unfoldable pub packageWord : List ℕ → Word
 packageWord f =
     if sameText f knownText then NumberOf KnownWord
+    else if sameText f tearText then NumberOf TearWord
     else if sameText f infoText then NumberOf InfoWord
     else if sameText f whoText then NumberOf OwnerWord
     else if sameText f doneText then NumberOf DoneWord
@@ -406,6 +438,7 @@ callWith NoWord fs = none
 callWith OpenWord fs = openOf fs
 callWith SumWord fs = ending (some (On Sum)) fs
 callWith LeaveWord fs = leaveCall fs
+callWith InventoryWord fs = inventoryCall fs
 callWith (NumberOf w) fs = numberCall w fs
 callWith (KeysOf w) fs = keysCall w fs
 callWith (HashesOf w) fs = hashesCall w fs

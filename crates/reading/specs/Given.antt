@@ -16,7 +16,7 @@ use Rattle.machine.specs.Call.{Ask, Sum, Call, Open, On}
 use Rattle.lists.specs.Lists.{hashesIn}
 use Rattle.lines.specs.Fields.{rest}
 use Rattle.reading.specs.declared.calls.Asked.{Asked}
-use Rattle.reading.specs.declared.calls.Asked.the-variants.{Unreadable, Opening, Summing, Leaving, Number, Keys as KeysAsked, Hashes as HashesAsked}
+use Rattle.reading.specs.declared.calls.Asked.the-variants.{Unreadable, Opening, Summing, Leaving, Offers, Number, Keys as KeysAsked, Hashes as HashesAsked}
 use Rattle.reading.specs.declared.fields.NumberAt.{NumberAt}
 use Rattle.reading.specs.declared.fields.NumberAt.the-variants.{Not as NoNumber, Is as IsNumber}
 use Rattle.reading.specs.declared.fields.BoolAt.{BoolAt}
@@ -34,7 +34,7 @@ use Rattle.reading.specs.declared.hashes.ListAt.{ListAt}
 use Rattle.reading.specs.declared.hashes.ListAt.the-variants.{Not as NoList, Is as IsList}
 use Rattle.reading.specs.declared.hashes.Hashes.{Hashes}
 use Rattle.reading.specs.declared.hashes.Hashes.the-variants.{None as NoHashes, Are as AreHashes}
-use Rattle.reading.specs.Calls.{taking, hashesThen, Values, blank, Then, plainThen, fieldThen, formThen, numberAsk, keysAsk, leaveAsk, hashesAsk, listCall}
+use Rattle.reading.specs.Calls.{taking, hashesThen, Values, blank, Then, plainThen, fieldThen, formThen, numberAsk, keysAsk, leaveAsk, inventoryAsk, offersCall, hashesAsk, listCall}
 
 -- ---- fields
 
@@ -159,6 +159,7 @@ askedCall l Unreadable = none
 askedCall l (Opening L Q) = some (Open L Q)
 askedCall l Summing = some (On Sum)
 askedCall l (Leaving v) = some (On (leaveAsk (valuesOf v)))
+askedCall l (Offers v e) = offersCall (inventoryAsk (valuesOf v)) (rest l (e + 1))
 askedCall l (Number w v) = some (On (numberAsk w (valuesOf v)))
 askedCall l (KeysAsked w v) = some (On (keysAsk w (valuesOf v)))
 askedCall l (HashesAsked w v e) = listCall (hashesAsk w (valuesOf v)) (rest l (e + 1))

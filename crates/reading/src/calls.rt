@@ -4,7 +4,7 @@ ghost use mathlib.Core.Option.{some};
 ghost use Prim.Native.Nat.{_+_};
 ghost use Rattle.lines.specs.Fields.{rest};
 ghost use Rattle.machine.specs.Call.{On, Sum};
-ghost use Rattle.reading.specs.Calls.{openOf, ending, numberForm, numberCall, keysForm, keysCall, leaveForm, leaveCall, hashesForm, hashesCall, callWith, callOf};
+ghost use Rattle.reading.specs.Calls.{openOf, ending, numberForm, numberCall, keysForm, keysCall, leaveCall, inventoryCall, hashesForm, hashesCall, callWith, callOf};
 ghost use Rattle.reading.specs.Given.{FormRead, askedCall};
 use crate::fields::NumberAt;
 use crate::fields::number_at;
@@ -16,12 +16,13 @@ use crate::vocabulary::KeysWord;
 use crate::vocabulary::NumberWord;
 use crate::vocabulary::Word;
 
-// What a line asks for. A list of hashes stands behind the comma at an index: it is read where its call is carried out.
+// What a line asks for. A list stands behind the comma at an index: it is read where its call is carried out.
 pub enum Asked {
     Unreadable,
     Opening(u64, u64),
     Summing,
     Leaving(Values),
+    Offers(Values, usize),
     Number(NumberWord, Values),
     Keys(KeysWord, Values),
     Hashes(HashesWord, Values, usize),
@@ -69,6 +70,7 @@ fn number_values(line: &[u8], e: usize, w: NumberWord) -> ValuesAt
         NumberWord::Unclaim => read_form(line, e, b"kc"),
         NumberWord::Forget => read_form(line, e, b"k"),
         NumberWord::ForgetKnown => read_form(line, e, b"kn"),
+        NumberWord::Teardown => read_form(line, e, b"n"),
         NumberWord::FailedPackageInfo => read_form(line, e, b"kcn"),
         NumberWord::PackageInfoOwner => read_form(line, e, b"kn"),
         NumberWord::ResponseCompleted => read_form(line, e, b"chmn"),
@@ -122,6 +124,15 @@ fn leave_call(line: &[u8], e: usize) -> Asked
     Asked::Leaving(v)
 }
 
+fn inventory_call(line: &[u8], e: usize) -> Asked
+    ensures { λ r. ⌜ askedCall (now (line .entry)) r ≡ inventoryCall (rest (now (line .entry)) (e + 1)) ⌝ }
+{
+    let ValuesAt::Is(v, end) = read_form(line, e, b"cnps") else {
+        return Asked::Unreadable;
+    };
+    Asked::Offers(v, end)
+}
+
 fn hashes_values(line: &[u8], e: usize, w: HashesWord) -> ValuesAt
     ensures { λ r. ⌜ FormRead (now (line .entry)) e (hashesForm w) r ⌝ }
 {
@@ -151,6 +162,7 @@ fn call_with(line: &[u8], e: usize, w: Word) -> Asked
         Word::Open => opening(line, e),
         Word::Sum => summing(line, e),
         Word::Leave => leave_call(line, e),
+        Word::Inventory => inventory_call(line, e),
         Word::Number(x) => number_call(line, e, x),
         Word::Keys(x) => keys_call(line, e, x),
         Word::Hashes(x) => hashes_call(line, e, x),

@@ -9,6 +9,7 @@ pub enum Word {
     Open,
     Sum,
     Leave,
+    Inventory,
     Number(NumberWord),
     Keys(KeysWord),
     Hashes(HashesWord),
@@ -22,6 +23,7 @@ pub enum NumberWord {
     Unclaim,
     Forget,
     ForgetKnown,
+    Teardown,
     FailedPackageInfo,
     PackageInfoOwner,
     ResponseCompleted,
@@ -76,6 +78,9 @@ fn keys_word(f: &[u8]) -> Word
     if same(f, b"gone") {
         return Word::Leave;
     }
+    if same(f, b"inv") {
+        return Word::Inventory;
+    }
     hashes_word(f)
 }
 
@@ -84,6 +89,9 @@ fn package_word(f: &[u8]) -> Word
 {
     if same(f, b"known") {
         return Word::Number(NumberWord::ForgetKnown);
+    }
+    if same(f, b"tear") {
+        return Word::Number(NumberWord::Teardown);
     }
     if same(f, b"info") {
         return Word::Number(NumberWord::FailedPackageInfo);

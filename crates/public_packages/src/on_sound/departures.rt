@@ -9,9 +9,6 @@ ghost use Rattle.store.specs.Image.{SoundStore};
 ghost use Rattle.outcome.specs.Outcome.{LeavesWith};
 ghost use Rattle.outcome.specs.Reply.{departureOf};
 
-// Bytes of a key in an answer.
-const KEY_BYTES: usize = 40;
-
 // Announcements of a connection, and parents of a request.
 const MAX_PEER_ANNOUNCEMENTS: usize = 5_000;
 
@@ -23,9 +20,9 @@ fn departure_bytes(l: usize, q: usize) -> usize
     ensures { λ r. ⌜ r ≡ keyBytes * (min maxPeerAnnouncements l + maxParents * q) ⌝ }
 {
     if l < MAX_PEER_ANNOUNCEMENTS {
-        return (l + MAX_PARENTS * q) * KEY_BYTES;
+        return (l + MAX_PARENTS * q) * refusals::KEY_BYTES;
     }
-    (MAX_PEER_ANNOUNCEMENTS + MAX_PARENTS * q) * KEY_BYTES
+    (MAX_PEER_ANNOUNCEMENTS + MAX_PARENTS * q) * refusals::KEY_BYTES
 }
 
 // Those that its answer may need.

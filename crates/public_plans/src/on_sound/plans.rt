@@ -13,18 +13,18 @@ ghost use Rattle.public_plans.specs.Entries.{entriesOf};
 // Bytes of an entry in a list and in an answer.
 const ENTRY_BYTES: usize = 112;
 
-// The bytes that its answer may need: the checked length in entries.
-fn claim_needs(checked: &[u8]) -> usize
-    ensures { λ r. ⌜ r ≡ entryBytes * length (entriesIn (now (checked .entry))) ⌝ }
+// The bytes that an answer may need that has some of a list's entries: the length in entries.
+pub fn list_needs(list: &[u8]) -> usize
+    ensures { λ r. ⌜ r ≡ entryBytes * length (entriesIn (now (list .entry))) ⌝ }
 {
-    planning::entries::entries(checked) * ENTRY_BYTES
+    planning::entries::entries(list) * ENTRY_BYTES
 }
 
 pub fn claim(s: &mut [u8], clock: u64, checked: &[u8], answer: &mut [u8]) -> Listing
     requires { ⌜ SoundStore (now s) ⌝ }
     ensures { λ r. ⌜ LeavesWith (On (Claim clock (entriesIn (now (checked .entry))) (now (answer .entry)))) (now (s .entry)) (now (s .exit)) (now (answer .exit)) (entriesOf r) ⌝ }
 {
-    let needs = claim_needs(checked);
+    let needs = list_needs(checked);
     let refusal = refusals::of_clock_and_buffer(clock, answer.len(), needs);
     if refusal != 0 {
         return Listing::Refused(refusal);

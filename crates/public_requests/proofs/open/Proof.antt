@@ -16,7 +16,11 @@ returns : tie.Need-returns
 returns c = bad-sizes _ _ _ (sym (c .before .sizes-taken .ensures) ∙ not-true _ (c .if1 .taken))
 
 need-requires : tie.Need-need-requires
-need-requires c κs = (taken-limit (c .before .before .before .args .l) (c .before .before .before .args .q) (sym (c .before .sizes-taken .ensures) ∙ not-false _ (c .if1 .left)), taken-places (c .before .before .before .args .l) (c .before .before .before .args .q) (sym (c .before .sizes-taken .ensures) ∙ not-false _ (c .if1 .left)))
+need-requires c κs = (
+  taken-limit (c .before .before .before .args .l) (c .before .before .before .args .q) (sym (c .before .sizes-taken .ensures) ∙ not-false _ (c .if1 .left)),
+  taken-places
+      (c .before .before .before .args .l) (c .before .before .before .args .q) (sym (c .before .sizes-taken .ensures) ∙ not-false _ (c .if1 .left)),
+)
 
 returns-2 : tie.Need-returns-2
 returns-2 c = short-store _ _ _ (sym (c .before .before .before .sizes-taken .ensures) ∙ not-false _ (c .before .before .if1 .left)) (omega (arith, c .before .need .ensures))
@@ -28,13 +32,26 @@ slice-aggregate-fill : tie.Need-slice-aggregate-fill
 slice-aggregate-fill c = simp length-take (omega arith)
 
 fill-requires : tie.Need-fill-requires
-fill-requires c κs = (taken-limit (c .before .before .before .before .before .before .args .l) (c .before .before .before .before .before .before .args .q) (sym (c .before .before .before .before .sizes-taken .ensures) ∙ not-false _ (c .before .before .before .if1 .left)), taken-places (c .before .before .before .before .before .before .args .l) (c .before .before .before .before .before .before .args .q) (sym (c .before .before .before .before .sizes-taken .ensures) ∙ not-false _ (c .before .before .before .if1 .left)), simp length-take (omega (arith, c .before .before .need .ensures)))
+fill-requires c κs = (
+  taken-limit (c .before .before .before .before .before .before .args .l) (c .before .before .before .before .before .before .args .q)
+      (sym (c .before .before .before .before .sizes-taken .ensures) ∙ not-false _ (c .before .before .before .if1 .left)),
+  taken-places
+      (c .before .before .before .before .before .before .args .l) (c .before .before .before .before .before .before .args .q)
+      (sym (c .before .before .before .before .sizes-taken .ensures) ∙ not-false _ (c .before .before .before .if1 .left)),
+  simp length-take (omega (arith, c .before .before .need .ensures)),
+)
 
 same-length : tie.Need-same-length
 same-length c = search needs
 
 returns-3 : tie.Need-returns-3
-returns-3 c = rw (c .before .before .before .before .before .need .ensures) (opened _ _ _ _ (sym (c .before .before .before .before .before .before .before .sizes-taken .ensures) ∙ not-false _ (c .before .before .before .before .before .before .if1 .left)) (omega (arith, c .before .before .before .before .before .need .ensures)) (bytes-front (c .before .before .fill .last .0) (drop (c .before .before .before .before .before .need .result) (c .before .before .before .before .before .before .before .before .before .args .s .now)) (λ i. omega (arith, c .slice-known2 .given i))) (c .before .before .fill .ensures))
+returns-3 c =
+    rw (c .before .before .before .before .before .need .ensures)
+    (opened _ _ _ _ (sym (c .before .before .before .before .before .before .before .sizes-taken .ensures) ∙ not-false _ (c .before .before .before .before .before .before .if1 .left))
+    (omega (arith, c .before .before .before .before .before .need .ensures))
+    (bytes-front (c .before .before .fill .last .0)
+    (drop (c .before .before .before .before .before .need .result) (c .before .before .before .before .before .before .before .before .before .args .s .now))
+    (λ i. omega (arith, c .slice-known2 .given i))) (c .before .before .fill .ensures))
 
 pub open-spec : {M : Type 1} → statement M
 open-spec =

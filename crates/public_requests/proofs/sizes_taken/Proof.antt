@@ -14,11 +14,21 @@ returns-2 c = rw (le-leb 1 (c .before .before .args .l) (omega arith), lt-leb (c
 
 returns-3 : tie.Need-returns-3
 returns-3 c =
-    rw (le-leb 1 (c .before .before .before .args .l) (omega arith), le-leb (c .before .before .before .args .l) maxAnnouncements (omega arith), lt-leb 1 (c .before .before .before .args .q) (omega arith))
+    rw (
+      le-leb 1 (c .before .before .before .args .l) (omega arith),
+      le-leb (c .before .before .before .args .l) maxAnnouncements (omega arith),
+      lt-leb 1
+          (c .before .before .before .args .q) (omega arith),
+    )
 
 returns-4 : tie.Need-returns-4
 returns-4 c =
-    rw (le-leb 1 (c .before .before .before .args .l) (omega arith), le-leb (c .before .before .before .args .l) maxAnnouncements (omega arith), le-leb 1 (c .before .before .before .args .q) (omega arith))
+    rw (
+      le-leb 1 (c .before .before .before .args .l) (omega arith),
+      le-leb (c .before .before .before .args .l) maxAnnouncements (omega arith),
+      le-leb 1
+          (c .before .before .before .args .q) (omega arith),
+    )
 
 pub sizes-taken-spec : {M : Type 1} → statement M
 sizes-taken-spec = tie.close (tie.spec returns returns-2 returns-3 returns-4)

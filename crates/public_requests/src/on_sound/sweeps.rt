@@ -11,9 +11,6 @@ ghost use Rattle.store.specs.Image.{SoundStore};
 ghost use Rattle.outcome.specs.Outcome.{Leaves, LeavesWith};
 ghost use Rattle.outcome.specs.Reply.{replyOf, listingOf};
 
-// Bytes of a key in an answer.
-const KEY_BYTES: usize = 40;
-
 // The bytes that a sweep's answer may need: min(1,024, L) keys.
 fn sweep_needs(s: &[u8]) -> usize
     requires { ⌜ SoundStore (now s) ⌝ }
@@ -21,9 +18,9 @@ fn sweep_needs(s: &[u8]) -> usize
 {
     let l = store::head::limit(s);
     if l < sweeping::MAX_KNOWN_CHECKS {
-        return l * KEY_BYTES;
+        return l * refusals::KEY_BYTES;
     }
-    sweeping::MAX_KNOWN_CHECKS * KEY_BYTES
+    sweeping::MAX_KNOWN_CHECKS * refusals::KEY_BYTES
 }
 
 pub fn sweep(s: &mut [u8], answer: &mut [u8]) -> Listing

@@ -37,17 +37,23 @@ answer-leaving-requires c κs = search needs
 enum-known-asked-3 : tie.Need-enum-known-asked-3
 enum-known-asked-3 c = search needs
 
-answer-number-requires : tie.Need-answer-number-requires
-answer-number-requires c κs = search needs
+answer-offers-requires : tie.Need-answer-offers-requires
+answer-offers-requires c κs = search needs
 
 enum-known-asked-4 : tie.Need-enum-known-asked-4
 enum-known-asked-4 c = search needs
 
-answer-keys-requires : tie.Need-answer-keys-requires
-answer-keys-requires c κs = search needs
+answer-number-requires : tie.Need-answer-number-requires
+answer-number-requires c κs = search needs
 
 enum-known-asked-5 : tie.Need-enum-known-asked-5
 enum-known-asked-5 c = search needs
+
+answer-keys-requires : tie.Need-answer-keys-requires
+answer-keys-requires c κs = search needs
+
+enum-known-asked-6 : tie.Need-enum-known-asked-6
+enum-known-asked-6 c = search needs
 
 answer-hashes-requires : tie.Need-answer-hashes-requires
 answer-hashes-requires c κs = search needs
@@ -92,7 +98,7 @@ same-length-9 : tie.Need-same-length-9
 same-length-9 c = search needs
 
 returns-5 : tie.Need-returns-5
-returns-5 c = as-call (sym (ap (askedCall _) (c .before .before .before .before .before .before .before .before .asked3 .given .1)) ∙ c .before .before .before .before .before .before .before .before .before .before .call-of .ensures) (c .before .before .before .before .answer-number .ensures)
+returns-5 c = as-line (sym (ap (askedCall _) (c .before .before .before .before .before .before .before .before .asked3 .given .1)) ∙ c .before .before .before .before .before .before .before .before .before .before .call-of .ensures) (c .before .before .before .before .answer-offers .ensures)
 
 same-length-10 : tie.Need-same-length-10
 same-length-10 c = search needs
@@ -101,7 +107,7 @@ same-length-11 : tie.Need-same-length-11
 same-length-11 c = search needs
 
 returns-6 : tie.Need-returns-6
-returns-6 c = as-call (sym (ap (askedCall _) (c .before .before .before .before .before .before .before .before .asked4 .given .1)) ∙ c .before .before .before .before .before .before .before .before .before .before .call-of .ensures) (c .before .before .before .before .answer-keys .ensures)
+returns-6 c = as-call (sym (ap (askedCall _) (c .before .before .before .before .before .before .before .before .asked4 .given .1)) ∙ c .before .before .before .before .before .before .before .before .before .before .call-of .ensures) (c .before .before .before .before .answer-number .ensures)
 
 same-length-12 : tie.Need-same-length-12
 same-length-12 c = search needs
@@ -110,7 +116,16 @@ same-length-13 : tie.Need-same-length-13
 same-length-13 c = search needs
 
 returns-7 : tie.Need-returns-7
-returns-7 c = as-line (sym (ap (askedCall _) (c .before .before .before .before .before .before .before .before .asked5 .given .1)) ∙ c .before .before .before .before .before .before .before .before .before .before .call-of .ensures) (c .before .before .before .before .answer-hashes .ensures)
+returns-7 c = as-call (sym (ap (askedCall _) (c .before .before .before .before .before .before .before .before .asked5 .given .1)) ∙ c .before .before .before .before .before .before .before .before .before .before .call-of .ensures) (c .before .before .before .before .answer-keys .ensures)
+
+same-length-14 : tie.Need-same-length-14
+same-length-14 c = search needs
+
+same-length-15 : tie.Need-same-length-15
+same-length-15 c = search needs
+
+returns-8 : tie.Need-returns-8
+returns-8 c = as-line (sym (ap (askedCall _) (c .before .before .before .before .before .before .before .before .asked6 .given .1)) ∙ c .before .before .before .before .before .before .before .before .before .before .call-of .ensures) (c .before .before .before .before .answer-hashes .ensures)
 
 pub answer-line-spec : {M : Type 1} → statement M
 answer-line-spec =
@@ -126,10 +141,12 @@ answer-line-spec =
     enum-known-asked-2
     answer-leaving-requires
     enum-known-asked-3
-    answer-number-requires
+    answer-offers-requires
     enum-known-asked-4
-    answer-keys-requires
+    answer-number-requires
     enum-known-asked-5
+    answer-keys-requires
+    enum-known-asked-6
     answer-hashes-requires
     same-length
     returns
@@ -150,4 +167,7 @@ answer-line-spec =
     returns-6
     same-length-12
     same-length-13
-    returns-7)
+    returns-7
+    same-length-14
+    same-length-15
+    returns-8)

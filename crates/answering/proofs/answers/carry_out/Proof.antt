@@ -57,23 +57,29 @@ forget-known-requires c κs = search needs
 enum-told-7 : tie.Need-enum-told-7
 enum-told-7 c = search needs
 
-failed-package-info-requires : tie.Need-failed-package-info-requires
-failed-package-info-requires c κs = search needs
+teardown-package-claims-requires : tie.Need-teardown-package-claims-requires
+teardown-package-claims-requires c κs = search needs
 
 enum-told-8 : tie.Need-enum-told-8
 enum-told-8 c = search needs
 
-package-info-owner-requires : tie.Need-package-info-owner-requires
-package-info-owner-requires c κs = search needs
+failed-package-info-requires : tie.Need-failed-package-info-requires
+failed-package-info-requires c κs = search needs
 
 enum-told-9 : tie.Need-enum-told-9
 enum-told-9 c = search needs
 
-response-completed-requires : tie.Need-response-completed-requires
-response-completed-requires c κs = search needs
+package-info-owner-requires : tie.Need-package-info-owner-requires
+package-info-owner-requires c κs = search needs
 
 enum-told-10 : tie.Need-enum-told-10
 enum-told-10 c = search needs
+
+response-completed-requires : tie.Need-response-completed-requires
+response-completed-requires c κs = search needs
+
+enum-told-11 : tie.Need-enum-told-11
+enum-told-11 c = search needs
 
 poll-gate-requires : tie.Need-poll-gate-requires
 poll-gate-requires c κs = search needs
@@ -136,31 +142,37 @@ same-length-7 : tie.Need-same-length-7
 same-length-7 c = search needs
 
 returns-7 : tie.Need-returns-7
-returns-7 c =
-    did (valuesOf (c .before .before .before .before .before .before .before .before .args .v)) (c .before .before .before .before .enum-told7 .given .1)
-    (ap (λ (k : Key). FailedPackageInfo k (c .before .before .before .before .before .before .before .before .args .v .connection) (c .before .before .before .before .before .before .before .before .args .v .clock)) (c .before .before .before .before .before .before .key-of .ensures))
-    (c .before .before .failed-package-info .ensures)
+returns-7 c = did (valuesOf (c .before .before .before .before .before .before .before .before .args .v)) (c .before .before .before .before .enum-told7 .given .1) refl (c .before .before .teardown-package-claims .ensures)
 
 same-length-8 : tie.Need-same-length-8
 same-length-8 c = search needs
 
 returns-8 : tie.Need-returns-8
 returns-8 c =
-    did (valuesOf (c .before .before .before .before .before .before .args .v)) (c .before .before .enum-told8 .given .1)
-    (ap (λ (k : Key). PackageInfoOwner k (c .before .before .before .before .before .before .args .v .clock)) (c .before .before .before .before .key-of .ensures))
-    (c .package-info-owner .ensures)
+    did (valuesOf (c .before .before .before .before .before .before .before .before .args .v)) (c .before .before .before .before .enum-told8 .given .1)
+    (ap (λ (k : Key). FailedPackageInfo k (c .before .before .before .before .before .before .before .before .args .v .connection) (c .before .before .before .before .before .before .before .before .args .v .clock)) (c .before .before .before .before .before .before .key-of .ensures))
+    (c .before .before .failed-package-info .ensures)
 
 same-length-9 : tie.Need-same-length-9
 same-length-9 c = search needs
 
 returns-9 : tie.Need-returns-9
-returns-9 c = did (valuesOf (c .before .before .before .before .before .before .before .before .args .v)) (c .before .before .before .before .enum-told9 .given .1) refl (c .before .before .response-completed .ensures)
+returns-9 c =
+    did (valuesOf (c .before .before .before .before .before .before .args .v)) (c .before .before .enum-told9 .given .1)
+    (ap (λ (k : Key). PackageInfoOwner k (c .before .before .before .before .before .before .args .v .clock)) (c .before .before .before .before .key-of .ensures))
+    (c .package-info-owner .ensures)
 
 same-length-10 : tie.Need-same-length-10
 same-length-10 c = search needs
 
 returns-10 : tie.Need-returns-10
-returns-10 c = did (valuesOf (c .before .before .before .before .before .before .before .before .args .v)) (c .before .before .before .before .enum-told10 .given .1) refl (c .before .before .poll-gate .ensures)
+returns-10 c = did (valuesOf (c .before .before .before .before .before .before .before .before .args .v)) (c .before .before .before .before .enum-told10 .given .1) refl (c .before .before .response-completed .ensures)
+
+same-length-11 : tie.Need-same-length-11
+same-length-11 c = search needs
+
+returns-11 : tie.Need-returns-11
+returns-11 c = did (valuesOf (c .before .before .before .before .before .before .before .before .args .v)) (c .before .before .before .before .enum-told11 .given .1) refl (c .before .before .poll-gate .ensures)
 
 pub carry-out-spec : {M : Type 1} → statement M
 carry-out-spec =
@@ -182,12 +194,14 @@ carry-out-spec =
     enum-told-6
     forget-known-requires
     enum-told-7
-    failed-package-info-requires
+    teardown-package-claims-requires
     enum-told-8
-    package-info-owner-requires
+    failed-package-info-requires
     enum-told-9
-    response-completed-requires
+    package-info-owner-requires
     enum-told-10
+    response-completed-requires
+    enum-told-11
     poll-gate-requires
     same-length
     returns
@@ -208,4 +222,6 @@ carry-out-spec =
     same-length-9
     returns-9
     same-length-10
-    returns-10)
+    returns-10
+    same-length-11
+    returns-11)

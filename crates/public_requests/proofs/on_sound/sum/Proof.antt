@@ -14,10 +14,13 @@ get-requires-2 : tie.Need-get-requires-2
 get-requires-2 c κs = omega (arith, head-inside (c .before .before .args .s .now) (c .before .before .pre))
 
 figures-of-requires : tie.Need-figures-of-requires
-figures-of-requires c κs = figures-fit (c .before .before .before .args .s .now) (c .before .before .before .pre) (c .get2 .result) (c .before .get .result) (c .get2 .ensures) (c .before .get .ensures)
+figures-of-requires c κs =
+    figures-fit (c .before .before .before .args .s .now) (c .before .before .before .pre) (c .get2 .result) (c .before .get .result) (c .get2 .ensures) (c .before .get .ensures)
 
 returns : tie.Need-returns
-returns c = sum-figures (c .before .before .before .before .args .s .now) (c .before .before .before .before .pre) (c .before .get2 .result) (c .before .before .get .result) (λ i. omega (arith, c .before .before .before .shared-slice-known .given i)) (c .before .get2 .ensures) (c .before .before .get .ensures) (c .figures-of .ensures)
+returns c =
+    sum-figures (c .before .before .before .before .args .s .now) (c .before .before .before .before .pre) (c .before .get2 .result) (c .before .before .get .result)
+    (λ i. omega (arith, c .before .before .before .shared-slice-known .given i)) (c .before .get2 .ensures) (c .before .before .get .ensures) (c .figures-of .ensures)
 
 pub sum-spec : {M : Type 1} → statement M
 sum-spec =

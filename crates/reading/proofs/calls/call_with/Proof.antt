@@ -29,6 +29,12 @@ enum-told-4 c = search needs
 leave-call-requires : tie.Need-leave-call-requires
 leave-call-requires c κs = search needs
 
+enum-told-5 : tie.Need-enum-told-5
+enum-told-5 c = search needs
+
+inventory-call-requires : tie.Need-inventory-call-requires
+inventory-call-requires c κs = search needs
+
 enum-known-w : tie.Need-enum-known-w
 enum-known-w c = search needs
 
@@ -60,13 +66,16 @@ returns-4 : tie.Need-returns-4
 returns-4 c = with-word (rest (c .before .before .before .before .args .line .now) (c .before .before .before .before .args .e + 1)) (c .before .enum-told4 .given .1) (c .leave-call .ensures)
 
 returns-5 : tie.Need-returns-5
-returns-5 c = with-word (rest (c .before .before .before .before .before .args .line .now) (c .before .before .before .before .before .args .e + 1)) (c .before .before .w .given .1) (c .number-call .ensures)
+returns-5 c = with-word (rest (c .before .before .before .before .args .line .now) (c .before .before .before .before .args .e + 1)) (c .before .enum-told5 .given .1) (c .inventory-call .ensures)
 
 returns-6 : tie.Need-returns-6
-returns-6 c = with-word (rest (c .before .before .before .before .before .args .line .now) (c .before .before .before .before .before .args .e + 1)) (c .before .before .w2 .given .1) (c .keys-call .ensures)
+returns-6 c = with-word (rest (c .before .before .before .before .before .args .line .now) (c .before .before .before .before .before .args .e + 1)) (c .before .before .w .given .1) (c .number-call .ensures)
 
 returns-7 : tie.Need-returns-7
-returns-7 c = with-word (rest (c .before .before .before .before .before .args .line .now) (c .before .before .before .before .before .args .e + 1)) (c .before .before .w3 .given .1) (c .hashes-call .ensures)
+returns-7 c = with-word (rest (c .before .before .before .before .before .args .line .now) (c .before .before .before .before .before .args .e + 1)) (c .before .before .w2 .given .1) (c .keys-call .ensures)
+
+returns-8 : tie.Need-returns-8
+returns-8 c = with-word (rest (c .before .before .before .before .before .args .line .now) (c .before .before .before .before .before .args .e + 1)) (c .before .before .w3 .given .1) (c .hashes-call .ensures)
 
 pub call-with-spec : {M : Type 1} → statement M
 call-with-spec =
@@ -79,6 +88,8 @@ call-with-spec =
     summing-requires
     enum-told-4
     leave-call-requires
+    enum-told-5
+    inventory-call-requires
     enum-known-w
     number-call-requires
     enum-known-w-2
@@ -91,4 +102,5 @@ call-with-spec =
     returns-4
     returns-5
     returns-6
-    returns-7)
+    returns-7
+    returns-8)

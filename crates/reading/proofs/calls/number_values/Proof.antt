@@ -96,6 +96,15 @@ slice-aggregate-read-form-10 c = search needs
 read-form-requires-10 : tie.Need-read-form-requires-10
 read-form-requires-10 c κs = search needs
 
+enum-told-11 : tie.Need-enum-told-11
+enum-told-11 c = search needs
+
+slice-aggregate-read-form-11 : tie.Need-slice-aggregate-read-form-11
+slice-aggregate-read-form-11 c = search needs
+
+read-form-requires-11 : tie.Need-read-form-requires-11
+read-form-requires-11 c κs = search needs
+
 returns : tie.Need-returns
 returns c = formed numberForm (c .before .before .enum-told .given .1) (c .read-form .ensures)
 
@@ -125,6 +134,9 @@ returns-9 c = formed numberForm (c .before .before .enum-told9 .given .1) (c .re
 
 returns-10 : tie.Need-returns-10
 returns-10 c = formed numberForm (c .before .before .enum-told10 .given .1) (c .read-form10 .ensures)
+
+returns-11 : tie.Need-returns-11
+returns-11 c = formed numberForm (c .before .before .enum-told11 .given .1) (c .read-form11 .ensures)
 
 pub number-values-spec : {M : Type 1} → statement M
 number-values-spec =
@@ -160,6 +172,9 @@ number-values-spec =
     enum-told-10
     slice-aggregate-read-form-10
     read-form-requires-10
+    enum-told-11
+    slice-aggregate-read-form-11
+    read-form-requires-11
     returns
     returns-2
     returns-3
@@ -169,4 +184,5 @@ number-values-spec =
     returns-7
     returns-8
     returns-9
-    returns-10)
+    returns-10
+    returns-11)

@@ -63,17 +63,35 @@ returns-4 c =
       ← (sym (c .if4 .taken) ∙ c .before .same4 .ensures),
     )
 
-hashes-word-requires : tie.Need-hashes-word-requires
-hashes-word-requires c κs = search needs
+slice-aggregate-same-5 : tie.Need-slice-aggregate-same-5
+slice-aggregate-same-5 c = search needs
+
+same-requires-5 : tie.Need-same-requires-5
+same-requires-5 c κs = search needs
 
 returns-5 : tie.Need-returns-5
 unfolding keysWord
 returns-5 c =
     rw (
-      ← (sym (c .before .before .before .before .before .before .before .before .before .before .if1 .left) ∙ c .before .before .before .before .before .before .before .before .before .before .before .same .ensures),
-      ← (sym (c .before .before .before .before .before .before .before .if2 .left) ∙ c .before .before .before .before .before .before .before .before .same2 .ensures),
-      ← (sym (c .before .before .before .before .if3 .left) ∙ c .before .before .before .before .before .same3 .ensures),
-      ← (sym (c .before .if4 .left) ∙ c .before .before .same4 .ensures),
+      ← (sym (c .before .before .before .before .before .before .before .before .before .before .before .before .if1 .left) ∙ c .before .before .before .before .before .before .before .before .before .before .before .before .before .same .ensures),
+      ← (sym (c .before .before .before .before .before .before .before .before .before .if2 .left) ∙ c .before .before .before .before .before .before .before .before .before .before .same2 .ensures),
+      ← (sym (c .before .before .before .before .before .before .if3 .left) ∙ c .before .before .before .before .before .before .before .same3 .ensures),
+      ← (sym (c .before .before .before .if4 .left) ∙ c .before .before .before .before .same4 .ensures),
+      ← (sym (c .if5 .taken) ∙ c .before .same5 .ensures),
+    )
+
+hashes-word-requires : tie.Need-hashes-word-requires
+hashes-word-requires c κs = search needs
+
+returns-6 : tie.Need-returns-6
+unfolding keysWord
+returns-6 c =
+    rw (
+      ← (sym (c .before .before .before .before .before .before .before .before .before .before .before .before .before .if1 .left) ∙ c .before .before .before .before .before .before .before .before .before .before .before .before .before .before .same .ensures),
+      ← (sym (c .before .before .before .before .before .before .before .before .before .before .if2 .left) ∙ c .before .before .before .before .before .before .before .before .before .before .before .same2 .ensures),
+      ← (sym (c .before .before .before .before .before .before .before .if3 .left) ∙ c .before .before .before .before .before .before .before .before .same3 .ensures),
+      ← (sym (c .before .before .before .before .if4 .left) ∙ c .before .before .before .before .before .same4 .ensures),
+      ← (sym (c .before .if5 .left) ∙ c .before .before .same5 .ensures),
     )
     (c .hashes-word .ensures)
 
@@ -93,5 +111,8 @@ keys-word-spec =
     slice-aggregate-same-4
     same-requires-4
     returns-4
+    slice-aggregate-same-5
+    same-requires-5
+    returns-5
     hashes-word-requires
-    returns-5)
+    returns-6)

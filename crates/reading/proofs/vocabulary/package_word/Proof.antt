@@ -80,18 +80,37 @@ returns-5 c =
       ← (sym (c .if5 .taken) ∙ c .before .same5 .ensures),
     )
 
-keys-word-requires : tie.Need-keys-word-requires
-keys-word-requires c κs = search needs
+slice-aggregate-same-6 : tie.Need-slice-aggregate-same-6
+slice-aggregate-same-6 c = search needs
+
+same-requires-6 : tie.Need-same-requires-6
+same-requires-6 c κs = search needs
 
 returns-6 : tie.Need-returns-6
 unfolding packageWord
 returns-6 c =
     rw (
-      ← (sym (c .before .before .before .before .before .before .before .before .before .before .before .before .before .if1 .left) ∙ c .before .before .before .before .before .before .before .before .before .before .before .before .before .before .same .ensures),
-      ← (sym (c .before .before .before .before .before .before .before .before .before .before .if2 .left) ∙ c .before .before .before .before .before .before .before .before .before .before .before .same2 .ensures),
-      ← (sym (c .before .before .before .before .before .before .before .if3 .left) ∙ c .before .before .before .before .before .before .before .before .same3 .ensures),
-      ← (sym (c .before .before .before .before .if4 .left) ∙ c .before .before .before .before .before .same4 .ensures),
-      ← (sym (c .before .if5 .left) ∙ c .before .before .same5 .ensures),
+      ← (sym (c .before .before .before .before .before .before .before .before .before .before .before .before .before .before .before .if1 .left) ∙ c .before .before .before .before .before .before .before .before .before .before .before .before .before .before .before .before .same .ensures),
+      ← (sym (c .before .before .before .before .before .before .before .before .before .before .before .before .if2 .left) ∙ c .before .before .before .before .before .before .before .before .before .before .before .before .before .same2 .ensures),
+      ← (sym (c .before .before .before .before .before .before .before .before .before .if3 .left) ∙ c .before .before .before .before .before .before .before .before .before .before .same3 .ensures),
+      ← (sym (c .before .before .before .before .before .before .if4 .left) ∙ c .before .before .before .before .before .before .before .same4 .ensures),
+      ← (sym (c .before .before .before .if5 .left) ∙ c .before .before .before .before .same5 .ensures),
+      ← (sym (c .if6 .taken) ∙ c .before .same6 .ensures),
+    )
+
+keys-word-requires : tie.Need-keys-word-requires
+keys-word-requires c κs = search needs
+
+returns-7 : tie.Need-returns-7
+unfolding packageWord
+returns-7 c =
+    rw (
+      ← (sym (c .before .before .before .before .before .before .before .before .before .before .before .before .before .before .before .before .if1 .left) ∙ c .before .before .before .before .before .before .before .before .before .before .before .before .before .before .before .before .before .same .ensures),
+      ← (sym (c .before .before .before .before .before .before .before .before .before .before .before .before .before .if2 .left) ∙ c .before .before .before .before .before .before .before .before .before .before .before .before .before .before .same2 .ensures),
+      ← (sym (c .before .before .before .before .before .before .before .before .before .before .if3 .left) ∙ c .before .before .before .before .before .before .before .before .before .before .before .same3 .ensures),
+      ← (sym (c .before .before .before .before .before .before .before .if4 .left) ∙ c .before .before .before .before .before .before .before .before .same4 .ensures),
+      ← (sym (c .before .before .before .before .if5 .left) ∙ c .before .before .before .before .before .same5 .ensures),
+      ← (sym (c .before .if6 .left) ∙ c .before .before .same6 .ensures),
     )
     (c .keys-word .ensures)
 
@@ -114,5 +133,8 @@ package-word-spec =
     slice-aggregate-same-5
     same-requires-5
     returns-5
+    slice-aggregate-same-6
+    same-requires-6
+    returns-6
     keys-word-requires
-    returns-6)
+    returns-7)

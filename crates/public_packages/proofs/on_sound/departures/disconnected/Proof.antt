@@ -19,7 +19,9 @@ same-length : tie.Need-same-length
 same-length c = search needs
 
 returns : tie.Need-returns
-returns c = refused (departs _ _ _) (c .before .before .before .before .before .before .pre) (c .before .in-turn .ensures ∙ rw (c .before .before .departure-needs .ensures (c .before .before .before .before .before .before .pre))) (c .if1 .taken)
+returns c =
+    refused (departs _ _ _) (c .before .before .before .before .before .before .pre)
+    (c .before .in-turn .ensures ∙ rw (c .before .before .departure-needs .ensures (c .before .before .before .before .before .before .pre))) (c .if1 .taken)
 
 need-of-requires : tie.Need-need-of-requires
 need-of-requires c κs = search needs
@@ -46,7 +48,13 @@ same-length-3 c = search needs
 returns-2 : tie.Need-returns-2
 returns-2 c =
     let w = c .before .before .before .before .before .before .before .before .before .before .before .before .before .before .before .pre in
-    departs-done _ _ w (omega arith) (c .before .before .before .before .before .before .before .before .before .before .in-turn .ensures ∙ rw (c .before .before .before .before .before .before .before .before .before .before .before .departure-needs .ensures w)) (c .before .before .before .before .before .before .before .before .before .if1 .left) (c .before .before .before .before .before .before .before .need-of .ensures) (λ i. omega (arith, c .before .before .slice-known3 .given i)) (c .before .before .before .before .disconnected .ensures)
+    departs-done _ _ w (omega arith)
+    (c .before .before .before .before .before .before .before .before .before .before .in-turn .ensures ∙ rw
+    (c .before .before .before .before .before .before .before .before .before .before .before .departure-needs .ensures w))
+    (c .before .before .before .before .before .before .before .before .before .if1 .left) (c .before .before .before .before .before .before .before .need-of .ensures)
+    (λ i. omega (arith, c .before .before .slice-known3 .given i)) (c .before .before .before .before .disconnected .ensures)
 
 pub disconnected-spec : {M : Type 1} → statement M
-disconnected-spec = tie.close (tie.spec departure-needs-requires in-turn-requires same-length returns need-of-requires slice-relend-prefix-disconnected slice-aggregate-disconnected disconnected-requires same-length-2 same-length-3 returns-2)
+disconnected-spec =
+    tie.close (tie.spec departure-needs-requires in-turn-requires same-length returns need-of-requires slice-relend-prefix-disconnected slice-aggregate-disconnected disconnected-requires
+    same-length-2 same-length-3 returns-2)

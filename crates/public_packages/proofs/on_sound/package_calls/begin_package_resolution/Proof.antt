@@ -32,7 +32,13 @@ same-length : tie.Need-same-length
 same-length c = search needs
 
 returns-2 : tie.Need-returns-2
-returns-2 c = yes-no-done (begins-resolution _ _ _ _ _) (c .before .before .before .before .before .before .before .before .before .before .before .pre) (c .before .before .before .before .before .before .before .before .of-connection-and-clock .ensures) (c .before .before .before .before .before .before .before .if1 .left) (c .before .before .before .before .before .need-of .ensures) (λ i. omega (arith, c .before .slice-known2 .given i)) (c .before .before .before .begin-package-resolution .ensures) (c .replied .ensures)
+returns-2 c =
+    yes-no-done (begins-resolution _ _ _ _ _) (c .before .before .before .before .before .before .before .before .before .before .before .pre)
+    (c .before .before .before .before .before .before .before .before .of-connection-and-clock .ensures) (c .before .before .before .before .before .before .before .if1 .left)
+    (c .before .before .before .before .before .need-of .ensures) (λ i. omega (arith, c .before .slice-known2 .given i)) (c .before .before .before .begin-package-resolution .ensures)
+    (c .replied .ensures)
 
 pub begin-package-resolution-spec : {M : Type 1} → statement M
-begin-package-resolution-spec = tie.close (tie.spec of-connection-and-clock-requires returns need-of-requires slice-relend-prefix-begin-package-resolution slice-aggregate-begin-package-resolution begin-package-resolution-requires replied-requires same-length returns-2)
+begin-package-resolution-spec =
+    tie.close (tie.spec of-connection-and-clock-requires returns need-of-requires slice-relend-prefix-begin-package-resolution slice-aggregate-begin-package-resolution
+    begin-package-resolution-requires replied-requires same-length returns-2)

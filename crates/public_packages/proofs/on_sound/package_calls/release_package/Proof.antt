@@ -38,8 +38,16 @@ same-length-2 c = search needs
 
 returns-2 : tie.Need-returns-2
 returns-2 c =
-    let k = released-typed (c .before .before .before .before .before .before .before .before .before .before .before .before .before .pre .state) (c .before .before .before .before .before .before .before .before .before .before .before .before .before .pre .sound) _ _ _ (hash-below (c .before .before .before .before .before .before .before .before .before .before .before .before .before .args .h) (hash-four (c .before .before .before .before .before .before .before .before .before .before .before .before .before .args .h) (c .before .before .before .before .before .before .before .before .before .before .before .before .before .good .1 .1 .0))) in
-    lists-done (releases-package _ _ _ _) (c .before .before .before .before .before .before .before .before .before .before .before .before .before .pre) (c .before .before .before .before .before .before .before .before .before .before .in-turn .ensures) (c .before .before .before .before .before .before .before .before .before .if1 .left) (c .before .before .before .before .before .before .before .need-of .ensures) (λ i. omega (arith, c .before .before .slice-known3 .given i)) k (c .before .before .before .before .release-package .ensures)
+    let k = released-typed (c .before .before .before .before .before .before .before .before .before .before .before .before .before .pre .state)
+    (c .before .before .before .before .before .before .before .before .before .before .before .before .before .pre .sound) _ _ _
+    (hash-below (c .before .before .before .before .before .before .before .before .before .before .before .before .before .args .h)
+    (hash-four (c .before .before .before .before .before .before .before .before .before .before .before .before .before .args .h)
+    (c .before .before .before .before .before .before .before .before .before .before .before .before .before .good .1 .1 .0))) in
+    lists-done (releases-package _ _ _ _) (c .before .before .before .before .before .before .before .before .before .before .before .before .before .pre)
+    (c .before .before .before .before .before .before .before .before .before .before .in-turn .ensures)
+    (c .before .before .before .before .before .before .before .before .before .if1 .left) (c .before .before .before .before .before .before .before .need-of .ensures)
+    (λ i. omega (arith, c .before .before .slice-known3 .given i)) k (c .before .before .before .before .release-package .ensures)
 
 pub release-package-spec : {M : Type 1} → statement M
-release-package-spec = tie.close (tie.spec in-turn-requires returns need-of-requires slice-relend-prefix-release-package slice-aggregate-release-package release-package-requires same-length same-length-2 returns-2)
+release-package-spec =
+    tie.close (tie.spec in-turn-requires returns need-of-requires slice-relend-prefix-release-package slice-aggregate-release-package release-package-requires same-length same-length-2 returns-2)

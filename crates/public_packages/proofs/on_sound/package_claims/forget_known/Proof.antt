@@ -31,7 +31,10 @@ same-length : tie.Need-same-length
 same-length c = search needs
 
 returns-2 : tie.Need-returns-2
-returns-2 c = yes-no-done (forgets-known _ _) (c .before .before .before .before .before .before .before .before .before .pre) (c .before .before .before .before .before .before .before .of-clock .ensures) (c .before .before .before .before .before .before .if1 .left) (c .before .before .before .before .need-of .ensures) (λ i. omega (arith, c .slice-known2 .given i)) (silent-within (c .before .before .forget-known .ensures)) refl
+returns-2 c =
+    yes-no-done (forgets-known _ _) (c .before .before .before .before .before .before .before .before .before .pre)
+    (c .before .before .before .before .before .before .before .of-clock .ensures) (c .before .before .before .before .before .before .if1 .left)
+    (c .before .before .before .before .need-of .ensures) (λ i. omega (arith, c .slice-known2 .given i)) (silent-within (c .before .before .forget-known .ensures)) refl
 
 pub forget-known-spec : {M : Type 1} → statement M
 forget-known-spec = tie.close (tie.spec of-clock-requires returns need-of-requires slice-relend-prefix-forget-known slice-aggregate-forget-known forget-known-requires same-length returns-2)

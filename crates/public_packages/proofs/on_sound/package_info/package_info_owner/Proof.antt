@@ -24,7 +24,9 @@ package-info-owner-requires : tie.Need-package-info-owner-requires
 package-info-owner-requires c κs = search needs
 
 returns-2 : tie.Need-returns-2
-returns-2 c = reads-done (reads-owner _ _) (c .before .before .before .before .before .before .pre) (c .before .before .before .before .of-clock .ensures) (c .before .before .before .if1 .left) (c .before .before .need-of .ensures) (λ i. omega (arith, c .before .before .before .before .before .shared-slice-known .given i)) (c .package-info-owner .ensures)
+returns-2 c =
+    reads-done (reads-owner _ _) (c .before .before .before .before .before .before .pre) (c .before .before .before .before .of-clock .ensures) (c .before .before .before .if1 .left)
+    (c .before .before .need-of .ensures) (λ i. omega (arith, c .before .before .before .before .before .shared-slice-known .given i)) (c .package-info-owner .ensures)
 
 pub package-info-owner-spec : {M : Type 1} → statement M
 package-info-owner-spec = tie.close (tie.spec of-clock-requires returns need-of-requires slice-aggregate-package-info-owner package-info-owner-requires returns-2)

@@ -34,7 +34,12 @@ same-length : tie.Need-same-length
 same-length c = search needs
 
 returns-2 : tie.Need-returns-2
-returns-2 c = yes-no-done (announces-transactions _ _ _ _ _) (c .before .before .before .before .before .before .before .before .before .before .before .pre) (c .before .before .before .before .before .before .before .of-connection-and-clock .ensures) (c .before .before .before .before .before .before .if1 .left) (c .before .before .before .before .need-of .ensures) (λ i. omega (arith, c .slice-known2 .given i)) (silent-within (c .before .before .announce-transactions .ensures)) refl
+returns-2 c =
+    yes-no-done (announces-transactions _ _ _ _ _) (c .before .before .before .before .before .before .before .before .before .before .before .pre)
+    (c .before .before .before .before .before .before .before .of-connection-and-clock .ensures) (c .before .before .before .before .before .before .if1 .left)
+    (c .before .before .before .before .need-of .ensures) (λ i. omega (arith, c .slice-known2 .given i)) (silent-within (c .before .before .announce-transactions .ensures)) refl
 
 pub announce-transactions-spec : {M : Type 1} → statement M
-announce-transactions-spec = tie.close (tie.spec of-connection-and-clock-requires returns need-of-requires slice-relend-prefix-announce-transactions slice-aggregate-announce-transactions announce-transactions-requires same-length returns-2)
+announce-transactions-spec =
+    tie.close (tie.spec of-connection-and-clock-requires returns need-of-requires slice-relend-prefix-announce-transactions slice-aggregate-announce-transactions
+    announce-transactions-requires same-length returns-2)

@@ -31,7 +31,12 @@ same-length : tie.Need-same-length
 same-length c = search needs
 
 returns-2 : tie.Need-returns-2
-returns-2 c = yes-no-done (completes _ _ _ _) (c .before .before .before .before .before .before .before .before .before .pre) (c .before .before .before .before .before .before .before .of-connection-and-clock .ensures) (c .before .before .before .before .before .before .if1 .left) (c .before .before .before .before .need-of .ensures) (λ i. omega (arith, c .slice-known2 .given i)) (silent-answer (c .before .before .transaction-response-completed .ensures)) refl
+returns-2 c =
+    yes-no-done (completes _ _ _ _) (c .before .before .before .before .before .before .before .before .before .pre)
+    (c .before .before .before .before .before .before .before .of-connection-and-clock .ensures) (c .before .before .before .before .before .before .if1 .left)
+    (c .before .before .before .before .need-of .ensures) (λ i. omega (arith, c .slice-known2 .given i)) (silent-answer (c .before .before .transaction-response-completed .ensures)) refl
 
 pub transaction-response-completed-spec : {M : Type 1} → statement M
-transaction-response-completed-spec = tie.close (tie.spec of-connection-and-clock-requires returns need-of-requires slice-relend-prefix-transaction-response-completed slice-aggregate-transaction-response-completed transaction-response-completed-requires same-length returns-2)
+transaction-response-completed-spec =
+    tie.close (tie.spec of-connection-and-clock-requires returns need-of-requires slice-relend-prefix-transaction-response-completed slice-aggregate-transaction-response-completed
+    transaction-response-completed-requires same-length returns-2)

@@ -32,7 +32,10 @@ same-length : tie.Need-same-length
 same-length c = search needs
 
 returns-2 : tie.Need-returns-2
-returns-2 c = yes-no-done (announces _) (c .before .before .before .before .before .before .before .before .before .before .pre) (c .before .before .before .before .before .before .before .before .of-connection .ensures) (c .before .before .before .before .before .before .before .if1 .left) (c .before .before .before .before .before .need-of .ensures) (λ i. omega (arith, c .before .slice-known2 .given i)) (c .before .before .before .announce .ensures) (c .replied .ensures)
+returns-2 c =
+    yes-no-done (announces _) (c .before .before .before .before .before .before .before .before .before .before .pre)
+    (c .before .before .before .before .before .before .before .before .of-connection .ensures) (c .before .before .before .before .before .before .before .if1 .left)
+    (c .before .before .before .before .before .need-of .ensures) (λ i. omega (arith, c .before .slice-known2 .given i)) (c .before .before .before .announce .ensures) (c .replied .ensures)
 
 pub announce-spec : {M : Type 1} → statement M
 announce-spec = tie.close (tie.spec of-connection-requires returns need-of-requires slice-relend-prefix-announce slice-aggregate-announce announce-requires replied-requires same-length returns-2)

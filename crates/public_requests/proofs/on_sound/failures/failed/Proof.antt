@@ -32,7 +32,10 @@ same-length : tie.Need-same-length
 same-length c = search needs
 
 returns-2 : tie.Need-returns-2
-returns-2 c = yes-no-done (fails _ _ _) (c .before .before .before .before .before .before .before .before .before .before .pre) (c .before .before .before .before .before .before .before .before .of-connection-and-clock .ensures) (c .before .before .before .before .before .before .before .if1 .left) (c .before .before .before .before .before .need-of .ensures) (λ i. omega (arith, c .before .slice-known2 .given i)) (c .before .before .before .failed .ensures) (c .replied .ensures)
+returns-2 c =
+    yes-no-done (fails _ _ _) (c .before .before .before .before .before .before .before .before .before .before .pre)
+    (c .before .before .before .before .before .before .before .before .of-connection-and-clock .ensures) (c .before .before .before .before .before .before .before .if1 .left)
+    (c .before .before .before .before .before .need-of .ensures) (λ i. omega (arith, c .before .slice-known2 .given i)) (c .before .before .before .failed .ensures) (c .replied .ensures)
 
 pub failed-spec : {M : Type 1} → statement M
 failed-spec = tie.close (tie.spec of-connection-and-clock-requires returns need-of-requires slice-relend-prefix-failed slice-aggregate-failed failed-requires replied-requires same-length returns-2)

@@ -38,8 +38,16 @@ same-length-2 c = search needs
 
 returns-2 : tie.Need-returns-2
 returns-2 c =
-    let k = failed-typed (c .before .before .before .before .before .before .before .before .before .before .before .before .before .pre .state) (c .before .before .before .before .before .before .before .before .before .before .before .before .before .pre .sound) _ _ _ (key-typed (c .before .before .before .before .before .before .before .before .before .before .before .before .before .args .key) (c .before .before .before .before .before .before .before .before .before .before .before .before .before .good .1 .0)) in
-    lists-done (fails-with-parents _ _ _ _) (c .before .before .before .before .before .before .before .before .before .before .before .before .before .pre) (c .before .before .before .before .before .before .before .before .before .before .in-turn .ensures) (c .before .before .before .before .before .before .before .before .before .if1 .left) (c .before .before .before .before .before .before .before .need-of .ensures) (λ i. omega (arith, c .before .before .slice-known3 .given i)) k (c .before .before .before .before .failed-with-parents .ensures)
+    let k = failed-typed (c .before .before .before .before .before .before .before .before .before .before .before .before .before .pre .state)
+    (c .before .before .before .before .before .before .before .before .before .before .before .before .before .pre .sound) _ _ _
+    (key-typed (c .before .before .before .before .before .before .before .before .before .before .before .before .before .args .key)
+    (c .before .before .before .before .before .before .before .before .before .before .before .before .before .good .1 .0)) in
+    lists-done (fails-with-parents _ _ _ _) (c .before .before .before .before .before .before .before .before .before .before .before .before .before .pre)
+    (c .before .before .before .before .before .before .before .before .before .before .in-turn .ensures)
+    (c .before .before .before .before .before .before .before .before .before .if1 .left) (c .before .before .before .before .before .before .before .need-of .ensures)
+    (λ i. omega (arith, c .before .before .slice-known3 .given i)) k (c .before .before .before .before .failed-with-parents .ensures)
 
 pub failed-with-parents-spec : {M : Type 1} → statement M
-failed-with-parents-spec = tie.close (tie.spec in-turn-requires returns need-of-requires slice-relend-prefix-failed-with-parents slice-aggregate-failed-with-parents failed-with-parents-requires same-length same-length-2 returns-2)
+failed-with-parents-spec =
+    tie.close (tie.spec in-turn-requires returns need-of-requires slice-relend-prefix-failed-with-parents slice-aggregate-failed-with-parents failed-with-parents-requires same-length
+    same-length-2 returns-2)

@@ -26,7 +26,9 @@ same-length : tie.Need-same-length
 same-length c = search needs
 
 returns : tie.Need-returns
-returns c = yes-no-done (forgets _) (c .before .before .before .before .before .before .before .pre) nothing-named refl (c .before .before .before .before .need-of .ensures) (λ i. omega (arith, c .slice-known2 .given i)) (silent-answer (c .before .before .forget .ensures)) refl
+returns c =
+    yes-no-done (forgets _) (c .before .before .before .before .before .before .before .pre) nothing-named refl (c .before .before .before .before .need-of .ensures)
+    (λ i. omega (arith, c .slice-known2 .given i)) (silent-answer (c .before .before .forget .ensures)) refl
 
 pub forget-spec : {M : Type 1} → statement M
 forget-spec = tie.close (tie.spec need-of-requires slice-relend-prefix-forget slice-aggregate-forget forget-requires same-length returns)

@@ -31,7 +31,10 @@ same-length : tie.Need-same-length
 same-length c = search needs
 
 returns-2 : tie.Need-returns-2
-returns-2 c = yes-no-done (unclaims _ _) (c .before .before .before .before .before .before .before .before .before .pre) (c .before .before .before .before .before .before .before .of-connection .ensures) (c .before .before .before .before .before .before .if1 .left) (c .before .before .before .before .need-of .ensures) (λ i. omega (arith, c .slice-known2 .given i)) (silent-answer (c .before .before .unclaim .ensures)) refl
+returns-2 c =
+    yes-no-done (unclaims _ _) (c .before .before .before .before .before .before .before .before .before .pre)
+    (c .before .before .before .before .before .before .before .of-connection .ensures) (c .before .before .before .before .before .before .if1 .left)
+    (c .before .before .before .before .need-of .ensures) (λ i. omega (arith, c .slice-known2 .given i)) (silent-answer (c .before .before .unclaim .ensures)) refl
 
 pub unclaim-spec : {M : Type 1} → statement M
 unclaim-spec = tie.close (tie.spec of-connection-requires returns need-of-requires slice-relend-prefix-unclaim slice-aggregate-unclaim unclaim-requires same-length returns-2)

@@ -33,7 +33,10 @@ same-length : tie.Need-same-length
 same-length c = search needs
 
 returns-2 : tie.Need-returns-2
-returns-2 c = answers-done (gates _) (c .before .before .before .before .before .before .before .before .before .before .pre) (c .before .before .before .before .before .before .before .before .of-clock .ensures) (c .before .before .before .before .before .before .before .if1 .left) (c .before .before .before .before .before .need-of .ensures) (λ i. omega (arith, c .before .slice-known2 .given i)) (c .before .before .before .poll-gate .ensures) (c .replied .ensures)
+returns-2 c =
+    answers-done (gates _) (c .before .before .before .before .before .before .before .before .before .before .pre)
+    (c .before .before .before .before .before .before .before .before .of-clock .ensures) (c .before .before .before .before .before .before .before .if1 .left)
+    (c .before .before .before .before .before .need-of .ensures) (λ i. omega (arith, c .before .slice-known2 .given i)) (c .before .before .before .poll-gate .ensures) (c .replied .ensures)
 
 pub poll-gate-spec : {M : Type 1} → statement M
 poll-gate-spec = tie.close (tie.spec of-clock-requires returns need-of-requires slice-relend-prefix-poll-gate slice-aggregate-poll-gate poll-gate-requires replied-requires same-length returns-2)
