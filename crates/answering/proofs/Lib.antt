@@ -2,6 +2,5 @@ pub mod Printing
 pub mod KeyLists
 pub mod Behind
 pub mod Fitting
-pub mod FirstHashes
 pub mod Batch
 pub mod Unopened

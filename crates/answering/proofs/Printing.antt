@@ -1,14 +1,14 @@
 -- Answers as text.
 -- Assumes nothing.
 use Prim.Native.Nat.{ℕ, _+_, _<_, _≤_}
-use mathlib.Core.Path.{_≡_, refl, sym, ap, subst}
+use mathlib.Core.Path.{_≡_, sym, ap, subst}
 use mathlib.Core.List.{List, [], _∷_, append-assoc}
 use mathlib.Core.Option.{Option, none, some}
 use native.Mathlib.Omega.{arith}
 use lib.ListN.{length}
 use Rattle.ident.specs.Number.{Key}
 use Rattle.machine.specs.Call.{Buffer, Ask, Sum, Call, Open, On}
-use Rattle.machine.specs.Step.{Reply, Refused, Number, Keys, Left, Entries, Chosen, Summed}
+use Rattle.machine.specs.Step.{Reply, Refused, Number, Keys, Summed}
 use Rattle.outcome.specs.declared.Listing.{Listing}
 use Rattle.outcome.specs.declared.Departure.{Departure}
 use Rattle.outcome.specs.Reply.{listingOf, departureOf}
@@ -81,21 +81,6 @@ module _ {out out′ : List ℕ} {r : ℕ} {y : Reply} {n : ℕ} where
 -- the call of a word that is known, with its values as the code has them and as the line has them
 pub did : (v : Values) {w x : NumberWord} {a : Ask} {b b′ : List ℕ} {y : Reply} → w ≡ x → a ≡ numberAsk x v → Leaves (On a) b b′ y → Leaves (On (numberAsk w v)) b b′ y
 did v {w} {x} {a} {b} {b′} {y} g h d = subst (λ (z : NumberWord). Leaves (On (numberAsk z v)) b b′ y) (sym g) (subst (λ (z : Ask). Leaves (On z) b b′ y) h d)
-
--- a reply's text is the same of any call that is no opening
-same-text : (a a′ : Ask) (y : Reply) → replyText (On a) y ≡ replyText (On a′) y
-unfolding replyText
-same-text a a′ (Refused n) = refl
-same-text a a′ (Number n) = refl
-same-text a a′ (Keys ks) = refl
-same-text a a′ (Left own parents) = refl
-same-text a a′ (Entries l) = refl
-same-text a a′ (Chosen n l) = refl
-same-text a a′ (Summed s) = refl
-
-pub carried-same : (a a′ : Ask) {b b′ out out′ : List ℕ} {r : ℕ} → ((e : Effect) → Does (On a) b e → Does (On a′) b e) → Carried (On a) b b′ out out′ r → Carried (On a′) b b′ out out′ r
-carried-same a a′ {b} {b′} {out} {out′} {r} h c =
-    record { effect = c .effect; does = h (c .effect) (c .does); store = c .store; text = subst (λ (t : List ℕ). Printed out out′ t r) (same-text a a′ (c .effect .reply)) (c .text) }
 
 -- the same call, as the code has it and as the line has it
 pub carried-is : {a a′ : Ask} {b b′ out out′ : List ℕ} {r : ℕ} → a ≡ a′ → Carried (On a) b b′ out out′ r → Carried (On a′) b b′ out out′ r

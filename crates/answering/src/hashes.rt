@@ -7,7 +7,7 @@ ghost use Rattle.lists.specs.Lists.{hashesIn};
 ghost use Rattle.lines.specs.Fields.{rest};
 ghost use Rattle.reading.specs.Calls.{hashesAsk, listCall};
 ghost use Rattle.reading.specs.Given.{valuesOf};
-ghost use Rattle.answering.specs.Given.{answerRoom, Carried, Answered};
+ghost use Rattle.answering.specs.Given.{lineRoom, answerRoom, Carried, Answered};
 use crate::answers::number;
 use crate::answers::unreadable;
 use reading::forms::Values;
@@ -48,6 +48,9 @@ fn carry_out(store: &mut [u8], out: &mut [u8], w: HashesWord, v: Values, hashes:
         HashesWord::AnnounceParents => {
             crate::parents::announce_parents(store, out, n, hashes, clock)
         }
+        HashesWord::FailedPackageClaims => {
+            crate::parents::failed_package_claims(store, out, n, hashes, clock)
+        }
     }
 }
 
@@ -60,7 +63,7 @@ pub fn answer_hashes(
     v: Values,
     e: usize,
 ) -> usize
-    requires { ⌜ answerRoom ≤ length (now out) ⌝ }
+    requires { ⌜ (answerRoom ≤ length (now out)) × (length (now line) ≤ lineRoom) ⌝ }
     ensures { λ r. ⌜ Answered (listCall (hashesAsk w (valuesOf v)) (rest (now (line .entry)) (e + 1))) (now (store .entry)) (now (store .exit)) (now (out .entry)) (now (out .exit)) r ⌝ }
 {
     let mut hashes = hash_buffer();

@@ -18,34 +18,23 @@ use Rattle.ident.proofs.TypeNumbers.{kind-type}
 use Rattle.words.specs.Words.{number, digits, words, recs, splice}
 use Rattle.words.proofs.Digits.{length-digits, number-digits}
 use Rattle.words.proofs.Splice.{splice-more}
-use Rattle.words.proofs.Records.{recs-add, recs-front, recs-take, length-recs}
+use Rattle.words.proofs.Records.{recs-take, length-recs}
 use Rattle.machine.specs.Wrapper.{Offer}
 use Rattle.machine.specs.Call.{Ask, Call, On}
 use Rattle.lists.specs.Items.{itemBytes, typeTop, itemIn, itemsIn, paired, offersIn}
 use Rattle.lines.specs.Fields.{numberOf, itemOf, rest}
 use Rattle.reading.specs.Calls.{taking, ending, offerOf, offersThen, offersCall}
-use Rattle.reading.specs.Given.{At, FieldRead}
+use Rattle.reading.specs.Given.{At, FieldRead, longestLine}
 use Rattle.reading.proofs.Taking.{field-not, field-is, ending-end, ending-more}
+use Rattle.reading.proofs.Stored.{record-put}
 use Rattle.inventory.specs.declared.Read.{Read}
 use Rattle.inventory.specs.declared.Read.the-variants.{Not, Is}
 use Rattle.inventory.specs.declared.Offers.the-variants.{None, Are}
-use Rattle.inventory.specs.Given.{longestLine, mostOffers, itemRoom, priorityRoom, priorityBytes, itemsOf, prioritiesOf, OfferPut, OffersRead, FoundAs, OffersFound, OffersGiven}
+use Rattle.inventory.specs.Given.{mostOffers, itemRoom, priorityRoom, priorityBytes, itemsOf, prioritiesOf, OfferPut, OffersRead, FoundAs, OffersFound, OffersGiven}
 use Rattle.inventory.proofs.Plain.{plain-item}
 use Rattle.inventory.proofs.TooMany.{too-many}
 
 -- ---- one record more in the bytes
-
-at-most : {a b : ℕ} → a ≡ b → b ≤ a
-at-most e = omega (arith, e)
-
-module _ {A : Type 0} (k : ℕ) (f : List ℕ → A) (i : ℕ) (b x : List ℕ) (h : k * i ≤ length b) (l : length x ≡ k) where
-  record-put : recs k f (i + 1) (splice b (k * i) x) ≡ recs k f i b ++ (f x ∷ [])
-  unfolding recs splice
-  record-put =
-      let y : List ℕ = drop (k * i + length x) b in
-      let p : List ℕ = take (k * i) b in
-      let m : length p ≡ k * i = length-take-le (k * i) b h in
-      recs-add k f i 1 (p ++ (x ++ y)) ∙ rw (recs-front k f i p (x ++ y) (at-most m), recs-take k f i b h, drop-at p (x ++ y) (k * i) m, take-at x y k l)
 
 -- an item's bytes hold it
 item-read : (k : ItemKind) (h : ℕ) → isPlain k ≡ true → typeOf k < typeTop → h < top → itemIn (digits 256 8 (typeOf k) ++ digits 256 hashBytes h) ≡ record { kind = k; hash = h }

@@ -20,9 +20,6 @@ use Rattle.inventory.specs.declared.Offers.the-variants.{None as NoOffer
 use Rattle.reading.specs.Calls.{offersThen, offersCall}
 
 -- a line of 65,536 bytes has at most 16,384 offers: each has at least four bytes, its commas counted
-abbrev pub longestLine : ℕ
-longestLine = 65536
-
 abbrev pub mostOffers : ℕ
 mostOffers = 16384
 

@@ -1,6 +1,6 @@
 -- The list of hashes that stands behind a line's other fields.
 -- Assumes nothing.
-use Prim.Native.Nat.{ℕ, _+_, _*_, _-_, _<_, _≤_, min}
+use Prim.Native.Nat.{ℕ, _+_, _*_, _-_, _<_, _≤_}
 use mathlib.Core.Path.{_≡_, sym, ap, subst, _∙_}
 use mathlib.Core.List.{List, []}
 use mathlib.Core.Option.{Option, none, some}
@@ -13,9 +13,10 @@ use Rattle.reading.specs.declared.hashes.ListAt.{ListAt}
 use Rattle.reading.specs.declared.hashes.ListAt.the-variants.{Not, Is}
 use Rattle.reading.specs.declared.hashes.Hashes.the-variants.{None, Are}
 use Rattle.reading.specs.Calls.{taking, ending, hashesThen, listCall}
-use Rattle.reading.specs.Given.{At, FieldRead, mostHashes, storedBytes, HashesRead, ListAs, ListRead, HashesGiven}
+use Rattle.reading.specs.Given.{At, FieldRead, longestLine, mostHashes, storedBytes, hashesOf, HashesRead, ListAs, ListRead, HashesGiven}
 use Rattle.reading.proofs.Taking.{field-not, field-is, ending-end, ending-more}
 use Rattle.reading.proofs.Stored.{then-none, hashes-stored}
+use Rattle.reading.proofs.Bytes.{too-many}
 
 -- ---- the list that was read
 
@@ -35,28 +36,34 @@ module _ (ask : List ℕ → Ask) where
   abbrev behind-count : ℕ → List (List ℕ) → Option Call
   behind-count n fs = hashesThen n [] whole fs
 
-module _ {l : List ℕ} {e : ℕ} {o : Option (At ℕ)} (p : FieldRead numberOf l e o) {b : List ℕ} where
-  pub no-count : o ≡ none → HashesGiven l e b None
+module _ {l : List ℕ} {e : ℕ} {o : Option (At ℕ)} (p : FieldRead numberOf l e o) where
+  pub no-count : {b : List ℕ} → o ≡ none → HashesGiven l e b None
   unfolding listCall
   no-count g = record { is = λ ask. field-not p (behind-count ask) g }
 
-  module _ {a : At ℕ} (g : o ≡ some a) {n : ℕ} (c : n ≡ a .value) {r : ListAt} (q : ListRead l (a .end) n b r) where
-    to-list : (ask : List ℕ → Ask) → listCall ask (rest l (e + 1)) ≡ hashesThen n [] (whole ask) (rest l (a .end + 1))
+  module _ {a : At ℕ} (g : o ≡ some a) where
+    counted : (ask : List ℕ → Ask) → listCall ask (rest l (e + 1)) ≡ behind-count ask (a .value) (rest l (a .end + 1))
     unfolding listCall
-    to-list ask = field-is p (behind-count ask) g ∙ ap (λ (m : ℕ). hashesThen m [] (whole ask) (rest l (a .end + 1))) (sym c)
+    counted ask = field-is p (behind-count ask) g
 
-    pub no-list : r ≡ Not → HashesGiven l e b None
-    no-list h = record { is = λ ask. to-list ask ∙ list-not q h (whole ask) }
+    pub too-long : {b : List ℕ} → length l ≤ longestLine → mostHashes < a .value → HashesGiven l e b None
+    too-long h m = record { is = λ ask. counted ask ∙ too-many l (a .end) (a .value) h m (whole ask) }
 
-    module _ {to : ℕ} (h : r ≡ Is to) where
-      to-end : (ask : List ℕ → Ask) → listCall ask (rest l (e + 1)) ≡ whole ask ((list-is q h) .hashes) (rest l (to + 1))
-      to-end ask =
-          let z : n - n ≡ 0 = omega arith in
-          let x : HashesRead l (a .end) n to n b = list-is q h in
-          to-list ask ∙ x .is (whole ask) ∙ ap (λ (m : ℕ). hashesThen m (x .hashes) (whole ask) (rest l (to + 1))) z ∙ then-none (x .hashes) (whole ask) (rest l (to + 1))
+    to-list : {n : ℕ} → n ≡ a .value → (ask : List ℕ → Ask) → listCall ask (rest l (e + 1)) ≡ hashesThen n [] (whole ask) (rest l (a .end + 1))
+    to-list x ask = counted ask ∙ ap (λ (m : ℕ). hashesThen m [] (whole ask) (rest l (a .end + 1))) (sym x)
 
-      pub more-fields : to < length l → HashesGiven l e b None
-      more-fields m = record { is = λ ask. to-end ask ∙ ending-more l to _ m }
+    module _ {n : ℕ} (x : n ≡ a .value) {b : List ℕ} {r : ListAt} (q : ListRead l (a .end) n b r) where
+      pub no-list : r ≡ Not → HashesGiven l e b None
+      no-list h = record { is = λ ask. to-list x ask ∙ list-not q h (whole ask) }
 
-      pub hashes-are : length l ≤ to → (m : ℕ) → m ≡ min n mostHashes → storedBytes ≤ length b → HashesGiven l e b (Are (m * hashBytes))
-      hashes-are m i k s = record { is = record { hashes = (list-is q h) .hashes; inside = omega arith; stored = hashes-stored (list-is q h) i k s; is = λ ask. to-end ask ∙ ending-end l to _ m } }
+      module _ {to : ℕ} (h : r ≡ Is to) where
+        to-end : (ask : List ℕ → Ask) → listCall ask (rest l (e + 1)) ≡ whole ask (hashesOf n b) (rest l (to + 1))
+        to-end ask =
+            let z : n - n ≡ 0 = omega arith in
+            to-list x ask ∙ (list-is q h) .is (whole ask) ∙ ap (λ (m : ℕ). hashesThen m (hashesOf n b) (whole ask) (rest l (to + 1))) z ∙ then-none (hashesOf n b) (whole ask) (rest l (to + 1))
+
+        pub more-fields : to < length l → HashesGiven l e b None
+        more-fields m = record { is = λ ask. to-end ask ∙ ending-more l to _ m }
+
+        pub hashes-are : length l ≤ to → n ≤ mostHashes → storedBytes ≤ length b → HashesGiven l e b (Are (n * hashBytes))
+        hashes-are m f s = record { is = record { inside = omega arith; is = λ ask. to-end ask ∙ ending-end l to _ m ∙ ap (λ (hs : List ℕ). some (On (ask hs))) (sym (hashes-stored n b f s)) } }

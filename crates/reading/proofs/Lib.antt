@@ -2,5 +2,6 @@ pub mod Taking
 pub mod Openings
 pub mod Worded
 pub mod Filling
+pub mod Bytes
 pub mod Stored
 pub mod Behind

@@ -16,7 +16,7 @@ use Rattle.machine.specs.State.{Candidate}
 use Rattle.machine.specs.Wrapper.{Offer}
 use Rattle.machine.specs.Call.{Buffer, Call, Open, On}
 use Rattle.machine.specs.Call.{Ask, Announce, RequestParent, Failed, Unclaim, Forget, ForgetKnown, TeardownPackageClaims, FailedPackageInfo, PackageInfoOwner, TransactionResponseCompleted, PollGate, Sum}
-use Rattle.machine.specs.Call.{Sweep, FailedWithParents, ReleasePackage, Disconnected, AnnounceTransactions, SolicitPackageInfo, ClaimPackage, BeginPackageResolution, AnnounceParents}
+use Rattle.machine.specs.Call.{Sweep, FailedWithParents, ReleasePackage, Disconnected, AnnounceTransactions, SolicitPackageInfo, ClaimPackage, BeginPackageResolution, AnnounceParents, FailedPackageClaims}
 use Rattle.lines.specs.Fields.{numberOf, boolOf, hashOf, keyOf, itemOf, sameText, fields}
 use Rattle.reading.specs.declared.vocabulary.Word.{Word}
 use Rattle.reading.specs.declared.vocabulary.Word.the-variants.{None as NoWord, Open as OpenWord, Sum as SumWord, Leave as LeaveWord, Inventory as InventoryWord}
@@ -30,7 +30,7 @@ use Rattle.reading.specs.declared.vocabulary.KeysWord.{KeysWord}
 use Rattle.reading.specs.declared.vocabulary.KeysWord.the-variants.{Sweep as SweepWord, FailedWithParents as FailWord, ReleasePackage as ReleaseWord}
 use Rattle.reading.specs.declared.vocabulary.HashesWord.{HashesWord}
 use Rattle.reading.specs.declared.vocabulary.HashesWord.the-variants.{SolicitPackageInfo as SolicitWord, ClaimPackage as ClaimWord}
-use Rattle.reading.specs.declared.vocabulary.HashesWord.the-variants.{BeginPackageResolution as BeginWord, AnnounceParents as ParentsWord}
+use Rattle.reading.specs.declared.vocabulary.HashesWord.the-variants.{BeginPackageResolution as BeginWord, AnnounceParents as ParentsWord, FailedPackageClaims as LostWord}
 
 -- ---- one field after the other
 
@@ -304,12 +304,14 @@ hashesForm SolicitWord = connectionField ∷ hashField ∷ nowField ∷ []
 hashesForm ClaimWord = connectionField ∷ hashField ∷ combinedField ∷ nowField ∷ []
 hashesForm BeginWord = connectionField ∷ hashField ∷ combinedField ∷ nowField ∷ []
 hashesForm ParentsWord = connectionField ∷ nowField ∷ []
+hashesForm LostWord = connectionField ∷ nowField ∷ []
 
 abbrev pub hashesAsk : HashesWord → Values → List ℕ → Ask
 hashesAsk SolicitWord v hs = SolicitPackageInfo (v .connection) (v .hash) hs (v .now)
 hashesAsk ClaimWord v hs = ClaimPackage (v .connection) (v .hash) (v .combined) hs (v .now)
 hashesAsk BeginWord v hs = BeginPackageResolution (v .connection) (v .hash) (v .combined) hs (v .now)
 hashesAsk ParentsWord v hs = AnnounceParents (v .connection) hs (v .now) answerBuffer
+hashesAsk LostWord v hs = FailedPackageClaims (v .connection) hs (v .now) answerBuffer
 
 -- the list, and nothing behind it
 unfoldable pub listCall : (List ℕ → Ask) → List (List ℕ) → Option Call
@@ -320,7 +322,7 @@ hashesCall w fs = formThen (hashesForm w) blank (λ v. listCall (hashesAsk w v))
 
 -- ---- the words
 
--- `sol`, `clm`, `beg`, `kin`
+-- `sol`, `clm`, `beg`, `kin`, `lost`
 abbrev pub solText : List ℕ
 solText = 115 ∷ 111 ∷ 108 ∷ []
 
@@ -333,12 +335,16 @@ begText = 98 ∷ 101 ∷ 103 ∷ []
 abbrev pub kinText : List ℕ
 kinText = 107 ∷ 105 ∷ 110 ∷ []
 
+abbrev pub lostText : List ℕ
+lostText = 108 ∷ 111 ∷ 115 ∷ 116 ∷ []
+
 unfoldable pub hashesWord : List ℕ → Word
 hashesWord f =
     if sameText f solText then HashesOf SolicitWord
     else if sameText f clmText then HashesOf ClaimWord
     else if sameText f begText then HashesOf BeginWord
     else if sameText f kinText then HashesOf ParentsWord
+    else if sameText f lostText then HashesOf LostWord
     else NoWord
 
 -- `swp`, `fail`, `rel`, `gone`, `inv`

@@ -1,16 +1,14 @@
 -- What the contracts of the readers say.
 -- Assumes nothing.
-use Prim.Native.Nat.{ℕ, _+_, _*_, _-_, _<_, _≤_, min}
+use Prim.Native.Nat.{ℕ, _+_, _-_, _≤_}
 use mathlib.Core.Path.{_≡_}
 use mathlib.Core.Bool.{Bool}
-use mathlib.Core.List.{List, []}
+use mathlib.Core.List.{List, [], _∷_, _++_}
 use mathlib.Core.Option.{Option, none, some}
-use lib.Dec.{ltb}
-use Rattle.ident.specs.If.{if_then_else_}
 use lib.ListN.{length, take}
-use Rattle.ident.specs.Number.{Key, Item, top}
+use Rattle.ident.specs.Number.{Key, Item}
 use Rattle.ident.specs.Words.{hashBytes}
-use Rattle.words.specs.Words.{number, digits, recs, splice}
+use Rattle.words.specs.Words.{number, recs}
 use Rattle.regions.specs.Rows.{quadNumber}
 use Rattle.machine.specs.Call.{Ask, Sum, Call, Open, On}
 use Rattle.lists.specs.Lists.{hashesIn}
@@ -107,27 +105,27 @@ pub record FormRead (l : List ℕ) (e : ℕ) (form : List ℕ) (r : ValuesAt) : 
 
 -- ---- a list of hashes
 
--- the hashes that are stored: one more than a call takes, so that a call with a longer list is refused as it is with these
+-- a line of 65,536 bytes has at most 32,768 hashes: each has at least two bytes, its comma counted
+abbrev pub longestLine : ℕ
+longestLine = 65536
+
 abbrev pub mostHashes : ℕ
-mostHashes = 101
+mostHashes = 32768
 
 abbrev pub storedBytes : ℕ
-storedBytes = 3232
+storedBytes = 1048576
 
--- the bytes b with the i-th hash stored
-abbrev pub withHash : List ℕ → ℕ → ℕ → List ℕ
-withHash b i h = if ltb i mostHashes then splice b (i * hashBytes) (digits 256 hashBytes h) else b
+-- the first n hashes of bytes
+abbrev pub hashesOf : ℕ → List ℕ → List ℕ
+hashesOf n b = recs hashBytes (number 256) n b
 
+-- one more
 pub record HashPut (b b′ : List ℕ) (i h : ℕ) : Type 0 where
-  pub bytes : b′ ≡ withHash b i h
-  pub small : h < top
+  pub hashes : hashesOf (i + 1) b′ ≡ hashesOf i b ++ (h ∷ [])
 
--- i hashes of the n behind the comma at index e, of which the last field ends at index to; the bytes b hold the first of them
+-- i hashes of the n behind the comma at index e, of which the last field ends at index to, stand in the bytes
 pub record HashesRead (l : List ℕ) (e n to i : ℕ) (b : List ℕ) : Type 0 where
-  pub hashes : List ℕ
-  pub count : length hashes ≡ i
-  pub stored : recs hashBytes (number 256) (min i mostHashes) b ≡ take mostHashes hashes
-  pub is : (k : List ℕ → List (List ℕ) → Option Call) → hashesThen n [] k (rest l (e + 1)) ≡ hashesThen (n - i) hashes k (rest l (to + 1))
+  pub is : (k : List ℕ → List (List ℕ) → Option Call) → hashesThen n [] k (rest l (e + 1)) ≡ hashesThen (n - i) (hashesOf i b) k (rest l (to + 1))
 
 abbrev pub ListAs : List ℕ → ℕ → ℕ → List ℕ → ListAt → Type 0
 ListAs l e n b NoList = (k : List ℕ → List (List ℕ) → Option Call) → hashesThen n [] k (rest l (e + 1)) ≡ none
@@ -137,12 +135,10 @@ ListAs l e n b (IsList to) = HashesRead l e n to n b
 pub record ListRead (l : List ℕ) (e n : ℕ) (b : List ℕ) (r : ListAt) : Type 0 where
   pub is : ListAs l e n b r
 
--- the list behind the comma at index e: the first of its hashes stand in the first m bytes of b
+-- the list behind the comma at index e stands in the first m bytes of b
 pub record HashesHeld (l : List ℕ) (e : ℕ) (b : List ℕ) (m : ℕ) : Type 0 where
-  pub hashes : List ℕ
   pub inside : m ≤ storedBytes
-  pub stored : hashesIn (take m b) ≡ take mostHashes hashes
-  pub is : (ask : List ℕ → Ask) → listCall ask (rest l (e + 1)) ≡ some (On (ask hashes))
+  pub is : (ask : List ℕ → Ask) → listCall ask (rest l (e + 1)) ≡ some (On (ask (hashesIn (take m b))))
 
 abbrev pub HashesAs : List ℕ → ℕ → List ℕ → Hashes → Type 0
 HashesAs l e b NoHashes = (ask : List ℕ → Ask) → listCall ask (rest l (e + 1)) ≡ none

@@ -141,6 +141,7 @@ fn hashes_values(line: &[u8], e: usize, w: HashesWord) -> ValuesAt
         HashesWord::ClaimPackage => read_form(line, e, b"chmn"),
         HashesWord::BeginPackageResolution => read_form(line, e, b"chmn"),
         HashesWord::AnnounceParents => read_form(line, e, b"cn"),
+        HashesWord::FailedPackageClaims => read_form(line, e, b"cn"),
     }
 }
 

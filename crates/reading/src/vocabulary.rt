@@ -43,6 +43,7 @@ pub enum HashesWord {
     ClaimPackage,
     BeginPackageResolution,
     AnnounceParents,
+    FailedPackageClaims,
 }
 
 fn hashes_word(f: &[u8]) -> Word
@@ -59,6 +60,9 @@ fn hashes_word(f: &[u8]) -> Word
     }
     if same(f, b"kin") {
         return Word::Hashes(HashesWord::AnnounceParents);
+    }
+    if same(f, b"lost") {
+        return Word::Hashes(HashesWord::FailedPackageClaims);
     }
     Word::None
 }

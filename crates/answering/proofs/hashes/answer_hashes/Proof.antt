@@ -6,7 +6,7 @@ use lib.ListN.{length-take}
 use Rattle.reading.specs.Calls.{hashesAsk}
 use Rattle.reading.specs.Given.{valuesOf}
 use Rattle.answering.proofs.Printing.{as-unread, as-call}
-use Rattle.answering.proofs.FirstHashes.{no-hashes, hashes-held, carried-first}
+use Rattle.answering.proofs.Batch.{no-hashes, hashes-held}
 use borrow.Author.Needs.{needs}
 use Rattle.answering.proofs.hashes.answer_hashes.Statement.{statement}
 use Rattle.answering.proofs.hashes.answer_hashes.Tie as tie
@@ -53,7 +53,7 @@ same-length-3 c = search needs
 returns-2 : tie.Need-returns-2
 returns-2 c =
     let h = hashes-held (c .before .before .before .before .before .before .before .before .before .before .before .before .read-list .ensures) (c .before .before .before .before .before .before .before .before .before .n .given .1) in
-    as-call (sym (h .is (hashesAsk (c .before .before .before .before .before .before .before .before .before .before .before .before .before .before .before .before .before .before .args .w) (valuesOf (c .before .before .before .before .before .before .before .before .before .before .before .before .before .before .before .before .before .before .args .v))))) (carried-first (c .before .before .before .before .before .before .before .before .before .before .before .before .before .before .before .before .before .before .args .w) (valuesOf (c .before .before .before .before .before .before .before .before .before .before .before .before .before .before .before .before .before .before .args .v)) _ _ (h .stored) (c .before .before .before .before .carry-out .ensures))
+    as-call (sym (h .is (hashesAsk (c .before .before .before .before .before .before .before .before .before .before .before .before .before .before .before .before .before .before .args .w) (valuesOf (c .before .before .before .before .before .before .before .before .before .before .before .before .before .before .before .before .before .before .args .v))))) (c .before .before .before .before .carry-out .ensures)
 
 pub answer-hashes-spec : {M : Type 1} → statement M
 answer-hashes-spec =

@@ -51,6 +51,12 @@ enum-told-4 c = search needs
 announce-parents-requires : tie.Need-announce-parents-requires
 announce-parents-requires c κs = search needs
 
+enum-told-5 : tie.Need-enum-told-5
+enum-told-5 c = search needs
+
+failed-package-claims-requires : tie.Need-failed-package-claims-requires
+failed-package-claims-requires c κs = search needs
+
 same-length : tie.Need-same-length
 same-length c = search needs
 
@@ -109,6 +115,20 @@ returns-4 c =
     (refl)
     (c .before .before .before .before .announce-parents .ensures)
 
+same-length-9 : tie.Need-same-length-9
+same-length-9 c = search needs
+
+same-length-10 : tie.Need-same-length-10
+same-length-10 c = search needs
+
+returns-5 : tie.Need-returns-5
+returns-5 c =
+    let v = c .before .before .before .before .before .before .before .before .before .before .before .before .before .before .args .v in
+    let hs = hashesIn (c .before .before .before .before .before .before .before .before .before .before .before .before .before .before .args .hashes .now) in
+    hashes-did (valuesOf v) hs (c .before .before .before .before .before .before .before .enum-told5 .given .1)
+    (refl)
+    (c .before .before .before .before .failed-package-claims .ensures)
+
 pub carry-out-spec : {M : Type 1} → statement M
 carry-out-spec =
     tie.close
@@ -126,6 +146,8 @@ carry-out-spec =
     number-requires-3
     enum-told-4
     announce-parents-requires
+    enum-told-5
+    failed-package-claims-requires
     same-length
     same-length-2
     returns
@@ -137,4 +159,7 @@ carry-out-spec =
     returns-3
     same-length-7
     same-length-8
-    returns-4)
+    returns-4
+    same-length-9
+    same-length-10
+    returns-5)

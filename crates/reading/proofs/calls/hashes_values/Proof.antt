@@ -42,6 +42,15 @@ slice-aggregate-read-form-4 c = search needs
 read-form-requires-4 : tie.Need-read-form-requires-4
 read-form-requires-4 c κs = search needs
 
+enum-told-5 : tie.Need-enum-told-5
+enum-told-5 c = search needs
+
+slice-aggregate-read-form-5 : tie.Need-slice-aggregate-read-form-5
+slice-aggregate-read-form-5 c = search needs
+
+read-form-requires-5 : tie.Need-read-form-requires-5
+read-form-requires-5 c κs = search needs
+
 returns : tie.Need-returns
 returns c = formed hashesForm (c .before .before .enum-told .given .1) (c .read-form .ensures)
 
@@ -53,6 +62,9 @@ returns-3 c = formed hashesForm (c .before .before .enum-told3 .given .1) (c .re
 
 returns-4 : tie.Need-returns-4
 returns-4 c = formed hashesForm (c .before .before .enum-told4 .given .1) (c .read-form4 .ensures)
+
+returns-5 : tie.Need-returns-5
+returns-5 c = formed hashesForm (c .before .before .enum-told5 .given .1) (c .read-form5 .ensures)
 
 pub hashes-values-spec : {M : Type 1} → statement M
 hashes-values-spec =
@@ -70,7 +82,11 @@ hashes-values-spec =
     enum-told-4
     slice-aggregate-read-form-4
     read-form-requires-4
+    enum-told-5
+    slice-aggregate-read-form-5
+    read-form-requires-5
     returns
     returns-2
     returns-3
-    returns-4)
+    returns-4
+    returns-5)

@@ -3,7 +3,7 @@
 use mathlib.Core.Path.{refl, ap}
 use native.Mathlib.Omega.{arith}
 use Rattle.reading.specs.Given.{numberAt}
-use Rattle.reading.proofs.Behind.{no-count, no-list, more-fields, hashes-are}
+use Rattle.reading.proofs.Behind.{no-count, too-long, no-list, more-fields, hashes-are}
 use borrow.Author.Needs.{needs}
 use Rattle.reading.proofs.hashes.read_list.Statement.{statement}
 use Rattle.reading.proofs.hashes.read_list.Tie as tie
@@ -20,6 +20,9 @@ enum-told c = search needs
 returns : tie.Need-returns
 returns c = no-count (c .before .before .number-at .ensures) (ap numberAt (c .enum-told .given .1))
 
+returns-2 : tie.Need-returns-2
+returns-2 c = too-long (c .before .before .before .before .number-at .ensures) (ap numberAt (c .before .before .count .given .1)) (c .before .before .before .before .before .before .before .pre .0) (c .if1 .taken)
+
 read-hashes-requires : tie.Need-read-hashes-requires
 read-hashes-requires c κs = search needs
 
@@ -32,26 +35,23 @@ enum-told-2 c = search needs
 same-length : tie.Need-same-length
 same-length c = search needs
 
-returns-2 : tie.Need-returns-2
-returns-2 c = no-list (c .before .before .before .before .before .before .before .before .before .number-at .ensures) (ap numberAt (c .before .before .before .before .before .before .before .count .given .1)) refl (c .before .before .before .before .read-hashes .ensures) (c .enum-told2 .given .1)
+returns-3 : tie.Need-returns-3
+returns-3 c = no-list (c .before .before .before .before .before .before .before .before .before .before .number-at .ensures) (ap numberAt (c .before .before .before .before .before .before .before .before .count .given .1)) refl (c .before .before .before .before .read-hashes .ensures) (c .enum-told2 .given .1)
 
 same-length-2 : tie.Need-same-length-2
 same-length-2 c = search needs
 
-returns-3 : tie.Need-returns-3
-returns-3 c = more-fields (c .before .before .before .before .before .before .before .before .before .before .before .number-at .ensures) (ap numberAt (c .before .before .before .before .before .before .before .before .before .count .given .1)) refl (c .before .before .before .before .before .before .read-hashes .ensures) (c .before .before .end .given .1) (c .if1 .taken)
+returns-4 : tie.Need-returns-4
+returns-4 c = more-fields (c .before .before .before .before .before .before .before .before .before .before .before .before .number-at .ensures) (ap numberAt (c .before .before .before .before .before .before .before .before .before .before .count .given .1)) refl (c .before .before .before .before .before .before .read-hashes .ensures) (c .before .before .end .given .1) (c .if2 .taken)
 
-stored-requires : tie.Need-stored-requires
-stored-requires c κs = search needs
-
-mul-t14 : tie.Need-mul-t14
-mul-t14 c = search needs
+mul-t13 : tie.Need-mul-t13
+mul-t13 c = search needs
 
 same-length-3 : tie.Need-same-length-3
 same-length-3 c = search needs
 
-returns-4 : tie.Need-returns-4
-returns-4 c = hashes-are (c .before .before .before .before .before .before .before .before .before .before .before .before .number-at .ensures) (ap numberAt (c .before .before .before .before .before .before .before .before .before .before .count .given .1)) refl (c .before .before .before .before .before .before .before .read-hashes .ensures) (c .before .before .before .end .given .1) (c .before .if1 .left) (c .stored .result) (c .stored .ensures) (omega (arith, c .before .before .before .before .before .before .before .read-hashes .kept))
+returns-5 : tie.Need-returns-5
+returns-5 c = hashes-are (c .before .before .before .before .before .before .before .before .before .before .before .before .number-at .ensures) (ap numberAt (c .before .before .before .before .before .before .before .before .before .before .count .given .1)) refl (c .before .before .before .before .before .before .read-hashes .ensures) (c .before .before .end .given .1) (c .if2 .left) (omega (arith, c .before .before .before .before .before .before .before .before .if1 .left)) (omega (arith, c .before .before .before .before .before .before .read-hashes .kept, c .before .before .before .before .before .before .before .before .before .before .before .before .before .before .before .pre .1))
 
 pub read-list-spec : {M : Type 1} → statement M
 read-list-spec =
@@ -61,14 +61,14 @@ read-list-spec =
     enum-known-count
     enum-told
     returns
+    returns-2
     read-hashes-requires
     enum-known-end
     enum-told-2
     same-length
-    returns-2
-    same-length-2
     returns-3
-    stored-requires
-    mul-t14
+    same-length-2
+    returns-4
+    mul-t13
     same-length-3
-    returns-4)
+    returns-5)

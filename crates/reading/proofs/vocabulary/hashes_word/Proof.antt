@@ -63,14 +63,32 @@ returns-4 c =
       ← (sym (c .if4 .taken) ∙ c .before .same4 .ensures),
     )
 
+slice-aggregate-same-5 : tie.Need-slice-aggregate-same-5
+slice-aggregate-same-5 c = search needs
+
+same-requires-5 : tie.Need-same-requires-5
+same-requires-5 c κs = search needs
+
 returns-5 : tie.Need-returns-5
 unfolding hashesWord
 returns-5 c =
     rw (
-      ← (sym (c .before .before .before .before .before .before .before .before .before .if1 .left) ∙ c .before .before .before .before .before .before .before .before .before .before .same .ensures),
-      ← (sym (c .before .before .before .before .before .before .if2 .left) ∙ c .before .before .before .before .before .before .before .same2 .ensures),
-      ← (sym (c .before .before .before .if3 .left) ∙ c .before .before .before .before .same3 .ensures),
-      ← (sym (c .if4 .left) ∙ c .before .same4 .ensures),
+      ← (sym (c .before .before .before .before .before .before .before .before .before .before .before .before .if1 .left) ∙ c .before .before .before .before .before .before .before .before .before .before .before .before .before .same .ensures),
+      ← (sym (c .before .before .before .before .before .before .before .before .before .if2 .left) ∙ c .before .before .before .before .before .before .before .before .before .before .same2 .ensures),
+      ← (sym (c .before .before .before .before .before .before .if3 .left) ∙ c .before .before .before .before .before .before .before .same3 .ensures),
+      ← (sym (c .before .before .before .if4 .left) ∙ c .before .before .before .before .same4 .ensures),
+      ← (sym (c .if5 .taken) ∙ c .before .same5 .ensures),
+    )
+
+returns-6 : tie.Need-returns-6
+unfolding hashesWord
+returns-6 c =
+    rw (
+      ← (sym (c .before .before .before .before .before .before .before .before .before .before .before .before .if1 .left) ∙ c .before .before .before .before .before .before .before .before .before .before .before .before .before .same .ensures),
+      ← (sym (c .before .before .before .before .before .before .before .before .before .if2 .left) ∙ c .before .before .before .before .before .before .before .before .before .before .same2 .ensures),
+      ← (sym (c .before .before .before .before .before .before .if3 .left) ∙ c .before .before .before .before .before .before .before .same3 .ensures),
+      ← (sym (c .before .before .before .if4 .left) ∙ c .before .before .before .before .same4 .ensures),
+      ← (sym (c .if5 .left) ∙ c .before .same5 .ensures),
     )
 
 pub hashes-word-spec : {M : Type 1} → statement M
@@ -89,4 +107,7 @@ hashes-word-spec =
     slice-aggregate-same-4
     same-requires-4
     returns-4
-    returns-5)
+    slice-aggregate-same-5
+    same-requires-5
+    returns-5
+    returns-6)
