@@ -16,8 +16,8 @@ use Rattle.machine.specs.Call.{Call}
 use Rattle.lines.specs.Text.{Wrote}
 use Rattle.events.specs.declared.input.Kept.{Kept}
 use Rattle.reading.specs.Calls.{callOf}
-use Rattle.events.specs.Replies.{refusalText, unreadable}
-use Rattle.events.specs.Given.{lineRoom, answerRoom, Printed, Carried, AnsweredAs, Answered}
+use Rattle.answering.specs.Replies.{refusalText, unreadable}
+use Rattle.answering.specs.Given.{lineRoom, answerRoom, Printed, Carried, AnsweredAs, Answered}
 use Rattle.events.specs.Input.{asksFor, Effected, RepliedAs, Replied, lineFeed, LineAnswered, Reading, started, ReadsAs, Reads, ReadsAll, nothing, further, EndsAs, Input, Held, Said, Took, TookAll, TookSome, Ended, Ran}
 
 -- ---- one answer

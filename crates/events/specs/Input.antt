@@ -12,8 +12,8 @@ use Rattle.machine.specs.Call.{Call}
 use Rattle.outcome.specs.Outcome.{Effect, Does}
 use Rattle.events.specs.declared.input.Kept.{Kept}
 use Rattle.reading.specs.Calls.{callOf}
-use Rattle.events.specs.Replies.{refusalText, unreadable, replyText}
-use Rattle.events.specs.Given.{lineRoom}
+use Rattle.answering.specs.Replies.{refusalText, unreadable, replyText}
+use Rattle.answering.specs.Given.{lineRoom}
 
 -- ---- what a line does
 

@@ -4,7 +4,7 @@ ghost use lib.ListN.{length};
 ghost use mathlib.Core.Option.{none};
 ghost use Rattle.ident.specs.If.{if_then_else_};
 ghost use Rattle.reading.specs.Calls.{callOf};
-ghost use Rattle.events.specs.Given.{lineRoom, answerRoom, Answered};
+ghost use Rattle.answering.specs.Given.{lineRoom, answerRoom, Answered};
 ghost use Rattle.events.specs.Input.{Reading, started, Held, Said, Took, TookAll, TookSome, Ended, Ran};
 use libc::STDIN_FILENO;
 use libc::STDOUT_FILENO;
@@ -12,7 +12,7 @@ use libc::STDOUT_FILENO;
 // The longest line that is read, and the longest answer with its line feed.
 pub const LINE: usize = 65_536;
 
-pub const OUT: usize = 8_192;
+pub const OUT: usize = 32_768;
 
 // What came of a line so far: how many bytes are kept, and whether there were more than the buffer holds.
 pub struct Kept {
@@ -27,19 +27,19 @@ struct Read {
 
 // The text of a line's answer: of no call, if the line is too long.
 fn print(store: &mut [u8], line: &[u8], long: bool, out: &mut [u8]) -> usize
-    requires { ⌜ answerRoom ≤ length (now out) ⌝ }
+    requires { ⌜ (answerRoom ≤ length (now out)) × (length (now line) ≤ lineRoom) ⌝ }
     ensures { λ r. ⌜ Answered (if long then none else callOf (now (line .entry))) (now (store .entry)) (now (store .exit)) (now (out .entry)) (now (out .exit)) r ⌝ }
 {
     if long {
-        return crate::answers::unreadable(out);
+        return answering::answers::unreadable(out);
     }
-    crate::answers::answer_line(store, line, out)
+    answering::answers::answer_line(store, line, out)
 }
 
 // Answers one line: the text with its line feed stands at the front of `out`, and so many bytes are written. Nothing is left to do where standard
 // output takes no more.
 fn answer(store: &mut [u8], line: &[u8], long: bool, out: &mut [u8]) -> usize
-    requires { ⌜ answerRoom ≤ length (now out) ⌝ }
+    requires { ⌜ (answerRoom ≤ length (now out)) × (length (now line) ≤ lineRoom) ⌝ }
     ensures { λ r. ⌜ Said (if long then none else callOf (now (line .entry))) (now (store .entry)) (now (store .exit)) (now (out .exit)) r ⌝ }
 {
     let n = print(store, line, long, out);

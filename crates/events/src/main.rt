@@ -1,12 +1,7 @@
 // The event program (document 01, "Event lines"; docs/EVENTS.md): calls on standard input, a line each, and their answers on standard output.
 //
-// The step on one line is `answers::answer_line`, whose contract says what a line does to the store and what it prints. `input` parts the bytes that
-// are read into lines (specs/Input).
-mod answers;
+// `input` parts the bytes that are read into lines (specs/Input); `answering::answers::answer_line` answers a line.
 mod input;
-mod keys;
-mod listings;
-mod parents;
 
 // The bytes that a store needs for L = 100 and Q = 2, the most that a line may open.
 const STORE: usize = 22_976;

@@ -1,7 +1,7 @@
 pub mod Taking
 pub mod Openings
 pub mod Worded
-pub mod Offers
 pub mod Filling
+pub mod Bytes
 pub mod Stored
-pub mod ParentLines
+pub mod Behind

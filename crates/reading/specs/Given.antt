@@ -1,22 +1,20 @@
 -- What the contracts of the readers say.
 -- Assumes nothing.
-use Prim.Native.Nat.{ℕ, _+_, _*_, _-_, _<_, min}
+use Prim.Native.Nat.{ℕ, _+_, _-_, _≤_}
 use mathlib.Core.Path.{_≡_}
 use mathlib.Core.Bool.{Bool}
-use mathlib.Core.List.{List, []}
+use mathlib.Core.List.{List, [], _∷_, _++_}
 use mathlib.Core.Option.{Option, none, some}
-use lib.Dec.{ltb}
-use Rattle.ident.specs.If.{if_then_else_}
 use lib.ListN.{length, take}
-use Rattle.ident.specs.Number.{Key, Item, top}
+use Rattle.ident.specs.Number.{Key, Item}
 use Rattle.ident.specs.Words.{hashBytes}
-use Rattle.words.specs.Words.{number, digits, recs, splice}
+use Rattle.words.specs.Words.{number, recs}
 use Rattle.regions.specs.Rows.{quadNumber}
-use Rattle.machine.specs.State.{Candidate}
-use Rattle.machine.specs.Call.{Ask, Announce, RequestParent, Sum, Call, Open, On}
+use Rattle.machine.specs.Call.{Ask, Sum, Call, Open, On}
+use Rattle.lists.specs.Lists.{hashesIn}
 use Rattle.lines.specs.Fields.{rest}
 use Rattle.reading.specs.declared.calls.Asked.{Asked}
-use Rattle.reading.specs.declared.calls.Asked.the-variants.{Unreadable, Opening, Announcing, Requesting, Summing, Parents, Number, Keys as KeysAsked}
+use Rattle.reading.specs.declared.calls.Asked.the-variants.{Unreadable, Opening, Summing, Leaving, Offers, Number, Keys as KeysAsked, Hashes as HashesAsked}
 use Rattle.reading.specs.declared.fields.NumberAt.{NumberAt}
 use Rattle.reading.specs.declared.fields.NumberAt.the-variants.{Not as NoNumber, Is as IsNumber}
 use Rattle.reading.specs.declared.fields.BoolAt.{BoolAt}
@@ -27,15 +25,14 @@ use Rattle.reading.specs.declared.fields.KeyAt.{KeyAt}
 use Rattle.reading.specs.declared.fields.KeyAt.the-variants.{Not as NoKey, Is as IsKey}
 use Rattle.reading.specs.declared.fields.ItemAt.{ItemAt}
 use Rattle.reading.specs.declared.fields.ItemAt.the-variants.{Not as NoItem, Is as IsItem}
-use Rattle.reading.specs.declared.calls.Offer.{Offer}
-use Rattle.reading.specs.declared.calls.MaybeOffer.{MaybeOffer}
-use Rattle.reading.specs.declared.calls.MaybeOffer.the-variants.{Not as NoOffer, Is as IsOffer}
 use Rattle.reading.specs.declared.forms.Values as forms
 use Rattle.reading.specs.declared.forms.ValuesAt.{ValuesAt}
 use Rattle.reading.specs.declared.forms.ValuesAt.the-variants.{Not as NoValues, Is as IsValues}
 use Rattle.reading.specs.declared.hashes.ListAt.{ListAt}
 use Rattle.reading.specs.declared.hashes.ListAt.the-variants.{Not as NoList, Is as IsList}
-use Rattle.reading.specs.Calls.{taking, hashesThen, candidateOf, parentsOf, Values, blank, fieldThen, formThen, numberAsk, keysAsk}
+use Rattle.reading.specs.declared.hashes.Hashes.{Hashes}
+use Rattle.reading.specs.declared.hashes.Hashes.the-variants.{None as NoHashes, Are as AreHashes}
+use Rattle.reading.specs.Calls.{taking, hashesThen, Values, blank, Then, plainThen, fieldThen, formThen, numberAsk, keysAsk, leaveAsk, inventoryAsk, offersCall, hashesAsk, listCall}
 
 -- ---- fields
 
@@ -76,44 +73,59 @@ pub record FieldRead {A : Type 0} (read : List ℕ → Option A) (l : List ℕ) 
 -- ---- forms
 
 abbrev pub valuesOf : forms.Values → Values
-valuesOf v = record { kind = v .kind; hash = quadNumber (v .hash); combined = quadNumber (v .combined); connection = v .connection; now = v .clock }
+valuesOf v = record {
+  kind = v .kind;
+  item = v .item;
+  hash = quadNumber (v .hash);
+  combined = quadNumber (v .combined);
+  connection = v .connection;
+  now = v .clock;
+  ready = v .ready;
+  priority = v .priority;
+  preferred = v .preferred;
+  source = v .source;
+}
 
 -- what k makes of the values and of the fields behind them
-abbrev pub thenValues : List ℕ → (Values → List (List ℕ) → Option Call) → ValuesAt → Option Call
+abbrev pub thenValues : List ℕ → Then → ValuesAt → Option Call
 thenValues l k NoValues = none
 thenValues l k (IsValues v e) = k (valuesOf v) (rest l (e + 1))
 
--- one field more, of the letter f
+-- one field more, of the letter f: a bool or a number
+pub record PlainTaken (l : List ℕ) (e f : ℕ) (v : Values) (r : ValuesAt) : Type 0 where
+  pub is : (k : Then) → plainThen f v k (rest l (e + 1)) ≡ thenValues l k r
+
+-- of any letter
 pub record FieldTaken (l : List ℕ) (e f : ℕ) (v : Values) (r : ValuesAt) : Type 0 where
-  pub is : (k : Values → List (List ℕ) → Option Call) → fieldThen f v k (rest l (e + 1)) ≡ thenValues l k r
+  pub is : (k : Then) → fieldThen f v k (rest l (e + 1)) ≡ thenValues l k r
 
 -- the fields of a form behind the comma at index e
 pub record FormRead (l : List ℕ) (e : ℕ) (form : List ℕ) (r : ValuesAt) : Type 0 where
-  pub is : (k : Values → List (List ℕ) → Option Call) → formThen form blank k (rest l (e + 1)) ≡ thenValues l k r
+  pub is : (k : Then) → formThen form blank k (rest l (e + 1)) ≡ thenValues l k r
 
 -- ---- a list of hashes
 
--- the hashes that are stored: one more than a call takes, so that a call with a longer list is refused as it is with these
+-- a line of 65,536 bytes has at most 32,768 hashes: each has at least two bytes, its comma counted
+abbrev pub longestLine : ℕ
+longestLine = 65536
+
 abbrev pub mostHashes : ℕ
-mostHashes = 101
+mostHashes = 32768
 
 abbrev pub storedBytes : ℕ
-storedBytes = 3232
+storedBytes = 1048576
 
--- the bytes b with the i-th hash stored
-abbrev pub withHash : List ℕ → ℕ → ℕ → List ℕ
-withHash b i h = if ltb i mostHashes then splice b (i * hashBytes) (digits 256 hashBytes h) else b
+-- the first n hashes of bytes
+abbrev pub hashesOf : ℕ → List ℕ → List ℕ
+hashesOf n b = recs hashBytes (number 256) n b
 
+-- one more
 pub record HashPut (b b′ : List ℕ) (i h : ℕ) : Type 0 where
-  pub bytes : b′ ≡ withHash b i h
-  pub small : h < top
+  pub hashes : hashesOf (i + 1) b′ ≡ hashesOf i b ++ (h ∷ [])
 
--- i hashes of the n behind the comma at index e, of which the last field ends at index to; the bytes b hold the first of them
+-- i hashes of the n behind the comma at index e, of which the last field ends at index to, stand in the bytes
 pub record HashesRead (l : List ℕ) (e n to i : ℕ) (b : List ℕ) : Type 0 where
-  pub hashes : List ℕ
-  pub count : length hashes ≡ i
-  pub stored : recs hashBytes (number 256) (min i mostHashes) b ≡ take mostHashes hashes
-  pub is : (k : List ℕ → List (List ℕ) → Option Call) → hashesThen n [] k (rest l (e + 1)) ≡ hashesThen (n - i) hashes k (rest l (to + 1))
+  pub is : (k : List ℕ → List (List ℕ) → Option Call) → hashesThen n [] k (rest l (e + 1)) ≡ hashesThen (n - i) (hashesOf i b) k (rest l (to + 1))
 
 abbrev pub ListAs : List ℕ → ℕ → ℕ → List ℕ → ListAt → Type 0
 ListAs l e n b NoList = (k : List ℕ → List (List ℕ) → Option Call) → hashesThen n [] k (rest l (e + 1)) ≡ none
@@ -123,26 +135,27 @@ ListAs l e n b (IsList to) = HashesRead l e n to n b
 pub record ListRead (l : List ℕ) (e n : ℕ) (b : List ℕ) (r : ListAt) : Type 0 where
   pub is : ListAs l e n b r
 
+-- the list behind the comma at index e stands in the first m bytes of b
+pub record HashesHeld (l : List ℕ) (e : ℕ) (b : List ℕ) (m : ℕ) : Type 0 where
+  pub inside : m ≤ storedBytes
+  pub is : (ask : List ℕ → Ask) → listCall ask (rest l (e + 1)) ≡ some (On (ask (hashesIn (take m b))))
+
+abbrev pub HashesAs : List ℕ → ℕ → List ℕ → Hashes → Type 0
+HashesAs l e b NoHashes = (ask : List ℕ → Ask) → listCall ask (rest l (e + 1)) ≡ none
+HashesAs l e b (AreHashes m) = HashesHeld l e b m
+
+pub record HashesGiven (l : List ℕ) (e : ℕ) (b : List ℕ) (r : Hashes) : Type 0 where
+  pub is : HashesAs l e b r
+
 -- ---- calls
-
-abbrev pub offerOf : Offer → Candidate
-offerOf o = record { connection = o .connection; item = record { kind = o .kind; hash = quadNumber (o .hash) }; ready = o .ready; preferred = o .preferred; priority = o .priority }
-
-abbrev pub offered : (Candidate → Ask) → MaybeOffer → Option Call
-offered ask NoOffer = none
-offered ask (IsOffer o) = some (On (ask (offerOf o)))
-
--- the fields behind the comma at index e, as a candidate
-pub record OfferRead (l : List ℕ) (e : ℕ) (r : MaybeOffer) : Type 0 where
-  pub is : (ask : Candidate → Ask) → candidateOf ask (rest l (e + 1)) ≡ offered ask r
 
 -- what the line l asks for
 abbrev pub askedCall : List ℕ → Asked → Option Call
 askedCall l Unreadable = none
 askedCall l (Opening L Q) = some (Open L Q)
-askedCall l (Announcing o) = some (On (Announce (offerOf o)))
-askedCall l (Requesting o) = some (On (RequestParent (offerOf o)))
 askedCall l Summing = some (On Sum)
-askedCall l (Parents e) = parentsOf (rest l (e + 1))
+askedCall l (Leaving v) = some (On (leaveAsk (valuesOf v)))
+askedCall l (Offers v e) = offersCall (inventoryAsk (valuesOf v)) (rest l (e + 1))
 askedCall l (Number w v) = some (On (numberAsk w (valuesOf v)))
 askedCall l (KeysAsked w v) = some (On (keysAsk w (valuesOf v)))
+askedCall l (HashesAsked w v e) = listCall (hashesAsk w (valuesOf v)) (rest l (e + 1))

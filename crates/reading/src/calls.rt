@@ -3,47 +3,29 @@ ghost use mathlib.Core.Path.{_≡_};
 ghost use mathlib.Core.Option.{some};
 ghost use Prim.Native.Nat.{_+_};
 ghost use Rattle.lines.specs.Fields.{rest};
-ghost use Rattle.machine.specs.Call.{On, Announce, RequestParent, Sum};
-ghost use Rattle.reading.specs.Calls.{openOf, candidateOf, ending, numberForm, numberCall, keysForm, keysCall, callWith, callOf};
-ghost use Rattle.reading.specs.Given.{OfferRead, FormRead, askedCall};
-use crate::fields::BoolAt;
-use crate::fields::ItemAt;
+ghost use Rattle.machine.specs.Call.{On, Sum};
+ghost use Rattle.reading.specs.Calls.{openOf, ending, numberForm, numberCall, keysForm, keysCall, leaveCall, inventoryCall, hashesForm, hashesCall, callWith, callOf};
+ghost use Rattle.reading.specs.Given.{FormRead, askedCall};
 use crate::fields::NumberAt;
-use crate::fields::bool_at;
-use crate::fields::item_at;
 use crate::fields::number_at;
 use crate::forms::Values;
 use crate::forms::ValuesAt;
 use crate::forms::read_form;
+use crate::vocabulary::HashesWord;
 use crate::vocabulary::KeysWord;
 use crate::vocabulary::NumberWord;
 use crate::vocabulary::Word;
 
-// What a line asks for. The parents' fields stand behind the comma at an index: their list is read where the call is carried out.
+// What a line asks for. A list stands behind the comma at an index: it is read where its call is carried out.
 pub enum Asked {
     Unreadable,
     Opening(u64, u64),
-    Announcing(Offer),
-    Requesting(Offer),
     Summing,
-    Parents(usize),
+    Leaving(Values),
+    Offers(Values, usize),
     Number(NumberWord, Values),
     Keys(KeysWord, Values),
-}
-
-// What a connection offers: a candidate, with the item's hash as plain words.
-pub struct Offer {
-    pub connection: u64,
-    pub kind: ident::ItemKind,
-    pub hash: regions::Quad,
-    pub ready: u64,
-    pub preferred: bool,
-    pub priority: u64,
-}
-
-pub enum MaybeOffer {
-    Not,
-    Is(Offer),
+    Hashes(HashesWord, Values, usize),
 }
 
 // An opening, whose fields stand behind the comma at index e.
@@ -68,56 +50,6 @@ fn opening(line: &[u8], e: usize) -> Asked
     Asked::Opening(l, q)
 }
 
-// A candidate, whose fields stand behind the comma at index e.
-fn read_offer(line: &[u8], e: usize) -> MaybeOffer
-    ensures { λ r. ⌜ OfferRead (now (line .entry)) e r ⌝ }
-{
-    let NumberAt::Is(connection, to) = number_at(line, e) else {
-        return MaybeOffer::Not;
-    };
-    let ItemAt::Is(kind, hash, to2) = item_at(line, to) else {
-        return MaybeOffer::Not;
-    };
-    let NumberAt::Is(ready, to3) = number_at(line, to2) else {
-        return MaybeOffer::Not;
-    };
-    let BoolAt::Is(preferred, to4) = bool_at(line, to3) else {
-        return MaybeOffer::Not;
-    };
-    let NumberAt::Is(priority, end) = number_at(line, to4) else {
-        return MaybeOffer::Not;
-    };
-    if end < line.len() {
-        return MaybeOffer::Not;
-    }
-    MaybeOffer::Is(Offer {
-        connection,
-        kind,
-        hash,
-        ready,
-        preferred,
-        priority,
-    })
-}
-
-fn announcing(line: &[u8], e: usize) -> Asked
-    ensures { λ r. ⌜ askedCall (now (line .entry)) r ≡ candidateOf Announce (rest (now (line .entry)) (e + 1)) ⌝ }
-{
-    let MaybeOffer::Is(o) = read_offer(line, e) else {
-        return Asked::Unreadable;
-    };
-    Asked::Announcing(o)
-}
-
-fn requesting(line: &[u8], e: usize) -> Asked
-    ensures { λ r. ⌜ askedCall (now (line .entry)) r ≡ candidateOf RequestParent (rest (now (line .entry)) (e + 1)) ⌝ }
-{
-    let MaybeOffer::Is(o) = read_offer(line, e) else {
-        return Asked::Unreadable;
-    };
-    Asked::Requesting(o)
-}
-
 fn summing(line: &[u8], e: usize) -> Asked
     ensures { λ r. ⌜ askedCall (now (line .entry)) r ≡ ending (some (On Sum)) (rest (now (line .entry)) (e + 1)) ⌝ }
 {
@@ -132,11 +64,16 @@ fn number_values(line: &[u8], e: usize, w: NumberWord) -> ValuesAt
     ensures { λ r. ⌜ FormRead (now (line .entry)) e (numberForm w) r ⌝ }
 {
     match w {
+        NumberWord::Announce => read_form(line, e, b"cirpq"),
+        NumberWord::RequestParent => read_form(line, e, b"cirpq"),
         NumberWord::Failed => read_form(line, e, b"kcn"),
         NumberWord::Unclaim => read_form(line, e, b"kc"),
         NumberWord::Forget => read_form(line, e, b"k"),
+        NumberWord::ForgetKnown => read_form(line, e, b"kn"),
+        NumberWord::Teardown => read_form(line, e, b"n"),
         NumberWord::FailedPackageInfo => read_form(line, e, b"kcn"),
         NumberWord::PackageInfoOwner => read_form(line, e, b"kn"),
+        NumberWord::ResponseCompleted => read_form(line, e, b"chmn"),
         NumberWord::PollGate => read_form(line, e, b"n"),
     }
 }
@@ -175,6 +112,48 @@ fn keys_call(line: &[u8], e: usize, w: KeysWord) -> Asked
     Asked::Keys(w, v)
 }
 
+fn leave_call(line: &[u8], e: usize) -> Asked
+    ensures { λ r. ⌜ askedCall (now (line .entry)) r ≡ leaveCall (rest (now (line .entry)) (e + 1)) ⌝ }
+{
+    let ValuesAt::Is(v, end) = read_form(line, e, b"cn") else {
+        return Asked::Unreadable;
+    };
+    if end < line.len() {
+        return Asked::Unreadable;
+    }
+    Asked::Leaving(v)
+}
+
+fn inventory_call(line: &[u8], e: usize) -> Asked
+    ensures { λ r. ⌜ askedCall (now (line .entry)) r ≡ inventoryCall (rest (now (line .entry)) (e + 1)) ⌝ }
+{
+    let ValuesAt::Is(v, end) = read_form(line, e, b"cnps") else {
+        return Asked::Unreadable;
+    };
+    Asked::Offers(v, end)
+}
+
+fn hashes_values(line: &[u8], e: usize, w: HashesWord) -> ValuesAt
+    ensures { λ r. ⌜ FormRead (now (line .entry)) e (hashesForm w) r ⌝ }
+{
+    match w {
+        HashesWord::SolicitPackageInfo => read_form(line, e, b"chn"),
+        HashesWord::ClaimPackage => read_form(line, e, b"chmn"),
+        HashesWord::BeginPackageResolution => read_form(line, e, b"chmn"),
+        HashesWord::AnnounceParents => read_form(line, e, b"cn"),
+        HashesWord::FailedPackageClaims => read_form(line, e, b"cn"),
+    }
+}
+
+fn hashes_call(line: &[u8], e: usize, w: HashesWord) -> Asked
+    ensures { λ r. ⌜ askedCall (now (line .entry)) r ≡ hashesCall w (rest (now (line .entry)) (e + 1)) ⌝ }
+{
+    let ValuesAt::Is(v, end) = hashes_values(line, e, w) else {
+        return Asked::Unreadable;
+    };
+    Asked::Hashes(w, v, end)
+}
+
 // The call of a word, whose fields stand behind the comma at index e.
 fn call_with(line: &[u8], e: usize, w: Word) -> Asked
     ensures { λ r. ⌜ askedCall (now (line .entry)) r ≡ callWith w (rest (now (line .entry)) (e + 1)) ⌝ }
@@ -182,12 +161,12 @@ fn call_with(line: &[u8], e: usize, w: Word) -> Asked
     match w {
         Word::None => Asked::Unreadable,
         Word::Open => opening(line, e),
-        Word::Announce => announcing(line, e),
-        Word::RequestParent => requesting(line, e),
         Word::Sum => summing(line, e),
-        Word::Parents => Asked::Parents(e),
+        Word::Leave => leave_call(line, e),
+        Word::Inventory => inventory_call(line, e),
         Word::Number(x) => number_call(line, e, x),
         Word::Keys(x) => keys_call(line, e, x),
+        Word::Hashes(x) => hashes_call(line, e, x),
     }
 }
 

@@ -1,17 +1,19 @@
 // Lists of hashes, read into bytes that are lent: 32 bytes each.
 ghost use mathlib.Core.Path.{_≡_};
-ghost use Prim.Native.Nat.{_≤_, min};
+ghost use Prim.Native.Nat.{_≤_, _<_};
 ghost use lib.ListN.{length};
 ghost use Rattle.ident.specs.Words.{hashNum};
 ghost use Rattle.regions.specs.Rows.{quadNumber};
-ghost use Rattle.reading.specs.Given.{mostHashes, storedBytes, HashPut, ListRead};
+ghost use Rattle.reading.specs.Given.{longestLine, mostHashes, storedBytes, HashPut, ListRead, HashesGiven};
 use crate::fields::HashAt;
+use crate::fields::NumberAt;
 use crate::fields::hash_at;
+use crate::fields::number_at;
 
-// Hashes that are stored, one more than a call takes: with more it is refused, whichever they are.
-const HASHES: usize = 101;
+// The most hashes that a line of 65,536 bytes can hold: each takes a comma and a digit or more.
+const HASHES: usize = 32_768;
 
-pub const HASH: usize = 32;
+const HASH: usize = 32;
 
 const STORED: usize = HASHES * HASH;
 
@@ -19,6 +21,12 @@ const STORED: usize = HASHES * HASH;
 pub enum ListAt {
     Not,
     Is(usize),
+}
+
+// The list of hashes of a line, or that it has none: how many bytes hold it.
+pub enum Hashes {
+    None,
+    Are(usize),
 }
 
 pub fn hash_buffer() -> [u8; STORED]
@@ -36,18 +44,15 @@ pub fn hash_of(q: regions::Quad) -> ident::Hash
 }
 
 fn put_hash(hashes: &mut [u8], i: usize, q: regions::Quad)
-    requires { ⌜ storedBytes ≤ length (now hashes) ⌝ }
+    requires { ⌜ (i < mostHashes) × (storedBytes ≤ length (now hashes)) ⌝ }
     ensures { λ _. ⌜ HashPut (now (hashes .entry)) (now (hashes .exit)) i (quadNumber q) ⌝ }
 {
-    if HASHES <= i {
-        return;
-    }
     ident::put_hash(hashes, i * HASH, hash_of(q));
 }
 
 // The n hashes whose fields stand behind the comma at index e.
-pub fn read_hashes(line: &[u8], e: usize, n: usize, hashes: &mut [u8]) -> ListAt
-    requires { ⌜ storedBytes ≤ length (now hashes) ⌝ }
+fn read_hashes(line: &[u8], e: usize, n: usize, hashes: &mut [u8]) -> ListAt
+    requires { ⌜ (n ≤ mostHashes) × (storedBytes ≤ length (now hashes)) ⌝ }
     ensures { λ r. ⌜ ListRead (now (line .entry)) e n (now (hashes .exit)) r ⌝ }
 {
     let mut to = e;
@@ -63,12 +68,23 @@ pub fn read_hashes(line: &[u8], e: usize, n: usize, hashes: &mut [u8]) -> ListAt
     ListAt::Is(to)
 }
 
-// How many of n hashes are stored.
-pub fn stored(n: usize) -> usize
-    ensures { λ r. ⌜ r ≡ min n mostHashes ⌝ }
+// The list behind the comma at index e, the line's last fields.
+pub fn read_list(line: &[u8], e: usize, hashes: &mut [u8]) -> Hashes
+    requires { ⌜ (length (now line) ≤ longestLine) × (storedBytes ≤ length (now hashes)) ⌝ }
+    ensures { λ r. ⌜ HashesGiven (now (line .entry)) e (now (hashes .exit)) r ⌝ }
 {
-    if n < HASHES {
-        return n;
+    let NumberAt::Is(count, to) = number_at(line, e) else {
+        return Hashes::None;
+    };
+    if 32_768 < count {
+        return Hashes::None;
     }
-    HASHES
+    let n = count as usize;
+    let ListAt::Is(end) = read_hashes(line, to, n, hashes) else {
+        return Hashes::None;
+    };
+    if end < line.len() {
+        return Hashes::None;
+    }
+    Hashes::Are(n * HASH)
 }

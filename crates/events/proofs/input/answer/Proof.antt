@@ -2,7 +2,7 @@
 -- Assumes nothing.
 use native.Mathlib.Omega.{arith}
 use lib.ListN.{length-set, length-take}
-use Rattle.events.proofs.Printing.{room-of}
+use Rattle.answering.proofs.Printing.{room-of}
 use Rattle.events.proofs.Bytewise.{fed}
 use borrow.Author.Needs.{needs}
 use Rattle.events.proofs.input.answer.Statement.{statement}

@@ -11,7 +11,7 @@ slice-aggregate-answer : tie.Need-slice-aggregate-answer
 slice-aggregate-answer c = simp length-take (omega arith)
 
 answer-requires : tie.Need-answer-requires
-answer-requires c κs = search needs
+answer-requires c κs = (omega arith, simp length-take (omega arith))
 
 same-length : tie.Need-same-length
 same-length c = search needs

@@ -6,7 +6,7 @@ use mathlib.Core.Path.{_≡_, refl}
 use mathlib.Core.List.{[]}
 use native.Mathlib.Omega.{arith}
 use lib.ListN.{length}
-use Rattle.events.specs.Given.{lineRoom}
+use Rattle.answering.specs.Given.{lineRoom}
 use Rattle.events.specs.Input.{started, TookSome}
 use Rattle.events.proofs.Bytewise.{took-none, nothing-held, took-more}
 use Rattle.events.proofs.input.read_lines.Statement.{statement}

@@ -5,7 +5,7 @@ use Prim.Native.Nat.{_≤_, _-_}
 use mathlib.Core.Path.{_≡_, refl}
 use native.Mathlib.Omega.{arith}
 use lib.ListN.{length, take}
-use Rattle.events.specs.Given.{lineRoom}
+use Rattle.answering.specs.Given.{lineRoom}
 use Rattle.events.specs.Input.{Reading, Held, TookAll}
 use Rattle.events.proofs.Bytewise.{took-none, took-one, take-next, took-whole}
 use Rattle.events.proofs.input.take_all.Statement.{statement}

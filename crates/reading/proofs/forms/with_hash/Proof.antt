@@ -1,14 +1,17 @@
 -- `reading::forms::with_hash` meets its contract.
 -- Assumes nothing.
-use borrow.Author.Tests.{eq-eqb, ne-eqb}
+use borrow.Author.Needs.{needs}
 use Rattle.reading.proofs.forms.with_hash.Statement.{statement}
 use Rattle.reading.proofs.forms.with_hash.Tie as tie
 
-returns : tie.Need-returns
-returns c = rw (eq-eqb _ 104 (c .if1 .taken))
+hash-if-requires : tie.Need-hash-if-requires
+hash-if-requires c κs = search needs
 
-returns-2 : tie.Need-returns-2
-returns-2 c = rw (ne-eqb _ 104 (c .if1 .left))
+hash-if-requires-2 : tie.Need-hash-if-requires-2
+hash-if-requires-2 c κs = search needs
+
+returns : tie.Need-returns
+returns c = rw (← c .before .hash-if .ensures, ← c .hash-if2 .ensures)
 
 pub with-hash-spec : {M : Type 1} → statement M
-with-hash-spec = tie.close (tie.spec returns returns-2)
+with-hash-spec = tie.close (tie.spec hash-if-requires hash-if-requires-2 returns)

@@ -1,14 +1,10 @@
 -- `reading::hashes::put_hash` meets its contract.
 -- Assumes nothing.
-use mathlib.Core.Path.{refl}
 use native.Mathlib.Omega.{arith}
-use Rattle.reading.proofs.Stored.{hash-left, hash-put}
+use Rattle.reading.proofs.Stored.{quad-below, hash-put}
 use borrow.Author.Needs.{needs}
 use Rattle.reading.proofs.hashes.put_hash.Statement.{statement}
 use Rattle.reading.proofs.hashes.put_hash.Tie as tie
-
-returns : tie.Need-returns
-returns c = hash-left (c .before .before .args .q) (omega arith) (omega arith) (omega arith) (omega arith) (c .if1 .taken) refl
 
 mul-put-hash : tie.Need-mul-put-hash
 mul-put-hash c = search needs
@@ -22,10 +18,11 @@ put-hash-requires c κs = search needs
 same-length : tie.Need-same-length
 same-length c = search needs
 
-returns-2 : tie.Need-returns-2
-returns-2 c = hash-put (c .before .before .before .before .before .before .before .args .q) (omega arith) (omega arith) (omega arith) (omega arith) (c .before .before .before .hash-of .result) (c .before .before .before .before .before .if1 .left) (c .before .before .before .hash-of .ensures) (c .before .before .put-hash .ensures)
+returns : tie.Need-returns
+returns c =
+    let q = c .before .before .before .before .before .before .args .q in
+    hash-put (c .before .before .before .before .before .before .args .hashes .now) (c .before .before .before .before .before .before .args .i) (c .before .before .before .before .before .before .pre .0) (c .before .before .before .before .before .before .pre .1) q (quad-below q (omega arith) (omega arith) (omega arith) (omega arith)) (c .before .before .before .hash-of .result) (c .before .before .before .hash-of .ensures) (c .before .before .put-hash .ensures)
 
 pub put-hash-spec : {M : Type 1} → statement M
 put-hash-spec =
-    tie.close
-    (tie.spec returns mul-put-hash hash-of-requires put-hash-requires same-length returns-2)
+    tie.close (tie.spec mul-put-hash hash-of-requires put-hash-requires same-length returns)

@@ -35,7 +35,7 @@ returns : tie.Need-returns Inv-loop μ-loop
 returns c = record { is = no-hash (c .before .before .before .before .loop .inv .2) (omega arith) (c .before .before .hash-at .ensures) (ap hashAt (c .enum-told .given .1)) }
 
 put-hash-requires : tie.Need-put-hash-requires Inv-loop μ-loop
-put-hash-requires c κs = omega (arith, c .before .before .before .before .before .before .loop .inv .1, c .before .before .before .before .before .before .before .before .before .pre)
+put-hash-requires c κs = (omega arith, omega (arith, c .before .before .before .before .before .before .loop .inv .1, c .before .before .before .before .before .before .before .before .before .pre .1))
 
 add-i : tie.Need-add-i Inv-loop μ-loop
 add-i c = search needs
@@ -44,7 +44,8 @@ loop-less : tie.Need-loop-less Inv-loop μ-loop
 loop-less c = search needs
 
 loop-again : tie.Need-loop-again Inv-loop μ-loop
-loop-again c = (omega arith, c .before .before .put-hash .kept .0 ∙ c .before .before .before .before .before .before .before .before .before .loop .inv .1, one-more (c .before .before .before .before .before .before .before .before .before .loop .inv .2) (omega arith) (c .before .before .before .before .before .before .before .hash-at .ensures) (ap hashAt (c .before .before .before .before .before .q .given .1)) (omega (arith, c .before .before .before .before .before .before .before .before .before .loop .inv .1, c .before .before .before .before .before .before .before .before .before .before .before .before .pre)) (c .before .before .put-hash .ensures))
+loop-again c =
+    (omega arith, c .before .before .put-hash .kept .0 ∙ c .before .before .before .before .before .before .before .before .before .loop .inv .1, one-more (c .before .before .before .before .before .before .before .before .before .loop .inv .2) (omega arith) (c .before .before .before .before .before .before .before .hash-at .ensures) (ap hashAt (c .before .before .before .before .before .q .given .1)) (c .before .before .put-hash .ensures))
 
 same-length-2 : tie.Need-same-length-2 Inv-loop μ-loop
 same-length-2 c = c .before .loop .inv .1

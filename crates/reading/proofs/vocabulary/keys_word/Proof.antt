@@ -14,7 +14,9 @@ same-requires c κs = search needs
 
 returns : tie.Need-returns
 unfolding keysWord
-returns c = rw (← (sym (c .if1 .taken) ∙ c .before .same .ensures))
+returns c =
+    rw
+    (← (sym (c .if1 .taken) ∙ c .before .same .ensures))
 
 slice-aggregate-same-2 : tie.Need-slice-aggregate-same-2
 slice-aggregate-same-2 c = search needs
@@ -24,7 +26,11 @@ same-requires-2 c κs = search needs
 
 returns-2 : tie.Need-returns-2
 unfolding keysWord
-returns-2 c = rw (← (sym (c .before .before .before .if1 .left) ∙ c .before .before .before .before .same .ensures), ← (sym (c .if2 .taken) ∙ c .before .same2 .ensures))
+returns-2 c =
+    rw (
+      ← (sym (c .before .before .before .if1 .left) ∙ c .before .before .before .before .same .ensures),
+      ← (sym (c .if2 .taken) ∙ c .before .same2 .ensures),
+    )
 
 slice-aggregate-same-3 : tie.Need-slice-aggregate-same-3
 slice-aggregate-same-3 c = search needs
@@ -34,11 +40,60 @@ same-requires-3 c κs = search needs
 
 returns-3 : tie.Need-returns-3
 unfolding keysWord
-returns-3 c = rw (← (sym (c .before .before .before .before .before .before .if1 .left) ∙ c .before .before .before .before .before .before .before .same .ensures), ← (sym (c .before .before .before .if2 .left) ∙ c .before .before .before .before .same2 .ensures), ← (sym (c .if3 .taken) ∙ c .before .same3 .ensures))
+returns-3 c =
+    rw (
+      ← (sym (c .before .before .before .before .before .before .if1 .left) ∙ c .before .before .before .before .before .before .before .same .ensures),
+      ← (sym (c .before .before .before .if2 .left) ∙ c .before .before .before .before .same2 .ensures),
+      ← (sym (c .if3 .taken) ∙ c .before .same3 .ensures),
+    )
+
+slice-aggregate-same-4 : tie.Need-slice-aggregate-same-4
+slice-aggregate-same-4 c = search needs
+
+same-requires-4 : tie.Need-same-requires-4
+same-requires-4 c κs = search needs
 
 returns-4 : tie.Need-returns-4
 unfolding keysWord
-returns-4 c = rw (← (sym (c .before .before .before .before .before .before .if1 .left) ∙ c .before .before .before .before .before .before .before .same .ensures), ← (sym (c .before .before .before .if2 .left) ∙ c .before .before .before .before .same2 .ensures), ← (sym (c .if3 .left) ∙ c .before .same3 .ensures))
+returns-4 c =
+    rw (
+      ← (sym (c .before .before .before .before .before .before .before .before .before .if1 .left) ∙ c .before .before .before .before .before .before .before .before .before .before .same .ensures),
+      ← (sym (c .before .before .before .before .before .before .if2 .left) ∙ c .before .before .before .before .before .before .before .same2 .ensures),
+      ← (sym (c .before .before .before .if3 .left) ∙ c .before .before .before .before .same3 .ensures),
+      ← (sym (c .if4 .taken) ∙ c .before .same4 .ensures),
+    )
+
+slice-aggregate-same-5 : tie.Need-slice-aggregate-same-5
+slice-aggregate-same-5 c = search needs
+
+same-requires-5 : tie.Need-same-requires-5
+same-requires-5 c κs = search needs
+
+returns-5 : tie.Need-returns-5
+unfolding keysWord
+returns-5 c =
+    rw (
+      ← (sym (c .before .before .before .before .before .before .before .before .before .before .before .before .if1 .left) ∙ c .before .before .before .before .before .before .before .before .before .before .before .before .before .same .ensures),
+      ← (sym (c .before .before .before .before .before .before .before .before .before .if2 .left) ∙ c .before .before .before .before .before .before .before .before .before .before .same2 .ensures),
+      ← (sym (c .before .before .before .before .before .before .if3 .left) ∙ c .before .before .before .before .before .before .before .same3 .ensures),
+      ← (sym (c .before .before .before .if4 .left) ∙ c .before .before .before .before .same4 .ensures),
+      ← (sym (c .if5 .taken) ∙ c .before .same5 .ensures),
+    )
+
+hashes-word-requires : tie.Need-hashes-word-requires
+hashes-word-requires c κs = search needs
+
+returns-6 : tie.Need-returns-6
+unfolding keysWord
+returns-6 c =
+    rw (
+      ← (sym (c .before .before .before .before .before .before .before .before .before .before .before .before .before .if1 .left) ∙ c .before .before .before .before .before .before .before .before .before .before .before .before .before .before .same .ensures),
+      ← (sym (c .before .before .before .before .before .before .before .before .before .before .if2 .left) ∙ c .before .before .before .before .before .before .before .before .before .before .before .same2 .ensures),
+      ← (sym (c .before .before .before .before .before .before .before .if3 .left) ∙ c .before .before .before .before .before .before .before .before .same3 .ensures),
+      ← (sym (c .before .before .before .before .if4 .left) ∙ c .before .before .before .before .before .same4 .ensures),
+      ← (sym (c .before .if5 .left) ∙ c .before .before .same5 .ensures),
+    )
+    (c .hashes-word .ensures)
 
 pub keys-word-spec : {M : Type 1} → statement M
 keys-word-spec =
@@ -53,4 +108,11 @@ keys-word-spec =
     slice-aggregate-same-3
     same-requires-3
     returns-3
-    returns-4)
+    slice-aggregate-same-4
+    same-requires-4
+    returns-4
+    slice-aggregate-same-5
+    same-requires-5
+    returns-5
+    hashes-word-requires
+    returns-6)

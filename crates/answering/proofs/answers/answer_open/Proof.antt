@@ -1,0 +1,61 @@
+-- `answering::answers::answer_open` meets its contract.
+-- Assumes nothing.
+use mathlib.Core.Path.{refl, ap}
+use Rattle.outcome.specs.Reply.{replyOf}
+use Rattle.answering.proofs.Printing.{carried, reply-refused, reply-ok}
+use borrow.Author.Needs.{needs}
+use Rattle.answering.proofs.answers.answer_open.Statement.{statement}
+use Rattle.answering.proofs.answers.answer_open.Tie as tie
+
+open-requires : tie.Need-open-requires
+open-requires c κs = search needs
+
+enum-known-a : tie.Need-enum-known-a
+enum-known-a c = search needs
+
+refusal-requires : tie.Need-refusal-requires
+refusal-requires c κs = search needs
+
+enum-told : tie.Need-enum-told
+enum-told c = search needs
+
+slice-aggregate-put-bytes : tie.Need-slice-aggregate-put-bytes
+slice-aggregate-put-bytes c = search needs
+
+put-bytes-requires : tie.Need-put-bytes-requires
+put-bytes-requires c κs = search needs
+
+same-length : tie.Need-same-length
+same-length c = search needs
+
+same-length-2 : tie.Need-same-length-2
+same-length-2 c = search needs
+
+returns : tie.Need-returns
+returns c = carried _ (c .before .before .before .before .before .before .before .before .before .«open» .ensures) refl (reply-refused _ (ap replyOf (c .before .before .before .before .before .a .given .1)) (c .before .before .refusal .ensures))
+
+same-length-3 : tie.Need-same-length-3
+same-length-3 c = search needs
+
+same-length-4 : tie.Need-same-length-4
+same-length-4 c = search needs
+
+returns-2 : tie.Need-returns-2
+returns-2 c = carried _ (c .before .before .before .before .before .before .before .before .before .«open» .ensures) refl (reply-ok _ _ (ap replyOf (c .before .before .before .before .before .enum-told .given .1)) (c .before .before .put-bytes .ensures))
+
+pub answer-open-spec : {M : Type 1} → statement M
+answer-open-spec =
+    tie.close
+    (tie.spec
+    open-requires
+    enum-known-a
+    refusal-requires
+    enum-told
+    slice-aggregate-put-bytes
+    put-bytes-requires
+    same-length
+    same-length-2
+    returns
+    same-length-3
+    same-length-4
+    returns-2)

@@ -1,0 +1,18 @@
+-- `answering::answers::candidate` meets its contract.
+-- Assumes nothing.
+use Prim.Native.Nat.{ℕ}
+use mathlib.Core.Path.{ap}
+use borrow.Author.Needs.{needs}
+use Rattle.answering.proofs.answers.candidate.Statement.{statement}
+use Rattle.answering.proofs.answers.candidate.Tie as tie
+
+hash-of-requires : tie.Need-hash-of-requires
+hash-of-requires c κs = search needs
+
+returns : tie.Need-returns
+returns c =
+    let v = c .before .args .v in
+    ap (λ (h : ℕ). record { connection = v .connection; item = record { kind = v .item; hash = h }; ready = v .ready; preferred = v .preferred; priority = v .priority }) (c .hash-of .ensures)
+
+pub candidate-spec : {M : Type 1} → statement M
+candidate-spec = tie.close (tie.spec hash-of-requires returns)

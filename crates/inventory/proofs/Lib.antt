@@ -1,0 +1,3 @@
+pub mod Plain
+pub mod TooMany
+pub mod Offering
