@@ -1,5 +1,9 @@
 //! The checked calls.
 
+// Of a call that answers a part of a list.
+#[allow(unused_imports)]
+use std::ops::Range;
+
 use crate::bytes::{Candidate, Left};
 use crate::error::done;
 use crate::{Error, Figures, Key, abi};
