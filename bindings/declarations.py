@@ -20,12 +20,13 @@ HANDED = {
     ("reply",): ("bool", "reply == 1"),
     ("count",): ("usize", "count as usize"),
     ("taken",): ("usize", "taken as usize"),
+    ("first", "count"): ("Range<usize>", "first as usize..(first + count) as usize"),
     ("own", "parents"): ("Left", "Left { own: own as usize, parents: parents as usize }"),
     ("owner",): ("Option<u64>", "(owner != 0).then_some(owner)"),
     ("held", "free", "permille"): ("Figures", "Figures { held, free, permille }"),
 }
 # Slices that are lists of hashes.
-LISTS = ("parents", "wtxids")
+LISTS = ("parents", "wtxids", "combined")
 
 
 def filled(text, width, first="", rest=""):

@@ -56,6 +56,16 @@ bool tracker_sound(const uint8_t *store, size_t length);
 /* How many announcements are held, how many more fit, and how full the tracker is in thousandths. Refused, it hands nothing out. */
 uint64_t tracker_sum(const uint8_t *store, size_t length, uint64_t *held, uint64_t *free, uint64_t *permille);
 
+/* What a claim has taken, given in 112 bytes an entry, stands in the answer by ascending connection, then claim order: so many as `count`
+ * says. A t item of a marked request turns v for a witness connection: those of the list, which has 8 bytes for each, least first. The
+ * store is only read. */
+uint64_t tracker_arrange(const uint8_t *store, size_t length, const uint8_t *witnesses, size_t witnesses_length, const uint8_t *taken,
+                         size_t taken_length, uint8_t *answer, size_t answer_length, uint64_t *count);
+
+/* One connection's part of an arranged list, which is given in 112 bytes an entry: `count` entries from the entry `first` on. Of a list
+ * that is not arranged it is some part. It takes no store, and is never refused. */
+uint64_t tracker_part(const uint8_t *list, size_t length, uint64_t connection, uint64_t *first, uint64_t *count);
+
 /* A connection can deliver an item. The reply is 1 if it is kept. */
 uint64_t tracker_announce(uint8_t *store, size_t length, uint64_t connection, uint32_t item_type, const uint8_t hash[32], uint64_t ready,
                           bool preferred, uint64_t priority, uint64_t *reply);
@@ -121,6 +131,15 @@ uint64_t tracker_begin_package_resolution(uint8_t *store, size_t length, uint64_
 uint64_t tracker_release_package(uint8_t *store, size_t length, uint64_t connection, const uint8_t hash[32], uint64_t now, uint8_t *answer,
                                  size_t answer_length, uint64_t *count);
 
+/* The claims of the connection whose packages have one of the combined hashes, which are given in 32 bytes each, have failed; of two with
+ * one hash, that at the greater key. Their keys stand in the answer, each followed by those of its parents that are kept: so many as
+ * `count` says. */
+uint64_t tracker_failed_package_claims(uint8_t *store, size_t length, uint64_t connection, const uint8_t *combined, size_t combined_length,
+                                       uint64_t now, uint8_t *answer, size_t answer_length, uint64_t *count);
+
+/* Every package goes, whatever its phase, and its owner leaves the request. `count` says how many went. */
+uint64_t tracker_teardown_package_claims(uint8_t *store, size_t length, uint64_t now, uint64_t *count);
+
 /* Takes, in order, each entry of the checked list, which is given in 112 bytes each, whose hash is unowned and that is still what plan
  * would choose for it. Those that are taken stand in the answer: so many as `taken` says. */
 uint64_t tracker_claim(uint8_t *store, size_t length, uint64_t now, const uint8_t *checked, size_t checked_length, uint8_t *answer,
@@ -141,6 +160,12 @@ uint64_t tracker_announce_transactions(uint8_t *store, size_t length, uint64_t c
  * replies 1. */
 uint64_t tracker_transaction_response_completed(uint8_t *store, size_t length, uint64_t connection, const uint8_t txid[32],
                                                 const uint8_t wtxid[32], uint64_t now);
+
+/* The connection does not have the items, which are given in 40 bytes each: what it owns of them has failed, and so have its claims to the
+ * packages among them. The keys of what failed stand in the answer, followed by those of the parents that are kept where there are some:
+ * so many as `count` says. */
+uint64_t tracker_transaction_not_found(uint8_t *store, size_t length, uint64_t connection, const uint8_t *items, size_t items_length,
+                                       uint64_t now, uint8_t *answer, size_t answer_length, uint64_t *count);
 
 /* end: written by bindings/generate */
 

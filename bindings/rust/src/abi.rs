@@ -21,6 +21,30 @@ unsafe extern "C" {
         free: &mut u64,
         permille: &mut u64,
     ) -> u64;
+    /// What a claim has taken, given in 112 bytes an entry, stands in the answer by ascending connection,
+    /// then claim order: so many as `count` says. A t item of a marked request turns v for a witness
+    /// connection: those of the list, which has 8 bytes for each, least first. The store is only read.
+    pub fn tracker_arrange(
+        store: *const u8,
+        length: usize,
+        witnesses: *const u8,
+        witnesses_length: usize,
+        taken: *const u8,
+        taken_length: usize,
+        answer: *mut u8,
+        answer_length: usize,
+        count: &mut u64,
+    ) -> u64;
+    /// One connection's part of an arranged list, which is given in 112 bytes an entry: `count` entries from
+    /// the entry `first` on. Of a list that is not arranged it is some part. It takes no store, and is never
+    /// refused.
+    pub fn tracker_part(
+        list: *const u8,
+        length: usize,
+        connection: u64,
+        first: &mut u64,
+        count: &mut u64,
+    ) -> u64;
     /// A connection can deliver an item. The reply is 1 if it is kept.
     pub fn tracker_announce(
         store: *mut u8,
@@ -175,6 +199,22 @@ unsafe extern "C" {
         answer_length: usize,
         count: &mut u64,
     ) -> u64;
+    /// The claims of the connection whose packages have one of the combined hashes, which are given in 32
+    /// bytes each, have failed; of two with one hash, that at the greater key. Their keys stand in the
+    /// answer, each followed by those of its parents that are kept: so many as `count` says.
+    pub fn tracker_failed_package_claims(
+        store: *mut u8,
+        length: usize,
+        connection: u64,
+        combined: *const u8,
+        combined_length: usize,
+        now: u64,
+        answer: *mut u8,
+        answer_length: usize,
+        count: &mut u64,
+    ) -> u64;
+    /// Every package goes, whatever its phase, and its owner leaves the request. `count` says how many went.
+    pub fn tracker_teardown_package_claims(store: *mut u8, length: usize, now: u64, count: &mut u64) -> u64;
     /// Takes, in order, each entry of the checked list, which is given in 112 bytes each, whose hash is
     /// unowned and that is still what plan would choose for it. Those that are taken stand in the answer: so
     /// many as `taken` says.
@@ -222,6 +262,20 @@ unsafe extern "C" {
         txid: &[u8; 32],
         wtxid: &[u8; 32],
         now: u64,
+    ) -> u64;
+    /// The connection does not have the items, which are given in 40 bytes each: what it owns of them has
+    /// failed, and so have its claims to the packages among them. The keys of what failed stand in the
+    /// answer, followed by those of the parents that are kept where there are some: so many as `count` says.
+    pub fn tracker_transaction_not_found(
+        store: *mut u8,
+        length: usize,
+        connection: u64,
+        items: *const u8,
+        items_length: usize,
+        now: u64,
+        answer: *mut u8,
+        answer_length: usize,
+        count: &mut u64,
     ) -> u64;
     // end: written by bindings/generate
 }

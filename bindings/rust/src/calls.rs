@@ -1,6 +1,7 @@
 //! The calls.
 
 use crate::{Candidate, Figures, Key, Left, abi};
+use std::ops::Range;
 
 /// The value of a call that was carried out, else the number of its refusal.
 fn done<T>(status: u64, value: T) -> Result<T, u64> {
@@ -37,6 +38,32 @@ pub fn sum(store: &[u8]) -> Result<Figures, u64> {
         abi::tracker_sum(store.as_ptr(), store.len(), &mut held, &mut free, &mut permille)
     };
     done(status, Figures { held, free, permille })
+}
+
+/// What a claim has taken, given in 112 bytes an entry, stands in the answer by ascending connection, then
+/// claim order: so many as `count` says. A t item of a marked request turns v for a witness connection:
+/// those of the list, which has 8 bytes for each, least first. The store is only read.
+pub fn arrange(store: &[u8], witnesses: &[u8], taken: &[u8], answer: &mut [u8]) -> Result<usize, u64> {
+    let mut count = 0;
+    // SAFETY: what is lent is lent for the call, and what it may write is lent to it alone.
+    let status = unsafe {
+        abi::tracker_arrange(store.as_ptr(), store.len(), witnesses.as_ptr(), witnesses.len(), taken.as_ptr(),
+            taken.len(), answer.as_mut_ptr(), answer.len(), &mut count)
+    };
+    done(status, count as usize)
+}
+
+/// One connection's part of an arranged list, which is given in 112 bytes an entry: `count` entries from the
+/// entry `first` on. Of a list that is not arranged it is some part. It takes no store, and is never
+/// refused.
+pub fn part(list: &[u8], connection: u64) -> Result<Range<usize>, u64> {
+    let mut first = 0;
+    let mut count = 0;
+    // SAFETY: what is lent is lent for the call, and what it may write is lent to it alone.
+    let status = unsafe {
+        abi::tracker_part(list.as_ptr(), list.len(), connection, &mut first, &mut count)
+    };
+    done(status, first as usize..(first + count) as usize)
 }
 
 /// A connection can deliver an item. The reply is 1 if it is kept.
@@ -261,6 +288,36 @@ pub fn release_package(
     done(status, count as usize)
 }
 
+/// The claims of the connection whose packages have one of the combined hashes, which are given in 32 bytes
+/// each, have failed; of two with one hash, that at the greater key. Their keys stand in the answer, each
+/// followed by those of its parents that are kept: so many as `count` says.
+pub fn failed_package_claims(
+    store: &mut [u8],
+    connection: u64,
+    combined: &[[u8; 32]],
+    now: u64,
+    answer: &mut [u8],
+) -> Result<usize, u64> {
+    let combined = combined.as_flattened();
+    let mut count = 0;
+    // SAFETY: what is lent is lent for the call, and what it may write is lent to it alone.
+    let status = unsafe {
+        abi::tracker_failed_package_claims(store.as_mut_ptr(), store.len(), connection, combined.as_ptr(),
+            combined.len(), now, answer.as_mut_ptr(), answer.len(), &mut count)
+    };
+    done(status, count as usize)
+}
+
+/// Every package goes, whatever its phase, and its owner leaves the request. `count` says how many went.
+pub fn teardown_package_claims(store: &mut [u8], now: u64) -> Result<usize, u64> {
+    let mut count = 0;
+    // SAFETY: what is lent is lent for the call, and what it may write is lent to it alone.
+    let status = unsafe {
+        abi::tracker_teardown_package_claims(store.as_mut_ptr(), store.len(), now, &mut count)
+    };
+    done(status, count as usize)
+}
+
 /// Takes, in order, each entry of the checked list, which is given in 112 bytes each, whose hash is unowned
 /// and that is still what plan would choose for it. Those that are taken stand in the answer: so many as
 /// `taken` says.
@@ -329,6 +386,25 @@ pub fn transaction_response_completed(
             now)
     };
     done(status, ())
+}
+
+/// The connection does not have the items, which are given in 40 bytes each: what it owns of them has
+/// failed, and so have its claims to the packages among them. The keys of what failed stand in the answer,
+/// followed by those of the parents that are kept where there are some: so many as `count` says.
+pub fn transaction_not_found(
+    store: &mut [u8],
+    connection: u64,
+    items: &[u8],
+    now: u64,
+    answer: &mut [u8],
+) -> Result<usize, u64> {
+    let mut count = 0;
+    // SAFETY: what is lent is lent for the call, and what it may write is lent to it alone.
+    let status = unsafe {
+        abi::tracker_transaction_not_found(store.as_mut_ptr(), store.len(), connection, items.as_ptr(),
+            items.len(), now, answer.as_mut_ptr(), answer.len(), &mut count)
+    };
+    done(status, count as usize)
 }
 
 // end: written by bindings/generate

@@ -21,7 +21,7 @@ use Rattle.machine.proofs.Lengths.{length-failedWithParents, length-releasePack
 use Rattle.store.specs.Image.{SoundStore}
 use Rattle.store.specs.Read.{stateOf}
 use Rattle.store.proofs.Stored.{state-shown}
-use Rattle.tracker.specs.Outcome.{Effect, outcomeIf, Does}
+use Rattle.outcome.specs.Outcome.{Effect, outcomeIf, Does}
 use Rattle.lists.specs.Lists.{keysIn}
 use Rattle.reading.specs.declared.vocabulary.KeysWord.{KeysWord}
 use Rattle.reading.specs.declared.vocabulary.KeysWord.the-variants.{Sweep as SweepWord, FailedWithParents as FailWord, ReleasePackage as ReleaseWord}

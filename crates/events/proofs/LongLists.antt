@@ -22,9 +22,9 @@ use Rattle.machine.proofs.Tests.{test, by-test}
 use Rattle.machine.proofs.Kept.{carried}
 use Rattle.machine.proofs.AnswerLengths.{length-announceParents}
 use Rattle.store.specs.Read.{stateOf}
-use Rattle.tracker.specs.declared.Listing.{Listing}
-use Rattle.tracker.specs.Reply.{listingOf}
-use Rattle.tracker.specs.Outcome.{Effect, outcomeIf, Does}
+use Rattle.outcome.specs.declared.Listing.{Listing}
+use Rattle.outcome.specs.Reply.{listingOf}
+use Rattle.outcome.specs.Outcome.{Effect, outcomeIf, Does}
 use Rattle.lists.specs.Lists.{keysIn}
 use Rattle.events.specs.Replies.{replyText}
 use Rattle.reading.specs.Given.{mostHashes}

@@ -10,7 +10,7 @@ use Rattle.ident.specs.Number.{Key}
 use Rattle.machine.specs.State.{Candidate}
 use Rattle.machine.specs.Call.{Ask, Sum, Call, Open, On}
 use Rattle.machine.specs.Step.{Reply, Refused, Number, Keys, Summed}
-use Rattle.tracker.specs.Outcome.{Effect, Does, Leaves}
+use Rattle.outcome.specs.Outcome.{Effect, Does, Leaves}
 use Rattle.reading.specs.declared.vocabulary.NumberWord.{NumberWord}
 use Rattle.reading.specs.Calls.{Values, numberAsk}
 use Rattle.lines.specs.Text.{decimalDigits, decimal, Wrote}

@@ -10,7 +10,7 @@ use Rattle.ident.specs.declared.Kind.{Kind}
 use Rattle.ident.specs.declared.Kind.the-variants.{Txid, Wtxid}
 use Rattle.machine.specs.Call.{Ask, Call, On}
 use Rattle.machine.specs.Step.{Reply}
-use Rattle.tracker.specs.Outcome.{Effect, Does}
+use Rattle.outcome.specs.Outcome.{Effect, Does}
 use Rattle.lines.specs.Text.{Wrote}
 use Rattle.events.specs.Replies.{refusalText, unreadable, replyText}
 

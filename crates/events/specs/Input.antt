@@ -9,7 +9,7 @@ use lib.Dec.{eqb, ltb}
 use lib.ListN.{length, take}
 use Rattle.ident.specs.If.{if_then_else_}
 use Rattle.machine.specs.Call.{Call}
-use Rattle.tracker.specs.Outcome.{Effect, Does}
+use Rattle.outcome.specs.Outcome.{Effect, Does}
 use Rattle.events.specs.declared.input.Kept.{Kept}
 use Rattle.reading.specs.Calls.{callOf}
 use Rattle.events.specs.Replies.{refusalText, unreadable, replyText}

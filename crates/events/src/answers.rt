@@ -6,8 +6,8 @@ ghost use Rattle.machine.specs.Call.{Open, On, Announce, RequestParent, Sum};
 ghost use mathlib.Core.Path.{_≡_};
 ghost use Rattle.ident.specs.Words.{keyNum};
 ghost use Rattle.requests.specs.Changes.{candidateOf};
-ghost use Rattle.tracker.specs.Outcome.{Leaves};
-ghost use Rattle.tracker.specs.Reply.{replyOf};
+ghost use Rattle.outcome.specs.Outcome.{Leaves};
+ghost use Rattle.outcome.specs.Reply.{replyOf};
 ghost use Rattle.lines.specs.Text.{decimal};
 ghost use Rattle.reading.specs.Calls.{keyIn, numberAsk, callOf};
 ghost use Rattle.events.specs.Replies.{refusalText, joined, unreadable};
@@ -52,10 +52,10 @@ fn answer_open(store: &mut [u8], out: &mut [u8], l: u64, q: u64) -> usize
     requires { ⌜ answerRoom ≤ length (now out) ⌝ }
     ensures { λ r. ⌜ Carried (Open l q) (now (store .entry)) (now (store .exit)) (now (out .entry)) (now (out .exit)) r ⌝ }
 {
-    let a = tracker::open(store, l, q);
+    let a = public_requests::open(store, l, q);
     match a {
-        tracker::Answer::Refused(n) => refusal(out, n),
-        tracker::Answer::Number(_) => put_bytes(out, 0, b"ok"),
+        outcome::Answer::Refused(n) => refusal(out, n),
+        outcome::Answer::Number(_) => put_bytes(out, 0, b"ok"),
     }
 }
 
@@ -63,10 +63,10 @@ fn answer_sum(store: &[u8], out: &mut [u8]) -> usize
     requires { ⌜ answerRoom ≤ length (now out) ⌝ }
     ensures { λ r. ⌜ Carried (On Sum) (now (store .entry)) (now (store .entry)) (now (out .entry)) (now (out .exit)) r ⌝ }
 {
-    let a = tracker::sum(store);
+    let a = public_requests::sum(store);
     match a {
-        tracker::Figures::Refused(n) => refusal(out, n),
-        tracker::Figures::Are(held, free, permille) => figures(out, held, free, permille),
+        outcome::Figures::Refused(n) => refusal(out, n),
+        outcome::Figures::Are(held, free, permille) => figures(out, held, free, permille),
     }
 }
 
@@ -87,13 +87,13 @@ fn candidate(o: Offer) -> requests::Candidate
 }
 
 // A refusal, or a number.
-fn number(out: &mut [u8], a: tracker::Answer) -> usize
+fn number(out: &mut [u8], a: outcome::Answer) -> usize
     requires { ⌜ answerRoom ≤ length (now out) ⌝ }
     ensures { λ r. ⌜ Numbered (now (out .entry)) (now (out .exit)) (replyOf a) r ⌝ }
 {
     match a {
-        tracker::Answer::Refused(n) => refusal(out, n),
-        tracker::Answer::Number(n) => put_decimal(out, 0, n),
+        outcome::Answer::Refused(n) => refusal(out, n),
+        outcome::Answer::Number(n) => put_decimal(out, 0, n),
     }
 }
 
@@ -101,7 +101,7 @@ fn announce(store: &mut [u8], out: &mut [u8], o: Offer) -> usize
     requires { ⌜ answerRoom ≤ length (now out) ⌝ }
     ensures { λ r. ⌜ Carried (On (Announce (offerOf o))) (now (store .entry)) (now (store .exit)) (now (out .entry)) (now (out .exit)) r ⌝ }
 {
-    let a = tracker::candidates::announce(store, candidate(o));
+    let a = public_requests::candidates::announce(store, candidate(o));
     number(out, a)
 }
 
@@ -109,7 +109,7 @@ fn request_parent(store: &mut [u8], out: &mut [u8], o: Offer) -> usize
     requires { ⌜ answerRoom ≤ length (now out) ⌝ }
     ensures { λ r. ⌜ Carried (On (RequestParent (offerOf o))) (now (store .entry)) (now (store .exit)) (now (out .entry)) (now (out .exit)) r ⌝ }
 {
-    let a = tracker::candidates::request_parent(store, candidate(o));
+    let a = public_requests::candidates::request_parent(store, candidate(o));
     number(out, a)
 }
 
@@ -121,22 +121,26 @@ pub fn key_of(v: Values) -> ident::Key
     ident::Key { kind, hash }
 }
 
-fn carry_out(store: &mut [u8], w: NumberWord, v: Values) -> tracker::Answer
+fn carry_out(store: &mut [u8], w: NumberWord, v: Values) -> outcome::Answer
     ensures { λ r. ⌜ Leaves (On (numberAsk w (valuesOf v))) (now (store .entry)) (now (store .exit)) (replyOf r) ⌝ }
 {
     let key = key_of(v);
     match w {
-        NumberWord::Failed => tracker::failures::failed(store, key, v.connection, v.clock),
-        NumberWord::Unclaim => tracker::failures::unclaim(store, key, v.connection),
-        NumberWord::Forget => tracker::failures::forget(store, key),
-        NumberWord::FailedPackageInfo => tracker::failures::failed_package_info(
+        NumberWord::Failed => public_requests::failures::failed(store, key, v.connection, v.clock),
+        NumberWord::Unclaim => public_requests::failures::unclaim(store, key, v.connection),
+        NumberWord::Forget => public_requests::failures::forget(store, key),
+        NumberWord::FailedPackageInfo => public_packages::package_info::failed_package_info(
             store,
             key,
             v.connection,
             v.clock,
         ),
-        NumberWord::PackageInfoOwner => tracker::failures::package_info_owner(store, key, v.clock),
-        NumberWord::PollGate => tracker::sweeps::poll_gate(store, v.clock),
+        NumberWord::PackageInfoOwner => public_packages::package_info::package_info_owner(
+            store,
+            key,
+            v.clock,
+        ),
+        NumberWord::PollGate => public_requests::sweeps::poll_gate(store, v.clock),
     }
 }
 

@@ -3,8 +3,8 @@ ghost use mathlib.Core.Path.{_≡_};
 ghost use Prim.Native.Nat.{_≤_};
 ghost use lib.ListN.{length};
 ghost use Rattle.machine.specs.Call.{On};
-ghost use Rattle.tracker.specs.Outcome.{LeavesWith};
-ghost use Rattle.tracker.specs.Reply.{listingOf};
+ghost use Rattle.outcome.specs.Outcome.{LeavesWith};
+ghost use Rattle.outcome.specs.Reply.{listingOf};
 ghost use Rattle.reading.specs.Calls.{answerBuffer, keysAsk};
 ghost use Rattle.reading.specs.Given.{valuesOf};
 ghost use Rattle.events.specs.Given.{answerRoom, Carried};
@@ -14,19 +14,31 @@ use reading::forms::Values;
 use reading::hashes::hash_of;
 use reading::vocabulary::KeysWord;
 
-fn carry_out(store: &mut [u8], w: KeysWord, v: Values, answer: &mut [u8]) -> tracker::Listing
+fn carry_out(store: &mut [u8], w: KeysWord, v: Values, answer: &mut [u8]) -> outcome::Listing
     requires { ⌜ now answer ≡ answerBuffer ⌝ }
     ensures { λ r. ⌜ LeavesWith (On (keysAsk w (valuesOf v))) (now (store .entry)) (now (store .exit)) (now (answer .exit)) (listingOf r) ⌝ }
 {
     let key = key_of(v);
     let hash = hash_of(v.hash);
     match w {
-        KeysWord::Sweep => tracker::sweeps::sweep(store, answer),
+        KeysWord::Sweep => public_requests::sweeps::sweep(store, answer),
         KeysWord::FailedWithParents => {
-            tracker::failures::failed_with_parents(store, key, v.connection, v.clock, answer)
+            public_requests::failures::failed_with_parents(
+                store,
+                key,
+                v.connection,
+                v.clock,
+                answer,
+            )
         }
         KeysWord::ReleasePackage => {
-            tracker::package_calls::release_package(store, v.connection, hash, v.clock, answer)
+            public_packages::package_calls::release_package(
+                store,
+                v.connection,
+                hash,
+                v.clock,
+                answer,
+            )
         }
     }
 }
@@ -38,7 +50,7 @@ pub fn answer_keys(store: &mut [u8], out: &mut [u8], w: KeysWord, v: Values) -> 
     let mut answer = crate::parents::answer_buffer();
     let a = carry_out(store, w, v, &mut answer);
     match a {
-        tracker::Listing::Refused(n) => refusal(out, n),
-        tracker::Listing::Listed(n) => crate::keys::put_keys(out, &answer, n as usize),
+        outcome::Listing::Refused(n) => refusal(out, n),
+        outcome::Listing::Listed(n) => crate::keys::put_keys(out, &answer, n as usize),
     }
 }

@@ -31,10 +31,16 @@ fn carry_out(store: &mut [u8], out: &mut [u8], connection: u64, parents: &[u8], 
     ensures { λ r. ⌜ Carried (On (AnnounceParents connection (hashesIn (now (parents .entry))) clock answerBuffer)) (now (store .entry)) (now (store .exit)) (now (out .entry)) (now (out .exit)) r ⌝ }
 {
     let mut answer = answer_buffer();
-    let a = tracker::candidates::announce_parents(store, connection, parents, clock, &mut answer);
+    let a = public_requests::candidates::announce_parents(
+        store,
+        connection,
+        parents,
+        clock,
+        &mut answer,
+    );
     match a {
-        tracker::Listing::Refused(n) => refusal(out, n),
-        tracker::Listing::Listed(n) => crate::keys::put_keys(out, &answer, n as usize),
+        outcome::Listing::Refused(n) => refusal(out, n),
+        outcome::Listing::Listed(n) => crate::keys::put_keys(out, &answer, n as usize),
     }
 }
 

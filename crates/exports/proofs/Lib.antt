@@ -1,4 +1,3 @@
+pub mod Replies
 pub mod Statuses
-pub mod Failed
 pub mod Typed
-pub mod Wrapped

@@ -10,26 +10,24 @@ use borrow.Author.Tests.{ne-eqb}
 use lib.ListN.{length}
 use Rattle.ident.specs.If.{if_then_else_}
 use Rattle.words.specs.Words.{words}
-use Rattle.machine.specs.State.{State, Candidate, Entry}
-use Rattle.machine.specs.Call.{Buffer, Announce, RequestParent, SolicitPackageInfo, ClaimPackage, BeginPackageResolution, AnnounceParents, Claim, Disconnected, Sweep, PollGate, Call, Open, On, Sum, refusal}
+use Rattle.machine.specs.State.{State}
+use Rattle.machine.specs.Call.{Buffer, Call, On, Sum, refusal}
 use Rattle.machine.specs.Step.{Reply, Refused, Number, Keys, Left, Entries, Chosen, Summed, perform, carryOut, stepIf}
 use Rattle.store.specs.Read.{stateOf}
-use Rattle.tracker.specs.Outcome.{outcomeIf, Does, Leaves, LeavesWith}
-use Rattle.tracker.specs.Reply.{replyOf, figuresOf, listingOf, entriesOf, departureOf}
-use Rattle.tracker.specs.declared.Answer.{Answer}
-use Rattle.tracker.specs.declared.Figures.{Figures}
-use Rattle.tracker.specs.declared.Listing.{Listing}
-use Rattle.tracker.specs.declared.Departure.{Departure}
-use Rattle.tracker.specs.declared.Answer.the-variants.{Refused as No, Number as Yes}
-use Rattle.tracker.specs.declared.Listing.the-variants.{Refused as NoKeys, Listed}
-use Rattle.tracker.specs.declared.Departure.the-variants.{Refused as NotLeft, Left as LeftKeys}
+use Rattle.outcome.specs.Outcome.{outcomeIf, Does, Leaves, LeavesWith}
+use Rattle.outcome.specs.Reply.{replyOf, figuresOf, listingOf, departureOf}
+use Rattle.public_plans.specs.Entries.{entriesOf}
+use Rattle.outcome.specs.declared.Answer.{Answer}
+use Rattle.outcome.specs.declared.Figures.{Figures}
+use Rattle.outcome.specs.declared.Listing.{Listing}
+use Rattle.outcome.specs.declared.Departure.{Departure}
+use Rattle.outcome.specs.declared.Answer.the-variants.{Refused as No, Number as Yes}
+use Rattle.outcome.specs.declared.Listing.the-variants.{Refused as NoKeys, Listed}
+use Rattle.outcome.specs.declared.Departure.the-variants.{Refused as NotLeft, Left as LeftKeys}
+use Rattle.exports.proofs.Replies.{Carried, RepliesOne, replies}
 use Rattle.exports.specs.Status.{statusOf, handedOut, listingStatus, countOut, departureStatus, ownOut, parentsOut, numbered, figured, Stays, HandsOut, HandsKeys, HandsEntries, HandsDeparture}
 
 -- ---- a refusal's number is not 0
-
--- r is no refusal
-abbrev Carried : Reply → Type 0
-Carried r = (n : ℕ) → r ≡ Refused n → ⊥
 
 not-zero : (k : ℕ) (r : Reply) → Carried r → (if eqb k 0 then r else Refused k) ≡ Refused 0 → ⊥
 not-zero zero r h e = h 0 e
@@ -38,13 +36,11 @@ not-zero (suc k) r h e =
     let z : suc k ≡ 0 = cc in
     omega arith
 
--- of a call that does not reply a refusal when it is carried out
-abbrev pub Replies : Call → Type 0
-Replies c = (s : State) → Carried ((carryOut c s) .reply)
-
-refused-zero : (c : Call) {b z : List ℕ} {u : Buffer} → Replies c → Does c b (record { reply = Refused 0; buffer = u; store = z }) → ⊥
+refused-zero : (c : Call) {b z : List ℕ} {u : Buffer} → Does c b (record { reply = Refused 0; buffer = u; store = z }) → ⊥
 unfolding outcomeIf stepIf
-refused-zero c {b} h d = not-zero (refusal (length b) (d .sound) c (stateOf (words b))) ((carryOut c (stateOf (words b))) .reply) (h (stateOf (words b))) (sym (ap (λ x. x .reply) (d .effect)))
+refused-zero c {b} d =
+    let s = stateOf (words b) in
+    not-zero (refusal (length b) (d .sound) c s) ((carryOut c s) .reply) (replies c s) (sym (ap (λ x. x .reply) (d .effect)))
 
 -- ---- answers that are a number
 
@@ -53,38 +49,14 @@ pub stays : (r was : ℕ) → Stays r was was
 stays zero was = tt
 stays (suc k) was = refl
 
-handed : (c : Call) → Replies c → (a : Answer) (was : ℕ) {b z : List ℕ} {r n : ℕ} → Leaves c b z (replyOf a) → (r ≡ statusOf a) × (n ≡ handedOut a was) → HandsOut c b z r was n
-handed c h (No zero) was d e = absurd (refused-zero c h d)
-handed c h (No (suc k)) was d e = rw (e .0, e .1) (d, refl)
-handed c h (Yes k) was d e = rw (e .0, e .1) (d, tt)
+handed : (c : Call) (a : Answer) (was : ℕ) {b z : List ℕ} {r n : ℕ} → Leaves c b z (replyOf a) → (r ≡ statusOf a) × (n ≡ handedOut a was) → HandsOut c b z r was n
+handed c (No zero) was d e = absurd (refused-zero c d)
+handed c (No (suc k)) was d e = rw (e .0, e .1) (d, refl)
+handed c (Yes k) was d e = rw (e .0, e .1) (d, tt)
 
 -- the export of a call: c₀ is what was asked, c what it says of the arguments
-pub hands-out : {c₀ c : Call} → Replies c → (a : Answer) (was : ℕ) {b z : List ℕ} {r n : ℕ} → Leaves c₀ b z (replyOf a) → (r ≡ statusOf a) × (n ≡ handedOut a was) → c₀ ≡ c → HandsOut c b z r was n
-hands-out {c₀} {c} h a was {b} {z} d e q = handed c h a was (subst (λ (x : Call). Leaves x b z (replyOf a)) q d) e
-
-pub announces : (c : Candidate) → Replies (On (Announce c))
-unfolding carryOut perform
-announces c s n e = let z : _≡_ {A = ℕ} 0 1 = cc in omega arith
-
-pub requests-parent : (c : Candidate) → Replies (On (RequestParent c))
-unfolding carryOut perform
-requests-parent c s n e = let z : _≡_ {A = ℕ} 0 1 = cc in omega arith
-
-pub solicits : (n h : ℕ) (hs : List ℕ) (clock : ℕ) → Replies (On (SolicitPackageInfo n h hs clock))
-unfolding carryOut perform
-solicits n h hs clock s k e = let z : _≡_ {A = ℕ} 0 1 = cc in omega arith
-
-pub claims-package : (n h d : ℕ) (ws : List ℕ) (clock : ℕ) → Replies (On (ClaimPackage n h d ws clock))
-unfolding carryOut perform
-claims-package n h d ws clock s k e = let z : _≡_ {A = ℕ} 0 1 = cc in omega arith
-
-pub begins-resolution : (n h d : ℕ) (ws : List ℕ) (clock : ℕ) → Replies (On (BeginPackageResolution n h d ws clock))
-unfolding carryOut perform
-begins-resolution n h d ws clock s k e = let z : _≡_ {A = ℕ} 0 1 = cc in omega arith
-
-pub gates : (clock : ℕ) → Replies (On (PollGate clock))
-unfolding carryOut perform
-gates clock s n e = let z : _≡_ {A = ℕ} 0 1 = cc in omega arith
+pub hands-out : {c₀ c : Call} (a : Answer) (was : ℕ) {b z : List ℕ} {r n : ℕ} → Leaves c₀ b z (replyOf a) → (r ≡ statusOf a) × (n ≡ handedOut a was) → c₀ ≡ c → HandsOut c b z r was n
+hands-out {c₀} {c} a was {b} {z} d e q = handed c a was (subst (λ (x : Call). Leaves x b z (replyOf a)) q d) e
 
 -- ---- opening and the calls of which the Rust returns nothing: carried out, they reply 1
 
@@ -106,10 +78,6 @@ settled : (k n : ℕ) → numbered (statusIn (if eqb k 0 then Number n else Refu
 settled zero n = refl
 settled (suc k) n = rw (ne-eqb (suc k) 0 (λ e. omega (arith, e)))
 
--- of a call that replies 1 when it is carried out
-abbrev pub RepliesOne : Call → Type 0
-RepliesOne c = (s : State) → (carryOut c s) .reply ≡ Number 1
-
 one-settled : (c : Call) → RepliesOne c → (b : List ℕ) (sound : Bool) → numbered (statusIn (outcomeIf sound b c .reply)) 1 ≡ outcomeIf sound b c .reply
 unfolding outcomeIf stepIf
 one-settled c h b sound = rw (h (stateOf (words b))) (settled (refusal (length b) sound c (stateOf (words b))) 1)
@@ -120,19 +88,11 @@ one-told {c₀} {c} h a {r} {b} {z} d₀ e q =
     let told : numbered (statusIn (replyOf a)) 1 ≡ replyOf a = subst (λ x. numbered (statusIn x) 1 ≡ x) (sym (ap (λ x. x .reply) (d .effect))) (one-settled c h b (d .sound)) in
     record { sound = d .sound; tested = d .tested; effect = ap (λ x. record { reply = x; buffer = []; store = z }) (ap (λ x. numbered x 1) (e ∙ status-in a) ∙ told) ∙ d .effect }
 
-pub opens : (L Q : ℕ) → RepliesOne (Open L Q)
-unfolding carryOut
-opens L Q s = refl
-
 -- ---- sum
-
-sums : Replies (On Sum)
-unfolding carryOut perform
-sums s n e = let z : _≡_ {A = ℕ} 0 1 = cc in omega arith
 
 module _ (b : List ℕ) where
   pub sum-refused : (n held free permille : ℕ) → Leaves (On Sum) b b (Refused n) → Leaves (On Sum) b b (figured n held free permille)
-  sum-refused zero held free permille d = absurd (refused-zero (On Sum) sums d)
+  sum-refused zero held free permille d = absurd (refused-zero (On Sum) d)
   sum-refused (suc n) held free permille d = d
 
   -- the answer that was matched on
@@ -141,44 +101,28 @@ module _ (b : List ℕ) where
 
 -- ---- answers that list keys
 
-pub announces-parents : (n : ℕ) (hs : List ℕ) (clock : ℕ) (v : Buffer) → Replies (On (AnnounceParents n hs clock v))
-unfolding carryOut perform
-announces-parents n hs clock v s k e = let z : _≡_ {A = ℕ} 0 1 = cc in omega arith
-
-pub sweeps : (v : Buffer) → Replies (On (Sweep v))
-unfolding carryOut perform
-sweeps v s k e = let z : _≡_ {A = ℕ} 0 1 = cc in omega arith
-
-keys-handed : (c : Call) → Replies c → (l : Listing) (was : ℕ) {b z : List ℕ} {u : Buffer} {r n : ℕ} → LeavesWith c b z u (listingOf l) → (r ≡ listingStatus l) × (n ≡ countOut l was)
+keys-handed : (c : Call) (l : Listing) (was : ℕ) {b z : List ℕ} {u : Buffer} {r n : ℕ} → LeavesWith c b z u (listingOf l) → (r ≡ listingStatus l) × (n ≡ countOut l was)
     → HandsKeys c b z u r was n
-keys-handed c h (NoKeys zero) was d e = absurd (refused-zero c h d)
-keys-handed c h (NoKeys (suc k)) was d e = rw (e .0, e .1) (d, refl)
-keys-handed c h (Listed k) was d e = rw (e .0, e .1) (d, tt)
+keys-handed c (NoKeys zero) was d e = absurd (refused-zero c d)
+keys-handed c (NoKeys (suc k)) was d e = rw (e .0, e .1) (d, refl)
+keys-handed c (Listed k) was d e = rw (e .0, e .1) (d, tt)
 
-pub hands-keys : {c₀ c : Call} → Replies c → (l : Listing) (was : ℕ) {b z : List ℕ} {u : Buffer} {r n : ℕ} → LeavesWith c₀ b z u (listingOf l) → (r ≡ listingStatus l) × (n ≡ countOut l was)
+pub hands-keys : {c₀ c : Call} (l : Listing) (was : ℕ) {b z : List ℕ} {u : Buffer} {r n : ℕ} → LeavesWith c₀ b z u (listingOf l) → (r ≡ listingStatus l) × (n ≡ countOut l was)
     → c₀ ≡ c → HandsKeys c b z u r was n
-hands-keys {c₀} {c} h l was {b} {z} {u} d e q = keys-handed c h l was (subst (λ (x : Call). LeavesWith x b z u (listingOf l)) q d) e
+hands-keys {c₀} {c} l was {b} {z} {u} d e q = keys-handed c l was (subst (λ (x : Call). LeavesWith x b z u (listingOf l)) q d) e
 
 -- ---- answers that list entries
 
-pub claims : (clock : ℕ) (l : List Entry) (v : Buffer) → Replies (On (Claim clock l v))
-unfolding carryOut perform
-claims clock l v s k e = let z : _≡_ {A = ℕ} 0 1 = cc in omega arith
-
-pub hands-entries : {c : Call} → Replies c → (l : Listing) (was : ℕ) {b z : List ℕ} {u : Buffer} {r n : ℕ} → LeavesWith c b z u (entriesOf l) → (r ≡ listingStatus l) × (n ≡ countOut l was)
+pub hands-entries : {c : Call} (l : Listing) (was : ℕ) {b z : List ℕ} {u : Buffer} {r n : ℕ} → LeavesWith c b z u (entriesOf l) → (r ≡ listingStatus l) × (n ≡ countOut l was)
     → HandsEntries c b z u r was n
-hands-entries {c} h (NoKeys zero) was d e = absurd (refused-zero c h d)
-hands-entries h (NoKeys (suc k)) was d e = rw (e .0, e .1) (d, refl)
-hands-entries h (Listed k) was d e = rw (e .0, e .1) (d, tt)
+hands-entries {c} (NoKeys zero) was d e = absurd (refused-zero c d)
+hands-entries (NoKeys (suc k)) was d e = rw (e .0, e .1) (d, refl)
+hands-entries (Listed k) was d e = rw (e .0, e .1) (d, tt)
 
 -- ---- of a connection that left
 
-pub departs : (n clock : ℕ) (v : Buffer) → Replies (On (Disconnected n clock v))
-unfolding carryOut perform
-departs n clock v s k e = let z : _≡_ {A = ℕ} 0 1 = cc in omega arith
-
-pub hands-departure : {c : Call} → Replies c → (d : Departure) (was was′ : ℕ) {b z : List ℕ} {u : Buffer} {r n m : ℕ} → LeavesWith c b z u (departureOf d)
+pub hands-departure : {c : Call} (d : Departure) (was was′ : ℕ) {b z : List ℕ} {u : Buffer} {r n m : ℕ} → LeavesWith c b z u (departureOf d)
     → (r ≡ departureStatus d) × (n ≡ ownOut d was) × (m ≡ parentsOut d was′) → HandsDeparture c b z u r was n was′ m
-hands-departure {c} h (NotLeft zero) was was′ l e = absurd (refused-zero c h l)
-hands-departure h (NotLeft (suc k)) was was′ l e = rw (e .0, e .1, e .2) (l, refl, refl)
-hands-departure h (LeftKeys own parents) was was′ l e = rw (e .0, e .1, e .2) (l, tt, tt)
+hands-departure {c} (NotLeft zero) was was′ l e = absurd (refused-zero c l)
+hands-departure (NotLeft (suc k)) was was′ l e = rw (e .0, e .1, e .2) (l, refl, refl)
+hands-departure (LeftKeys own parents) was was′ l e = rw (e .0, e .1, e .2) (l, tt, tt)

@@ -1,21 +1,20 @@
 -- What the numbers of an exported call say, in document 01's numbers and values.
 -- Assumes nothing.
-use Prim.Native.Nat.{ℕ, zero, suc, _*_}
+use Prim.Native.Nat.{ℕ, zero, suc}
 use mathlib.Core.Path.{_≡_}
 use mathlib.Core.List.{List}
-use lib.ListN.{drop}
 use Rattle.machine.specs.Wrapper.{Sums}
-use Rattle.machine.specs.Call.{Buffer, Call, keyBytes}
-use Rattle.machine.specs.Step.{Reply, Refused, Number, Keys, Left, Entries, Summed}
-use Rattle.lists.specs.Lists.{keysIn}
-use Rattle.planning.specs.Claiming.{entriesFrom}
-use Rattle.tracker.specs.declared.Answer.{Answer}
-use Rattle.tracker.specs.declared.Answer.the-variants.{Refused as No, Number as Yes}
-use Rattle.tracker.specs.declared.Listing.{Listing}
-use Rattle.tracker.specs.declared.Listing.the-variants.{Refused as NoKeys, Listed}
-use Rattle.tracker.specs.declared.Departure.{Departure}
-use Rattle.tracker.specs.declared.Departure.the-variants.{Refused as NotLeft, Left as LeftKeys}
-use Rattle.tracker.specs.Outcome.{Leaves, LeavesWith}
+use Rattle.machine.specs.Call.{Buffer, Call}
+use Rattle.machine.specs.Step.{Reply, Refused, Number, Summed}
+use Rattle.outcome.specs.declared.Answer.{Answer}
+use Rattle.outcome.specs.declared.Answer.the-variants.{Refused as No, Number as Yes}
+use Rattle.outcome.specs.declared.Listing.{Listing}
+use Rattle.outcome.specs.declared.Listing.the-variants.{Refused as NoKeys, Listed}
+use Rattle.outcome.specs.declared.Departure.{Departure}
+use Rattle.outcome.specs.declared.Departure.the-variants.{Refused as NotLeft, Left as LeftKeys}
+use Rattle.outcome.specs.Outcome.{Leaves, LeavesWith}
+use Rattle.outcome.specs.Reply.{keysListed, leftListed}
+use Rattle.public_plans.specs.Entries.{entriesListed}
 
 -- the status of an answer
 abbrev pub statusOf : Answer → ℕ
@@ -49,30 +48,30 @@ abbrev pub parentsOut : Departure → ℕ → ℕ
 parentsOut (NotLeft n) was = was
 parentsOut (LeftKeys own parents) was = parents
 
--- the reply of a status and of the number handed out
+-- the reply of a status, and of what was handed out: r, if the call was carried out
+abbrev pub told : ℕ → Reply → Reply
+told zero r = r
+told (suc k) r = Refused (suc k)
+
+-- a number
 abbrev pub numbered : ℕ → ℕ → Reply
-numbered zero n = Number n
-numbered (suc k) n = Refused (suc k)
+numbered k n = told k (Number n)
 
--- the reply of a status and of the three figures handed out
+-- the three figures of sum
 abbrev pub figured : ℕ → ℕ → ℕ → ℕ → Reply
-figured zero held free permille = Summed (record { held = held; free = free; permille = permille })
-figured (suc k) held free permille = Refused (suc k)
+figured k held free permille = told k (Summed (record { held = held; free = free; permille = permille }))
 
--- the reply of a status and of the count handed out: so many keys stand in the answer buffer
+-- a count: so many keys stand in the answer buffer
 abbrev pub counted : ℕ → ℕ → Buffer → Reply
-counted zero n u = Keys (keysIn n u)
-counted (suc k) n u = Refused (suc k)
+counted k n u = told k (keysListed n u)
 
 -- or so many entries
 abbrev pub entered : ℕ → ℕ → Buffer → Reply
-entered zero n u = Entries (entriesFrom u 0 n)
-entered (suc k) n u = Refused (suc k)
+entered k n u = told k (entriesListed n u)
 
--- the reply of a status and of the two counts handed out: so many keys stand there, and so many behind them
+-- two counts: so many keys stand there, and so many behind them
 abbrev pub parted : ℕ → ℕ → ℕ → Buffer → Reply
-parted zero own parents u = Left (keysIn own u) (keysIn parents (drop (keyBytes * own) u))
-parted (suc k) own parents u = Refused (suc k)
+parted k own parents u = told k (leftListed own parents u)
 
 -- a call that is refused hands nothing out: what stood there stays
 abbrev pub Stays : ℕ → ℕ → ℕ → Type 0

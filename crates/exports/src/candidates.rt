@@ -47,7 +47,7 @@ pub extern "C" fn tracker_announce(
         (now (s .entry)) (now (s .exit)) r (now (reply .entry)) (now (reply .exit)) ⌝ }
 {
     let c = candidate(connection, item_type, hash, ready, preferred, priority);
-    let a = tracker::candidates::announce(s, c);
+    let a = public_requests::candidates::announce(s, c);
     hand_out(a, reply)
 }
 
@@ -67,7 +67,7 @@ pub extern "C" fn tracker_request_parent(
         (now (s .entry)) (now (s .exit)) r (now (reply .entry)) (now (reply .exit)) ⌝ }
 {
     let c = candidate(connection, item_type, hash, ready, preferred, priority);
-    let a = tracker::candidates::request_parent(s, c);
+    let a = public_requests::candidates::request_parent(s, c);
     hand_out(a, reply)
 }
 
@@ -84,6 +84,6 @@ pub extern "C" fn tracker_announce_parents(
     ensures { λ r. ⌜ HandsKeys (On (AnnounceParents connection (hashesIn (now (parents .entry))) clock (now (answer .entry))))
         (now (s .entry)) (now (s .exit)) (now (answer .exit)) r (now (count .entry)) (now (count .exit)) ⌝ }
 {
-    let l = tracker::candidates::announce_parents(s, connection, parents, clock, answer);
+    let l = public_requests::candidates::announce_parents(s, connection, parents, clock, answer);
     hand_count(l, count)
 }

@@ -17,6 +17,6 @@ pub extern "C" fn tracker_disconnected(
     ensures { λ r. ⌜ HandsDeparture (On (Disconnected connection clock (now (answer .entry))))
         (now (s .entry)) (now (s .exit)) (now (answer .exit)) r (now (own .entry)) (now (own .exit)) (now (parents .entry)) (now (parents .exit)) ⌝ }
 {
-    let d = tracker::departures::disconnected(s, connection, clock, answer);
+    let d = public_packages::departures::disconnected(s, connection, clock, answer);
     hand_departure(d, own, parents)
 }

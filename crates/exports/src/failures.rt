@@ -5,7 +5,7 @@ use super::status;
 ghost use mathlib.Core.Path.{_≡_};
 ghost use Rattle.ident.specs.Words.{keyNum};
 ghost use Rattle.machine.specs.Call.{On, Failed, FailedWithParents, Unclaim, Forget, ForgetKnown, FailedPackageInfo, PackageInfoOwner};
-ghost use Rattle.tracker.specs.Outcome.{Leaves};
+ghost use Rattle.outcome.specs.Outcome.{Leaves};
 ghost use Rattle.exports.specs.Arguments.{kindGiven, keyGiven};
 ghost use Rattle.exports.specs.Status.{numbered, HandsOut, HandsKeys};
 
@@ -41,7 +41,7 @@ pub extern "C" fn tracker_failed(
     ensures { λ r. ⌜ HandsOut (On (Failed (keyGiven kind (now (hash .entry))) connection clock)) (now (s .entry)) (now (s .exit)) r (now (reply .entry)) (now (reply .exit)) ⌝ }
 {
     let k = key_given(kind, hash);
-    let a = tracker::failures::failed(s, k, connection, clock);
+    let a = public_requests::failures::failed(s, k, connection, clock);
     hand_out(a, reply)
 }
 
@@ -61,7 +61,7 @@ pub extern "C" fn tracker_failed_with_parents(
         (now (s .entry)) (now (s .exit)) (now (answer .exit)) r (now (count .entry)) (now (count .exit)) ⌝ }
 {
     let k = key_given(kind, hash);
-    let l = tracker::failures::failed_with_parents(s, k, connection, clock, answer);
+    let l = public_requests::failures::failed_with_parents(s, k, connection, clock, answer);
     hand_count(l, count)
 }
 
@@ -71,7 +71,7 @@ pub extern "C" fn tracker_unclaim(s: &mut [u8], kind: u64, hash: &[u8; 32], conn
     ensures { λ r. ⌜ Leaves (On (Unclaim (keyGiven kind (now (hash .entry))) connection)) (now (s .entry)) (now (s .exit)) (numbered r 1) ⌝ }
 {
     let k = key_given(kind, hash);
-    status(tracker::failures::unclaim(s, k, connection))
+    status(public_requests::failures::unclaim(s, k, connection))
 }
 
 // The request at the key goes. Carried out, it replies 1.
@@ -80,7 +80,7 @@ pub extern "C" fn tracker_forget(s: &mut [u8], kind: u64, hash: &[u8; 32]) -> u6
     ensures { λ r. ⌜ Leaves (On (Forget (keyGiven kind (now (hash .entry))))) (now (s .entry)) (now (s .exit)) (numbered r 1) ⌝ }
 {
     let k = key_given(kind, hash);
-    status(tracker::failures::forget(s, k))
+    status(public_requests::failures::forget(s, k))
 }
 
 // The transaction of the request at the key is known: the request goes, and its parents are announced for its owner. It stays if a package is still to come of it.
@@ -90,7 +90,7 @@ pub extern "C" fn tracker_forget_known(s: &mut [u8], kind: u64, hash: &[u8; 32],
     ensures { λ r. ⌜ Leaves (On (ForgetKnown (keyGiven kind (now (hash .entry))) clock)) (now (s .entry)) (now (s .exit)) (numbered r 1) ⌝ }
 {
     let k = key_given(kind, hash);
-    status(tracker::failures::forget_known(s, k, clock))
+    status(public_packages::package_claims::forget_known(s, k, clock))
 }
 
 // failed, of a connection that is asked for package info. The reply is 0 unless it is.
@@ -106,7 +106,7 @@ pub extern "C" fn tracker_failed_package_info(
     ensures { λ r. ⌜ HandsOut (On (FailedPackageInfo (keyGiven kind (now (hash .entry))) connection clock)) (now (s .entry)) (now (s .exit)) r (now (reply .entry)) (now (reply .exit)) ⌝ }
 {
     let k = key_given(kind, hash);
-    let a = tracker::failures::failed_package_info(s, k, connection, clock);
+    let a = public_packages::package_info::failed_package_info(s, k, connection, clock);
     hand_out(a, reply)
 }
 
@@ -122,6 +122,6 @@ pub extern "C" fn tracker_package_info_owner(
     ensures { λ r. ⌜ HandsOut (On (PackageInfoOwner (keyGiven kind (now (hash .entry))) clock)) (now (s .entry)) (now (s .entry)) r (now (owner .entry)) (now (owner .exit)) ⌝ }
 {
     let k = key_given(kind, hash);
-    let a = tracker::failures::package_info_owner(s, k, clock);
+    let a = public_packages::package_info::package_info_owner(s, k, clock);
     hand_out(a, owner)
 }

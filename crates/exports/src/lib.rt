@@ -6,34 +6,36 @@ ghost use mathlib.Core.Path.{_≡_};
 ghost use Rattle.words.specs.Words.{Decides};
 ghost use Rattle.machine.specs.Call.{Open, On, Sum};
 ghost use Rattle.store.specs.Image.{SoundStore};
-ghost use Rattle.tracker.specs.Outcome.{Leaves};
+ghost use Rattle.outcome.specs.Outcome.{Leaves};
 ghost use Rattle.exports.specs.Status.{numbered, figured, statusOf, handedOut, listingStatus, countOut, departureStatus, ownOut, parentsOut, Stays};
 
+pub mod arrangements;
 pub mod candidates;
 pub mod departures;
 pub mod failures;
 pub mod package_calls;
+pub mod package_claims;
 pub mod plans;
 pub mod sweeps;
 pub mod wrappers;
 
 // The status of an answer.
-pub fn status(a: tracker::Answer) -> u64
+pub fn status(a: outcome::Answer) -> u64
     ensures { λ r. ⌜ r ≡ statusOf a ⌝ }
 {
     match a {
-        tracker::Answer::Refused(n) => n,
-        tracker::Answer::Number(_) => 0,
+        outcome::Answer::Refused(n) => n,
+        outcome::Answer::Number(_) => 0,
     }
 }
 
 // The same, and the number of a reply handed out.
-pub fn hand_out(a: tracker::Answer, reply: &mut u64) -> u64
+pub fn hand_out(a: outcome::Answer, reply: &mut u64) -> u64
     ensures { λ r. ⌜ (r ≡ statusOf a) × (now (reply .exit) ≡ handedOut a (now (reply .entry))) ⌝ }
 {
     match a {
-        tracker::Answer::Refused(refusal) => refusal,
-        tracker::Answer::Number(n) => {
+        outcome::Answer::Refused(refusal) => refusal,
+        outcome::Answer::Number(n) => {
             *reply = n;
             0
         }
@@ -41,12 +43,12 @@ pub fn hand_out(a: tracker::Answer, reply: &mut u64) -> u64
 }
 
 // The same of an answer that lists keys or entries: their count is handed out.
-pub fn hand_count(l: tracker::Listing, count: &mut u64) -> u64
+pub fn hand_count(l: outcome::Listing, count: &mut u64) -> u64
     ensures { λ r. ⌜ (r ≡ listingStatus l) × (now (count .exit) ≡ countOut l (now (count .entry))) ⌝ }
 {
     match l {
-        tracker::Listing::Refused(refusal) => refusal,
-        tracker::Listing::Listed(n) => {
+        outcome::Listing::Refused(refusal) => refusal,
+        outcome::Listing::Listed(n) => {
             *count = n;
             0
         }
@@ -54,12 +56,12 @@ pub fn hand_count(l: tracker::Listing, count: &mut u64) -> u64
 }
 
 // The same of a connection that left: the counts of its own keys and of its parents' are handed out.
-pub fn hand_departure(d: tracker::Departure, own: &mut u64, parents: &mut u64) -> u64
+pub fn hand_departure(d: outcome::Departure, own: &mut u64, parents: &mut u64) -> u64
     ensures { λ r. ⌜ (r ≡ departureStatus d) × (now (own .exit) ≡ ownOut d (now (own .entry))) × (now (parents .exit) ≡ parentsOut d (now (parents .entry))) ⌝ }
 {
     match d {
-        tracker::Departure::Refused(refusal) => refusal,
-        tracker::Departure::Left(a, b) => {
+        outcome::Departure::Refused(refusal) => refusal,
+        outcome::Departure::Left(a, b) => {
             *own = a;
             *parents = b;
             0
@@ -72,7 +74,7 @@ pub fn hand_departure(d: tracker::Departure, own: &mut u64, parents: &mut u64) -
 pub extern "C" fn tracker_open(s: &mut [u8], l: u64, q: u64) -> u64
     ensures { λ r. ⌜ Leaves (Open l q) (now (s .entry)) (now (s .exit)) (numbered r 1) ⌝ }
 {
-    status(tracker::open(s, l, q))
+    status(public_requests::open(s, l, q))
 }
 
 // Whether the bytes, as far as their need, write a sound state: what a call tests first.
@@ -89,10 +91,10 @@ pub extern "C" fn tracker_sum(s: &[u8], held: &mut u64, free: &mut u64, permille
     ensures { λ r. ⌜ Leaves (On Sum) (now (s .entry)) (now (s .entry)) (figured r (now (held .exit)) (now (free .exit)) (now (permille .exit))) ⌝ }
     ensures kept { λ r. ⌜ Stays r (now (held .entry)) (now (held .exit)) × Stays r (now (free .entry)) (now (free .exit)) × Stays r (now (permille .entry)) (now (permille .exit)) ⌝ }
 {
-    let f = tracker::sum(s);
+    let f = public_requests::sum(s);
     match f {
-        tracker::Figures::Refused(n) => n,
-        tracker::Figures::Are(a, b, c) => {
+        outcome::Figures::Refused(n) => n,
+        outcome::Figures::Are(a, b, c) => {
             *held = a;
             *free = b;
             *permille = c;

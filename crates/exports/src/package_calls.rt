@@ -21,7 +21,7 @@ pub extern "C" fn tracker_solicit_package_info(
         (now (s .entry)) (now (s .exit)) r (now (reply .entry)) (now (reply .exit)) ⌝ }
 {
     let h = ident::hash_from_bytes(hash);
-    let a = tracker::package_calls::solicit_package_info(s, connection, h, parents, clock);
+    let a = public_packages::package_info::solicit_package_info(s, connection, h, parents, clock);
     hand_out(a, reply)
 }
 
@@ -42,7 +42,7 @@ pub extern "C" fn tracker_claim_package(
 {
     let h = ident::hash_from_bytes(hash);
     let d = ident::hash_from_bytes(combined);
-    let a = tracker::package_calls::claim_package(s, connection, h, d, wtxids, clock);
+    let a = public_packages::package_calls::claim_package(s, connection, h, d, wtxids, clock);
     hand_out(a, reply)
 }
 
@@ -63,7 +63,14 @@ pub extern "C" fn tracker_begin_package_resolution(
 {
     let h = ident::hash_from_bytes(hash);
     let d = ident::hash_from_bytes(combined);
-    let a = tracker::package_calls::begin_package_resolution(s, connection, h, d, wtxids, clock);
+    let a = public_packages::package_calls::begin_package_resolution(
+        s,
+        connection,
+        h,
+        d,
+        wtxids,
+        clock,
+    );
     hand_out(a, reply)
 }
 
@@ -82,6 +89,6 @@ pub extern "C" fn tracker_release_package(
         (now (s .entry)) (now (s .exit)) (now (answer .exit)) r (now (count .entry)) (now (count .exit)) ⌝ }
 {
     let h = ident::hash_from_bytes(hash);
-    let l = tracker::package_calls::release_package(s, connection, h, clock, answer);
+    let l = public_packages::package_calls::release_package(s, connection, h, clock, answer);
     hand_count(l, count)
 }

@@ -17,6 +17,6 @@ pub extern "C" fn tracker_claim(
     ensures { λ r. ⌜ HandsEntries (On (Claim clock (entriesIn (now (checked .entry))) (now (answer .entry))))
         (now (s .entry)) (now (s .exit)) (now (answer .exit)) r (now (taken .entry)) (now (taken .exit)) ⌝ }
 {
-    let l = tracker::plans::claim(s, clock, checked, answer);
+    let l = public_plans::plans::claim(s, clock, checked, answer);
     hand_count(l, taken)
 }

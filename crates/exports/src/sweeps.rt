@@ -9,7 +9,7 @@ ghost use Rattle.exports.specs.Status.{HandsOut, HandsKeys};
 pub extern "C" fn tracker_sweep(s: &mut [u8], answer: &mut [u8], count: &mut u64) -> u64
     ensures { λ r. ⌜ HandsKeys (On (Sweep (now (answer .entry)))) (now (s .entry)) (now (s .exit)) (now (answer .exit)) r (now (count .entry)) (now (count .exit)) ⌝ }
 {
-    let l = tracker::sweeps::sweep(s, answer);
+    let l = public_requests::sweeps::sweep(s, answer);
     hand_count(l, count)
 }
 
@@ -18,6 +18,6 @@ pub extern "C" fn tracker_sweep(s: &mut [u8], answer: &mut [u8], count: &mut u64
 pub extern "C" fn tracker_poll_gate(s: &mut [u8], clock: u64, reply: &mut u64) -> u64
     ensures { λ r. ⌜ HandsOut (On (PollGate clock)) (now (s .entry)) (now (s .exit)) r (now (reply .entry)) (now (reply .exit)) ⌝ }
 {
-    let a = tracker::sweeps::poll_gate(s, clock);
+    let a = public_requests::sweeps::poll_gate(s, clock);
     hand_out(a, reply)
 }

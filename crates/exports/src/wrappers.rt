@@ -1,10 +1,11 @@
 // The wrappers' calls, for C and Rust.
+use super::hand_count;
 use super::status;
-ghost use Rattle.machine.specs.Call.{On, AnnounceTransactions, TransactionResponseCompleted};
-ghost use Rattle.lists.specs.Items.{offersIn};
-ghost use Rattle.tracker.specs.Outcome.{Leaves};
+ghost use Rattle.machine.specs.Call.{On, AnnounceTransactions, TransactionResponseCompleted, TransactionNotFound};
+ghost use Rattle.lists.specs.Items.{itemsIn, offersIn};
+ghost use Rattle.outcome.specs.Outcome.{Leaves};
 ghost use Rattle.exports.specs.Arguments.{hashGiven};
-ghost use Rattle.exports.specs.Status.{numbered};
+ghost use Rattle.exports.specs.Status.{numbered, HandsKeys};
 
 // The connection announces the items, which are given in 40 bytes each, with the priorities beside them in 8; the shorter list decides. source: a wtxid source exists.
 // Carried out, it replies 1.
@@ -20,7 +21,7 @@ pub extern "C" fn tracker_announce_transactions(
 ) -> u64
     ensures { λ r. ⌜ Leaves (On (AnnounceTransactions connection clock preferred source (offersIn (now (items .entry)) (now (priorities .entry))))) (now (s .entry)) (now (s .exit)) (numbered r 1) ⌝ }
 {
-    let a = tracker::wrappers::announce_transactions(
+    let a = public_plans::wrappers::announce_transactions(
         s,
         connection,
         clock,
@@ -47,5 +48,23 @@ pub extern "C" fn tracker_transaction_response_completed(
     let h = ident::hash_from_bytes(wtxid);
     let x = ident::Txid(g);
     let w = ident::Wtxid(h);
-    status(tracker::wrappers::transaction_response_completed(s, connection, x, w, clock))
+    status(public_plans::wrappers::transaction_response_completed(s, connection, x, w, clock))
+}
+
+// The connection does not have the items, which are given in 40 bytes each: what it owns of them has failed, and so have its claims to the packages among them. The
+// keys of what failed stand in the answer, followed by those of the parents that are kept where there are some: so many as `count` says.
+#[no_mangle]
+pub extern "C" fn tracker_transaction_not_found(
+    s: &mut [u8],
+    connection: u64,
+    items: &[u8],
+    clock: u64,
+    answer: &mut [u8],
+    count: &mut u64,
+) -> u64
+    ensures { λ r. ⌜ HandsKeys (On (TransactionNotFound connection (itemsIn (now (items .entry))) clock (now (answer .entry))))
+        (now (s .entry)) (now (s .exit)) (now (answer .exit)) r (now (count .entry)) (now (count .exit)) ⌝ }
+{
+    let l = public_plans::wrappers::transaction_not_found(s, connection, items, clock, answer);
+    hand_count(l, count)
 }

@@ -6,35 +6,37 @@ use mathlib.Core.List.{List}
 use Rattle.machine.specs.Call.{Buffer, Call}
 use Rattle.store.specs.Image.{SoundStore}
 use Rattle.store.proofs.BytesBack.{Bytes}
-use Rattle.tracker.specs.declared.Answer.{Answer}
-use Rattle.tracker.specs.declared.Listing.{Listing}
-use Rattle.tracker.specs.declared.Departure.{Departure}
-use Rattle.tracker.specs.Outcome.{Leaves, LeavesWith}
-use Rattle.tracker.specs.Reply.{replyOf, listingOf, entriesOf, departureOf}
+use Rattle.outcome.specs.declared.Answer.{Answer}
+use Rattle.outcome.specs.declared.Listing.{Listing}
+use Rattle.outcome.specs.declared.Departure.{Departure}
+use Rattle.outcome.specs.Outcome.{Leaves, LeavesWith}
+use Rattle.outcome.specs.Reply.{replyOf, listingOf, departureOf}
+use Rattle.public_plans.specs.Entries.{entriesOf}
 use Rattle.tracker.proofs.Typed.{Made, made-typed}
-use Rattle.tracker.proofs.Owned.{does-keeps-sound}
+use Rattle.outcome.proofs.Owned.{does-keeps-sound}
 use Rattle.exports.specs.Status.{statusOf, handedOut, listingStatus, countOut, departureStatus, ownOut, parentsOut, numbered, HandsOut, HandsKeys, HandsEntries, HandsDeparture}
-use Rattle.exports.proofs.Statuses.{Replies, RepliesOne, hands-out, hands-keys, hands-entries, hands-departure, one-told}
+use Rattle.exports.proofs.Replies.{RepliesOne}
+use Rattle.exports.proofs.Statuses.{hands-out, hands-keys, hands-entries, hands-departure, one-told}
 
 -- c₀ is the call that was made of the sound store b, c what the export says of its arguments; z is left
 module _ {c₀ : Call} (m : Made c₀) {b : List ℕ} (w : SoundStore b) (p : Bytes b) {c : Call} {z : List ℕ} where
-  pub owner-number : Replies c → (a : Answer) (was : ℕ) {r n : ℕ} → Leaves c₀ b z (replyOf a) → (r ≡ statusOf a) × (n ≡ handedOut a was) → c₀ ≡ c → HandsOut c b z r was n × SoundStore z
-  owner-number h a was d e q = (hands-out h a was d e q, does-keeps-sound w (made-typed c₀ m) p d)
+  pub owner-number : (a : Answer) (was : ℕ) {r n : ℕ} → Leaves c₀ b z (replyOf a) → (r ≡ statusOf a) × (n ≡ handedOut a was) → c₀ ≡ c → HandsOut c b z r was n × SoundStore z
+  owner-number a was d e q = (hands-out a was d e q, does-keeps-sound w (made-typed c₀ m) p d)
 
-  pub owner-keys : Replies c → (l : Listing) (was : ℕ) {u : Buffer} {r n : ℕ} → LeavesWith c₀ b z u (listingOf l) → (r ≡ listingStatus l) × (n ≡ countOut l was) → c₀ ≡ c
+  pub owner-keys : (l : Listing) (was : ℕ) {u : Buffer} {r n : ℕ} → LeavesWith c₀ b z u (listingOf l) → (r ≡ listingStatus l) × (n ≡ countOut l was) → c₀ ≡ c
       → HandsKeys c b z u r was n × SoundStore z
-  owner-keys h l was d e q = (hands-keys h l was d e q, does-keeps-sound w (made-typed c₀ m) p d)
+  owner-keys l was d e q = (hands-keys l was d e q, does-keeps-sound w (made-typed c₀ m) p d)
 
   -- of a call that replies 1 when it is carried out
   pub owner-one : RepliesOne c → (a : Answer) {r : ℕ} → Leaves c₀ b z (replyOf a) → r ≡ statusOf a → c₀ ≡ c → Leaves c b z (numbered r 1) × SoundStore z
   owner-one h a d e q = (one-told h a d e q, does-keeps-sound w (made-typed c₀ m) p d)
 
 -- where the export says what was asked, in the same words: of a call that lists entries
-pub owner-entries : {c : Call} → Made c → {b : List ℕ} → SoundStore b → Bytes b → Replies c → (l : Listing) (was : ℕ) {z : List ℕ} {u : Buffer} {r n : ℕ} → LeavesWith c b z u (entriesOf l)
+pub owner-entries : {c : Call} → Made c → {b : List ℕ} → SoundStore b → Bytes b → (l : Listing) (was : ℕ) {z : List ℕ} {u : Buffer} {r n : ℕ} → LeavesWith c b z u (entriesOf l)
     → (r ≡ listingStatus l) × (n ≡ countOut l was) → HandsEntries c b z u r was n × SoundStore z
-owner-entries {c} m w p h l was d e = (hands-entries h l was d e, does-keeps-sound w (made-typed c m) p d)
+owner-entries {c} m w p l was d e = (hands-entries l was d e, does-keeps-sound w (made-typed c m) p d)
 
 -- of a connection that left
-pub owner-departure : {c : Call} → Made c → {b : List ℕ} → SoundStore b → Bytes b → Replies c → (d : Departure) (was was′ : ℕ) {z : List ℕ} {u : Buffer} {r n k : ℕ}
+pub owner-departure : {c : Call} → Made c → {b : List ℕ} → SoundStore b → Bytes b → (d : Departure) (was was′ : ℕ) {z : List ℕ} {u : Buffer} {r n k : ℕ}
     → LeavesWith c b z u (departureOf d) → (r ≡ departureStatus d) × (n ≡ ownOut d was) × (k ≡ parentsOut d was′) → HandsDeparture c b z u r was n was′ k × SoundStore z
-owner-departure {c} m w p h d was was′ l e = (hands-departure h d was was′ l e, does-keeps-sound w (made-typed c m) p l)
+owner-departure {c} m w p d was was′ l e = (hands-departure d was was′ l e, does-keeps-sound w (made-typed c m) p l)

@@ -23,7 +23,7 @@ pub extern "C" fn tracker_owned_announce(
     ensures sound { λ r. ⌜ SoundStore (now (s .exit)) ⌝ }
 {
     let c = exports::candidates::candidate(connection, item_type, hash, ready, preferred, priority);
-    let a = tracker::on_sound::candidates::announce(s, c);
+    let a = public_requests::on_sound::candidates::announce(s, c);
     exports::hand_out(a, reply)
 }
 
@@ -45,7 +45,7 @@ pub extern "C" fn tracker_owned_request_parent(
     ensures sound { λ r. ⌜ SoundStore (now (s .exit)) ⌝ }
 {
     let c = exports::candidates::candidate(connection, item_type, hash, ready, preferred, priority);
-    let a = tracker::on_sound::candidates::request_parent(s, c);
+    let a = public_requests::on_sound::candidates::request_parent(s, c);
     exports::hand_out(a, reply)
 }
 
@@ -64,6 +64,12 @@ pub extern "C" fn tracker_owned_announce_parents(
         (now (s .entry)) (now (s .exit)) (now (answer .exit)) r (now (count .entry)) (now (count .exit)) ⌝ }
     ensures sound { λ r. ⌜ SoundStore (now (s .exit)) ⌝ }
 {
-    let l = tracker::on_sound::candidates::announce_parents(s, connection, parents, clock, answer);
+    let l = public_requests::on_sound::candidates::announce_parents(
+        s,
+        connection,
+        parents,
+        clock,
+        answer,
+    );
     exports::hand_count(l, count)
 }

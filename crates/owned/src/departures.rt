@@ -19,6 +19,6 @@ pub extern "C" fn tracker_owned_disconnected(
         (now (s .entry)) (now (s .exit)) (now (answer .exit)) r (now (own .entry)) (now (own .exit)) (now (parents .entry)) (now (parents .exit)) ⌝ }
     ensures sound { λ r. ⌜ SoundStore (now (s .exit)) ⌝ }
 {
-    let d = tracker::on_sound::departures::disconnected(s, connection, clock, answer);
+    let d = public_packages::on_sound::departures::disconnected(s, connection, clock, answer);
     exports::hand_departure(d, own, parents)
 }

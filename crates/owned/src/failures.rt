@@ -1,7 +1,7 @@
 // The calls of a failed or withdrawn request, of an owner.
 ghost use Rattle.machine.specs.Call.{On, Failed, FailedWithParents, Unclaim, Forget, ForgetKnown, FailedPackageInfo, PackageInfoOwner};
 ghost use Rattle.store.specs.Image.{SoundStore};
-ghost use Rattle.tracker.specs.Outcome.{Leaves};
+ghost use Rattle.outcome.specs.Outcome.{Leaves};
 ghost use Rattle.exports.specs.Arguments.{keyGiven};
 ghost use Rattle.exports.specs.Status.{numbered, HandsOut, HandsKeys};
 
@@ -20,7 +20,7 @@ pub extern "C" fn tracker_owned_failed(
     ensures sound { λ r. ⌜ SoundStore (now (s .exit)) ⌝ }
 {
     let k = exports::failures::key_given(kind, hash);
-    let a = tracker::on_sound::failures::failed(s, k, connection, clock);
+    let a = public_requests::on_sound::failures::failed(s, k, connection, clock);
     exports::hand_out(a, reply)
 }
 
@@ -42,7 +42,13 @@ pub extern "C" fn tracker_owned_failed_with_parents(
     ensures sound { λ r. ⌜ SoundStore (now (s .exit)) ⌝ }
 {
     let k = exports::failures::key_given(kind, hash);
-    let l = tracker::on_sound::failures::failed_with_parents(s, k, connection, clock, answer);
+    let l = public_requests::on_sound::failures::failed_with_parents(
+        s,
+        k,
+        connection,
+        clock,
+        answer,
+    );
     exports::hand_count(l, count)
 }
 
@@ -59,7 +65,7 @@ pub extern "C" fn tracker_owned_unclaim(
     ensures sound { λ r. ⌜ SoundStore (now (s .exit)) ⌝ }
 {
     let k = exports::failures::key_given(kind, hash);
-    exports::status(tracker::on_sound::failures::unclaim(s, k, connection))
+    exports::status(public_requests::on_sound::failures::unclaim(s, k, connection))
 }
 
 // The request at the key goes. Carried out, it replies 1.
@@ -70,7 +76,7 @@ pub extern "C" fn tracker_owned_forget(s: &mut [u8], kind: u64, hash: &[u8; 32])
     ensures sound { λ r. ⌜ SoundStore (now (s .exit)) ⌝ }
 {
     let k = exports::failures::key_given(kind, hash);
-    exports::status(tracker::on_sound::failures::forget(s, k))
+    exports::status(public_requests::on_sound::failures::forget(s, k))
 }
 
 // The transaction of the request at the key is known: the request goes, and its parents are announced for its owner. It stays if a package is still to come of it.
@@ -87,7 +93,7 @@ pub extern "C" fn tracker_owned_forget_known(
     ensures sound { λ r. ⌜ SoundStore (now (s .exit)) ⌝ }
 {
     let k = exports::failures::key_given(kind, hash);
-    exports::status(tracker::on_sound::failures::forget_known(s, k, clock))
+    exports::status(public_packages::on_sound::package_claims::forget_known(s, k, clock))
 }
 
 // failed, of a connection that is asked for package info. The reply is 0 unless it is.
@@ -105,7 +111,7 @@ pub extern "C" fn tracker_owned_failed_package_info(
     ensures sound { λ r. ⌜ SoundStore (now (s .exit)) ⌝ }
 {
     let k = exports::failures::key_given(kind, hash);
-    let a = tracker::on_sound::failures::failed_package_info(s, k, connection, clock);
+    let a = public_packages::on_sound::package_info::failed_package_info(s, k, connection, clock);
     exports::hand_out(a, reply)
 }
 
@@ -122,6 +128,6 @@ pub extern "C" fn tracker_owned_package_info_owner(
     ensures { λ r. ⌜ HandsOut (On (PackageInfoOwner (keyGiven kind (now (hash .entry))) clock)) (now (s .entry)) (now (s .entry)) r (now (owner .entry)) (now (owner .exit)) ⌝ }
 {
     let k = exports::failures::key_given(kind, hash);
-    let a = tracker::on_sound::failures::package_info_owner(s, k, clock);
+    let a = public_packages::on_sound::package_info::package_info_owner(s, k, clock);
     exports::hand_out(a, owner)
 }

@@ -5,13 +5,15 @@
 // bytes to itself. This archive is another than the checked one, which has no such function.
 ghost use Rattle.machine.specs.Call.{On, Sum};
 ghost use Rattle.store.specs.Image.{SoundStore};
-ghost use Rattle.tracker.specs.Outcome.{Leaves};
+ghost use Rattle.outcome.specs.Outcome.{Leaves};
 ghost use Rattle.exports.specs.Status.{figured, Stays};
 
+pub mod arrangements;
 pub mod candidates;
 pub mod departures;
 pub mod failures;
 pub mod package_calls;
+pub mod package_claims;
 pub mod plans;
 pub mod sweeps;
 pub mod wrappers;
@@ -28,10 +30,10 @@ pub extern "C" fn tracker_owned_sum(
     ensures { λ r. ⌜ Leaves (On Sum) (now (s .entry)) (now (s .entry)) (figured r (now (held .exit)) (now (free .exit)) (now (permille .exit))) ⌝ }
     ensures kept { λ r. ⌜ Stays r (now (held .entry)) (now (held .exit)) × Stays r (now (free .entry)) (now (free .exit)) × Stays r (now (permille .entry)) (now (permille .exit)) ⌝ }
 {
-    let f = tracker::on_sound::sum(s);
+    let f = public_requests::on_sound::sum(s);
     match f {
-        tracker::Figures::Refused(n) => n,
-        tracker::Figures::Are(a, b, c) => {
+        outcome::Figures::Refused(n) => n,
+        outcome::Figures::Are(a, b, c) => {
             *held = a;
             *free = b;
             *permille = c;

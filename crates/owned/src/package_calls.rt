@@ -22,7 +22,7 @@ pub extern "C" fn tracker_owned_solicit_package_info(
     ensures sound { λ r. ⌜ SoundStore (now (s .exit)) ⌝ }
 {
     let h = ident::hash_from_bytes(hash);
-    let a = tracker::on_sound::package_calls::solicit_package_info(
+    let a = public_packages::on_sound::package_info::solicit_package_info(
         s,
         connection,
         h,
@@ -51,7 +51,14 @@ pub extern "C" fn tracker_owned_claim_package(
 {
     let h = ident::hash_from_bytes(hash);
     let d = ident::hash_from_bytes(combined);
-    let a = tracker::on_sound::package_calls::claim_package(s, connection, h, d, wtxids, clock);
+    let a = public_packages::on_sound::package_calls::claim_package(
+        s,
+        connection,
+        h,
+        d,
+        wtxids,
+        clock,
+    );
     exports::hand_out(a, reply)
 }
 
@@ -74,7 +81,7 @@ pub extern "C" fn tracker_owned_begin_package_resolution(
 {
     let h = ident::hash_from_bytes(hash);
     let d = ident::hash_from_bytes(combined);
-    let a = tracker::on_sound::package_calls::begin_package_resolution(
+    let a = public_packages::on_sound::package_calls::begin_package_resolution(
         s,
         connection,
         h,
@@ -102,6 +109,12 @@ pub extern "C" fn tracker_owned_release_package(
     ensures sound { λ r. ⌜ SoundStore (now (s .exit)) ⌝ }
 {
     let h = ident::hash_from_bytes(hash);
-    let l = tracker::on_sound::package_calls::release_package(s, connection, h, clock, answer);
+    let l = public_packages::on_sound::package_calls::release_package(
+        s,
+        connection,
+        h,
+        clock,
+        answer,
+    );
     exports::hand_count(l, count)
 }

@@ -19,6 +19,6 @@ pub extern "C" fn tracker_owned_claim(
         (now (s .entry)) (now (s .exit)) (now (answer .exit)) r (now (taken .entry)) (now (taken .exit)) ⌝ }
     ensures sound { λ r. ⌜ SoundStore (now (s .exit)) ⌝ }
 {
-    let l = tracker::on_sound::plans::claim(s, clock, checked, answer);
+    let l = public_plans::on_sound::plans::claim(s, clock, checked, answer);
     exports::hand_count(l, taken)
 }

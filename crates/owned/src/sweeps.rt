@@ -10,7 +10,7 @@ pub extern "C" fn tracker_owned_sweep(s: &mut [u8], answer: &mut [u8], count: &m
     ensures { λ r. ⌜ HandsKeys (On (Sweep (now (answer .entry)))) (now (s .entry)) (now (s .exit)) (now (answer .exit)) r (now (count .entry)) (now (count .exit)) ⌝ }
     ensures sound { λ r. ⌜ SoundStore (now (s .exit)) ⌝ }
 {
-    let l = tracker::on_sound::sweeps::sweep(s, answer);
+    let l = public_requests::on_sound::sweeps::sweep(s, answer);
     exports::hand_count(l, count)
 }
 
@@ -21,6 +21,6 @@ pub extern "C" fn tracker_owned_poll_gate(s: &mut [u8], clock: u64, reply: &mut 
     ensures { λ r. ⌜ HandsOut (On (PollGate clock)) (now (s .entry)) (now (s .exit)) r (now (reply .entry)) (now (reply .exit)) ⌝ }
     ensures sound { λ r. ⌜ SoundStore (now (s .exit)) ⌝ }
 {
-    let a = tracker::on_sound::sweeps::poll_gate(s, clock);
+    let a = public_requests::on_sound::sweeps::poll_gate(s, clock);
     exports::hand_out(a, reply)
 }

@@ -1,10 +1,10 @@
 // The wrappers' calls, of an owner.
-ghost use Rattle.machine.specs.Call.{On, AnnounceTransactions, TransactionResponseCompleted};
+ghost use Rattle.machine.specs.Call.{On, AnnounceTransactions, TransactionResponseCompleted, TransactionNotFound};
 ghost use Rattle.store.specs.Image.{SoundStore};
-ghost use Rattle.lists.specs.Items.{offersIn};
-ghost use Rattle.tracker.specs.Outcome.{Leaves};
+ghost use Rattle.lists.specs.Items.{itemsIn, offersIn};
+ghost use Rattle.outcome.specs.Outcome.{Leaves};
 ghost use Rattle.exports.specs.Arguments.{hashGiven};
-ghost use Rattle.exports.specs.Status.{numbered};
+ghost use Rattle.exports.specs.Status.{numbered, HandsKeys};
 
 // The connection announces the items, which are given in 40 bytes each, with the priorities beside them in 8; the shorter list decides. source: a wtxid source exists.
 // Carried out, it replies 1.
@@ -22,7 +22,7 @@ pub extern "C" fn tracker_owned_announce_transactions(
     ensures { λ r. ⌜ Leaves (On (AnnounceTransactions connection clock preferred source (offersIn (now (items .entry)) (now (priorities .entry))))) (now (s .entry)) (now (s .exit)) (numbered r 1) ⌝ }
     ensures sound { λ r. ⌜ SoundStore (now (s .exit)) ⌝ }
 {
-    let a = tracker::on_sound::wrappers::announce_transactions(
+    let a = public_plans::on_sound::wrappers::announce_transactions(
         s,
         connection,
         clock,
@@ -51,11 +51,37 @@ pub extern "C" fn tracker_owned_transaction_response_completed(
     let h = ident::hash_from_bytes(wtxid);
     let x = ident::Txid(g);
     let w = ident::Wtxid(h);
-    exports::status(tracker::on_sound::wrappers::transaction_response_completed(
+    exports::status(public_plans::on_sound::wrappers::transaction_response_completed(
         s,
         connection,
         x,
         w,
         clock,
     ))
+}
+
+// The connection does not have the items, which are given in 40 bytes each: what it owns of them has failed, and so have its claims to the packages among them. The
+// keys of what failed stand in the answer, followed by those of the parents that are kept where there are some: so many as `count` says.
+#[no_mangle]
+pub extern "C" fn tracker_owned_transaction_not_found(
+    s: &mut [u8],
+    connection: u64,
+    items: &[u8],
+    clock: u64,
+    answer: &mut [u8],
+    count: &mut u64,
+) -> u64
+    requires { ⌜ SoundStore (now s) ⌝ }
+    ensures { λ r. ⌜ HandsKeys (On (TransactionNotFound connection (itemsIn (now (items .entry))) clock (now (answer .entry))))
+        (now (s .entry)) (now (s .exit)) (now (answer .exit)) r (now (count .entry)) (now (count .exit)) ⌝ }
+    ensures sound { λ r. ⌜ SoundStore (now (s .exit)) ⌝ }
+{
+    let l = public_plans::on_sound::wrappers::transaction_not_found(
+        s,
+        connection,
+        items,
+        clock,
+        answer,
+    );
+    exports::hand_count(l, count)
 }

@@ -13,9 +13,9 @@ use Rattle.machine.specs.Demand3.{run, Bounds, Fair}
 use Rattle.machine.proofs.Demand3.{demand-3}
 use Rattle.store.specs.Image.{SoundStore}
 use Rattle.store.proofs.BytesBack.{Bytes}
-use Rattle.tracker.specs.Outcome.{Effect, Does}
-use Rattle.tracker.proofs.Stepped.{Stepped}
-use Rattle.tracker.proofs.Calls.{opened, does-steps, does-open}
+use Rattle.outcome.specs.Outcome.{Effect, Does}
+use Rattle.outcome.proofs.Stepped.{Stepped}
+use Rattle.outcome.proofs.Calls.{opened, does-steps, does-open}
 
 -- ---- what a list of calls leaves
 

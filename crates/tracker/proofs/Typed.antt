@@ -5,56 +5,28 @@ use mathlib.Core.Path.{_≡_}
 use mathlib.Core.Bool.{Bool}
 use mathlib.Core.List.{List, [], _∷_}
 use lib.ListN.{length}
-use denote.Laws.{Is}
-use denote.Struct.Laws as LL
-use Rattle.ident.specs.declared.Item.{Item}
 use Rattle.ident.specs.declared.Key.{Key}
 use Rattle.ident.specs.Number.{top}
-use Rattle.ident.specs.Words.{hashNum, keyNum}
-use Rattle.ident.proofs.Item as I
-use Rattle.ident.proofs.Item.Laws as I′
-use Rattle.ident.proofs.Key as K
-use Rattle.ident.proofs.Key.Laws as K′
-use Rattle.ident.proofs.Words.{hash-four, hash-below}
+use Rattle.ident.specs.Words.{keyNum}
+use Rattle.words.specs.Words.{words}
 use Rattle.machine.specs.Limits.{word}
-use Rattle.machine.specs.Typed.{Each, KeyTyped, CandidateTyped, CallTyped}
-use Rattle.machine.specs.Call.{Buffer, Announce, RequestParent, SolicitPackageInfo, ClaimPackage, BeginPackageResolution, AnnounceParents, Failed, FailedWithParents, ReleasePackage, Claim, Disconnected, Unclaim, Forget, ForgetKnown, FailedPackageInfo, PackageInfoOwner, AnnounceTransactions, TransactionResponseCompleted, Sweep, PollGate, Sum, Call, Open, On, openingRefusal}
+use Rattle.machine.specs.Typed.{Each, CallTyped}
+use Rattle.machine.specs.Call.{Buffer, Announce, RequestParent, SolicitPackageInfo, ClaimPackage, BeginPackageResolution, AnnounceParents, Failed, FailedWithParents, ReleasePackage, Claim, Disconnected, Unclaim, Forget, ForgetKnown, FailedPackageInfo, PackageInfoOwner, AnnounceTransactions, TransactionResponseCompleted, Sweep, PollGate, FailedPackageClaims, TeardownPackageClaims, TransactionNotFound, Arrange, Sum, Call, Open, On, openingRefusal}
 use Rattle.machine.specs.Step.{empty}
 use Rattle.store.specs.Image.{SoundStore}
 use Rattle.store.proofs.BytesBack.{Bytes}
 use Rattle.lists.specs.Lists.{hashesIn}
-use Rattle.lists.specs.Items.{offersIn}
+use Rattle.lists.specs.Items.{itemsIn, offersIn}
 use Rattle.lists.proofs.Given.{hashes-fit}
-use Rattle.lists.proofs.Inventory.{offers-fit}
+use Rattle.lists.proofs.Inventory.{items-fit, offers-fit}
 use Rattle.planning.specs.Claiming.{entriesIn}
 use Rattle.requests.specs.declared.Candidate.{Candidate}
 use Rattle.requests.specs.Changes.{candidateOf}
-use Rattle.requests.proofs.Candidate as C
-use Rattle.requests.proofs.Candidate.Laws as C′
-use Rattle.tracker.specs.Outcome.{Effect}
-use Rattle.tracker.proofs.Entered.{entries-whole, whole-typed}
+use Rattle.outcome.specs.Outcome.{Effect}
+use Rattle.outcome.proofs.Widths.{IsCandidate, candidate-typed, IsKey, key-typed}
+use Rattle.public_plans.proofs.Entered.{entries-whole, whole-typed}
+use Rattle.public_plans.proofs.Sent.{words-small}
 use Rattle.tracker.proofs.Demands.{Ran, Tracked, tracked, tracked-open}
-
--- ---- a value of the declared type `Candidate`
-
-abbrev pub IsCandidate : Candidate → Type 0
-IsCandidate c = Is C.the-row c (LL.vals C.the-type C′.the-laws c)
-
-item-below : (i : Item) → Is I.the-row i (LL.vals I.the-type I′.the-laws i) → hashNum (i .hash) < top
-item-below i g = hash-below (i .hash) (hash-four (i .hash) (LL.owed I.the-type I′.the-laws i _ g .1 .0))
-
-candidate-typed : (c : Candidate) → IsCandidate c → CandidateTyped (candidateOf c)
-candidate-typed c g =
-    let f = LL.owed C.the-type C′.the-laws c _ g in
-    record { connection = f .0 .1; hash = item-below (c .item) (f .1 .0); ready = f .1 .1 .0 .1; priority = f .1 .1 .1 .1 .0 .1 }
-
--- ---- and one of `Key`
-
-abbrev pub IsKey : Key → Type 0
-IsKey k = Is K.the-row k (LL.vals K.the-type K′.the-laws k)
-
-pub key-typed : (k : Key) → IsKey k → KeyTyped (keyNum k)
-key-typed k g = hash-below (k .hash) (hash-four (k .hash) (LL.owed K.the-type K′.the-laws k _ g .1 .0))
 
 -- ---- the calls that the code has, with arguments of its types
 
@@ -82,6 +54,10 @@ pub data Made : Call → Type 0 where
   solicits : (n h clock : ℕ) (b : List ℕ) → n < word → h < top → clock < word → Bytes b → Made (On (SolicitPackageInfo n h (hashesIn b) clock))
   claims-package : (n h c clock : ℕ) (b : List ℕ) → n < word → h < top → c < top → clock < word → Bytes b → Made (On (ClaimPackage n h c (hashesIn b) clock))
   begins-resolution : (n h c clock : ℕ) (b : List ℕ) → n < word → h < top → c < top → clock < word → Bytes b → Made (On (BeginPackageResolution n h c (hashesIn b) clock))
+  fails-claims : (n clock : ℕ) (b : List ℕ) (u : Buffer) → n < word → clock < word → Bytes b → Made (On (FailedPackageClaims n (hashesIn b) clock u))
+  tears-down : (clock : ℕ) → clock < word → Made (On (TeardownPackageClaims clock))
+  misses : (n clock : ℕ) (b : List ℕ) (u : Buffer) → n < word → clock < word → Bytes b → Made (On (TransactionNotFound n (itemsIn b) clock u))
+  arranges : (v b : List ℕ) (u : Buffer) → Bytes v → Bytes b → Made (On (Arrange (words v) (entriesIn b) u))
 
 pub made-typed : (c : Call) → Made c → CallTyped c
 made-typed c (opens l q g h) = (g, h)
@@ -106,6 +82,10 @@ made-typed c (gates clock g) = g
 made-typed c (solicits n k clock b g h j p) = (g, h, hashes-fit b p, j)
 made-typed c (claims-package n k d clock b g h i j p) = (g, h, i, hashes-fit b p, j)
 made-typed c (begins-resolution n k d clock b g h i j p) = (g, h, i, hashes-fit b p, j)
+made-typed c (fails-claims n clock b u g h p) = (g, hashes-fit b p, h)
+made-typed c (tears-down clock g) = g
+made-typed c (misses n clock b u g h p) = (g, items-fit b p, h)
+made-typed c (arranges v b u p q) = (words-small v p, whole-typed (entriesIn b) (entries-whole b q))
 
 each-typed : (cs : List Call) → Each Made cs → Each CallTyped cs
 each-typed [] m = tt
@@ -116,5 +96,6 @@ pub tracked-made : (b : List ℕ) (calls : List Call) (es : List Effect) (w : So
 tracked-made b calls es w p m r = tracked b calls es w p (each-typed calls m) r
 
 -- and from an empty tracker, by an opening that is carried out
-pub tracked-opened : (b : List ℕ) (L Q : ℕ) (e : Effect) (calls : List Call) (es : List Effect) → openingRefusal (length b) L Q ≡ 0 → Bytes b → Each Made calls → Ran b (Open L Q ∷ calls) (e ∷ es) → Tracked (e .store) (empty L Q) calls es
+pub tracked-opened : (b : List ℕ) (L Q : ℕ) (e : Effect) (calls : List Call) (es : List Effect) → openingRefusal (length b) L Q ≡ 0 → Bytes b → Each Made calls → Ran b (Open L Q ∷ calls)
+    (e ∷ es) → Tracked (e .store) (empty L Q) calls es
 tracked-opened b L Q e calls es z p m r = tracked-open b L Q e calls es z p (each-typed calls m) r .1

@@ -2,7 +2,8 @@
 -- Assumes nothing.
 use mathlib.Core.Path.{refl}
 use borrow.Author.Needs.{needs}
-use Rattle.exports.proofs.Statuses.{one-told, opens}
+use Rattle.exports.proofs.Statuses.{one-told}
+use Rattle.exports.proofs.Replies.{opens}
 use Rattle.exports.proofs.tracker_open.Statement.{statement}
 use Rattle.exports.proofs.tracker_open.Tie as tie
 

@@ -1,7 +1,7 @@
 -- `events::answers::answer_open` meets its contract.
 -- Assumes nothing.
 use mathlib.Core.Path.{refl, ap}
-use Rattle.tracker.specs.Reply.{replyOf}
+use Rattle.outcome.specs.Reply.{replyOf}
 use Rattle.events.proofs.Printing.{carried, reply-refused, reply-ok}
 use borrow.Author.Needs.{needs}
 use Rattle.events.proofs.answers.answer_open.Statement.{statement}

@@ -1,7 +1,7 @@
 -- `events::answers::answer_sum` meets its contract.
 -- Assumes nothing.
 use mathlib.Core.Path.{refl, ap}
-use Rattle.tracker.specs.Reply.{figuresOf}
+use Rattle.outcome.specs.Reply.{figuresOf}
 use Rattle.events.proofs.Printing.{carried, reply-refused, reply-figures}
 use borrow.Author.Needs.{needs}
 use Rattle.events.proofs.answers.answer_sum.Statement.{statement}

@@ -1,7 +1,7 @@
 -- `events::answers::number` meets its contract.
 -- Assumes nothing.
 use mathlib.Core.Path.{ap}
-use Rattle.tracker.specs.Reply.{replyOf}
+use Rattle.outcome.specs.Reply.{replyOf}
 use Rattle.events.proofs.Printing.{numbered-refused, numbered-is}
 use borrow.Author.Needs.{needs}
 use Rattle.events.proofs.answers.number.Statement.{statement}

@@ -3,7 +3,7 @@
 use mathlib.Core.Path.{ap}
 use borrow.Author.Needs.{needs}
 use Rattle.machine.specs.Call.{On, Announce}
-use Rattle.exports.proofs.Statuses.{hands-out, announces}
+use Rattle.exports.proofs.Statuses.{hands-out}
 use Rattle.exports.proofs.candidates.tracker_announce.Statement.{statement}
 use Rattle.exports.proofs.candidates.tracker_announce.Tie as tie
 
@@ -20,7 +20,9 @@ same-length : tie.Need-same-length
 same-length c = search needs
 
 returns : tie.Need-returns
-returns c = hands-out (announces _) (c .before .before .before .before .announce .result) _ (c .before .before .before .before .announce .ensures) (c .hand-out .ensures) (ap (λ x. On (Announce x)) (c .before .before .before .before .before .before .candidate .ensures))
+returns c =
+    hands-out (c .before .before .before .before .announce .result) _ (c .before .before .before .before .announce .ensures) (c .hand-out .ensures)
+    (ap (λ x. On (Announce x)) (c .before .before .before .before .before .before .candidate .ensures))
 
 pub tracker-announce-spec : {M : Type 1} → statement M
 tracker-announce-spec = tie.close (tie.spec candidate-requires announce-requires hand-out-requires same-length returns)

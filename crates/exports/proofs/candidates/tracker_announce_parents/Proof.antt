@@ -2,7 +2,7 @@
 -- Assumes nothing.
 use mathlib.Core.Path.{refl}
 use borrow.Author.Needs.{needs}
-use Rattle.exports.proofs.Statuses.{hands-keys, announces-parents}
+use Rattle.exports.proofs.Statuses.{hands-keys}
 use Rattle.exports.proofs.candidates.tracker_announce_parents.Statement.{statement}
 use Rattle.exports.proofs.candidates.tracker_announce_parents.Tie as tie
 
@@ -19,7 +19,9 @@ same-length-2 : tie.Need-same-length-2
 same-length-2 c = search needs
 
 returns : tie.Need-returns
-returns c = hands-keys (announces-parents _ _ _ _) (c .before .before .before .before .before .before .announce-parents .result) _ (c .before .before .before .before .before .before .announce-parents .ensures) (c .hand-count .ensures) refl
+returns c =
+    hands-keys (c .before .before .before .before .before .before .announce-parents .result) _ (c .before .before .before .before .before .before .announce-parents .ensures)
+    (c .hand-count .ensures) refl
 
 pub tracker-announce-parents-spec : {M : Type 1} → statement M
 tracker-announce-parents-spec = tie.close (tie.spec announce-parents-requires hand-count-requires same-length same-length-2 returns)

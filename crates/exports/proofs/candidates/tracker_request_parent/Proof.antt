@@ -3,7 +3,7 @@
 use mathlib.Core.Path.{ap}
 use borrow.Author.Needs.{needs}
 use Rattle.machine.specs.Call.{On, RequestParent}
-use Rattle.exports.proofs.Statuses.{hands-out, requests-parent}
+use Rattle.exports.proofs.Statuses.{hands-out}
 use Rattle.exports.proofs.candidates.tracker_request_parent.Statement.{statement}
 use Rattle.exports.proofs.candidates.tracker_request_parent.Tie as tie
 
@@ -20,7 +20,9 @@ same-length : tie.Need-same-length
 same-length c = search needs
 
 returns : tie.Need-returns
-returns c = hands-out (requests-parent _) (c .before .before .before .before .request-parent .result) _ (c .before .before .before .before .request-parent .ensures) (c .hand-out .ensures) (ap (λ x. On (RequestParent x)) (c .before .before .before .before .before .before .candidate .ensures))
+returns c =
+    hands-out (c .before .before .before .before .request-parent .result) _ (c .before .before .before .before .request-parent .ensures) (c .hand-out .ensures)
+    (ap (λ x. On (RequestParent x)) (c .before .before .before .before .before .before .candidate .ensures))
 
 pub tracker-request-parent-spec : {M : Type 1} → statement M
 tracker-request-parent-spec = tie.close (tie.spec candidate-requires request-parent-requires hand-out-requires same-length returns)

@@ -1,7 +1,7 @@
 -- `exports::departures::tracker_disconnected` meets its contract: the public call's, its reply said by the numbers handed out.
 -- Assumes nothing.
 use borrow.Author.Needs.{needs}
-use Rattle.exports.proofs.Statuses.{departs, hands-departure}
+use Rattle.exports.proofs.Statuses.{hands-departure}
 use Rattle.exports.proofs.departures.tracker_disconnected.Statement.{statement}
 use Rattle.exports.proofs.departures.tracker_disconnected.Tie as tie
 
@@ -18,7 +18,9 @@ same-length-2 : tie.Need-same-length-2
 same-length-2 c = search needs
 
 returns : tie.Need-returns
-returns c = hands-departure (departs _ _ _) (c .before .before .before .before .before .before .before .disconnected .result) _ _ (c .before .before .before .before .before .before .before .disconnected .ensures) (c .hand-departure .ensures)
+returns c =
+    hands-departure (c .before .before .before .before .before .before .before .disconnected .result) _ _ (c .before .before .before .before .before .before .before .disconnected .ensures)
+    (c .hand-departure .ensures)
 
 pub tracker-disconnected-spec : {M : Type 1} → statement M
 tracker-disconnected-spec = tie.close (tie.spec disconnected-requires hand-departure-requires same-length same-length-2 returns)

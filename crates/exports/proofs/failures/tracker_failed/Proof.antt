@@ -4,7 +4,6 @@ use mathlib.Core.Path.{ap}
 use borrow.Author.Needs.{needs}
 use Rattle.machine.specs.Call.{On, Failed}
 use Rattle.exports.proofs.Statuses.{hands-out}
-use Rattle.exports.proofs.Failed.{fails}
 use Rattle.exports.proofs.failures.tracker_failed.Statement.{statement}
 use Rattle.exports.proofs.failures.tracker_failed.Tie as tie
 
@@ -21,7 +20,10 @@ same-length : tie.Need-same-length
 same-length c = search needs
 
 returns : tie.Need-returns
-returns c = hands-out (fails _ _ _) (c .before .before .before .before .failed .result) _ (c .before .before .before .before .failed .ensures) (c .hand-out .ensures) (ap (λ x. On (Failed x (c .before .before .before .before .before .before .before .before .args .connection) (c .before .before .before .before .before .before .before .before .args .clock))) (c .before .before .before .before .before .before .key-given .ensures))
+returns c =
+    hands-out (c .before .before .before .before .failed .result) _ (c .before .before .before .before .failed .ensures) (c .hand-out .ensures)
+    (ap (λ x. On (Failed x (c .before .before .before .before .before .before .before .before .args .connection)
+    (c .before .before .before .before .before .before .before .before .args .clock))) (c .before .before .before .before .before .before .key-given .ensures))
 
 pub tracker-failed-spec : {M : Type 1} → statement M
 tracker-failed-spec = tie.close (tie.spec key-given-requires failed-requires hand-out-requires same-length returns)

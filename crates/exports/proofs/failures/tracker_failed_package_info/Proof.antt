@@ -4,7 +4,6 @@ use mathlib.Core.Path.{ap}
 use borrow.Author.Needs.{needs}
 use Rattle.machine.specs.Call.{On, FailedPackageInfo}
 use Rattle.exports.proofs.Statuses.{hands-out}
-use Rattle.exports.proofs.Failed.{fails-info}
 use Rattle.exports.proofs.failures.tracker_failed_package_info.Statement.{statement}
 use Rattle.exports.proofs.failures.tracker_failed_package_info.Tie as tie
 
@@ -21,7 +20,10 @@ same-length : tie.Need-same-length
 same-length c = search needs
 
 returns : tie.Need-returns
-returns c = hands-out (fails-info _ _ _) (c .before .before .before .before .failed-package-info .result) _ (c .before .before .before .before .failed-package-info .ensures) (c .hand-out .ensures) (ap (λ x. On (FailedPackageInfo x (c .before .before .before .before .before .before .before .before .args .connection) (c .before .before .before .before .before .before .before .before .args .clock))) (c .before .before .before .before .before .before .key-given .ensures))
+returns c =
+    hands-out (c .before .before .before .before .failed-package-info .result) _ (c .before .before .before .before .failed-package-info .ensures) (c .hand-out .ensures)
+    (ap (λ x. On (FailedPackageInfo x (c .before .before .before .before .before .before .before .before .args .connection)
+    (c .before .before .before .before .before .before .before .before .args .clock))) (c .before .before .before .before .before .before .key-given .ensures))
 
 pub tracker-failed-package-info-spec : {M : Type 1} → statement M
 tracker-failed-package-info-spec = tie.close (tie.spec key-given-requires failed-package-info-requires hand-out-requires same-length returns)

@@ -4,7 +4,6 @@ use mathlib.Core.Path.{ap}
 use borrow.Author.Needs.{needs}
 use Rattle.machine.specs.Call.{On, FailedWithParents}
 use Rattle.exports.proofs.Statuses.{hands-keys}
-use Rattle.exports.proofs.Failed.{fails-with-parents}
 use Rattle.exports.proofs.failures.tracker_failed_with_parents.Statement.{statement}
 use Rattle.exports.proofs.failures.tracker_failed_with_parents.Tie as tie
 
@@ -24,7 +23,13 @@ same-length-2 : tie.Need-same-length-2
 same-length-2 c = search needs
 
 returns : tie.Need-returns
-returns c = hands-keys (fails-with-parents _ _ _ _) (c .before .before .before .before .before .before .failed-with-parents .result) _ (c .before .before .before .before .before .before .failed-with-parents .ensures) (c .hand-count .ensures) (ap (λ x. On (FailedWithParents x (c .before .before .before .before .before .before .before .before .before .before .before .before .args .connection) (c .before .before .before .before .before .before .before .before .before .before .before .before .args .clock) (c .before .before .before .before .before .before .before .before .before .before .before .before .args .answer .now))) (c .before .before .before .before .before .before .before .before .before .key-given .ensures))
+returns c =
+    hands-keys (c .before .before .before .before .before .before .failed-with-parents .result) _ (c .before .before .before .before .before .before .failed-with-parents .ensures)
+    (c .hand-count .ensures)
+    (ap (λ x. On (FailedWithParents x (c .before .before .before .before .before .before .before .before .before .before .before .before .args .connection)
+    (c .before .before .before .before .before .before .before .before .before .before .before .before .args .clock)
+    (c .before .before .before .before .before .before .before .before .before .before .before .before .args .answer .now)))
+    (c .before .before .before .before .before .before .before .before .before .key-given .ensures))
 
 pub tracker-failed-with-parents-spec : {M : Type 1} → statement M
 tracker-failed-with-parents-spec = tie.close (tie.spec key-given-requires failed-with-parents-requires hand-count-requires same-length same-length-2 returns)

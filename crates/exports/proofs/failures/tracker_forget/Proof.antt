@@ -4,7 +4,7 @@ use mathlib.Core.Path.{ap}
 use borrow.Author.Needs.{needs}
 use Rattle.machine.specs.Call.{On, Forget}
 use Rattle.exports.proofs.Statuses.{one-told}
-use Rattle.exports.proofs.Failed.{forgets}
+use Rattle.exports.proofs.Replies.{forgets}
 use Rattle.exports.proofs.failures.tracker_forget.Statement.{statement}
 use Rattle.exports.proofs.failures.tracker_forget.Tie as tie
 
@@ -21,7 +21,9 @@ same-length : tie.Need-same-length
 same-length c = search needs
 
 returns : tie.Need-returns
-returns c = one-told (forgets _) (c .before .before .before .forget .result) (c .before .before .before .forget .ensures) (c .status .ensures) (ap (λ x. On (Forget x)) (c .before .before .before .before .before .key-given .ensures))
+returns c =
+    one-told (forgets _) (c .before .before .before .forget .result) (c .before .before .before .forget .ensures) (c .status .ensures)
+    (ap (λ x. On (Forget x)) (c .before .before .before .before .before .key-given .ensures))
 
 pub tracker-forget-spec : {M : Type 1} → statement M
 tracker-forget-spec = tie.close (tie.spec key-given-requires forget-requires status-requires same-length returns)

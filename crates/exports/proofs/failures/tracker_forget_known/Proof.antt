@@ -4,7 +4,7 @@ use mathlib.Core.Path.{ap}
 use borrow.Author.Needs.{needs}
 use Rattle.machine.specs.Call.{On, ForgetKnown}
 use Rattle.exports.proofs.Statuses.{one-told}
-use Rattle.exports.proofs.Failed.{forgets-known}
+use Rattle.exports.proofs.Replies.{forgets-known}
 use Rattle.exports.proofs.failures.tracker_forget_known.Statement.{statement}
 use Rattle.exports.proofs.failures.tracker_forget_known.Tie as tie
 
@@ -21,7 +21,9 @@ same-length : tie.Need-same-length
 same-length c = search needs
 
 returns : tie.Need-returns
-returns c = one-told (forgets-known _ _) (c .before .before .before .forget-known .result) (c .before .before .before .forget-known .ensures) (c .status .ensures) (ap (λ x. On (ForgetKnown x (c .before .before .before .before .before .before .before .args .clock))) (c .before .before .before .before .before .key-given .ensures))
+returns c =
+    one-told (forgets-known _ _) (c .before .before .before .forget-known .result) (c .before .before .before .forget-known .ensures) (c .status .ensures)
+    (ap (λ x. On (ForgetKnown x (c .before .before .before .before .before .before .before .args .clock))) (c .before .before .before .before .before .key-given .ensures))
 
 pub tracker-forget-known-spec : {M : Type 1} → statement M
 tracker-forget-known-spec = tie.close (tie.spec key-given-requires forget-known-requires status-requires same-length returns)

@@ -1,7 +1,7 @@
 -- `exports::package_calls::tracker_begin_package_resolution` meets its contract: the public call's, its reply said by the numbers handed out.
 -- Assumes nothing.
 use borrow.Author.Needs.{needs}
-use Rattle.exports.proofs.Statuses.{hands-out, begins-resolution}
+use Rattle.exports.proofs.Statuses.{hands-out}
 use Rattle.exports.proofs.package_calls.tracker_begin_package_resolution.Statement.{statement}
 use Rattle.exports.proofs.package_calls.tracker_begin_package_resolution.Tie as tie
 
@@ -21,7 +21,9 @@ same-length : tie.Need-same-length
 same-length c = search needs
 
 returns : tie.Need-returns
-returns c = hands-out (begins-resolution _ _ _ _ _) (c .before .before .before .before .begin-package-resolution .result) _ (c .before .before .before .before .begin-package-resolution .ensures) (c .hand-out .ensures) (rw (c .before .before .before .before .before .before .before .hash-from-bytes .ensures, c .before .before .before .before .before .before .hash-from-bytes2 .ensures))
+returns c =
+    hands-out (c .before .before .before .before .begin-package-resolution .result) _ (c .before .before .before .before .begin-package-resolution .ensures) (c .hand-out .ensures)
+    (rw (c .before .before .before .before .before .before .before .hash-from-bytes .ensures, c .before .before .before .before .before .before .hash-from-bytes2 .ensures))
 
 pub tracker-begin-package-resolution-spec : {M : Type 1} → statement M
 tracker-begin-package-resolution-spec = tie.close (tie.spec hash-from-bytes-requires hash-from-bytes-requires-2 begin-package-resolution-requires hand-out-requires same-length returns)

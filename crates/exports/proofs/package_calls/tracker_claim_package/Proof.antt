@@ -1,7 +1,7 @@
 -- `exports::package_calls::tracker_claim_package` meets its contract: the public call's, its reply said by the numbers handed out.
 -- Assumes nothing.
 use borrow.Author.Needs.{needs}
-use Rattle.exports.proofs.Statuses.{hands-out, claims-package}
+use Rattle.exports.proofs.Statuses.{hands-out}
 use Rattle.exports.proofs.package_calls.tracker_claim_package.Statement.{statement}
 use Rattle.exports.proofs.package_calls.tracker_claim_package.Tie as tie
 
@@ -21,7 +21,9 @@ same-length : tie.Need-same-length
 same-length c = search needs
 
 returns : tie.Need-returns
-returns c = hands-out (claims-package _ _ _ _ _) (c .before .before .before .before .claim-package .result) _ (c .before .before .before .before .claim-package .ensures) (c .hand-out .ensures) (rw (c .before .before .before .before .before .before .before .hash-from-bytes .ensures, c .before .before .before .before .before .before .hash-from-bytes2 .ensures))
+returns c =
+    hands-out (c .before .before .before .before .claim-package .result) _ (c .before .before .before .before .claim-package .ensures) (c .hand-out .ensures)
+    (rw (c .before .before .before .before .before .before .before .hash-from-bytes .ensures, c .before .before .before .before .before .before .hash-from-bytes2 .ensures))
 
 pub tracker-claim-package-spec : {M : Type 1} → statement M
 tracker-claim-package-spec = tie.close (tie.spec hash-from-bytes-requires hash-from-bytes-requires-2 claim-package-requires hand-out-requires same-length returns)

@@ -2,7 +2,6 @@
 -- Assumes nothing.
 use borrow.Author.Needs.{needs}
 use Rattle.exports.proofs.Statuses.{hands-keys}
-use Rattle.exports.proofs.Failed.{releases-package}
 use Rattle.exports.proofs.package_calls.tracker_release_package.Statement.{statement}
 use Rattle.exports.proofs.package_calls.tracker_release_package.Tie as tie
 
@@ -22,7 +21,9 @@ same-length-2 : tie.Need-same-length-2
 same-length-2 c = search needs
 
 returns : tie.Need-returns
-returns c = hands-keys (releases-package _ _ _ _) (c .before .before .before .before .before .before .release-package .result) _ (c .before .before .before .before .before .before .release-package .ensures) (c .hand-count .ensures) (rw (c .before .before .before .before .before .before .before .before .before .hash-from-bytes .ensures))
+returns c =
+    hands-keys (c .before .before .before .before .before .before .release-package .result) _ (c .before .before .before .before .before .before .release-package .ensures)
+    (c .hand-count .ensures) (rw (c .before .before .before .before .before .before .before .before .before .hash-from-bytes .ensures))
 
 pub tracker-release-package-spec : {M : Type 1} → statement M
 tracker-release-package-spec = tie.close (tie.spec hash-from-bytes-requires release-package-requires hand-count-requires same-length same-length-2 returns)

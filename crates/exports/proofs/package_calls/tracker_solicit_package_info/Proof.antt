@@ -1,7 +1,7 @@
 -- `exports::package_calls::tracker_solicit_package_info` meets its contract: the public call's, its reply said by the numbers handed out.
 -- Assumes nothing.
 use borrow.Author.Needs.{needs}
-use Rattle.exports.proofs.Statuses.{hands-out, solicits}
+use Rattle.exports.proofs.Statuses.{hands-out}
 use Rattle.exports.proofs.package_calls.tracker_solicit_package_info.Statement.{statement}
 use Rattle.exports.proofs.package_calls.tracker_solicit_package_info.Tie as tie
 
@@ -18,7 +18,9 @@ same-length : tie.Need-same-length
 same-length c = search needs
 
 returns : tie.Need-returns
-returns c = hands-out (solicits _ _ _ _) (c .before .before .before .before .solicit-package-info .result) _ (c .before .before .before .before .solicit-package-info .ensures) (c .hand-out .ensures) (rw (c .before .before .before .before .before .before .hash-from-bytes .ensures))
+returns c =
+    hands-out (c .before .before .before .before .solicit-package-info .result) _ (c .before .before .before .before .solicit-package-info .ensures) (c .hand-out .ensures)
+    (rw (c .before .before .before .before .before .before .hash-from-bytes .ensures))
 
 pub tracker-solicit-package-info-spec : {M : Type 1} → statement M
 tracker-solicit-package-info-spec = tie.close (tie.spec hash-from-bytes-requires solicit-package-info-requires hand-out-requires same-length returns)

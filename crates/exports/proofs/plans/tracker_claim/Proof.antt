@@ -1,7 +1,7 @@
 -- `exports::plans::tracker_claim` meets its contract: the public call's, its reply said by the numbers handed out.
 -- Assumes nothing.
 use borrow.Author.Needs.{needs}
-use Rattle.exports.proofs.Statuses.{claims, hands-entries}
+use Rattle.exports.proofs.Statuses.{hands-entries}
 use Rattle.exports.proofs.plans.tracker_claim.Statement.{statement}
 use Rattle.exports.proofs.plans.tracker_claim.Tie as tie
 
@@ -18,7 +18,7 @@ same-length-2 : tie.Need-same-length-2
 same-length-2 c = search needs
 
 returns : tie.Need-returns
-returns c = hands-entries (claims _ _ _) (c .before .before .before .before .before .before .claim .result) _ (c .before .before .before .before .before .before .claim .ensures) (c .hand-count .ensures)
+returns c = hands-entries (c .before .before .before .before .before .before .claim .result) _ (c .before .before .before .before .before .before .claim .ensures) (c .hand-count .ensures)
 
 pub tracker-claim-spec : {M : Type 1} → statement M
 tracker-claim-spec = tie.close (tie.spec claim-requires hand-count-requires same-length same-length-2 returns)

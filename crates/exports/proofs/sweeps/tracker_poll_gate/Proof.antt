@@ -2,7 +2,7 @@
 -- Assumes nothing.
 use mathlib.Core.Path.{refl}
 use borrow.Author.Needs.{needs}
-use Rattle.exports.proofs.Statuses.{hands-out, gates}
+use Rattle.exports.proofs.Statuses.{hands-out}
 use Rattle.exports.proofs.sweeps.tracker_poll_gate.Statement.{statement}
 use Rattle.exports.proofs.sweeps.tracker_poll_gate.Tie as tie
 
@@ -16,7 +16,7 @@ same-length : tie.Need-same-length
 same-length c = search needs
 
 returns : tie.Need-returns
-returns c = hands-out (gates _) (c .before .before .before .before .poll-gate .result) _ (c .before .before .before .before .poll-gate .ensures) (c .hand-out .ensures) refl
+returns c = hands-out (c .before .before .before .before .poll-gate .result) _ (c .before .before .before .before .poll-gate .ensures) (c .hand-out .ensures) refl
 
 pub tracker-poll-gate-spec : {M : Type 1} → statement M
 tracker-poll-gate-spec = tie.close (tie.spec poll-gate-requires hand-out-requires same-length returns)

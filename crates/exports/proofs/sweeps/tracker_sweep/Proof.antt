@@ -2,7 +2,7 @@
 -- Assumes nothing.
 use mathlib.Core.Path.{refl}
 use borrow.Author.Needs.{needs}
-use Rattle.exports.proofs.Statuses.{hands-keys, sweeps}
+use Rattle.exports.proofs.Statuses.{hands-keys}
 use Rattle.exports.proofs.sweeps.tracker_sweep.Statement.{statement}
 use Rattle.exports.proofs.sweeps.tracker_sweep.Tie as tie
 
@@ -19,7 +19,7 @@ same-length-2 : tie.Need-same-length-2
 same-length-2 c = search needs
 
 returns : tie.Need-returns
-returns c = hands-keys (sweeps _) (c .before .before .before .before .before .before .sweep .result) _ (c .before .before .before .before .before .before .sweep .ensures) (c .hand-count .ensures) refl
+returns c = hands-keys (c .before .before .before .before .before .before .sweep .result) _ (c .before .before .before .before .before .before .sweep .ensures) (c .hand-count .ensures) refl
 
 pub tracker-sweep-spec : {M : Type 1} → statement M
 tracker-sweep-spec = tie.close (tie.spec sweep-requires hand-count-requires same-length same-length-2 returns)

@@ -3,7 +3,7 @@
 use mathlib.Core.Path.{refl}
 use borrow.Author.Needs.{needs}
 use Rattle.exports.proofs.Statuses.{one-told}
-use Rattle.exports.proofs.Wrapped.{announces-transactions}
+use Rattle.exports.proofs.Replies.{announces-transactions}
 use Rattle.exports.proofs.wrappers.tracker_announce_transactions.Statement.{statement}
 use Rattle.exports.proofs.wrappers.tracker_announce_transactions.Tie as tie
 
@@ -17,7 +17,8 @@ same-length : tie.Need-same-length
 same-length c = search needs
 
 returns : tie.Need-returns
-returns c = one-told (announces-transactions _ _ _ _ _) (c .before .before .before .announce-transactions .result) (c .before .before .before .announce-transactions .ensures) (c .status .ensures) refl
+returns c =
+    one-told (announces-transactions _ _ _ _ _) (c .before .before .before .announce-transactions .result) (c .before .before .before .announce-transactions .ensures) (c .status .ensures) refl
 
 pub tracker-announce-transactions-spec : {M : Type 1} → statement M
 tracker-announce-transactions-spec = tie.close (tie.spec announce-transactions-requires status-requires same-length returns)

@@ -2,7 +2,7 @@
 -- Assumes nothing.
 use borrow.Author.Needs.{needs}
 use Rattle.exports.proofs.Statuses.{one-told}
-use Rattle.exports.proofs.Wrapped.{completes}
+use Rattle.exports.proofs.Replies.{completes}
 use Rattle.exports.proofs.wrappers.tracker_transaction_response_completed.Statement.{statement}
 use Rattle.exports.proofs.wrappers.tracker_transaction_response_completed.Tie as tie
 
@@ -22,7 +22,9 @@ same-length : tie.Need-same-length
 same-length c = search needs
 
 returns : tie.Need-returns
-returns c = one-told (completes _ _ _ _) (c .before .before .before .transaction-response-completed .result) (c .before .before .before .transaction-response-completed .ensures) (c .status .ensures) (rw (c .before .before .before .before .before .before .hash-from-bytes .ensures, c .before .before .before .before .before .hash-from-bytes2 .ensures))
+returns c =
+    one-told (completes _ _ _ _) (c .before .before .before .transaction-response-completed .result) (c .before .before .before .transaction-response-completed .ensures)
+    (c .status .ensures) (rw (c .before .before .before .before .before .before .hash-from-bytes .ensures, c .before .before .before .before .before .hash-from-bytes2 .ensures))
 
 pub tracker-transaction-response-completed-spec : {M : Type 1} → statement M
 tracker-transaction-response-completed-spec = tie.close (tie.spec hash-from-bytes-requires hash-from-bytes-requires-2 transaction-response-completed-requires status-requires same-length returns)

@@ -4,7 +4,6 @@ use mathlib.Core.Path.{refl}
 use native.Mathlib.Omega.{arith}
 use borrow.Author.Needs.{needs}
 use Rattle.tracker.proofs.Typed.{announces-parents as makes}
-use Rattle.exports.proofs.Statuses.{announces-parents}
 use Rattle.owned.proofs.Owner.{owner-keys}
 use Rattle.owned.proofs.candidates.tracker_owned_announce_parents.Statement.{statement}
 use Rattle.owned.proofs.candidates.tracker_owned_announce_parents.Tie as tie
@@ -23,8 +22,14 @@ same-length-2 c = search needs
 
 returns : tie.Need-returns
 returns c =
-    let m = (makes (c .before .before .before .before .before .before .before .before .before .before .before .before .args .connection) (c .before .before .before .before .before .before .before .before .before .before .before .before .args .clock) (c .before .before .before .before .before .before .before .before .before .before .before .before .args .parents .now) (c .before .before .before .before .before .before .before .before .before .before .before .before .args .answer .now) (omega arith) (omega arith) (λ i. omega (arith, c .before .before .before .before .before .before .before .before .before .before .shared-slice-known .given i))) in
-    owner-keys m (c .before .before .before .before .before .before .before .before .before .before .before .before .pre) (λ i. omega (arith, c .before .before .before .before .before .before .before .before .before .before .before .slice-known .given i)) (announces-parents _ _ _ _) (c .before .before .before .before .before .before .announce-parents .result) _ (c .before .before .before .before .before .before .announce-parents .ensures) (c .hand-count .ensures) refl
+    let m = (makes (c .before .before .before .before .before .before .before .before .before .before .before .before .args .connection)
+    (c .before .before .before .before .before .before .before .before .before .before .before .before .args .clock)
+    (c .before .before .before .before .before .before .before .before .before .before .before .before .args .parents .now)
+    (c .before .before .before .before .before .before .before .before .before .before .before .before .args .answer .now) (omega arith) (omega arith)
+    (λ i. omega (arith, c .before .before .before .before .before .before .before .before .before .before .shared-slice-known .given i))) in
+    owner-keys m (c .before .before .before .before .before .before .before .before .before .before .before .before .pre)
+    (λ i. omega (arith, c .before .before .before .before .before .before .before .before .before .before .before .slice-known .given i))
+    (c .before .before .before .before .before .before .announce-parents .result) _ (c .before .before .before .before .before .before .announce-parents .ensures) (c .hand-count .ensures) refl
 
 pub tracker-owned-announce-parents-spec : {M : Type 1} → statement M
 tracker-owned-announce-parents-spec = tie.close (tie.spec announce-parents-requires hand-count-requires same-length same-length-2 returns)

@@ -3,7 +3,6 @@
 use native.Mathlib.Omega.{arith}
 use borrow.Author.Needs.{needs}
 use Rattle.tracker.proofs.Typed.{departs as makes}
-use Rattle.exports.proofs.Statuses.{departs}
 use Rattle.owned.proofs.Owner.{owner-departure}
 use Rattle.owned.proofs.departures.tracker_owned_disconnected.Statement.{statement}
 use Rattle.owned.proofs.departures.tracker_owned_disconnected.Tie as tie
@@ -22,8 +21,13 @@ same-length-2 c = search needs
 
 returns : tie.Need-returns
 returns c =
-    let m = makes (c .before .before .before .before .before .before .before .before .before .before .before .before .args .connection) (c .before .before .before .before .before .before .before .before .before .before .before .before .args .clock) (c .before .before .before .before .before .before .before .before .before .before .before .before .args .answer .now) (omega arith) (omega arith) in
-    owner-departure m (c .before .before .before .before .before .before .before .before .before .before .before .before .pre) (λ i. omega (arith, c .before .before .before .before .before .before .before .before .before .before .before .slice-known .given i)) (departs _ _ _) (c .before .before .before .before .before .before .before .disconnected .result) _ _ (c .before .before .before .before .before .before .before .disconnected .ensures) (c .hand-departure .ensures)
+    let m = makes (c .before .before .before .before .before .before .before .before .before .before .before .before .args .connection)
+    (c .before .before .before .before .before .before .before .before .before .before .before .before .args .clock)
+    (c .before .before .before .before .before .before .before .before .before .before .before .before .args .answer .now) (omega arith) (omega arith) in
+    owner-departure m (c .before .before .before .before .before .before .before .before .before .before .before .before .pre)
+    (λ i. omega (arith, c .before .before .before .before .before .before .before .before .before .before .before .slice-known .given i))
+    (c .before .before .before .before .before .before .before .disconnected .result) _ _ (c .before .before .before .before .before .before .before .disconnected .ensures)
+    (c .hand-departure .ensures)
 
 pub tracker-owned-disconnected-spec : {M : Type 1} → statement M
 tracker-owned-disconnected-spec = tie.close (tie.spec disconnected-requires hand-departure-requires same-length same-length-2 returns)

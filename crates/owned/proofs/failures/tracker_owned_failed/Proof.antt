@@ -5,7 +5,6 @@ use native.Mathlib.Omega.{arith}
 use borrow.Author.Needs.{needs}
 use Rattle.machine.specs.Call.{On, Failed}
 use Rattle.tracker.proofs.Typed.{fails as makes}
-use Rattle.exports.proofs.Failed.{fails}
 use Rattle.owned.proofs.Owner.{owner-number}
 use Rattle.owned.proofs.failures.tracker_owned_failed.Statement.{statement}
 use Rattle.owned.proofs.failures.tracker_owned_failed.Tie as tie
@@ -24,8 +23,13 @@ same-length c = search needs
 
 returns : tie.Need-returns
 returns c =
-    let m = (makes (c .before .before .before .before .before .before .key-given .result) (c .before .before .before .before .before .before .before .before .args .connection) (c .before .before .before .before .before .before .before .before .args .clock) (c .before .before .before .before .before .before .key-given .ok) (omega arith) (omega arith)) in
-    owner-number m (c .before .before .before .before .before .before .before .before .pre) (λ i. omega (arith, c .before .before .before .before .before .before .before .slice-known .given i)) (fails _ _ _) (c .before .before .before .before .failed .result) _ (c .before .before .before .before .failed .ensures) (c .hand-out .ensures) (ap (λ x. On (Failed x (c .before .before .before .before .before .before .before .before .args .connection) (c .before .before .before .before .before .before .before .before .args .clock))) (c .before .before .before .before .before .before .key-given .ensures))
+    let m = (makes (c .before .before .before .before .before .before .key-given .result) (c .before .before .before .before .before .before .before .before .args .connection)
+    (c .before .before .before .before .before .before .before .before .args .clock) (c .before .before .before .before .before .before .key-given .ok) (omega arith) (omega arith)) in
+    owner-number m (c .before .before .before .before .before .before .before .before .pre)
+    (λ i. omega (arith, c .before .before .before .before .before .before .before .slice-known .given i)) (c .before .before .before .before .failed .result) _
+    (c .before .before .before .before .failed .ensures) (c .hand-out .ensures)
+    (ap (λ x. On (Failed x (c .before .before .before .before .before .before .before .before .args .connection)
+    (c .before .before .before .before .before .before .before .before .args .clock))) (c .before .before .before .before .before .before .key-given .ensures))
 
 pub tracker-owned-failed-spec : {M : Type 1} → statement M
 tracker-owned-failed-spec = tie.close (tie.spec key-given-requires failed-requires hand-out-requires same-length returns)

@@ -5,7 +5,6 @@ use native.Mathlib.Omega.{arith}
 use borrow.Author.Needs.{needs}
 use Rattle.machine.specs.Call.{On, FailedWithParents}
 use Rattle.tracker.proofs.Typed.{fails-with-parents as makes}
-use Rattle.exports.proofs.Failed.{fails-with-parents}
 use Rattle.owned.proofs.Owner.{owner-keys}
 use Rattle.owned.proofs.failures.tracker_owned_failed_with_parents.Statement.{statement}
 use Rattle.owned.proofs.failures.tracker_owned_failed_with_parents.Tie as tie
@@ -27,8 +26,19 @@ same-length-2 c = search needs
 
 returns : tie.Need-returns
 returns c =
-    let m = (makes (c .before .before .before .before .before .before .before .before .before .key-given .result) (c .before .before .before .before .before .before .before .before .before .before .before .before .args .connection) (c .before .before .before .before .before .before .before .before .before .before .before .before .args .clock) (c .before .before .before .before .before .before .before .before .before .before .before .before .args .answer .now) (c .before .before .before .before .before .before .before .before .before .key-given .ok) (omega arith) (omega arith)) in
-    owner-keys m (c .before .before .before .before .before .before .before .before .before .before .before .before .pre) (λ i. omega (arith, c .before .before .before .before .before .before .before .before .before .before .before .slice-known .given i)) (fails-with-parents _ _ _ _) (c .before .before .before .before .before .before .failed-with-parents .result) _ (c .before .before .before .before .before .before .failed-with-parents .ensures) (c .hand-count .ensures) (ap (λ x. On (FailedWithParents x (c .before .before .before .before .before .before .before .before .before .before .before .before .args .connection) (c .before .before .before .before .before .before .before .before .before .before .before .before .args .clock) (c .before .before .before .before .before .before .before .before .before .before .before .before .args .answer .now))) (c .before .before .before .before .before .before .before .before .before .key-given .ensures))
+    let m = (makes (c .before .before .before .before .before .before .before .before .before .key-given .result)
+    (c .before .before .before .before .before .before .before .before .before .before .before .before .args .connection)
+    (c .before .before .before .before .before .before .before .before .before .before .before .before .args .clock)
+    (c .before .before .before .before .before .before .before .before .before .before .before .before .args .answer .now)
+    (c .before .before .before .before .before .before .before .before .before .key-given .ok) (omega arith) (omega arith)) in
+    owner-keys m (c .before .before .before .before .before .before .before .before .before .before .before .before .pre)
+    (λ i. omega (arith, c .before .before .before .before .before .before .before .before .before .before .before .slice-known .given i))
+    (c .before .before .before .before .before .before .failed-with-parents .result) _ (c .before .before .before .before .before .before .failed-with-parents .ensures)
+    (c .hand-count .ensures)
+    (ap (λ x. On (FailedWithParents x (c .before .before .before .before .before .before .before .before .before .before .before .before .args .connection)
+    (c .before .before .before .before .before .before .before .before .before .before .before .before .args .clock)
+    (c .before .before .before .before .before .before .before .before .before .before .before .before .args .answer .now)))
+    (c .before .before .before .before .before .before .before .before .before .key-given .ensures))
 
 pub tracker-owned-failed-with-parents-spec : {M : Type 1} → statement M
 tracker-owned-failed-with-parents-spec = tie.close (tie.spec key-given-requires failed-with-parents-requires hand-count-requires same-length same-length-2 returns)

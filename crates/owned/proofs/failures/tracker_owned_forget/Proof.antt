@@ -5,7 +5,7 @@ use native.Mathlib.Omega.{arith}
 use borrow.Author.Needs.{needs}
 use Rattle.machine.specs.Call.{On, Forget}
 use Rattle.tracker.proofs.Typed.{forgets as makes}
-use Rattle.exports.proofs.Failed.{forgets}
+use Rattle.exports.proofs.Replies.{forgets}
 use Rattle.owned.proofs.Owner.{owner-one}
 use Rattle.owned.proofs.failures.tracker_owned_forget.Statement.{statement}
 use Rattle.owned.proofs.failures.tracker_owned_forget.Tie as tie
@@ -25,7 +25,9 @@ same-length c = search needs
 returns : tie.Need-returns
 returns c =
     let m = (makes (c .before .before .before .before .before .key-given .result) (c .before .before .before .before .before .key-given .ok)) in
-    owner-one m (c .before .before .before .before .before .before .before .pre) (λ i. omega (arith, c .before .before .before .before .before .before .slice-known .given i)) (forgets _) (c .before .before .before .forget .result) (c .before .before .before .forget .ensures) (c .status .ensures) (ap (λ x. On (Forget x)) (c .before .before .before .before .before .key-given .ensures))
+    owner-one m (c .before .before .before .before .before .before .before .pre) (λ i. omega (arith, c .before .before .before .before .before .before .slice-known .given i)) (forgets _)
+    (c .before .before .before .forget .result) (c .before .before .before .forget .ensures) (c .status .ensures)
+    (ap (λ x. On (Forget x)) (c .before .before .before .before .before .key-given .ensures))
 
 pub tracker-owned-forget-spec : {M : Type 1} → statement M
 tracker-owned-forget-spec = tie.close (tie.spec key-given-requires forget-requires status-requires same-length returns)

@@ -5,7 +5,7 @@ use native.Mathlib.Omega.{arith}
 use borrow.Author.Needs.{needs}
 use Rattle.machine.specs.Call.{On, ForgetKnown}
 use Rattle.tracker.proofs.Typed.{forgets-known as makes}
-use Rattle.exports.proofs.Failed.{forgets-known}
+use Rattle.exports.proofs.Replies.{forgets-known}
 use Rattle.owned.proofs.Owner.{owner-one}
 use Rattle.owned.proofs.failures.tracker_owned_forget_known.Statement.{statement}
 use Rattle.owned.proofs.failures.tracker_owned_forget_known.Tie as tie
@@ -24,8 +24,11 @@ same-length c = search needs
 
 returns : tie.Need-returns
 returns c =
-    let m = (makes (c .before .before .before .before .before .key-given .result) (c .before .before .before .before .before .before .before .args .clock) (c .before .before .before .before .before .key-given .ok) (omega arith)) in
-    owner-one m (c .before .before .before .before .before .before .before .pre) (λ i. omega (arith, c .before .before .before .before .before .before .slice-known .given i)) (forgets-known _ _) (c .before .before .before .forget-known .result) (c .before .before .before .forget-known .ensures) (c .status .ensures) (ap (λ x. On (ForgetKnown x (c .before .before .before .before .before .before .before .args .clock))) (c .before .before .before .before .before .key-given .ensures))
+    let m = (makes (c .before .before .before .before .before .key-given .result) (c .before .before .before .before .before .before .before .args .clock)
+    (c .before .before .before .before .before .key-given .ok) (omega arith)) in
+    owner-one m (c .before .before .before .before .before .before .before .pre) (λ i. omega (arith, c .before .before .before .before .before .before .slice-known .given i))
+    (forgets-known _ _) (c .before .before .before .forget-known .result) (c .before .before .before .forget-known .ensures) (c .status .ensures)
+    (ap (λ x. On (ForgetKnown x (c .before .before .before .before .before .before .before .args .clock))) (c .before .before .before .before .before .key-given .ensures))
 
 pub tracker-owned-forget-known-spec : {M : Type 1} → statement M
 tracker-owned-forget-known-spec = tie.close (tie.spec key-given-requires forget-known-requires status-requires same-length returns)

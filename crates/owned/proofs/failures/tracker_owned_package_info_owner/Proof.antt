@@ -4,7 +4,6 @@ use mathlib.Core.Path.{ap}
 use borrow.Author.Needs.{needs}
 use Rattle.machine.specs.Call.{On, PackageInfoOwner}
 use Rattle.exports.proofs.Statuses.{hands-out}
-use Rattle.exports.proofs.Failed.{reads-owner}
 use Rattle.owned.proofs.failures.tracker_owned_package_info_owner.Statement.{statement}
 use Rattle.owned.proofs.failures.tracker_owned_package_info_owner.Tie as tie
 
@@ -18,7 +17,9 @@ hand-out-requires : tie.Need-hand-out-requires
 hand-out-requires c κs = search needs
 
 returns : tie.Need-returns
-returns c = hands-out (reads-owner _ _) (c .before .before .package-info-owner .result) _ (c .before .before .package-info-owner .ensures) (c .hand-out .ensures) (ap (λ x. On (PackageInfoOwner x (c .before .before .before .before .before .args .clock))) (c .before .before .before .key-given .ensures))
+returns c =
+    hands-out (c .before .before .package-info-owner .result) _ (c .before .before .package-info-owner .ensures) (c .hand-out .ensures)
+    (ap (λ x. On (PackageInfoOwner x (c .before .before .before .before .before .args .clock))) (c .before .before .before .key-given .ensures))
 
 pub tracker-owned-package-info-owner-spec : {M : Type 1} → statement M
 tracker-owned-package-info-owner-spec = tie.close (tie.spec key-given-requires package-info-owner-requires hand-out-requires returns)

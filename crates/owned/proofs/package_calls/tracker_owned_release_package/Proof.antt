@@ -4,7 +4,6 @@ use native.Mathlib.Omega.{arith}
 use borrow.Author.Needs.{needs}
 use Rattle.ident.proofs.Words.{hash-four, hash-below}
 use Rattle.tracker.proofs.Typed.{releases-package as makes}
-use Rattle.exports.proofs.Failed.{releases-package}
 use Rattle.owned.proofs.Owner.{owner-keys}
 use Rattle.owned.proofs.package_calls.tracker_owned_release_package.Statement.{statement}
 use Rattle.owned.proofs.package_calls.tracker_owned_release_package.Tie as tie
@@ -26,8 +25,14 @@ same-length-2 c = search needs
 
 returns : tie.Need-returns
 returns c =
-    let m = (makes (c .before .before .before .before .before .before .before .before .before .before .before .before .args .connection) _ (c .before .before .before .before .before .before .before .before .before .before .before .before .args .clock) (c .before .before .before .before .before .before .before .before .before .before .before .before .args .answer .now) (omega arith) (hash-below _ (hash-four _ (c .before .before .before .before .before .before .before .before .before .hash-from-bytes .ok))) (omega arith)) in
-    owner-keys m (c .before .before .before .before .before .before .before .before .before .before .before .before .pre) (λ i. omega (arith, c .before .before .before .before .before .before .before .before .before .before .before .slice-known .given i)) (releases-package _ _ _ _) (c .before .before .before .before .before .before .release-package .result) _ (c .before .before .before .before .before .before .release-package .ensures) (c .hand-count .ensures) (rw (c .before .before .before .before .before .before .before .before .before .hash-from-bytes .ensures))
+    let m = (makes (c .before .before .before .before .before .before .before .before .before .before .before .before .args .connection) _
+    (c .before .before .before .before .before .before .before .before .before .before .before .before .args .clock)
+    (c .before .before .before .before .before .before .before .before .before .before .before .before .args .answer .now) (omega arith)
+    (hash-below _ (hash-four _ (c .before .before .before .before .before .before .before .before .before .hash-from-bytes .ok))) (omega arith)) in
+    owner-keys m (c .before .before .before .before .before .before .before .before .before .before .before .before .pre)
+    (λ i. omega (arith, c .before .before .before .before .before .before .before .before .before .before .before .slice-known .given i))
+    (c .before .before .before .before .before .before .release-package .result) _ (c .before .before .before .before .before .before .release-package .ensures) (c .hand-count .ensures)
+    (rw (c .before .before .before .before .before .before .before .before .before .hash-from-bytes .ensures))
 
 pub tracker-owned-release-package-spec : {M : Type 1} → statement M
 tracker-owned-release-package-spec = tie.close (tie.spec hash-from-bytes-requires release-package-requires hand-count-requires same-length same-length-2 returns)

@@ -4,7 +4,6 @@ use native.Mathlib.Omega.{arith}
 use borrow.Author.Needs.{needs}
 use Rattle.ident.proofs.Words.{hash-four, hash-below}
 use Rattle.tracker.proofs.Typed.{solicits as makes}
-use Rattle.exports.proofs.Statuses.{solicits}
 use Rattle.owned.proofs.Owner.{owner-number}
 use Rattle.owned.proofs.package_calls.tracker_owned_solicit_package_info.Statement.{statement}
 use Rattle.owned.proofs.package_calls.tracker_owned_solicit_package_info.Tie as tie
@@ -23,8 +22,13 @@ same-length c = search needs
 
 returns : tie.Need-returns
 returns c =
-    let m = (makes (c .before .before .before .before .before .before .before .before .before .args .connection) _ (c .before .before .before .before .before .before .before .before .before .args .clock) (c .before .before .before .before .before .before .before .before .before .args .parents .now) (omega arith) (hash-below _ (hash-four _ (c .before .before .before .before .before .before .hash-from-bytes .ok))) (omega arith) (λ i. omega (arith, c .before .before .before .before .before .before .before .shared-slice-known .given i))) in
-    owner-number m (c .before .before .before .before .before .before .before .before .before .pre) (λ i. omega (arith, c .before .before .before .before .before .before .before .before .slice-known .given i)) (solicits _ _ _ _) (c .before .before .before .before .solicit-package-info .result) _ (c .before .before .before .before .solicit-package-info .ensures) (c .hand-out .ensures) (rw (c .before .before .before .before .before .before .hash-from-bytes .ensures))
+    let m = (makes (c .before .before .before .before .before .before .before .before .before .args .connection) _
+    (c .before .before .before .before .before .before .before .before .before .args .clock) (c .before .before .before .before .before .before .before .before .before .args .parents .now)
+    (omega arith) (hash-below _ (hash-four _ (c .before .before .before .before .before .before .hash-from-bytes .ok))) (omega arith)
+    (λ i. omega (arith, c .before .before .before .before .before .before .before .shared-slice-known .given i))) in
+    owner-number m (c .before .before .before .before .before .before .before .before .before .pre)
+    (λ i. omega (arith, c .before .before .before .before .before .before .before .before .slice-known .given i)) (c .before .before .before .before .solicit-package-info .result) _
+    (c .before .before .before .before .solicit-package-info .ensures) (c .hand-out .ensures) (rw (c .before .before .before .before .before .before .hash-from-bytes .ensures))
 
 pub tracker-owned-solicit-package-info-spec : {M : Type 1} → statement M
 tracker-owned-solicit-package-info-spec = tie.close (tie.spec hash-from-bytes-requires solicit-package-info-requires hand-out-requires same-length returns)

@@ -3,7 +3,6 @@
 use native.Mathlib.Omega.{arith}
 use borrow.Author.Needs.{needs}
 use Rattle.tracker.proofs.Typed.{claims as makes}
-use Rattle.exports.proofs.Statuses.{claims}
 use Rattle.owned.proofs.Owner.{owner-entries}
 use Rattle.owned.proofs.plans.tracker_owned_claim.Statement.{statement}
 use Rattle.owned.proofs.plans.tracker_owned_claim.Tie as tie
@@ -22,8 +21,13 @@ same-length-2 c = search needs
 
 returns : tie.Need-returns
 returns c =
-    let m = makes (c .before .before .before .before .before .before .before .before .before .before .before .before .args .clock) (c .before .before .before .before .before .before .before .before .before .before .before .before .args .checked .now) (c .before .before .before .before .before .before .before .before .before .before .before .before .args .answer .now) (omega arith) (λ i. omega (arith, c .before .before .before .before .before .before .before .before .before .before .shared-slice-known .given i)) in
-    owner-entries m (c .before .before .before .before .before .before .before .before .before .before .before .before .pre) (λ i. omega (arith, c .before .before .before .before .before .before .before .before .before .before .before .slice-known .given i)) (claims _ _ _) (c .before .before .before .before .before .before .claim .result) _ (c .before .before .before .before .before .before .claim .ensures) (c .hand-count .ensures)
+    let m = makes (c .before .before .before .before .before .before .before .before .before .before .before .before .args .clock)
+    (c .before .before .before .before .before .before .before .before .before .before .before .before .args .checked .now)
+    (c .before .before .before .before .before .before .before .before .before .before .before .before .args .answer .now) (omega arith)
+    (λ i. omega (arith, c .before .before .before .before .before .before .before .before .before .before .shared-slice-known .given i)) in
+    owner-entries m (c .before .before .before .before .before .before .before .before .before .before .before .before .pre)
+    (λ i. omega (arith, c .before .before .before .before .before .before .before .before .before .before .before .slice-known .given i))
+    (c .before .before .before .before .before .before .claim .result) _ (c .before .before .before .before .before .before .claim .ensures) (c .hand-count .ensures)
 
 pub tracker-owned-claim-spec : {M : Type 1} → statement M
 tracker-owned-claim-spec = tie.close (tie.spec claim-requires hand-count-requires same-length same-length-2 returns)

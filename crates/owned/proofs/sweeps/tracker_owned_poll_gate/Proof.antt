@@ -4,7 +4,6 @@ use mathlib.Core.Path.{refl}
 use native.Mathlib.Omega.{arith}
 use borrow.Author.Needs.{needs}
 use Rattle.tracker.proofs.Typed.{gates as makes}
-use Rattle.exports.proofs.Statuses.{gates}
 use Rattle.owned.proofs.Owner.{owner-number}
 use Rattle.owned.proofs.sweeps.tracker_owned_poll_gate.Statement.{statement}
 use Rattle.owned.proofs.sweeps.tracker_owned_poll_gate.Tie as tie
@@ -21,7 +20,8 @@ same-length c = search needs
 returns : tie.Need-returns
 returns c =
     let m = (makes (c .before .before .before .before .before .before .before .args .clock) (omega arith)) in
-    owner-number m (c .before .before .before .before .before .before .before .pre) (λ i. omega (arith, c .before .before .before .before .before .before .slice-known .given i)) (gates _) (c .before .before .before .before .poll-gate .result) _ (c .before .before .before .before .poll-gate .ensures) (c .hand-out .ensures) refl
+    owner-number m (c .before .before .before .before .before .before .before .pre) (λ i. omega (arith, c .before .before .before .before .before .before .slice-known .given i))
+    (c .before .before .before .before .poll-gate .result) _ (c .before .before .before .before .poll-gate .ensures) (c .hand-out .ensures) refl
 
 pub tracker-owned-poll-gate-spec : {M : Type 1} → statement M
 tracker-owned-poll-gate-spec = tie.close (tie.spec poll-gate-requires hand-out-requires same-length returns)

@@ -4,7 +4,6 @@ use mathlib.Core.Path.{refl}
 use native.Mathlib.Omega.{arith}
 use borrow.Author.Needs.{needs}
 use Rattle.tracker.proofs.Typed.{sweeps as makes}
-use Rattle.exports.proofs.Statuses.{sweeps}
 use Rattle.owned.proofs.Owner.{owner-keys}
 use Rattle.owned.proofs.sweeps.tracker_owned_sweep.Statement.{statement}
 use Rattle.owned.proofs.sweeps.tracker_owned_sweep.Tie as tie
@@ -24,7 +23,9 @@ same-length-2 c = search needs
 returns : tie.Need-returns
 returns c =
     let m = (makes (c .before .before .before .before .before .before .before .before .before .before .before .args .answer .now)) in
-    owner-keys m (c .before .before .before .before .before .before .before .before .before .before .before .pre) (λ i. omega (arith, c .before .before .before .before .before .before .before .before .before .before .slice-known .given i)) (sweeps _) (c .before .before .before .before .before .before .sweep .result) _ (c .before .before .before .before .before .before .sweep .ensures) (c .hand-count .ensures) refl
+    owner-keys m (c .before .before .before .before .before .before .before .before .before .before .before .pre)
+    (λ i. omega (arith, c .before .before .before .before .before .before .before .before .before .before .slice-known .given i))
+    (c .before .before .before .before .before .before .sweep .result) _ (c .before .before .before .before .before .before .sweep .ensures) (c .hand-count .ensures) refl
 
 pub tracker-owned-sweep-spec : {M : Type 1} → statement M
 tracker-owned-sweep-spec = tie.close (tie.spec sweep-requires hand-count-requires same-length same-length-2 returns)

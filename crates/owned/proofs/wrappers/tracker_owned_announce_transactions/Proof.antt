@@ -4,7 +4,7 @@ use mathlib.Core.Path.{refl}
 use native.Mathlib.Omega.{arith}
 use borrow.Author.Needs.{needs}
 use Rattle.tracker.proofs.Typed.{announces-transactions as makes}
-use Rattle.exports.proofs.Wrapped.{announces-transactions}
+use Rattle.exports.proofs.Replies.{announces-transactions}
 use Rattle.owned.proofs.Owner.{owner-one}
 use Rattle.owned.proofs.wrappers.tracker_owned_announce_transactions.Statement.{statement}
 use Rattle.owned.proofs.wrappers.tracker_owned_announce_transactions.Tie as tie
@@ -20,8 +20,14 @@ same-length c = search needs
 
 returns : tie.Need-returns
 returns c =
-    let m = makes (c .before .before .before .before .before .before .before .before .args .connection) (c .before .before .before .before .before .before .before .before .args .clock) (c .before .before .before .before .before .before .before .before .args .preferred) (c .before .before .before .before .before .before .before .before .args .source) (c .before .before .before .before .before .before .before .before .args .items .now) (c .before .before .before .before .before .before .before .before .args .priorities .now) (omega arith) (omega arith) (λ i. omega (arith, c .before .before .before .before .before .before .shared-slice-known .given i)) (λ i. omega (arith, c .before .before .before .before .before .shared-slice-known2 .given i)) in
-    owner-one m (c .before .before .before .before .before .before .before .before .pre) (λ i. omega (arith, c .before .before .before .before .before .before .before .slice-known .given i)) (announces-transactions _ _ _ _ _) (c .before .before .before .announce-transactions .result) (c .before .before .before .announce-transactions .ensures) (c .status .ensures) refl
+    let m = makes (c .before .before .before .before .before .before .before .before .args .connection) (c .before .before .before .before .before .before .before .before .args .clock)
+    (c .before .before .before .before .before .before .before .before .args .preferred) (c .before .before .before .before .before .before .before .before .args .source)
+    (c .before .before .before .before .before .before .before .before .args .items .now) (c .before .before .before .before .before .before .before .before .args .priorities .now)
+    (omega arith) (omega arith) (λ i. omega (arith, c .before .before .before .before .before .before .shared-slice-known .given i))
+    (λ i. omega (arith, c .before .before .before .before .before .shared-slice-known2 .given i)) in
+    owner-one m (c .before .before .before .before .before .before .before .before .pre)
+    (λ i. omega (arith, c .before .before .before .before .before .before .before .slice-known .given i)) (announces-transactions _ _ _ _ _)
+    (c .before .before .before .announce-transactions .result) (c .before .before .before .announce-transactions .ensures) (c .status .ensures) refl
 
 pub tracker-owned-announce-transactions-spec : {M : Type 1} → statement M
 tracker-owned-announce-transactions-spec = tie.close (tie.spec announce-transactions-requires status-requires same-length returns)

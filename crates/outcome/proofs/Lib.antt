@@ -1,0 +1,11 @@
+pub mod Sizes
+pub mod Stepped
+pub mod Calls
+pub mod Contract
+pub mod Header
+pub mod Turns
+pub mod Carried
+pub mod Replies
+pub mod Owned
+pub mod Widths
+pub mod ListedKeys

@@ -1,0 +1,34 @@
+-- `owned::package_claims::tracker_owned_failed_package_claims` meets its contract: that of the checked call, behind its sound test, and the store stays sound.
+-- Assumes nothing.
+use mathlib.Core.Path.{refl}
+use native.Mathlib.Omega.{arith}
+use borrow.Author.Needs.{needs}
+use Rattle.tracker.proofs.Typed.{fails-claims as makes}
+use Rattle.owned.proofs.Owner.{owner-keys}
+use Rattle.owned.proofs.package_claims.tracker_owned_failed_package_claims.Statement.{statement}
+use Rattle.owned.proofs.package_claims.tracker_owned_failed_package_claims.Tie as tie
+
+failed-package-claims-requires : tie.Need-failed-package-claims-requires
+failed-package-claims-requires c κs = search needs
+
+hand-count-requires : tie.Need-hand-count-requires
+hand-count-requires c κs = search needs
+
+same-length : tie.Need-same-length
+same-length c = search needs
+
+same-length-2 : tie.Need-same-length-2
+same-length-2 c = search needs
+
+returns : tie.Need-returns
+returns c =
+    let a = c .before .before .before .before .before .before .before .before .before .before .before .before .args in
+    let m = makes (a .connection) (a .clock) (a .combined .now) (a .answer .now) (omega arith) (omega arith)
+    (λ i. omega (arith, c .before .before .before .before .before .before .before .before .before .before .shared-slice-known .given i)) in
+    owner-keys m (c .before .before .before .before .before .before .before .before .before .before .before .before .pre)
+    (λ i. omega (arith, c .before .before .before .before .before .before .before .before .before .before .before .slice-known .given i))
+    (c .before .before .before .before .before .before .failed-package-claims .result) _ (c .before .before .before .before .before .before .failed-package-claims .ensures)
+    (c .hand-count .ensures) refl
+
+pub tracker-owned-failed-package-claims-spec : {M : Type 1} → statement M
+tracker-owned-failed-package-claims-spec = tie.close (tie.spec failed-package-claims-requires hand-count-requires same-length same-length-2 returns)

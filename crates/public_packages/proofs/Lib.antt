@@ -1,0 +1,3 @@
+pub mod Instances
+pub mod Departed
+pub mod Solicited

@@ -1,0 +1,6 @@
+pub mod Entered
+pub mod Taken
+pub mod Instances
+pub mod Sent
+pub mod Parting
+pub mod Planned

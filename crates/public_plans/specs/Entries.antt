@@ -1,0 +1,16 @@
+-- What an answer says that lists entries, in document 01's values.
+-- Assumes nothing.
+use Prim.Native.Nat.{ℕ}
+use Rattle.machine.specs.Call.{Buffer}
+use Rattle.machine.specs.Step.{Reply, Refused, Entries}
+use Rattle.planning.specs.Claiming.{entriesFrom}
+use Rattle.outcome.specs.declared.Listing.{Listing}
+use Rattle.outcome.specs.declared.Listing.the-variants.{Refused as NoEntries, Listed}
+
+-- n entries stand in the answer buffer
+abbrev pub entriesListed : ℕ → Buffer → Reply
+entriesListed n u = Entries (entriesFrom u 0 n)
+
+abbrev pub entriesOf : Listing → Buffer → Reply
+entriesOf (NoEntries n) u = Refused n
+entriesOf (Listed n) u = entriesListed n u

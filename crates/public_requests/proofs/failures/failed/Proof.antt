@@ -1,0 +1,30 @@
+-- `public_requests::failures::failed` meets its contract: the sound test, and `on_sound::failures::failed`.
+-- Assumes nothing.
+use mathlib.Core.Path.{refl}
+use borrow.Author.Needs.{needs}
+use Rattle.machine.specs.Call.{Failed, named}
+use Rattle.outcome.proofs.Owned.{test-refuses, test-passes}
+use Rattle.public_requests.proofs.failures.failed.Statement.{statement}
+use Rattle.public_requests.proofs.failures.failed.Tie as tie
+
+sound-requires : tie.Need-sound-requires
+sound-requires c κs = search needs
+
+same-length : tie.Need-same-length
+same-length c = search needs
+
+returns : tie.Need-returns
+unfolding named
+returns c = test-refuses (c .before .sound .result) (c .before .sound .ensures) (c .if1 .taken) (Failed _ _ _) refl
+
+failed-requires : tie.Need-failed-requires
+failed-requires c κs = test-passes (c .before .before .sound .result) (c .before .before .sound .ensures) (c .before .if1 .left)
+
+same-length-2 : tie.Need-same-length-2
+same-length-2 c = search needs
+
+returns-2 : tie.Need-returns-2
+returns-2 c = search needs
+
+pub failed-spec : {M : Type 1} → statement M
+failed-spec = tie.close (tie.spec sound-requires same-length returns failed-requires same-length-2 returns-2)

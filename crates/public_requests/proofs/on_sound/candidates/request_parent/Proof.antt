@@ -1,0 +1,43 @@
+-- `public_requests::on_sound::candidates::request_parent` meets its contract: an instance of crates/outcome/proofs/Carried.
+-- Assumes nothing.
+use native.Mathlib.Omega.{arith}
+use borrow.Author.Needs.{needs}
+use Rattle.outcome.proofs.Carried.{refused, yes-no-done}
+use Rattle.public_requests.proofs.Instances.{requests-parent}
+use Rattle.public_requests.proofs.on_sound.candidates.request_parent.Statement.{statement}
+use Rattle.public_requests.proofs.on_sound.candidates.request_parent.Tie as tie
+
+of-connection-requires : tie.Need-of-connection-requires
+of-connection-requires c κs = search needs
+
+returns : tie.Need-returns
+returns c = refused ((requests-parent _) .names) (c .before .before .before .pre) (c .before .of-connection .ensures) (c .if1 .taken)
+
+need-of-requires : tie.Need-need-of-requires
+need-of-requires c κs = search needs
+
+slice-relend-prefix-request-parent : tie.Need-slice-relend-prefix-request-parent
+slice-relend-prefix-request-parent c = search needs
+
+slice-aggregate-request-parent : tie.Need-slice-aggregate-request-parent
+slice-aggregate-request-parent c = search needs
+
+request-parent-requires : tie.Need-request-parent-requires
+request-parent-requires c κs = search needs
+
+replied-requires : tie.Need-replied-requires
+replied-requires c κs = search needs
+
+same-length : tie.Need-same-length
+same-length c = search needs
+
+returns-2 : tie.Need-returns-2
+returns-2 c =
+    yes-no-done (requests-parent _) (c .before .before .before .before .before .before .before .before .before .before .pre)
+    (c .before .before .before .before .before .before .before .before .of-connection .ensures) (c .before .before .before .before .before .before .before .if1 .left)
+    (c .before .before .before .before .before .need-of .ensures) (λ i. omega (arith, c .before .slice-known2 .given i)) (c .before .before .before .request-parent .ensures) (c .replied .ensures)
+
+pub request-parent-spec : {M : Type 1} → statement M
+request-parent-spec =
+    tie.close (tie.spec of-connection-requires returns need-of-requires slice-relend-prefix-request-parent slice-aggregate-request-parent request-parent-requires replied-requires
+    same-length returns-2)
