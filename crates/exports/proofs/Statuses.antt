@@ -16,7 +16,9 @@ use Rattle.machine.specs.Step.{Reply, Refused, Number, Keys, Left, Entries, Cho
 use Rattle.store.specs.Read.{stateOf}
 use Rattle.outcome.specs.Outcome.{outcomeIf, Does, Leaves, LeavesWith}
 use Rattle.outcome.specs.Reply.{replyOf, figuresOf, listingOf, departureOf}
-use Rattle.public_plans.specs.Entries.{entriesOf}
+use Rattle.public_plans.specs.Entries.{entriesOf, plannedOf}
+use Rattle.public_plans.specs.declared.Selection.{Selection}
+use Rattle.public_plans.specs.declared.Selection.the-variants.{Refused as NoPlan, Chosen as Plans}
 use Rattle.outcome.specs.declared.Answer.{Answer}
 use Rattle.outcome.specs.declared.Figures.{Figures}
 use Rattle.outcome.specs.declared.Listing.{Listing}
@@ -25,7 +27,7 @@ use Rattle.outcome.specs.declared.Answer.the-variants.{Refused as No, Number as
 use Rattle.outcome.specs.declared.Listing.the-variants.{Refused as NoKeys, Listed}
 use Rattle.outcome.specs.declared.Departure.the-variants.{Refused as NotLeft, Left as LeftKeys}
 use Rattle.exports.proofs.Replies.{Carried, RepliesOne, replies}
-use Rattle.exports.specs.Status.{statusOf, handedOut, listingStatus, countOut, departureStatus, ownOut, parentsOut, numbered, figured, Stays, HandsOut, HandsKeys, HandsEntries, HandsDeparture}
+use Rattle.exports.specs.Status.{statusOf, handedOut, listingStatus, countOut, departureStatus, ownOut, parentsOut, numbered, figured, Stays, HandsOut, HandsKeys, HandsEntries, HandsDeparture, plannedStatus, consideredOut, chosenOut, HandsPlan}
 
 -- ---- a refusal's number is not 0
 
@@ -126,3 +128,11 @@ pub hands-departure : {c : Call} (d : Departure) (was was′ : ℕ) {b z : List 
 hands-departure {c} (NotLeft zero) was was′ l e = absurd (refused-zero c l)
 hands-departure (NotLeft (suc k)) was was′ l e = rw (e .0, e .1, e .2) (l, refl, refl)
 hands-departure (LeftKeys own parents) was was′ l e = rw (e .0, e .1, e .2) (l, tt, tt)
+
+-- ---- of a plan
+
+pub hands-plan : {c : Call} (p : Selection) (was was′ : ℕ) {b z : List ℕ} {u : Buffer} {r k n : ℕ} → LeavesWith c b z u (plannedOf p)
+    → (r ≡ plannedStatus p) × (k ≡ consideredOut p was) × (n ≡ chosenOut p was′) → HandsPlan c b z u r was k was′ n
+hands-plan {c} (NoPlan zero) was was′ l e = absurd (refused-zero c l)
+hands-plan (NoPlan (suc j)) was was′ l e = rw (e .0, e .1, e .2) (l, refl, refl)
+hands-plan (Plans k n) was was′ l e = rw (e .0, e .1, e .2) (l, tt, tt)

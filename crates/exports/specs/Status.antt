@@ -14,7 +14,9 @@ use Rattle.outcome.specs.declared.Departure.{Departure}
 use Rattle.outcome.specs.declared.Departure.the-variants.{Refused as NotLeft, Left as LeftKeys}
 use Rattle.outcome.specs.Outcome.{Leaves, LeavesWith}
 use Rattle.outcome.specs.Reply.{keysListed, leftListed}
-use Rattle.public_plans.specs.Entries.{entriesListed}
+use Rattle.public_plans.specs.Entries.{entriesListed, chosenListed}
+use Rattle.public_plans.specs.declared.Selection.{Selection}
+use Rattle.public_plans.specs.declared.Selection.the-variants.{Refused as NoPlan, Chosen}
 
 -- the status of an answer
 abbrev pub statusOf : Answer → ℕ
@@ -48,6 +50,19 @@ abbrev pub parentsOut : Departure → ℕ → ℕ
 parentsOut (NotLeft n) was = was
 parentsOut (LeftKeys own parents) was = parents
 
+-- and of a plan: the count of keys considered, and that of the entries
+abbrev pub plannedStatus : Selection → ℕ
+plannedStatus (NoPlan n) = n
+plannedStatus (Chosen k n) = 0
+
+abbrev pub consideredOut : Selection → ℕ → ℕ
+consideredOut (NoPlan n) was = was
+consideredOut (Chosen k n) was = k
+
+abbrev pub chosenOut : Selection → ℕ → ℕ
+chosenOut (NoPlan n) was = was
+chosenOut (Chosen k n) was = n
+
 -- the reply of a status, and of what was handed out: r, if the call was carried out
 abbrev pub told : ℕ → Reply → Reply
 told zero r = r
@@ -73,6 +88,10 @@ entered k n u = told k (entriesListed n u)
 abbrev pub parted : ℕ → ℕ → ℕ → Buffer → Reply
 parted k own parents u = told k (leftListed own parents u)
 
+-- two counts: so many keys were considered, and so many entries stand there
+abbrev pub planned : ℕ → ℕ → ℕ → Buffer → Reply
+planned k considered n u = told k (chosenListed considered n u)
+
 -- a call that is refused hands nothing out: what stood there stays
 abbrev pub Stays : ℕ → ℕ → ℕ → Type 0
 Stays zero was is = Unit {0}
@@ -96,3 +115,7 @@ HandsEntries c b b′ u status was is = LeavesWith c b b′ u (entered status is
 -- the same of a connection that left: the count of its own keys and that of its parents' are handed out
 abbrev pub HandsDeparture : Call → List ℕ → List ℕ → Buffer → ℕ → ℕ → ℕ → ℕ → ℕ → Type 0
 HandsDeparture c b b′ u status wasOwn own wasParents parents = LeavesWith c b b′ u (parted status own parents) × Stays status wasOwn own × Stays status wasParents parents
+
+-- of a plan: the count of keys considered and that of the entries are handed out
+abbrev pub HandsPlan : Call → List ℕ → List ℕ → Buffer → ℕ → ℕ → ℕ → ℕ → ℕ → Type 0
+HandsPlan c b b′ u status wasK k wasN n = LeavesWith c b b′ u (planned status k n) × Stays status wasK k × Stays status wasN n

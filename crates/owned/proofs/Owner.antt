@@ -11,12 +11,13 @@ use Rattle.outcome.specs.declared.Listing.{Listing}
 use Rattle.outcome.specs.declared.Departure.{Departure}
 use Rattle.outcome.specs.Outcome.{Leaves, LeavesWith}
 use Rattle.outcome.specs.Reply.{replyOf, listingOf, departureOf}
-use Rattle.public_plans.specs.Entries.{entriesOf}
+use Rattle.public_plans.specs.Entries.{entriesOf, plannedOf}
+use Rattle.public_plans.specs.declared.Selection.{Selection}
 use Rattle.tracker.proofs.Typed.{Made, made-typed}
 use Rattle.outcome.proofs.Owned.{does-keeps-sound}
-use Rattle.exports.specs.Status.{statusOf, handedOut, listingStatus, countOut, departureStatus, ownOut, parentsOut, numbered, HandsOut, HandsKeys, HandsEntries, HandsDeparture}
+use Rattle.exports.specs.Status.{statusOf, handedOut, listingStatus, countOut, departureStatus, ownOut, parentsOut, numbered, HandsOut, HandsKeys, HandsEntries, HandsDeparture, plannedStatus, consideredOut, chosenOut, HandsPlan}
 use Rattle.exports.proofs.Replies.{RepliesOne}
-use Rattle.exports.proofs.Statuses.{hands-out, hands-keys, hands-entries, hands-departure, one-told}
+use Rattle.exports.proofs.Statuses.{hands-out, hands-keys, hands-entries, hands-departure, hands-plan, one-told}
 
 -- c₀ is the call that was made of the sound store b, c what the export says of its arguments; z is left
 module _ {c₀ : Call} (m : Made c₀) {b : List ℕ} (w : SoundStore b) (p : Bytes b) {c : Call} {z : List ℕ} where
@@ -40,3 +41,8 @@ owner-entries {c} m w p l was d e = (hands-entries l was d e, does-keeps-sound w
 pub owner-departure : {c : Call} → Made c → {b : List ℕ} → SoundStore b → Bytes b → (d : Departure) (was was′ : ℕ) {z : List ℕ} {u : Buffer} {r n k : ℕ}
     → LeavesWith c b z u (departureOf d) → (r ≡ departureStatus d) × (n ≡ ownOut d was) × (k ≡ parentsOut d was′) → HandsDeparture c b z u r was n was′ k × SoundStore z
 owner-departure {c} m w p d was was′ l e = (hands-departure d was was′ l e, does-keeps-sound w (made-typed c m) p l)
+
+-- of a plan
+pub owner-plan : {c : Call} → Made c → {b : List ℕ} → SoundStore b → Bytes b → (p : Selection) (was was′ : ℕ) {z : List ℕ} {u : Buffer} {r k n : ℕ}
+    → LeavesWith c b z u (plannedOf p) → (r ≡ plannedStatus p) × (k ≡ consideredOut p was) × (n ≡ chosenOut p was′) → HandsPlan c b z u r was k was′ n × SoundStore z
+owner-plan {c} m w p q was was′ l e = (hands-plan q was was′ l e, does-keeps-sound w (made-typed c m) p l)

@@ -2,10 +2,12 @@
 -- Assumes nothing.
 use Prim.Native.Nat.{ℕ}
 use Rattle.machine.specs.Call.{Buffer}
-use Rattle.machine.specs.Step.{Reply, Refused, Entries}
+use Rattle.machine.specs.Step.{Reply, Refused, Entries, Chosen}
 use Rattle.planning.specs.Claiming.{entriesFrom}
 use Rattle.outcome.specs.declared.Listing.{Listing}
 use Rattle.outcome.specs.declared.Listing.the-variants.{Refused as NoEntries, Listed}
+use Rattle.public_plans.specs.declared.Selection.{Selection}
+use Rattle.public_plans.specs.declared.Selection.the-variants.{Refused as NoPlan, Chosen as Selected}
 
 -- n entries stand in the answer buffer
 abbrev pub entriesListed : ℕ → Buffer → Reply
@@ -14,3 +16,11 @@ entriesListed n u = Entries (entriesFrom u 0 n)
 abbrev pub entriesOf : Listing → Buffer → Reply
 entriesOf (NoEntries n) u = Refused n
 entriesOf (Listed n) u = entriesListed n u
+
+-- a plan: k keys considered, and n entries in the answer buffer
+abbrev pub chosenListed : ℕ → ℕ → Buffer → Reply
+chosenListed k n u = Chosen k (entriesFrom u 0 n)
+
+abbrev pub plannedOf : Selection → Buffer → Reply
+plannedOf (NoPlan n) u = Refused n
+plannedOf (Selected k n) u = chosenListed k n u

@@ -4,3 +4,9 @@ pub mod arrangements;
 pub mod on_sound;
 pub mod plans;
 pub mod wrappers;
+
+// How many keys a plan considered, and how many entries stand in the answer buffer, or a refusal.
+pub enum Selection {
+    Refused(u64),
+    Chosen(u64, u64),
+}

@@ -4,6 +4,7 @@ use Prim.Native.Nat.{ℕ, _<_}
 use mathlib.Core.Path.{_≡_}
 use mathlib.Core.Bool.{Bool}
 use mathlib.Core.List.{List, [], _∷_}
+use mathlib.Core.Option.{none, some}
 use lib.ListN.{length}
 use Rattle.ident.specs.declared.Key.{Key}
 use Rattle.ident.specs.Number.{top}
@@ -11,7 +12,7 @@ use Rattle.ident.specs.Words.{keyNum}
 use Rattle.words.specs.Words.{words}
 use Rattle.machine.specs.Limits.{word}
 use Rattle.machine.specs.Typed.{Each, CallTyped}
-use Rattle.machine.specs.Call.{Buffer, Announce, RequestParent, SolicitPackageInfo, ClaimPackage, BeginPackageResolution, AnnounceParents, Failed, FailedWithParents, ReleasePackage, Claim, Disconnected, Unclaim, Forget, ForgetKnown, FailedPackageInfo, PackageInfoOwner, AnnounceTransactions, TransactionResponseCompleted, Sweep, PollGate, FailedPackageClaims, TeardownPackageClaims, TransactionNotFound, Arrange, Sum, Call, Open, On, openingRefusal}
+use Rattle.machine.specs.Call.{Buffer, Announce, RequestParent, SolicitPackageInfo, ClaimPackage, BeginPackageResolution, AnnounceParents, Failed, FailedWithParents, ReleasePackage, Claim, Disconnected, Unclaim, Forget, ForgetKnown, FailedPackageInfo, PackageInfoOwner, AnnounceTransactions, TransactionResponseCompleted, Sweep, PollGate, FailedPackageClaims, TeardownPackageClaims, TransactionNotFound, Arrange, Plan, Sum, Call, Open, On, openingRefusal}
 use Rattle.machine.specs.Step.{empty}
 use Rattle.store.specs.Image.{SoundStore}
 use Rattle.store.proofs.BytesBack.{Bytes}
@@ -20,6 +21,8 @@ use Rattle.lists.specs.Items.{itemsIn, offersIn}
 use Rattle.lists.proofs.Given.{hashes-fit}
 use Rattle.lists.proofs.Inventory.{items-fit, offers-fit}
 use Rattle.planning.specs.Claiming.{entriesIn}
+use Rattle.planning.specs.Phasing.{givenKeys}
+use Rattle.planning.proofs.Readings.{given-typed}
 use Rattle.requests.specs.declared.Candidate.{Candidate}
 use Rattle.requests.specs.Changes.{candidateOf}
 use Rattle.outcome.specs.Outcome.{Effect}
@@ -57,6 +60,8 @@ pub data Made : Call → Type 0 where
   fails-claims : (n clock : ℕ) (b : List ℕ) (u : Buffer) → n < word → clock < word → Bytes b → Made (On (FailedPackageClaims n (hashesIn b) clock u))
   tears-down : (clock : ℕ) → clock < word → Made (On (TeardownPackageClaims clock))
   misses : (n clock : ℕ) (b : List ℕ) (u : Buffer) → n < word → clock < word → Bytes b → Made (On (TransactionNotFound n (itemsIn b) clock u))
+  plans : (clock : ℕ) (u : Buffer) → clock < word → Made (On (Plan clock none u))
+  plans-given : (clock : ℕ) (b : List ℕ) (u : Buffer) → clock < word → Bytes b → Made (On (Plan clock (some (givenKeys b)) u))
   arranges : (v b : List ℕ) (u : Buffer) → Bytes v → Bytes b → Made (On (Arrange (words v) (entriesIn b) u))
 
 pub made-typed : (c : Call) → Made c → CallTyped c
@@ -85,6 +90,8 @@ made-typed c (begins-resolution n k d clock b g h i j p) = (g, h, i, hashes-fit 
 made-typed c (fails-claims n clock b u g h p) = (g, hashes-fit b p, h)
 made-typed c (tears-down clock g) = g
 made-typed c (misses n clock b u g h p) = (g, items-fit b p, h)
+made-typed c (plans clock u g) = (g, tt)
+made-typed c (plans-given clock b u g p) = (g, given-typed b p)
 made-typed c (arranges v b u p q) = (words-small v p, whole-typed (entriesIn b) (entries-whole b q))
 
 each-typed : (cs : List Call) → Each Made cs → Each CallTyped cs

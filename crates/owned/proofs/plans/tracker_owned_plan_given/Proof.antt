@@ -1,0 +1,29 @@
+-- `owned::plans::tracker_owned_plan_given` meets its contract: that of the checked call, behind its sound test, and the store stays sound.
+-- Assumes nothing.
+use native.Mathlib.Omega.{arith}
+use borrow.Author.Needs.{needs}
+use Rattle.tracker.proofs.Typed.{plans-given as makes}
+use Rattle.owned.proofs.Owner.{owner-plan}
+use Rattle.owned.proofs.plans.tracker_owned_plan_given.Statement.{statement}
+use Rattle.owned.proofs.plans.tracker_owned_plan_given.Tie as tie
+
+plan-given-requires : tie.Need-plan-given-requires
+plan-given-requires c κs = search needs
+
+hand-plan-requires : tie.Need-hand-plan-requires
+hand-plan-requires c κs = search needs
+
+same-length : tie.Need-same-length
+same-length c = search needs
+
+same-length-2 : tie.Need-same-length-2
+same-length-2 c = search needs
+
+returns : tie.Need-returns
+returns c =
+    let a = @args in
+    let m = makes (a .clock) (a .given .now) (a .answer .now) (omega arith) (λ i. omega (arith, @shared-slice-known .given i)) in
+    owner-plan m (@pre) (λ i. omega (arith, @slice-known .given i)) (@plan-given .result) _ _ (@plan-given .ensures) (@hand-plan .ensures)
+
+pub tracker-owned-plan-given-spec : {M : Type 1} → statement M
+tracker-owned-plan-given-spec = tie.close (tie.spec plan-given-requires hand-plan-requires same-length same-length-2 returns)

@@ -1,0 +1,33 @@
+-- `public_plans::plans::plan_given` meets its contract: the sound test, and `on_sound::plans::plan_given`.
+-- Assumes nothing.
+use mathlib.Core.Path.{refl}
+use borrow.Author.Needs.{needs}
+use Rattle.machine.specs.Call.{Plan, named}
+use Rattle.outcome.proofs.Owned.{test-refuses, test-passes}
+use Rattle.public_plans.proofs.plans.plan_given.Statement.{statement}
+use Rattle.public_plans.proofs.plans.plan_given.Tie as tie
+
+sound-requires : tie.Need-sound-requires
+sound-requires c κs = search needs
+
+same-length : tie.Need-same-length
+same-length c = search needs
+
+returns : tie.Need-returns
+unfolding named
+returns c = test-refuses (c .before .sound .result) (c .before .sound .ensures) (c .if1 .taken) (Plan _ _ _) refl
+
+plan-given-requires : tie.Need-plan-given-requires
+plan-given-requires c κs = test-passes (c .before .before .before .sound .result) (c .before .before .before .sound .ensures) (c .before .before .if1 .left)
+
+same-length-2 : tie.Need-same-length-2
+same-length-2 c = search needs
+
+same-length-3 : tie.Need-same-length-3
+same-length-3 c = search needs
+
+returns-2 : tie.Need-returns-2
+returns-2 c = search needs
+
+pub plan-given-spec : {M : Type 1} → statement M
+plan-given-spec = tie.close (tie.spec sound-requires same-length returns plan-given-requires same-length-2 same-length-3 returns-2)
