@@ -4,7 +4,7 @@
 #[allow(unused_imports)]
 use std::ops::Range;
 
-use crate::bytes::{Candidate, Left};
+use crate::bytes::{Candidate, Left, Plan};
 use crate::error::done;
 use crate::{Error, Figures, Key, abi};
 
@@ -329,6 +329,31 @@ pub fn claim(store: &mut [u8], now: u64, checked: &[u8], answer: &mut [u8]) -> R
             answer.as_mut_ptr(), answer.len(), &mut taken)
     };
     done(status, taken as usize)
+}
+
+/// Plans over all keys after the ready cursor and round to it. What it selects stands in the answer in 112
+/// bytes an entry: so many as `count` says, of as many keys as `considered` says.
+pub fn plan(store: &mut [u8], now: u64, answer: &mut [u8]) -> Result<Plan, Error> {
+    let mut considered = 0;
+    let mut count = 0;
+    // SAFETY: what is lent is lent for the call, and what it may write is lent to it alone.
+    let status = unsafe {
+        abi::tracker_plan(store.as_mut_ptr(), store.len(), now, answer.as_mut_ptr(), answer.len(),
+            &mut considered, &mut count)
+    };
+    done(status, Plan { considered, count: count as usize })
+}
+
+/// The same over the keys that are given in 40 bytes each; the ready cursor stays.
+pub fn plan_given(store: &mut [u8], now: u64, given: &[u8], answer: &mut [u8]) -> Result<Plan, Error> {
+    let mut considered = 0;
+    let mut count = 0;
+    // SAFETY: what is lent is lent for the call, and what it may write is lent to it alone.
+    let status = unsafe {
+        abi::tracker_plan_given(store.as_mut_ptr(), store.len(), now, given.as_ptr(), given.len(),
+            answer.as_mut_ptr(), answer.len(), &mut considered, &mut count)
+    };
+    done(status, Plan { considered, count: count as usize })
 }
 
 /// The next keys after the known cursor, which becomes the last of them. They stand in the answer: so many

@@ -309,6 +309,34 @@ impl Tracker {
         done(status, Entries::new(&self.answer, taken as usize))
     }
 
+    /// Which candidate is to be asked for what, by priority: at most 1,025 entries. Owners whose deadline
+    /// has come fail first.
+    pub fn plan(&mut self, now: u64) -> Result<crate::Planned<'_>, Error> {
+        self.room(self.sizes.plan_need());
+        let mut considered = 0;
+        let mut count = 0;
+        // SAFETY: the store is sound and this tracker's own; what the call may write is lent to it alone.
+        let status = unsafe {
+            abi::tracker_owned_plan(self.store.as_mut_ptr(), self.store.len(), now, self.answer.as_mut_ptr(),
+                self.answer.len(), &mut considered, &mut count)
+        };
+        done(status, crate::Planned { considered, entries: Entries::new(&self.answer, count as usize) })
+    }
+
+    /// The same over the keys that are given in 40 bytes each; the ready cursor stays.
+    pub fn plan_given(&mut self, now: u64, given: &[Key]) -> Result<crate::Planned<'_>, Error> {
+        self.room(self.sizes.plan_need());
+        let given = listed(given);
+        let mut considered = 0;
+        let mut count = 0;
+        // SAFETY: the store is sound and this tracker's own; what the call may write is lent to it alone.
+        let status = unsafe {
+            abi::tracker_owned_plan_given(self.store.as_mut_ptr(), self.store.len(), now, given.as_ptr(),
+                given.len(), self.answer.as_mut_ptr(), self.answer.len(), &mut considered, &mut count)
+        };
+        done(status, crate::Planned { considered, entries: Entries::new(&self.answer, count as usize) })
+    }
+
     /// The next keys after the known cursor, at most 1,024; the cursor becomes the last of them.
     pub fn sweep(&mut self) -> Keys<'_> {
         self.room(self.sizes.sweep_need());

@@ -22,11 +22,7 @@ pub fn claim(s: &mut [u8], clock: u64, checked: &[u8], answer: &mut [u8]) -> Lis
 }
 
 // Plans over all keys after the ready cursor and round to it, which becomes the last key considered. What it selects stands in the answer in 112 bytes an entry.
-pub fn plan(
-    s: &mut [u8],
-    clock: u64,
-    answer: &mut [u8],
-) -> Selection
+pub fn plan(s: &mut [u8], clock: u64, answer: &mut [u8]) -> Selection
     ensures { λ r. ⌜ LeavesWith (On (Plan clock none (now (answer .entry)))) (now (s .entry)) (now (s .exit)) (now (answer .exit)) (plannedOf r) ⌝ }
 {
     if !sound::sound(s) {
@@ -36,12 +32,7 @@ pub fn plan(
 }
 
 // The same over the keys that are given in 40 bytes each; the ready cursor stays.
-pub fn plan_given(
-    s: &mut [u8],
-    clock: u64,
-    given: &[u8],
-    answer: &mut [u8],
-) -> Selection
+pub fn plan_given(s: &mut [u8], clock: u64, given: &[u8], answer: &mut [u8]) -> Selection
     ensures { λ r. ⌜ LeavesWith (On (Plan clock (some (givenKeys (now (given .entry)))) (now (answer .entry)))) (now (s .entry)) (now (s .exit)) (now (answer .exit)) (plannedOf r) ⌝ }
 {
     if !sound::sound(s) {

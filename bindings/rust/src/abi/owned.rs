@@ -229,6 +229,29 @@ unsafe extern "C" {
         answer_length: usize,
         taken: &mut u64,
     ) -> u64;
+    /// Plans over all keys after the ready cursor and round to it. What it selects stands in the answer in
+    /// 112 bytes an entry: so many as `count` says, of as many keys as `considered` says.
+    pub fn tracker_owned_plan(
+        store: *mut u8,
+        length: usize,
+        now: u64,
+        answer: *mut u8,
+        answer_length: usize,
+        considered: &mut u64,
+        count: &mut u64,
+    ) -> u64;
+    /// The same over the keys that are given in 40 bytes each; the ready cursor stays.
+    pub fn tracker_owned_plan_given(
+        store: *mut u8,
+        length: usize,
+        now: u64,
+        given: *const u8,
+        given_length: usize,
+        answer: *mut u8,
+        answer_length: usize,
+        considered: &mut u64,
+        count: &mut u64,
+    ) -> u64;
     /// The next keys after the known cursor, which becomes the last of them. They stand in the answer: so
     /// many as `count` says.
     pub fn tracker_owned_sweep(

@@ -53,11 +53,7 @@ fn plan_needs(s: &[u8]) -> usize
     MAX_SELECTED * ENTRY_BYTES
 }
 
-pub fn plan(
-    s: &mut [u8],
-    clock: u64,
-    answer: &mut [u8],
-) -> Selection
+pub fn plan(s: &mut [u8], clock: u64, answer: &mut [u8]) -> Selection
     requires { ⌜ SoundStore (now s) ⌝ }
     ensures { λ r. ⌜ LeavesWith (On (Plan clock none (now (answer .entry)))) (now (s .entry)) (now (s .exit)) (now (answer .exit)) (plannedOf r) ⌝ }
 {
@@ -71,12 +67,7 @@ pub fn plan(
     Selection::Chosen(r.considered, r.count as u64)
 }
 
-pub fn plan_given(
-    s: &mut [u8],
-    clock: u64,
-    given: &[u8],
-    answer: &mut [u8],
-) -> Selection
+pub fn plan_given(s: &mut [u8], clock: u64, given: &[u8], answer: &mut [u8]) -> Selection
     requires { ⌜ SoundStore (now s) ⌝ }
     ensures { λ r. ⌜ LeavesWith (On (Plan clock (some (givenKeys (now (given .entry)))) (now (answer .entry)))) (now (s .entry)) (now (s .exit)) (now (answer .exit)) (plannedOf r) ⌝ }
 {

@@ -21,9 +21,12 @@ same-length-2 c = search needs
 
 returns : tie.Need-returns
 returns c =
-    let a = @args in
-    let m = makes (a .clock) (a .answer .now) (omega arith) in
-    owner-plan m (@pre) (λ i. omega (arith, @slice-known .given i)) (@plan .result) _ _ (@plan .ensures) (@hand-plan .ensures)
+    let m = makes (c .before .before .before .before .before .before .before .before .before .before .before .before .args .clock)
+    (c .before .before .before .before .before .before .before .before .before .before .before .before .args .answer .now) (omega arith) in
+    owner-plan m (c .before .before .before .before .before .before .before .before .before .before .before .before .pre)
+    (λ i. omega (arith, c .before .before .before .before .before .before .before .before .before .before .before .slice-known .given i))
+    (c .before .before .before .before .before .before .before .plan .result) _ _ (c .before .before .before .before .before .before .before .plan .ensures)
+    (c .hand-plan .ensures)
 
 pub tracker-owned-plan-spec : {M : Type 1} → statement M
 tracker-owned-plan-spec = tie.close (tie.spec plan-requires hand-plan-requires same-length same-length-2 returns)

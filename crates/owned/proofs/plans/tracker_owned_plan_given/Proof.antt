@@ -21,9 +21,14 @@ same-length-2 c = search needs
 
 returns : tie.Need-returns
 returns c =
-    let a = @args in
-    let m = makes (a .clock) (a .given .now) (a .answer .now) (omega arith) (λ i. omega (arith, @shared-slice-known .given i)) in
-    owner-plan m (@pre) (λ i. omega (arith, @slice-known .given i)) (@plan-given .result) _ _ (@plan-given .ensures) (@hand-plan .ensures)
+    let m = makes (c .before .before .before .before .before .before .before .before .before .before .before .before .before .args .clock)
+    (c .before .before .before .before .before .before .before .before .before .before .before .before .before .args .given .now)
+    (c .before .before .before .before .before .before .before .before .before .before .before .before .before .args .answer .now) (omega arith)
+    (λ i. omega (arith, c .before .before .before .before .before .before .before .before .before .before .before .shared-slice-known .given i)) in
+    owner-plan m (c .before .before .before .before .before .before .before .before .before .before .before .before .before .pre)
+    (λ i. omega (arith, c .before .before .before .before .before .before .before .before .before .before .before .before .slice-known .given i))
+    (c .before .before .before .before .before .before .before .plan-given .result) _ _ (c .before .before .before .before .before .before .before .plan-given .ensures)
+    (c .hand-plan .ensures)
 
 pub tracker-owned-plan-given-spec : {M : Type 1} → statement M
 tracker-owned-plan-given-spec = tie.close (tie.spec plan-given-requires hand-plan-requires same-length same-length-2 returns)
