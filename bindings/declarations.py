@@ -21,6 +21,7 @@ HANDED = {
     ("count",): ("usize", "count as usize"),
     ("taken",): ("usize", "taken as usize"),
     ("first", "count"): ("Range<usize>", "first as usize..(first + count) as usize"),
+    ("considered", "count"): ("crate::bytes::Plan", "crate::bytes::Plan { considered, count: count as usize }"),
     ("own", "parents"): ("Left", "Left { own: own as usize, parents: parents as usize }"),
     ("owner",): ("Option<u64>", "(owner != 0).then_some(owner)"),
     ("held", "room", "permille"): ("Figures", "Figures { held, free: room, permille }"),

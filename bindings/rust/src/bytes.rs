@@ -47,6 +47,15 @@ pub struct Left {
     pub parents: usize,
 }
 
+/// How far a plan came.
+#[derive(Clone, Copy, Debug, Default, Eq, PartialEq)]
+pub struct Plan {
+    /// Keys considered, repeats counted.
+    pub considered: u64,
+    /// Entries of the answer.
+    pub count: usize,
+}
+
 /// Bytes of a key in an answer.
 pub const KEY_BYTES: usize = KEY;
 /// Bytes of an entry in an answer.

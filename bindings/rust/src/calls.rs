@@ -1,5 +1,7 @@
 //! The checked calls.
 
+use std::ops::Range;
+
 use crate::bytes::{Candidate, Left};
 use crate::error::done;
 use crate::{Error, Figures, Key, abi};
