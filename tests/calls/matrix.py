@@ -18,6 +18,12 @@ def names(cell, usual):
     return [usual] if cell == "✔" else ticked(cell)
 
 
+def public_calls(cell, call):
+    """The modules named, each with the function of the call's name, or with those in brackets behind it."""
+    found = re.findall(r"`([^`]+)`(?: \(([^)]*)\))?", cell)
+    return [f"{module}::{name}" for module, others in found for name in ticked(others) or [call]]
+
+
 def row(cells):
     call, word, rust, definition, code, public, c, safe, refusals, need, by_bytes, recorded = cells
     (call,) = ticked(call)
@@ -28,7 +34,7 @@ def row(cells):
         rust=[call] if rust == "same" else ticked(rust),
         definitions=re.findall(r"((?:`[^`]+`(?:, )?)+) \((\w+)\)", definition),
         code=ticked(code),
-        public=[f"{module}::{call}" for module in ticked(public)],
+        public=public_calls(public, call),
         c=names(c, "tracker_" + call),
         safe=names(safe, call),
         refusals=[int(number) for number in re.findall(r"\d+", refusals)],

@@ -108,11 +108,13 @@ impl Answer {
                 [answer.out[0], answer.out[1]] = [own, parents].map(|keys| keys.len() as u64);
                 answer.put_keys(own.iter().chain(parents));
             }
+            Reply::Planned(considered, entries) => {
+                [answer.out[0], answer.out[1]] = [*considered, entries.len() as u64];
+                answer.put_entries(entries);
+            }
             Reply::Entries(entries) => {
                 answer.out[0] = entries.len() as u64;
-                for (entry, place) in entries.iter().zip(answer.buffer.chunks_exact_mut(ENTRY)) {
-                    place.copy_from_slice(&entry_bytes(entry));
-                }
+                answer.put_entries(entries);
             }
             other => unreachable!("no call of these replies {other:?}"),
         }
@@ -125,6 +127,12 @@ impl Answer {
         }
     }
 
+    fn put_entries(&mut self, entries: &[Entry]) {
+        for (entry, place) in entries.iter().zip(self.buffer.chunks_exact_mut(ENTRY)) {
+            place.copy_from_slice(&entry_bytes(entry));
+        }
+    }
+
     /// How many bytes of the buffer are reply.
     pub fn written(&self, ask: &Ask) -> usize {
         let [first, second, _] = self.out.map(|number| number as usize);
@@ -133,6 +141,7 @@ impl Answer {
             Hands::Keys => KEY * first,
             Hands::Departure => KEY * (first + second),
             Hands::Entries => ENTRY * first,
+            Hands::Plan => ENTRY * second,
             Hands::Nothing | Hands::Number | Hands::Figures => 0,
         }
     }

@@ -13,6 +13,7 @@ macro_rules! listed {
 
         pub static ALL: &[&Spec] = &[$(&$name::SPEC,)*];
         pub static OPEN: &Spec = &open::SPEC;
+        pub static PLANS: [&Spec; 2] = [&plan::SPEC, &plan_given::SPEC];
         pub static CLAIM: &Spec = &claim::SPEC;
     };
 }
@@ -40,6 +41,8 @@ listed! {
     release_package,
     failed_package_claims,
     teardown_package_claims,
+    plan,
+    plan_given,
     claim,
     arrange,
     sweep,
@@ -57,6 +60,8 @@ pub enum Hands {
     Departure,
     /// Entries in the answer buffer, and their count.
     Entries,
+    /// The count of keys considered, and entries with theirs.
+    Plan,
     Figures,
 }
 
@@ -129,7 +134,7 @@ fn some(reply: &Reply) -> bool {
         Reply::Number(number) => *number != 0,
         Reply::Keys(keys) => !keys.is_empty(),
         Reply::Gone(own, _) => !own.is_empty(),
-        Reply::Entries(entries) => !entries.is_empty(),
+        Reply::Entries(entries) | Reply::Planned(_, entries) => !entries.is_empty(),
         _ => true,
     }
 }

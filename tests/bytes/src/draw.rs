@@ -9,7 +9,7 @@ use oracle::random::Rng;
 use oracle::state::State;
 
 use crate::ask::{Ask, ENTRY, Given, HASH_BYTES};
-use crate::calls::{ALL, CLAIM, OPEN};
+use crate::calls::{ALL, CLAIM, OPEN, PLANS, Spec};
 use crate::look::Held;
 use crate::profiles::Profile;
 use crate::reference::Reference;
@@ -36,6 +36,8 @@ pub struct Draw<'a> {
 pub struct Planned {
     pub now: u64,
     pub entries: Vec<Entry>,
+    /// No call has been drawn since.
+    pub fresh: bool,
 }
 
 /// A request's key, a connection, and when its ownership ends.
@@ -144,7 +146,7 @@ impl<'a> Draw<'a> {
     }
 
     /// A key and a connection, of nothing that is there as a rule.
-    fn any(&mut self) -> Named {
+    pub fn any(&mut self) -> Named {
         let (hash, connection) = (self.hash(), self.connection());
         let key = if self.rng.one_in(2) { Key::txid(hash) } else { Key::wtxid(hash) };
         Named { key, connection, deadline: self.rng.word() }
@@ -161,7 +163,7 @@ impl<'a> Draw<'a> {
         (count > 0).then(|| self.rng.index(count)).map(|i| self.row_at(seen, i))
     }
 
-    fn owning(&mut self, seen: &Reference) -> Option<Named> {
+    pub fn owning(&mut self, seen: &Reference) -> Option<Named> {
         let from = self.rng.index(seen.rows().len().max(1));
         seen.owning(from, LOOKED_AT).map(|i| self.row_at(seen, i))
     }
@@ -250,7 +252,11 @@ impl<'a> Draw<'a> {
         Ask { spec: CLAIM, given, rest: Vec::new(), buffer, shift: 0 }
     }
 
-    pub fn ask(&mut self, seen: &Reference) -> Ask {
+    /// Which call comes next.
+    fn spec(&mut self) -> &'static Spec {
+        if self.profile.plans && self.rng.one_in(2) {
+            return self.rng.pick(&PLANS);
+        }
         let theme = self.profile.theme as usize;
         let mut left = self.rng.below(ALL.iter().map(|spec| spec.weights[theme]).sum());
         let drawn = ALL.iter().find(|spec| {
@@ -258,7 +264,11 @@ impl<'a> Draw<'a> {
             left = left.saturating_sub(spec.weights[theme]);
             here
         });
-        let spec = drawn.expect("below the sum of the weights");
+        drawn.expect("below the sum of the weights")
+    }
+
+    pub fn ask(&mut self, seen: &Reference) -> Ask {
+        let spec = self.spec();
         let given = (spec.draw)(self, seen);
         let rest = if self.rng.one_in(4) { self.rng.index(HASH_BYTES) } else { 0 };
         let (rest, need) = (self.bytes(rest), (spec.need)(&given, seen.sizes()));

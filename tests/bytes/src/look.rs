@@ -57,6 +57,15 @@ impl Reference {
         [header::L, header::Q].map(|at| self.words[at])
     }
 
+    pub fn ready_cursor(&self) -> Option<Key> {
+        let [kind, hash @ ..] = &self.words[header::READY_CURSOR..][..1 + HASH] else { unreachable!() };
+        match kind {
+            0 => None,
+            1 => Some(Key::txid(hash_in(hash))),
+            _ => Some(Key::wtxid(hash_in(hash))),
+        }
+    }
+
     pub fn key_at(&self, i: usize) -> Key {
         key_of(rank_of(&self.rows()[i]))
     }

@@ -38,6 +38,11 @@ const FAULTS: &[(&str, Fault)] = &[
         done.answer.out[0] ^= 1;
         done.answer.status == 0
     }),
+    ("another second count", |done, _| {
+        let second = matches!(done.ask.spec.hands, Hands::Departure | Hands::Plan);
+        done.answer.out[1] ^= u64::from(second);
+        second && done.answer.status == 0
+    }),
     ("another figure of a sum", |done, rng| {
         let sum = done.ask.spec.hands == Hands::Figures;
         done.answer.out[rng.index(3)] += u64::from(sum);

@@ -34,6 +34,8 @@ pub enum Start {
     Unowned,
     /// Packages of one to three connections, most of them Awaiting, half of them with one of two combined hashes.
     Awaiting,
+    /// Half of L held by many connections, few of them owners; every place a package with 100 parents.
+    Parents,
     /// Reached by calls.
     Walked,
 }
@@ -48,6 +50,8 @@ pub enum Theme {
 pub struct Profile {
     pub name: &'static str,
     pub theme: Theme,
+    /// Every second call is a plan.
+    pub plans: bool,
     pub sizes: &'static [(u64, u64)],
     pub start: Start,
     pub hashes: Hashes,
@@ -64,6 +68,7 @@ pub struct Profile {
 const SMALL: Profile = Profile {
     name: "few of each, L reached",
     theme: Theme::Announcements,
+    plans: false,
     sizes: &[(1, 1), (2, 1), (3, 2), (8, 1), (9, 1)],
     start: Start::Opened,
     hashes: Hashes::Any,
@@ -96,6 +101,7 @@ const CROWDED: Profile = Profile {
 const LARGE: Profile = Profile {
     name: "L = 100,000",
     theme: Theme::Announcements,
+    plans: false,
     sizes: &[(100_000, 1), (100_000, 16)],
     start: Start::Full,
     hashes: Hashes::Any,
@@ -193,6 +199,39 @@ pub const PROFILES: &[Profile] = &[
         ..PACKAGES
     },
     Profile {
+        name: "plans, any state",
+        plans: true,
+        sizes: &[(9, 1), (30, 2), (60, 16)],
+        calls: 40,
+        ..PACKAGES
+    },
+    Profile {
+        name: "plans of connections that own 100",
+        plans: true,
+        sizes: &[(150, 1), (280, 2)],
+        start: Start::Unowned,
+        connections: 1,
+        calls: 40,
+        ..PACKAGES
+    },
+    Profile {
+        name: "plans, hundreds of parents",
+        plans: true,
+        sizes: &[(600, 6), (900, 16)],
+        start: Start::Parents,
+        calls: 20,
+        ..PACKAGES
+    },
+    Profile {
+        name: "plans, more than 1,024 parents",
+        plans: true,
+        sizes: &[(4_000, 16), (6_000, 30)],
+        start: Start::Parents,
+        calls: 24,
+        large: true,
+        ..PACKAGES
+    },
+    Profile {
         name: "Q = 4,096, all held",
         sizes: &[(6_000, 4_096)],
         start: Start::AllPlaces,
@@ -256,6 +295,15 @@ impl Profile {
             Start::Awaiting => {
                 Shape { held: l - l / 4, connections: 1 + rng.index(3), places: q, owned: 1, ..shape }
             }
+            Start::Parents => Shape {
+                held: l / 2,
+                connections: 60,
+                places: q,
+                spread: 1,
+                owned: 30,
+                list: Some(100),
+                ..shape
+            },
             Start::Walked => return random::walk(rng, l, q, 40 + less as usize * 40),
         };
         let mut state = random::state(rng, shape);

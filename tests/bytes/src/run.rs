@@ -2,14 +2,14 @@
 
 use std::time::Instant;
 
-use oracle::calls::{Call, LAST_CLOCK, Reply};
+use oracle::calls::{Call, Reply};
 use oracle::image::need;
 use oracle::random::Rng;
 
 use crate::ask::{Ask, Given};
 use crate::damage::{self, Store};
-use crate::draw::Draw;
-use crate::profiles::{PROFILES, Profile, Start, Theme};
+use crate::draw::{Draw, Planned};
+use crate::profiles::{PROFILES, Profile, Start};
 use crate::tally::Tally;
 use crate::trial::{Library, Trial};
 
@@ -19,8 +19,8 @@ pub const ROUND: u64 = 20_000;
 const SHARE: u64 = 150;
 /// One call in so many is on a damaged copy of the store.
 const DAMAGED: u64 = 30;
-/// In runs of packages there is a plan, which is claimed at once as a rule, before one call in so many.
-const PLANNED: u64 = 20;
+/// One plan in so many is not claimed at once.
+const UNCLAIMED: u64 = 3;
 /// Bytes past the need are fewer than this.
 const PAST: usize = 100;
 
@@ -45,22 +45,21 @@ pub fn run(
     }
     while calls < profile.calls {
         calls += 1;
-        let ask = if matches!(profile.theme, Theme::Packages) && draw.rng.one_in(PLANNED) {
-            let now = draw.rng.word().min(LAST_CLOCK);
-            draw.planned = trial.plan(now);
-            draw.claim()
-        } else {
-            draw.ask(&trial.reference)
-        };
+        let fresh = std::mem::take(&mut draw.planned.fresh);
+        let ask =
+            if fresh && !draw.rng.one_in(UNCLAIMED) { draw.claim() } else { draw.ask(&trial.reference) };
         let done = if draw.rng.one_in(DAMAGED) {
             damaged(&mut trial, &ask, &mut draw.rng)
         } else {
             trial.step(&ask)
         };
         done.map_err(|text| about(calls, text))?;
-        if let (Given::On(Call::Claim { .. }), Some(Reply::Entries(taken))) = (&ask.given, trial.reply.take())
-        {
-            draw.taken = taken;
+        match (&ask.given, trial.reply.take()) {
+            (Given::On(Call::Claim { .. }), Some(Reply::Entries(taken))) => draw.taken = taken,
+            (Given::On(Call::Plan { now, .. }), Some(Reply::Planned(_, entries))) => {
+                draw.planned = Planned { now: *now, entries, fresh: true };
+            }
+            _ => {}
         }
     }
     trial.end().map_err(|text| about(calls, text))

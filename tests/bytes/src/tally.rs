@@ -65,7 +65,7 @@ const REFUSALS: std::ops::RangeInclusive<u64> = 1..=8;
 /// What the calls of one name came to.
 #[derive(Clone, Default)]
 struct Row {
-    /// By the number that is handed out: 0, 1, more. Of a call that hands none out all are in the last.
+    /// By the number that is handed out (of a plan the entries): 0, 1, more. Of a call that hands none out all are in the last.
     replied: [u64; 3],
     refused: BTreeMap<u64, u64>,
 }
@@ -107,6 +107,7 @@ impl Tally {
         let row = self.rows.entry(spec.name).or_default();
         match (answer.status, spec.hands) {
             (0, Hands::Nothing | Hands::Figures) => row.replied[2] += 1,
+            (0, Hands::Plan) => row.replied[answer.out[1].min(2) as usize] += 1,
             (0, _) => row.replied[answer.out[0].min(2) as usize] += 1,
             (number, _) => *row.refused.entry(number).or_default() += 1,
         }

@@ -8,7 +8,6 @@ use oracle::state::State;
 use oracle::write;
 
 use crate::ask::{Answer, Ask, Given};
-use crate::draw::Planned;
 use crate::names;
 use crate::oracles;
 use crate::parts;
@@ -64,18 +63,6 @@ impl<'a> Trial<'a> {
             Ok(state) => format!("{ask}\n  {text}\n  on load,{}", write::dump(&state)),
             Err(_) => format!("{ask}\n  {text}"),
         })
-    }
-
-    /// A plan, which the library does not have yet, by the Rust alone; the store is written from its state.
-    pub fn plan(&mut self, now: u64) -> Planned {
-        let reply = self.machine.call(&Call::Plan { now, keys: None });
-        self.renew();
-        self.store = self.reference.words.iter().flat_map(|word| word.to_le_bytes()).collect();
-        self.store.extend_from_slice(&self.tail);
-        match reply {
-            Reply::Planned(_, entries) => Planned { now, entries },
-            _ => Planned::default(),
-        }
     }
 
     fn renew(&mut self) {
