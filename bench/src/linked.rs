@@ -21,6 +21,7 @@ impl Prepared {
     pub fn new(call: &Call) -> Self {
         let (list, priorities) = match call {
             Call::SolicitPackageInfo { parents, .. } => (hashes(parents), Vec::new()),
+            Call::Plan { keys: Some(keys), .. } => (keys.iter().flat_map(key).collect(), Vec::new()),
             Call::Claim { checked, .. } => (checked.iter().flat_map(entry).collect(), Vec::new()),
             Call::AnnounceTransactions { items, .. } => (
                 items.iter().flat_map(|(one, _)| item(*one)).collect(),
@@ -74,6 +75,15 @@ impl Prepared {
                     let call = if checked { abi::tracker_claim } else { owned::tracker_owned_claim };
                     call(start, length, *now, list, list_length, room, room_length, &mut a)
                 }
+                Call::Plan { now, keys: None } => {
+                    let call = if checked { abi::tracker_plan } else { owned::tracker_owned_plan };
+                    call(start, length, *now, room, room_length, &mut a, &mut b)
+                }
+                Call::Plan { now, keys: Some(_) } => {
+                    let call =
+                        if checked { abi::tracker_plan_given } else { owned::tracker_owned_plan_given };
+                    call(start, length, *now, list, list_length, room, room_length, &mut a, &mut b)
+                }
                 Call::Sweep => {
                     let call = if checked { abi::tracker_sweep } else { owned::tracker_owned_sweep };
                     call(start, length, room, room_length, &mut a)
@@ -121,11 +131,6 @@ impl Prepared {
     }
 }
 
-/// Whether the library has the call.
-pub fn has(call: &Call) -> bool {
-    !matches!(call, Call::Plan { .. })
-}
-
 fn kind(key: &Key) -> u64 {
     u64::from(key.kind == Kind::Wtxid)
 }
@@ -139,11 +144,16 @@ fn item(item: Item) -> Vec<u8> {
     [&u64::from(number).to_le_bytes()[..], &hash].concat()
 }
 
+/// 40 bytes: a word for the kind, then the hash.
+fn key(key: &Key) -> Vec<u8> {
+    [&kind(key).to_le_bytes()[..], &key.hash.0].concat()
+}
+
 /// 112 bytes, as docs/DECISIONS.md lays an entry out.
 fn entry(entry: &Entry) -> Vec<u8> {
     let (key, c) = (&entry.key, &entry.candidate);
     let word = |word: u64| word.to_le_bytes().to_vec();
-    let parts = [word(kind(key)), key.hash.0.to_vec(), word(c.connection), item(c.item)];
+    let parts = [self::key(key), word(c.connection), item(c.item)];
     let rest = [word(c.ready), word(c.preferred.into()), word(c.priority)];
     [parts.concat(), rest.concat()].concat()
 }

@@ -7,8 +7,6 @@ use oracle::calls::{Call, Candidate, Hash, Item, Key, Kind, Reply};
 use oracle::random::Rng;
 use oracle::state::{Owner, Package, Request, State};
 
-use crate::linked;
-
 /// Connections that hold the state, and the one that the calls are about.
 const CONNECTIONS: u64 = 125;
 const OWN: u64 = 1_000;
@@ -228,9 +226,13 @@ fn planning(l: u64, ready: bool, owners: u64, parents: usize) -> Scene {
             late += 1;
         }
     }
+    let call = Call::Plan { now: NOW, keys: None };
+    let mut machine = Machine::load(&state).expect("a sound state");
+    let Reply::Planned(_, selected) = machine.call(&call) else { unreachable!("a plan is not refused") };
     let what = if ready { "all ready" } else { "none ready" };
-    let name = format!("plan, {what}, {late} owners late, {parents} parents each");
-    scene(name, state, vec![Call::Plan { now: NOW, keys: None }])
+    let selected = selected.len();
+    let name = format!("plan, {what}, {late} owners late, {parents} parents each: {selected} selected");
+    scene(name, state, vec![call])
 }
 
 pub fn all(l: u64) -> Vec<Scene> {
@@ -241,9 +243,8 @@ pub fn all(l: u64) -> Vec<Scene> {
     scenes.extend([tearing(l), missing(l)]);
     let late = (l / 4).min(1_000);
     scenes.extend(
-        [(false, 0, 0), (true, 0, 0), (true, late, 0), (true, late, 100)]
+        [(false, 0, 0), (true, 0, 0), (true, 12, 100), (true, late, 0), (true, late, 100)]
             .map(|(ready, owners, parents)| planning(l, ready, owners, parents)),
     );
-    scenes.retain(|scene| scene.calls.iter().all(linked::has));
     scenes
 }

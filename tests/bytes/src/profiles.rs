@@ -225,7 +225,7 @@ pub const PROFILES: &[Profile] = &[
     Profile {
         name: "plans, more than 1,024 parents",
         plans: true,
-        sizes: &[(4_000, 16), (6_000, 30)],
+        sizes: &[(4_000, 16), (5_000, 20), (6_000, 30)],
         start: Start::Parents,
         calls: 24,
         large: true,
@@ -311,6 +311,7 @@ impl Profile {
             Start::Marked => mark(&mut state),
             Start::Unowned => ready(&mut state),
             Start::Awaiting => alike(&mut state, rng),
+            Start::Parents => soon_due(&mut state),
             _ => {}
         }
         state
@@ -330,6 +331,12 @@ impl Profile {
 
 fn ready(state: &mut State) {
     state.requests.iter_mut().flat_map(|request| &mut request.candidates).for_each(|one| one.ready %= 2);
+}
+
+/// Owners whose time comes within minutes of the clock's start.
+fn soon_due(state: &mut State) {
+    let owners = state.requests.iter_mut().filter_map(|request| request.owner.as_mut());
+    owners.for_each(|owner| owner.deadline %= 1 << 20);
 }
 
 /// Packages that are alike.

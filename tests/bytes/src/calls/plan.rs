@@ -2,8 +2,8 @@
 
 use std::collections::{BTreeMap, BTreeSet};
 
-use oracle::calls::{Call, Entry, Hash, Item, LAST_CLOCK, Reply};
-use oracle::image::row;
+use oracle::calls::{Call, Entry, Hash, Item, Kind, LAST_CLOCK, Reply};
+use oracle::image::{ROW, row};
 use oracle::sound::MAX_OWNED;
 use tracker::abi;
 
@@ -192,7 +192,7 @@ fn of_connections(seen: &Reference, now: u64, entries: &[Entry]) -> BTreeSet<&'s
             owned.insert(seen.key_at(i).hash);
         }
     }
-    let full = |row: &[u64; oracle::image::ROW]| {
+    let full = |row: &[u64; ROW]| {
         row[row::READY] <= now && owning.get(&row[row::CONNECTION]).is_some_and(|count| *count >= MAX_OWNED)
     };
     let mut rows = seen.rows().iter().enumerate();
@@ -217,8 +217,8 @@ fn of_kinds(seen: &Reference, now: u64, entry: &Entry) -> Option<&'static str> {
         .map(|row| row[row::BITS] & row::WTXID)
         .collect();
     let of = match entry.key.kind {
-        oracle::calls::Kind::Txid => "both kinds of a hash ready, the Txid selected",
-        oracle::calls::Kind::Wtxid => "both kinds of a hash ready, the Wtxid selected",
+        Kind::Txid => "both kinds of a hash ready, the Txid selected",
+        Kind::Wtxid => "both kinds of a hash ready, the Wtxid selected",
     };
     (ready.len() == 2).then_some(of)
 }

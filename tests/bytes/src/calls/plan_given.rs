@@ -88,6 +88,7 @@ pub static SPEC: Spec = Spec {
 fn draw(draw: &mut Draw, seen: &Reference) -> Given {
     let now = clock(draw, seen);
     let count = match draw.rng.below(12) {
+        _ if draw.profile.large && draw.rng.one_in(2) => 1_025 + draw.rng.index(5_000),
         0 => 0,
         1 => draw.rng.index(2_000),
         2 => 1_025 + draw.rng.index(400),
