@@ -237,7 +237,7 @@ fn about_cursor(seen: &Reference, reply: &Reply) -> Vec<&'static str> {
             let middle = before > 0 && before < keys.len();
             cases.extend((middle && !stopped).then_some("a ready cursor in the middle, round to it"));
             cases.extend((!middle).then_some("a ready cursor before the first key or after the last"));
-            let there = seen.at(cursor).len() > 0;
+            let there = !seen.at(cursor).is_empty();
             cases.extend((!there).then_some("a ready cursor that is no key"));
         }
     }
