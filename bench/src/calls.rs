@@ -40,7 +40,7 @@ impl Ready {
         time
     }
 
-    fn library(&self, side: Side, answer: &mut [u8], after: &[u8]) -> Duration {
+    fn timed(&self, side: Side, answer: &mut [u8], after: &[u8]) -> Duration {
         let mut store = self.image.clone();
         let start = processor_time();
         for call in &self.prepared {
@@ -58,8 +58,8 @@ fn row(scene: &Scene, runs: usize, answer: &mut [u8]) -> String {
     let mut after = Vec::new();
     for run in 0..1 + runs {
         let rust = ready.rust(&mut after);
-        let checked = ready.library(Side::Checked, answer, &after);
-        let owned = ready.library(Side::Owned, answer, &after);
+        let checked = ready.timed(Side::Checked, answer, &after);
+        let owned = ready.timed(Side::Owned, answer, &after);
         if run > 0 {
             times.iter_mut().zip([rust, checked, owned]).for_each(|(list, one)| list.push(one / calls));
         }
