@@ -1,4 +1,4 @@
-"""facts.py EDIT LOG: where the prover refused an edit. An edit may name the fact that it breaks, `fact: FILE NAME` or `fact: FILE NAME.FIELD`,
+"""facts.py EDIT LOG [COPY]: where the prover refused an edit, in the copy of its crate. An edit may name the fact that it breaks, `fact: FILE NAME` or `fact: FILE NAME.FIELD`,
 or `fact: FUNCTION NEED` if the function has no proof of its own; then an error of the log must be that fact's own, not one that says that something
 else was not admitted.
 facts.py: the same of every edit that rt ci has just tried, by its logs; each of them must name its fact."""
@@ -32,10 +32,10 @@ def before(path, line, column):
     return lines[line - 1][:column - 1] if line <= len(lines) else ""
 
 
-def errors(edit, log):
+def errors(edit, log, copy=None):
     """The names of the declarations with an error of their own, in order, each also with the field that the error stands at."""
     crate, label = parts(edit)
-    error, names = re.compile(ERROR.format(re.escape(label))), []
+    error, names = re.compile(ERROR.format(re.escape(copy or label))), []
     with open(log, encoding="utf-8", errors="replace") as file:
         text = list(file)
     for name, ending, line, column, declaration, rest in (match.groups() for match in map(error.match, text) if match):
@@ -50,9 +50,9 @@ def errors(edit, log):
     return names
 
 
-def judge(edit, log):
+def judge(edit, log, copy=None):
     """Whether an edit was refused at its fact, and what to say of it."""
-    fact, met = fact_of(edit), errors(edit, log)
+    fact, met = fact_of(edit), errors(edit, log, copy)
     first = met[0] if met else "no place"
     if fact and fact not in met:
         return False, f"refused, but not at {fact}; first at {first}"
