@@ -3,7 +3,8 @@
 use Prim.Native.Nat.{ℕ, zero, suc, _+_, _*_, _/_, _%_, _^_, _≤_, _<_}
 use mathlib.Core.Path.{_≡_, refl, sym, ap, _∙_}
 use mathlib.Core.List.{List, [], _∷_, _++_}
-use native.Mathlib.Nat.{suc-add, mul-le-mul-left, pow-zero, pow-suc, pow-succ', one-mul, mul-add, mul-assoc, add-assoc, add-zero, add-suc, zero-add, mod-add-div, mod-eq-of-lt, div-eq-of-lt, add-mul-mod-self-left, add-mul-div-left, div-lt-iff-lt-mul}
+use native.Mathlib.Nat.{suc-add, mul-le-mul-left, pow-zero, pow-suc, pow-succ', one-mul, mul-add, mul-assoc, add-assoc, add-zero, add-suc}
+use native.Mathlib.Nat.{zero-add, mod-add-div, mod-eq-of-lt, div-eq-of-lt, add-mul-mod-self-left, add-mul-div-left, div-lt-iff-lt-mul}
 use native.Mathlib.Omega.{arith}
 use lib.ListN.{length, take, drop, getD}
 use lib.Seq.{drop-cons}

@@ -65,7 +65,18 @@ module _ (d : ℕ) (w : List ℕ) where
         let m : k < length w = omega arith in
         let e : k + 1 + d ≡ suc (k + d) = omega arith in
         let q : a + d ≤ length (take (k + d) w) = simp length-take (omega arith) in
-        rw (← (append-assoc (take a w) (drop (a + d) (take (k + d) w)) (drop k w)), drop-cons w k 0 m, set-at (take a w ++ drop (a + d) (take (k + d) w)) (getD w k 0) (drop (suc k) w) (getD w (k + d) 0) k down-front, e, take-suc w (k + d) 0 l, drop-append-le (a + d) (take (k + d) w) (getD w (k + d) 0 ∷ []) q, add-one, append-assoc, append-assoc)
+        rw (
+          ← (append-assoc (take a w) (drop (a + d) (take (k + d) w)) (drop k w)),
+          drop-cons w k 0 m,
+          set-at (take a w ++ drop (a + d) (take (k + d) w)) (getD w k 0) (drop (suc k) w) (getD w
+              (k + d) 0) k down-front,
+          e,
+          take-suc w (k + d) 0 l,
+          drop-append-le (a + d) (take (k + d) w) (getD w (k + d) 0 ∷ []) q,
+          add-one,
+          append-assoc,
+          append-assoc,
+        )
 
     pub down-turn : {s s′ : List ℕ} {v : ℕ} → s ≡ down d w a k → v ≡ getD s (k + d) 0 → s′ ≡ set s k v → s′ ≡ down d w a (k + 1)
     down-turn e f g = rw (g, f, e, down-read) down-more

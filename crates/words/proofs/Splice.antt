@@ -39,7 +39,16 @@ splice-more s a b x y e h =
     let t : length (take a s ++ x) ≡ b = simp (length-append, length-take) (omega arith) in
     let r : List ℕ = drop (a + length x) s in
     let g : a + length (x ++ y) ≡ a + length x + length y = simp length-append (omega arith) in
-    rw (← (append-assoc (take a s) x r), take-at (take a s ++ x) r b t, ← (drop-drop (length y) b ((take a s ++ x) ++ r)), drop-at (take a s ++ x) r b t, drop-drop (length y) (a + length x) s, g, append-assoc (take a s) x (y ++ drop (a + length x + length y) s), append-assoc x y (drop (a + length x + length y) s))
+    rw (
+      ← (append-assoc (take a s) x r),
+      take-at (take a s ++ x) r b t,
+      ← (drop-drop (length y) b ((take a s ++ x) ++ r)),
+      drop-at (take a s ++ x) r b t,
+      drop-drop (length y) (a + length x) s,
+      g,
+      append-assoc (take a s) x (y ++ drop (a + length x + length y) s),
+      append-assoc x y (drop (a + length x + length y) s),
+    )
 
 -- a list written over whole
 pub splice-whole : (s x : List ℕ) → length s ≡ length x → splice s 0 x ≡ x

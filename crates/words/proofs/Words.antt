@@ -23,14 +23,26 @@ unfolding words
 word-at s i h = recs-at 8 (number 256) (length s / 8) s i 0 (omega arith)
 
 eight-digits : (s : List ℕ) (a : ℕ) → a + 8 ≤ length s
-    → number 256 (take 8 (drop a s)) ≡ getD s a 0 + 256 * (getD s (a + 1) 0 + 256 * (getD s (a + 2) 0 + 256 * (getD s (a + 3) 0 + 256 * (getD s (a + 4) 0 + 256 * (getD s (a + 5) 0 + 256 * (getD s (a + 6) 0 + 256 * getD s (a + 7) 0))))))
+    → number 256 (take 8 (drop a s)) ≡ getD s a 0 + 256 *
+    (getD s (a + 1) 0 + 256 * (getD s (a + 2) 0 + 256 * (getD s (a + 3) 0 + 256 * (getD s (a + 4) 0 + 256 * (getD s (a + 5) 0 + 256 * (getD s (a + 6) 0 + 256 * getD s (a + 7) 0))))))
 unfolding number
 eight-digits s a h =
-    omega (arith, rw add-zero at (number-step 256 s a 0 7 (omega arith)), number-step 256 s a 1 6 (omega arith), number-step 256 s a 2 5 (omega arith), number-step 256 s a 3 4 (omega arith), number-step 256 s a 4 3 (omega arith), number-step 256 s a 5 2 (omega arith), number-step 256 s a 6 1 (omega arith), number-step 256 s a 7 0 (omega arith))
+    omega (
+      arith,
+      rw add-zero at (number-step 256 s a 0 7 (omega arith)),
+      number-step 256 s a 1 6 (omega arith),
+      number-step 256 s a 2 5 (omega arith),
+      number-step 256 s a 3 4 (omega arith),
+      number-step 256 s a 4 3 (omega arith),
+      number-step 256 s a 5 2 (omega arith),
+      number-step 256 s a 6 1 (omega arith),
+      number-step 256 s a 7 0 (omega arith),
+    )
 
 -- as `get` computes it
 pub word-sum : (s : List ℕ) (i : ℕ) → 8 * i + 8 ≤ length s
-    → getD (words s) i 0 ≡ getD s (i * 8) 0 + 256 * (getD s (i * 8 + 1) 0 + 256 * (getD s (i * 8 + 2) 0 + 256 * (getD s (i * 8 + 3) 0 + 256 * (getD s (i * 8 + 4) 0 + 256 * (getD s (i * 8 + 5) 0 + 256 * (getD s (i * 8 + 6) 0 + 256 * getD s (i * 8 + 7) 0))))))
+    → getD (words s) i 0 ≡ getD s (i * 8) 0 + 256 * (getD s (i * 8 + 1) 0 + 256 *
+    (getD s (i * 8 + 2) 0 + 256 * (getD s (i * 8 + 3) 0 + 256 * (getD s (i * 8 + 4) 0 + 256 * (getD s (i * 8 + 5) 0 + 256 * (getD s (i * 8 + 6) 0 + 256 * getD s (i * 8 + 7) 0))))))
 word-sum s i h =
     let e : 8 * i ≡ i * 8 = omega arith in
     rw e at (word-at s i h) ∙ eight-digits s (i * 8) (omega arith)
@@ -61,7 +73,9 @@ put-made s s′ i v h l e =
     }
 
 pub put-eight : (s : List ℕ) (i v : ℕ) → 8 * i + 8 ≤ length s → v < 2 ^ 64
-    → Put s (set (set (set (set (set (set (set (set s (i * 8) (v % 256)) (i * 8 + 1) (v / 256 % 256)) (i * 8 + 2) (v / 256 / 256 % 256)) (i * 8 + 3) (v / 256 / 256 / 256 % 256)) (i * 8 + 4) (v / 256 / 256 / 256 / 256 % 256)) (i * 8 + 5) (v / 256 / 256 / 256 / 256 / 256 % 256)) (i * 8 + 6) (v / 256 / 256 / 256 / 256 / 256 / 256 % 256)) (i * 8 + 7) (v / 256 / 256 / 256 / 256 / 256 / 256 / 256 % 256)) i v
+    → Put s (set (set (set (set (set (set (set (set s (i * 8) (v % 256)) (i * 8 + 1) (v / 256 % 256)) (i * 8 + 2) (v / 256 / 256 % 256)) (i * 8 + 3) (v / 256 / 256 / 256 % 256))
+    (i * 8 + 4) (v / 256 / 256 / 256 / 256 % 256)) (i * 8 + 5) (v / 256 / 256 / 256 / 256 / 256 % 256)) (i * 8 + 6) (v / 256 / 256 / 256 / 256 / 256 / 256 % 256)) (i * 8 + 7)
+    (v / 256 / 256 / 256 / 256 / 256 / 256 / 256 % 256)) i v
 unfolding digits
 put-eight s i v h l = put-made s _ i v h l (stores-eight s (i * 8) _ _ _ _ _ _ _ _ (omega arith))
 

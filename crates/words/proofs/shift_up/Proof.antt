@@ -38,8 +38,12 @@ loop-again c =
     let l = c .before .before .before .before .before .before .before in
     let a = c .before .before .before .before .before .before .before .before .before .args in
     let w = words (a .s .now) in
-    let h : a .m + a .d ≤ length w = omega (arith, length-words (a .s .now)) in
-    (search needs, search needs, up-turn (a .d) w (l .loop .k) (a .m) (omega arith) (omega arith) h (omega arith) (l .loop .inv .2) (c .before .before .before .before .get .ensures) (c .before .before .put .ensures .word))
+    let h : a .m + a .d ≤ length w = omega (arith, length-words (a .s .now)) in (
+      search needs,
+      search needs,
+      up-turn (a .d) w (l .loop .k) (a .m) (omega arith) (omega arith) h (omega arith) (l .loop .inv .2) (c .before .before .before .before .get .ensures)
+          (c .before .before .put .ensures .word),
+    )
 
 same-length : tie.Need-same-length Inv-loop μ-loop
 same-length c = search needs
