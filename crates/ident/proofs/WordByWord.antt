@@ -63,7 +63,8 @@ module _ (s : List ℕ) (a : ℕ) (l : a + hashBytes ≤ length s) where
       let e₃ = put-next part (w ∷ x ∷ []) y (omega arith) e₂ q₂ in
       let e₄ = put-next part (w ∷ x ∷ y ∷ []) z (omega arith) e₃ q₃ in
       let d : digits 256 hashBytes (hashNum h) ≡ bytesOf (h .words) = rw (f .four) at (digits-words (h .words) (λ i _. f .fits i)) in
-      let b : p₄ ≡ digits 256 hashBytes (hashNum h) = e₄ ∙ splice-whole part (bytesOf (w ∷ x ∷ y ∷ z ∷ [])) (g ∙ sym (length-bytes (w ∷ x ∷ y ∷ z ∷ []))) ∙ ap bytesOf (sym (four-list (h .words) (f .four))) ∙ sym d in
+      let b : p₄ ≡ digits 256 hashBytes (hashNum h) = e₄ ∙ splice-whole part (bytesOf (w ∷ x ∷ y ∷ z ∷ [])) (g ∙ sym (length-bytes (w ∷ x ∷ y ∷ z ∷ []))) ∙
+      ap bytesOf (sym (four-list (h .words) (f .four))) ∙ sym d in
       let k : length (digits 256 hashBytes (hashNum h)) ≡ a + hashBytes - a = omega (arith, length-digits 256 hashBytes (hashNum h)) in
       rw b (splice-back s a (a + hashBytes) (digits 256 hashBytes (hashNum h)) (omega arith) k)
 
@@ -100,4 +101,9 @@ pub by-words : (a b : Hash) → Four a → Four b → thenOf (thenOf (thenOf (at
 by-words a b f g =
     let s : List ℕ = a .words in
     let t : List ℕ = b .words in
-    cc (by-four (2 ^ 64) (getD s 0 0) (getD s 1 0) (getD s 2 0) (getD s 3 0) (getD t 0 0) (getD t 1 0) (getD t 2 0) (getD t 3 0) (f .fits 0) (f .fits 1) (f .fits 2) (g .fits 0) (g .fits 1) (g .fits 2), hash-words a f, hash-words b g)
+    cc (
+      by-four (2 ^ 64) (getD s 0 0) (getD s 1 0) (getD s 2 0) (getD s 3 0) (getD t 0 0) (getD t 1 0) (getD t 2 0) (getD t 3 0) (f .fits 0) (f .fits 1) (f .fits 2) (g .fits 0) (g .fits 1)
+          (g .fits 2),
+      hash-words a f,
+      hash-words b g,
+    )

@@ -62,7 +62,8 @@ returns c =
     let start : tie.Start = c .before .before .before .before .before .before .before .before .before in
     let fa = hash-four (start .args .a) (start .good .0) in
     let fb = hash-four (start .args .b) (start .good .1 .0) in
-    chain _ _ _ _ _ _ _ _ _ _ _ (c .before .before .before .before .before .before .cmp-word .ensures) (c .before .before .before .before .before .cmp-word2 .ensures) (c .before .before .before .before .then .ensures)
+    chain _ _ _ _ _ _ _ _ _ _ _ (c .before .before .before .before .before .before .cmp-word .ensures) (c .before .before .before .before .before .cmp-word2 .ensures)
+    (c .before .before .before .before .then .ensures)
     (c .before .before .before .cmp-word3 .ensures) (c .before .before .then2 .ensures) (c .before .cmp-word4 .ensures) (c .then3 .ensures) ∙
     by-words (start .args .a) (start .args .b) fa fb
 

@@ -34,7 +34,8 @@ returns c =
     let start : tie.Start = c .before .before .before .before .before in
     let a = start .args .a in
     let b = start .args .b in
-    chain _ _ _ _ _ _ _ _ (c .before .before .before .before .cmp-hash .ensures) (c .before .before .before .kind-rank .ensures) (c .before .before .kind-rank2 .ensures) (c .before .cmp-word .ensures) (c .then .ensures) ∙
+    chain _ _ _ _ _ _ _ _ (c .before .before .before .before .cmp-hash .ensures) (c .before .before .before .kind-rank .ensures) (c .before .before .kind-rank2 .ensures)
+    (c .before .cmp-word .ensures) (c .then .ensures) ∙
     by-place (keyNum a) (keyNum b) (hash-below (a .hash) (key-four a (start .good .0))) (hash-below (b .hash) (key-four b (start .good .1 .0)))
 
 pub cmp-key-spec : {M : Type 1} → statement M

@@ -1,4 +1,5 @@
--- `ident::key_of` meets its contract: a walk of its MIR, by hand, since its result is an enum that holds a struct that holds an array. A callee's answer, an enum, is matched on: the walk goes by cases on it.
+-- `ident::key_of` meets its contract: a walk of its MIR, by hand, since its result is an enum that holds a struct
+-- that holds an array. A callee's answer, an enum, is matched on: the walk goes by cases on it.
 -- Assumes nothing.
 use mathlib.Core.Path.{_≡_, refl, ap, subst}
 use Prim.Native.Nat.{ℕ}
@@ -18,7 +19,8 @@ use contract.Monad.{Fun, fact}
 use contract.Running.{givenOf, tables, tablesOf}
 use types.Kit as Kit
 use types.Kit.{Given, Item as Row, ‵, raw, _⊛_, some, later, runs, anyQ, atRet, Sq, _$_, _∵_, !, qed, by, move, keep, drop, use0, use1, split, join, pick, rewrite, fjoin, suffices, frame, await, done}
-use types.Run.{look, init, forget, stop, fld, from, load, lit, of-opd, and-then, no-more, assigns, assigns-last, land, first, switches-on, returns, returns-within, enter, exec, alloc1, alloc0, params1, pass1, pass0, free1, free0}
+use types.Run.{look, init, forget, stop, fld, from, load, lit, of-opd, and-then, no-more, assigns, assigns-last, land, first}
+use types.Run.{switches-on, returns, returns-within, enter, exec, alloc1, alloc0, params1, pass1, pass0, free1, free0}
 use types.Part.{whole, sub, look-in, agg}
 use types.Match.{vrt, look-tag, in-variant}
 use sound.WpLaws.{FmC, fmOf, WpFn-mono}
@@ -116,7 +118,8 @@ module _ {M : Type 1} (𝓤 : URA M) (H : Heap 𝓤) (A : Atoms 𝓤) (W : Given
   to-callee = ((tt, tt, tt, (i .kind, tt), (ik-val ∷ [], tt)), tt)
 
   goes : ent 𝓤 (emp 𝓤) (Callee 𝓤 H A mem run .pre to-callee)
-  goes = qed W [] ∵ nothing ! $ nothing ! $ owned ! Ik.the-row (IsOf Ik.the-row) (EL.makes Ik.the-type Ik′.the-plain 𝓤 H A) (i .kind) (ik-val ∷ []) g-ik $ fjoin ! $ nothing ! $ join ! $ frame ! $ done !
+  goes = qed W [] ∵ nothing ! $ nothing ! $ owned ! Ik.the-row (IsOf Ik.the-row) (EL.makes Ik.the-type Ik′.the-plain 𝓤 H A) (i .kind) (ik-val ∷ []) g-ik $ fjoin ! $
+      nothing ! $ join ! $ frame ! $ done !
 
   said : (r : MaybeKind) → ent 𝓤 (ensured 𝓤 H A callee.ended (callee.clauses 𝓤 H A mem run) tt (i .kind, tt) tt r) (fact 𝓤 (maybeKind r ≡ kindOf (i .kind)))
   said r = exE 𝓤 _ (λ ws. snd∗ 𝓤 (sem 𝓤 H A (lasts callee.ended tt (i .kind, tt) ws)) (fact 𝓤 (maybeKind r ≡ kindOf (i .kind))))
@@ -124,7 +127,8 @@ module _ {M : Type 1} (𝓤 : URA M) (H : Heap 𝓤) (A : Atoms 𝓤) (W : Given
   exits : (m : MaybeKey) → IsOf R.the-row m (key-val m ∷ []) → maybeKeyNum m ≡ keyOf (itemNum i) → ent 𝓤 (emp 𝓤) (Post (key-val m))
   exits m g e =
       qed W [] ∵ suffices ! _ (ends-at 𝓤 H A self.ended stayed (self.clauses 𝓤 H A mem run) W ((tt, tt, tt, (i, tt), (item-val i ∷ [], tt)), tt) (key-val m) m (tt, tt) (tt, tt)) $ says ! e $
-      owned ! R.the-row (IsOf R.the-row) (EL.makes R.the-type R′.the-plain 𝓤 H A) m _ g $ nothing ! $ owned ! I.the-row (IsOf I.the-row) (LL.makes I.the-type I′.the-plain 𝓤 H A) i (item-val i ∷ []) gi $ fjoin ! $ nothing ! $ done !
+      owned ! R.the-row (IsOf R.the-row) (EL.makes R.the-type R′.the-plain 𝓤 H A) m _ g $ nothing ! $ owned ! I.the-row (IsOf I.the-row) (LL.makes I.the-type I′.the-plain 𝓤 H A) i
+      (item-val i ∷ []) gi $ fjoin ! $ nothing ! $ done !
 
   module _ (C : Calls 𝓤 H) (Λ : Loops 𝓤 H) where
     module _ (l₀ l₁ l₂ l₃ l₄ l₅ l₆ : ℕ) where
@@ -137,7 +141,8 @@ module _ {M : Type 1} (𝓤 : URA M) (H : Heap 𝓤) (A : Atoms 𝓤) (W : Given
 
       -- what there is before the match, where the callee answered r
       abbrev Before : MaybeKind → List (Row 𝓤)
-      Before r = ‵ (froom Ke′.mir l₆ 0) ∷ ‵ (fdies Ke′.mir l₆) ∷ ‵ (fat fullShare Mk′.mir l₅ 0 (kind-val r)) ∷ ‵ (fdies Mk′.mir l₅) ∷ ‵ (froom Ha′.mir l₄ 0) ∷ ‵ (fdies Ha′.mir l₄) ∷ ‵ (froom Kd′.mir l₃ 0) ∷ ‵ (fdies Kd′.mir l₃)
+      Before r = ‵ (froom Ke′.mir l₆ 0) ∷ ‵ (fdies Ke′.mir l₆) ∷ ‵ (fat fullShare Mk′.mir l₅ 0 (kind-val r)) ∷ ‵ (fdies Mk′.mir l₅) ∷ ‵ (froom Ha′.mir l₄ 0) ∷ ‵ (fdies Ha′.mir l₄) ∷
+          ‵ (froom Kd′.mir l₃ 0) ∷ ‵ (fdies Kd′.mir l₃)
           ∷ ‵ (fat fullShare Ik′.mir l₂ 0 ik-val) ∷ ‵ (fdies Ik′.mir l₂) ∷ ‵ (fat fullShare I′.mir l₁ 0 (item-val i)) ∷ ‵ (fdies I′.mir l₁) ∷ ‵ (froom R′.mir l₀ 0) ∷ ‵ (fdies R′.mir l₀) ∷ []
 
       -- the match, by cases on the answer
@@ -146,20 +151,26 @@ module _ {M : Type 1} (𝓤 : URA M) (H : Heap 𝓤) (A : Atoms 𝓤) (W : Given
           first ! $ switches-on ! (load ! (from ! (vrt ! refl (fld ! refl (stop !)))) (look-tag ! 2 (whole !))) $ exec ! C Λ E gives-none Then $
           assigns ! (agg ! (and-then ! (lit ! tt) (no-more !))) (from ! (stop !)) (init ! 12 refl (EL.lawful R.the-type R′.the-laws 𝓤 H A W tt .typed None _ g-none .0)) $
           returns-within ! Post refl (look ! 12 refl) $ forget ! 2 refl $ forget ! 8 refl $ forget ! 10 refl $ forget ! 12 refl $
-          move ! (12 ∷ 13 ∷ []) $ free1 ! $ move ! (10 ∷ 11 ∷ []) $ free1 ! $ move ! (8 ∷ 9 ∷ []) $ free1 ! $ move ! (6 ∷ 7 ∷ []) $ free1 ! $ move ! (4 ∷ 5 ∷ []) $ free1 ! $ move ! (2 ∷ 3 ∷ []) $ free1 ! $ free1 ! $ free0 ! $
+          move ! (12 ∷ 13 ∷ []) $ free1 ! $ move ! (10 ∷ 11 ∷ []) $ free1 ! $ move ! (8 ∷ 9 ∷ []) $ free1 ! $ move ! (6 ∷ 7 ∷ []) $ free1 ! $ move ! (4 ∷ 5 ∷ []) $ free1 ! $ move ! (2 ∷ 3 ∷ []) $
+          free1 ! $ free1 ! $ free0 ! $
           by ! (exits None g-none (ap (λ (o : Option Kind). keyAs o (hashNum (i .hash))) e))
         where
           g-none : IsOf R.the-row None (key-val None ∷ [])
           g-none = EL.owes R.the-type R′.the-laws None tt
       matched (KIs k) g e =
           first ! $ switches-on ! (load ! (from ! (vrt ! refl (fld ! refl (stop !)))) (look-tag ! 2 (whole !))) $ exec ! C Λ E takes Then $
-          assigns-last ! (of-opd ! (load ! (from ! (vrt ! refl (fld ! refl (stop !)))) (look-in ! 2 (in-variant ! 1 0 refl refl (whole !))))) (from ! (stop !)) (init ! 6 refl (EL.lawful Kd.the-type Kd′.the-laws 𝓤 H A W tt .typed k _ g-k .0)) $
+          assigns-last ! (of-opd ! (load ! (from ! (vrt ! refl (fld ! refl (stop !)))) (look-in ! 2 (in-variant ! 1 0 refl refl (whole !))))) (from ! (stop !))
+          (init ! 6 refl (EL.lawful Kd.the-type Kd′.the-laws 𝓤 H A W tt .typed k _ g-k .0)) $
           exec ! C Λ E parts.t-4 (atRet E Post) $
-          assigns ! (of-opd ! (load ! (from ! (fld ! refl (stop !))) (look-in ! 10 (sub ! 1 refl (whole !))))) (from ! (stop !)) (init ! 4 refl (LL.lawful Ha.the-type Ha′.the-laws 𝓤 H A W .typed (i .hash) _ g-hash .0)) $
-          assigns ! (agg ! (and-then ! (load ! (from ! (stop !)) (look ! 6 refl)) (and-then ! (load ! (from ! (stop !)) (look ! 4 refl)) (no-more !)))) (from ! (stop !)) (init ! 0 refl (LL.lawful Ke.the-type Ke′.the-laws 𝓤 H A W .typed (key k) _ (g-key k g-k) .0)) $
-          assigns ! (agg ! (and-then ! (lit ! tt) (and-then ! (load ! (from ! (stop !)) (look ! 0 refl)) (no-more !)))) (from ! (stop !)) (init ! 12 refl (EL.lawful R.the-type R′.the-laws 𝓤 H A W tt .typed (Is (key k)) _ g-is .0)) $
+          assigns ! (of-opd ! (load ! (from ! (fld ! refl (stop !))) (look-in ! 10 (sub ! 1 refl (whole !))))) (from ! (stop !))
+          (init ! 4 refl (LL.lawful Ha.the-type Ha′.the-laws 𝓤 H A W .typed (i .hash) _ g-hash .0)) $
+          assigns ! (agg ! (and-then ! (load ! (from ! (stop !)) (look ! 6 refl)) (and-then ! (load ! (from ! (stop !)) (look ! 4 refl)) (no-more !)))) (from ! (stop !))
+          (init ! 0 refl (LL.lawful Ke.the-type Ke′.the-laws 𝓤 H A W .typed (key k) _ (g-key k g-k) .0)) $
+          assigns ! (agg ! (and-then ! (lit ! tt) (and-then ! (load ! (from ! (stop !)) (look ! 0 refl)) (no-more !)))) (from ! (stop !))
+          (init ! 12 refl (EL.lawful R.the-type R′.the-laws 𝓤 H A W tt .typed (Is (key k)) _ g-is .0)) $
           returns ! (look ! 12 refl) $ forget ! 0 refl $ forget ! 2 refl $ forget ! 4 refl $ forget ! 6 refl $ forget ! 8 refl $ forget ! 10 refl $ forget ! 12 refl $
-          move ! (12 ∷ 13 ∷ []) $ free1 ! $ move ! (10 ∷ 11 ∷ []) $ free1 ! $ move ! (8 ∷ 9 ∷ []) $ free1 ! $ move ! (6 ∷ 7 ∷ []) $ free1 ! $ move ! (4 ∷ 5 ∷ []) $ free1 ! $ move ! (2 ∷ 3 ∷ []) $ free1 ! $ free1 ! $ free0 ! $
+          move ! (12 ∷ 13 ∷ []) $ free1 ! $ move ! (10 ∷ 11 ∷ []) $ free1 ! $ move ! (8 ∷ 9 ∷ []) $ free1 ! $ move ! (6 ∷ 7 ∷ []) $ free1 ! $ move ! (4 ∷ 5 ∷ []) $ free1 ! $ move ! (2 ∷ 3 ∷ []) $
+          free1 ! $ free1 ! $ free0 ! $
           by ! (exits (Is (key k)) g-is (ap (λ (o : Option Kind). keyAs o (hashNum (i .hash))) e))
         where
           g-k : IsOf Kd.the-row k (EL.vals Kd.the-type Kd′.the-laws k)
@@ -168,27 +179,34 @@ module _ {M : Type 1} (𝓤 : URA M) (H : Heap 𝓤) (A : Atoms 𝓤) (W : Given
           g-is : IsOf R.the-row (Is (key k)) (key-val (Is (key k)) ∷ [])
           g-is = EL.owes R.the-type R′.the-laws (Is (key k)) (g-key k g-k, tt)
 
-    walk : FmC 𝓤 H (W .laws) C → Triple 𝓤 (C #ident·kind-of) (Callee 𝓤 H A mem run) → ent 𝓤 (onEntry 𝓤 H A self.signature tt tt (i, tt) (item-val i ∷ [], tt)) (WpFn 𝓤 H C Λ code.function (item-val i ∷ []) Post)
+    walk : FmC 𝓤 H (W .laws) C → Triple 𝓤 (C #ident·kind-of) (Callee 𝓤 H A mem run) → ent 𝓤 (onEntry 𝓤 H A self.signature tt tt (i, tt) (item-val i ∷ [], tt))
+        (WpFn 𝓤 H C Λ code.function (item-val i ∷ []) Post)
     walk fm known =
         qed W (‵ ftrue ∷ ‵ (owns (I.the-row ∷ []) (i, tt) (item-val i ∷ [], tt)) ∷ []) ∵ enter ! C Λ code.function (item-val i ∷ []) _ $
         alloc1 ! (λ l₀. alloc1 ! (λ l₁. alloc1 ! (λ l₂. alloc1 ! (λ l₃. alloc1 ! (λ l₄. alloc1 ! (λ l₅. alloc1 ! (λ l₆. alloc0 ! $ params1 ! $
         pass1 ! (init ! 10 refl (LL.lawful I.the-type I′.the-laws 𝓤 H A W .typed i _ gi .0)) $ pass0 ! $
-        assigns ! (of-opd ! (load ! (from ! (fld ! refl (stop !))) (look-in ! 10 (sub ! 0 refl (whole !))))) (from ! (stop !)) (init ! 8 refl (EL.lawful Ik.the-type Ik′.the-laws 𝓤 H A W tt .typed (i .kind) _ g-ik .0)) $
+        assigns ! (of-opd ! (load ! (from ! (fld ! refl (stop !))) (look-in ! 10 (sub ! 0 refl (whole !))))) (from ! (stop !))
+        (init ! 8 refl (EL.lawful Ik.the-type Ik′.the-laws 𝓤 H A W tt .typed (i .kind) _ g-ik .0)) $
         use0 W (raw (Callee 𝓤 H A mem run .pre to-callee)) goes $
         calls-at ! fm (Callee 𝓤 H A mem run) known to-callee (and-then ! (load ! (from ! (stop !)) (look ! 9 refl)) (no-more !)) (λ u.
-        use1 W (later (some (λ (r : MaybeKind). (‵ ftrue ⊛ ‵ (Mk.the-row .own r (u ∷ []))) ⊛ raw (ensured 𝓤 H A callee.ended (callee.clauses 𝓤 H A mem run) tt (i .kind, tt) tt r)))) (id⊢ 𝓤 _) $ await ! tt $ pick ! (λ r.
+        use1 W (later (some (λ (r : MaybeKind). (‵ ftrue ⊛ ‵ (Mk.the-row .own r (u ∷ []))) ⊛ raw (ensured 𝓤 H A callee.ended (callee.clauses 𝓤 H A mem run) tt (i .kind, tt) tt r)))) (id⊢ 𝓤 _) $
+        await ! tt $ pick ! (λ r.
         split ! $ move ! (1 ∷ []) $ use1 W (raw (fact 𝓤 (maybeKind r ≡ kindOf (i .kind)))) (said r) $ heard ! (maybeKind r ≡ kindOf (i .kind)) (λ e. split ! $ drop ! $
         peeks ! Mk.the-row (IsOf Mk.the-row) (shows 𝓤 H A Mk.the-row) r (u ∷ []) (λ is. drop ! $
         land ! (from ! (stop !)) (init ! 2 refl (EL.lawful Mk.the-type Mk′.the-laws 𝓤 H A W tt .typed r _ is .0)) $
         rewrite ! 2 (λ (z : Val). ‵ (fat fullShare Mk′.mir l₅ 0 z)) (ap only (EL.tells Mk.the-type Mk′.the-laws r (u ∷ []) is)) refl $
-        keep ! (0 ∷ 1 ∷ 2 ∷ 3 ∷ 4 ∷ 5 ∷ 6 ∷ 7 ∷ 8 ∷ 9 ∷ 10 ∷ 11 ∷ 12 ∷ 13 ∷ []) $ matched l₀ l₁ l₂ l₃ l₄ l₅ l₆ r (subst (λ (us : List Val). IsOf Mk.the-row r us) (EL.tells Mk.the-type Mk′.the-laws r (u ∷ []) is) is) e)))))))))))
+        keep ! (0 ∷ 1 ∷ 2 ∷ 3 ∷ 4 ∷ 5 ∷ 6 ∷ 7 ∷ 8 ∷ 9 ∷ 10 ∷ 11 ∷ 12 ∷ 13 ∷ []) $
+        matched l₀ l₁ l₂ l₃ l₄ l₅ l₆ r (subst (λ (us : List Val). IsOf Mk.the-row r us) (EL.tells Mk.the-type Mk′.the-laws r (u ∷ []) is) is) e)))))))))))
 
 module _ {M : Type 1} (𝓤 : URA M) (H : Heap 𝓤) (A : Atoms 𝓤) (W : Given 𝓤 H A) (mem : Memory → SProp 𝓤) (run : Routine → Fun 𝓤) where
-  self-walks : (C : Calls 𝓤 H) (Λ : Loops 𝓤 H) → FmC 𝓤 H (W .laws) C → Triple 𝓤 (C #ident·kind-of) (Callee 𝓤 H A mem run) → Walks 𝓤 H A self.ended stayed (WpFn 𝓤 H C Λ code.function) (self.clauses 𝓤 H A mem run)
-  self-walks C Λ fm known = walked 𝓤 H A self.ended stayed (self.clauses 𝓤 H A mem run) (WpFn 𝓤 H C Λ code.function) (λ κs. (LL.vals I.the-type I′.the-laws, tt)) (λ κs. (LL.tells I.the-type I′.the-laws, tt))
+  self-walks : (C : Calls 𝓤 H) (Λ : Loops 𝓤 H) → FmC 𝓤 H (W .laws) C → Triple 𝓤 (C #ident·kind-of) (Callee 𝓤 H A mem run)
+      → Walks 𝓤 H A self.ended stayed (WpFn 𝓤 H C Λ code.function) (self.clauses 𝓤 H A mem run)
+  self-walks C Λ fm known = walked 𝓤 H A self.ended stayed (self.clauses 𝓤 H A mem run) (WpFn 𝓤 H C Λ code.function) (λ κs. (LL.vals I.the-type I′.the-laws, tt))
+      (λ κs. (LL.tells I.the-type I′.the-laws, tt))
       (λ κs qs bounds a g are. via 𝓤 _ (fst∗ 𝓤 _ (emp 𝓤)) (walk 𝓤 H A W mem run (a .0) (are .0) C Λ fm known))
 
-self-meets : {M : Type 1} (𝓤 : URA M) (H : Heap 𝓤) (A : Atoms 𝓤) (W : Given 𝓤 H A) (mem : Memory → SProp 𝓤) (run : Routine → Fun 𝓤) (𝓣 : Tables 𝓤 H) → Triple 𝓤 (𝓣 .C #ident·kind-of) (Callee 𝓤 H A mem run)
+self-meets : {M : Type 1} (𝓤 : URA M) (H : Heap 𝓤) (A : Atoms 𝓤) (W : Given 𝓤 H A) (mem : Memory → SProp 𝓤) (run : Routine → Fun 𝓤) (𝓣 : Tables 𝓤 H)
+    → Triple 𝓤 (𝓣 .C #ident·kind-of) (Callee 𝓤 H A mem run)
     → Meets 𝓤 H A self.signature (WpFn 𝓤 H (𝓣 .C) (𝓣 .Λ) code.function) (self.spec 𝓤 H A mem run)
 self-meets 𝓤 H A W mem run 𝓣 known =
     walk-meets 𝓤 H A self.ended stayed W (goes-none 𝓤 H A W 0 (λ _. I.the-row) yes (λ κs x f. refl), tt) (self.clauses 𝓤 H A mem run)
