@@ -31,7 +31,18 @@ shut-by w d a b h l p q =
     let f : List ℕ = take a w ++ drop (a + d) (take (e + d) w) in
     let t : length f ≡ e = simp (length-append, length-take, length-drop) (omega arith) in
     let lz : length (replicate {A = ℕ} d 0) ≡ d = length-replicate {A = ℕ} d 0 in
-    rw (q, p, lz, ← (append-assoc (take a w) (drop (a + d) (take (e + d) w)) (drop e w)), take-at f (drop e w) e t, ← (drop-drop d e (f ++ drop e w)), drop-at f (drop e w) e t, drop-drop d e w, append-assoc, g)
+    rw (
+      q,
+      p,
+      lz,
+      ← (append-assoc (take a w) (drop (a + d) (take (e + d) w)) (drop e w)),
+      take-at f (drop e w) e t,
+      ← (drop-drop d e (f ++ drop e w)),
+      drop-at f (drop e w) e t,
+      drop-drop d e w,
+      append-assoc,
+      g,
+    )
 
 -- ---- at the seams of an append
 
@@ -45,7 +56,8 @@ mid-drop p m r = rw (drop-append-add p (m ++ r) (length m), drop-at m r (length 
 pub opened-at : (p m z r x : List ℕ) → length z ≡ length x → opened (length p) (length p + length m) x (p ++ (m ++ (z ++ r))) ≡ p ++ (x ++ (m ++ r))
 unfolding opened
 opened-at p m z r x e =
-    let d : drop (length p + length m + length x) (p ++ (m ++ (z ++ r))) ≡ r = rw (← e, ← (drop-drop (length z) (length p + length m) (p ++ (m ++ (z ++ r)))), mid-drop p m (z ++ r)) (drop-at z r (length z) refl) in
+    let d : drop (length p + length m + length x) (p ++ (m ++ (z ++ r))) ≡ r = rw (← e, ← (drop-drop (length z) (length p + length m) (p ++ (m ++ (z ++ r)))), mid-drop p m (z ++ r))
+    (drop-at z r (length z) refl) in
     rw (mid-take p m (z ++ r), d, take-at p (m ++ (z ++ r)) (length p) refl)
 
 pub shut-at : (p x m r : List ℕ) (d : ℕ) → length x ≡ d → shut d (length p) (length p + (length x + length m)) (p ++ (x ++ (m ++ r))) ≡ p ++ (m ++ (replicate d 0 ++ r))
@@ -53,7 +65,8 @@ unfolding shut
 shut-at p x m r d e =
     let l : length (x ++ m) ≡ length x + length m = length-append x m in
     let a : p ++ (x ++ (m ++ r)) ≡ p ++ ((x ++ m) ++ r) = rw append-assoc in
-    let t : take (length p + (length x + length m)) (p ++ (x ++ (m ++ r))) ≡ p ++ (x ++ m) = rw (a, ← l, take-append-add p ((x ++ m) ++ r) (length (x ++ m)), take-at (x ++ m) r (length (x ++ m)) refl) in
+    let t : take (length p + (length x + length m)) (p ++ (x ++ (m ++ r))) ≡ p ++ (x ++ m) =
+    rw (a, ← l, take-append-add p ((x ++ m) ++ r) (length (x ++ m)), take-at (x ++ m) r (length (x ++ m)) refl) in
     let b : drop (length p + (length x + length m)) (p ++ (x ++ (m ++ r))) ≡ r = rw (a, ← l) (mid-drop p (x ++ m) r) in
     rw (t, b, ← e, drop-append-add p (x ++ m) (length x), drop-at x m (length x) refl, take-at p (x ++ (m ++ r)) (length p) refl)
 

@@ -106,7 +106,8 @@ module _ {a b : Quad} (p : Small a) (q : Small b) where
   pub by-w3 : (a .w3 ≡ b .w3 → ⊥) → ltb (a .w3) (b .w3) ≡ ltb (quadNumber a) (quadNumber b)
   unfolding quadNumber number
   by-w3 n =
-      differ-above (a .w0) (b .w0) (p .w0) (q .w0) (differ-above (a .w1) (b .w1) (p .w1) (q .w1) (differ-above (a .w2) (b .w2) (p .w2) (q .w2) (differ-at (a .w3) (b .w3) {h = 0} {h′ = 0} refl n))) .order
+      differ-above (a .w0) (b .w0) (p .w0) (q .w0)
+      (differ-above (a .w1) (b .w1) (p .w1) (q .w1) (differ-above (a .w2) (b .w2) (p .w2) (q .w2) (differ-at (a .w3) (b .w3) {h = 0} {h′ = 0} refl n))) .order
 
   module _ (e₃ : a .w3 ≡ b .w3) where
     pub by-w2 : (a .w2 ≡ b .w2 → ⊥) → ltb (a .w2) (b .w2) ≡ ltb (quadNumber a) (quadNumber b)

@@ -26,7 +26,8 @@ unfolding padded
 padded-fit n w h =
     let l : length (w ++ replicate (n - length w) 0) ≡ n = simp (length-append, length-replicate) (omega arith) in
     let z : replicate {A = ℕ} n 0 ≡ replicate (n - length w) 0 ++ replicate (n - (n - length w)) 0 = zeros n (n - length w) (omega arith) in
-    let a : w ++ replicate n 0 ≡ (w ++ replicate (n - length w) 0) ++ replicate (n - (n - length w)) 0 = ap (λ (t : List ℕ). w ++ t) z ∙ sym (append-assoc w (replicate (n - length w) 0) (replicate (n - (n - length w)) 0)) in
+    let a : w ++ replicate n 0 ≡ (w ++ replicate (n - length w) 0) ++ replicate (n - (n - length w)) 0 = ap (λ (t : List ℕ). w ++ t) z ∙
+    sym (append-assoc w (replicate (n - length w) 0) (replicate (n - (n - length w)) 0)) in
     rw a (take-at (w ++ replicate (n - length w) 0) (replicate (n - (n - length w)) 0) n l)
 
 module _ (a b x : List ℕ) (n : ℕ) (h : length x + (length a + length b) ≤ n) where

@@ -12,7 +12,8 @@ ghost use lib.Dec.{ltb};
 ghost use Rattle.words.specs.Words.{words, recs, splice, up, down};
 ghost use Rattle.regions.specs.Regions.{shut, Inserted, Removed, Replaced, Truncated, Copied, Changed, Found};
 ghost use Rattle.regions.specs.Order.{Sought, First, one};
-ghost use Rattle.regions.specs.Rows.{rowSize, readyAt, deadlineAt, bitsAt, connSize, quadWords, readQuad, quadNumber, rowWords, readRow, keyNumber, keyOf, rowKey, rowConn, withReady, withDeadline, withBits, connWords, readConn, connKey};
+ghost use Rattle.regions.specs.Rows.{rowSize, readyAt, deadlineAt, bitsAt, connSize, quadWords, readQuad, quadNumber, rowWords, readRow};
+ghost use Rattle.regions.specs.Rows.{keyNumber, keyOf, rowKey, rowConn, withReady, withDeadline, withBits, connWords, readConn, connKey};
 
 pub mod ranges;
 

@@ -46,7 +46,8 @@ returns c =
     let start = c .before .before .before .before .before in
     let e = start .args .a + start .args .d in
     let by = start .args .b - start .args .a in
-    let moved = back-down by (start .args .s .now) (c .before .before .shift-down .last .0) (start .args .a) e (omega arith) (omega arith) (c .before .before .shift-down .kept .0) (c .before .before .shift-down .ensures) in
+    let moved = back-down by (start .args .s .now) (c .before .before .shift-down .last .0) (start .args .a) e (omega arith) (omega arith) (c .before .before .shift-down .kept .0)
+    (c .before .before .shift-down .ensures) in
     copied-by (words (start .args .s .now)) (start .args .a) (start .args .b) (start .args .d) (start .pre .0) (omega (arith, length-words (start .args .s .now), start .pre)) moved
 
 pub copy-down-spec : {M : Type 1} → statement M

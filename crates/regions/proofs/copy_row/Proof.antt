@@ -24,7 +24,8 @@ returns : tie.Need-returns
 unfolding rowWords
 returns c =
     let start = c .before .before .before .before .before in
-    copied rowSize rowWords (λ r. refl) (words (start .args .s .now)) (start .args .to) (start .args .from) (start .pre .0) (omega (arith, length-words (start .args .s .now), start .pre)) (c .before .before .copy-down .ensures)
+    copied rowSize rowWords (λ r. refl) (words (start .args .s .now)) (start .args .to) (start .args .from) (start .pre .0) (omega (arith, length-words (start .args .s .now), start .pre))
+    (c .before .before .copy-down .ensures)
 
 pub copy-row-spec : {M : Type 1} → statement M
 copy-row-spec =

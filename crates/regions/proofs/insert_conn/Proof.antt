@@ -27,7 +27,8 @@ returns : tie.Need-returns
 unfolding connWords
 returns c =
     let start = c .before .before .before .before .before .before .before .before .before in
-    inserted-at connSize connWords (λ r. refl) (words (start .args .s .now)) (start .args .i) (start .args .n) (start .args .c) (start .pre .0) (omega (arith, length-words (start .args .s .now), start .pre)) (c .before .before .before .before .before .before .move-up .ensures) (c .before .before .write-conn .ensures .words-are)
+    inserted-at connSize connWords (λ r. refl) (words (start .args .s .now)) (start .args .i) (start .args .n) (start .args .c) (start .pre .0)
+    (omega (arith, length-words (start .args .s .now), start .pre)) (c .before .before .before .before .before .before .move-up .ensures) (c .before .before .write-conn .ensures .words-are)
 
 pub insert-conn-spec : {M : Type 1} → statement M
 insert-conn-spec =

@@ -50,8 +50,11 @@ returns : tie.Need-returns
 unfolding rowWords
 returns c =
     let start = c .before .before .before .before .before .before .before .before .before in
-    let moved = back-up rowSize (start .args .s .now) (c .before .before .before .before .before .before .rows-up .last .0) (start .args .i * rowSize) (start .args .n * rowSize) (omega (arith, start .pre)) (omega (arith, start .pre)) (c .before .before .before .before .before .before .rows-up .kept .0) (c .before .before .before .before .before .before .rows-up .ensures) in
-    inserted-at rowSize rowWords (λ r. refl) (words (start .args .s .now)) (start .args .i) (start .args .n) (start .args .r) (start .pre .0) (omega (arith, length-words (start .args .s .now), start .pre)) moved (c .before .before .write-row .ensures .words-are)
+    let moved = back-up rowSize (start .args .s .now) (c .before .before .before .before .before .before .rows-up .last .0) (start .args .i * rowSize)
+    (start .args .n * rowSize) (omega (arith, start .pre)) (omega (arith, start .pre)) (c .before .before .before .before .before .before .rows-up .kept .0)
+    (c .before .before .before .before .before .before .rows-up .ensures) in
+    inserted-at rowSize rowWords (λ r. refl) (words (start .args .s .now)) (start .args .i) (start .args .n) (start .args .r) (start .pre .0)
+    (omega (arith, length-words (start .args .s .now), start .pre)) moved (c .before .before .write-row .ensures .words-are)
 
 pub insert-row-spec : {M : Type 1} → statement M
 insert-row-spec =

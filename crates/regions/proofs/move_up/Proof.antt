@@ -33,7 +33,8 @@ same-length c = search needs
 returns : tie.Need-returns
 returns c =
     let start = c .before .before .before .before .before in
-    back-up (start .args .d) (start .args .s .now) (c .before .before .shift-up .last .0) (start .args .a) (start .args .b) (start .pre .0) (start .pre .2) (c .before .before .shift-up .kept .0) (c .before .before .shift-up .ensures)
+    back-up (start .args .d) (start .args .s .now) (c .before .before .shift-up .last .0) (start .args .a) (start .args .b) (start .pre .0) (start .pre .2) (c .before .before .shift-up .kept .0)
+    (c .before .before .shift-up .ensures)
 
 pub move-up-spec : {M : Type 1} → statement M
 move-up-spec =

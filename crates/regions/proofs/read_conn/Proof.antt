@@ -31,7 +31,8 @@ returns : tie.Need-returns
 unfolding connWords readConn
 returns c =
     let start = c .before .before .before .before in
-    found connSize connWords (λ c. refl) (words (start .args .s .now)) (start .args .i) (omega (arith, length-words (start .args .s .now), start .pre)) readConn (λ c. refl) (conn-read (words (start .args .s .now)) (start .args .i) (c .before .before .get .ensures) (c .before .get2 .ensures) (c .get3 .ensures))
+    found connSize connWords (λ c. refl) (words (start .args .s .now)) (start .args .i) (omega (arith, length-words (start .args .s .now), start .pre)) readConn (λ c. refl)
+    (conn-read (words (start .args .s .now)) (start .args .i) (c .before .before .get .ensures) (c .before .get2 .ensures) (c .get3 .ensures))
 
 pub read-conn-spec : {M : Type 1} → statement M
 read-conn-spec =

@@ -49,7 +49,9 @@ returns : tie.Need-returns
 unfolding rowWords readRow
 returns c =
     let start = c .before .before .before .before .before .before .before in
-    found rowSize rowWords (λ r. refl) (words (start .args .s .now)) (start .args .i) (omega (arith, length-words (start .args .s .now), start .pre)) readRow (λ r. refl) (row-read (words (start .args .s .now)) (start .args .i) (c .before .before .before .before .before .read-quad .ensures) (c .before .before .before .before .get .ensures) (c .before .before .before .get2 .ensures) (c .before .before .get3 .ensures) (c .before .get4 .ensures) (c .get5 .ensures))
+    found rowSize rowWords (λ r. refl) (words (start .args .s .now)) (start .args .i) (omega (arith, length-words (start .args .s .now), start .pre)) readRow (λ r. refl)
+    (row-read (words (start .args .s .now)) (start .args .i) (c .before .before .before .before .before .read-quad .ensures) (c .before .before .before .before .get .ensures)
+    (c .before .before .before .get2 .ensures) (c .before .before .get3 .ensures) (c .before .get4 .ensures) (c .get5 .ensures))
 
 pub read-row-spec : {M : Type 1} → statement M
 read-row-spec =

@@ -24,7 +24,8 @@ returns : tie.Need-returns
 unfolding connWords
 returns c =
     let start = c .before .before .before .before .before in
-    removed-at connSize connWords (λ r. refl) (words (start .args .s .now)) (start .args .i) (start .args .n) (start .pre .0) (omega (arith, length-words (start .args .s .now), start .pre)) (c .before .before .take-out .ensures)
+    removed-at connSize connWords (λ r. refl) (words (start .args .s .now)) (start .args .i) (start .args .n) (start .pre .0) (omega (arith, length-words (start .args .s .now), start .pre))
+    (c .before .before .take-out .ensures)
 
 pub remove-conn-spec : {M : Type 1} → statement M
 remove-conn-spec =

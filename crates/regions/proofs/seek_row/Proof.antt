@@ -45,7 +45,8 @@ loop-again : tie.Need-loop-again Inv-loop μ-loop
 loop-again c =
     let start = c .before .before .before .before .before .before in
     let m = c .before .before .before .before .loop .lo + (c .before .before .before .before .loop .hi - c .before .before .before .before .loop .lo) / 2 in
-    let h = rw (c .before .before .key-at .ensures) at (ltb-true (keyNumber (c .before .before .key-at .result)) (keyNumber (start .args .k) + one (start .args .after)) (sym (c .before .falls-short .ensures) ∙ c .if1 .taken)) in
+    let h = rw (c .before .before .key-at .ensures) at (ltb-true (keyNumber (c .before .before .key-at .result)) (keyNumber (start .args .k) + one (start .args .after))
+    (sym (c .before .falls-short .ensures) ∙ c .if1 .taken)) in
     search-up (c .before .before .before .before .loop .inv) m (omega arith) (omega arith) (rw (row-key-at (words (start .args .s .now)) (start .args .n) m (omega arith)) h)
 
 loop-less-2 : tie.Need-loop-less-2 Inv-loop μ-loop
@@ -55,7 +56,8 @@ loop-again-2 : tie.Need-loop-again-2 Inv-loop μ-loop
 loop-again-2 c =
     let start = c .before .before .before .before .before .before in
     let m = c .before .before .before .before .loop .lo + (c .before .before .before .before .loop .hi - c .before .before .before .before .loop .lo) / 2 in
-    let h = rw (c .before .before .key-at .ensures) at (ltb-false (keyNumber (c .before .before .key-at .result)) (keyNumber (start .args .k) + one (start .args .after)) (sym (c .before .falls-short .ensures) ∙ c .if1 .left)) in
+    let h = rw (c .before .before .key-at .ensures) at (ltb-false (keyNumber (c .before .before .key-at .result)) (keyNumber (start .args .k) + one (start .args .after))
+    (sym (c .before .falls-short .ensures) ∙ c .if1 .left)) in
     search-down (c .before .before .before .before .loop .inv) m (omega arith) (omega arith) (rw (row-key-at (words (start .args .s .now)) (start .args .n) m (omega arith)) h)
 
 returns : tie.Need-returns Inv-loop μ-loop

@@ -24,7 +24,8 @@ returns : tie.Need-returns
 unfolding rowWords splice
 returns c =
     let start = c .before .before .before .before .before in
-    changed-one rowSize rowWords (λ r. refl) (words (start .args .s .now)) (start .args .i) (omega (arith, length-words (start .args .s .now), start .pre)) bitsAt (start .args .v) (withBits (start .args .v)) (omega arith) (λ r. refl) (c .before .before .put .ensures .word)
+    changed-one rowSize rowWords (λ r. refl) (words (start .args .s .now)) (start .args .i) (omega (arith, length-words (start .args .s .now), start .pre)) bitsAt (start .args .v)
+    (withBits (start .args .v)) (omega arith) (λ r. refl) (c .before .before .put .ensures .word)
 
 pub set-bits-spec : {M : Type 1} → statement M
 set-bits-spec = tie.close (tie.spec mul-put add-put put-requires same-length returns)

@@ -46,7 +46,8 @@ returns c =
     let start = c .before .before .before .before .before .before .before .before .before in
     let w = words (start .args .s .now) in
     let e = start .args .b - start .args .d in
-    let moved = back-down (start .args .d) (start .args .s .now) (c .before .before .before .before .before .before .shift-down .last .0) (start .args .a) e (omega (arith, start .pre)) (omega (arith, start .pre)) (c .before .before .before .before .before .before .shift-down .kept .0) (c .before .before .before .before .before .before .shift-down .ensures) in
+    let moved = back-down (start .args .d) (start .args .s .now) (c .before .before .before .before .before .before .shift-down .last .0) (start .args .a) e (omega (arith, start .pre))
+    (omega (arith, start .pre)) (c .before .before .before .before .before .before .shift-down .kept .0) (c .before .before .before .before .before .before .shift-down .ensures) in
     shut-by w (start .args .d) (start .args .a) (start .args .b) (start .pre .0) (omega (arith, length-words (start .args .s .now), start .pre)) moved (c .before .before .clear .ensures)
 
 pub take-out-spec : {M : Type 1} → statement M

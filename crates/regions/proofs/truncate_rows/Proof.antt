@@ -27,7 +27,8 @@ returns : tie.Need-returns
 unfolding rowWords
 returns c =
     let start = c .before .before .before .before .before in
-    truncated rowSize rowWords (λ r. refl) (words (start .args .s .now)) (start .args .m) (start .args .n) (start .pre .0) (omega (arith, length-words (start .args .s .now), start .pre)) (c .before .before .clear .ensures)
+    truncated rowSize rowWords (λ r. refl) (words (start .args .s .now)) (start .args .m) (start .args .n) (start .pre .0) (omega (arith, length-words (start .args .s .now), start .pre))
+    (c .before .before .clear .ensures)
 
 pub truncate-rows-spec : {M : Type 1} → statement M
 truncate-rows-spec =

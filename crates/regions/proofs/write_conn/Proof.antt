@@ -34,7 +34,10 @@ returns : tie.Need-returns
 unfolding connWords
 returns c =
     let start = c .before .before .before .before .before .before .before .before .before .before .before .before .before in
-    replaced connSize connWords (λ c. refl) (words (start .args .s .now)) (start .args .i) (omega (arith, length-words (start .args .s .now), start .pre)) (start .args .c) (conn-written (words (start .args .s .now)) (start .args .i) (start .args .c) (omega (arith, length-words (start .args .s .now), start .pre)) (c .before .before .before .before .before .before .before .before .before .before .put .ensures .word) (c .before .before .before .before .before .before .put2 .ensures .word) (c .before .before .put3 .ensures .word))
+    replaced connSize connWords (λ c. refl) (words (start .args .s .now)) (start .args .i) (omega (arith, length-words (start .args .s .now), start .pre))
+    (start .args .c) (conn-written (words (start .args .s .now)) (start .args .i) (start .args .c) (omega (arith, length-words (start .args .s .now), start .pre))
+    (c .before .before .before .before .before .before .before .before .before .before .put .ensures .word) (c .before .before .before .before .before .before .put2 .ensures .word)
+    (c .before .before .put3 .ensures .word))
 
 pub write-conn-spec : {M : Type 1} → statement M
 write-conn-spec =

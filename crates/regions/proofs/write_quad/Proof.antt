@@ -33,7 +33,10 @@ same-length c = search needs
 returns : tie.Need-returns
 returns c =
     let start = c .before .before .before .before .before .before .before .before .before .before .before .before .before .before .before .before .before in
-    quad-written (words (start .args .s .now)) (start .args .a) (start .args .q) (omega (arith, length-words (start .args .s .now), start .pre)) (c .before .before .before .before .before .before .before .before .before .before .before .before .before .before .put .ensures .word) (c .before .before .before .before .before .before .before .before .before .before .put2 .ensures .word) (c .before .before .before .before .before .before .put3 .ensures .word) (c .before .before .put4 .ensures .word)
+    quad-written (words (start .args .s .now)) (start .args .a) (start .args .q) (omega (arith, length-words (start .args .s .now), start .pre))
+    (c .before .before .before .before .before .before .before .before .before .before .before .before .before .before .put .ensures .word)
+    (c .before .before .before .before .before .before .before .before .before .before .put2 .ensures .word) (c .before .before .before .before .before .before .put3 .ensures .word)
+    (c .before .before .put4 .ensures .word)
 
 pub write-quad-spec : {M : Type 1} → statement M
 write-quad-spec =

@@ -51,8 +51,15 @@ same-length c = search needs
 returns : tie.Need-returns
 unfolding rowWords
 returns c =
-    let start = c .before .before .before .before .before .before .before .before .before .before .before .before .before .before .before .before .before .before .before .before .before .before .before .before .before .before in
-    replaced rowSize rowWords (λ r. refl) (words (start .args .s .now)) (start .args .i) (omega (arith, length-words (start .args .s .now), start .pre)) (start .args .r) (row-written (words (start .args .s .now)) (start .args .i) (start .args .r) (omega (arith, length-words (start .args .s .now), start .pre)) (c .before .before .before .before .before .before .before .before .before .before .before .before .before .before .before .before .before .before .before .before .before .before .write-quad .ensures) (c .before .before .before .before .before .before .before .before .before .before .before .before .before .before .before .before .before .before .put .ensures .word) (c .before .before .before .before .before .before .before .before .before .before .before .before .before .before .put2 .ensures .word) (c .before .before .before .before .before .before .before .before .before .before .put3 .ensures .word) (c .before .before .before .before .before .before .put4 .ensures .word) (c .before .before .put5 .ensures .word))
+    let start = c .before .before .before .before .before .before .before .before .before .before .before .before .before .before .before .before .before .before .before .before .before
+    .before .before .before .before .before in
+    replaced rowSize rowWords (λ r. refl) (words (start .args .s .now)) (start .args .i) (omega (arith, length-words (start .args .s .now), start .pre)) (start .args .r)
+    (row-written (words (start .args .s .now)) (start .args .i) (start .args .r) (omega (arith, length-words (start .args .s .now), start .pre)) (c .before .before .before
+    .before .before .before .before .before .before .before .before .before .before .before .before .before .before .before .before .before .before .before .write-quad .ensures)
+    (c .before .before .before .before .before .before .before .before .before .before .before .before .before .before .before .before .before .before .put .ensures .word)
+    (c .before .before .before .before .before .before .before .before .before .before .before .before .before .before .put2 .ensures .word)
+    (c .before .before .before .before .before .before .before .before .before .before .put3 .ensures .word) (c .before .before .before .before .before .before .put4 .ensures .word)
+    (c .before .before .put5 .ensures .word))
 
 pub write-row-spec : {M : Type 1} → statement M
 write-row-spec =
