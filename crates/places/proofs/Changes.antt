@@ -18,7 +18,8 @@ use Rattle.regions.proofs.Gap.{splice-in, set-one}
 use Rattle.regions.proofs.Regions.{holds-at, replaced, inserted-at}
 use Rattle.regions.proofs.Order.{Small, quad-number}
 use Rattle.places.specs.declared.Head.{Head}
-use Rattle.places.specs.Places.{listMost, listSize, placeSize, combinedAt, stageAt, wtxidCountAt, parentCountAt, wtxidsAt, keptSize, Place, hashWords, listWords, placeWords, placeKey, readHead, blank, HeadAt, HashAt, Pushed}
+use Rattle.places.specs.Places.{listMost, listSize, placeSize, combinedAt, stageAt, wtxidCountAt, parentCountAt, wtxidsAt, keptSize}
+use Rattle.places.specs.Places.{Place, hashWords, listWords, placeWords, placeKey, readHead, blank, HeadAt, HashAt, Pushed}
 use Rattle.places.proofs.Segments.{splice-again, quad-in}
 use Rattle.places.proofs.Places.{length-place, head-back}
 
@@ -94,7 +95,8 @@ unfolding listWords padded each
 no-hashes = take-all listSize (replicate listSize 0) (lit≤ tt)
 
 all-zero : replicate {A = ℕ} placeSize 0 ≡ replicate wtxidsAt 0 ++ (listWords [] ++ (listWords [] ++ replicate keptSize 0))
-all-zero = rw no-hashes (sym (rw (replicate-append-replicate {A = ℕ} listSize keptSize 0, replicate-append-replicate {A = ℕ} listSize (listSize + keptSize) 0) (replicate-append-replicate {A = ℕ} wtxidsAt (listSize + (listSize + keptSize)) 0)))
+all-zero = rw no-hashes (sym (rw (replicate-append-replicate {A = ℕ} listSize keptSize 0, replicate-append-replicate {A = ℕ} listSize (listSize + keptSize) 0)
+    (replicate-append-replicate {A = ℕ} wtxidsAt (listSize + (listSize + keptSize)) 0)))
 
 blank-words : (q : Quad) (st : ℕ) → Small q → splice (splice (replicate placeSize 0) 0 (quadWords q)) stageAt (st ∷ []) ≡ placeWords (blank (quadNumber q) st)
 unfolding splice placeWords hashWords quadOf

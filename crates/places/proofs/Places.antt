@@ -12,7 +12,8 @@ use Rattle.regions.specs.Regions.{each}
 use Rattle.regions.specs.Rows.{quadWords, readQuad, quadNumber, quadOf}
 use Rattle.regions.proofs.Regions.{length-padded, region-push, region-at}
 use Rattle.regions.proofs.Order.{Small, quad-number}
-use Rattle.places.specs.Places.{listMost, listSize, placeSize, combinedAt, stageAt, wtxidCountAt, parentCountAt, wtxidsAt, parentsAt, keptSize, Place, hashWords, listWords, placeWords, headOf, readHead, withStage, withCombined, withWtxids, withParents}
+use Rattle.places.specs.Places.{listMost, listSize, placeSize, combinedAt, stageAt, wtxidCountAt, parentCountAt, wtxidsAt, parentsAt, keptSize}
+use Rattle.places.specs.Places.{Place, hashWords, listWords, placeWords, headOf, readHead, withStage, withCombined, withWtxids, withParents}
 use Rattle.places.proofs.Segments.{splice-front, splice-back, quad-in}
 
 pub length-hash : (h : ℕ) → length (hashWords h) ≡ 4
@@ -84,13 +85,15 @@ list-at hs j e z h l =
     let m : 4 * j ≤ length (listWords hs) = omega arith in
     let n : 4 ≤ length (drop (4 * j) (listWords hs)) = simp length-drop (omega arith) in
     let part : take 4 (drop (4 * j) (listWords hs)) ≡ hashWords (getD hs j e) = region-at 4 hashWords length-hash hs j listSize e h (omega arith) in
-    let front : take 4 (drop (4 * j) (listWords hs ++ z)) ≡ hashWords (getD hs j e) = ap (take 4) (drop-append-le (4 * j) (listWords hs) z m) ∙ take-append-le 4 (drop (4 * j) (listWords hs)) z n ∙ part in
+    let front : take 4 (drop (4 * j) (listWords hs ++ z)) ≡ hashWords (getD hs j e) = ap (take 4) (drop-append-le (4 * j) (listWords hs) z m) ∙
+    take-append-le 4 (drop (4 * j) (listWords hs)) z n ∙ part in
     sym (quad-in (drop (4 * j) (listWords hs ++ z)) 4 0 (omega arith)) ∙ ap readQuad front
 
 pub wtxid-at : (p : Place) (j e : ℕ) → j < length (p .wtxids) → j < listMost → readQuad (drop (wtxidsAt + 4 * j) (placeWords p)) ≡ quadOf (getD (p .wtxids) j e)
 wtxid-at p j e h l =
     let z : List ℕ = listWords (p .parents) ++ replicate keptSize 0 in
-    ap readQuad (ap (drop (wtxidsAt + 4 * j)) (around-wtxids p) ∙ sym (drop-drop (4 * j) wtxidsAt (head-words p ++ (listWords (p .wtxids) ++ z))) ∙ ap (drop (4 * j)) (drop-at (head-words p) (listWords (p .wtxids) ++ z) wtxidsAt (length-head p)))
+    ap readQuad (ap (drop (wtxidsAt + 4 * j)) (around-wtxids p) ∙ sym (drop-drop (4 * j) wtxidsAt (head-words p ++ (listWords (p .wtxids) ++ z))) ∙
+    ap (drop (4 * j)) (drop-at (head-words p) (listWords (p .wtxids) ++ z) wtxidsAt (length-head p)))
     ∙ list-at (p .wtxids) j e z h l
 
 pub parent-at : (p : Place) (j e : ℕ) → j < length (p .parents) → j < listMost → readQuad (drop (parentsAt + 4 * j) (placeWords p)) ≡ quadOf (getD (p .parents) j e)
@@ -134,5 +137,6 @@ module _ (p : Place) (q : Quad) (s : Small q) (n : ℕ) (l : n < listMost) where
       let c : n + 1 ≡ length hs = rw (length-append, e) in
       let lh : length (head-words p) ≡ wtxidsAt = length-head p in
       let a : splice (placeWords p) (parentsAt + 4 * n) (quadWords q) ≡ head-words p ++ (listWords (p .wtxids) ++ (listWords hs ++ z)) =
-      rw (around-parents p, splice-back f (listWords (p .parents) ++ z) parentsAt (4 * n) (quadWords q) (length-front p), in-list (p .parents) z e) (append-assoc (head-words p) (listWords (p .wtxids)) (listWords hs ++ z)) in
+      rw (around-parents p, splice-back f (listWords (p .parents) ++ z) parentsAt (4 * n) (quadWords q) (length-front p), in-list (p .parents) z e)
+      (append-assoc (head-words p) (listWords (p .wtxids)) (listWords hs ++ z)) in
       rw (a, splice-front (head-words p) (listWords (p .wtxids) ++ (listWords hs ++ z)) parentCountAt ((n + 1) ∷ []) (omega arith), parent-count p (n + 1), c) (simp append-assoc)

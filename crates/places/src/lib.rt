@@ -10,7 +10,8 @@ ghost use Rattle.words.specs.Words.{words, recs};
 ghost use Rattle.regions.specs.Regions.{Inserted, Removed, Truncated, Copied, Changed};
 ghost use Rattle.regions.specs.Order.{Sought};
 ghost use Rattle.regions.specs.Rows.{quadWords, quadNumber};
-ghost use Rattle.places.specs.Places.{listMost, placeSize, combinedAt, stageAt, wtxidsAt, parentsAt, placeWords, placeKey, blank, withStage, withCombined, withWtxids, withParents, HeadAt, HashAt, Pushed};
+ghost use Rattle.places.specs.Places.{listMost, placeSize, combinedAt, stageAt, wtxidsAt, parentsAt, placeWords, placeKey};
+ghost use Rattle.places.specs.Places.{blank, withStage, withCombined, withWtxids, withParents, HeadAt, HashAt, Pushed};
 
 // Words of a place, and where in it the parts lie.
 const PLACE: usize = 824;

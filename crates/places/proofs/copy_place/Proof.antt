@@ -23,7 +23,8 @@ same-length c = search needs
 returns : tie.Need-returns
 returns c =
     let start = c .before .before .before .before .before in
-    copied placeSize placeWords length-place (words (start .args .s .now)) (start .args .to) (start .args .from) (start .pre .0) (omega (arith, length-words (start .args .s .now), start .pre)) (c .before .before .copy-down .ensures)
+    copied placeSize placeWords length-place (words (start .args .s .now)) (start .args .to) (start .args .from) (start .pre .0) (omega (arith, length-words (start .args .s .now), start .pre))
+    (c .before .before .copy-down .ensures)
 
 pub copy-place-spec : {M : Type 1} → statement M
 copy-place-spec =

@@ -38,7 +38,9 @@ same-length c = search needs
 returns : tie.Need-returns
 returns c =
     let start = c .before .before .before .before .before .before .before .before .before in
-    pushed (words (start .args .s .now)) (start .args .i) (omega (arith, length-words (start .args .s .now), start .pre)) wtxidsAt wtxidCountAt (start .args .n) (λ p. p .wtxids) withWtxids (start .args .h) (omega arith) (omega arith) (start .pre .0) (λ p. wtxid-push p (start .args .h) (omega arith) (start .args .n) (start .pre .0)) (c .before .before .before .before .before .before .write-quad .ensures) (c .before .before .put .ensures .word)
+    pushed (words (start .args .s .now)) (start .args .i) (omega (arith, length-words (start .args .s .now), start .pre)) wtxidsAt wtxidCountAt (start .args .n)
+    (λ p. p .wtxids) withWtxids (start .args .h) (omega arith) (omega arith) (start .pre .0) (λ p. wtxid-push p (start .args .h) (omega arith) (start .args .n) (start .pre .0))
+    (c .before .before .before .before .before .before .write-quad .ensures) (c .before .before .put .ensures .word)
 
 pub push-wtxid-spec : {M : Type 1} → statement M
 push-wtxid-spec =

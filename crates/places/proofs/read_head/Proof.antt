@@ -39,7 +39,8 @@ get-requires-3 c κs = search needs
 returns : tie.Need-returns
 returns c =
     let start = c .before .before .before .before .before .before in
-    head-at (words (start .args .s .now)) (start .args .i) (omega (arith, length-words (start .args .s .now), start .pre)) (head-read (words (start .args .s .now)) (start .args .i) (c .before .before .before .before .read-quad .ensures) (c .before .before .before .read-quad2 .ensures) (c .before .before .get .ensures) (c .before .get2 .ensures) (c .get3 .ensures))
+    head-at (words (start .args .s .now)) (start .args .i) (omega (arith, length-words (start .args .s .now), start .pre)) (head-read (words (start .args .s .now)) (start .args .i)
+    (c .before .before .before .before .read-quad .ensures) (c .before .before .before .read-quad2 .ensures) (c .before .before .get .ensures) (c .before .get2 .ensures) (c .get3 .ensures))
 
 pub read-head-spec : {M : Type 1} → statement M
 read-head-spec =

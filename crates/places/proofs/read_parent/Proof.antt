@@ -26,7 +26,8 @@ read-quad-requires c κs = search needs
 returns : tie.Need-returns
 returns c =
     let start = c .before .before in
-    hash-at (words (start .args .s .now)) (start .args .i) (omega (arith, length-words (start .args .s .now), start .pre)) parentsAt (λ p. p .parents) (start .args .j) (omega arith) (start .pre .0) parent-at (c .read-quad .ensures)
+    hash-at (words (start .args .s .now)) (start .args .i) (omega (arith, length-words (start .args .s .now), start .pre)) parentsAt (λ p. p .parents) (start .args .j) (omega arith)
+    (start .pre .0) parent-at (c .read-quad .ensures)
 
 pub read-parent-spec : {M : Type 1} → statement M
 read-parent-spec =

@@ -23,7 +23,8 @@ same-length c = search needs
 returns : tie.Need-returns
 returns c =
     let start = c .before .before .before .before .before in
-    removed-at placeSize placeWords length-place (words (start .args .s .now)) (start .args .i) (start .args .n) (start .pre .0) (omega (arith, length-words (start .args .s .now), start .pre)) (c .before .before .take-out .ensures)
+    removed-at placeSize placeWords length-place (words (start .args .s .now)) (start .args .i) (start .args .n) (start .pre .0) (omega (arith, length-words (start .args .s .now), start .pre))
+    (c .before .before .take-out .ensures)
 
 pub remove-place-spec : {M : Type 1} → statement M
 remove-place-spec =

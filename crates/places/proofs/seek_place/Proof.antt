@@ -49,7 +49,8 @@ loop-again c =
     let start = c .before .before .before .before .before .before in
     let m = c .before .before .before .before .loop .lo + (c .before .before .before .before .loop .hi - c .before .before .before .before .loop .lo) / 2 in
     let h = ltb-true (quadNumber (c .before .before .read-quad .result)) (quadNumber (start .args .h)) (sym (c .before .quad-less .ensures) ∙ c .if1 .taken) in
-    search-up (c .before .before .before .before .loop .inv) m (omega arith) (omega arith) (rw (place-key-at (words (start .args .s .now)) (start .args .n) m (omega arith), ← (c .before .before .read-quad .ensures)) h)
+    search-up (c .before .before .before .before .loop .inv) m (omega arith) (omega arith)
+    (rw (place-key-at (words (start .args .s .now)) (start .args .n) m (omega arith), ← (c .before .before .read-quad .ensures)) h)
 
 loop-less-2 : tie.Need-loop-less-2 Inv-loop μ-loop
 loop-less-2 c = search needs
@@ -59,7 +60,8 @@ loop-again-2 c =
     let start = c .before .before .before .before .before .before in
     let m = c .before .before .before .before .loop .lo + (c .before .before .before .before .loop .hi - c .before .before .before .before .loop .lo) / 2 in
     let h = ltb-false (quadNumber (c .before .before .read-quad .result)) (quadNumber (start .args .h)) (sym (c .before .quad-less .ensures) ∙ c .if1 .left) in
-    search-down (c .before .before .before .before .loop .inv) m (omega arith) (omega arith) (rw (place-key-at (words (start .args .s .now)) (start .args .n) m (omega arith), ← (c .before .before .read-quad .ensures)) h)
+    search-down (c .before .before .before .before .loop .inv) m (omega arith) (omega arith)
+    (rw (place-key-at (words (start .args .s .now)) (start .args .n) m (omega arith), ← (c .before .before .read-quad .ensures)) h)
 
 returns : tie.Need-returns Inv-loop μ-loop
 returns c = search-end (c .before .loop .inv) (c .loop-test .left)

@@ -24,7 +24,8 @@ same-length c = search needs
 returns : tie.Need-returns
 returns c =
     let start = c .before .before .before .before .before in
-    changed-at placeSize placeWords length-place (words (start .args .s .now)) (start .args .i) (omega (arith, length-words (start .args .s .now), start .pre)) combinedAt (quadWords (start .args .h)) (withCombined (quadNumber (start .args .h))) (omega arith) (combined-set (start .args .h) (omega arith)) (c .before .before .write-quad .ensures)
+    changed-at placeSize placeWords length-place (words (start .args .s .now)) (start .args .i) (omega (arith, length-words (start .args .s .now), start .pre)) combinedAt
+    (quadWords (start .args .h)) (withCombined (quadNumber (start .args .h))) (omega arith) (combined-set (start .args .h) (omega arith)) (c .before .before .write-quad .ensures)
 
 pub set-combined-spec : {M : Type 1} → statement M
 set-combined-spec =

@@ -23,7 +23,8 @@ same-length c = search needs
 returns : tie.Need-returns
 returns c =
     let start = c .before .before .before .before .before in
-    changed-one placeSize placeWords length-place (words (start .args .s .now)) (start .args .i) (omega (arith, length-words (start .args .s .now), start .pre)) stageAt (start .args .v) (withStage (start .args .v)) (omega arith) (stage-set (start .args .v)) (c .before .before .put .ensures .word)
+    changed-one placeSize placeWords length-place (words (start .args .s .now)) (start .args .i) (omega (arith, length-words (start .args .s .now), start .pre)) stageAt (start .args .v)
+    (withStage (start .args .v)) (omega arith) (stage-set (start .args .v)) (c .before .before .put .ensures .word)
 
 pub set-stage-spec : {M : Type 1} → statement M
 set-stage-spec = tie.close (tie.spec mul-put add-put put-requires same-length returns)

@@ -26,7 +26,8 @@ same-length c = search needs
 returns : tie.Need-returns
 returns c =
     let start = c .before .before .before .before .before in
-    truncated placeSize placeWords length-place (words (start .args .s .now)) (start .args .m) (start .args .n) (start .pre .0) (omega (arith, length-words (start .args .s .now), start .pre)) (c .before .before .clear .ensures)
+    truncated placeSize placeWords length-place (words (start .args .s .now)) (start .args .m) (start .args .n) (start .pre .0) (omega (arith, length-words (start .args .s .now), start .pre))
+    (c .before .before .clear .ensures)
 
 pub truncate-places-spec : {M : Type 1} → statement M
 truncate-places-spec =
