@@ -43,7 +43,8 @@ abbrev pub noHold : Hold
 noHold = record { owner = none; info = false; «package» = none; parents = [] }
 
 -- a request that nobody owns holds nothing
-none-hold′ : (k : Kind) (o : Option Owner) (i : Bool) (p : Option Package) (hs : List ℕ) → o ≡ none → Packed k o i p hs → _≡_ {A = Hold} (record { owner = o; info = i; «package» = p; parents = hs }) noHold
+none-hold′ : (k : Kind) (o : Option Owner) (i : Bool) (p : Option Package) (hs : List ℕ) → o ≡ none → Packed k o i p hs
+    → _≡_ {A = Hold} (record { owner = o; info = i; «package» = p; parents = hs }) noHold
 none-hold′ k o true (some p) hs e h = absurd h
 none-hold′ k o true none hs e h = never (sym (ap isSome e) ∙ h .0)
 none-hold′ k o false (some p) hs e h = never (sym (ap isSome e) ∙ h .0)
@@ -92,7 +93,8 @@ at-either P k f t s ff o here there j h =
       | inr e ↦ rw (at-other j k f t ff (eqb-false _ _ e)) (there j h)
     ]
 
-pub alone-change : (k : Key) (f : Request → Request) (t : Table) → k .hash < top → KeepsKey f → Ordered 0 t → holdOf (f (at k t)) ≡ holdOf (at k t) → ((f (at k t)) .candidates ≡ [] → holdOf (at k t) ≡ noHold) → Alone t (change k f t)
+pub alone-change : (k : Key) (f : Request → Request) (t : Table) → k .hash < top → KeepsKey f → Ordered 0 t → holdOf (f (at k t)) ≡ holdOf (at k t)
+    → ((f (at k t)) .candidates ≡ [] → holdOf (at k t) ≡ noHold) → Alone t (change k f t)
 alone-change k f t s ff o e z = record { hold = at-either (λ j r. holdOf r ≡ holdOf (at j t)) k f t s ff o (hold-kept k (f (at k t)) (holdOf (at k t)) ((f (at k t)) .candidates) e z) (λ j h. refl) }
 
 -- ---- announce
@@ -104,7 +106,8 @@ alone-push k c t s o = alone-change k _ t s (λ r. refl) o refl (λ e. absurd (o
 pub alone-cut : (k : Key) (n : ℕ) (t : Table) → k .hash < top → Ordered 0 t → All Lawful t → ownerIs n ((at k t) .owner) ≡ false → Alone t (cut k n t)
 alone-cut k n t s o l w =
     let r = lawful-at k t l in
-    alone-change k _ t s (λ r. refl) o refl (λ e. none-hold (at k t) r (owner-empty ((at k t) .owner) (without n ((at k t) .candidates)) e (owner-without n ((at k t) .owner) ((at k t) .candidates) w (r .owner))))
+    alone-change k _ t s (λ r. refl) o refl
+    (λ e. none-hold (at k t) r (owner-empty ((at k t) .owner) (without n ((at k t) .candidates)) e (owner-without n ((at k t) .owner) ((at k t) .candidates) w (r .owner))))
 
 alone-evicting : (p : Key → Bool) (k : Key) (c : Candidate) (t : Table) → k .hash < top → Ordered 0 t → All Lawful t → Alone t ((evicting (greatest (victims p t)) k c t) .table)
 unfolding evicting greatest
@@ -178,7 +181,8 @@ alone-parented {m} {Q} {t} n now i h p w v s b =
     let a = alone-parentAt m (txid h) c t s (b .ordered) (b .lawful) in
     by-test (Alone t) ((requestParentAt m (txid h) c t) .reply) (λ e. alone-then a (alone-mark (txid h) _ s (b′ .ordered) (b′ .lawful))) (λ e. a)
 
-alone-parentsFrom : {m : Limits} {Q : ℕ} {t : Table} (n now i : ℕ) (hs : List ℕ) → Peer n → now < word → Hashes hs → i + length hs ≤ word → Bounded m Q t → Alone t ((parentsFrom m n now i hs t) .table)
+alone-parentsFrom : {m : Limits} {Q : ℕ} {t : Table} (n now i : ℕ) (hs : List ℕ) → Peer n → now < word → Hashes hs → i + length hs ≤ word → Bounded m Q t
+    → Alone t ((parentsFrom m n now i hs t) .table)
 unfolding parentsFrom
 alone-parentsFrom n now i [] p w a l b = alone-same
 alone-parentsFrom {m} {Q} {t} n now i (h ∷ hs) p w a l b =

@@ -47,11 +47,21 @@ has-push n (d ∷ cs) c h = elim (test (eqb (d .connection) n)) [ inl e ↦ rw e
 
 pub count-push : (q : Key → ℕ → Bool) (k : Key) (c : Candidate) (t : Table) → k .hash < top → Ordered 0 t → count q (push k c t) ≤ count q t + one (q k (c .connection))
 count-push q k c t s o =
-    omega (arith, count-change q k (λ r. withCandidates (r .candidates ++ (c ∷ [])) r) t o, countIn-push (q ((at k t) .key)) ((at k t) .candidates) c, ap (λ (j : Key). one (q j (c .connection))) (at-key k 0 t s o))
+    omega (
+      arith,
+      count-change q k (λ r. withCandidates (r .candidates ++ (c ∷ [])) r) t o,
+      countIn-push (q ((at k t) .key)) ((at k t) .candidates) c,
+      ap (λ (j : Key). one (q j (c .connection))) (at-key k 0 t s o),
+    )
 
 pub count-cut : (q : Key → ℕ → Bool) (k : Key) (n : ℕ) (t : Table) → k .hash < top → Ordered 0 t → has n ((at k t) .candidates) ≡ true → count q (cut k n t) + one (q k n) ≤ count q t
 count-cut q k n t s o h =
-    omega (arith, count-change q k (λ r. withCandidates (without n (r .candidates)) r) t o, countIn-without (q ((at k t) .key)) n ((at k t) .candidates) h, ap (λ (j : Key). one (q j n)) (at-key k 0 t s o))
+    omega (
+      arith,
+      count-change q k (λ r. withCandidates (without n (r .candidates)) r) t o,
+      countIn-without (q ((at k t) .key)) n ((at k t) .candidates) h,
+      ap (λ (j : Key). one (q j n)) (at-key k 0 t s o),
+    )
 
 pub owners-push : (q : Key → ℕ → Bool) (k : Key) (c : Candidate) (t : Table) → Ordered 0 t → owners q (push k c t) ≤ owners q t
 owners-push q k c t o = omega (arith, owners-change q k (λ r. withCandidates (r .candidates ++ (c ∷ [])) r) t o)
@@ -81,7 +91,13 @@ pub bounded-push : {m : Limits} {Q : ℕ} {t : Table} {k : Key} {c : Candidate} 
 bounded-push {m} {Q} {t} {k} {c} s a b l₁ l₂ l₃ l₄ = record {
   ordered = ordered-change k _ 0 t (λ r. refl) (omega arith) s o;
   filled = filled-change k f t (b .filled);
-  lawful = all-change Lawful k f 0 t o (record { candidates = rw (at-key k 0 t s o) (fit-push k ((at k t) .candidates) c a (rw (at-key k 0 t s o) at (l .candidates))); owner = owner-push ((at k t) .owner) ((at k t) .candidates) c (l .owner); packed = l .packed; parents = l .parents; mark = l .mark }) (b .lawful);
+  lawful = all-change Lawful k f 0 t o (record {
+    candidates = rw (at-key k 0 t s o) (fit-push k ((at k t) .candidates) c a (rw (at-key k 0 t s o) at (l .candidates)));
+    owner = owner-push ((at k t) .owner) ((at k t) .candidates) c (l .owner);
+    packed = l .packed;
+    parents = l .parents;
+    mark = l .mark;
+  }) (b .lawful);
   fits = omega (arith, count-push any k c t s o);
   each = λ n. omega (arith, count-push (by n) k c t s o, bump (λ i. count (by i) t) (c .connection) maxPeerAnnouncements (b .each) l₂ n);
   alternates = λ h. omega (arith, count-push (under h) k c t s o, bump (λ i. count (under i) t) (k .hash) (m .alternates) (b .alternates) l₃ h);
@@ -197,7 +213,8 @@ follows-evicting {m} {Q} {t} {k} {c} p s a b l₂ l₄ room = go (victims p t) (
   where
     with-victim : (v : Entry) → Victim p 0 t v → Follows m Q t (push k c (cut (v .key) (v .candidate .connection) t))
     with-victim v x = record {
-      bounded = bounded-push s a b′ (omega (arith, less any, b .fits)) (omega (arith, less (by (c .connection)))) (omega (arith, less (under (k .hash)), room (v .key) (x .passes))) (omega (arith, less (byUnder (c .connection) (k .hash))));
+      bounded = bounded-push s a b′ (omega (arith, less any, b .fits)) (omega (arith, less (by (c .connection)))) (omega (arith, less (under (k .hash)), room (v .key) (x .passes)))
+          (omega (arith, less (byUnder (c .connection) (k .hash))));
       no-owner = λ q. omega (arith, owners-push q k c (cut (v .key) (v .candidate .connection) t) (b′ .ordered), owners-cut q (v .key) (v .candidate .connection) t (b .ordered));
       no-place = omega (arith, places-push k c (cut (v .key) (v .candidate .connection) t) (b′ .ordered), places-cut (v .key) (v .candidate .connection) t (b .ordered));
     }
@@ -218,7 +235,8 @@ follows-announceAt {m} {Q} {t} k c s a b =
     by-test P (isCandidate (c .connection) (k .hash) t) (λ e. follows-same b) λ e₁.
     by-test P _ (λ e. follows-same b) λ e₂.
     by-test P (leb (m .alternates) (heldAt (k .hash) t))
-    (λ e₃. by-test P (c .preferred) (λ e. follows-evicting (atHash (k .hash)) s a b (leb-false _ _ e₂) (omega (arith, ltb-false)) (λ j e. rw e (omega (arith, b .alternates (k .hash))))) (λ e. follows-same b)) λ e₃.
+    (λ e₃. by-test P (c .preferred) (λ e. follows-evicting (atHash (k .hash)) s a b (leb-false _ _ e₂) (omega (arith, ltb-false)) (λ j e. rw e (omega (arith, b .alternates (k .hash)))))
+    (λ e. follows-same b)) λ e₃.
     by-test P (leb (m .announcements) (held t))
     (λ e₄. by-test P (c .preferred) (λ e. follows-evicting anywhere s a b (leb-false _ _ e₂) (omega (arith, ltb-false)) (λ j e. omega (arith, leb-false))) (λ e. follows-same b)) λ e₄.
     record {
@@ -245,7 +263,8 @@ item-fits i p = key-fits (kindOf (i .kind)) (i .hash) p
 pub fits-typed : {k : Key} {c : Candidate} → keyOf (c .item) ≡ some k → 0 < c .connection → CandidateTyped c → Fits k c
 fits-typed e p w = record { item = e; positive = p; connection = w .connection; ready = w .ready; priority = w .priority }
 
-bounded-announceKeyed : {m : Limits} {Q : ℕ} {t : Table} (o : Option Key) (c : Candidate) → keyOf (c .item) ≡ o → CursorFits o → 0 < c .connection → CandidateTyped c → Bounded m Q t → Bounded m Q ((announceKeyed m o c t) .table)
+bounded-announceKeyed : {m : Limits} {Q : ℕ} {t : Table} (o : Option Key) (c : Candidate) → keyOf (c .item) ≡ o → CursorFits o → 0 < c .connection → CandidateTyped c → Bounded m Q t
+    → Bounded m Q ((announceKeyed m o c t) .table)
 unfolding announceKeyed
 bounded-announceKeyed none c e s p w b = b
 bounded-announceKeyed (some k) c e s p w b = bounded-announceAt k c s (fits-typed e p w) b

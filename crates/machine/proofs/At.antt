@@ -54,7 +54,8 @@ unfolding change at
 at-same k f lo [] ff o = at-keep k (f (blank k)) ((f (blank k)) .candidates) (suc (place k)) [] (ap place (sym (ff (blank k)))) (omega arith) tt
 at-same k f lo (r ∷ t) ff o =
     elim (test (ltb (place k) (place (r .key)))) [
-      | inl e ↦ rw (e, at-absent k (place (r .key)) (r ∷ t) (ltb-true _ _ e) (omega arith, o .1, o .2)) (at-keep k (f (blank k)) _ (place (r .key)) (r ∷ t) (ap place (sym (ff (blank k)))) (ltb-true _ _ e) (omega arith, o .1, o .2))
+      | inl e ↦ rw (e, at-absent k (place (r .key)) (r ∷ t) (ltb-true _ _ e) (omega arith, o .1, o .2))
+          (at-keep k (f (blank k)) _ (place (r .key)) (r ∷ t) (ap place (sym (ff (blank k)))) (ltb-true _ _ e) (omega arith, o .1, o .2))
       | inr e ↦ rw e (elim (test (eqb (place k) (place (r .key)))) [
         | inl d ↦ rw d (at-keep k (f r) _ (suc (place (r .key))) t (eqb-true _ _ d ∙ ap place (sym (ff r))) (omega (arith, eqb-true (place k) (place (r .key)) d)) (o .2))
         | inr d ↦ rw d (at-there k r (change k f t) (eqb-false _ _ d) ∙ at-same k f _ t ff (o .2))
@@ -76,7 +77,8 @@ at-other j k f (r ∷ t) ff n =
       | inl e ↦ rw e (at-other-keep j (f (blank k)) _ (r ∷ t) (λ d. n (d ∙ ap place (ff (blank k)))))
       | inr e ↦ rw e (elim (test (eqb (place k) (place (r .key)))) [
         | inl d ↦ rw d (at-other-keep j (f r) _ t (λ q. n (q ∙ ap place (ff r) ∙ sym (eqb-true _ _ d))) ∙ sym (at-there j r t (λ q. n (q ∙ sym (eqb-true _ _ d)))))
-        | inr d ↦ rw d (by-test (λ (q : Request). at j (r ∷ change k f t) ≡ q) (eqb (place j) (place (r .key))) (λ q. at-here j r (change k f t) (eqb-true _ _ q)) (λ q. at-there j r (change k f t) (eqb-false _ _ q) ∙ at-other j k f t ff n))
+        | inr d ↦ rw d (by-test (λ (q : Request). at j (r ∷ change k f t) ≡ q) (eqb (place j) (place (r .key))) (λ q. at-here j r (change k f t) (eqb-true _ _ q))
+            (λ q. at-there j r (change k f t) (eqb-false _ _ q) ∙ at-other j k f t ff n))
       ])
     ]
 
@@ -146,15 +148,18 @@ unfolding change at keys only
 keys-remove k f lo [] o q = keys-drop (f (blank k)) _ [] q
 keys-remove k f lo (r ∷ t) o q =
     elim (test (ltb (place k) (place (r .key)))) [
-      | inl e ↦ rw e (keys-drop (f (blank k)) _ (r ∷ t) (rw (at-absent k (place (r .key)) (r ∷ t) (ltb-true _ _ e) (omega arith, o .1, o .2)) at q) ∙ sym (only-above k (place (r .key)) (r ∷ t) (ltb-true _ _ e) (omega arith, o .1, o .2)))
+      | inl e ↦ rw e (keys-drop (f (blank k)) _ (r ∷ t) (rw (at-absent k (place (r .key)) (r ∷ t) (ltb-true _ _ e) (omega arith, o .1, o .2)) at q) ∙
+          sym (only-above k (place (r .key)) (r ∷ t) (ltb-true _ _ e) (omega arith, o .1, o .2)))
       | inr e ↦ rw e (elim (test (eqb (place k) (place (r .key)))) [
-        | inl d ↦ rw (d, eq-eqb (place (r .key)) (place k) (sym (eqb-true _ _ d))) (keys-drop (f r) _ t (rw d at q) ∙ sym (only-above k _ t (omega (arith, eqb-true (place k) (place (r .key)) d)) (o .2)))
+        | inl d ↦ rw (d, eq-eqb (place (r .key)) (place k) (sym (eqb-true _ _ d)))
+            (keys-drop (f r) _ t (rw d at q) ∙ sym (only-above k _ t (omega (arith, eqb-true (place k) (place (r .key)) d)) (o .2)))
         | inr d ↦ rw (d, ne-eqb (place (r .key)) (place k) (λ c. eqb-false _ _ d (sym c))) (ap (λ (l : List Key). r .key ∷ l) (keys-remove k f _ t (o .2) (rw d at q)))
       ])
     ]
 
 -- a request that is there stays there, as long as f leaves it a candidate
-pub keys-stay : (k : Key) (f : Request → Request) (lo : ℕ) (t : Table) → KeepsKey f → Ordered lo t → 1 ≤ length ((at k t) .candidates) → 1 ≤ length ((f (at k t)) .candidates) → keys (change k f t) ≡ keys t
+pub keys-stay : (k : Key) (f : Request → Request) (lo : ℕ) (t : Table) → KeepsKey f → Ordered lo t → 1 ≤ length ((at k t) .candidates) → 1 ≤ length ((f (at k t)) .candidates)
+    → keys (change k f t) ≡ keys t
 unfolding change at keys
 keys-stay k f lo [] ff o p q = absurd (omega arith)
 keys-stay k f lo (r ∷ t) ff o p q =

@@ -15,7 +15,8 @@ use Rattle.machine.specs.State.{Candidate, Owner, Request, Table, Answer
 use Rattle.machine.specs.Table.{at, change, ownedBy}
 use Rattle.machine.specs.Announce.{announceKeyed, announce}
 use Rattle.machine.specs.Fail.{leaves, Listed, parentsFor}
-use Rattle.machine.specs.Package.{listedAfter, infoOwned, failedPackageInfo, enqueuedBy, releasePackage, claimKey, someKeys, failEach, failedPackageClaims, packageKeys, leftIfOwned, tearOne, tearEach, teardown}
+use Rattle.machine.specs.Package.{listedAfter, infoOwned, failedPackageInfo, enqueuedBy, releasePackage, claimKey, someKeys}
+use Rattle.machine.specs.Package.{failEach, failedPackageClaims, packageKeys, leftIfOwned, tearOne, tearEach, teardown}
 use Rattle.machine.specs.Leave.{guarded, ownerParents, forgetKnown, keysOf, dropEach, disconnected}
 use Rattle.machine.specs.Wrapper.{Offer, offered, offersFrom, announceTransactions, responseCompleted, failKeyed, isType, notFoundOne, notFoundEach, packagesIn, notFound}
 use Rattle.machine.specs.Sound.{CursorFits, Ordered, All, Lawful, Bounded}
@@ -30,7 +31,8 @@ use Rattle.machine.proofs.Package.{bounded-failedPackageInfo, bounded-f
 use Rattle.machine.proofs.Leave.{keys-of, bounded-dropAt}
 use Rattle.machine.proofs.Wrapper.{offered-typed, bounded-notFoundOne, bounded-notFoundEach}
 use Rattle.machine.proofs.Alone.{holdOf, noHold, empty-hold, hold-kept, at-either, Alone, alone-same, alone-then, alone-announceAt, alone-parents}
-use Rattle.machine.proofs.Loosened.{owner-some, left-key, left-kept, Loosened, loosened-wider, loosened-same, loosened-alone, loosened-then, loosened-leaves, loosened-failed, loosened-failedWithParents}
+use Rattle.machine.proofs.Loosened.{owner-some, left-key, left-kept, Loosened, loosened-wider, loosened-same, loosened-alone}
+use Rattle.machine.proofs.Loosened.{loosened-then, loosened-leaves, loosened-failed, loosened-failedWithParents}
 use Rattle.machine.proofs.Failing.{HoldsPlace, holds-claims}
 use Rattle.machine.proofs.Leaving.{loosened-dropAt}
 use Rattle.machine.proofs.OneKey.{only-forget}
@@ -38,9 +40,11 @@ use Rattle.machine.proofs.OneKey.{only-forget}
 -- ---- a key with its parents
 
 -- a table loosened, and then the parents announced
-loosened-listed : {m : Limits} {Q : ℕ} {t : Table} (k : Key) (n now : ℕ) (hs : List ℕ) (a : Answer) → Peer n → now < word → FewHashes hs → Bounded m Q (a .table) → Loosened (ownerIs n) t (a .table) → Loosened (ownerIs n) t ((listedAfter m k n now hs a) .table)
+loosened-listed : {m : Limits} {Q : ℕ} {t : Table} (k : Key) (n now : ℕ) (hs : List ℕ) (a : Answer) → Peer n → now < word → FewHashes hs → Bounded m Q (a .table)
+    → Loosened (ownerIs n) t (a .table) → Loosened (ownerIs n) t ((listedAfter m k n now hs a) .table)
 unfolding listedAfter
-loosened-listed {m} {Q} {t} k n now hs a p w f b l = by-test (λ (x : Listed). Loosened (ownerIs n) t (x .table)) (a .reply) (λ e. loosened-then l (loosened-alone (alone-parents n now hs p w f b))) (λ e. l)
+loosened-listed {m} {Q} {t} k n now hs a p w f b l = by-test (λ (x : Listed). Loosened (ownerIs n) t (x .table)) (a .reply) (λ e. loosened-then l (loosened-alone (alone-parents n now hs p w f b)))
+    (λ e. l)
 
 module _ {m : Limits} {Q : ℕ} {t : Table} (n now : ℕ) (w : now < word) (b : Bounded m Q t) where
   pub loosened-release : (h : ℕ) → h < top → Loosened (ownerIs n) t ((releasePackage m n h now t) .table)
@@ -49,7 +53,8 @@ module _ {m : Limits} {Q : ℕ} {t : Table} (n now : ℕ) (w : now < word) (b : 
       let k = wtxid h in
       let l = lawful-at k t (b .lawful) in
       by-test (λ (x : Listed). Loosened (ownerIs n) t (x .table)) (enqueuedBy n (at k t))
-      (λ e. loosened-listed k n now (parentsFor n (at k t)) (done (leaves k n now t)) (owner-peer n (at k t) l (and-left (ownerIs n ((at k t) .owner)) _ e)) w (few-for n (at k t) l) (bounded-leaves k n now s w b) (loosened-leaves k n now s w b))
+      (λ e. loosened-listed k n now (parentsFor n (at k t)) (done (leaves k n now t)) (owner-peer n (at k t) l (and-left (ownerIs n ((at k t) .owner)) _ e)) w (few-for n (at k t) l)
+      (bounded-leaves k n now s w b) (loosened-leaves k n now s w b))
       (λ e. loosened-same)
 
   pub loosened-responseCompleted : (x y : ℕ) → x < top → y < top → Loosened (ownerIs n) t (responseCompleted n x y now t)
@@ -67,9 +72,11 @@ unfolding failEach
 loosened-failEach n now [] p w s b = loosened-same
 loosened-failEach n now (k ∷ ks) p w s b = loosened-then (loosened-failedWithParents k n now (s .0) p w b) (loosened-failEach n now ks p w (s .1) (bounded-failedWithParents k n now (s .0) p w b))
 
-pub loosened-failedPackageClaims : {m : Limits} {Q : ℕ} {t : Table} (n : ℕ) (cs : List ℕ) (now : ℕ) → Peer n → now < word → Bounded m Q t → Loosened (ownerIs n) t ((failedPackageClaims m n cs now t) .table)
+pub loosened-failedPackageClaims : {m : Limits} {Q : ℕ} {t : Table} (n : ℕ) (cs : List ℕ) (now : ℕ) → Peer n → now < word → Bounded m Q t
+    → Loosened (ownerIs n) t ((failedPackageClaims m n cs now t) .table)
 unfolding failedPackageClaims
-loosened-failedPackageClaims {m} {Q} {t} n cs now p w b = loosened-failEach n now _ p w (each-map (HoldsPlace n t) KeyTyped (someKeys (map (λ c. claimKey n c t) cs)) (λ k h. h .small) (holds-claims n cs t (b .ordered))) b
+loosened-failedPackageClaims {m} {Q} {t} n cs now p w b = loosened-failEach n now _ p w
+    (each-map (HoldsPlace n t) KeyTyped (someKeys (map (λ c. claimKey n c t) cs)) (λ k h. h .small) (holds-claims n cs t (b .ordered))) b
 
 loosened-failKeyed : {m : Limits} {Q : ℕ} {t : Table} (o : Option Key) (n now : ℕ) → CursorFits o → now < word → Bounded m Q t → Loosened (ownerIs n) t ((failKeyed o n now t) .table)
 loosened-failKeyed none n now s w b = loosened-same
@@ -83,12 +90,14 @@ loosened-notFoundOne {m} {Q} {t} n now i p w s b =
     (λ e. loosened-listed k n now _ _ p w (few-for n (at k t) (lawful-at k t (b .lawful))) (bounded-failedPackageInfo k n now s w b) (loosened-failedPackageInfo n now w b k s))
     (λ e. loosened-failKeyed (keyOf i) n now (item-fits i s) w b)
 
-loosened-notFoundEach : {m : Limits} {Q : ℕ} {t : Table} (n now : ℕ) (l : List Item) → Peer n → now < word → Each (λ (i : Item). i .hash < top) l → Bounded m Q t → Loosened (ownerIs n) t ((notFoundEach m n now l t) .table)
+loosened-notFoundEach : {m : Limits} {Q : ℕ} {t : Table} (n now : ℕ) (l : List Item) → Peer n → now < word → Each (λ (i : Item). i .hash < top) l → Bounded m Q t
+    → Loosened (ownerIs n) t ((notFoundEach m n now l t) .table)
 unfolding notFoundEach
 loosened-notFoundEach n now [] p w s b = loosened-same
 loosened-notFoundEach n now (i ∷ l) p w s b = loosened-then (loosened-notFoundOne n now i p w (s .0) b) (loosened-notFoundEach n now l p w (s .1) (bounded-notFoundOne n now i p w (s .0) b))
 
-pub loosened-notFound : {m : Limits} {Q : ℕ} {t : Table} (n now : ℕ) (l : List Item) → Peer n → now < word → Each (λ (i : Item). i .hash < top) l → Bounded m Q t → Loosened (ownerIs n) t ((notFound m n now l t) .table)
+pub loosened-notFound : {m : Limits} {Q : ℕ} {t : Table} (n now : ℕ) (l : List Item) → Peer n → now < word → Each (λ (i : Item). i .hash < top) l → Bounded m Q t
+    → Loosened (ownerIs n) t ((notFound m n now l t) .table)
 unfolding notFound
 loosened-notFound n now l p w s b = loosened-then (loosened-notFoundEach n now l p w s b) (loosened-failedPackageClaims n (packagesIn l) now p w (bounded-notFoundEach n now l p w s b))
 
@@ -109,7 +118,8 @@ alone-ownerParents : {m : Limits} {Q : ℕ} {t : Table} (now : ℕ) (o : Option 
 alone-ownerParents now none r w e l b = alone-same
 alone-ownerParents now (some o) r w e l b = alone-parents (o .connection) now _ (owner-peer (o .connection) r l (rw e (eq-eqb (o .connection) (o .connection) refl))) w (few-for (o .connection) r l) b
 
-pub forgetKnown-elsewhere : {m : Limits} {Q : ℕ} {t : Table} (k : Key) (now : ℕ) → now < word → Bounded m Q t → (j : Key) → j .hash < top → (place j ≡ place k → ⊥) → holdOf (at j (forgetKnown m k now t)) ≡ holdOf (at j t)
+pub forgetKnown-elsewhere : {m : Limits} {Q : ℕ} {t : Table} (k : Key) (now : ℕ) → now < word → Bounded m Q t → (j : Key) → j .hash < top → (place j ≡ place k → ⊥)
+    → holdOf (at j (forgetKnown m k now t)) ≡ holdOf (at j t)
 unfolding forgetKnown
 forgetKnown-elsewhere {m} {Q} {t} k now w b j s d =
     let t′ = ownerParents m now ((at k t) .owner) (at k t) t in
@@ -126,14 +136,16 @@ alone-announceKeyed m (some k) c t s o l = alone-announceAt m k c t s o l
 pub alone-announce : (m : Limits) (c : Candidate) (t : Table) → c .item .hash < top → Ordered 0 t → All Lawful t → Alone t ((announce m c t) .table)
 alone-announce m c t s o l = alone-announceKeyed m (keyOf (c .item)) c t (item-fits (c .item) s) o l
 
-alone-offers : {m : Limits} {Q : ℕ} {t : Table} (n now : ℕ) (p v f : Bool) (os : List Offer) → Peer n → now + requestLifetime < word → Each OfferTyped os → Bounded m Q t → Alone t (offersFrom m n now p v f os t)
+alone-offers : {m : Limits} {Q : ℕ} {t : Table} (n now : ℕ) (p v f : Bool) (os : List Offer) → Peer n → now + requestLifetime < word → Each OfferTyped os → Bounded m Q t
+    → Alone t (offersFrom m n now p v f os t)
 unfolding offersFrom
 alone-offers n now p v f [] a w h b = alone-same
 alone-offers {m} {Q} {t} n now p v f (o ∷ os) a w h b =
     let c = offered n now p v f o in
     alone-then (alone-announce m c t (h .0 .hash) (b .ordered) (b .lawful)) (alone-offers n now p v f os a w (h .1) (bounded-announce c (a .positive) (offered-typed n now p v f o a w (h .0)) b))
 
-pub alone-announceTransactions : {m : Limits} {Q : ℕ} {t : Table} (n now : ℕ) (p v : Bool) (os : List Offer) → Peer n → now + requestLifetime < word → Each OfferTyped os → Bounded m Q t → Alone t (announceTransactions m n now p v os t)
+pub alone-announceTransactions : {m : Limits} {Q : ℕ} {t : Table} (n now : ℕ) (p v : Bool) (os : List Offer) → Peer n → now + requestLifetime < word → Each OfferTyped os → Bounded m Q t
+    → Alone t (announceTransactions m n now p v os t)
 unfolding announceTransactions
 alone-announceTransactions {m} {Q} {t} n now p v os a w h b = alone-offers n now p v (leb maxInFlight (ownedBy n t)) os a w h b
 
@@ -143,7 +155,8 @@ leftIfOwned-key : (n now : ℕ) → KeepsKey (leftIfOwned n now)
 unfolding leftIfOwned
 leftIfOwned-key n now r = by-test (λ (q : Request). q .key ≡ r .key) (ownerIs n (r .owner)) (λ e. left-key n now r) (λ e. refl)
 
-leftIfOwned-kept : (k : Key) (n now : ℕ) (r : Request) → Lawful r → (holdOf (kept k (leftIfOwned n now r) ((leftIfOwned n now r) .candidates)) ≡ holdOf r) ⊎ ((ownerIs n (r .owner) ≡ true) × (holdOf (kept k (leftIfOwned n now r) ((leftIfOwned n now r) .candidates)) ≡ noHold))
+leftIfOwned-kept : (k : Key) (n now : ℕ) (r : Request) → Lawful r → (holdOf (kept k (leftIfOwned n now r) ((leftIfOwned n now r) .candidates)) ≡ holdOf r) ⊎
+    ((ownerIs n (r .owner) ≡ true) × (holdOf (kept k (leftIfOwned n now r) ((leftIfOwned n now r) .candidates)) ≡ noHold))
 unfolding leftIfOwned
 leftIfOwned-kept k n now r l =
     by-test (λ (q : Request). (holdOf (kept k q (q .candidates)) ≡ holdOf r) ⊎ ((ownerIs n (r .owner) ≡ true) × (holdOf (kept k q (q .candidates)) ≡ noHold))) (ownerIs n (r .owner))
@@ -152,7 +165,8 @@ leftIfOwned-kept k n now r l =
 
 loosened-leftIfOwned : (k : Key) (n now : ℕ) (t : Table) → k .hash < top → Ordered 0 t → All Lawful t → Loosened (ownerIs n) t (change k (leftIfOwned n now) t)
 loosened-leftIfOwned k n now t s o l = record {
-  hold = at-either (λ j r. (holdOf r ≡ holdOf (at j t)) ⊎ ((ownerIs n ((at j t) .owner) ≡ true) × (holdOf r ≡ noHold))) k (leftIfOwned n now) t s (leftIfOwned-key n now) o (leftIfOwned-kept k n now (at k t) (lawful-at k t l)) (λ j h. inl refl);
+  hold = at-either (λ j r. (holdOf r ≡ holdOf (at j t)) ⊎ ((ownerIs n ((at j t) .owner) ≡ true) × (holdOf r ≡ noHold))) k (leftIfOwned n now) t s (leftIfOwned-key n now) o
+      (leftIfOwned-kept k n now (at k t) (lawful-at k t l)) (λ j h. inl refl);
 }
 
 loosened-tearOne : {m : Limits} {Q : ℕ} {t : Table} (o : Option Owner) (k : Key) (now : ℕ) → k .hash < top → now < word → Bounded m Q t → Loosened isSome t (tearOne o k now t)
@@ -165,7 +179,8 @@ loosened-tearOne {m} {Q} {t} (some o) k now s w b =
 loosened-tearEach : {m : Limits} {Q : ℕ} {t : Table} (now : ℕ) (ks : List Key) → now < word → Each KeyTyped ks → Bounded m Q t → Loosened isSome t ((tearEach now ks t) .table)
 unfolding tearEach
 loosened-tearEach now [] w s b = loosened-same
-loosened-tearEach {m} {Q} {t} now (k ∷ ks) w s b = loosened-then (loosened-tearOne ((at k t) .owner) k now (s .0) w b) (loosened-tearEach now ks w (s .1) (bounded-tearOne ((at k t) .owner) k now (s .0) w b))
+loosened-tearEach {m} {Q} {t} now (k ∷ ks) w s b = loosened-then (loosened-tearOne ((at k t) .owner) k now (s .0) w b)
+    (loosened-tearEach now ks w (s .1) (bounded-tearOne ((at k t) .owner) k now (s .0) w b))
 
 pub loosened-teardown : {m : Limits} {Q : ℕ} {t : Table} (now : ℕ) → now < word → Bounded m Q t → Loosened isSome t ((teardown now t) .table)
 unfolding teardown

@@ -25,7 +25,8 @@ pub record ShrinksAt (f : Request → Request) (r : Request) : Type 0 where
   pub place : placeIn ((f r) .info) ((f r) .«package») ≤ placeIn (r .info) (r .«package»)
   pub lawful : Lawful r → Lawful (f r)
 
-pub bounded-at : {m : Limits} {Q : ℕ} {t : Table} (k : Key) (f : Request → Request) → k .hash < top → ((r : Request) → (f r) .key ≡ r .key) → ShrinksAt f (at k t) → Bounded m Q t → Bounded m Q (change k f t)
+pub bounded-at : {m : Limits} {Q : ℕ} {t : Table} (k : Key) (f : Request → Request) → k .hash < top → ((r : Request) → (f r) .key ≡ r .key) → ShrinksAt f (at k t) → Bounded m Q t
+    → Bounded m Q (change k f t)
 bounded-at {m} {Q} {t} k f s key sh b = record {
   ordered = ordered-change k f 0 t key (omega arith) s o;
   filled = filled-change k f t (b .filled);
@@ -90,7 +91,13 @@ bounded-cut {m} {Q} {t} k n s w b = bounded-at k _ s (λ r. refl) (record {
   fewer = λ p. without-fewer p n ((at k t) .candidates);
   less = λ p. omega arith;
   place = omega arith;
-  lawful = λ l. record { candidates = fit-without n ((at k t) .key) ((at k t) .candidates) (l .candidates); owner = owner-without n ((at k t) .owner) ((at k t) .candidates) w (l .owner); packed = l .packed; parents = l .parents; mark = l .mark };
+  lawful = λ l. record {
+    candidates = fit-without n ((at k t) .key) ((at k t) .candidates) (l .candidates);
+    owner = owner-without n ((at k t) .owner) ((at k t) .candidates) w (l .owner);
+    packed = l .packed;
+    parents = l .parents;
+    mark = l .mark;
+  };
 }) b
 
 -- ---- one more under a bound
@@ -134,7 +141,8 @@ pub record Owns (k : Key) (n more : ℕ) (f : Request → Request) : Type 0 wher
   pub place : (r : Request) → placeIn ((f r) .info) ((f r) .«package») ≤ placeIn (r .info) (r .«package») + more
   pub lawful : (r : Request) → r .key ≡ k → r .owner ≡ none → has n (r .candidates) ≡ true → Lawful r → Lawful (f r)
 
-pub bounded-own : {m : Limits} {Q : ℕ} {t : Table} {k : Key} {n extra : ℕ} {f : Request → Request} → Owns k n extra f → k .hash < top → placesHeld t + extra ≤ Q → Bounded m Q t → has n ((at k t) .candidates) ≡ true → ownedAt (k .hash) t < 1 → ownedBy n t < maxInFlight → Bounded m Q (change k f t)
+pub bounded-own : {m : Limits} {Q : ℕ} {t : Table} {k : Key} {n extra : ℕ} {f : Request → Request} → Owns k n extra f → k .hash < top → placesHeld t + extra ≤ Q → Bounded m Q t
+    → has n ((at k t) .candidates) ≡ true → ownedAt (k .hash) t < 1 → ownedBy n t < maxInFlight → Bounded m Q (change k f t)
 bounded-own {m} {Q} {t} {k} {n} {extra} {f} w s r b h l₁ l₂ = record {
   ordered = ordered-change k f 0 t (w .key) (omega arith) s o;
   filled = filled-change k f t (b .filled);

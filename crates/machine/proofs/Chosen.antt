@@ -105,7 +105,8 @@ sparse-consider : (now : ℕ) (t : Table) (k : Key) (s : Scan) → k .hash < top
 unfolding consider
 sparse-consider now t k s h o p =
     by-test (Sparse t) (eqb (ownedAt (k .hash) t + chosenAt (k .hash) (s .chosen)) 0)
-    (λ e. sparse-add t (k .hash) (choice now t (s .chosen) k) (s .chosen) (picked-choice now t (s .chosen) k h o) (omega (arith, eqb-true (ownedAt (k .hash) t + chosenAt (k .hash) (s .chosen)) 0 e)) p)
+    (λ e. sparse-add t (k .hash) (choice now t (s .chosen) k) (s .chosen) (picked-choice now t (s .chosen) k h o)
+    (omega (arith, eqb-true (ownedAt (k .hash) t + chosenAt (k .hash) (s .chosen)) 0 e)) p)
     (λ e. p)
 
 pub sparse-phase : (now : ℕ) (t : Table) (ks : List Key) (s : Scan) → Each KeyTyped ks → Ordered 0 t → Sparse t (s .chosen) → Sparse t ((phase now t ks s) .chosen)
@@ -172,4 +173,5 @@ length-plan now asked s w a g = omega (arith, length-sortByPriority ((scanned no
     sparse : length ((phase now t ks first) .chosen) ≤ held t
     sparse =
         sparse-held t ((phase now t ks first) .chosen) (b .filled)
-        (sparse-phase now t ks first (typed-asked asked (s .readyCursor) t a (b .ordered)) (b .ordered) (sparse-phase now t ps start (expired-keys now s w g) (b .ordered) (record { distinct = tt; within = λ x e. never e })))
+        (sparse-phase now t ks first (typed-asked asked (s .readyCursor) t a (b .ordered)) (b .ordered)
+        (sparse-phase now t ps start (expired-keys now s w g) (b .ordered) (record { distinct = tt; within = λ x e. never e })))

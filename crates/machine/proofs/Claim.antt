@@ -33,7 +33,13 @@ owns-until k n d w = record {
   same = λ r. refl;
   owner = λ p r. omega arith;
   place = λ r. omega arith;
-  lawful = λ r e u h l. record { candidates = l .candidates; owner = (h, w); packed = packed-own (r .key .kind) (r .owner) _ (r .info) (r .«package») (r .parents) (l .packed); parents = l .parents; mark = l .mark };
+  lawful = λ r e u h l. record {
+    candidates = l .candidates;
+    owner = (h, w);
+    packed = packed-own (r .key .kind) (r .owner) _ (r .info) (r .«package») (r .parents) (l .packed);
+    parents = l .parents;
+    mark = l .mark;
+  };
 }
 
 -- ---- what a plan would choose is an able candidate of its request
@@ -65,7 +71,8 @@ least-in : (p : Candidate → Bool) (k : Key) (cs : List Candidate) → AllOf (A
 unfolding leastIn has
 least-in p k [] = tt
 least-in p k (c ∷ cs) =
-    let more = all-map (Among p k cs) (Among p k (c ∷ cs)) (leastIn p k cs) (λ a x. record { key = x .key; passes = x .passes; held = or-true (eqb (c .connection) (a .candidate .connection)) _ (x .held) }) (least-in p k cs) in
+    let more = all-map (Among p k cs) (Among p k (c ∷ cs)) (leastIn p k cs)
+    (λ a x. record { key = x .key; passes = x .passes; held = or-true (eqb (c .connection) (a .candidate .connection)) _ (x .held) }) (least-in p k cs) in
     by-test (AllOf (Among p k (c ∷ cs))) (p c)
     (λ e. better-of _ _ (leastIn p k cs) (record { key = refl; passes = e; held = rw (eq-eqb (c .connection) (c .connection) refl) }) more)
     (λ e. more)
@@ -104,7 +111,8 @@ entry-connection : (a b : Entry) → sameEntry a b ≡ true → a .candidate .co
 unfolding sameEntry
 entry-connection a b e = eqb-true _ _ (and-left (eqb (a .candidate .connection) (b .candidate .connection)) _ (and-right (sameKey (a .key) (b .key)) _ e))
 
-chosen : (now : ℕ) (t : Table) (a : Entry) (x : Option Entry) → AllOf (Chosen now t []) x → isChoice a x ≡ true → (has (a .candidate .connection) ((at (a .key) t) .candidates) ≡ true) × (ownedBy (a .candidate .connection) t < maxInFlight)
+chosen : (now : ℕ) (t : Table) (a : Entry) (x : Option Entry) → AllOf (Chosen now t []) x → isChoice a x ≡ true
+    → (has (a .candidate .connection) ((at (a .key) t) .candidates) ≡ true) × (ownedBy (a .candidate .connection) t < maxInFlight)
 unfolding able chosenBy
 chosen now t a none p e = never e
 chosen now t a (some b) p e =
@@ -125,7 +133,8 @@ takes-means now a t e =
     let c = chosen now t a (choice now t [] (a .key)) (choice-of now t [] (a .key)) (and-right (eqb (ownedAt (a .key .hash) t) 0) _ e) in
     record { free = omega (arith, z); held = c .0; few = c .1 }
 
-pub bounded-take : {m : Limits} {Q : ℕ} {t : Table} (now : ℕ) (a : Entry) → a .key .hash < top → now + requestLifetime < word → Takes t a → Bounded m Q t → Bounded m Q (change (a .key) (ownedUntil (a .candidate .connection) (now + requestLifetime)) t)
+pub bounded-take : {m : Limits} {Q : ℕ} {t : Table} (now : ℕ) (a : Entry) → a .key .hash < top → now + requestLifetime < word → Takes t a → Bounded m Q t
+    → Bounded m Q (change (a .key) (ownedUntil (a .candidate .connection) (now + requestLifetime)) t)
 bounded-take now a s w x b = bounded-own (owns-until (a .key) (a .candidate .connection) (now + requestLifetime) w) s (omega (arith, b .room)) b (x .held) (x .free) (x .few)
 
 pub bounded-claim : {m : Limits} {Q : ℕ} {t : Table} (now : ℕ) (l : List Entry) → now + requestLifetime < word → Each EntryTyped l → Bounded m Q t → Bounded m Q ((claim now l t) .table)

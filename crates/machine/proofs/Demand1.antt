@@ -13,9 +13,11 @@ use Rattle.machine.specs.Limits.{need, maxAnnouncements, maxPlaces, maxP
 use Rattle.machine.specs.State.{State}
 use Rattle.machine.specs.Table.{placesHeld}
 use Rattle.machine.specs.Claim.{elem}
-use Rattle.machine.specs.Call.{Ask, Role, AsSolicitation, AsSweep, AsOther, roleOf, placeTaken, Call, Open, On, Named, named, anyLate, takesPlace, sizesTaken, openingRefusal, askRefusal, refusal}
+use Rattle.machine.specs.Call.{Ask, Role, AsSolicitation, AsSweep, AsOther, roleOf, placeTaken, Call, Open, On, Named}
+use Rattle.machine.specs.Call.{named, anyLate, takesPlace, sizesTaken, openingRefusal, askRefusal, refusal}
 use Rattle.machine.specs.Step.{stepIf}
-use Rattle.machine.specs.Demand1.{Any, WrongSizes, WouldSolicit, OpeningCause, short-store, wrong-sizes, AskCause, unsound-store, connection-0, late-clock, many-parents, short-buffer, no-place, Cause, Sooner, FirstCause, carried, refusedAs, Demand1}
+use Rattle.machine.specs.Demand1.{Any, WrongSizes, WouldSolicit, OpeningCause, short-store, wrong-sizes, AskCause, unsound-store, connection-0}
+use Rattle.machine.specs.Demand1.{late-clock, many-parents, short-buffer, no-place, Cause, Sooner, FirstCause, carried, refusedAs, Demand1}
 use Rattle.machine.proofs.Tests.{test, never, and-left, and-right}
 
 -- ---- a test and what it decides

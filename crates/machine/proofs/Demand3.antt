@@ -54,7 +54,10 @@ sweeps-hold n (c ∷ cs) s k w g h =
     let rest = sweeps-hold n cs ((step n c s) .state) k (w .1) (sound-step n c s (w .0) g) in
     elim (test (sweeping c)) [
       | inl e ↦ rw e (elim (test (carriedOut n c s)) [
-        | inl d ↦ rw d (record { ascending = ascending 0 (s .table) (g .bounded .ordered); inside = inside 0 (s .table) (g .bounded .ordered); member = (rw (e, d) at h) .0; room = omega arith }, rest ((rw (e, d) at h) .1))
+        | inl d ↦ rw d (
+          record { ascending = ascending 0 (s .table) (g .bounded .ordered); inside = inside 0 (s .table) (g .bounded .ordered); member = (rw (e, d) at h) .0; room = omega arith },
+          rest ((rw (e, d) at h) .1),
+        )
         | inr d ↦ rw d (rest (rw (e, d) at h))
       ])
       | inr e ↦ rw e (rest (rw e at h))

@@ -34,7 +34,14 @@ use Rattle.machine.proofs.Places.{gone}
 total-two : (w : Request → ℕ) (j k : Key) (t : Table) → ((i : Key) → w (blank i) ≡ 0) → k .hash < top → Ordered 0 t → (place j ≡ place k → ⊥) → w (at j t) + w (at k t) ≤ total w t
 total-two w j k t z s o n =
     let t′ = change k gone t in
-    omega (arith, total-change w k gone 0 t (z k) o, z ((at k t) .key), total-change w j gone 0 t′ (z j) (ordered-change k gone 0 t (λ r. refl) (omega arith) s o), z ((at j t′) .key), ap w (at-other j k gone t (λ r. refl) n))
+    omega (
+      arith,
+      total-change w k gone 0 t (z k) o,
+      z ((at k t) .key),
+      total-change w j gone 0 t′ (z j) (ordered-change k gone 0 t (λ r. refl) (omega arith) s o),
+      z ((at j t′) .key),
+      ap w (at-other j k gone t (λ r. refl) n),
+    )
 
 owner-counts : (q : ℕ → Bool) (o : Option Owner) → ((n : ℕ) → q n ≡ true) → ownerIn q o ≡ one (isSome o)
 owner-counts q none f = refl
@@ -43,7 +50,15 @@ owner-counts q (some o) f = ap one (f (o .connection))
 pub owned-once : {m : Limits} {Q : ℕ} {t : Table} (k : Key) → k .hash < top → Bounded m Q t → isSome ((at k t) .owner) ≡ true → isSome ((at (other k) t) .owner) ≡ false
 owned-once {m} {Q} {t} k s b e =
     elim (test (isSome ((at (other k) t) .owner))) [
-      | inl d ↦ absurd (omega (arith, total-two (λ r. ownerIn (under (k .hash) (r .key)) (r .owner)) (other k) k t (λ i. refl) s (b .ordered) (other-place k s), b .single (k .hash), counted k s, counted (other k) s, ap one e, ap one d))
+      | inl d ↦ absurd (omega (
+        arith,
+        total-two (λ r. ownerIn (under (k .hash) (r .key)) (r .owner)) (other k) k t (λ i. refl) s (b .ordered) (other-place k s),
+        b .single (k .hash),
+        counted k s,
+        counted (other k) s,
+        ap one e,
+        ap one d,
+      ))
       | inr d ↦ d
     ]
   where
@@ -62,7 +77,8 @@ module _ {m : Limits} {Q : ℕ} {t : Table} (k : Key) (n now : ℕ) (s : k .hash
   unfolding failed
   failed-here e =
       let own = and-left (ownerIs n ((at k t) .owner)) _ e in
-      rw e (ap holdOf (at-both k (left n now) t (left-key n now) s (b .ordered)) ∙ (left-kept k n now (at k t) (lawful-at k t (b .lawful)) ∙ ap (λ (x : Bool). if x then noHold else holdOf (at k t)) own))
+      rw e (ap holdOf (at-both k (left n now) t (left-key n now) s (b .ordered)) ∙
+      (left-kept k n now (at k t) (lawful-at k t (b .lawful)) ∙ ap (λ (x : Bool). if x then noHold else holdOf (at k t)) own))
 
   -- every other key holds what it did, the other kind of the hash too
   pub failed-elsewhere : (j : Key) → j .hash < top → (place j ≡ place k → ⊥) → holdOf (at j ((failed k n now t) .table)) ≡ holdOf (at j t)
@@ -70,7 +86,8 @@ module _ {m : Limits} {Q : ℕ} {t : Table} (k : Key) (n now : ℕ) (s : k .hash
   failed-elsewhere j h d =
       by-test (λ (a : Answer). holdOf (at j (a .table)) ≡ holdOf (at j t)) (releasable n (at k t))
       (λ e. elim (test (eqb (place j) (place (other k)))) [
-        | inl q ↦ rw (place-inj j (other k) h s (eqb-true _ _ q)) (ap holdOf (at-both-other k (left n now) t (left-key n now) s (b .ordered)) ∙ (left-kept (other k) n now (at (other k) t) (lawful-at (other k) t (b .lawful)) ∙ ap (λ (x : Bool). if x then noHold else holdOf (at (other k) t)) (free e)))
+        | inl q ↦ rw (place-inj j (other k) h s (eqb-true _ _ q)) (ap holdOf (at-both-other k (left n now) t (left-key n now) s (b .ordered)) ∙
+            (left-kept (other k) n now (at (other k) t) (lawful-at (other k) t (b .lawful)) ∙ ap (λ (x : Bool). if x then noHold else holdOf (at (other k) t)) (free e)))
         | inr q ↦ ap holdOf (at-both-else j k (left n now) t (left-key n now) d (eqb-false _ _ q))
       ])
       (λ e. refl)
@@ -93,7 +110,8 @@ record DueAt (now lo : ℕ) (t : Table) (d : Due) : Type 0 where
 due-here : (now lo : ℕ) (r : Request) (t : Table) (o : Option Owner) → r .owner ≡ o → lo ≤ place (r .key) → Each (DueAt now lo (r ∷ t)) (dueOf now (r .key) o)
 due-here now lo r t none e h = tt
 due-here now lo r t (some o) e h =
-    by-test (Each (DueAt now lo (r ∷ t))) (leb (o .deadline) now) (λ d. (record { from = h; over = ap (λ (q : Request). overdue now (q .owner)) (at-here (r .key) r t refl) ∙ (ap (overdue now) e ∙ d) }, tt)) (λ d. tt)
+    by-test (Each (DueAt now lo (r ∷ t))) (leb (o .deadline) now)
+    (λ d. (record { from = h; over = ap (λ (q : Request). overdue now (q .owner)) (at-here (r .key) r t refl) ∙ (ap (overdue now) e ∙ d) }, tt)) (λ d. tt)
 
 due-at : (now lo : ℕ) (t : Table) → Ordered lo t → Each (DueAt now lo t) (due now t)
 unfolding due
@@ -106,7 +124,8 @@ due-at now lo (r ∷ t) o =
     later d x = record { from = omega (arith, x .from, o .0); over = ap (λ (q : Request). overdue now (q .owner)) (at-there (d .key) r t (λ e. omega (arith, x .from))) ∙ x .over }
 
 -- failing a key that was due clears it only if it still is
-loosened-over : {m : Limits} {Q : ℕ} {t₀ t : Table} (k : Key) (n now : ℕ) → k .hash < top → Bounded m Q t → Loosened (overdue now) t₀ t → overdue now ((at k t₀) .owner) ≡ true → Loosened (overdue now) t ((failed k n now t) .table)
+loosened-over : {m : Limits} {Q : ℕ} {t₀ t : Table} (k : Key) (n now : ℕ) → k .hash < top → Bounded m Q t → Loosened (overdue now) t₀ t → overdue now ((at k t₀) .owner) ≡ true
+    → Loosened (overdue now) t ((failed k n now t) .table)
 unfolding failed
 loosened-over {m} {Q} {t₀} {t} k n now s b l over = record {
   hold = λ j h. elim (test (eqb (place j) (place k))) [
@@ -121,12 +140,14 @@ loosened-over {m} {Q} {t₀} {t} k n now s b l over = record {
       | inr e ↦ never (ap (λ (x : Hold). ownerIs n (x .owner)) (sym (e .1)) ∙ and-left (ownerIs n ((at k t) .owner)) (not (enqueuedIn ((at k t) .«package»))) d)
     ]
 
-loosened-expire : {m : Limits} {Q : ℕ} {t₀ t : Table} (now : ℕ) (ds : List Due) → now < word → Each DueTyped ds → Each (DueAt now 0 t₀) ds → Bounded m Q t → Loosened (overdue now) t₀ t → Loosened (overdue now) t₀ ((expire m now ds t) .table)
+loosened-expire : {m : Limits} {Q : ℕ} {t₀ t : Table} (now : ℕ) (ds : List Due) → now < word → Each DueTyped ds → Each (DueAt now 0 t₀) ds → Bounded m Q t → Loosened (overdue now) t₀ t
+    → Loosened (overdue now) t₀ ((expire m now ds t) .table)
 unfolding expire
 loosened-expire now [] w a x b l = l
 loosened-expire {m} {Q} {t₀} {t} now (d ∷ ds) w a x b l =
     let f = loosened-over (d .key) (d .connection) now (a .0 .key) b l (x .0 .over) in
-    let p = alone-parents (d .connection) now _ (a .0 .peer) w (few-for (d .connection) (at (d .key) t) (lawful-at (d .key) t (b .lawful))) (bounded-failed (d .key) (d .connection) now (a .0 .key) w b) in
+    let p = alone-parents (d .connection) now _ (a .0 .peer) w (few-for (d .connection) (at (d .key) t) (lawful-at (d .key) t (b .lawful)))
+    (bounded-failed (d .key) (d .connection) now (a .0 .key) w b) in
     loosened-expire now ds w (a .1) (x .1) (bounded-due now d w (a .0) b) (loosened-then l (loosened-then f (loosened-alone p)))
 
 -- a request whose owner still has time keeps what it holds

@@ -83,23 +83,44 @@ shrinks-adopt b c r f = record {
   fewer = λ p. omega (arith, countIn-adopt p b c (r .candidates));
   less = λ p. omega arith;
   place = omega arith;
-  lawful = λ h. record { candidates = fit-adopt b c (r .key) (r .candidates) f (h .candidates); owner = owner-same (r .owner) (r .candidates) _ (λ n. has-adopt n b c (r .candidates)) (h .owner); packed = h .packed; parents = h .parents; mark = h .mark };
+  lawful = λ h. record {
+    candidates = fit-adopt b c (r .key) (r .candidates) f (h .candidates);
+    owner = owner-same (r .owner) (r .candidates) _ (λ n. has-adopt n b c (r .candidates)) (h .owner);
+    packed = h .packed;
+    parents = h .parents;
+    mark = h .mark;
+  };
 }
 
 shrinks-unowned : Shrinks unowned
 shrinks-unowned = record {
   key = λ r. refl;
-  at-each = λ r. record { fewer = λ p. omega arith; less = λ p. omega arith; place = omega arith; lawful = λ h. record { candidates = h .candidates; owner = tt; packed = refl; parents = parents-none; mark = h .mark } };
+  at-each = λ r. record {
+    fewer = λ p. omega arith;
+    less = λ p. omega arith;
+    place = omega arith;
+    lawful = λ h. record { candidates = h .candidates; owner = tt; packed = refl; parents = parents-none; mark = h .mark };
+  };
 }
 
 shrinks-marked : (r : Request) → r .key .kind ≡ Txid → ShrinksAt marked r
-shrinks-marked r e = record { fewer = λ p. omega arith; less = λ p. omega arith; place = omega arith; lawful = λ h. record { candidates = h .candidates; owner = h .owner; packed = h .packed; parents = h .parents; mark = e } }
+shrinks-marked r e = record {
+  fewer = λ p. omega arith;
+  less = λ p. omega arith;
+  place = omega arith;
+  lawful = λ h. record { candidates = h .candidates; owner = h .owner; packed = h .packed; parents = h .parents; mark = e };
+}
 
 shrinks-blank : Shrinks (λ r. blank (r .key))
 unfolding countIn
 shrinks-blank = record {
   key = λ r. refl;
-  at-each = λ r. record { fewer = λ p. omega arith; less = λ p. omega arith; place = omega arith; lawful = λ h. record { candidates = tt; owner = tt; packed = refl; parents = parents-none; mark = tt } };
+  at-each = λ r. record {
+    fewer = λ p. omega arith;
+    less = λ p. omega arith;
+    place = omega arith;
+    lawful = λ h. record { candidates = tt; owner = tt; packed = refl; parents = parents-none; mark = tt };
+  };
 }
 
 left-at : (n now : ℕ) (r : Request) → now < word → ShrinksAt (left n now) r
@@ -110,7 +131,14 @@ left-at n now r w = record {
   place = elim (test (ownerIs n (r .owner))) [ inl e ↦ rw e (omega arith) | inr e ↦ rw e (omega arith) ];
   lawful = λ h. elim (test (ownerIs n (r .owner))) [
     | inl e ↦ rw e (record { candidates = fit h; owner = tt; packed = refl; parents = parents-none; mark = h .mark })
-    | inr e ↦ rw e (record { candidates = fit h; owner = owner-same (r .owner) (without n (r .candidates)) _ (λ i. has-map i now (without n (r .candidates))) (owner-without n (r .owner) (r .candidates) e (h .owner)); packed = h .packed; parents = h .parents; mark = h .mark })
+    | inr e ↦ rw e (record {
+      candidates = fit h;
+      owner = owner-same (r .owner) (without n (r .candidates)) _ (λ i. has-map i now (without n (r .candidates))) (owner-without n (r .owner)
+          (r .candidates) e (h .owner));
+      packed = h .packed;
+      parents = h .parents;
+      mark = h .mark;
+    })
   ];
 }
   where
@@ -154,7 +182,8 @@ bounded-parentAt {m} {Q} {t} k c s a b =
     P : Answer → Type 0
     P x = Bounded m Q (x .table)
 
-bounded-parentKeyed : {m : Limits} {Q : ℕ} {t : Table} (o : Option Key) (c : Candidate) → keyOf (c .item) ≡ o → CursorFits o → 0 < c .connection → CandidateTyped c → Bounded m Q t → Bounded m Q ((requestParentKeyed m o c t) .table)
+bounded-parentKeyed : {m : Limits} {Q : ℕ} {t : Table} (o : Option Key) (c : Candidate) → keyOf (c .item) ≡ o → CursorFits o → 0 < c .connection → CandidateTyped c → Bounded m Q t
+    → Bounded m Q ((requestParentKeyed m o c t) .table)
 unfolding requestParentKeyed
 bounded-parentKeyed none c e s p w b = b
 bounded-parentKeyed (some k) c e s p w b = bounded-parentAt k c s (fits-typed e p w) b
@@ -228,7 +257,8 @@ fits-parent n now h i p w v = record { item = refl; positive = p .positive; conn
 pub bounded-mark : {m : Limits} {Q : ℕ} {t : Table} (h : ℕ) → h < top → Bounded m Q t → Bounded m Q (mark (txid h) t)
 bounded-mark {m} {Q} {t} h s b = bounded-at (txid h) marked s (λ r. refl) (shrinks-marked (at (txid h) t) (ap (λ (k : Key). k .kind) (at-key (txid h) 0 t s (b .ordered)))) b
 
-bounded-parentsFrom : {m : Limits} {Q : ℕ} {t : Table} (n now i : ℕ) (hs : List ℕ) → Peer n → now < word → Hashes hs → i + length hs ≤ word → Bounded m Q t → Bounded m Q ((parentsFrom m n now i hs t) .table)
+bounded-parentsFrom : {m : Limits} {Q : ℕ} {t : Table} (n now i : ℕ) (hs : List ℕ) → Peer n → now < word → Hashes hs → i + length hs ≤ word → Bounded m Q t
+    → Bounded m Q ((parentsFrom m n now i hs t) .table)
 unfolding parentsFrom
 bounded-parentsFrom n now i [] p w a l b = b
 bounded-parentsFrom {m} {Q} {t} n now i (h ∷ hs) p w a l b =
@@ -243,7 +273,8 @@ bounded-parents n now hs p w a b = let f = parents-dedup hs a in bounded-parents
 -- ---- the parents of a request
 
 pub few-for : (n : ℕ) (r : Request) → Lawful r → FewHashes (parentsFor n r)
-few-for n r h = by-test FewHashes (ownerIs n (r .owner) && (r .info || isSome (r .«package»))) (λ e. record { hashes = h .parents .hashes; few = h .parents .few }) (λ e. record { hashes = tt; few = omega arith })
+few-for n r h = by-test FewHashes (ownerIs n (r .owner) && (r .info || isSome (r .«package»))) (λ e. record { hashes = h .parents .hashes; few = h .parents .few })
+    (λ e. record { hashes = tt; few = omega arith })
 
 -- a candidate's connection is not 0, and of 64 bits: and so an owner's
 peer-in : (n : ℕ) (k : Key) (cs : List Candidate) → AllFit k cs → has n cs ≡ true → Peer n

@@ -49,7 +49,8 @@ holds-loosened {p} {n} {t} {t′} l k h = record {
 -- ---- failing each of some keys
 
 -- the keys, and the parents of places given back
-pub length-failEach : {m : Limits} {Q : ℕ} {t : Table} (n now : ℕ) (ks : List Key) → Peer n → now < word → Each KeyTyped ks → Bounded m Q t → length ((failEach m n now ks t) .keys) ≤ length ks + maxParents * placesHeld t
+pub length-failEach : {m : Limits} {Q : ℕ} {t : Table} (n now : ℕ) (ks : List Key) → Peer n → now < word → Each KeyTyped ks → Bounded m Q t
+    → length ((failEach m n now ks t) .keys) ≤ length ks + maxParents * placesHeld t
 unfolding failEach
 length-failEach n now [] p w s b = omega arith
 length-failEach {m} {Q} {t} n now (k ∷ ks) p w s b =
@@ -58,7 +59,8 @@ length-failEach {m} {Q} {t} n now (k ∷ ks) p w s b =
     omega (arith, length-append (a .keys) ((failEach m n now ks (a .table)) .keys), failing-one k n now (s .0) p w b, rest)
 
 -- a key with a place fails once, so that its place bounds the key too
-pub length-failEach-held : {m : Limits} {Q : ℕ} {t : Table} (n now : ℕ) (ks : List Key) → Peer n → now < word → Each (HoldsPlace n t) ks → Bounded m Q t → length ((failEach m n now ks t) .keys) ≤ (maxParents + 1) * placesHeld t
+pub length-failEach-held : {m : Limits} {Q : ℕ} {t : Table} (n now : ℕ) (ks : List Key) → Peer n → now < word → Each (HoldsPlace n t) ks → Bounded m Q t
+    → length ((failEach m n now ks t) .keys) ≤ (maxParents + 1) * placesHeld t
 unfolding failEach
 length-failEach-held n now [] p w s b = omega arith
 length-failEach-held {m} {Q} {t} n now (k ∷ ks) p w s b =
@@ -123,32 +125,43 @@ module _ {m : Limits} {Q : ℕ} {t : Table} (n : ℕ) (cs : List ℕ) (now : ℕ
   unfolding failedPackageClaims
   length-claims-named =
       let ks = someKeys (map (λ c. claimKey n c t) cs) in
-      omega (arith, length-failEach n now ks p w (each-map (HoldsPlace n t) KeyTyped ks (λ k h. h .small) (holds-claims n cs t (b .ordered))) b, length-someKeys (map (λ c. claimKey n c t) cs), length-map cs (λ c. claimKey n c t))
+      omega (
+        arith,
+        length-failEach n now ks p w (each-map (HoldsPlace n t) KeyTyped ks (λ k h. h .small) (holds-claims n cs t (b .ordered))) b,
+        length-someKeys (map (λ c. claimKey n c t) cs),
+        length-map cs (λ c. claimKey n c t),
+      )
 
 -- ---- transaction_not_found
 
-length-failKeyed : {m : Limits} {Q : ℕ} {t : Table} (k : Key) (n now : ℕ) → k .hash < top → now < word → Bounded m Q t → length ((failKeyed (some k) n now t) .keys) + maxParents * placesHeld ((failKeyed (some k) n now t) .table) ≤ 1 + maxParents * placesHeld t
+length-failKeyed : {m : Limits} {Q : ℕ} {t : Table} (k : Key) (n now : ℕ) → k .hash < top → now < word → Bounded m Q t
+    → length ((failKeyed (some k) n now t) .keys) + maxParents * placesHeld ((failKeyed (some k) n now t) .table) ≤ 1 + maxParents * placesHeld t
 length-failKeyed {m} {Q} {t} k n now s w b =
     let a = failed k n now t in
     let g = places-loosened ((bounded-failed k n now s w b) .ordered) (b .ordered) (loosened-failed k n now s w b) in
     by-test (λ (ks : List Key). length ks + maxParents * placesHeld (a .table) ≤ 1 + maxParents * placesHeld t) (a .reply) (λ e. omega arith) (λ e. omega arith)
 
 length-failInfo : {m : Limits} {Q : ℕ} {t : Table} (k : Key) (n now : ℕ) → k .hash < top → Peer n → now < word → Bounded m Q t
-    → length ((listedAfter m k n now (parentsFor n (at k t)) (failedPackageInfo k n now t)) .keys) + maxParents * placesHeld ((listedAfter m k n now (parentsFor n (at k t)) (failedPackageInfo k n now t)) .table) ≤ 1 + maxParents * placesHeld t
+    → length ((listedAfter m k n now (parentsFor n (at k t)) (failedPackageInfo k n now t)) .keys) + maxParents * placesHeld
+    ((listedAfter m k n now (parentsFor n (at k t)) (failedPackageInfo k n now t)) .table) ≤ 1 + maxParents * placesHeld t
 unfolding failedPackageInfo
 length-failInfo {m} {Q} {t} k n now s p w b =
-    by-test (λ (a : Answer). length ((listedAfter m k n now (parentsFor n (at k t)) a) .keys) + maxParents * placesHeld ((listedAfter m k n now (parentsFor n (at k t)) a) .table) ≤ 1 + maxParents * placesHeld t) (infoOwned n (at k t))
+    by-test (λ (a : Answer). length ((listedAfter m k n now (parentsFor n (at k t)) a) .keys) + maxParents * placesHeld ((listedAfter m k n now (parentsFor n (at k t)) a) .table)
+    ≤ 1 + maxParents * placesHeld t) (infoOwned n (at k t))
     (λ e. whole) (λ e. nought)
   where
-    whole : length ((listedAfter m k n now (parentsFor n (at k t)) (failed k n now t)) .keys) + maxParents * placesHeld ((listedAfter m k n now (parentsFor n (at k t)) (failed k n now t)) .table) ≤ 1 + maxParents * placesHeld t
+    whole : length ((listedAfter m k n now (parentsFor n (at k t)) (failed k n now t)) .keys) + maxParents * placesHeld ((listedAfter m k n now (parentsFor n (at k t)) (failed k n now t)) .table)
+        ≤ 1 + maxParents * placesHeld t
     whole = unfold failedWithParents in failing-one k n now s p w b
 
-    nought : length ((listedAfter m k n now (parentsFor n (at k t)) (refused t)) .keys) + maxParents * placesHeld ((listedAfter m k n now (parentsFor n (at k t)) (refused t)) .table) ≤ 1 + maxParents * placesHeld t
+    nought : length ((listedAfter m k n now (parentsFor n (at k t)) (refused t)) .keys) + maxParents * placesHeld ((listedAfter m k n now (parentsFor n (at k t)) (refused t)) .table)
+        ≤ 1 + maxParents * placesHeld t
     nought = unfold listedAfter in omega arith
 
 -- an item lists a key, or names a package
 length-notFoundOne : {m : Limits} {Q : ℕ} {t : Table} (n now : ℕ) (x : ItemKind) (h : ℕ) → Peer n → now < word → h < top → Bounded m Q t
-    → length ((notFoundOne m n now (record { kind = x; hash = h }) t) .keys) + one (isType msgPkgTxns x) + maxParents * placesHeld ((notFoundOne m n now (record { kind = x; hash = h }) t) .table) ≤ 1 + maxParents * placesHeld t
+    → length ((notFoundOne m n now (record { kind = x; hash = h }) t) .keys) + one (isType msgPkgTxns x) + maxParents * placesHeld
+    ((notFoundOne m n now (record { kind = x; hash = h }) t) .table) ≤ 1 + maxParents * placesHeld t
 unfolding notFoundOne
 length-notFoundOne n now Transaction h p w s b = omega (arith, length-failKeyed (txid h) n now s w b)
 length-notFoundOne n now WitnessTransaction h p w s b = omega (arith, length-failKeyed (txid h) n now s w b)
@@ -169,10 +182,22 @@ unfolding notFoundEach packagesIn
 length-notFoundEach n now [] p w s b = omega arith
 length-notFoundEach {m} {Q} {t} n now (i ∷ l) p w s b =
     let a = notFoundOne m n now i t in
-    omega (arith, length-append (a .keys) ((notFoundEach m n now l (a .table)) .keys), length-packagesIn i l, length-notFoundOne n now (i .kind) (i .hash) p w (s .0) b, length-notFoundEach n now l p w (s .1) (bounded-notFoundOne n now i p w (s .0) b))
+    omega (
+      arith,
+      length-append (a .keys) ((notFoundEach m n now l (a .table)) .keys),
+      length-packagesIn i l,
+      length-notFoundOne n now (i .kind) (i .hash) p w (s .0) b,
+      length-notFoundEach n now l p w (s .1) (bounded-notFoundOne n now i p w (s .0) b),
+    )
 
-pub length-notFound : {m : Limits} {Q : ℕ} {t : Table} (n now : ℕ) (l : List Item) → Peer n → now < word → Each (λ (i : Item). i .hash < top) l → Bounded m Q t → length ((notFound m n now l t) .keys) ≤ length l + maxParents * placesHeld t
+pub length-notFound : {m : Limits} {Q : ℕ} {t : Table} (n now : ℕ) (l : List Item) → Peer n → now < word → Each (λ (i : Item). i .hash < top) l → Bounded m Q t
+    → length ((notFound m n now l t) .keys) ≤ length l + maxParents * placesHeld t
 unfolding notFound
 length-notFound {m} {Q} {t} n now l p w s b =
     let a = notFoundEach m n now l t in
-    omega (arith, length-append (a .keys) ((failedPackageClaims m n (packagesIn l) now (a .table)) .keys), length-notFoundEach n now l p w s b, length-claims-named n (packagesIn l) now p w (bounded-notFoundEach n now l p w s b))
+    omega (
+      arith,
+      length-append (a .keys) ((failedPackageClaims m n (packagesIn l) now (a .table)) .keys),
+      length-notFoundEach n now l p w s b,
+      length-claims-named n (packagesIn l) now p w (bounded-notFoundEach n now l p w s b),
+    )

@@ -18,7 +18,8 @@ use Rattle.machine.specs.Sweep.{only, round, lastOf}
 use Rattle.machine.specs.Demand3.{mem, less, unique, flat}
 use Rattle.machine.specs.Typed.{Each}
 use Rattle.machine.proofs.Tests.{test, never}
-use Rattle.machine.proofs.FairLists.{mem-same, mem-append, mem-left, mem-right, absent-left, absent-right, mem-take, Asc, Below, asc-weaken, asc-append, mem-above, mem-below, last-of, asc-join, mem-less, less-shorter, mem-unique, pigeonhole, before, before-left, before-right, take-full, take-before}
+use Rattle.machine.proofs.FairLists.{mem-same, mem-append, mem-left, mem-right, absent-left, absent-right, mem-take, Asc, Below, asc-weaken, asc-append, mem-above, mem-below}
+use Rattle.machine.proofs.FairLists.{last-of, asc-join, mem-less, less-shorter, mem-unique, pigeonhole, before, before-left, before-right, take-full, take-before}
 
 -- ---- batches
 
@@ -139,8 +140,16 @@ unfolding round
 mem-round k none l = refl
 mem-round k (some c) l =
     elim (test (ltb (place c) (place k))) [
-      | inl e ↦ rw (mem-append k (only (λ n. ltb (place c) n) l) (only (λ n. leb n (place c)) l), mem-in (λ n. ltb (place c) n) k l e, mem-out (λ n. leb n (place c)) k l (lt-leb (place k) (place c) (ltb-true (place c) (place k) e))) (or-false _)
-      | inr e ↦ rw (mem-append k (only (λ n. ltb (place c) n) l) (only (λ n. leb n (place c)) l), mem-out (λ n. ltb (place c) n) k l e, mem-in (λ n. leb n (place c)) k l (le-leb (place k) (place c) (ltb-false (place c) (place k) e)))
+      | inl e ↦ rw (
+        mem-append k (only (λ n. ltb (place c) n) l) (only (λ n. leb n (place c)) l),
+        mem-in (λ n. ltb (place c) n) k l e,
+        mem-out (λ n. leb n (place c)) k l (lt-leb (place k) (place c) (ltb-true (place c) (place k) e)),
+      ) (or-false _)
+      | inr e ↦ rw (
+        mem-append k (only (λ n. ltb (place c) n) l) (only (λ n. leb n (place c)) l),
+        mem-out (λ n. ltb (place c) n) k l e,
+        mem-in (λ n. leb n (place c)) k l (le-leb (place k) (place c) (ltb-false (place c) (place k) e)),
+      )
     ]
 
 -- what a lower bound of the round's turns has to meet
@@ -230,7 +239,8 @@ mem-batches x c (b ∷ bs) h =
 -- ---- the theorem
 
 -- With N different keys held at one or more of them, floor((N − 1) / size) + 1 batches hand out each key that all hold.
-pub fair : (size : ℕ) (c : Option Key) (bs : List Batch) (k : Key) → 0 < size → Each (Holds size k) bs → (length (unique (flat (helds bs))) - 1) / size + 1 ≤ length bs → mem k (flat (batches c bs)) ≡ true
+pub fair : (size : ℕ) (c : Option Key) (bs : List Batch) (k : Key) → 0 < size → Each (Holds size k) bs → (length (unique (flat (helds bs))) - 1) / size + 1 ≤ length bs
+    → mem k (flat (batches c bs)) ≡ true
 unfolding flat
 fair size c [] k z g m = absurd (omega arith)
 fair size c (b ∷ bs) k z g m =
@@ -241,7 +251,8 @@ fair size c (b ∷ bs) k z g m =
         div-lt-iff-lt-mul z .0 enough,
         lengths size k z c (b ∷ bs) g e,
         less-shorter k different (mem-unique k _ (mem-left k (b .held) (flat (helds bs)) (g .0 .member))),
-        pigeonhole (turn k) 0 (flat (batches c (b ∷ bs))) (less k different) (chain size k z c 0 (b ∷ bs) g (start c) e) (λ x h. mem-less x k _ (mem-unique x _ (mem-batches x c (b ∷ bs) h)) (λ q. never (sym e ∙ (sym (mem-same x k _ q) ∙ h)))),
+        pigeonhole (turn k) 0 (flat (batches c (b ∷ bs))) (less k different) (chain size k z c 0 (b ∷ bs) g (start c) e)
+            (λ x h. mem-less x k _ (mem-unique x _ (mem-batches x c (b ∷ bs) h)) (λ q. never (sym e ∙ (sym (mem-same x k _ q) ∙ h)))),
       ))
     ]
   where

@@ -17,14 +17,18 @@ use Rattle.machine.specs.State.{Table, State, limitsOf, onTable}
 use Rattle.machine.specs.Table.{total, placesHeld}
 use Rattle.machine.specs.Plan.{plan}
 use Rattle.machine.specs.Claim.{elem}
-use Rattle.machine.specs.Call.{Ask, Announce, RequestParent, Failed, Unclaim, SolicitPackageInfo, ClaimPackage, BeginPackageResolution, AnnounceParents, FailedPackageClaims, Plan, Claim, Sweep, Disconnected, ReleasePackage, TeardownPackageClaims, Forget, ForgetKnown, FailedWithParents, FailedPackageInfo, PackageInfoOwner, AnnounceTransactions, TransactionResponseCompleted, TransactionNotFound, PollGate, Arrange, Sum, Call, Open, On, named, anyLate, takesPlace, sizesTaken, openingRefusal, askRefusal, refusal}
+use Rattle.machine.specs.Call.{Ask, Announce, RequestParent, Failed, Unclaim, SolicitPackageInfo, ClaimPackage, BeginPackageResolution, AnnounceParents}
+use Rattle.machine.specs.Call.{FailedPackageClaims, Plan, Claim, Sweep, Disconnected, ReleasePackage, TeardownPackageClaims, Forget, ForgetKnown}
+use Rattle.machine.specs.Call.{FailedWithParents, FailedPackageInfo, PackageInfoOwner, AnnounceTransactions, TransactionResponseCompleted}
+use Rattle.machine.specs.Call.{TransactionNotFound, PollGate, Arrange, Sum, Call, Open, On, named, anyLate, takesPlace, sizesTaken, openingRefusal, askRefusal, refusal}
 use Rattle.machine.specs.Step.{perform, empty, carryOut, stepIf, step}
 use Rattle.machine.specs.Sound.{Hashes, CursorFits, PollFits, Bounded, Sound}
 use Rattle.machine.specs.Typed.{AskTyped, CallTyped}
 use Rattle.machine.proofs.Tests.{test, by-test, never, and-left, and-right, or-left}
 use Rattle.machine.proofs.Announce.{bounded-announce}
 use Rattle.machine.proofs.Fail.{Peer, FewHashes, bounded-failed, bounded-unclaim, bounded-forget, bounded-requestParent, bounded-parents}
-use Rattle.machine.proofs.Package.{bounded-solicit, bounded-claimPackage, bounded-begin, bounded-failedPackageInfo, bounded-failedWithParents, bounded-release, bounded-failedPackageClaims, bounded-teardown}
+use Rattle.machine.proofs.Package.{bounded-solicit, bounded-claimPackage, bounded-begin, bounded-failedPackageInfo}
+use Rattle.machine.proofs.Package.{bounded-failedWithParents, bounded-release, bounded-failedPackageClaims, bounded-teardown}
 use Rattle.machine.proofs.Leave.{bounded-forgetKnown, bounded-disconnected}
 use Rattle.machine.proofs.Plan.{bounded-expired, swept-cursor, plan-cursor}
 use Rattle.machine.proofs.Claim.{bounded-claim}
@@ -34,7 +38,18 @@ use Rattle.machine.proofs.Wrapper.{bounded-announceTransactions, bounde
 
 bounded-empty : (m : Limits) (Q : ℕ) → Bounded m Q []
 unfolding total
-bounded-empty m Q = record { ordered = tt; filled = tt; lawful = tt; fits = omega arith; each = λ n. omega arith; alternates = λ h. omega arith; once = λ n h. omega arith; owned = λ n. omega arith; single = λ h. omega arith; room = omega arith }
+bounded-empty m Q = record {
+  ordered = tt;
+  filled = tt;
+  lawful = tt;
+  fits = omega arith;
+  each = λ n. omega arith;
+  alternates = λ h. omega arith;
+  once = λ n h. omega arith;
+  owned = λ n. omega arith;
+  single = λ h. omega arith;
+  room = omega arith;
+}
 
 pub sound-empty : (L Q : ℕ) → sizesTaken L Q ≡ true → Sound (empty L Q)
 sound-empty L Q e =
@@ -105,7 +120,8 @@ few-hashes hs a l = record { hashes = a; few = l }
 -- ---- a call that is carried out
 
 -- a call leaves L and Q; the rest of the state is given with its laws
-sound-with : {s : State} {t : Table} {p : Option ℕ} {c d : Option Key} → Sound s → Bounded (limitsOf s) (s .places) t → PollFits p → CursorFits c → CursorFits d → Sound (record { limit = s .limit; places = s .places; table = t; nextPoll = p; knownCursor = c; readyCursor = d })
+sound-with : {s : State} {t : Table} {p : Option ℕ} {c d : Option Key} → Sound s → Bounded (limitsOf s) (s .places) t → PollFits p → CursorFits c → CursorFits d
+    → Sound (record { limit = s .limit; places = s .places; table = t; nextPoll = p; knownCursor = c; readyCursor = d })
 sound-with g b p c d = record { some-limit = g .some-limit; most-limit = g .most-limit; some-place = g .some-place; most-places = g .most-places; bounded = b; poll = p; known = c; ready = d }
 
 pub sound-table : {s : State} {t : Table} → Sound s → Bounded (limitsOf s) (s .places) t → Sound (onTable t s)
@@ -117,7 +133,8 @@ sound-perform (Announce c) s w r g = sound-table g (bounded-announce c (positive
 sound-perform (RequestParent c) s w r g = sound-table g (bounded-requestParent c (positive (c .connection) (r .connections)) w (g .bounded))
 sound-perform (Failed k n now) s w r g = sound-table g (bounded-failed k n now (w .0) (w .2) (g .bounded))
 sound-perform (Unclaim k n) s w r g = sound-table g (bounded-unclaim k n (w .0) (g .bounded))
-sound-perform (SolicitPackageInfo n h hs now) s w r g = sound-table g (bounded-solicit n h hs now (peer n (r .connections) (w .0)) (w .1) (few-hashes hs (w .2) (r .parents)) (on-time now (r .clocks)) (r .place) (g .bounded))
+sound-perform (SolicitPackageInfo n h hs now) s w r g = sound-table g
+    (bounded-solicit n h hs now (peer n (r .connections) (w .0)) (w .1) (few-hashes hs (w .2) (r .parents)) (on-time now (r .clocks)) (r .place) (g .bounded))
 sound-perform (ClaimPackage n h c ws now) s w r g = sound-table g (bounded-claimPackage n h c ws now (w .1) (w .2) (w .3) (g .bounded))
 sound-perform (BeginPackageResolution n h c ws now) s w r g = sound-table g (bounded-begin n h c ws now (w .1) (w .2) (w .3) (g .bounded))
 sound-perform (AnnounceParents n hs now b) s w r g = sound-table g (bounded-parents n now hs (peer n (r .connections) (w .0)) (w .2) (few-hashes hs (w .1) (r .parents)) (g .bounded))

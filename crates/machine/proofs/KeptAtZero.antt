@@ -16,7 +16,9 @@ use Rattle.machine.specs.Announce.{announceAt, announceKeyed, adopted, r
 use Rattle.machine.specs.Fail.{releasable, failed}
 use Rattle.machine.specs.Package.{soliciting, solicit, mayClaim, claimPackage, mayBegin, beginResolution, infoOwned, failedPackageInfo, packageKeys, tearEach, teardown}
 use Rattle.machine.specs.Wrapper.{dueAt, nextPollAfter}
-use Rattle.machine.specs.Call.{Ask, Announce, RequestParent, Failed, Unclaim, SolicitPackageInfo, ClaimPackage, BeginPackageResolution, AnnounceParents, FailedPackageClaims, Plan, Claim, Sweep, Disconnected, ReleasePackage, TeardownPackageClaims, Forget, ForgetKnown, FailedWithParents, FailedPackageInfo, PackageInfoOwner, AnnounceTransactions, TransactionResponseCompleted, TransactionNotFound, PollGate, Arrange, Sum, Call, Open, On, refusal}
+use Rattle.machine.specs.Call.{Ask, Announce, RequestParent, Failed, Unclaim, SolicitPackageInfo, ClaimPackage, BeginPackageResolution, AnnounceParents, FailedPackageClaims}
+use Rattle.machine.specs.Call.{Plan, Claim, Sweep, Disconnected, ReleasePackage, TeardownPackageClaims, Forget, ForgetKnown, FailedWithParents, FailedPackageInfo}
+use Rattle.machine.specs.Call.{PackageInfoOwner, AnnounceTransactions, TransactionResponseCompleted, TransactionNotFound, PollGate, Arrange, Sum, Call, Open, On, refusal}
 use Rattle.machine.specs.Step.{Number, Keys, Entries, answered, perform, carryOut, stepIf}
 use Rattle.machine.specs.Sound.{Packed, Ordered, All, Lawful, Sound}
 use Rattle.machine.specs.Replies.{KeptAt0}

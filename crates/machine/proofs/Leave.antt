@@ -22,11 +22,13 @@ use Rattle.machine.proofs.Fail.{FewHashes, bounded-failed, bounded-forg
 
 bounded-ownerParents : {m : Limits} {Q : ℕ} {t : Table} (now : ℕ) (o : Option Owner) (r : Request) → now < word → r .owner ≡ o → Lawful r → Bounded m Q t → Bounded m Q (ownerParents m now o r t)
 bounded-ownerParents now none r w e l b = b
-bounded-ownerParents now (some o) r w e l b = bounded-parents (o .connection) now _ (owner-peer (o .connection) r l (rw e (eq-eqb (o .connection) (o .connection) refl))) w (few-for (o .connection) r l) b
+bounded-ownerParents now (some o) r w e l b = bounded-parents (o .connection) now _ (owner-peer (o .connection) r l (rw e (eq-eqb (o .connection) (o .connection) refl))) w
+    (few-for (o .connection) r l) b
 
 pub bounded-forgetKnown : {m : Limits} {Q : ℕ} {t : Table} (k : Key) (now : ℕ) → k .hash < top → now < word → Bounded m Q t → Bounded m Q (forgetKnown m k now t)
 unfolding forgetKnown
-bounded-forgetKnown {m} {Q} {t} k now s w b = by-test (Bounded m Q) (guarded now (at k t)) (λ e. b) (λ e. bounded-forget k s (bounded-ownerParents now ((at k t) .owner) (at k t) w refl (lawful-at k t (b .lawful)) b))
+bounded-forgetKnown {m} {Q} {t} k now s w b = by-test (Bounded m Q) (guarded now (at k t)) (λ e. b)
+    (λ e. bounded-forget k s (bounded-ownerParents now ((at k t) .owner) (at k t) w refl (lawful-at k t (b .lawful)) b))
 
 -- ---- disconnected
 
@@ -35,10 +37,12 @@ unfolding keysOf
 keys-of n lo [] o = tt
 keys-of n lo (r ∷ t) o = by-test (Each KeyTyped) (has n (r .candidates)) (λ e. (o .1, keys-of n _ t (o .2))) (λ e. keys-of n _ t (o .2))
 
-pub bounded-announceEach : {m : Limits} {Q : ℕ} {t : Table} (now : ℕ) (k : Key) (hs : List ℕ) (cs : List Candidate) → now < word → AllFit k cs → FewHashes hs → Bounded m Q t → Bounded m Q ((announceEach m now hs cs t) .table)
+pub bounded-announceEach : {m : Limits} {Q : ℕ} {t : Table} (now : ℕ) (k : Key) (hs : List ℕ) (cs : List Candidate) → now < word → AllFit k cs → FewHashes hs → Bounded m Q t
+    → Bounded m Q ((announceEach m now hs cs t) .table)
 unfolding announceEach
 bounded-announceEach now k hs [] w f a b = b
-bounded-announceEach now k hs (c ∷ cs) w f a b = bounded-announceEach now k hs cs w (f .1) a (bounded-parents (c .connection) now hs (record { positive = f .0 .positive; small = f .0 .connection }) w a b)
+bounded-announceEach now k hs (c ∷ cs) w f a b = bounded-announceEach now k hs cs w (f .1) a
+    (bounded-parents (c .connection) now hs (record { positive = f .0 .positive; small = f .0 .connection }) w a b)
 
 pub bounded-dropAt : {m : Limits} {Q : ℕ} {t : Table} (n now : ℕ) (k : Key) → k .hash < top → now < word → Bounded m Q t → Bounded m Q ((dropAt m n now k t) .table)
 unfolding dropAt
@@ -46,7 +50,8 @@ bounded-dropAt {m} {Q} {t} n now k s w b =
     let t′ = (failed k n now t) .table in
     let b′ = bounded-failed k n now s w b in
     by-test (λ (x : Listed). Bounded m Q (x .table)) (ownerIs n ((at k t) .owner))
-    (λ e. bounded-announceEach now _ _ _ w (by-test (AllFit ((at k t′) .key)) (isEmpty (parentsFor n (at k t))) (λ d. tt) (λ d. (lawful-at k t′ (b′ .lawful)) .candidates)) (few-for n (at k t) (lawful-at k t (b .lawful))) b′)
+    (λ e. bounded-announceEach now _ _ _ w (by-test (AllFit ((at k t′) .key)) (isEmpty (parentsFor n (at k t))) (λ d. tt) (λ d. (lawful-at k t′ (b′ .lawful)) .candidates))
+    (few-for n (at k t) (lawful-at k t (b .lawful))) b′)
     (λ e. bounded-cut k n s e b)
 
 bounded-dropEach : {m : Limits} {Q : ℕ} {t : Table} (n now : ℕ) (ks : List Key) → now < word → Each KeyTyped ks → Bounded m Q t → Bounded m Q ((dropEach m n now ks t) .table)

@@ -49,7 +49,8 @@ length-keysOf n (r ∷ t) =
 pub length-keysOf-keys : (n : ℕ) (t : Table) → length (keysOf n t) ≤ length (keys t)
 unfolding keysOf keys
 length-keysOf-keys n [] = omega arith
-length-keysOf-keys n (r ∷ t) = by-test (λ (ks : List Key). length ks ≤ suc (length (keys t))) (has n (r .candidates)) (λ e. omega (arith, length-keysOf-keys n t)) (λ e. omega (arith, length-keysOf-keys n t))
+length-keysOf-keys n (r ∷ t) = by-test (λ (ks : List Key). length ks ≤ suc (length (keys t))) (has n (r .candidates)) (λ e. omega (arith, length-keysOf-keys n t))
+    (λ e. omega (arith, length-keysOf-keys n t))
 
 -- ---- keys in order, repeats dropped
 
@@ -105,7 +106,11 @@ among-within hs (k ∷ l) a x e = elim (elem-cases x (place k) (places l) e) [ i
 
 pub length-sortKeys : (hs : List ℕ) (l : List Key) → Each (Among hs) l → length (sortKeys l) ≤ length hs
 length-sortKeys hs l a =
-    omega (arith, within-shorter hs (places (sortKeys l)) (ascending-distinct 0 (sortKeys l) (ascending-sort l)) (among-within hs (sortKeys l) (each-sort (Among hs) l a)), length-map (sortKeys l) place)
+    omega (
+      arith,
+      within-shorter hs (places (sortKeys l)) (ascending-distinct 0 (sortKeys l) (ascending-sort l)) (among-within hs (sortKeys l) (each-sort (Among hs) l a)),
+      length-map (sortKeys l) place,
+    )
 
 -- ---- the parents that are listed
 
@@ -149,7 +154,8 @@ among-dropAt m n now k t =
 
 -- ---- what disconnected leaves alone
 
-alone-announceEach : {m : Limits} {Q : ℕ} {t : Table} (now : ℕ) (k : Key) (hs : List ℕ) (cs : List Candidate) → now < word → AllFit k cs → FewHashes hs → Bounded m Q t → Alone t ((announceEach m now hs cs t) .table)
+alone-announceEach : {m : Limits} {Q : ℕ} {t : Table} (now : ℕ) (k : Key) (hs : List ℕ) (cs : List Candidate) → now < word → AllFit k cs → FewHashes hs → Bounded m Q t
+    → Alone t ((announceEach m now hs cs t) .table)
 unfolding announceEach
 alone-announceEach now k hs [] w f a b = alone-same
 alone-announceEach now k hs (c ∷ cs) w f a b =
@@ -185,7 +191,8 @@ loosened-parents n k s l x e =
       | inr d ↦ never (ap (λ (hs : List ℕ). elem x hs) (ap (parentsIn n) (sym (d .1))) ∙ e)
     ]
 
-among-dropEach : {m : Limits} {Q : ℕ} {t t₀ : Table} (n now : ℕ) (ks : List Key) → now < word → Each KeyTyped ks → Bounded m Q t → Loosened (ownerIs n) t₀ t → Each (Among (handedOn n ks t₀)) ((dropEach m n now ks t) .keys)
+among-dropEach : {m : Limits} {Q : ℕ} {t t₀ : Table} (n now : ℕ) (ks : List Key) → now < word → Each KeyTyped ks → Bounded m Q t → Loosened (ownerIs n) t₀ t
+    → Each (Among (handedOn n ks t₀)) ((dropEach m n now ks t) .keys)
 unfolding dropEach handedOn
 among-dropEach n now [] w s b l = tt
 among-dropEach {m} {Q} {t} {t₀} n now (k ∷ ks) w s b l =
@@ -216,7 +223,12 @@ length-handedOn n lo [] o l = omega arith
 length-handedOn n lo (r ∷ t) o l =
     let later : length (handedOn n (keysOf n t) (r ∷ t)) ≤ maxParents * placesHeld t = rw (handedOn-later n (keysOf n t) r t (keysOf-from n _ t (o .2))) (length-handedOn n _ t (o .2) (l .1)) in
     by-test (λ (ks : List Key). length (handedOn n ks (r ∷ t)) ≤ maxParents * placesHeld (r ∷ t)) (has n (r .candidates))
-    (λ e. omega (arith, length-append (parentsFor n (at (r .key) (r ∷ t))) (handedOn n (keysOf n t) (r ∷ t)), ap (λ (q : Request). length (parentsFor n q)) (at-here (r .key) r t refl), parents-place n r (l .0)))
+    (λ e. omega (
+      arith,
+      length-append (parentsFor n (at (r .key) (r ∷ t))) (handedOn n (keysOf n t) (r ∷ t)),
+      ap (λ (q : Request). length (parentsFor n q)) (at-here (r .key) r t refl),
+      parents-place n r (l .0),
+    ))
     (λ e. omega arith)
 
 -- ---- disconnected
@@ -228,4 +240,9 @@ module _ {m : Limits} {Q : ℕ} {t : Table} (n now : ℕ) (w : now < word) (b : 
 
   pub length-handed-on : length ((disconnected m n now t) .parents) ≤ maxParents * placesHeld t
   unfolding disconnected
-  length-handed-on = omega (arith, length-sortKeys (handedOn n (keysOf n t) t) ((dropEach m n now (keysOf n t) t) .keys) (among-dropEach n now (keysOf n t) w (keys-of n 0 t (b .ordered)) b loosened-same), length-handedOn n 0 t (b .ordered) (b .lawful))
+  length-handed-on = omega (
+    arith,
+    length-sortKeys (handedOn n (keysOf n t) t) ((dropEach m n now (keysOf n t) t) .keys) (among-dropEach n now (keysOf n t) w
+        (keys-of n 0 t (b .ordered)) b loosened-same),
+    length-handedOn n 0 t (b .ordered) (b .lawful),
+  )

@@ -15,14 +15,17 @@ use Rattle.machine.specs.Table.{at, keys}
 use Rattle.machine.specs.Fail.{Listed, parentsFor, failed, leaves}
 use Rattle.machine.specs.Package.{enqueuedBy, failedWithParents, releasePackage}
 use Rattle.machine.specs.Leave.{disconnected}
-use Rattle.machine.specs.Call.{Ask, Announce, RequestParent, Failed, Unclaim, SolicitPackageInfo, ClaimPackage, BeginPackageResolution, AnnounceParents, FailedPackageClaims, Plan, Claim, Sweep, Disconnected, ReleasePackage, TeardownPackageClaims, Forget, ForgetKnown, FailedWithParents, FailedPackageInfo, PackageInfoOwner, AnnounceTransactions, TransactionResponseCompleted, TransactionNotFound, PollGate, Arrange, Sum, keyBytes, entryBytes, Call, Open, On, named, openingRefusal, askRefusal, refusal}
+use Rattle.machine.specs.Call.{Ask, Announce, RequestParent, Failed, Unclaim, SolicitPackageInfo, ClaimPackage, BeginPackageResolution, AnnounceParents, FailedPackageClaims, Plan, Claim, Sweep}
+use Rattle.machine.specs.Call.{Disconnected, ReleasePackage, TeardownPackageClaims, Forget, ForgetKnown, FailedWithParents, FailedPackageInfo, PackageInfoOwner, AnnounceTransactions}
+use Rattle.machine.specs.Call.{TransactionResponseCompleted, TransactionNotFound, PollGate, Arrange, Sum, keyBytes, entryBytes, Call, Open, On, named, openingRefusal, askRefusal, refusal}
 use Rattle.machine.specs.Step.{perform, carryOut, written, bufferOf, stepIf, step, keysAnswer, entriesAnswer, answerBytes}
 use Rattle.machine.specs.Sound.{Bounded, Sound}
 use Rattle.machine.specs.Typed.{AskTyped, CallTyped}
 use Rattle.machine.proofs.Tests.{by-test}
 use Rattle.machine.proofs.Table.{lawful-at}
 use Rattle.machine.proofs.Kept.{Carried, carried, peer}
-use Rattle.machine.proofs.AnswerLengths.{length-keysAnswer, length-entriesAnswer, keys-held, length-handed, length-claim, length-arrange, length-announceParents, length-listedAfter, length-parentsFor}
+use Rattle.machine.proofs.AnswerLengths.{length-keysAnswer, length-entriesAnswer, keys-held, length-handed, length-claim}
+use Rattle.machine.proofs.AnswerLengths.{length-arrange, length-announceParents, length-listedAfter, length-parentsFor}
 use Rattle.machine.proofs.Chosen.{length-plan}
 use Rattle.machine.proofs.Failing.{length-failedPackageClaims, length-notFound}
 use Rattle.machine.proofs.Leaving.{length-own, length-handed-on}
@@ -48,7 +51,8 @@ length-releasePackage {m} {Q} {t} n h now b =
     by-test (λ (x : Listed). length (x .keys) ≤ maxParents + 1) (enqueuedBy n (at k t))
     (λ e. omega (arith, length-listedAfter m k n now (parentsFor n (at k t)) (done (leaves k n now t)), length-parentsFor n (at k t) (lawful-at k t (b .lawful)))) (λ e. omega arith)
 
-pub length-disconnected : {m : Limits} {Q : ℕ} {t : Table} (n now : ℕ) → now < word → Bounded m Q t → length ((disconnected m n now t) .own ++ (disconnected m n now t) .parents) ≤ min maxPeerAnnouncements (m .announcements) + maxParents * Q
+pub length-disconnected : {m : Limits} {Q : ℕ} {t : Table} (n now : ℕ) → now < word → Bounded m Q t
+    → length ((disconnected m n now t) .own ++ (disconnected m n now t) .parents) ≤ min maxPeerAnnouncements (m .announcements) + maxParents * Q
 length-disconnected {m} {Q} {t} n now w b = omega (arith, length-append ((disconnected m n now t) .own) ((disconnected m n now t) .parents), length-own n now w b, length-handed-on n now w b, b .room)
 
 -- ---- the theorem

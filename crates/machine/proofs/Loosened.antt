@@ -78,7 +78,8 @@ map-empty now (c ∷ cs) e = absurd (omega (arith, ap length e))
 -- the last candidate that leaves unowned leaves nothing that was held
 left-empty : (n now : ℕ) (r : Request) → Lawful r → ownerIs n (r .owner) ≡ false → (left n now r) .candidates ≡ [] → holdOf r ≡ noHold
 left-empty n now r l w e =
-    none-hold r l (owner-empty (r .owner) (without n (r .candidates)) (map-empty now (without n (r .candidates)) (sym (left-candidates n now r) ∙ e)) (owner-without n (r .owner) (r .candidates) w (l .owner)))
+    none-hold r l (owner-empty (r .owner) (without n (r .candidates)) (map-empty now (without n (r .candidates)) (sym (left-candidates n now r) ∙ e))
+    (owner-without n (r .owner) (r .candidates) w (l .owner)))
 
 pub left-kept : (k : Key) (n now : ℕ) (r : Request) → Lawful r → holdOf (kept k (left n now r) ((left n now r) .candidates)) ≡ (if ownerIs n (r .owner) then noHold else holdOf r)
 left-kept k n now r l = go (ownerIs n (r .owner)) refl
@@ -89,13 +90,15 @@ left-kept k n now r l = go (ownerIs n (r .owner)) refl
 
 loosened-left : (k : Key) (n now : ℕ) (t : Table) → k .hash < top → Ordered 0 t → All Lawful t → Loosened (ownerIs n) t (change k (left n now) t)
 loosened-left k n now t s o l = record {
-  hold = at-either (λ j r. (holdOf r ≡ holdOf (at j t)) ⊎ ((ownerIs n ((at j t) .owner) ≡ true) × (holdOf r ≡ noHold))) k (left n now) t s (left-key n now) o (go (ownerIs n ((at k t) .owner)) refl (left-kept k n now (at k t) (lawful-at k t l))) (λ j h. inl refl);
+  hold = at-either (λ j r. (holdOf r ≡ holdOf (at j t)) ⊎ ((ownerIs n ((at j t) .owner) ≡ true) × (holdOf r ≡ noHold))) k (left n now) t s (left-key n now) o
+      (go (ownerIs n ((at k t) .owner)) refl (left-kept k n now (at k t) (lawful-at k t l))) (λ j h. inl refl);
 }
   where
     r′ : Request
     r′ = kept k (left n now (at k t)) ((left n now (at k t)) .candidates)
 
-    go : (b : Bool) → ownerIs n ((at k t) .owner) ≡ b → holdOf r′ ≡ (if ownerIs n ((at k t) .owner) then noHold else holdOf (at k t)) → (holdOf r′ ≡ holdOf (at k t)) ⊎ ((ownerIs n ((at k t) .owner) ≡ true) × (holdOf r′ ≡ noHold))
+    go : (b : Bool) → ownerIs n ((at k t) .owner) ≡ b → holdOf r′ ≡ (if ownerIs n ((at k t) .owner) then noHold else holdOf (at k t))
+        → (holdOf r′ ≡ holdOf (at k t)) ⊎ ((ownerIs n ((at k t) .owner) ≡ true) × (holdOf r′ ≡ noHold))
     go true e h = inr (e, h ∙ ap (λ (b : Bool). if b then noHold else holdOf (at k t)) e)
     go false e h = inl (h ∙ ap (λ (b : Bool). if b then noHold else holdOf (at k t)) e)
 

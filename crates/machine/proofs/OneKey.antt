@@ -60,7 +60,8 @@ owner-held n (some o) cs f e = has-some (o .connection) cs (f .0)
 pub unclaim-here : (k : Key) (n : ℕ) (t : Table) → Ordered 0 t → All Lawful t → releasable n (at k t) ≡ true → at k (unclaim k n t) ≡ unowned (at k t)
 unfolding unclaim
 unclaim-here k n t o l e =
-    let h : 1 ≤ length ((at k t) .candidates) = owner-held n ((at k t) .owner) ((at k t) .candidates) ((lawful-at k t l) .owner) (and-left (ownerIs n ((at k t) .owner)) (not (enqueuedIn ((at k t) .«package»))) e) in
+    let h : 1 ≤ length ((at k t) .candidates) = owner-held n ((at k t) .owner) ((at k t) .candidates) ((lawful-at k t l) .owner)
+    (and-left (ownerIs n ((at k t) .owner)) (not (enqueuedIn ((at k t) .«package»))) e) in
     rw e (at-changed k unowned t (λ r. refl) o h)
 
 pub forget-here : (k : Key) (t : Table) → Ordered 0 t → at k (forget k t) ≡ blank k
@@ -69,13 +70,15 @@ forget-here k t o = at-same k (λ r. blank (r .key)) 0 t (λ r. refl) o
 
 -- ---- solicit_package_info
 
-pub solicit-elsewhere : (m : Limits) (n h : ℕ) (hs : List ℕ) (now : ℕ) (t : Table) → h < top → Ordered 0 t → All Lawful t → (j : Key) → j .hash < top → (place j ≡ place (wtxid h) → ⊥) → holdOf (at j ((solicit m n h hs now t) .table)) ≡ holdOf (at j t)
+pub solicit-elsewhere : (m : Limits) (n h : ℕ) (hs : List ℕ) (now : ℕ) (t : Table) → h < top → Ordered 0 t → All Lawful t → (j : Key) → j .hash < top → (place j ≡ place (wtxid h) → ⊥)
+    → holdOf (at j ((solicit m n h hs now t) .table)) ≡ holdOf (at j t)
 unfolding solicit
 solicit-elsewhere m n h hs now t s o l j u d =
     let a = announceAt m (wtxid h) (soliciting n h now) t in
     let q = (alone-announceAt m (wtxid h) (soliciting n h now) t s o l) .hold j u in
     by-test P (eqb (ownedAt h t) 0 && ltb (ownedBy n t) maxInFlight)
-    (λ e. by-test P (has n ((at (wtxid h) (a .table)) .candidates)) (λ x. ap holdOf (at-other j (wtxid h) (solicited n (now + requestLifetime) (dedup hs)) (a .table) (λ r. refl) d) ∙ q) (λ x. q)) (λ e. refl)
+    (λ e. by-test P (has n ((at (wtxid h) (a .table)) .candidates)) (λ x. ap holdOf (at-other j (wtxid h) (solicited n (now + requestLifetime) (dedup hs)) (a .table) (λ r. refl) d) ∙ q) (λ x. q))
+    (λ e. refl)
   where
     P : Answer → Type 0
     P x = holdOf (at j (x .table)) ≡ holdOf (at j t)

@@ -18,7 +18,9 @@ use Rattle.machine.specs.State.{Owner, Package, Request, Table, Answer, 
 use Rattle.machine.specs.Table.{at, change, one, countIn, ownerIn, placeIn, placesHeld, has, by, under, ownedBy, ownedAt}
 use Rattle.machine.specs.Announce.{announceAt}
 use Rattle.machine.specs.Fail.{Listed}
-use Rattle.machine.specs.Package.{soliciting, solicited, solicit, liveOwner, packaged, mayClaim, claimPackage, sameList, awaits, mayBegin, beginResolution, listedAfter, failedWithParents, infoOwned, failedPackageInfo, enqueuedBy, releasePackage, awaitsHash, claimKey, someKeys, failEach, failedPackageClaims, packageKeys, leftIfOwned, tearOne, tearEach, teardown}
+use Rattle.machine.specs.Package.{soliciting, solicited, solicit, liveOwner, packaged, mayClaim, claimPackage, sameList, awaits, mayBegin}
+use Rattle.machine.specs.Package.{beginResolution, listedAfter, failedWithParents, infoOwned, failedPackageInfo, enqueuedBy, releasePackage}
+use Rattle.machine.specs.Package.{awaitsHash, claimKey, someKeys, failEach, failedPackageClaims, packageKeys, leftIfOwned, tearOne, tearEach, teardown}
 use Rattle.machine.specs.Sound.{Hashes, CursorFits, Fits, PackageFits, ParentsFit, Packed, Ordered, Lawful, Bounded}
 use Rattle.machine.specs.Typed.{Each, KeyTyped}
 use Rattle.machine.proofs.Tests.{by-test, never, and-left, and-right}
@@ -45,13 +47,20 @@ owns-solicited h n d hs w a = record {
   same = λ r. refl;
   owner = λ p r. omega arith;
   place = λ r. place-solicited (r .info) (r .«package»);
-  lawful = λ r e u h l. record { candidates = l .candidates; owner = (h, w); packed = packed-solicited (r .key .kind) (r .owner) _ (r .info) (r .«package») (r .parents) hs (ap (λ (k : Key). k .kind) e) u (l .packed); parents = a; mark = l .mark };
+  lawful = λ r e u h l. record {
+    candidates = l .candidates;
+    owner = (h, w);
+    packed = packed-solicited (r .key .kind) (r .owner) _ (r .info) (r .«package») (r .parents) hs (ap (λ (k : Key). k .kind) e) u (l .packed);
+    parents = a;
+    mark = l .mark;
+  };
 }
 
 fits-soliciting : (n h now : ℕ) → Peer n → now < word → Fits (wtxid h) (soliciting n h now)
 fits-soliciting n h now p w = record { item = refl; positive = p .positive; connection = p .small; ready = w; priority = omega arith }
 
-pub bounded-solicit : {m : Limits} {Q : ℕ} {t : Table} (n h : ℕ) (hs : List ℕ) (now : ℕ) → Peer n → h < top → FewHashes hs → now + requestLifetime < word → ((solicit m n h hs now t) .reply ≡ true → placesHeld t < Q) → Bounded m Q t → Bounded m Q ((solicit m n h hs now t) .table)
+pub bounded-solicit : {m : Limits} {Q : ℕ} {t : Table} (n h : ℕ) (hs : List ℕ) (now : ℕ) → Peer n → h < top → FewHashes hs → now + requestLifetime < word
+    → ((solicit m n h hs now t) .reply ≡ true → placesHeld t < Q) → Bounded m Q t → Bounded m Q ((solicit m n h hs now t) .table)
 unfolding solicit
 bounded-solicit {m} {Q} {t} n h hs now p s a w room b =
     by-test P (eqb (ownedAt h t) 0 && ltb (ownedBy n t) maxInFlight)
@@ -93,7 +102,13 @@ shrinks-packaged p r f e = record {
   fewer = λ q. omega arith;
   less = λ q. omega arith;
   place = omega arith;
-  lawful = λ h. record { candidates = h .candidates; owner = h .owner; packed = packed-pack (r .key .kind) (r .owner) (r .info) (r .«package») p (r .parents) f e (h .packed); parents = h .parents; mark = h .mark };
+  lawful = λ h. record {
+    candidates = h .candidates;
+    owner = h .owner;
+    packed = packed-pack (r .key .kind) (r .owner) (r .info) (r .«package») p (r .parents) f e (h .packed);
+    parents = h .parents;
+    mark = h .mark;
+  };
 }
 
 -- as many wtxids as a package may have
@@ -148,7 +163,8 @@ pub bounded-failedPackageInfo : {m : Limits} {Q : ℕ} {t : Table} (k : Key) (n 
 unfolding failedPackageInfo
 bounded-failedPackageInfo {m} {Q} {t} k n now s w b = by-test (λ (x : Answer). Bounded m Q (x .table)) (infoOwned n (at k t)) (λ e. bounded-failed k n now s w b) (λ e. b)
 
-pub bounded-listed : {m : Limits} {Q : ℕ} (k : Key) (n now : ℕ) (hs : List ℕ) (a : Answer) → Peer n → now < word → FewHashes hs → Bounded m Q (a .table) → Bounded m Q ((listedAfter m k n now hs a) .table)
+pub bounded-listed : {m : Limits} {Q : ℕ} (k : Key) (n now : ℕ) (hs : List ℕ) (a : Answer) → Peer n → now < word → FewHashes hs → Bounded m Q (a .table)
+    → Bounded m Q ((listedAfter m k n now hs a) .table)
 unfolding listedAfter
 bounded-listed {m} {Q} k n now hs a p w h b = by-test (λ (x : Listed). Bounded m Q (x .table)) (a .reply) (λ e. bounded-parents n now hs p w h b) (λ e. b)
 

@@ -32,7 +32,8 @@ use Rattle.machine.proofs.AnswerLengths.{length-announceParents}
 abbrev pub gone : Request → Request
 gone r = blank (r .key)
 
-pub total-mono : (w : Request → ℕ) (lo : ℕ) (t′ t : Table) → ((k : Key) → w (blank k) ≡ 0) → Ordered lo t′ → Ordered 0 t → ((j : Key) → j .hash < top → w (at j t′) ≤ w (at j t)) → total w t′ ≤ total w t
+pub total-mono : (w : Request → ℕ) (lo : ℕ) (t′ t : Table) → ((k : Key) → w (blank k) ≡ 0) → Ordered lo t′ → Ordered 0 t → ((j : Key) → j .hash < top → w (at j t′) ≤ w (at j t))
+    → total w t′ ≤ total w t
 unfolding total
 total-mono w lo [] t z o′ o h = omega arith
 total-mono w lo (r ∷ t′) t z o′ o h =
@@ -59,12 +60,19 @@ unfolding placeOf
 places-alone {t} {t′} o′ o a = total-mono _ 0 t′ t (λ k. refl) o′ o (λ j s. omega (arith, ap placeOf (a .hold j s)))
 
 -- a request that its owner leaves gives its place back
-pub places-leaves : {m : Limits} {Q : ℕ} {t : Table} (k : Key) (n now : ℕ) → k .hash < top → now < word → Bounded m Q t → ownerIs n ((at k t) .owner) ≡ true → placesHeld (leaves k n now t) + placeIn ((at k t) .info) ((at k t) .«package») ≤ placesHeld t
+pub places-leaves : {m : Limits} {Q : ℕ} {t : Table} (k : Key) (n now : ℕ) → k .hash < top → now < word → Bounded m Q t → ownerIs n ((at k t) .owner) ≡ true
+    → placesHeld (leaves k n now t) + placeIn ((at k t) .info) ((at k t) .«package») ≤ placesHeld t
 unfolding placeOf
 places-leaves {m} {Q} {t} k n now s w b e =
     let f = left n now in
     let b′ = bounded-change k f s (shrinks-left n now w) b in
-    omega (arith, places-change k f t (b .ordered), ap placeOf (left-hold n now (at k t) true e), places-change (other k) f (change k f t) (b′ .ordered), (shrinks-left n now w) .at-each (at (other k) (change k f t)) .place)
+    omega (
+      arith,
+      places-change k f t (b .ordered),
+      ap placeOf (left-hold n now (at k t) true e),
+      places-change (other k) f (change k f t) (b′ .ordered),
+      (shrinks-left n now w) .at-each (at (other k) (change k f t)) .place,
+    )
 
 -- parents stand beside a place only
 place-held : (i : Bool) (p : Option Package) → (i || isSome p) ≡ true → placeIn i p ≡ 1
@@ -85,7 +93,8 @@ failing-cases : (C : List Key → Table → Type 0) (m : Limits) (k : Key) (n no
     → (releasable n (at k t) ≡ true → C (k ∷ (announceParents m n now (parentsFor n (at k t)) (leaves k n now t)) .keys) ((announceParents m n now (parentsFor n (at k t)) (leaves k n now t)) .table))
     → C [] t → C ((failedWithParents m k n now t) .keys) ((failedWithParents m k n now t) .table)
 unfolding failedWithParents listedAfter failed
-failing-cases C m k n now t out stay = by-test (λ (a : Answer). C ((listedAfter m k n now (parentsFor n (at k t)) a) .keys) ((listedAfter m k n now (parentsFor n (at k t)) a) .table)) (releasable n (at k t)) out (λ e. stay)
+failing-cases C m k n now t out stay = by-test (λ (a : Answer). C ((listedAfter m k n now (parentsFor n (at k t)) a) .keys) ((listedAfter m k n now (parentsFor n (at k t)) a) .table))
+    (releasable n (at k t)) out (λ e. stay)
 
 module _ {m : Limits} {Q : ℕ} {t : Table} (k : Key) (n now : ℕ) (s : k .hash < top) (p : Peer n) (w : now < word) (b : Bounded m Q t) where
   abbrev pl : ℕ
@@ -95,12 +104,17 @@ module _ {m : Limits} {Q : ℕ} {t : Table} (k : Key) (n now : ℕ) (s : k .hash
   hs = parentsFor n (at k t)
 
   -- at most 100 parents are listed for the place that is given back
-  given-back : releasable n (at k t) ≡ true → (length ((announceParents m n now hs (leaves k n now t)) .keys) ≤ maxParents * pl) × (placesHeld ((announceParents m n now hs (leaves k n now t)) .table) + pl ≤ placesHeld t)
+  given-back : releasable n (at k t) ≡ true → (length ((announceParents m n now hs (leaves k n now t)) .keys) ≤ maxParents * pl)
+      × (placesHeld ((announceParents m n now hs (leaves k n now t)) .table) + pl ≤ placesHeld t)
   given-back e =
       let l = lawful-at k t (b .lawful) in
       let b′ = bounded-leaves k n now s w b in (
         omega (arith, length-announceParents m n now hs (leaves k n now t), parents-place n (at k t) l),
-        omega (arith, places-leaves k n now s w b (and-left (ownerIs n ((at k t) .owner)) _ e), places-alone ((bounded-parents n now hs p w (few-for n (at k t) l) b′) .ordered) (b′ .ordered) (alone-parents n now hs p w (few-for n (at k t) l) b′)),
+        omega (
+          arith,
+          places-leaves k n now s w b (and-left (ownerIs n ((at k t) .owner)) _ e),
+          places-alone ((bounded-parents n now hs p w (few-for n (at k t) l) b′) .ordered) (b′ .ordered) (alone-parents n now hs p w (few-for n (at k t) l) b′),
+        ),
       )
 
   -- one key, and the parents of places given back
@@ -108,5 +122,7 @@ module _ {m : Limits} {Q : ℕ} {t : Table} (k : Key) (n now : ℕ) (s : k .hash
   failing-one = failing-cases (λ ks t′. length ks + maxParents * placesHeld t′ ≤ 1 + maxParents * placesHeld t) m k n now t (λ e. omega (arith, given-back e)) (omega arith)
 
   -- where the key has a place if it fails at all, the place bounds the key too
-  pub failing-held : (ownerIs n ((at k t) .owner) ≡ true → placeIn ((at k t) .info) ((at k t) .«package») ≡ 1) → length ((failedWithParents m k n now t) .keys) + (maxParents + 1) * placesHeld ((failedWithParents m k n now t) .table) ≤ (maxParents + 1) * placesHeld t
-  failing-held h = failing-cases (λ ks t′. length ks + (maxParents + 1) * placesHeld t′ ≤ (maxParents + 1) * placesHeld t) m k n now t (λ e. omega (arith, given-back e, h (and-left (ownerIs n ((at k t) .owner)) _ e))) (omega arith)
+  pub failing-held : (ownerIs n ((at k t) .owner) ≡ true → placeIn ((at k t) .info) ((at k t) .«package») ≡ 1)
+      → length ((failedWithParents m k n now t) .keys) + (maxParents + 1) * placesHeld ((failedWithParents m k n now t) .table) ≤ (maxParents + 1) * placesHeld t
+  failing-held h = failing-cases (λ ks t′. length ks + (maxParents + 1) * placesHeld t′ ≤ (maxParents + 1) * placesHeld t) m k n now t
+      (λ e. omega (arith, given-back e, h (and-left (ownerIs n ((at k t) .owner)) _ e))) (omega arith)

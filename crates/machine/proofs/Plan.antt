@@ -37,10 +37,13 @@ due-one now k (some o) s p = by-test (Each DueTyped) (leb (o .deadline) now) (λ
 pub due-typed : (now lo : ℕ) (t : Table) → Ordered lo t → All Lawful t → Each DueTyped (due now t)
 unfolding due
 due-typed now lo [] o l = tt
-due-typed now lo (r ∷ t) o l = each-append DueTyped (dueOf now (r .key) (r .owner)) (due now t) (due-one now (r .key) (r .owner) (o .1) (λ n e. owner-peer n r (l .0) e)) (due-typed now _ t (o .2) (l .1))
+due-typed now lo (r ∷ t) o l = each-append DueTyped (dueOf now (r .key) (r .owner)) (due now t) (due-one now (r .key) (r .owner) (o .1) (λ n e. owner-peer n r (l .0) e))
+    (due-typed now _ t (o .2) (l .1))
 
-pub bounded-due : {m : Limits} {Q : ℕ} {t : Table} (now : ℕ) (d : Due) → now < word → DueTyped d → Bounded m Q t → Bounded m Q ((announceParents m (d .connection) now (parentsFor (d .connection) (at (d .key) t)) ((failed (d .key) (d .connection) now t) .table)) .table)
-bounded-due {m} {Q} {t} now d w a b = bounded-parents (d .connection) now _ (a .peer) w (few-for (d .connection) (at (d .key) t) (lawful-at (d .key) t (b .lawful))) (bounded-failed (d .key) (d .connection) now (a .key) w b)
+pub bounded-due : {m : Limits} {Q : ℕ} {t : Table} (now : ℕ) (d : Due) → now < word → DueTyped d → Bounded m Q t
+    → Bounded m Q ((announceParents m (d .connection) now (parentsFor (d .connection) (at (d .key) t)) ((failed (d .key) (d .connection) now t) .table)) .table)
+bounded-due {m} {Q} {t} now d w a b = bounded-parents (d .connection) now _ (a .peer) w (few-for (d .connection) (at (d .key) t) (lawful-at (d .key) t (b .lawful)))
+    (bounded-failed (d .key) (d .connection) now (a .key) w b)
 
 pub bounded-expire : {m : Limits} {Q : ℕ} {t : Table} (now : ℕ) (ds : List Due) → now < word → Each DueTyped ds → Bounded m Q t → Bounded m Q ((expire m now ds t) .table)
 unfolding expire
@@ -88,7 +91,8 @@ swept-cursor c lo t o = last-typed (handed c (keys t)) (take-typed maxKnownCheck
 phase-cursor : (now : ℕ) (t : Table) (ks : List Key) (s : Scan) → Each KeyTyped ks → CursorFits (s .last) → CursorFits ((phase now t ks s) .last)
 unfolding phase consider
 phase-cursor now t [] s a c = c
-phase-cursor now t (k ∷ ks) s a c = by-test (λ (s : Scan). CursorFits (s .last)) (leb maxRequestChecks (length ((consider now t k s) .chosen))) (λ e. a .0) (λ e. phase-cursor now t ks (consider now t k s) (a .1) (a .0))
+phase-cursor now t (k ∷ ks) s a c = by-test (λ (s : Scan). CursorFits (s .last)) (leb maxRequestChecks (length ((consider now t k s) .chosen))) (λ e. a .0)
+    (λ e. phase-cursor now t ks (consider now t k s) (a .1) (a .0))
 
 parentsFrom-keys : (m : Limits) (n now i : ℕ) (hs : List ℕ) (t : Table) → Hashes hs → Each KeyTyped ((parentsFrom m n now i hs t) .keys)
 unfolding parentsFrom

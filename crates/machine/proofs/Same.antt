@@ -68,7 +68,8 @@ module _ {A : Type 0} (c : Request → A → A) (z : A) (nought : (k : Key) (a :
   walk-from k lo (r ∷ t) o p =
       elim (test (leb (place (r .key)) (place k))) [
         | inl e ↦ rw e (elim (test (eqb (place k) (place (r .key)))) [
-          | inl d ↦ sym (ap (λ (q : Request). c q (walk c z (after k t))) (at-here k r t (eqb-true _ _ d)) ∙ ap (λ (x : Table). c r (walk c z x)) (after-all k _ t (omega (arith, eqb-true (place k) (place (r .key)) d)) (o .2)))
+          | inl d ↦ sym (ap (λ (q : Request). c q (walk c z (after k t))) (at-here k r t (eqb-true _ _ d)) ∙
+              ap (λ (x : Table). c r (walk c z x)) (after-all k _ t (omega (arith, eqb-true (place k) (place (r .key)) d)) (o .2)))
           | inr d ↦ passes-head (place k) lo r t o (omega (arith, leb-true (place (r .key)) (place k) e, eqb-false (place k) (place (r .key)) d)) p (walk c z t)
               ∙ (walk-from k _ t (o .2) (passes-tail (place k) lo r t o p) ∙ ap (λ (q : Request). c q (walk c z (after k t))) (sym (at-there k r t (eqb-false _ _ d))))
         ])
@@ -89,13 +90,15 @@ module _ {A : Type 0} (c : Request → A → A) (z : A) (nought : (k : Key) (a :
       let o″ = ordered-after k lo t o in
       let rest : walk c z t′ ≡ walk c z (after k t) = walk-same _ _ t′ (after k t) (o′ .2) o″ (λ j s a. elim (test (leb (place j) (place k))) [
         | inl d ↦ let h : place j < suc (place k) = omega (arith, leb-true (place j) (place k) d) in ap (λ (q : Request). c q a) (at-absent j _ t′ h (o′ .2) ∙ sym (at-absent j _ (after k t) h o″))
-        | inr d ↦ let h : place k < place j = leb-false _ _ d in ap (λ (q : Request). c q a) (sym (at-there j r t′ (λ x. omega arith))) ∙ (e j s a ∙ ap (λ (q : Request). c q a) (sym (at-after j k lo t o h)))
+        | inr d ↦ let h : place k < place j = leb-false _ _ d in ap (λ (q : Request). c q a) (sym (at-there j r t′ (λ x. omega arith))) ∙
+            (e j s a ∙ ap (λ (q : Request). c q a) (sym (at-after j k lo t o h)))
       ]) in
       let first : c r (walk c z (after k t)) ≡ c (at k t) (walk c z (after k t)) = ap (λ (q : Request). c q (walk c z (after k t))) (sym (at-here k r t′ refl)) ∙ e k (o′ .1) (walk c z (after k t)) in
       ap (c r) rest ∙ (first ∙ sym (walk-from k lo t o (λ j s h a. sym (e j s a) ∙ (ap (λ (q : Request). c q a) (at-absent j (place k) (r ∷ t′) h (omega arith, o′ .1, o′ .2)) ∙ nought j a))))
 
 -- what is listed of key, owner, flag, package and parents stays where all holds are left alone
-pub walk-alone : {A : Type 0} {t t′ : Table} (c : Key → Hold → A → A) (z : A) → ((k : Key) (a : A) → c k noHold a ≡ a) → Ordered 0 t → Ordered 0 t′ → Alone t t′ → walk (λ r. c (r .key) (holdOf r)) z t′ ≡ walk (λ r. c (r .key) (holdOf r)) z t
+pub walk-alone : {A : Type 0} {t t′ : Table} (c : Key → Hold → A → A) (z : A) → ((k : Key) (a : A) → c k noHold a ≡ a) → Ordered 0 t → Ordered 0 t′ → Alone t t′
+    → walk (λ r. c (r .key) (holdOf r)) z t′ ≡ walk (λ r. c (r .key) (holdOf r)) z t
 walk-alone {A} {t} {t′} c z n o o′ e =
     walk-same (λ r. c (r .key) (holdOf r)) z n 0 0 t′ t o′ o
     (λ j s a. ap (λ (x : Hold). c ((at j t′) .key) x a) (e .hold j s) ∙ ap (λ (k : Key). c k (holdOf (at j t)) a) (at-key j 0 t′ s o′ ∙ sym (at-key j 0 t s o)))

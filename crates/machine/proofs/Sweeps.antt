@@ -17,7 +17,9 @@ use Rattle.machine.specs.Table.{keys}
 use Rattle.machine.specs.Sweep.{lastOf, handed}
 use Rattle.machine.specs.Plan.{plan}
 use Rattle.machine.specs.Sound.{Ordered}
-use Rattle.machine.specs.Call.{Ask, Announce, RequestParent, Failed, Unclaim, SolicitPackageInfo, ClaimPackage, BeginPackageResolution, AnnounceParents, FailedPackageClaims, Plan, Claim, Sweep, Disconnected, ReleasePackage, TeardownPackageClaims, Forget, ForgetKnown, FailedWithParents, FailedPackageInfo, PackageInfoOwner, AnnounceTransactions, TransactionResponseCompleted, TransactionNotFound, PollGate, Arrange, Sum, Call, Open, On}
+use Rattle.machine.specs.Call.{Ask, Announce, RequestParent, Failed, Unclaim, SolicitPackageInfo, ClaimPackage, BeginPackageResolution, AnnounceParents}
+use Rattle.machine.specs.Call.{FailedPackageClaims, Plan, Claim, Sweep, Disconnected, ReleasePackage, TeardownPackageClaims, Forget, ForgetKnown, FailedWithParents}
+use Rattle.machine.specs.Call.{FailedPackageInfo, PackageInfoOwner, AnnounceTransactions, TransactionResponseCompleted, TransactionNotFound, PollGate, Arrange, Sum, Call, Open, On}
 use Rattle.machine.specs.Step.{swept, perform, carryOut, stepIf, step}
 use Rattle.machine.specs.Demand3.{carriedOut, Swept, isSweep, sweeping, opening, keysIn, sweepsOf, NoOpening}
 use Rattle.machine.proofs.Tests.{test, never}

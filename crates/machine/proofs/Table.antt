@@ -87,14 +87,17 @@ total-change w k f lo (r ∷ t) z o =
       ])
     ]
 
-pub count-change : (q : Key → ℕ → Bool) (k : Key) (f : Request → Request) (t : Table) → Ordered 0 t → count q (change k f t) + countIn (q ((at k t) .key)) ((at k t) .candidates) ≤ count q t + countIn (q ((f (at k t)) .key)) ((f (at k t)) .candidates)
+pub count-change : (q : Key → ℕ → Bool) (k : Key) (f : Request → Request) (t : Table) → Ordered 0 t
+    → count q (change k f t) + countIn (q ((at k t) .key)) ((at k t) .candidates) ≤ count q t + countIn (q ((f (at k t)) .key)) ((f (at k t)) .candidates)
 unfolding countIn
 count-change q k f t o = total-change _ k f 0 t refl o
 
-pub places-change : (k : Key) (f : Request → Request) (t : Table) → Ordered 0 t → placesHeld (change k f t) + placeIn ((at k t) .info) ((at k t) .«package») ≤ placesHeld t + placeIn ((f (at k t)) .info) ((f (at k t)) .«package»)
+pub places-change : (k : Key) (f : Request → Request) (t : Table) → Ordered 0 t
+    → placesHeld (change k f t) + placeIn ((at k t) .info) ((at k t) .«package») ≤ placesHeld t + placeIn ((f (at k t)) .info) ((f (at k t)) .«package»)
 places-change k f t o = total-change _ k f 0 t refl o
 
-pub owners-change : (q : Key → ℕ → Bool) (k : Key) (f : Request → Request) (t : Table) → Ordered 0 t → owners q (change k f t) + ownerIn (q ((at k t) .key)) ((at k t) .owner) ≤ owners q t + ownerIn (q ((f (at k t)) .key)) ((f (at k t)) .owner)
+pub owners-change : (q : Key → ℕ → Bool) (k : Key) (f : Request → Request) (t : Table) → Ordered 0 t
+    → owners q (change k f t) + ownerIn (q ((at k t) .key)) ((at k t) .owner) ≤ owners q t + ownerIn (q ((f (at k t)) .key)) ((f (at k t)) .owner)
 owners-change q k f t o = total-change _ k f 0 t refl o
 
 -- ---- a law of each request

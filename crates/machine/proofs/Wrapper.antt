@@ -11,7 +11,8 @@ use Rattle.machine.specs.Limits.{Limits, maxInFlight, requestLifetime, m
 use Rattle.machine.specs.State.{Table}
 use Rattle.machine.specs.Table.{at, one, ownedBy}
 use Rattle.machine.specs.Fail.{Listed}
-use Rattle.machine.specs.Wrapper.{Offer, isWTx, offered, offersFrom, announceTransactions, responseCompleted, failKeyed, isType, notFoundOne, notFoundEach, packagesIn, notFound, dueAt, nextPollAfter}
+use Rattle.machine.specs.Wrapper.{Offer, isWTx, offered, offersFrom, announceTransactions, responseCompleted, failKeyed}
+use Rattle.machine.specs.Wrapper.{isType, notFoundOne, notFoundEach, packagesIn, notFound, dueAt, nextPollAfter}
 use Rattle.machine.specs.Sound.{CursorFits, PollFits, Bounded}
 use Rattle.machine.specs.Typed.{CandidateTyped, OfferTyped, Each}
 use Rattle.machine.proofs.Tests.{by-test}
@@ -34,12 +35,14 @@ offered-typed n now p v f o a w h = record {
   priority = h .priority;
 }
 
-bounded-offers : {m : Limits} {Q : ℕ} {t : Table} (n now : ℕ) (p v f : Bool) (os : List Offer) → Peer n → now + requestLifetime < word → Each OfferTyped os → Bounded m Q t → Bounded m Q (offersFrom m n now p v f os t)
+bounded-offers : {m : Limits} {Q : ℕ} {t : Table} (n now : ℕ) (p v f : Bool) (os : List Offer) → Peer n → now + requestLifetime < word → Each OfferTyped os → Bounded m Q t
+    → Bounded m Q (offersFrom m n now p v f os t)
 unfolding offersFrom
 bounded-offers n now p v f [] a w h b = b
 bounded-offers n now p v f (o ∷ os) a w h b = bounded-offers n now p v f os a w (h .1) (bounded-announce (offered n now p v f o) (a .positive) (offered-typed n now p v f o a w (h .0)) b)
 
-pub bounded-announceTransactions : {m : Limits} {Q : ℕ} {t : Table} (n now : ℕ) (p v : Bool) (os : List Offer) → Peer n → now + requestLifetime < word → Each OfferTyped os → Bounded m Q t → Bounded m Q (announceTransactions m n now p v os t)
+pub bounded-announceTransactions : {m : Limits} {Q : ℕ} {t : Table} (n now : ℕ) (p v : Bool) (os : List Offer) → Peer n → now + requestLifetime < word → Each OfferTyped os → Bounded m Q t
+    → Bounded m Q (announceTransactions m n now p v os t)
 unfolding announceTransactions
 bounded-announceTransactions {m} {Q} {t} n now p v os a w h b = bounded-offers n now p v (leb maxInFlight (ownedBy n t)) os a w h b
 
@@ -61,12 +64,14 @@ bounded-notFoundOne {m} {Q} {t} n now i p w s b =
     (λ e. bounded-listed k n now _ _ p w (few-for n (at k t) (lawful-at k t (b .lawful))) (bounded-failedPackageInfo k n now s w b))
     (λ e. bounded-failKeyed (keyOf i) n now (item-fits i s) w b)
 
-pub bounded-notFoundEach : {m : Limits} {Q : ℕ} {t : Table} (n now : ℕ) (l : List Item) → Peer n → now < word → Each (λ (i : Item). i .hash < top) l → Bounded m Q t → Bounded m Q ((notFoundEach m n now l t) .table)
+pub bounded-notFoundEach : {m : Limits} {Q : ℕ} {t : Table} (n now : ℕ) (l : List Item) → Peer n → now < word → Each (λ (i : Item). i .hash < top) l → Bounded m Q t
+    → Bounded m Q ((notFoundEach m n now l t) .table)
 unfolding notFoundEach
 bounded-notFoundEach n now [] p w s b = b
 bounded-notFoundEach n now (i ∷ l) p w s b = bounded-notFoundEach n now l p w (s .1) (bounded-notFoundOne n now i p w (s .0) b)
 
-pub bounded-notFound : {m : Limits} {Q : ℕ} {t : Table} (n now : ℕ) (l : List Item) → Peer n → now < word → Each (λ (i : Item). i .hash < top) l → Bounded m Q t → Bounded m Q ((notFound m n now l t) .table)
+pub bounded-notFound : {m : Limits} {Q : ℕ} {t : Table} (n now : ℕ) (l : List Item) → Peer n → now < word → Each (λ (i : Item). i .hash < top) l → Bounded m Q t
+    → Bounded m Q ((notFound m n now l t) .table)
 unfolding notFound
 bounded-notFound n now l p w s b = bounded-failedPackageClaims n (packagesIn l) now p w (bounded-notFoundEach n now l p w s b)
 

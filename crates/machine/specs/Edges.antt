@@ -140,6 +140,7 @@ pub record Edges : Type 0 where
   -- "Parents a, b, a: a and b, priorities 0 and 1." Here a is 500 and b 300, so that b stands first.
   pub parents : figures (λ c. c .priority) (after (AnnounceParents 7 (500 ∷ 300 ∷ 500 ∷ []) 0 [] ∷ []) (empty 4 1)) ≡ (1 ∷ []) ∷ (0 ∷ []) ∷ []
   -- "Inbound, txid delay, overload: ready = now + 6,000."
-  pub delayed : figures (λ c. c .ready) (after (AnnounceTransactions 7 1000 false true (record { item = record { kind = Transaction; hash = 0 }; priority = 0 } ∷ []) ∷ []) (owning 100)) ≡ (7000 ∷ []) ∷ map (λ (r : Request). 0 ∷ []) ((owning 100) .table)
+  pub delayed : figures (λ c. c .ready) (after (AnnounceTransactions 7 1000 false true (record { item = record { kind = Transaction; hash = 0 }; priority = 0 } ∷ []) ∷ []) (owning 100)) ≡
+      (7000 ∷ []) ∷ map (λ (r : Request). 0 ∷ []) ((owning 100) .table)
   -- "L = 3, held 2: `2,1,666`."
   pub two-of-three : reply Sum (after (Announce (w 7 10 false 5) ∷ Announce (w 8 10 false 5) ∷ []) (empty 3 1)) ≡ Summed (record { held = 2; free = 1; permille = 666 })

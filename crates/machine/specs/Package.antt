@@ -23,7 +23,15 @@ soliciting n h now = record { connection = n; item = record { kind = WTx; hash =
 
 -- "owner with deadline now + 60,000, flag, parents with repeats dropped"
 abbrev pub solicited : ℕ → ℕ → List ℕ → Request → Request
-solicited n d hs r = record { key = r .key; candidates = r .candidates; owner = some (record { connection = n; deadline = d }); info = true; «package» = r .«package»; parents = hs; fallback = r .fallback }
+solicited n d hs r = record {
+  key = r .key;
+  candidates = r .candidates;
+  owner = some (record { connection = n; deadline = d });
+  info = true;
+  «package» = r .«package»;
+  parents = hs;
+  fallback = r .fallback;
+}
 
 -- "0 if the hash is owned or the connection owns 100 .. 0 if the connection is still no candidate under that Wtxid key"
 unfoldable pub solicit : Limits → ℕ → ℕ → List ℕ → ℕ → Table → Answer

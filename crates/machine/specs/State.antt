@@ -99,7 +99,15 @@ abbrev pub unowned : Request → Request
 unowned r = record { key = r .key; candidates = r .candidates; owner = none; info = false; «package» = none; parents = []; fallback = r .fallback }
 
 abbrev pub ownedUntil : ℕ → ℕ → Request → Request
-ownedUntil n d r = record { key = r .key; candidates = r .candidates; owner = some (record { connection = n; deadline = d }); info = r .info; «package» = r .«package»; parents = r .parents; fallback = r .fallback }
+ownedUntil n d r = record {
+  key = r .key;
+  candidates = r .candidates;
+  owner = some (record { connection = n; deadline = d });
+  info = r .info;
+  «package» = r .«package»;
+  parents = r .parents;
+  fallback = r .fallback;
+}
 
 abbrev pub marked : Request → Request
 marked r = record { key = r .key; candidates = r .candidates; owner = r .owner; info = r .info; «package» = r .«package»; parents = r .parents; fallback = true }

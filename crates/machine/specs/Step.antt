@@ -21,7 +21,9 @@ use Rattle.machine.specs.Sweep.{lastOf, handed}
 use Rattle.machine.specs.Plan.{Planned, plan}
 use Rattle.machine.specs.Claim.{Taken, claim, arrange}
 use Rattle.machine.specs.Wrapper.{announceTransactions, responseCompleted, notFound, dueAt, nextPollAfter, Sums, sum}
-use Rattle.machine.specs.Call.{Buffer, Ask, Announce, RequestParent, Failed, Unclaim, SolicitPackageInfo, ClaimPackage, BeginPackageResolution, AnnounceParents, FailedPackageClaims, Plan, Claim, Sweep, Disconnected, ReleasePackage, TeardownPackageClaims, Forget, ForgetKnown, FailedWithParents, FailedPackageInfo, PackageInfoOwner, AnnounceTransactions, TransactionResponseCompleted, TransactionNotFound, PollGate, Arrange, Sum, Call, Open, On, Named, named, refusal}
+use Rattle.machine.specs.Call.{Buffer, Ask, Announce, RequestParent, Failed, Unclaim, SolicitPackageInfo, ClaimPackage, BeginPackageResolution, AnnounceParents, FailedPackageClaims}
+use Rattle.machine.specs.Call.{Plan, Claim, Sweep, Disconnected, ReleasePackage, TeardownPackageClaims, Forget, ForgetKnown, FailedWithParents, FailedPackageInfo, PackageInfoOwner}
+use Rattle.machine.specs.Call.{AnnounceTransactions, TransactionResponseCompleted, TransactionNotFound, PollGate, Arrange, Sum, Call, Open, On, Named, named, refusal}
 
 -- A reply, in document 01's numbers and values.
 pub data Reply : Type 0 where
