@@ -73,7 +73,8 @@ low-append (a ∷ x) y p q (suc i) = low-append x y (λ j. p (suc j)) q i
 
 low-key : (k : Key) → Low (keyAnswer k)
 unfolding bytesOf
-low-key k = low-append (bytesOf (kindNumber (k .kind) ∷ [])) (digits 256 32 (k .hash)) (low-append (digits 256 8 (kindNumber (k .kind))) [] (low-digits 8 (kindNumber (k .kind))) (λ j. omega arith)) (low-digits 32 (k .hash))
+low-key k = low-append (bytesOf (kindNumber (k .kind) ∷ [])) (digits 256 32 (k .hash))
+    (low-append (digits 256 8 (kindNumber (k .kind))) [] (low-digits 8 (kindNumber (k .kind))) (λ j. omega arith)) (low-digits 32 (k .hash))
 
 pub keys-low : (ks : List Key) (i : ℕ) → getD (keysAnswer ks) i 0 < 256
 unfolding keysAnswer

@@ -50,7 +50,8 @@ item-is b i {k} {w} {h} l e f g d =
     let n : i < length b / itemBytes = omega (arith, length-recs itemBytes itemIn (length b / itemBytes) b) in
     let x : 8 * (5 * i) ≡ itemBytes * i = omega arith in
     let p : take 8 (drop (8 * (5 * i)) b) ≡ take 8 (take itemBytes (drop (itemBytes * i) b)) = rw x (sym (take-take 8 itemBytes (drop (itemBytes * i) b) (omega arith))) in
-    let q : take hashBytes (drop (itemBytes * i + 8) b) ≡ drop 8 (take itemBytes (drop (itemBytes * i) b)) = ap (take hashBytes) (sym (drop-drop 8 (itemBytes * i) b)) ∙ sym (drop-take 8 32 (drop (itemBytes * i) b)) in
+    let q : take hashBytes (drop (itemBytes * i + 8) b) ≡ drop 8 (take itemBytes (drop (itemBytes * i) b)) = ap (take hashBytes) (sym (drop-drop 8 (itemBytes * i) b)) ∙
+    sym (drop-take 8 32 (drop (itemBytes * i) b)) in
     let u : w ≡ number 256 (take 8 (take itemBytes (drop (itemBytes * i) b))) = e ∙ word-at b (5 * i) (omega arith) ∙ ap (number 256) p in
     let v : h ≡ number 256 (drop 8 (take itemBytes (drop (itemBytes * i) b))) = g ∙ ap (number 256) q in
     rw (f, v) (ap (λ (z : ℕ). record { kind = itemKindIn z; hash = number 256 (drop 8 (take itemBytes (drop (itemBytes * i) b))) }) u)
@@ -102,8 +103,10 @@ number-fits k b h p =
 recs-hashes : (n : ℕ) (b : List ℕ) → itemBytes * n ≤ length b → Low b → Each (λ (i : Item). i .hash < top) (recs itemBytes itemIn n b)
 unfolding recs itemIn top
 recs-hashes zero b h p = tt
-recs-hashes (suc n) b h p =
-    (rw (drop-take 8 32 b) (number-fits hashBytes (drop 8 b) (simp length-drop (omega arith)) (low-drop 8 b p)), recs-hashes n (drop itemBytes b) (simp length-drop (omega arith)) (low-drop itemBytes b p))
+recs-hashes (suc n) b h p = (
+  rw (drop-take 8 32 b) (number-fits hashBytes (drop 8 b) (simp length-drop (omega arith)) (low-drop 8 b p)),
+  recs-hashes n (drop itemBytes b) (simp length-drop (omega arith)) (low-drop itemBytes b p),
+)
 
 pub items-fit : (b : List ℕ) → Low b → Each (λ (i : Item). i .hash < top) (itemsIn b)
 unfolding itemsIn

@@ -33,14 +33,30 @@ unfolding keyIn
 key-back k l = as-kind (k .kind) (k .hash) l
   where
     as-kind : (d : Kind) (h : ℕ) → h < top → keyIn (keyAnswer (record { kind = d; hash = h })) ≡ record { kind = d; hash = h }
-    as-kind Txid h l = rw (take-at (bytesOf (0 ∷ [])) (digits 256 32 h) 8 (length-bytes (0 ∷ [])), drop-at (bytesOf (0 ∷ [])) (digits 256 32 h) 8 (length-bytes (0 ∷ [])), word-back 0 (lit< tt), hash-back h l)
-    as-kind Wtxid h l = rw (take-at (bytesOf (1 ∷ [])) (digits 256 32 h) 8 (length-bytes (1 ∷ [])), drop-at (bytesOf (1 ∷ [])) (digits 256 32 h) 8 (length-bytes (1 ∷ [])), word-back 1 (lit< tt), hash-back h l)
+    as-kind Txid h l = rw (
+      take-at (bytesOf (0 ∷ [])) (digits 256 32 h) 8 (length-bytes (0 ∷ [])),
+      drop-at (bytesOf (0 ∷ [])) (digits 256 32 h) 8 (length-bytes (0 ∷ [])),
+      word-back 0 (lit< tt),
+      hash-back h l,
+    )
+    as-kind Wtxid h l = rw (
+      take-at (bytesOf (1 ∷ [])) (digits 256 32 h) 8 (length-bytes (1 ∷ [])),
+      drop-at (bytesOf (1 ∷ [])) (digits 256 32 h) 8 (length-bytes (1 ∷ [])),
+      word-back 1 (lit< tt),
+      hash-back h l,
+    )
 
 front-back : (ks : List Key) (v : List ℕ) → Each KeyTyped ks → keysIn (length ks) (keysAnswer ks ++ v) ≡ ks
 unfolding keysIn recs keysAnswer
 front-back [] v e = refl
 front-back (k ∷ ks) v e =
-    rw (append-assoc (keyAnswer k) (keysAnswer ks) v, take-at (keyAnswer k) (keysAnswer ks ++ v) keyBytes (length-keyAnswer k), drop-at (keyAnswer k) (keysAnswer ks ++ v) keyBytes (length-keyAnswer k), key-back k (e .0), front-back ks v (e .1))
+    rw (
+      append-assoc (keyAnswer k) (keysAnswer ks) v,
+      take-at (keyAnswer k) (keysAnswer ks ++ v) keyBytes (length-keyAnswer k),
+      drop-at (keyAnswer k) (keysAnswer ks ++ v) keyBytes (length-keyAnswer k),
+      key-back k (e .0),
+      front-back ks v (e .1),
+    )
 
 -- the keys that a call wrote over the first bytes of the buffer u
 pub keys-back : (ks : List Key) (u : List ℕ) → Each KeyTyped ks → keysIn (length ks) (written (keysAnswer ks) u) ≡ ks
@@ -57,8 +73,10 @@ key-read u i d {v} {h} l e k q =
     let lx : length x ≡ length u - keyBytes * i = length-drop (keyBytes * i) u in
     let a : 8 * (i * 5) ≡ keyBytes * i = omega arith in
     let b : i * 5 * 8 + 8 ≡ keyBytes * i + 8 = omega arith in
-    let front : v ≡ number 256 (take 8 (take keyBytes x)) = e ∙ word-at u (i * 5) (omega arith) ∙ ap (λ (j : ℕ). number 256 (take 8 (drop j u))) a ∙ ap (number 256) (sym (take-take 8 keyBytes x (omega arith))) in
-    let back : h ≡ number 256 (drop 8 (take keyBytes x)) = q ∙ ap (λ (j : ℕ). number 256 (take 32 (drop j u))) b ∙ ap (λ (l : List ℕ). number 256 (take 32 l)) (sym (drop-drop 8 (keyBytes * i) u)) ∙ ap (number 256) (sym (rest x (omega arith))) in
+    let front : v ≡ number 256 (take 8 (take keyBytes x)) = e ∙ word-at u (i * 5) (omega arith) ∙ ap (λ (j : ℕ). number 256 (take 8 (drop j u))) a ∙
+    ap (number 256) (sym (take-take 8 keyBytes x (omega arith))) in
+    let back : h ≡ number 256 (drop 8 (take keyBytes x)) = q ∙ ap (λ (j : ℕ). number 256 (take 32 (drop j u))) b ∙
+    ap (λ (l : List ℕ). number 256 (take 32 l)) (sym (drop-drop 8 (keyBytes * i) u)) ∙ ap (number 256) (sym (rest x (omega arith))) in
     λ j. record { kind = (k ∙ ap kindIn front) j; hash = back j }
   where
     rest : (x : List ℕ) → 8 ≤ length x → drop 8 (take (8 + 32) x) ≡ take 32 (drop 8 x)

@@ -30,7 +30,8 @@ returns : tie.Need-returns
 returns c =
     let e : c .before .before .before .before .args .i * 5 ≡ 5 * c .before .before .before .before .args .i = omega arith in
     let f : c .before .before .before .before .args .i * itemBytes + 8 ≡ itemBytes * c .before .before .before .before .args .i + 8 = omega arith in
-    item-is (c .before .before .before .before .args .b .now) (c .before .before .before .before .args .i) (c .before .before .before .before .pre) (rw e at (c .before .before .get .ensures)) (c .before .kind-in .ensures) (rw f at (c .hash-at .ensures))
+    item-is (c .before .before .before .before .args .b .now) (c .before .before .before .before .args .i) (c .before .before .before .before .pre) (rw e at (c .before .before .get .ensures))
+    (c .before .kind-in .ensures) (rw f at (c .hash-at .ensures))
 
 pub item-at-spec : {M : Type 1} → statement M
 item-at-spec = tie.close (tie.spec mul-get get-requires kind-in-requires mul-hash-at add-hash-at hash-at-requires returns)

@@ -22,7 +22,8 @@ hash-at-requires : tie.Need-hash-at-requires
 hash-at-requires c κs = search needs
 
 returns : tie.Need-returns
-returns c = key-read (c .before .before .before .before .args .u .now) (c .before .before .before .before .args .i) (c .before .kind-from .result) (c .before .before .before .before .pre) (c .before .before .get .ensures) (c .before .kind-from .ensures) (c .hash-at .ensures)
+returns c = key-read (c .before .before .before .before .args .u .now) (c .before .before .before .before .args .i) (c .before .kind-from .result) (c .before .before .before .before .pre)
+    (c .before .before .get .ensures) (c .before .kind-from .ensures) (c .hash-at .ensures)
 
 pub key-at-spec : {M : Type 1} → statement M
 key-at-spec =

@@ -39,7 +39,8 @@ same-hash-requires c κs = tt
 returns : tie.Need-returns Inv-loop μ-loop
 returns c =
     let start : tie.Start Inv-loop μ-loop = c .before .before .before .before .before .before .before in
-    sym (elem-met _ _ (start .args .i) (c .before .before .before .before .loop .j) (omega arith) (omega (arith, start .pre)) (same-as (c .before .same-hash .ensures) (c .before .before .hash-in2 .ensures) (c .before .before .before .before .before .hash-in .ensures) (c .if1 .taken)))
+    sym (elem-met _ _ (start .args .i) (c .before .before .before .before .loop .j) (omega arith) (omega (arith, start .pre))
+    (same-as (c .before .same-hash .ensures) (c .before .before .hash-in2 .ensures) (c .before .before .before .before .before .hash-in .ensures) (c .if1 .taken)))
 
 add-j : tie.Need-add-j Inv-loop μ-loop
 add-j c = omega arith
@@ -49,8 +50,11 @@ loop-less c = omega arith
 
 loop-again : tie.Need-loop-again Inv-loop μ-loop
 loop-again c =
-    let start : tie.Start Inv-loop μ-loop = c .before .before .before .before .before .before .before in
-    (omega arith, rw add-one (elem-passed _ _ (c .before .before .before .before .loop .j) (omega (arith, start .pre)) (c .before .before .before .before .loop .inv .1) (same-as (c .before .same-hash .ensures) (c .before .before .hash-in2 .ensures) (c .before .before .before .before .before .hash-in .ensures) (c .if1 .left))))
+    let start : tie.Start Inv-loop μ-loop = c .before .before .before .before .before .before .before in (
+      omega arith,
+      rw add-one (elem-passed _ _ (c .before .before .before .before .loop .j) (omega (arith, start .pre)) (c .before .before .before .before .loop .inv .1)
+          (same-as (c .before .same-hash .ensures) (c .before .before .hash-in2 .ensures) (c .before .before .before .before .before .hash-in .ensures) (c .if1 .left))),
+    )
 
 returns-2 : tie.Need-returns-2 Inv-loop μ-loop
 returns-2 c =

@@ -13,10 +13,12 @@ items-requires : tie.Need-items-requires
 items-requires c κs = search needs
 
 returns : tie.Need-returns
-returns c = c .before .items .ensures ∙ sym (shorter-items (itemsIn (c .before .before .before .before .args .b .now)) (words (c .before .before .before .before .args .priorities .now)) (omega (arith, length-words (c .before .before .before .before .args .priorities .now), c .before .items .ensures)))
+returns c = c .before .items .ensures ∙ sym (shorter-items (itemsIn (c .before .before .before .before .args .b .now)) (words (c .before .before .before .before .args .priorities .now))
+    (omega (arith, length-words (c .before .before .before .before .args .priorities .now), c .before .items .ensures)))
 
 returns-2 : tie.Need-returns-2
-returns-2 c = sym (length-words (c .before .before .before .before .args .priorities .now)) ∙ sym (shorter-priorities (itemsIn (c .before .before .before .before .args .b .now)) (words (c .before .before .before .before .args .priorities .now)) (omega (arith, length-words (c .before .before .before .before .args .priorities .now), c .before .items .ensures)))
+returns-2 c = sym (length-words (c .before .before .before .before .args .priorities .now)) ∙ sym (shorter-priorities (itemsIn (c .before .before .before .before .args .b .now))
+    (words (c .before .before .before .before .args .priorities .now)) (omega (arith, length-words (c .before .before .before .before .args .priorities .now), c .before .items .ensures)))
 
 pub offers-spec : {M : Type 1} → statement M
 offers-spec = tie.close (tie.spec items-requires returns returns-2)

@@ -29,7 +29,8 @@ same-length c = search needs
 returns : tie.Need-returns
 returns c =
     let start : tie.Start = c .before .before .before .before .before .before .before .before .before .before .before in
-    key-put (start .args .n) _ (keyNum (start .args .k)) (start .pre) (c .before .before .before .before .before .before .before .kind-number .ensures) (c .before .before .before .before .before .before .put .ensures) (c .before .before .put-hash .ensures)
+    key-put (start .args .n) _ (keyNum (start .args .k)) (start .pre) (c .before .before .before .before .before .before .before .kind-number .ensures)
+    (c .before .before .before .before .before .before .put .ensures) (c .before .before .put-hash .ensures)
 
 pub put-key-spec : {M : Type 1} → statement M
 put-key-spec =

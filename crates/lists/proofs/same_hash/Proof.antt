@@ -22,10 +22,12 @@ returns : tie.Need-returns
 returns c = ap isEqual (sym (c .enum-told .given .1)) ∙ equal-is (hashNum (c .before .before .before .args .a)) (hashNum (c .before .before .before .args .b)) _ (c .before .before .cmp-hash .ensures)
 
 returns-2 : tie.Need-returns-2
-returns-2 c = ap isEqual (sym (c .enum-told2 .given .1)) ∙ equal-is (hashNum (c .before .before .before .args .a)) (hashNum (c .before .before .before .args .b)) _ (c .before .before .cmp-hash .ensures)
+returns-2 c = ap isEqual (sym (c .enum-told2 .given .1)) ∙ equal-is (hashNum (c .before .before .before .args .a)) (hashNum (c .before .before .before .args .b)) _
+    (c .before .before .cmp-hash .ensures)
 
 returns-3 : tie.Need-returns-3
-returns-3 c = ap isEqual (sym (c .enum-told3 .given .1)) ∙ equal-is (hashNum (c .before .before .before .args .a)) (hashNum (c .before .before .before .args .b)) _ (c .before .before .cmp-hash .ensures)
+returns-3 c = ap isEqual (sym (c .enum-told3 .given .1)) ∙ equal-is (hashNum (c .before .before .before .args .a)) (hashNum (c .before .before .before .args .b)) _
+    (c .before .before .cmp-hash .ensures)
 
 pub same-hash-spec : {M : Type 1} → statement M
 same-hash-spec =
