@@ -6,7 +6,8 @@ use mathlib.Core.Bool.{true, false, _&&_}
 use mathlib.Core.List.{List, [], _∷_, _++_, append-assoc, append-nil}
 use mathlib.Core.Option.{none, some}
 use mathlib.Core.Logic.{inl, inr}
-use native.Mathlib.Nat.{pow-zero, pow-suc, div-lt-iff-lt-mul, mod-lt, div-le-self, div-add-mod', mul-add-div-right, div-eq-of-lt, mul-add-mod-self-right, mod-eq-of-lt, add-zero, mul-le-mul-right, one-mul, le-div-iff-mul-le}
+use native.Mathlib.Nat.{pow-zero, pow-suc, div-lt-iff-lt-mul, mod-lt, div-le-self, div-add-mod', mul-add-div-right, div-eq-of-lt}
+use native.Mathlib.Nat.{mul-add-mod-self-right, mod-eq-of-lt, add-zero, mul-le-mul-right, one-mul, le-div-iff-mul-le}
 use native.Mathlib.Omega.{arith}
 use lib.Dec.{ltb}
 use lib.ListN.{length, length-append}

@@ -89,7 +89,8 @@ before-digits b (suc k) n f l u = elim (test (ltb n b)) [
   | inr t ↦
       let h = ltb-false n b t in
       let r : n % b < b = mod-lt n (omega arith) in
-      rw (numeral-more b k n h, append-assoc, append-assoc, before-digits b k (n / b) (digitText (n % b) ∷ f) l u) (ap (λ (t : List ℕ). numeral b k (n / b) ++ t) (before-skip 58 (digitText (n % b)) f (no-colon (n % b) (omega arith))))
+      rw (numeral-more b k n h, append-assoc, append-assoc, before-digits b k (n / b) (digitText (n % b) ∷ f) l u)
+      (ap (λ (t : List ℕ). numeral b k (n / b) ++ t) (before-skip 58 (digitText (n % b)) f (no-colon (n % b) (omega arith))))
 ]
 
 -- a search from p on ends in the list

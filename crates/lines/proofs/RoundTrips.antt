@@ -141,7 +141,8 @@ Written (Other n) = (isPlain (Other n) ≡ true) × (n < 2 ^ 32)
 other-back : (m n : ℕ) → Written (Other m) → n < top → otherOf (decimal m ++ (58 ∷ hexadecimal n)) ≡ some (record { kind = Other m; hash = n })
 unfolding behind
 other-back m n w h =
-    let e : before 58 (decimal m ++ (58 ∷ hexadecimal n)) ≡ decimal m = before-digits 10 decimalDigits m (58 ∷ hexadecimal n) (lit< tt) (lit≤ tt) ∙ rw (before-met 58 (hexadecimal n)) (append-nil (decimal m)) in
+    let e : before 58 (decimal m ++ (58 ∷ hexadecimal n)) ≡ decimal m = before-digits 10 decimalDigits m (58 ∷ hexadecimal n) (lit< tt) (lit≤ tt) ∙
+    rw (before-met 58 (hexadecimal n)) (append-nil (decimal m)) in
     let d : drop (length (decimal m) + 1) (decimal m ++ (58 ∷ hexadecimal n)) ≡ hexadecimal n = drop-append-add (decimal m) (58 ∷ hexadecimal n) 1 in
     rw (e, d, type-back m (w .1), hash-back n h, w .0)
 
@@ -204,8 +205,11 @@ other-text f i e =
     let h = hash-text (behind 58 f) (i .hash) (p .1) in
     let o = other-is (typeOf (before 58 f)) (i .kind) (p .0) in
     let t = type-text (before 58 f) (o .number) (o .is) in
-    let g : f ≡ decimal (o .number) ++ (58 ∷ hexadecimal (i .hash)) = parted 58 f (colon f (i .hash) (p .1)) ∙ cc (t .0, h .0) in
-    (ap (λ (l : List ℕ). 111 ∷ l) g ∙ ap (λ (l : List ℕ). 111 ∷ l) (sym (append-assoc (decimal (o .number)) (58 ∷ []) (hexadecimal (i .hash)))) ∙ ap (λ (k : ItemKind). itemKindText k ++ hexadecimal (i .hash)) (sym (o .kind)), h .1)
+    let g : f ≡ decimal (o .number) ++ (58 ∷ hexadecimal (i .hash)) = parted 58 f (colon f (i .hash) (p .1)) ∙ cc (t .0, h .0) in (
+      ap (λ (l : List ℕ). 111 ∷ l) g ∙ ap (λ (l : List ℕ). 111 ∷ l) (sym (append-assoc (decimal (o .number)) (58 ∷ []) (hexadecimal (i .hash)))) ∙
+          ap (λ (k : ItemKind). itemKindText k ++ hexadecimal (i .hash)) (sym (o .kind)),
+      h .1,
+    )
 
 pub item-text : (f : List ℕ) (i : Item) → itemOf f ≡ some i → (f ≡ itemText i) × (i .hash < top)
 unfolding itemOf

@@ -42,7 +42,8 @@ module _ (b k : ℕ) (two : 1 < b) (small : b ≤ 16) (s : List ℕ) (a n : ℕ)
 
   module _ (h : b ≤ n) (g : n < b ^ suc (suc k)) {s₁ : List ℕ} {e : ℕ} (p : Wrote s s₁ a (numeral b (suc (suc k)) (n / b)) e) where
     pub rest-end : e < length s
-    rest-end = let f : numeral b (suc k) (n / b) ≡ numeral b (suc (suc k)) (n / b) = numeral-fuel b 0 two small k (n / b) (rest-below b 0 two small k g) in omega (arith, p .next, length-numeral b (suc k) (n / b), ap length f)
+    rest-end = let f : numeral b (suc k) (n / b) ≡ numeral b (suc (suc k)) (n / b) = numeral-fuel b 0 two small k (n / b) (rest-below b 0 two small k g) in
+        omega (arith, p .next, length-numeral b (suc k) (n / b), ap length f)
 
     pub wrote-last : Wrote s (set s₁ e (digitText (n % b))) a (numeral b (suc (suc k)) n) (e + 1)
     wrote-last =

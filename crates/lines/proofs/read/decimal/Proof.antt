@@ -46,13 +46,22 @@ has-room-requires : tie.Need-has-room-requires Inv-loop μ-loop
 has-room-requires c κs = search needs
 
 returns-4 : tie.Need-returns-4 Inv-loop μ-loop
-returns-4 c = sym (c .before .before .before .before .before .before .loop .inv .1 ∙ scan-stop _ _ _ _ _ (c .before .before .before .before .before .loop-test .taken) (c .before .before .before .digit2 .ensures) (pos-of-ne-zero (c .before .before .if3 .left)) (sym (c .before .has-room .ensures) ∙ not-true _ (c .if4 .taken)))
+returns-4 c = sym (c .before .before .before .before .before .before .loop .inv .1 ∙ scan-stop _ _ _ _ _ (c .before .before .before .before .before .loop-test .taken)
+    (c .before .before .before .digit2 .ensures) (pos-of-ne-zero (c .before .before .if3 .left)) (sym (c .before .has-room .ensures) ∙ not-true _ (c .if4 .taken)))
 
 mul-a : tie.Need-mul-a Inv-loop μ-loop
-mul-a c = omega (arith, fits-below (c .before .before .before .before .before .before .loop .a) (c .before .before .before .digit2 .result) (c .before .before .before .before .before .before .before .before .before .before .before .before .args .most) (sym (c .before .has-room .ensures) ∙ not-false _ (c .if4 .left)))
+mul-a c = omega (
+  arith,
+  fits-below (c .before .before .before .before .before .before .loop .a) (c .before .before .before .digit2 .result)
+      (c .before .before .before .before .before .before .before .before .before .before .before .before .args .most) (sym (c .before .has-room .ensures) ∙ not-false _ (c .if4 .left)),
+)
 
 add-a : tie.Need-add-a Inv-loop μ-loop
-add-a c = omega (arith, fits-below (c .before .before .before .before .before .before .loop .a) (c .before .before .before .digit2 .result) (c .before .before .before .before .before .before .before .before .before .before .before .before .args .most) (sym (c .before .has-room .ensures) ∙ not-false _ (c .if4 .left)))
+add-a c = omega (
+  arith,
+  fits-below (c .before .before .before .before .before .before .loop .a) (c .before .before .before .digit2 .result)
+      (c .before .before .before .before .before .before .before .before .before .before .before .before .args .most) (sym (c .before .has-room .ensures) ∙ not-false _ (c .if4 .left)),
+)
 
 add-i : tie.Need-add-i Inv-loop μ-loop
 add-i c = search needs
@@ -61,7 +70,11 @@ loop-less : tie.Need-loop-less Inv-loop μ-loop
 loop-less c = search needs
 
 loop-again : tie.Need-loop-again Inv-loop μ-loop
-loop-again c = (omega arith, c .before .before .before .before .before .before .loop .inv .1 ∙ scan-step _ _ _ _ _ (c .before .before .before .before .before .loop-test .taken) (c .before .before .before .digit2 .ensures) (pos-of-ne-zero (c .before .before .if3 .left)) (sym (c .before .has-room .ensures) ∙ not-false _ (c .if4 .left)))
+loop-again c = (
+  omega arith,
+  c .before .before .before .before .before .before .loop .inv .1 ∙ scan-step _ _ _ _ _ (c .before .before .before .before .before .loop-test .taken)
+      (c .before .before .before .digit2 .ensures) (pos-of-ne-zero (c .before .before .if3 .left)) (sym (c .before .has-room .ensures) ∙ not-false _ (c .if4 .left)),
+)
 
 returns-5 : tie.Need-returns-5 Inv-loop μ-loop
 returns-5 c = sym (c .before .loop .inv .1 ∙ scan-end _ _ _ _ _ (c .loop-test .left))

@@ -23,7 +23,11 @@ shared-slice-read-if1 : tie.Need-shared-slice-read-if1 Inv-loop μ-loop
 shared-slice-read-if1 c = search needs
 
 returns : tie.Need-returns Inv-loop μ-loop
-returns c = omega (arith, before-here (c .before .before .before .before .args .x) (c .before .before .before .before .args .s .now) (c .before .before .before .loop .i) (c .before .before .loop-test .taken) (c .if1 .taken))
+returns c = omega (
+  arith,
+  before-here (c .before .before .before .before .args .x) (c .before .before .before .before .args .s .now) (c .before .before .before .loop .i)
+      (c .before .before .loop-test .taken) (c .if1 .taken),
+)
 
 add-i : tie.Need-add-i Inv-loop μ-loop
 add-i c = search needs
@@ -32,7 +36,14 @@ loop-less : tie.Need-loop-less Inv-loop μ-loop
 loop-less c = search needs
 
 loop-again : tie.Need-loop-again Inv-loop μ-loop
-loop-again c = (omega arith, omega (arith, before-past (c .before .before .before .before .args .x) (c .before .before .before .before .args .s .now) (c .before .before .before .loop .i) (c .before .before .loop-test .taken) (c .if1 .left)))
+loop-again c = (
+  omega arith,
+  omega (
+    arith,
+    before-past (c .before .before .before .before .args .x) (c .before .before .before .before .args .s .now) (c .before .before .before .loop .i)
+        (c .before .before .loop-test .taken) (c .if1 .left),
+  ),
+)
 
 returns-2 : tie.Need-returns-2 Inv-loop μ-loop
 returns-2 c = omega (arith, before-end (c .before .before .args .x) (c .before .before .args .s .now) (c .before .loop .i) (c .loop-test .left))

@@ -45,13 +45,16 @@ digit-requires-2 : tie.Need-digit-requires-2 Inv-loop μ-loop
 digit-requires-2 c κs = search needs
 
 returns-3 : tie.Need-returns-3 Inv-loop μ-loop
-returns-3 c = sym (c .before .before .before .before .loop .inv .3 ∙ scan-zero _ _ _ _ _ (c .before .before .before .loop-test .taken) (c .before .digit2 .ensures) (c .before .before .before .before .loop .inv .2 (c .if3 .taken)))
+returns-3 c = sym (c .before .before .before .before .loop .inv .3 ∙ scan-zero _ _ _ _ _ (c .before .before .before .loop-test .taken) (c .before .digit2 .ensures)
+    (c .before .before .before .before .loop .inv .2 (c .if3 .taken)))
 
 hash-has-room-requires : tie.Need-hash-has-room-requires Inv-loop μ-loop
 hash-has-room-requires c κs = search needs
 
 returns-4 : tie.Need-returns-4 Inv-loop μ-loop
-returns-4 c = sym (c .before .before .before .before .before .before .loop .inv .3 ∙ scan-stop _ _ _ _ _ (c .before .before .before .before .before .loop-test .taken) (c .before .before .before .digit2 .ensures) (c .before .before .before .before .before .before .loop .inv .1 (pos-of-ne-zero (c .before .before .if3 .left))) (sym (c .before .hash-has-room .ensures) ∙ not-true _ (c .if4 .taken)))
+returns-4 c = sym (c .before .before .before .before .before .before .loop .inv .3 ∙ scan-stop _ _ _ _ _ (c .before .before .before .before .before .loop-test .taken)
+    (c .before .before .before .digit2 .ensures) (c .before .before .before .before .before .before .loop .inv .1 (pos-of-ne-zero (c .before .before .if3 .left)))
+    (sym (c .before .hash-has-room .ensures) ∙ not-true _ (c .if4 .taken)))
 
 with-digit-requires : tie.Need-with-digit-requires Inv-loop μ-loop
 with-digit-requires c κs = digit-room _ _ _ (sym (c .before .hash-has-room .ensures) ∙ not-false _ (c .if4 .left))
@@ -66,8 +69,13 @@ loop-again : tie.Need-loop-again Inv-loop μ-loop
 loop-again c =
     let p = pos-of-ne-zero (c .before .before .before .if3 .left) in
     let z = c .before .before .before .before .before .before .before .loop .inv .1 p in
-    let e = c .with-digit .ensures in
-    (omega arith, λ _. omega arith, λ n. absurd (c .before .before .before .if3 .left n), c .before .before .before .before .before .before .before .loop .inv .3 ∙ rw e (scan-step _ _ _ _ _ (c .before .before .before .before .before .before .loop-test .taken) (c .before .before .before .before .digit2 .ensures) z (sym (c .before .before .hash-has-room .ensures) ∙ not-false _ (c .before .if4 .left))))
+    let e = c .with-digit .ensures in (
+      omega arith,
+      λ _. omega arith,
+      λ n. absurd (c .before .before .before .if3 .left n),
+      c .before .before .before .before .before .before .before .loop .inv .3 ∙ rw e (scan-step _ _ _ _ _ (c .before .before .before .before .before .before .loop-test .taken)
+          (c .before .before .before .before .digit2 .ensures) z (sym (c .before .before .hash-has-room .ensures) ∙ not-false _ (c .before .if4 .left))),
+    )
 
 returns-5 : tie.Need-returns-5 Inv-loop μ-loop
 returns-5 c = sym (c .before .loop .inv .3 ∙ scan-end _ _ _ _ _ (c .loop-test .left))

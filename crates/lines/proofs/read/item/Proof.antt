@@ -41,7 +41,8 @@ enum-told : tie.Need-enum-told
 enum-told c = search needs
 
 returns-3 : tie.Need-returns-3
-returns-3 c = item-no-kind (c .before .before .before .before .before .before .before .before .args .f .now) (c .before .before .before .before .before .before .if1 .left) (c .before .before .before .before .if2 .left) (sym (c .before .before .letter-kind .ensures) ∙ ap itemKindIn (c .enum-told .given .1))
+returns-3 c = item-no-kind (c .before .before .before .before .before .before .before .before .args .f .now) (c .before .before .before .before .before .before .if1 .left)
+    (c .before .before .before .before .if2 .left) (sym (c .before .before .letter-kind .ensures) ∙ ap itemKindIn (c .enum-told .given .1))
 
 sub-hash : tie.Need-sub-hash
 sub-hash c = search needs
@@ -62,10 +63,15 @@ enum-told-2 : tie.Need-enum-told-2
 enum-told-2 c = search needs
 
 returns-4 : tie.Need-returns-4
-returns-4 c = item-no-hash (c .before .before .before .before .before .before .before .before .before .before .before .before .before .args .f .now) (c .before .before .before .before .before .before .before .before .before .before .before .if1 .left) (c .before .before .before .before .before .before .before .before .before .if2 .left) (sym (c .before .before .hash .ensures) ∙ ap hashIn (c .enum-told2 .given .1))
+returns-4 c = item-no-hash (c .before .before .before .before .before .before .before .before .before .before .before .before .before .args .f .now)
+    (c .before .before .before .before .before .before .before .before .before .before .before .if1 .left) (c .before .before .before .before .before .before .before .before .before .if2 .left)
+    (sym (c .before .before .hash .ensures) ∙ ap hashIn (c .enum-told2 .given .1))
 
 returns-5 : tie.Need-returns-5
-returns-5 c = item-is (c .before .before .before .before .before .before .before .before .before .before .before .before .before .before .args .f .now) (c .before .before .before .before .before .before .before .before .before .before .before .before .if1 .left) (c .before .before .before .before .before .before .before .before .before .before .if2 .left) (sym (c .before .before .before .before .before .before .before .before .letter-kind .ensures) ∙ ap itemKindIn (c .before .before .before .before .before .before .k .given .1)) (sym (c .before .before .before .hash .ensures) ∙ ap hashIn (c .before .q .given .1))
+returns-5 c = item-is (c .before .before .before .before .before .before .before .before .before .before .before .before .before .before .args .f .now)
+    (c .before .before .before .before .before .before .before .before .before .before .before .before .if1 .left)
+    (c .before .before .before .before .before .before .before .before .before .before .if2 .left) (sym (c .before .before .before .before .before .before .before .before .letter-kind .ensures) ∙
+    ap itemKindIn (c .before .before .before .before .before .before .k .given .1)) (sym (c .before .before .before .hash .ensures) ∙ ap hashIn (c .before .q .given .1))
 
 pub item-spec : {M : Type 1} → statement M
 item-spec =

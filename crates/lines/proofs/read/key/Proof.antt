@@ -24,7 +24,8 @@ enum-told : tie.Need-enum-told
 enum-told c = search needs
 
 returns-2 : tie.Need-returns-2
-returns-2 c = key-no-kind (c .before .before .before .before .before .before .args .f .now) (c .before .before .before .before .if1 .left) (sym (c .before .before .kind .ensures) ∙ ap maybeKind (c .enum-told .given .1))
+returns-2 c = key-no-kind (c .before .before .before .before .before .before .args .f .now) (c .before .before .before .before .if1 .left)
+    (sym (c .before .before .kind .ensures) ∙ ap maybeKind (c .enum-told .given .1))
 
 sub-hash : tie.Need-sub-hash
 sub-hash c = search needs
@@ -45,10 +46,13 @@ enum-told-2 : tie.Need-enum-told-2
 enum-told-2 c = search needs
 
 returns-3 : tie.Need-returns-3
-returns-3 c = key-no-hash (c .before .before .before .before .before .before .before .before .before .before .before .args .f .now) (c .before .before .before .before .before .before .before .before .before .if1 .left) (sym (c .before .before .hash .ensures) ∙ ap hashIn (c .enum-told2 .given .1))
+returns-3 c = key-no-hash (c .before .before .before .before .before .before .before .before .before .before .before .args .f .now)
+    (c .before .before .before .before .before .before .before .before .before .if1 .left) (sym (c .before .before .hash .ensures) ∙ ap hashIn (c .enum-told2 .given .1))
 
 returns-4 : tie.Need-returns-4
-returns-4 c = key-is (c .before .before .before .before .before .before .before .before .before .before .before .before .args .f .now) (c .before .before .before .before .before .before .before .before .before .before .if1 .left) (sym (c .before .before .before .before .before .before .before .before .kind .ensures) ∙ ap maybeKind (c .before .before .before .before .before .before .k .given .1)) (sym (c .before .before .before .hash .ensures) ∙ ap hashIn (c .before .q .given .1))
+returns-4 c = key-is (c .before .before .before .before .before .before .before .before .before .before .before .before .args .f .now)
+    (c .before .before .before .before .before .before .before .before .before .before .if1 .left) (sym (c .before .before .before .before .before .before .before .before .kind .ensures) ∙
+    ap maybeKind (c .before .before .before .before .before .before .k .given .1)) (sym (c .before .before .before .hash .ensures) ∙ ap hashIn (c .before .q .given .1))
 
 pub key-spec : {M : Type 1} → statement M
 key-spec =

@@ -28,16 +28,31 @@ enum-told : tie.Need-enum-told
 enum-told c = search needs
 
 returns-2 : tie.Need-returns-2
-returns-2 c = other-no-kind (c .before .before .before .before .before .before .before .args .f .now) (c .before .before .before .before .before .find .result) (c .before .before .before .before .before .find .ensures) (sym (c .before .before .other-kind .ensures) ∙ ap itemKindIn (c .enum-told .given .1))
+returns-2 c = other-no-kind (c .before .before .before .before .before .before .before .args .f .now) (c .before .before .before .before .before .find .result)
+    (c .before .before .before .before .before .find .ensures) (sym (c .before .before .other-kind .ensures) ∙ ap itemKindIn (c .enum-told .given .1))
 
 add-from : tie.Need-add-from
-add-from c = omega (arith, other-at (c .before .before .before .before .before .before .before .before .args .f .now) (c .before .before .before .before .before .before .find .result) (c .before .before .before .before .before .before .find .ensures), c .before .before .before .before .before .if1 .left)
+add-from c = omega (
+  arith,
+  other-at (c .before .before .before .before .before .before .before .before .args .f .now) (c .before .before .before .before .before .before .find .result)
+      (c .before .before .before .before .before .before .find .ensures),
+  c .before .before .before .before .before .if1 .left,
+)
 
 sub-hash : tie.Need-sub-hash
-sub-hash c = omega (arith, other-at (c .before .before .before .before .before .before .before .before .args .f .now) (c .before .before .before .before .before .before .find .result) (c .before .before .before .before .before .before .find .ensures), c .before .before .before .before .before .if1 .left)
+sub-hash c = omega (
+  arith,
+  other-at (c .before .before .before .before .before .before .before .before .args .f .now) (c .before .before .before .before .before .before .find .result)
+      (c .before .before .before .before .before .before .find .ensures),
+  c .before .before .before .before .before .if1 .left,
+)
 
 part-hash-start : tie.Need-part-hash-start
-part-hash-start c = search (needs, other-at (c .before .before .before .before .before .before .before .before .args .f .now) (c .before .before .before .before .before .before .find .result) (c .before .before .before .before .before .before .find .ensures))
+part-hash-start c = search (
+  needs,
+  other-at (c .before .before .before .before .before .before .before .before .args .f .now) (c .before .before .before .before .before .before .find .result)
+      (c .before .before .before .before .before .before .find .ensures),
+)
 
 part-hash-end : tie.Need-part-hash-end
 part-hash-end c = search needs
@@ -52,10 +67,16 @@ enum-told-2 : tie.Need-enum-told-2
 enum-told-2 c = search needs
 
 returns-3 : tie.Need-returns-3
-returns-3 c = other-no-hash (c .before .before .before .before .before .before .before .before .before .before .before .before .args .f .now) (c .before .before .before .before .before .before .before .before .before .before .find .result) (c .before .before .before .before .before .before .before .before .before .before .find .ensures) (sym (c .before .before .hash .ensures) ∙ ap hashIn (c .enum-told2 .given .1))
+returns-3 c = other-no-hash (c .before .before .before .before .before .before .before .before .before .before .before .before .args .f .now)
+    (c .before .before .before .before .before .before .before .before .before .before .find .result)
+    (c .before .before .before .before .before .before .before .before .before .before .find .ensures) (sym (c .before .before .hash .ensures) ∙ ap hashIn (c .enum-told2 .given .1))
 
 returns-4 : tie.Need-returns-4
-returns-4 c = other-is (c .before .before .before .before .before .before .before .before .before .before .before .before .before .args .f .now) (c .before .before .before .before .before .before .before .before .before .before .before .find .result) (c .before .before .before .before .before .before .before .before .before .before .before .find .ensures) (sym (c .before .before .before .before .before .before .before .before .other-kind .ensures) ∙ ap itemKindIn (c .before .before .before .before .before .before .k .given .1)) (sym (c .before .before .before .hash .ensures) ∙ ap hashIn (c .before .q .given .1))
+returns-4 c = other-is (c .before .before .before .before .before .before .before .before .before .before .before .before .before .args .f .now)
+    (c .before .before .before .before .before .before .before .before .before .before .before .find .result)
+    (c .before .before .before .before .before .before .before .before .before .before .before .find .ensures)
+    (sym (c .before .before .before .before .before .before .before .before .other-kind .ensures) ∙ ap itemKindIn (c .before .before .before .before .before .before .k .given .1))
+    (sym (c .before .before .before .hash .ensures) ∙ ap hashIn (c .before .q .given .1))
 
 pub other-item-spec : {M : Type 1} → statement M
 other-item-spec =

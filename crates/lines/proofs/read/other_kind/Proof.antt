@@ -23,16 +23,21 @@ returns : tie.Need-returns
 returns c = ap otherKind (sym (ap numberIn (c .enum-told .given .1)) ∙ c .before .before .decimal .ensures)
 
 cast-t5 : tie.Need-cast-t5
-cast-t5 c = record { fits = type-text (c .before .before .before .before .before .args .f .now) (c .before .n .given .0 .0) (sym (c .before .before .before .decimal .ensures) ∙ ap numberIn (c .before .n .given .1)) .1 }
+cast-t5 c = record {
+  fits = type-text (c .before .before .before .before .before .args .f .now) (c .before .n .given .0 .0)
+      (sym (c .before .before .before .decimal .ensures) ∙ ap numberIn (c .before .n .given .1)) .1;
+}
 
 is-plain-requires : tie.Need-is-plain-requires
 is-plain-requires c κs = search needs
 
 returns-2 : tie.Need-returns-2
-returns-2 c = other-named _ _ (sym (c .before .before .before .before .before .decimal .ensures) ∙ ap numberIn (c .before .before .before .n .given .1)) (sym (c .before .is-plain .ensures) ∙ not-true _ (c .if1 .taken))
+returns-2 c = other-named _ _ (sym (c .before .before .before .before .before .decimal .ensures) ∙ ap numberIn (c .before .before .before .n .given .1))
+    (sym (c .before .is-plain .ensures) ∙ not-true _ (c .if1 .taken))
 
 returns-3 : tie.Need-returns-3
-returns-3 c = other-kind _ _ (sym (c .before .before .before .before .before .decimal .ensures) ∙ ap numberIn (c .before .before .before .n .given .1)) (sym (c .before .is-plain .ensures) ∙ not-false _ (c .if1 .left))
+returns-3 c = other-kind _ _ (sym (c .before .before .before .before .before .decimal .ensures) ∙ ap numberIn (c .before .before .before .n .given .1))
+    (sym (c .before .is-plain .ensures) ∙ not-false _ (c .if1 .left))
 
 pub other-kind-spec : {M : Type 1} → statement M
 other-kind-spec =

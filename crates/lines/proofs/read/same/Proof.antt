@@ -29,7 +29,8 @@ shared-slice-read-if2-2 : tie.Need-shared-slice-read-if2-2 Inv-loop μ-loop
 shared-slice-read-if2-2 c = search needs
 
 returns-2 : tie.Need-returns-2 Inv-loop μ-loop
-returns-2 c = sym (c .before .before .before .before .loop .inv .1 ∙ same-stop (c .before .before .before .before .before .before .args .s .now) (c .before .before .before .before .before .before .args .t .now) (c .before .before .before .before .loop .i) (omega arith) (omega arith) (c .if2 .taken))
+returns-2 c = sym (c .before .before .before .before .loop .inv .1 ∙ same-stop (c .before .before .before .before .before .before .args .s .now)
+    (c .before .before .before .before .before .before .args .t .now) (c .before .before .before .before .loop .i) (omega arith) (omega arith) (c .if2 .taken))
 
 add-i : tie.Need-add-i Inv-loop μ-loop
 add-i c = search needs
@@ -38,7 +39,11 @@ loop-less : tie.Need-loop-less Inv-loop μ-loop
 loop-less c = search needs
 
 loop-again : tie.Need-loop-again Inv-loop μ-loop
-loop-again c = (omega arith, c .before .before .before .before .loop .inv .1 ∙ same-step (c .before .before .before .before .before .before .args .s .now) (c .before .before .before .before .before .before .args .t .now) (c .before .before .before .before .loop .i) (omega arith) (omega arith) (c .if2 .left))
+loop-again c = (
+  omega arith,
+  c .before .before .before .before .loop .inv .1 ∙ same-step (c .before .before .before .before .before .before .args .s .now)
+      (c .before .before .before .before .before .before .args .t .now) (c .before .before .before .before .loop .i) (omega arith) (omega arith) (c .if2 .left),
+)
 
 returns-3 : tie.Need-returns-3 Inv-loop μ-loop
 returns-3 c = sym (c .before .loop .inv .1 ∙ same-end (c .before .before .before .args .s .now) (c .before .before .before .args .t .now) (c .before .loop .i) (omega arith) (omega arith))

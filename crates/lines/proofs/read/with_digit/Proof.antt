@@ -25,10 +25,18 @@ add-t13 : tie.Need-add-t13
 add-t13 c = record { fits = digit-in (c .before .before .before .before .before .args .q .w2) (c .before .before .before .before .before .args .q .w1) (omega arith) }
 
 mul-t14 : tie.Need-mul-t14
-mul-t14 c = omega (arith, room-w3 (c .before .before .before .before .before .before .args .q) (omega arith) (c .before .before .before .before .before .before .args .d) (c .before .before .before .before .before .before .pre .0) (c .before .before .before .before .before .before .pre .1))
+mul-t14 c = omega (
+  arith,
+  room-w3 (c .before .before .before .before .before .before .args .q) (omega arith) (c .before .before .before .before .before .before .args .d)
+      (c .before .before .before .before .before .before .pre .0) (c .before .before .before .before .before .before .pre .1),
+)
 
 add-t16 : tie.Need-add-t16
-add-t16 c = omega (arith, room-w3 (c .before .before .before .before .before .before .before .args .q) (omega arith) (c .before .before .before .before .before .before .before .args .d) (c .before .before .before .before .before .before .before .pre .0) (c .before .before .before .before .before .before .before .pre .1))
+add-t16 c = omega (
+  arith,
+  room-w3 (c .before .before .before .before .before .before .before .args .q) (omega arith) (c .before .before .before .before .before .before .before .args .d)
+      (c .before .before .before .before .before .before .before .pre .0) (c .before .before .before .before .before .before .before .pre .1),
+)
 
 returns : tie.Need-returns
 returns c = with-digit (c .before .before .before .before .before .before .before .args .q) (c .before .before .before .before .before .before .before .args .d)

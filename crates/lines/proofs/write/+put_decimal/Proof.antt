@@ -91,7 +91,13 @@ put-decimal-slice-write-s-2 : (t : ℕ) → put-decimal-lts.Need-slice-write-s-2
 ) (put-decimal-at t) put-decimal.Post
 put-decimal-slice-write-s-2 t c =
     let g = decimal-fits (c .before .before .before .before .before .before .before .fits .n .fits) in
-    omega (arith, rest-end 10 18 (lit< tt) (lit≤ tt) (c .before .before .before .before .before .before .before .args .s .now) (c .before .before .before .before .before .before .before .args .a) (c .before .before .before .before .before .before .before .args .n) (c .before .before .before .before .before .before .before .pre .1) (c .before .before .before .before .before .if1 .left) g (c .before .before .before .put-decimal .ensures), c .before .before .before .put-decimal .kept .0)
+    omega (
+      arith,
+      rest-end 10 18 (lit< tt) (lit≤ tt) (c .before .before .before .before .before .before .before .args .s .now) (c .before .before .before .before .before .before .before .args .a)
+          (c .before .before .before .before .before .before .before .args .n) (c .before .before .before .before .before .before .before .pre .1)
+          (c .before .before .before .before .before .if1 .left) g (c .before .before .before .put-decimal .ensures),
+      c .before .before .before .put-decimal .kept .0,
+    )
 
 put-decimal-add-result-2 : (t : ℕ) → put-decimal-lts.Need-add-result-2 (
   digit-text-reads.Asked,
@@ -101,7 +107,13 @@ put-decimal-add-result-2 : (t : ℕ) → put-decimal-lts.Need-add-result-2 (
 ) (put-decimal-at t) put-decimal.Post
 put-decimal-add-result-2 t c =
     let g = decimal-fits (c .before .before .before .before .before .before .before .fits .n .fits) in
-    omega (arith, rest-end 10 18 (lit< tt) (lit≤ tt) (c .before .before .before .before .before .before .before .args .s .now) (c .before .before .before .before .before .before .before .args .a) (c .before .before .before .before .before .before .before .args .n) (c .before .before .before .before .before .before .before .pre .1) (c .before .before .before .before .before .if1 .left) g (c .before .before .before .put-decimal .ensures), c .before .before .before .before .before .before .before .good .0 .0)
+    omega (
+      arith,
+      rest-end 10 18 (lit< tt) (lit≤ tt) (c .before .before .before .before .before .before .before .args .s .now) (c .before .before .before .before .before .before .before .args .a)
+          (c .before .before .before .before .before .before .before .args .n) (c .before .before .before .before .before .before .before .pre .1)
+          (c .before .before .before .before .before .if1 .left) g (c .before .before .before .put-decimal .ensures),
+      c .before .before .before .before .before .before .before .good .0 .0,
+    )
 
 put-decimal-same-length-2 : (t : ℕ) → put-decimal-lts.Need-same-length-2 (
   digit-text-reads.Asked,
@@ -119,7 +131,9 @@ put-decimal-returns-2 : (t : ℕ) → put-decimal-lts.Need-returns-2 (
 ) (put-decimal-at t) put-decimal.Post
 put-decimal-returns-2 t c =
     let g = decimal-fits (c .before .before .before .before .before .before .before .fits .n .fits) in
-    rw (c .digit-text2 .ensures) (wrote-last 10 18 (lit< tt) (lit≤ tt) (c .before .before .before .before .before .before .before .args .s .now) (c .before .before .before .before .before .before .before .args .a) (c .before .before .before .before .before .before .before .args .n) (c .before .before .before .before .before .before .before .pre .1) (c .before .before .before .before .before .if1 .left) g (c .before .before .before .put-decimal .ensures))
+    rw (c .digit-text2 .ensures) (wrote-last 10 18 (lit< tt) (lit≤ tt) (c .before .before .before .before .before .before .before .args .s .now)
+    (c .before .before .before .before .before .before .before .args .a) (c .before .before .before .before .before .before .before .args .n)
+    (c .before .before .before .before .before .before .before .pre .1) (c .before .before .before .before .before .if1 .left) g (c .before .before .before .put-decimal .ensures))
 
 pub +put-decimal-spec : {M : Type 1} → statement M
 +put-decimal-spec = close μ-put-decimal λ t. put-decimal-lts.spec (

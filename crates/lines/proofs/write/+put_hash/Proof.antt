@@ -103,7 +103,9 @@ put-hash-returns : (t : ℕ) → put-hash-lts.Need-returns (
   put-hash-below t,
   put-hash.Post,
 ) (put-hash-at t) put-hash.Post
-put-hash-returns t c = hash-one (c .before .before .before .before .args .s .now) (c .before .before .before .before .args .a) (c .before .before .before .before .args .q) (c .before .before .before .before .pre .1) (c .digit-text .ensures) (ltb-true (quadNumber (c .before .before .before .before .args .q)) 16 (sym (c .before .before .is-digit .ensures) ∙ c .before .if1 .taken))
+put-hash-returns t c = hash-one (c .before .before .before .before .args .s .now) (c .before .before .before .before .args .a)
+    (c .before .before .before .before .args .q) (c .before .before .before .before .pre .1) (c .digit-text .ensures)
+    (ltb-true (quadNumber (c .before .before .before .before .args .q)) 16 (sym (c .before .before .is-digit .ensures) ∙ c .before .if1 .taken))
 
 put-hash-without-digit-requires : (t : ℕ) → put-hash-lts.Need-without-digit-requires (
   is-digit-reads.Asked,
@@ -155,8 +157,16 @@ put-hash-slice-write-s-2 : (t : ℕ) → put-hash-lts.Need-slice-write-s-2 (
 ) (put-hash-at t) put-hash.Post
 put-hash-slice-write-s-2 t c =
     let f : Small (c .before .before .before .before .before .before .before .before .before .before .args .q) = omega arith in
-    let h = ltb-false (quadNumber (c .before .before .before .before .before .before .before .before .before .before .args .q)) 16 (sym (c .before .before .before .before .before .before .before .before .is-digit .ensures) ∙ c .before .before .before .before .before .before .before .if1 .left) in
-    omega (arith, hash-end (c .before .before .before .before .before .before .before .before .before .before .args .s .now) (c .before .before .before .before .before .before .before .before .before .before .args .a) (c .before .before .before .before .before .before .before .before .before .before .args .q) (c .before .before .before .before .before .before .before .before .before .before .pre .1) f h (c .before .before .before .before .before .without-digit .ensures) (c .before .before .before .before .put-hash .ensures), c .before .before .before .before .put-hash .kept .0)
+    let h = ltb-false (quadNumber (c .before .before .before .before .before .before .before .before .before .before .args .q)) 16
+    (sym (c .before .before .before .before .before .before .before .before .is-digit .ensures) ∙ c .before .before .before .before .before .before .before .if1 .left) in
+    omega (
+      arith,
+      hash-end (c .before .before .before .before .before .before .before .before .before .before .args .s .now)
+          (c .before .before .before .before .before .before .before .before .before .before .args .a) (c .before .before .before .before .before .before .before .before .before .before .args .q)
+          (c .before .before .before .before .before .before .before .before .before .before .pre .1) f h (c .before .before .before .before .before .without-digit .ensures)
+          (c .before .before .before .before .put-hash .ensures),
+      c .before .before .before .before .put-hash .kept .0,
+    )
 
 put-hash-add-result-2 : (t : ℕ) → put-hash-lts.Need-add-result-2 (
   is-digit-reads.Asked,
@@ -170,8 +180,16 @@ put-hash-add-result-2 : (t : ℕ) → put-hash-lts.Need-add-result-2 (
 ) (put-hash-at t) put-hash.Post
 put-hash-add-result-2 t c =
     let f : Small (c .before .before .before .before .before .before .before .before .before .before .args .q) = omega arith in
-    let h = ltb-false (quadNumber (c .before .before .before .before .before .before .before .before .before .before .args .q)) 16 (sym (c .before .before .before .before .before .before .before .before .is-digit .ensures) ∙ c .before .before .before .before .before .before .before .if1 .left) in
-    omega (arith, hash-end (c .before .before .before .before .before .before .before .before .before .before .args .s .now) (c .before .before .before .before .before .before .before .before .before .before .args .a) (c .before .before .before .before .before .before .before .before .before .before .args .q) (c .before .before .before .before .before .before .before .before .before .before .pre .1) f h (c .before .before .before .before .before .without-digit .ensures) (c .before .before .before .before .put-hash .ensures), c .before .before .before .before .before .before .before .before .before .before .good .0 .0)
+    let h = ltb-false (quadNumber (c .before .before .before .before .before .before .before .before .before .before .args .q)) 16
+    (sym (c .before .before .before .before .before .before .before .before .is-digit .ensures) ∙ c .before .before .before .before .before .before .before .if1 .left) in
+    omega (
+      arith,
+      hash-end (c .before .before .before .before .before .before .before .before .before .before .args .s .now)
+          (c .before .before .before .before .before .before .before .before .before .before .args .a) (c .before .before .before .before .before .before .before .before .before .before .args .q)
+          (c .before .before .before .before .before .before .before .before .before .before .pre .1) f h (c .before .before .before .before .before .without-digit .ensures)
+          (c .before .before .before .before .put-hash .ensures),
+      c .before .before .before .before .before .before .before .before .before .before .good .0 .0,
+    )
 
 put-hash-same-length-2 : (t : ℕ) → put-hash-lts.Need-same-length-2 (
   is-digit-reads.Asked,
@@ -197,8 +215,12 @@ put-hash-returns-2 : (t : ℕ) → put-hash-lts.Need-returns-2 (
 ) (put-hash-at t) put-hash.Post
 put-hash-returns-2 t c =
     let f : Small (c .before .before .before .before .before .before .before .before .before .before .args .q) = omega arith in
-    let h = ltb-false (quadNumber (c .before .before .before .before .before .before .before .before .before .before .args .q)) 16 (sym (c .before .before .before .before .before .before .before .before .is-digit .ensures) ∙ c .before .before .before .before .before .before .before .if1 .left) in
-    hash-last (c .before .before .before .before .before .before .before .before .before .before .args .s .now) (c .before .before .before .before .before .before .before .before .before .before .args .a) (c .before .before .before .before .before .before .before .before .before .before .args .q) (c .before .before .before .before .before .before .before .before .before .before .pre .1) f h (c .before .before .before .before .before .without-digit .ensures) (c .before .before .before .before .put-hash .ensures) (c .digit-text2 .ensures)
+    let h = ltb-false (quadNumber (c .before .before .before .before .before .before .before .before .before .before .args .q)) 16
+    (sym (c .before .before .before .before .before .before .before .before .is-digit .ensures) ∙ c .before .before .before .before .before .before .before .if1 .left) in
+    hash-last (c .before .before .before .before .before .before .before .before .before .before .args .s .now)
+    (c .before .before .before .before .before .before .before .before .before .before .args .a) (c .before .before .before .before .before .before .before .before .before .before .args .q)
+    (c .before .before .before .before .before .before .before .before .before .before .pre .1) f h (c .before .before .before .before .before .without-digit .ensures)
+    (c .before .before .before .before .put-hash .ensures) (c .digit-text2 .ensures)
 
 pub +put-hash-spec : {M : Type 1} → statement M
 +put-hash-spec = close μ-put-hash λ t. put-hash-lts.spec (

@@ -16,7 +16,8 @@ returns-3 : tie.Need-returns-3
 returns-3 c = not-digit-1 _ (c .if3 .taken)
 
 returns-4 : tie.Need-returns-4
-returns-4 c = ap (λ n. ltb n 16) (low-word (c .before .before .before .before .before .before .before .args .q) (c .before .before .before .before .before .if1 .left) (c .before .before .before .if2 .left) (c .before .if3 .left))
+returns-4 c = ap (λ n. ltb n 16) (low-word (c .before .before .before .before .before .before .before .args .q) (c .before .before .before .before .before .if1 .left)
+    (c .before .before .before .if2 .left) (c .before .if3 .left))
 
 pub is-digit-spec : {M : Type 1} → statement M
 is-digit-spec = tie.close (tie.spec returns returns-2 returns-3 returns-4)

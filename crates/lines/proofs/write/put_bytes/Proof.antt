@@ -35,7 +35,11 @@ loop-less : tie.Need-loop-less Inv-loop μ-loop
 loop-less c = search needs
 
 loop-again : tie.Need-loop-again Inv-loop μ-loop
-loop-again c = (omega arith, simp length-set (c .before .before .loop .inv .1), wrote-next (c .before .before .before .args .t .now) (c .before .loop-test .taken) (c .before .before .before .pre) (c .before .before .loop .inv .2) (c .before .before .loop .inv .1))
+loop-again c = (
+  omega arith,
+  simp length-set (c .before .before .loop .inv .1),
+  wrote-next (c .before .before .before .args .t .now) (c .before .loop-test .taken) (c .before .before .before .pre) (c .before .before .loop .inv .2) (c .before .before .loop .inv .1),
+)
 
 add-result : tie.Need-add-result Inv-loop μ-loop
 add-result c = search needs

@@ -25,7 +25,9 @@ same-length : tie.Need-same-length
 same-length c = c .before .before .put-hash .kept .0 ∙ simp length-set
 
 returns : tie.Need-returns
-returns c = wrote-key (c .before .before .before .before .before .before .args .s .now) (c .before .before .before .before .before .before .args .a) (c .before .before .before .before .before .before .args .k) (quadNumber (c .before .before .before .before .before .before .args .q)) (c .before .before .before .before .kind-letter .ensures) (c .before .before .before .before .before .before .pre) (c .before .before .put-hash .ensures)
+returns c = wrote-key (c .before .before .before .before .before .before .args .s .now) (c .before .before .before .before .before .before .args .a)
+    (c .before .before .before .before .before .before .args .k) (quadNumber (c .before .before .before .before .before .before .args .q)) (c .before .before .before .before .kind-letter .ensures)
+    (c .before .before .before .before .before .before .pre) (c .before .before .put-hash .ensures)
 
 pub put-key-spec : {M : Type 1} → statement M
 put-key-spec =
