@@ -140,7 +140,8 @@ module _ (r : Request) (c : Candidate) where
   pub owner-row : (o : Option Owner) → ownerAt (rowOf r c) o ≡ (if ownerIs (c .connection) (r .owner) then r .owner else o)
   owner-row o = rw owns-row (go (r .owner) refl)
     where
-      go : (w : Option Owner) → r .owner ≡ w → (if ownerIs (c .connection) w then some (record { connection = (rowOf r c) .conn; deadline = (rowOf r c) .deadline }) else o) ≡ (if ownerIs (c .connection) w then w else o)
+      go : (w : Option Owner) → r .owner ≡ w → (if ownerIs (c .connection) w then some (record { connection = (rowOf r c) .conn; deadline = (rowOf r c) .deadline }) else o) ≡
+          (if ownerIs (c .connection) w then w else o)
       go none e = refl
       go (some w) e = elim (test (eqb (w .connection) (c .connection))) [
         | inl q ↦ rw q (ap some (owner-fields w e q))

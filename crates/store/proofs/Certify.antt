@@ -197,7 +197,8 @@ value-own v f lo (c ∷ cs) t h =
     (sym (value-here v c cs) ∙ h (c .conn) (t .0), value-own v f (suc (c .conn)) cs (t .2) (λ x l. sym (value-past v x c cs (λ z. omega arith)) ∙ h x (omega (arith, t .0))))
 
 pub tally-counted : (rs : List Row) → Each (Counted rs) (tally rs)
-tally-counted rs = both (tally rs) (value-own (λ c. c .held) (λ x. heldRows x rs) 0 (tally rs) (tally-tallied rs) (λ x l. held-value rs x)) (value-own (λ c. c .owned) (λ x. ownedRows x rs) 0 (tally rs) (tally-tallied rs) (λ x l. owned-value rs x))
+tally-counted rs = both (tally rs) (value-own (λ c. c .held) (λ x. heldRows x rs) 0 (tally rs) (tally-tallied rs) (λ x l. held-value rs x))
+    (value-own (λ c. c .owned) (λ x. ownedRows x rs) 0 (tally rs) (tally-tallied rs) (λ x l. owned-value rs x))
   where
     both : (cs : List Conn) → Each (λ c. c .held ≡ heldRows (c .conn) rs) cs → Each (λ c. c .owned ≡ ownedRows (c .conn) rs) cs → Each (Counted rs) cs
     both [] a b = tt

@@ -38,7 +38,9 @@ module _ {b′ : List ℕ} (f : Flat) {x i : ℕ} (bd : Bound (connNames (f .con
 
     pub counted-out : (o : ℕ) → (c .held ≡ 1 → ⊥) → With b′ f (set (f .conns) i (record { conn = c .conn; held = c .held - 1; owned = c .owned - o })) → With b′ f (unbump x o (f .conns))
     counted-out o h s =
-        let q : _≡_ {A = Conn} (record { conn = c .conn; held = c .held - 1; owned = c .owned - o }) (record { conn = (getD (f .conns) i d) .conn; held = (getD (f .conns) i d) .held - 1; owned = (getD (f .conns) i d) .owned - o }) = ap (λ (a : Conn). record { conn = a .conn; held = a .held - 1; owned = a .owned - o }) k in
+        let q : _≡_ {A = Conn} (record { conn = c .conn; held = c .held - 1; owned = c .owned - o })
+        (record { conn = (getD (f .conns) i d) .conn; held = (getD (f .conns) i d) .held - 1; owned = (getD (f .conns) i d) .owned - o }) =
+        ap (λ (a : Conn). record { conn = a .conn; held = a .held - 1; owned = a .owned - o }) k in
         subst (With b′ f) (ap (set (f .conns) i) q ∙ sym (unbump-found (f .conns) bd d l e o (λ z. h (ap (λ (a : Conn). a .held) k ∙ z)))) s
 
     pub recounted : (o p : ℕ) → With b′ f (set (f .conns) i (reowned o p c)) → With b′ f (retally x o p (f .conns))

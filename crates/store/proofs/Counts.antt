@@ -97,7 +97,8 @@ in-has n (c ∷ cs) h = elim (test (eqb (c .connection) n)) [ inl e ↦ rw e (om
 pub in-hasnt : (n : ℕ) (cs : List Candidate) → countIn (λ m. eqb m n) cs ≡ 0 → has n cs ≡ false
 unfolding has countIn
 in-hasnt n [] h = refl
-in-hasnt n (c ∷ cs) h = elim (test (eqb (c .connection) n)) [ inl e ↦ absurd (omega (arith, rw e at h)) | inr e ↦ let z : countIn (λ m. eqb m n) cs ≡ 0 = omega (arith, rw e at h) in rw e (in-hasnt n cs z) ]
+in-hasnt n (c ∷ cs) h = elim (test (eqb (c .connection) n))
+    [ inl e ↦ absurd (omega (arith, rw e at h)) | inr e ↦ let z : countIn (λ m. eqb m n) cs ≡ 0 = omega (arith, rw e at h) in rw e (in-hasnt n cs z) ]
 
 pub and-true : (b : Bool) → (b && true) ≡ b
 and-true true = refl
@@ -150,7 +151,8 @@ distinct-in (r ∷ t) o = ((λ n. first n), distinct-in t (λ n h. omega (arith,
   where
     first : (n : ℕ) → countIn (λ m. eqb m n) (r .candidates) ≤ 1
     first n =
-        let e : countIn (byUnder n (r .key .hash) (r .key)) (r .candidates) ≡ countIn (λ m. eqb m n) (r .candidates) = in-same _ _ (r .candidates) (λ m. rw (eq-eqb (r .key .hash) (r .key .hash) refl)) in
+        let e : countIn (byUnder n (r .key .hash) (r .key)) (r .candidates) ≡ countIn (λ m. eqb m n) (r .candidates) = in-same _ _ (r .candidates)
+        (λ m. rw (eq-eqb (r .key .hash) (r .key .hash) refl)) in
         omega (arith, o n (r .key .hash))
 
 -- the test of one Wtxid key

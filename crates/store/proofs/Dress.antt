@@ -103,7 +103,8 @@ dress-table lo [] ps o l u = refl
 dress-table lo (r ∷ t) ps o l u =
     let h = has-place r (l .0) in
     let one : dress (ps ++ (placesFor r ++ placesOf t)) (bare r) ≡ r =
-    dress-skip (bare r) ps (placesFor r ++ placesOf t) (under-apart (place (r .key)) ps (under-more lo (place (r .key)) ps (o .0) u)) ∙ dressed r (placesFor r) (placesOf t) h (under-places _ 0 t (o .2) (l .1) (place (r .key)) (omega arith)) in
+    dress-skip (bare r) ps (placesFor r ++ placesOf t) (under-apart (place (r .key)) ps (under-more lo (place (r .key)) ps (o .0) u)) ∙
+    dressed r (placesFor r) (placesOf t) h (under-places _ 0 t (o .2) (l .1) (place (r .key)) (omega arith)) in
     let rest = dress-table _ t (ps ++ placesFor r) (o .2) (l .1) (under-append _ ps (placesFor r) (under-more lo _ ps (omega (arith, o .0)) u) (under-its r (placesFor r) h)) in
     rw one (ap (λ (l : List Request). r ∷ l) (rw append-assoc at rest))
 

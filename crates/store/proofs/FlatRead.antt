@@ -80,7 +80,8 @@ module _ (f : Flat) (z : List ℕ) where
       ap (λ (n : ℕ). drop n parts) e
       ∙ sym (drop-drop (connSize * f .head .limit) (headSize + rowSize * f .head .limit) parts)
       ∙ ap (drop (connSize * f .head .limit)) at-conns
-      ∙ drop-at (connPart (f .head .limit) (f .conns)) (placePart (f .head .places) (f .places) ++ z) (connSize * f .head .limit) (length-padded (connSize * f .head .limit) (each connWords (f .conns)))
+      ∙ drop-at (connPart (f .head .limit) (f .conns)) (placePart (f .head .places) (f .places) ++ z) (connSize * f .head .limit)
+      (length-padded (connSize * f .head .limit) (each connWords (f .conns)))
 
   pub flat-read : FlatSound f → flatIn (wordsOf f ++ z) ≡ f
   unfolding flatIn

@@ -131,8 +131,10 @@ module _ {b : List ℕ} {f : Flat} (h : Shows b f) where
     pub conns-lent : Holds connSize connWords (f .head .limit) (f .conns) (words (take ((24 + l * 9 + l * 3) * 8 - (24 + l * 9) * 8) (drop ((24 + l * 9) * 8) b)))
     conns-lent = lent-is b (24 + l * 9) (24 + l * 9 + l * 3) (A ++ rs) cs ps by-conns lar lc (omega (arith, sizes))
 
-    pub conns-back : (p : List ℕ) (xs : List Conn) → length p ≡ length (take ((24 + l * 9 + l * 3) * 8 - (24 + l * 9) * 8) (drop ((24 + l * 9) * 8) b)) → Holds connSize connWords (f .head .limit) xs (words p)
-        → words (take ((24 + l * 9) * 8) b ++ (p ++ drop ((24 + l * 9 + l * 3) * 8 - (24 + l * 9) * 8) (drop ((24 + l * 9) * 8) b))) ≡ framing (length (f .rows)) (length (f .conns)) (length (f .places)) (f .rows) xs (f .places)
+    pub conns-back : (p : List ℕ) (xs : List Conn) → length p ≡ length (take ((24 + l * 9 + l * 3) * 8 - (24 + l * 9) * 8) (drop ((24 + l * 9) * 8) b))
+        → Holds connSize connWords (f .head .limit) xs (words p)
+        → words (take ((24 + l * 9) * 8) b ++ (p ++ drop ((24 + l * 9 + l * 3) * 8 - (24 + l * 9) * 8) (drop ((24 + l * 9) * 8) b))) ≡
+        framing (length (f .rows)) (length (f .conns)) (length (f .places)) (f .rows) xs (f .places)
     conns-back p xs lp k = back-is b (24 + l * 9) (24 + l * 9 + l * 3) (A ++ rs) cs ps by-conns lar lc (omega (arith, sizes)) p lp ∙ rw k (append-assoc A rs (connPart (f .head .limit) xs ++ ps))
 
     -- the places, `s[(24 + l * 9 + l * 3) * 8..(24 + l * 9 + l * 3 + q * 824) * 8]`
@@ -149,8 +151,10 @@ module _ {b : List ℕ} {f : Flat} (h : Shows b f) where
       pub places-lent : Holds placeSize placeWords (f .head .places) (f .places) (words (take ((24 + l * 9 + l * 3 + q * 824) * 8 - (24 + l * 9 + l * 3) * 8) (drop ((24 + l * 9 + l * 3) * 8) b)))
       places-lent = lent-is b (24 + l * 9 + l * 3) (24 + l * 9 + l * 3 + q * 824) (A ++ (rs ++ cs)) ps [] by-places lac lp (omega (arith, sizes))
 
-      pub places-back : (p : List ℕ) (xs : List Place) → length p ≡ length (take ((24 + l * 9 + l * 3 + q * 824) * 8 - (24 + l * 9 + l * 3) * 8) (drop ((24 + l * 9 + l * 3) * 8) b)) → Holds placeSize placeWords (f .head .places) xs (words p)
-          → words (take ((24 + l * 9 + l * 3) * 8) b ++ (p ++ drop ((24 + l * 9 + l * 3 + q * 824) * 8 - (24 + l * 9 + l * 3) * 8) (drop ((24 + l * 9 + l * 3) * 8) b))) ≡ framing (length (f .rows)) (length (f .conns)) (length (f .places)) (f .rows) (f .conns) xs
+      pub places-back : (p : List ℕ) (xs : List Place) → length p ≡ length (take ((24 + l * 9 + l * 3 + q * 824) * 8 - (24 + l * 9 + l * 3) * 8) (drop ((24 + l * 9 + l * 3) * 8) b))
+          → Holds placeSize placeWords (f .head .places) xs (words p)
+          → words (take ((24 + l * 9 + l * 3) * 8) b ++ (p ++ drop ((24 + l * 9 + l * 3 + q * 824) * 8 - (24 + l * 9 + l * 3) * 8) (drop ((24 + l * 9 + l * 3) * 8) b))) ≡
+          framing (length (f .rows)) (length (f .conns)) (length (f .places)) (f .rows) (f .conns) xs
       places-back p xs n k = back-is b (24 + l * 9 + l * 3) (24 + l * 9 + l * 3 + q * 824) (A ++ (rs ++ cs)) ps [] by-places lac lp (omega (arith, sizes)) p n ∙ rw (k, append-nil) (simp append-assoc)
 
   -- ---- and what they show afterwards
@@ -161,20 +165,32 @@ module _ {b : List ℕ} {f : Flat} (h : Shows b f) where
     rows-same xs n e = record { long = l ∙ h .long; words-are = e ∙ rw (← n) (sym (framed-is (withRows xs f))) }
 
     -- rows with another count
-    pub rows-counted : {w : List ℕ} (xs : List Row) (v : ℕ) → length xs ≡ v → w ≡ framing (length (f .rows)) (length (f .conns)) (length (f .places)) xs (f .conns) (f .places) → words b′ ≡ set w rowsAt v → Shows b′ (withRows xs f)
-    rows-counted xs v n e g = record { long = l ∙ h .long; words-are = g ∙ rw (e, ← n) (set-rows (f .head) (length (f .rows)) (length (f .conns)) (length (f .places)) (length xs) _ ∙ sym (framed-is (withRows xs f))) }
+    pub rows-counted : {w : List ℕ} (xs : List Row) (v : ℕ) → length xs ≡ v → w ≡ framing (length (f .rows)) (length (f .conns)) (length (f .places)) xs (f .conns) (f .places)
+        → words b′ ≡ set w rowsAt v → Shows b′ (withRows xs f)
+    rows-counted xs v n e g =
+        record { long = l ∙ h .long; words-are = g ∙ rw (e, ← n) (set-rows (f .head) (length (f .rows)) (length (f .conns)) (length (f .places)) (length xs) _ ∙ sym (framed-is (withRows xs f))) }
 
-    pub conns-same : (xs : List Conn) → length xs ≡ length (f .conns) → words b′ ≡ framing (length (f .rows)) (length (f .conns)) (length (f .places)) (f .rows) xs (f .places) → Shows b′ (withConns xs f)
+    pub conns-same : (xs : List Conn) → length xs ≡ length (f .conns) → words b′ ≡ framing (length (f .rows)) (length (f .conns)) (length (f .places)) (f .rows) xs (f .places)
+        → Shows b′ (withConns xs f)
     conns-same xs n e = record { long = l ∙ h .long; words-are = e ∙ rw (← n) (sym (framed-is (withConns xs f))) }
 
-    pub conns-counted : {w : List ℕ} (xs : List Conn) (v : ℕ) → length xs ≡ v → w ≡ framing (length (f .rows)) (length (f .conns)) (length (f .places)) (f .rows) xs (f .places) → words b′ ≡ set w connsAt v → Shows b′ (withConns xs f)
-    conns-counted xs v n e g = record { long = l ∙ h .long; words-are = g ∙ rw (e, ← n) (set-conns (f .head) (length (f .rows)) (length (f .conns)) (length (f .places)) (length xs) _ ∙ sym (framed-is (withConns xs f))) }
+    pub conns-counted : {w : List ℕ} (xs : List Conn) (v : ℕ) → length xs ≡ v → w ≡ framing (length (f .rows)) (length (f .conns)) (length (f .places)) (f .rows) xs (f .places)
+        → words b′ ≡ set w connsAt v → Shows b′ (withConns xs f)
+    conns-counted xs v n e g = record {
+      long = l ∙ h .long;
+      words-are = g ∙ rw (e, ← n) (set-conns (f .head) (length (f .rows)) (length (f .conns)) (length (f .places)) (length xs) _ ∙ sym (framed-is (withConns xs f)));
+    }
 
-    pub places-same : (xs : List Place) → length xs ≡ length (f .places) → words b′ ≡ framing (length (f .rows)) (length (f .conns)) (length (f .places)) (f .rows) (f .conns) xs → Shows b′ (withPlaces xs f)
+    pub places-same : (xs : List Place) → length xs ≡ length (f .places) → words b′ ≡ framing (length (f .rows)) (length (f .conns)) (length (f .places)) (f .rows) (f .conns) xs
+        → Shows b′ (withPlaces xs f)
     places-same xs n e = record { long = l ∙ h .long; words-are = e ∙ rw (← n) (sym (framed-is (withPlaces xs f))) }
 
-    pub places-counted : {w : List ℕ} (xs : List Place) (v : ℕ) → length xs ≡ v → w ≡ framing (length (f .rows)) (length (f .conns)) (length (f .places)) (f .rows) (f .conns) xs → words b′ ≡ set w heldPlacesAt v → Shows b′ (withPlaces xs f)
-    places-counted xs v n e g = record { long = l ∙ h .long; words-are = g ∙ rw (e, ← n) (set-places (f .head) (length (f .rows)) (length (f .conns)) (length (f .places)) (length xs) _ ∙ sym (framed-is (withPlaces xs f))) }
+    pub places-counted : {w : List ℕ} (xs : List Place) (v : ℕ) → length xs ≡ v → w ≡ framing (length (f .rows)) (length (f .conns)) (length (f .places)) (f .rows) (f .conns) xs
+        → words b′ ≡ set w heldPlacesAt v → Shows b′ (withPlaces xs f)
+    places-counted xs v n e g = record {
+      long = l ∙ h .long;
+      words-are = g ∙ rw (e, ← n) (set-places (f .head) (length (f .rows)) (length (f .conns)) (length (f .places)) (length xs) _ ∙ sym (framed-is (withPlaces xs f)));
+    }
 
 -- ---- lists with one element more or less
 
@@ -206,7 +222,12 @@ padded-nil n = padded-fit n [] (omega arith) ∙ (let e : n - 0 ≡ n = omega ar
 parted : (l q d : ℕ) → d ≡ 24 + (12 * l + 824 * q) → replicate {A = ℕ} d 0 ≡ replicate 24 0 ++ (replicate (rowSize * l) 0 ++ (replicate (connSize * l) 0 ++ replicate (placeSize * q) 0))
 parted l q d e =
     let m : d ≡ 24 + (rowSize * l + (connSize * l + placeSize * q)) = omega arith in
-    rw (m, ← (replicate-append-replicate {A = ℕ} 24 (rowSize * l + (connSize * l + placeSize * q)) 0), ← (replicate-append-replicate {A = ℕ} (rowSize * l) (connSize * l + placeSize * q) 0), ← (replicate-append-replicate {A = ℕ} (connSize * l) (placeSize * q) 0))
+    rw (
+      m,
+      ← (replicate-append-replicate {A = ℕ} 24 (rowSize * l + (connSize * l + placeSize * q)) 0),
+      ← (replicate-append-replicate {A = ℕ} (rowSize * l) (connSize * l + placeSize * q) 0),
+      ← (replicate-append-replicate {A = ℕ} (connSize * l) (placeSize * q) 0),
+    )
 
 empty-words : (l q : ℕ) → set (set (set (replicate 24 0 ++ (replicate (rowSize * l) 0 ++ (replicate (connSize * l) 0 ++ replicate (placeSize * q) 0))) 0 1) 1 l) 2 q ≡ wordsOf (flatOf (empty l q))
 unfolding wordsOf headWords each tally

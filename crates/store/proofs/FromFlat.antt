@@ -46,7 +46,8 @@ module _ (f : Flat) (s : FlatSound f) where
   once-in u e n h = rw (← (by-under-rows u n h), e) (s .once n h)
 
   d : Dressed (f .places) t
-  d = dressed (f .rows) t (f .places) (g .ordered) (g .lawful) (g .unplaced) (s .places-ascend) (s .places-fit) (λ h. rw (g .rows) at (own-wtxid-rows t (g .lawful) (distinct-in t (once-in t (g .rows))) h))
+  d = dressed (f .rows) t (f .places) (g .ordered) (g .lawful) (g .unplaced) (s .places-ascend) (s .places-fit)
+      (λ h. rw (g .rows) at (own-wtxid-rows t (g .lawful) (distinct-in t (once-in t (g .rows))) h))
 
   abbrev u : Table
   u = tableIn (f .rows) (f .places)

@@ -157,7 +157,8 @@ module _ (lo : ℕ) (r : Row) (rs : List Row) (q : Request) (t : Table) (g : Gat
   another : Gathered lo (r ∷ rs) (joined r q ∷ t)
   unfolding each rowsFor
   another = record {
-    rows = rw (row-back r (g .fit .0) (joined r q) same-key same-mark (owner-is r (g .fit .0) (q .owner) not-owner) (deadline-is r (g .fit .0) (q .owner) not-owner), rows-kept) (ap (λ (l : List Row). r ∷ l) (d .rows));
+    rows = rw (row-back r (g .fit .0) (joined r q) same-key same-mark (owner-is r (g .fit .0) (q .owner) not-owner) (deadline-is r (g .fit .0) (q .owner) not-owner), rows-kept)
+        (ap (λ (l : List Row). r ∷ l) (d .rows));
     ordered = (omega (arith, g .ascending .0), d .ordered .1, d .ordered .2);
     filled = (omega arith, d .filled .1);
     lawful = (joined-lawful, d .lawful .1);
@@ -173,7 +174,8 @@ joins lo r rs (q ∷ t) g d =
     elim (test (eqb (place (keyAt r)) (place (q .key)))) [
       | inl e ↦ rw e (another lo r rs q t g d (eqb-true _ _ e))
       | inr e ↦ let n = eqb-false (place (keyAt r)) (place (q .key)) e in
-          rw e (first lo r rs (q ∷ t) g (record { rows = d .rows; ordered = (omega (arith, d .ordered .0), d .ordered .1, d .ordered .2); filled = d .filled; lawful = d .lawful; unplaced = d .unplaced }))
+          rw e (first lo r rs (q ∷ t) g
+          (record { rows = d .rows; ordered = (omega (arith, d .ordered .0), d .ordered .1, d .ordered .2); filled = d .filled; lawful = d .lawful; unplaced = d .unplaced }))
     ]
 
 pub gathered : (lo : ℕ) (rs : List Row) → Gatherable lo rs → Gathered lo rs (gather rs)

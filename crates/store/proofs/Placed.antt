@@ -152,7 +152,8 @@ past : (ps : List Place) (r : Request) (t : Table) → From (suc (place (r .key)
 unfolding each
 past ps r t f l u d = let e = dress-none r ps f in record { places = rw (e, unplaced-none r u) (d .places); lawful = rw e (l, d .lawful) }
 
-here : (rs : List Row) (p : Place) (ps : List Place) (r : Request) (t : Table) → spotOf p ≡ place (r .key) → Ordered (place (r .key)) (r ∷ t) → Lawful r → PlaceFits rs p → isSome (r .owner) ≡ true → Dressed ps t → Dressed (p ∷ ps) (r ∷ t)
+here : (rs : List Row) (p : Place) (ps : List Place) (r : Request) (t : Table) → spotOf p ≡ place (r .key) → Ordered (place (r .key)) (r ∷ t) → Lawful r → PlaceFits rs p → isSome (r .owner) ≡ true
+    → Dressed ps t → Dressed (p ∷ ps) (r ∷ t)
 unfolding each
 here rs p ps r t e o l f s d =
     let k : wtxid (p .hash) ≡ r .key = place-inj (wtxid (p .hash)) (r .key) (f .hash) (o .1) e in
@@ -183,11 +184,13 @@ dressed-from rs lo (r ∷ t) (p ∷ ps) o l u f s w =
       | inr (inl b) ↦
           let g : From (suc (place (r .key))) ps = rw b (f .1) in
           let z = owned-behind (p .hash) _ t (omega arith) (o .2) in
-          here rs p ps r t (sym b) (omega arith, o .1, o .2) (l .0) (s .0) (owned-some (atWtxid (p .hash) (r .key)) (r .owner) (omega (arith, w .0))) (dressed-from rs _ t ps (o .2) (l .1) (u .1) g (s .1) (owned-past r t ps g (w .1)))
+          here rs p ps r t (sym b) (omega arith, o .1, o .2) (l .0) (s .0) (owned-some (atWtxid (p .hash) (r .key)) (r .owner) (omega (arith, w .0)))
+          (dressed-from rs _ t ps (o .2) (l .1) (u .1) g (s .1) (owned-past r t ps g (w .1)))
       | inr (inr b) ↦ absurd (omega (arith, w .0, owned-behind (p .hash) (place (r .key)) (r ∷ t) b (omega arith, o .1, o .2)))
     ]
 
-pub dressed : (rs : List Row) (t : Table) (ps : List Place) → Ordered 0 t → All Lawful t → All Unplaced t → PlacesAscend 0 ps → Each (PlaceFits rs) ps → ((h : ℕ) → countRows (ownsKey h) rs ≡ owners (atWtxid h) t) → Dressed ps t
+pub dressed : (rs : List Row) (t : Table) (ps : List Place) → Ordered 0 t → All Lawful t → All Unplaced t → PlacesAscend 0 ps → Each (PlaceFits rs) ps
+    → ((h : ℕ) → countRows (ownsKey h) rs ≡ owners (atWtxid h) t) → Dressed ps t
 dressed rs t ps o l u a s c = dressed-from rs 0 t ps o l u (from-hashes 0 0 ps (omega arith) a) s (owned ps s)
   where
     owned : (ps : List Place) → Each (PlaceFits rs) ps → Each (OwnedIn t) ps

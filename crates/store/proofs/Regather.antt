@@ -47,7 +47,8 @@ joined-row r c cs e = rw (candidate-row r c e, owner-row r c (amongst (r .owner)
 
 single-row : (r : Request) (c : Candidate) → keyOf (c .item) ≡ some (r .key) → single (rowOf r c) ≡ part r (c ∷ [])
 unfolding has
-single-row r c e = rw (candidate-row r c e, key-row r c, owner-row r c none, mark-row r c, bit-one (r .fallback)) (ap (λ (o : Option Owner). record { key = r .key; candidates = c ∷ []; owner = o; info = false; «package» = none; parents = []; fallback = r .fallback }) (nil (r .owner) ∙ amongst-more (r .owner) c []))
+single-row r c e = rw (candidate-row r c e, key-row r c, owner-row r c none, mark-row r c, bit-one (r .fallback)) (ap (λ (o : Option Owner).
+    record { key = r .key; candidates = c ∷ []; owner = o; info = false; «package» = none; parents = []; fallback = r .fallback }) (nil (r .owner) ∙ amongst-more (r .owner) c []))
   where
     nil : (o : Option Owner) → (if ownerIs (c .connection) o then o else none) ≡ (if ownerIs (c .connection) o then o else amongst o [])
     nil none = refl

@@ -57,7 +57,13 @@ five-bits n h =
 module _ (r : Row) (f : RowFits r) where
   bits-back : bitsOf (kindIs (r .bits % 2)) (witnessBit (itemKindAs (kindIs (r .bits % 2)) (r .bits / 2 % 2))) (eqb (r .bits / 4 % 2) 1) (owns r) (eqb (markBit r) 1) ≡ r .bits
   bits-back =
-      rw (bit-witness (r .bits % 2) (r .bits / 2 % 2) (omega arith) (omega arith) (λ e. f .plain e .0), bit-kind (r .bits % 2) (omega arith), bit-test (r .bits / 4 % 2) (omega arith), bit-test (ownBit r) (omega arith), bit-test (markBit r) (omega arith))
+      rw (
+        bit-witness (r .bits % 2) (r .bits / 2 % 2) (omega arith) (omega arith) (λ e. f .plain e .0),
+        bit-kind (r .bits % 2) (omega arith),
+        bit-test (r .bits / 4 % 2) (omega arith),
+        bit-test (ownBit r) (omega arith),
+        bit-test (markBit r) (omega arith),
+      )
       (five-bits (r .bits) (f .bits))
 
   row-parts : (k : Key) (cs : List Candidate) (o : Option Owner) (i : Bool) (p : Option Package) (hs : List ℕ) (b : Bool)
@@ -66,7 +72,8 @@ module _ (r : Row) (f : RowFits r) where
   unfolding rowOf candidateAt keyAt
   row-parts k cs o i p hs b e m w d = rw (e, m, w, d, quad-number (r .hash) (f .hash), bits-back)
 
-  pub row-back : (q : Request) → q .key ≡ keyAt r → q .fallback ≡ eqb (markBit r) 1 → ownerIs (r .conn) (q .owner) ≡ owns r → deadlineFor (r .conn) (q .owner) ≡ r .deadline → rowOf q (candidateAt r) ≡ r
+  pub row-back : (q : Request) → q .key ≡ keyAt r → q .fallback ≡ eqb (markBit r) 1 → ownerIs (r .conn) (q .owner) ≡ owns r → deadlineFor (r .conn) (q .owner) ≡ r .deadline
+      → rowOf q (candidateAt r) ≡ r
   row-back q e m w d = row-parts (q .key) (q .candidates) (q .owner) (q .info) (q .«package») (q .parents) (q .fallback) e m w d
 
   -- ---- the owner that a row names
@@ -131,12 +138,14 @@ module _ (r : Row) (f : RowFits r) where
 -- ---- the other rows of a request
 
 -- a row depends on its request's key, mark and owner
-pub row-same : (q p : Request) (c : Candidate) → q .key ≡ p .key → q .fallback ≡ p .fallback → ownerIs (c .connection) (q .owner) ≡ ownerIs (c .connection) (p .owner) → deadlineFor (c .connection) (q .owner) ≡ deadlineFor (c .connection) (p .owner) → rowOf q c ≡ rowOf p c
+pub row-same : (q p : Request) (c : Candidate) → q .key ≡ p .key → q .fallback ≡ p .fallback → ownerIs (c .connection) (q .owner) ≡ ownerIs (c .connection) (p .owner)
+    → deadlineFor (c .connection) (q .owner) ≡ deadlineFor (c .connection) (p .owner) → rowOf q c ≡ rowOf p c
 unfolding rowOf
 row-same q p c e m w d = cc
 
 -- an owner that is none of these candidates is as none to them
-pub rows-same : (q p : Request) (cs : List Candidate) (o : Owner) → q .key ≡ p .key → q .fallback ≡ p .fallback → q .owner ≡ some o → p .owner ≡ none → has (o .connection) cs ≡ false → map (rowOf q) cs ≡ map (rowOf p) cs
+pub rows-same : (q p : Request) (cs : List Candidate) (o : Owner) → q .key ≡ p .key → q .fallback ≡ p .fallback → q .owner ≡ some o → p .owner ≡ none → has (o .connection) cs ≡ false
+    → map (rowOf q) cs ≡ map (rowOf p) cs
 unfolding has
 rows-same q p [] o e m w v h = refl
 rows-same q p (c ∷ cs) o e m w v h =

@@ -29,12 +29,14 @@ use Rattle.store.proofs.RowsAt.{rows-append, Among, ahead, behind, rows
 
 row-is : (a b : Row) → a .hash ≡ b .hash → a .conn ≡ b .conn → a .ready ≡ b .ready → a .prio ≡ b .prio → a .deadline ≡ b .deadline → a .bits ≡ b .bits → a ≡ b
 row-is a b e f g h i j =
-    let q : _≡_ {A = Row} (record { hash = a .hash; conn = a .conn; ready = a .ready; prio = a .prio; deadline = a .deadline; bits = a .bits }) (record { hash = b .hash; conn = b .conn; ready = b .ready; prio = b .prio; deadline = b .deadline; bits = b .bits }) = rw (e, f, g, h, i, j) in
+    let q : _≡_ {A = Row} (record { hash = a .hash; conn = a .conn; ready = a .ready; prio = a .prio; deadline = a .deadline; bits = a .bits })
+    (record { hash = b .hash; conn = b .conn; ready = b .ready; prio = b .prio; deadline = b .deadline; bits = b .bits }) = rw (e, f, g, h, i, j) in
     q
 
 module _ (q r : Request) (c : Candidate) (e : q .key ≡ r .key) (m : q .fallback ≡ r .fallback) where
   -- its connection comes to own the request
-  pub row-owned : (o : Owner) → q .owner ≡ some o → o .connection ≡ c .connection → ownerIs (c .connection) (r .owner) ≡ false → rowOf q c ≡ withDeadline (o .deadline) (withBits ((rowOf r c) .bits + 8) (rowOf r c))
+  pub row-owned : (o : Owner) → q .owner ≡ some o → o .connection ≡ c .connection → ownerIs (c .connection) (r .owner) ≡ false
+      → rowOf q c ≡ withDeadline (o .deadline) (withBits ((rowOf r c) .bits + 8) (rowOf r c))
   unfolding rowOf
   row-owned o w n v =
       let t : eqb (o .connection) (c .connection) ≡ true = eq-eqb (o .connection) (c .connection) n in
@@ -60,7 +62,8 @@ idle n none e = refl
 idle n (some o) e = rw e
 
 -- a connection that owns before and after, or neither, has the same row
-row-idle : (q r : Request) (c : Candidate) → q .key ≡ r .key → q .fallback ≡ r .fallback → ownerIs (c .connection) (q .owner) ≡ false → ownerIs (c .connection) (r .owner) ≡ false → rowOf q c ≡ rowOf r c
+row-idle : (q r : Request) (c : Candidate) → q .key ≡ r .key → q .fallback ≡ r .fallback → ownerIs (c .connection) (q .owner) ≡ false → ownerIs (c .connection) (r .owner) ≡ false
+    → rowOf q c ≡ rowOf r c
 row-idle q r c e m v w = row-same q r c e m (v ∙ sym w) (idle (c .connection) (q .owner) v ∙ sym (idle (c .connection) (r .owner) w))
 
 pub row-ready : (r : Request) (c : Candidate) (v : ℕ) → rowOf r (readyAt v c) ≡ withReady v (rowOf r c)
@@ -82,7 +85,8 @@ row-remarked r c m = let k : one (r .fallback) ≡ 1 = ap one m in row-is _ _ re
 -- ---- the rows of a request
 
 -- none of these candidates is n
-rows-idle : (n : ℕ) (q r : Request) (cs : List Candidate) → q .key ≡ r .key → q .fallback ≡ r .fallback → ((m : ℕ) → eqb n m ≡ false → ownerIs m (q .owner) ≡ false) → ((m : ℕ) → eqb n m ≡ false → ownerIs m (r .owner) ≡ false) → has n cs ≡ false → map (rowOf q) cs ≡ map (rowOf r) cs
+rows-idle : (n : ℕ) (q r : Request) (cs : List Candidate) → q .key ≡ r .key → q .fallback ≡ r .fallback → ((m : ℕ) → eqb n m ≡ false → ownerIs m (q .owner) ≡ false)
+    → ((m : ℕ) → eqb n m ≡ false → ownerIs m (r .owner) ≡ false) → has n cs ≡ false → map (rowOf q) cs ≡ map (rowOf r) cs
 unfolding has
 rows-idle n q r [] e m v w h = refl
 rows-idle n q r (c ∷ cs) e m v w h =
@@ -103,18 +107,21 @@ module _ (k : Key) (n lo : ℕ) (t : Table) (o : Ordered lo t) (f : Among n ((at
   r = at k t
 
   -- a change that shows in the row of n alone
-  rows-one : (g : Request → Request) (c : Candidate) (x : Row) → (g r) .candidates ≡ f .front ++ (c ∷ f .back) → map (rowOf (g r)) (f .front) ≡ map (rowOf r) (f .front) → rowOf (g r) c ≡ x → map (rowOf (g r)) (f .back) ≡ map (rowOf r) (f .back)
+  rows-one : (g : Request → Request) (c : Candidate) (x : Row) → (g r) .candidates ≡ f .front ++ (c ∷ f .back) → map (rowOf (g r)) (f .front) ≡ map (rowOf r) (f .front) → rowOf (g r) c ≡ x
+      → map (rowOf (g r)) (f .back) ≡ map (rowOf r) (f .back)
       → rowsOf (change k g t) ≡ set (rowsOf t) (length (ahead k n lo t o f)) x
   unfolding rowsFor
   rows-one g c x e a b d =
-      let z : map (rowOf (g r)) ((g r) .candidates) ≡ map (rowOf r) (f .front) ++ (x ∷ map (rowOf r) (f .back)) = ap (map (rowOf (g r))) e ∙ rows-append (g r) (f .front) (c ∷ f .back) ∙ rw (a, b, d) in
+      let z : map (rowOf (g r)) ((g r) .candidates) ≡ map (rowOf r) (f .front) ++ (x ∷ map (rowOf r) (f .back)) = ap (map (rowOf (g r))) e ∙ rows-append (g r) (f .front) (c ∷ f .back) ∙
+      rw (a, b, d) in
       rows-change k lo t o g
       ∙ ap (λ (l : List Row). rowsBelow k t ++ (l ++ rowsAbove k t)) z
       ∙ (simp append-assoc)
       ∙ sym (set-at (ahead k n lo t o f) (rowOf r (f .one)) (behind k n lo t o f) x (length (ahead k n lo t o f)) refl)
       ∙ ap (λ (l : List Row). set l (length (ahead k n lo t o f)) x) (sym (rows-among k n lo t o f))
 
-  module _ (d : Distinct ((at k t) .candidates)) (g : Request → Request) (ek : (g (at k t)) .key ≡ (at k t) .key) (ec : (g (at k t)) .candidates ≡ (at k t) .candidates) (em : (g (at k t)) .fallback ≡ (at k t) .fallback) where
+  module _ (d : Distinct ((at k t) .candidates)) (g : Request → Request) (ek : (g (at k t)) .key ≡ (at k t) .key) (ec : (g (at k t)) .candidates ≡ (at k t) .candidates)
+      (em : (g (at k t)) .fallback ≡ (at k t) .fallback) where
     -- n becomes the owner of a request that has none
     pub rows-owned : (v : ℕ) → (g (at k t)) .owner ≡ some (record { connection = n; deadline = v }) → (at k t) .owner ≡ none
         → rowsOf (change k g t) ≡ set (rowsOf t) (length (ahead k n lo t o f)) (withDeadline v (withBits ((rowOf (at k t) (f .one)) .bits + 8) (rowOf (at k t) (f .one))))
@@ -138,7 +145,8 @@ module _ (k : Key) (n lo : ℕ) (t : Table) (o : Ordered lo t) (f : Among n ((at
         (rows-idle n (g r) r (f .back) ek em (λ m z. p m) q (none-behind n (r .candidates) d f))
 
 -- "an existing candidate .. takes the smaller ready time and priority, turns preferred"
-adopt-among : (same : Bool) (c : Candidate) (a b : List Candidate) (d : Candidate) → has (c .connection) a ≡ false → d .connection ≡ c .connection → adopt same c (a ++ (d ∷ b)) ≡ a ++ (adopting same c d ∷ b)
+adopt-among : (same : Bool) (c : Candidate) (a b : List Candidate) (d : Candidate) → has (c .connection) a ≡ false → d .connection ≡ c .connection
+    → adopt same c (a ++ (d ∷ b)) ≡ a ++ (adopting same c d ∷ b)
 unfolding adopt has
 adopt-among same c [] b d h e = rw (eq-eqb (d .connection) (c .connection) e)
 adopt-among same c (x ∷ a) b d h e =
@@ -156,7 +164,8 @@ rows-adopted same c k lo t o f =
     (rows-like q r (f .back) refl refl refl)
 
 -- a change of flag, package or parents alone
-pub rows-unchanged : (k : Key) (lo : ℕ) (t : Table) → Ordered lo t → (g : Request → Request) → (g (at k t)) .key ≡ (at k t) .key → (g (at k t)) .candidates ≡ (at k t) .candidates → (g (at k t)) .fallback ≡ (at k t) .fallback → (g (at k t)) .owner ≡ (at k t) .owner → rowsOf (change k g t) ≡ rowsOf t
+pub rows-unchanged : (k : Key) (lo : ℕ) (t : Table) → Ordered lo t → (g : Request → Request) → (g (at k t)) .key ≡ (at k t) .key → (g (at k t)) .candidates ≡ (at k t) .candidates
+    → (g (at k t)) .fallback ≡ (at k t) .fallback → (g (at k t)) .owner ≡ (at k t) .owner → rowsOf (change k g t) ≡ rowsOf t
 unfolding rowsFor
 rows-unchanged k lo t o g ek ec em ew =
     rows-change k lo t o g

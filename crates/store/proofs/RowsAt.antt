@@ -142,7 +142,8 @@ module _ (k : Key) (n lo : ℕ) (t : Table) (o : Ordered lo t) (f : Among n ((at
   unfolding rowsFor
   cut-rows =
       rows-change k lo t o (λ q. withCandidates (without n (q .candidates)) q)
-      ∙ ap (λ (l : List Row). rowsBelow k t ++ (l ++ rowsAbove k t)) (rows-like (withCandidates (without n (r .candidates)) r) r (without n (r .candidates)) refl refl refl ∙ ap (map (rowOf r)) (f .rest) ∙ rows-append r (f .front) (f .back))
+      ∙ ap (λ (l : List Row). rowsBelow k t ++ (l ++ rowsAbove k t)) (rows-like (withCandidates (without n (r .candidates)) r) r (without n (r .candidates)) refl refl refl ∙
+      ap (map (rowOf r)) (f .rest) ∙ rows-append r (f .front) (f .back))
       ∙ (simp append-assoc)
       ∙ sym (remove-seam ahead (rowOf r (f .one)) behind)
       ∙ ap (removeAt (length ahead)) (sym rows-among)

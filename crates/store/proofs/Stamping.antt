@@ -61,7 +61,8 @@ pub record Stamped (b b′ : List ℕ) (g : Row → Row) (from to i : ℕ) : Typ
   pub turns : Turns b b′ (λ f. withRows (mapIn g from i (f .rows)) f)
 
 pub stamped-none : {b : List ℕ} (g : Row → Row) {from to : ℕ} → Shown b → from ≤ to → to ≤ rowsIn b → Stamped b b g from to from
-stamped-none {b} g {from} s l m = record { least = omega arith; most = l; room = m; within = m; long = refl; is-shown = s; turns = λ f h. subst (λ (rs : List Row). Shows b (withRows rs f)) (sym (map-none g from (f .rows))) h }
+stamped-none {b} g {from} s l m =
+    record { least = omega arith; most = l; room = m; within = m; long = refl; is-shown = s; turns = λ f h. subst (λ (rs : List Row). Shows b (withRows rs f)) (sym (map-none g from (f .rows))) h }
 
 -- a turn: the row at i is replaced by g of it
 pub stamped-more : {b b′ b″ : List ℕ} (g : Row → Row) {from to i : ℕ} (r x : Row) → Stamped b b′ g from to i → i < to → length b″ ≡ length b′

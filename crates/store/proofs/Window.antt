@@ -63,7 +63,8 @@ upto-rows : (x : ℕ) (t : Table) → All (λ r. place (r .key) < x) t → Upto 
 unfolding each rowsFor
 upto-rows x [] a = tt
 upto-rows x (r ∷ t) a =
-    rw (map-append (λ r. keyNumber (keyOf r)) (map (rowOf r) (r .candidates)) (rowsOf t)) (upto-append x (rowKeys (map (rowOf r) (r .candidates))) (rowKeys (rowsOf t)) (upto-in x r (r .candidates) (a .0)) (upto-rows x t (a .1)))
+    rw (map-append (λ r. keyNumber (keyOf r)) (map (rowOf r) (r .candidates)) (rowsOf t))
+    (upto-append x (rowKeys (map (rowOf r) (r .candidates))) (rowKeys (rowsOf t)) (upto-in x r (r .candidates) (a .0)) (upto-rows x t (a .1)))
 
 ascend-in : (lo : ℕ) (r : Request) (cs : List Candidate) (rs : List Row) → lo ≤ place (r .key) → Ascend (place (r .key)) (rowKeys rs) → Ascend lo (rowKeys (map (rowOf r) cs ++ rs))
 ascend-in lo r [] rs h a = ascend-weaken lo (place (r .key)) (rowKeys rs) h a
@@ -80,7 +81,8 @@ module _ (k : Key) (lo : ℕ) (t : Table) (o : Ordered lo t) (s : k .hash < top)
   unfolding rowsFor
   rows-from =
       let a : Ascend (place k) (rowKeys (rowsFor (at k t) ++ rowsAbove k t)) =
-      ascend-in (place k) (at k t) ((at k t) .candidates) (rowsAbove k t) (omega (arith, its-place)) (rw its-place (ascend-weaken (place k) (suc (place k)) (rowKeys (rowsAbove k t)) (omega arith) behind)) in
+      ascend-in (place k) (at k t) ((at k t) .candidates) (rowsAbove k t) (omega (arith, its-place))
+      (rw its-place (ascend-weaken (place k) (suc (place k)) (rowKeys (rowsAbove k t)) (omega arith) behind)) in
       let b = bound-append (place k) (rowKeys (rowsBelow k t)) (rowKeys (rowsFor (at k t) ++ rowsAbove k t)) (upto-rows (place k) (below k t) (below-under k t)) a in
       rw (rows-at k lo t o, map-append (λ r. keyNumber (keyOf r)) (rowsBelow k t) (rowsFor (at k t) ++ rowsAbove k t)) (rw (length-map (rowsBelow k t) (λ r. keyNumber (keyOf r))) at b)
 
@@ -90,9 +92,11 @@ module _ (k : Key) (lo : ℕ) (t : Table) (o : Ordered lo t) (s : k .hash < top)
       let e : suc (place k) ≡ place k + 1 = omega arith in
       let u : Upto (place k + 1) (rowKeys (rowsBelow k t ++ rowsFor (at k t))) =
       rw (map-append (λ r. keyNumber (keyOf r)) (rowsBelow k t) (rowsFor (at k t)))
-      (upto-append (place k + 1) (rowKeys (rowsBelow k t)) (rowKeys (rowsFor (at k t))) (upto-weaken (place k) (place k + 1) (rowKeys (rowsBelow k t)) (omega arith) (upto-rows (place k) (below k t) (below-under k t))) (upto-in (place k + 1) (at k t) ((at k t) .candidates) (omega (arith, its-place)))) in
+      (upto-append (place k + 1) (rowKeys (rowsBelow k t)) (rowKeys (rowsFor (at k t))) (upto-weaken (place k) (place k + 1) (rowKeys (rowsBelow k t)) (omega arith)
+      (upto-rows (place k) (below k t) (below-under k t))) (upto-in (place k + 1) (at k t) ((at k t) .candidates) (omega (arith, its-place)))) in
       let b = bound-append (place k + 1) (rowKeys (rowsBelow k t ++ rowsFor (at k t))) (rowKeys (rowsAbove k t)) u (rw e at behind) in
-      rw (rows-at k lo t o, ← (append-assoc (rowsBelow k t) (rowsFor (at k t)) (rowsAbove k t)), map-append (λ r. keyNumber (keyOf r)) (rowsBelow k t ++ rowsFor (at k t)) (rowsAbove k t)) (rw (length-map (rowsBelow k t ++ rowsFor (at k t)) (λ r. keyNumber (keyOf r))) at b)
+      rw (rows-at k lo t o, ← (append-assoc (rowsBelow k t) (rowsFor (at k t)) (rowsAbove k t)), map-append (λ r. keyNumber (keyOf r)) (rowsBelow k t ++ rowsFor (at k t)) (rowsAbove k t))
+      (rw (length-map (rowsBelow k t ++ rowsFor (at k t)) (λ r. keyNumber (keyOf r))) at b)
 
 -- ---- places
 
@@ -124,7 +128,8 @@ upto-places : (h : ℕ) (t : Table) → All Lawful t → All (λ r. place (r .ke
 unfolding each
 upto-places h [] l a = tt
 upto-places h (r ∷ t) l a =
-    rw (map-append (λ p. p .hash) (placesFor r) (placesOf t)) (upto-append h (placeHashes (placesFor r)) (placeHashes (placesOf t)) (upto-has h r (placesFor r) (has-place r (l .0)) (a .0)) (upto-places h t (l .1) (a .1)))
+    rw (map-append (λ p. p .hash) (placesFor r) (placesOf t))
+    (upto-append h (placeHashes (placesFor r)) (placeHashes (placesOf t)) (upto-has h r (placesFor r) (has-place r (l .0)) (a .0)) (upto-places h t (l .1) (a .1)))
 
 ascend-has : (h : ℕ) (r : Request) (ps qs : List Place) → Has r ps → place (r .key) ≡ place (wtxid h) → Ascend (suc h) (placeHashes qs) → Ascend h (placeHashes (ps ++ qs))
 ascend-has h r ps qs (nothing e) k a = ascend-weaken h (suc h) (placeHashes qs) (omega arith) a
@@ -160,11 +165,13 @@ module _ (h lo : ℕ) (t : Table) (o : Ordered lo t) (l : All Lawful t) (s : h <
   pub place-found : (d : Place) → length before < length (placesOf t) → (getD (placesOf t) (length before) d) .hash ≡ h → here ≡ getD (placesOf t) (length before) d ∷ []
   place-found d n e = rw (places-at (wtxid h) lo t o) (go here is-here (rw (places-at (wtxid h) lo t o) at n) (rw (places-at (wtxid h) lo t o) at e))
     where
-      go : (ps : List Place) → Has (at (wtxid h) t) ps → length before < length (before ++ (ps ++ after)) → (getD (before ++ (ps ++ after)) (length before) d) .hash ≡ h → ps ≡ getD (before ++ (ps ++ after)) (length before) d ∷ []
+      go : (ps : List Place) → Has (at (wtxid h) t) ps → length before < length (before ++ (ps ++ after)) → (getD (before ++ (ps ++ after)) (length before) d) .hash ≡ h
+          → ps ≡ getD (before ++ (ps ++ after)) (length before) d ∷ []
       go ps (its p f g) n e = rw (getD-at before p after d (length before) refl)
       go ps (nothing f) n e = none after behind-it n e
         where
-          none : (qs : List Place) → Ascend (suc h) (placeHashes qs) → length before < length (before ++ qs) → (getD (before ++ qs) (length before) d) .hash ≡ h → [] ≡ getD (before ++ qs) (length before) d ∷ []
+          none : (qs : List Place) → Ascend (suc h) (placeHashes qs) → length before < length (before ++ qs) → (getD (before ++ qs) (length before) d) .hash ≡ h
+              → [] ≡ getD (before ++ qs) (length before) d ∷ []
           none [] a n e = absurd (omega (arith, length-append before []))
           none (q ∷ qs) a n e = absurd (omega (arith, a .0, ap (λ (p : Place). p .hash) (getD-at before q qs d (length before) refl)))
 

@@ -62,7 +62,8 @@ fit-quad q f = (f .w0, (f .w1, (f .w2, (f .w3, tt))))
 
 fit-row : (r : Row) → RowFits r → Each Word (rowWords r)
 unfolding rowWords
-fit-row r f = all-append Word (quadWords (r .hash)) (r .conn ∷ r .ready ∷ r .prio ∷ r .deadline ∷ r .bits ∷ []) (fit-quad (r .hash) (f .hash)) (f .conn, (f .ready, (f .prio, (f .deadline, (omega arith, tt)))))
+fit-row r f = all-append Word (quadWords (r .hash)) (r .conn ∷ r .ready ∷ r .prio ∷ r .deadline ∷ r .bits ∷ []) (fit-quad (r .hash) (f .hash))
+    (f .conn, (f .ready, (f .prio, (f .deadline, (omega arith, tt)))))
 
 -- a connection of a tally is that of a row
 fit-bump : (n o : ℕ) (cs : List Conn) → n < word → Each (λ c. c .conn < word) cs → Each (λ c. c .conn < word) (bump n o cs)
@@ -153,7 +154,13 @@ module _ (f : Flat) (s : FlatSound f) where
   few-conns = rw (s .conns) (omega (arith, tally-length (f .rows), s .rows-few))
 
   fit-sizes : Each Word (format ∷ f .head .limit ∷ f .head .places ∷ length (f .rows) ∷ length (f .conns) ∷ length (f .places) ∷ [])
-  fit-sizes = (omega arith, (omega (arith, s .most-limit), (omega (arith, s .most-places), (omega (arith, s .most-limit, s .rows-few), (omega (arith, s .most-limit, few-conns), (omega (arith, s .most-places, s .places-few), tt))))))
+  fit-sizes = (
+    omega arith,
+    (
+      omega (arith, s .most-limit),
+      (omega (arith, s .most-places), (omega (arith, s .most-limit, s .rows-few), (omega (arith, s .most-limit, few-conns), (omega (arith, s .most-places, s .places-few), tt)))),
+    ),
+  )
 
   fit-head : Each Word (headWords (f .head) (length (f .rows)) (length (f .conns)) (length (f .places)))
   unfolding headWords

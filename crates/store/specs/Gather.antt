@@ -75,4 +75,11 @@ unfoldable pub tableIn : List Row → List Place → Table
 tableIn rs ps = map (dress ps) (gather rs)
 
 abbrev pub stateIn : Flat → State
-stateIn f = record { limit = f .head .limit; places = f .head .places; table = tableIn (f .rows) (f .places); nextPoll = f .head .nextPoll; knownCursor = f .head .knownCursor; readyCursor = f .head .readyCursor }
+stateIn f = record {
+  limit = f .head .limit;
+  places = f .head .places;
+  table = tableIn (f .rows) (f .places);
+  nextPoll = f .head .nextPoll;
+  knownCursor = f .head .knownCursor;
+  readyCursor = f .head .readyCursor;
+}

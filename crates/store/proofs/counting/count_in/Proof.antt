@@ -18,10 +18,19 @@ conn-at-requires : tie.Need-conn-at-requires
 conn-at-requires c κs = (c .before .before .before .before .before .before .before .pre .0, c .before .before .is-entry .ensures .inside (c .before .if1 .taken))
 
 add-t14 : tie.Need-add-t14
-add-t14 c = omega (arith, light-at (c .before .before .before .before .before .before .before .before .before .pre .0) (c .before .before .before .before .before .before .seek-conn .result) (fresh 0 0) (c .before .before .before .before .is-entry .ensures .inside (c .before .before .before .if1 .taken)) (c .before .conn-at .ensures (c .before .before .before .before .before .before .before .before .before .pre .0 .flat) (fresh 0 0) (c .before .before .before .before .before .before .before .before .before .pre .0 .shows)))
+add-t14 c = omega (
+  arith,
+  light-at (c .before .before .before .before .before .before .before .before .before .pre .0)
+      (c .before .before .before .before .before .before .seek-conn .result) (fresh 0 0) (c .before .before .before .before .is-entry .ensures .inside
+      (c .before .before .before .if1 .taken)) (c .before .conn-at .ensures (c .before .before .before .before .before .before .before .before .before .pre .0 .flat) (fresh 0 0)
+      (c .before .before .before .before .before .before .before .before .before .pre .0 .shows)),
+)
 
 set-conn-requires : tie.Need-set-conn-requires
-set-conn-requires c κs = (c .before .before .before .before .before .before .before .before .before .before .pre .0, c .before .before .before .before .before .is-entry .ensures .inside (c .before .before .before .before .if1 .taken))
+set-conn-requires c κs = (
+  c .before .before .before .before .before .before .before .before .before .before .pre .0,
+  c .before .before .before .before .before .is-entry .ensures .inside (c .before .before .before .before .if1 .taken),
+)
 
 add-conn-requires : tie.Need-add-conn-requires
 add-conn-requires c κs = search needs
@@ -34,7 +43,8 @@ returns c = λ f so h.
     let d = fresh 0 0 in
     let z = sizes h in
     let bd = c .before .before .before .before .before .before .before .before .before .before .seek-conn .ensures .bound f h so in
-    let l : c .before .before .before .before .before .before .before .before .before .before .seek-conn .result < length (f .conns) = omega (arith, c .before .before .before .before .before .before .before .before .is-entry .ensures .inside (c .before .before .before .before .before .before .before .if1 .taken)) in
+    let l : c .before .before .before .before .before .before .before .before .before .before .seek-conn .result < length (f .conns) =
+    omega (arith, c .before .before .before .before .before .before .before .before .is-entry .ensures .inside (c .before .before .before .before .before .before .before .if1 .taken)) in
     let e = c .before .before .before .before .before .before .before .before .is-entry .ensures .is f d h (c .before .before .before .before .before .before .before .if1 .taken) in
     let k = c .before .before .before .before .before .conn-at .ensures f d h in
     counted-in f bd d l e _ k (c .before .before .set-conn .ensures f h)

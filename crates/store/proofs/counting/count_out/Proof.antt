@@ -18,7 +18,10 @@ conn-at-requires : tie.Need-conn-at-requires
 conn-at-requires c κs = (c .before .before .before .before .before .before .before .pre, c .before .before .is-entry .ensures .inside (c .before .if1 .taken))
 
 drop-conn-requires : tie.Need-drop-conn-requires
-drop-conn-requires c κs = (c .before .before .before .before .before .before .before .before .before .before .before .pre, c .before .before .before .before .before .before .is-entry .ensures .inside (c .before .before .before .before .before .if1 .taken))
+drop-conn-requires c κs = (
+  c .before .before .before .before .before .before .before .before .before .before .before .pre,
+  c .before .before .before .before .before .before .is-entry .ensures .inside (c .before .before .before .before .before .if1 .taken),
+)
 
 less-requires : tie.Need-less-requires
 less-requires c κs = search needs
@@ -27,7 +30,10 @@ less-requires-2 : tie.Need-less-requires-2
 less-requires-2 c κs = search needs
 
 set-conn-requires : tie.Need-set-conn-requires
-set-conn-requires c κs = (c .before .before .before .before .before .before .before .before .before .before .before .before .before .pre, c .before .before .before .before .before .before .before .before .is-entry .ensures .inside (c .before .before .before .before .before .before .before .if1 .taken))
+set-conn-requires c κs = (
+  c .before .before .before .before .before .before .before .before .before .before .before .before .before .pre,
+  c .before .before .before .before .before .before .before .before .is-entry .ensures .inside (c .before .before .before .before .before .before .before .if1 .taken),
+)
 
 same-length : tie.Need-same-length
 same-length c = search needs
@@ -37,10 +43,14 @@ returns c = λ f so h.
     let d = fresh 0 0 in
     let z = sizes h in
     let bd = c .before .before .before .before .before .before .before .before .before .before .before .seek-conn .ensures .bound f h so in
-    let l : c .before .before .before .before .before .before .before .before .before .before .before .seek-conn .result < length (f .conns) = omega (arith, c .before .before .before .before .before .before .before .before .before .is-entry .ensures .inside (c .before .before .before .before .before .before .before .before .if1 .taken)) in
+    let l : c .before .before .before .before .before .before .before .before .before .before .before .seek-conn .result < length (f .conns) = omega (
+      arith,
+      c .before .before .before .before .before .before .before .before .before .is-entry .ensures .inside (c .before .before .before .before .before .before .before .before .if1 .taken),
+    ) in
     let e = c .before .before .before .before .before .before .before .before .before .is-entry .ensures .is f d h (c .before .before .before .before .before .before .before .before .if1 .taken) in
     let k = c .before .before .before .before .before .before .conn-at .ensures f d h in
-    counted-last f bd d l e _ k (c .before .before .before .before .before .before .before .before .before .before .before .before .before .before .args .o) (c .before .before .before .before .if2 .taken) (c .before .before .drop-conn .ensures f h)
+    counted-last f bd d l e _ k (c .before .before .before .before .before .before .before .before .before .before .before .before .before .before .args .o)
+    (c .before .before .before .before .if2 .taken) (c .before .before .drop-conn .ensures f h)
 
 same-length-2 : tie.Need-same-length-2
 same-length-2 c = search needs
@@ -50,10 +60,18 @@ returns-2 c = λ f so h.
     let d = fresh 0 0 in
     let z = sizes h in
     let bd = c .before .before .before .before .before .before .before .before .before .before .before .before .before .seek-conn .ensures .bound f h so in
-    let l : c .before .before .before .before .before .before .before .before .before .before .before .before .before .seek-conn .result < length (f .conns) = omega (arith, c .before .before .before .before .before .before .before .before .before .before .before .is-entry .ensures .inside (c .before .before .before .before .before .before .before .before .before .before .if1 .taken)) in
-    let e = c .before .before .before .before .before .before .before .before .before .before .before .is-entry .ensures .is f d h (c .before .before .before .before .before .before .before .before .before .before .if1 .taken) in
+    let l : c .before .before .before .before .before .before .before .before .before .before .before .before .before .seek-conn .result < length (f .conns) =
+    omega (
+      arith,
+      c .before .before .before .before .before .before .before .before .before .before .before .is-entry .ensures .inside
+          (c .before .before .before .before .before .before .before .before .before .before .if1 .taken),
+    ) in
+    let e = c .before .before .before .before .before .before .before .before .before .before .before .is-entry .ensures .is f d h
+    (c .before .before .before .before .before .before .before .before .before .before .if1 .taken) in
     let k = c .before .before .before .before .before .before .before .before .conn-at .ensures f d h in
-    counted-out f bd d l e _ k (c .before .before .before .before .before .before .before .before .before .before .before .before .before .before .before .before .args .o) (c .before .before .before .before .before .before .if2 .left) (rw (c .before .before .before .before .before .less .ensures, c .before .before .before .before .less2 .ensures) at (c .before .before .set-conn .ensures f h))
+    counted-out f bd d l e _ k (c .before .before .before .before .before .before .before .before .before .before .before .before .before .before .before .before .args .o)
+    (c .before .before .before .before .before .before .if2 .left)
+    (rw (c .before .before .before .before .before .less .ensures, c .before .before .before .before .less2 .ensures) at (c .before .before .set-conn .ensures f h))
 
 same-length-3 : tie.Need-same-length-3
 same-length-3 c = search needs

@@ -35,7 +35,14 @@ returns c =
     let q = c .before .before .before .before .before .before .before .before .before .before .before .before .before .before .before .before .before .args .q in
     let s = c .before .before .before .before .before .before .before .before .before .before .before .before .before .before .before .before .before .args .s .now in
     let d = length s / 8 in
-    filled l q d (words s) (c .before .before .put3 .kept .0 ∙ c .before .before .before .before .before .before .put2 .kept .0 ∙ c .before .before .before .before .before .before .before .before .before .before .put .kept .0 ∙ c .before .before .before .before .before .before .before .before .before .before .before .before .before .before .clear .kept .0 ∙ c .before .before .before .before .before .before .before .before .before .before .before .before .before .before .before .before .before .pre .2) (length-words s) (omega (arith, c .before .before .before .before .before .before .before .before .before .before .before .before .before .before .before .before .before .pre .2)) (c .before .before .before .before .before .before .before .before .before .before .before .before .before .before .clear .ensures) (c .before .before .before .before .before .before .before .before .before .before .put .ensures .word) (c .before .before .before .before .before .before .put2 .ensures .word) (c .before .before .put3 .ensures .word)
+    filled l q d (words s) (c .before .before .put3 .kept .0 ∙ c .before .before .before .before .before .before .put2 .kept .0 ∙
+    c .before .before .before .before .before .before .before .before .before .before .put .kept .0 ∙
+    c .before .before .before .before .before .before .before .before .before .before .before .before .before .before .clear .kept .0 ∙
+    c .before .before .before .before .before .before .before .before .before .before .before .before .before .before .before .before .before .pre .2) (length-words s)
+    (omega (arith, c .before .before .before .before .before .before .before .before .before .before .before .before .before .before .before .before .before .pre .2))
+    (c .before .before .before .before .before .before .before .before .before .before .before .before .before .before .clear .ensures)
+    (c .before .before .before .before .before .before .before .before .before .before .put .ensures .word) (c .before .before .before .before .before .before .put2 .ensures .word)
+    (c .before .before .put3 .ensures .word)
 
 pub fill-spec : {M : Type 1} → statement M
 fill-spec =

@@ -80,9 +80,12 @@ returns c = λ f h.
     let lim = c .before .before .before .before .before .before .before .before .before .before .limit .ensures .field f h in
     let room = c .before .before .before .before .before .before .before .before .places .ensures .field f h in
     let n = c .before .before .before .before .before .before .before .before .before .before .before .before .held-places .ensures .field f h in
-    let i : c .before .before .before .before .before .before .before .before .before .before .before .before .before .before .before .args .i < length (f .places) = omega (arith, c .before .before .before .before .before .before .before .before .before .before .before .before .before .before .before .pre) in
+    let i : c .before .before .before .before .before .before .before .before .before .before .before .before .before .before .before .args .i < length (f .places) =
+    omega (arith, c .before .before .before .before .before .before .before .before .before .before .before .before .before .before .before .pre) in
     let held = c .before .before .before .before .before .before .remove-place .ensures .region (f .head .places) (f .places) (sym n) (places-lent h lim room) in
-    let m : length (removeAt (c .before .before .before .before .before .before .before .before .before .before .before .before .before .before .before .args .i) (f .places)) ≡ c .before .before .before .before .before .before .before .before .before .before .before .before .held-places .result - 1 = length-remove (f .places) (c .before .before .before .before .before .before .before .before .before .before .before .before .before .before .before .args .i) i ∙ ap (λ j. j - 1) (sym n) in
+    let m : length (removeAt (c .before .before .before .before .before .before .before .before .before .before .before .before .before .before .before .args .i) (f .places)) ≡
+    c .before .before .before .before .before .before .before .before .before .before .before .before .held-places .result - 1 = length-remove (f .places)
+    (c .before .before .before .before .before .before .before .before .before .before .before .before .before .before .before .args .i) i ∙ ap (λ j. j - 1) (sym n) in
     places-counted h (search needs) _ _ m (places-back h lim room _ _ (c .before .before .before .before .before .before .remove-place .kept .0) held) (c .before .before .put .ensures .word)
 
 pub close-place-spec : {M : Type 1} → statement M

@@ -82,10 +82,14 @@ returns c = λ f h.
     let lim = c .before .before .before .before .before .before .before .before .before .before .limit .ensures .field f h in
     let room = c .before .before .before .before .before .before .before .before .places .ensures .field f h in
     let n = c .before .before .before .before .before .before .before .before .before .before .before .before .held-places .ensures .field f h in
-    let i : c .before .before .before .before .before .before .before .before .before .before .before .before .before .before .before .args .i ≤ length (f .places) = omega (arith, c .before .before .before .before .before .before .before .before .before .before .before .before .before .before .before .pre) in
-    let x = blank (quadNumber (c .before .before .before .before .before .before .before .before .before .before .before .before .before .before .before .args .h)) (c .before .before .before .before .before .before .before .before .before .before .before .before .before .before .before .args .stage) in
+    let i : c .before .before .before .before .before .before .before .before .before .before .before .before .before .before .before .args .i ≤ length (f .places) =
+    omega (arith, c .before .before .before .before .before .before .before .before .before .before .before .before .before .before .before .pre) in
+    let x = blank (quadNumber (c .before .before .before .before .before .before .before .before .before .before .before .before .before .before .before .args .h))
+    (c .before .before .before .before .before .before .before .before .before .before .before .before .before .before .before .args .stage) in
     let held = c .before .before .before .before .before .before .insert-place .ensures .region (f .head .places) (f .places) (sym n) (places-lent h lim room) in
-    let m : length (insertAt (c .before .before .before .before .before .before .before .before .before .before .before .before .before .before .before .args .i) x (f .places)) ≡ c .before .before .before .before .before .before .before .before .before .before .before .before .held-places .result + 1 = length-insert (f .places) (c .before .before .before .before .before .before .before .before .before .before .before .before .before .before .before .args .i) x i ∙ ap (λ j. j + 1) (sym n) in
+    let m : length (insertAt (c .before .before .before .before .before .before .before .before .before .before .before .before .before .before .before .args .i) x (f .places)) ≡
+    c .before .before .before .before .before .before .before .before .before .before .before .before .held-places .result + 1 = length-insert (f .places)
+    (c .before .before .before .before .before .before .before .before .before .before .before .before .before .before .before .args .i) x i ∙ ap (λ j. j + 1) (sym n) in
     places-counted h (search needs) _ _ m (places-back h lim room _ _ (c .before .before .before .before .before .before .insert-place .kept .0) held) (c .before .before .put .ensures .word)
 
 pub open-place-spec : {M : Type 1} → statement M

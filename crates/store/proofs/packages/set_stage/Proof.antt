@@ -68,9 +68,11 @@ returns c = λ d f h.
     let z = sizes h in
     let lim = c .before .before .before .before .before .before .limit .ensures .field f h in
     let room = c .before .before .before .before .places .ensures .field f h in
-    let i : c .before .before .before .before .before .before .before .before .before .args .i < length (f .places) = omega (arith, c .before .before .before .before .before .before .before .before .before .pre) in
+    let i : c .before .before .before .before .before .before .before .before .before .args .i < length (f .places) =
+    omega (arith, c .before .before .before .before .before .before .before .before .before .pre) in
     let held = c .before .before .set-stage .ensures .region (f .head .places) (f .places) d i (places-lent h lim room) in
-    places-same h (search needs) _ (length-set (f .places) (c .before .before .before .before .before .before .before .before .before .args .i) _) (places-back h lim room _ _ (c .before .before .set-stage .kept .0) held)
+    places-same h (search needs) _ (length-set (f .places) (c .before .before .before .before .before .before .before .before .before .args .i) _)
+    (places-back h lim room _ _ (c .before .before .set-stage .kept .0) held)
 
 pub set-stage-spec : {M : Type 1} → statement M
 set-stage-spec =

@@ -52,9 +52,14 @@ returns c = λ f h.
     let z = sizes h in
     let lim = c .before .before .before .before .before .before .before .before .limit .ensures .field f h in
     let n = c .before .before .before .before .before .before .before .before .before .before .rows .ensures .field f h in
-    let i : c .before .before .before .before .before .before .before .before .before .before .before .before .before .args .i ≤ length (f .rows) = omega (arith, c .before .before .before .before .before .before .before .before .before .before .before .before .before .pre) in
+    let i : c .before .before .before .before .before .before .before .before .before .before .before .before .before .args .i ≤ length (f .rows) =
+    omega (arith, c .before .before .before .before .before .before .before .before .before .before .before .before .before .pre) in
     let held = c .before .before .before .before .before .before .insert-row .ensures .region (f .head .limit) (f .rows) (sym n) (rows-lent h lim) in
-    let m : length (insertAt (c .before .before .before .before .before .before .before .before .before .before .before .before .before .args .i) (c .before .before .before .before .before .before .before .before .before .before .before .before .before .args .r) (f .rows)) ≡ c .before .before .before .before .before .before .before .before .before .before .rows .result + 1 = length-insert (f .rows) (c .before .before .before .before .before .before .before .before .before .before .before .before .before .args .i) (c .before .before .before .before .before .before .before .before .before .before .before .before .before .args .r) i ∙ ap (λ j. j + 1) (sym n) in
+    let m : length (insertAt (c .before .before .before .before .before .before .before .before .before .before .before .before .before .args .i)
+    (c .before .before .before .before .before .before .before .before .before .before .before .before .before .args .r) (f .rows)) ≡
+    c .before .before .before .before .before .before .before .before .before .before .rows .result + 1 =
+    length-insert (f .rows) (c .before .before .before .before .before .before .before .before .before .before .before .before .before .args .i)
+    (c .before .before .before .before .before .before .before .before .before .before .before .before .before .args .r) i ∙ ap (λ j. j + 1) (sym n) in
     rows-counted h (search needs) _ _ m (rows-back h lim _ _ (c .before .before .before .before .before .before .insert-row .kept .0) held) (c .before .before .put .ensures .word)
 
 pub add-row-spec : {M : Type 1} → statement M

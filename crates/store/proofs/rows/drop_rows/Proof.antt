@@ -58,7 +58,9 @@ returns c = λ f h.
     let a = c .before .before .before .before .before .before .before .before .before .before .before .before .before .args in
     let to : a .to ≤ length (f .rows) = omega (arith, c .before .before .before .before .before .before .before .before .before .before .before .before .before .pre) in
     let held = c .before .before .before .before .before .before .remove-rows .ensures .region (f .head .limit) (f .rows) (sym n) (rows-lent h lim) in
-    let m : length (removeRange (a .from) (a .to) (f .rows)) ≡ c .before .before .before .before .before .before .before .before .before .before .rows .result - (a .to - a .from) = length-remove-range (f .rows) (a .from) (a .to) (c .before .before .before .before .before .before .before .before .before .before .before .before .before .pre .1) to ∙ ap (λ j. j - (a .to - a .from)) (sym n) in
+    let m : length (removeRange (a .from) (a .to) (f .rows)) ≡ c .before .before .before .before .before .before .before .before .before .before .rows .result - (a .to - a .from) =
+    length-remove-range (f .rows) (a .from) (a .to) (c .before .before .before .before .before .before .before .before .before .before .before .before .before .pre .1) to ∙
+    ap (λ j. j - (a .to - a .from)) (sym n) in
     rows-counted h (search needs) _ _ m (rows-back h lim _ _ (c .before .before .before .before .before .before .remove-rows .kept .0) held) (c .before .before .put .ensures .word)
 
 pub drop-rows-spec : {M : Type 1} → statement M

@@ -44,7 +44,8 @@ returns c = λ f h.
     let i : c .before .before .before .before .before .before .before .args .i < length (f .rows) = omega (arith, c .before .before .before .before .before .before .before .pre) in
     let k : length (c .before .before .write-row .last .0) ≡ _ = c .before .before .write-row .kept .0 in
     let held = c .before .before .write-row .ensures .region (f .head .limit) (f .rows) i (rows-lent h lim) in
-    rows-same h (search needs) (set (f .rows) (c .before .before .before .before .before .before .before .args .i) (c .before .before .before .before .before .before .before .args .r)) (length-set (f .rows) (c .before .before .before .before .before .before .before .args .i) (c .before .before .before .before .before .before .before .args .r)) (rows-back h lim _ _ k held)
+    rows-same h (search needs) (set (f .rows) (c .before .before .before .before .before .before .before .args .i) (c .before .before .before .before .before .before .before .args .r)) (length-set
+    (f .rows) (c .before .before .before .before .before .before .before .args .i) (c .before .before .before .before .before .before .before .args .r)) (rows-back h lim _ _ k held)
 
 pub set-row-spec : {M : Type 1} → statement M
 set-row-spec =

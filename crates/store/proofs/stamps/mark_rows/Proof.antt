@@ -25,7 +25,10 @@ marked-row-requires : tie.Need-marked-row-requires Inv-loop μ-loop
 marked-row-requires c κs = search needs
 
 set-row-requires : tie.Need-set-row-requires Inv-loop μ-loop
-set-row-requires c κs = (c .before .before .before .before .before .loop .inv .is-shown, omega (arith, c .before .before .before .before .before .loop .inv .within, c .before .before .before .before .loop-test .taken))
+set-row-requires c κs = (
+  c .before .before .before .before .before .loop .inv .is-shown,
+  omega (arith, c .before .before .before .before .before .loop .inv .within, c .before .before .before .before .loop-test .taken),
+)
 
 add-i : tie.Need-add-i Inv-loop μ-loop
 add-i c = search needs
@@ -34,7 +37,9 @@ loop-less : tie.Need-loop-less Inv-loop μ-loop
 loop-less c = search needs
 
 loop-again : tie.Need-loop-again Inv-loop μ-loop
-loop-again c = stamped-more markedRow (c .before .before .before .before .before .row-at .result) (c .before .before .before .marked-row .result) (c .before .before .before .before .before .before .before .before .loop .inv) (c .before .before .before .before .before .before .before .loop-test .taken) (c .before .before .set-row .kept .0) (c .before .before .before .before .before .row-at .ensures) (c .before .before .before .marked-row .ensures) (c .before .before .set-row .ensures)
+loop-again c = stamped-more markedRow (c .before .before .before .before .before .row-at .result) (c .before .before .before .marked-row .result)
+    (c .before .before .before .before .before .before .before .before .loop .inv) (c .before .before .before .before .before .before .before .loop-test .taken)
+    (c .before .before .set-row .kept .0) (c .before .before .before .before .before .row-at .ensures) (c .before .before .before .marked-row .ensures) (c .before .before .set-row .ensures)
 
 same-length : tie.Need-same-length Inv-loop μ-loop
 same-length c = c .before .loop .inv .long

@@ -26,7 +26,10 @@ ready-row-requires : tie.Need-ready-row-requires Inv-loop μ-loop
 ready-row-requires c κs = search needs
 
 set-row-requires : tie.Need-set-row-requires Inv-loop μ-loop
-set-row-requires c κs = (c .before .before .before .before .before .loop .inv .is-shown, omega (arith, c .before .before .before .before .before .loop .inv .within, c .before .before .before .before .loop-test .taken))
+set-row-requires c κs = (
+  c .before .before .before .before .before .loop .inv .is-shown,
+  omega (arith, c .before .before .before .before .before .loop .inv .within, c .before .before .before .before .loop-test .taken),
+)
 
 add-i : tie.Need-add-i Inv-loop μ-loop
 add-i c = search needs
@@ -35,7 +38,10 @@ loop-less : tie.Need-loop-less Inv-loop μ-loop
 loop-less c = search needs
 
 loop-again : tie.Need-loop-again Inv-loop μ-loop
-loop-again c = stamped-more (withReady (c .before .before .before .before .before .before .before .before .before .before .args .v)) (c .before .before .before .before .before .row-at .result) (c .before .before .before .ready-row .result) (c .before .before .before .before .before .before .before .before .loop .inv) (c .before .before .before .before .before .before .before .loop-test .taken) (c .before .before .set-row .kept .0) (c .before .before .before .before .before .row-at .ensures) (c .before .before .before .ready-row .ensures) (c .before .before .set-row .ensures)
+loop-again c = stamped-more (withReady (c .before .before .before .before .before .before .before .before .before .before .args .v))
+    (c .before .before .before .before .before .row-at .result) (c .before .before .before .ready-row .result) (c .before .before .before .before .before .before .before .before .loop .inv)
+    (c .before .before .before .before .before .before .before .loop-test .taken) (c .before .before .set-row .kept .0) (c .before .before .before .before .before .row-at .ensures)
+    (c .before .before .before .ready-row .ensures) (c .before .before .set-row .ensures)
 
 same-length : tie.Need-same-length Inv-loop μ-loop
 same-length c = c .before .loop .inv .long
@@ -43,7 +49,8 @@ same-length c = c .before .loop .inv .long
 returns : tie.Need-returns Inv-loop μ-loop
 returns c = λ f h.
     let e : c .before .loop .i ≡ c .before .before .before .args .to = omega (arith, c .before .loop .inv .most, c .loop-test .left) in
-    subst (λ (j : ℕ). Shows (c .before .loop .s) (withRows (mapIn (withReady (c .before .before .before .args .v)) (c .before .before .before .args .from) j (f .rows)) f)) e (c .before .loop .inv .turns f h)
+    subst (λ (j : ℕ). Shows (c .before .loop .s) (withRows (mapIn (withReady (c .before .before .before .args .v)) (c .before .before .before .args .from) j (f .rows)) f)) e
+    (c .before .loop .inv .turns f h)
 
 pub ready-rows-spec : {M : Type 1} → statement M
 ready-rows-spec =
