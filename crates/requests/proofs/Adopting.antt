@@ -33,14 +33,16 @@ use Rattle.requests.proofs.Cutting.{row-there, ahead-less}
 
 -- ---- one row
 
-bits-as : (n v w p : ℕ) {a b : ℕ} (h : Row) → a ≡ b → _≡_ {A = Row} (record { hash = h .hash; conn = n; ready = v; prio = w; deadline = p; bits = a }) (record { hash = h .hash; conn = n; ready = v; prio = w; deadline = p; bits = b })
+bits-as : (n v w p : ℕ) {a b : ℕ} (h : Row) → a ≡ b → _≡_ {A = Row} (record { hash = h .hash; conn = n; ready = v; prio = w; deadline = p; bits = a })
+    (record { hash = h .hash; conn = n; ready = v; prio = w; deadline = p; bits = b })
 bits-as n v w p h e = cc
 
 module _ (q : Request) (c d : Candidate) where
   abbrev bits : ℕ
   bits = (rowOf q d) .bits
 
-  adopted-bits : (w : ℕ) → bits % 2 + 2 * w + 4 + 8 * (bits / 8 % 2) + 16 * (bits / 16 % 2) ≡ kindBit (q .key .kind) + 2 * w + 4 * 1 + 8 * one (ownerIs (d .connection) (q .owner)) + 16 * one (q .fallback)
+  adopted-bits : (w : ℕ) → bits % 2 + 2 * w + 4 + 8 * (bits / 8 % 2) + 16 * (bits / 16 % 2) ≡
+      kindBit (q .key .kind) + 2 * w + 4 * 1 + 8 * one (ownerIs (d .connection) (q .owner)) + 16 * one (q .fallback)
   unfolding rowOf
   adopted-bits w =
       let k = bits-kind (q .key .kind) (d .item .kind) (d .preferred) (ownerIs (d .connection) (q .owner)) (q .fallback) in
@@ -50,7 +52,14 @@ module _ (q : Request) (c d : Candidate) where
 
   -- by the item that it takes
   pub adopted-row : (same : Bool) {w : ℕ} → w ≡ witnessAs same (c .item .kind) bits
-      → _≡_ {A = Row} (record { hash = (rowOf q d) .hash; conn = (rowOf q d) .conn; ready = min ((rowOf q d) .ready) (c .ready); prio = min ((rowOf q d) .prio) (c .priority); deadline = (rowOf q d) .deadline; bits = bits % 2 + 2 * w + 4 + 8 * (bits / 8 % 2) + 16 * (bits / 16 % 2) }) (rowOf q (adopting same c d))
+      → _≡_ {A = Row} (record {
+        hash = (rowOf q d) .hash;
+        conn = (rowOf q d) .conn;
+        ready = min ((rowOf q d) .ready) (c .ready);
+        prio = min ((rowOf q d) .prio) (c .priority);
+        deadline = (rowOf q d) .deadline;
+        bits = bits % 2 + 2 * w + 4 + 8 * (bits / 8 % 2) + 16 * (bits / 16 % 2);
+      }) (rowOf q (adopting same c d))
   unfolding rowOf
   adopted-row true {w} e = bits-as (d .connection) (min (d .ready) (c .ready)) (min (d .priority) (c .priority)) (deadlineFor (d .connection) (q .owner)) (rowOf q d) (adopted-bits w ∙ rw e)
   adopted-row false {w} e =
@@ -90,13 +99,16 @@ module _ (st : State) (s : Sound st) (k : Key) (c : Candidate) (same : Bool) (f 
       let t = st .table in
       let o = s .bounded .ordered in
       let r = at k t in
-      let rows : rowsOf (adopted same k c t) ≡ set (rowsOf t) i x = rows-adopted same c k 0 t o f ∙ ap (λ (j : ℕ). set (rowsOf t) j (rowOf r (adopting same c (f .one)))) (sym e) ∙ ap (set (rowsOf t) i) (sym q) in
+      let rows : rowsOf (adopted same k c t) ≡ set (rowsOf t) i x = rows-adopted same c k 0 t o f ∙ ap (λ (j : ℕ). set (rowsOf t) j (rowOf r (adopting same c (f .one)))) (sym e) ∙
+      ap (set (rowsOf t) i) (sym q) in
       let there = row-there k (c .connection) 0 t o f x e in
       let l : i < length (rowsOf t) = omega (arith, ahead-less k (c .connection) 0 t o f) in
       let name : (getD (rowsOf t) i x) .conn ≡ x .conn = ap (λ (a : Row). a .conn) there ∙ conn-kept r (f .one) ∙ ap (λ (a : Row). a .conn) (sym q) in
       let own : ownBit (getD (rowsOf t) i x) ≡ ownBit x = ap ownBit there ∙ own-row r (f .one) ∙ sym (own-row r (adopting same c (f .one))) ∙ ap ownBit (sym q) in
-      let gone : adopt same c (r .candidates) ≡ [] → placesFor (withCandidates (adopt same c (r .candidates)) r) ≡ [] = λ z. places-with r (adopt same c (r .candidates)) ∙ places-none r (lawful-at k t (s .bounded .lawful)) (adopt-some same c (r .candidates) z) in
-      writes-by st (adopted same k c t) rows (ap tally rows ∙ tally-set-same (rowsOf t) i x x l name own) (places-unchanged k 0 t o (λ p. withCandidates (adopt same c (p .candidates)) p) gone (places-with r (adopt same c (r .candidates)))) h
+      let gone : adopt same c (r .candidates) ≡ [] → placesFor (withCandidates (adopt same c (r .candidates)) r) ≡ [] = λ z. places-with r (adopt same c (r .candidates)) ∙
+      places-none r (lawful-at k t (s .bounded .lawful)) (adopt-some same c (r .candidates) z) in
+      writes-by st (adopted same k c t) rows (ap tally rows ∙ tally-set-same (rowsOf t) i x x l name own)
+      (places-unchanged k 0 t o (λ p. withCandidates (adopt same c (p .candidates)) p) gone (places-with r (adopt same c (r .candidates)))) h
     where
       conn-kept : (r : Request) (d : Candidate) → (rowOf r d) .conn ≡ (rowOf r (adopting same c d)) .conn
       conn-kept r d = unfold rowOf in refl

@@ -76,7 +76,8 @@ module _ (h : ℕ) (small : h < top) (p : ℕ → Bool) where
         omega (arith, count-step r t, weightless r e, a, b, at-hash _ t (o .2))
   ]
     where
-      here : (k : Kind) → r .key .kind ≡ k → r .key .hash ≡ h → eqb (r .key .hash) h ≡ true → count (hashed h p) t ≡ keyed p (txid h) t + keyed p (wtxid h) t → count (hashed h p) (r ∷ t) ≡ keyed p (txid h) (r ∷ t) + keyed p (wtxid h) (r ∷ t)
+      here : (k : Kind) → r .key .kind ≡ k → r .key .hash ≡ h → eqb (r .key .hash) h ≡ true → count (hashed h p) t ≡ keyed p (txid h) t + keyed p (wtxid h) t
+          → count (hashed h p) (r ∷ t) ≡ keyed p (txid h) (r ∷ t) + keyed p (wtxid h) (r ∷ t)
       here Txid e q z i =
           let w : place (r .key) ≡ h = ap (λ (x : Kind). base x + r .key .hash) e ∙ omega arith in
           let a = keyed-here p (txid h) r t (omega arith) in

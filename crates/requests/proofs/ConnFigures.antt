@@ -24,7 +24,8 @@ module _ (st : State) (s : Sound st) (n : ℕ) where
   owned-is = owned-value (rowsOf (st .table)) n ∙ own-by-rows (st .table) (s .bounded .lawful) (distinct-in (st .table) (s .bounded .once)) n
 
   module _ {i : ℕ} (b : Bound (connNames (tally (rowsOf (st .table)))) n i) (d : Conn) where
-    pub figures-found : {c : Conn} → i < length (tally (rowsOf (st .table))) → (getD (tally (rowsOf (st .table))) i d) .conn ≡ n → c ≡ getD (tally (rowsOf (st .table))) i d → FiguresOf (st .table) n (c .held) (c .owned)
+    pub figures-found : {c : Conn} → i < length (tally (rowsOf (st .table))) → (getD (tally (rowsOf (st .table))) i d) .conn ≡ n → c ≡ getD (tally (rowsOf (st .table))) i d
+        → FiguresOf (st .table) n (c .held) (c .owned)
     figures-found l e q = record {
       held = ap (λ (a : Conn). a .held) q ∙ sym (value-found (tally (rowsOf (st .table))) b d l e (λ c. c .held)) ∙ held-is;
       owned = ap (λ (a : Conn). a .owned) q ∙ sym (value-found (tally (rowsOf (st .table))) b d l e (λ c. c .owned)) ∙ owned-is;

@@ -49,7 +49,8 @@ first-seam a m rest to x n l = record {
   most = omega arith;
   none = λ j p q z.
       let e : j ≡ length a + (j - length a) = omega arith in
-      let y : getD (a ++ (m ++ (x ∷ rest))) j 0 ≡ getD m (j - length a) 0 = ap (λ (i : ℕ). getD (a ++ (m ++ (x ∷ rest))) i 0) e ∙ getD-append-add a (m ++ (x ∷ rest)) (j - length a) 0 ∙ List·getD-append m (x ∷ rest) 0 (j - length a) (omega arith) in
+      let y : getD (a ++ (m ++ (x ∷ rest))) j 0 ≡ getD m (j - length a) 0 = ap (λ (i : ℕ). getD (a ++ (m ++ (x ∷ rest))) i 0) e ∙ getD-append-add a (m ++ (x ∷ rest)) (j - length a) 0 ∙
+      List·getD-append m (x ∷ rest) 0 (j - length a) (omega arith) in
       n (j - length a) (omega arith) (sym y ∙ z);
   found = λ p. getD-append-add a (m ++ (x ∷ rest)) (length m) 0 ∙ getD-at m x rest 0 (length m) refl;
 }
@@ -80,7 +81,8 @@ module _ (k : Key) (n lo : ℕ) (t : Table) (o : Ordered lo t) (f : Among n ((at
   split =
       ap rowConns (rows-among k n lo t o f ∙ append-assoc (rowsBelow k t) (map (rowOf r) (f .front)) _)
       ∙ conns-append (rowsBelow k t) _
-      ∙ ap (λ (l : List ℕ). rowConns (rowsBelow k t) ++ l) (conns-append (map (rowOf r) (f .front)) _ ∙ ap (λ (x : ℕ). rowConns (map (rowOf r) (f .front)) ++ (x ∷ rowConns (behind k n lo t o f))) (conn-row r (f .one) ∙ f .is))
+      ∙ ap (λ (l : List ℕ). rowConns (rowsBelow k t) ++ l)
+      (conns-append (map (rowOf r) (f .front)) _ ∙ ap (λ (x : ℕ). rowConns (map (rowOf r) (f .front)) ++ (x ∷ rowConns (behind k n lo t o f))) (conn-row r (f .one) ∙ f .is))
 
   long : length (ahead k n lo t o f) ≡ length (rowConns (rowsBelow k t)) + length (rowConns (map (rowOf r) (f .front)))
   long = rw (length-append, length-map (rowsBelow k t) (λ (a : Row). a .conn), length-map (map (rowOf r) (f .front)) (λ (a : Row). a .conn))
@@ -138,7 +140,8 @@ module _ (st : State) (s : Sound st) {i : ℕ} {b₁ : List ℕ} (h : Shows b₁
       shown h (record { limit = z .limit; places = z .places; rows-few = omega arith; conns-few = z .conns-few; places-few = z .places-few }) (light-of st s)
 
 module _ (st : State) (s : Sound st) (k : Key) (n : ℕ) (v : ownerIs n ((at k (st .table)) .owner) ≡ false) (f : Among n ((at k (st .table)) .candidates)) {i : ℕ} {b : List ℕ} where
-  pub cut-made : i ≡ length (ahead k n 0 (st .table) (s .bounded .ordered) f) → Shows b (withConns (unbump n 0 (tally (rowsOf (st .table)))) (withRows (removeAt i (rowsOf (st .table))) (flatOf st))) → Writes b (onTable (cut k n (st .table)) st)
+  pub cut-made : i ≡ length (ahead k n 0 (st .table) (s .bounded .ordered) f)
+      → Shows b (withConns (unbump n 0 (tally (rowsOf (st .table)))) (withRows (removeAt i (rowsOf (st .table))) (flatOf st))) → Writes b (onTable (cut k n (st .table)) st)
   cut-made e h =
       let t = st .table in
       let o = s .bounded .ordered in

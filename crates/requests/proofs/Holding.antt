@@ -27,7 +27,8 @@ use Rattle.requests.proofs.Cutting.{conns-append, hasnt-at, ahead-in, f
 
 -- ---- at one key
 
-module _ (k : Key) (n lo : ℕ) (t : Table) (o : Ordered lo t) {from to i : ℕ} (p : from ≡ length (rowsBelow k t)) (q : to ≡ length (rowsBelow k t ++ rowsFor (at k t))) (m : First (rowConns (rowsOf t)) from to n i) where
+module _ (k : Key) (n lo : ℕ) (t : Table) (o : Ordered lo t) {from to i : ℕ} (p : from ≡ length (rowsBelow k t)) (q : to ≡ length (rowsBelow k t ++ rowsFor (at k t)))
+    (m : First (rowConns (rowsOf t)) from to n i) where
   abbrev rows : List Row
   rows = map (rowOf (at k t)) ((at k t) .candidates)
 
@@ -51,7 +52,8 @@ module _ (k : Key) (n lo : ℕ) (t : Table) (o : Ordered lo t) {from to i : ℕ}
             rw h (lt-ltb i to (omega (arith, found-at k n lo t o f p q m, ahead-in k n lo t o f)))
         | inr h ↦ rw h (elim (test (ltb i to)) [
           | inl e ↦ let l : i < to = ltb-true i to e in
-              absurd (hasnt-at (at k t) n ((at k t) .candidates) h (i - from) (omega (arith, m .least, length-map rows (λ (a : Row). a .conn), length-append (rowsBelow k t) rows)) (sym (conn-in (m .least) l) ∙ m .found l))
+              absurd (hasnt-at (at k t) n ((at k t) .candidates) h (i - from) (omega (arith, m .least, length-map rows (λ (a : Row). a .conn), length-append (rowsBelow k t) rows))
+              (sym (conn-in (m .least) l) ∙ m .found l))
           | inr e ↦ e
         ])
       ]
@@ -76,7 +78,8 @@ or-sum a b =
 
 pub either-kind : (n h : ℕ) → h < top → (t : Table) → Ordered 0 t → (has n ((at (txid h) t) .candidates) || has n ((at (wtxid h) t) .candidates)) ≡ isCandidate n h t
 either-kind n h s t o =
-    rw (has-counts n ((at (txid h) t) .candidates), has-counts n ((at (wtxid h) t) .candidates), at-hash h s (λ m. eqb m n) 0 t o) (or-sum (countIn (λ m. eqb m n) ((at (txid h) t) .candidates)) (countIn (λ m. eqb m n) ((at (wtxid h) t) .candidates)))
+    rw (has-counts n ((at (txid h) t) .candidates), has-counts n ((at (wtxid h) t) .candidates), at-hash h s (λ m. eqb m n) 0 t o)
+    (or-sum (countIn (λ m. eqb m n) ((at (txid h) t) .candidates)) (countIn (λ m. eqb m n) ((at (wtxid h) t) .candidates)))
 
 module _ (n h : ℕ) (s : h < top) (t : Table) (o : Ordered 0 t) {a : Bool} (e : a ≡ has n ((at (txid h) t) .candidates)) where
   pub candidate-first : a ≡ true → a ≡ isCandidate n h t

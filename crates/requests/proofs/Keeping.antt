@@ -70,4 +70,5 @@ module _ (st : State) (s : Sound st) (k : Key) (small : k .hash < top) {x : ℕ}
   from-at {i} b = bound-same (rowNumbers (rowsOf (st .table))) (place k) i (length (rowsBelow k (st .table))) (rw e at b) (rows-from k 0 (st .table) (s .bounded .ordered) small)
 
   pub to-at : {i : ℕ} → Bound (rowNumbers (rowsOf (st .table))) (x + 1) i → i ≡ length (rowsBelow k (st .table) ++ rowsFor (at k (st .table)))
-  to-at {i} b = bound-same (rowNumbers (rowsOf (st .table))) (place k + 1) i (length (rowsBelow k (st .table) ++ rowsFor (at k (st .table)))) (rw e at b) (rows-to k 0 (st .table) (s .bounded .ordered) small)
+  to-at {i} b = bound-same (rowNumbers (rowsOf (st .table))) (place k + 1) i (length (rowsBelow k (st .table) ++ rowsFor (at k (st .table)))) (rw e at b)
+      (rows-to k 0 (st .table) (s .bounded .ordered) small)

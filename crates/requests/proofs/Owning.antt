@@ -67,9 +67,11 @@ no-place : (r : Request) → r .info ≡ false → r .«package» ≡ none → p
 unfolding placesFor
 no-place r w y = ap (λ (p : Option Package). placeFor r false p) (sym y) ∙ ap (λ (i : Bool). placeFor r i (r .«package»)) (sym w)
 
-module _ (st : State) (s : Sound st) (k : Key) (n : ℕ) (f : Among n ((at k (st .table)) .candidates)) {i : ℕ} (e : i ≡ length (ahead k n 0 (st .table) (s .bounded .ordered) f)) {r : Row} (q : r ≡ rowOf (at k (st .table)) (f .one)) where
+module _ (st : State) (s : Sound st) (k : Key) (n : ℕ) (f : Among n ((at k (st .table)) .candidates)) {i : ℕ} (e : i ≡ length (ahead k n 0 (st .table) (s .bounded .ordered) f)) {r : Row}
+    (q : r ≡ rowOf (at k (st .table)) (f .one)) where
   -- a change that shows in the row of n and in nothing else
-  one-row : (g : Request → Request) (x : Row) (o p : ℕ) → (g (at k (st .table))) .candidates ≡ (at k (st .table)) .candidates → rowsOf (change k g (st .table)) ≡ set (rowsOf (st .table)) i x → x .conn ≡ r .conn → ownBit r ≡ o → ownBit x ≡ p → placesFor (g (at k (st .table))) ≡ placesFor (at k (st .table))
+  one-row : (g : Request → Request) (x : Row) (o p : ℕ) → (g (at k (st .table))) .candidates ≡ (at k (st .table)) .candidates → rowsOf (change k g (st .table)) ≡ set (rowsOf (st .table)) i x
+      → x .conn ≡ r .conn → ownBit r ≡ o → ownBit x ≡ p → placesFor (g (at k (st .table))) ≡ placesFor (at k (st .table))
       → {b : List ℕ} → Shows b (withConns (retally n o p (tally (rowsOf (st .table)))) (withRows (set (rowsOf (st .table)) i x) (flatOf st))) → Writes b (onTable (change k g (st .table)) st)
   one-row g x o p ec rows xn ro xp pl h =
       let t = st .table in
@@ -87,22 +89,26 @@ module _ (st : State) (s : Sound st) (k : Key) (n : ℕ) (f : Among n ((at k (st
   own-is = ap ownBit q ∙ own-row (at k (st .table)) (f .one) ∙ ap (λ (m : ℕ). one (ownerIs m ((at k (st .table)) .owner))) (f .is)
 
   -- "its connection becomes owner with deadline"
-  pub own-made : (v : ℕ) → (at k (st .table)) .owner ≡ none → {x : Row} → x ≡ ownedRow v r → {b : List ℕ} → Shows b (withConns (retally n 0 1 (tally (rowsOf (st .table)))) (withRows (set (rowsOf (st .table)) i x) (flatOf st))) → Writes b (onTable (change k (ownedUntil n v) (st .table)) st)
+  pub own-made : (v : ℕ) → (at k (st .table)) .owner ≡ none → {x : Row} → x ≡ ownedRow v r → {b : List ℕ}
+      → Shows b (withConns (retally n 0 1 (tally (rowsOf (st .table)))) (withRows (set (rowsOf (st .table)) i x) (flatOf st))) → Writes b (onTable (change k (ownedUntil n v) (st .table)) st)
   own-made v u xe {b} h =
       let h′ = subst (λ (a : Row). Shows b (withConns (retally n 0 1 (tally (rowsOf (st .table)))) (withRows (set (rowsOf (st .table)) i a) (flatOf st)))) xe h in
       let t = st .table in
       let ord = s .bounded .ordered in
-      let rows = rows-owned k n 0 t ord f (distinct-at st s k) (ownedUntil n v) refl refl refl v refl u ∙ ap (λ (a : Row). set (rowsOf t) (length (ahead k n 0 t ord f)) (ownedRow v a)) (sym q) ∙ ap (λ (j : ℕ). set (rowsOf t) j (ownedRow v r)) (sym e) in
+      let rows = rows-owned k n 0 t ord f (distinct-at st s k) (ownedUntil n v) refl refl refl v refl u ∙ ap (λ (a : Row). set (rowsOf t) (length (ahead k n 0 t ord f)) (ownedRow v a)) (sym q) ∙
+      ap (λ (j : ℕ). set (rowsOf t) j (ownedRow v r)) (sym e) in
       let z : ownBit r ≡ 0 = own-is ∙ ap (λ (o : Option Owner). one (ownerIs n o)) u in
       one-row (ownedUntil n v) (ownedRow v r) 0 1 refl rows refl z (omega arith) (same-place n v (at k t)) h′
 
   -- "owner .. go", where flag, package and parents have gone
-  pub disown-made : (v : Owner) → (at k (st .table)) .owner ≡ some v → v .connection ≡ n → (at k (st .table)) .info ≡ false → (at k (st .table)) .«package» ≡ none → {x : Row} → x ≡ unownedRow r → {b : List ℕ} → Shows b (withConns (retally n 1 0 (tally (rowsOf (st .table)))) (withRows (set (rowsOf (st .table)) i x) (flatOf st))) → Writes b (onTable (change k unowned (st .table)) st)
+  pub disown-made : (v : Owner) → (at k (st .table)) .owner ≡ some v → v .connection ≡ n → (at k (st .table)) .info ≡ false → (at k (st .table)) .«package» ≡ none → {x : Row} → x ≡ unownedRow r
+      → {b : List ℕ} → Shows b (withConns (retally n 1 0 (tally (rowsOf (st .table)))) (withRows (set (rowsOf (st .table)) i x) (flatOf st))) → Writes b (onTable (change k unowned (st .table)) st)
   disown-made v u m w y xe {b} h =
       let h′ = subst (λ (a : Row). Shows b (withConns (retally n 1 0 (tally (rowsOf (st .table)))) (withRows (set (rowsOf (st .table)) i a) (flatOf st)))) xe h in
       let t = st .table in
       let ord = s .bounded .ordered in
-      let rows = rows-unowned k n 0 t ord f (distinct-at st s k) unowned refl refl refl v refl u m ∙ ap (λ (a : Row). set (rowsOf t) (length (ahead k n 0 t ord f)) (unownedRow a)) (sym q) ∙ ap (λ (j : ℕ). set (rowsOf t) j (unownedRow r)) (sym e) in
+      let rows = rows-unowned k n 0 t ord f (distinct-at st s k) unowned refl refl refl v refl u m ∙ ap (λ (a : Row). set (rowsOf t) (length (ahead k n 0 t ord f)) (unownedRow a)) (sym q) ∙
+      ap (λ (j : ℕ). set (rowsOf t) j (unownedRow r)) (sym e) in
       let z : ownBit r ≡ 1 = own-is ∙ ap (λ (o : Option Owner). one (ownerIs n o)) u ∙ ap one (eq-eqb (v .connection) n m) in
       one-row unowned (unownedRow r) 1 0 refl rows refl z (omega arith) (no-place (at k t) w y) h′
 

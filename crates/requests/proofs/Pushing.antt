@@ -32,14 +32,16 @@ use Rattle.requests.proofs.Keeping.{sized-of, light-of, writes-by}
 
 -- ---- the row of a candidate that does not own its request
 
-row-as : {h h′ : Quad} {d d′ b b′ : ℕ} (n r p : ℕ) → h ≡ h′ → d ≡ d′ → b ≡ b′ → _≡_ {A = Row} (record { hash = h; conn = n; ready = r; prio = p; deadline = d; bits = b }) (record { hash = h′; conn = n; ready = r; prio = p; deadline = d′; bits = b′ })
+row-as : {h h′ : Quad} {d d′ b b′ : ℕ} (n r p : ℕ) → h ≡ h′ → d ≡ d′ → b ≡ b′ → _≡_ {A = Row} (record { hash = h; conn = n; ready = r; prio = p; deadline = d; bits = b })
+    (record { hash = h′; conn = n; ready = r; prio = p; deadline = d′; bits = b′ })
 row-as n r p e f g = cc
 
 idle : (n : ℕ) (o : Option Owner) → ownerIs n o ≡ false → deadlineFor n o ≡ 0
 idle n none e = refl
 idle n (some o) e = rw e
 
-pub row-new : (q : Request) (c : Candidate) {h : Quad} {k w p m : ℕ} → h ≡ quadOf (q .key .hash) → k ≡ kindBit (q .key .kind) → w ≡ witnessBit (c .item .kind) → p ≡ one (c .preferred) → ownerIs (c .connection) (q .owner) ≡ false → m ≡ one (q .fallback)
+pub row-new : (q : Request) (c : Candidate) {h : Quad} {k w p m : ℕ} → h ≡ quadOf (q .key .hash) → k ≡ kindBit (q .key .kind) → w ≡ witnessBit (c .item .kind) → p ≡ one (c .preferred)
+    → ownerIs (c .connection) (q .owner) ≡ false → m ≡ one (q .fallback)
     → _≡_ {A = Row} (record { hash = h; conn = c .connection; ready = c .ready; prio = c .priority; deadline = 0; bits = k + 2 * w + 4 * p + 16 * m }) (rowOf q c)
 unfolding rowOf
 row-new q c eh ek ew ep o em =
@@ -86,16 +88,21 @@ module _ (st : State) (s : Sound st) (k : Key) where
 
 -- ---- the row is in, then it is counted
 
-module _ (st : State) (s : Sound st) {i : ℕ} (r : Row) {b₁ : List ℕ} (h : Shows b₁ (withRows (insertAt i r (rowsOf (st .table))) (flatOf st))) (l : i ≤ length (rowsOf (st .table))) (m : length (rowsOf (st .table)) < st .limit) where
+module _ (st : State) (s : Sound st) {i : ℕ} (r : Row) {b₁ : List ℕ} (h : Shows b₁ (withRows (insertAt i r (rowsOf (st .table))) (flatOf st))) (l : i ≤ length (rowsOf (st .table)))
+    (m : length (rowsOf (st .table)) < st .limit) where
   pub added-shown : Shown b₁ × (connsIn b₁ < limitIn b₁)
   added-shown =
       let z = sized-of st s in
       let n = length-insert (rowsOf (st .table)) i r l in
-      let y = sizes h in
-      (shown h (record { limit = z .limit; places = z .places; rows-few = omega arith; conns-few = z .conns-few; places-few = z .places-few }) (light-of st s), omega (arith, tally-length (rowsOf (st .table))))
+      let y = sizes h in (
+        shown h (record { limit = z .limit; places = z .places; rows-few = omega arith; conns-few = z .conns-few; places-few = z .places-few }) (light-of st s),
+        omega (arith, tally-length (rowsOf (st .table))),
+      )
 
-module _ (st : State) (s : Sound st) (k : Key) (c : Candidate) {i : ℕ} {r : Row} {b : List ℕ} (e : i ≡ length (rowsBelow k (st .table) ++ rowsFor (at k (st .table)))) (q : r ≡ rowOf (at k (st .table)) c) (o : ownerIs (c .connection) ((at k (st .table)) .owner) ≡ false) where
-  pub pushed : {x : ℕ} → x ≡ c .connection → Shows b (withConns (bump x 0 (tally (rowsOf (st .table)))) (withRows (insertAt i r (rowsOf (st .table))) (flatOf st))) → Writes b (onTable (push k c (st .table)) st)
+module _ (st : State) (s : Sound st) (k : Key) (c : Candidate) {i : ℕ} {r : Row} {b : List ℕ} (e : i ≡ length (rowsBelow k (st .table) ++ rowsFor (at k (st .table))))
+    (q : r ≡ rowOf (at k (st .table)) c) (o : ownerIs (c .connection) ((at k (st .table)) .owner) ≡ false) where
+  pub pushed : {x : ℕ} → x ≡ c .connection → Shows b (withConns (bump x 0 (tally (rowsOf (st .table)))) (withRows (insertAt i r (rowsOf (st .table))) (flatOf st)))
+      → Writes b (onTable (push k c (st .table)) st)
   pushed {x} y h =
       let rows : rowsOf (push k c (st .table)) ≡ insertAt i r (rowsOf (st .table)) = push-rows k 0 (st .table) (s .bounded .ordered) c ∙ rw (e, q) in
       let own : ownBit r ≡ 0 = ap ownBit q ∙ own-row (at k (st .table)) c ∙ ap one o in

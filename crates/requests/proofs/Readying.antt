@@ -49,9 +49,11 @@ module _ (x : Row → Row) (cn : (q : Row) → (x q) .conn ≡ q .conn) (ow : (q
   tally-within [] b c = tally-map b c
   tally-within (q ∷ a) b c = rw (tally-within a b c)
 
-  module _ (st : State) (s : Sound st) (k : Key) (g : Request → Request) (rows : rowsFor (g (at k (st .table))) ≡ map x (rowsFor (at k (st .table)))) (pl : placesFor (g (at k (st .table))) ≡ placesFor (at k (st .table)))
+  module _ (st : State) (s : Sound st) (k : Key) (g : Request → Request) (rows : rowsFor (g (at k (st .table))) ≡ map x (rowsFor (at k (st .table))))
+      (pl : placesFor (g (at k (st .table))) ≡ placesFor (at k (st .table)))
       (gone : (g (at k (st .table))) .candidates ≡ [] → (at k (st .table)) .candidates ≡ []) where
-    pub window-made : {b : List ℕ} {from to : ℕ} → from ≡ length (rowsBelow k (st .table)) → to ≡ length (rowsBelow k (st .table) ++ rowsFor (at k (st .table))) → Shows b (withRows (mapIn x from to (rowsOf (st .table))) (flatOf st)) → Writes b (onTable (change k g (st .table)) st)
+    pub window-made : {b : List ℕ} {from to : ℕ} → from ≡ length (rowsBelow k (st .table)) → to ≡ length (rowsBelow k (st .table) ++ rowsFor (at k (st .table)))
+        → Shows b (withRows (mapIn x from to (rowsOf (st .table))) (flatOf st)) → Writes b (onTable (change k g (st .table)) st)
     window-made {b} {from} {to} e f h =
         let t = st .table in
         let o = s .bounded .ordered in
@@ -59,7 +61,8 @@ module _ (x : Row → Row) (cn : (q : Row) → (x q) .conn ≡ q .conn) (ow : (q
         let B = rowsFor (at k t) in
         let C = rowsAbove k t in
         let new : rowsOf (change k g t) ≡ A ++ (map x B ++ C) = rows-change k 0 t o g ∙ ap (λ (l : List Row). A ++ (l ++ C)) rows in
-        let here : mapIn x from to (rowsOf t) ≡ A ++ (map x B ++ C) = ap (λ (j : ℕ). mapIn x j to (rowsOf t)) e ∙ ap (λ (j : ℕ). mapIn x (length A) j (rowsOf t)) f ∙ ap (mapIn x (length A) (length (A ++ B))) (rows-at k 0 t o) ∙ map-seam x A B C in
+        let here : mapIn x from to (rowsOf t) ≡ A ++ (map x B ++ C) = ap (λ (j : ℕ). mapIn x j to (rowsOf t)) e ∙ ap (λ (j : ℕ). mapIn x (length A) j (rowsOf t)) f ∙
+        ap (mapIn x (length A) (length (A ++ B))) (rows-at k 0 t o) ∙ map-seam x A B C in
         let conns : tally (rowsOf (change k g t)) ≡ tally (rowsOf t) = ap tally new ∙ tally-within A B C ∙ ap tally (sym (rows-at k 0 t o)) in
         writes-by st (change k g t) (new ∙ sym here) conns (places-unchanged k 0 t o g (λ z. pl ∙ places-none (at k t) (lawful-at k t (s .bounded .lawful)) (gone z)) pl) h
 

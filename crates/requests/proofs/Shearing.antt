@@ -119,7 +119,8 @@ module _ {b₀ b : List ℕ} {from i to : ℕ} (k : Kept b₀) (c : CountedOut b
   pub out-rows : rowsIn b ≡ rowsIn b₀
   out-rows = let z = sizes (k .writes) in let y = sizes (c .shorn (k .state) (k .sound) (k .writes)) in omega arith
 
-  pub one-out : i < to → {r : Row} → ((f : Flat) (d : Row) → Shows b f → r ≡ getD (f .rows) i d) → {b′ : List ℕ} → length b′ ≡ length b → Tallies b b′ (unbump (r .conn) (r .bits / 8 % 2)) → CountedOut b₀ b′ from (i + 1) to
+  pub one-out : i < to → {r : Row} → ((f : Flat) (d : Row) → Shows b f → r ≡ getD (f .rows) i d) → {b′ : List ℕ} → length b′ ≡ length b → Tallies b b′ (unbump (r .conn) (r .bits / 8 % 2))
+      → CountedOut b₀ b′ from (i + 1) to
   one-out h {r} row {b′} e t = record {
     least = omega (arith, c .least);
     most = omega arith;
@@ -162,7 +163,8 @@ range-out a m b {from} {to} e f =
     let d : drop to (a ++ (m ++ b)) ≡ b = rw (← append-assoc) (drop-at (a ++ m) b to (sym f)) in
     rw (t, d)
 
-module _ (st : State) (s : Sound st) (k : Key) {from to : ℕ} (e : from ≡ length (rowsBelow k (st .table))) (f : to ≡ length (rowsBelow k (st .table) ++ rowsFor (at k (st .table)))) (free : (at k (st .table)) .owner ≡ none) where
+module _ (st : State) (s : Sound st) (k : Key) {from to : ℕ} (e : from ≡ length (rowsBelow k (st .table))) (f : to ≡ length (rowsBelow k (st .table) ++ rowsFor (at k (st .table))))
+    (free : (at k (st .table)) .owner ≡ none) where
   gone-rows : rowsOf (forget k (st .table)) ≡ removeRange from to (rowsOf (st .table))
   unfolding forget rowsFor
   gone-rows =

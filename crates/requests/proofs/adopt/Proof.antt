@@ -25,7 +25,10 @@ adopted-row-requires : tie.Need-adopted-row-requires
 adopted-row-requires c κs = search needs
 
 set-row-requires : tie.Need-set-row-requires
-set-row-requires c κs = (kept-shown (c .before .before .before .before .before .before .before .before .before .before .pre), omega (arith, c .before .before .before .before .before .before .spot-of .ensures .spans .most, c .before .before .before .before .if1 .taken))
+set-row-requires c κs = (
+  kept-shown (c .before .before .before .before .before .before .before .before .before .before .pre),
+  omega (arith, c .before .before .before .before .before .before .spot-of .ensures .spans .most, c .before .before .before .before .if1 .taken),
+)
 
 same-length : tie.Need-same-length
 same-length c = search needs
@@ -39,8 +42,11 @@ returns c = λ st s w p.
     let from = from-at st s k (key .small) (key .number) (c .before .before .before .before .before .before .before .before .before .spot-of .ensures .spans .from-is st s w) in
     let to = to-at st s k (key .small) (key .number) (c .before .before .before .before .before .before .before .before .before .spot-of .ensures .spans .to-is st s w) in
     let i = found-at k n 0 (st .table) (s .bounded .ordered) f from to (c .before .before .before .before .before .before .before .before .before .spot-of .ensures .met .first (flatOf st) w) in
-    let q = c .before .before .before .before .before .row-at .ensures (flatOf st) (c .before .before .before .before .before .row-at .result) w ∙ row-there k n 0 (st .table) (s .bounded .ordered) f (c .before .before .before .before .before .row-at .result) i in
-    adopt-made st s k (candidateOf (c .before .before .before .before .before .before .before .before .before .before .before .before .before .args .c)) (c .before .before .before .before .before .before .before .before .before .before .before .before .before .args .same) f i (c .before .before .before .adopted-row .ensures (at k (st .table)) (f .one) q) (c .before .before .set-row .ensures (flatOf st) w)
+    let q = c .before .before .before .before .before .row-at .ensures (flatOf st) (c .before .before .before .before .before .row-at .result) w ∙
+    row-there k n 0 (st .table) (s .bounded .ordered) f (c .before .before .before .before .before .row-at .result) i in
+    adopt-made st s k (candidateOf (c .before .before .before .before .before .before .before .before .before .before .before .before .before .args .c))
+    (c .before .before .before .before .before .before .before .before .before .before .before .before .before .args .same) f i
+    (c .before .before .before .adopted-row .ensures (at k (st .table)) (f .one) q) (c .before .before .set-row .ensures (flatOf st) w)
 
 same-length-2 : tie.Need-same-length-2
 same-length-2 c = search needs

@@ -18,7 +18,8 @@ add-result c = search needs
 returns : tie.Need-returns
 returns c = λ st s w.
     let h = c .before .before .before .args .h in
-    rw (c .before .candidates-of .ensures .1 st s w, c .candidates-of2 .ensures .1 st s w) (sym (held-at (hashNum h) (hash-below h (hash-four h (c .before .before .before .good .1 .0))) (st .table) (s .bounded .ordered)))
+    rw (c .before .candidates-of .ensures .1 st s w, c .candidates-of2 .ensures .1 st s w)
+    (sym (held-at (hashNum h) (hash-below h (hash-four h (c .before .before .before .good .1 .0))) (st .table) (s .bounded .ordered)))
 
 pub candidates-at-spec : {M : Type 1} → statement M
 candidates-at-spec =

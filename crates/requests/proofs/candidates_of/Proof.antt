@@ -22,7 +22,8 @@ returns c =
       λ st s w.
           let k = keyNum (c .before .before .before .before .args .k) in
           let key = c .before .before .key-words .ensures in
-          window-size k (st .table) (from-at st s k (key .small) (key .number) (c .before .window-of .ensures .from-is st s w)) (to-at st s k (key .small) (key .number) (c .before .window-of .ensures .to-is st s w)),
+          window-size k (st .table) (from-at st s k (key .small) (key .number) (c .before .window-of .ensures .from-is st s w))
+          (to-at st s k (key .small) (key .number) (c .before .window-of .ensures .to-is st s w)),
     )
 
 pub candidates-of-spec : {M : Type 1} → statement M

@@ -25,7 +25,8 @@ count-out-requires : tie.Need-count-out-requires
 count-out-requires c κs =
     let kept = c .before .before .before .before .before .before .before .before .before .before .before .pre in
     let z = sizes (kept .writes) in
-    let l : c .before .before .before .before .before .before .before .spot-of .result .at < length (rowsOf (kept .state .table)) = omega (arith, c .before .before .before .before .before .before .before .spot-of .ensures .spans .most, c .before .before .before .before .before .if1 .taken) in
+    let l : c .before .before .before .before .before .before .before .spot-of .result .at < length (rowsOf (kept .state .table)) =
+    omega (arith, c .before .before .before .before .before .before .before .spot-of .ensures .spans .most, c .before .before .before .before .before .if1 .taken) in
     dropped-shown (kept .state) (kept .sound) (c .before .before .before .drop-row .ensures (flatOf (kept .state)) (kept .writes)) l
 
 same-length : tie.Need-same-length
@@ -39,7 +40,8 @@ returns c = λ st s w p.
     let f = among n ((at k (st .table)) .candidates) (p .0) in
     let from = from-at st s k (key .small) (key .number) (c .before .before .before .before .before .before .before .before .before .before .spot-of .ensures .spans .from-is st s w) in
     let to = to-at st s k (key .small) (key .number) (c .before .before .before .before .before .before .before .before .before .before .spot-of .ensures .spans .to-is st s w) in
-    let i = found-at k n 0 (st .table) (s .bounded .ordered) f from to (c .before .before .before .before .before .before .before .before .before .before .spot-of .ensures .met .first (flatOf st) w) in
+    let i = found-at k n 0 (st .table) (s .bounded .ordered) f from to
+    (c .before .before .before .before .before .before .before .before .before .before .spot-of .ensures .met .first (flatOf st) w) in
     cut-made st s k n (p .1) f i (c .before .before .count-out .ensures _ (conns-in-order (rowsOf (st .table))) (c .before .before .before .before .before .before .drop-row .ensures (flatOf st) w))
 
 same-length-2 : tie.Need-same-length-2

@@ -25,12 +25,18 @@ unowned-row-requires : tie.Need-unowned-row-requires
 unowned-row-requires c κs = search needs
 
 set-row-requires : tie.Need-set-row-requires
-set-row-requires c κs = (kept-shown (c .before .before .before .before .before .before .before .before .before .before .pre), omega (arith, c .before .before .before .before .before .before .spot-of .ensures .spans .most, c .before .before .before .before .if1 .taken))
+set-row-requires c κs = (
+  kept-shown (c .before .before .before .before .before .before .before .before .before .before .pre),
+  omega (arith, c .before .before .before .before .before .before .spot-of .ensures .spans .most, c .before .before .before .before .if1 .taken),
+)
 
 recount-requires : tie.Need-recount-requires
 recount-requires c κs =
-    let kept = c .before .before .before .before .before .before .before .before .before .before .before .before .before .before .pre in
-    (replaced-shown (kept .state) (kept .sound) (c .before .before .before .before .before .before .before .before .before .before .spot-of .result .at) (c .before .before .before .before .unowned-row .result) (c .before .before .before .set-row .ensures (flatOf (kept .state)) (kept .writes)), omega arith)
+    let kept = c .before .before .before .before .before .before .before .before .before .before .before .before .before .before .pre in (
+      replaced-shown (kept .state) (kept .sound) (c .before .before .before .before .before .before .before .before .before .before .spot-of .result .at)
+          (c .before .before .before .before .unowned-row .result) (c .before .before .before .set-row .ensures (flatOf (kept .state)) (kept .writes)),
+      omega arith,
+    )
 
 same-length : tie.Need-same-length
 same-length c = search needs
@@ -41,12 +47,18 @@ returns c = λ st s w p.
     let n = c .before .before .before .before .before .before .before .before .before .before .before .before .before .before .before .before .before .args .n in
     let key = c .before .before .before .before .before .before .before .before .before .before .before .before .before .before .before .key-words .ensures in
     let f = among n ((at k (st .table)) .candidates) (owner-is n ((at k (st .table)) .owner) (p .owns) ((at k (st .table)) .candidates) ((lawful-at k (st .table) (s .bounded .lawful)) .owner)) in
-    let from = from-at st s k (key .small) (key .number) (c .before .before .before .before .before .before .before .before .before .before .before .before .before .spot-of .ensures .spans .from-is st s w) in
-    let to = to-at st s k (key .small) (key .number) (c .before .before .before .before .before .before .before .before .before .before .before .before .before .spot-of .ensures .spans .to-is st s w) in
-    let i = found-at k n 0 (st .table) (s .bounded .ordered) f from to (c .before .before .before .before .before .before .before .before .before .before .before .before .before .spot-of .ensures .met .first (flatOf st) w) in
-    let q = c .before .before .before .before .before .before .before .before .before .row-at .ensures (flatOf st) (c .before .before .before .before .before .before .before .before .before .row-at .result) w ∙ row-there k n 0 (st .table) (s .bounded .ordered) f (c .before .before .before .before .before .before .before .before .before .row-at .result) i in
+    let from = from-at st s k (key .small) (key .number)
+    (c .before .before .before .before .before .before .before .before .before .before .before .before .before .spot-of .ensures .spans .from-is st s w) in
+    let to = to-at st s k (key .small) (key .number)
+    (c .before .before .before .before .before .before .before .before .before .before .before .before .before .spot-of .ensures .spans .to-is st s w) in
+    let i = found-at k n 0 (st .table) (s .bounded .ordered) f from to
+    (c .before .before .before .before .before .before .before .before .before .before .before .before .before .spot-of .ensures .met .first (flatOf st) w) in
+    let q = c .before .before .before .before .before .before .before .before .before .row-at .ensures (flatOf st)
+    (c .before .before .before .before .before .before .before .before .before .row-at .result) w ∙
+    row-there k n 0 (st .table) (s .bounded .ordered) f (c .before .before .before .before .before .before .before .before .before .row-at .result) i in
     let v = owner-at n ((at k (st .table)) .owner) (p .owns) in
-    disown-made st s k n f i q (v .owner) (v .is) (v .name) (p .info) (p .bare) (c .before .before .before .before .before .before .before .unowned-row .ensures) (c .before .before .recount .ensures _ (conns-in-order (rowsOf (st .table))) (c .before .before .before .before .before .before .set-row .ensures (flatOf st) w))
+    disown-made st s k n f i q (v .owner) (v .is) (v .name) (p .info) (p .bare) (c .before .before .before .before .before .before .before .unowned-row .ensures)
+    (c .before .before .recount .ensures _ (conns-in-order (rowsOf (st .table))) (c .before .before .before .before .before .before .set-row .ensures (flatOf st) w))
 
 same-length-2 : tie.Need-same-length-2
 same-length-2 c = search needs

@@ -24,7 +24,8 @@ returns c = λ st s w.
     let z = sizes w in
     let bd = c .before .before .before .seek-conn .ensures .bound (flatOf st) w (conns-in-order (rowsOf (st .table))) in
     let l : c .before .before .before .seek-conn .result < length (tally (rowsOf (st .table))) = omega (arith, c .before .before .is-entry .ensures .inside (c .before .if1 .taken)) in
-    figures-found st s (c .before .before .before .before .before .args .n) bd d l (c .before .before .is-entry .ensures .is (flatOf st) d w (c .before .if1 .taken)) (c .conn-at .ensures (flatOf st) d w)
+    figures-found st s (c .before .before .before .before .before .args .n) bd d l (c .before .before .is-entry .ensures .is (flatOf st) d w (c .before .if1 .taken))
+    (c .conn-at .ensures (flatOf st) d w)
 
 returns-2 : tie.Need-returns-2
 returns-2 c = λ st s w.

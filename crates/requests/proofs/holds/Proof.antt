@@ -17,7 +17,8 @@ returns c = λ st s w.
     let k = keyNum (c .before .before .before .before .args .k) in
     let key = c .before .before .key-words .ensures in
     let spot = c .before .spot-of .ensures in
-    holds-by k (c .before .before .before .before .args .n) 0 (st .table) (s .bounded .ordered) (from-at st s k (key .small) (key .number) (spot .spans .from-is st s w)) (to-at st s k (key .small) (key .number) (spot .spans .to-is st s w)) (spot .met .first (flatOf st) w)
+    holds-by k (c .before .before .before .before .args .n) 0 (st .table) (s .bounded .ordered) (from-at st s k (key .small) (key .number) (spot .spans .from-is st s w))
+    (to-at st s k (key .small) (key .number) (spot .spans .to-is st s w)) (spot .met .first (flatOf st) w)
 
 pub holds-spec : {M : Type 1} → statement M
 holds-spec = tie.close (tie.spec key-words-requires spot-of-requires returns)

@@ -28,7 +28,8 @@ returns c = λ st s w u.
     let key = c .before .before .before .before .before .before .key-words .ensures in
     let from = from-at st s k (key .small) (key .number) (c .before .before .before .before .window-of .ensures .from-is st s w) in
     let to = to-at st s k (key .small) (key .number) (c .before .before .before .before .window-of .ensures .to-is st s w) in
-    window-made markedRow (λ q. refl) marked-owns st s k marked (marked-rows (at k (st .table))) (marked-places (at k (st .table))) (λ z. z) from to (c .before .before .mark-rows .ensures (flatOf st) w)
+    window-made markedRow (λ q. refl) marked-owns st s k marked (marked-rows (at k (st .table))) (marked-places (at k (st .table))) (λ z. z) from to
+    (c .before .before .mark-rows .ensures (flatOf st) w)
 
 pub mark-spec : {M : Type 1} → statement M
 mark-spec =

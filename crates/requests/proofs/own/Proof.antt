@@ -27,16 +27,24 @@ owned-row-requires : tie.Need-owned-row-requires
 owned-row-requires c κs =
     let kept = c .before .before .before .before .before .before .before .before .before .pre in
     let z = sizes (kept .writes) in
-    let l : c .before .before .before .before .before .spot-of .result .at < length (rowsOf (kept .state .table)) = omega (arith, c .before .before .before .before .before .spot-of .ensures .spans .most, c .before .before .before .if1 .taken) in
-    bits-few (kept .state) (kept .sound) (c .before .before .before .before .before .spot-of .result .at) (c .before .row-at .result) l (c .before .row-at .ensures (flatOf (kept .state)) (c .before .row-at .result) (kept .writes))
+    let l : c .before .before .before .before .before .spot-of .result .at < length (rowsOf (kept .state .table)) =
+    omega (arith, c .before .before .before .before .before .spot-of .ensures .spans .most, c .before .before .before .if1 .taken) in
+    bits-few (kept .state) (kept .sound) (c .before .before .before .before .before .spot-of .result .at) (c .before .row-at .result) l
+    (c .before .row-at .ensures (flatOf (kept .state)) (c .before .row-at .result) (kept .writes))
 
 set-row-requires : tie.Need-set-row-requires
-set-row-requires c κs = (kept-shown (c .before .before .before .before .before .before .before .before .before .before .pre), omega (arith, c .before .before .before .before .before .before .spot-of .ensures .spans .most, c .before .before .before .before .if1 .taken))
+set-row-requires c κs = (
+  kept-shown (c .before .before .before .before .before .before .before .before .before .before .pre),
+  omega (arith, c .before .before .before .before .before .before .spot-of .ensures .spans .most, c .before .before .before .before .if1 .taken),
+)
 
 recount-requires : tie.Need-recount-requires
 recount-requires c κs =
-    let kept = c .before .before .before .before .before .before .before .before .before .before .before .before .before .before .pre in
-    (replaced-shown (kept .state) (kept .sound) (c .before .before .before .before .before .before .before .before .before .before .spot-of .result .at) (c .before .before .before .before .owned-row .result) (c .before .before .before .set-row .ensures (flatOf (kept .state)) (kept .writes)), omega arith)
+    let kept = c .before .before .before .before .before .before .before .before .before .before .before .before .before .before .pre in (
+      replaced-shown (kept .state) (kept .sound) (c .before .before .before .before .before .before .before .before .before .before .spot-of .result .at)
+          (c .before .before .before .before .owned-row .result) (c .before .before .before .set-row .ensures (flatOf (kept .state)) (kept .writes)),
+      omega arith,
+    )
 
 same-length : tie.Need-same-length
 same-length c = search needs
@@ -47,11 +55,18 @@ returns c = λ st s w p.
     let n = c .before .before .before .before .before .before .before .before .before .before .before .before .before .before .before .before .before .args .n in
     let key = c .before .before .before .before .before .before .before .before .before .before .before .before .before .before .before .key-words .ensures in
     let f = among n ((at k (st .table)) .candidates) (p .0) in
-    let from = from-at st s k (key .small) (key .number) (c .before .before .before .before .before .before .before .before .before .before .before .before .before .spot-of .ensures .spans .from-is st s w) in
-    let to = to-at st s k (key .small) (key .number) (c .before .before .before .before .before .before .before .before .before .before .before .before .before .spot-of .ensures .spans .to-is st s w) in
-    let i = found-at k n 0 (st .table) (s .bounded .ordered) f from to (c .before .before .before .before .before .before .before .before .before .before .before .before .before .spot-of .ensures .met .first (flatOf st) w) in
-    let q = c .before .before .before .before .before .before .before .before .before .row-at .ensures (flatOf st) (c .before .before .before .before .before .before .before .before .before .row-at .result) w ∙ row-there k n 0 (st .table) (s .bounded .ordered) f (c .before .before .before .before .before .before .before .before .before .row-at .result) i in
-    own-made st s k n f i q (c .before .before .before .before .before .before .before .before .before .before .before .before .before .before .before .before .before .args .deadline) (p .1) (c .before .before .before .before .before .before .before .owned-row .ensures) (c .before .before .recount .ensures _ (conns-in-order (rowsOf (st .table))) (c .before .before .before .before .before .before .set-row .ensures (flatOf st) w))
+    let from = from-at st s k (key .small) (key .number)
+    (c .before .before .before .before .before .before .before .before .before .before .before .before .before .spot-of .ensures .spans .from-is st s w) in
+    let to = to-at st s k (key .small) (key .number)
+    (c .before .before .before .before .before .before .before .before .before .before .before .before .before .spot-of .ensures .spans .to-is st s w) in
+    let i = found-at k n 0 (st .table) (s .bounded .ordered) f from to
+    (c .before .before .before .before .before .before .before .before .before .before .before .before .before .spot-of .ensures .met .first (flatOf st) w) in
+    let q = c .before .before .before .before .before .before .before .before .before .row-at .ensures (flatOf st)
+    (c .before .before .before .before .before .before .before .before .before .row-at .result) w ∙
+    row-there k n 0 (st .table) (s .bounded .ordered) f (c .before .before .before .before .before .before .before .before .before .row-at .result) i in
+    own-made st s k n f i q (c .before .before .before .before .before .before .before .before .before .before .before .before .before .before .before .before .before .args .deadline)
+    (p .1) (c .before .before .before .before .before .before .before .owned-row .ensures)
+    (c .before .before .recount .ensures _ (conns-in-order (rowsOf (st .table))) (c .before .before .before .before .before .before .set-row .ensures (flatOf st) w))
 
 same-length-2 : tie.Need-same-length-2
 same-length-2 c = search needs

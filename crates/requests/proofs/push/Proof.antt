@@ -26,14 +26,19 @@ new-row-requires : tie.Need-new-row-requires
 new-row-requires c κs = search needs
 
 add-row-requires : tie.Need-add-row-requires
-add-row-requires c κs = (kept-shown (c .before .before .before .before .before .before .before .before .pre .0), c .before .before .before .before .window-of .ensures .most, c .before .before .before .before .before .before .before .before .pre .1)
+add-row-requires c κs = (
+  kept-shown (c .before .before .before .before .before .before .before .before .pre .0),
+  c .before .before .before .before .window-of .ensures .most,
+  c .before .before .before .before .before .before .before .before .pre .1,
+)
 
 count-in-requires : tie.Need-count-in-requires
 count-in-requires c κs =
     let kept = c .before .before .before .before .before .before .before .before .before .before .before .before .pre .0 in
     let z = sizes (kept .writes) in
     let rs = rowsOf (kept .state .table) in
-    let l : c .before .before .before .before .before .before .before .before .window-of .result .to ≤ length rs = omega (arith, c .before .before .before .before .before .before .before .before .window-of .ensures .most) in
+    let l : c .before .before .before .before .before .before .before .before .window-of .result .to ≤ length rs =
+    omega (arith, c .before .before .before .before .before .before .before .before .window-of .ensures .most) in
     let m : length rs < kept .state .limit = omega (arith, c .before .before .before .before .before .before .before .before .before .before .before .before .pre .1) in
     added-shown (kept .state) (kept .sound) (c .before .before .before .before .before .new-row .result) (c .before .before .before .add-row .ensures (flatOf (kept .state)) (kept .writes)) l m
 
@@ -46,9 +51,13 @@ returns c = λ st s w o.
     let key = c .before .before .before .before .before .before .before .before .before .before .before .before .before .key-words .ensures in
     let from = from-at st s k (key .small) (key .number) (c .before .before .before .before .before .before .before .before .before .before .before .window-of .ensures .from-is st s w) in
     let to = to-at st s k (key .small) (key .number) (c .before .before .before .before .before .before .before .before .before .before .before .window-of .ensures .to-is st s w) in
-    let m = c .before .before .before .before .before .before .before .before .before .mark-in .ensures .is (flatOf st) (c .before .before .before .before .before .before .before .before .new-row .result) w ∙ mark-of st s k (c .before .before .before .before .before .before .before .before .new-row .result) from to in
-    let r = c .before .before .before .before .before .before .before .before .new-row .ensures (at k (st .table)) (key .hash ∙ its-hash st s k (key .small)) (key .kind ∙ its-kind st s k (key .small)) o m in
-    pushed st s k (candidateOf (c .before .before .before .before .before .before .before .before .before .before .before .before .before .before .before .args .c)) to r o refl (c .before .before .count-in .ensures _ (conns-in-order (rowsOf (st .table))) (c .before .before .before .before .before .before .add-row .ensures (flatOf st) w))
+    let m = c .before .before .before .before .before .before .before .before .before .mark-in .ensures .is
+    (flatOf st) (c .before .before .before .before .before .before .before .before .new-row .result) w ∙
+    mark-of st s k (c .before .before .before .before .before .before .before .before .new-row .result) from to in
+    let r = c .before .before .before .before .before .before .before .before .new-row .ensures (at k (st .table)) (key .hash ∙ its-hash st s k (key .small))
+    (key .kind ∙ its-kind st s k (key .small)) o m in
+    pushed st s k (candidateOf (c .before .before .before .before .before .before .before .before .before .before .before .before .before .before .before .args .c)) to r o refl
+    (c .before .before .count-in .ensures _ (conns-in-order (rowsOf (st .table))) (c .before .before .before .before .before .before .add-row .ensures (flatOf st) w))
 
 pub push-spec : {M : Type 1} → statement M
 push-spec =

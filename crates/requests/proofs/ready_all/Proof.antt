@@ -28,7 +28,8 @@ returns c = λ st s w u.
     let from = from-at st s k (key .small) (key .number) (c .before .before .before .before .window-of .ensures .from-is st s w) in
     let to = to-at st s k (key .small) (key .number) (c .before .before .before .before .window-of .ensures .to-is st s w) in
     let v = c .before .before .before .before .before .before .before .before .args .v in
-    window-made (withReady v) (λ q. refl) (λ q. refl) st s k (readied v) (readied-rows v (at k (st .table))) (readied-places v (at k (st .table))) (readied-gone v ((at k (st .table)) .candidates)) from to (c .before .before .ready-rows .ensures (flatOf st) w)
+    window-made (withReady v) (λ q. refl) (λ q. refl) st s k (readied v) (readied-rows v (at k (st .table))) (readied-places v (at k (st .table)))
+    (readied-gone v ((at k (st .table)) .candidates)) from to (c .before .before .ready-rows .ensures (flatOf st) w)
 
 pub ready-all-spec : {M : Type 1} → statement M
 ready-all-spec =

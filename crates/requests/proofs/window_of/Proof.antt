@@ -15,7 +15,8 @@ returns : tie.Need-returns
 returns c =
     let kept = c .before .before .before .pre in
     record {
-      order = bounds-order (rowNumbers (rowsOf (kept .state .table))) _ _ _ (rw add-zero at (c .before .seek-row .ensures .bound (flatOf (kept .state)) (kept .writes) (rows-in-order (kept .state) (kept .sound)))) (c .seek-row2 .ensures .bound (flatOf (kept .state)) (kept .writes) (rows-in-order (kept .state) (kept .sound)));
+      order = bounds-order (rowNumbers (rowsOf (kept .state .table))) _ _ _ (rw add-zero at (c .before .seek-row .ensures .bound (flatOf (kept .state)) (kept .writes)
+          (rows-in-order (kept .state) (kept .sound)))) (c .seek-row2 .ensures .bound (flatOf (kept .state)) (kept .writes) (rows-in-order (kept .state) (kept .sound)));
       most = c .seek-row2 .ensures .most;
       from-is = λ st s w. rw add-zero at (c .before .seek-row .ensures .bound (flatOf st) w (rows-in-order st s));
       to-is = λ st s w. c .seek-row2 .ensures .bound (flatOf st) w (rows-in-order st s);

@@ -19,10 +19,14 @@ loop-holds : tie.Need-loop-holds Inv-loop μ-loop
 loop-holds c = none-out (c .before .args .from) (c .before .args .to) (c .before .pre .1)
 
 row-at-requires : tie.Need-row-at-requires Inv-loop μ-loop
-row-at-requires c κs = (out-shown (c .before .before .before .before .pre .0) (c .before .before .loop .inv) (c .before .before .before .before .pre .2), omega (arith, out-rows (c .before .before .before .before .pre .0) (c .before .before .loop .inv) (c .before .before .before .before .pre .2)))
+row-at-requires c κs = (
+  out-shown (c .before .before .before .before .pre .0) (c .before .before .loop .inv) (c .before .before .before .before .pre .2),
+  omega (arith, out-rows (c .before .before .before .before .pre .0) (c .before .before .loop .inv) (c .before .before .before .before .pre .2)),
+)
 
 count-out-requires : tie.Need-count-out-requires Inv-loop μ-loop
-count-out-requires c κs = out-shown (c .before .before .before .before .before .before .before .pre .0) (c .before .before .before .before .before .loop .inv) (c .before .before .before .before .before .before .before .pre .2)
+count-out-requires c κs = out-shown (c .before .before .before .before .before .before .before .pre .0) (c .before .before .before .before .before .loop .inv)
+    (c .before .before .before .before .before .before .before .pre .2)
 
 add-i : tie.Need-add-i Inv-loop μ-loop
 add-i c = search needs
@@ -31,7 +35,9 @@ loop-less : tie.Need-loop-less Inv-loop μ-loop
 loop-less c = search needs
 
 loop-again : tie.Need-loop-again Inv-loop μ-loop
-loop-again c = one-out (c .before .before .before .before .before .before .before .before .before .before .pre .0) (c .before .before .before .before .before .before .before .before .loop .inv) (c .before .before .before .before .before .before .before .before .before .before .pre .2) (c .before .before .before .before .before .before .before .loop-test .taken) (c .before .before .before .before .before .row-at .ensures) (c .before .before .count-out .kept .0) (c .before .before .count-out .ensures)
+loop-again c = one-out (c .before .before .before .before .before .before .before .before .before .before .pre .0) (c .before .before .before .before .before .before .before .before .loop .inv)
+    (c .before .before .before .before .before .before .before .before .before .before .pre .2) (c .before .before .before .before .before .before .before .loop-test .taken)
+    (c .before .before .before .before .before .row-at .ensures) (c .before .before .count-out .kept .0) (c .before .before .count-out .ensures)
 
 same-length : tie.Need-same-length Inv-loop μ-loop
 same-length c = c .before .loop .inv .long

@@ -15,7 +15,8 @@ count-out-rows-requires : tie.Need-count-out-rows-requires
 count-out-rows-requires c κs = search needs
 
 drop-rows-requires : tie.Need-drop-rows-requires
-drop-rows-requires c κs = all-out (c .before .before .before .before .before .before .before .before .before .pre) (c .before .before .before .before .before .window-of .ensures .order) (c .before .before .before .before .before .window-of .ensures .most) (c .before .before .before .count-out-rows .kept .0) (c .before .before .before .count-out-rows .ensures)
+drop-rows-requires c κs = all-out (c .before .before .before .before .before .before .before .before .before .pre) (c .before .before .before .before .before .window-of .ensures .order)
+    (c .before .before .before .before .before .window-of .ensures .most) (c .before .before .before .count-out-rows .kept .0) (c .before .before .before .count-out-rows .ensures)
 
 same-length : tie.Need-same-length
 same-length c = search needs
