@@ -19,7 +19,8 @@ use prog.Routine.{Routine}
 use prog.Wp.{Heap, Env, Calls, Loops}
 use ghost.Atoms.{Atoms, sem}
 use contract.Monad.{Fun, fact}
-use types.Kit.{Given, Goal, Soaks, Post, Item as Row, ‵, raw, _⊛_, some as any, later, given, runs, lands, Sq, Go, _$_, _∵_, !, qed, move, drop, use1, use2, use3, split, join, pick, learn, fsplit, fjoin, fpick, fpack, feqI, feqL, frame, await, regoal, done}
+use types.Kit.{Given, Goal, Soaks, Post, Item as Row, ‵, raw, _⊛_, some as any, later, given, runs, lands, Sq, Go, _$_, _∵_, !, qed, move}
+use types.Kit.{drop, use1, use2, use3, split, join, pick, learn, fsplit, fjoin, fpick, fpack, feqI, feqL, frame, await, regoal, done}
 use types.Run.{Opds}
 use types.SemTy.{Body}
 use types.Tokens.{lft-new, lft-end}
@@ -85,13 +86,16 @@ module _ {M : Type 1} (𝓤 : URA M) (H : Heap 𝓤) (A : Atoms 𝓤) (mem′ : 
 module _ {M : Type 1} (𝓤 : URA M) (H : Heap 𝓤) (A : Atoms 𝓤) (W : Given 𝓤 H A) where
   module _ {Γ : List (Row 𝓤)} {G : Goal 𝓤 H} (z : Soaks G) (l : ℕ) where
     pub lends-record : (c : Cursors) → IsOf T.the-row c (cursors-val c ∷ [])
-        → ((ν : ℕ) (δ : GName) → Sq W (‵ (flft (ν ∷ []) fullShare) ∷ ‵ (MutRef (named 0) (ν ∷ []) T.the-row .own (at-local l δ c) (vptr l 0 ∷ [])) ∷ ‵ (flent (ν ∷ []) (Body (mem T.the-row) l 0 δ)) ∷ Γ) G)
+        → ((ν : ℕ) (δ : GName)
+        → Sq W (‵ (flft (ν ∷ []) fullShare) ∷ ‵ (MutRef (named 0) (ν ∷ []) T.the-row .own (at-local l δ c) (vptr l 0 ∷ [])) ∷ ‵ (flent (ν ∷ []) (Body (mem T.the-row) l 0 δ)) ∷ Γ) G)
         → Sq W (‵ (fat fullShare T′.mir l 0 (cursors-val c)) ∷ Γ) G
     unfolding partOf
     lends-record c g k =
-        use1 W (‵ (fat fullShare (rawTy T′.mir) l 0 (cursors-val c))) (W .laws .at-raw fullShare T′.mir l 0 (cursors-val c)) $ owned ! T.the-row (IsOf T.the-row) (LL.makes T.the-type T′.the-plain 𝓤 H A) c (cursors-val c ∷ []) g $ move ! (1 ∷ 0 ∷ []) $
+        use1 W (‵ (fat fullShare (rawTy T′.mir) l 0 (cursors-val c))) (W .laws .at-raw fullShare T′.mir l 0 (cursors-val c)) $
+        owned ! T.the-row (IsOf T.the-row) (LL.makes T.the-type T′.the-plain 𝓤 H A) c (cursors-val c ∷ []) g $ move ! (1 ∷ 0 ∷ []) $
         fjoin ! $ fpack ! (List Val) (λ us. fsep (cellAt fullShare (T.the-row .mir) us l 0) (T.the-row .own c us)) (cursors-val c ∷ []) $ lft-new ! z (λ ν. move ! (1 ∷ []) $
-        use1 W (later (any (λ (δ : GName). ‵ (MutRef (named 0) (ν ∷ []) T.the-row .own (at-local l δ c) (vptr l 0 ∷ [])) ⊛ ‵ (flent (ν ∷ []) (Body (mem T.the-row) l 0 δ))))) (lends-ref 𝓤 H A W T.the-row (named 0) (ν ∷ []) c l 0) $ await ! z $ pick ! (λ δ.
+        use1 W (later (any (λ (δ : GName). ‵ (MutRef (named 0) (ν ∷ []) T.the-row .own (at-local l δ c) (vptr l 0 ∷ [])) ⊛ ‵ (flent (ν ∷ []) (Body (mem T.the-row) l 0 δ)))))
+        (lends-ref 𝓤 H A W T.the-row (named 0) (ν ∷ []) c l 0) $ await ! z $ pick ! (λ δ.
         split ! $ move ! (2 ∷ []) $ k ν δ))
 
     pub record-back : (ν : ℕ) (δ : GName) (c : Cursors) → (IsOf T.the-row c (cursors-val c ∷ []) → Sq W (‵ (fat fullShare T′.mir l 0 (cursors-val c)) ∷ Γ) G)
@@ -100,11 +104,13 @@ module _ {M : Type 1} (𝓤 : URA M) (H : Heap 𝓤) (A : Atoms 𝓤) (W : Given
     record-back ν δ c k =
         lft-end ! z $ use3 W (later (‵ (mem T.the-row .lies c l 0))) (ref-back 𝓤 H A W T.the-row (ν ∷ []) δ c l 0) $ await ! z $ fpick ! (λ vs. fsplit ! $
         spelt ! T.the-row (IsOf T.the-row) (shows 𝓤 H A T.the-row) (LL.vals T.the-type T′.the-laws) (LL.tells T.the-type T′.the-laws) fullShare c vs l 0 $ move ! (1 ∷ []) $
-        peeks ! T.the-row (IsOf T.the-row) (shows 𝓤 H A T.the-row) c (cursors-val c ∷ []) (λ g. drop ! $ use1 W (‵ (fat fullShare T′.mir l 0 (cursors-val c))) (W .laws .raw-at fullShare T′.mir l 0 (cursors-val c)) $ k g))
+        peeks ! T.the-row (IsOf T.the-row) (shows 𝓤 H A T.the-row) c (cursors-val c ∷ [])
+        (λ g. drop ! $ use1 W (‵ (fat fullShare T′.mir l 0 (cursors-val c))) (W .laws .raw-at fullShare T′.mir l 0 (cursors-val c)) $ k g))
 
 -- ---- the bytes
 
-module _ {M : Type 1} (𝓤 : URA M) (H : Heap 𝓤) (A : Atoms 𝓤) (W : Given 𝓤 H A) (mem′ : Memory → SProp 𝓤) (run : Routine → Fun 𝓤) (κ : Lft) (q : Share) (b o : ℕ) (γ : GName) (ys : List ℕ) (long : 8 * headSize ≤ length ys) where
+module _ {M : Type 1} (𝓤 : URA M) (H : Heap 𝓤) (A : Atoms 𝓤) (W : Given 𝓤 H A) (mem′ : Memory → SProp 𝓤) (run : Routine → Fun 𝓤) (κ : Lft) (q : Share) (b o : ℕ) (γ : GName) (ys : List ℕ)
+    (long : 8 * headSize ≤ length ys) where
   abbrev ref : GName → List ℕ → RefT (List ℕ)
   ref = bytes-ref b o
 
@@ -128,7 +134,8 @@ module _ {M : Type 1} (𝓤 : URA M) (H : Heap 𝓤) (A : Atoms 𝓤) (W : Given
   abbrev to-save : Cursors → ℕ → GName → Save 𝓤 H A mem′ run .Ghost
   to-save c ν δ = (((ν ∷ [], tt), (fullShare, tt), tt, (ref δ ys, (c, tt)), (v ∷ [], (cursors-val c ∷ [], tt))), tt)
 
-  goes-save : (c : Cursors) → IsOf T.the-row c (cursors-val c ∷ []) → (ν : ℕ) (δ : GName) → ent 𝓤 (sep 𝓤 (A .lft (ν ∷ []) fullShare) (sem 𝓤 H A (MutSlice (named 0) (ν ∷ []) u8 .own (ref δ ys) (v ∷ [])))) (Save 𝓤 H A mem′ run .pre (to-save c ν δ))
+  goes-save : (c : Cursors) → IsOf T.the-row c (cursors-val c ∷ []) → (ν : ℕ) (δ : GName)
+      → ent 𝓤 (sep 𝓤 (A .lft (ν ∷ []) fullShare) (sem 𝓤 H A (MutSlice (named 0) (ν ∷ []) u8 .own (ref δ ys) (v ∷ [])))) (Save 𝓤 H A mem′ run .pre (to-save c ν δ))
   goes-save c g ν δ =
       qed W (‵ (flft (ν ∷ []) fullShare) ∷ ‵ (MutSlice (named 0) (ν ∷ []) u8 .own (ref δ ys) (v ∷ [])) ∷ []) ∵ says ! long $ nothing ! $ move ! (1 ∷ 0 ∷ []) $ join ! $ frame ! $
       nothing ! $ owned ! T.the-row (IsOf T.the-row) (LL.makes T.the-type T′.the-plain 𝓤 H A) c _ g $ fjoin ! $ move ! (1 ∷ 0 ∷ []) $ fjoin ! $ done !
@@ -139,29 +146,36 @@ module _ {M : Type 1} (𝓤 : URA M) (H : Heap 𝓤) (A : Atoms 𝓤) (W : Given
         → Sq W (‵ (Own ys) ∷ ‵ (flft κ q) ∷ Γ) (runs C Λ E (seq (call #cursors·load xs d) rest) Q)
     loads-lent known os k =
         lft-new ! tt (λ ν. move ! (1 ∷ []) $ fsplit ! $ fsplit ! $ drop ! $ fjoin ! $ move ! (0 ∷ 2 ∷ []) $
-        use2 W (later (any (λ (δ : GName). ‵ (O.ShrSlice erased (ν ∷ []) u8 .own (ref δ ys)) ⊛ ‵ (keptS u8 κ q (ν ∷ []) γ ys b o)))) (sl-reshare 𝓤 H A W u8 κ q (ν ∷ []) b o γ ys) $ await ! tt $ pick ! (λ δ. split ! $
+        use2 W (later (any (λ (δ : GName). ‵ (O.ShrSlice erased (ν ∷ []) u8 .own (ref δ ys)) ⊛ ‵ (keptS u8 κ q (ν ∷ []) γ ys b o)))) (sl-reshare 𝓤 H A W u8 κ q (ν ∷ []) b o γ ys) $
+        await ! tt $ pick ! (λ δ. split ! $
         fsplit ! $ feqI ! (List Val) (v ∷ []) (v ∷ []) refl $ fjoin ! $ fjoin ! $ move ! (2 ∷ 0 ∷ []) $ use2 W (raw (Load 𝓤 H A mem′ run .pre (to-load ν δ))) (goes-load ν δ) $
         calls-at ! fm (Load 𝓤 H A mem′ run) known (to-load ν δ) (os _ _) (λ u.
-        use1 W (later (any (λ (c : Cursors). ((‵ (flft (ν ∷ []) fullShare) ⊛ ‵ ftrue) ⊛ ‵ (T.the-row .own c (u ∷ []))) ⊛ raw (ensured 𝓤 H A load.ended (load.clauses 𝓤 H A mem′ run) (ν ∷ [], tt) (ref δ ys, tt) tt c)))) (id⊢ 𝓤 _) $ await ! tt $ pick ! (λ c.
+        use1 W (later (any (λ (c : Cursors). ((‵ (flft (ν ∷ []) fullShare) ⊛ ‵ ftrue) ⊛ ‵ (T.the-row .own c (u ∷ []))) ⊛
+        raw (ensured 𝓤 H A load.ended (load.clauses 𝓤 H A mem′ run) (ν ∷ [], tt) (ref δ ys, tt) tt c)))) (id⊢ 𝓤 _) $ await ! tt $ pick ! (λ c.
         split ! $ move ! (1 ∷ []) $ use1 W (raw (fact 𝓤 (Loads ys c))) (load-said ν δ c) $ heard ! (Loads ys c) (λ e. split ! $ move ! (1 ∷ []) $
         peeks ! T.the-row (IsOf T.the-row) (shows 𝓤 H A T.the-row) c (u ∷ []) (λ is. drop ! $ split ! $ lft-end ! tt $ move ! (0 ∷ 2 ∷ []) $
         use2 W (later (‵ (O.MutSlice erased κ u8 .own (ref γ ys)) ⊛ ‵ (flft κ q))) (sl-reshare-back 𝓤 H A W u8 κ q (ν ∷ []) b o γ ys) $ await ! tt $ split ! $
         fsplit ! $ feqI ! (List Val) (v ∷ []) (v ∷ []) refl $ fjoin ! $ fjoin ! $ move ! (2 ∷ []) $ drop ! $
         regoal ! (λ (w : Val). lands C Λ E d w rest Q) (ap only (LL.tells T.the-type T′.the-laws c (u ∷ []) is)) refl $ k c (told c u is) e))))))
 
-    pub saves-lent : Triple 𝓤 (C #cursors·save) (Save 𝓤 H A mem′ run) → (c : Cursors) → IsOf T.the-row c (cursors-val c ∷ []) → ((i j : Row 𝓤) → Opds (Go {0}) W (i ∷ j ∷ Γ) E xs (v ∷ cursors-val c ∷ []))
+    pub saves-lent : Triple 𝓤 (C #cursors·save) (Save 𝓤 H A mem′ run) → (c : Cursors) → IsOf T.the-row c (cursors-val c ∷ [])
+        → ((i j : Row 𝓤) → Opds (Go {0}) W (i ∷ j ∷ Γ) E xs (v ∷ cursors-val c ∷ []))
         → ((zs : List ℕ) → length zs ≡ length ys → Saves ys zs c → Sq W (‵ (Own zs) ∷ ‵ (flft κ q) ∷ Γ) (lands C Λ E d vunit rest Q))
         → Sq W (‵ (Own ys) ∷ ‵ (flft κ q) ∷ Γ) (runs C Λ E (seq (call #cursors·save xs d) rest) Q)
     saves-lent known c g os k =
         lft-new ! tt (λ ν. move ! (1 ∷ []) $ fsplit ! $ fsplit ! $ drop ! $ fjoin ! $ move ! (0 ∷ 2 ∷ []) $
-        use2 W (later (any (λ (δ : GName). ‵ (O.MutSlice erased (ν ∷ []) u8 .own (ref δ ys)) ⊛ ‵ (keptF u8 κ q (ν ∷ []) γ δ ys b o)))) (sl-relend 𝓤 H A W u8 κ q (ν ∷ []) b o γ ys) $ await ! tt $ pick ! (λ δ. split ! $
+        use2 W (later (any (λ (δ : GName). ‵ (O.MutSlice erased (ν ∷ []) u8 .own (ref δ ys)) ⊛ ‵ (keptF u8 κ q (ν ∷ []) γ δ ys b o)))) (sl-relend 𝓤 H A W u8 κ q (ν ∷ []) b o γ ys) $
+        await ! tt $ pick ! (λ δ. split ! $
         fsplit ! $ feqI ! (List Val) (v ∷ []) (v ∷ []) refl $ fjoin ! $ fjoin ! $ move ! (2 ∷ 0 ∷ []) $ use2 W (raw (Save 𝓤 H A mem′ run .pre (to-save c ν δ))) (goes-save c g ν δ) $
         calls-at ! fm (Save 𝓤 H A mem′ run) known (to-save c ν δ) (os _ _) (λ u.
-        use1 W (later (any (λ (y : Unit {0}). ((‵ (flft (ν ∷ []) fullShare) ⊛ ‵ ftrue) ⊛ ‵ (Nothing .own y (u ∷ []))) ⊛ raw (ensured 𝓤 H A save.ended (save.clauses 𝓤 H A mem′ run) (ν ∷ [], tt) (ref δ ys, (c, tt)) tt y)))) (id⊢ 𝓤 _) $ await ! tt $ pick ! (λ y.
-        split ! $ move ! (1 ∷ []) $ use1 W (any (λ (zs : List ℕ × (Unit {0} × Unit {0})). ‵ (lasts save.ended (ν ∷ [], tt) (ref δ ys, (c, tt)) zs) ⊛ raw (fact 𝓤 (Saves ys (zs .0) c)))) (id⊢ 𝓤 _) $ pick ! (λ zs.
+        use1 W (later (any (λ (y : Unit {0}). ((‵ (flft (ν ∷ []) fullShare) ⊛ ‵ ftrue) ⊛ ‵ (Nothing .own y (u ∷ []))) ⊛
+        raw (ensured 𝓤 H A save.ended (save.clauses 𝓤 H A mem′ run) (ν ∷ [], tt) (ref δ ys, (c, tt)) tt y)))) (id⊢ 𝓤 _) $ await ! tt $ pick ! (λ y.
+        split ! $ move ! (1 ∷ []) $ use1 W (any (λ (zs : List ℕ × (Unit {0} × Unit {0})). ‵ (lasts save.ended (ν ∷ [], tt) (ref δ ys, (c, tt)) zs) ⊛ raw (fact 𝓤 (Saves ys (zs .0) c)))) (id⊢ 𝓤 _) $
+        pick ! (λ zs.
         split ! $ move ! (1 ∷ []) $ heard ! (Saves ys (zs .0) c) (λ e. fsplit ! $ fsplit ! $ move ! (1 ∷ []) $ feqL ! (λ l.
         -- [the last list; …; the token, and the result; what the lender keeps; …]
         move ! (2 ∷ []) $ split ! $ move ! (1 ∷ []) $ peeks ! Nothing (IsOf Nothing) (shows 𝓤 H A Nothing) y (u ∷ []) (λ is. drop ! $ split ! $ lft-end ! tt $ move ! (0 ∷ 4 ∷ 2 ∷ []) $
-        use3 W (later (given (length (zs .0) ≡ length ys) (‵ (O.MutSlice erased κ u8 .own (ref γ (zs .0))) ⊛ ‵ (flft κ q)))) (sl-relent-backˡ 𝓤 H A W u8 κ q (ν ∷ []) b o γ δ ys (zs .0)) $ await ! tt $ learn ! (λ n. split ! $
+        use3 W (later (given (length (zs .0) ≡ length ys) (‵ (O.MutSlice erased κ u8 .own (ref γ (zs .0))) ⊛ ‵ (flft κ q)))) (sl-relent-backˡ 𝓤 H A W u8 κ q (ν ∷ []) b o γ δ ys (zs .0)) $
+        await ! tt $ learn ! (λ n. split ! $
         fsplit ! $ feqI ! (List Val) (v ∷ []) (sliceVal (b, o) (length (zs .0)) ∷ []) (ap (λ (m : ℕ). sliceVal (b, o) m ∷ []) (sym n)) $ fjoin ! $ fjoin ! $
         move ! (2 ∷ []) $ drop ! $ move ! (2 ∷ []) $ drop ! $ regoal ! (λ (w : Val). lands C Λ E d w rest Q) (ap only is) refl $ k (zs .0) n e)))))))))

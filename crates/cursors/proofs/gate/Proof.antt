@@ -18,7 +18,8 @@ use prog.Wp.{Heap, Env, Calls, Loops, WpFn, Tables}
 use ghost.Atoms.{Atoms, sem}
 use contract.Monad.{Fun, fact}
 use contract.Running.{givenOf, tables, tablesOf}
-use types.Kit.{Given, Item as Row, ‵, raw, _⊛_, ⋆, some as any, later, runs, lands, atRet, Sq, _$_, _∵_, !, qed, by, move, keep, drop, use1, use2, split, join, pick, rewrite, fsplit, fjoin, suffices, frame, await, done}
+use types.Kit.{Given, Item as Row, ‵, raw, _⊛_, ⋆, some as any, later, runs, lands, atRet, Sq, _$_, _∵_, !, qed, by, move}
+use types.Kit.{keep, drop, use1, use2, split, join, pick, rewrite, fsplit, fjoin, suffices, frame, await, done}
 use types.Part.{whole, sub, look-in, agg}
 use types.Run.{look, init, forget, stop, hop, fld, from, load, of-opd, addr, and-then, no-more, assigns, land, returns, enter, alloc1, alloc0, params1, pass1, pass0, free1, free0}
 use sound.WpLaws.{FmC, fmOf, WpFn-mono}
@@ -88,7 +89,8 @@ module _ {M : Type 1} (𝓤 : URA M) (H : Heap 𝓤) (A : Atoms 𝓤) (mem : Mem
   abbrev Poll : Contract 𝓤
   Poll = tripleOf 𝓤 H A poll.signature (poll.spec 𝓤 H A mem run)
 
-module _ {M : Type 1} (𝓤 : URA M) (H : Heap 𝓤) (A : Atoms 𝓤) (W : Given 𝓤 H A) (mem : Memory → SProp 𝓤) (run : Routine → Fun 𝓤) (κ : Lft) (q : Share) (b o : ℕ) (γ : GName) (ys : List ℕ) (n : ℕ) (room : Room u8 (length ys)) (n-fits : n < 2 ^ 64) (long : 8 * headSize ≤ length ys) (early : n ≤ latestClock) where
+module _ {M : Type 1} (𝓤 : URA M) (H : Heap 𝓤) (A : Atoms 𝓤) (W : Given 𝓤 H A) (mem : Memory → SProp 𝓤) (run : Routine → Fun 𝓤) (κ : Lft) (q : Share) (b o : ℕ) (γ : GName) (ys : List ℕ) (n : ℕ)
+    (room : Room u8 (length ys)) (n-fits : n < 2 ^ 64) (long : 8 * headSize ≤ length ys) (early : n ≤ latestClock) where
   abbrev v : Val
   v = bytes-val b o ys
 
@@ -111,7 +113,8 @@ module _ {M : Type 1} (𝓤 : URA M) (H : Heap 𝓤) (A : Atoms 𝓤) (W : Given
   abbrev to-poll : Cursors → ℕ → ℕ → GName → Poll 𝓤 H A mem run .Ghost
   to-poll c l ν δ = (((ν ∷ [], tt), (fullShare, tt), tt, polled c l δ, (vptr l 0 ∷ [], (vint w64 n ∷ [], tt))), tt)
 
-  goes-poll : (c : Cursors) (l ν : ℕ) (δ : GName) → ent 𝓤 (sep 𝓤 (A .lft (ν ∷ []) fullShare) (sem 𝓤 H A (MutRef (named 0) (ν ∷ []) T.the-row .own (at-local l δ c) (vptr l 0 ∷ [])))) (Poll 𝓤 H A mem run .pre (to-poll c l ν δ))
+  goes-poll : (c : Cursors) (l ν : ℕ) (δ : GName) → ent 𝓤 (sep 𝓤 (A .lft (ν ∷ []) fullShare) (sem 𝓤 H A (MutRef (named 0) (ν ∷ []) T.the-row .own (at-local l δ c) (vptr l 0 ∷ []))))
+      (Poll 𝓤 H A mem run .pre (to-poll c l ν δ))
   goes-poll c l ν δ =
       qed W (‵ (flft (ν ∷ []) fullShare) ∷ ‵ (MutRef (named 0) (ν ∷ []) T.the-row .own (at-local l δ c) (vptr l 0 ∷ [])) ∷ []) ∵ says ! early $ nothing ! $ move ! (1 ∷ 0 ∷ []) $ join ! $ frame ! $
       nothing ! $ owned ! u64 (IsOf u64) (uint-makes 𝓤 H A W w64) n _ (refl, n-fits) $ fjoin ! $ move ! (1 ∷ 0 ∷ []) $ fjoin ! $ done !
@@ -125,19 +128,23 @@ module _ {M : Type 1} (𝓤 : URA M) (H : Heap 𝓤) (A : Atoms 𝓤) (W : Given
       qed W (‵ (Own zs) ∷ ‵ (flft κ q) ∷ []) ∵
       suffices ! _ (ends-at 𝓤 H A self.ended stayed (self.clauses 𝓤 H A mem run) W (((κ, tt), (q, tt), tt, x, at), tt) (vbool t) t (zs, (tt, tt)) (l, (tt, tt))) $ says ! e $
       nothing ! $ move ! (2 ∷ 0 ∷ []) $ join ! $ frame ! $
-      nothing ! $ owned ! u64 (IsOf u64) (uint-makes 𝓤 H A W w64) n _ (refl, n-fits) $ fjoin ! $ move ! (1 ∷ 0 ∷ []) $ fjoin ! $ owned ! Boolean (IsOf Boolean) (bool-makes 𝓤 H A W) t (vbool t ∷ []) refl $ move ! (1 ∷ 0 ∷ []) $ done !
+      nothing ! $ owned ! u64 (IsOf u64) (uint-makes 𝓤 H A W w64) n _ (refl, n-fits) $ fjoin ! $ move ! (1 ∷ 0 ∷ []) $ fjoin ! $
+      owned ! Boolean (IsOf Boolean) (bool-makes 𝓤 H A W) t (vbool t ∷ []) refl $ move ! (1 ∷ 0 ∷ []) $ done !
 
-  module _ (C : Calls 𝓤 H) (Λ : Loops 𝓤 H) (fm : FmC 𝓤 H (W .laws) C) (known-load : Triple 𝓤 (C #cursors·load) (Load 𝓤 H A mem run)) (known-poll : Triple 𝓤 (C #cursors·poll-gate) (Poll 𝓤 H A mem run)) (known-save : Triple 𝓤 (C #cursors·save) (Save 𝓤 H A mem run)) where
+  module _ (C : Calls 𝓤 H) (Λ : Loops 𝓤 H) (fm : FmC 𝓤 H (W .laws) C) (known-load : Triple 𝓤 (C #cursors·load) (Load 𝓤 H A mem run))
+      (known-poll : Triple 𝓤 (C #cursors·poll-gate) (Poll 𝓤 H A mem run)) (known-save : Triple 𝓤 (C #cursors·save) (Save 𝓤 H A mem run)) where
     module _ (l₀ l₁ l₂ l₃ l₄ l₅ l₆ l₇ l₈ l₉ m₀ m₁ : ℕ) where
       abbrev En : Env 𝓤 H
-      En = (tyBool, l₀) ∷ (slice, l₁) ∷ (word, l₂) ∷ (T′.mir, l₃) ∷ (tyBool, l₄) ∷ (T′.mir, l₅) ∷ (shared, l₆) ∷ (sliceTy shared, l₇) ∷ (record-ref, l₈) ∷ (tyUnit, l₉) ∷ (pointer, m₀) ∷ (sliceTy pointer, m₁) ∷ []
+      En = (tyBool, l₀) ∷ (slice, l₁) ∷ (word, l₂) ∷ (T′.mir, l₃) ∷ (tyBool, l₄) ∷ (T′.mir, l₅) ∷ (shared, l₆) ∷ (sliceTy shared, l₇) ∷ (record-ref, l₈) ∷ (tyUnit, l₉) ∷ (pointer, m₀) ∷
+          (sliceTy pointer, m₁) ∷ []
 
       -- the locals _2, _1 and _0; those above _8 while they are room; _7 and _6 once `load` is called
       abbrev Lower : List (Row 𝓤)
       Lower = ‵ (fat fullShare word l₂ 0 (vint w64 n)) ∷ ‵ (fdies word l₂) ∷ ‵ (fat fullShare slice l₁ 0 v) ∷ ‵ (fdies slice l₁) ∷ ‵ (froom tyBool l₀ 0) ∷ ‵ (fdies tyBool l₀) ∷ []
 
       abbrev Upper : List (Row 𝓤) → List (Row 𝓤)
-      Upper Γ = ‵ (Own ys) ∷ ‵ (flft κ q) ∷ ‵ (froom (sliceTy pointer) m₁ 0) ∷ ‵ (fdies (sliceTy pointer) m₁) ∷ ‵ (froom pointer m₀ 0) ∷ ‵ (fdies pointer m₀) ∷ ‵ (froom tyUnit l₉ 0) ∷ ‵ (fdies tyUnit l₉) ∷ Γ
+      Upper Γ = ‵ (Own ys) ∷ ‵ (flft κ q) ∷ ‵ (froom (sliceTy pointer) m₁ 0) ∷ ‵ (fdies (sliceTy pointer) m₁) ∷ ‵ (froom pointer m₀ 0) ∷ ‵ (fdies pointer m₀) ∷ ‵ (froom tyUnit l₉ 0) ∷
+          ‵ (fdies tyUnit l₉) ∷ Γ
 
       abbrev Lent : List (Row 𝓤) → List (Row 𝓤)
       Lent Γ = ‵ (fat fullShare (sliceTy shared) l₇ 0 v) ∷ ‵ (fdies (sliceTy shared) l₇) ∷ ‵ (fat fullShare shared l₆ 0 (vptr b o)) ∷ ‵ (fdies shared l₆) ∷ Γ
@@ -148,29 +155,38 @@ module _ {M : Type 1} (𝓤 : URA M) (H : Heap 𝓤) (A : Atoms 𝓤) (W : Given
 
       -- once the record is read
       abbrev Loaded : Cursors → List (Row 𝓤)
-      Loaded c = Upper (‵ (froom record-ref l₈ 0) ∷ ‵ (fdies record-ref l₈) ∷ Lent (‵ (fat fullShare T′.mir l₅ 0 (cursors-val c)) ∷ ‵ (fdies T′.mir l₅) ∷ ‵ (froom tyBool l₄ 0) ∷ ‵ (fdies tyBool l₄) ∷ ‵ (fat fullShare T′.mir l₃ 0 (cursors-val c)) ∷ ‵ (fdies T′.mir l₃) ∷ Lower))
+      Loaded c = Upper (‵ (froom record-ref l₈ 0) ∷ ‵ (fdies record-ref l₈) ∷ Lent (‵ (fat fullShare T′.mir l₅ 0 (cursors-val c)) ∷ ‵ (fdies T′.mir l₅) ∷ ‵ (froom tyBool l₄ 0) ∷
+          ‵ (fdies tyBool l₄) ∷ ‵ (fat fullShare T′.mir l₃ 0 (cursors-val c)) ∷ ‵ (fdies T′.mir l₃) ∷ Lower))
 
       -- once `poll_gate` has changed it from c to c′, and once it is given to `save`
       abbrev Polled : Cursors → Cursors → Bool → List (Row 𝓤)
-      Polled c c′ t = ‵ (fat fullShare record-ref l₈ 0 (vptr l₃ 0)) ∷ ‵ (fdies record-ref l₈) ∷ Lent (‵ (fat fullShare T′.mir l₅ 0 (cursors-val c)) ∷ ‵ (fdies T′.mir l₅) ∷ ‵ (fat fullShare tyBool l₄ 0 (vbool t)) ∷ ‵ (fdies tyBool l₄) ∷ ‵ (fat fullShare T′.mir l₃ 0 (cursors-val c′)) ∷ ‵ (fdies T′.mir l₃) ∷ Lower)
+      Polled c c′ t = ‵ (fat fullShare record-ref l₈ 0 (vptr l₃ 0)) ∷ ‵ (fdies record-ref l₈) ∷ Lent (‵ (fat fullShare T′.mir l₅ 0 (cursors-val c)) ∷ ‵ (fdies T′.mir l₅) ∷
+          ‵ (fat fullShare tyBool l₄ 0 (vbool t)) ∷ ‵ (fdies tyBool l₄) ∷ ‵ (fat fullShare T′.mir l₃ 0 (cursors-val c′)) ∷ ‵ (fdies T′.mir l₃) ∷ Lower)
 
       abbrev Given-on : Cursors → Bool → List (Row 𝓤)
-      Given-on c t = ‵ (fat fullShare (sliceTy pointer) m₁ 0 v) ∷ ‵ (fdies (sliceTy pointer) m₁) ∷ ‵ (fat fullShare pointer m₀ 0 (vptr b o)) ∷ ‵ (fdies pointer m₀) ∷ ‵ (froom tyUnit l₉ 0) ∷ ‵ (fdies tyUnit l₉) ∷ Polled c c t
+      Given-on c t = ‵ (fat fullShare (sliceTy pointer) m₁ 0 v) ∷ ‵ (fdies (sliceTy pointer) m₁) ∷ ‵ (fat fullShare pointer m₀ 0 (vptr b o)) ∷ ‵ (fdies pointer m₀) ∷ ‵ (froom tyUnit l₉ 0) ∷
+          ‵ (fdies tyUnit l₉) ∷ Polled c c t
 
-      ends : (c : Cursors) (zs : List ℕ) (t : Bool) → length zs ≡ length ys → Gated ys zs n t → Sq W (‵ (Own zs) ∷ ‵ (flft κ q) ∷ Given-on c t) (lands C Λ En (place 9 []) vunit parts.t-11 (atRet En Post))
+      ends : (c : Cursors) (zs : List ℕ) (t : Bool) → length zs ≡ length ys → Gated ys zs n t
+          → Sq W (‵ (Own zs) ∷ ‵ (flft κ q) ∷ Given-on c t) (lands C Λ En (place 9 []) vunit parts.t-11 (atRet En Post))
       ends c zs t l e =
           land ! (from ! (stop !)) (init ! 6 refl (tt, tt)) $ assigns ! (of-opd ! (load ! (from ! (stop !)) (look ! 16 refl))) (from ! (stop !)) (init ! 24 refl (tt, tt)) $
-          returns ! (look ! 24 refl) $ forget ! 24 refl $ forget ! 22 refl $ forget ! 20 refl $ forget ! 18 refl $ forget ! 16 refl $ forget ! 14 refl $ forget ! 12 refl $ forget ! 10 refl $ forget ! 8 refl $ forget ! 6 refl $ forget ! 4 refl $ forget ! 2 refl $
-          move ! (24 ∷ 25 ∷ []) $ free1 ! $ move ! (22 ∷ 23 ∷ []) $ free1 ! $ move ! (20 ∷ 21 ∷ []) $ free1 ! $ move ! (18 ∷ 19 ∷ []) $ free1 ! $ move ! (16 ∷ 17 ∷ []) $ free1 ! $ move ! (14 ∷ 15 ∷ []) $ free1 ! $ move ! (12 ∷ 13 ∷ []) $ free1 ! $ move ! (10 ∷ 11 ∷ []) $ free1 ! $ move ! (8 ∷ 9 ∷ []) $ free1 ! $ move ! (6 ∷ 7 ∷ []) $ free1 ! $ move ! (4 ∷ 5 ∷ []) $ free1 ! $ move ! (2 ∷ 3 ∷ []) $ free1 ! $ free0 ! $
+          returns ! (look ! 24 refl) $ forget ! 24 refl $ forget ! 22 refl $ forget ! 20 refl $ forget ! 18 refl $ forget ! 16 refl $ forget ! 14 refl $ forget ! 12 refl $ forget ! 10 refl $
+          forget ! 8 refl $ forget ! 6 refl $ forget ! 4 refl $ forget ! 2 refl $
+          move ! (24 ∷ 25 ∷ []) $ free1 ! $ move ! (22 ∷ 23 ∷ []) $ free1 ! $ move ! (20 ∷ 21 ∷ []) $ free1 ! $ move ! (18 ∷ 19 ∷ []) $ free1 ! $ move ! (16 ∷ 17 ∷ []) $ free1 ! $
+          move ! (14 ∷ 15 ∷ []) $ free1 ! $ move ! (12 ∷ 13 ∷ []) $ free1 ! $ move ! (10 ∷ 11 ∷ []) $ free1 ! $ move ! (8 ∷ 9 ∷ []) $ free1 ! $ move ! (6 ∷ 7 ∷ []) $ free1 ! $
+          move ! (4 ∷ 5 ∷ []) $ free1 ! $ move ! (2 ∷ 3 ∷ []) $ free1 ! $ free0 ! $
           by ! (exits zs t l e)
 
       stores : (c c′ : Cursors) (t : Bool) → IsOf T.the-row c′ (cursors-val c′ ∷ []) → Loads ys c → Polls c c′ t → Sq W (Upper (Polled c c′ t)) (runs C Λ En parts.t-7 (atRet En Post))
       stores c c′ t g e p =
           assigns ! (addr ! (from ! (fld ! refl (hop ! (look-in ! 22 (sub ! 0 refl (whole !))) (stop !))))) (from ! (stop !)) (init ! 4 refl (tt, tt)) $
-          assigns ! (agg ! (and-then ! (load ! (from ! (stop !)) (look ! 4 refl)) (and-then ! (load ! (from ! (fld ! refl (stop !))) (look-in ! 22 (sub ! 1 refl (whole !)))) (no-more !)))) (from ! (stop !)) (init ! 2 refl (tt, (tt, (record { fits = room .0 }, tt)))) $
+          assigns ! (agg ! (and-then ! (load ! (from ! (stop !)) (look ! 4 refl)) (and-then ! (load ! (from ! (fld ! refl (stop !))) (look-in ! 22 (sub ! 1 refl (whole !)))) (no-more !))))
+          (from ! (stop !)) (init ! 2 refl (tt, (tt, (record { fits = room .0 }, tt)))) $
           forget ! 14 refl $ assigns ! (of-opd ! (load ! (from ! (stop !)) (look ! 18 refl))) (from ! (stop !)) (init ! 14 refl (LL.lawful T.the-type T′.the-laws 𝓤 H A W .typed c′ _ g .0)) $
           keep ! (0 ∷ 1 ∷ 2 ∷ 3 ∷ 4 ∷ 5 ∷ 6 ∷ 7 ∷ 8 ∷ 9 ∷ 10 ∷ 11 ∷ 12 ∷ 13 ∷ 14 ∷ 15 ∷ 16 ∷ 17 ∷ 18 ∷ 19 ∷ 20 ∷ 21 ∷ 22 ∷ 23 ∷ 24 ∷ 25 ∷ []) $
-          saves-lent 𝓤 H A W mem run κ q b o γ ys long C Λ fm {Γ = Given-on c′ t} known-save c′ g (λ i j. and-then ! (load ! (from ! (stop !)) (look ! 2 refl)) (and-then ! (load ! (from ! (stop !)) (look ! 14 refl)) (no-more !)))
+          saves-lent 𝓤 H A W mem run κ q b o γ ys long C Λ fm {Γ = Given-on c′ t} known-save c′ g
+          (λ i j. and-then ! (load ! (from ! (stop !)) (look ! 2 refl)) (and-then ! (load ! (from ! (stop !)) (look ! 14 refl)) (no-more !)))
           (λ zs l s. ends c′ zs t l (λ st w. gated c c′ e s st w n t (p .0) (p .1)))
 
       polls : (c : Cursors) → IsOf T.the-row c (cursors-val c ∷ []) → Loads ys c → Sq W (Loaded c) (runs C Λ En parts.t-5 (atRet En Post))
@@ -178,9 +194,12 @@ module _ {M : Type 1} (𝓤 : URA M) (H : Heap 𝓤) (A : Atoms 𝓤) (W : Given
           assigns ! (addr ! (from ! (stop !))) (from ! (stop !)) (init ! 8 refl (tt, tt)) $ move ! (18 ∷ []) $ lends-record 𝓤 H A W tt l₃ c g (λ ν δ.
           use2 W (raw (Poll 𝓤 H A mem run .pre (to-poll c l₃ ν δ))) (goes-poll c l₃ ν δ) $
           -- [what `poll_gate` asks; what the lender keeps; what the slice owns; the token; the locals]
-          calls-at ! fm (Poll 𝓤 H A mem run) known-poll (to-poll c l₃ ν δ) (and-then ! (load ! (from ! (stop !)) (look ! 10 refl)) (and-then ! (load ! (from ! (stop !)) (look ! 21 refl)) (no-more !))) (λ u.
-          use1 W (later (any (λ (t : Bool). ((‵ (flft (ν ∷ []) fullShare) ⊛ ‵ ftrue) ⊛ ‵ (Boolean .own t (u ∷ []))) ⊛ raw (ensured 𝓤 H A poll.ended (poll.clauses 𝓤 H A mem run) (ν ∷ [], tt) (polled c l₃ δ) tt t)))) (id⊢ 𝓤 _) $ await ! tt $ pick ! (λ t.
-          split ! $ move ! (1 ∷ []) $ use1 W (any (λ (cs : Cursors × (Unit {0} × Unit {0})). ‵ (lasts poll.ended (ν ∷ [], tt) (polled c l₃ δ) cs) ⊛ raw (fact 𝓤 (Polls c (cs .0) t)))) (id⊢ 𝓤 _) $ pick ! (λ cs.
+          calls-at ! fm (Poll 𝓤 H A mem run) known-poll (to-poll c l₃ ν δ)
+          (and-then ! (load ! (from ! (stop !)) (look ! 10 refl)) (and-then ! (load ! (from ! (stop !)) (look ! 21 refl)) (no-more !))) (λ u.
+          use1 W (later (any (λ (t : Bool). ((‵ (flft (ν ∷ []) fullShare) ⊛ ‵ ftrue) ⊛ ‵ (Boolean .own t (u ∷ []))) ⊛
+          raw (ensured 𝓤 H A poll.ended (poll.clauses 𝓤 H A mem run) (ν ∷ [], tt) (polled c l₃ δ) tt t)))) (id⊢ 𝓤 _) $ await ! tt $ pick ! (λ t.
+          split ! $ move ! (1 ∷ []) $ use1 W (any (λ (cs : Cursors × (Unit {0} × Unit {0})). ‵ (lasts poll.ended (ν ∷ [], tt) (polled c l₃ δ) cs) ⊛ raw (fact 𝓤 (Polls c (cs .0) t)))) (id⊢ 𝓤 _) $
+          pick ! (λ cs.
           split ! $ move ! (1 ∷ []) $ heard ! (Polls c (cs .0) t) (λ p. fsplit ! $
           -- [the last record; …; the token, and the result; what the lender keeps; …]
           move ! (2 ∷ []) $ split ! $ move ! (1 ∷ []) $ peeks ! Boolean (IsOf Boolean) (shows 𝓤 H A Boolean) t (u ∷ []) (λ is. drop ! $ split ! $ move ! (0 ∷ 4 ∷ 2 ∷ []) $
@@ -191,7 +210,8 @@ module _ {M : Type 1} (𝓤 : URA M) (H : Heap 𝓤) (A : Atoms 𝓤) (W : Given
       loads : Sq W Has (runs C Λ En parts.t-1 (atRet En Post))
       loads =
           assigns ! (addr ! (from ! (fld ! refl (hop ! (look-in ! 22 (sub ! 0 refl (whole !))) (stop !))))) (from ! (stop !)) (init ! 12 refl (tt, tt)) $
-          assigns ! (agg ! (and-then ! (load ! (from ! (stop !)) (look ! 12 refl)) (and-then ! (load ! (from ! (fld ! refl (stop !))) (look-in ! 22 (sub ! 1 refl (whole !)))) (no-more !)))) (from ! (stop !)) (init ! 10 refl (tt, (tt, (record { fits = room .0 }, tt)))) $
+          assigns ! (agg ! (and-then ! (load ! (from ! (stop !)) (look ! 12 refl)) (and-then ! (load ! (from ! (fld ! refl (stop !))) (look-in ! 22 (sub ! 1 refl (whole !)))) (no-more !))))
+          (from ! (stop !)) (init ! 10 refl (tt, (tt, (record { fits = room .0 }, tt)))) $
           loads-lent 𝓤 H A W mem run κ q b o γ ys long C Λ fm known-load (λ i j. and-then ! (load ! (from ! (stop !)) (look ! 10 refl)) (no-more !)) (λ c g e.
           land ! (from ! (stop !)) (init ! 14 refl (LL.lawful T.the-type T′.the-laws 𝓤 H A W .typed c _ g .0)) $
           assigns ! (of-opd ! (load ! (from ! (stop !)) (look ! 14 refl))) (from ! (stop !)) (init ! 18 refl (LL.lawful T.the-type T′.the-laws 𝓤 H A W .typed c _ g .0)) $
@@ -200,19 +220,23 @@ module _ {M : Type 1} (𝓤 : URA M) (H : Heap 𝓤) (A : Atoms 𝓤) (W : Given
     walk : ent 𝓤 (onEntry 𝓤 H A self.signature (κ, tt) (q, tt) x at) (WpFn 𝓤 H C Λ code.function (v ∷ vint w64 n ∷ []) Post)
     walk =
         qed W ((‵ (flft κ q) ⊛ ‵ ftrue) ∷ ‵ (owns (MutSlice (named 0) κ u8 ∷ u64 ∷ []) x at) ∷ []) ∵ enter ! C Λ code.function (v ∷ vint w64 n ∷ []) _ $
-        alloc1 ! (λ l₀. alloc1 ! (λ l₁. alloc1 ! (λ l₂. alloc1 ! (λ l₃. alloc1 ! (λ l₄. alloc1 ! (λ l₅. alloc1 ! (λ l₆. alloc1 ! (λ l₇. alloc1 ! (λ l₈. alloc1 ! (λ l₉. alloc1 ! (λ m₀. alloc1 ! (λ m₁. alloc0 ! $ params1 ! $
+        alloc1 ! (λ l₀. alloc1 ! (λ l₁.
+        alloc1 ! (λ l₂. alloc1 ! (λ l₃. alloc1 ! (λ l₄. alloc1 ! (λ l₅. alloc1 ! (λ l₆. alloc1 ! (λ l₇. alloc1 ! (λ l₈. alloc1 ! (λ l₉. alloc1 ! (λ m₀. alloc1 ! (λ m₁. alloc0 ! $ params1 ! $
         pass1 ! (init ! 20 refl (tt, (tt, (record { fits = room .0 }, tt)))) $ pass1 ! (init ! 18 refl (tt, record { fits = n-fits })) $ pass0 ! $
         move ! (25 ∷ []) $ fsplit ! $ move ! (26 ∷ []) $ split ! $ move ! (2 ∷ 0 ∷ []) $ move ! (3 ∷ []) $ drop ! $ move ! (2 ∷ []) $ drop ! $
         keep ! (0 ∷ 1 ∷ 2 ∷ 3 ∷ 4 ∷ 5 ∷ 6 ∷ 7 ∷ 8 ∷ 9 ∷ 10 ∷ 11 ∷ 12 ∷ 13 ∷ 14 ∷ 15 ∷ 16 ∷ 17 ∷ 18 ∷ 19 ∷ 20 ∷ 21 ∷ 22 ∷ 23 ∷ 24 ∷ 25 ∷ []) $ loads l₀ l₁ l₂ l₃ l₄ l₅ l₆ l₇ l₈ l₉ m₀ m₁))))))))))))
 
 module _ {M : Type 1} (𝓤 : URA M) (H : Heap 𝓤) (A : Atoms 𝓤) (W : Given 𝓤 H A) (mem : Memory → SProp 𝓤) (run : Routine → Fun 𝓤) where
-  self-walks : (C : Calls 𝓤 H) (Λ : Loops 𝓤 H) → FmC 𝓤 H (W .laws) C → Triple 𝓤 (C #cursors·load) (Load 𝓤 H A mem run) → Triple 𝓤 (C #cursors·poll-gate) (Poll 𝓤 H A mem run) → Triple 𝓤 (C #cursors·save) (Save 𝓤 H A mem run)
+  self-walks : (C : Calls 𝓤 H) (Λ : Loops 𝓤 H) → FmC 𝓤 H (W .laws) C → Triple 𝓤 (C #cursors·load) (Load 𝓤 H A mem run) → Triple 𝓤 (C #cursors·poll-gate) (Poll 𝓤 H A mem run)
+      → Triple 𝓤 (C #cursors·save) (Save 𝓤 H A mem run)
       → Walks 𝓤 H A self.ended stayed (WpFn 𝓤 H C Λ code.function) (self.clauses 𝓤 H A mem run)
-  self-walks C Λ fm known-load known-poll known-save = walked 𝓤 H A self.ended stayed (self.clauses 𝓤 H A mem run) (WpFn 𝓤 H C Λ code.function) (λ κs. (slice-vals, (uint-vals w64, tt))) (λ κs. (mut-slice-tells (named 0) (κs .0) u8, (uint-tells w64, tt)))
+  self-walks C Λ fm known-load known-poll known-save = walked 𝓤 H A self.ended stayed (self.clauses 𝓤 H A mem run) (WpFn 𝓤 H C Λ code.function) (λ κs. (slice-vals, (uint-vals w64, tt)))
+      (λ κs. (mut-slice-tells (named 0) (κs .0) u8, (uint-tells w64, tt)))
       (λ κs qs bounds a g are. needs 𝓤 ((8 * headSize ≤ length (a .0 .now)) × (a .1 .0 ≤ latestClock)) _
       (λ p. walk 𝓤 H A W mem run (κs .0) (qs .0) (a .0 .ptr .0) (a .0 .ptr .1) (a .0 .name) (a .0 .now) (a .1 .0) (are .0 .0 .1) (are .1 .0 .1) (p .0) (p .1) C Λ fm known-load known-poll known-save))
 
-self-meets : {M : Type 1} (𝓤 : URA M) (H : Heap 𝓤) (A : Atoms 𝓤) (W : Given 𝓤 H A) (mem : Memory → SProp 𝓤) (run : Routine → Fun 𝓤) (𝓣 : Tables 𝓤 H) → Triple 𝓤 (𝓣 .C #cursors·load) (Load 𝓤 H A mem run) → Triple 𝓤 (𝓣 .C #cursors·poll-gate) (Poll 𝓤 H A mem run) → Triple 𝓤 (𝓣 .C #cursors·save) (Save 𝓤 H A mem run)
+self-meets : {M : Type 1} (𝓤 : URA M) (H : Heap 𝓤) (A : Atoms 𝓤) (W : Given 𝓤 H A) (mem : Memory → SProp 𝓤) (run : Routine → Fun 𝓤) (𝓣 : Tables 𝓤 H)
+    → Triple 𝓤 (𝓣 .C #cursors·load) (Load 𝓤 H A mem run) → Triple 𝓤 (𝓣 .C #cursors·poll-gate) (Poll 𝓤 H A mem run) → Triple 𝓤 (𝓣 .C #cursors·save) (Save 𝓤 H A mem run)
     → Meets 𝓤 H A self.signature (WpFn 𝓤 H (𝓣 .C) (𝓣 .Λ) code.function) (self.spec 𝓤 H A mem run)
 self-meets 𝓤 H A W mem run 𝓣 known-load known-poll known-save =
     walk-meets 𝓤 H A self.ended stayed W (goes-slice 𝓤 H A W 1 0 tt (plain (λ _. u8)), (goes-none 𝓤 H A W 1 (λ _. u64) yes (λ κs x f. refl), tt)) (self.clauses 𝓤 H A mem run)

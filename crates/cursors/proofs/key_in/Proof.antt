@@ -17,8 +17,10 @@ use prog.Wp.{Heap, Env, Calls, Loops, WpFn, Tables}
 use ghost.Atoms.{Atoms, sem}
 use contract.Monad.{Fun, fact}
 use contract.Running.{givenOf, tables, tablesOf}
-use types.Kit.{Given, Item as Row, ‵, raw, _⊛_, some as any, later, runs, atRet, Sq, _$_, _∵_, !, qed, by, move, keep, drop, use0, use1, split, join, pick, rewrite, fjoin, suffices, frame, await, done}
-use types.Run.{look, init, forget, stop, fld, from, load, lit, of-opd, bin, and-then, no-more, assigns, land, first, skips, branches, returns, returns-within, enter, exec, alloc1, alloc0, params1, pass1, pass0, free1, free0}
+use types.Kit.{Given, Item as Row, ‵, raw, _⊛_, some as any, later, runs, atRet, Sq, _$_, _∵_, !, qed, by, move}
+use types.Kit.{keep, drop, use0, use1, split, join, pick, rewrite, fjoin, suffices, frame, await, done}
+use types.Run.{look, init, forget, stop, fld, from, load, lit, of-opd, bin, and-then, no-more, assigns, land, first, skips}
+use types.Run.{branches, returns, returns-within, enter, exec, alloc1, alloc0, params1, pass1, pass0, free1, free0}
 use types.Part.{whole, sub, look-in, agg}
 use sound.WpLaws.{FmC, fmOf, WpFn-mono}
 use denote.RattleType.{owns}
@@ -101,7 +103,8 @@ module _ {M : Type 1} (𝓤 : URA M) (H : Heap 𝓤) (A : Atoms 𝓤) (W : Given
   exits : (m : MaybeKey) → IsOf R.the-row m (val m ∷ []) → maybeKeyNum m ≡ storedKey c → ent 𝓤 (emp 𝓤) (Post (val m))
   exits m g e =
       qed W [] ∵ suffices ! _ (ends-at 𝓤 H A self.ended stayed (self.clauses 𝓤 H A mem run) W ((tt, tt, tt, (c, tt), (stored-val c ∷ [], tt)), tt) (val m) m (tt, tt) (tt, tt)) $ says ! e $
-      owned ! R.the-row (IsOf R.the-row) (EL.makes R.the-type R′.the-plain 𝓤 H A) m _ g $ nothing ! $ owned ! S.the-row (IsOf S.the-row) (LL.makes S.the-type S′.the-plain 𝓤 H A) c (stored-val c ∷ []) gc $ fjoin ! $ nothing ! $ done !
+      owned ! R.the-row (IsOf R.the-row) (EL.makes R.the-type R′.the-plain 𝓤 H A) m _ g $ nothing ! $ owned ! S.the-row (IsOf S.the-row) (LL.makes S.the-type S′.the-plain 𝓤 H A) c
+      (stored-val c ∷ []) gc $ fjoin ! $ nothing ! $ done !
 
   g-none : IsOf R.the-row None (val None ∷ [])
   g-none = EL.owes R.the-type R′.the-laws None tt
@@ -119,7 +122,8 @@ module _ {M : Type 1} (𝓤 : URA M) (H : Heap 𝓤) (A : Atoms 𝓤) (W : Given
 
       -- what there is at the test and after it: the locals, the last first
       abbrev Locals : List (Row 𝓤)
-      Locals = ‵ (froom Ke′.mir l₄ 0) ∷ ‵ (fdies Ke′.mir l₄) ∷ ‵ (fat fullShare tyBool l₃ 0 (vbool (eqb (c .tag) 0))) ∷ ‵ (fdies tyBool l₃) ∷ ‵ (fat fullShare word l₂ 0 (vint w64 (c .tag))) ∷ ‵ (fdies word l₂)
+      Locals = ‵ (froom Ke′.mir l₄ 0) ∷ ‵ (fdies Ke′.mir l₄) ∷ ‵ (fat fullShare tyBool l₃ 0 (vbool (eqb (c .tag) 0))) ∷ ‵ (fdies tyBool l₃) ∷ ‵ (fat fullShare word l₂ 0 (vint w64 (c .tag))) ∷
+          ‵ (fdies word l₂)
           ∷ ‵ (fat fullShare S′.mir l₁ 0 (stored-val c)) ∷ ‵ (fdies S′.mir l₁) ∷ ‵ (froom R′.mir l₀ 0) ∷ ‵ (fdies R′.mir l₀) ∷ []
 
       -- the code after the test
@@ -127,12 +131,14 @@ module _ {M : Type 1} (𝓤 : URA M) (H : Heap 𝓤) (A : Atoms 𝓤) (W : Given
       makes l =
           use0 W (raw (Callee 𝓤 H A mem run .pre to-callee)) goes $
           calls-at ! fm (Callee 𝓤 H A mem run) known to-callee (and-then ! (load ! (from ! (stop !)) (look ! 7 refl)) (no-more !)) (λ u.
-          use1 W (later (any (λ (k : Key). (‵ ftrue ⊛ ‵ (Ke.the-row .own k (u ∷ []))) ⊛ raw (ensured 𝓤 H A callee.ended (callee.clauses 𝓤 H A mem run) tt (c, tt) tt k)))) (id⊢ 𝓤 _) $ await ! tt $ pick ! (λ k.
+          use1 W (later (any (λ (k : Key). (‵ ftrue ⊛ ‵ (Ke.the-row .own k (u ∷ []))) ⊛ raw (ensured 𝓤 H A callee.ended (callee.clauses 𝓤 H A mem run) tt (c, tt) tt k)))) (id⊢ 𝓤 _) $
+          await ! tt $ pick ! (λ k.
           split ! $ move ! (1 ∷ []) $ use1 W (raw (fact 𝓤 (Told k))) (said k) $ heard ! (Told k) (λ e. split ! $ drop ! $
           peeks ! Ke.the-row (IsOf Ke.the-row) (shows 𝓤 H A Ke.the-row) k (u ∷ []) (λ is. drop ! $
           land ! (from ! (stop !)) (init ! 0 refl (LL.lawful Ke.the-type Ke′.the-laws 𝓤 H A W .typed k _ is .0)) $
           rewrite ! 0 (λ (z : Val). ‵ (fat fullShare Ke′.mir l₄ 0 z)) (ap only (LL.tells Ke.the-type Ke′.the-laws k (u ∷ []) is)) refl $
-          assigns ! (agg ! (and-then ! (lit ! tt) (and-then ! (load ! (from ! (stop !)) (look ! 0 refl)) (no-more !)))) (from ! (stop !)) (init ! 8 refl (EL.lawful R.the-type R′.the-laws 𝓤 H A W tt .typed (Is k) _ (g-is k (told k u is)) .0)) $
+          assigns ! (agg ! (and-then ! (lit ! tt) (and-then ! (load ! (from ! (stop !)) (look ! 0 refl)) (no-more !)))) (from ! (stop !))
+          (init ! 8 refl (EL.lawful R.the-type R′.the-laws 𝓤 H A W tt .typed (Is k) _ (g-is k (told k u is)) .0)) $
           returns ! (look ! 8 refl) $ forget ! 0 refl $ forget ! 2 refl $ forget ! 4 refl $ forget ! 6 refl $ forget ! 8 refl $
           move ! (8 ∷ 9 ∷ []) $ free1 ! $ move ! (6 ∷ 7 ∷ []) $ free1 ! $ move ! (4 ∷ 5 ∷ []) $ free1 ! $ move ! (2 ∷ 3 ∷ []) $ free1 ! $ free1 ! $ free0 ! $
           by ! (exits (Is k) (g-is k (told k u is)) (e l))))))
@@ -149,17 +155,21 @@ module _ {M : Type 1} (𝓤 : URA M) (H : Heap 𝓤) (A : Atoms 𝓤) (W : Given
     walk : ent 𝓤 (onEntry 𝓤 H A self.signature tt tt (c, tt) (stored-val c ∷ [], tt)) (WpFn 𝓤 H C Λ code.function (stored-val c ∷ []) Post)
     walk =
         qed W (‵ ftrue ∷ ‵ (owns (S.the-row ∷ []) (c, tt) (stored-val c ∷ [], tt)) ∷ []) ∵ enter ! C Λ code.function (stored-val c ∷ []) _ $
-        alloc1 ! (λ l₀. alloc1 ! (λ l₁. alloc1 ! (λ l₂. alloc1 ! (λ l₃. alloc1 ! (λ l₄. alloc0 ! $ params1 ! $ pass1 ! (init ! 6 refl (LL.lawful S.the-type S′.the-laws 𝓤 H A W .typed c _ gc .0)) $ pass0 ! $
+        alloc1 ! (λ l₀.
+        alloc1 ! (λ l₁. alloc1 ! (λ l₂. alloc1 ! (λ l₃. alloc1 ! (λ l₄. alloc0 ! $ params1 ! $ pass1 ! (init ! 6 refl (LL.lawful S.the-type S′.the-laws 𝓤 H A W .typed c _ gc .0)) $ pass0 ! $
         assigns ! (of-opd ! (load ! (from ! (fld ! refl (stop !))) (look-in ! 6 (sub ! 0 refl (whole !))))) (from ! (stop !)) (init ! 4 refl (tt, record { fits = tag-fits })) $
         assigns ! (bin ! (load ! (from ! (stop !)) (look ! 4 refl)) (lit ! tt) tt) (from ! (stop !)) (init ! 2 refl (tt, tt)) $
         keep ! (0 ∷ 1 ∷ 2 ∷ 3 ∷ 4 ∷ 5 ∷ 6 ∷ 7 ∷ 8 ∷ 9 ∷ []) $ tests l₀ l₁ l₂ l₃ l₄)))))
 
 module _ {M : Type 1} (𝓤 : URA M) (H : Heap 𝓤) (A : Atoms 𝓤) (W : Given 𝓤 H A) (mem : Memory → SProp 𝓤) (run : Routine → Fun 𝓤) where
-  self-walks : (C : Calls 𝓤 H) (Λ : Loops 𝓤 H) → FmC 𝓤 H (W .laws) C → Triple 𝓤 (C #cursors·stored-key) (Callee 𝓤 H A mem run) → Walks 𝓤 H A self.ended stayed (WpFn 𝓤 H C Λ code.function) (self.clauses 𝓤 H A mem run)
-  self-walks C Λ fm known = walked 𝓤 H A self.ended stayed (self.clauses 𝓤 H A mem run) (WpFn 𝓤 H C Λ code.function) (λ κs. (LL.vals S.the-type S′.the-laws, tt)) (λ κs. (LL.tells S.the-type S′.the-laws, tt))
+  self-walks : (C : Calls 𝓤 H) (Λ : Loops 𝓤 H) → FmC 𝓤 H (W .laws) C → Triple 𝓤 (C #cursors·stored-key) (Callee 𝓤 H A mem run)
+      → Walks 𝓤 H A self.ended stayed (WpFn 𝓤 H C Λ code.function) (self.clauses 𝓤 H A mem run)
+  self-walks C Λ fm known = walked 𝓤 H A self.ended stayed (self.clauses 𝓤 H A mem run) (WpFn 𝓤 H C Λ code.function) (λ κs. (LL.vals S.the-type S′.the-laws, tt))
+      (λ κs. (LL.tells S.the-type S′.the-laws, tt))
       (λ κs qs bounds a g are. via 𝓤 _ (fst∗ 𝓤 _ (emp 𝓤)) (walk 𝓤 H A W mem run (a .0) (are .0) C Λ fm known))
 
-self-meets : {M : Type 1} (𝓤 : URA M) (H : Heap 𝓤) (A : Atoms 𝓤) (W : Given 𝓤 H A) (mem : Memory → SProp 𝓤) (run : Routine → Fun 𝓤) (𝓣 : Tables 𝓤 H) → Triple 𝓤 (𝓣 .C #cursors·stored-key) (Callee 𝓤 H A mem run)
+self-meets : {M : Type 1} (𝓤 : URA M) (H : Heap 𝓤) (A : Atoms 𝓤) (W : Given 𝓤 H A) (mem : Memory → SProp 𝓤) (run : Routine → Fun 𝓤) (𝓣 : Tables 𝓤 H)
+    → Triple 𝓤 (𝓣 .C #cursors·stored-key) (Callee 𝓤 H A mem run)
     → Meets 𝓤 H A self.signature (WpFn 𝓤 H (𝓣 .C) (𝓣 .Λ) code.function) (self.spec 𝓤 H A mem run)
 self-meets 𝓤 H A W mem run 𝓣 known =
     walk-meets 𝓤 H A self.ended stayed W (goes-none 𝓤 H A W 0 (λ _. S.the-row) yes (λ κs x f. refl), tt) (self.clauses 𝓤 H A mem run)

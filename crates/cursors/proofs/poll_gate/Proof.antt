@@ -1,5 +1,7 @@
--- `cursors::poll_gate` meets its contract: a walk of its MIR, by hand. The borrow is opened; a field that is an enum is copied out, a callee makes the next one, it is stored over the old, and a second callee gives the result.
--- A field that is an enum has a name in its type, and what lies behind a reference is a cell at the raw type: the cell is taken to the named type (`raw-at`) before the fields are used, and back (`at-raw`) before the borrow is closed.
+-- `cursors::poll_gate` meets its contract: a walk of its MIR, by hand. The borrow is opened; a field that is an enum is
+-- copied out, a callee makes the next one, it is stored over the old, and a second callee gives the result.
+-- A field that is an enum has a name in its type, and what lies behind a reference is a cell at the raw type: the cell is taken
+-- to the named type (`raw-at`) before the fields are used, and back (`at-raw`) before the borrow is closed.
 -- Assumes nothing.
 use mathlib.Core.Path.{_≡_, refl, ap, subst}
 use Prim.Native.Nat.{ℕ, _≤_, _<_, _^_}
@@ -93,7 +95,8 @@ module _ {M : Type 1} (𝓤 : URA M) (H : Heap 𝓤) (A : Atoms 𝓤) (mem′ : 
   abbrev After : Contract 𝓤
   After = tripleOf 𝓤 H A after.signature (after.spec 𝓤 H A mem′ run)
 
-module _ {M : Type 1} (𝓤 : URA M) (H : Heap 𝓤) (A : Atoms 𝓤) (W : Given 𝓤 H A) (mem′ : Memory → SProp 𝓤) (run : Routine → Fun 𝓤) (κ : Lft) (q : Share) (b o : ℕ) (γ : GName) (h : Cursors) (n : ℕ) (n-fits : n < 2 ^ 64) where
+module _ {M : Type 1} (𝓤 : URA M) (H : Heap 𝓤) (A : Atoms 𝓤) (W : Given 𝓤 H A) (mem′ : Memory → SProp 𝓤) (run : Routine → Fun 𝓤) (κ : Lft) (q : Share) (b o : ℕ) (γ : GName) (h : Cursors)
+    (n : ℕ) (n-fits : n < 2 ^ 64) where
   abbrev Arg : Type 0
   Arg = RefT Cursors × (ℕ × Unit {0})
 
@@ -117,10 +120,12 @@ module _ {M : Type 1} (𝓤 : URA M) (H : Heap 𝓤) (A : Atoms 𝓤) (W : Given
   to-due = ((tt, tt, tt, (old, (n, tt)), (val old ∷ [], (vint w64 n ∷ [], tt))), tt)
 
   goes-after : Is E.the-row old (val old ∷ []) → n ≤ latestClock → ent 𝓤 (emp 𝓤) (After 𝓤 H A mem′ run .pre to-after)
-  goes-after g l = qed W [] ∵ nothing ! $ owned ! u64 (Is u64) (uint-makes 𝓤 H A W w64) n (vint w64 n ∷ []) (refl, n-fits) $ fjoin ! $ owned ! E.the-row (Is E.the-row) (EL.makes E.the-type E′.the-plain 𝓤 H A) old (val old ∷ []) g $ fjoin ! $ says ! l $ nothing ! $ frame ! $ done !
+  goes-after g l = qed W [] ∵ nothing ! $ owned ! u64 (Is u64) (uint-makes 𝓤 H A W w64) n (vint w64 n ∷ []) (refl, n-fits) $ fjoin ! $
+      owned ! E.the-row (Is E.the-row) (EL.makes E.the-type E′.the-plain 𝓤 H A) old (val old ∷ []) g $ fjoin ! $ says ! l $ nothing ! $ frame ! $ done !
 
   goes-due : Is E.the-row old (val old ∷ []) → ent 𝓤 (emp 𝓤) (Due 𝓤 H A mem′ run .pre to-due)
-  goes-due g = qed W [] ∵ nothing ! $ nothing ! $ owned ! u64 (Is u64) (uint-makes 𝓤 H A W w64) n (vint w64 n ∷ []) (refl, n-fits) $ fjoin ! $ owned ! E.the-row (Is E.the-row) (EL.makes E.the-type E′.the-plain 𝓤 H A) old (val old ∷ []) g $ fjoin ! $ nothing ! $ join ! $ frame ! $ done !
+  goes-due g = qed W [] ∵ nothing ! $ nothing ! $ owned ! u64 (Is u64) (uint-makes 𝓤 H A W w64) n (vint w64 n ∷ []) (refl, n-fits) $ fjoin ! $
+      owned ! E.the-row (Is E.the-row) (EL.makes E.the-type E′.the-plain 𝓤 H A) old (val old ∷ []) g $ fjoin ! $ nothing ! $ join ! $ frame ! $ done !
 
   after-said : (r : MaybeTime) → ent 𝓤 (ensured 𝓤 H A after.ended (after.clauses 𝓤 H A mem′ run) tt (old, (n, tt)) tt r) (fact 𝓤 (timeNum r ≡ nextPollAfter n (timeNum old)))
   after-said r = exE 𝓤 _ (λ ws. snd∗ 𝓤 (sem 𝓤 H A (lasts after.ended tt (old, (n, tt)) ws)) (fact 𝓤 (timeNum r ≡ nextPollAfter n (timeNum old))))
@@ -132,39 +137,49 @@ module _ {M : Type 1} (𝓤 : URA M) (H : Heap 𝓤) (A : Atoms 𝓤) (W : Given
       → ent 𝓤 (⋆ 𝓤 H A (‵ (fobs γ (T.the-row .coded .code (with-poll h r))) ∷ ‵ (fbor κ (Body (mem T.the-row) b o γ)) ∷ ‵ (flft κ q) ∷ ‵ (Boolean .own t (u ∷ [])) ∷ [])) (Post u)
   exits r t u e e′ =
       qed W (‵ (fobs γ (T.the-row .coded .code (with-poll h r))) ∷ ‵ (fbor κ (Body (mem T.the-row) b o γ)) ∷ ‵ (flft κ q) ∷ ‵ (Boolean .own t (u ∷ [])) ∷ []) ∵
-      suffices ! _ (ends-at 𝓤 H A self.ended stayed (self.clauses 𝓤 H A mem′ run) W (((κ, tt), (q, tt), tt, x, at), tt) u t (with-poll h r, (tt, tt)) (tt, (tt, tt))) $ says ! (e′, ap (λ (o : Option ℕ). withNext o (numbersOf h)) e) $
+      suffices ! _ (ends-at 𝓤 H A self.ended stayed (self.clauses 𝓤 H A mem′ run) W (((κ, tt), (q, tt), tt, x, at), tt) u t (with-poll h r, (tt, tt)) (tt, (tt, tt))) $
+      says ! (e′, ap (λ (o : Option ℕ). withNext o (numbersOf h)) e) $
       nothing ! $ move ! (3 ∷ 0 ∷ []) $ join ! $ frame ! $ feqI ! (List Val) (vptr b o ∷ []) (vptr b o ∷ []) refl $ fjoin3 ! $
       nothing ! $ owned ! u64 (Is u64) (uint-makes 𝓤 H A W w64) n _ (refl, n-fits) $ fjoin ! $ move ! (1 ∷ 0 ∷ []) $ fjoin ! $ done !
 
-  module _ (C : Calls 𝓤 H) (Λ : Loops 𝓤 H) (fm : FmC 𝓤 H (W .laws) C) (known-after : Triple 𝓤 (C #cursors·poll-after) (After 𝓤 H A mem′ run)) (known-due : Triple 𝓤 (C #cursors·due) (Due 𝓤 H A mem′ run)) where
+  module _ (C : Calls 𝓤 H) (Λ : Loops 𝓤 H) (fm : FmC 𝓤 H (W .laws) C) (known-after : Triple 𝓤 (C #cursors·poll-after) (After 𝓤 H A mem′ run))
+      (known-due : Triple 𝓤 (C #cursors·due) (Due 𝓤 H A mem′ run)) where
     walk : n ≤ latestClock → ent 𝓤 (onEntry 𝓤 H A self.signature (κ, tt) (q, tt) x at) (WpFn 𝓤 H C Λ code.function (vptr b o ∷ vint w64 n ∷ []) Post)
     walk l =
         qed W ((‵ (flft κ q) ⊛ ‵ ftrue) ∷ ‵ (owns (MutRef (named 0) κ T.the-row ∷ u64 ∷ []) x at) ∷ []) ∵ split ! $ move ! (2 ∷ []) $ fsplit ! $ fsplit3 ! $ drop ! $ move ! (0 ∷ 1 ∷ 3 ∷ []) $
         -- [obs; the borrow; the token; what n owns; true]
         enter ! C Λ code.function (vptr b o ∷ vint w64 n ∷ []) _ $
-        alloc1 ! (λ l₀. alloc1 ! (λ l₁. alloc1 ! (λ l₂. alloc1 ! (λ l₃. alloc1 ! (λ l₄. alloc0 ! $ params1 ! $ pass1 ! (init ! 6 refl (tt, tt)) $ pass1 ! (init ! 4 refl (tt, record { fits = n-fits })) $ pass0 ! $
-        move ! (10 ∷ 11 ∷ 12 ∷ []) $ opens ! tt T.the-row {h = h} b o (λ vs. spelt ! T.the-row (Is T.the-row) (shows 𝓤 H A T.the-row) (LL.vals T.the-type T′.the-laws) (LL.tells T.the-type T′.the-laws) fullShare h vs b o $
-        move ! (1 ∷ []) $ peeks ! T.the-row (Is T.the-row) (shows 𝓤 H A T.the-row) h (mach h ∷ []) (λ g. drop ! $ use1 W (‵ (fat fullShare T′.mir b o (mach h))) (W .laws .raw-at fullShare T′.mir b o (mach h)) $
+        alloc1 ! (λ l₀. alloc1 ! (λ l₁.
+        alloc1 ! (λ l₂. alloc1 ! (λ l₃. alloc1 ! (λ l₄. alloc0 ! $ params1 ! $ pass1 ! (init ! 6 refl (tt, tt)) $ pass1 ! (init ! 4 refl (tt, record { fits = n-fits })) $ pass0 ! $
+        move ! (10 ∷ 11 ∷ 12 ∷ []) $ opens ! tt T.the-row {h = h} b o
+        (λ vs. spelt ! T.the-row (Is T.the-row) (shows 𝓤 H A T.the-row) (LL.vals T.the-type T′.the-laws) (LL.tells T.the-type T′.the-laws) fullShare h vs b o $
+        move ! (1 ∷ []) $ peeks ! T.the-row (Is T.the-row) (shows 𝓤 H A T.the-row) h (mach h ∷ [])
+        (λ g. drop ! $ use1 W (‵ (fat fullShare T′.mir b o (mach h))) (W .laws .raw-at fullShare T′.mir b o (mach h)) $
         -- [the struct's cell; the open borrow; obs; auth; room for _4; …; room for _3; …; _2; …; _1; …; room for _0; …]
-        assigns ! (of-opd ! (load ! (from ! (hop ! (look ! 10 refl) (fld ! refl (stop !)))) (look-in ! 0 (sub ! 0 refl (whole !))))) (from ! (stop !)) (init ! 6 refl (EL.lawful E.the-type E′.the-laws 𝓤 H A W tt .typed old _ (was h g) .0)) $
+        assigns ! (of-opd ! (load ! (from ! (hop ! (look ! 10 refl) (fld ! refl (stop !)))) (look-in ! 0 (sub ! 0 refl (whole !))))) (from ! (stop !))
+        (init ! 6 refl (EL.lawful E.the-type E′.the-laws 𝓤 H A W tt .typed old _ (was h g) .0)) $
         use0 W (raw (After 𝓤 H A mem′ run .pre to-after)) (goes-after (was h g) l) $
         calls-at ! fm (After 𝓤 H A mem′ run) known-after to-after (and-then ! (load ! (from ! (stop !)) (look ! 7 refl)) (and-then ! (load ! (from ! (stop !)) (look ! 9 refl)) (no-more !))) (λ u.
-        use1 W (later (some (λ (r : MaybeTime). (‵ ftrue ⊛ ‵ (E.the-row .own r (u ∷ []))) ⊛ raw (ensured 𝓤 H A after.ended (after.clauses 𝓤 H A mem′ run) tt (old, (n, tt)) tt r)))) (id⊢ 𝓤 _) $ await ! tt $ pick ! (λ r.
+        use1 W (later (some (λ (r : MaybeTime). (‵ ftrue ⊛ ‵ (E.the-row .own r (u ∷ []))) ⊛ raw (ensured 𝓤 H A after.ended (after.clauses 𝓤 H A mem′ run) tt (old, (n, tt)) tt r)))) (id⊢ 𝓤 _) $
+        await ! tt $ pick ! (λ r.
         split ! $ move ! (1 ∷ []) $ use1 W (raw (fact 𝓤 (timeNum r ≡ nextPollAfter n (timeNum old)))) (after-said r) $ heard ! (timeNum r ≡ nextPollAfter n (timeNum old)) (λ e. split ! $ drop ! $
         peeks ! E.the-row (Is E.the-row) (shows 𝓤 H A E.the-row) r (u ∷ []) (λ is. drop ! $
         land ! (from ! (stop !)) (init ! 4 refl (EL.lawful E.the-type E′.the-laws 𝓤 H A W tt .typed r _ is .0)) $
         rewrite ! 4 (λ (z : Val). ‵ (fat fullShare E′.mir l₄ 0 z)) (ap only (EL.tells E.the-type E′.the-laws r (u ∷ []) is)) refl $
         -- the new time is stored in the field
-        assigns ! (of-opd ! (load ! (from ! (stop !)) (look ! 4 refl))) (from ! (hop ! (look ! 10 refl) (fld ! refl (stop !)))) (store-in ! 0 (sub ! 0 refl (whole !)) (EL.lawful E.the-type E′.the-laws 𝓤 H A W tt .typed r _ (told r u is) .0)) $
+        assigns ! (of-opd ! (load ! (from ! (stop !)) (look ! 4 refl))) (from ! (hop ! (look ! 10 refl) (fld ! refl (stop !))))
+        (store-in ! 0 (sub ! 0 refl (whole !)) (EL.lawful E.the-type E′.the-laws 𝓤 H A W tt .typed r _ (told r u is) .0)) $
         use0 W (raw (Due 𝓤 H A mem′ run .pre to-due)) (goes-due (was h g)) $
         calls-at ! fm (Due 𝓤 H A mem′ run) known-due to-due (and-then ! (load ! (from ! (stop !)) (look ! 7 refl)) (and-then ! (load ! (from ! (stop !)) (look ! 9 refl)) (no-more !))) (λ u′.
-        use1 W (later (some (λ (t : Bool). (‵ ftrue ⊛ ‵ (Boolean .own t (u′ ∷ []))) ⊛ raw (ensured 𝓤 H A due.ended (due.clauses 𝓤 H A mem′ run) tt (old, (n, tt)) tt t)))) (id⊢ 𝓤 _) $ await ! tt $ pick ! (λ t.
+        use1 W (later (some (λ (t : Bool). (‵ ftrue ⊛ ‵ (Boolean .own t (u′ ∷ []))) ⊛ raw (ensured 𝓤 H A due.ended (due.clauses 𝓤 H A mem′ run) tt (old, (n, tt)) tt t)))) (id⊢ 𝓤 _) $
+        await ! tt $ pick ! (λ t.
         split ! $ move ! (1 ∷ []) $ use1 W (raw (fact 𝓤 (t ≡ dueAt n (timeNum old)))) (due-said t) $ heard ! (t ≡ dueAt n (timeNum old)) (λ e′. split ! $ drop ! $
         peeks ! Boolean (Is Boolean) (shows 𝓤 H A Boolean) t (u′ ∷ []) (λ is′.
         land ! (from ! (stop !)) (init ! 13 refl (bool-lawful 𝓤 H A W .typed t _ is′ .0)) $
         -- [the result; the struct's cell; the open borrow; obs; auth; _4; …; _3; …; _2; …; _1; …; _0; …]: the borrow is closed at the changed struct
         move ! (1 ∷ []) $ use1 W (‵ (fat fullShare (rawTy T′.mir) b o (mach (with-poll h r)))) (W .laws .at-raw fullShare T′.mir b o (mach (with-poll h r))) $
-        owned ! T.the-row (Is T.the-row) (LL.makes T.the-type T′.the-plain 𝓤 H A) (with-poll h r) _ (made h r g (told r u is)) $ move ! (1 ∷ 0 ∷ 3 ∷ 4 ∷ 5 ∷ []) $ closes ! tt T.the-row (with-poll h r) (mach (with-poll h r) ∷ []) b o $
+        owned ! T.the-row (Is T.the-row) (LL.makes T.the-type T′.the-plain 𝓤 H A) (with-poll h r) _ (made h r g (told r u is)) $ move ! (1 ∷ 0 ∷ 3 ∷ 4 ∷ 5 ∷ []) $
+        closes ! tt T.the-row (with-poll h r) (mach (with-poll h r) ∷ []) b o $
         -- [obs; the borrow; the token; the result; _4; …; _3; …; _2; …; _1; …; _0; …]
         returns ! (look ! 12 refl) $ forget ! 4 refl $ forget ! 6 refl $ forget ! 8 refl $ forget ! 10 refl $ forget ! 12 refl $
         move ! (12 ∷ 13 ∷ []) $ free1 ! $ move ! (10 ∷ 11 ∷ []) $ free1 ! $ move ! (8 ∷ 9 ∷ []) $ free1 ! $ move ! (6 ∷ 7 ∷ []) $ free1 ! $ move ! (4 ∷ 5 ∷ []) $ free1 ! $ free0 ! $
@@ -174,11 +189,15 @@ module _ {M : Type 1} (𝓤 : URA M) (H : Heap 𝓤) (A : Atoms 𝓤) (W : Given
         told r u is = subst (λ (us : List Val). Is E.the-row r us) (EL.tells E.the-type E′.the-laws r (u ∷ []) is) is
 
 module _ {M : Type 1} (𝓤 : URA M) (H : Heap 𝓤) (A : Atoms 𝓤) (W : Given 𝓤 H A) (mem′ : Memory → SProp 𝓤) (run : Routine → Fun 𝓤) where
-  self-walks : (C : Calls 𝓤 H) (Λ : Loops 𝓤 H) → FmC 𝓤 H (W .laws) C → Triple 𝓤 (C #cursors·poll-after) (After 𝓤 H A mem′ run) → Triple 𝓤 (C #cursors·due) (Due 𝓤 H A mem′ run) → Walks 𝓤 H A self.ended stayed (WpFn 𝓤 H C Λ code.function) (self.clauses 𝓤 H A mem′ run)
-  self-walks C Λ fm known-after known-due = walked 𝓤 H A self.ended stayed (self.clauses 𝓤 H A mem′ run) (WpFn 𝓤 H C Λ code.function) (λ κs. (ptr-vals, (uint-vals w64, tt))) (λ κs. (mut-tells (named 0) (κs .0) T.the-row, (uint-tells w64, tt)))
-      (λ κs qs bounds a _ are. needs 𝓤 (a .1 .0 ≤ latestClock) _ (walk 𝓤 H A W mem′ run (κs .0) (qs .0) (a .0 .ptr .0) (a .0 .ptr .1) (a .0 .name) (a .0 .now) (a .1 .0) (are .1 .0 .1) C Λ fm known-after known-due))
+  self-walks : (C : Calls 𝓤 H) (Λ : Loops 𝓤 H) → FmC 𝓤 H (W .laws) C → Triple 𝓤 (C #cursors·poll-after) (After 𝓤 H A mem′ run) → Triple 𝓤 (C #cursors·due) (Due 𝓤 H A mem′ run)
+      → Walks 𝓤 H A self.ended stayed (WpFn 𝓤 H C Λ code.function) (self.clauses 𝓤 H A mem′ run)
+  self-walks C Λ fm known-after known-due = walked 𝓤 H A self.ended stayed (self.clauses 𝓤 H A mem′ run) (WpFn 𝓤 H C Λ code.function) (λ κs. (ptr-vals, (uint-vals w64, tt)))
+      (λ κs. (mut-tells (named 0) (κs .0) T.the-row, (uint-tells w64, tt)))
+      (λ κs qs bounds a _ are. needs 𝓤 (a .1 .0 ≤ latestClock) _
+      (walk 𝓤 H A W mem′ run (κs .0) (qs .0) (a .0 .ptr .0) (a .0 .ptr .1) (a .0 .name) (a .0 .now) (a .1 .0) (are .1 .0 .1) C Λ fm known-after known-due))
 
-self-meets : {M : Type 1} (𝓤 : URA M) (H : Heap 𝓤) (A : Atoms 𝓤) (W : Given 𝓤 H A) (mem′ : Memory → SProp 𝓤) (run : Routine → Fun 𝓤) (𝓣 : Tables 𝓤 H) → Triple 𝓤 (𝓣 .C #cursors·poll-after) (After 𝓤 H A mem′ run) → Triple 𝓤 (𝓣 .C #cursors·due) (Due 𝓤 H A mem′ run)
+self-meets : {M : Type 1} (𝓤 : URA M) (H : Heap 𝓤) (A : Atoms 𝓤) (W : Given 𝓤 H A) (mem′ : Memory → SProp 𝓤) (run : Routine → Fun 𝓤) (𝓣 : Tables 𝓤 H)
+    → Triple 𝓤 (𝓣 .C #cursors·poll-after) (After 𝓤 H A mem′ run) → Triple 𝓤 (𝓣 .C #cursors·due) (Due 𝓤 H A mem′ run)
     → Meets 𝓤 H A self.signature (WpFn 𝓤 H (𝓣 .C) (𝓣 .Λ) code.function) (self.spec 𝓤 H A mem′ run)
 self-meets 𝓤 H A W mem′ run 𝓣 known-after known-due =
     walk-meets 𝓤 H A self.ended stayed W (goes-ref 𝓤 H A W 1 0 tt (plain (λ _. T.the-row)), (goes-none 𝓤 H A W 1 (λ _. u64) yes (λ κs x f. refl), tt)) (self.clauses 𝓤 H A mem′ run)

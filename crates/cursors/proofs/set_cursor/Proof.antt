@@ -21,7 +21,16 @@ same-length c = search needs
 
 returns : tie.Need-returns
 returns c =
-    set-more (words (c .before .before .before .before .before .before .before .before .before .before .args .s .now)) (c .before .before .before .before .before .before .before .before .before .before .args .a) (c .before .before .before .before .before .before .before .before .before .before .args .c .tag) (quadWords (c .before .before .before .before .before .before .before .before .before .before .args .c .hash)) (omega (arith, length-words (c .before .before .before .before .before .before .before .before .before .before .args .s .now), c .before .before .before .before .before .before .before .before .before .before .pre)) (c .before .before .before .before .before .before .put .ensures .word) (c .before .before .write-quad .ensures)
+    set-more (words (c .before .before .before .before .before .before .before .before .before .before .args .s .now))
+    (c .before .before .before .before .before .before .before .before .before .before .args .a)
+    (c .before .before .before .before .before .before .before .before .before .before .args .c .tag)
+    (quadWords (c .before .before .before .before .before .before .before .before .before .before .args .c .hash)) (omega (
+      arith,
+      length-words
+          (c .before .before .before .before .before .before .before .before .before .before .args .s .now),
+      c .before .before .before .before .before .before .before .before .before .before .pre,
+    ))
+    (c .before .before .before .before .before .before .put .ensures .word) (c .before .before .write-quad .ensures)
 
 pub set-cursor-spec : {M : Type 1} → statement M
 set-cursor-spec =

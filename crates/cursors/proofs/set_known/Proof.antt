@@ -1,5 +1,6 @@
 -- `cursors::set_known` meets its contract: a walk of its MIR, by hand. The borrow is opened, a key or none is stored over a field, and the borrow is closed at the changed struct.
--- A field that is an enum has a name in its type, and what lies behind a reference is a cell at the raw type: the cell is taken to the named type (`raw-at`) before the field is used, and back (`at-raw`) before the borrow is closed.
+-- A field that is an enum has a name in its type, and what lies behind a reference is a cell at the raw type: the cell is taken
+-- to the named type (`raw-at`) before the field is used, and back (`at-raw`) before the borrow is closed.
 -- Assumes nothing.
 use mathlib.Core.Path.{refl}
 use Prim.Native.Nat.{ℕ}
@@ -64,7 +65,8 @@ changed h k = record { next = h .next; known = k; ready = h .ready }
 made : (h : Cursors) (k : MaybeKey) → Is T.the-row h (mach h ∷ []) → Is R.the-row k (val k ∷ []) → Is T.the-row (changed h k) (mach (changed h k) ∷ [])
 made h k g is = let o = LL.owed T.the-type T′.the-laws h _ g in LL.owes T.the-type T′.the-laws (changed h k) (o .0, (is, o .1 .1))
 
-module _ {M : Type 1} (𝓤 : URA M) (H : Heap 𝓤) (A : Atoms 𝓤) (W : Given 𝓤 H A) (mem′ : Memory → SProp 𝓤) (run : Routine → Fun 𝓤) (κ : Lft) (q : Share) (b o : ℕ) (γ : GName) (h : Cursors) (k : MaybeKey) (gk : Is R.the-row k (val k ∷ [])) where
+module _ {M : Type 1} (𝓤 : URA M) (H : Heap 𝓤) (A : Atoms 𝓤) (W : Given 𝓤 H A) (mem′ : Memory → SProp 𝓤) (run : Routine → Fun 𝓤) (κ : Lft) (q : Share) (b o : ℕ) (γ : GName) (h : Cursors)
+    (k : MaybeKey) (gk : Is R.the-row k (val k ∷ [])) where
   abbrev Arg : Type 0
   Arg = RefT Cursors × (MaybeKey × Unit {0})
 
@@ -91,22 +93,28 @@ module _ {M : Type 1} (𝓤 : URA M) (H : Heap 𝓤) (A : Atoms 𝓤) (W : Given
         qed W ((‵ (flft κ q) ⊛ ‵ ftrue) ∷ ‵ (owns (MutRef (named 0) κ T.the-row ∷ R.the-row ∷ []) x at) ∷ []) ∵ split ! $ move ! (2 ∷ []) $ fsplit ! $ fsplit3 ! $ drop ! $ move ! (0 ∷ 1 ∷ 3 ∷ []) $
         -- [obs; the borrow; the token; what k owns; true]
         enter ! C Λ code.function (vptr b o ∷ val k ∷ []) _ $
-        alloc1 ! (λ l₀. alloc1 ! (λ l₁. alloc1 ! (λ l₂. alloc0 ! $ params1 ! $ pass1 ! (init ! 2 refl (tt, tt)) $ pass1 ! (init ! 0 refl (EL.lawful R.the-type R′.the-laws 𝓤 H A W tt .typed k _ gk .0)) $ pass0 ! $
-        move ! (6 ∷ 7 ∷ 8 ∷ []) $ opens ! tt T.the-row {h = h} b o (λ vs. spelt ! T.the-row (Is T.the-row) (shows 𝓤 H A T.the-row) (LL.vals T.the-type T′.the-laws) (LL.tells T.the-type T′.the-laws) fullShare h vs b o $
-        move ! (1 ∷ []) $ peeks ! T.the-row (Is T.the-row) (shows 𝓤 H A T.the-row) h (mach h ∷ []) (λ g. drop ! $ use1 W (‵ (fat fullShare T′.mir b o (mach h))) (W .laws .raw-at fullShare T′.mir b o (mach h)) $
+        alloc1 ! (λ l₀. alloc1 ! (λ l₁. alloc1 ! (λ l₂. alloc0 ! $ params1 ! $ pass1 ! (init ! 2 refl (tt, tt)) $
+        pass1 ! (init ! 0 refl (EL.lawful R.the-type R′.the-laws 𝓤 H A W tt .typed k _ gk .0)) $ pass0 ! $
+        move ! (6 ∷ 7 ∷ 8 ∷ []) $ opens ! tt T.the-row {h = h} b o
+        (λ vs. spelt ! T.the-row (Is T.the-row) (shows 𝓤 H A T.the-row) (LL.vals T.the-type T′.the-laws) (LL.tells T.the-type T′.the-laws) fullShare h vs b o $
+        move ! (1 ∷ []) $ peeks ! T.the-row (Is T.the-row) (shows 𝓤 H A T.the-row) h (mach h ∷ [])
+        (λ g. drop ! $ use1 W (‵ (fat fullShare T′.mir b o (mach h))) (W .laws .raw-at fullShare T′.mir b o (mach h)) $
         -- [the struct's cell; the open borrow; obs; auth; _2; …; _1; …; room for _0; …]
-        assigns ! (of-opd ! (load ! (from ! (stop !)) (look ! 4 refl))) (from ! (hop ! (look ! 6 refl) (fld ! refl (stop !)))) (store-in ! 0 (sub ! 1 refl (whole !)) (EL.lawful R.the-type R′.the-laws 𝓤 H A W tt .typed k _ gk .0)) $
+        assigns ! (of-opd ! (load ! (from ! (stop !)) (look ! 4 refl))) (from ! (hop ! (look ! 6 refl) (fld ! refl (stop !))))
+        (store-in ! 0 (sub ! 1 refl (whole !)) (EL.lawful R.the-type R′.the-laws 𝓤 H A W tt .typed k _ gk .0)) $
         assigns ! (of-opd ! (unit-lit !)) (from ! (stop !)) (init ! 8 refl (tt, tt)) $
         -- the borrow is closed at the changed struct
         use1 W (‵ (fat fullShare (rawTy T′.mir) b o (mach (changed h k)))) (W .laws .at-raw fullShare T′.mir b o (mach (changed h k))) $
-        owned ! T.the-row (Is T.the-row) (LL.makes T.the-type T′.the-plain 𝓤 H A) (changed h k) _ (made h k g gk) $ move ! (1 ∷ 0 ∷ []) $ closes ! tt T.the-row (changed h k) (mach (changed h k) ∷ []) b o $
+        owned ! T.the-row (Is T.the-row) (LL.makes T.the-type T′.the-plain 𝓤 H A) (changed h k) _ (made h k g gk) $ move ! (1 ∷ 0 ∷ []) $
+        closes ! tt T.the-row (changed h k) (mach (changed h k) ∷ []) b o $
         -- [obs; the borrow; the token; _2; …; _1; …; _0; …]
         returns ! (look ! 7 refl) $ forget ! 3 refl $ forget ! 5 refl $ forget ! 7 refl $
         move ! (7 ∷ 8 ∷ []) $ free1 ! $ move ! (5 ∷ 6 ∷ []) $ free1 ! $ move ! (3 ∷ 4 ∷ []) $ free1 ! $ free0 ! $ keep ! (0 ∷ 1 ∷ 2 ∷ []) $ by ! exits)))))
 
 module _ {M : Type 1} (𝓤 : URA M) (H : Heap 𝓤) (A : Atoms 𝓤) (W : Given 𝓤 H A) (mem′ : Memory → SProp 𝓤) (run : Routine → Fun 𝓤) where
   self-walks : (C : Calls 𝓤 H) (Λ : Loops 𝓤 H) → Walks 𝓤 H A self.ended stayed (WpFn 𝓤 H C Λ code.function) (self.clauses 𝓤 H A mem′ run)
-  self-walks C Λ = walked 𝓤 H A self.ended stayed (self.clauses 𝓤 H A mem′ run) (WpFn 𝓤 H C Λ code.function) (λ κs. (ptr-vals, (EL.vals R.the-type R′.the-laws, tt))) (λ κs. (mut-tells (named 0) (κs .0) T.the-row, (EL.tells R.the-type R′.the-laws, tt)))
+  self-walks C Λ = walked 𝓤 H A self.ended stayed (self.clauses 𝓤 H A mem′ run) (WpFn 𝓤 H C Λ code.function) (λ κs. (ptr-vals, (EL.vals R.the-type R′.the-laws, tt)))
+      (λ κs. (mut-tells (named 0) (κs .0) T.the-row, (EL.tells R.the-type R′.the-laws, tt)))
       (λ κs qs bounds a _ are. via 𝓤 _ (fst∗ 𝓤 _ (emp 𝓤)) (walk 𝓤 H A W mem′ run (κs .0) (qs .0) (a .0 .ptr .0) (a .0 .ptr .1) (a .0 .name) (a .0 .now) (a .1 .0) (are .1 .0) C Λ))
 
 self-meets : {M : Type 1} (𝓤 : URA M) (H : Heap 𝓤) (A : Atoms 𝓤) → Given 𝓤 H A → (mem′ : Memory → SProp 𝓤) (run : Routine → Fun 𝓤) (𝓣 : Tables 𝓤 H)

@@ -26,7 +26,15 @@ same-length : tie.Need-same-length
 same-length c = search needs
 
 returns : tie.Need-returns
-returns c = poll-written (c .before .before .before .before .before .before .before .before .before .before .before .args .m) (words (c .before .before .before .before .before .before .before .before .before .before .before .args .s .now)) pollAt (omega (arith, length-words (c .before .before .before .before .before .before .before .before .before .before .before .args .s .now), c .before .before .before .before .before .before .before .before .before .before .before .pre)) (c .before .before .before .before .before .before .before .before .before .tag-of .ensures) (c .before .before .before .before .before .before .before .before .time-in .ensures) (c .before .before .before .before .before .before .put .ensures .word) (c .before .before .put2 .ensures .word)
+returns c = poll-written (c .before .before .before .before .before .before .before .before .before .before .before .args .m)
+    (words (c .before .before .before .before .before .before .before .before .before .before .before .args .s .now)) pollAt
+    (omega (
+      arith,
+      length-words (c .before .before .before .before .before .before .before .before .before .before .before .args .s .now),
+      c .before .before .before .before .before .before .before .before .before .before .before .pre,
+    )) (c .before .before .before .before .before .before .before .before .before .tag-of .ensures)
+    (c .before .before .before .before .before .before .before .before .time-in .ensures) (c .before .before .before .before .before .before .put .ensures .word)
+    (c .before .before .put2 .ensures .word)
 
 pub set-next-poll-spec : {M : Type 1} → statement M
 set-next-poll-spec =

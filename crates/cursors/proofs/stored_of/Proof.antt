@@ -1,4 +1,5 @@
--- `cursors::stored_of` meets its contract: a walk of its MIR, by hand, since its parameter is an enum that holds a struct that holds an array. It is matched on, `let .. else`: the walk goes by cases on it, and each arm calls a covered function.
+-- `cursors::stored_of` meets its contract: a walk of its MIR, by hand, since its parameter is an enum that holds a struct that holds an
+-- array. It is matched on, `let .. else`: the walk goes by cases on it, and each arm calls a covered function.
 -- Assumes nothing.
 use mathlib.Core.Path.{refl}
 use Prim.Native.Nat.{ℕ}
@@ -18,7 +19,8 @@ use contract.Monad.{Fun, fact}
 use contract.Running.{givenOf, tables, tablesOf}
 use types.Kit as Kit
 use types.Kit.{Given, Item as Row, ‵, raw, _⊛_, some as any, later, runs, anyQ, atRet, Sq, _$_, _∵_, !, qed, by, move, keep, drop, use0, use1, split, join, pick, fjoin, suffices, frame, await, done}
-use types.Run.{look, init, forget, stop, fld, from, load, of-opd, and-then, no-more, assigns-last, land, first, switches-on, returns, returns-within, enter, exec, alloc1, alloc0, params1, pass1, pass0, free1, free0}
+use types.Run.{look, init, forget, stop, fld, from, load, of-opd, and-then, no-more, assigns-last, land, first}
+use types.Run.{switches-on, returns, returns-within, enter, exec, alloc1, alloc0, params1, pass1, pass0, free1, free0}
 use types.Part.{whole, look-in}
 use types.Match.{vrt, look-tag, in-variant}
 use sound.WpLaws.{FmC, fmOf, WpFn-mono}
@@ -103,17 +105,20 @@ module _ {M : Type 1} (𝓤 : URA M) (H : Heap 𝓤) (A : Atoms 𝓤) (W : Given
   to-key k = ((tt, tt, tt, (k, tt), (key-vals k, tt)), tt)
 
   goes-to-key : (k : Key) → IsOf Ke.the-row k (key-vals k) → ent 𝓤 (emp 𝓤) (Yes 𝓤 H A mem run .pre (to-key k))
-  goes-to-key k g = qed W [] ∵ nothing ! $ nothing ! $ owned ! Ke.the-row (IsOf Ke.the-row) (LL.makes Ke.the-type Ke′.the-plain 𝓤 H A) k (key-vals k) g $ fjoin ! $ nothing ! $ join ! $ frame ! $ done !
+  goes-to-key k g = qed W [] ∵ nothing ! $ nothing ! $ owned ! Ke.the-row (IsOf Ke.the-row) (LL.makes Ke.the-type Ke′.the-plain 𝓤 H A) k (key-vals k) g $ fjoin ! $
+      nothing ! $ join ! $ frame ! $ done !
 
   key-said : (k : Key) (r : Stored) → ent 𝓤 (ensured 𝓤 H A key-is.ended (key-is.clauses 𝓤 H A mem run) tt (k, tt) tt r) (fact 𝓤 (Stands r (some (keyNum k))))
   key-said k r = exE 𝓤 _ (λ ws. snd∗ 𝓤 (sem 𝓤 H A (lasts key-is.ended tt (k, tt) ws)) (fact 𝓤 (Stands r (some (keyNum k)))))
 
   exits : (m : MaybeKey) → IsOf R.the-row m (val m ∷ []) → (r : Stored) (u : Val) → Stands r (maybeKeyNum m) → ent 𝓤 (sem 𝓤 H A (S.the-row .own r (u ∷ []))) (Post m u)
   exits m g r u e =
-      qed W (‵ (S.the-row .own r (u ∷ [])) ∷ []) ∵ suffices ! _ (ends-at 𝓤 H A self.ended stayed (self.clauses 𝓤 H A mem run) W ((tt, tt, tt, (m, tt), (val m ∷ [], tt)), tt) u r (tt, tt) (tt, tt)) $ says ! e $
+      qed W (‵ (S.the-row .own r (u ∷ [])) ∷ []) ∵ suffices ! _
+      (ends-at 𝓤 H A self.ended stayed (self.clauses 𝓤 H A mem run) W ((tt, tt, tt, (m, tt), (val m ∷ [], tt)), tt) u r (tt, tt) (tt, tt)) $ says ! e $
       nothing ! $ owned ! R.the-row (IsOf R.the-row) (EL.makes R.the-type R′.the-plain 𝓤 H A) m (val m ∷ []) g $ fjoin ! $ nothing ! $ done !
 
-  module _ (C : Calls 𝓤 H) (Λ : Loops 𝓤 H) (fm : FmC 𝓤 H (W .laws) C) (known-none : Triple 𝓤 (C #cursors·no-cursor) (No 𝓤 H A mem run)) (known-key : Triple 𝓤 (C #cursors·key-stored) (Yes 𝓤 H A mem run)) where
+  module _ (C : Calls 𝓤 H) (Λ : Loops 𝓤 H) (fm : FmC 𝓤 H (W .laws) C) (known-none : Triple 𝓤 (C #cursors·no-cursor) (No 𝓤 H A mem run))
+      (known-key : Triple 𝓤 (C #cursors·key-stored) (Yes 𝓤 H A mem run)) where
     module _ (l₀ l₁ l₂ : ℕ) where
       abbrev En : Env 𝓤 H
       En = (S′.mir, l₀) ∷ (R′.mir, l₁) ∷ (Ke′.mir, l₂) ∷ []
@@ -132,7 +137,8 @@ module _ {M : Type 1} (𝓤 : URA M) (H : Heap 𝓤) (A : Atoms 𝓤) (W : Given
           first ! $ switches-on ! (load ! (from ! (vrt ! refl (fld ! refl (stop !)))) (look-tag ! 2 (whole !))) $ exec ! C Λ En gives-none (Then None) $
           use0 W (raw (No 𝓤 H A mem run .pre to-none)) goes-to-none $
           calls-at ! fm (No 𝓤 H A mem run) known-none to-none (no-more !) (λ u.
-          use1 W (later (any (λ (r : Stored). (‵ ftrue ⊛ ‵ (S.the-row .own r (u ∷ []))) ⊛ raw (ensured 𝓤 H A none-is.ended (none-is.clauses 𝓤 H A mem run) tt tt tt r)))) (id⊢ 𝓤 _) $ await ! tt $ pick ! (λ r.
+          use1 W (later (any (λ (r : Stored). (‵ ftrue ⊛ ‵ (S.the-row .own r (u ∷ []))) ⊛ raw (ensured 𝓤 H A none-is.ended (none-is.clauses 𝓤 H A mem run) tt tt tt r)))) (id⊢ 𝓤 _) $
+          await ! tt $ pick ! (λ r.
           split ! $ move ! (1 ∷ []) $ use1 W (raw (fact 𝓤 (Stands r none))) (none-said r) $ heard ! (Stands r none) (λ e. split ! $ drop ! $
           peeks ! S.the-row (IsOf S.the-row) (shows 𝓤 H A S.the-row) r (u ∷ []) (λ is. land ! (from ! (stop !)) (init ! 5 refl (LL.lawful S.the-type S′.the-laws 𝓤 H A W .typed r _ is .0)) $
           -- [the result; _2; …; _1; …; _0; …]
@@ -140,11 +146,13 @@ module _ {M : Type 1} (𝓤 : URA M) (H : Heap 𝓤) (A : Atoms 𝓤) (W : Given
           move ! (5 ∷ 6 ∷ []) $ free1 ! $ move ! (3 ∷ 4 ∷ []) $ free1 ! $ move ! (1 ∷ 2 ∷ []) $ free1 ! $ free0 ! $ by ! (exits None g r u e)))))
       matched (Is k) g =
           first ! $ switches-on ! (load ! (from ! (vrt ! refl (fld ! refl (stop !)))) (look-tag ! 2 (whole !))) $ exec ! C Λ En takes (Then (Is k)) $
-          assigns-last ! (of-opd ! (load ! (from ! (vrt ! refl (fld ! refl (stop !)))) (look-in ! 2 (in-variant ! 1 0 refl refl (whole !))))) (from ! (stop !)) (init ! 0 refl (LL.lawful Ke.the-type Ke′.the-laws 𝓤 H A W .typed k _ g-k .0)) $
+          assigns-last ! (of-opd ! (load ! (from ! (vrt ! refl (fld ! refl (stop !)))) (look-in ! 2 (in-variant ! 1 0 refl refl (whole !))))) (from ! (stop !))
+          (init ! 0 refl (LL.lawful Ke.the-type Ke′.the-laws 𝓤 H A W .typed k _ g-k .0)) $
           exec ! C Λ En parts.t-2 (atRet En (Post (Is k))) $
           use0 W (raw (Yes 𝓤 H A mem run .pre (to-key k))) (goes-to-key k g-k) $
           calls-at ! fm (Yes 𝓤 H A mem run) known-key (to-key k) (and-then ! (load ! (from ! (stop !)) (look ! 1 refl)) (no-more !)) (λ u.
-          use1 W (later (any (λ (r : Stored). (‵ ftrue ⊛ ‵ (S.the-row .own r (u ∷ []))) ⊛ raw (ensured 𝓤 H A key-is.ended (key-is.clauses 𝓤 H A mem run) tt (k, tt) tt r)))) (id⊢ 𝓤 _) $ await ! tt $ pick ! (λ r.
+          use1 W (later (any (λ (r : Stored). (‵ ftrue ⊛ ‵ (S.the-row .own r (u ∷ []))) ⊛ raw (ensured 𝓤 H A key-is.ended (key-is.clauses 𝓤 H A mem run) tt (k, tt) tt r)))) (id⊢ 𝓤 _) $
+          await ! tt $ pick ! (λ r.
           split ! $ move ! (1 ∷ []) $ use1 W (raw (fact 𝓤 (Stands r (some (keyNum k))))) (key-said k r) $ heard ! (Stands r (some (keyNum k))) (λ e. split ! $ drop ! $
           peeks ! S.the-row (IsOf S.the-row) (shows 𝓤 H A S.the-row) r (u ∷ []) (λ is. land ! (from ! (stop !)) (init ! 5 refl (LL.lawful S.the-type S′.the-laws 𝓤 H A W .typed r _ is .0)) $
           returns ! (look ! 5 refl) $ forget ! 1 refl $ forget ! 3 refl $ forget ! 5 refl $
@@ -159,11 +167,14 @@ module _ {M : Type 1} (𝓤 : URA M) (H : Heap 𝓤) (A : Atoms 𝓤) (W : Given
         alloc1 ! (λ l₀. alloc1 ! (λ l₁. alloc1 ! (λ l₂. alloc0 ! $ params1 ! $ pass1 ! (init ! 2 refl (EL.lawful R.the-type R′.the-laws 𝓤 H A W tt .typed m _ g .0)) $ pass0 ! $
         keep ! (0 ∷ 1 ∷ 2 ∷ 3 ∷ 4 ∷ 5 ∷ []) $ matched l₀ l₁ l₂ m g)))
 
-  self-walks : (C : Calls 𝓤 H) (Λ : Loops 𝓤 H) → FmC 𝓤 H (W .laws) C → Triple 𝓤 (C #cursors·no-cursor) (No 𝓤 H A mem run) → Triple 𝓤 (C #cursors·key-stored) (Yes 𝓤 H A mem run) → Walks 𝓤 H A self.ended stayed (WpFn 𝓤 H C Λ code.function) (self.clauses 𝓤 H A mem run)
-  self-walks C Λ fm known-none known-key = walked 𝓤 H A self.ended stayed (self.clauses 𝓤 H A mem run) (WpFn 𝓤 H C Λ code.function) (λ κs. (EL.vals R.the-type R′.the-laws, tt)) (λ κs. (EL.tells R.the-type R′.the-laws, tt))
+  self-walks : (C : Calls 𝓤 H) (Λ : Loops 𝓤 H) → FmC 𝓤 H (W .laws) C → Triple 𝓤 (C #cursors·no-cursor) (No 𝓤 H A mem run) → Triple 𝓤 (C #cursors·key-stored) (Yes 𝓤 H A mem run)
+      → Walks 𝓤 H A self.ended stayed (WpFn 𝓤 H C Λ code.function) (self.clauses 𝓤 H A mem run)
+  self-walks C Λ fm known-none known-key = walked 𝓤 H A self.ended stayed (self.clauses 𝓤 H A mem run) (WpFn 𝓤 H C Λ code.function) (λ κs. (EL.vals R.the-type R′.the-laws, tt))
+      (λ κs. (EL.tells R.the-type R′.the-laws, tt))
       (λ κs qs bounds a g are. via 𝓤 _ (fst∗ 𝓤 _ (emp 𝓤)) (walk C Λ fm known-none known-key (a .0) (are .0)))
 
-self-meets : {M : Type 1} (𝓤 : URA M) (H : Heap 𝓤) (A : Atoms 𝓤) (W : Given 𝓤 H A) (mem : Memory → SProp 𝓤) (run : Routine → Fun 𝓤) (𝓣 : Tables 𝓤 H) → Triple 𝓤 (𝓣 .C #cursors·no-cursor) (No 𝓤 H A mem run) → Triple 𝓤 (𝓣 .C #cursors·key-stored) (Yes 𝓤 H A mem run)
+self-meets : {M : Type 1} (𝓤 : URA M) (H : Heap 𝓤) (A : Atoms 𝓤) (W : Given 𝓤 H A) (mem : Memory → SProp 𝓤) (run : Routine → Fun 𝓤) (𝓣 : Tables 𝓤 H)
+    → Triple 𝓤 (𝓣 .C #cursors·no-cursor) (No 𝓤 H A mem run) → Triple 𝓤 (𝓣 .C #cursors·key-stored) (Yes 𝓤 H A mem run)
     → Meets 𝓤 H A self.signature (WpFn 𝓤 H (𝓣 .C) (𝓣 .Λ) code.function) (self.spec 𝓤 H A mem run)
 self-meets 𝓤 H A W mem run 𝓣 known-none known-key =
     walk-meets 𝓤 H A self.ended stayed W (goes-none 𝓤 H A W 0 (λ _. R.the-row) yes (λ κs x f. refl), tt) (self.clauses 𝓤 H A mem run)

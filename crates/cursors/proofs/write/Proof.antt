@@ -20,7 +20,11 @@ same-length : tie.Need-same-length
 same-length c = search needs
 
 returns : tie.Need-returns
-returns c = c .before .before .set-cursor2 .ensures ∙ ap (λ (w : List ℕ). splice w readyAt (storedWords (c .before .before .before .before .before .before .before .before .before .before .before .before .before .before .before .args .f .ready))) (c .before .before .before .before .before .before .set-cursor .ensures ∙ ap (λ (w : List ℕ). splice w knownAt (storedWords (c .before .before .before .before .before .before .before .before .before .before .before .before .before .before .before .args .f .known))) (c .before .before .before .before .before .before .before .before .before .before .set-next-poll .ensures))
+returns c = c .before .before .set-cursor2 .ensures ∙
+    ap (λ (w : List ℕ). splice w readyAt (storedWords (c .before .before .before .before .before .before .before .before .before .before .before .before .before .before .before .args .f .ready)))
+    (c .before .before .before .before .before .before .set-cursor .ensures ∙
+    ap (λ (w : List ℕ). splice w knownAt (storedWords (c .before .before .before .before .before .before .before .before .before .before .before .before .before .before .before .args .f .known)))
+    (c .before .before .before .before .before .before .before .before .before .before .set-next-poll .ensures))
 
 pub write-spec : {M : Type 1} → statement M
 write-spec =
