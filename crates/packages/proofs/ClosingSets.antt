@@ -94,7 +94,8 @@ module _ (S : ℕ → Bool) (h : ℕ) where
   before-it lo (p ∷ ps) d a (suc j) l = omega (arith, a .0, before-it (suc (p .hash)) ps d (a .1) j (omega arith))
 
   -- the i-th place has it
-  one-marked : (lo : ℕ) (ps : List Place) (i : ℕ) (d e : Place) → PlacesAscend lo ps → i < length ps → (getD ps i d) .hash ≡ h → set (map (deadIf S) ps) i (withStage 0 (getD (map (deadIf S) ps) i e)) ≡ map (deadIf (with-hash S h)) ps
+  one-marked : (lo : ℕ) (ps : List Place) (i : ℕ) (d e : Place) → PlacesAscend lo ps → i < length ps → (getD ps i d) .hash ≡ h
+      → set (map (deadIf S) ps) i (withStage 0 (getD (map (deadIf S) ps) i e)) ≡ map (deadIf (with-hash S h)) ps
   one-marked lo [] i d e a l z = absurd (omega arith)
   one-marked lo (p ∷ ps) zero d e a l z = rw (dead-now p z, none-marked ps d (above-none (suc (p .hash)) ps d (a .1) (omega arith)))
   one-marked lo (p ∷ ps) (suc i) d e a l z =
@@ -153,10 +154,12 @@ module _ (st : State) (s : Sound st) (S : ℕ → Bool) where
       marks-same n = subst (λ (qs : List Place). Shows b (withPlaces qs (flatOf st))) (none-marked S h ps (blank 0 0) (absent n)) m
 
       -- its place is the i-th
-      pub marks-more : i < length ps → getD (placeHashes ps) i 0 ≡ h → {b′ : List ℕ} (d : Place) → Turns b b′ (λ f. withPlaces (set (f .places) i (withStage 0 (getD (f .places) i d))) f) → Marks b′ st (with-hash S h)
+      pub marks-more : i < length ps → getD (placeHashes ps) i 0 ≡ h → {b′ : List ℕ} (d : Place) → Turns b b′ (λ f. withPlaces (set (f .places) i (withStage 0 (getD (f .places) i d))) f)
+          → Marks b′ st (with-hash S h)
       marks-more l e {b′} d turn =
           let z = sym (hash-at ps i (blank 0 0) l) ∙ e in
-          subst (λ (qs : List Place). Shows b′ (withPlaces qs (flatOf st))) (one-marked S h 0 ps i (blank 0 0) d ((flat-sound st s) .places-ascend) l z) (turn (withPlaces (map (deadIf S) ps) (flatOf st)) m)
+          subst (λ (qs : List Place). Shows b′ (withPlaces qs (flatOf st))) (one-marked S h 0 ps i (blank 0 0) d ((flat-sound st s) .places-ascend) l z)
+          (turn (withPlaces (map (deadIf S) ps) (flatOf st)) m)
 
 -- ---- the dead gone
 
@@ -181,7 +184,8 @@ module _ (S : ℕ → Bool) where
       | inl t ↦ rw (t, dead-in S (placeIn q) t) (closed-none q ∙ sym (filter-none live (withStage 0 (placeIn q)) refl))
       | inr t ↦ rw (t, dead-out S (placeIn q) t) (place-held q e ∙ sym (filter-one live (placeIn q) (lt-ltb 0 _ (stage-some (q .info) (q .«package») e))))
     ])
-    | inr e ↦ rw (place-free q e) (by-test (λ (x : Request). placesFor x ≡ filter live []) (isWtxid (q .key .kind) && S (q .key .hash)) (λ t. closed-none q ∙ sym no-filter) (λ t. place-free q e ∙ sym no-filter))
+    | inr e ↦ rw (place-free q e) (by-test (λ (x : Request). placesFor x ≡ filter live []) (isWtxid (q .key .kind) && S (q .key .hash)) (λ t. closed-none q ∙ sym no-filter)
+        (λ t. place-free q e ∙ sym no-filter))
   ]
 
   closed-places : (t : Table) → All Lawful t → placesOf (closeAll S t) ≡ filter live (map (deadIf S) (placesOf t))

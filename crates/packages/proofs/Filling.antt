@@ -60,7 +60,8 @@ set-again : (ps : List Place) (i : ℕ) (a d : Place) (g : Place → Place) → 
 set-again ps i a d g l = ap (λ (p : Place). set (set ps i a) i (g p)) (getD-set-same ps i a d l) ∙ set-set ps i a (g a)
 
 pub set-thrice : {b : List ℕ} (f : Flat) (i : ℕ) (a d : Place) (g k : Place → Place) → i < length (f .places)
-    → Shows b (withPlaces (set (set (set (f .places) i a) i (g (getD (set (f .places) i a) i d))) i (k (getD (set (set (f .places) i a) i (g (getD (set (f .places) i a) i d))) i d))) f) → Shows b (withPlaces (set (f .places) i (k (g a))) f)
+    → Shows b (withPlaces (set (set (set (f .places) i a) i (g (getD (set (f .places) i a) i d))) i (k (getD (set (set (f .places) i a) i (g (getD (set (f .places) i a) i d))) i d))) f)
+    → Shows b (withPlaces (set (f .places) i (k (g a))) f)
 set-thrice {b} f i a d g k l h =
     let ps = f .places in
     subst (λ (qs : List Place). Shows b (withPlaces qs f)) (ap (λ (qs : List Place). set qs i (k (getD qs i d))) (set-again ps i a d g l) ∙ set-again ps i (g a) d k l) h

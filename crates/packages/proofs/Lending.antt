@@ -29,5 +29,6 @@ module _ {b : List ℕ} {f : Flat} (h : Shows b f) {from to : ℕ} (p : PartOf b
 hashes : (ps : List Place) → map (λ p. quadNumber (quadOf (p .hash))) ps ≡ placeHashes ps
 hashes ps = simp number-quad
 
-pub place-sought : (Q : ℕ) (ps : List Place) {w : List ℕ} → length ps ≤ Q → Holds placeSize placeWords Q ps w → {n x r : ℕ} → n ≡ length ps → Sought (recs placeSize placeKey n w) n x r → Sorted (placeHashes ps) → Bound (placeHashes ps) x r
+pub place-sought : (Q : ℕ) (ps : List Place) {w : List ℕ} → length ps ≤ Q → Holds placeSize placeWords Q ps w → {n x r : ℕ} → n ≡ length ps → Sought (recs placeSize placeKey n w) n x r
+    → Sorted (placeHashes ps) → Bound (placeHashes ps) x r
 place-sought Q ps {w} l h e s o = let q = ap (λ j. recs placeSize placeKey j w) e ∙ place-keys Q ps l h ∙ hashes ps in rw q at (s .bound (rw q o))

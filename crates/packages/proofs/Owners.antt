@@ -76,12 +76,15 @@ module _ (A : List Row) (q : Request) (cs : List Candidate) (C : List Row) (d : 
       let l = ap length (f .all) ∙ length-append (f .front) (f .one ∷ f .back) in
       let j = length A + length (f .front) in
       let z : j - length A ≡ length (f .front) = omega arith in
-      let there : getD cs (j - length A) (f .one) ≡ f .one = ap (λ (i : ℕ). getD cs i (f .one)) z ∙ ap (λ (l : List Candidate). getD l (length (f .front)) (f .one)) (f .all) ∙ getD-at (f .front) (f .one) (f .back) (f .one) (length (f .front)) refl in
+      let there : getD cs (j - length A) (f .one) ≡ f .one = ap (λ (i : ℕ). getD cs i (f .one)) z ∙ ap (λ (l : List Candidate). getD l (length (f .front)) (f .one)) (f .all) ∙
+      getD-at (f .front) (f .one) (f .back) (f .one) (length (f .front)) refl in
       let row = in-window j (omega arith) (omega arith) (f .one) ∙ ap (rowOf q) there in
-      let bit : ownBit (rowOf q (f .one)) ≡ 1 = own-row q (f .one) ∙ ap (λ (w : Option Owner). one (ownerIs (f .one .connection) w)) e ∙ ap one (eq-eqb (o .connection) (f .one .connection) (sym (f .is))) in
+      let bit : ownBit (rowOf q (f .one)) ≡ 1 = own-row q (f .one) ∙ ap (λ (w : Option Owner). one (ownerIs (f .one .connection) w)) e ∙
+      ap one (eq-eqb (o .connection) (f .one .connection) (sym (f .is))) in
       n j (omega arith) (omega arith) (ap ownBit row ∙ bit)
 
-  window-owner : OwnerFits (q .owner) cs → {n v : ℕ} → OwnerRow (A ++ (map (rowOf q) cs ++ C)) d (length A) (length A + length cs) n v ⊎ NoOwnerRow (A ++ (map (rowOf q) cs ++ C)) d (length A) (length A + length cs) n v → OwnerIs (q .owner) n v
+  window-owner : OwnerFits (q .owner) cs → {n v : ℕ} → OwnerRow (A ++ (map (rowOf q) cs ++ C)) d (length A) (length A + length cs) n v ⊎ NoOwnerRow (A ++ (map (rowOf q) cs ++ C)) d (length A)
+      (length A + length cs) n v → OwnerIs (q .owner) n v
   window-owner h (inl w) =
       let e = in-window (w .index) (w .least) (w .most) nobody in
       owning q (getD cs (w .index - length A) nobody) (sym (ap ownBit e) ∙ w .owns) (w .connection ∙ ap (λ (r : Row). r .conn) e) (w .deadline ∙ ap (λ (r : Row). r .deadline) e)
@@ -101,7 +104,8 @@ module _ (st : State) (s : Sound st) (k : Key) {from to : ℕ} (e : from ≡ len
       let A = rowsBelow k t in
       let u : to ≡ length A + length (q .candidates) = omega (arith, length-append A (map (rowOf q) (q .candidates)), length-map (q .candidates) (rowOf q)) in
       window-owner A q (q .candidates) (rowsAbove k t) d (lawful-at k t (s .bounded .lawful) .owner)
-      (subst (λ (rs : List Row). OwnerRow rs d (length A) (length A + length (q .candidates)) n v ⊎ NoOwnerRow rs d (length A) (length A + length (q .candidates)) n v) (rows-at k 0 t (s .bounded .ordered))
+      (subst (λ (rs : List Row). OwnerRow rs d (length A) (length A + length (q .candidates)) n v ⊎ NoOwnerRow rs d (length A) (length A + length (q .candidates)) n v)
+      (rows-at k 0 t (s .bounded .ordered))
       (rw (e, u) at w))
 
 -- ---- the loop over rows: none of from .. i owns
@@ -111,7 +115,8 @@ pub record Unowned (b : List ℕ) (from to i : ℕ) : Type 0 where
   pub most : i ≤ to
   pub free : (f : Flat) (d : Row) → Shows b f → (j : ℕ) → from ≤ j → j < i → ownBit (getD (f .rows) j d) ≡ 1 → ⊥
 
-pub unowned-more : {b : List ℕ} {from to i : ℕ} {r : Row} → Unowned b from to i → i < to → ((f : Flat) (d : Row) → Shows b f → r ≡ getD (f .rows) i d) → (r .bits / 8 % 2 ≡ 1 → ⊥) → Unowned b from to (i + 1)
+pub unowned-more : {b : List ℕ} {from to i : ℕ} {r : Row} → Unowned b from to i → i < to → ((f : Flat) (d : Row) → Shows b f → r ≡ getD (f .rows) i d) → (r .bits / 8 % 2 ≡ 1 → ⊥)
+    → Unowned b from to (i + 1)
 unowned-more {b} {from} {to} {i} {r} u l reads e = record {
   least = omega (arith, u .least);
   most = omega arith;

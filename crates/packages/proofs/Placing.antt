@@ -83,12 +83,14 @@ module _ (st : State) (s : Sound st) (h : ℕ) (small : h < top) {i : ℕ} (bd :
   its-hash = ap (λ (j : Key). j .hash) (at-key (wtxid h) 0 (st .table) small (s .bounded .ordered))
 
   module _ (g : Request → Request) (same : Kept (g q) q) where
-    replaced : hasPlace q ≡ true → (p : Place) → placesFor (g q) ≡ p ∷ [] → {b : List ℕ} → Shows b (withPlaces (set (placesOf (st .table)) i p) (flatOf st)) → Writes b (onTable (change (wtxid h) g (st .table)) st)
+    replaced : hasPlace q ≡ true → (p : Place) → placesFor (g q) ≡ p ∷ [] → {b : List ℕ} → Shows b (withPlaces (set (placesOf (st .table)) i p) (flatOf st))
+        → Writes b (onTable (change (wtxid h) g (st .table)) st)
     replaced e p w x =
         let k = wtxid h in
         let t = st .table in
         let u = holding q (lawful-at k t (s .bounded .lawful)) e .owner in
-        made st s k g same (place-replaced k 0 t (s .bounded .ordered) g (some-one st s k g same u) (placeIn q) p (place-held q e) w ∙ ap (λ (j : ℕ). set (placesOf t) j p) (sym (spot-is st s h small bd))) x
+        made st s k g same (place-replaced k 0 t (s .bounded .ordered) g (some-one st s k g same u) (placeIn q) p (place-held q e) w ∙
+        ap (λ (j : ℕ). set (placesOf t) j p) (sym (spot-is st s h small bd))) x
 
   -- "owner .., flag"
   pub opened : OwnedPlain q → {b : List ℕ} → Shows b (withPlaces (insertAt i (blank h 1) (placesOf (st .table))) (flatOf st)) → Writes b (onTable (change (wtxid h) flagged (st .table)) st)
@@ -99,16 +101,19 @@ module _ (st : State) (s : Sound st) (h : ℕ) (small : h < top) {i : ℕ} (bd :
       let same : Kept (flagged q) q = record { key = refl; candidates = refl; owner = refl; fallback = refl } in
       let before : placesFor q ≡ [] = rw (o .info, o .bare) in
       let after : placesFor (flagged q) ≡ blank h 1 ∷ [] = rw (o .bare, its-hash) in
-      made st s k flagged same (place-comes k 0 t (s .bounded .ordered) flagged (some-one st s k flagged same (o .owned)) (blank h 1) before after ∙ ap (λ (j : ℕ). insertAt j (blank h 1) (placesOf t)) (sym (spot-is st s h small bd))) x
+      made st s k flagged same (place-comes k 0 t (s .bounded .ordered) flagged (some-one st s k flagged same (o .owned)) (blank h 1) before after ∙
+      ap (λ (j : ℕ). insertAt j (blank h 1) (placesOf t)) (sym (spot-is st s h small bd))) x
 
-  pub parent-added : (n : ℕ) → hasPlace q ≡ true → (d : Place) {b : List ℕ} → Shows b (withPlaces (set (placesOf (st .table)) i (withParents ((getD (placesOf (st .table)) i d) .parents ++ (n ∷ [])) (getD (placesOf (st .table)) i d))) (flatOf st)) → Writes b (onTable (change (wtxid h) (withParent n) (st .table)) st)
+  pub parent-added : (n : ℕ) → hasPlace q ≡ true → (d : Place) {b : List ℕ} → Shows b (withPlaces (set (placesOf (st .table)) i
+      (withParents ((getD (placesOf (st .table)) i d) .parents ++ (n ∷ [])) (getD (placesOf (st .table)) i d))) (flatOf st)) → Writes b (onTable (change (wtxid h) (withParent n) (st .table)) st)
   parent-added n e d {b} x =
       let same : Kept (withParent n q) q = record { key = refl; candidates = refl; owner = refl; fallback = refl } in
       replaced (withParent n) same e (placeIn (withParent n q)) (place-held (withParent n q) e)
       (subst (λ (p : Place). Shows b (withPlaces (set (placesOf (st .table)) i (withParents (p .parents ++ (n ∷ [])) p)) (flatOf st))) (its-place st s h small bd e d) x)
 
   -- "Awaiting" becomes "Enqueued"
-  pub stage-set : (p : Package) → q .«package» ≡ some p → hasPlace q ≡ true → (d : Place) {b : List ℕ} → Shows b (withPlaces (set (placesOf (st .table)) i (withStage 3 (getD (placesOf (st .table)) i d))) (flatOf st)) → Writes b (onTable (change (wtxid h) (packaged (begun p)) (st .table)) st)
+  pub stage-set : (p : Package) → q .«package» ≡ some p → hasPlace q ≡ true → (d : Place) {b : List ℕ}
+      → Shows b (withPlaces (set (placesOf (st .table)) i (withStage 3 (getD (placesOf (st .table)) i d))) (flatOf st)) → Writes b (onTable (change (wtxid h) (packaged (begun p)) (st .table)) st)
   unfolding placesFor
   stage-set p w e d {b} x =
       let same : Kept (packaged (begun p) q) q = record { key = refl; candidates = refl; owner = refl; fallback = refl } in
@@ -117,7 +122,9 @@ module _ (st : State) (s : Sound st) (h : ℕ) (small : h < top) {i : ℕ} (bd :
       (subst (λ (y : Place). Shows b (withPlaces (set (placesOf (st .table)) i (withStage 3 y)) (flatOf st))) (its-place st s h small bd e d) x)
 
   -- the flag becomes a package
-  pub claimed : (c : ℕ) (ws : List ℕ) → FlagOnly q → (d : Place) {b : List ℕ} → Shows b (withPlaces (set (placesOf (st .table)) i (withStage 2 (withCombined c (withWtxids ws (getD (placesOf (st .table)) i d))))) (flatOf st)) → Writes b (onTable (change (wtxid h) (packaged (record { combined = c; wtxids = ws; enqueued = false })) (st .table)) st)
+  pub claimed : (c : ℕ) (ws : List ℕ) → FlagOnly q → (d : Place) {b : List ℕ}
+      → Shows b (withPlaces (set (placesOf (st .table)) i (withStage 2 (withCombined c (withWtxids ws (getD (placesOf (st .table)) i d))))) (flatOf st))
+      → Writes b (onTable (change (wtxid h) (packaged (record { combined = c; wtxids = ws; enqueued = false })) (st .table)) st)
   unfolding placesFor
   claimed c ws o d {b} x =
       let p : Package = record { combined = c; wtxids = ws; enqueued = false } in
@@ -138,7 +145,8 @@ module _ (st : State) (s : Sound st) (h : ℕ) (small : h < top) {i : ℕ} (bd :
   place-closed e x =
       let k = wtxid h in
       let t = st .table in
-      made st s k closed beside (place-goes k 0 t (s .bounded .ordered) closed (λ z. gone) (placeIn q) (place-held q e) gone ∙ ap (λ (j : ℕ). removeAt j (placesOf t)) (sym (spot-is st s h small bd))) x
+      made st s k closed beside (place-goes k 0 t (s .bounded .ordered) closed (λ z. gone) (placeIn q) (place-held q e) gone ∙
+      ap (λ (j : ℕ). removeAt j (placesOf t)) (sym (spot-is st s h small bd))) x
 
   pub nothing-closed : hasPlace q ≡ false → {b : List ℕ} → Writes b st → Writes b (onTable (change (wtxid h) closed (st .table)) st)
   nothing-closed e x =

@@ -104,7 +104,13 @@ module _ (st : State) (s : Sound st) (h : ℕ) (small : h < top) where
   pub sound-parent : (n : ℕ) → n < top → TakesParent r → elem n (r .parents) ≡ false → Sound (onTable (change (wtxid h) (withParent n) (st .table)) st)
   sound-parent n b p e =
       sound-beside st s (wtxid h) small (withParent n) (λ q. refl) (record { key = refl; candidates = refl; owner = refl; fallback = refl })
-      (record { candidates = l .candidates; owner = l .owner; packed = repacked (r .key .kind) (r .owner) (r .info) (r .«package») (r .parents) (r .parents ++ (n ∷ [])) (p .held) (l .packed); parents = parents-more (r .parents) n b e (p .few) (l .parents); mark = l .mark }) (omega (arith, s .bounded .room))
+      (record {
+        candidates = l .candidates;
+        owner = l .owner;
+        packed = repacked (r .key .kind) (r .owner) (r .info) (r .«package») (r .parents) (r .parents ++ (n ∷ [])) (p .held) (l .packed);
+        parents = parents-more (r .parents) n b e (p .few) (l .parents);
+        mark = l .mark;
+      }) (omega (arith, s .bounded .room))
 
   pub sound-packaged : (p : Package) → hasPlace r ≡ true → PackageFits p → Sound (onTable (change (wtxid h) (packaged p) (st .table)) st)
   sound-packaged p e f =
@@ -126,7 +132,8 @@ lawful-closed q l = record { candidates = l .candidates; owner = l .owner; packe
 module _ (S : ℕ → Bool) where
   closed-kept : (q : Request) → Kept (closedIf S q) q
   unfolding closedIf
-  closed-kept q = by-test (λ (x : Request). Kept x q) (isWtxid (q .key .kind) && S (q .key .hash)) (λ e. record { key = refl; candidates = refl; owner = refl; fallback = refl }) (λ e. record { key = refl; candidates = refl; owner = refl; fallback = refl })
+  closed-kept q = by-test (λ (x : Request). Kept x q) (isWtxid (q .key .kind) && S (q .key .hash)) (λ e. record { key = refl; candidates = refl; owner = refl; fallback = refl })
+      (λ e. record { key = refl; candidates = refl; owner = refl; fallback = refl })
 
   closed-lawful : (q : Request) → Lawful q → Lawful (closedIf S q)
   unfolding closedIf

@@ -28,7 +28,8 @@ HashIn b i list j r = (f : Flat) (d : Place) → Shows b f → j < length (list 
 -- the hash h is put behind the n hashes of a list of the i-th place
 abbrev pub PushedIn : List ℕ → List ℕ → ℕ → (Place → List ℕ) → (List ℕ → Place → Place) → ℕ → ℕ → Type 0
 PushedIn b b′ i list with-list n h =
-    (f : Flat) (d : Place) → length (list (getD (f .places) i d)) ≡ n → Shows b f → Shows b′ (withPlaces (set (f .places) i (with-list (list (getD (f .places) i d) ++ (h ∷ [])) (getD (f .places) i d))) f)
+    (f : Flat) (d : Place) → length (list (getD (f .places) i d)) ≡ n → Shows b f
+    → Shows b′ (withPlaces (set (f .places) i (with-list (list (getD (f .places) i d) ++ (h ∷ [])) (getD (f .places) i d))) f)
 
 -- the i-th place has no wtxids
 pub record NoWtxids (b : List ℕ) (i : ℕ) : Type 0 where

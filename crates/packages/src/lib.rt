@@ -210,7 +210,8 @@ pub fn add_parent(s: &mut [u8], h: ident::Hash, parent: ident::Hash)
 // The flag becomes a package, Awaiting; `list` has its wtxids, 32 bytes each. The parents stay.
 pub fn claim(s: &mut [u8], h: ident::Hash, combined: ident::Hash, list: &[u8])
     requires { ⌜ Kept (now s) × (length (hashesIn (now list)) ≤ listMost) ⌝ }
-    ensures { λ _. ⌜ Makes (now (s .entry)) (now (s .exit)) (λ t. FlagOnly (at (wtxid (hashNum h)) t)) (change (wtxid (hashNum h)) (packaged (record { combined = hashNum combined; wtxids = hashesIn (now (list .entry)); enqueued = false }))) ⌝ }
+    ensures { λ _. ⌜ Makes (now (s .entry)) (now (s .exit)) (λ t. FlagOnly (at (wtxid (hashNum h)) t))
+        (change (wtxid (hashNum h)) (packaged (record { combined = hashNum combined; wtxids = hashesIn (now (list .entry)); enqueued = false }))) ⌝ }
 {
     let p = seek(s, h);
     if p.held {

@@ -26,7 +26,11 @@ hash-quad-requires : tie.Need-hash-quad-requires
 hash-quad-requires c κs = search needs
 
 push-parent-requires : tie.Need-push-parent-requires
-push-parent-requires c κs = (kept-shown (c .before .before .before .before .before .before .before .before .before .pre), c .before .before .before .before .before .before .seek .ensures .inside (c .before .before .before .before .before .if1 .taken), c .before .if2 .taken)
+push-parent-requires c κs = (
+  kept-shown (c .before .before .before .before .before .before .before .before .before .pre),
+  c .before .before .before .before .before .before .seek .ensures .inside (c .before .before .before .before .before .if1 .taken),
+  c .before .if2 .taken,
+)
 
 same-length : tie.Need-same-length
 same-length c = search needs
@@ -41,8 +45,10 @@ returns c = λ st s w o.
     let e = sym (p .held-is) ∙ c .before .before .before .before .before .before .before .before .if1 .taken in
     let there = its-place st s h (c .before .before .before .before .before .before .before .before .before .seek .ensures .small) (p .bound) e d in
     let x : quadNumber (c .before .before .before .before .before .hash-quad .result) ≡ n = ap quadNumber (c .before .before .before .before .before .hash-quad .ensures .words-are) ∙ number-quad n in
-    let count = c .before .before .before .before .before .before .parents .ensures .1 h (c .before .before .before .before .before .before .before .before .before .seek .ensures .small) st s w (record { bound = p .bound; held-is = sym e }) in
-    parent-added st s h (c .before .before .before .before .before .before .before .before .before .seek .ensures .small) (p .bound) n e d (rw x at (c .before .before .push-parent .ensures (flatOf st) d (ap (λ (y : Place). length (y .parents)) there ∙ sym count) w))
+    let count = c .before .before .before .before .before .before .parents .ensures .1 h (c .before .before .before .before .before .before .before .before .before .seek .ensures .small) st s w
+    (record { bound = p .bound; held-is = sym e }) in
+    parent-added st s h (c .before .before .before .before .before .before .before .before .before .seek .ensures .small) (p .bound) n e d
+    (rw x at (c .before .before .push-parent .ensures (flatOf st) d (ap (λ (y : Place). length (y .parents)) there ∙ sym count) w))
 
 same-length-2 : tie.Need-same-length-2
 same-length-2 c = search needs

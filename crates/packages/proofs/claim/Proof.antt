@@ -32,17 +32,29 @@ hash-quad-requires : tie.Need-hash-quad-requires
 hash-quad-requires c κs = search needs
 
 push-wtxids-requires : tie.Need-push-wtxids-requires
-push-wtxids-requires c κs = (no-wtxids (c .before .before .before .before .before .before .before .before .before .before .before .pre .0) (c .before .before .before .before .before .before .before .seek .ensures .inside (c .before .before .before .before .before .before .if1 .taken)) (c .before .before .before .before .place-at .ensures) (c .before .if2 .taken), c .before .before .before .before .before .before .before .before .before .before .before .pre .1)
+push-wtxids-requires c κs = (
+  no-wtxids (c .before .before .before .before .before .before .before .before .before .before .before .pre .0)
+      (c .before .before .before .before .before .before .before .seek .ensures .inside (c .before .before .before .before .before .before .if1 .taken))
+      (c .before .before .before .before .place-at .ensures) (c .before .if2 .taken),
+  c .before .before .before .before .before .before .before .before .before .before .before .pre .1,
+)
 
 set-combined-requires : tie.Need-set-combined-requires
 set-combined-requires c κs =
-    let k = no-wtxids (c .before .before .before .before .before .before .before .before .before .before .before .before .before .before .before .pre .0) (c .before .before .before .before .before .before .before .before .before .before .before .seek .ensures .inside (c .before .before .before .before .before .before .before .before .before .before .if1 .taken)) (c .before .before .before .before .before .before .before .before .place-at .ensures) (c .before .before .before .before .before .if2 .taken) in
+    let k = no-wtxids (c .before .before .before .before .before .before .before .before .before .before .before .before .before .before .before .pre .0)
+    (c .before .before .before .before .before .before .before .before .before .before .before .seek .ensures .inside
+    (c .before .before .before .before .before .before .before .before .before .before .if1 .taken)) (c .before .before .before .before .before .before .before .before .place-at .ensures)
+    (c .before .before .before .before .before .if2 .taken) in
     (listed-shown k (blank 0 0) (c .before .before .before .push-wtxids .ensures), listed-inside k (blank 0 0) (c .before .before .before .push-wtxids .ensures))
 
 set-stage-requires : tie.Need-set-stage-requires
 set-stage-requires c κs =
     let d = blank 0 0 in
-    let k = no-wtxids (c .before .before .before .before .before .before .before .before .before .before .before .before .before .before .before .before .before .before .before .pre .0) (c .before .before .before .before .before .before .before .before .before .before .before .before .before .before .before .seek .ensures .inside (c .before .before .before .before .before .before .before .before .before .before .before .before .before .before .if1 .taken)) (c .before .before .before .before .before .before .before .before .before .before .before .before .place-at .ensures) (c .before .before .before .before .before .before .before .before .before .if2 .taken) in
+    let k = no-wtxids (c .before .before .before .before .before .before .before .before .before .before .before .before .before .before .before .before .before .before .before .pre .0)
+    (c .before .before .before .before .before .before .before .before .before .before .before .before .before .before .before .seek .ensures .inside
+    (c .before .before .before .before .before .before .before .before .before .before .before .before .before .before .if1 .taken))
+    (c .before .before .before .before .before .before .before .before .before .before .before .before .place-at .ensures)
+    (c .before .before .before .before .before .before .before .before .before .if2 .taken) in
     let x = listed-shown k d (c .before .before .before .before .before .before .before .push-wtxids .ensures) in
     let y = listed-inside k d (c .before .before .before .before .before .before .before .push-wtxids .ensures) in
     let i = c .before .before .before .before .before .before .before .before .before .before .before .before .before .before .before .seek .result .at in
@@ -55,9 +67,12 @@ same-length c = search needs
 
 returns : tie.Need-returns
 returns c = λ st s w o.
-    let h = hashNum (c .before .before .before .before .before .before .before .before .before .before .before .before .before .before .before .before .before .before .before .before .before .before .args .h) in
-    let n = hashNum (c .before .before .before .before .before .before .before .before .before .before .before .before .before .before .before .before .before .before .before .before .before .before .args .combined) in
-    let hs = hashesIn (c .before .before .before .before .before .before .before .before .before .before .before .before .before .before .before .before .before .before .before .before .before .before .args .list .now) in
+    let h = hashNum (c .before .before .before .before .before .before .before .before .before .before .before .before .before .before .before .before .before .before .before
+    .before .before .before .args .h) in
+    let n = hashNum (c .before .before .before .before .before .before .before .before .before .before .before .before .before .before .before .before .before .before .before .before
+    .before .before .args .combined) in
+    let hs = hashesIn (c .before .before .before .before .before .before .before .before .before .before .before .before .before .before .before .before .before .before .before .before
+    .before .before .args .list .now) in
     let d = blank 0 0 in
     let i = c .before .before .before .before .before .before .before .before .before .before .before .before .before .before .before .before .before .before .seek .result .at in
     let ps = placesOf (st .table) in
@@ -65,10 +80,17 @@ returns c = λ st s w o.
     let p = c .before .before .before .before .before .before .before .before .before .before .before .before .before .before .before .before .before .before .seek .ensures .is st s w in
     let q = c .before .before .before .before .before .before .before .before .before .before .before .before .before .before .hash-quad .result in
     let z = sizes w in
-    let l : i < length ps = omega (arith, c .before .before .before .before .before .before .before .before .before .before .before .before .before .before .before .before .before .before .seek .ensures .inside (c .before .before .before .before .before .before .before .before .before .before .before .before .before .before .before .before .before .if1 .taken)) in
-    let there = its-place st s h small (p .bound) (sym (p .held-is) ∙ c .before .before .before .before .before .before .before .before .before .before .before .before .before .before .before .before .before .if1 .taken) d in
+    let l : i < length ps =
+    omega (
+      arith,
+      c .before .before .before .before .before .before .before .before .before .before .before .before .before .before .before .before .before .before .seek .ensures .inside
+          (c .before .before .before .before .before .before .before .before .before .before .before .before .before .before .before .before .before .if1 .taken),
+    ) in
+    let there = its-place st s h small (p .bound)
+    (sym (p .held-is) ∙ c .before .before .before .before .before .before .before .before .before .before .before .before .before .before .before .before .before .if1 .taken) d in
     let none-yet : (getD ps i d) .wtxids ≡ [] = ap (λ (x : Place). x .wtxids) there ∙ ap wtxidsOf (o .bare) in
-    let x : quadNumber q ≡ n = ap quadNumber (c .before .before .before .before .before .before .before .before .before .before .before .before .before .before .hash-quad .ensures .words-are) ∙ number-quad n in
+    let x : quadNumber q ≡ n = ap quadNumber (c .before .before .before .before .before .before .before .before .before .before .before .before .before .before .hash-quad .ensures .words-are) ∙
+    number-quad n in
     let listed = c .before .before .before .before .before .before .before .before .before .before .push-wtxids .ensures (flatOf st) d none-yet w in
     let b = c .before .before .set-stage .ensures d _ (c .before .before .before .before .before .before .set-combined .ensures d _ listed) in
     claimed st s h small (p .bound) n hs o d (rw x at (set-thrice (flatOf st) i (withWtxids hs (getD ps i d)) d (withCombined (quadNumber q)) (withStage 2) l b))

@@ -20,7 +20,8 @@ returns : tie.Need-returns
 returns c = λ st s w u.
     let h = hashNum (c .before .before .before .before .before .before .before .before .args .h) in
     let p = c .before .before .before .before .before .seek .ensures .is st s w in
-    place-closed st s h (c .before .before .before .before .before .seek .ensures .small) (p .bound) (sym (p .held-is) ∙ c .before .before .before .before .if1 .taken) (c .before .before .close-place .ensures (flatOf st) w)
+    place-closed st s h (c .before .before .before .before .before .seek .ensures .small) (p .bound) (sym (p .held-is) ∙ c .before .before .before .before .if1 .taken)
+    (c .before .before .close-place .ensures (flatOf st) w)
 
 same-length-2 : tie.Need-same-length-2
 same-length-2 c = search needs

@@ -24,7 +24,8 @@ returns : tie.Need-returns
 returns c = λ x st s w e.
     let h = hashNum (c .before .before .before .before .before .before .before .before .args .h) in
     let p = c .before .before .before .before .before .seek .ensures .is st s w in
-    stage-set st s h (c .before .before .before .before .before .seek .ensures .small) (p .bound) x e (sym (p .held-is) ∙ c .before .before .before .before .if1 .taken) (blank 0 0) (c .before .before .set-stage .ensures (blank 0 0) (flatOf st) w)
+    stage-set st s h (c .before .before .before .before .before .seek .ensures .small) (p .bound) x e (sym (p .held-is) ∙ c .before .before .before .before .if1 .taken) (blank 0 0)
+    (c .before .before .set-stage .ensures (blank 0 0) (flatOf st) w)
 
 same-length-2 : tie.Need-same-length-2
 same-length-2 c = search needs

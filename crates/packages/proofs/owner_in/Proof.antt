@@ -24,7 +24,14 @@ row-at-requires c κs = (c .before .before .before .pre .0, omega (arith, c .loo
 returns : tie.Need-returns Inv-loop μ-loop
 returns c = λ f d h.
     let e = c .before .before .row-at .ensures f d h in
-    inl (record { index = c .before .before .before .before .loop .i; least = c .before .before .before .before .loop .inv .least; most = c .before .before .before .loop-test .taken; owns = sym (ap ownBit e) ∙ c .if1 .taken; connection = ap (λ (r : Row). r .conn) e; deadline = ap (λ (r : Row). r .deadline) e })
+    inl (record {
+      index = c .before .before .before .before .loop .i;
+      least = c .before .before .before .before .loop .inv .least;
+      most = c .before .before .before .loop-test .taken;
+      owns = sym (ap ownBit e) ∙ c .if1 .taken;
+      connection = ap (λ (r : Row). r .conn) e;
+      deadline = ap (λ (r : Row). r .deadline) e;
+    })
 
 add-i : tie.Need-add-i Inv-loop μ-loop
 add-i c = search needs

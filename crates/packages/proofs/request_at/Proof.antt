@@ -34,7 +34,8 @@ returns c =
     let key = c .before .before .before .before .key-words .ensures in
     let win = c .before .before .before .window-of .ensures in
     record {
-      spans = subst (λ (x : ℕ). Spans (c .before .before .before .before .before .before .args .s .now) x (c .before .before .before .window-of .result .from) (c .before .before .before .window-of .result .to)) (key .number) win;
+      spans = subst (λ (x : ℕ). Spans (c .before .before .before .before .before .before .args .s .now) x (c .before .before .before .window-of .result .from)
+          (c .before .before .before .window-of .result .to)) (key .number) win;
       is = λ st s w.
           let d = rowOf (at k (st .table)) nobody in
           let from = from-at st s k (key .small) (key .number) (win .from-is st s w) in

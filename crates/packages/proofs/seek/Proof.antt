@@ -41,10 +41,15 @@ returns c = record {
       let z = sizes w in
       let d = blank 0 0 in
       let bd = sought-at st s h (c .before .before .before .before .before .before .hash-quad .ensures .words-are) w (c .before .before .before .before .before .seek-place .ensures) in
-      let l : c .before .before .before .before .before .seek-place .result < length (placesOf (st .table)) = omega (arith, c .before .before .before .before .held-places .ensures .word, c .before .before .before .if1 .taken) in
+      let l : c .before .before .before .before .before .seek-place .result < length (placesOf (st .table)) =
+      omega (arith, c .before .before .before .before .held-places .ensures .word, c .before .before .before .if1 .taken) in
       let x = ap quadNumber (c .before .before .before .before .before .before .hash-quad .ensures .words-are) ∙ number-quad h in
       let y = head-hash _ (c .before .before .place-at .ensures (flatOf st) d w) in
-      record { bound = bd; held-is = tested st s h (c .before .before .before .before .before .before .hash-quad .ensures .small) bd d l (c .quad-less .ensures ∙ ap (λ (n : ℕ). ltb n (quadNumber (c .before .before .place-at .result .hash))) x ∙ ap (ltb h) y) };
+      record {
+        bound = bd;
+        held-is = tested st s h (c .before .before .before .before .before .before .hash-quad .ensures .small) bd d l (c .quad-less .ensures ∙
+            ap (λ (n : ℕ). ltb n (quadNumber (c .before .before .place-at .result .hash))) x ∙ ap (ltb h) y);
+      };
 }
 
 returns-2 : tie.Need-returns-2
@@ -56,7 +61,10 @@ returns-2 c = record {
       let h = hashNum (c .before .before .before .before .before .args .h) in
       let z = sizes w in
       let bd = sought-at st s h (c .before .before .before .hash-quad .ensures .words-are) w (c .before .before .seek-place .ensures) in
-      record { bound = bd; held-is = sym (missing st s h (c .before .before .before .hash-quad .ensures .small) bd (blank 0 0) (λ l y. omega (arith, c .before .held-places .ensures .word, c .if1 .left))) };
+      record {
+        bound = bd;
+        held-is = sym (missing st s h (c .before .before .before .hash-quad .ensures .small) bd (blank 0 0) (λ l y. omega (arith, c .before .held-places .ensures .word, c .if1 .left)));
+      };
 }
 
 pub seek-spec : {M : Type 1} → statement M

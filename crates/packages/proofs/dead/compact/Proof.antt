@@ -27,10 +27,14 @@ loop-less : tie.Need-loop-less Inv-loop μ-loop
 loop-less c = search needs
 
 loop-again : tie.Need-loop-again Inv-loop μ-loop
-loop-again c = (compacting-more (c .before .before .before .before .before .loop .inv .0) (c .before .before .before .before .loop-test .taken) (c .before .before .keep-live .ensures), c .before .before .keep-live .kept .0 ∙ c .before .before .before .before .before .loop .inv .1)
+loop-again c = (
+  compacting-more (c .before .before .before .before .before .loop .inv .0) (c .before .before .before .before .loop-test .taken) (c .before .before .keep-live .ensures),
+  c .before .before .keep-live .kept .0 ∙ c .before .before .before .before .before .loop .inv .1,
+)
 
 truncate-places-requires : tie.Need-truncate-places-requires Inv-loop μ-loop
-truncate-places-requires c κs = (omega (arith, c .before .before .loop .inv .0 .less, c .before .before .loop .inv .0 .most), omega (arith, c .before .before .loop .inv .1, c .before .before .before .before .pre))
+truncate-places-requires c κs =
+    (omega (arith, c .before .before .loop .inv .0 .less, c .before .before .loop .inv .0 .most), omega (arith, c .before .before .loop .inv .1, c .before .before .before .before .pre))
 
 same-length : tie.Need-same-length Inv-loop μ-loop
 same-length c = c .before .before .truncate-places .kept .0 ∙ c .before .before .before .before .before .loop .inv .1

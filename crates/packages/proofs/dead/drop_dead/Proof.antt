@@ -36,7 +36,9 @@ returns c = λ f h.
     let held = lent h part in
     let n = sym (c .before .before .before .before .before .before .before .before .before .before .held-places .ensures .field f h) in
     let m = c .before .before .before .before .before .before .compact .ensures .count (f .head .places) (f .places) n held in
-    places-counted h (search needs) (filter live (f .places)) (c .before .before .before .before .before .before .compact .result) (sym m) (came-back h part _ _ (c .before .before .before .before .before .before .compact .kept .0) (c .before .before .before .before .before .before .compact .ensures .region (f .head .places) (f .places) n held)) (c .before .before .put .ensures .word)
+    places-counted h (search needs) (filter live (f .places)) (c .before .before .before .before .before .before .compact .result) (sym m) (came-back h part _ _
+    (c .before .before .before .before .before .before .compact .kept .0) (c .before .before .before .before .before .before .compact .ensures .region (f .head .places) (f .places) n held))
+    (c .before .before .put .ensures .word)
 
 pub drop-dead-spec : {M : Type 1} → statement M
 drop-dead-spec =

@@ -17,7 +17,8 @@ same-length : tie.Need-same-length
 same-length c = search needs
 
 returns : tie.Need-returns
-returns c = kept-live (c .before .before .before .before .before .before .read-head .ensures) (c .before .before .before .before .before .before .before .before .before .args .m) (c .before .before .before .before .if1 .taken) (c .before .before .move-place .ensures)
+returns c = kept-live (c .before .before .before .before .before .before .read-head .ensures) (c .before .before .before .before .before .before .before .before .before .args .m)
+    (c .before .before .before .before .if1 .taken) (c .before .before .move-place .ensures)
 
 same-length-2 : tie.Need-same-length-2
 same-length-2 c = search needs

@@ -44,11 +44,19 @@ returns c = λ st S s w.
     let ps = placesOf (st .table) in
     let k = length-map ps (deadIf S) in
     let i = c .before .before .before .before .before .before .before .before .before .before .before .before .seek-place .result in
-    let bd = marked-bound st s S w h (c .before .before .before .before .before .before .before .before .before .before .before .before .before .before .hash-quad .ensures .words-are) (c .before .before .before .before .before .before .before .before .before .before .before .before .seek-place .ensures) in
-    let l : i < length ps = omega (arith, c .before .before .before .before .before .before .before .before .before .before .held-places .ensures .word, c .before .before .before .before .before .before .before .before .before .if1 .taken) in
-    let x : quadNumber (c .before .before .before .before .before .before .before .before .before .before .before .before .before .before .hash-quad .result) ≡ h = ap quadNumber (c .before .before .before .before .before .before .before .before .before .before .before .before .before .before .hash-quad .ensures .words-are) ∙ number-quad h in
+    let bd = marked-bound st s S w h (c .before .before .before .before .before .before .before .before .before .before .before .before .before .before .hash-quad .ensures .words-are)
+    (c .before .before .before .before .before .before .before .before .before .before .before .before .seek-place .ensures) in
+    let l : i < length ps = omega (
+      arith,
+      c .before .before .before .before .before .before .before .before .before .before .held-places .ensures .word,
+      c .before .before .before .before .before .before .before .before .before .if1 .taken,
+    ) in
+    let x : quadNumber (c .before .before .before .before .before .before .before .before .before .before .before .before .before .before .hash-quad .result) ≡ h =
+    ap quadNumber (c .before .before .before .before .before .before .before .before .before .before .before .before .before .before .hash-quad .ensures .words-are) ∙ number-quad h in
     let y = marked-hash st s S w h l (c .before .before .before .before .before .before .before .place-at .ensures) in
-    let a = ltb-false (quadNumber (c .before .before .before .before .before .before .before .before .before .before .before .before .before .before .hash-quad .result)) (quadNumber (c .before .before .before .before .before .before .before .place-at .result .hash)) (sym (c .before .before .before .before .before .quad-less .ensures) ∙ not-true (c .before .before .before .before .before .quad-less .result) (c .before .before .before .before .if2 .taken)) in
+    let a = ltb-false (quadNumber (c .before .before .before .before .before .before .before .before .before .before .before .before .before .before .hash-quad .result))
+    (quadNumber (c .before .before .before .before .before .before .before .place-at .result .hash)) (sym (c .before .before .before .before .before .quad-less .ensures) ∙
+    not-true (c .before .before .before .before .before .quad-less .result) (c .before .before .before .before .if2 .taken)) in
     let m = length-map ps (λ (p : Place). p .hash) in
     let g = bd .above i (le-refl i) (omega arith) in
     marks-more st s S w h bd l (omega arith) (blank 0 0) (c .before .before .set-stage .ensures (blank 0 0))
@@ -63,11 +71,14 @@ returns-2 c = λ st S s w.
     let ps = placesOf (st .table) in
     let k = length-map ps (deadIf S) in
     let i = c .before .before .before .before .before .before .before .before .seek-place .result in
-    let bd = marked-bound st s S w h (c .before .before .before .before .before .before .before .before .before .before .hash-quad .ensures .words-are) (c .before .before .before .before .before .before .before .before .seek-place .ensures) in
+    let bd = marked-bound st s S w h (c .before .before .before .before .before .before .before .before .before .before .hash-quad .ensures .words-are)
+    (c .before .before .before .before .before .before .before .before .seek-place .ensures) in
     let l : i < length ps = omega (arith, c .before .before .before .before .before .before .held-places .ensures .word, c .before .before .before .before .before .if1 .taken) in
-    let x : quadNumber (c .before .before .before .before .before .before .before .before .before .before .hash-quad .result) ≡ h = ap quadNumber (c .before .before .before .before .before .before .before .before .before .before .hash-quad .ensures .words-are) ∙ number-quad h in
+    let x : quadNumber (c .before .before .before .before .before .before .before .before .before .before .hash-quad .result) ≡ h =
+    ap quadNumber (c .before .before .before .before .before .before .before .before .before .before .hash-quad .ensures .words-are) ∙ number-quad h in
     let y = marked-hash st s S w h l (c .before .before .before .place-at .ensures) in
-    let a = ltb-true (quadNumber (c .before .before .before .before .before .before .before .before .before .before .hash-quad .result)) (quadNumber (c .before .before .before .place-at .result .hash)) (sym (c .before .quad-less .ensures) ∙ not-false (c .before .quad-less .result) (c .if2 .left)) in
+    let a = ltb-true (quadNumber (c .before .before .before .before .before .before .before .before .before .before .hash-quad .result))
+    (quadNumber (c .before .before .before .place-at .result .hash)) (sym (c .before .quad-less .ensures) ∙ not-false (c .before .quad-less .result) (c .if2 .left)) in
     marks-same st s S w h bd (λ _ e. omega arith)
 
 same-length-3 : tie.Need-same-length-3

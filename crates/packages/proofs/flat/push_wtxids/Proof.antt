@@ -33,7 +33,11 @@ hash-quad-requires : tie.Need-hash-quad-requires Inv-loop μ-loop
 hash-quad-requires c κs = search needs
 
 push-wtxid-requires : tie.Need-push-wtxid-requires Inv-loop μ-loop
-push-wtxid-requires c κs = (listed-shown (c .before .before .before .before .before .before .before .before .pre .0) (blank 0 0) (c .before .before .before .before .loop .inv .0 .turns), listed-inside (c .before .before .before .before .before .before .before .before .pre .0) (blank 0 0) (c .before .before .before .before .loop .inv .0 .turns), omega (arith, c .before .before .before .before .before .before .before .before .pre .1, c .before .before .before .before .loop .inv .1, c .before .before .before .loop-test .taken))
+push-wtxid-requires c κs = (
+  listed-shown (c .before .before .before .before .before .before .before .before .pre .0) (blank 0 0) (c .before .before .before .before .loop .inv .0 .turns),
+  listed-inside (c .before .before .before .before .before .before .before .before .pre .0) (blank 0 0) (c .before .before .before .before .loop .inv .0 .turns),
+  omega (arith, c .before .before .before .before .before .before .before .before .pre .1, c .before .before .before .before .loop .inv .1, c .before .before .before .loop-test .taken),
+)
 
 add-j : tie.Need-add-j Inv-loop μ-loop
 add-j c = search needs
@@ -44,9 +48,14 @@ loop-less c = search needs
 loop-again : tie.Need-loop-again Inv-loop μ-loop
 loop-again c =
     let inv = c .before .before .before .before .before .before .before .loop .inv in
-    let l : c .before .before .before .before .before .before .before .loop .j < length (hashesIn (c .before .before .before .before .before .before .before .before .before .before .before .args .list .now)) = omega (arith, inv .1, c .before .before .before .before .before .before .loop-test .taken) in
-    let x = ap quadNumber (c .before .before .before .before .hash-quad .ensures .words-are) ∙ number-quad _ ∙ c .before .before .before .before .before .hash-in .ensures in
-    (filled-more (c .before .before .before .before .before .before .before .before .before .before .before .pre .0) (inv .0) l x (c .before .before .push-wtxid .kept .0) (c .before .before .push-wtxid .ensures), inv .1)
+    let l : c .before .before .before .before .before .before .before .loop .j
+    < length (hashesIn (c .before .before .before .before .before .before .before .before .before .before .before .args .list .now)) =
+    omega (arith, inv .1, c .before .before .before .before .before .before .loop-test .taken) in
+    let x = ap quadNumber (c .before .before .before .before .hash-quad .ensures .words-are) ∙ number-quad _ ∙ c .before .before .before .before .before .hash-in .ensures in (
+      filled-more (c .before .before .before .before .before .before .before .before .before .before .before .pre .0) (inv .0) l x (c .before .before .push-wtxid .kept .0)
+          (c .before .before .push-wtxid .ensures),
+      inv .1,
+    )
 
 same-length : tie.Need-same-length Inv-loop μ-loop
 same-length c = c .before .loop .inv .0 .long
@@ -55,7 +64,8 @@ returns : tie.Need-returns Inv-loop μ-loop
 returns c =
     let hs = hashesIn (c .before .before .before .before .before .args .list .now) in
     let e : c .before .loop .j ≡ length hs = omega (arith, c .before .loop .inv .0 .most, c .before .loop .inv .1, c .loop-test .left) in
-    subst (ListedIn (c .before .before .before .before .before .args .s .now) (c .before .loop .s) (c .before .before .before .before .before .args .i)) (ap (λ (j : ℕ). take j hs) e ∙ take-all (length hs) hs (le-refl (length hs))) (c .before .loop .inv .0 .turns)
+    subst (ListedIn (c .before .before .before .before .before .args .s .now) (c .before .loop .s) (c .before .before .before .before .before .args .i))
+    (ap (λ (j : ℕ). take j hs) e ∙ take-all (length hs) hs (le-refl (length hs))) (c .before .loop .inv .0 .turns)
 
 pub push-wtxids-spec : {M : Type 1} → statement M
 push-wtxids-spec =
