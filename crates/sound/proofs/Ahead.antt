@@ -43,11 +43,13 @@ module _ (p r : Row) where
         let g : ltb (r .hash .w0) (p .hash .w0) ≡ ltb (keyNumber (keyOf r)) (keyNumber (keyOf p)) = by-hash (keyOf r) (keyOf p) (sym e) (by-w0 t s (sym e₃) (sym e₂) (sym e₁)) in
         elim (test (eqb (p .hash .w0) (r .hash .w0))) [
           | inl q ↦ let d : p .hash .w0 ≡ r .hash .w0 = eqb-true (p .hash .w0) (r .hash .w0) q in
-              rw (ahead-same (p .hash .w0) (r .hash .w0) (eqb (markBit p) (markBit r)) d) (follows-mark p r (sym f ∙ le-ltb (p .hash .w0) (r .hash .w0) (omega (arith, d))) (sym g ∙ le-ltb (r .hash .w0) (p .hash .w0) (omega (arith, d))))
+              rw (ahead-same (p .hash .w0) (r .hash .w0) (eqb (markBit p) (markBit r)) d)
+              (follows-mark p r (sym f ∙ le-ltb (p .hash .w0) (r .hash .w0) (omega (arith, d))) (sym g ∙ le-ltb (r .hash .w0) (p .hash .w0) (omega (arith, d))))
           | inr q ↦ by-word (p .hash .w0) (r .hash .w0) (eqb (markBit p) (markBit r)) (eqb-false (p .hash .w0) (r .hash .w0) q) f g
         ]
 
-    by-three : (b : Bool) → p .bits % 2 ≡ r .bits % 2 → p .hash .w3 ≡ r .hash .w3 → p .hash .w2 ≡ r .hash .w2 → (p .hash .w1 ≡ r .hash .w1 → Decides b (Follows p r)) → Decides (isAhead (p .hash .w1) (r .hash .w1) b) (Follows p r)
+    by-three : (b : Bool) → p .bits % 2 ≡ r .bits % 2 → p .hash .w3 ≡ r .hash .w3 → p .hash .w2 ≡ r .hash .w2 → (p .hash .w1 ≡ r .hash .w1 → Decides b (Follows p r))
+        → Decides (isAhead (p .hash .w1) (r .hash .w1) b) (Follows p r)
     by-three b e e₃ e₂ k = elim (test (eqb (p .hash .w1) (r .hash .w1))) [
       | inl q ↦ rw (ahead-same _ _ b (eqb-true _ _ q)) (k (eqb-true _ _ q))
       | inr q ↦ let n = eqb-false _ _ q in
@@ -75,5 +77,6 @@ module _ (p r : Row) where
           by-word (p .bits % 2) (r .bits % 2) b n (by-kind (keyOf p) (keyOf r) s t n) (by-kind (keyOf r) (keyOf p) t s (λ z. n (sym z)))
     ]
 
-    pub ahead-follows : Decides (isAhead (p .bits % 2) (r .bits % 2) (isAhead (p .hash .w3) (r .hash .w3) (isAhead (p .hash .w2) (r .hash .w2) (isAhead (p .hash .w1) (r .hash .w1) (isAhead (p .hash .w0) (r .hash .w0) (eqb (markBit p) (markBit r))))))) (Follows p r)
+    pub ahead-follows : Decides (isAhead (p .bits % 2) (r .bits % 2) (isAhead (p .hash .w3) (r .hash .w3)
+        (isAhead (p .hash .w2) (r .hash .w2) (isAhead (p .hash .w1) (r .hash .w1) (isAhead (p .hash .w0) (r .hash .w0) (eqb (markBit p) (markBit r))))))) (Follows p r)
     ahead-follows = by-bits _ (λ e. by-one _ e (λ e₃. by-two _ e e₃ (λ e₂. by-three _ e e₃ e₂ (λ e₁. by-four e e₃ e₂ e₁))))

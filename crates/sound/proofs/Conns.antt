@@ -141,7 +141,8 @@ module _ (rs : List Row) (c : ℕ) (v : List ℕ) where
   pub windows-sound : Entries (recs connSize readConn c v) → ((j : ℕ) → j < c → Counts rs (getD (recs connSize readConn c v) j blank)) → Each (λ r. Named (names c v) (r .conn)) rs
       → ConnsSound rs (recs connSize readConn c v)
   windows-sound e k m = record {
-    tally = certified rs cs (whole.tallied-weaken 0 1 cs (omega arith) (rise-tallied 1 cs (e .rise))) (each-from cs (λ j h. let a = k j (rw (length-recs connSize readConn c v) at h) in record { held = a .held; owned = a .owned })) (each-to (λ r n. named-listed c v (r .conn) n) rs m);
+    tally = certified rs cs (whole.tallied-weaken 0 1 cs (omega arith) (rise-tallied 1 cs (e .rise)))
+        (each-from cs (λ j h. let a = k j (rw (length-recs connSize readConn c v) at h) in record { held = a .held; owned = a .owned })) (each-to (λ r n. named-listed c v (r .conn) n) rs m);
     fit = e .fit;
   }
     where
@@ -182,7 +183,8 @@ module _ (rs : List Row) (c : ℕ) (v : List ℕ) where
   pub done-end : Each RowFits rs → DoneTo most → Each (λ r. Named (names c v) (r .conn)) rs
   done-end f d = each-zip (λ r p q. q (omega (arith, p .conn))) rs f d
 
-  pub few-iff : (m : ℕ) → c ≤ m → Each RowFits rs → Entries (recs connSize readConn c v) → Iff (Window (names c v) rs (recs connSize readConn c v) 0 most 0 m) (ConnsSound rs (recs connSize readConn c v))
+  pub few-iff : (m : ℕ) → c ≤ m → Each RowFits rs → Entries (recs connSize readConn c v) → Iff (Window (names c v) rs (recs connSize readConn c v) 0 most 0 m)
+      (ConnsSound rs (recs connSize readConn c v))
   few-iff m h f e = record {
     to = λ w. windows-sound e (λ j l. counted-turn 0 most 0 m (λ i b. absurd (omega arith)) w j (omega arith) l) (done-end f (done-turn 0 most (done-start f) (w .named)));
     from = sound-window 0 most 0 m;

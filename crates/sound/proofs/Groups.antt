@@ -128,7 +128,8 @@ module _ (w : List ℕ) (from i to h r : ℕ) (o : from ≤ i) (l : Level w from
   run-back : Each (λ r. hashAt r ≡ h → ⊥) (rowsIn w r to)
   run-back = in-each w (λ r. hashAt r ≡ h → ⊥) (to - r) r to (omega (arith, v .most)) (λ k a b e. omega (arith, v .past (omega arith), l r k (omega (arith, v .least)) a b))
 
-module _ (w : List ℕ) (i m j n h a b : ℕ) {from from′ : ℕ} (o : from ≤ i) (o′ : from′ ≤ j) (l : Level w from m) (l′ : Level w from′ n) (e : Least w i m j n h) (v : Run w i m h a) (v′ : Run w j n h b) where
+module _ (w : List ℕ) (i m j n h a b : ℕ) {from from′ : ℕ} (o : from ≤ i) (o′ : from′ ≤ j) (l : Level w from m) (l′ : Level w from′ n) (e : Least w i m j n h) (v : Run w i m h a)
+    (v′ : Run w j n h b) where
   pub group-off : Iff (GroupsSound (rowsIn w i m ++ rowsIn w j n)) (GroupFits (rowsIn w i a) (rowsIn w j b) × GroupsSound (rowsIn w a m ++ rowsIn w b n))
   group-off =
       rw (in-split w i a m (v .least) (v .most), in-split w j b n (v′ .least) (v′ .most))
@@ -202,7 +203,8 @@ module _ (w : List ℕ) (x : ℕ) where
   none-by : (d from to : ℕ) → from + d ≡ to → ((k : ℕ) → from ≤ k → k < to → (rowAt w k) .conn ≡ x → ⊥) → rowsBy x (rowsIn w from to) ≡ 0
   none-by zero from to e f = rw (in-none w from to (omega arith)) (unfold countRows in refl)
   none-by (suc d) from to e f =
-      rw (in-turn w from to (omega arith), by-cons (rowAt w from) (rowsIn w (from + 1) to), ne-eqb ((rowAt w from) .conn) x (f from (omega arith) (omega arith))) (omega (arith, none-by d (from + 1) to (omega arith) (λ k a b. f k (omega arith) b)))
+      rw (in-turn w from to (omega arith), by-cons (rowAt w from) (rowsIn w (from + 1) to), ne-eqb ((rowAt w from) .conn) x (f from (omega arith) (omega arith)))
+      (omega (arith, none-by d (from + 1) to (omega arith) (λ k a b. f k (omega arith) b)))
 
   some-by : (d from k to : ℕ) → from + d ≡ k → k < to → (rowAt w k) .conn ≡ x → 1 ≤ rowsBy x (rowsIn w from to)
   some-by zero from k to e h q =

@@ -170,4 +170,5 @@ module _ (w : List ℕ) (l : headSize ≤ length w) (b : Below word w) (n c q : 
           let x : record { w0 = getD w 9 0; w1 = getD w 10 0; w2 = getD w 11 0; w3 = getD w 12 0 } ≡ quadIn k = sym known-words ∙ u .quad in
           let y : record { w0 = getD w 14 0; w1 = getD w 15 0; w2 = getD w 16 0; w3 = getD w 17 0 } ≡ quadIn r = sym ready-words ∙ v .quad in
           let z : from 6 18 w ≡ replicate 6 0 = sym spare-is ∙ h .spare in
-          λ i. h .format-is i ∷ getD w 1 0 ∷ getD w 2 0 ∷ h .rows-is i ∷ h .conns-is i ∷ h .places-is i ∷ e₆ i ∷ e₇ i ∷ e₈ i ∷ (x i) .w0 ∷ (x i) .w1 ∷ (x i) .w2 ∷ (x i) .w3 ∷ e₁₃ i ∷ (y i) .w0 ∷ (y i) .w1 ∷ (y i) .w2 ∷ (y i) .w3 ∷ z i
+          λ i. h .format-is i ∷ getD w 1 0 ∷ getD w 2 0 ∷ h .rows-is i ∷ h .conns-is i ∷ h .places-is i ∷ e₆ i ∷ e₇ i ∷ e₈ i ∷ (x i) .w0 ∷ (x i) .w1 ∷ (x i) .w2 ∷ (x i) .w3 ∷ e₁₃ i ∷ (y i) .w0 ∷
+          (y i) .w1 ∷ (y i) .w2 ∷ (y i) .w3 ∷ z i

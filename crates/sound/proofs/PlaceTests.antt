@@ -79,7 +79,8 @@ module _ (rs : List Row) (v : List ℕ) (l : length v ≡ placeSize) (b : Below 
   unfolding readPlace
   parents-of = many-parents
 
-  fits-made : StagePlain (getD v 8 0) (readHash (drop 4 v)) (getD v 9 0) → getD v 10 0 ≤ maxParents → NoRepeat (hashesIn v 411 0 (getD v 10 0)) → 1 ≤ countRows (ownsKey (readHash v)) rs → PlaceFits rs (readPlace v)
+  fits-made : StagePlain (getD v 8 0) (readHash (drop 4 v)) (getD v 9 0) → getD v 10 0 ≤ maxParents → NoRepeat (hashesIn v 411 0 (getD v 10 0)) → 1 ≤ countRows (ownsKey (readHash v)) rs
+      → PlaceFits rs (readPlace v)
   unfolding readPlace
   fits-made s p d o = record {
     hash = hash-top v b;
@@ -98,7 +99,10 @@ module _ (rs : List Row) (v : List ℕ) (l : length v ≡ placeSize) (b : Below 
 
   pub tests-iff : Iff (PlaceTests rs v) (PlaceSound rs v)
   tests-iff = record {
-    to = λ t. record { words-are = place-iff v l b (stage-few (getD v 8 0) (readHash (drop 4 v)) (getD v 9 0) (t .stage)) (t .parents) .from (t .padded); fit = fits-made (t .stage) (t .parents) (t .distinct) (t .owned) };
+    to = λ t. record {
+      words-are = place-iff v l b (stage-few (getD v 8 0) (readHash (drop 4 v)) (getD v 9 0) (t .stage)) (t .parents) .from (t .padded);
+      fit = fits-made (t .stage) (t .parents) (t .distinct) (t .owned);
+    };
     from = λ s.
         let st = stage-of (s .fit .stage) in
         let few : getD v 10 0 ≤ maxParents = rw parents-of at (s .fit .parents .few) in

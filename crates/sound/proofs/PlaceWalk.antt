@@ -69,8 +69,10 @@ exact-all (suc n) w h =
     let l : length p ≡ placeSize = length-place (readPlace (take placeSize w)) in
     record {
       to = λ x. g ∙ ap (λ (u : List ℕ). u ++ take (placeSize * n) (drop placeSize w)) (x .0) ∙ ap (λ (u : List ℕ). p ++ u) (i .to (x .1));
-      from = λ x. let y : take placeSize w ++ take (placeSize * n) (drop placeSize w) ≡ p ++ r = sym g ∙ x in
-          (sym (take-at (take placeSize w) _ placeSize t) ∙ ap (take placeSize) y ∙ take-at p r placeSize l, i .from (sym (drop-at (take placeSize w) _ placeSize t) ∙ ap (drop placeSize) y ∙ drop-at p r placeSize l));
+      from = λ x. let y : take placeSize w ++ take (placeSize * n) (drop placeSize w) ≡ p ++ r = sym g ∙ x in (
+        sym (take-at (take placeSize w) _ placeSize t) ∙ ap (take placeSize) y ∙ take-at p r placeSize l,
+        i .from (sym (drop-at (take placeSize w) _ placeSize t) ∙ ap (drop placeSize) y ∙ drop-at p r placeSize l),
+      );
     }
 
 -- ---- the order of the places
@@ -136,7 +138,8 @@ key-read w i e =
     let g : i * 824 ≡ placeSize * i = omega arith in
     ap quadNumber (e ∙ ap (λ (k : ℕ). readQuad (drop k w)) g ∙ sym (quad-take (drop (placeSize * i) w)))
 
-pub follows-decides : (w : List ℕ) (i : ℕ) {p q : Quad} {b : Bool} → 0 < i → p ≡ readQuad (drop ((i - 1) * 824) w) → q ≡ readQuad (drop (i * 824) w) → b ≡ ltb (quadNumber p) (quadNumber q) → Decides b (PlaceFollows w i)
+pub follows-decides : (w : List ℕ) (i : ℕ) {p q : Quad} {b : Bool} → 0 < i → p ≡ readQuad (drop ((i - 1) * 824) w) → q ≡ readQuad (drop (i * 824) w) → b ≡ ltb (quadNumber p) (quadNumber q)
+    → Decides b (PlaceFollows w i)
 follows-decides w i {p} {q} h e f g = elim (test (ltb (quadNumber p) (quadNumber q))) [
   | inl t ↦ rw (g, t) (λ _. rw (← (key-read w (i - 1) e), ← (key-read w i f)) (ltb-true _ _ t))
   | inr t ↦ rw (g, t) (λ z. native.Mathlib.Nat.not-le-of-lt (z h) (rw (← (key-read w (i - 1) e), ← (key-read w i f)) (ltb-false _ _ t)))

@@ -58,8 +58,10 @@ behind p (r ∷ rs) g c =
 chained : (p : Row) (rs : List Row) → Behind p rs → Chain RowStep p rs
 unfolding Chain
 chained p [] b = tt
-chained p (r ∷ rs) b =
-    (record { plain = row-plain (b .fit .0); follows = record { order = b .ascending .0; mark = b .marks .0 } }, chained r rs (record { fit = b .fit .1; ascending = b .ascending .1; marks = b .marks .1 }))
+chained p (r ∷ rs) b = (
+  record { plain = row-plain (b .fit .0); follows = record { order = b .ascending .0; mark = b .marks .0 } },
+  chained r rs (record { fit = b .fit .1; ascending = b .ascending .1; marks = b .marks .1 }),
+)
 
 -- the walk starts with the first row behind itself
 pub rows-sound : (r : Row) (rs : List Row) → Each RowRanges (r ∷ rs) → Iff (Chain RowStep r (r ∷ rs)) (RowsSound (r ∷ rs))
@@ -104,9 +106,11 @@ plain-parts r f = (
   ],
 )
 
-pub row-decides : (r : Row) → Decides (((not (eqb (r .conn) 0) && ltb (r .bits) 32) && (eqb (r .bits / 8 % 2) 1 || eqb (r .deadline) 0)) && (eqb (r .bits % 2) 0 || (eqb (r .bits / 2 % 2) 0 && ltb (r .bits) 16))) (RowPlain r)
+pub row-decides : (r : Row) → Decides (((not (eqb (r .conn) 0) && ltb (r .bits) 32) && (eqb (r .bits / 8 % 2) 1 || eqb (r .deadline) 0)) &&
+    (eqb (r .bits % 2) 0 || (eqb (r .bits / 2 % 2) 0 && ltb (r .bits) 16))) (RowPlain r)
 row-decides r =
-    let t = test-and _ _ (test-and _ _ (test-and _ _ (test-other (r .conn) 0) (test-less (r .bits) 32)) (test-or _ _ (test-same (r .bits / 8 % 2) 1) (test-same (r .deadline) 0))) (test-or _ _ (test-same (r .bits % 2) 0) (test-and _ _ (test-same (r .bits / 2 % 2) 0) (test-less (r .bits) 16))) in
+    let t = test-and _ _ (test-and _ _ (test-and _ _ (test-other (r .conn) 0) (test-less (r .bits) 32)) (test-or _ _ (test-same (r .bits / 8 % 2) 1) (test-same (r .deadline) 0)))
+    (test-or _ _ (test-same (r .bits % 2) 0) (test-and _ _ (test-same (r .bits / 2 % 2) 0) (test-less (r .bits) 16))) in
     test-decides _ (test-iff t (record { to = parts-plain r; from = plain-parts r }))
 
 -- the last test of a row behind another: keys that are neither less nor greater are equal

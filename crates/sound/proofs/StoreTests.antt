@@ -128,7 +128,8 @@ module _ (w : List ℕ) (b : Below word w) (L Q n c q : ℕ) (eL : L ≡ getD w 
     pub places : P ≡ padded (length P) (each placeWords (recs placeSize readPlace q P))
 
   abbrev image : List ℕ
-  image = headWords (headIn w) n c q ++ (padded (length R) (each rowWords (recs rowSize readRow n R)) ++ (padded (length C) (each connWords (recs connSize readConn c C)) ++ padded (length P) (each placeWords (recs placeSize readPlace q P))))
+  image = headWords (headIn w) n c q ++ (padded (length R) (each rowWords (recs rowSize readRow n R)) ++
+      (padded (length C) (each connWords (recs connSize readConn c C)) ++ padded (length P) (each placeWords (recs placeSize readPlace q P))))
 
   image-is : wordsOf flat ≡ image
   unfolding wordsOf headIn
@@ -138,7 +139,8 @@ module _ (w : List ℕ) (b : Below word w) (L Q n c q : ℕ) (eL : L ≡ getD w 
   parts-iff =
       let l₁ : length (take 24 w) ≡ length (headWords (headIn w) n c q) = length-take-le 24 w (omega arith) ∙ sym (head-length (headIn w) n c q) in
       let i₁ = append-iff (take 24 w) (R ++ (C ++ P)) (headWords (headIn w) n c q) _ l₁ in
-      let i₂ = append-iff R (C ++ P) _ (padded (length C) (each connWords (recs connSize readConn c C)) ++ padded (length P) (each placeWords (recs placeSize readPlace q P))) (sym (length-padded (length R) (each rowWords (recs rowSize readRow n R)))) in
+      let i₂ = append-iff R (C ++ P) _ (padded (length C) (each connWords (recs connSize readConn c C)) ++ padded (length P) (each placeWords (recs placeSize readPlace q P)))
+      (sym (length-padded (length R) (each rowWords (recs rowSize readRow n R)))) in
       let i₃ = append-iff C P _ (padded (length P) (each placeWords (recs placeSize readPlace q P))) (sym (length-padded (length C) (each connWords (recs connSize readConn c C)))) in
       record {
         to = λ e.
@@ -170,10 +172,12 @@ module _ (w : List ℕ) (b : Below word w) (L Q n c q : ℕ) (eL : L ≡ getD w 
   length-places = length-each placeSize placeWords length-place (recs placeSize readPlace q P) ∙ rw (length-recs placeSize readPlace q P)
 
   known-top : CursorFits (cursorAt (drop 8 w))
-  known-top = cursor-fits (getD (drop 8 w) 0 0) (quadNumber (readQuad (drop 1 (drop 8 w)))) (number-top (readQuad (drop 1 (drop 8 w))) (quad-ranges (drop 1 (drop 8 w)) (below-drop word 1 (drop 8 w) (below-drop word 8 w b))))
+  known-top = cursor-fits (getD (drop 8 w) 0 0) (quadNumber (readQuad (drop 1 (drop 8 w))))
+      (number-top (readQuad (drop 1 (drop 8 w))) (quad-ranges (drop 1 (drop 8 w)) (below-drop word 1 (drop 8 w) (below-drop word 8 w b))))
 
   ready-top : CursorFits (cursorAt (drop 13 w))
-  ready-top = cursor-fits (getD (drop 13 w) 0 0) (quadNumber (readQuad (drop 1 (drop 13 w)))) (number-top (readQuad (drop 1 (drop 13 w))) (quad-ranges (drop 1 (drop 13 w)) (below-drop word 1 (drop 13 w) (below-drop word 13 w b))))
+  ready-top = cursor-fits (getD (drop 13 w) 0 0) (quadNumber (readQuad (drop 1 (drop 13 w))))
+      (number-top (readQuad (drop 1 (drop 13 w))) (quad-ranges (drop 1 (drop 13 w)) (below-drop word 1 (drop 13 w) (below-drop word 13 w b))))
 
   flat-made : SizesPlain w → RecordsSound R n C c P q → FlatSound flat
   unfolding headIn
@@ -204,7 +208,8 @@ module _ (w : List ℕ) (b : Below word w) (L Q n c q : ℕ) (eL : L ≡ getD w 
 
   pub records-parts : HeadPlain w → RecordsSound R n C c P q → Parts
   records-parts h s = record {
-    head = head-iff w (omega arith) b n c q .from (record { format-is = h .sizes .format-is; rows-is = sym en; conns-is = sym ec; places-is = sym eq; poll = h .poll; known = h .known; ready = h .ready; spare = h .spare });
+    head = head-iff w (omega arith) b n c q .from
+        (record { format-is = h .sizes .format-is; rows-is = sym en; conns-is = sym ec; places-is = sym eq; poll = h .poll; known = h .known; ready = h .ready; spare = h .spare });
     rows = area-iff R _ (rowSize * n) length-rows (omega (arith, lr)) .from (rows-exact n R (omega (arith, lr)) rb, rw (sizes-same rowSize n) at (s .rows-zero));
     conns = area-iff C _ (connSize * c) length-conns (omega (arith, lc)) .from (conns-exact c C (omega (arith, lc)) cb, rw (sizes-same connSize c) at (s .conns-zero));
     places = area-iff P _ (placeSize * q) length-places (omega (arith, lp)) .from (s .places .words-are, rw (sizes-same placeSize q) at (s .places-zero));
@@ -314,7 +319,8 @@ module _ (b : List ℕ) (g : Begins b) where
   front-of =
       let f : Flat = g .flat in
       let H : List ℕ = headWords (f .head) (length (f .rows)) (length (f .conns)) (length (f .places)) in
-      ap (take headSize) (g .words-are ∙ append-assoc H _ (g .behind)) ∙ take-at H _ headSize (head-length (f .head) (length (f .rows)) (length (f .conns)) (length (f .places))) ∙ rw (head-of, rows-of, conns-of, held-of)
+      ap (take headSize) (g .words-are ∙ append-assoc H _ (g .behind)) ∙ take-at H _ headSize (head-length (f .head) (length (f .rows)) (length (f .conns)) (length (f .places))) ∙
+      rw (head-of, rows-of, conns-of, held-of)
 
   head-plain : Below word w → HeadPlain w
   head-plain p =
@@ -338,7 +344,11 @@ module _ (b : List ℕ) (g : Begins b) where
       }
 
   flat-of : FlatSound (flatIn w) × (take (24 + getD w 1 0 * 9 + getD w 1 0 * 3 + getD w 2 0 * 824) w ≡ wordsOf (flatIn w))
-  flat-of = (rw (g .read) (g .sound), rw (g .read) (ap (take (24 + getD w 1 0 * 9 + getD w 1 0 * 3 + getD w 2 0 * 824)) (g .words-are) ∙ take-at (wordsOf (g .flat)) (g .behind) (24 + getD w 1 0 * 9 + getD w 1 0 * 3 + getD w 2 0 * 824) length-of))
+  flat-of = (
+    rw (g .read) (g .sound),
+    rw (g .read) (ap (take (24 + getD w 1 0 * 9 + getD w 1 0 * 3 + getD w 2 0 * 824)) (g .words-are) ∙
+        take-at (wordsOf (g .flat)) (g .behind) (24 + getD w 1 0 * 9 + getD w 1 0 * 3 + getD w 2 0 * 824) length-of),
+  )
 
 -- ---- the tests, in the code's order
 
@@ -353,7 +363,8 @@ module _ (b : List ℕ) (p : Below word (words b)) where
     pub refuse-long : length b < (24 + L * 9 + L * 3 + Q * 824) * 8 → SoundStore b → ⊥
     refuse-long h s = omega (arith, rw (← eL, ← eQ) at (long-of b (begins b s)))
 
-    module _ (n c q : ℕ) (en : n ≡ getD (words b) 3 0) (ec : c ≡ getD (words b) 4 0) (eq : q ≡ getD (words b) 5 0) (h : HeadPlain (words b)) (long : (24 + L * 9 + L * 3 + Q * 824) * 8 ≤ length b) where
+    module _ (n c q : ℕ) (en : n ≡ getD (words b) 3 0) (ec : c ≡ getD (words b) 4 0) (eq : q ≡ getD (words b) 5 0) (h : HeadPlain (words b))
+        (long : (24 + L * 9 + L * 3 + Q * 824) * 8 ≤ length b) where
       long-words : 24 + L * 9 + L * 3 + Q * 824 ≤ length (words b)
       long-words = omega (arith, length-words b)
 
@@ -387,7 +398,8 @@ module _ (b : List ℕ) (p : Below word (words b)) where
       store-flat : SoundStore b → state
       store-flat s = rw (eL, eQ) (flat-of b (begins b s))
 
-      pub store-iff : Iff (RecordsSound (take (24 + L * 9 - 24) (drop 24 (words b))) n (take (24 + L * 9 + L * 3 - (24 + L * 9)) (drop (24 + L * 9) (words b))) c (take (24 + L * 9 + L * 3 + Q * 824 - (24 + L * 9 + L * 3)) (drop (24 + L * 9 + L * 3) (words b))) q) (SoundStore b)
+      pub store-iff : Iff (RecordsSound (take (24 + L * 9 - 24) (drop 24 (words b))) n (take (24 + L * 9 + L * 3 - (24 + L * 9)) (drop (24 + L * 9) (words b))) c
+          (take (24 + L * 9 + L * 3 + Q * 824 - (24 + L * 9 + L * 3)) (drop (24 + L * 9 + L * 3) (words b))) q) (SoundStore b)
       store-iff =
           let i = flat-iff (words b) p L Q n c q eL eQ en ec eq few-rows few-conn few-place long-words h in
           record { to = λ r. store-made (i .to r); from = λ s. i .from (store-flat s) }

@@ -113,7 +113,8 @@ module _ (ks w : List ℕ) (done last lo : ℕ) where
       })
 
   -- a row whose connection has no entry
-  pub tallied-stop : (n i : ℕ) (r : Row) → i < n → r ≡ readRow (take rowSize (drop (rowSize * i) w)) → Inside done last (r .conn) × (Named ks (r .conn) → ⊥) → NamedIn ks done last (recs rowSize readRow n w) → ⊥
+  pub tallied-stop : (n i : ℕ) (r : Row) → i < n → r ≡ readRow (take rowSize (drop (rowSize * i) w)) → Inside done last (r .conn) × (Named ks (r .conn) → ⊥)
+      → NamedIn ks done last (recs rowSize readRow n w) → ⊥
   tallied-stop n i r h e none all = none .1 (found (none .0))
     where
       each-at : (rs : List Row) (j : ℕ) → j < length rs → NamedIn ks done last rs → Inside done last ((getD rs j r) .conn) → Named ks ((getD rs j r) .conn)

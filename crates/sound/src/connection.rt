@@ -157,7 +157,8 @@ fn take_row(
     x: u64,
     w: u64,
 ) -> bool
-    requires { ⌜ (8 * (connSize * n) ≤ length (now s)) × Rising (names n (words (now s))) × (lo ≤ n) × (mask < length (now guess)) × Holds done last (names n (words (now s))) lo (length (now t)) × ((j : ℕ) → j < length (now t) → lo + j < n → getD (now t) j 0 + w < 2 ^ 64) ⌝ }
+    requires { ⌜ (8 * (connSize * n) ≤ length (now s)) × Rising (names n (words (now s))) × (lo ≤ n) × (mask < length (now guess)) × Holds done last (names n (words (now s))) lo (length (now t))
+        × ((j : ℕ) → j < length (now t) → lo + j < n → getD (now t) j 0 + w < 2 ^ 64) ⌝ }
     ensures { λ b. ⌜ Taking b (names n (words (now (s .entry)))) done last lo x w (now (t .entry)) (now (t .exit)) × (length (now (t .exit)) ≡ length (now (t .entry))) ⌝ }
 {
     if x <= done {
@@ -188,8 +189,10 @@ fn count_rows(
     done: u64,
     last: u64,
 ) -> bool
-    requires { ⌜ (8 * (rowSize * n) ≤ length (now rows)) × (8 * (connSize * c) ≤ length (now conns)) × (n ≤ maxAnnouncements) × Rising (names c (words (now conns))) × ((j : ℕ) → getD (now t) j 0 ≡ 0) × (lo ≤ c) × (mask < length (now guess)) × Holds done last (names c (words (now conns))) lo (length (now t)) ⌝ }
-    ensures { λ b. ⌜ Tallying b (names c (words (now (conns .entry)))) (recs rowSize readRow n (words (now (rows .entry)))) done last lo (now (t .exit)) × (length (now (t .exit)) ≡ length (now (t .entry))) ⌝ }
+    requires { ⌜ (8 * (rowSize * n) ≤ length (now rows)) × (8 * (connSize * c) ≤ length (now conns)) × (n ≤ maxAnnouncements) × Rising (names c (words (now conns)))
+        × ((j : ℕ) → getD (now t) j 0 ≡ 0) × (lo ≤ c) × (mask < length (now guess)) × Holds done last (names c (words (now conns))) lo (length (now t)) ⌝ }
+    ensures { λ b. ⌜ Tallying b (names c (words (now (conns .entry)))) (recs rowSize readRow n (words (now (rows .entry)))) done last lo (now (t .exit))
+        × (length (now (t .exit)) ≡ length (now (t .entry))) ⌝ }
 {
     let mut i = 0;
     while i < n {
@@ -259,8 +262,10 @@ fn window_fits(
     done: u64,
     last: u64,
 ) -> bool
-    requires { ⌜ (8 * (rowSize * n) ≤ length (now rows)) × (8 * (connSize * c) ≤ length (now conns)) × (n ≤ maxAnnouncements) × Rising (names c (words (now conns))) × ((j : ℕ) → getD (now t) j 0 ≡ 0) × (lo ≤ c) × (mask < length (now guess)) × Holds done last (names c (words (now conns))) lo (length (now t)) ⌝ }
-    ensures { λ b. ⌜ Decides b (Window (names c (words (now (conns .entry)))) (recs rowSize readRow n (words (now (rows .entry)))) (recs connSize readConn c (words (now (conns .entry)))) done last lo (length (now (t .entry)))) ⌝ }
+    requires { ⌜ (8 * (rowSize * n) ≤ length (now rows)) × (8 * (connSize * c) ≤ length (now conns)) × (n ≤ maxAnnouncements) × Rising (names c (words (now conns)))
+        × ((j : ℕ) → getD (now t) j 0 ≡ 0) × (lo ≤ c) × (mask < length (now guess)) × Holds done last (names c (words (now conns))) lo (length (now t)) ⌝ }
+    ensures { λ b. ⌜ Decides b (Window (names c (words (now (conns .entry)))) (recs rowSize readRow n (words (now (rows .entry))))
+        (recs connSize readConn c (words (now (conns .entry)))) done last lo (length (now (t .entry)))) ⌝ }
 {
     if !count_rows(rows, n, conns, c, lo, t, guess, mask, done, last) {
         return false;
@@ -270,8 +275,10 @@ fn window_fits(
 
 // The window of the first few entries.
 fn few_fit(rows: &[u8], n: usize, conns: &[u8], c: usize) -> bool
-    requires { ⌜ (8 * (rowSize * n) ≤ length (now rows)) × (8 * (connSize * c) ≤ length (now conns)) × (n ≤ maxAnnouncements) × Rising (names c (words (now conns))) × Holds 0 most (names c (words (now conns))) 0 few ⌝ }
-    ensures { λ b. ⌜ Decides b (Window (names c (words (now (conns .entry)))) (recs rowSize readRow n (words (now (rows .entry)))) (recs connSize readConn c (words (now (conns .entry)))) 0 most 0 few) ⌝ }
+    requires { ⌜ (8 * (rowSize * n) ≤ length (now rows)) × (8 * (connSize * c) ≤ length (now conns)) × (n ≤ maxAnnouncements) × Rising (names c (words (now conns)))
+        × Holds 0 most (names c (words (now conns))) 0 few ⌝ }
+    ensures { λ b. ⌜ Decides b (Window (names c (words (now (conns .entry)))) (recs rowSize readRow n (words (now (rows .entry))))
+        (recs connSize readConn c (words (now (conns .entry)))) 0 most 0 few) ⌝ }
 {
     let mut guess: [u16; 2048] = [0; 2048];
     fill_guesses(conns, c, 0, &mut guess, FEW_MASK);
@@ -281,8 +288,10 @@ fn few_fit(rows: &[u8], n: usize, conns: &[u8], c: usize) -> bool
 
 // The window of the many entries from lo on.
 fn many_fit(rows: &[u8], n: usize, conns: &[u8], c: usize, lo: usize, done: u64, last: u64) -> bool
-    requires { ⌜ (8 * (rowSize * n) ≤ length (now rows)) × (8 * (connSize * c) ≤ length (now conns)) × (n ≤ maxAnnouncements) × Rising (names c (words (now conns))) × (lo ≤ c) × Holds done last (names c (words (now conns))) lo many ⌝ }
-    ensures { λ b. ⌜ Decides b (Window (names c (words (now (conns .entry)))) (recs rowSize readRow n (words (now (rows .entry)))) (recs connSize readConn c (words (now (conns .entry)))) done last lo many) ⌝ }
+    requires { ⌜ (8 * (rowSize * n) ≤ length (now rows)) × (8 * (connSize * c) ≤ length (now conns)) × (n ≤ maxAnnouncements) × Rising (names c (words (now conns))) × (lo ≤ c)
+        × Holds done last (names c (words (now conns))) lo many ⌝ }
+    ensures { λ b. ⌜ Decides b (Window (names c (words (now (conns .entry)))) (recs rowSize readRow n (words (now (rows .entry))))
+        (recs connSize readConn c (words (now (conns .entry)))) done last lo many) ⌝ }
 {
     let mut guess: [u16; 32768] = [0; 32768];
     fill_guesses(conns, c, lo, &mut guess, MANY_MASK);
@@ -304,7 +313,8 @@ fn last_of(s: &[u8], n: usize, lo: usize) -> u64
 // Whether the c entries are the tally of the n rows, within the limits of a connection.
 pub fn conns_fit(rows: &[u8], n: usize, conns: &[u8], c: usize) -> bool
     requires { ⌜ (8 * (rowSize * n) ≤ length (now rows)) × (8 * (connSize * c) ≤ length (now conns)) × (n ≤ maxAnnouncements) ⌝ }
-    ensures { λ b. ⌜ (RowsSound (recs rowSize readRow n (words (now (rows .entry)))) → Decides b (ConnsSound (recs rowSize readRow n (words (now (rows .entry)))) (recs connSize readConn c (words (now (conns .entry)))))) ⌝ }
+    ensures { λ b. ⌜ (RowsSound (recs rowSize readRow n (words (now (rows .entry))))
+        → Decides b (ConnsSound (recs rowSize readRow n (words (now (rows .entry)))) (recs connSize readConn c (words (now (conns .entry)))))) ⌝ }
 {
     if !entries_fit(conns, c) {
         return false;

@@ -175,7 +175,8 @@ fn padded(p: &[u8], m: usize, n: usize) -> bool
 // Whether the words of one place write it out, and it is fit.
 fn place_fits(p: &[u8], rows: &[u8], n: usize, slots: &mut [u16], mark: u16) -> bool
     requires { ⌜ (length (now p) ≡ 8 * placeSize) × (8 * (rowSize * n) ≤ length (now rows)) × (length (now slots) ≡ slotCount) ⌝ }
-    ensures { λ r. ⌜ (RowsSound (recs rowSize readRow n (words (now (rows .entry)))) → Decides r (PlaceSound (recs rowSize readRow n (words (now (rows .entry)))) (words (now (p .entry))))) × (length (now (slots .exit)) ≡ slotCount) ⌝ }
+    ensures { λ r. ⌜ (RowsSound (recs rowSize readRow n (words (now (rows .entry)))) → Decides r (PlaceSound (recs rowSize readRow n (words (now (rows .entry)))) (words (now (p .entry)))))
+        × (length (now (slots .exit)) ≡ slotCount) ⌝ }
 {
     let stage = words::get(p, STAGE);
     let combined = regions::read_quad(p, COMBINED);

@@ -27,7 +27,14 @@ returns : tie.Need-returns
 returns c =
     let p = c .before .before .before .before .before .before .before .before .before .before .before .args .p in
     let r = c .before .before .before .before .before .before .before .before .before .before .before .args .r in
-    rw (c .ahead5 .ensures, c .before .before .before .ahead4 .ensures, c .before .before .before .before .ahead3 .ensures, c .before .before .before .before .before .ahead2 .ensures, c .before .before .before .before .before .before .ahead .ensures) (ahead-follows p r (record { w0 = omega arith; w1 = omega arith; w2 = omega arith; w3 = omega arith }) (record { w0 = omega arith; w1 = omega arith; w2 = omega arith; w3 = omega arith }))
+    rw (
+      c .ahead5 .ensures,
+      c .before .before .before .ahead4 .ensures,
+      c .before .before .before .before .ahead3 .ensures,
+      c .before .before .before .before .before .ahead2 .ensures,
+      c .before .before .before .before .before .before .ahead .ensures,
+    )
+    (ahead-follows p r (record { w0 = omega arith; w1 = omega arith; w2 = omega arith; w3 = omega arith }) (record { w0 = omega arith; w1 = omega arith; w2 = omega arith; w3 = omega arith }))
 
 pub follows-spec : {M : Type 1} → statement M
 follows-spec =

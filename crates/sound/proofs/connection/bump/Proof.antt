@@ -27,7 +27,8 @@ same-length : tie.Need-same-length
 same-length c = search needs
 
 returns-2 : tie.Need-returns-2
-returns-2 c = bumped-here (c .before .before .before .args .t .now) (c .before .before .before .args .lo) (c .before .before .before .args .k) (c .before .before .before .args .w) (omega arith) (omega arith)
+returns-2 c = bumped-here (c .before .before .before .args .t .now) (c .before .before .before .args .lo) (c .before .before .before .args .k) (c .before .before .before .args .w)
+    (omega arith) (omega arith)
 
 returns-3 : tie.Need-returns-3
 returns-3 c = search needs

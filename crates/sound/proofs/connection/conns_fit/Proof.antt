@@ -31,8 +31,13 @@ few-fit-requires c κs =
     let a = c .before .before .before .before .before .args in
     let v = words (a .conns .now) in
     let e = passed (Entries (recs connSize readConn (a .c) v)) (c .before .before .entries-fit .result) (c .before .if1 .left) (c .before .before .entries-fit .ensures) in
-    let b = below-words (a .conns .now) (below-bytes (a .conns .now) (c .before .before .before .shared-slice-known2 .given)) in
-    (c .before .before .before .before .before .pre .0, c .before .before .before .before .before .pre .1, c .before .before .before .before .before .pre .2, entries-rising (a .c) v e, λ j h l. let m : 0 + j < a .c = omega (arith, length-names (a .c) v) in (entries-positive (a .c) v e (0 + j) m, names-most (a .c) v b (0 + j) m))
+    let b = below-words (a .conns .now) (below-bytes (a .conns .now) (c .before .before .before .shared-slice-known2 .given)) in (
+      c .before .before .before .before .before .pre .0,
+      c .before .before .before .before .before .pre .1,
+      c .before .before .before .before .before .pre .2,
+      entries-rising (a .c) v e,
+      λ j h l. let m : 0 + j < a .c = omega (arith, length-names (a .c) v) in (entries-positive (a .c) v e (0 + j) m, names-most (a .c) v b (0 + j) m),
+    )
 
 returns-2 : tie.Need-returns-2 Inv-loop μ-loop
 returns-2 c =
@@ -51,21 +56,34 @@ loop-holds c =
 last-of-requires : tie.Need-last-of-requires Inv-loop μ-loop
 last-of-requires c κs =
     let a = c .before .before .before .before .before .before .before .args in
-    let v = words (a .conns .now) in
-    (c .before .before .before .before .before .before .before .pre .1, omega arith, entries-rising (a .c) v (passed (Entries (recs connSize readConn (a .c) v)) (c .before .before .before .before .entries-fit .result) (c .before .before .before .if1 .left) (c .before .before .before .before .entries-fit .ensures)))
+    let v = words (a .conns .now) in (
+      c .before .before .before .before .before .before .before .pre .1,
+      omega arith,
+      entries-rising (a .c) v (passed (Entries (recs connSize readConn (a .c) v))
+          (c .before .before .before .before .entries-fit .result) (c .before .before .before .if1 .left) (c .before .before .before .before .entries-fit .ensures)),
+    )
 
 many-fit-requires : tie.Need-many-fit-requires Inv-loop μ-loop
 many-fit-requires c κs =
     let a = c .before .before .before .before .before .before .before .before .args in
-    let v = words (a .conns .now) in
-    (c .before .before .before .before .before .before .before .before .pre .0, c .before .before .before .before .before .before .before .before .pre .1, c .before .before .before .before .before .before .before .before .pre .2, entries-rising (a .c) v (passed (Entries (recs connSize readConn (a .c) v)) (c .before .before .before .before .before .entries-fit .result) (c .before .before .before .before .if1 .left) (c .before .before .before .before .before .entries-fit .ensures)), omega arith, walked-holds (recs rowSize readRow (a .n) (words (a .rows .now))) (a .c) v (c .before .before .loop .inv) (c .last-of .ensures))
+    let v = words (a .conns .now) in (
+      c .before .before .before .before .before .before .before .before .pre .0,
+      c .before .before .before .before .before .before .before .before .pre .1,
+      c .before .before .before .before .before .before .before .before .pre .2,
+      entries-rising (a .c) v (passed (Entries (recs connSize readConn (a .c) v))
+          (c .before .before .before .before .before .entries-fit .result) (c .before .before .before .before .if1 .left) (c .before .before .before .before .before .entries-fit .ensures)),
+      omega arith,
+      walked-holds (recs rowSize readRow (a .n) (words (a .rows .now))) (a .c) v (c .before .before .loop .inv) (c .last-of .ensures),
+    )
 
 returns-3 : tie.Need-returns-3 Inv-loop μ-loop
 returns-3 c =
     let a = c .before .before .before .before .before .before .before .before .before .before .args in
     let v = words (a .conns .now) in
     let rs = recs rowSize readRow (a .n) (words (a .rows .now)) in
-    λ s z. failed (Window (names (a .c) v) rs (recs connSize readConn (a .c) v) (c .before .before .before .before .loop .done) (c .before .before .last-of .result) (c .before .before .before .before .loop .lo) many) (c .before .many-fit .result) (c .if3 .taken) (c .before .many-fit .ensures) (sound-window rs (a .c) v (c .before .before .before .before .loop .done) (c .before .before .last-of .result) (c .before .before .before .before .loop .lo) many z)
+    λ s z. failed (Window (names (a .c) v) rs (recs connSize readConn (a .c) v) (c .before .before .before .before .loop .done) (c .before .before .last-of .result)
+    (c .before .before .before .before .loop .lo) many) (c .before .many-fit .result) (c .if3 .taken) (c .before .many-fit .ensures)
+    (sound-window rs (a .c) v (c .before .before .before .before .loop .done) (c .before .before .last-of .result) (c .before .before .before .before .loop .lo) many z)
 
 add-lo : tie.Need-add-lo Inv-loop μ-loop
 add-lo c = search needs
@@ -78,13 +96,16 @@ loop-again c =
     let a = c .before .before .before .before .before .before .before .before .before .before .args in
     let v = words (a .conns .now) in
     let rs = recs rowSize readRow (a .n) (words (a .rows .now)) in
-    walked-turn rs (a .c) v (c .before .before .before .before .loop .inv) (c .before .before .last-of .ensures) (passed (Window (names (a .c) v) rs (recs connSize readConn (a .c) v) (c .before .before .before .before .loop .done) (c .before .before .last-of .result) (c .before .before .before .before .loop .lo) many) (c .before .many-fit .result) (c .if3 .left) (c .before .many-fit .ensures))
+    walked-turn rs (a .c) v (c .before .before .before .before .loop .inv) (c .before .before .last-of .ensures)
+    (passed (Window (names (a .c) v) rs (recs connSize readConn (a .c) v) (c .before .before .before .before .loop .done) (c .before .before .last-of .result)
+    (c .before .before .before .before .loop .lo) many) (c .before .many-fit .result) (c .if3 .left) (c .before .many-fit .ensures))
 
 returns-4 : tie.Need-returns-4 Inv-loop μ-loop
 returns-4 c =
     let a = c .before .before .before .before .before .before .before .args in
     let v = words (a .conns .now) in
-    λ s. walked-end (recs rowSize readRow (a .n) (words (a .rows .now))) (a .c) v (c .before .loop .inv) (omega arith) (s .fit) (passed (Entries (recs connSize readConn (a .c) v)) (c .before .before .before .before .entries-fit .result) (c .before .before .before .if1 .left) (c .before .before .before .before .entries-fit .ensures))
+    λ s. walked-end (recs rowSize readRow (a .n) (words (a .rows .now))) (a .c) v (c .before .loop .inv) (omega arith) (s .fit) (passed (Entries (recs connSize readConn (a .c) v))
+    (c .before .before .before .before .entries-fit .result) (c .before .before .before .if1 .left) (c .before .before .before .before .entries-fit .ensures))
 
 pub conns-fit-spec : {M : Type 1} → statement M
 conns-fit-spec =

@@ -36,8 +36,15 @@ add-take-row c = search needs
 take-row-requires : tie.Need-take-row-requires Inv-loop μ-loop
 take-row-requires c κs =
     let a = c .before .before .before .before .before .before .before .before .before .args in
-    let v = words (a .conns .now) in
-    (c .before .before .before .before .before .before .before .before .before .pre .1, c .before .before .before .before .before .before .before .before .before .pre .3, c .before .before .before .before .before .before .before .before .before .pre .5, c .before .before .before .before .before .before .before .before .before .pre .6, (λ j h l. c .before .before .before .before .before .before .before .before .before .pre .7 j (omega (arith, c .before .before .before .before .loop .inv .1)) l), λ j h l. tallied-small (names (a .c) v) (words (a .rows .now)) (a .done) (a .last) (a .lo) (c .before .before .before .before .loop .i) (c .before .before .before .before .loop .t) (c .before .before .read-row .result) (omega arith) (c .before .before .before .before .loop .inv .2) j h (omega (arith, length-names (a .c) v)))
+    let v = words (a .conns .now) in (
+      c .before .before .before .before .before .before .before .before .before .pre .1,
+      c .before .before .before .before .before .before .before .before .before .pre .3,
+      c .before .before .before .before .before .before .before .before .before .pre .5,
+      c .before .before .before .before .before .before .before .before .before .pre .6,
+      (λ j h l. c .before .before .before .before .before .before .before .before .before .pre .7 j (omega (arith, c .before .before .before .before .loop .inv .1)) l),
+      λ j h l. tallied-small (names (a .c) v) (words (a .rows .now)) (a .done) (a .last) (a .lo) (c .before .before .before .before .loop .i) (c .before .before .before .before .loop .t)
+          (c .before .before .read-row .result) (omega arith) (c .before .before .before .before .loop .inv .2) j h (omega (arith, length-names (a .c) v)),
+    )
 
 same-length : tie.Need-same-length Inv-loop μ-loop
 same-length c = search needs
@@ -45,8 +52,12 @@ same-length c = search needs
 returns : tie.Need-returns Inv-loop μ-loop
 returns c =
     let a = c .before .before .before .before .before .before .before .before .before .before .before .before .before .args in
-    let e : c .before .before .before .take-row .result ≡ false = not-true _ (c .if1 .taken) in
-    (tallied-stop (names (a .c) (words (a .conns .now))) (words (a .rows .now)) (a .done) (a .last) (a .lo) (a .n) (c .before .before .before .before .before .before .before .before .loop .i) (c .before .before .before .before .before .before .read-row .result) (omega arith) (c .before .before .before .before .before .before .read-row .ensures .words-are) (rw e at (c .before .before .before .take-row .ensures .0)), c .before .before .before .take-row .ensures .1 ∙ c .before .before .before .before .before .before .before .before .loop .inv .1)
+    let e : c .before .before .before .take-row .result ≡ false = not-true _ (c .if1 .taken) in (
+      tallied-stop (names (a .c) (words (a .conns .now))) (words (a .rows .now)) (a .done) (a .last) (a .lo) (a .n) (c .before .before .before .before .before .before .before .before .loop .i)
+          (c .before .before .before .before .before .before .read-row .result) (omega arith) (c .before .before .before .before .before .before .read-row .ensures .words-are) (rw e at
+          (c .before .before .before .take-row .ensures .0)),
+      c .before .before .before .take-row .ensures .1 ∙ c .before .before .before .before .before .before .before .before .loop .inv .1,
+    )
 
 add-i : tie.Need-add-i Inv-loop μ-loop
 add-i c = search needs
@@ -58,8 +69,14 @@ loop-again : tie.Need-loop-again Inv-loop μ-loop
 loop-again c =
     let a = c .before .before .before .before .before .before .before .before .before .before .before .before .before .args in
     let v = words (a .conns .now) in
-    let e : c .before .before .before .take-row .result ≡ true = not-false _ (c .if1 .left) in
-    (search needs, c .before .before .before .take-row .ensures .1 ∙ c .before .before .before .before .before .before .before .before .loop .inv .1, tallied-turn (names (a .c) v) (words (a .rows .now)) (a .done) (a .last) (a .lo) (c .before .before .before .before .before .before .before .before .loop .i) (c .before .before .before .before .before .before .before .before .loop .t) _ (c .before .before .before .before .before .before .read-row .result) (c .before .before .before .before .before .before .read-row .ensures .words-are) (c .before .before .before .before .before .before .before .before .loop .inv .2) (rw e at (c .before .before .before .take-row .ensures .0)))
+    let e : c .before .before .before .take-row .result ≡ true = not-false _ (c .if1 .left) in (
+      search needs,
+      c .before .before .before .take-row .ensures .1 ∙ c .before .before .before .before .before .before .before .before .loop .inv .1,
+      tallied-turn (names (a .c) v) (words (a .rows .now)) (a .done) (a .last) (a .lo) (c .before .before .before .before .before .before .before .before .loop .i)
+          (c .before .before .before .before .before .before .before .before .loop .t) _ (c .before .before .before .before .before .before .read-row .result)
+          (c .before .before .before .before .before .before .read-row .ensures .words-are) (c .before .before .before .before .before .before .before .before .loop .inv .2)
+          (rw e at (c .before .before .before .take-row .ensures .0)),
+    )
 
 same-length-2 : tie.Need-same-length-2 Inv-loop μ-loop
 same-length-2 c = search needs

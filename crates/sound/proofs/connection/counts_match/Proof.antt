@@ -27,7 +27,8 @@ add-i c = search needs
 returns : tie.Need-returns Inv-loop μ-loop
 returns c =
     let cs = recs connSize readConn (c .before .before .before .before .before .args .n) (words (c .before .before .before .before .before .args .s .now)) in
-    within-past (λ e q. Unpacks (getD (c .before .before .before .before .before .args .t .now) q 0) e) cs (c .before .before .before .before .before .args .lo) (c .before .before .loop .j) (c .before .before .loop .inv .1) (length (c .before .before .before .before .before .args .t .now)) (rw length-recs (omega arith))
+    within-past (λ e q. Unpacks (getD (c .before .before .before .before .before .args .t .now) q 0) e) cs (c .before .before .before .before .before .args .lo) (c .before .before .loop .j)
+    (c .before .before .loop .inv .1) (length (c .before .before .before .before .before .args .t .now)) (rw length-recs (omega arith))
 
 read-conn-requires : tie.Need-read-conn-requires Inv-loop μ-loop
 read-conn-requires c κs = search needs
@@ -44,7 +45,11 @@ unpacks-requires c κs = search needs
 returns-2 : tie.Need-returns-2 Inv-loop μ-loop
 returns-2 c =
     let w = words (c .before .before .before .before .before .before .before .before .before .args .s .now) in
-    λ z. failed (Unpacks (getD (c .before .before .before .before .before .before .before .before .before .args .t .now) (c .before .before .before .before .before .before .loop .j) 0) (c .before .before .before .read-conn .result)) (c .before .unpacks .result) (c .if2 .taken) (c .before .unpacks .ensures) (rw (entry-at (c .before .before .before .before .before .before .before .before .before .args .n) w (c .before .before .before .before .before .before .before .before .before .args .lo + c .before .before .before .before .before .before .loop .j) (omega arith) (c .before .before .before .read-conn .ensures .words-are)) (z (c .before .before .before .before .before .before .loop .j) (omega arith) (rw length-recs (omega arith))))
+    λ z. failed (Unpacks (getD (c .before .before .before .before .before .before .before .before .before .args .t .now) (c .before .before .before .before .before .before .loop .j) 0)
+    (c .before .before .before .read-conn .result)) (c .before .unpacks .result) (c .if2 .taken) (c .before .unpacks .ensures)
+    (rw (entry-at (c .before .before .before .before .before .before .before .before .before .args .n) w
+    (c .before .before .before .before .before .before .before .before .before .args .lo + c .before .before .before .before .before .before .loop .j) (omega arith)
+    (c .before .before .before .read-conn .ensures .words-are)) (z (c .before .before .before .before .before .before .loop .j) (omega arith) (rw length-recs (omega arith))))
 
 add-j : tie.Need-add-j Inv-loop μ-loop
 add-j c = search needs
@@ -54,8 +59,16 @@ loop-less c = search needs
 
 loop-again : tie.Need-loop-again Inv-loop μ-loop
 loop-again c =
-    let w = words (c .before .before .before .before .before .before .before .before .before .args .s .now) in
-    (search needs, within-turn (λ e q. Unpacks (getD (c .before .before .before .before .before .before .before .before .before .args .t .now) q 0) e) (recs connSize readConn (c .before .before .before .before .before .before .before .before .before .args .n) w) (c .before .before .before .before .before .before .before .before .before .args .lo) (c .before .before .before .before .before .before .loop .j) (c .before .before .before .before .before .before .loop .inv .1) (entry-at (c .before .before .before .before .before .before .before .before .before .args .n) w (c .before .before .before .before .before .before .before .before .before .args .lo + c .before .before .before .before .before .before .loop .j) (omega arith) (c .before .before .before .read-conn .ensures .words-are)) (passed (Unpacks (getD (c .before .before .before .before .before .before .before .before .before .args .t .now) (c .before .before .before .before .before .before .loop .j) 0) (c .before .before .before .read-conn .result)) (c .before .unpacks .result) (c .if2 .left) (c .before .unpacks .ensures)))
+    let w = words (c .before .before .before .before .before .before .before .before .before .args .s .now) in (
+      search needs,
+      within-turn (λ e q. Unpacks (getD (c .before .before .before .before .before .before .before .before .before .args .t .now) q 0) e) (recs connSize readConn
+          (c .before .before .before .before .before .before .before .before .before .args .n) w) (c .before .before .before .before .before .before .before .before .before .args .lo)
+          (c .before .before .before .before .before .before .loop .j) (c .before .before .before .before .before .before .loop .inv .1) (entry-at
+          (c .before .before .before .before .before .before .before .before .before .args .n) w
+          (c .before .before .before .before .before .before .before .before .before .args .lo + c .before .before .before .before .before .before .loop .j) (omega arith)
+          (c .before .before .before .read-conn .ensures .words-are)) (passed (Unpacks (getD (c .before .before .before .before .before .before .before .before .before .args .t .now)
+          (c .before .before .before .before .before .before .loop .j) 0) (c .before .before .before .read-conn .result)) (c .before .unpacks .result) (c .if2 .left) (c .before .unpacks .ensures)),
+    )
 
 returns-3 : tie.Need-returns-3 Inv-loop μ-loop
 returns-3 c =

@@ -27,7 +27,10 @@ entry-fits-requires c κs = search needs
 returns : tie.Need-returns Inv-loop μ-loop
 returns c =
     let w = words (c .before .before .before .before .before .before .args .s .now) in
-    λ z. walk-stop EntryStep connSize readConn (c .before .before .before .before .before .before .args .n) w (c .before .before .before .before .loop .p) (c .before .before .before .before .loop .i) (omega arith) (c .before .before .before .before .loop .inv .1) (c .before .before .read-conn .ensures .words-are) (failed (EntryStep (c .before .before .before .before .loop .p) (c .before .before .read-conn .result)) (c .before .entry-fits .result) (c .if1 .taken) (c .before .entry-fits .ensures)) (entries-iff (recs connSize readConn (c .before .before .before .before .before .before .args .n) w) .from z)
+    λ z. walk-stop EntryStep connSize readConn (c .before .before .before .before .before .before .args .n) w (c .before .before .before .before .loop .p)
+    (c .before .before .before .before .loop .i) (omega arith) (c .before .before .before .before .loop .inv .1) (c .before .before .read-conn .ensures .words-are)
+    (failed (EntryStep (c .before .before .before .before .loop .p) (c .before .before .read-conn .result)) (c .before .entry-fits .result) (c .if1 .taken) (c .before .entry-fits .ensures))
+    (entries-iff (recs connSize readConn (c .before .before .before .before .before .before .args .n) w) .from z)
 
 add-i : tie.Need-add-i Inv-loop μ-loop
 add-i c = search needs
@@ -36,13 +39,19 @@ loop-less : tie.Need-loop-less Inv-loop μ-loop
 loop-less c = search needs
 
 loop-again : tie.Need-loop-again Inv-loop μ-loop
-loop-again c =
-    (search needs, walk-turn EntryStep connSize readConn (c .before .before .before .before .before .before .args .n) (words (c .before .before .before .before .before .before .args .s .now)) (c .before .before .before .before .loop .p) (c .before .before .before .before .loop .i) (omega arith) (c .before .before .before .before .loop .inv .1) (c .before .before .read-conn .ensures .words-are) (passed (EntryStep (c .before .before .before .before .loop .p) (c .before .before .read-conn .result)) (c .before .entry-fits .result) (c .if1 .left) (c .before .entry-fits .ensures)))
+loop-again c = (
+  search needs,
+  walk-turn EntryStep connSize readConn (c .before .before .before .before .before .before .args .n) (words (c .before .before .before .before .before .before .args .s .now))
+      (c .before .before .before .before .loop .p) (c .before .before .before .before .loop .i) (omega arith) (c .before .before .before .before .loop .inv .1)
+      (c .before .before .read-conn .ensures .words-are) (passed (EntryStep (c .before .before .before .before .loop .p) (c .before .before .read-conn .result)) (c .before .entry-fits .result)
+      (c .if1 .left) (c .before .entry-fits .ensures)),
+)
 
 returns-2 : tie.Need-returns-2 Inv-loop μ-loop
 returns-2 c =
     let w = words (c .before .before .before .args .s .now) in
-    entries-iff (recs connSize readConn (c .before .before .before .args .n) w) .to (walk-end EntryStep connSize readConn (c .before .before .before .args .n) w (c .before .loop .p) (c .before .loop .i) (omega arith) (c .before .loop .inv .1))
+    entries-iff (recs connSize readConn (c .before .before .before .args .n) w) .to
+    (walk-end EntryStep connSize readConn (c .before .before .before .args .n) w (c .before .loop .p) (c .before .loop .i) (omega arith) (c .before .loop .inv .1))
 
 pub entries-fit-spec : {M : Type 1} → statement M
 entries-fit-spec =

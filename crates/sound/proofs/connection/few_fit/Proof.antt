@@ -18,7 +18,16 @@ slice-aggregate-window-fits-2 : tie.Need-slice-aggregate-window-fits-2
 slice-aggregate-window-fits-2 c = search needs
 
 window-fits-requires : tie.Need-window-fits-requires
-window-fits-requires c κs = (c .before .before .before .before .before .before .before .pre .0, c .before .before .before .before .before .before .before .pre .1, c .before .before .before .before .before .before .before .pre .2, c .before .before .before .before .before .before .before .pre .3, zeros-at few, omega arith, search needs, c .before .before .before .before .before .before .before .pre .4)
+window-fits-requires c κs = (
+  c .before .before .before .before .before .before .before .pre .0,
+  c .before .before .before .before .before .before .before .pre .1,
+  c .before .before .before .before .before .before .before .pre .2,
+  c .before .before .before .before .before .before .before .pre .3,
+  zeros-at few,
+  omega arith,
+  search needs,
+  c .before .before .before .before .before .before .before .pre .4,
+)
 
 returns : tie.Need-returns
 returns c = search needs

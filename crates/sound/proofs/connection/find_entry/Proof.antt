@@ -26,12 +26,15 @@ is-entry-requires-2 c κs = search needs
 returns-2 : tie.Need-returns-2
 returns-2 c =
     let ks = names (c .before .before .before .before .before .before .args .n) (words (c .before .before .before .before .before .before .args .s .now)) in
-    place-found ks (c .before .before .before .before .before .before .args .n) (c .before .before .before .before .before .before .args .x) (c .before .before .seek-conn .result) (rw (c .if2 .taken) at (c .before .is-entry2 .ensures))
+    place-found ks (c .before .before .before .before .before .before .args .n) (c .before .before .before .before .before .before .args .x) (c .before .before .seek-conn .result)
+    (rw (c .if2 .taken) at (c .before .is-entry2 .ensures))
 
 returns-3 : tie.Need-returns-3
 returns-3 c =
     let w = words (c .before .before .before .before .before .before .args .s .now) in
-    place-absent (names (c .before .before .before .before .before .before .args .n) w) (c .before .before .before .before .before .before .args .n) (c .before .before .before .before .before .before .args .x) (c .before .before .seek-conn .result) (length-names (c .before .before .before .before .before .before .args .n) w) (c .before .before .seek-conn .ensures) (rw (c .if2 .left) at (c .before .is-entry2 .ensures))
+    place-absent (names (c .before .before .before .before .before .before .args .n) w) (c .before .before .before .before .before .before .args .n)
+    (c .before .before .before .before .before .before .args .x) (c .before .before .seek-conn .result) (length-names (c .before .before .before .before .before .before .args .n) w)
+    (c .before .before .seek-conn .ensures) (rw (c .if2 .left) at (c .before .is-entry2 .ensures))
 
 pub find-entry-spec : {M : Type 1} → statement M
 find-entry-spec =

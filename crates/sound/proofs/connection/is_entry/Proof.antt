@@ -12,7 +12,8 @@ get-requires : tie.Need-get-requires
 get-requires c κs = search needs
 
 returns : tie.Need-returns
-returns c = is-name (c .before .before .before .args .n) (words (c .before .before .before .args .s .now)) (c .before .before .before .args .i) (c .before .before .before .args .x) (omega arith) (c .get .ensures)
+returns c = is-name (c .before .before .before .args .n) (words (c .before .before .before .args .s .now)) (c .before .before .before .args .i) (c .before .before .before .args .x)
+    (omega arith) (c .get .ensures)
 
 returns-2 : tie.Need-returns-2
 returns-2 c = search needs

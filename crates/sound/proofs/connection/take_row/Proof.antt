@@ -15,8 +15,10 @@ returns c =
 
 returns-2 : tie.Need-returns-2
 returns-2 c =
-    let a = c .before .before .before .before .before .args in
-    (took-outside (names (a .n) (words (a .s .now))) (a .done) (a .last) (a .lo) (a .x) (a .w) (a .t .now) (λ i. absurd (omega (arith, i .1))) (c .before .before .before .before .before .pre .4), refl)
+    let a = c .before .before .before .before .before .args in (
+      took-outside (names (a .n) (words (a .s .now))) (a .done) (a .last) (a .lo) (a .x) (a .w) (a .t .now) (λ i. absurd (omega (arith, i .1))) (c .before .before .before .before .before .pre .4),
+      refl,
+    )
 
 low-bits-requires : tie.Need-low-bits-requires
 low-bits-requires c κs = search needs
@@ -48,8 +50,12 @@ same-length c = search needs
 returns-4 : tie.Need-returns-4
 returns-4 c =
     let a = c .before .before .before .before .before .before .before .before .before .before .before .before .before .before .args in
-    let ks = names (a .n) (words (a .s .now)) in
-    (took-bump ks (a .done) (a .last) (a .lo) (a .x) (a .w) (a .t .now) (c .before .before .before .before .before .find-entry .result) _ (c .before .before .before .before .before .before .before .before .before .before .before .before .before .before .pre .1) (omega (arith, length-names (a .n) (words (a .s .now)))) (c .before .before .before .before .before .find-entry .ensures .found (omega arith)) (c .before .before .bump .ensures), c .before .before .bump .ensures .same-length)
+    let ks = names (a .n) (words (a .s .now)) in (
+      took-bump ks (a .done) (a .last) (a .lo) (a .x) (a .w) (a .t .now) (c .before .before .before .before .before .find-entry .result) _
+          (c .before .before .before .before .before .before .before .before .before .before .before .before .before .before .pre .1) (omega (arith, length-names (a .n) (words (a .s .now))))
+          (c .before .before .before .before .before .find-entry .ensures .found (omega arith)) (c .before .before .bump .ensures),
+      c .before .before .bump .ensures .same-length,
+    )
 
 pub take-row-spec : {M : Type 1} → statement M
 take-row-spec =

@@ -34,9 +34,16 @@ same-length-2 c = search needs
 returns-2 : tie.Need-returns-2
 returns-2 c =
     let e : c .before .before .before .before .before .count-rows .result ≡ true = not-false _ (c .before .before .if1 .left) in
-    let rs = recs rowSize readRow (c .before .before .before .before .before .before .before .before .before .before .before .args .n) (words (c .before .before .before .before .before .before .before .before .before .before .before .args .rows .now)) in
+    let rs = recs rowSize readRow (c .before .before .before .before .before .before .before .before .before .before .before .args .n)
+    (words (c .before .before .before .before .before .before .before .before .before .before .before .args .rows .now)) in
     let few : length rs ≤ maxAnnouncements = rw length-recs (c .before .before .before .before .before .before .before .before .before .before .before .pre .2) in
-    rw (← (c .before .before .before .before .before .count-rows .ensures .1)) (decides-iff (c .counts-match .result) (window-iff rs (c .before .before .before .before .before .before .before .before .before .before .before .args .c) (words (c .before .before .before .before .before .before .before .before .before .before .before .args .conns .now)) (c .before .before .before .before .before .before .before .before .before .before .before .args .done) (c .before .before .before .before .before .before .before .before .before .before .before .args .last) (c .before .before .before .before .before .before .before .before .before .before .before .args .lo) _ few (rw e at (c .before .before .before .before .before .count-rows .ensures .0))) (c .counts-match .ensures))
+    rw (← (c .before .before .before .before .before .count-rows .ensures .1))
+    (decides-iff (c .counts-match .result) (window-iff rs (c .before .before .before .before .before .before .before .before .before .before .before .args .c)
+    (words (c .before .before .before .before .before .before .before .before .before .before .before .args .conns .now))
+    (c .before .before .before .before .before .before .before .before .before .before .before .args .done)
+    (c .before .before .before .before .before .before .before .before .before .before .before .args .last)
+    (c .before .before .before .before .before .before .before .before .before .before .before .args .lo) _ few (rw e at (c .before .before .before .before .before .count-rows .ensures .0)))
+    (c .counts-match .ensures))
 
 pub window-fits-spec : {M : Type 1} → statement M
 window-fits-spec =

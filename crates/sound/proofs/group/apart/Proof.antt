@@ -27,13 +27,23 @@ find-conn-in-requires : tie.Need-find-conn-in-requires Inv-loop μ-loop
 find-conn-in-requires c κs = search needs
 
 returns : tie.Need-returns Inv-loop μ-loop
-returns c = apart-later (words (c .before .before .before .before .before .before .args .s .now)) (rowsIn (words (c .before .before .before .before .before .before .args .s .now)) (c .before .before .before .before .before .before .args .j) (c .before .before .before .before .before .before .args .b)) (c .before .before .before .before .loop .k) (c .before .before .before .before .before .before .args .a) (omega arith) (c .before .before .read-row .ensures .words-are) (c .before .before .before .before .loop .inv .2) (first-some (words (c .before .before .before .before .before .before .args .s .now)) (c .before .before .read-row .result .conn) (c .before .before .before .before .loop .k + 1) (c .before .before .before .before .before .before .args .a) (c .before .find-conn-in .result) (c .before .find-conn-in .ensures) (omega arith))
+returns c = apart-later (words (c .before .before .before .before .before .before .args .s .now)) (rowsIn (words (c .before .before .before .before .before .before .args .s .now))
+    (c .before .before .before .before .before .before .args .j) (c .before .before .before .before .before .before .args .b)) (c .before .before .before .before .loop .k)
+    (c .before .before .before .before .before .before .args .a) (omega arith) (c .before .before .read-row .ensures .words-are) (c .before .before .before .before .loop .inv .2)
+    (first-some (words (c .before .before .before .before .before .before .args .s .now)) (c .before .before .read-row .result .conn) (c .before .before .before .before .loop .k + 1)
+    (c .before .before .before .before .before .before .args .a) (c .before .find-conn-in .result) (c .before .find-conn-in .ensures) (omega arith))
 
 find-conn-in-requires-2 : tie.Need-find-conn-in-requires-2 Inv-loop μ-loop
 find-conn-in-requires-2 c κs = search needs
 
 returns-2 : tie.Need-returns-2 Inv-loop μ-loop
-returns-2 c = apart-others (words (c .before .before .before .before .before .before .before .before .args .s .now)) (rowsIn (words (c .before .before .before .before .before .before .before .before .args .s .now)) (c .before .before .before .before .before .before .before .before .args .j) (c .before .before .before .before .before .before .before .before .args .b)) (c .before .before .before .before .before .before .loop .k) (c .before .before .before .before .before .before .before .before .args .a) (omega arith) (c .before .before .before .before .read-row .ensures .words-are) (c .before .before .before .before .before .before .loop .inv .2) (first-some (words (c .before .before .before .before .before .before .before .before .args .s .now)) (c .before .before .before .before .read-row .result .conn) (c .before .before .before .before .before .before .before .before .args .j) (c .before .before .before .before .before .before .before .before .args .b) (c .before .find-conn-in2 .result) (c .before .find-conn-in2 .ensures) (omega arith))
+returns-2 c = apart-others (words (c .before .before .before .before .before .before .before .before .args .s .now))
+    (rowsIn (words (c .before .before .before .before .before .before .before .before .args .s .now)) (c .before .before .before .before .before .before .before .before .args .j)
+    (c .before .before .before .before .before .before .before .before .args .b)) (c .before .before .before .before .before .before .loop .k)
+    (c .before .before .before .before .before .before .before .before .args .a) (omega arith) (c .before .before .before .before .read-row .ensures .words-are)
+    (c .before .before .before .before .before .before .loop .inv .2) (first-some (words (c .before .before .before .before .before .before .before .before .args .s .now))
+    (c .before .before .before .before .read-row .result .conn) (c .before .before .before .before .before .before .before .before .args .j)
+    (c .before .before .before .before .before .before .before .before .args .b) (c .before .find-conn-in2 .result) (c .before .find-conn-in2 .ensures) (omega arith))
 
 add-k : tie.Need-add-k Inv-loop μ-loop
 add-k c = search needs
@@ -42,10 +52,24 @@ loop-less : tie.Need-loop-less Inv-loop μ-loop
 loop-less c = search needs
 
 loop-again : tie.Need-loop-again Inv-loop μ-loop
-loop-again c = (search needs, search needs, apart-turn (words (c .before .before .before .before .before .before .before .before .args .s .now)) (rowsIn (words (c .before .before .before .before .before .before .before .before .args .s .now)) (c .before .before .before .before .before .before .before .before .args .j) (c .before .before .before .before .before .before .before .before .args .b)) (c .before .before .before .before .before .before .loop .k) (c .before .before .before .before .before .before .before .before .args .a) (omega arith) (c .before .before .before .before .read-row .ensures .words-are) (c .before .before .before .before .before .before .loop .inv .2) (first-none (words (c .before .before .before .before .before .before .before .before .args .s .now)) (c .before .before .before .before .read-row .result .conn) (c .before .before .before .before .before .before .loop .k + 1) (c .before .before .before .before .before .before .before .before .args .a) (c .before .before .before .find-conn-in .result) (c .before .before .before .find-conn-in .ensures) (omega arith)) (first-none (words (c .before .before .before .before .before .before .before .before .args .s .now)) (c .before .before .before .before .read-row .result .conn) (c .before .before .before .before .before .before .before .before .args .j) (c .before .before .before .before .before .before .before .before .args .b) (c .before .find-conn-in2 .result) (c .before .find-conn-in2 .ensures) (omega arith)))
+loop-again c = (
+  search needs,
+  search needs,
+  apart-turn (words (c .before .before .before .before .before .before .before .before .args .s .now)) (rowsIn
+      (words (c .before .before .before .before .before .before .before .before .args .s .now)) (c .before .before .before .before .before .before .before .before .args .j)
+      (c .before .before .before .before .before .before .before .before .args .b)) (c .before .before .before .before .before .before .loop .k)
+      (c .before .before .before .before .before .before .before .before .args .a) (omega arith) (c .before .before .before .before .read-row .ensures .words-are)
+      (c .before .before .before .before .before .before .loop .inv .2) (first-none (words (c .before .before .before .before .before .before .before .before .args .s .now))
+      (c .before .before .before .before .read-row .result .conn) (c .before .before .before .before .before .before .loop .k + 1)
+      (c .before .before .before .before .before .before .before .before .args .a) (c .before .before .before .find-conn-in .result) (c .before .before .before .find-conn-in .ensures)
+      (omega arith)) (first-none (words (c .before .before .before .before .before .before .before .before .args .s .now)) (c .before .before .before .before .read-row .result .conn)
+      (c .before .before .before .before .before .before .before .before .args .j) (c .before .before .before .before .before .before .before .before .args .b) (c .before .find-conn-in2 .result)
+      (c .before .find-conn-in2 .ensures) (omega arith)),
+)
 
 returns-3 : tie.Need-returns-3 Inv-loop μ-loop
-returns-3 c = apart-end (words (c .before .before .before .args .s .now)) (rowsIn (words (c .before .before .before .args .s .now)) (c .before .before .before .args .j) (c .before .before .before .args .b)) (c .before .loop .k) (c .before .before .before .args .a) (omega arith) (c .before .loop .inv .2)
+returns-3 c = apart-end (words (c .before .before .before .args .s .now)) (rowsIn (words (c .before .before .before .args .s .now)) (c .before .before .before .args .j)
+    (c .before .before .before .args .b)) (c .before .loop .k) (c .before .before .before .args .a) (omega arith) (c .before .loop .inv .2)
 
 pub apart-spec : {M : Type 1} → statement M
 apart-spec =

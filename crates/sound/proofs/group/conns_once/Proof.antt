@@ -26,8 +26,10 @@ same-length-2 c = search needs
 returns-2 : tie.Need-returns-2
 returns-2 c =
     let x = c .before .before .before .before .before .before .before .before .before .args in
-    let w = words (x .s .now) in
-    ((λ o. failed (Apart (rowsIn w (x .j) (x .b)) (rowsIn w (x .i) (x .a))) (c .before .apart .result) (c .if2 .taken) (c .before .apart .ensures) (o .0)), c .before .before .before .before .before .marked-once .ensures .1)
+    let w = words (x .s .now) in (
+      (λ o. failed (Apart (rowsIn w (x .j) (x .b)) (rowsIn w (x .i) (x .a))) (c .before .apart .result) (c .if2 .taken) (c .before .apart .ensures) (o .0)),
+      c .before .before .before .before .before .marked-once .ensures .1,
+    )
 
 apart-requires-2 : tie.Need-apart-requires-2
 apart-requires-2 c κs = search needs
@@ -40,8 +42,10 @@ returns-3 c =
     let x = c .before .before .before .before .before .before .before .before .before .before .args in
     let w = words (x .s .now) in
     let p = passed (Apart (rowsIn w (x .j) (x .b)) (rowsIn w (x .i) (x .a))) (c .before .before .apart .result) (c .before .if2 .left) (c .before .before .apart .ensures) in
-    let d : Decides (c .apart2 .result) (Apart [] (rowsIn w (x .j) (x .b))) = rw (in-none w (x .b) (x .b) (le-refl _)) at (c .apart2 .ensures) in
-    (decides-iff {P = Apart [] (rowsIn w (x .j) (x .b))} (c .apart2 .result) (record { to = λ q. (p, q); from = λ o. o .1 }) d, c .before .before .before .before .before .before .marked-once .ensures .1)
+    let d : Decides (c .apart2 .result) (Apart [] (rowsIn w (x .j) (x .b))) = rw (in-none w (x .b) (x .b) (le-refl _)) at (c .apart2 .ensures) in (
+      decides-iff {P = Apart [] (rowsIn w (x .j) (x .b))} (c .apart2 .result) (record { to = λ q. (p, q); from = λ o. o .1 }) d,
+      c .before .before .before .before .before .before .marked-once .ensures .1,
+    )
 
 pub conns-once-spec : {M : Type 1} → statement M
 conns-once-spec =

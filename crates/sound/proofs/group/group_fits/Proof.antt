@@ -25,8 +25,10 @@ add-if1 c = search needs
 returns : tie.Need-returns
 returns c =
     let x = c .before .before .before .args in
-    let w = words (x .s .now) in
-    ((λ g. omega (arith, g .few, length-recs rowSize readRow (x .a - x .i) (drop (rowSize * x .i) w), length-recs rowSize readRow (x .b - x .j) (drop (rowSize * x .j) w))), c .before .before .before .pre .4)
+    let w = words (x .s .now) in (
+      (λ g. omega (arith, g .few, length-recs rowSize readRow (x .a - x .i) (drop (rowSize * x .i) w), length-recs rowSize readRow (x .b - x .j) (drop (rowSize * x .j) w))),
+      c .before .before .before .pre .4,
+    )
 
 conns-once-requires : tie.Need-conns-once-requires
 conns-once-requires c κs = search needs
@@ -38,8 +40,10 @@ returns-2 : tie.Need-returns-2
 returns-2 c =
     let x = c .before .before .before .before .before .before .before .before .args in
     let a = rowsIn (words (x .s .now)) (x .i) (x .a) in
-    let b = rowsIn (words (x .s .now)) (x .j) (x .b) in
-    ((λ g. failed (Once a b) (c .before .before .before .conns-once .result) (c .if2 .taken) (c .before .before .before .conns-once .ensures .0) (apart-iff a b .from (g .once))), c .before .before .before .conns-once .ensures .1)
+    let b = rowsIn (words (x .s .now)) (x .j) (x .b) in (
+      (λ g. failed (Once a b) (c .before .before .before .conns-once .result) (c .if2 .taken) (c .before .before .before .conns-once .ensures .0) (apart-iff a b .from (g .once))),
+      c .before .before .before .conns-once .ensures .1,
+    )
 
 owners-requires : tie.Need-owners-requires
 owners-requires c κs = search needs
@@ -62,8 +66,10 @@ returns-3 c =
     let la : length a ≡ x .a - x .i = length-recs rowSize readRow (x .a - x .i) (drop (rowSize * x .i) w) in
     let lb : length b ≡ x .b - x .j = length-recs rowSize readRow (x .b - x .j) (drop (rowSize * x .j) w) in
     let few : length a + length b ≤ maxAlternates = omega arith in
-    let o = passed (Once a b) (c .before .before .before .before .before .conns-once .result) (c .before .before .if2 .left) (c .before .before .before .before .before .conns-once .ensures .0) in
-    (group-decides a b (c .before .owners .result) (c .owners2 .result) few (o .0) (o .1) (c .before .owners .ensures .0) (c .owners2 .ensures .0), c .before .before .before .before .before .conns-once .ensures .1)
+    let o = passed (Once a b) (c .before .before .before .before .before .conns-once .result) (c .before .before .if2 .left) (c .before .before .before .before .before .conns-once .ensures .0) in (
+      group-decides a b (c .before .owners .result) (c .owners2 .result) few (o .0) (o .1) (c .before .owners .ensures .0) (c .owners2 .ensures .0),
+      c .before .before .before .before .before .conns-once .ensures .1,
+    )
 
 pub group-fits-spec : {M : Type 1} → statement M
 group-fits-spec =

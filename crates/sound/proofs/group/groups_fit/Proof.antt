@@ -15,7 +15,8 @@ use Rattle.sound.proofs.group.groups_fit.Statement.{statement}
 use Rattle.sound.proofs.group.groups_fit.Tie as tie
 
 abbrev Inv-loop : tie.InvT-loop
-Inv-loop s n m slots₀ i₀ j₀ slots i j = (length slots ≡ connSlots) × (i ≤ m) × (m ≤ j) × (j ≤ n) × (RowsSound (recs rowSize readRow n (words s)) → Iff (GroupsSound (recs rowSize readRow n (words s))) (GroupsSound (rowsIn (words s) i m ++ rowsIn (words s) j n)))
+Inv-loop s n m slots₀ i₀ j₀ slots i j = (length slots ≡ connSlots) × (i ≤ m) × (m ≤ j) × (j ≤ n)
+    × (RowsSound (recs rowSize readRow n (words s)) → Iff (GroupsSound (recs rowSize readRow n (words s))) (GroupsSound (rowsIn (words s) i m ++ rowsIn (words s) j n)))
 
 abbrev μ-loop : tie.MeasureT-loop
 μ-loop s n m slots₀ i₀ j₀ slots i j = (m + n) - (i + j)
@@ -24,7 +25,13 @@ seek-row-requires : tie.Need-seek-row-requires Inv-loop μ-loop
 seek-row-requires c κs = search needs
 
 loop-holds : tie.Need-loop-holds Inv-loop μ-loop
-loop-holds c = (length-replicate {A = ℕ} connSlots 0, omega arith, search needs, omega (arith, c .seek-row .ensures .most), λ s. halves (words (c .before .before .args .s .now)) (c .seek-row .result) (c .before .before .args .n) (c .seek-row .ensures .most))
+loop-holds c = (
+  length-replicate {A = ℕ} connSlots 0,
+  omega arith,
+  search needs,
+  omega (arith, c .seek-row .ensures .most),
+  λ s. halves (words (c .before .before .args .s .now)) (c .seek-row .result) (c .before .before .args .n) (c .seek-row .ensures .most),
+)
 
 add-loop : tie.Need-add-loop Inv-loop μ-loop
 add-loop c = search needs
@@ -57,16 +64,50 @@ returns : tie.Need-returns Inv-loop μ-loop
 returns c =
     let w = words (c .before .before .before .before .before .before .before .before .before .before .before .args .s .now) in
     let m = c .before .before .before .before .before .before .before .before .before .seek-row .result in
-    λ s. off-stop (c .before .before .before .before .before .before .before .before .loop .inv .4 s) (group-off w (c .before .before .before .before .before .before .before .before .loop .i) m (c .before .before .before .before .before .before .before .before .loop .j) (c .before .before .before .before .before .before .before .before .before .before .before .args .n) (quadNumber (c .before .before .before .before .before .before .least-hash .result)) (c .before .before .before .before .before .run-end .result) (c .before .before .before .before .run-end2 .result) (omega arith) (omega arith) (txid-level (c .before .before .before .before .before .before .before .before .before .before .before .args .n) w s m (c .before .before .before .before .before .before .before .before .before .seek-row .ensures)) (wtxid-level (c .before .before .before .before .before .before .before .before .before .before .before .args .n) w s m (c .before .before .before .before .before .before .before .before .before .seek-row .ensures)) (c .before .before .before .before .before .before .least-hash .ensures) (c .before .before .before .before .before .run-end .ensures) (c .before .before .before .before .run-end2 .ensures)) (failed (GroupFits (rowsIn w (c .before .before .before .before .before .before .before .before .loop .i) (c .before .before .before .before .before .run-end .result)) (rowsIn w (c .before .before .before .before .before .before .before .before .loop .j) (c .before .before .before .before .run-end2 .result))) (c .before .before .group-fits .result) (c .if1 .taken) (c .before .before .group-fits .ensures .0))
+    λ s. off-stop (c .before .before .before .before .before .before .before .before .loop .inv .4 s)
+    (group-off w (c .before .before .before .before .before .before .before .before .loop .i) m (c .before .before .before .before .before .before .before .before .loop .j)
+    (c .before .before .before .before .before .before .before .before .before .before .before .args .n) (quadNumber (c .before .before .before .before .before .before .least-hash .result))
+    (c .before .before .before .before .before .run-end .result) (c .before .before .before .before .run-end2 .result) (omega arith)
+    (omega arith) (txid-level (c .before .before .before .before .before .before .before .before .before .before .before .args .n) w s m
+    (c .before .before .before .before .before .before .before .before .before .seek-row .ensures))
+    (wtxid-level (c .before .before .before .before .before .before .before .before .before .before .before .args .n) w s m
+    (c .before .before .before .before .before .before .before .before .before .seek-row .ensures)) (c .before .before .before .before .before .before .least-hash .ensures)
+    (c .before .before .before .before .before .run-end .ensures) (c .before .before .before .before .run-end2 .ensures))
+    (failed (GroupFits (rowsIn w (c .before .before .before .before .before .before .before .before .loop .i) (c .before .before .before .before .before .run-end .result))
+    (rowsIn w (c .before .before .before .before .before .before .before .before .loop .j) (c .before .before .before .before .run-end2 .result))) (c .before .before .group-fits .result)
+    (c .if1 .taken) (c .before .before .group-fits .ensures .0))
 
 loop-less : tie.Need-loop-less Inv-loop μ-loop
-loop-less c = omega (arith, group-some (words (c .before .before .before .before .before .before .before .before .before .before .before .args .s .now)) (c .before .before .before .before .before .before .before .before .loop .i) (c .before .before .before .before .before .before .before .before .before .seek-row .result) (c .before .before .before .before .before .before .before .before .loop .j) (c .before .before .before .before .before .before .before .before .before .before .before .args .n) (quadNumber (c .before .before .before .before .before .before .least-hash .result)) (c .before .before .before .before .before .run-end .result) (c .before .before .before .before .run-end2 .result) (c .before .before .before .before .before .before .least-hash .ensures) (c .before .before .before .before .before .run-end .ensures) (c .before .before .before .before .run-end2 .ensures))
+loop-less c = omega (
+  arith,
+  group-some (words (c .before .before .before .before .before .before .before .before .before .before .before .args .s .now))
+      (c .before .before .before .before .before .before .before .before .loop .i) (c .before .before .before .before .before .before .before .before .before .seek-row .result)
+      (c .before .before .before .before .before .before .before .before .loop .j) (c .before .before .before .before .before .before .before .before .before .before .before .args .n) (quadNumber
+      (c .before .before .before .before .before .before .least-hash .result)) (c .before .before .before .before .before .run-end .result) (c .before .before .before .before .run-end2 .result)
+      (c .before .before .before .before .before .before .least-hash .ensures) (c .before .before .before .before .before .run-end .ensures) (c .before .before .before .before .run-end2 .ensures),
+)
 
 loop-again : tie.Need-loop-again Inv-loop μ-loop
 loop-again c =
     let w = words (c .before .before .before .before .before .before .before .before .before .before .before .args .s .now) in
-    let m = c .before .before .before .before .before .before .before .before .before .seek-row .result in
-    (c .before .before .group-fits .ensures .1, omega arith, omega arith, omega arith, λ s. off-turn (c .before .before .before .before .before .before .before .before .loop .inv .4 s) (group-off w (c .before .before .before .before .before .before .before .before .loop .i) m (c .before .before .before .before .before .before .before .before .loop .j) (c .before .before .before .before .before .before .before .before .before .before .before .args .n) (quadNumber (c .before .before .before .before .before .before .least-hash .result)) (c .before .before .before .before .before .run-end .result) (c .before .before .before .before .run-end2 .result) (omega arith) (omega arith) (txid-level (c .before .before .before .before .before .before .before .before .before .before .before .args .n) w s m (c .before .before .before .before .before .before .before .before .before .seek-row .ensures)) (wtxid-level (c .before .before .before .before .before .before .before .before .before .before .before .args .n) w s m (c .before .before .before .before .before .before .before .before .before .seek-row .ensures)) (c .before .before .before .before .before .before .least-hash .ensures) (c .before .before .before .before .before .run-end .ensures) (c .before .before .before .before .run-end2 .ensures)) (passed (GroupFits (rowsIn w (c .before .before .before .before .before .before .before .before .loop .i) (c .before .before .before .before .before .run-end .result)) (rowsIn w (c .before .before .before .before .before .before .before .before .loop .j) (c .before .before .before .before .run-end2 .result))) (c .before .before .group-fits .result) (c .if1 .left) (c .before .before .group-fits .ensures .0)))
+    let m = c .before .before .before .before .before .before .before .before .before .seek-row .result in (
+      c .before .before .group-fits .ensures .1,
+      omega arith,
+      omega arith,
+      omega arith,
+      λ s. off-turn (c .before .before .before .before .before .before .before .before .loop .inv .4 s)
+          (group-off w (c .before .before .before .before .before .before .before .before .loop .i) m (c .before .before .before .before .before .before .before .before .loop .j)
+          (c .before .before .before .before .before .before .before .before .before .before .before .args .n) (quadNumber (c .before .before .before .before .before .before .least-hash .result))
+          (c .before .before .before .before .before .run-end .result) (c .before .before .before .before .run-end2 .result) (omega arith)
+          (omega arith) (txid-level (c .before .before .before .before .before .before .before .before .before .before .before .args .n) w s m
+          (c .before .before .before .before .before .before .before .before .before .seek-row .ensures))
+          (wtxid-level (c .before .before .before .before .before .before .before .before .before .before .before .args .n) w s m
+          (c .before .before .before .before .before .before .before .before .before .seek-row .ensures)) (c .before .before .before .before .before .before .least-hash .ensures)
+          (c .before .before .before .before .before .run-end .ensures) (c .before .before .before .before .run-end2 .ensures)) (passed
+          (GroupFits (rowsIn w (c .before .before .before .before .before .before .before .before .loop .i) (c .before .before .before .before .before .run-end .result))
+          (rowsIn w (c .before .before .before .before .before .before .before .before .loop .j) (c .before .before .before .before .run-end2 .result))) (c .before .before .group-fits .result)
+          (c .if1 .left) (c .before .before .group-fits .ensures .0)),
+    )
 
 returns-2 : tie.Need-returns-2 Inv-loop μ-loop
 returns-2 c =

@@ -32,12 +32,21 @@ quad-less-requires c κs = search needs
 returns-3 : tie.Need-returns-3
 returns-3 c =
     let l : quadNumber (c .before .before .hash-at4 .result) < quadNumber (c .before .before .before .hash-at3 .result) = ltb-true _ _ (sym (c .before .quad-less .ensures) ∙ c .if3 .taken) in
-    record { left = λ h. omega (arith, c .before .before .before .hash-at3 .ensures, c .before .before .hash-at4 .ensures); right = λ h. omega (arith, c .before .before .hash-at4 .ensures); some = inr (omega arith, sym (c .before .before .hash-at4 .ensures)) }
+    record {
+      left = λ h. omega (arith, c .before .before .before .hash-at3 .ensures, c .before .before .hash-at4 .ensures);
+      right = λ h. omega (arith, c .before .before .hash-at4 .ensures);
+      some = inr (omega arith, sym (c .before .before .hash-at4 .ensures));
+    }
 
 returns-4 : tie.Need-returns-4
 returns-4 c =
     let l : quadNumber (c .before .before .before .hash-at3 .result) ≤ quadNumber (c .before .before .hash-at4 .result) = ltb-false _ _ (sym (c .before .quad-less .ensures) ∙ c .if3 .left) in
-    record { left = λ h. omega (arith, c .before .before .before .hash-at3 .ensures); right = λ h. omega (arith, c .before .before .before .hash-at3 .ensures, c .before .before .hash-at4 .ensures); some = inl (omega arith, sym (c .before .before .before .hash-at3 .ensures)) }
+    record {
+      left = λ h. omega (arith, c .before .before .before .hash-at3 .ensures);
+      right =
+          λ h. omega (arith, c .before .before .before .hash-at3 .ensures, c .before .before .hash-at4 .ensures);
+      some = inl (omega arith, sym (c .before .before .before .hash-at3 .ensures));
+    }
 
 pub least-hash-spec : {M : Type 1} → statement M
 least-hash-spec =

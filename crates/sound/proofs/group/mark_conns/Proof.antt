@@ -53,8 +53,13 @@ loop-less c = search needs
 loop-again : tie.Need-loop-again Inv-loop μ-loop
 loop-again c =
     let a = c .before .before .before .before .before .before .before .before .args in
-    let l = c .before .before .before .before .before .loop in
-    (omega arith, omega arith, length-set (l .slots) _ _ ∙ l .inv .2, marks-turn (words (a .s .now)) (l .k) (a .to) (a .mark) (a .slots .now) (l .slots) (c .before .before .before .read-row .result) (omega arith) (l .inv .1) (c .before .before .before .read-row .ensures .words-are) refl (omega (arith, l .inv .2)) (c .if1 .left) (l .inv .3))
+    let l = c .before .before .before .before .before .loop in (
+      omega arith,
+      omega arith,
+      length-set (l .slots) _ _ ∙ l .inv .2,
+      marks-turn (words (a .s .now)) (l .k) (a .to) (a .mark) (a .slots .now) (l .slots) (c .before .before .before .read-row .result) (omega arith) (l .inv .1)
+          (c .before .before .before .read-row .ensures .words-are) refl (omega (arith, l .inv .2)) (c .if1 .left) (l .inv .3),
+    )
 
 same-length-2 : tie.Need-same-length-2 Inv-loop μ-loop
 same-length-2 c = search needs

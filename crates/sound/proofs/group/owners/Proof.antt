@@ -32,11 +32,15 @@ loop-less c = search needs
 
 loop-again : tie.Need-loop-again Inv-loop μ-loop
 loop-again c =
-    let t = owners-turn (words (c .before .before .before .before .before .args .s .now)) (c .before .before .before .loop .i) (c .before .before .before .before .before .args .to) (omega arith) (c .before .read-row .ensures .words-are) in
+    let t = owners-turn (words (c .before .before .before .before .before .args .s .now)) (c .before .before .before .loop .i) (c .before .before .before .before .before .args .to) (omega arith)
+    (c .before .read-row .ensures .words-are) in
     (search needs, search needs, omega arith, omega (arith, c .before .before .before .loop .inv .3))
 
 returns : tie.Need-returns Inv-loop μ-loop
-returns c = (omega (arith, c .before .loop .inv .3, owners-none (words (c .before .before .before .args .s .now)) (c .before .loop .i) (c .before .before .before .args .to) (omega arith)), omega arith)
+returns c = (
+  omega (arith, c .before .loop .inv .3, owners-none (words (c .before .before .before .args .s .now)) (c .before .loop .i) (c .before .before .before .args .to) (omega arith)),
+  omega arith,
+)
 
 pub owners-spec : {M : Type 1} → statement M
 owners-spec =

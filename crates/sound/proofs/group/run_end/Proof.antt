@@ -28,8 +28,14 @@ quad-less-requires c κs = search needs
 
 returns : tie.Need-returns Inv-loop μ-loop
 returns c =
-    let l : quadNumber (c .before .before .before .before .before .before .args .h) < quadNumber (c .before .before .hash-at .result) = ltb-true _ _ (sym (c .before .quad-less .ensures) ∙ c .if1 .taken) in
-    record { least = c .before .before .before .before .loop .inv .0; most = c .before .before .before .before .loop .inv .1; upto = c .before .before .before .before .loop .inv .2; past = λ _. omega (arith, c .before .before .hash-at .ensures) }
+    let l : quadNumber (c .before .before .before .before .before .before .args .h) < quadNumber (c .before .before .hash-at .result) =
+    ltb-true _ _ (sym (c .before .quad-less .ensures) ∙ c .if1 .taken) in
+    record {
+      least = c .before .before .before .before .loop .inv .0;
+      most = c .before .before .before .before .loop .inv .1;
+      upto = c .before .before .before .before .loop .inv .2;
+      past = λ _. omega (arith, c .before .before .hash-at .ensures);
+    }
 
 add-i : tie.Need-add-i Inv-loop μ-loop
 add-i c = search needs
@@ -39,8 +45,14 @@ loop-less c = search needs
 
 loop-again : tie.Need-loop-again Inv-loop μ-loop
 loop-again c =
-    let l : quadNumber (c .before .before .hash-at .result) ≤ quadNumber (c .before .before .before .before .before .before .args .h) = ltb-false _ _ (sym (c .before .quad-less .ensures) ∙ c .if1 .left) in
-    (search needs, search needs, upto-more (words (c .before .before .before .before .before .before .args .s .now)) (c .before .before .before .before .before .before .args .from) (c .before .before .before .before .loop .i) (quadNumber (c .before .before .before .before .before .before .args .h)) (c .before .before .before .before .loop .inv .2) (omega (arith, c .before .before .hash-at .ensures)))
+    let l : quadNumber (c .before .before .hash-at .result) ≤ quadNumber (c .before .before .before .before .before .before .args .h) =
+    ltb-false _ _ (sym (c .before .quad-less .ensures) ∙ c .if1 .left) in (
+      search needs,
+      search needs,
+      upto-more (words (c .before .before .before .before .before .before .args .s .now)) (c .before .before .before .before .before .before .args .from)
+          (c .before .before .before .before .loop .i) (quadNumber (c .before .before .before .before .before .before .args .h)) (c .before .before .before .before .loop .inv .2)
+          (omega (arith, c .before .before .hash-at .ensures)),
+    )
 
 returns-2 : tie.Need-returns-2 Inv-loop μ-loop
 returns-2 c = record { least = c .before .loop .inv .0; most = c .before .loop .inv .1; upto = c .before .loop .inv .2; past = λ z. absurd (omega arith) }

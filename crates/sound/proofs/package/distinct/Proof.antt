@@ -53,8 +53,10 @@ same-length c = search needs
 returns : tie.Need-returns Inv-loop μ-loop
 returns c =
     let a = c .before .before .before .before .before .before .before .before .before .args in
-    let l = c .before .before .before .before .before .before .loop in
-    (repeat-met (words (a .s .now)) (a .a) (a .n) (l .k) (omega arith) (l .inv .0) (c .before .before .before .before .read-quad .ensures) (sym (c .before .has-marked .ensures) ∙ c .if1 .taken), l .inv .2)
+    let l = c .before .before .before .before .before .before .loop in (
+      repeat-met (words (a .s .now)) (a .a) (a .n) (l .k) (omega arith) (l .inv .0) (c .before .before .before .before .read-quad .ensures) (sym (c .before .has-marked .ensures) ∙ c .if1 .taken),
+      l .inv .2,
+    )
 
 mul-slots : tie.Need-mul-slots Inv-loop μ-loop
 mul-slots c = search needs
@@ -72,8 +74,12 @@ loop-again : tie.Need-loop-again Inv-loop μ-loop
 loop-again c =
     let a = c .before .before .before .before .before .before .before .before .before .args in
     let l = c .before .before .before .before .before .before .loop in
-    let q = c .before .before .before .before .read-quad .ensures in
-    (omega arith, repeat-back (words (a .s .now)) (a .a) (a .n) (l .k) (omega arith) (l .inv .0) q (sym (c .before .has-marked .ensures) ∙ c .if1 .left) (l .inv .1), length-set (l .slots) _ _ ∙ l .inv .2, marked-turn (words (a .s .now)) (a .a) (a .n) (l .k) (omega arith) (l .inv .0) q (a .mark) (l .slots) (c .before .before .before .slot .ensures .0) (omega (arith, l .inv .2)) (l .inv .3))
+    let q = c .before .before .before .before .read-quad .ensures in (
+      omega arith,
+      repeat-back (words (a .s .now)) (a .a) (a .n) (l .k) (omega arith) (l .inv .0) q (sym (c .before .has-marked .ensures) ∙ c .if1 .left) (l .inv .1),
+      length-set (l .slots) _ _ ∙ l .inv .2,
+      marked-turn (words (a .s .now)) (a .a) (a .n) (l .k) (omega arith) (l .inv .0) q (a .mark) (l .slots) (c .before .before .before .slot .ensures .0) (omega (arith, l .inv .2)) (l .inv .3),
+    )
 
 same-length-2 : tie.Need-same-length-2 Inv-loop μ-loop
 same-length-2 c = search needs

@@ -32,7 +32,9 @@ same-hash-requires : tie.Need-same-hash-requires Inv-loop μ-loop
 same-hash-requires c κs = search needs
 
 returns : tie.Need-returns Inv-loop μ-loop
-returns c = sym (c .before .before .before .before .loop .inv .2 ∙ elem-here (words (c .before .before .before .before .before .before .args .s .now)) (c .before .before .before .before .before .before .args .a) (c .before .before .before .before .loop .k) (c .before .before .before .before .before .before .args .to) (omega arith) (c .before .before .read-quad .ensures) (quadNumber (c .before .before .before .before .before .before .args .h)) (rw (c .if1 .taken) at (c .before .same-hash .ensures)))
+returns c = sym (c .before .before .before .before .loop .inv .2 ∙ elem-here (words (c .before .before .before .before .before .before .args .s .now))
+    (c .before .before .before .before .before .before .args .a) (c .before .before .before .before .loop .k) (c .before .before .before .before .before .before .args .to) (omega arith)
+    (c .before .before .read-quad .ensures) (quadNumber (c .before .before .before .before .before .before .args .h)) (rw (c .if1 .taken) at (c .before .same-hash .ensures)))
 
 add-k : tie.Need-add-k Inv-loop μ-loop
 add-k c = search needs
@@ -41,10 +43,17 @@ loop-less : tie.Need-loop-less Inv-loop μ-loop
 loop-less c = search needs
 
 loop-again : tie.Need-loop-again Inv-loop μ-loop
-loop-again c = (search needs, search needs, c .before .before .before .before .loop .inv .2 ∙ elem-past (words (c .before .before .before .before .before .before .args .s .now)) (c .before .before .before .before .before .before .args .a) (c .before .before .before .before .loop .k) (c .before .before .before .before .before .before .args .to) (omega arith) (c .before .before .read-quad .ensures) (quadNumber (c .before .before .before .before .before .before .args .h)) (rw (c .if1 .left) at (c .before .same-hash .ensures)))
+loop-again c = (
+  search needs,
+  search needs,
+  c .before .before .before .before .loop .inv .2 ∙ elem-past (words (c .before .before .before .before .before .before .args .s .now))
+      (c .before .before .before .before .before .before .args .a) (c .before .before .before .before .loop .k) (c .before .before .before .before .before .before .args .to) (omega arith)
+      (c .before .before .read-quad .ensures) (quadNumber (c .before .before .before .before .before .before .args .h)) (rw (c .if1 .left) at (c .before .same-hash .ensures)),
+)
 
 returns-2 : tie.Need-returns-2 Inv-loop μ-loop
-returns-2 c = sym (c .before .loop .inv .2 ∙ elem-end (words (c .before .before .before .args .s .now)) (c .before .before .before .args .a) (quadNumber (c .before .before .before .args .h)) (c .before .loop .k) (c .before .before .before .args .to) (omega arith))
+returns-2 c = sym (c .before .loop .inv .2 ∙ elem-end (words (c .before .before .before .args .s .now)) (c .before .before .before .args .a) (quadNumber (c .before .before .before .args .h))
+    (c .before .loop .k) (c .before .before .before .args .to) (omega arith))
 
 pub has-hash-spec : {M : Type 1} → statement M
 has-hash-spec =

@@ -16,7 +16,9 @@ owners-requires : tie.Need-owners-requires
 owners-requires c κs = search needs
 
 returns : tie.Need-returns
-returns c = λ s. rw (owned-count (c .before .before .before .before .args .n) (words (c .before .before .before .before .args .rows .now)) s (c .before .before .before .before .args .h) (c .before .before .seek-row .result) (c .before .run-end .result) (c .before .before .seek-row .ensures) (c .before .run-end .ensures)) (some-decides (c .owners .result) _ (c .owners .ensures .0))
+returns c = λ s. rw (owned-count (c .before .before .before .before .args .n) (words (c .before .before .before .before .args .rows .now)) s (c .before .before .before .before .args .h)
+    (c .before .before .seek-row .result) (c .before .run-end .result) (c .before .before .seek-row .ensures) (c .before .run-end .ensures))
+    (some-decides (c .owners .result) _ (c .owners .ensures .0))
 
 pub is-owned-spec : {M : Type 1} → statement M
 is-owned-spec = tie.close (tie.spec seek-row-requires run-end-requires owners-requires returns)

@@ -21,7 +21,8 @@ is-zero-requires : tie.Need-is-zero-requires
 is-zero-requires c κs = search needs
 
 returns : tie.Need-returns
-returns c = λ p. failed (slice (wtxidsAt + c .before .before .before .args .m * 4) parentsAt (words (c .before .before .before .args .p .now)) ≡ replicate (parentsAt - (wtxidsAt + c .before .before .before .args .m * 4)) 0) (c .before .is-zero .result) (c .if1 .taken) (c .before .is-zero .ensures) (p .wtxids)
+returns c = λ p. failed (slice (wtxidsAt + c .before .before .before .args .m * 4) parentsAt (words (c .before .before .before .args .p .now)) ≡
+    replicate (parentsAt - (wtxidsAt + c .before .before .before .args .m * 4)) 0) (c .before .is-zero .result) (c .if1 .taken) (c .before .is-zero .ensures) (p .wtxids)
 
 mul-is-zero-2 : tie.Need-mul-is-zero-2
 mul-is-zero-2 c = search needs
@@ -33,15 +34,20 @@ is-zero-requires-2 : tie.Need-is-zero-requires-2
 is-zero-requires-2 c κs = search needs
 
 returns-2 : tie.Need-returns-2
-returns-2 c = λ p. failed (slice (parentsAt + c .before .before .before .before .before .args .n * 4) keptAt (words (c .before .before .before .before .before .args .p .now)) ≡ replicate (keptAt - (parentsAt + c .before .before .before .before .before .args .n * 4)) 0) (c .before .is-zero2 .result) (c .if2 .taken) (c .before .is-zero2 .ensures) (p .parents)
+returns-2 c = λ p. failed (slice (parentsAt + c .before .before .before .before .before .args .n * 4) keptAt (words (c .before .before .before .before .before .args .p .now)) ≡
+    replicate (keptAt - (parentsAt + c .before .before .before .before .before .args .n * 4)) 0) (c .before .is-zero2 .result) (c .if2 .taken) (c .before .is-zero2 .ensures) (p .parents)
 
 is-zero-requires-3 : tie.Need-is-zero-requires-3
 is-zero-requires-3 c κs = search needs
 
 returns-3 : tie.Need-returns-3
 returns-3 c =
-    let a = passed (slice (wtxidsAt + c .before .before .before .before .before .before .args .m * 4) parentsAt (words (c .before .before .before .before .before .before .args .p .now)) ≡ replicate (parentsAt - (wtxidsAt + c .before .before .before .before .before .before .args .m * 4)) 0) (c .before .before .before .before .is-zero .result) (c .before .before .before .if1 .left) (c .before .before .before .before .is-zero .ensures) in
-    let b = passed (slice (parentsAt + c .before .before .before .before .before .before .args .n * 4) keptAt (words (c .before .before .before .before .before .before .args .p .now)) ≡ replicate (keptAt - (parentsAt + c .before .before .before .before .before .before .args .n * 4)) 0) (c .before .before .is-zero2 .result) (c .before .if2 .left) (c .before .before .is-zero2 .ensures) in
+    let a = passed (slice (wtxidsAt + c .before .before .before .before .before .before .args .m * 4) parentsAt (words (c .before .before .before .before .before .before .args .p .now)) ≡
+    replicate (parentsAt - (wtxidsAt + c .before .before .before .before .before .before .args .m * 4)) 0) (c .before .before .before .before .is-zero .result)
+    (c .before .before .before .if1 .left) (c .before .before .before .before .is-zero .ensures) in
+    let b = passed (slice (parentsAt + c .before .before .before .before .before .before .args .n * 4) keptAt (words (c .before .before .before .before .before .before .args .p .now)) ≡
+    replicate (keptAt - (parentsAt + c .before .before .before .before .before .before .args .n * 4)) 0) (c .before .before .is-zero2 .result) (c .before .if2 .left)
+    (c .before .before .is-zero2 .ensures) in
     decides-iff (c .is-zero3 .result) (record { to = λ z. record { wtxids = a; parents = b; kept = z }; from = λ p. p .kept }) (c .is-zero3 .ensures)
 
 pub padded-spec : {M : Type 1} → statement M

@@ -27,7 +27,8 @@ quad-less-requires : tie.Need-quad-less-requires
 quad-less-requires c κs = search needs
 
 returns-2 : tie.Need-returns-2
-returns-2 c = follows-decides (words (c .before .before .before .before .before .args .s .now)) (c .before .before .before .before .before .args .i) (omega arith) (c .before .before .read-quad .ensures) (c .before .read-quad2 .ensures) (c .quad-less .ensures)
+returns-2 c = follows-decides (words (c .before .before .before .before .before .args .s .now)) (c .before .before .before .before .before .args .i) (omega arith)
+    (c .before .before .read-quad .ensures) (c .before .read-quad2 .ensures) (c .quad-less .ensures)
 
 pub place-follows-spec : {M : Type 1} → statement M
 place-follows-spec =

@@ -15,7 +15,8 @@ use Rattle.sound.proofs.package.places_fit.Statement.{statement}
 use Rattle.sound.proofs.package.places_fit.Tie as tie
 
 abbrev Inv-loop : tie.InvT-loop
-Inv-loop s q rows n slots₀ i₀ slots i = (length slots ≡ slotCount) × (i ≤ q) × (RowsSound (recs rowSize readRow n (words rows)) → (k : ℕ) → k < i → PlaceSound (recs rowSize readRow n (words rows)) (placeAt (words s) k)) × ((k : ℕ) → k < i → PlaceFollows (words s) k)
+Inv-loop s q rows n slots₀ i₀ slots i = (length slots ≡ slotCount) × (i ≤ q) × (RowsSound (recs rowSize readRow n (words rows)) → (k : ℕ) → k < i
+    → PlaceSound (recs rowSize readRow n (words rows)) (placeAt (words s) k)) × ((k : ℕ) → k < i → PlaceFollows (words s) k)
 
 abbrev μ-loop : tie.MeasureT-loop
 μ-loop s q rows n slots₀ i₀ slots i = q - i
@@ -59,10 +60,15 @@ place-fits-requires c κs = (omega arith, search needs, c .before .before .befor
 returns : tie.Need-returns Inv-loop μ-loop
 returns c =
     let w = words (c .before .before .before .before .before .before .before .before .before .args .s .now) in
-    let rs = recs rowSize readRow (c .before .before .before .before .before .before .before .before .before .args .n) (words (c .before .before .before .before .before .before .before .before .before .args .rows .now)) in
-    let h : placeSize * c .before .before .before .before .before .before .before .before .before .args .q ≤ length w = omega (arith, length-words (c .before .before .before .before .before .before .before .before .before .args .s .now)) in
-    λ r z. let d : Decides (c .before .before .place-fits .result) (PlaceSound rs (placeAt w (c .before .before .before .before .before .before .loop .i))) = rw (place-lent (c .before .before .before .before .before .before .before .before .before .args .s .now) (c .before .before .before .before .before .before .loop .i) (omega arith)) at (c .before .before .place-fits .ensures .0 r) in
-    failed (PlaceSound rs (placeAt w (c .before .before .before .before .before .before .loop .i))) (c .before .before .place-fits .result) (c .if1 .taken) d (place-of rs (c .before .before .before .before .before .before .before .before .before .args .q) w h z (c .before .before .before .before .before .before .loop .i) (omega arith))
+    let rs = recs rowSize readRow (c .before .before .before .before .before .before .before .before .before .args .n)
+    (words (c .before .before .before .before .before .before .before .before .before .args .rows .now)) in
+    let h : placeSize * c .before .before .before .before .before .before .before .before .before .args .q ≤ length w =
+    omega (arith, length-words (c .before .before .before .before .before .before .before .before .before .args .s .now)) in
+    λ r z. let d : Decides (c .before .before .place-fits .result) (PlaceSound rs (placeAt w (c .before .before .before .before .before .before .loop .i))) =
+    rw (place-lent (c .before .before .before .before .before .before .before .before .before .args .s .now) (c .before .before .before .before .before .before .loop .i)
+    (omega arith)) at (c .before .before .place-fits .ensures .0 r) in
+    failed (PlaceSound rs (placeAt w (c .before .before .before .before .before .before .loop .i))) (c .before .before .place-fits .result) (c .if1 .taken) d
+    (place-of rs (c .before .before .before .before .before .before .before .before .before .args .q) w h z (c .before .before .before .before .before .before .loop .i) (omega arith))
 
 place-follows-requires : tie.Need-place-follows-requires Inv-loop μ-loop
 place-follows-requires c κs = search needs
@@ -70,9 +76,13 @@ place-follows-requires c κs = search needs
 returns-2 : tie.Need-returns-2 Inv-loop μ-loop
 returns-2 c =
     let w = words (c .before .before .before .before .before .before .before .before .before .before .before .args .s .now) in
-    let rs = recs rowSize readRow (c .before .before .before .before .before .before .before .before .before .before .before .args .n) (words (c .before .before .before .before .before .before .before .before .before .before .before .args .rows .now)) in
-    let h : placeSize * c .before .before .before .before .before .before .before .before .before .before .before .args .q ≤ length w = omega (arith, length-words (c .before .before .before .before .before .before .before .before .before .before .before .args .s .now)) in
-    λ r z. failed (PlaceFollows w (c .before .before .before .before .before .before .before .before .loop .i)) (c .before .place-follows .result) (c .if2 .taken) (c .before .place-follows .ensures) (follow-iff (c .before .before .before .before .before .before .before .before .before .before .before .args .q) w .from (z .ascend) (c .before .before .before .before .before .before .before .before .loop .i) (omega arith))
+    let rs = recs rowSize readRow (c .before .before .before .before .before .before .before .before .before .before .before .args .n)
+    (words (c .before .before .before .before .before .before .before .before .before .before .before .args .rows .now)) in
+    let h : placeSize * c .before .before .before .before .before .before .before .before .before .before .before .args .q ≤ length w =
+    omega (arith, length-words (c .before .before .before .before .before .before .before .before .before .before .before .args .s .now)) in
+    λ r z. failed (PlaceFollows w (c .before .before .before .before .before .before .before .before .loop .i)) (c .before .place-follows .result) (c .if2 .taken)
+    (c .before .place-follows .ensures) (follow-iff (c .before .before .before .before .before .before .before .before .before .before .before .args .q) w .from (z .ascend)
+    (c .before .before .before .before .before .before .before .before .loop .i) (omega arith))
 
 add-i : tie.Need-add-i Inv-loop μ-loop
 add-i c = search needs
@@ -83,9 +93,22 @@ loop-less c = search needs
 loop-again : tie.Need-loop-again Inv-loop μ-loop
 loop-again c =
     let w = words (c .before .before .before .before .before .before .before .before .before .before .before .args .s .now) in
-    let rs = recs rowSize readRow (c .before .before .before .before .before .before .before .before .before .before .before .args .n) (words (c .before .before .before .before .before .before .before .before .before .before .before .args .rows .now)) in
-    let h : placeSize * c .before .before .before .before .before .before .before .before .before .before .before .args .q ≤ length w = omega (arith, length-words (c .before .before .before .before .before .before .before .before .before .before .before .args .s .now)) in
-    (c .before .before .before .before .place-fits .ensures .1, search needs, (λ r. let d : Decides (c .before .before .before .before .place-fits .result) (PlaceSound rs (placeAt w (c .before .before .before .before .before .before .before .before .loop .i))) = rw (place-lent (c .before .before .before .before .before .before .before .before .before .before .before .args .s .now) (c .before .before .before .before .before .before .before .before .loop .i) (omega arith)) at (c .before .before .before .before .place-fits .ensures .0 r) in below-more (λ k. PlaceSound rs (placeAt w k)) (c .before .before .before .before .before .before .before .before .loop .i) (c .before .before .before .before .before .before .before .before .loop .inv .2 r) (passed (PlaceSound rs (placeAt w (c .before .before .before .before .before .before .before .before .loop .i))) (c .before .before .before .before .place-fits .result) (c .before .before .if1 .left) d)), below-more (λ k. PlaceFollows w k) (c .before .before .before .before .before .before .before .before .loop .i) (c .before .before .before .before .before .before .before .before .loop .inv .3) (passed (PlaceFollows w (c .before .before .before .before .before .before .before .before .loop .i)) (c .before .place-follows .result) (c .if2 .left) (c .before .place-follows .ensures)))
+    let rs = recs rowSize readRow (c .before .before .before .before .before .before .before .before .before .before .before .args .n)
+    (words (c .before .before .before .before .before .before .before .before .before .before .before .args .rows .now)) in
+    let h : placeSize * c .before .before .before .before .before .before .before .before .before .before .before .args .q ≤ length w =
+    omega (arith, length-words (c .before .before .before .before .before .before .before .before .before .before .before .args .s .now)) in (
+      c .before .before .before .before .place-fits .ensures .1,
+      search needs,
+      (λ r. let d : Decides (c .before .before .before .before .place-fits .result) (PlaceSound rs (placeAt w (c .before .before .before .before .before .before .before .before .loop .i))) =
+          rw (place-lent (c .before .before .before .before .before .before .before .before .before .before .before .args .s .now)
+          (c .before .before .before .before .before .before .before .before .loop .i) (omega arith)) at (c .before .before .before .before .place-fits .ensures .0 r) in below-more (λ k. PlaceSound
+          rs (placeAt w k)) (c .before .before .before .before .before .before .before .before .loop .i) (c .before .before .before .before .before .before .before .before .loop .inv .2 r)
+          (passed (PlaceSound rs (placeAt w (c .before .before .before .before .before .before .before .before .loop .i))) (c .before .before .before .before .place-fits .result)
+          (c .before .before .if1 .left) d)),
+      below-more (λ k. PlaceFollows w k) (c .before .before .before .before .before .before .before .before .loop .i)
+          (c .before .before .before .before .before .before .before .before .loop .inv .3) (passed (PlaceFollows w (c .before .before .before .before .before .before .before .before .loop .i))
+          (c .before .place-follows .result) (c .if2 .left) (c .before .place-follows .ensures)),
+    )
 
 returns-3 : tie.Need-returns-3 Inv-loop μ-loop
 returns-3 c =

@@ -19,7 +19,8 @@ mul-result c = omega arith
 
 returns : tie.Need-returns
 returns c =
-    let f : c .fold .result ≡ foldOf (quadOf (quadNumber (c .before .args .h))) = c .fold .ensures ∙ ap foldOf (sym (quad-number (c .before .args .h) (record { w0 = omega arith; w1 = omega arith; w2 = omega arith; w3 = omega arith }))) in
+    let f : c .fold .result ≡ foldOf (quadOf (quadNumber (c .before .args .h))) = c .fold .ensures ∙
+    ap foldOf (sym (quad-number (c .before .args .h) (record { w0 = omega arith; w1 = omega arith; w2 = omega arith; w3 = omega arith }))) in
     (ap (λ (x : ℕ). (x % 4294967296 + x / 4294967296) * 506952113 / 1048576 % slotCount) f, omega arith)
 
 pub slot-spec : {M : Type 1} → statement M
