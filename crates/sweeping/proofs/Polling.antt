@@ -21,7 +21,8 @@ pub gate-kept : {b b′ : List ℕ} (clock : ℕ) {r : Bool} → Gated b b′ cl
 gate-kept clock g = record { reply-is = λ st s w. g st w .0; state-is = λ st s w. g st w .1 }
 
 -- the cursor becomes the last key handed out
-pub sweep-kept : {b b′ u u′ : List ℕ} {v : Batch} → Batched b u u′ v → KnownMoved b b′ (storedKey (v .last)) → KeysHanded b b′ u u′ (v .count) (λ st. nextBatch st) (λ st. withKnownCursor (lastOf (nextBatch st)) st)
+pub sweep-kept : {b b′ u u′ : List ℕ} {v : Batch} → Batched b u u′ v → KnownMoved b b′ (storedKey (v .last))
+    → KeysHanded b b′ u u′ (v .count) (λ st. nextBatch st) (λ st. withKnownCursor (lastOf (nextBatch st)) st)
 sweep-kept {b′ = b′} {v = v} g m = record {
   count = g .count;
   keys-are = g .keys-are;

@@ -49,7 +49,8 @@ module _ {most : ℕ} {all : List Key} {u₀ u : List ℕ} {v : Batch} where
   handing-as : (a : List Key) {b : List Key} → a ≡ b → Handing most all u₀ u v a → Handing most all u₀ u v b
   handing-as a e h = subst (λ (x : List Key). Handing most all u₀ u v x) e h
 
-  handing-more : (r : Row) (rest : List Key) {u′ : List ℕ} {w : Batch} → keyBytes * v .count + keyBytes ≤ length u → Put u u′ v r w → Handing most all u₀ u v (keyAt r ∷ rest) → Handing most all u₀ u′ w rest
+  handing-more : (r : Row) (rest : List Key) {u′ : List ℕ} {w : Batch} → keyBytes * v .count + keyBytes ≤ length u → Put u u′ v r w → Handing most all u₀ u v (keyAt r ∷ rest)
+      → Handing most all u₀ u′ w rest
   handing-more r rest room p h =
       let c = h .count in
       let m = length-keyAnswer (keyAt r) in
@@ -114,7 +115,8 @@ module _ {b : List ℕ} {from to most : ℕ} {u₀ u : List ℕ} {v w : Batch} {
         long = k .long;
         few = k .few;
         near = omega (arith, k .near);
-        hands = λ f all rest x s g. handing-as (keysOver i to (f .rows) ++ rest) (ap (λ (z : List Key). z ++ rest) (key-goes-on (f .rows) i to r l (fits f s) (e f r s) (q f s) t)) (k .hands f all rest x s g);
+        hands = λ f all rest x s g. handing-as (keysOver i to (f .rows) ++ rest) (ap (λ (z : List Key). z ++ rest) (key-goes-on (f .rows) i to r l (fits f s) (e f r s) (q f s) t))
+            (k .hands f all rest x s g);
       }
 
       pub walking-more : {u′ : List ℕ} {w′ : Batch} → y ≡ true → (w .count ≡ most → ⊥) → keyBytes * w .count + keyBytes ≤ length u → Put u u′ w r w′ → Walking b from to most u₀ u′ v w′ (i + 1)
@@ -123,12 +125,14 @@ module _ {b : List ℕ} {from to most : ℕ} {u₀ u : List ℕ} {v w : Batch} {
         long = ap length (p .bytes) ∙ length-splice u (keyBytes * w .count) (keyAnswer (keyAt r)) (omega (arith, length-keyAnswer (keyAt r), room)) ∙ k .long;
         few = omega (arith, k .few, n, p .count);
         near = omega (arith, k .near, p .count);
-        hands = λ f all rest x s g. handing-more r (keysOver (i + 1) to (f .rows) ++ rest) room p (handing-as (keysOver i to (f .rows) ++ rest) (ap (λ (z : List Key). z ++ rest) (key-ends (f .rows) i to r l (fits f s) (e f r s) (q f s) t)) (k .hands f all rest x s g));
+        hands = λ f all rest x s g. handing-more r (keysOver (i + 1) to (f .rows) ++ rest) room p
+            (handing-as (keysOver i to (f .rows) ++ rest) (ap (λ (z : List Key). z ++ rest) (key-ends (f .rows) i to r l (fits f s) (e f r s) (q f s) t)) (k .hands f all rest x s g));
       }
 
 -- ---- the parts of a walk put together
 
-pub put-at : {u u′ : List ℕ} {v : Batch} (r : Row) {k : Key} {c : Stored} → k ≡ keyAt r → u′ ≡ splice u (keyBytes * v .count) (keyAnswer k) → Stands c (some k) → Put u u′ v r (record { count = v .count + 1; last = c })
+pub put-at : {u u′ : List ℕ} {v : Batch} (r : Row) {k : Key} {c : Stored} → k ≡ keyAt r → u′ ≡ splice u (keyBytes * v .count) (keyAnswer k) → Stands c (some k)
+    → Put u u′ v r (record { count = v .count + 1; last = c })
 put-at {u} {v = v} r e p l = record { count = refl; bytes = p ∙ ap (λ (j : Key). splice u (keyBytes * v .count) (keyAnswer j)) e; last = l ∙ ap (λ (j : Key). cursorWords (some j)) e }
 
 module _ {most : ℕ} {all : List Key} {u₀ u : List ℕ} {v : Batch} (h : Handing most all u₀ u v []) (few : v .count ≤ most) where

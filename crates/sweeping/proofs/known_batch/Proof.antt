@@ -28,14 +28,23 @@ keys-in-requires-2 c κs =
     let n = c .before .before .before .before .before .before .before .rows .ensures .word in
     let f = c .before .before .before .before .before .before .after-known .ensures .most in
     let z = c .before .before .before .before .before .nothing .ensures .0 in
-    let w = c .before .before .before .keys-in .ensures in
-    (k, omega arith, f, w .few, omega (arith, n, f, z, w .near, k .sizes .rows, k .sizes .limit, k .sized .rows-few), omega (arith, c .before .before .before .before .before .before .before .before .before .before .pre .1, c .before .before .before .keys-in .kept .1 .1 .1 .1 .0))
+    let w = c .before .before .before .keys-in .ensures in (
+      k,
+      omega arith,
+      f,
+      w .few,
+      omega (arith, n, f, z, w .near, k .sizes .rows, k .sizes .limit, k .sized .rows-few),
+      omega (arith, c .before .before .before .before .before .before .before .before .before .before .pre .1, c .before .before .before .keys-in .kept .1 .1 .1 .1 .0),
+    )
 
 same-length : tie.Need-same-length
 same-length c = search needs
 
 returns : tie.Need-returns
-returns c = batched (c .before .before .before .before .before .before .before .before .before .before .rows .ensures .word) (c .before .before .before .before .before .before .before .before .before .after-known .ensures) (c .before .before .before .before .before .before .before .before .nothing .ensures .0) (c .before .before .before .before .before .before .before .before .nothing .ensures .1) (c .before .before .before .before .before .before .keys-in .ensures) (c .before .before .keys-in2 .ensures)
+returns c = batched (c .before .before .before .before .before .before .before .before .before .before .rows .ensures .word)
+    (c .before .before .before .before .before .before .before .before .before .after-known .ensures) (c .before .before .before .before .before .before .before .before .nothing .ensures .0)
+    (c .before .before .before .before .before .before .before .before .nothing .ensures .1) (c .before .before .before .before .before .before .keys-in .ensures)
+    (c .before .before .keys-in2 .ensures)
 
 pub known-batch-spec : {M : Type 1} → statement M
 known-batch-spec =

@@ -17,7 +17,8 @@ same-key-requires c κs = search needs
 returns-2 : tie.Need-returns-2
 returns-2 c = λ f w.
     let z = sizes w in
-    ends-before (c .before .before .before .before .args .r) (f .rows) (c .before .before .before .before .args .j) (c .before .before .before .before .args .to) (c .before .row-at .result) (omega arith) (omega (arith, c .before .before .before .before .pre .2)) (c .before .row-at .ensures f (c .before .row-at .result) w) (c .same-key .ensures)
+    ends-before (c .before .before .before .before .args .r) (f .rows) (c .before .before .before .before .args .j) (c .before .before .before .before .args .to) (c .before .row-at .result)
+    (omega arith) (omega (arith, c .before .before .before .before .pre .2)) (c .before .row-at .ensures f (c .before .row-at .result) w) (c .same-key .ensures)
 
 pub ends-key-spec : {M : Type 1} → statement M
 ends-key-spec = tie.close (tie.spec returns row-at-requires same-key-requires returns-2)

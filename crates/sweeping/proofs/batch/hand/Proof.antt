@@ -19,7 +19,8 @@ same-length : tie.Need-same-length
 same-length c = search needs
 
 returns : tie.Need-returns
-returns c = put-at (c .before .before .before .before .before .before .before .args .r) (c .before .before .before .before .before .key-of .ensures) (c .before .before .before .put-key .ensures) (c .key-stored .ensures)
+returns c = put-at (c .before .before .before .before .before .before .before .args .r) (c .before .before .before .before .before .key-of .ensures) (c .before .before .before .put-key .ensures)
+    (c .key-stored .ensures)
 
 pub hand-spec : {M : Type 1} → statement M
 hand-spec =

@@ -29,19 +29,26 @@ ends-key-requires : tie.Need-ends-key-requires Inv-loop μ-loop
 ends-key-requires c κs = (c .before .before .before .before .before .before .before .pre .0, omega arith, c .before .before .before .before .before .before .before .pre .2)
 
 hand-requires : tie.Need-hand-requires Inv-loop μ-loop
-hand-requires c κs = walking-room (c .before .before .before .before .before .before .before .loop .inv) (omega arith) (c .before .before .before .before .if1 .left) (c .before .before .before .before .before .before .before .before .before .before .pre .4) (c .before .before .before .before .before .before .before .before .before .before .pre .5)
+hand-requires c κs = walking-room (c .before .before .before .before .before .before .before .loop .inv) (omega arith) (c .before .before .before .before .if1 .left)
+    (c .before .before .before .before .before .before .before .before .before .before .pre .4) (c .before .before .before .before .before .before .before .before .before .before .pre .5)
 
 loop-less : tie.Need-loop-less Inv-loop μ-loop
 loop-less c = omega arith
 
 loop-again : tie.Need-loop-again Inv-loop μ-loop
-loop-again c = walking-more (c .before .before .before .before .before .before .before .before .before .before .loop .inv) (omega arith) (c .before .before .before .before .before .before .before .before .before .before .before .before .before .pre .2) (c .before .before .before .before .before .before .row-at .ensures) (c .before .before .before .before .before .ends-key .ensures) (c .before .before .before .before .if2 .taken) (c .before .before .before .before .before .before .before .if1 .left) (walking-room (c .before .before .before .before .before .before .before .before .before .before .loop .inv) (omega arith) (c .before .before .before .before .before .before .before .if1 .left) (c .before .before .before .before .before .before .before .before .before .before .before .before .before .pre .4) (c .before .before .before .before .before .before .before .before .before .before .before .before .before .pre .5)) (c .before .before .hand .ensures)
+loop-again c = walking-more (c .before .before .before .before .before .before .before .before .before .before .loop .inv) (omega arith)
+    (c .before .before .before .before .before .before .before .before .before .before .before .before .before .pre .2) (c .before .before .before .before .before .before .row-at .ensures)
+    (c .before .before .before .before .before .ends-key .ensures) (c .before .before .before .before .if2 .taken) (c .before .before .before .before .before .before .before .if1 .left)
+    (walking-room (c .before .before .before .before .before .before .before .before .before .before .loop .inv) (omega arith)
+    (c .before .before .before .before .before .before .before .if1 .left) (c .before .before .before .before .before .before .before .before .before .before .before .before .before .pre .4)
+    (c .before .before .before .before .before .before .before .before .before .before .before .before .before .pre .5)) (c .before .before .hand .ensures)
 
 loop-less-2 : tie.Need-loop-less-2 Inv-loop μ-loop
 loop-less-2 c = omega arith
 
 loop-again-2 : tie.Need-loop-again-2 Inv-loop μ-loop
-loop-again-2 c = walking-skip (c .before .before .before .before .before .before .loop .inv) (omega arith) (c .before .before .before .before .before .before .before .before .before .pre .2) (c .before .before .row-at .ensures) (c .before .ends-key .ensures) (c .if2 .left)
+loop-again-2 c = walking-skip (c .before .before .before .before .before .before .loop .inv) (omega arith) (c .before .before .before .before .before .before .before .before .before .pre .2)
+    (c .before .before .row-at .ensures) (c .before .ends-key .ensures) (c .if2 .left)
 
 same-length-2 : tie.Need-same-length-2 Inv-loop μ-loop
 same-length-2 c = c .before .loop .inv .long

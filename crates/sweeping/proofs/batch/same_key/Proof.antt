@@ -13,13 +13,15 @@ key-less-requires : tie.Need-key-less-requires
 key-less-requires c κs = search needs
 
 returns : tie.Need-returns
-returns c = key-less (c .before .before .before .before .args .a) (c .before .before .before .before .args .b) (c .before .before .before .row-key .ensures) (c .before .before .row-key2 .ensures) (c .before .key-less .ensures) (c .if1 .taken)
+returns c = key-less (c .before .before .before .before .args .a) (c .before .before .before .before .args .b) (c .before .before .before .row-key .ensures) (c .before .before .row-key2 .ensures)
+    (c .before .key-less .ensures) (c .if1 .taken)
 
 key-less-requires-2 : tie.Need-key-less-requires-2
 key-less-requires-2 c κs = search needs
 
 returns-2 : tie.Need-returns-2
-returns-2 c = key-as (c .before .before .before .before .before .args .a) (c .before .before .before .before .before .args .b) (c .before .before .before .before .row-key .ensures) (c .before .before .before .row-key2 .ensures) (c .before .before .key-less .ensures) (c .before .if1 .left) (c .key-less2 .ensures)
+returns-2 c = key-as (c .before .before .before .before .before .args .a) (c .before .before .before .before .before .args .b) (c .before .before .before .before .row-key .ensures)
+    (c .before .before .before .row-key2 .ensures) (c .before .before .key-less .ensures) (c .before .if1 .left) (c .key-less2 .ensures)
 
 pub same-key-spec : {M : Type 1} → statement M
 same-key-spec =
