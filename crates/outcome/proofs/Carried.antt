@@ -159,7 +159,8 @@ pub record Lists (a : Ask) (ns ts : List ℕ) (parents : ℕ) (u : Buffer) (m : 
 
 pub lists-done : {a : Ask} {ns ts : List ℕ} {parents : ℕ} {u : Buffer} {m : State → ℕ} {f : Limits → Table → Listed} → Lists a ns ts parents u m f → {b : List ℕ} (v : SoundStore b)
     → {t : ℕ} → t ≡ inTurn ns ts parents (length u) (keyBytes * m (v .state)) → t ≡ 0 → {n : ℕ} → Lent b n → {p : List ℕ} → Bytes (p ++ drop n b)
-    → Each KeyTyped ((f (limitsOf (v .state)) (v .state .table)) .keys) → {u′ : List ℕ} {c : ℕ} → KeysListed (take n b) p u u′ c f → Does (On a) b (record { reply = Keys (keysIn c u′); buffer = u′; store = p ++ drop n b })
+    → Each KeyTyped ((f (limitsOf (v .state)) (v .state .table)) .keys) → {u′ : List ℕ} {c : ℕ} → KeysListed (take n b) p u u′ c f
+    → Does (On a) b (record { reply = Keys (keysIn c u′); buffer = u′; store = p ++ drop n b })
 lists-done {a} {ns} {ts} {parents} {u} {m} {f} k v q z e h t g =
     let hands : Hands a ns ts parents u m (λ s. (f (limitsOf s) (s .table)) .keys) (λ s. onTable ((f (limitsOf s) (s .table)) .table) s) = record { names = k .names; performs = k .performs } in
     hands-done hands v q z e h t (record { count = g .count; keys-are = g .keys; state-is = g .table })

@@ -43,7 +43,8 @@ same-effect e f r u t = λ i. record { reply = r i; buffer = u i; store = t i }
 
 module _ (b : List ℕ) (e : Effect) (a : Ask) where
   -- on a sound store, carried out
-  module _ (w : SoundStore b) (z : askRefusal true a (w .state) ≡ 0) (r : e .reply ≡ (perform a (w .state)) .reply) (u : e .buffer ≡ written (answerBytes ((perform a (w .state)) .reply)) ((named a (w .state)) .buffer)) where
+  module _ (w : SoundStore b) (z : askRefusal true a (w .state) ≡ 0) (r : e .reply ≡ (perform a (w .state)) .reply)
+      (u : e .buffer ≡ written (answerBytes ((perform a (w .state)) .reply)) ((named a (w .state)) .buffer)) where
     abbrev next : State
     next = (perform a (w .state)) .state
 
@@ -67,7 +68,8 @@ module _ (b : List ℕ) (e : Effect) (a : Ask) where
   pub does-refused : (w : SoundStore b) (m : ℕ) → askRefusal true a (w .state) ≡ suc m → e .reply ≡ Refused (suc m) → e .buffer ≡ (named a (w .state)) .buffer → e .store ≡ b → Does (On a) b e
   unfolding refusal
   does-refused w m z r u t =
-      let q : outcomeIf true b (On a) ≡ kept b (On a) (w .state) (suc m) = subst (λ (s : State). askRefusal true a s ≡ suc m → outcomeIf true b (On a) ≡ kept b (On a) s (suc m)) (state-shown b w) (outcome-kept b true (On a) m) z in
+      let q : outcomeIf true b (On a) ≡ kept b (On a) (w .state) (suc m) = subst (λ (s : State). askRefusal true a s ≡ suc m → outcomeIf true b (On a) ≡ kept b (On a) s (suc m)) (state-shown b w)
+      (outcome-kept b true (On a) m) z in
       record { sound = true; tested = w; effect = same-effect e (kept b (On a) (w .state) (suc m)) r u t ∙ sym q }
 
   -- on a store that is not sound
@@ -79,7 +81,8 @@ module _ (b : List ℕ) (e : Effect) (a : Ask) where
 -- ---- opening
 
 module _ (b : List ℕ) (e : Effect) (L Q : ℕ) (u : e .buffer ≡ []) where
-  pub does-opened : openingRefusal (length b) L Q ≡ 0 → e .reply ≡ Number 1 → Bytes (e .store) → Writes (take (need L Q) (e .store)) (empty L Q) → drop (need L Q) (e .store) ≡ drop (need L Q) b → Does (Open L Q) b e
+  pub does-opened : openingRefusal (length b) L Q ≡ 0 → e .reply ≡ Number 1 → Bytes (e .store) → Writes (take (need L Q) (e .store)) (empty L Q) → drop (need L Q) (e .store) ≡ drop (need L Q) b
+      → Does (Open L Q) b e
   unfolding refusal carryOut written
   does-opened z r p v t =
       record { sound = true; tested = tt; effect = same-effect e (done b (Open L Q) (stateOf (words b))) r u (stored-from (empty L Q) b (e .store) p v t) ∙ sym (outcome-done b true (Open L Q) z) }

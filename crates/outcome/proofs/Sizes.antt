@@ -9,7 +9,9 @@ use lib.Dec.{ltb, eqb}
 use borrow.Author.Tests.{ltb-false, eqb-true}
 use Rattle.machine.specs.Limits.{need}
 use Rattle.machine.specs.State.{State}
-use Rattle.machine.specs.Call.{Ask, Announce, RequestParent, Failed, Unclaim, SolicitPackageInfo, ClaimPackage, BeginPackageResolution, AnnounceParents, FailedPackageClaims, Plan, Claim, Sweep, Disconnected, ReleasePackage, TeardownPackageClaims, Forget, ForgetKnown, FailedWithParents, FailedPackageInfo, PackageInfoOwner, AnnounceTransactions, TransactionResponseCompleted, TransactionNotFound, PollGate, Arrange, Sum, Call, Open, On, sizesTaken, openingRefusal, refusal}
+use Rattle.machine.specs.Call.{Ask, Announce, RequestParent, Failed, Unclaim, SolicitPackageInfo, ClaimPackage, BeginPackageResolution, AnnounceParents, FailedPackageClaims, Plan}
+use Rattle.machine.specs.Call.{Claim, Sweep, Disconnected, ReleasePackage, TeardownPackageClaims, Forget, ForgetKnown, FailedWithParents, FailedPackageInfo, PackageInfoOwner}
+use Rattle.machine.specs.Call.{AnnounceTransactions, TransactionResponseCompleted, TransactionNotFound, PollGate, Arrange, Sum, Call, Open, On, sizesTaken, openingRefusal, refusal}
 use Rattle.machine.specs.Plan.{plan}
 use Rattle.machine.specs.Step.{perform, carryOut, stepIf, step}
 use Rattle.machine.proofs.Tests.{test, by-test}

@@ -21,7 +21,8 @@ first-requires-2 : tie.Need-first-requires-2
 first-requires-2 c κs = search needs
 
 returns : tie.Need-returns
-returns c = cc (sizes-named (c .before .before .before .before .before .args .connection) (c .before .before .before .before .before .args .clock) (c .before .before .before .before .before .args .parents) (c .before .before .before .before .before .args .length) (c .before .before .before .before .before .args .needs))
+returns c = cc (sizes-named (c .before .before .before .before .before .args .connection) (c .before .before .before .before .before .args .clock)
+    (c .before .before .before .before .before .args .parents) (c .before .before .before .before .before .args .length) (c .before .before .before .before .before .args .needs))
 
 pub in-turn-spec : {M : Type 1} → statement M
 in-turn-spec =
