@@ -17,7 +17,8 @@ ghost use Rattle.public_plans.specs.Parts.{connectionsIn, PartIs};
 // What a claim has taken, given in 112 bytes an entry, stands in the answer by ascending connection, then claim order. A t item of a marked request turns v for a
 // witness connection: those of the list, which has 8 bytes for each. The store is only read.
 pub fn arrange(s: &[u8], witnesses: &[u8], taken: &[u8], answer: &mut [u8]) -> Listing
-    ensures { λ r. ⌜ LeavesWith (On (Arrange (words (now (witnesses .entry))) (entriesIn (now (taken .entry))) (now (answer .entry)))) (now (s .entry)) (now (s .entry)) (now (answer .exit)) (entriesOf r) ⌝ }
+    ensures { λ r. ⌜ LeavesWith (On (Arrange (words (now (witnesses .entry))) (entriesIn (now (taken .entry))) (now (answer .entry)))) (now (s .entry)) (now (s .entry))
+        (now (answer .exit)) (entriesOf r) ⌝ }
 {
     if !sound::sound(s) {
         return Listing::Refused(refusals::UNSOUND_STORE);

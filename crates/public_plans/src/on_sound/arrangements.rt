@@ -11,7 +11,8 @@ ghost use Rattle.public_plans.specs.Entries.{entriesOf};
 
 pub fn arrange(s: &[u8], witnesses: &[u8], taken: &[u8], answer: &mut [u8]) -> Listing
     requires { ⌜ SoundStore (now s) ⌝ }
-    ensures { λ r. ⌜ LeavesWith (On (Arrange (words (now (witnesses .entry))) (entriesIn (now (taken .entry))) (now (answer .entry)))) (now (s .entry)) (now (s .entry)) (now (answer .exit)) (entriesOf r) ⌝ }
+    ensures { λ r. ⌜ LeavesWith (On (Arrange (words (now (witnesses .entry))) (entriesIn (now (taken .entry))) (now (answer .entry)))) (now (s .entry)) (now (s .entry))
+        (now (answer .exit)) (entriesOf r) ⌝ }
 {
     let zero = sending::witness::listed(witnesses, 0);
     let needs = list_needs(taken);
