@@ -12,7 +12,9 @@ use Rattle.ident.specs.Words.{keyNum}
 use Rattle.words.specs.Words.{words}
 use Rattle.machine.specs.Limits.{word}
 use Rattle.machine.specs.Typed.{Each, CallTyped}
-use Rattle.machine.specs.Call.{Buffer, Announce, RequestParent, SolicitPackageInfo, ClaimPackage, BeginPackageResolution, AnnounceParents, Failed, FailedWithParents, ReleasePackage, Claim, Disconnected, Unclaim, Forget, ForgetKnown, FailedPackageInfo, PackageInfoOwner, AnnounceTransactions, TransactionResponseCompleted, Sweep, PollGate, FailedPackageClaims, TeardownPackageClaims, TransactionNotFound, Arrange, Plan, Sum, Call, Open, On, openingRefusal}
+use Rattle.machine.specs.Call.{Buffer, Announce, RequestParent, SolicitPackageInfo, ClaimPackage, BeginPackageResolution, AnnounceParents, Failed, FailedWithParents}
+use Rattle.machine.specs.Call.{ReleasePackage, Claim, Disconnected, Unclaim, Forget, ForgetKnown, FailedPackageInfo, PackageInfoOwner, AnnounceTransactions}
+use Rattle.machine.specs.Call.{TransactionResponseCompleted, Sweep, PollGate, FailedPackageClaims, TeardownPackageClaims, TransactionNotFound, Arrange, Plan, Sum, Call, Open, On, openingRefusal}
 use Rattle.machine.specs.Step.{empty}
 use Rattle.store.specs.Image.{SoundStore}
 use Rattle.store.proofs.BytesBack.{Bytes}
