@@ -12,8 +12,8 @@ use Rattle.regions.specs.Regions.{each, padded}
 use Rattle.regions.specs.Rows.{rowSize, readRow, rowWords, connSize, readConn, connWords}
 use Rattle.regions.proofs.Regions.{length-padded, padded-fit}
 use Rattle.machine.specs.Limits.{word}
-use Rattle.sound.proofs.Decide.{Iff}
-use Rattle.sound.proofs.Ranges.{Below}
+use Rattle.sound_rows.proofs.Decide.{Iff}
+use Rattle.sound_rows.proofs.Ranges.{Below}
 use Rattle.sound.proofs.Exact.{each-back, cut-iff}
 
 -- the words r of a region are w, and then zeros

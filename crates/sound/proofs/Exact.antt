@@ -16,8 +16,8 @@ use Rattle.machine.specs.Limits.{word}
 use Rattle.store.specs.Read.{readHash, readPlace}
 use Rattle.store.proofs.Quads.{quad-number}
 use Rattle.sound.specs.Places.{keptAt, Padded}
-use Rattle.sound.proofs.Decide.{Iff}
-use Rattle.sound.proofs.Ranges.{Below, below-take, below-drop, quad-ranges}
+use Rattle.sound_rows.proofs.Decide.{Iff}
+use Rattle.sound_rows.proofs.Ranges.{Below, below-take, below-drop, quad-ranges}
 
 -- ---- records that are determined by their words
 

@@ -19,7 +19,7 @@ use Rattle.store.specs.FlatSound.{QuadFits}
 use Rattle.store.specs.Read.{readHash}
 use Rattle.store.proofs.Quads.{quad-number}
 use Rattle.sound.specs.Places.{hashesIn}
-use Rattle.sound.proofs.Decide.{Iff, rest-turn, rest-none}
+use Rattle.sound_rows.proofs.Decide.{Iff, rest-turn, rest-none}
 
 -- ---- two hashes
 

@@ -24,8 +24,8 @@ use Rattle.store.specs.Read.{readHash, pollIs, cursorIs, cursorAt, headIn}
 use Rattle.store.proofs.HeadWords.{pollTag, pollTime, tagOf, quadIn, inWords, head-words}
 use Rattle.store.proofs.Quads.{quad-number}
 use Rattle.sound.specs.Whole.{PollPlain, CursorPlain}
-use Rattle.sound.proofs.Decide.{Iff, decides-iff}
-use Rattle.sound.proofs.Ranges.{Below, below-drop, quad-ranges}
+use Rattle.sound_rows.proofs.Decide.{Iff, decides-iff}
+use Rattle.sound_rows.proofs.Ranges.{Below, below-drop, quad-ranges}
 use Rattle.sound.proofs.Exact.{drop-take}
 use Rattle.sound.proofs.Hashes.{same-quad, zero-number}
 

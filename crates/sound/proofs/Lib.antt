@@ -1,13 +1,3 @@
-pub mod Decide
-pub mod Ranges
-pub mod Rows
-pub mod Ahead
-pub mod Entries
-pub mod Tally
-pub mod Conns
-pub mod Groups
-pub mod ConnMarks
-pub mod Halves
 pub mod Owned
 pub mod Hashes
 pub mod Marks

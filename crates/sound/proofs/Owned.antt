@@ -21,11 +21,11 @@ use Rattle.store.specs.Gather.{keyAt}
 use Rattle.store.specs.FlatSound.{countRows, hashAt, owns, ownsKey}
 use Rattle.store.proofs.Counts.{rows-append}
 use Rattle.store.proofs.Keys.{key-number}
-use Rattle.sound.specs.Rows.{RowsSound}
-use Rattle.sound.specs.Groups.{rowAt, rowsIn, Run}
-use Rattle.sound.proofs.Decide.{rest-all}
-use Rattle.sound.proofs.Groups.{in-split, in-each}
-use Rattle.sound.proofs.Halves.{kind-wtxid, keys-sorted, climb, fits-at, key-at}
+use Rattle.sound_rows.specs.Rows.{RowsSound}
+use Rattle.sound_rows.specs.Groups.{rowAt, rowsIn, Run}
+use Rattle.sound_rows.proofs.Decide.{rest-all}
+use Rattle.sound_rows.proofs.Groups.{in-split, in-each}
+use Rattle.sound_rows.proofs.Halves.{kind-wtxid, keys-sorted, climb, fits-at, key-at}
 
 count-none : (p : Row → Bool) (rs : List Row) → Each (λ r. p r ≡ false) rs → countRows p rs ≡ 0
 unfolding countRows

@@ -19,8 +19,8 @@ use Rattle.store.specs.FlatSound.{countRows, ownsKey, StageFits, PlaceFits}
 use Rattle.store.specs.Read.{readHash, readPlace}
 use Rattle.store.proofs.Quads.{number-top}
 use Rattle.sound.specs.Places.{PlaceSound, hashesIn, Padded, StagePlain}
-use Rattle.sound.proofs.Decide.{Iff, decides-iff, rest-all}
-use Rattle.sound.proofs.Ranges.{Below, below-take, below-drop, quad-ranges}
+use Rattle.sound_rows.proofs.Decide.{Iff, decides-iff, rest-all}
+use Rattle.sound_rows.proofs.Ranges.{Below, below-take, below-drop, quad-ranges}
 use Rattle.sound.proofs.Exact.{place-iff}
 use Rattle.sound.proofs.Stage.{stage-few}
 

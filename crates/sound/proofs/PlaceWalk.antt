@@ -24,7 +24,7 @@ use Rattle.machine.proofs.Tests.{test}
 use Rattle.store.specs.FlatSound.{PlaceFits, PlacesAscend}
 use Rattle.store.specs.Read.{readHash, readPlace}
 use Rattle.sound.specs.Places.{PlaceSound, PlacesSound, placeAt, PlaceFollows}
-use Rattle.sound.proofs.Decide.{Iff, rest-turn, rest-all, rest-none}
+use Rattle.sound_rows.proofs.Decide.{Iff, rest-turn, rest-all, rest-none}
 
 -- ---- records by index
 

@@ -11,7 +11,7 @@ use Rattle.words.specs.Words.{Decides}
 use Rattle.machine.specs.Limits.{maxWtxids}
 use Rattle.machine.proofs.Tests.{test}
 use Rattle.sound.specs.Places.{StagePlain}
-use Rattle.sound.proofs.Decide.{Iff, decides-iff}
+use Rattle.sound_rows.proofs.Decide.{Iff, decides-iff}
 
 pub record Flag (s h n : ℕ) : Type 0 where
   pub stage : s ≡ 1

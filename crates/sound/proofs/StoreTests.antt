@@ -31,8 +31,8 @@ use Rattle.store.proofs.WordsFit.{few-conns}
 use Rattle.store.proofs.FlatRead.{length-image, flat-read}
 use Rattle.store.proofs.Stored.{words-front}
 use Rattle.sound.specs.Whole.{SizesPlain, HeadPlain, RecordsSound}
-use Rattle.sound.proofs.Decide.{Iff}
-use Rattle.sound.proofs.Ranges.{Below, below-take, below-drop, quad-ranges}
+use Rattle.sound_rows.proofs.Decide.{Iff}
+use Rattle.sound_rows.proofs.Ranges.{Below, below-take, below-drop, quad-ranges}
 use Rattle.sound.proofs.HeadTests.{HeadIs, head-iff}
 use Rattle.sound.proofs.Areas.{area-iff, rows-exact, conns-exact, recs-lent}
 use Rattle.sound.proofs.PlaceWalk.{length-place}

@@ -11,9 +11,9 @@ use Rattle.places.specs.Places.{placeSize}
 use Rattle.machine.specs.Limits.{maxAnnouncements, maxPlaces}
 use Rattle.store.specs.Image.{format, headSize}
 use Rattle.store.specs.Read.{readHash}
-use Rattle.sound.specs.Rows.{RowsSound}
-use Rattle.sound.specs.Groups.{GroupsSound}
-use Rattle.sound.specs.Conns.{ConnsSound}
+use Rattle.sound_rows.specs.Rows.{RowsSound}
+use Rattle.sound_rows.specs.Groups.{GroupsSound}
+use Rattle.sound_conns.specs.Conns.{ConnsSound}
 use Rattle.sound.specs.Places.{PlacesSound}
 
 -- ---- the header

@@ -1,12 +1,9 @@
 // The test whether lent bytes write a sound state (document 01, "Sound", refusal 3).
 //
 // `sound` decides it in both directions: `true` if the bytes, as far as their need, write a sound state, `false` only if they write
-// none. Each part decides what FlatSound (crates/store) says of the records that one region holds. A region is a slice whose word 0 is
-// the region's first word; a `requires` says only that the records in question lie within the slice. Each byte of the need is read
-// once or a few times.
-mod candidate; // candidate.rt: rows by themselves and neighbours
-mod group; // group.rt: rows of one hash over both kinds
-mod connection; // connection.rt: connections
+// none. Each part decides what FlatSound (crates/store) says of the records that one region holds: the rows (crates/sound_rows), the
+// connections (crates/sound_conns), the package places. A region is a slice whose word 0 is the region's first word; a `requires` says
+// only that the records in question lie within the slice. Each byte of the need is read once or a few times.
 mod package; // package.rt: package places
 
 ghost use mathlib.Core.Path.{_≡_};
@@ -18,9 +15,6 @@ ghost use Rattle.places.specs.Places.{placeSize};
 ghost use Rattle.machine.specs.Limits.{maxAnnouncements};
 ghost use Rattle.store.specs.Image.{headSize, SoundStore};
 ghost use Rattle.sound.specs.Whole.{PollPlain, CursorPlain, SizesPlain, HeadPlain, RecordsSound};
-use candidate::rows_fit;
-use connection::conns_fit;
-use group::groups_fit;
 use package::places_fit;
 use package::same_hash;
 
@@ -124,13 +118,13 @@ fn records_fit(rows: &[u8], n: usize, conns: &[u8], c: usize, places: &[u8], p: 
     requires { ⌜ (8 * (rowSize * n) ≤ length (now rows)) × (8 * (connSize * c) ≤ length (now conns)) × (8 * (placeSize * p) ≤ length (now places)) × (n ≤ maxAnnouncements) ⌝ }
     ensures { λ r. ⌜ Decides r (RecordsSound (words (now (rows .entry))) n (words (now (conns .entry))) c (words (now (places .entry))) p) ⌝ }
 {
-    if !rows_fit(rows, n) {
+    if !sound_rows::candidate::rows_fit(rows, n) {
         return false;
     }
-    if !groups_fit(rows, n) {
+    if !sound_rows::group::groups_fit(rows, n) {
         return false;
     }
-    if !conns_fit(rows, n, conns, c) {
+    if !sound_conns::conns_fit(rows, n, conns, c) {
         return false;
     }
     if !places_fit(places, p, rows, n) {

@@ -9,10 +9,8 @@ ghost use Rattle.places.specs.Places.{placeSize, listMost};
 ghost use Rattle.machine.specs.Claim.{elem};
 ghost use Rattle.machine.specs.Sound.{NoRepeat};
 ghost use Rattle.store.specs.FlatSound.{countRows, ownsKey};
-ghost use Rattle.sound.specs.Rows.{RowsSound};
+ghost use Rattle.sound_rows.specs.Rows.{RowsSound};
 ghost use Rattle.sound.specs.Places.{PlaceSound, PlacesSound, PlaceFollows, hashesIn, Padded, StagePlain, foldOf, slotCount, slotOf};
-use super::group::owners;
-use super::group::run_end;
 
 // Words of a place, and where in it the parts lie.
 const PLACE: usize = 824;
@@ -126,8 +124,8 @@ fn is_owned(rows: &[u8], n: usize, h: regions::Quad) -> bool
 {
     let k = regions::Key { kind: 1, hash: h };
     let from = regions::seek_row(rows, n, k, false);
-    let to = run_end(rows, from, n, h);
-    owners(rows, from, to) >= 1
+    let to = sound_rows::group::run_end(rows, from, n, h);
+    sound_rows::group::owners(rows, from, to) >= 1
 }
 
 // Whether stage, combined hash and number of wtxids go together.

@@ -4,7 +4,7 @@ use lib.ListN.{drop}
 use Rattle.words.specs.Words.{words}
 use Rattle.regions.specs.Rows.{quadNumber}
 use Rattle.sound.specs.Whole.{SizesPlain, PollPlain, CursorPlain}
-use Rattle.sound.proofs.Decide.{decides-iff, passed, failed}
+use Rattle.sound_rows.proofs.Decide.{decides-iff, passed, failed}
 use Rattle.sound.proofs.PlaceTests.{hash-is}
 use Rattle.sound.proofs.head_fits.Statement.{statement}
 use Rattle.sound.proofs.head_fits.Tie as tie

@@ -8,11 +8,11 @@ use Rattle.words.specs.Words.{words, recs}
 use Rattle.words.proofs.Words.{length-words}
 use Rattle.regions.specs.Rows.{rowSize, readRow, connSize, readConn}
 use Rattle.places.specs.Places.{placeSize}
-use Rattle.sound.specs.Rows.{RowsSound}
-use Rattle.sound.specs.Groups.{GroupsSound}
-use Rattle.sound.specs.Conns.{ConnsSound}
+use Rattle.sound_rows.specs.Rows.{RowsSound}
+use Rattle.sound_rows.specs.Groups.{GroupsSound}
+use Rattle.sound_conns.specs.Conns.{ConnsSound}
 use Rattle.sound.specs.Places.{PlacesSound}
-use Rattle.sound.proofs.Decide.{decides-iff, passed, failed}
+use Rattle.sound_rows.proofs.Decide.{decides-iff, passed, failed}
 use Rattle.sound.proofs.records_fit.Statement.{statement}
 use Rattle.sound.proofs.records_fit.Tie as tie
 

@@ -6,8 +6,8 @@ use lib.ListN.{length, take, drop}
 use Rattle.words.specs.Words.{words}
 use Rattle.words.proofs.Parts.{words-lent}
 use Rattle.sound.specs.Whole.{HeadPlain}
-use Rattle.sound.proofs.Decide.{decides-iff, passed, failed}
-use Rattle.sound.proofs.Ranges.{below-bytes, below-words}
+use Rattle.sound_rows.proofs.Decide.{decides-iff, passed, failed}
+use Rattle.sound_rows.proofs.Ranges.{below-bytes, below-words}
 use Rattle.sound.proofs.StoreTests.{refuse-short, refuse-head, refuse-long, store-iff, length-lent}
 use Rattle.sound.proofs.sound.Statement.{statement}
 use Rattle.sound.proofs.sound.Tie as tie

@@ -7,7 +7,7 @@ use lib.Seq.{slice}
 use Rattle.words.specs.Words.{words}
 use Rattle.places.specs.Places.{wtxidsAt, parentsAt}
 use Rattle.sound.specs.Places.{keptAt}
-use Rattle.sound.proofs.Decide.{decides-iff, passed, failed}
+use Rattle.sound_rows.proofs.Decide.{decides-iff, passed, failed}
 use Rattle.sound.proofs.package.padded.Statement.{statement}
 use Rattle.sound.proofs.package.padded.Tie as tie
 

@@ -10,8 +10,8 @@ use Rattle.places.specs.Places.{placeSize}
 use Rattle.machine.specs.Limits.{word}
 use Rattle.machine.specs.Sound.{NoRepeat}
 use Rattle.sound.specs.Places.{hashesIn, Padded, StagePlain}
-use Rattle.sound.proofs.Decide.{passed, failed}
-use Rattle.sound.proofs.Ranges.{Below, below-bytes, below-words}
+use Rattle.sound_rows.proofs.Decide.{passed, failed}
+use Rattle.sound_rows.proofs.Ranges.{Below, below-bytes, below-words}
 use Rattle.sound.proofs.Stage.{stage-few}
 use Rattle.sound.proofs.PlaceTests.{refuse-stage, refuse-parents, refuse-padded, refuse-repeat, decide-owned}
 use Rattle.sound.proofs.package.place_fits.Statement.{statement}

@@ -7,9 +7,9 @@ use Rattle.words.specs.Words.{words, recs, Decides}
 use Rattle.words.proofs.Words.{length-words}
 use Rattle.regions.specs.Rows.{rowSize, readRow}
 use Rattle.places.specs.Places.{placeSize}
-use Rattle.sound.specs.Rows.{RowsSound}
+use Rattle.sound_rows.specs.Rows.{RowsSound}
 use Rattle.sound.specs.Places.{PlaceSound, placeAt, PlaceFollows, slotCount}
-use Rattle.sound.proofs.Decide.{passed, failed}
+use Rattle.sound_rows.proofs.Decide.{passed, failed}
 use Rattle.sound.proofs.PlaceWalk.{places-made, place-of, follow-iff, below-more, place-lent}
 use Rattle.sound.proofs.package.places_fit.Statement.{statement}
 use Rattle.sound.proofs.package.places_fit.Tie as tie
