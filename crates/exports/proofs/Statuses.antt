@@ -27,7 +27,8 @@ use Rattle.outcome.specs.declared.Answer.the-variants.{Refused as No, Number as
 use Rattle.outcome.specs.declared.Listing.the-variants.{Refused as NoKeys, Listed}
 use Rattle.outcome.specs.declared.Departure.the-variants.{Refused as NotLeft, Left as LeftKeys}
 use Rattle.exports.proofs.Replies.{Carried, RepliesOne, replies}
-use Rattle.exports.specs.Status.{statusOf, handedOut, listingStatus, countOut, departureStatus, ownOut, parentsOut, numbered, figured, Stays, HandsOut, HandsKeys, HandsEntries, HandsDeparture, plannedStatus, consideredOut, chosenOut, HandsPlan}
+use Rattle.exports.specs.Status.{statusOf, handedOut, listingStatus, countOut, departureStatus, ownOut, parentsOut, numbered, figured, Stays}
+use Rattle.exports.specs.Status.{HandsOut, HandsKeys, HandsEntries, HandsDeparture, plannedStatus, consideredOut, chosenOut, HandsPlan}
 
 -- ---- a refusal's number is not 0
 
