@@ -15,7 +15,8 @@ use Rattle.public_plans.specs.Entries.{entriesOf, plannedOf}
 use Rattle.public_plans.specs.declared.Selection.{Selection}
 use Rattle.tracker.proofs.Typed.{Made, made-typed}
 use Rattle.outcome.proofs.Owned.{does-keeps-sound}
-use Rattle.exports.specs.Status.{statusOf, handedOut, listingStatus, countOut, departureStatus, ownOut, parentsOut, numbered, HandsOut, HandsKeys, HandsEntries, HandsDeparture, plannedStatus, consideredOut, chosenOut, HandsPlan}
+use Rattle.exports.specs.Status.{statusOf, handedOut, listingStatus, countOut, departureStatus, ownOut, parentsOut, numbered, HandsOut}
+use Rattle.exports.specs.Status.{HandsKeys, HandsEntries, HandsDeparture, plannedStatus, consideredOut, chosenOut, HandsPlan}
 use Rattle.exports.proofs.Replies.{RepliesOne}
 use Rattle.exports.proofs.Statuses.{hands-out, hands-keys, hands-entries, hands-departure, hands-plan, one-told}
 
