@@ -26,10 +26,10 @@ use Rattle.apart.specs.Lapsing.{family, noted}
 use Rattle.apart.proofs.Notes.{hashes-next, hashes-none, hashes-long, hashes-parts, slot-all}
 use Rattle.apart.proofs.Overdue.{front-lent, front-is, rest-stays, slots-rest}
 use Rattle.apart.proofs.OneOwner.{picked-clear, family-at}
-use Rattle.planning.specs.declared.selecting.Scan.{Scan}
-use Rattle.planning.specs.Phasing.{Phasing, Roomy, Scans, Phased}
+use Rattle.selecting.specs.declared.Scan.{Scan}
+use Rattle.selecting.specs.Phasing.{Phasing, Roomy, Scans, Phased}
 use Rattle.planning.specs.Keeping.{Ahead, Short, PlaceScans, KeptScans, KeptPhased}
-use Rattle.planning.proofs.Walked.{phasing-as, scans-start, scans-as, scans-for, scans-both, scans-full, Opened, phased}
+use Rattle.selecting.proofs.Walked.{phasing-as, scans-start, scans-as, scans-for, scans-both, scans-full, Opened, phased}
 
 -- ---- bits
 

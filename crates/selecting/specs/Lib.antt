@@ -1,0 +1,3 @@
+pub mod Selecting
+pub mod Ordering
+pub mod Phasing
