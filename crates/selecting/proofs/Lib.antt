@@ -5,6 +5,7 @@ pub mod Unmarked
 pub mod SameRows
 pub mod Advancing
 pub mod Walked
+pub mod Nearing
 pub mod Rowwise
 pub mod Given
 pub mod GivingBack

@@ -1,3 +1,4 @@
 pub mod Selecting
 pub mod Ordering
 pub mod Phasing
+pub mod Near

@@ -10,6 +10,7 @@ ghost use Rattle.choosing.specs.Choosing.{Windows};
 ghost use Rattle.selecting.specs.Selecting.{OneSelected, Considers};
 
 pub mod giving;
+pub mod near;
 pub mod ordering;
 pub mod phase;
 
@@ -85,4 +86,28 @@ pub fn consider(s: &mut [u8], clock: u64, k: ident::Key, picks: &mut [usize], v:
     let x = choosing::window_as(s, ident::Kind::Txid, h);
     let y = choosing::window_as(s, ident::Kind::Wtxid, h);
     consider_within(s, clock, k, x, y, picks, v)
+}
+
+// A scan that walks over the rows, and where the rows of the last hash end under each kind.
+pub struct Walk {
+    pub scan: Scan,
+    pub txid: usize,
+    pub wtxid: usize,
+}
+
+// Considers the key k, whose hash is looked for behind the last one.
+pub fn consider_next(s: &mut [u8], clock: u64, k: ident::Key, picks: &mut [usize], v: Walk) -> Walk
+    requires { ⌜ Kept (now s) × (clock ≤ latestClock) × (v .scan .chosen < length (now picks)) × (v .scan .considered ≤ half) ⌝ }
+    ensures { λ w. ⌜ Considers (now (s .entry)) (now (s .exit)) (now (picks .entry)) (now (picks .exit)) clock (keyNum k) (v .scan) (w .scan) ⌝ }
+{
+    let h = k.hash;
+    let x = near::window_near(s, ident::Kind::Txid, h, v.txid);
+    let y = near::window_near(s, ident::Kind::Wtxid, h, v.wtxid);
+    let before = v.scan;
+    let scan = consider_within(s, clock, k, x, y, picks, before);
+    Walk {
+        scan,
+        txid: x.to,
+        wtxid: y.to,
+    }
 }

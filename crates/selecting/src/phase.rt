@@ -100,20 +100,25 @@ fn keys_over(
     requires { ⌜ Kept (now s) × (clock ≤ latestClock) × (maxRequestChecks < length (now picks)) × Roomy v × ((from ≤ to) × (to ≤ rowsIn (now s))) × (v .considered + to ≤ half) ⌝ }
     ensures { λ w. ⌜ Scans (now (s .entry)) (now (s .exit)) (now (picks .entry)) (now (picks .exit)) clock (λ st. keysOver from to (rowsOf (st .table))) (λ st. []) v w (to - from) ⌝ }
 {
-    let mut w = v;
+    let mut w = crate::Walk {
+        scan: v,
+        txid: 0,
+        wtxid: 0,
+    };
     let mut i = from;
     while i < to {
-        if w.full {
-            return w;
+        let x = w.scan;
+        if x.full {
+            return x;
         }
         let r = store::rows::row_at(s, i);
         i += 1;
         if sweeping::batch::ends_key(s, r, i, to) {
             let k = announcing::evict::key_of(r);
-            w = crate::consider(s, clock, k, picks, w);
+            w = crate::consider_next(s, clock, k, picks, w);
         }
     }
-    w
+    w.scan
 }
 
 // A phase over all keys after the ready cursor and round to it.
