@@ -199,6 +199,20 @@ announced-kept {n = n} {now} {i} {hs = hs} x k = record {
   writes = x .table (k .state) (k .sound) (k .writes);
 }
 
+-- the hashes of a place in two halves
+module _ (w : List ℕ) {c e : ℕ} (h : Halved c e) where
+  whole : hashesAt w 0 c ≡ hashesAt w 0 e ++ hashesAt w e (c - e)
+  whole = let q : e + (c - e) ≡ c = omega (arith, h .within) in let z : 0 + e ≡ e = omega arith in ap (hashesAt w 0) (sym q) ∙ hashes-parts w 0 e (c - e) ∙ rw z
+
+  in-front : take halfMost (hashesAt w 0 c) ≡ hashesAt w 0 e
+  in-front = sym (h .front (hashesAt w 0 c) (hashes-long w 0 c)) ∙ ap (take e) whole ∙ take-at (hashesAt w 0 e) (hashesAt w e (c - e)) e (hashes-long w 0 e)
+
+  behind : drop halfMost (hashesAt w 0 c) ≡ hashesAt w e (c - e)
+  behind = sym (h .behind (hashesAt w 0 c) (hashes-long w 0 c)) ∙ ap (drop e) whole ∙ drop-at (hashesAt w 0 e) (hashesAt w e (c - e)) e (hashes-long w 0 e)
+
+  pub both-halves : (low high : ℕ) → pickedIn (hashesAt w 0 c) low high ≡ picked (hashesAt w 0 (e - 0)) low ++ picked (hashesAt w e (c - e)) high
+  both-halves low high = let q : e - 0 ≡ e = omega arith in rw (in-front, behind, q)
+
 module _ {b b₁ b₂ : List ℕ} {n now c e low high : ℕ} (w : List ℕ) (h : Halved c e) (x : Announced b b₁ n now 0 (hashesAt w 0 (e - 0)) low) (y : Announced b₁ b₂ n now e (hashesAt w e (c -
     e)) high) where
   abbrev hs : List ℕ
@@ -209,15 +223,6 @@ module _ {b b₁ b₂ : List ℕ} {n now c e low high : ℕ} (w : List ℕ) (h :
 
   abbrev ys : List ℕ
   ys = hashesAt w e (c - e)
-
-  whole : hs ≡ xs ++ ys
-  whole = let q : e + (c - e) ≡ c = omega (arith, h .within) in let z : 0 + e ≡ e = omega arith in ap (hashesAt w 0) (sym q) ∙ hashes-parts w 0 e (c - e) ∙ rw z
-
-  in-front : take halfMost hs ≡ xs
-  in-front = sym (h .front hs (hashes-long w 0 c)) ∙ ap (take e) whole ∙ take-at xs ys e (hashes-long w 0 e)
-
-  behind : drop halfMost hs ≡ ys
-  behind = sym (h .behind hs (hashes-long w 0 c)) ∙ ap (drop e) whole ∙ drop-at xs ys e (hashes-long w 0 e)
 
   first : Announced b b₁ n now 0 xs low
   first = let q : e - 0 ≡ e = omega arith in rw q at x
@@ -234,15 +239,15 @@ module _ {b b₁ b₂ : List ℕ} {n now c e low high : ℕ} (w : List ℕ) (h :
           let t = (parentsFrom m n now 0 xs (st .table)) .table in
           let s₁ = first .sound st s o in
           let o₁ = first .table st s o in
-          rw (in-front, behind, first .bits st s o, y .bits (onTable t st) s₁ o₁, kept-picked m n now 0 xs (st .table), kept-picked m n now e ys t)
-          (sym (ap (λ (l : List ℕ). (parentsFrom m n now 0 l (st .table)) .keys) whole ∙ parts-keys m n now 0 xs ys (st .table) ∙ rw later))
+          rw (in-front w h, behind w h, first .bits st s o, y .bits (onTable t st) s₁ o₁, kept-picked m n now 0 xs (st .table), kept-picked m n now e ys t)
+          (sym (ap (λ (l : List ℕ). (parentsFrom m n now 0 l (st .table)) .keys) (whole w h) ∙ parts-keys m n now 0 xs ys (st .table) ∙ rw later))
 
       some-table : (st : State) → Sound st → Writes b st → Writes b₂ (onTable ((parentsFrom (limitsOf st) n now 0 hs (st .table)) .table) st)
       some-table st s o =
           let m = limitsOf st in
           let t = (parentsFrom m n now 0 xs (st .table)) .table in
           let e₁ : (parentsFrom m n now 0 hs (st .table)) .table ≡ (parentsFrom m n now e ys t) .table =
-          ap (λ (l : List ℕ). (parentsFrom m n now 0 l (st .table)) .table) whole ∙ parts-table m n now 0 xs ys (st .table) ∙ ap (λ (i : ℕ). (parentsFrom m n now i ys t) .table) later in
+          ap (λ (l : List ℕ). (parentsFrom m n now 0 l (st .table)) .table) (whole w h) ∙ parts-table m n now 0 xs ys (st .table) ∙ ap (λ (i : ℕ). (parentsFrom m n now i ys t) .table) later in
           subst (λ (t : Table). Writes b₂ (onTable t st)) (sym e₁) (y .table (onTable t st) (first .sound st s o) (first .table st s o))
 
 -- ---- weights

@@ -3,7 +3,7 @@ use super::hand_count;
 ghost use mathlib.Core.Path.{_≡_};
 ghost use Rattle.words.specs.Words.{words};
 ghost use Rattle.machine.specs.Call.{On, Arrange};
-ghost use Rattle.planning.specs.Claiming.{entriesIn};
+ghost use Rattle.claiming.specs.Claiming.{entriesIn};
 ghost use Rattle.public_plans.specs.Parts.{PartIs};
 ghost use Rattle.exports.specs.Status.{HandsEntries};
 

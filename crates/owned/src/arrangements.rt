@@ -2,7 +2,7 @@
 ghost use Rattle.words.specs.Words.{words};
 ghost use Rattle.machine.specs.Call.{On, Arrange};
 ghost use Rattle.store.specs.Image.{SoundStore};
-ghost use Rattle.planning.specs.Claiming.{entriesIn};
+ghost use Rattle.claiming.specs.Claiming.{entriesIn};
 ghost use Rattle.exports.specs.Status.{HandsEntries};
 
 // What a claim has taken, given in 112 bytes an entry, stands in the answer by ascending connection, then claim order: so many as `count` says. A t item of a

@@ -2,8 +2,8 @@
 ghost use mathlib.Core.Option.{none, some};
 ghost use Rattle.machine.specs.Call.{On, Plan, Claim};
 ghost use Rattle.store.specs.Image.{SoundStore};
-ghost use Rattle.planning.specs.Claiming.{entriesIn};
-ghost use Rattle.planning.specs.Phasing.{givenKeys};
+ghost use Rattle.claiming.specs.Claiming.{entriesIn};
+ghost use Rattle.selecting.specs.Phasing.{givenKeys};
 ghost use Rattle.exports.specs.Status.{HandsEntries, HandsPlan};
 
 // Takes, in order, each entry of the checked list, which is given in 112 bytes each, whose hash is unowned and that is still what plan would choose for it. Those

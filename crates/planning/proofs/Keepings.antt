@@ -9,7 +9,7 @@ use native.Mathlib.Omega.{arith}
 use native.Mathlib.Numerals.{add-one}
 use lib.Dec.{eqb}
 use lib.ListN.{length, take, drop, getD, length-map}
-use lib.Seq.{drop-cons, drop-drop, getD-drop, take-at, drop-at, take-all, drop-length}
+use lib.Seq.{drop-cons, drop-drop, getD-drop, take-all, drop-length}
 use borrow.Author.Tests.{eq-eqb, ne-eqb, eqb-true}
 use Rattle.machine.proofs.Tests.{test, never}
 use Rattle.ident.specs.Number.{Key, txid}
@@ -21,15 +21,15 @@ use Rattle.machine.specs.Typed.{Each}
 use Rattle.store.specs.Shown.{Kept}
 use Rattle.store.proofs.Missing.{each-at}
 use Rattle.apart.specs.Apart.{Slots, Loaded}
-use Rattle.apart.specs.Noting.{parentIn, hashesAt, picked, halfMost, Halved, pickedIn, ParentsIn}
+use Rattle.apart.specs.Noting.{parentIn, hashesAt, picked, pickedIn, ParentsIn}
 use Rattle.apart.specs.Lapsing.{family, noted}
-use Rattle.apart.proofs.Notes.{hashes-next, hashes-none, hashes-long, hashes-parts, slot-all}
+use Rattle.apart.proofs.Notes.{hashes-next, hashes-none, slot-all}
 use Rattle.apart.proofs.Overdue.{front-lent, front-is, rest-stays, slots-rest}
 use Rattle.apart.proofs.OneOwner.{picked-clear, family-at}
-use Rattle.planning.specs.declared.selecting.Scan.{Scan}
-use Rattle.planning.specs.Phasing.{Phasing, Roomy, Scans, Phased}
+use Rattle.selecting.specs.declared.Scan.{Scan}
+use Rattle.selecting.specs.Phasing.{Phasing, Roomy, Scans, Phased}
 use Rattle.planning.specs.Keeping.{Ahead, Short, PlaceScans, KeptScans, KeptPhased}
-use Rattle.planning.proofs.Walked.{phasing-as, scans-start, scans-as, scans-for, scans-both, scans-full, Opened, phased}
+use Rattle.selecting.proofs.Walked.{phasing-as, scans-start, scans-as, scans-for, scans-both, scans-full, Opened, phased}
 
 -- ---- bits
 
@@ -48,20 +48,6 @@ module _ (w : List ℕ) (j to r : ℕ) (h : j < to) where
 pub bits-done : (w : List ℕ) (j to r : ℕ) → to ≤ j → picked (hashesAt w j (to - j)) r ≡ []
 unfolding picked
 bits-done w j to r h = rw (hashes-none w j (to - j) (omega arith))
-
--- ---- both halves
-
-pub both-halves : (w : List ℕ) {c e : ℕ} → Halved c e → (low high : ℕ) → pickedIn (hashesAt w 0 c) low high ≡ picked (hashesAt w 0 (e - 0)) low ++ picked (hashesAt w e (c - e)) high
-both-halves w {c} {e} h low high =
-    let q : e + (c - e) ≡ c = omega (arith, h .within) in
-    let z : 0 + e ≡ e = omega arith in
-    let y : e - 0 ≡ e = omega arith in
-    let xs = hashesAt w 0 e in
-    let ys = hashesAt w e (c - e) in
-    let whole : hashesAt w 0 c ≡ xs ++ ys = ap (hashesAt w 0) (sym q) ∙ hashes-parts w 0 e (c - e) ∙ rw z in
-    let front = sym (h .front (hashesAt w 0 c) (hashes-long w 0 c)) ∙ ap (take e) whole ∙ take-at xs ys e (hashes-long w 0 e) in
-    let behind = sym (h .behind (hashesAt w 0 c) (hashes-long w 0 c)) ∙ ap (drop e) whole ∙ drop-at xs ys e (hashes-long w 0 e) in
-    rw (front, behind, y)
 
 -- ---- one place
 

@@ -27,14 +27,14 @@ use Rattle.apart.proofs.BareTable.{sound-bare, keys-bare}
 use Rattle.apart.proofs.BareChoice.{phase-bare}
 use Rattle.apart.proofs.Overdue.{front-lent, front-is, rest-stays, slots-rest}
 use Rattle.apart.proofs.OneOwner.{front-within}
-use Rattle.planning.specs.declared.selecting.Scan.{Scan}
-use Rattle.planning.specs.declared.answering.Reply.{Reply}
-use Rattle.planning.specs.Selecting.{Scanning}
+use Rattle.selecting.specs.declared.Scan.{Scan}
+use Rattle.planning.specs.declared.replying.Reply.{Reply}
+use Rattle.selecting.specs.Selecting.{Scanning}
 use Rattle.planning.specs.Expiring.{Clean, ExpiresAll}
 use Rattle.planning.specs.Keeping.{KeptPhased}
-use Rattle.planning.specs.Answering.{Fresh, Plans, asks, Asks, AsksOf, Begun, mostKept, BegunTo, Begins, Blank, PlansOf}
+use Rattle.planning.specs.Replying.{Fresh, Plans, asks, Asks, AsksOf, Begun, mostKept, BegunTo, Begins, Blank, PlansOf}
 use Rattle.planning.proofs.AllExpired.{same-long}
-use Rattle.planning.proofs.InOrder.{sort-count}
+use Rattle.selecting.proofs.InOrder.{sort-count}
 use Rattle.planning.proofs.Whole.{fresh-scan}
 
 -- ---- expiry and the first phase

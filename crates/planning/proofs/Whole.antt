@@ -29,15 +29,15 @@ use Rattle.store.proofs.Frame.{sizes}
 use Rattle.store.proofs.Stored.{written-bytes}
 use Rattle.announcing.specs.Evicts.{entryAt}
 use Rattle.cursors.specs.InWords.{Stands}
-use Rattle.planning.specs.declared.selecting.Scan.{Scan}
-use Rattle.planning.specs.declared.answering.Reply.{Reply}
-use Rattle.planning.specs.Selecting.{markAll, until, Marks, Numbered, Scanning, Marked, GivenBack, RowsOfStore, EntriesPut}
-use Rattle.planning.specs.Phasing.{Phased}
-use Rattle.planning.specs.Ordering.{SortedRows}
-use Rattle.planning.specs.Answering.{Fresh, Closed, Begun, asks, Asks, AsksOf}
-use Rattle.planning.proofs.GivingBack.{some-entry}
-use Rattle.planning.proofs.InOrder.{sort-count}
-use Rattle.planning.proofs.SameRows.{marked-rows, numbered-as}
+use Rattle.selecting.specs.declared.Scan.{Scan}
+use Rattle.planning.specs.declared.replying.Reply.{Reply}
+use Rattle.selecting.specs.Selecting.{markAll, until, Marks, Numbered, Scanning, Marked, GivenBack, RowsOfStore, EntriesPut}
+use Rattle.selecting.specs.Phasing.{Phased}
+use Rattle.selecting.specs.Ordering.{SortedRows}
+use Rattle.planning.specs.Replying.{Fresh, Closed, Begun, asks, Asks, AsksOf}
+use Rattle.selecting.proofs.GivingBack.{some-entry}
+use Rattle.selecting.proofs.InOrder.{sort-count}
+use Rattle.selecting.proofs.SameRows.{marked-rows, numbered-as}
 
 -- ---- before the first key
 

@@ -10,8 +10,8 @@ use Rattle.store.specs.Shown.{Kept}
 use Rattle.apart.specs.Apart.{Slots}
 use Rattle.apart.specs.Noting.{pickedIn}
 use Rattle.apart.specs.Lapsing.{family, noted}
-use Rattle.planning.specs.declared.selecting.Scan.{Scan}
-use Rattle.planning.specs.Phasing.{Roomy, Scans, Phased}
+use Rattle.selecting.specs.declared.Scan.{Scan}
+use Rattle.selecting.specs.Phasing.{Roomy, Scans, Phased}
 
 -- what stands whatever the places are: the bytes behind m stay
 pub record Ahead (b b′ : List ℕ) (m n : ℕ) (v w : Scan) : Type 0 where

@@ -1,6 +1,4 @@
 // The first phase of a plan's scan: the parents that expiring kept, place by place, as they are noted.
-use crate::phase;
-use crate::selecting;
 ghost use mathlib.Core.Path.{_≡_};
 ghost use mathlib.Core.List.{[]};
 ghost use Prim.Native.Nat.{_+_, _-_, _*_, _≤_, _<_};
@@ -11,7 +9,7 @@ ghost use Rattle.machine.specs.Limits.{latestClock, maxRequestChecks};
 ghost use Rattle.store.specs.Shown.{half, Kept};
 ghost use Rattle.apart.specs.Apart.{slotBytes, Room};
 ghost use Rattle.apart.specs.Noting.{hashesAt, picked, pickedIn};
-ghost use Rattle.planning.specs.Phasing.{Roomy, Scans};
+ghost use Rattle.selecting.specs.Phasing.{Roomy, Scans};
 ghost use Rattle.planning.specs.Keeping.{PlaceScans, KeptScans, KeptPhased};
 
 // Considers those of the parents from .. to of a place whose bits are set.
@@ -133,6 +131,6 @@ pub fn phase_kept(
     requires { ⌜ Room (now s) (now first) m c × Kept (take m (now s)) × (clock ≤ latestClock) × (maxRequestChecks < length (now picks)) × (v .chosen ≤ maxRequestChecks) × (v .considered + listMost * c ≤ half) × ((c ≤ length (now low)) × (c ≤ length (now high))) ⌝ }
     ensures { λ w. ⌜ KeptPhased (now (s .entry)) (now (s .exit)) (now (first .entry)) m c (now (low .entry)) (now (high .entry)) (now (picks .entry)) (now (picks .exit)) clock v w ⌝ }
 {
-    let w = phase::opened(v);
+    let w = selecting::phase::opened(v);
     keys_kept(s, m, first, c, low, high, clock, picks, w)
 }

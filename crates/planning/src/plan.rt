@@ -1,9 +1,8 @@
 // plan on the bytes of a sound store (document 01, "plan"): the owners that are due expire, the parents kept are considered, then the keys
 // asked for. For the length of a plan the package places are set apart: all but expiry concerns rows alone.
-use crate::answering;
 use crate::expiring;
 use crate::kept;
-use crate::selecting;
+use crate::replying;
 ghost use mathlib.Core.Option.{none, some};
 ghost use Prim.Native.Nat.{min, _+_, _*_, _≤_, _<_};
 ghost use lib.ListN.{length};
@@ -11,8 +10,8 @@ ghost use Rattle.machine.specs.Call.{entryBytes};
 ghost use Rattle.machine.specs.Limits.{latestClock, maxRequestChecks};
 ghost use Rattle.store.specs.Shown.{limitIn, Kept};
 ghost use Rattle.apart.specs.Apart.{Parted};
-ghost use Rattle.planning.specs.Phasing.{givenKeys};
-ghost use Rattle.planning.specs.Answering.{Begins, Blank, PlansOf};
+ghost use Rattle.selecting.specs.Phasing.{givenKeys};
+ghost use Rattle.planning.specs.Replying.{Begins, Blank, PlansOf};
 
 // Room for half of the notes of every place.
 fn note_room() -> [u64; 4_096]
@@ -36,12 +35,12 @@ fn begin(
     let mut low = note_room();
     let mut high = note_room();
     expiring::expire(s, m, first, c, &mut low, &mut high, clock);
-    let v = answering::fresh();
+    let v = replying::fresh();
     kept::phase_kept(s, m, first, c, &low, &high, clock, picks, v)
 }
 
 // Plans over all keys after the ready cursor and round to it; the ready cursor becomes the last key considered.
-pub fn plan_round(s: &mut [u8], clock: u64, out: &mut [u8]) -> answering::Reply
+pub fn plan_round(s: &mut [u8], clock: u64, out: &mut [u8]) -> replying::Reply
     requires { ⌜ Kept (now s) × (clock ≤ latestClock) × (entryBytes * min (maxRequestChecks + 1) (limitIn (now s)) ≤ length (now out)) ⌝ }
     ensures { λ r. ⌜ PlansOf (now (s .entry)) (now (s .exit)) (now (out .entry)) (now (out .exit)) clock none r ⌝ }
 {
@@ -49,15 +48,15 @@ pub fn plan_round(s: &mut [u8], clock: u64, out: &mut [u8]) -> answering::Reply
     let m = apart::bare_bytes(s);
     let mut first = apart::slot_room();
     apart::set_apart(s, m, &mut first);
-    let mut picks = answering::numbers();
+    let mut picks = replying::numbers();
     let v = begin(s, m, &mut first, c, clock, &mut picks);
-    let r = answering::ask_round(&mut s[0..m], clock, &mut picks, v, out);
+    let r = replying::ask_round(&mut s[0..m], clock, &mut picks, v, out);
     apart::put_back(s, m, &first, c);
     r
 }
 
 // Plans over the keys that the bytes hold; the ready cursor stays.
-pub fn plan_given(s: &mut [u8], clock: u64, given: &[u8], out: &mut [u8]) -> answering::Reply
+pub fn plan_given(s: &mut [u8], clock: u64, given: &[u8], out: &mut [u8]) -> replying::Reply
     requires { ⌜ Kept (now s) × (clock ≤ latestClock) × (entryBytes * min (maxRequestChecks + 1) (limitIn (now s)) ≤ length (now out)) ⌝ }
     ensures { λ r. ⌜ PlansOf (now (s .entry)) (now (s .exit)) (now (out .entry)) (now (out .exit)) clock (some (givenKeys (now (given .entry)))) r ⌝ }
 {
@@ -65,9 +64,9 @@ pub fn plan_given(s: &mut [u8], clock: u64, given: &[u8], out: &mut [u8]) -> ans
     let m = apart::bare_bytes(s);
     let mut first = apart::slot_room();
     apart::set_apart(s, m, &mut first);
-    let mut picks = answering::numbers();
+    let mut picks = replying::numbers();
     let v = begin(s, m, &mut first, c, clock, &mut picks);
-    let r = answering::ask_given(&mut s[0..m], clock, given, &mut picks, v, out);
+    let r = replying::ask_given(&mut s[0..m], clock, given, &mut picks, v, out);
     apart::put_back(s, m, &first, c);
     r
 }

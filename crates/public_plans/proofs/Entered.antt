@@ -28,7 +28,7 @@ use Rattle.machine.proofs.Tests.{by-test}
 use Rattle.machine.proofs.AnswerLengths.{length-entryAnswer}
 use Rattle.store.specs.Gather.{kindIs}
 use Rattle.store.proofs.BytesBack.{Bytes, bytes-take, bytes-drop}
-use Rattle.planning.specs.Claiming.{hashFrom, entryFrom, entriesFrom, entriesIn}
+use Rattle.claiming.specs.Claiming.{hashFrom, entryFrom, entriesFrom, entriesIn}
 
 -- an entry that bytes can hold
 pub record Whole (a : Entry) : Type 0 where

@@ -13,7 +13,7 @@ use Rattle.regions.specs.Order.{Sorted, Bound, Sought, one}
 use Rattle.machine.specs.State.{Entry}
 use Rattle.machine.specs.Claim.{partOf}
 use Rattle.machine.specs.Call.{entryBytes}
-use Rattle.planning.specs.Claiming.{entryFrom, entriesFrom, entriesIn}
+use Rattle.claiming.specs.Claiming.{entryFrom, entriesFrom, entriesIn}
 use Rattle.public_plans.specs.Parts.{connectionsIn, PartIs}
 use Rattle.public_plans.proofs.Entered.{length-entries}
 

@@ -26,9 +26,9 @@ use Rattle.machine.proofs.Announce.{each-append}
 use Rattle.machine.proofs.Plan.{keys-typed, round-typed, bounded-expired, expired-keys}
 use Rattle.store.specs.Image.{Writes, SoundStore}
 use Rattle.store.proofs.BytesBack.{Bytes}
-use Rattle.planning.specs.declared.answering.Reply.{Reply}
-use Rattle.planning.specs.Claiming.{entriesFrom}
-use Rattle.planning.specs.Answering.{Plans}
+use Rattle.planning.specs.declared.replying.Reply.{Reply}
+use Rattle.claiming.specs.Claiming.{entriesFrom}
+use Rattle.planning.specs.Replying.{Plans}
 use Rattle.outcome.specs.Outcome.{Does}
 use Rattle.outcome.specs.Tests.{inTurn}
 use Rattle.outcome.specs.Lent.{Lent}

@@ -23,7 +23,7 @@ use Rattle.machine.proofs.Tests.{by-test}
 use Rattle.store.specs.Image.{SoundStore}
 use Rattle.store.proofs.BytesBack.{Bytes}
 use Rattle.requests.specs.Changes.{Tells}
-use Rattle.planning.specs.Claiming.{entriesFrom}
+use Rattle.claiming.specs.Claiming.{entriesFrom}
 use Rattle.outcome.specs.Outcome.{Does}
 use Rattle.outcome.specs.Tests.{inTurn}
 use Rattle.outcome.specs.Lent.{Lent}

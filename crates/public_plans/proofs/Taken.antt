@@ -11,7 +11,7 @@ use Rattle.machine.specs.Call.{Buffer, Claim, On, entryBytes, named, takesPlace
 use Rattle.machine.specs.Step.{Entries, perform, entriesAnswer, written}
 use Rattle.store.specs.Image.{SoundStore}
 use Rattle.store.proofs.BytesBack.{Bytes}
-use Rattle.planning.specs.Claiming.{entriesFrom, Claims}
+use Rattle.claiming.specs.Claiming.{entriesFrom, Claims}
 use Rattle.outcome.specs.Outcome.{Does}
 use Rattle.outcome.specs.Tests.{inTurn}
 use Rattle.outcome.specs.Lent.{Lent}

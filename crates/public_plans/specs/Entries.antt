@@ -3,7 +3,7 @@
 use Prim.Native.Nat.{ℕ}
 use Rattle.machine.specs.Call.{Buffer}
 use Rattle.machine.specs.Step.{Reply, Refused, Entries, Chosen}
-use Rattle.planning.specs.Claiming.{entriesFrom}
+use Rattle.claiming.specs.Claiming.{entriesFrom}
 use Rattle.outcome.specs.declared.Listing.{Listing}
 use Rattle.outcome.specs.declared.Listing.the-variants.{Refused as NoEntries, Listed}
 use Rattle.public_plans.specs.declared.Selection.{Selection}

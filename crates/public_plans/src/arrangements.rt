@@ -9,7 +9,7 @@ ghost use lib.ListN.{length};
 ghost use Rattle.words.specs.Words.{words};
 ghost use Rattle.regions.specs.Order.{Sought, one};
 ghost use Rattle.machine.specs.Call.{On, Arrange};
-ghost use Rattle.planning.specs.Claiming.{entriesIn};
+ghost use Rattle.claiming.specs.Claiming.{entriesIn};
 ghost use Rattle.outcome.specs.Outcome.{LeavesWith};
 ghost use Rattle.public_plans.specs.Entries.{entriesOf};
 ghost use Rattle.public_plans.specs.Parts.{connectionsIn, PartIs};
@@ -49,7 +49,7 @@ fn seek(list: &[u8], connection: u64, after: bool) -> usize
     ensures { λ r. ⌜ Sought (connectionsIn (entriesIn (now (list .entry)))) (length (entriesIn (now (list .entry)))) (connection + one after) r ⌝ }
 {
     let mut lo = 0;
-    let mut hi = planning::entries::entries(list);
+    let mut hi = claiming::entries::entries(list);
     while lo < hi {
         let mid = lo + (hi - lo) / 2;
         let c = words::get(list, mid * ENTRY + CONNECTION);

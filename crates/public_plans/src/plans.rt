@@ -5,8 +5,8 @@ use outcome::Listing;
 use outcome::refusals;
 ghost use mathlib.Core.Option.{none, some};
 ghost use Rattle.machine.specs.Call.{On, Plan, Claim};
-ghost use Rattle.planning.specs.Claiming.{entriesIn};
-ghost use Rattle.planning.specs.Phasing.{givenKeys};
+ghost use Rattle.claiming.specs.Claiming.{entriesIn};
+ghost use Rattle.selecting.specs.Phasing.{givenKeys};
 ghost use Rattle.outcome.specs.Outcome.{LeavesWith};
 ghost use Rattle.public_plans.specs.Entries.{entriesOf, plannedOf};
 

@@ -13,8 +13,8 @@ use Rattle.machine.specs.State.{Table}
 use Rattle.machine.specs.Claim.{forWitness, insertByConnection, sortByConnection, arrange, partOf}
 use Rattle.machine.proofs.Tests.{test}
 use Rattle.store.proofs.Bounds.{Ascend, ascend-sorted}
-use Rattle.planning.specs.declared.claiming.Entry.{Entry}
-use Rattle.planning.specs.Claiming.{entryOf}
+use Rattle.claiming.specs.declared.Entry.{Entry}
+use Rattle.claiming.specs.Claiming.{entryOf}
 use Rattle.sending.specs.Parts.{connectionsOf, Parted}
 
 abbrev connections : List machine.Entry → List ℕ

@@ -13,8 +13,8 @@ use Rattle.regions.specs.Order.{Bound, Sought, one}
 use Rattle.machine.specs.State as machine
 use Rattle.machine.specs.Claim.{partOf}
 use Rattle.machine.proofs.Tests.{test}
-use Rattle.planning.specs.declared.claiming.Entry.{Entry}
-use Rattle.planning.specs.Claiming.{entryOf, nthEntry}
+use Rattle.claiming.specs.declared.Entry.{Entry}
+use Rattle.claiming.specs.Claiming.{entryOf, nthEntry}
 use Rattle.sending.specs.Parts.{connectionsOf, greater, Parted}
 
 -- ---- the searches

@@ -32,9 +32,9 @@ use denote.Triple.Call.{calls-at}
 use denote.Triple.Spec.{tripleOf}
 use denote.Triple.Clauses.{ensured, lasts}
 use Rattle.regions.specs.Order.{Sought, one}
-use Rattle.planning.specs.declared.claiming.Entry.{Entry}
-use Rattle.planning.proofs.claiming.Entry as T
-use Rattle.planning.proofs.Lending.{list-ref, list-own}
+use Rattle.claiming.specs.declared.Entry.{Entry}
+use Rattle.claiming.proofs.Entry as T
+use Rattle.claiming.proofs.Lending.{list-ref, list-own}
 use Rattle.sending.specs.Parts.{connectionsOf, greater}
 use Rattle.sending.proofs.seek as seek
 use Rattle.sending.proofs.seek.Symbol.{name as #seek}

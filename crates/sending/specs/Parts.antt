@@ -8,8 +8,8 @@ use lib.ListN.{take, drop}
 use Rattle.ident.specs.If.{if_then_else_}
 use Rattle.regions.specs.Order.{Sorted}
 use Rattle.machine.specs.Claim.{partOf}
-use Rattle.planning.specs.declared.claiming.Entry.{Entry}
-use Rattle.planning.specs.Claiming.{entryOf}
+use Rattle.claiming.specs.declared.Entry.{Entry}
+use Rattle.claiming.specs.Claiming.{entryOf}
 
 abbrev pub connectionsOf : List Entry → List ℕ
 connectionsOf l = map (λ (e : Entry). e .connection) l

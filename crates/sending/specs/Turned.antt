@@ -12,7 +12,7 @@ use Rattle.machine.specs.Claim.{elem, forWitness}
 use Rattle.machine.specs.State as machine
 use Rattle.machine.specs.Step.{entryAnswer}
 use Rattle.requests.specs.Changes.{Tells}
-use Rattle.planning.specs.Claiming.{entryOf, entryFrom}
+use Rattle.claiming.specs.Claiming.{entryOf, entryFrom}
 use Rattle.sending.specs.declared.witness.Known.{Known}
 use Rattle.sending.specs.declared.witness.Sent.{Sent}
 

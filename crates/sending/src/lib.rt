@@ -14,7 +14,7 @@ pub mod witness;
 // ---- one connection's requests
 
 // Whether the entry stands before those of the connection; with `after`, also whether it is one of them.
-fn falls_short(e: planning::claiming::Entry, connection: u64, after: bool) -> bool
+fn falls_short(e: claiming::Entry, connection: u64, after: bool) -> bool
     ensures { λ r. ⌜ r ≡ ltb (e .connection) (connection + one after) ⌝ }
 {
     if after {
@@ -25,14 +25,14 @@ fn falls_short(e: planning::claiming::Entry, connection: u64, after: bool) -> bo
 }
 
 // The first entry that does not stand before those of the connection; with `after`, the first that stands after them. Or the length.
-fn seek(list: &[planning::claiming::Entry], connection: u64, after: bool) -> usize
+fn seek(list: &[claiming::Entry], connection: u64, after: bool) -> usize
     ensures { λ r. ⌜ Sought (connectionsOf (now (list .entry))) (length (now (list .entry))) (connection + one after) r ⌝ }
 {
     let mut lo = 0;
     let mut hi = list.len();
     while lo < hi {
         let mid = lo + (hi - lo) / 2;
-        let e = planning::checked::entry_at(list, mid);
+        let e = claiming::checked::entry_at(list, mid);
         if falls_short(e, connection, after) {
             lo = mid + 1;
         } else {
@@ -49,7 +49,7 @@ fn no_less(e: usize, a: usize) -> usize
 }
 
 // The connection's part of the arranged list. Of a list that is not arranged it is some part.
-pub fn part(list: &[planning::claiming::Entry], connection: u64) -> &[planning::claiming::Entry]
+pub fn part(list: &[claiming::Entry], connection: u64) -> &[claiming::Entry]
     ensures { λ r. ⌜ Parted connection (now (list .entry)) (now r) ⌝ }
 {
     let a = seek(list, connection, false);

@@ -9,7 +9,7 @@ ghost use Rattle.machine.specs.Claim.{elem};
 ghost use Rattle.machine.specs.Table.{at};
 ghost use Rattle.store.specs.Shown.{Kept};
 ghost use Rattle.requests.specs.Changes.{Tells};
-ghost use Rattle.planning.specs.Claiming.{entryOf};
+ghost use Rattle.claiming.specs.Claiming.{entryOf};
 ghost use Rattle.sending.specs.Turned.{isTransaction, Holds, Turned, PutTurned};
 
 // Whether a connection is a witness connection. It is remembered from one entry to the next, since those of a connection are sent together.
@@ -20,7 +20,7 @@ pub struct Known {
 
 // An entry as it is sent, and what is known after it.
 pub struct Sent {
-    pub entry: planning::claiming::Entry,
+    pub entry: claiming::Entry,
     pub known: Known,
 }
 
@@ -76,7 +76,7 @@ fn is_transaction(k: ident::ItemKind) -> bool
 }
 
 // The entry as it is sent. Only a t item is looked up: any other stays what it is.
-fn for_witness(s: &[u8], witnesses: &[u8], known: Known, e: planning::claiming::Entry) -> Sent
+fn for_witness(s: &[u8], witnesses: &[u8], known: Known, e: claiming::Entry) -> Sent
     requires { ⌜ Kept (now s) × Holds (now witnesses) known ⌝ }
     ensures { λ r. ⌜ Turned (now (s .entry)) (now (witnesses .entry)) (entryOf e) r ⌝ }
 {
@@ -101,7 +101,7 @@ fn for_witness(s: &[u8], witnesses: &[u8], known: Known, e: planning::claiming::
         kind: ident::ItemKind::WitnessTransaction,
         hash,
     };
-    let entry = planning::claiming::Entry {
+    let entry = claiming::Entry {
         key,
         connection: e.connection,
         item: turned,
@@ -128,9 +128,9 @@ pub fn put_turned(
     requires { ⌜ Kept (now s) × (entryBytes * j + entryBytes ≤ length (now list)) × (entryBytes * i + entryBytes ≤ length (now out)) × Holds (now witnesses) known ⌝ }
     ensures { λ r. ⌜ PutTurned (now (s .entry)) (now (list .entry)) j (now (witnesses .entry)) (now (out .entry)) (now (out .exit)) i r ⌝ }
 {
-    let e = planning::entries::entry_in(list, j);
+    let e = claiming::entries::entry_in(list, j);
     let sent = for_witness(s, witnesses, known, e);
     let entry = sent.entry;
-    planning::entries::put_entry(out, i, entry);
+    claiming::entries::put_entry(out, i, entry);
     sent.known
 }

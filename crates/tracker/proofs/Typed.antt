@@ -22,9 +22,9 @@ use Rattle.lists.specs.Lists.{hashesIn}
 use Rattle.lists.specs.Items.{itemsIn, offersIn}
 use Rattle.lists.proofs.Given.{hashes-fit}
 use Rattle.lists.proofs.Inventory.{items-fit, offers-fit}
-use Rattle.planning.specs.Claiming.{entriesIn}
-use Rattle.planning.specs.Phasing.{givenKeys}
-use Rattle.planning.proofs.Readings.{given-typed}
+use Rattle.claiming.specs.Claiming.{entriesIn}
+use Rattle.selecting.specs.Phasing.{givenKeys}
+use Rattle.selecting.proofs.Given.{given-typed}
 use Rattle.requests.specs.declared.Candidate.{Candidate}
 use Rattle.requests.specs.Changes.{candidateOf}
 use Rattle.outcome.specs.Outcome.{Effect}

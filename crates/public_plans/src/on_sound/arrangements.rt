@@ -4,7 +4,7 @@ use outcome::Listing;
 use outcome::refusals;
 ghost use Rattle.words.specs.Words.{words};
 ghost use Rattle.machine.specs.Call.{On, Arrange};
-ghost use Rattle.planning.specs.Claiming.{entriesIn};
+ghost use Rattle.claiming.specs.Claiming.{entriesIn};
 ghost use Rattle.store.specs.Image.{SoundStore};
 ghost use Rattle.outcome.specs.Outcome.{LeavesWith};
 ghost use Rattle.public_plans.specs.Entries.{entriesOf};

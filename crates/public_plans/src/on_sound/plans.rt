@@ -8,8 +8,8 @@ ghost use Prim.Native.Nat.{min, _+_, _*_};
 ghost use lib.ListN.{length};
 ghost use Rattle.machine.specs.Limits.{maxRequestChecks};
 ghost use Rattle.machine.specs.Call.{On, Plan, Claim, entryBytes};
-ghost use Rattle.planning.specs.Claiming.{entriesIn};
-ghost use Rattle.planning.specs.Phasing.{givenKeys};
+ghost use Rattle.claiming.specs.Claiming.{entriesIn};
+ghost use Rattle.selecting.specs.Phasing.{givenKeys};
 ghost use Rattle.store.specs.Image.{SoundStore};
 ghost use Rattle.outcome.specs.Outcome.{LeavesWith};
 ghost use Rattle.public_plans.specs.Entries.{entriesOf, plannedOf};
@@ -21,7 +21,7 @@ const ENTRY_BYTES: usize = 112;
 pub fn list_needs(list: &[u8]) -> usize
     ensures { λ r. ⌜ r ≡ entryBytes * length (entriesIn (now (list .entry))) ⌝ }
 {
-    planning::entries::entries(list) * ENTRY_BYTES
+    claiming::entries::entries(list) * ENTRY_BYTES
 }
 
 pub fn claim(s: &mut [u8], clock: u64, checked: &[u8], answer: &mut [u8]) -> Listing
@@ -34,7 +34,7 @@ pub fn claim(s: &mut [u8], clock: u64, checked: &[u8], answer: &mut [u8]) -> Lis
         return Listing::Refused(refusal);
     }
     let n = refusals::need_of(s);
-    let taken = planning::entries::claim_bytes(&mut s[..n], clock, checked, answer);
+    let taken = claiming::entries::claim_bytes(&mut s[..n], clock, checked, answer);
     Listing::Listed(taken as u64)
 }
 

@@ -47,10 +47,10 @@ use borrow.Table.Copies.{cStruct, halved}
 use borrow.Rule.Slice.Prefix.{shs-part-same}
 use borrow.Rule.Slice.PartAt.{part-count}
 use Rattle.regions.specs.Order.{one}
-use Rattle.planning.specs.declared.claiming.Entry.{Entry}
-use Rattle.planning.proofs.Lending.{Spare, Holding, list-ref, list-own}
-use Rattle.planning.proofs.claiming.Entry as T
-use Rattle.planning.proofs.claiming.Entry.Laws as T′
+use Rattle.claiming.specs.declared.Entry.{Entry}
+use Rattle.claiming.proofs.Lending.{Spare, Holding, list-ref, list-own}
+use Rattle.claiming.proofs.Entry as T
+use Rattle.claiming.proofs.Entry.Laws as T′
 use Rattle.sending.specs.Parts.{Parted}
 use Rattle.sending.proofs.Parting.{greater-within, parted}
 use Rattle.sending.proofs.Seeking.{Seek, NoLess, seeks, takes}

@@ -48,14 +48,14 @@ use denote.Triple.Clauses.{ensured, lasts}
 use denote.Exit.{yes}
 use Rattle.regions.specs.Order.{Sought, one}
 use Rattle.regions.proofs.Order.{Searching, search-start, search-up, search-down, search-end}
-use Rattle.planning.specs.declared.claiming.Entry.{Entry}
-use Rattle.planning.specs.Claiming.{nthEntry}
-use Rattle.planning.proofs.Lending.{entry-val, Spare, Holding, list-ref, list-own, EntryAt, reads-listed}
-use Rattle.planning.proofs.claiming.Entry as T
-use Rattle.planning.proofs.claiming.Entry.Laws as T′
-use Rattle.planning.proofs.checked.entry_at.Symbol as entry-at-def
-use Rattle.planning.proofs.checked.entry_at.Symbol.{name as #entry-at}
-use Rattle.planning.proofs.checked.entry_at.Met as entry-at-thm
+use Rattle.claiming.specs.declared.Entry.{Entry}
+use Rattle.claiming.specs.Claiming.{nthEntry}
+use Rattle.claiming.proofs.Lending.{entry-val, Spare, Holding, list-ref, list-own, EntryAt, reads-listed}
+use Rattle.claiming.proofs.Entry as T
+use Rattle.claiming.proofs.Entry.Laws as T′
+use Rattle.claiming.proofs.checked.entry_at.Symbol as entry-at-def
+use Rattle.claiming.proofs.checked.entry_at.Symbol.{name as #entry-at}
+use Rattle.claiming.proofs.checked.entry_at.Met as entry-at-thm
 use Rattle.sending.specs.Parts.{connectionsOf}
 use Rattle.sending.proofs.Parting.{connection-at, length-connections, middle-low, middle-high}
 use Rattle.sending.proofs.falls_short as short
@@ -311,5 +311,5 @@ seek-spec 𝓤 H 𝓜 𝓖 𝓡 =
     entered 𝓤 H (tripleOf 𝓤 H (𝓖 .A) self.signature (self.spec 𝓤 H (𝓖 .A) (𝓜 .mem) (𝓡 .run)))
     (tables 𝓤 H 𝓜 𝓡 code.env .C) (tables 𝓤 H 𝓜 𝓡 code.env .Λ) #seek code.function (code.unfolded 𝓤 H 𝓜 𝓡)
     (self-meets 𝓤 H (𝓖 .A) (givenOf 𝓤 H 𝓜 𝓖) (𝓜 .mem) (𝓡 .run) (tablesOf 𝓤 H 𝓜 (tables 𝓤 H 𝓜 𝓡 code.env))
-    (cited 𝓤 H (EntryAt 𝓤 H (𝓖 .A) (𝓜 .mem) (𝓡 .run)) 𝓜 𝓡 code.env #entry-at entry-at-def.routine code.calls-planning·checked·entry-at (entry-at-thm.met 𝓤 H 𝓜 𝓖 𝓡))
+    (cited 𝓤 H (EntryAt 𝓤 H (𝓖 .A) (𝓜 .mem) (𝓡 .run)) 𝓜 𝓡 code.env #entry-at entry-at-def.routine code.calls-claiming·checked·entry-at (entry-at-thm.met 𝓤 H 𝓜 𝓖 𝓡))
     (cited 𝓤 H (Short 𝓤 H (𝓖 .A) (𝓜 .mem) (𝓡 .run)) 𝓜 𝓡 code.env #short short-def.routine code.calls-sending·falls-short (short-thm.met 𝓤 H 𝓜 𝓖 𝓡)))

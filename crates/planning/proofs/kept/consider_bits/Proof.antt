@@ -7,8 +7,8 @@ use native.Mathlib.Omega.{arith}
 use lib.ListN.{length}
 use Rattle.words.specs.Words.{words}
 use Rattle.apart.specs.Noting.{hashesAt, picked}
-use Rattle.planning.specs.Phasing.{Scans}
-use Rattle.planning.proofs.Walked.{scans-start, scans-as, scans-full, scans-more}
+use Rattle.selecting.specs.Phasing.{Scans}
+use Rattle.selecting.proofs.Walked.{scans-start, scans-as, scans-full, scans-more}
 use Rattle.planning.proofs.Keepings.{bit-set, bit-clear, bits-done}
 use Rattle.planning.proofs.kept.consider_bits.Statement.{statement}
 use Rattle.planning.proofs.kept.consider_bits.Tie as tie

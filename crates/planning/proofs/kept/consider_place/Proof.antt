@@ -5,8 +5,8 @@ use native.Mathlib.Omega.{arith}
 use Rattle.words.specs.Words.{words}
 use Rattle.places.specs.Places.{listMost}
 use Rattle.apart.specs.Noting.{hashesAt, pickedIn}
-use Rattle.planning.proofs.Walked.{scans-as, scans-for, scans-both}
-use Rattle.planning.proofs.Keepings.{both-halves}
+use Rattle.apart.proofs.Notes.{both-halves}
+use Rattle.selecting.proofs.Walked.{scans-as, scans-for, scans-both}
 use borrow.Author.Needs.{needs}
 use Rattle.planning.proofs.kept.consider_place.Statement.{statement}
 use Rattle.planning.proofs.kept.consider_place.Tie as tie

@@ -1,8 +1,8 @@
 -- `planning::kept::phase_kept` meets its contract. Assumes nothing.
 use native.Mathlib.Omega.{arith}
 use mathlib.Core.Path.{ap}
-use Rattle.planning.specs.declared.selecting.Scan.{Scan}
-use Rattle.planning.proofs.Walked.{opened-roomy}
+use Rattle.selecting.specs.declared.Scan.{Scan}
+use Rattle.selecting.proofs.Walked.{opened-roomy}
 use Rattle.planning.proofs.Keepings.{kept-phased}
 use borrow.Author.Needs.{needs}
 use Rattle.planning.proofs.kept.phase_kept.Statement.{statement}

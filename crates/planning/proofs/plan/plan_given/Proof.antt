@@ -6,7 +6,7 @@ use native.Mathlib.Omega.{arith}
 use Rattle.machine.specs.Limits.{word}
 use Rattle.requests.proofs.Keeping.{kept-shown}
 use Rattle.apart.proofs.OneOwner.{front-within}
-use Rattle.planning.specs.Phasing.{givenKeys}
+use Rattle.selecting.specs.Phasing.{givenKeys}
 use Rattle.planning.proofs.Planned.{set-parted, started, limit-is, parted-after, plan-is}
 use borrow.Author.Needs.{needs}
 use Rattle.planning.proofs.plan.plan_given.Statement.{statement}

@@ -8,7 +8,7 @@ use borrow.Author.Needs.{needs}
 use borrow.Author.Tests.{ltb-true, ltb-false}
 use Rattle.regions.specs.Order.{one}
 use Rattle.regions.proofs.Order.{Searching, search-start, search-up, search-down, search-end}
-use Rattle.planning.specs.Claiming.{entriesIn}
+use Rattle.claiming.specs.Claiming.{entriesIn}
 use Rattle.public_plans.specs.Parts.{connectionsIn}
 use Rattle.public_plans.proofs.Entered.{length-entries}
 use Rattle.public_plans.proofs.Parting.{length-connections, connection-at}

@@ -3,7 +3,7 @@ use mathlib.Core.Path.{sym, _∙_}
 use borrow.Author.Needs.{needs}
 use borrow.Author.Tests.{not-true, not-false}
 use Rattle.words.specs.Words.{words}
-use Rattle.planning.specs.Claiming.{entryOf}
+use Rattle.claiming.specs.Claiming.{entryOf}
 use Rattle.sending.proofs.Witnessed.{looked-up, stays-other, stays-unmarked, stays-unlisted, turns}
 use Rattle.sending.proofs.witness.for_witness.Statement.{statement}
 use Rattle.sending.proofs.witness.for_witness.Tie as tie

@@ -9,7 +9,7 @@ use Rattle.store.specs.Flat.{rowOf, flatOf}
 use Rattle.store.proofs.Bits.{bit-one}
 use Rattle.requests.proofs.Keeping.{kept-shown, from-at, to-at}
 use Rattle.requests.proofs.Pushing.{mark-of}
-use Rattle.planning.specs.Claiming.{entryOf, noEntry}
+use Rattle.claiming.specs.Claiming.{entryOf, noEntry}
 use Rattle.sending.proofs.witness.marked.Statement.{statement}
 use Rattle.sending.proofs.witness.marked.Tie as tie
 

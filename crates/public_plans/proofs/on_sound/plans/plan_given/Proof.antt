@@ -3,8 +3,8 @@
 use mathlib.Core.Option.{some}
 use native.Mathlib.Omega.{arith}
 use borrow.Author.Needs.{needs}
-use Rattle.planning.specs.Phasing.{givenKeys}
-use Rattle.planning.proofs.Readings.{given-typed}
+use Rattle.selecting.specs.Phasing.{givenKeys}
+use Rattle.selecting.proofs.Given.{given-typed}
 use Rattle.outcome.proofs.Turns.{early-clock, passed, sized}
 use Rattle.outcome.proofs.Carried.{refused, front-limit}
 use Rattle.public_plans.proofs.Planned.{plans, plans-done}

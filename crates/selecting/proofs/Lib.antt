@@ -1,0 +1,13 @@
+pub mod Picking
+pub mod Marked
+pub mod Considered
+pub mod Unmarked
+pub mod SameRows
+pub mod Advancing
+pub mod Walked
+pub mod Nearing
+pub mod Rowwise
+pub mod Given
+pub mod GivingBack
+pub mod InOrder
+pub mod Putting

@@ -1,0 +1,35 @@
+-- `selecting::consider_within` meets its contract. Assumes nothing.
+use mathlib.Core.Path.{refl}
+use borrow.Author.Needs.{needs}
+use Rattle.ident.specs.Words.{keyNum}
+use Rattle.selecting.proofs.Advancing.{considers}
+use Rattle.selecting.proofs.consider_within.Statement.{statement}
+use Rattle.selecting.proofs.consider_within.Tie as tie
+
+select-within-requires : tie.Need-select-within-requires
+select-within-requires c κs = search needs
+
+key-stored-requires : tie.Need-key-stored-requires
+key-stored-requires c κs = search needs
+
+add-t14 : tie.Need-add-t14
+add-t14 c = search needs
+
+same-length : tie.Need-same-length
+same-length c = search needs
+
+same-length-2 : tie.Need-same-length-2
+same-length-2 c = search needs
+
+returns : tie.Need-returns
+returns c = considers (keyNum (c .before .before .before .before .before .before .before .before .before .before .before .args .k))
+    (c .before .before .before .before .before .before .before .before .before .before .before .args .v) _ _
+    (c .before .before .before .before .before .before .before .before .before .before .before .pre .0) (c .before .before .before .before .before .before .select-within .ensures)
+    (c .before .before .before .before .before .before .before .before .before .before .before .pre .1)
+    (c .before .before .before .before .before .before .before .before .before .before .before .pre .2)
+    (c .before .before .before .before .before .before .before .before .before .before .before .pre .3) (c .before .key-stored .ensures) refl
+
+pub consider-within-spec : {M : Type 1} → statement M
+consider-within-spec =
+    tie.close
+    (tie.spec select-within-requires key-stored-requires add-t14 same-length same-length-2 returns)

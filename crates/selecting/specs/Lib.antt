@@ -1,0 +1,4 @@
+pub mod Selecting
+pub mod Ordering
+pub mod Phasing
+pub mod Near
