@@ -20,10 +20,11 @@ use Rattle.words.proofs.Digits.{length-digits, number-digits}
 use Rattle.words.proofs.Splice.{splice-more}
 use Rattle.words.proofs.Records.{recs-take, length-recs}
 use Rattle.machine.specs.Wrapper.{Offer}
-use Rattle.machine.specs.Call.{Ask, Call, On}
+use Rattle.machine.specs.Call.{Ask, On}
 use Rattle.lists.specs.Items.{itemBytes, typeTop, itemIn, itemsIn, paired, offersIn}
 use Rattle.lines.specs.Fields.{numberOf, itemOf, rest}
-use Rattle.reading.specs.Calls.{taking, ending, offerOf, offersThen, offersCall}
+use Rattle.reading.specs.Line.{Line, Asks, taking, ending}
+use Rattle.reading.specs.Calls.{offerOf, offersThen, offersCall}
 use Rattle.reading.specs.Given.{At, FieldRead, longestLine}
 use Rattle.reading.proofs.Taking.{field-not, field-is, ending-end, ending-more}
 use Rattle.reading.proofs.Stored.{record-put}
@@ -81,16 +82,16 @@ pub none-read : (l : List ℕ) (e n : ℕ) (b c : List ℕ) → OffersRead l e n
 unfolding recs paired
 none-read l e n b c = record { is = λ k. let z : n - 0 ≡ n = omega arith in ap (λ (m : ℕ). offersThen m [] k (rest l (e + 1))) (sym z) }
 
-then-next : (n : ℕ) (os : List Offer) (k : List Offer → List (List ℕ) → Option Call) (fs : List (List ℕ)) → offersThen (suc n) os k fs ≡ taking itemOf (λ i. taking numberOf (λ p. offersThen n (os ++ (offerOf i p ∷ [])) k)) fs
+then-next : (n : ℕ) (os : List Offer) (k : List Offer → List (List ℕ) → Option Line) (fs : List (List ℕ)) → offersThen (suc n) os k fs ≡ taking itemOf (λ i. taking numberOf (λ p. offersThen n (os ++ (offerOf i p ∷ [])) k)) fs
 unfolding offersThen
 then-next n os k fs = refl
 
-then-none : (os : List Offer) (k : List Offer → List (List ℕ) → Option Call) (fs : List (List ℕ)) → offersThen 0 os k fs ≡ k os fs
+then-none : (os : List Offer) (k : List Offer → List (List ℕ) → Option Line) (fs : List (List ℕ)) → offersThen 0 os k fs ≡ k os fs
 unfolding offersThen
 then-none os k fs = refl
 
 abbrev Next : Type 0
-Next = List Offer → List (List ℕ) → Option Call
+Next = List Offer → List (List ℕ) → Option Line
 
 module _ {l : List ℕ} {e n to i : ℕ} {b c : List ℕ} (r : OffersRead l e n to i b c) (g : i < n) {o : Option (At Item)} (p : FieldRead itemOf l to o) where
   abbrev sofar : List Offer
@@ -145,10 +146,10 @@ module _ (n : ℕ) (b c : List ℕ) (m : n ≤ mostOffers) (h : itemRoom ≤ len
   offers-stored = rw (items-stored, priorities-stored)
 
 module _ (ask : List Offer → Ask) where
-  abbrev whole : List Offer → List (List ℕ) → Option Call
-  whole os fs = ending (some (On (ask os))) fs
+  abbrev whole : List Offer → List (List ℕ) → Option Line
+  whole os fs = ending (some (Asks (On (ask os)))) fs
 
-  abbrev behind-count : ℕ → List (List ℕ) → Option Call
+  abbrev behind-count : ℕ → List (List ℕ) → Option Line
   behind-count n fs = offersThen n [] whole fs
 
 module _ {l : List ℕ} {e : ℕ} {o : Option (At ℕ)} (p : FieldRead numberOf l e o) where
@@ -182,4 +183,4 @@ module _ {l : List ℕ} {e : ℕ} {o : Option (At ℕ)} (p : FieldRead numberOf 
         more-fields m = record { is = λ ask. to-end ask ∙ ending-more l to _ m }
 
         pub offers-are : length l ≤ to → n ≤ mostOffers → itemRoom ≤ length b → priorityRoom ≤ length c → OffersGiven l e b c (Are n)
-        offers-are m f i j = record { is = record { few = f; is = λ ask. to-end ask ∙ ending-end l to _ m ∙ ap (λ (os : List Offer). some (On (ask os))) (sym (offers-stored n b c f i j)) } }
+        offers-are m f i j = record { is = record { few = f; is = λ ask. to-end ask ∙ ending-end l to _ m ∙ ap (λ (os : List Offer). some (Asks (On (ask os)))) (sym (offers-stored n b c f i j)) } }

@@ -10,8 +10,9 @@ use Rattle.ident.specs.declared.ItemKind.{ItemKind}
 use Rattle.ident.specs.Number.{Item, isPlain}
 use Rattle.words.specs.Words.{number, recs}
 use Rattle.machine.specs.Wrapper.{Offer}
-use Rattle.machine.specs.Call.{Ask, Call, On}
+use Rattle.machine.specs.Call.{Ask, On}
 use Rattle.lists.specs.Items.{itemBytes, itemIn, paired, offersIn}
+use Rattle.reading.specs.Line.{Line, Asks}
 use Rattle.lines.specs.Fields.{rest}
 use Rattle.inventory.specs.declared.Read.{Read}
 use Rattle.inventory.specs.declared.Read.the-variants.{Not as NotRead, Is as IsRead}
@@ -46,10 +47,10 @@ pub record OfferPut (b b′ c c′ : List ℕ) (i : ℕ) (k : ItemKind) (h p : �
 
 -- i offers of the n behind the comma at index e, of which the last field ends at index to, stand in the bytes
 pub record OffersRead (l : List ℕ) (e n to i : ℕ) (b c : List ℕ) : Type 0 where
-  pub is : (k : List Offer → List (List ℕ) → Option Call) → offersThen n [] k (rest l (e + 1)) ≡ offersThen (n - i) (paired (itemsOf i b) (prioritiesOf i c)) k (rest l (to + 1))
+  pub is : (k : List Offer → List (List ℕ) → Option Line) → offersThen n [] k (rest l (e + 1)) ≡ offersThen (n - i) (paired (itemsOf i b) (prioritiesOf i c)) k (rest l (to + 1))
 
 abbrev pub FoundAs : List ℕ → ℕ → ℕ → List ℕ → List ℕ → Read → Type 0
-FoundAs l e n b c NotRead = (k : List Offer → List (List ℕ) → Option Call) → offersThen n [] k (rest l (e + 1)) ≡ none
+FoundAs l e n b c NotRead = (k : List Offer → List (List ℕ) → Option Line) → offersThen n [] k (rest l (e + 1)) ≡ none
 FoundAs l e n b c (IsRead to) = OffersRead l e n to n b c
 
 pub record OffersFound (l : List ℕ) (e n : ℕ) (b c : List ℕ) (r : Read) : Type 0 where
@@ -58,7 +59,7 @@ pub record OffersFound (l : List ℕ) (e n : ℕ) (b c : List ℕ) (r : Read) : 
 -- the list behind the comma at index e: its m offers stand in the bytes
 pub record OffersHeld (l : List ℕ) (e : ℕ) (b c : List ℕ) (m : ℕ) : Type 0 where
   pub few : m ≤ mostOffers
-  pub is : (ask : List Offer → Ask) → offersCall ask (rest l (e + 1)) ≡ some (On (ask (offersIn (take (m * itemBytes) b) (take (m * priorityBytes) c))))
+  pub is : (ask : List Offer → Ask) → offersCall ask (rest l (e + 1)) ≡ some (Asks (On (ask (offersIn (take (m * itemBytes) b) (take (m * priorityBytes) c)))))
 
 abbrev pub OffersAs : List ℕ → ℕ → List ℕ → List ℕ → Offers → Type 0
 OffersAs l e b c NoOffers = (ask : List Offer → Ask) → offersCall ask (rest l (e + 1)) ≡ none

@@ -7,12 +7,13 @@ use mathlib.Core.Option.{Option, none, some}
 use native.Mathlib.Omega.{arith}
 use lib.ListN.{length}
 use Rattle.ident.specs.Words.{hashBytes}
-use Rattle.machine.specs.Call.{Ask, Call, On}
+use Rattle.machine.specs.Call.{Ask, On}
 use Rattle.lines.specs.Fields.{numberOf, rest}
 use Rattle.reading.specs.declared.hashes.ListAt.{ListAt}
 use Rattle.reading.specs.declared.hashes.ListAt.the-variants.{Not, Is}
 use Rattle.reading.specs.declared.hashes.Hashes.the-variants.{None, Are}
-use Rattle.reading.specs.Calls.{taking, ending, hashesThen, listCall}
+use Rattle.reading.specs.Line.{Line, Asks, taking, ending, hashesThen}
+use Rattle.reading.specs.Calls.{listCall}
 use Rattle.reading.specs.Given.{At, FieldRead, longestLine, mostHashes, storedBytes, hashesOf, HashesRead, ListAs, ListRead, HashesGiven}
 use Rattle.reading.proofs.Taking.{field-not, field-is, ending-end, ending-more}
 use Rattle.reading.proofs.Stored.{then-none, hashes-stored}
@@ -21,7 +22,7 @@ use Rattle.reading.proofs.Bytes.{too-many}
 -- ---- the list that was read
 
 module _ {l : List ℕ} {e n : ℕ} {b : List ℕ} {r : ListAt} (p : ListRead l e n b r) where
-  list-not : r ≡ Not → (k : List ℕ → List (List ℕ) → Option Call) → hashesThen n [] k (rest l (e + 1)) ≡ none
+  list-not : r ≡ Not → (k : List ℕ → List (List ℕ) → Option Line) → hashesThen n [] k (rest l (e + 1)) ≡ none
   list-not g = subst (ListAs l e n b) g (p .is)
 
   list-is : {to : ℕ} → r ≡ Is to → HashesRead l e n to n b
@@ -30,10 +31,10 @@ module _ {l : List ℕ} {e n : ℕ} {b : List ℕ} {r : ListAt} (p : ListRead l 
 -- ---- its count, the hashes, and nothing behind them
 
 module _ (ask : List ℕ → Ask) where
-  abbrev whole : List ℕ → List (List ℕ) → Option Call
-  whole hs fs = ending (some (On (ask hs))) fs
+  abbrev whole : List ℕ → List (List ℕ) → Option Line
+  whole hs fs = ending (some (Asks (On (ask hs)))) fs
 
-  abbrev behind-count : ℕ → List (List ℕ) → Option Call
+  abbrev behind-count : ℕ → List (List ℕ) → Option Line
   behind-count n fs = hashesThen n [] whole fs
 
 module _ {l : List ℕ} {e : ℕ} {o : Option (At ℕ)} (p : FieldRead numberOf l e o) where
@@ -66,4 +67,4 @@ module _ {l : List ℕ} {e : ℕ} {o : Option (At ℕ)} (p : FieldRead numberOf 
         more-fields m = record { is = λ ask. to-end ask ∙ ending-more l to _ m }
 
         pub hashes-are : length l ≤ to → n ≤ mostHashes → storedBytes ≤ length b → HashesGiven l e b (Are (n * hashBytes))
-        hashes-are m f s = record { is = record { inside = omega arith; is = λ ask. to-end ask ∙ ending-end l to _ m ∙ ap (λ (hs : List ℕ). some (On (ask hs))) (sym (hashes-stored n b f s)) } }
+        hashes-are m f s = record { is = record { inside = omega arith; is = λ ask. to-end ask ∙ ending-end l to _ m ∙ ap (λ (hs : List ℕ). some (Asks (On (ask hs)))) (sym (hashes-stored n b f s)) } }

@@ -6,9 +6,10 @@ use mathlib.Core.List.{List}
 use mathlib.Core.Option.{Option, none, some}
 use lib.ListN.{length}
 use borrow.Author.Tests.{le-leb, lt-leb}
-use Rattle.machine.specs.Call.{Call, Open}
+use Rattle.machine.specs.Call.{Open}
 use Rattle.lines.specs.Fields.{numberOf, rest}
-use Rattle.reading.specs.Calls.{mostAnnouncements, mostPlaces, taking, ending, opening, openOf}
+use Rattle.reading.specs.Calls.{mostAnnouncements, mostPlaces, opening, openOf}
+use Rattle.reading.specs.Line.{Line, Asks, taking, ending}
 use Rattle.reading.specs.Given.{At, FieldRead}
 use Rattle.reading.proofs.Taking.{field-not, field-is, ending-end, ending-more}
 
@@ -18,10 +19,10 @@ above-L L Q x = rw (lt-leb L mostAnnouncements x)
 above-Q : (L Q : ℕ) → L ≤ mostAnnouncements → mostPlaces < Q → opening L Q ≡ none
 above-Q L Q x y = rw (le-leb L mostAnnouncements x, lt-leb Q mostPlaces y)
 
-taken : (L Q : ℕ) → L ≤ mostAnnouncements → Q ≤ mostPlaces → opening L Q ≡ some (Open L Q)
+taken : (L Q : ℕ) → L ≤ mostAnnouncements → Q ≤ mostPlaces → opening L Q ≡ some (Asks (Open L Q))
 taken L Q x y = rw (le-leb L mostAnnouncements x, le-leb Q mostPlaces y)
 
-abbrev places : ℕ → List (List ℕ) → Option Call
+abbrev places : ℕ → List (List ℕ) → Option Line
 places L fs = taking numberOf (λ Q. ending (opening L Q)) fs
 
 module _ {l : List ℕ} {e : ℕ} {o : Option (At ℕ)} (p : FieldRead numberOf l e o) where
@@ -54,5 +55,5 @@ module _ {l : List ℕ} {e : ℕ} {o : Option (At ℕ)} (p : FieldRead numberOf 
         pub places-above : a .value ≤ mostAnnouncements → mostPlaces < b .value → none ≡ openOf (rest l (e + 1))
         places-above x y = sym (whole ∙ above-Q (a .value) (b .value) x y)
 
-        pub opening-is : a .value ≤ mostAnnouncements → b .value ≤ mostPlaces → some (Open (a .value) (b .value)) ≡ openOf (rest l (e + 1))
+        pub opening-is : a .value ≤ mostAnnouncements → b .value ≤ mostPlaces → some (Asks (Open (a .value) (b .value))) ≡ openOf (rest l (e + 1))
         opening-is x y = sym (whole ∙ taken (a .value) (b .value) x y)

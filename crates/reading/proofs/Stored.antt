@@ -16,10 +16,9 @@ use Rattle.regions.specs.Rows.{quadWords, quadNumber}
 use Rattle.words.specs.Words.{number, digits, recs, splice}
 use Rattle.words.proofs.Digits.{length-digits, number-digits, number-below}
 use Rattle.words.proofs.Records.{recs-add, recs-front, recs-take}
-use Rattle.machine.specs.Call.{Call}
 use Rattle.lists.specs.Lists.{hashesIn}
 use Rattle.lines.specs.Fields.{hashOf, rest}
-use Rattle.reading.specs.Calls.{taking, hashesThen}
+use Rattle.reading.specs.Line.{Line, taking, hashesThen}
 use Rattle.reading.specs.Given.{At, FieldRead, mostHashes, storedBytes, hashesOf, HashPut, HashesRead}
 use Rattle.reading.proofs.Taking.{field-not, field-is}
 
@@ -60,11 +59,11 @@ module _ (b : List ℕ) (i : ℕ) (g : i < mostHashes) (s : storedBytes ≤ leng
 
 -- ---- the loop over the fields
 
-then-next : (n : ℕ) (hs : List ℕ) (k : List ℕ → List (List ℕ) → Option Call) (fs : List (List ℕ)) → hashesThen (suc n) hs k fs ≡ taking hashOf (λ h. hashesThen n (hs ++ (h ∷ [])) k) fs
+then-next : (n : ℕ) (hs : List ℕ) (k : List ℕ → List (List ℕ) → Option Line) (fs : List (List ℕ)) → hashesThen (suc n) hs k fs ≡ taking hashOf (λ h. hashesThen n (hs ++ (h ∷ [])) k) fs
 unfolding hashesThen
 then-next n hs k fs = refl
 
-pub then-none : (hs : List ℕ) (k : List ℕ → List (List ℕ) → Option Call) (fs : List (List ℕ)) → hashesThen 0 hs k fs ≡ k hs fs
+pub then-none : (hs : List ℕ) (k : List ℕ → List (List ℕ) → Option Line) (fs : List (List ℕ)) → hashesThen 0 hs k fs ≡ k hs fs
 unfolding hashesThen
 then-none hs k fs = refl
 
@@ -73,10 +72,10 @@ unfolding recs
 none-read l e n b = record { is = λ k. let z : n - 0 ≡ n = omega arith in ap (λ (m : ℕ). hashesThen m [] k (rest l (e + 1))) (sym z) }
 
 module _ {l : List ℕ} {e n to i : ℕ} {b : List ℕ} (r : HashesRead l e n to i b) (g : i < n) {o : Option (At ℕ)} (p : FieldRead hashOf l to o) where
-  here : (k : List ℕ → List (List ℕ) → Option Call) → hashesThen n [] k (rest l (e + 1)) ≡ taking hashOf (λ h. hashesThen (n - (i + 1)) (hashesOf i b ++ (h ∷ [])) k) (rest l (to + 1))
+  here : (k : List ℕ → List (List ℕ) → Option Line) → hashesThen n [] k (rest l (e + 1)) ≡ taking hashOf (λ h. hashesThen (n - (i + 1)) (hashesOf i b ++ (h ∷ [])) k) (rest l (to + 1))
   here k = let m : n - i ≡ suc (n - (i + 1)) = omega arith in r .is k ∙ ap (λ (j : ℕ). hashesThen j (hashesOf i b) k (rest l (to + 1))) m ∙ then-next (n - (i + 1)) (hashesOf i b) k (rest l (to + 1))
 
-  pub no-hash : o ≡ none → (k : List ℕ → List (List ℕ) → Option Call) → hashesThen n [] k (rest l (e + 1)) ≡ none
+  pub no-hash : o ≡ none → (k : List ℕ → List (List ℕ) → Option Line) → hashesThen n [] k (rest l (e + 1)) ≡ none
   no-hash z k = here k ∙ field-not p _ z
 
   pub one-more : {a : At ℕ} {b′ : List ℕ} → o ≡ some a → HashPut b b′ i (a .value) → HashesRead l e n (a .end) (i + 1) b′

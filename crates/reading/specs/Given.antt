@@ -10,11 +10,12 @@ use Rattle.ident.specs.Number.{Key, Item}
 use Rattle.ident.specs.Words.{hashBytes}
 use Rattle.words.specs.Words.{number, recs}
 use Rattle.regions.specs.Rows.{quadNumber}
-use Rattle.machine.specs.Call.{Ask, Sum, Call, Open, On}
+use Rattle.machine.specs.Call.{Ask, Sum, Open, On}
 use Rattle.lists.specs.Lists.{hashesIn}
 use Rattle.lines.specs.Fields.{rest}
 use Rattle.reading.specs.declared.calls.Asked.{Asked}
 use Rattle.reading.specs.declared.calls.Asked.the-variants.{Unreadable, Opening, Summing, Leaving, Offers, Number, Keys as KeysAsked, Hashes as HashesAsked}
+use Rattle.reading.specs.declared.calls.Asked.the-variants.{Planning, Wanting, Missing, Taking, Sending, Parting}
 use Rattle.reading.specs.declared.fields.NumberAt.{NumberAt}
 use Rattle.reading.specs.declared.fields.NumberAt.the-variants.{Not as NoNumber, Is as IsNumber}
 use Rattle.reading.specs.declared.fields.BoolAt.{BoolAt}
@@ -32,7 +33,9 @@ use Rattle.reading.specs.declared.hashes.ListAt.{ListAt}
 use Rattle.reading.specs.declared.hashes.ListAt.the-variants.{Not as NoList, Is as IsList}
 use Rattle.reading.specs.declared.hashes.Hashes.{Hashes}
 use Rattle.reading.specs.declared.hashes.Hashes.the-variants.{None as NoHashes, Are as AreHashes}
-use Rattle.reading.specs.Calls.{taking, hashesThen, Values, blank, Then, plainThen, fieldThen, formThen, numberAsk, keysAsk, leaveAsk, inventoryAsk, offersCall, hashesAsk, listCall}
+use Rattle.reading.specs.Line.{Line, Asks, Take, Part, taking, hashesThen}
+use Rattle.reading.specs.Forms.{Values, blank, Then, plainThen, fieldThen, formThen}
+use Rattle.reading.specs.Calls.{numberAsk, keysAsk, leaveAsk, inventoryAsk, offersCall, hashesAsk, listCall, planAsk, wantAsk, keyListCall, missingAsk, itemListCall, sendLine}
 
 -- ---- fields
 
@@ -62,13 +65,13 @@ itemAt NoItem = none
 itemAt (IsItem k q e) = some (record { value = record { kind = k; hash = quadNumber q }; end = e })
 
 -- what k makes of the value and of the fields behind it
-abbrev pub thenOf : {A : Type 0} → List ℕ → (A → List (List ℕ) → Option Call) → Option (At A) → Option Call
+abbrev pub thenOf : {A : Type 0} → List ℕ → (A → List (List ℕ) → Option Line) → Option (At A) → Option Line
 thenOf l k none = none
 thenOf l k (some a) = k (a .value) (rest l (a .end + 1))
 
 -- the field behind the comma at index e, which `read` says to be o
 pub record FieldRead {A : Type 0} (read : List ℕ → Option A) (l : List ℕ) (e : ℕ) (o : Option (At A)) : Type 0 where
-  pub is : (k : A → List (List ℕ) → Option Call) → taking read k (rest l (e + 1)) ≡ thenOf l k o
+  pub is : (k : A → List (List ℕ) → Option Line) → taking read k (rest l (e + 1)) ≡ thenOf l k o
 
 -- ---- forms
 
@@ -87,7 +90,7 @@ valuesOf v = record {
 }
 
 -- what k makes of the values and of the fields behind them
-abbrev pub thenValues : List ℕ → Then → ValuesAt → Option Call
+abbrev pub thenValues : List ℕ → Then → ValuesAt → Option Line
 thenValues l k NoValues = none
 thenValues l k (IsValues v e) = k (valuesOf v) (rest l (e + 1))
 
@@ -125,10 +128,10 @@ pub record HashPut (b b′ : List ℕ) (i h : ℕ) : Type 0 where
 
 -- i hashes of the n behind the comma at index e, of which the last field ends at index to, stand in the bytes
 pub record HashesRead (l : List ℕ) (e n to i : ℕ) (b : List ℕ) : Type 0 where
-  pub is : (k : List ℕ → List (List ℕ) → Option Call) → hashesThen n [] k (rest l (e + 1)) ≡ hashesThen (n - i) (hashesOf i b) k (rest l (to + 1))
+  pub is : (k : List ℕ → List (List ℕ) → Option Line) → hashesThen n [] k (rest l (e + 1)) ≡ hashesThen (n - i) (hashesOf i b) k (rest l (to + 1))
 
 abbrev pub ListAs : List ℕ → ℕ → ℕ → List ℕ → ListAt → Type 0
-ListAs l e n b NoList = (k : List ℕ → List (List ℕ) → Option Call) → hashesThen n [] k (rest l (e + 1)) ≡ none
+ListAs l e n b NoList = (k : List ℕ → List (List ℕ) → Option Line) → hashesThen n [] k (rest l (e + 1)) ≡ none
 ListAs l e n b (IsList to) = HashesRead l e n to n b
 
 -- the n hashes behind the comma at index e
@@ -138,7 +141,7 @@ pub record ListRead (l : List ℕ) (e n : ℕ) (b : List ℕ) (r : ListAt) : Typ
 -- the list behind the comma at index e stands in the first m bytes of b
 pub record HashesHeld (l : List ℕ) (e : ℕ) (b : List ℕ) (m : ℕ) : Type 0 where
   pub inside : m ≤ storedBytes
-  pub is : (ask : List ℕ → Ask) → listCall ask (rest l (e + 1)) ≡ some (On (ask (hashesIn (take m b))))
+  pub is : (ask : List ℕ → Ask) → listCall ask (rest l (e + 1)) ≡ some (Asks (On (ask (hashesIn (take m b)))))
 
 abbrev pub HashesAs : List ℕ → ℕ → List ℕ → Hashes → Type 0
 HashesAs l e b NoHashes = (ask : List ℕ → Ask) → listCall ask (rest l (e + 1)) ≡ none
@@ -147,15 +150,21 @@ HashesAs l e b (AreHashes m) = HashesHeld l e b m
 pub record HashesGiven (l : List ℕ) (e : ℕ) (b : List ℕ) (r : Hashes) : Type 0 where
   pub is : HashesAs l e b r
 
--- ---- calls
+-- ---- lines
 
 -- what the line l asks for
-abbrev pub askedCall : List ℕ → Asked → Option Call
-askedCall l Unreadable = none
-askedCall l (Opening L Q) = some (Open L Q)
-askedCall l Summing = some (On Sum)
-askedCall l (Leaving v) = some (On (leaveAsk (valuesOf v)))
-askedCall l (Offers v e) = offersCall (inventoryAsk (valuesOf v)) (rest l (e + 1))
-askedCall l (Number w v) = some (On (numberAsk w (valuesOf v)))
-askedCall l (KeysAsked w v) = some (On (keysAsk w (valuesOf v)))
-askedCall l (HashesAsked w v e) = listCall (hashesAsk w (valuesOf v)) (rest l (e + 1))
+abbrev pub askedLine : List ℕ → Asked → Option Line
+askedLine l Unreadable = none
+askedLine l (Opening L Q) = some (Asks (Open L Q))
+askedLine l Summing = some (Asks (On Sum))
+askedLine l (Leaving v) = some (Asks (On (leaveAsk (valuesOf v))))
+askedLine l (Offers v e) = offersCall (inventoryAsk (valuesOf v)) (rest l (e + 1))
+askedLine l (Planning v) = some (Asks (On (planAsk (valuesOf v))))
+askedLine l (Wanting v e) = keyListCall (wantAsk (valuesOf v)) (rest l (e + 1))
+askedLine l (Missing v e) = itemListCall (missingAsk (valuesOf v)) (rest l (e + 1))
+askedLine l (Taking v) = some (Take ((valuesOf v) .now))
+askedLine l (Sending e) = sendLine (rest l (e + 1))
+askedLine l (Parting v) = some (Part ((valuesOf v) .connection))
+askedLine l (Number w v) = some (Asks (On (numberAsk w (valuesOf v))))
+askedLine l (KeysAsked w v) = some (Asks (On (keysAsk w (valuesOf v))))
+askedLine l (HashesAsked w v e) = listCall (hashesAsk w (valuesOf v)) (rest l (e + 1))

@@ -1,2 +1,5 @@
+pub mod Line
+pub mod Forms
+pub mod Words
 pub mod Calls
 pub mod Given

@@ -1,11 +1,13 @@
-// Lines as calls.
+// What lines ask for.
 ghost use mathlib.Core.Path.{_≡_};
 ghost use mathlib.Core.Option.{some};
 ghost use Prim.Native.Nat.{_+_};
 ghost use Rattle.lines.specs.Fields.{rest};
 ghost use Rattle.machine.specs.Call.{On, Sum};
-ghost use Rattle.reading.specs.Calls.{openOf, ending, numberForm, numberCall, keysForm, keysCall, leaveCall, inventoryCall, hashesForm, hashesCall, callWith, callOf};
-ghost use Rattle.reading.specs.Given.{FormRead, askedCall};
+ghost use Rattle.reading.specs.Calls.{openOf, numberForm, numberCall, keysForm, keysCall, leaveCall, inventoryCall, hashesForm, hashesCall};
+ghost use Rattle.reading.specs.Calls.{planLine, wantLine, takeLine, missingLine, partLine, lineWith, lineOf};
+ghost use Rattle.reading.specs.Line.{Asks, ending};
+ghost use Rattle.reading.specs.Given.{FormRead, askedLine};
 use crate::fields::NumberAt;
 use crate::fields::number_at;
 use crate::forms::Values;
@@ -23,6 +25,12 @@ pub enum Asked {
     Summing,
     Leaving(Values),
     Offers(Values, usize),
+    Planning(Values),
+    Wanting(Values, usize),
+    Missing(Values, usize),
+    Taking(Values),
+    Sending(usize),
+    Parting(Values),
     Number(NumberWord, Values),
     Keys(KeysWord, Values),
     Hashes(HashesWord, Values, usize),
@@ -30,7 +38,7 @@ pub enum Asked {
 
 // An opening, whose fields stand behind the comma at index e.
 fn opening(line: &[u8], e: usize) -> Asked
-    ensures { λ r. ⌜ askedCall (now (line .entry)) r ≡ openOf (rest (now (line .entry)) (e + 1)) ⌝ }
+    ensures { λ r. ⌜ askedLine (now (line .entry)) r ≡ openOf (rest (now (line .entry)) (e + 1)) ⌝ }
 {
     let NumberAt::Is(l, to) = number_at(line, e) else {
         return Asked::Unreadable;
@@ -51,7 +59,7 @@ fn opening(line: &[u8], e: usize) -> Asked
 }
 
 fn summing(line: &[u8], e: usize) -> Asked
-    ensures { λ r. ⌜ askedCall (now (line .entry)) r ≡ ending (some (On Sum)) (rest (now (line .entry)) (e + 1)) ⌝ }
+    ensures { λ r. ⌜ askedLine (now (line .entry)) r ≡ ending (some (Asks (On Sum))) (rest (now (line .entry)) (e + 1)) ⌝ }
 {
     if e < line.len() {
         return Asked::Unreadable;
@@ -79,7 +87,7 @@ fn number_values(line: &[u8], e: usize, w: NumberWord) -> ValuesAt
 }
 
 fn number_call(line: &[u8], e: usize, w: NumberWord) -> Asked
-    ensures { λ r. ⌜ askedCall (now (line .entry)) r ≡ numberCall w (rest (now (line .entry)) (e + 1)) ⌝ }
+    ensures { λ r. ⌜ askedLine (now (line .entry)) r ≡ numberCall w (rest (now (line .entry)) (e + 1)) ⌝ }
 {
     let ValuesAt::Is(v, end) = number_values(line, e, w) else {
         return Asked::Unreadable;
@@ -101,7 +109,7 @@ fn keys_values(line: &[u8], e: usize, w: KeysWord) -> ValuesAt
 }
 
 fn keys_call(line: &[u8], e: usize, w: KeysWord) -> Asked
-    ensures { λ r. ⌜ askedCall (now (line .entry)) r ≡ keysCall w (rest (now (line .entry)) (e + 1)) ⌝ }
+    ensures { λ r. ⌜ askedLine (now (line .entry)) r ≡ keysCall w (rest (now (line .entry)) (e + 1)) ⌝ }
 {
     let ValuesAt::Is(v, end) = keys_values(line, e, w) else {
         return Asked::Unreadable;
@@ -113,7 +121,7 @@ fn keys_call(line: &[u8], e: usize, w: KeysWord) -> Asked
 }
 
 fn leave_call(line: &[u8], e: usize) -> Asked
-    ensures { λ r. ⌜ askedCall (now (line .entry)) r ≡ leaveCall (rest (now (line .entry)) (e + 1)) ⌝ }
+    ensures { λ r. ⌜ askedLine (now (line .entry)) r ≡ leaveCall (rest (now (line .entry)) (e + 1)) ⌝ }
 {
     let ValuesAt::Is(v, end) = read_form(line, e, b"cn") else {
         return Asked::Unreadable;
@@ -125,7 +133,7 @@ fn leave_call(line: &[u8], e: usize) -> Asked
 }
 
 fn inventory_call(line: &[u8], e: usize) -> Asked
-    ensures { λ r. ⌜ askedCall (now (line .entry)) r ≡ inventoryCall (rest (now (line .entry)) (e + 1)) ⌝ }
+    ensures { λ r. ⌜ askedLine (now (line .entry)) r ≡ inventoryCall (rest (now (line .entry)) (e + 1)) ⌝ }
 {
     let ValuesAt::Is(v, end) = read_form(line, e, b"cnps") else {
         return Asked::Unreadable;
@@ -146,7 +154,7 @@ fn hashes_values(line: &[u8], e: usize, w: HashesWord) -> ValuesAt
 }
 
 fn hashes_call(line: &[u8], e: usize, w: HashesWord) -> Asked
-    ensures { λ r. ⌜ askedCall (now (line .entry)) r ≡ hashesCall w (rest (now (line .entry)) (e + 1)) ⌝ }
+    ensures { λ r. ⌜ askedLine (now (line .entry)) r ≡ hashesCall w (rest (now (line .entry)) (e + 1)) ⌝ }
 {
     let ValuesAt::Is(v, end) = hashes_values(line, e, w) else {
         return Asked::Unreadable;
@@ -154,9 +162,63 @@ fn hashes_call(line: &[u8], e: usize, w: HashesWord) -> Asked
     Asked::Hashes(w, v, end)
 }
 
-// The call of a word, whose fields stand behind the comma at index e.
+fn plan_line(line: &[u8], e: usize) -> Asked
+    ensures { λ r. ⌜ askedLine (now (line .entry)) r ≡ planLine (rest (now (line .entry)) (e + 1)) ⌝ }
+{
+    let ValuesAt::Is(v, end) = read_form(line, e, b"n") else {
+        return Asked::Unreadable;
+    };
+    if end < line.len() {
+        return Asked::Unreadable;
+    }
+    Asked::Planning(v)
+}
+
+fn want_line(line: &[u8], e: usize) -> Asked
+    ensures { λ r. ⌜ askedLine (now (line .entry)) r ≡ wantLine (rest (now (line .entry)) (e + 1)) ⌝ }
+{
+    let ValuesAt::Is(v, end) = read_form(line, e, b"n") else {
+        return Asked::Unreadable;
+    };
+    Asked::Wanting(v, end)
+}
+
+fn take_line(line: &[u8], e: usize) -> Asked
+    ensures { λ r. ⌜ askedLine (now (line .entry)) r ≡ takeLine (rest (now (line .entry)) (e + 1)) ⌝ }
+{
+    let ValuesAt::Is(v, end) = read_form(line, e, b"n") else {
+        return Asked::Unreadable;
+    };
+    if end < line.len() {
+        return Asked::Unreadable;
+    }
+    Asked::Taking(v)
+}
+
+fn missing_line(line: &[u8], e: usize) -> Asked
+    ensures { λ r. ⌜ askedLine (now (line .entry)) r ≡ missingLine (rest (now (line .entry)) (e + 1)) ⌝ }
+{
+    let ValuesAt::Is(v, end) = read_form(line, e, b"cn") else {
+        return Asked::Unreadable;
+    };
+    Asked::Missing(v, end)
+}
+
+fn part_line(line: &[u8], e: usize) -> Asked
+    ensures { λ r. ⌜ askedLine (now (line .entry)) r ≡ partLine (rest (now (line .entry)) (e + 1)) ⌝ }
+{
+    let ValuesAt::Is(v, end) = read_form(line, e, b"c") else {
+        return Asked::Unreadable;
+    };
+    if end < line.len() {
+        return Asked::Unreadable;
+    }
+    Asked::Parting(v)
+}
+
+// The line of a word, whose fields stand behind the comma at index e.
 fn call_with(line: &[u8], e: usize, w: Word) -> Asked
-    ensures { λ r. ⌜ askedCall (now (line .entry)) r ≡ callWith w (rest (now (line .entry)) (e + 1)) ⌝ }
+    ensures { λ r. ⌜ askedLine (now (line .entry)) r ≡ lineWith w (rest (now (line .entry)) (e + 1)) ⌝ }
 {
     match w {
         Word::None => Asked::Unreadable,
@@ -164,15 +226,21 @@ fn call_with(line: &[u8], e: usize, w: Word) -> Asked
         Word::Sum => summing(line, e),
         Word::Leave => leave_call(line, e),
         Word::Inventory => inventory_call(line, e),
+        Word::Plan => plan_line(line, e),
+        Word::Want => want_line(line, e),
+        Word::Take => take_line(line, e),
+        Word::Missing => missing_line(line, e),
+        Word::Send => Asked::Sending(e),
+        Word::Part => part_line(line, e),
         Word::Number(x) => number_call(line, e, x),
         Word::Keys(x) => keys_call(line, e, x),
         Word::Hashes(x) => hashes_call(line, e, x),
     }
 }
 
-// The call that a line is.
+// What a line asks for.
 pub fn call_of(line: &[u8]) -> Asked
-    ensures { λ r. ⌜ askedCall (now (line .entry)) r ≡ callOf (now (line .entry)) ⌝ }
+    ensures { λ r. ⌜ askedLine (now (line .entry)) r ≡ lineOf (now (line .entry)) ⌝ }
 {
     let e = lines::read::field_end(line, 0);
     let w = crate::vocabulary::word_of(&line[..e]);

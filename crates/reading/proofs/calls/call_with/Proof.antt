@@ -35,6 +35,39 @@ enum-told-5 c = search needs
 inventory-call-requires : tie.Need-inventory-call-requires
 inventory-call-requires c κs = search needs
 
+enum-told-6 : tie.Need-enum-told-6
+enum-told-6 c = search needs
+
+plan-line-requires : tie.Need-plan-line-requires
+plan-line-requires c κs = search needs
+
+enum-told-7 : tie.Need-enum-told-7
+enum-told-7 c = search needs
+
+want-line-requires : tie.Need-want-line-requires
+want-line-requires c κs = search needs
+
+enum-told-8 : tie.Need-enum-told-8
+enum-told-8 c = search needs
+
+take-line-requires : tie.Need-take-line-requires
+take-line-requires c κs = search needs
+
+enum-told-9 : tie.Need-enum-told-9
+enum-told-9 c = search needs
+
+missing-line-requires : tie.Need-missing-line-requires
+missing-line-requires c κs = search needs
+
+enum-told-10 : tie.Need-enum-told-10
+enum-told-10 c = search needs
+
+enum-told-11 : tie.Need-enum-told-11
+enum-told-11 c = search needs
+
+part-line-requires : tie.Need-part-line-requires
+part-line-requires c κs = search needs
+
 enum-known-w : tie.Need-enum-known-w
 enum-known-w c = search needs
 
@@ -69,13 +102,31 @@ returns-5 : tie.Need-returns-5
 returns-5 c = with-word (rest (c .before .before .before .before .args .line .now) (c .before .before .before .before .args .e + 1)) (c .before .enum-told5 .given .1) (c .inventory-call .ensures)
 
 returns-6 : tie.Need-returns-6
-returns-6 c = with-word (rest (c .before .before .before .before .before .args .line .now) (c .before .before .before .before .before .args .e + 1)) (c .before .before .w .given .1) (c .number-call .ensures)
+returns-6 c = with-word (rest (c .before .before .before .before .args .line .now) (c .before .before .before .before .args .e + 1)) (c .before .enum-told6 .given .1) (c .plan-line .ensures)
 
 returns-7 : tie.Need-returns-7
-returns-7 c = with-word (rest (c .before .before .before .before .before .args .line .now) (c .before .before .before .before .before .args .e + 1)) (c .before .before .w2 .given .1) (c .keys-call .ensures)
+returns-7 c = with-word (rest (c .before .before .before .before .args .line .now) (c .before .before .before .before .args .e + 1)) (c .before .enum-told7 .given .1) (c .want-line .ensures)
 
 returns-8 : tie.Need-returns-8
-returns-8 c = with-word (rest (c .before .before .before .before .before .args .line .now) (c .before .before .before .before .before .args .e + 1)) (c .before .before .w3 .given .1) (c .hashes-call .ensures)
+returns-8 c = with-word (rest (c .before .before .before .before .args .line .now) (c .before .before .before .before .args .e + 1)) (c .before .enum-told8 .given .1) (c .take-line .ensures)
+
+returns-9 : tie.Need-returns-9
+returns-9 c = with-word (rest (c .before .before .before .before .args .line .now) (c .before .before .before .before .args .e + 1)) (c .before .enum-told9 .given .1) (c .missing-line .ensures)
+
+returns-10 : tie.Need-returns-10
+returns-10 c = with-word (rest (c .before .before .before .args .line .now) (c .before .before .before .args .e + 1)) (c .enum-told10 .given .1) refl
+
+returns-11 : tie.Need-returns-11
+returns-11 c = with-word (rest (c .before .before .before .before .args .line .now) (c .before .before .before .before .args .e + 1)) (c .before .enum-told11 .given .1) (c .part-line .ensures)
+
+returns-12 : tie.Need-returns-12
+returns-12 c = with-word (rest (c .before .before .before .before .before .args .line .now) (c .before .before .before .before .before .args .e + 1)) (c .before .before .w .given .1) (c .number-call .ensures)
+
+returns-13 : tie.Need-returns-13
+returns-13 c = with-word (rest (c .before .before .before .before .before .args .line .now) (c .before .before .before .before .before .args .e + 1)) (c .before .before .w2 .given .1) (c .keys-call .ensures)
+
+returns-14 : tie.Need-returns-14
+returns-14 c = with-word (rest (c .before .before .before .before .before .args .line .now) (c .before .before .before .before .before .args .e + 1)) (c .before .before .w3 .given .1) (c .hashes-call .ensures)
 
 pub call-with-spec : {M : Type 1} → statement M
 call-with-spec =
@@ -90,6 +141,17 @@ call-with-spec =
     leave-call-requires
     enum-told-5
     inventory-call-requires
+    enum-told-6
+    plan-line-requires
+    enum-told-7
+    want-line-requires
+    enum-told-8
+    take-line-requires
+    enum-told-9
+    missing-line-requires
+    enum-told-10
+    enum-told-11
+    part-line-requires
     enum-known-w
     number-call-requires
     enum-known-w-2
@@ -103,4 +165,10 @@ call-with-spec =
     returns-5
     returns-6
     returns-7
-    returns-8)
+    returns-8
+    returns-9
+    returns-10
+    returns-11
+    returns-12
+    returns-13
+    returns-14)

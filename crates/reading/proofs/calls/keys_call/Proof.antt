@@ -1,5 +1,7 @@
 -- `reading::calls::keys_call` meets its contract.
 -- Assumes nothing.
+use Rattle.machine.specs.Call.{On}
+use Rattle.reading.specs.Line.{Asks}
 use Rattle.reading.specs.Calls.{keysAsk, keysCall}
 use Rattle.reading.proofs.Filling.{form-not, form-longer, form-is}
 use borrow.Author.Needs.{needs}
@@ -17,15 +19,15 @@ enum-told c = search needs
 
 returns : tie.Need-returns
 unfolding keysCall
-returns c = form-not (c .before .before .keys-values .ensures) (keysAsk (c .before .before .before .before .args .w)) (c .enum-told .given .1)
+returns c = form-not (c .before .before .keys-values .ensures) (λ v. Asks (On (keysAsk (c .before .before .before .before .args .w) v))) (c .enum-told .given .1)
 
 returns-2 : tie.Need-returns-2
 unfolding keysCall
-returns-2 c = form-longer (c .before .before .before .before .keys-values .ensures) (keysAsk (c .before .before .before .before .before .before .args .w)) (c .before .before .v .given .1) (c .if1 .taken)
+returns-2 c = form-longer (c .before .before .before .before .keys-values .ensures) (λ v. Asks (On (keysAsk (c .before .before .before .before .before .before .args .w) v))) (c .before .before .v .given .1) (c .if1 .taken)
 
 returns-3 : tie.Need-returns-3
 unfolding keysCall
-returns-3 c = form-is (c .before .before .before .before .keys-values .ensures) (keysAsk (c .before .before .before .before .before .before .args .w)) (c .before .before .v .given .1) (c .if1 .left)
+returns-3 c = form-is (c .before .before .before .before .keys-values .ensures) (λ v. Asks (On (keysAsk (c .before .before .before .before .before .before .args .w) v))) (c .before .before .v .given .1) (c .if1 .left)
 
 pub keys-call-spec : {M : Type 1} → statement M
 keys-call-spec =

@@ -1,5 +1,7 @@
 -- `reading::calls::leave_call` meets its contract.
 -- Assumes nothing.
+use Rattle.machine.specs.Call.{On}
+use Rattle.reading.specs.Line.{Asks}
 use Rattle.reading.specs.Calls.{leaveAsk, leaveCall}
 use Rattle.reading.proofs.Filling.{form-not, form-longer, form-is}
 use borrow.Author.Needs.{needs}
@@ -20,15 +22,15 @@ enum-told c = search needs
 
 returns : tie.Need-returns
 unfolding leaveCall
-returns c = form-not (c .before .before .read-form .ensures) leaveAsk (c .enum-told .given .1)
+returns c = form-not (c .before .before .read-form .ensures) (λ v. Asks (On (leaveAsk v))) (c .enum-told .given .1)
 
 returns-2 : tie.Need-returns-2
 unfolding leaveCall
-returns-2 c = form-longer (c .before .before .before .before .read-form .ensures) leaveAsk (c .before .before .v .given .1) (c .if1 .taken)
+returns-2 c = form-longer (c .before .before .before .before .read-form .ensures) (λ v. Asks (On (leaveAsk v))) (c .before .before .v .given .1) (c .if1 .taken)
 
 returns-3 : tie.Need-returns-3
 unfolding leaveCall
-returns-3 c = form-is (c .before .before .before .before .read-form .ensures) leaveAsk (c .before .before .v .given .1) (c .if1 .left)
+returns-3 c = form-is (c .before .before .before .before .read-form .ensures) (λ v. Asks (On (leaveAsk v))) (c .before .before .v .given .1) (c .if1 .left)
 
 pub leave-call-spec : {M : Type 1} → statement M
 leave-call-spec =

@@ -1,113 +1,68 @@
 -- `reading::vocabulary::hashes_word` meets its contract.
 -- Assumes nothing.
-use Rattle.reading.specs.Calls.{hashesWord}
-use mathlib.Core.Path.{sym, _∙_}
+use Rattle.reading.specs.Words.{hashesWord}
 use borrow.Author.Needs.{needs}
 use Rattle.reading.proofs.vocabulary.hashes_word.Statement.{statement}
 use Rattle.reading.proofs.vocabulary.hashes_word.Tie as tie
 
-slice-aggregate-same : tie.Need-slice-aggregate-same
-slice-aggregate-same c = search needs
+plan-word-requires : tie.Need-plan-word-requires
+plan-word-requires c κs = search needs
 
-same-requires : tie.Need-same-requires
-same-requires c κs = search needs
+slice-aggregate-named : tie.Need-slice-aggregate-named
+slice-aggregate-named c = search needs
+
+named-requires : tie.Need-named-requires
+named-requires c κs = search needs
+
+slice-aggregate-named-2 : tie.Need-slice-aggregate-named-2
+slice-aggregate-named-2 c = search needs
+
+named-requires-2 : tie.Need-named-requires-2
+named-requires-2 c κs = search needs
+
+slice-aggregate-named-3 : tie.Need-slice-aggregate-named-3
+slice-aggregate-named-3 c = search needs
+
+named-requires-3 : tie.Need-named-requires-3
+named-requires-3 c κs = search needs
+
+slice-aggregate-named-4 : tie.Need-slice-aggregate-named-4
+slice-aggregate-named-4 c = search needs
+
+named-requires-4 : tie.Need-named-requires-4
+named-requires-4 c κs = search needs
+
+slice-aggregate-named-5 : tie.Need-slice-aggregate-named-5
+slice-aggregate-named-5 c = search needs
+
+named-requires-5 : tie.Need-named-requires-5
+named-requires-5 c κs = search needs
 
 returns : tie.Need-returns
 unfolding hashesWord
 returns c =
-    rw
-    (← (sym (c .if1 .taken) ∙ c .before .same .ensures))
-
-slice-aggregate-same-2 : tie.Need-slice-aggregate-same-2
-slice-aggregate-same-2 c = search needs
-
-same-requires-2 : tie.Need-same-requires-2
-same-requires-2 c κs = search needs
-
-returns-2 : tie.Need-returns-2
-unfolding hashesWord
-returns-2 c =
     rw (
-      ← (sym (c .before .before .before .if1 .left) ∙ c .before .before .before .before .same .ensures),
-      ← (sym (c .if2 .taken) ∙ c .before .same2 .ensures),
-    )
-
-slice-aggregate-same-3 : tie.Need-slice-aggregate-same-3
-slice-aggregate-same-3 c = search needs
-
-same-requires-3 : tie.Need-same-requires-3
-same-requires-3 c κs = search needs
-
-returns-3 : tie.Need-returns-3
-unfolding hashesWord
-returns-3 c =
-    rw (
-      ← (sym (c .before .before .before .before .before .before .if1 .left) ∙ c .before .before .before .before .before .before .before .same .ensures),
-      ← (sym (c .before .before .before .if2 .left) ∙ c .before .before .before .before .same2 .ensures),
-      ← (sym (c .if3 .taken) ∙ c .before .same3 .ensures),
-    )
-
-slice-aggregate-same-4 : tie.Need-slice-aggregate-same-4
-slice-aggregate-same-4 c = search needs
-
-same-requires-4 : tie.Need-same-requires-4
-same-requires-4 c κs = search needs
-
-returns-4 : tie.Need-returns-4
-unfolding hashesWord
-returns-4 c =
-    rw (
-      ← (sym (c .before .before .before .before .before .before .before .before .before .if1 .left) ∙ c .before .before .before .before .before .before .before .before .before .before .same .ensures),
-      ← (sym (c .before .before .before .before .before .before .if2 .left) ∙ c .before .before .before .before .before .before .before .same2 .ensures),
-      ← (sym (c .before .before .before .if3 .left) ∙ c .before .before .before .before .same3 .ensures),
-      ← (sym (c .if4 .taken) ∙ c .before .same4 .ensures),
-    )
-
-slice-aggregate-same-5 : tie.Need-slice-aggregate-same-5
-slice-aggregate-same-5 c = search needs
-
-same-requires-5 : tie.Need-same-requires-5
-same-requires-5 c κs = search needs
-
-returns-5 : tie.Need-returns-5
-unfolding hashesWord
-returns-5 c =
-    rw (
-      ← (sym (c .before .before .before .before .before .before .before .before .before .before .before .before .if1 .left) ∙ c .before .before .before .before .before .before .before .before .before .before .before .before .before .same .ensures),
-      ← (sym (c .before .before .before .before .before .before .before .before .before .if2 .left) ∙ c .before .before .before .before .before .before .before .before .before .before .same2 .ensures),
-      ← (sym (c .before .before .before .before .before .before .if3 .left) ∙ c .before .before .before .before .before .before .before .same3 .ensures),
-      ← (sym (c .before .before .before .if4 .left) ∙ c .before .before .before .before .same4 .ensures),
-      ← (sym (c .if5 .taken) ∙ c .before .same5 .ensures),
-    )
-
-returns-6 : tie.Need-returns-6
-unfolding hashesWord
-returns-6 c =
-    rw (
-      ← (sym (c .before .before .before .before .before .before .before .before .before .before .before .before .if1 .left) ∙ c .before .before .before .before .before .before .before .before .before .before .before .before .before .same .ensures),
-      ← (sym (c .before .before .before .before .before .before .before .before .before .if2 .left) ∙ c .before .before .before .before .before .before .before .before .before .before .same2 .ensures),
-      ← (sym (c .before .before .before .before .before .before .if3 .left) ∙ c .before .before .before .before .before .before .before .same3 .ensures),
-      ← (sym (c .before .before .before .if4 .left) ∙ c .before .before .before .before .same4 .ensures),
-      ← (sym (c .if5 .left) ∙ c .before .same5 .ensures),
+      c .named5 .ensures,
+      c .before .before .named4 .ensures,
+      c .before .before .before .before .named3 .ensures,
+      c .before .before .before .before .before .before .named2 .ensures,
+      c .before .before .before .before .before .before .before .before .named .ensures,
+      c .before .before .before .before .before .before .before .before .before .before .plan-word .ensures,
     )
 
 pub hashes-word-spec : {M : Type 1} → statement M
 hashes-word-spec =
     tie.close
     (tie.spec
-    slice-aggregate-same
-    same-requires
-    returns
-    slice-aggregate-same-2
-    same-requires-2
-    returns-2
-    slice-aggregate-same-3
-    same-requires-3
-    returns-3
-    slice-aggregate-same-4
-    same-requires-4
-    returns-4
-    slice-aggregate-same-5
-    same-requires-5
-    returns-5
-    returns-6)
+    plan-word-requires
+    slice-aggregate-named
+    named-requires
+    slice-aggregate-named-2
+    named-requires-2
+    slice-aggregate-named-3
+    named-requires-3
+    slice-aggregate-named-4
+    named-requires-4
+    slice-aggregate-named-5
+    named-requires-5
+    returns)

@@ -1,118 +1,68 @@
 -- `reading::vocabulary::request_word` meets its contract.
 -- Assumes nothing.
-use Rattle.reading.specs.Calls.{requestWord}
-use mathlib.Core.Path.{sym, _∙_}
+use Rattle.reading.specs.Words.{requestWord}
 use borrow.Author.Needs.{needs}
 use Rattle.reading.proofs.vocabulary.request_word.Statement.{statement}
 use Rattle.reading.proofs.vocabulary.request_word.Tie as tie
 
-slice-aggregate-same : tie.Need-slice-aggregate-same
-slice-aggregate-same c = search needs
+package-word-requires : tie.Need-package-word-requires
+package-word-requires c κs = search needs
 
-same-requires : tie.Need-same-requires
-same-requires c κs = search needs
+slice-aggregate-named : tie.Need-slice-aggregate-named
+slice-aggregate-named c = search needs
+
+named-requires : tie.Need-named-requires
+named-requires c κs = search needs
+
+slice-aggregate-named-2 : tie.Need-slice-aggregate-named-2
+slice-aggregate-named-2 c = search needs
+
+named-requires-2 : tie.Need-named-requires-2
+named-requires-2 c κs = search needs
+
+slice-aggregate-named-3 : tie.Need-slice-aggregate-named-3
+slice-aggregate-named-3 c = search needs
+
+named-requires-3 : tie.Need-named-requires-3
+named-requires-3 c κs = search needs
+
+slice-aggregate-named-4 : tie.Need-slice-aggregate-named-4
+slice-aggregate-named-4 c = search needs
+
+named-requires-4 : tie.Need-named-requires-4
+named-requires-4 c κs = search needs
+
+slice-aggregate-named-5 : tie.Need-slice-aggregate-named-5
+slice-aggregate-named-5 c = search needs
+
+named-requires-5 : tie.Need-named-requires-5
+named-requires-5 c κs = search needs
 
 returns : tie.Need-returns
 unfolding requestWord
 returns c =
-    rw
-    (← (sym (c .if1 .taken) ∙ c .before .same .ensures))
-
-slice-aggregate-same-2 : tie.Need-slice-aggregate-same-2
-slice-aggregate-same-2 c = search needs
-
-same-requires-2 : tie.Need-same-requires-2
-same-requires-2 c κs = search needs
-
-returns-2 : tie.Need-returns-2
-unfolding requestWord
-returns-2 c =
     rw (
-      ← (sym (c .before .before .before .if1 .left) ∙ c .before .before .before .before .same .ensures),
-      ← (sym (c .if2 .taken) ∙ c .before .same2 .ensures),
+      c .named5 .ensures,
+      c .before .before .named4 .ensures,
+      c .before .before .before .before .named3 .ensures,
+      c .before .before .before .before .before .before .named2 .ensures,
+      c .before .before .before .before .before .before .before .before .named .ensures,
+      c .before .before .before .before .before .before .before .before .before .before .package-word .ensures,
     )
-
-slice-aggregate-same-3 : tie.Need-slice-aggregate-same-3
-slice-aggregate-same-3 c = search needs
-
-same-requires-3 : tie.Need-same-requires-3
-same-requires-3 c κs = search needs
-
-returns-3 : tie.Need-returns-3
-unfolding requestWord
-returns-3 c =
-    rw (
-      ← (sym (c .before .before .before .before .before .before .if1 .left) ∙ c .before .before .before .before .before .before .before .same .ensures),
-      ← (sym (c .before .before .before .if2 .left) ∙ c .before .before .before .before .same2 .ensures),
-      ← (sym (c .if3 .taken) ∙ c .before .same3 .ensures),
-    )
-
-slice-aggregate-same-4 : tie.Need-slice-aggregate-same-4
-slice-aggregate-same-4 c = search needs
-
-same-requires-4 : tie.Need-same-requires-4
-same-requires-4 c κs = search needs
-
-returns-4 : tie.Need-returns-4
-unfolding requestWord
-returns-4 c =
-    rw (
-      ← (sym (c .before .before .before .before .before .before .before .before .before .if1 .left) ∙ c .before .before .before .before .before .before .before .before .before .before .same .ensures),
-      ← (sym (c .before .before .before .before .before .before .if2 .left) ∙ c .before .before .before .before .before .before .before .same2 .ensures),
-      ← (sym (c .before .before .before .if3 .left) ∙ c .before .before .before .before .same3 .ensures),
-      ← (sym (c .if4 .taken) ∙ c .before .same4 .ensures),
-    )
-
-slice-aggregate-same-5 : tie.Need-slice-aggregate-same-5
-slice-aggregate-same-5 c = search needs
-
-same-requires-5 : tie.Need-same-requires-5
-same-requires-5 c κs = search needs
-
-returns-5 : tie.Need-returns-5
-unfolding requestWord
-returns-5 c =
-    rw (
-      ← (sym (c .before .before .before .before .before .before .before .before .before .before .before .before .if1 .left) ∙ c .before .before .before .before .before .before .before .before .before .before .before .before .before .same .ensures),
-      ← (sym (c .before .before .before .before .before .before .before .before .before .if2 .left) ∙ c .before .before .before .before .before .before .before .before .before .before .same2 .ensures),
-      ← (sym (c .before .before .before .before .before .before .if3 .left) ∙ c .before .before .before .before .before .before .before .same3 .ensures),
-      ← (sym (c .before .before .before .if4 .left) ∙ c .before .before .before .before .same4 .ensures),
-      ← (sym (c .if5 .taken) ∙ c .before .same5 .ensures),
-    )
-
-package-word-requires : tie.Need-package-word-requires
-package-word-requires c κs = search needs
-
-returns-6 : tie.Need-returns-6
-unfolding requestWord
-returns-6 c =
-    rw (
-      ← (sym (c .before .before .before .before .before .before .before .before .before .before .before .before .before .if1 .left) ∙ c .before .before .before .before .before .before .before .before .before .before .before .before .before .before .same .ensures),
-      ← (sym (c .before .before .before .before .before .before .before .before .before .before .if2 .left) ∙ c .before .before .before .before .before .before .before .before .before .before .before .same2 .ensures),
-      ← (sym (c .before .before .before .before .before .before .before .if3 .left) ∙ c .before .before .before .before .before .before .before .before .same3 .ensures),
-      ← (sym (c .before .before .before .before .if4 .left) ∙ c .before .before .before .before .before .same4 .ensures),
-      ← (sym (c .before .if5 .left) ∙ c .before .before .same5 .ensures),
-    )
-    (c .package-word .ensures)
 
 pub request-word-spec : {M : Type 1} → statement M
 request-word-spec =
     tie.close
     (tie.spec
-    slice-aggregate-same
-    same-requires
-    returns
-    slice-aggregate-same-2
-    same-requires-2
-    returns-2
-    slice-aggregate-same-3
-    same-requires-3
-    returns-3
-    slice-aggregate-same-4
-    same-requires-4
-    returns-4
-    slice-aggregate-same-5
-    same-requires-5
-    returns-5
     package-word-requires
-    returns-6)
+    slice-aggregate-named
+    named-requires
+    slice-aggregate-named-2
+    named-requires-2
+    slice-aggregate-named-3
+    named-requires-3
+    slice-aggregate-named-4
+    named-requires-4
+    slice-aggregate-named-5
+    named-requires-5
+    returns)
