@@ -8,8 +8,8 @@ use native.Mathlib.Omega.{arith}
 use lib.ListN.{length, take, drop}
 use Rattle.lines.specs.Fields.{before, rest}
 use Rattle.lines.proofs.Splitting.{rest-field, rest-past}
-use Rattle.reading.specs.Line.{Line, withValue, taking, ending}
-use Rattle.reading.specs.Given.{At, thenOf, FieldRead}
+use Rattle.reading.specs.Line.{Line, withValue, taking, ending, Reader}
+use Rattle.reading.specs.Given.{At, thenOf, ElementRead, FieldRead}
 
 taking-none : {A : Type 0} (read : List ℕ → Option A) (k : A → List (List ℕ) → Option Line) → taking read k [] ≡ none
 unfolding taking
@@ -41,11 +41,11 @@ ending-end l e o h = ap (ending o) (rest-past l (e + 1) (omega arith))
 pub ending-more : (l : List ℕ) (e : ℕ) (o : Option Line) → e < length l → ending o (rest l (e + 1)) ≡ none
 ending-more l e o h = ap (ending o) (rest-field l (e + 1) (e + 1 + length (before 44 (drop (e + 1) l))) (omega arith) refl)
 
--- ---- a field that was read
+-- ---- what was read
 
-module _ {A : Type 0} {read : List ℕ → Option A} {l : List ℕ} {e : ℕ} {o : Option (At A)} (p : FieldRead read l e o) (k : A → List (List ℕ) → Option Line) where
-  pub field-not : o ≡ none → taking read k (rest l (e + 1)) ≡ none
+module _ {A : Type 0} {read : Reader A} {l : List ℕ} {e : ℕ} {o : Option (At A)} (p : ElementRead read l e o) (k : A → List (List ℕ) → Option Line) where
+  pub field-not : o ≡ none → read k (rest l (e + 1)) ≡ none
   field-not g = p .is k ∙ ap (thenOf l k) g
 
-  pub field-is : {a : At A} → o ≡ some a → taking read k (rest l (e + 1)) ≡ k (a .value) (rest l (a .end + 1))
+  pub field-is : {a : At A} → o ≡ some a → read k (rest l (e + 1)) ≡ k (a .value) (rest l (a .end + 1))
   field-is g = p .is k ∙ ap (thenOf l k) g

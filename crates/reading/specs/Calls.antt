@@ -1,8 +1,8 @@
 -- Which line the fields behind a word are (docs/EVENTS.md, "Words"); none for a line of no listed form.
 -- Assumes nothing.
-use Prim.Native.Nat.{ℕ, zero, suc}
+use Prim.Native.Nat.{ℕ}
 use mathlib.Core.Bool.{_&&_}
-use mathlib.Core.List.{List, [], _∷_, _++_}
+use mathlib.Core.List.{List, [], _∷_}
 use mathlib.Core.Option.{Option, none, some}
 use lib.Dec.{leb}
 use lib.ListN.{replicate}
@@ -13,7 +13,7 @@ use Rattle.machine.specs.Call.{Buffer, Call, Open, On}
 use Rattle.machine.specs.Call.{Ask, Announce, RequestParent, Failed, Unclaim, Forget, ForgetKnown, TeardownPackageClaims, FailedPackageInfo, PackageInfoOwner, TransactionResponseCompleted, PollGate, Sum}
 use Rattle.machine.specs.Call.{Sweep, FailedWithParents, ReleasePackage, Disconnected, AnnounceTransactions, SolicitPackageInfo, ClaimPackage, BeginPackageResolution, AnnounceParents, FailedPackageClaims}
 use Rattle.machine.specs.Call.{Plan, TransactionNotFound}
-use Rattle.lines.specs.Fields.{numberOf, keyOf, itemOf, fields}
+use Rattle.lines.specs.Fields.{numberOf, hashOf, keyOf, itemOf, fields}
 use Rattle.reading.specs.declared.vocabulary.Word.{Word}
 use Rattle.reading.specs.declared.vocabulary.Word.the-variants.{None as NoWord, Open as OpenWord, Sum as SumWord, Leave as LeaveWord, Inventory as InventoryWord}
 use Rattle.reading.specs.declared.vocabulary.Word.the-variants.{Plan as PlanWord, Want as WantWord, Take as TakeWord, Missing as MissingWord, Send as SendWord, Part as PartWord}
@@ -28,7 +28,7 @@ use Rattle.reading.specs.declared.vocabulary.KeysWord.the-variants.{Swee
 use Rattle.reading.specs.declared.vocabulary.HashesWord.{HashesWord}
 use Rattle.reading.specs.declared.vocabulary.HashesWord.the-variants.{SolicitPackageInfo as SolicitWord, ClaimPackage as ClaimWord}
 use Rattle.reading.specs.declared.vocabulary.HashesWord.the-variants.{BeginPackageResolution as BeginWord, AnnounceParents as ParentsWord, FailedPackageClaims as LostWord}
-use Rattle.reading.specs.Line.{Line, Asks, Take, Send, Part, taking, ending, listThen, hashesThen}
+use Rattle.reading.specs.Line.{Line, Asks, Take, Send, Part, taking, ending, Reader, listThen}
 use Rattle.reading.specs.Forms.{Values, blank, keyIn, candidateIn, formThen}
 use Rattle.reading.specs.Forms.{keyField, itemField, hashField, combinedField, connectionField, nowField, readyField, priorityField, preferredField, sourceField}
 use Rattle.reading.specs.Words.{wordOf}
@@ -124,13 +124,12 @@ inventoryAsk v os = AnnounceTransactions (v .connection) (v .now) (v .preferred)
 abbrev pub offerOf : Item → ℕ → Offer
 offerOf i p = record { item = i; priority = p }
 
--- n offers more behind those of os
-unfoldable pub offersThen : ℕ → List Offer → (List Offer → List (List ℕ) → Option Line) → List (List ℕ) → Option Line
-offersThen zero os k fs = k os fs
-offersThen (suc n) os k fs = taking itemOf (λ i. taking numberOf (λ p. offersThen n (os ++ (offerOf i p ∷ [])) k)) fs
+-- an item and its priority
+unfoldable pub offerThen : Reader Offer
+offerThen k fs = taking itemOf (λ i. taking numberOf (λ p. k (offerOf i p))) fs
 
 unfoldable pub offersCall : (List Offer → Ask) → List (List ℕ) → Option Line
-offersCall ask fs = taking numberOf (λ count. offersThen count [] (λ os. ending (some (Asks (On (ask os)))))) fs
+offersCall ask fs = listThen offerThen (λ os. Asks (On (ask os))) fs
 
 unfoldable pub inventoryCall : List (List ℕ) → Option Line
 inventoryCall fs = formThen inventoryForm blank (λ v. offersCall (inventoryAsk v)) fs
@@ -150,9 +149,8 @@ hashesAsk BeginWord v hs = BeginPackageResolution (v .connection) (v .hash) (v .
 hashesAsk ParentsWord v hs = AnnounceParents (v .connection) hs (v .now) answerBuffer
 hashesAsk LostWord v hs = FailedPackageClaims (v .connection) hs (v .now) answerBuffer
 
--- the list, and nothing behind it
 unfoldable pub listCall : (List ℕ → Ask) → List (List ℕ) → Option Line
-listCall ask fs = taking numberOf (λ count. hashesThen count [] (λ hs. ending (some (Asks (On (ask hs)))))) fs
+listCall ask fs = listThen (taking hashOf) (λ hs. Asks (On (ask hs))) fs
 
 unfoldable pub hashesCall : HashesWord → List (List ℕ) → Option Line
 hashesCall w fs = formThen (hashesForm w) blank (λ v. listCall (hashesAsk w v)) fs
@@ -184,7 +182,7 @@ abbrev pub wantAsk : Values → List Key → Ask
 wantAsk v ks = Plan (v .now) (some ks) answerBuffer
 
 unfoldable pub keyListCall : (List Key → Ask) → List (List ℕ) → Option Line
-keyListCall ask fs = listThen keyOf (λ ks. Asks (On (ask ks))) fs
+keyListCall ask fs = listThen (taking keyOf) (λ ks. Asks (On (ask ks))) fs
 
 unfoldable pub wantLine : List (List ℕ) → Option Line
 wantLine fs = formThen planForm blank (λ v. keyListCall (wantAsk v)) fs
@@ -197,14 +195,14 @@ abbrev pub missingAsk : Values → List Item → Ask
 missingAsk v is = TransactionNotFound (v .connection) is (v .now) missingBuffer
 
 unfoldable pub itemListCall : (List Item → Ask) → List (List ℕ) → Option Line
-itemListCall ask fs = listThen itemOf (λ is. Asks (On (ask is))) fs
+itemListCall ask fs = listThen (taking itemOf) (λ is. Asks (On (ask is))) fs
 
 unfoldable pub missingLine : List (List ℕ) → Option Line
 missingLine fs = formThen missingForm blank (λ v. itemListCall (missingAsk v)) fs
 
 -- "send: list of witness connections"
 unfoldable pub sendLine : List (List ℕ) → Option Line
-sendLine fs = listThen numberOf Send fs
+sendLine fs = listThen (taking numberOf) Send fs
 
 -- ---- the whole line
 

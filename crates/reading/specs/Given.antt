@@ -33,7 +33,7 @@ use Rattle.reading.specs.declared.hashes.ListAt.{ListAt}
 use Rattle.reading.specs.declared.hashes.ListAt.the-variants.{Not as NoList, Is as IsList}
 use Rattle.reading.specs.declared.hashes.Hashes.{Hashes}
 use Rattle.reading.specs.declared.hashes.Hashes.the-variants.{None as NoHashes, Are as AreHashes}
-use Rattle.reading.specs.Line.{Line, Asks, Take, Part, taking, hashesThen}
+use Rattle.reading.specs.Line.{Line, Asks, Take, Part, taking, Reader, elementsThen}
 use Rattle.reading.specs.Forms.{Values, blank, Then, plainThen, fieldThen, formThen}
 use Rattle.reading.specs.Calls.{numberAsk, keysAsk, leaveAsk, inventoryAsk, offersCall, hashesAsk, listCall, planAsk, wantAsk, keyListCall, missingAsk, itemListCall, sendLine}
 
@@ -69,9 +69,12 @@ abbrev pub thenOf : {A : Type 0} → List ℕ → (A → List (List ℕ) → Opt
 thenOf l k none = none
 thenOf l k (some a) = k (a .value) (rest l (a .end + 1))
 
--- the field behind the comma at index e, which `read` says to be o
-pub record FieldRead {A : Type 0} (read : List ℕ → Option A) (l : List ℕ) (e : ℕ) (o : Option (At A)) : Type 0 where
-  pub is : (k : A → List (List ℕ) → Option Line) → taking read k (rest l (e + 1)) ≡ thenOf l k o
+-- what stands behind the comma at index e, which `read` says to be o: a field, or several
+pub record ElementRead {A : Type 0} (read : Reader A) (l : List ℕ) (e : ℕ) (o : Option (At A)) : Type 0 where
+  pub is : (k : A → List (List ℕ) → Option Line) → read k (rest l (e + 1)) ≡ thenOf l k o
+
+abbrev pub FieldRead : {A : Type 0} → (List ℕ → Option A) → List ℕ → ℕ → Option (At A) → Type 0
+FieldRead read l e o = ElementRead (taking read) l e o
 
 -- ---- forms
 
@@ -106,12 +109,30 @@ pub record FieldTaken (l : List ℕ) (e f : ℕ) (v : Values) (r : ValuesAt) : T
 pub record FormRead (l : List ℕ) (e : ℕ) (form : List ℕ) (r : ValuesAt) : Type 0 where
   pub is : (k : Then) → formThen form blank k (rest l (e + 1)) ≡ thenValues l k r
 
--- ---- a list of hashes
+-- ---- lists
 
--- a line of 65,536 bytes has at most 32,768 hashes: each has at least two bytes, its comma counted
 abbrev pub longestLine : ℕ
 longestLine = 65536
 
+-- of the n elements behind the comma at index e the first i are those of xs; the last field of these ends at index to
+pub record ElementsRead {A : Type 0} (read : Reader A) (l : List ℕ) (e n to i : ℕ) (xs : List A) : Type 0 where
+  pub is : (k : List A → List (List ℕ) → Option Line) → elementsThen read n [] k (rest l (e + 1)) ≡ elementsThen read (n - i) xs k (rest l (to + 1))
+
+abbrev pub ElementsAs : {A : Type 0} → Reader A → List ℕ → ℕ → ℕ → List A → ListAt → Type 0
+ElementsAs {A} read l e n xs NoList = (k : List A → List (List ℕ) → Option Line) → elementsThen read n [] k (rest l (e + 1)) ≡ none
+ElementsAs read l e n xs (IsList to) = ElementsRead read l e n to n xs
+
+-- the n elements behind the comma at index e
+pub record ListRead {A : Type 0} (read : Reader A) (l : List ℕ) (e n : ℕ) (xs : List A) (r : ListAt) : Type 0 where
+  pub is : ElementsAs read l e n xs r
+
+-- the x is one record more in the bytes, behind i others
+pub record Stored {A : Type 0} (size : ℕ) (f : List ℕ → A) (b b′ : List ℕ) (i : ℕ) (x : A) : Type 0 where
+  pub is : recs size f (i + 1) b′ ≡ recs size f i b ++ (x ∷ [])
+
+-- ---- a list of hashes
+
+-- a line of 65,536 bytes has at most 32,768 hashes: each has at least two bytes, its comma counted
 abbrev pub mostHashes : ℕ
 mostHashes = 32768
 
@@ -121,22 +142,6 @@ storedBytes = 1048576
 -- the first n hashes of bytes
 abbrev pub hashesOf : ℕ → List ℕ → List ℕ
 hashesOf n b = recs hashBytes (number 256) n b
-
--- one more
-pub record HashPut (b b′ : List ℕ) (i h : ℕ) : Type 0 where
-  pub hashes : hashesOf (i + 1) b′ ≡ hashesOf i b ++ (h ∷ [])
-
--- i hashes of the n behind the comma at index e, of which the last field ends at index to, stand in the bytes
-pub record HashesRead (l : List ℕ) (e n to i : ℕ) (b : List ℕ) : Type 0 where
-  pub is : (k : List ℕ → List (List ℕ) → Option Line) → hashesThen n [] k (rest l (e + 1)) ≡ hashesThen (n - i) (hashesOf i b) k (rest l (to + 1))
-
-abbrev pub ListAs : List ℕ → ℕ → ℕ → List ℕ → ListAt → Type 0
-ListAs l e n b NoList = (k : List ℕ → List (List ℕ) → Option Line) → hashesThen n [] k (rest l (e + 1)) ≡ none
-ListAs l e n b (IsList to) = HashesRead l e n to n b
-
--- the n hashes behind the comma at index e
-pub record ListRead (l : List ℕ) (e n : ℕ) (b : List ℕ) (r : ListAt) : Type 0 where
-  pub is : ListAs l e n b r
 
 -- the list behind the comma at index e stands in the first m bytes of b
 pub record HashesHeld (l : List ℕ) (e : ℕ) (b : List ℕ) (m : ℕ) : Type 0 where

@@ -4,7 +4,7 @@ use Prim.Native.Nat.{ℕ, zero, suc}
 use mathlib.Core.List.{List, [], _∷_, _++_}
 use mathlib.Core.Option.{Option, none, some}
 use Rattle.machine.specs.Call.{Call}
-use Rattle.lines.specs.Fields.{numberOf, hashOf}
+use Rattle.lines.specs.Fields.{numberOf}
 
 -- a call, or one about a list that the program keeps
 pub data Line : Type 0 where
@@ -31,16 +31,15 @@ ending o (f ∷ fs) = none
 
 -- ---- lists
 
+-- what stands in one field or in several: what k makes of its value and of the fields behind
+abbrev pub Reader : Type 0 → Type 0
+Reader A = (A → List (List ℕ) → Option Line) → List (List ℕ) → Option Line
+
 -- "list: its length as a number, then so many elements": n elements more behind those of xs
-unfoldable pub elementsThen : {A : Type 0} → (List ℕ → Option A) → ℕ → List A → (List A → List (List ℕ) → Option Line) → List (List ℕ) → Option Line
+unfoldable pub elementsThen : {A : Type 0} → Reader A → ℕ → List A → (List A → List (List ℕ) → Option Line) → List (List ℕ) → Option Line
 elementsThen read zero xs k fs = k xs fs
-elementsThen read (suc n) xs k fs = taking read (λ x. elementsThen read n (xs ++ (x ∷ [])) k) fs
+elementsThen read (suc n) xs k fs = read (λ x. elementsThen read n (xs ++ (x ∷ [])) k) fs
 
 -- the whole list, and nothing behind it
-unfoldable pub listThen : {A : Type 0} → (List ℕ → Option A) → (List A → Line) → List (List ℕ) → Option Line
+unfoldable pub listThen : {A : Type 0} → Reader A → (List A → Line) → List (List ℕ) → Option Line
 listThen read line fs = taking numberOf (λ count. elementsThen read count [] (λ xs. ending (some (line xs)))) fs
-
--- n hashes more behind those of hs
-unfoldable pub hashesThen : ℕ → List ℕ → (List ℕ → List (List ℕ) → Option Line) → List (List ℕ) → Option Line
-hashesThen zero hs k fs = k hs fs
-hashesThen (suc n) hs k fs = taking hashOf (λ h. hashesThen n (hs ++ (h ∷ [])) k) fs

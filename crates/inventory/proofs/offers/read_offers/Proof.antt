@@ -1,24 +1,26 @@
--- `inventory::read_offers` meets its contract.
+-- `inventory::offers::read_offers` meets its contract. The loop's invariant: the first i offers are read.
 -- Assumes nothing.
 use Prim.Native.Nat.{_≤_, _-_}
-use mathlib.Core.Path.{_≡_, ap, _∙_}
+use mathlib.Core.Path.{_≡_, refl, ap, _∙_}
 use native.Mathlib.Omega.{arith}
 use lib.ListN.{length}
-use Rattle.reading.specs.Given.{itemAt, numberAt}
-use Rattle.inventory.specs.Given.{OffersRead}
-use Rattle.inventory.proofs.Offering.{none-read, no-item, no-priority, one-more}
+use Rattle.reading.specs.Calls.{offerThen}
+use Rattle.reading.specs.Given.{itemAt, numberAt, ElementsRead}
+use Rattle.reading.proofs.Elements.{none-read, no-element, one-more}
+use Rattle.inventory.specs.Given.{offersOf}
+use Rattle.inventory.proofs.Offering.{no-item, no-priority, offer-is, none-yet, offer-put}
 use borrow.Author.Needs.{needs}
-use Rattle.inventory.proofs.read_offers.Statement.{statement}
-use Rattle.inventory.proofs.read_offers.Tie as tie
+use Rattle.inventory.proofs.offers.read_offers.Statement.{statement}
+use Rattle.inventory.proofs.offers.read_offers.Tie as tie
 
 abbrev Inv-loop : tie.InvT-loop
-Inv-loop line e n items₀ priorities₀ to₀ i₀ items priorities to i = (i ≤ n) × (length items ≡ length items₀) × (length priorities ≡ length priorities₀) × OffersRead line e n to i items priorities
+Inv-loop line e n items₀ priorities₀ to₀ i₀ items priorities to i = (i ≤ n) × (length items ≡ length items₀) × (length priorities ≡ length priorities₀) × ElementsRead offerThen line e n to i (offersOf i items priorities)
 
 abbrev μ-loop : tie.MeasureT-loop
 μ-loop line e n items₀ priorities₀ to₀ i₀ items priorities to i = n - i
 
 loop-holds : tie.Need-loop-holds Inv-loop μ-loop
-loop-holds c = (omega arith, omega arith, omega arith, none-read (c .before .before .before .args .line .now) (c .before .before .before .args .e) (c .before .before .before .args .n) (c .before .before .before .args .items .now) (c .before .before .before .args .priorities .now))
+loop-holds c = (omega arith, omega arith, omega arith, none-read offerThen (c .before .before .before .args .line .now) (c .before .before .before .args .e) (c .before .before .before .args .n) (none-yet (c .before .before .before .args .items .now) (c .before .before .before .args .priorities .now)))
 
 item-at-requires : tie.Need-item-at-requires Inv-loop μ-loop
 item-at-requires c κs = search needs
@@ -36,7 +38,7 @@ same-length-2 : tie.Need-same-length-2 Inv-loop μ-loop
 same-length-2 c = c .before .before .before .before .loop .inv .2
 
 returns : tie.Need-returns Inv-loop μ-loop
-returns c = record { is = no-item (c .before .before .before .before .loop .inv .3) (omega arith) (c .before .before .item-at .ensures) (ap itemAt (c .enum-told .given .1)) }
+returns c = record { is = no-element (c .before .before .before .before .loop .inv .3) (omega arith) (no-item (c .before .before .item-at .ensures) (ap itemAt (c .enum-told .given .1))) refl }
 
 number-at-requires : tie.Need-number-at-requires Inv-loop μ-loop
 number-at-requires c κs = search needs
@@ -54,7 +56,11 @@ same-length-4 : tie.Need-same-length-4 Inv-loop μ-loop
 same-length-4 c = c .before .before .before .before .before .before .before .before .loop .inv .2
 
 returns-2 : tie.Need-returns-2 Inv-loop μ-loop
-returns-2 c = record { is = no-priority (c .before .before .before .before .before .before .before .before .loop .inv .3) (omega arith) (c .before .before .before .before .before .before .item-at .ensures) (ap itemAt (c .before .before .before .before .kind .given .1)) (c .before .before .number-at .ensures) (ap numberAt (c .enum-told2 .given .1)) }
+returns-2 c =
+    record {
+      is = no-element (c .before .before .before .before .before .before .before .before .loop .inv .3) (omega arith)
+          (no-priority (c .before .before .before .before .before .before .item-at .ensures) (ap itemAt (c .before .before .before .before .kind .given .1)) (c .before .before .number-at .ensures) (ap numberAt (c .enum-told2 .given .1))) refl;
+    }
 
 put-offer-requires : tie.Need-put-offer-requires Inv-loop μ-loop
 put-offer-requires c κs = (omega arith, omega (arith, c .before .before .before .before .before .before .before .before .before .before .before .loop .inv .1, c .before .before .before .before .before .before .before .before .before .before .before .before .before .before .before .pre .1), omega (arith, c .before .before .before .before .before .before .before .before .before .before .before .loop .inv .2, c .before .before .before .before .before .before .before .before .before .before .before .before .before .before .before .pre .2))
@@ -67,7 +73,14 @@ loop-less c = search needs
 
 loop-again : tie.Need-loop-again Inv-loop μ-loop
 loop-again c =
-    (omega arith, c .before .before .before .before .put-offer .kept .0 ∙ c .before .before .before .before .before .before .before .before .before .before .before .before .before .before .before .before .loop .inv .1, c .before .before .before .before .put-offer .kept .1 .0 ∙ c .before .before .before .before .before .before .before .before .before .before .before .before .before .before .before .before .loop .inv .2, one-more (c .before .before .before .before .before .before .before .before .before .before .before .before .before .before .before .before .loop .inv .3) (omega arith) (c .before .before .before .before .before .before .before .before .before .before .before .before .before .before .item-at .ensures) (ap itemAt (c .before .before .before .before .before .before .before .before .before .before .before .before .kind .given .1)) (c .before .before .before .before .before .before .before .before .before .before .number-at .ensures) (ap numberAt (c .before .before .before .before .before .before .before .before .p .given .1)) (c .before .before .before .before .put-offer .ensures))
+    let p = c .before .before .before .before .before .before .before .before .before .before .before .before .before .before .item-at .ensures in
+    let z = ap itemAt (c .before .before .before .before .before .before .before .before .before .before .before .before .kind .given .1) in
+    let o = offer-is p z (c .before .before .before .before .before .before .before .before .before .before .number-at .ensures) (ap numberAt (c .before .before .before .before .before .before .before .before .p .given .1)) in (
+      omega arith,
+      c .before .before .before .before .put-offer .kept .0 ∙ c .before .before .before .before .before .before .before .before .before .before .before .before .before .before .before .before .loop .inv .1,
+      c .before .before .before .before .put-offer .kept .1 .0 ∙ c .before .before .before .before .before .before .before .before .before .before .before .before .before .before .before .before .loop .inv .2,
+      one-more (c .before .before .before .before .before .before .before .before .before .before .before .before .before .before .before .before .loop .inv .3) (omega arith) o refl (offer-put p z (c .before .before .before .before .put-offer .ensures)),
+    )
 
 same-length-5 : tie.Need-same-length-5 Inv-loop μ-loop
 same-length-5 c = c .before .loop .inv .1

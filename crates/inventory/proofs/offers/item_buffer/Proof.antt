@@ -1,9 +1,9 @@
--- `inventory::item_buffer` meets its contract.
+-- `inventory::offers::item_buffer` meets its contract.
 -- Assumes nothing.
 use Prim.Native.Nat.{ℕ}
 use lib.ListN.{length-replicate}
-use Rattle.inventory.proofs.item_buffer.Statement.{statement}
-use Rattle.inventory.proofs.item_buffer.Tie as tie
+use Rattle.inventory.proofs.offers.item_buffer.Statement.{statement}
+use Rattle.inventory.proofs.offers.item_buffer.Tie as tie
 
 returns : tie.Need-returns
 returns c = length-replicate {A = ℕ} 655360 0
