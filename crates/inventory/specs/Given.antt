@@ -112,15 +112,15 @@ pub record NumbersGiven (l : List ℕ) (e : ℕ) (b : List ℕ) (r : Numbers) : 
 
 -- ---- items with their priorities
 
--- a line of 65,536 bytes has no more offers: each has at least five bytes, its commas counted
+-- a line of 65,536 bytes has at most 13,107 offers: each has at least five bytes, its commas counted
 abbrev pub mostOffers : ℕ
-mostOffers = 16384
+mostOffers = 13107
 
 abbrev pub itemRoom : ℕ
-itemRoom = 655360
+itemRoom = 524280
 
 abbrev pub priorityRoom : ℕ
-priorityRoom = 131072
+priorityRoom = 104856
 
 abbrev pub offersOf : ℕ → List ℕ → List ℕ → List Offer
 offersOf n b c = paired (itemsOf n b) (numbersOf n c)

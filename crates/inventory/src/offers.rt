@@ -15,8 +15,8 @@ use reading::fields::item_at;
 use reading::fields::number_at;
 use reading::hashes::ListAt;
 
-// The most offers that a line of 65,536 bytes can hold is less: each takes two commas, two digits or more, and a letter.
-const OFFERS: usize = 16_384;
+// The most offers that a line of 65,536 bytes can hold: each takes two commas, a letter and two digits or more.
+const OFFERS: usize = 13_107;
 
 const ITEMS: usize = OFFERS * ITEM;
 
@@ -85,7 +85,7 @@ pub fn read_list(line: &[u8], e: usize, items: &mut [u8], priorities: &mut [u8])
     let NumberAt::Is(count, to) = number_at(line, e) else {
         return Offers::None;
     };
-    if 16_384 < count {
+    if 13_107 < count {
         return Offers::None;
     }
     let n = count as usize;
