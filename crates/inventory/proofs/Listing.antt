@@ -14,7 +14,7 @@ use Rattle.lists.specs.Lists.{keyIn, keysIn}
 use Rattle.lists.specs.Items.{itemBytes, itemIn, itemsIn}
 use Rattle.lines.specs.Fields.{numberOf, keyOf, itemOf, rest}
 use Rattle.reading.specs.Line.{Line, Asks, Send, taking, Reader, listThen}
-use Rattle.reading.specs.Calls.{keyListCall, itemListCall, sendLine}
+use Rattle.reading.specs.Lists.{keyListCall, itemListCall, sendLine}
 use Rattle.reading.proofs.Elements.{NoList}
 use Rattle.reading.proofs.Stored.{all-stored}
 use Rattle.inventory.specs.declared.keys.Keys.the-variants.{None as NoKeys, Are as AreKeys}

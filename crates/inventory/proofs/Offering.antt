@@ -14,7 +14,7 @@ use Rattle.machine.specs.Call.{Ask, On}
 use Rattle.lists.specs.Items.{itemBytes, itemIn, paired, offersIn}
 use Rattle.lines.specs.Fields.{numberOf, itemOf}
 use Rattle.reading.specs.Line.{Line, Asks, taking}
-use Rattle.reading.specs.Calls.{offerOf, offerThen, offersCall}
+use Rattle.reading.specs.Lists.{offerOf, offerThen, offersCall}
 use Rattle.reading.specs.Given.{At, ElementRead, FieldRead}
 use Rattle.reading.proofs.Taking.{field-not, field-is}
 use Rattle.reading.proofs.Elements.{NoList}

@@ -13,7 +13,7 @@ use Rattle.ident.specs.Number.{Key, Item, top}
 use Rattle.machine.proofs.Tests.{by-test}
 use Rattle.lines.specs.Fields.{numberOf, hashOf, kindOf, keyWith, keyOf, itemWith, letterKind, otherKind, typeOf, before, behind, otherOf, itemOf}
 use Rattle.reading.specs.Line.{Line, taking}
-use Rattle.reading.specs.Calls.{offerOf, offerThen}
+use Rattle.reading.specs.Lists.{offerOf, offerThen}
 use Rattle.reading.proofs.Bytes.{bytes, numeral-some}
 use Rattle.reading.proofs.Elements.{Takes, takes-field}
 

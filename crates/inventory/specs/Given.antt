@@ -15,7 +15,7 @@ use Rattle.lists.specs.Lists.{keysIn}
 use Rattle.lists.specs.Items.{itemBytes, itemIn, itemsIn, paired, offersIn}
 use Rattle.lines.specs.Fields.{rest}
 use Rattle.reading.specs.Line.{Line, Asks, Send}
-use Rattle.reading.specs.Calls.{keyListCall, itemListCall, offersCall, sendLine}
+use Rattle.reading.specs.Lists.{keyListCall, itemListCall, offersCall, sendLine}
 use Rattle.reading.specs.Given.{Stored}
 use Rattle.inventory.specs.declared.keys.Keys.{Keys}
 use Rattle.inventory.specs.declared.keys.Keys.the-variants.{None as NoKeys, Are as AreKeys}

@@ -3,7 +3,7 @@ ghost use mathlib.Core.Path.{_≡_};
 ghost use Prim.Native.Nat.{_≤_, _<_};
 ghost use lib.ListN.{length};
 ghost use Rattle.regions.specs.Rows.{quadNumber};
-ghost use Rattle.reading.specs.Calls.{offerThen};
+ghost use Rattle.reading.specs.Lists.{offerThen};
 ghost use Rattle.reading.specs.Given.{longestLine, ListRead};
 ghost use Rattle.inventory.specs.Given.{mostOffers, itemRoom, priorityRoom, offersOf, OfferPut, OffersGiven};
 use crate::items::ITEM;

@@ -15,7 +15,7 @@ use Rattle.lists.specs.Lists.{hashesIn}
 use Rattle.lines.specs.Fields.{hashOf, rest}
 use Rattle.reading.specs.declared.hashes.Hashes.the-variants.{None, Are}
 use Rattle.reading.specs.Line.{Line, Asks, taking, listThen}
-use Rattle.reading.specs.Calls.{listCall}
+use Rattle.reading.specs.Lists.{listCall}
 use Rattle.reading.specs.Given.{mostHashes, storedBytes, hashesOf, HashesGiven}
 use Rattle.reading.proofs.Bytes.{numeral-some}
 use Rattle.reading.proofs.Elements.{Takes, takes-field, NoList}
@@ -34,7 +34,8 @@ module _ {l : List ℕ} {e : ℕ} {b : List ℕ} where
   unfolding listCall
   no-hashes g = record { is = λ ask. g (λ hs. Asks (On (ask hs))) }
 
-  pub hashes-are : {n : ℕ} → n ≤ mostHashes → storedBytes ≤ length b → ((line : List ℕ → Line) → listThen (taking hashOf) line (rest l (e + 1)) ≡ some (line (hashesOf n b))) → HashesGiven l e b (Are (n * hashBytes))
+  pub hashes-are : {n : ℕ} → n ≤ mostHashes → storedBytes ≤ length b → ((line : List ℕ → Line) → listThen (taking hashOf) line (rest l (e + 1)) ≡ some (line (hashesOf n b)))
+      → HashesGiven l e b (Are (n * hashBytes))
   unfolding listCall
   hashes-are {n} f s g =
       record {

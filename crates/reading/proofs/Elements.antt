@@ -70,7 +70,8 @@ module _ {A : Type 0} (read : List ℕ → Option A) {w : ℕ} (h : (f : List �
   pub takes-field : Takes (taking read) w
   takes-field = record { is = none-left }
 
-too-few : {A : Type 0} {read : Reader A} {w : ℕ} → Takes read w → (n : ℕ) (xs : List A) (k : List A → List (List ℕ) → Option Line) (fs : List (List ℕ)) → bytes fs < w * n → elementsThen read n xs k fs ≡ none
+too-few : {A : Type 0} {read : Reader A} {w : ℕ} → Takes read w → (n : ℕ) (xs : List A) (k : List A → List (List ℕ) → Option Line) (fs : List (List ℕ)) → bytes fs < w * n
+    → elementsThen read n xs k fs ≡ none
 unfolding elementsThen
 too-few {w = w} t zero xs k fs h = absurd (omega (arith, h))
 too-few {A} {read} {w} t (suc n) xs k fs h = t .is (λ x. elementsThen read n (xs ++ (x ∷ [])) k) fs (λ x gs g. too-few t n (xs ++ (x ∷ [])) k gs (omega (arith, g, mul-suc w n, h)))

@@ -1,6 +1,4 @@
 pub mod Taking
-pub mod Openings
-pub mod Worded
 pub mod Filling
 pub mod Bytes
 pub mod Elements

@@ -48,9 +48,11 @@ module _ (b : List ℕ) (i : ℕ) (g : i < mostHashes) (s : storedBytes ≤ leng
   unfolding top
   put-number h u =
       let a : i * hashBytes ≡ hashBytes * i = omega arith in
-      rw a (record-put hashBytes (number 256) i b (digits 256 hashBytes h) (omega arith) (length-digits 256 hashBytes h) ∙ ap (λ (z : ℕ). hashesOf i b ++ (z ∷ [])) (number-digits 256 (lit≤ tt) hashBytes h u))
+      rw a (record-put hashBytes (number 256) i b (digits 256 hashBytes h) (omega arith) (length-digits 256 hashBytes h)
+      ∙ ap (λ (z : ℕ). hashesOf i b ++ (z ∷ [])) (number-digits 256 (lit≤ tt) hashBytes h u))
 
-  pub hash-put : (q : Quad) → quadNumber q < top → {b′ : List ℕ} (h : Hash) → hashNum h ≡ quadNumber q → b′ ≡ splice b (i * hashBytes) (digits 256 hashBytes (hashNum h)) → Stored hashBytes (number 256) b b′ i (quadNumber q)
+  pub hash-put : (q : Quad) → quadNumber q < top → {b′ : List ℕ} (h : Hash) → hashNum h ≡ quadNumber q → b′ ≡ splice b (i * hashBytes) (digits 256 hashBytes (hashNum h))
+      → Stored hashBytes (number 256) b b′ i (quadNumber q)
   hash-put q u h e p = record { is = rw (p, e) (put-number (quadNumber q) u) }
 
 -- ---- the records of a list

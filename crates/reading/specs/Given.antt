@@ -10,12 +10,9 @@ use Rattle.ident.specs.Number.{Key, Item}
 use Rattle.ident.specs.Words.{hashBytes}
 use Rattle.words.specs.Words.{number, recs}
 use Rattle.regions.specs.Rows.{quadNumber}
-use Rattle.machine.specs.Call.{Ask, Sum, Open, On}
+use Rattle.machine.specs.Call.{Ask, On}
 use Rattle.lists.specs.Lists.{hashesIn}
 use Rattle.lines.specs.Fields.{rest}
-use Rattle.reading.specs.declared.calls.Asked.{Asked}
-use Rattle.reading.specs.declared.calls.Asked.the-variants.{Unreadable, Opening, Summing, Leaving, Offers, Number, Keys as KeysAsked, Hashes as HashesAsked}
-use Rattle.reading.specs.declared.calls.Asked.the-variants.{Planning, Wanting, Missing, Taking, Sending, Parting}
 use Rattle.reading.specs.declared.fields.NumberAt.{NumberAt}
 use Rattle.reading.specs.declared.fields.NumberAt.the-variants.{Not as NoNumber, Is as IsNumber}
 use Rattle.reading.specs.declared.fields.BoolAt.{BoolAt}
@@ -33,9 +30,9 @@ use Rattle.reading.specs.declared.hashes.ListAt.{ListAt}
 use Rattle.reading.specs.declared.hashes.ListAt.the-variants.{Not as NoList, Is as IsList}
 use Rattle.reading.specs.declared.hashes.Hashes.{Hashes}
 use Rattle.reading.specs.declared.hashes.Hashes.the-variants.{None as NoHashes, Are as AreHashes}
-use Rattle.reading.specs.Line.{Line, Asks, Take, Part, taking, Reader, elementsThen}
+use Rattle.reading.specs.Line.{Line, Asks, taking, Reader, elementsThen}
 use Rattle.reading.specs.Forms.{Values, blank, Then, plainThen, fieldThen, formThen}
-use Rattle.reading.specs.Calls.{numberAsk, keysAsk, leaveAsk, inventoryAsk, offersCall, hashesAsk, listCall, planAsk, wantAsk, keyListCall, missingAsk, itemListCall, sendLine}
+use Rattle.reading.specs.Lists.{listCall}
 
 -- ---- fields
 
@@ -154,22 +151,3 @@ HashesAs l e b (AreHashes m) = HashesHeld l e b m
 
 pub record HashesGiven (l : List ℕ) (e : ℕ) (b : List ℕ) (r : Hashes) : Type 0 where
   pub is : HashesAs l e b r
-
--- ---- lines
-
--- what the line l asks for
-abbrev pub askedLine : List ℕ → Asked → Option Line
-askedLine l Unreadable = none
-askedLine l (Opening L Q) = some (Asks (Open L Q))
-askedLine l Summing = some (Asks (On Sum))
-askedLine l (Leaving v) = some (Asks (On (leaveAsk (valuesOf v))))
-askedLine l (Offers v e) = offersCall (inventoryAsk (valuesOf v)) (rest l (e + 1))
-askedLine l (Planning v) = some (Asks (On (planAsk (valuesOf v))))
-askedLine l (Wanting v e) = keyListCall (wantAsk (valuesOf v)) (rest l (e + 1))
-askedLine l (Missing v e) = itemListCall (missingAsk (valuesOf v)) (rest l (e + 1))
-askedLine l (Taking v) = some (Take ((valuesOf v) .now))
-askedLine l (Sending e) = sendLine (rest l (e + 1))
-askedLine l (Parting v) = some (Part ((valuesOf v) .connection))
-askedLine l (Number w v) = some (Asks (On (numberAsk w (valuesOf v))))
-askedLine l (KeysAsked w v) = some (Asks (On (keysAsk w (valuesOf v))))
-askedLine l (HashesAsked w v e) = listCall (hashesAsk w (valuesOf v)) (rest l (e + 1))

@@ -1,5 +1,4 @@
 pub mod Line
 pub mod Forms
-pub mod Words
-pub mod Calls
+pub mod Lists
 pub mod Given

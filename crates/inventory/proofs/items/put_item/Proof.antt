@@ -41,10 +41,15 @@ same-length c = search needs
 returns : tie.Need-returns
 returns c =
     let q = c .before .before .before .before .before .before .before .before .before .before .before .args .q in
-    let t : typeOf (c .before .before .before .before .before .before .before .before .before .before .before .args .kind) < typeTop = omega (arith, c .before .before .before .before .before .before .before .before .item-type .ensures) in
+    let t : typeOf (c .before .before .before .before .before .before .before .before .before .before .before .args .kind) < typeTop = omega
+    (arith, c .before .before .before .before .before .before .before .before .item-type .ensures) in
     let u = quad-below q (omega arith) (omega arith) (omega arith) (omega arith) in
-    item-put (c .before .before .before .before .before .before .before .before .before .before .before .args .items .now) (c .before .before .before .before .before .before .before .before .before .before .before .args .i) (c .before .before .before .before .before .before .before .before .before .before .before .args .kind) (quadNumber q) t u (c .before .before .before .before .before .before .before .before .before .before .before .pre)
-    (c .before .before .before .before .before .before .before .before .item-type .ensures) (c .before .before .before .hash-of .ensures) (c .before .before .before .before .before .before .before .put .ensures .bytes) (c .before .before .put-hash .ensures)
+    item-put (c .before .before .before .before .before .before .before .before .before .before .before .args .items .now)
+    (c .before .before .before .before .before .before .before .before .before .before .before .args .i)
+    (c .before .before .before .before .before .before .before .before .before .before .before .args .kind) (quadNumber q) t u
+    (c .before .before .before .before .before .before .before .before .before .before .before .pre)
+    (c .before .before .before .before .before .before .before .before .item-type .ensures) (c .before .before .before .hash-of .ensures)
+    (c .before .before .before .before .before .before .before .put .ensures .bytes) (c .before .before .put-hash .ensures)
 
 pub put-item-spec : {M : Type 1} → statement M
 put-item-spec =

@@ -23,7 +23,12 @@ abbrev μ-loop : tie.MeasureT-loop
 μ-loop line e n items₀ to₀ i₀ items to i = n - i
 
 loop-holds : tie.Need-loop-holds Inv-loop μ-loop
-loop-holds c = (omega arith, omega arith, none-read (taking itemOf) (c .before .before .args .line .now) (c .before .before .args .e) (c .before .before .args .n) (none-stored itemBytes itemIn (c .before .before .args .items .now)))
+loop-holds c = (
+  omega arith,
+  omega arith,
+  none-read (taking itemOf) (c .before .before .args .line .now) (c .before .before .args .e) (c .before .before .args .n)
+      (none-stored itemBytes itemIn (c .before .before .args .items .now)),
+)
 
 item-at-requires : tie.Need-item-at-requires Inv-loop μ-loop
 item-at-requires c κs = search needs
@@ -41,7 +46,13 @@ returns : tie.Need-returns Inv-loop μ-loop
 returns c = record { is = no-element (c .before .before .before .before .loop .inv .2) (omega arith) (c .before .before .item-at .ensures) (ap itemAt (c .enum-told .given .1)) }
 
 put-item-requires : tie.Need-put-item-requires Inv-loop μ-loop
-put-item-requires c κs = omega (arith, c .before .before .before .before .before .before .loop .inv .1, c .before .before .before .before .before .before .before .before .before .pre .0, c .before .before .before .before .before .before .before .before .before .pre .1)
+put-item-requires c κs =
+    omega (
+      arith,
+      c .before .before .before .before .before .before .loop .inv .1,
+      c .before .before .before .before .before .before .before .before .before .pre .0,
+      c .before .before .before .before .before .before .before .before .before .pre .1,
+    )
 
 add-i : tie.Need-add-i Inv-loop μ-loop
 add-i c = search needs
@@ -50,8 +61,14 @@ loop-less : tie.Need-loop-less Inv-loop μ-loop
 loop-less c = search needs
 
 loop-again : tie.Need-loop-again Inv-loop μ-loop
-loop-again c =
-    (omega arith, c .before .before .put-item .kept .0 ∙ c .before .before .before .before .before .before .before .before .before .loop .inv .1, one-more (c .before .before .before .before .before .before .before .before .before .loop .inv .2) (omega arith) (c .before .before .before .before .before .before .before .item-at .ensures) (ap itemAt (c .before .before .before .before .before .kind .given .1)) (c .before .before .put-item .ensures .is (plain-item (c .before .before .before .before .before .before .before .item-at .ensures) (ap itemAt (c .before .before .before .before .before .kind .given .1))) .is))
+loop-again c = (
+  omega arith,
+  c .before .before .put-item .kept .0 ∙ c .before .before .before .before .before .before .before .before .before .loop .inv .1,
+  one-more
+      (c .before .before .before .before .before .before .before .before .before .loop .inv .2) (omega arith) (c .before .before .before .before .before .before .before .item-at .ensures)
+      (ap itemAt (c .before .before .before .before .before .kind .given .1)) (c .before .before .put-item .ensures .is
+      (plain-item (c .before .before .before .before .before .before .before .item-at .ensures) (ap itemAt (c .before .before .before .before .before .kind .given .1))) .is),
+)
 
 same-length-2 : tie.Need-same-length-2 Inv-loop μ-loop
 same-length-2 c = c .before .loop .inv .1

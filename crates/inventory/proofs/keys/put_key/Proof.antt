@@ -28,7 +28,9 @@ returns : tie.Need-returns
 returns c =
     let q = c .before .before .before .before .before .before .args .q in
     let u = quad-below q (omega arith) (omega arith) (omega arith) (omega arith) in
-    key-put (c .before .before .before .before .before .before .args .keys .now) (c .before .before .before .before .before .before .args .i) (record { kind = c .before .before .before .before .before .before .args .kind; hash = quadNumber q }) (c .before .before .before .before .before .before .pre) u (rw (c .before .before .before .before .hash-of .ensures) at (c .before .before .put-key .ensures))
+    key-put (c .before .before .before .before .before .before .args .keys .now) (c .before .before .before .before .before .before .args .i)
+    (record { kind = c .before .before .before .before .before .before .args .kind; hash = quadNumber q }) (c .before .before .before .before .before .before .pre) u
+    (rw (c .before .before .before .before .hash-of .ensures) at (c .before .before .put-key .ensures))
 
 pub put-key-spec : {M : Type 1} → statement M
 put-key-spec = tie.close (tie.spec hash-of-requires put-key-requires same-length returns)

@@ -23,7 +23,12 @@ abbrev μ-loop : tie.MeasureT-loop
 
 loop-holds : tie.Need-loop-holds Inv-loop μ-loop
 unfolding keysIn
-loop-holds c = (omega arith, omega arith, none-read (taking keyOf) (c .before .before .args .line .now) (c .before .before .args .e) (c .before .before .args .n) (none-stored keyBytes keyIn (c .before .before .args .keys .now)))
+loop-holds c = (
+  omega arith,
+  omega arith,
+  none-read (taking keyOf) (c .before .before .args .line .now) (c .before .before .args .e) (c .before .before .args .n)
+      (none-stored keyBytes keyIn (c .before .before .args .keys .now)),
+)
 
 key-at-requires : tie.Need-key-at-requires Inv-loop μ-loop
 key-at-requires c κs = search needs
@@ -41,7 +46,13 @@ returns : tie.Need-returns Inv-loop μ-loop
 returns c = record { is = no-element (c .before .before .before .before .loop .inv .2) (omega arith) (c .before .before .key-at .ensures) (ap keyAt (c .enum-told .given .1)) }
 
 put-key-requires : tie.Need-put-key-requires Inv-loop μ-loop
-put-key-requires c κs = omega (arith, c .before .before .before .before .before .before .loop .inv .1, c .before .before .before .before .before .before .before .before .before .pre .0, c .before .before .before .before .before .before .before .before .before .pre .1)
+put-key-requires c κs =
+    omega (
+      arith,
+      c .before .before .before .before .before .before .loop .inv .1,
+      c .before .before .before .before .before .before .before .before .before .pre .0,
+      c .before .before .before .before .before .before .before .before .before .pre .1,
+    )
 
 add-i : tie.Need-add-i Inv-loop μ-loop
 add-i c = search needs
@@ -51,8 +62,13 @@ loop-less c = search needs
 
 loop-again : tie.Need-loop-again Inv-loop μ-loop
 unfolding keysIn
-loop-again c =
-    (omega arith, c .before .before .put-key .kept .0 ∙ c .before .before .before .before .before .before .before .before .before .loop .inv .1, one-more (c .before .before .before .before .before .before .before .before .before .loop .inv .2) (omega arith) (c .before .before .before .before .before .before .before .key-at .ensures) (ap keyAt (c .before .before .before .before .before .kind .given .1)) (c .before .before .put-key .ensures .is))
+loop-again c = (
+  omega arith,
+  c .before .before .put-key .kept .0 ∙ c .before .before .before .before .before .before .before .before .before .loop .inv .1,
+  one-more
+      (c .before .before .before .before .before .before .before .before .before .loop .inv .2) (omega arith) (c .before .before .before .before .before .before .before .key-at .ensures)
+      (ap keyAt (c .before .before .before .before .before .kind .given .1)) (c .before .before .put-key .ensures .is),
+)
 
 same-length-2 : tie.Need-same-length-2 Inv-loop μ-loop
 same-length-2 c = c .before .loop .inv .1

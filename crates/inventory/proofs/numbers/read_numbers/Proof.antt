@@ -23,7 +23,12 @@ abbrev μ-loop : tie.MeasureT-loop
 μ-loop line e n numbers₀ to₀ i₀ numbers to i = n - i
 
 loop-holds : tie.Need-loop-holds Inv-loop μ-loop
-loop-holds c = (omega arith, omega arith, none-read (taking numberOf) (c .before .before .args .line .now) (c .before .before .args .e) (c .before .before .args .n) (none-stored numberBytes (number 256) (c .before .before .args .numbers .now)))
+loop-holds c = (
+  omega arith,
+  omega arith,
+  none-read (taking numberOf) (c .before .before .args .line .now) (c .before .before .args .e) (c .before .before .args .n)
+      (none-stored numberBytes (number 256) (c .before .before .args .numbers .now)),
+)
 
 number-at-requires : tie.Need-number-at-requires Inv-loop μ-loop
 number-at-requires c κs = search needs
@@ -41,7 +46,13 @@ returns : tie.Need-returns Inv-loop μ-loop
 returns c = record { is = no-element (c .before .before .before .before .loop .inv .2) (omega arith) (c .before .before .number-at .ensures) (ap numberAt (c .enum-told .given .1)) }
 
 put-requires : tie.Need-put-requires Inv-loop μ-loop
-put-requires c κs = omega (arith, c .before .before .before .before .before .before .loop .inv .1, c .before .before .before .before .before .before .before .before .before .pre .0, c .before .before .before .before .before .before .before .before .before .pre .1)
+put-requires c κs =
+    omega (
+      arith,
+      c .before .before .before .before .before .before .loop .inv .1,
+      c .before .before .before .before .before .before .before .before .before .pre .0,
+      c .before .before .before .before .before .before .before .before .before .pre .1,
+    )
 
 add-i : tie.Need-add-i Inv-loop μ-loop
 add-i c = search needs
@@ -50,8 +61,20 @@ loop-less : tie.Need-loop-less Inv-loop μ-loop
 loop-less c = search needs
 
 loop-again : tie.Need-loop-again Inv-loop μ-loop
-loop-again c =
-    (omega arith, c .before .before .put .kept .0 ∙ c .before .before .before .before .before .before .before .before .before .loop .inv .1, one-more (c .before .before .before .before .before .before .before .before .before .loop .inv .2) (omega arith) (c .before .before .before .before .before .before .before .number-at .ensures) (ap numberAt (c .before .before .before .before .before .v .given .1)) (number-put (c .before .before .before .before .before .before .before .before .before .loop .numbers) (c .before .before .before .before .before .before .before .before .before .loop .i) _ (omega (arith, c .before .before .before .before .before .before .before .before .before .loop .inv .1, c .before .before .before .before .before .before .before .before .before .before .before .before .pre .0, c .before .before .before .before .before .before .before .before .before .before .before .before .pre .1)) (omega arith) (c .before .before .put .ensures .bytes) .is))
+loop-again c = (
+  omega arith,
+  c .before .before .put .kept .0 ∙ c .before .before .before .before .before .before .before .before .before .loop .inv .1,
+  one-more
+      (c .before .before .before .before .before .before .before .before .before .loop .inv .2) (omega arith) (c .before .before .before .before .before .before .before .number-at .ensures)
+      (ap numberAt (c .before .before .before .before .before .v .given .1)) (number-put (c .before .before .before .before .before .before .before .before .before .loop .numbers)
+      (c .before .before .before .before .before .before .before .before .before .loop .i) _
+      (omega (
+        arith,
+        c .before .before .before .before .before .before .before .before .before .loop .inv .1,
+        c .before .before .before .before .before .before .before .before .before .before .before .before .pre .0,
+        c .before .before .before .before .before .before .before .before .before .before .before .before .pre .1,
+      )) (omega arith) (c .before .before .put .ensures .bytes) .is),
+)
 
 same-length-2 : tie.Need-same-length-2 Inv-loop μ-loop
 same-length-2 c = c .before .loop .inv .1

@@ -22,7 +22,9 @@ returns : tie.Need-returns
 returns c =
     record {
       item = c .before .before .before .before .before .before .put-item .ensures;
-      priority = number-put (c .before .before .before .before .before .before .before .before .before .before .args .priorities .now) (c .before .before .before .before .before .before .before .before .before .before .args .i) (c .before .before .before .before .before .before .before .before .before .before .args .p) (omega arith) (omega arith) (c .before .before .put .ensures .bytes);
+      priority = number-put (c .before .before .before .before .before .before .before .before .before .before .args .priorities .now)
+          (c .before .before .before .before .before .before .before .before .before .before .args .i) (c .before .before .before .before .before .before .before .before .before .before .args .p)
+          (omega arith) (omega arith) (c .before .before .put .ensures .bytes);
     }
 
 pub put-offer-spec : {M : Type 1} → statement M
