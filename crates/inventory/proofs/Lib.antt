@@ -1,3 +1,5 @@
 pub mod Plain
-pub mod TooMany
+pub mod Sizes
+pub mod Putting
+pub mod Listing
 pub mod Offering

@@ -12,21 +12,21 @@ use Rattle.ident.specs.declared.ItemKind.{ItemKind}
 use Rattle.ident.specs.declared.ItemKind.the-variants.{Transaction, WitnessTransaction, WTx, Other}
 use Rattle.ident.specs.If.{if_then_else_}
 use Rattle.ident.specs.Number.{Item, isPlain}
-use Rattle.machine.specs.Call.{Call, Open}
+use Rattle.machine.specs.Call.{Open}
 use Rattle.machine.proofs.Tests.{test, by-test}
 use Rattle.lines.specs.Fields.{itemWith, letterKind, otherKind, otherOf, typeOf, hashOf, before, behind, itemOf, rest}
-use Rattle.reading.specs.Calls.{withValue, taking}
+use Rattle.reading.specs.Line.{Line, Asks, withValue, taking}
 use Rattle.reading.specs.Given.{At, FieldRead}
 use Rattle.reading.proofs.Taking.{field-is}
 
 -- a call for an item that is not plain
-abbrev odd : ItemKind → Option Call
-odd k = if isPlain k then none else some (Open 0 0)
+abbrev odd : ItemKind → Option Line
+odd k = if isPlain k then none else some (Asks (Open 0 0))
 
-abbrev chosen : Bool → Option Call
-chosen b = if b then none else some (Open 0 0)
+abbrev chosen : Bool → Option Line
+chosen b = if b then none else some (Asks (Open 0 0))
 
-abbrev oddItem : Option Item → Option Call
+abbrev oddItem : Option Item → Option Line
 oddItem o = withValue o (λ i. odd (i .kind))
 
 plain-with : (k : ItemKind) (h : Option ℕ) → isPlain k ≡ true → oddItem (itemWith (some k) h) ≡ none
@@ -56,12 +56,12 @@ unfolding taking
 none-odd [] = refl
 none-odd (f ∷ fs) = item-plain f
 
-some-not-none : (c : Call) → some c ≡ none → ⊥
+some-not-none : (c : Line) → some c ≡ none → ⊥
 some-not-none c e = let z : _≡_ {A = ℕ} 0 1 = cc in omega arith
 
 plain-if : (b : Bool) → chosen b ≡ none → b ≡ true
 plain-if true g = refl
-plain-if false g = absurd (some-not-none (Open 0 0) g)
+plain-if false g = absurd (some-not-none (Asks (Open 0 0)) g)
 
 not-odd : (k : ItemKind) → odd k ≡ none → isPlain k ≡ true
 not-odd k g = plain-if (isPlain k) g

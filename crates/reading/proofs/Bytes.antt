@@ -1,4 +1,4 @@
--- How many fields a line has room for: a list that is longer is none.
+-- How many bytes a line's fields have.
 -- Assumes nothing.
 use Prim.Native.Nat.{ℕ, zero, suc, _+_, _*_, _≤_, _<_}
 use mathlib.Core.Path.{_≡_, refl, ap, _∙_}
@@ -8,12 +8,9 @@ use native.Mathlib.Omega.{arith}
 use lib.Dec.{leb, eqb}
 use lib.ListN.{length, drop, length-drop}
 use borrow.Author.Tests.{leb-true}
-use Rattle.ident.specs.Number.{top}
-use Rattle.machine.specs.Call.{Call}
 use Rattle.machine.proofs.Tests.{by-test}
-use Rattle.lines.specs.Fields.{numeralOf, hashOf, push, fields, rest}
-use Rattle.reading.specs.Calls.{withValue, taking, hashesThen}
-use Rattle.reading.specs.Given.{longestLine, mostHashes}
+use Rattle.lines.specs.Fields.{numeralOf, push, fields, rest}
+use Rattle.reading.specs.Line.{Line, withValue}
 
 -- ---- the bytes of fields, a comma counted with each
 
@@ -47,17 +44,6 @@ numeral-some b m [] p e = let z : _≡_ {A = ℕ} 0 1 = cc in absurd (omega arit
 numeral-some b m (c ∷ g) p e = omega arith
 
 -- what none of its values makes a call of is no call
-pub no-value : {A : Type 0} (o : Option A) (k : A → Option Call) → ((v : A) → o ≡ some v → k v ≡ none) → withValue o k ≡ none
+pub no-value : {A : Type 0} (o : Option A) (k : A → Option Line) → ((v : A) → o ≡ some v → k v ≡ none) → withValue o k ≡ none
 no-value none k h = refl
 no-value (some v) k h = h v refl
-
--- ---- hashes
-
-too-few : (n : ℕ) (hs : List ℕ) (k : List ℕ → List (List ℕ) → Option Call) (fs : List (List ℕ)) → bytes fs < 2 * n → hashesThen n hs k fs ≡ none
-unfolding bytes hashesThen taking
-too-few zero hs k fs h = absurd (omega arith)
-too-few (suc n) hs k [] h = refl
-too-few (suc n) hs k (f ∷ fs) h = no-value (hashOf f) (λ x. hashesThen n (hs ++ (x ∷ [])) k fs) (λ x a. too-few n (hs ++ (x ∷ [])) k fs (omega (arith, numeral-some 16 top f x a)))
-
-pub too-many : (l : List ℕ) (e n : ℕ) → length l ≤ longestLine → mostHashes < n → (k : List ℕ → List (List ℕ) → Option Call) → hashesThen n [] k (rest l (e + 1)) ≡ none
-too-many l e n h m k = too-few n [] k (rest l (e + 1)) (omega (arith, bytes-rest l e))

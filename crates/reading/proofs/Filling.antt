@@ -11,12 +11,12 @@ use lib.ListN.{length, drop, getD}
 use lib.Seq.{drop-cons, drop-length}
 use borrow.Author.Tests.{eq-eqb, ne-eqb}
 use Rattle.ident.specs.Number.{Key, Item}
-use Rattle.machine.specs.Call.{Ask, Call, On}
 use Rattle.lines.specs.Fields.{numberOf, boolOf, hashOf, keyOf, itemOf, rest}
 use Rattle.reading.specs.declared.forms.Values as forms
 use Rattle.reading.specs.declared.forms.ValuesAt.{ValuesAt}
 use Rattle.reading.specs.declared.forms.ValuesAt.the-variants.{Not, Is}
-use Rattle.reading.specs.Calls.{taking, ending, Values, blank, Then, keyField, itemField, isHash, isBool, putKey, putItem, putHash, putNumber, putBool, plainThen, fieldThen, formThen}
+use Rattle.reading.specs.Line.{Line, taking, ending}
+use Rattle.reading.specs.Forms.{Values, blank, Then, keyField, itemField, isHash, isBool, putKey, putItem, putHash, putNumber, putBool, plainThen, fieldThen, formThen}
 use Rattle.reading.specs.Given.{At, FieldRead, valuesOf, thenValues, PlainTaken, FieldTaken, FormRead}
 use Rattle.reading.proofs.Taking.{field-not, field-is, ending-end, ending-more}
 
@@ -121,18 +121,21 @@ module _ {l : List ℕ} {e : ℕ} {form : List ℕ} {i : ℕ} {v : forms.Values}
 
 -- ---- the whole line
 
-module _ {l : List ℕ} {e : ℕ} {form : List ℕ} {r : ValuesAt} (p : FormRead l e form r) (ask : Values → Ask) where
-  pub form-not : r ≡ Not → none ≡ formThen form blank (λ v. ending (some (On (ask v)))) (rest l (e + 1))
-  form-not g = sym (p .is (λ v. ending (some (On (ask v)))) ∙ ap (thenValues l (λ v. ending (some (On (ask v))))) g)
+module _ {l : List ℕ} {e : ℕ} {form : List ℕ} {r : ValuesAt} (p : FormRead l e form r) (line : Values → Line) where
+  abbrev last : Then
+  last v = ending (some (line v))
+
+  pub form-not : r ≡ Not → none ≡ formThen form blank last (rest l (e + 1))
+  form-not g = sym (p .is last ∙ ap (thenValues l last) g)
 
   module _ {v : forms.Values} {end : ℕ} (g : r ≡ Is v end) where
-    to-end : formThen form blank (λ v. ending (some (On (ask v)))) (rest l (e + 1)) ≡ ending (some (On (ask (valuesOf v)))) (rest l (end + 1))
-    to-end = p .is (λ v. ending (some (On (ask v)))) ∙ ap (thenValues l (λ v. ending (some (On (ask v))))) g
+    to-end : formThen form blank last (rest l (e + 1)) ≡ last (valuesOf v) (rest l (end + 1))
+    to-end = p .is last ∙ ap (thenValues l last) g
 
-    pub form-longer : end < length l → none ≡ formThen form blank (λ v. ending (some (On (ask v)))) (rest l (e + 1))
+    pub form-longer : end < length l → none ≡ formThen form blank last (rest l (e + 1))
     form-longer h = sym (to-end ∙ ending-more l end _ h)
 
-    pub form-is : length l ≤ end → some (On (ask (valuesOf v))) ≡ formThen form blank (λ v. ending (some (On (ask v)))) (rest l (e + 1))
+    pub form-is : length l ≤ end → some (line (valuesOf v)) ≡ formThen form blank last (rest l (e + 1))
     form-is h = sym (to-end ∙ ending-end l end _ h)
 
 -- the fields of a form, and what follows them

@@ -10,11 +10,9 @@ use Rattle.ident.specs.Number.{Key, Item}
 use Rattle.ident.specs.Words.{hashBytes}
 use Rattle.words.specs.Words.{number, recs}
 use Rattle.regions.specs.Rows.{quadNumber}
-use Rattle.machine.specs.Call.{Ask, Sum, Call, Open, On}
+use Rattle.machine.specs.Call.{Ask, On}
 use Rattle.lists.specs.Lists.{hashesIn}
 use Rattle.lines.specs.Fields.{rest}
-use Rattle.reading.specs.declared.calls.Asked.{Asked}
-use Rattle.reading.specs.declared.calls.Asked.the-variants.{Unreadable, Opening, Summing, Leaving, Offers, Number, Keys as KeysAsked, Hashes as HashesAsked}
 use Rattle.reading.specs.declared.fields.NumberAt.{NumberAt}
 use Rattle.reading.specs.declared.fields.NumberAt.the-variants.{Not as NoNumber, Is as IsNumber}
 use Rattle.reading.specs.declared.fields.BoolAt.{BoolAt}
@@ -32,7 +30,9 @@ use Rattle.reading.specs.declared.hashes.ListAt.{ListAt}
 use Rattle.reading.specs.declared.hashes.ListAt.the-variants.{Not as NoList, Is as IsList}
 use Rattle.reading.specs.declared.hashes.Hashes.{Hashes}
 use Rattle.reading.specs.declared.hashes.Hashes.the-variants.{None as NoHashes, Are as AreHashes}
-use Rattle.reading.specs.Calls.{taking, hashesThen, Values, blank, Then, plainThen, fieldThen, formThen, numberAsk, keysAsk, leaveAsk, inventoryAsk, offersCall, hashesAsk, listCall}
+use Rattle.reading.specs.Line.{Line, Asks, taking, Reader, elementsThen}
+use Rattle.reading.specs.Forms.{Values, blank, Then, plainThen, fieldThen, formThen}
+use Rattle.reading.specs.Lists.{listCall}
 
 -- ---- fields
 
@@ -62,13 +62,16 @@ itemAt NoItem = none
 itemAt (IsItem k q e) = some (record { value = record { kind = k; hash = quadNumber q }; end = e })
 
 -- what k makes of the value and of the fields behind it
-abbrev pub thenOf : {A : Type 0} → List ℕ → (A → List (List ℕ) → Option Call) → Option (At A) → Option Call
+abbrev pub thenOf : {A : Type 0} → List ℕ → (A → List (List ℕ) → Option Line) → Option (At A) → Option Line
 thenOf l k none = none
 thenOf l k (some a) = k (a .value) (rest l (a .end + 1))
 
--- the field behind the comma at index e, which `read` says to be o
-pub record FieldRead {A : Type 0} (read : List ℕ → Option A) (l : List ℕ) (e : ℕ) (o : Option (At A)) : Type 0 where
-  pub is : (k : A → List (List ℕ) → Option Call) → taking read k (rest l (e + 1)) ≡ thenOf l k o
+-- what stands behind the comma at index e, which `read` says to be o: a field, or several
+pub record ElementRead {A : Type 0} (read : Reader A) (l : List ℕ) (e : ℕ) (o : Option (At A)) : Type 0 where
+  pub is : (k : A → List (List ℕ) → Option Line) → read k (rest l (e + 1)) ≡ thenOf l k o
+
+abbrev pub FieldRead : {A : Type 0} → (List ℕ → Option A) → List ℕ → ℕ → Option (At A) → Type 0
+FieldRead read l e o = ElementRead (taking read) l e o
 
 -- ---- forms
 
@@ -87,7 +90,7 @@ valuesOf v = record {
 }
 
 -- what k makes of the values and of the fields behind them
-abbrev pub thenValues : List ℕ → Then → ValuesAt → Option Call
+abbrev pub thenValues : List ℕ → Then → ValuesAt → Option Line
 thenValues l k NoValues = none
 thenValues l k (IsValues v e) = k (valuesOf v) (rest l (e + 1))
 
@@ -103,12 +106,30 @@ pub record FieldTaken (l : List ℕ) (e f : ℕ) (v : Values) (r : ValuesAt) : T
 pub record FormRead (l : List ℕ) (e : ℕ) (form : List ℕ) (r : ValuesAt) : Type 0 where
   pub is : (k : Then) → formThen form blank k (rest l (e + 1)) ≡ thenValues l k r
 
--- ---- a list of hashes
+-- ---- lists
 
--- a line of 65,536 bytes has at most 32,768 hashes: each has at least two bytes, its comma counted
 abbrev pub longestLine : ℕ
 longestLine = 65536
 
+-- of the n elements behind the comma at index e the first i are those of xs; the last field of these ends at index to
+pub record ElementsRead {A : Type 0} (read : Reader A) (l : List ℕ) (e n to i : ℕ) (xs : List A) : Type 0 where
+  pub is : (k : List A → List (List ℕ) → Option Line) → elementsThen read n [] k (rest l (e + 1)) ≡ elementsThen read (n - i) xs k (rest l (to + 1))
+
+abbrev pub ElementsAs : {A : Type 0} → Reader A → List ℕ → ℕ → ℕ → List A → ListAt → Type 0
+ElementsAs {A} read l e n xs NoList = (k : List A → List (List ℕ) → Option Line) → elementsThen read n [] k (rest l (e + 1)) ≡ none
+ElementsAs read l e n xs (IsList to) = ElementsRead read l e n to n xs
+
+-- the n elements behind the comma at index e
+pub record ListRead {A : Type 0} (read : Reader A) (l : List ℕ) (e n : ℕ) (xs : List A) (r : ListAt) : Type 0 where
+  pub is : ElementsAs read l e n xs r
+
+-- the x is one record more in the bytes, behind i others
+pub record Stored {A : Type 0} (size : ℕ) (f : List ℕ → A) (b b′ : List ℕ) (i : ℕ) (x : A) : Type 0 where
+  pub is : recs size f (i + 1) b′ ≡ recs size f i b ++ (x ∷ [])
+
+-- ---- a list of hashes
+
+-- a line of 65,536 bytes has at most 32,768 hashes: each has at least two bytes, its comma counted
 abbrev pub mostHashes : ℕ
 mostHashes = 32768
 
@@ -119,26 +140,10 @@ storedBytes = 1048576
 abbrev pub hashesOf : ℕ → List ℕ → List ℕ
 hashesOf n b = recs hashBytes (number 256) n b
 
--- one more
-pub record HashPut (b b′ : List ℕ) (i h : ℕ) : Type 0 where
-  pub hashes : hashesOf (i + 1) b′ ≡ hashesOf i b ++ (h ∷ [])
-
--- i hashes of the n behind the comma at index e, of which the last field ends at index to, stand in the bytes
-pub record HashesRead (l : List ℕ) (e n to i : ℕ) (b : List ℕ) : Type 0 where
-  pub is : (k : List ℕ → List (List ℕ) → Option Call) → hashesThen n [] k (rest l (e + 1)) ≡ hashesThen (n - i) (hashesOf i b) k (rest l (to + 1))
-
-abbrev pub ListAs : List ℕ → ℕ → ℕ → List ℕ → ListAt → Type 0
-ListAs l e n b NoList = (k : List ℕ → List (List ℕ) → Option Call) → hashesThen n [] k (rest l (e + 1)) ≡ none
-ListAs l e n b (IsList to) = HashesRead l e n to n b
-
--- the n hashes behind the comma at index e
-pub record ListRead (l : List ℕ) (e n : ℕ) (b : List ℕ) (r : ListAt) : Type 0 where
-  pub is : ListAs l e n b r
-
 -- the list behind the comma at index e stands in the first m bytes of b
 pub record HashesHeld (l : List ℕ) (e : ℕ) (b : List ℕ) (m : ℕ) : Type 0 where
   pub inside : m ≤ storedBytes
-  pub is : (ask : List ℕ → Ask) → listCall ask (rest l (e + 1)) ≡ some (On (ask (hashesIn (take m b))))
+  pub is : (ask : List ℕ → Ask) → listCall ask (rest l (e + 1)) ≡ some (Asks (On (ask (hashesIn (take m b)))))
 
 abbrev pub HashesAs : List ℕ → ℕ → List ℕ → Hashes → Type 0
 HashesAs l e b NoHashes = (ask : List ℕ → Ask) → listCall ask (rest l (e + 1)) ≡ none
@@ -146,16 +151,3 @@ HashesAs l e b (AreHashes m) = HashesHeld l e b m
 
 pub record HashesGiven (l : List ℕ) (e : ℕ) (b : List ℕ) (r : Hashes) : Type 0 where
   pub is : HashesAs l e b r
-
--- ---- calls
-
--- what the line l asks for
-abbrev pub askedCall : List ℕ → Asked → Option Call
-askedCall l Unreadable = none
-askedCall l (Opening L Q) = some (Open L Q)
-askedCall l Summing = some (On Sum)
-askedCall l (Leaving v) = some (On (leaveAsk (valuesOf v)))
-askedCall l (Offers v e) = offersCall (inventoryAsk (valuesOf v)) (rest l (e + 1))
-askedCall l (Number w v) = some (On (numberAsk w (valuesOf v)))
-askedCall l (KeysAsked w v) = some (On (keysAsk w (valuesOf v)))
-askedCall l (HashesAsked w v e) = listCall (hashesAsk w (valuesOf v)) (rest l (e + 1))

@@ -1,2 +1,4 @@
-pub mod Calls
+pub mod Line
+pub mod Forms
+pub mod Lists
 pub mod Given

@@ -4,7 +4,7 @@ ghost use mathlib.Core.Path.{_≡_};
 ghost use lib.Dec.{eqb};
 ghost use Rattle.ident.specs.If.{if_then_else_};
 ghost use Rattle.regions.specs.Rows.{quadNumber};
-ghost use Rattle.reading.specs.Calls.{blank, putKey, putItem, putHash, putNumber, putBool, isHash, isBool};
+ghost use Rattle.reading.specs.Forms.{blank, putKey, putItem, putHash, putNumber, putBool, isHash, isBool};
 ghost use Rattle.reading.specs.Given.{valuesOf, PlainTaken, FieldTaken, FormRead};
 use crate::fields::BoolAt;
 use crate::fields::HashAt;

@@ -2,9 +2,12 @@
 ghost use mathlib.Core.Path.{_≡_};
 ghost use Prim.Native.Nat.{_≤_, _<_};
 ghost use lib.ListN.{length};
-ghost use Rattle.ident.specs.Words.{hashNum};
+ghost use Rattle.ident.specs.Words.{hashBytes, hashNum};
+ghost use Rattle.words.specs.Words.{number};
+ghost use Rattle.lines.specs.Fields.{hashOf};
 ghost use Rattle.regions.specs.Rows.{quadNumber};
-ghost use Rattle.reading.specs.Given.{longestLine, mostHashes, storedBytes, HashPut, ListRead, HashesGiven};
+ghost use Rattle.reading.specs.Line.{taking};
+ghost use Rattle.reading.specs.Given.{longestLine, mostHashes, storedBytes, hashesOf, Stored, ListRead, HashesGiven};
 use crate::fields::HashAt;
 use crate::fields::NumberAt;
 use crate::fields::hash_at;
@@ -45,7 +48,7 @@ pub fn hash_of(q: regions::Quad) -> ident::Hash
 
 fn put_hash(hashes: &mut [u8], i: usize, q: regions::Quad)
     requires { ⌜ (i < mostHashes) × (storedBytes ≤ length (now hashes)) ⌝ }
-    ensures { λ _. ⌜ HashPut (now (hashes .entry)) (now (hashes .exit)) i (quadNumber q) ⌝ }
+    ensures { λ _. ⌜ Stored hashBytes (number 256) (now (hashes .entry)) (now (hashes .exit)) i (quadNumber q) ⌝ }
 {
     ident::put_hash(hashes, i * HASH, hash_of(q));
 }
@@ -53,7 +56,7 @@ fn put_hash(hashes: &mut [u8], i: usize, q: regions::Quad)
 // The n hashes whose fields stand behind the comma at index e.
 fn read_hashes(line: &[u8], e: usize, n: usize, hashes: &mut [u8]) -> ListAt
     requires { ⌜ (n ≤ mostHashes) × (storedBytes ≤ length (now hashes)) ⌝ }
-    ensures { λ r. ⌜ ListRead (now (line .entry)) e n (now (hashes .exit)) r ⌝ }
+    ensures { λ r. ⌜ ListRead (taking hashOf) (now (line .entry)) e n (hashesOf n (now (hashes .exit))) r ⌝ }
 {
     let mut to = e;
     let mut i = 0;

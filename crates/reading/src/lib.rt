@@ -1,8 +1,4 @@
-// Event lines as calls (document 01, "Event lines"; docs/EVENTS.md): which call a line is, and the values of its fields.
-//
-// `calls::call_of` answers the call that a line is, by specs/Calls. A list of hashes is read where its call is carried out, into bytes that are lent.
-pub mod calls;
+// Fields of event lines (docs/EVENTS.md, "Lines and fields"): one after the other, by forms, and lists of hashes, which are read into bytes that are lent.
 pub mod fields;
 pub mod forms;
 pub mod hashes;
-pub mod vocabulary;

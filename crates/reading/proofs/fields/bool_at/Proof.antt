@@ -38,10 +38,15 @@ enum-told : tie.Need-enum-told
 enum-told c = search needs
 
 returns-2 : tie.Need-returns-2
-returns-2 c = taking-not boolOf (c .before .before .before .before .before .before .before .args .line .now) (c .before .before .before .before .before .before .before .args .e) (c .before .before .before .before .before .if1 .left) (c .before .before .before .before .field-end .ensures) (sym (c .before .before .boolean .ensures) ∙ ap boolIn (c .enum-told .given .1))
+returns-2 c =
+    taking-not boolOf (c .before .before .before .before .before .before .before .args .line .now) (c .before .before .before .before .before .before .before .args .e)
+    (c .before .before .before .before .before .if1 .left) (c .before .before .before .before .field-end .ensures) (sym (c .before .before .boolean .ensures) ∙ ap boolIn (c .enum-told .given .1))
 
 returns-3 : tie.Need-returns-3
-returns-3 c = taking-is boolOf (c .before .before .before .before .before .before .before .before .args .line .now) (c .before .before .before .before .before .before .before .before .args .e) (c .before .before .before .before .before .before .if1 .left) (c .before .before .before .before .before .field-end .ensures) (sym (c .before .before .before .boolean .ensures) ∙ ap boolIn (c .before .b .given .1))
+returns-3 c =
+    taking-is boolOf (c .before .before .before .before .before .before .before .before .args .line .now) (c .before .before .before .before .before .before .before .before .args .e)
+    (c .before .before .before .before .before .before .if1 .left) (c .before .before .before .before .before .field-end .ensures)
+    (sym (c .before .before .before .boolean .ensures) ∙ ap boolIn (c .before .b .given .1))
 
 pub bool-at-spec : {M : Type 1} → statement M
 bool-at-spec =

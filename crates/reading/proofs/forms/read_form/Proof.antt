@@ -42,7 +42,12 @@ loop-less : tie.Need-loop-less Inv-loop μ-loop
 loop-less c = search needs
 
 loop-again : tie.Need-loop-again Inv-loop μ-loop
-loop-again c = (omega arith, c .before .before .before .before .before .before .loop .inv .1, further (c .before .before .before .before .before .before .loop .inv .2) (omega arith) (c .before .before .before .take-field .ensures) (c .before .next .given .1))
+loop-again c = (
+  omega arith,
+  c .before .before .before .before .before .before .loop .inv .1,
+  further (c .before .before .before .before .before .before .loop .inv .2) (omega arith)
+      (c .before .before .before .take-field .ensures) (c .before .next .given .1),
+)
 
 returns-2 : tie.Need-returns-2 Inv-loop μ-loop
 returns-2 c = whole (c .before .loop .inv .2) (omega arith) (c .before .loop .inv .0)

@@ -41,7 +41,9 @@ with-item-requires : tie.Need-with-item-requires
 with-item-requires c κs = search needs
 
 returns-4 : tie.Need-returns-4
-returns-4 c = item-is (c .before .before .before .before .before .before .if1 .left) (c .before .before .before .before .before .if2 .taken) (c .before .before .before .before .item-at .ensures) (ap itemAt (c .before .before .k2 .given .1)) (c .with-item .ensures)
+returns-4 c =
+    item-is (c .before .before .before .before .before .before .if1 .left) (c .before .before .before .before .before .if2 .taken) (c .before .before .before .before .item-at .ensures)
+    (ap itemAt (c .before .before .k2 .given .1)) (c .with-item .ensures)
 
 is-hash-requires : tie.Need-is-hash-requires
 is-hash-requires c κs = search needs
@@ -56,19 +58,25 @@ enum-told-3 : tie.Need-enum-told-3
 enum-told-3 c = search needs
 
 returns-5 : tie.Need-returns-5
-returns-5 c = no-hash (c .before .before .before .before .before .before .if1 .left) (c .before .before .before .before .before .if2 .left) (sym (c .before .before .before .if3 .taken) ∙ c .before .before .before .before .is-hash .ensures) (c .before .before .hash-at .ensures) (ap hashAt (c .enum-told3 .given .1))
+returns-5 c =
+    no-hash (c .before .before .before .before .before .before .if1 .left) (c .before .before .before .before .before .if2 .left)
+    (sym (c .before .before .before .if3 .taken) ∙ c .before .before .before .before .is-hash .ensures) (c .before .before .hash-at .ensures) (ap hashAt (c .enum-told3 .given .1))
 
 with-hash-requires : tie.Need-with-hash-requires
 with-hash-requires c κs = search needs
 
 returns-6 : tie.Need-returns-6
-returns-6 c = hash-is (c .before .before .before .before .before .before .before .before .if1 .left) (c .before .before .before .before .before .before .before .if2 .left) (sym (c .before .before .before .before .before .if3 .taken) ∙ c .before .before .before .before .before .before .is-hash .ensures) (c .before .before .before .before .hash-at .ensures) (ap hashAt (c .before .before .q .given .1)) (c .with-hash .ensures)
+returns-6 c =
+    hash-is (c .before .before .before .before .before .before .before .before .if1 .left) (c .before .before .before .before .before .before .before .if2 .left)
+    (sym (c .before .before .before .before .before .if3 .taken) ∙ c .before .before .before .before .before .before .is-hash .ensures) (c .before .before .before .before .hash-at .ensures)
+    (ap hashAt (c .before .before .q .given .1)) (c .with-hash .ensures)
 
 take-plain-requires : tie.Need-take-plain-requires
 take-plain-requires c κs = search needs
 
 returns-7 : tie.Need-returns-7
-returns-7 c = plain-field (c .before .before .before .before .if1 .left) (c .before .before .before .if2 .left) (sym (c .before .if3 .left) ∙ c .before .before .is-hash .ensures) (c .take-plain .ensures)
+returns-7 c =
+    plain-field (c .before .before .before .before .if1 .left) (c .before .before .before .if2 .left) (sym (c .before .if3 .left) ∙ c .before .before .is-hash .ensures) (c .take-plain .ensures)
 
 pub take-field-spec : {M : Type 1} → statement M
 take-field-spec =

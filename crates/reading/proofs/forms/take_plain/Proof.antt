@@ -26,7 +26,9 @@ with-bool-requires : tie.Need-with-bool-requires
 with-bool-requires c κs = search needs
 
 returns-2 : tie.Need-returns-2
-returns-2 c = bool-is (sym (c .before .before .before .before .before .if1 .taken) ∙ c .before .before .before .before .before .before .is-bool .ensures) (c .before .before .before .before .bool-at .ensures) (ap boolAt (c .before .before .b .given .1)) (c .with-bool .ensures)
+returns-2 c =
+    bool-is (sym (c .before .before .before .before .before .if1 .taken) ∙ c .before .before .before .before .before .before .is-bool .ensures)
+    (c .before .before .before .before .bool-at .ensures) (ap boolAt (c .before .before .b .given .1)) (c .with-bool .ensures)
 
 number-at-requires : tie.Need-number-at-requires
 number-at-requires c κs = search needs
@@ -38,13 +40,16 @@ enum-told-2 : tie.Need-enum-told-2
 enum-told-2 c = search needs
 
 returns-3 : tie.Need-returns-3
-returns-3 c = no-number (sym (c .before .before .before .if1 .left) ∙ c .before .before .before .before .is-bool .ensures) (c .before .before .number-at .ensures) (ap numberAt (c .enum-told2 .given .1))
+returns-3 c =
+    no-number (sym (c .before .before .before .if1 .left) ∙ c .before .before .before .before .is-bool .ensures) (c .before .before .number-at .ensures) (ap numberAt (c .enum-told2 .given .1))
 
 with-number-requires : tie.Need-with-number-requires
 with-number-requires c κs = search needs
 
 returns-4 : tie.Need-returns-4
-returns-4 c = number-is (sym (c .before .before .before .before .before .if1 .left) ∙ c .before .before .before .before .before .before .is-bool .ensures) (c .before .before .before .before .number-at .ensures) (ap numberAt (c .before .before .n .given .1)) (c .with-number .ensures)
+returns-4 c =
+    number-is (sym (c .before .before .before .before .before .if1 .left) ∙ c .before .before .before .before .before .before .is-bool .ensures)
+    (c .before .before .before .before .number-at .ensures) (ap numberAt (c .before .before .n .given .1)) (c .with-number .ensures)
 
 pub take-plain-spec : {M : Type 1} → statement M
 take-plain-spec =

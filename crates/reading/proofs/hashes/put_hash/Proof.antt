@@ -21,7 +21,9 @@ same-length c = search needs
 returns : tie.Need-returns
 returns c =
     let q = c .before .before .before .before .before .before .args .q in
-    hash-put (c .before .before .before .before .before .before .args .hashes .now) (c .before .before .before .before .before .before .args .i) (c .before .before .before .before .before .before .pre .0) (c .before .before .before .before .before .before .pre .1) q (quad-below q (omega arith) (omega arith) (omega arith) (omega arith)) (c .before .before .before .hash-of .result) (c .before .before .before .hash-of .ensures) (c .before .before .put-hash .ensures)
+    hash-put (c .before .before .before .before .before .before .args .hashes .now) (c .before .before .before .before .before .before .args .i)
+    (c .before .before .before .before .before .before .pre .0) (c .before .before .before .before .before .before .pre .1) q (quad-below q (omega arith) (omega arith) (omega arith) (omega arith))
+    (c .before .before .before .hash-of .result) (c .before .before .before .hash-of .ensures) (c .before .before .put-hash .ensures)
 
 pub put-hash-spec : {M : Type 1} → statement M
 put-hash-spec =

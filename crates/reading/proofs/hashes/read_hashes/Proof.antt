@@ -4,20 +4,30 @@ use Prim.Native.Nat.{_≤_, _-_}
 use mathlib.Core.Path.{_≡_, ap, _∙_}
 use native.Mathlib.Omega.{arith}
 use lib.ListN.{length}
-use Rattle.reading.specs.Given.{hashAt, HashesRead}
-use Rattle.reading.proofs.Stored.{none-read, no-hash, one-more}
+use Rattle.ident.specs.Words.{hashBytes}
+use Rattle.words.specs.Words.{number}
+use Rattle.lines.specs.Fields.{hashOf}
+use Rattle.reading.specs.Line.{taking}
+use Rattle.reading.specs.Given.{hashAt, hashesOf, ElementsRead}
+use Rattle.reading.proofs.Elements.{none-read, no-element, one-more}
+use Rattle.reading.proofs.Stored.{none-stored}
 use borrow.Author.Needs.{needs}
 use Rattle.reading.proofs.hashes.read_hashes.Statement.{statement}
 use Rattle.reading.proofs.hashes.read_hashes.Tie as tie
 
 abbrev Inv-loop : tie.InvT-loop
-Inv-loop line e n hashes₀ to₀ i₀ hashes to i = (i ≤ n) × (length hashes ≡ length hashes₀) × HashesRead line e n to i hashes
+Inv-loop line e n hashes₀ to₀ i₀ hashes to i = (i ≤ n) × (length hashes ≡ length hashes₀) × ElementsRead (taking hashOf) line e n to i (hashesOf i hashes)
 
 abbrev μ-loop : tie.MeasureT-loop
 μ-loop line e n hashes₀ to₀ i₀ hashes to i = n - i
 
 loop-holds : tie.Need-loop-holds Inv-loop μ-loop
-loop-holds c = (omega arith, omega arith, none-read (c .before .before .args .line .now) (c .before .before .args .e) (c .before .before .args .n) (c .before .before .args .hashes .now))
+loop-holds c = (
+  omega arith,
+  omega arith,
+  none-read (taking hashOf) (c .before .before .args .line .now) (c .before .before .args .e) (c .before .before .args .n)
+      (none-stored hashBytes (number 256) (c .before .before .args .hashes .now)),
+)
 
 hash-at-requires : tie.Need-hash-at-requires Inv-loop μ-loop
 hash-at-requires c κs = search needs
@@ -32,10 +42,11 @@ same-length : tie.Need-same-length Inv-loop μ-loop
 same-length c = c .before .before .before .before .loop .inv .1
 
 returns : tie.Need-returns Inv-loop μ-loop
-returns c = record { is = no-hash (c .before .before .before .before .loop .inv .2) (omega arith) (c .before .before .hash-at .ensures) (ap hashAt (c .enum-told .given .1)) }
+returns c = record { is = no-element (c .before .before .before .before .loop .inv .2) (omega arith) (c .before .before .hash-at .ensures) (ap hashAt (c .enum-told .given .1)) }
 
 put-hash-requires : tie.Need-put-hash-requires Inv-loop μ-loop
-put-hash-requires c κs = (omega arith, omega (arith, c .before .before .before .before .before .before .loop .inv .1, c .before .before .before .before .before .before .before .before .before .pre .1))
+put-hash-requires c κs =
+    (omega arith, omega (arith, c .before .before .before .before .before .before .loop .inv .1, c .before .before .before .before .before .before .before .before .before .pre .1))
 
 add-i : tie.Need-add-i Inv-loop μ-loop
 add-i c = search needs
@@ -44,8 +55,13 @@ loop-less : tie.Need-loop-less Inv-loop μ-loop
 loop-less c = search needs
 
 loop-again : tie.Need-loop-again Inv-loop μ-loop
-loop-again c =
-    (omega arith, c .before .before .put-hash .kept .0 ∙ c .before .before .before .before .before .before .before .before .before .loop .inv .1, one-more (c .before .before .before .before .before .before .before .before .before .loop .inv .2) (omega arith) (c .before .before .before .before .before .before .before .hash-at .ensures) (ap hashAt (c .before .before .before .before .before .q .given .1)) (c .before .before .put-hash .ensures))
+loop-again c = (
+  omega arith,
+  c .before .before .put-hash .kept .0 ∙ c .before .before .before .before .before .before .before .before .before .loop .inv .1,
+  one-more
+      (c .before .before .before .before .before .before .before .before .before .loop .inv .2) (omega arith) (c .before .before .before .before .before .before .before .hash-at .ensures)
+      (ap hashAt (c .before .before .before .before .before .q .given .1)) (c .before .before .put-hash .ensures .is),
+)
 
 same-length-2 : tie.Need-same-length-2 Inv-loop μ-loop
 same-length-2 c = c .before .loop .inv .1

@@ -1,0 +1,3 @@
+pub mod Openings
+pub mod Worded
+pub mod Worked

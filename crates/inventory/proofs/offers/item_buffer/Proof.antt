@@ -1,0 +1,12 @@
+-- `inventory::offers::item_buffer` meets its contract.
+-- Assumes nothing.
+use Prim.Native.Nat.{ℕ}
+use lib.ListN.{length-replicate}
+use Rattle.inventory.proofs.offers.item_buffer.Statement.{statement}
+use Rattle.inventory.proofs.offers.item_buffer.Tie as tie
+
+returns : tie.Need-returns
+returns c = length-replicate {A = ℕ} 524280 0
+
+pub item-buffer-spec : {M : Type 1} → statement M
+item-buffer-spec = tie.close (tie.spec returns)

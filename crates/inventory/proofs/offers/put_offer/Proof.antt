@@ -1,0 +1,32 @@
+-- `inventory::offers::put_offer` meets its contract.
+-- Assumes nothing.
+use native.Mathlib.Omega.{arith}
+use Rattle.inventory.proofs.Putting.{number-put}
+use borrow.Author.Needs.{needs}
+use Rattle.inventory.proofs.offers.put_offer.Statement.{statement}
+use Rattle.inventory.proofs.offers.put_offer.Tie as tie
+
+put-item-requires : tie.Need-put-item-requires
+put-item-requires c κs = search needs
+
+put-requires : tie.Need-put-requires
+put-requires c κs = search needs
+
+same-length : tie.Need-same-length
+same-length c = search needs
+
+same-length-2 : tie.Need-same-length-2
+same-length-2 c = search needs
+
+returns : tie.Need-returns
+returns c =
+    record {
+      item = c .before .before .before .before .before .before .put-item .ensures;
+      priority = number-put (c .before .before .before .before .before .before .before .before .before .before .args .priorities .now)
+          (c .before .before .before .before .before .before .before .before .before .before .args .i) (c .before .before .before .before .before .before .before .before .before .before .args .p)
+          (omega arith) (omega arith) (c .before .before .put .ensures .bytes);
+    }
+
+pub put-offer-spec : {M : Type 1} → statement M
+put-offer-spec =
+    tie.close (tie.spec put-item-requires put-requires same-length same-length-2 returns)
