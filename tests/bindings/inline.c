@@ -72,6 +72,19 @@ int main(void) {
 
     check("the latest now", tracker_poll_gate(store, sizeof store, TRACKER_LATEST_NOW, &a) == TRACKER_OK);
     check("past it", tracker_poll_gate(store, sizeof store, TRACKER_LATEST_NOW + 1, &a) == TRACKER_NOW_TOO_LATE);
+    static const uint8_t many[101 * TRACKER_HASH_BYTES] = {0};
+    check("a hundred parents", tracker_announce_parents(store, sizeof store, 9, many, sizeof many - 32, 1000, answer, sizeof answer, &a) == TRACKER_OK && a == 1);
+    check("one more", tracker_announce_parents(store, sizeof store, 9, many, sizeof many, 1000, answer, sizeof answer, &a) == TRACKER_TOO_MANY_PARENTS);
+    for (uint8_t i = 1; i <= Q; i++) {
+        y[0] = i;
+        check("a package", tracker_solicit_package_info(store, sizeof store, 9, y, many, 32, 1000, &a) == TRACKER_OK && a == 1);
+    }
+    y[0] = Q + 1;
+    check("no place", tracker_solicit_package_info(store, sizeof store, 9, y, many, 32, 1000, &a) == TRACKER_NO_PLACE);
+    y[0] = Q;
+    tracker_put_item(items, 0, TRACKER_ITEM_PACKAGE_INFO, y);
+    tracker_put_item(items, 1, TRACKER_ITEM_TX, x);
+    check("package info not found", tracker_transaction_not_found(store, sizeof store, 9, items, sizeof items, 1000, answer, sizeof answer, &a) == TRACKER_OK && a > 0);
     check("no connection", tracker_unclaim(store, sizeof store, TRACKER_TXID, x, 0) == TRACKER_NO_CONNECTION);
     store[0] ^= 1;
     check("another format", tracker_unclaim(store, sizeof store, TRACKER_TXID, x, 1) == TRACKER_NOT_SOUND);
