@@ -1,19 +1,19 @@
-# Sourced by what links the library: exports the path of libtracker.a as EXPORTS_LIB, which may name another archive instead; bindings/build writes it
-# if the sources are not those that it was built of. `archive_of owned OWNED_LIB` does the same for libtracker_owned.a.
+# Sourced by what links the library. `archives_of exports owned` exports the paths of libtracker.a and libtracker_owned.a as EXPORTS_LIB and OWNED_LIB, which
+# may name others instead; bindings/build writes those that are not built of the sources as they are.
 root=$(cd "$(dirname "${BASH_SOURCE[0]}")/../.." && pwd)
 
-archive_of() { # CRATE VARIABLE
-    local given=${!2:-} name=tracker
-    [ "$1" = exports ] || name=tracker_$1
-    if [ -z "$given" ]; then
-        "$root/bindings/build" "$name" >&2 || exit 1
-        given=$root/target/lib/lib$name.a
-    fi
-    if [ ! -f "$given" ]; then
-        echo "no archive $given; 'bindings/build $name' writes it" >&2
-        return 1
-    fi
-    export "$2=$(realpath "$given")"
+archives_of() { # CRATE..
+    local crate variable archive names=()
+    local -A name=([exports]=tracker [owned]=tracker_owned)
+    for crate in "$@"; do
+        variable=${crate^^}_LIB
+        [ -n "${!variable:-}" ] || names+=("${name[$crate]}")
+    done
+    [ "${#names[@]}" = 0 ] || "$root/bindings/build" "${names[@]}" >&2 || return 1
+    for crate in "$@"; do
+        variable=${crate^^}_LIB archive=$root/target/lib/lib${name[$crate]}.a
+        archive=${!variable:-$archive}
+        [ -f "$archive" ] || { echo "no archive $archive; bindings/build writes it" >&2; return 1; }
+        export "$variable=$(realpath "$archive")"
+    done
 }
-
-archive_of exports EXPORTS_LIB
