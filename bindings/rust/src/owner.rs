@@ -40,7 +40,7 @@ pub struct Tracker<S = Vec<u8>> {
     pub(crate) answer: Vec<u8>,
 }
 
-/// A tracker over bytes that are lent to it: a part of a file that is mapped, or memory that another language has.
+/// A tracker over bytes that are lent to it and that nobody else writes meanwhile: a static array, a part of a larger buffer.
 ///
 /// ```
 /// use tracker::{Announcement, Connection, Item, Sizes, TrackerMut, TrackerRef, Txid};

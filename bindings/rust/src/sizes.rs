@@ -12,8 +12,8 @@ use crate::answers::{ENTRY_BYTES, KEY_BYTES, word};
 ///     Ok(sizes) => sizes,
 ///     Err(_) => panic!("out of range"),
 /// };
-/// static mut STORE: [u8; SIZES.need()] = [0; SIZES.need()];
-/// assert_eq!(SIZES.need(), 22_976);
+/// let store = [0_u8; SIZES.need()];
+/// assert_eq!(store.len(), 22_976);
 /// assert_eq!(Sizes::new(0, 2), Err(Error::SizesOutOfRange));
 /// ```
 #[derive(Clone, Copy, Debug, Eq, Hash, PartialEq)]
