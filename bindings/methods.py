@@ -1,4 +1,6 @@
 """An owner's function as a method of `Tracker` in the Rust package: types in the place of what a refusal would tell."""
+import textwrap
+
 from declarations import RUST_WIDTH, filled, listed, signature
 from exported import SLICES
 
@@ -107,6 +109,50 @@ SAID = {
     "sum": "How many announcements are held, how many more fit, and how full the tracker is in thousandths.",
 }
 
+# Examples, which are run as tests.
+EXAMPLES = {
+    "arrange": """
+        use tracker::{Connection, Entry, Item, Now, Parents, Tracker, Txid};
+
+        let mut tracker = Tracker::new(100, 2)?;
+        let (now, peer) = (Now::new(0)?, Connection::new(7).expect("not 0"));
+        tracker.announce_parents(peer, Parents::of(&[Txid([1; 32])]), now); // a request with the mark
+        let planned: Vec<Entry> = tracker.plan(now).entries.collect();
+        let taken: Vec<Entry> = tracker.claim(now, &planned).collect();
+
+        let list = tracker.arrange(&[peer], &taken); // 7 takes witnesses
+        let getdata = list.part(peer).map(|entry| entry.candidate.item);
+        assert!(getdata.eq([Item::WitnessTx(Txid([1; 32]))]));
+        # Ok::<(), tracker::Error>(())
+        """,
+    "solicit_package_info": """
+        use tracker::{Connection, Key, Now, Parents, Tracker, Txid, Wtxid};
+
+        let mut tracker = Tracker::new(100, 2)?;
+        let (now, peer) = (Now::new(0)?, Connection::new(7).expect("not 0"));
+        let (child, parents, combined) = (Wtxid([9; 32]), [Txid([1; 32])], [5; 32]);
+        assert!(tracker.solicit_package_info(peer, child, Parents::of(&parents), now)?);
+        assert_eq!(tracker.package_info_owner(Key::Wtxid(child), now), Some(peer));
+
+        // The info has come: the package is asked for, and comes in time.
+        let wtxids = [Wtxid([2; 32]), child];
+        assert!(tracker.claim_package(peer, child, &combined, &wtxids, now));
+        assert!(tracker.begin_package_resolution(peer, child, &combined, &wtxids, now));
+
+        // It is of no use: the connection is asked for the parents one by one.
+        assert!(tracker.release_package(peer, child, now).eq([Key::Wtxid(child), Key::Txid(parents[0])]));
+        # Ok::<(), tracker::Error>(())
+        """,
+}
+
+
+def example_of(name):
+    """The example of a method as lines of its comment."""
+    if name not in EXAMPLES:
+        return []
+    lines = textwrap.dedent(EXAMPLES[name]).strip().splitlines()
+    return ["    ///" + (" " + line if line else "") for line in ["", "```", *lines, "```"]]
+
 
 def taken(parameters):
     """What the method takes, what it does first, and what it gives on."""
@@ -190,7 +236,7 @@ def method(function):
     if answers and not need:
         raise SystemExit(f"{function.name}: the need of its answer is not known")
     call = filled(f"abi::{function.name}({listed(gives)})", RUST_WIDTH, " " * 12, " " * 16).replace("\0", " ")
-    lines = [filled(SAID.get(name, function.comment), RUST_WIDTH - 1, "    /// ", "    /// "), head]
+    lines = [filled(SAID.get(name, function.comment), RUST_WIDTH - 1, "    /// ", "    /// "), *example_of(name), head]
     lines += [f"        self.room({need});"] if answers else []
     lines += ["        " + line for line in first]
     lines += [f"        let store = self.store.{'bytes' if only_reads(function) else 'bytes_mut'}();"]

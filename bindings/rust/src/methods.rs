@@ -149,6 +149,25 @@ impl<S: StoreMut> Tracker<S> {
     /// The connection is asked for the package info of the transaction, whose parents are given. False if
     /// the hash is owned, if the connection owns 100 requests, or if it is no candidate and is not kept as
     /// one. [`Error::NoPlace`] if it would be true, and all package places are held.
+    ///
+    /// ```
+    /// use tracker::{Connection, Key, Now, Parents, Tracker, Txid, Wtxid};
+    ///
+    /// let mut tracker = Tracker::new(100, 2)?;
+    /// let (now, peer) = (Now::new(0)?, Connection::new(7).expect("not 0"));
+    /// let (child, parents, combined) = (Wtxid([9; 32]), [Txid([1; 32])], [5; 32]);
+    /// assert!(tracker.solicit_package_info(peer, child, Parents::of(&parents), now)?);
+    /// assert_eq!(tracker.package_info_owner(Key::Wtxid(child), now), Some(peer));
+    ///
+    /// // The info has come: the package is asked for, and comes in time.
+    /// let wtxids = [Wtxid([2; 32]), child];
+    /// assert!(tracker.claim_package(peer, child, &combined, &wtxids, now));
+    /// assert!(tracker.begin_package_resolution(peer, child, &combined, &wtxids, now));
+    ///
+    /// // It is of no use: the connection is asked for the parents one by one.
+    /// assert!(tracker.release_package(peer, child, now).eq([Key::Wtxid(child), Key::Txid(parents[0])]));
+    /// # Ok::<(), tracker::Error>(())
+    /// ```
     pub fn solicit_package_info(
         &mut self,
         connection: Connection,

@@ -24,9 +24,8 @@ use crate::{Error, Figures, Sizes, bytes};
 /// tracker.announce(&Announcement::new(next, item));
 ///
 /// let planned: Vec<Entry> = tracker.plan(Now::new(1_000)?).entries.collect(); // who is to be asked for what
-/// for entry in tracker.claim(Now::new(1_000)?, &planned) {
-///     assert_eq!(entry.candidate.connection, silent); // a getdata goes out: it has a minute
-/// }
+/// let asked = tracker.claim(Now::new(1_000)?, &planned).map(|entry| entry.candidate.connection);
+/// assert!(asked.eq([silent])); // a getdata goes out: it has a minute
 /// let planned: Vec<Entry> = tracker.plan(Now::new(61_000)?).entries.collect();
 /// assert_eq!(planned[0].candidate.connection, next); // it has not come: the other one is asked
 /// # Ok::<(), tracker::Error>(())

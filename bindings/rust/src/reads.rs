@@ -23,6 +23,21 @@ impl<S: Store> Tracker<S> {
 
     /// What a claim has taken, by ascending connection, then in claim order. A t item of a marked request
     /// turns v for a witness connection.
+    ///
+    /// ```
+    /// use tracker::{Connection, Entry, Item, Now, Parents, Tracker, Txid};
+    ///
+    /// let mut tracker = Tracker::new(100, 2)?;
+    /// let (now, peer) = (Now::new(0)?, Connection::new(7).expect("not 0"));
+    /// tracker.announce_parents(peer, Parents::of(&[Txid([1; 32])]), now); // a request with the mark
+    /// let planned: Vec<Entry> = tracker.plan(now).entries.collect();
+    /// let taken: Vec<Entry> = tracker.claim(now, &planned).collect();
+    ///
+    /// let list = tracker.arrange(&[peer], &taken); // 7 takes witnesses
+    /// let getdata = list.part(peer).map(|entry| entry.candidate.item);
+    /// assert!(getdata.eq([Item::WitnessTx(Txid([1; 32]))]));
+    /// # Ok::<(), tracker::Error>(())
+    /// ```
     pub fn arrange(&mut self, witnesses: &[Connection], taken: &[Entry]) -> Entries<'_> {
         self.room(taken.len() * bytes::ENTRY_BYTES);
         let witnesses = listed(witnesses);
