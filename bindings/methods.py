@@ -1,6 +1,11 @@
 """An owner's function as a method of `Tracker` in the Rust package: types in the place of what a refusal would tell."""
+import textwrap
+
 from declarations import RUST_WIDTH, filled, listed, signature
 from exported import SLICES
+
+# Refusal 8 hangs on the state: no type tells it.
+REFUSED = ("solicit_package_info",)
 
 # Parameters that are one value: what is taken, what is done first, what is given on for each.
 GROUPS = {
@@ -19,13 +24,15 @@ GROUPS = {
 # Single values: what is taken, what is given on.
 VALUES = {
     ("connection", "u64"): ("connection: Connection", "connection.get()"),
+    ("now", "u64"): ("now: Now", "now.millis()"),
     ("hash", "&[u8; 32]"): ("wtxid: Wtxid", "&wtxid.0"),
     ("txid", "&[u8; 32]"): ("txid: Txid", "&txid.0"),
     ("wtxid", "&[u8; 32]"): ("wtxid: Wtxid", "&wtxid.0"),
 }
-# Lists, by the type of their elements.
+# Lists that are a value of their own: what is taken, its elements.
+BOUNDED = {"parents": ("Parents<'_>", "parents.txids()")}
+# Other lists, by the type of their elements.
 LISTS = {
-    "parents": "Txid",
     "wtxids": "Wtxid",
     "combined": "[u8; 32]",
     "items": "Item",
@@ -78,7 +85,7 @@ SAID = {
     "failed_package_info": "failed, of a connection that is asked for package info. False unless it is.",
     "package_info_owner": "The connection that is asked for package info of the request at the key, and in time.",
     "solicit_package_info": "The connection is asked for the package info of the transaction, whose parents are given. False if the hash is owned, if the connection"
-    " owns 100 requests, or if it is no candidate and is not kept as one.",
+    " owns 100 requests, or if it is no candidate and is not kept as one. [`Error::NoPlace`] if it would be true, and all package places are held.",
     "claim_package": "The package info of the request has come: its owner has until the deadline to get the package, whose wtxids are given. False unless they are 1"
     " to 100.",
     "begin_package_resolution": "The package itself has come: it waits in the queue from now on, and no deadline ends it. False unless combined hash and wtxids are"
@@ -95,9 +102,56 @@ SAID = {
     "transaction_response_completed": "A response of the connection is complete: what it still owns of this transaction, under either identity, has failed.",
     "transaction_not_found": "The connection does not have the items: what it owns of them has failed, and so have its claims to the packages among them. The answer"
     " has the keys of what failed, followed by those of the parents that are kept.",
+    "plan_given": "plan over these keys alone; the ready cursor stays.",
+    "request_parent": "announce, of a parent that is missing: a connection that is a candidate at the hash already turns preferred, with the smaller ready time and the"
+    " smaller priority.",
     "plan": "Which candidate is to be asked for what, by priority: at most 1,025 entries. Owners whose deadline has come fail first.",
     "sum": "How many announcements are held, how many more fit, and how full the tracker is in thousandths.",
 }
+
+# Examples, which are run as tests.
+EXAMPLES = {
+    "arrange": """
+        use tracker::{Connection, Entry, Item, Now, Parents, Tracker, Txid};
+
+        let mut tracker = Tracker::new(100, 2)?;
+        let (now, peer) = (Now::new(0)?, Connection::new(7).expect("not 0"));
+        tracker.announce_parents(peer, Parents::of(&[Txid([1; 32])]), now); // a request with the mark
+        let planned: Vec<Entry> = tracker.plan(now).entries.collect();
+        let taken: Vec<Entry> = tracker.claim(now, &planned).collect();
+
+        let list = tracker.arrange(&[peer], &taken); // 7 takes witnesses
+        let getdata = list.part(peer).map(|entry| entry.candidate.item);
+        assert!(getdata.eq([Item::WitnessTx(Txid([1; 32]))]));
+        # Ok::<(), tracker::Error>(())
+        """,
+    "solicit_package_info": """
+        use tracker::{Connection, Key, Now, Parents, Tracker, Txid, Wtxid};
+
+        let mut tracker = Tracker::new(100, 2)?;
+        let (now, peer) = (Now::new(0)?, Connection::new(7).expect("not 0"));
+        let (child, parents, combined) = (Wtxid([9; 32]), [Txid([1; 32])], [5; 32]);
+        assert!(tracker.solicit_package_info(peer, child, Parents::of(&parents), now)?);
+        assert_eq!(tracker.package_info_owner(Key::Wtxid(child), now), Some(peer));
+
+        // The info has come: the package is asked for, and comes in time.
+        let wtxids = [Wtxid([2; 32]), child];
+        assert!(tracker.claim_package(peer, child, &combined, &wtxids, now));
+        assert!(tracker.begin_package_resolution(peer, child, &combined, &wtxids, now));
+
+        // It is of no use: the connection is asked for the parents one by one.
+        assert!(tracker.release_package(peer, child, now).eq([Key::Wtxid(child), Key::Txid(parents[0])]));
+        # Ok::<(), tracker::Error>(())
+        """,
+}
+
+
+def example_of(name):
+    """The example of a method as lines of its comment."""
+    if name not in EXAMPLES:
+        return []
+    lines = textwrap.dedent(EXAMPLES[name]).strip().splitlines()
+    return ["    ///" + (" " + line if line else "") for line in ["", "```", *lines, "```"]]
 
 
 def taken(parameters):
@@ -118,13 +172,14 @@ def taken(parameters):
         if one.kind in SLICES:
             at += 1
             if one.name in ("store", "answer"):
-                start = "as_mut_ptr" if one.kind == "&mut [u8]" else "as_ptr"
-                gives += [f"self.{one.name}.{start}()", f"self.{one.name}.len()"]
+                start, of = "as_mut_ptr" if one.kind == "&mut [u8]" else "as_ptr", "self.answer" if one.name == "answer" else "store"
+                gives += [f"{of}.{start}()", f"{of}.len()"]
                 continue
-            if one.name not in LISTS:
+            if one.name not in LISTS and one.name not in BOUNDED:
                 raise SystemExit(f"no type of Rust for the elements of {one.name}")
-            takes.append(f"{one.name}: &[{LISTS[one.name]}]")
-            first.append(f"let {one.name} = listed({one.name});")
+            kind, elements = BOUNDED.get(one.name) or (f"&[{LISTS[one.name]}]", one.name)
+            takes.append(f"{one.name}: {kind}")
+            first.append(f"let {one.name} = listed({elements});")
             gives += [f"{one.name}.as_ptr()", f"{one.name}.len()"]
         elif one.kind == "&mut u64":
             first.append(f"let mut {one.name} = 0;")
@@ -145,12 +200,26 @@ def handed(name, function):
         found = "Entries<'_>", ENTRIES.format(numbers[0])
     elif name.startswith("plan") and len(numbers) == 2 and "considered" in numbers:
         other = next(number for number in numbers if number != "considered")
-        found = "crate::Planned<'_>", "crate::Planned { considered, entries: " + ENTRIES.format(other) + " }"
+        found = "Planned<'_>", "Planned { considered, entries: " + ENTRIES.format(other) + " }"
     else:
         found = ANSWERED.get(numbers)
     if not found:
         raise SystemExit(f"{function.name}: no value of Rust for the numbers {', '.join(numbers)}")
     return found
+
+
+def only_reads(function):
+    return any(one.name == "store" and one.kind == "&[u8]" for one in function.parameters)
+
+
+def reading(function):
+    """A call that leaves the store as it is, as a method of any tracker."""
+    return method(function) if only_reads(function) else ""
+
+
+def changing(function):
+    """A call that may change the store, as a method of a tracker whose store may be changed."""
+    return "" if only_reads(function) else method(function)
 
 
 def method(function):
@@ -159,17 +228,18 @@ def method(function):
     takes, first, gives = taken(function.parameters)
     kind, value = handed(name, function)
     answers = any(one.name == "answer" for one in function.parameters)
-    writes = answers or any(one.name == "store" and one.kind == "&mut [u8]" for one in function.parameters)
-    refused = any(one.name == "now" or (one.name == "parents" and one.kind in SLICES) for one in function.parameters)
+    refused = name in REFUSED
     result = f"Result<{kind}, Error>" if refused else kind
-    head = signature("    ", name, ["&mut self" if writes else "&self", *takes], (f" -> {result}" if result != "()" else "") + " {")
+    lent = "&self" if only_reads(function) and not answers else "&mut self"
+    head = signature("    ", name, [lent, *takes], (f" -> {result}" if result != "()" else "") + " {")
     need = NEEDS.get("plan" if name.startswith("plan") else name)
     if answers and not need:
         raise SystemExit(f"{function.name}: the need of its answer is not known")
     call = filled(f"abi::{function.name}({listed(gives)})", RUST_WIDTH, " " * 12, " " * 16).replace("\0", " ")
-    lines = [filled(SAID.get(name, function.comment), RUST_WIDTH - 1, "    /// ", "    /// "), head]
+    lines = [filled(SAID.get(name, function.comment), RUST_WIDTH - 1, "    /// ", "    /// "), *example_of(name), head]
     lines += [f"        self.room({need});"] if answers else []
     lines += ["        " + line for line in first]
-    lines += ["        // SAFETY: the store is sound and this tracker's own; what the call may write is lent to it alone."]
+    lines += [f"        let store = self.store.{'bytes' if only_reads(function) else 'bytes_mut'}();"]
+    lines += ["        // SAFETY: the store is sound and nobody else can write it; what the call may write is lent to it alone."]
     lines += ["        let status = unsafe {", call, "        };", f"        {'done' if refused else 'settled'}(status, {value})"]
     return "\n" + "\n".join(lines) + "\n    }\n"

@@ -17,14 +17,16 @@
  * was opened or tested once; these make no such test. No call allocates, blocks, reads a clock, draws a number or keeps anything.
  *
  * STACK: a call takes less than TRACKER_STACK_BYTES. THREADS: calls on different stores are independent; on one store only calls that read
- * (const uint8_t *store) may run at the same time. ALIGNMENT: a store, an answer or a list may stand at any address. What is lent to one
- * call may not overlap what it writes, numbers handed out included; what it only reads may overlap, a hash may point into a list. BYTE
- * ORDER: words in stores, lists and answers are of 8 bytes, the least first; a hash is 32 bytes as on the wire, byte 31 the most
- * significant. A bool is given as 0 or 1. Times are milliseconds of any clock, which may go back.
+ * (const uint8_t *store) may run at the same time. ALIGNMENT: a store, an answer, a list or a hash may stand at any address; a number is
+ * handed out to an aligned uint64_t. OVERLAP: what a call writes, store, answer and each number handed out (*reply, *count ..), may overlap
+ * nothing else that the call is given; what it only reads may overlap. But a hash may point into the store. A list that is empty may be
+ * NULL. BYTE ORDER: words in stores, lists and answers are of 8 bytes, the least first; a hash is 32 bytes as on the wire, byte 31 the most
+ * significant. BOOL: 0 or 1, as C makes of any number; of another value, which only a wrong declaration passes, nothing is promised. Times
+ * are milliseconds of any clock, which may go back.
  *
- * LINKING, on x86-64: `rt staticlib exports` writes target/staticlib/libexports.a, position independent, which wants memset and memmove.
+ * LINKING, on x86-64: bindings/build writes target/lib/libtracker.a, position independent, which wants memset and memmove.
  *
- *     cc -std=c99 -I bindings/c node.c target/staticlib/libexports.a -o node
+ *     cc -std=c99 -I tracker/bindings/c node.c tracker/target/lib/libtracker.a -o node
  *
  *     static uint8_t store[TRACKER_NEED(1000, 16)], answer[TRACKER_SWEEP_NEED];
  *     uint64_t kept, count, status = tracker_open(store, sizeof store, 1000, 16);

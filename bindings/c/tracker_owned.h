@@ -4,9 +4,9 @@
  * that nothing but calls of the tracker has written since. Then the call does what the one in tracker.h does, refusals 4 to 8 included,
  * and leaves a sound store. On other bytes nothing is promised, not even that the call stays inside them.
  *
- * They stand in an archive of their own, which `rt staticlib owned` writes; tracker_open and tracker_sound are in the other one:
+ * They stand in an archive of their own, which bindings/build writes, too; tracker_open and tracker_sound are in the other one:
  *
- *     cc -std=c99 -I bindings/c node.c target/staticlib/libowned.a target/staticlib/libexports.a -o node */
+ *     cc -std=c99 -I tracker/bindings/c node.c tracker/target/lib/libtracker_owned.a tracker/target/lib/libtracker.a -o node */
 #ifndef TRACKER_OWNED_H
 #define TRACKER_OWNED_H
 

@@ -1,6 +1,6 @@
 /* Three connections announce two transactions; one delivers, one stays silent, one leaves. Prints who is asked when.
  *
- *     cc -std=c99 -I bindings/c bindings/c/examples/relay.c target/staticlib/libexports.a -o relay */
+ *     cc -std=c99 -I tracker/bindings/c relay.c tracker/target/lib/libtracker.a -o relay */
 #include <inttypes.h>
 #include <stdio.h>
 #include <stdlib.h>

@@ -1,14 +1,13 @@
 //! Three connections announce two transactions; one delivers, one stays silent, one leaves. Prints who is asked when.
 
-use tracker::{Announcement, Connection, Entry, Error, Item, Key, Tracker, Txid, Wtxid};
+use tracker::{Announcement, Connection, Entry, Error, Item, Key, Now, Tracker, Txid, Wtxid};
 
 /// Asks, at that time, whom the tracker selects.
-fn ask(tracker: &mut Tracker, now: u64) -> Result<(), Error> {
-    let planned: Vec<Entry> = tracker.plan(now)?.entries.collect();
-    for Entry { key, candidate } in tracker.claim(now, &planned)? {
+fn ask(tracker: &mut Tracker, now: Now) {
+    let planned: Vec<Entry> = tracker.plan(now).entries.collect();
+    for Entry { key, candidate } in tracker.claim(now, &planned) {
         println!("{now}: {} is asked for {}", candidate.connection, named(key));
     }
-    Ok(())
 }
 
 fn named(key: Key) -> String {
@@ -27,18 +26,18 @@ fn main() -> Result<(), Error> {
     tracker.announce(&Announcement::new(peer(8), Item::WTx(a)).ready_at(1_000).priority(2));
     tracker.announce(&Announcement::new(peer(9), Item::WTx(a)).ready_at(1_000).priority(3));
     tracker.announce(&Announcement::new(peer(9), Item::Tx(b)).ready_at(1_000).priority(4));
-    ask(&mut tracker, 1_000)?;
+    ask(&mut tracker, Now::new(1_000)?);
 
     println!("1500: {} has come from 9", named(Key::Txid(b)));
-    tracker.forget_known(Key::Txid(b), 1_500)?;
-    ask(&mut tracker, 60_999)?; // nothing: 7 has until 61000
-    ask(&mut tracker, 61_000)?; // 7 stayed silent
-    for key in tracker.disconnected(peer(8), 62_000)?.own {
+    tracker.forget_known(Key::Txid(b), Now::new(1_500)?);
+    ask(&mut tracker, Now::new(60_999)?); // nothing: 7 has until 61000
+    ask(&mut tracker, Now::new(61_000)?); // 7 stayed silent
+    for key in tracker.disconnected(peer(8), Now::new(62_000)?).own {
         println!("62000: 8 leaves {}", named(key));
     }
-    ask(&mut tracker, 62_000)?;
+    ask(&mut tracker, Now::new(62_000)?);
     println!("62500: {} has come from 9", named(Key::Wtxid(a)));
-    tracker.forget_known(Key::Wtxid(a), 62_500)?;
+    tracker.forget_known(Key::Wtxid(a), Now::new(62_500)?);
     println!("{} announcements are held", tracker.sum().held);
     Ok(())
 }

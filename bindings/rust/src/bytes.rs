@@ -17,8 +17,7 @@
 //! # Ok::<(), Error>(())
 //! ```
 
-pub use crate::answers::Figures;
-use crate::answers::{KEY_BYTES as KEY, Keys};
+use crate::answers::{self, Entries, Keys};
 pub use crate::calls::*;
 
 /// One announcement as C takes it. Item types 1 and 0x40000001 stand for the txid, 5 for the wtxid; any other has no key.
@@ -56,16 +55,23 @@ pub struct Plan {
     pub count: usize,
 }
 
-/// Bytes of a key in an answer.
-pub const KEY_BYTES: usize = KEY;
-/// Bytes of an entry in an answer.
-pub const ENTRY_BYTES: usize = crate::answers::ENTRY_BYTES;
+/// Bytes of a key, or of an item, in a list or an answer.
+pub const KEY_BYTES: usize = answers::KEY_BYTES;
+/// Bytes of an entry in a list or an answer.
+pub const ENTRY_BYTES: usize = answers::ENTRY_BYTES;
 /// Bytes of the answer that `announce_parents`, `failed_with_parents` and `release_package` need.
 pub const KEYS_NEED: usize = 101 * KEY_BYTES;
 /// Bytes of the answer that a sweep needs at most: it needs the smaller of 1,024 and L keys.
 pub const SWEEP_NEED: usize = 1_024 * KEY_BYTES;
+/// Bytes of the answer that a plan needs at most: it needs the smaller of 1,025 and L entries.
+pub const PLAN_NEED: usize = 1_025 * ENTRY_BYTES;
 
 /// The first `count` keys of an answer.
 pub fn keys(answer: &[u8], count: usize) -> Keys<'_> {
     Keys::new(answer, count)
+}
+
+/// The first `count` entries of an answer.
+pub fn entries(answer: &[u8], count: usize) -> Entries<'_> {
+    Entries::new(answer, count)
 }

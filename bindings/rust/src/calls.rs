@@ -1,8 +1,6 @@
 //! The checked calls.
 
-// Of a call that answers a part of a list.
-#[allow(unused_imports)]
-use std::ops::Range;
+use core::ops::Range;
 
 use crate::bytes::{Candidate, Left, Plan};
 use crate::error::done;

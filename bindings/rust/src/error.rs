@@ -1,6 +1,6 @@
 //! Refusals.
 
-use std::fmt;
+use core::fmt;
 
 /// Why a call was refused: a row of the table of refusals (docs/API.md), with its number. Nothing was changed.
 #[derive(Clone, Copy, Debug, Eq, Hash, PartialEq)]
@@ -63,7 +63,7 @@ impl fmt::Display for Error {
     }
 }
 
-impl std::error::Error for Error {}
+impl core::error::Error for Error {}
 
 /// The value of a call that was carried out, else its refusal.
 pub(crate) fn done<T>(status: u64, value: T) -> Result<T, Error> {

@@ -1,6 +1,8 @@
 //! Lists that are given to a call, as bytes (docs/API.md, "Arguments and answers as bytes").
 
-use crate::{Announcement, Connection, Entry, Item, Key, Txid, Wtxid};
+use alloc::vec::Vec;
+
+use crate::{Connection, Entry, Item, Key, Txid, Wtxid};
 
 /// A value as an element of a list that is given.
 pub(crate) trait Listed {
@@ -14,62 +16,26 @@ pub(crate) fn listed<T: Listed>(values: &[T]) -> Vec<u8> {
     list
 }
 
-impl Listed for u64 {
-    fn append(&self, list: &mut Vec<u8>) {
-        list.extend(self.to_le_bytes());
-    }
+macro_rules! listed {
+    ($($type:ty: |$value:ident| $bytes:expr),* $(,)?) => {$(
+        impl Listed for $type {
+            fn append(&self, list: &mut Vec<u8>) {
+                let $value = self;
+                list.extend($bytes);
+            }
+        }
+    )*};
 }
 
-impl Listed for Connection {
-    fn append(&self, list: &mut Vec<u8>) {
-        self.get().append(list);
-    }
-}
-
-impl Listed for Txid {
-    fn append(&self, list: &mut Vec<u8>) {
-        list.extend(self.0);
-    }
-}
-
-impl Listed for Wtxid {
-    fn append(&self, list: &mut Vec<u8>) {
-        list.extend(self.0);
-    }
-}
-
-impl Listed for [u8; 32] {
-    fn append(&self, list: &mut Vec<u8>) {
-        list.extend(self);
-    }
-}
-
-impl Listed for Key {
-    fn append(&self, list: &mut Vec<u8>) {
-        let (kind, hash) = self.parts();
-        kind.append(list);
-        hash.append(list);
-    }
-}
-
-impl Listed for Item {
-    fn append(&self, list: &mut Vec<u8>) {
-        let (number, hash) = self.parts();
-        u64::from(number).append(list);
-        hash.append(list);
-    }
-}
-
-impl Listed for Entry {
-    fn append(&self, list: &mut Vec<u8>) {
-        let Announcement { connection, item, ready, preferred, priority } = &self.candidate;
-        self.key.append(list);
-        connection.append(list);
-        item.append(list);
-        ready.append(list);
-        u64::from(*preferred).append(list);
-        priority.append(list);
-    }
+listed! {
+    u64: |word| word.to_le_bytes(),
+    Connection: |connection| connection.get().to_le_bytes(),
+    Txid: |txid| txid.0,
+    Wtxid: |wtxid| wtxid.0,
+    [u8; 32]: |hash| hash,
+    Key: |key| key.to_bytes(),
+    Item: |item| item.to_bytes(),
+    Entry: |entry| entry.to_bytes(),
 }
 
 /// Items with a priority each, as the two lists that a call takes.

@@ -1,60 +1,92 @@
-//! A tracker that owns its bytes.
+//! A tracker whose bytes nobody else writes.
 
-use std::fmt;
+use alloc::vec;
+use alloc::vec::Vec;
+use core::fmt;
 
-use crate::{Entries, Error, Figures, Keys, Sizes, bytes};
+use crate::store::{Store, StoreMut};
+use crate::{Error, Figures, Sizes, bytes};
 
-/// A tracker with its store. Nobody else can write the bytes, so that they are tested once, when they come from elsewhere, and
-/// refusals 3, 4 and 7 cannot occur. Two are equal if they are in one state: a state has one image.
+/// A tracker with its store, which it owns unless it is a [`TrackerMut`] or a [`TrackerRef`].
+///
+/// Nobody else can write the bytes while it has them, so that they are tested once, when they come from elsewhere, and its calls
+/// make no test of them. Types leave one refusal, that of a package for which there is no place. Answers are iterators over a
+/// buffer that the tracker owns, and uses again in its next call. Two trackers are equal if they are in one state: a state has one
+/// image at its sizes.
+///
+/// ```
+/// use tracker::{Announcement, Connection, Entry, Item, Key, Now, Tracker, Wtxid};
+///
+/// let mut tracker = Tracker::new(1_000, 16)?;
+/// let (silent, next) = (Connection::new(7).expect("not 0"), Connection::new(8).expect("not 0"));
+/// let item = Item::WTx(Wtxid([0xaa; 32]));
+/// tracker.announce(&Announcement::new(silent, item).preferred());
+/// tracker.announce(&Announcement::new(next, item));
+///
+/// let planned: Vec<Entry> = tracker.plan(Now::new(1_000)?).entries.collect(); // who is to be asked for what
+/// let asked = tracker.claim(Now::new(1_000)?, &planned).map(|entry| entry.candidate.connection);
+/// assert!(asked.eq([silent])); // a getdata goes out: it has a minute
+/// let planned: Vec<Entry> = tracker.plan(Now::new(61_000)?).entries.collect();
+/// assert_eq!(planned[0].candidate.connection, next); // it has not come: the other one is asked
+/// # Ok::<(), tracker::Error>(())
+/// ```
 #[derive(Clone)]
-pub struct Tracker {
+pub struct Tracker<S = Vec<u8>> {
     /// A sound store, of its need: opened or tested, and written by calls alone.
-    pub(crate) store: Vec<u8>,
+    pub(crate) store: S,
     pub(crate) sizes: Sizes,
     /// Where calls answer.
     pub(crate) answer: Vec<u8>,
 }
 
-/// What a connection left.
-#[derive(Clone, Debug)]
-pub struct Departed<'a> {
-    /// The keys where it was a candidate.
-    pub own: Keys<'a>,
-    /// Those of parents that others are asked for.
-    pub parents: Keys<'a>,
-}
+/// A tracker over bytes that are lent to it and that nobody else writes meanwhile: a static array, a part of a larger buffer.
+///
+/// ```
+/// use tracker::{Announcement, Connection, Item, Sizes, TrackerMut, TrackerRef, Txid};
+///
+/// let mut bytes = vec![0; 30_000]; // the host's
+/// let mut tracker = TrackerMut::open(&mut bytes, Sizes::new(100, 2)?)?;
+/// let peer = Connection::new(7).expect("not 0");
+/// assert!(tracker.announce(&Announcement::new(peer, Item::Tx(Txid([1; 32])))));
+///
+/// assert_eq!(TrackerRef::from_bytes(&bytes)?.sum().held, 1); // tested anew: the host had them
+/// # Ok::<(), tracker::Error>(())
+/// ```
+pub type TrackerMut<'a> = Tracker<&'a mut [u8]>;
 
-impl<'a> Departed<'a> {
-    /// So many keys of its own at the start of the answer, so many of parents behind them.
-    pub(crate) fn new(answer: &'a [u8], own: usize, parents: usize) -> Self {
-        Self { own: Keys::new(answer, own), parents: Keys::new(&answer[own * bytes::KEY_BYTES..], parents) }
-    }
-}
-
-/// What a plan selects.
-#[derive(Clone, Debug)]
-pub struct Planned<'a> {
-    /// How many keys were considered.
-    pub considered: u64,
-    /// Who is to be asked for what, by priority.
-    pub entries: Entries<'a>,
-}
+/// A tracker over bytes that are lent to it to be read: the calls that leave them as they are.
+pub type TrackerRef<'a> = Tracker<&'a [u8]>;
 
 impl Tracker {
-    /// An empty tracker with room for L announcements, 1 to 100,000, and Q packages under way, 1 to 4,096.
+    /// An empty tracker with room for L announcements, 1 to 100,000, and Q packages under way, 1 to 4,096;
+    /// [`Error::SizesOutOfRange`] for others.
     pub fn new(l: u64, q: u64) -> Result<Self, Error> {
         Sizes::new(l, q).map(Self::with_sizes)
     }
 
     /// An empty tracker of these sizes.
     pub fn with_sizes(sizes: Sizes) -> Self {
-        let mut store = vec![0; sizes.need()];
-        let opened = bytes::open(&mut store, sizes.announcements(), sizes.places());
-        opened.expect("sizes in range, a store of their need");
-        Self { store, sizes, answer: Vec::new() }
+        opened(vec![0; sizes.need()], sizes).expect("a store of their need")
     }
+}
 
-    /// A tracker of bytes that [`as_bytes`](Self::as_bytes) gave, here or elsewhere. They are tested; those past the need go.
+impl<'a> TrackerMut<'a> {
+    /// Makes the bytes an empty tracker of these sizes, whatever they were; [`Error::StoreTooShort`] below their need. Bytes past
+    /// the need stay.
+    pub fn open(store: &'a mut [u8], sizes: Sizes) -> Result<Self, Error> {
+        opened(store, sizes)
+    }
+}
+
+/// An empty tracker of these sizes on that store.
+fn opened<S: StoreMut>(mut store: S, sizes: Sizes) -> Result<Tracker<S>, Error> {
+    bytes::open(store.bytes_mut(), sizes.announcements(), sizes.places())?;
+    Ok(Tracker { store: store.cut(sizes.need()), sizes, answer: Vec::new() })
+}
+
+impl<S: Store> Tracker<S> {
+    /// A tracker of bytes that [`as_bytes`](Self::as_bytes) gave, here or elsewhere: they are tested, and [`Error::NotSound`] if
+    /// they write no sound state. Those past the need are no part of it.
     ///
     /// ```
     /// use tracker::{Error, Tracker};
@@ -65,24 +97,21 @@ impl Tracker {
     /// assert_eq!(Tracker::from_bytes(vec![1; 99]), Err(Error::NotSound));
     /// # Ok::<(), Error>(())
     /// ```
-    pub fn from_bytes(store: impl Into<Vec<u8>>) -> Result<Self, Error> {
-        let mut store = store.into();
-        if !bytes::sound(&store) {
+    pub fn from_bytes(store: S) -> Result<Self, Error> {
+        if !bytes::sound(store.bytes()) {
             return Err(Error::NotSound);
         }
-        let word = |at: usize| u64::from_le_bytes(store[8 * at..8 * at + 8].try_into().expect("8 bytes"));
-        let sizes = Sizes::new(word(1), word(2)).expect("a sound store has sizes in range");
-        store.truncate(sizes.need());
-        Ok(Self { store, sizes, answer: Vec::new() })
+        let sizes = Sizes::of(store.bytes()).expect("a sound store has sizes in range");
+        Ok(Self { store: store.cut(sizes.need()), sizes, answer: Vec::new() })
     }
 
     /// The store: the image of the tracker's state.
     pub fn as_bytes(&self) -> &[u8] {
-        &self.store
+        self.store.bytes()
     }
 
     /// The same, given up.
-    pub fn into_bytes(self) -> Vec<u8> {
+    pub fn into_bytes(self) -> S {
         self.store
     }
 
@@ -99,22 +128,22 @@ impl Tracker {
     }
 }
 
-impl PartialEq for Tracker {
-    fn eq(&self, other: &Self) -> bool {
-        self.store == other.store
+impl<S: Store, T: Store> PartialEq<Tracker<T>> for Tracker<S> {
+    fn eq(&self, other: &Tracker<T>) -> bool {
+        self.as_bytes() == other.as_bytes()
     }
 }
 
-impl Eq for Tracker {}
+impl<S: Store> Eq for Tracker<S> {}
 
-impl fmt::Debug for Tracker {
+impl<S: Store> fmt::Debug for Tracker<S> {
     fn fmt(&self, f: &mut fmt::Formatter<'_>) -> fmt::Result {
         let Figures { held, .. } = self.sum();
         f.debug_struct("Tracker").field("sizes", &self.sizes).field("held", &held).finish_non_exhaustive()
     }
 }
 
-/// A call that no refusal can meet by the types of its arguments was carried out.
+/// The value of a call that nothing can refuse, by the types of its arguments.
 pub(crate) fn settled<T>(status: u64, value: T) -> T {
     assert_eq!(status, 0, "a call that nothing refuses");
     value

@@ -1,9 +1,21 @@
 //! What a tracker has room for, and the bytes that follow from it.
 
 use crate::Error;
-use crate::answers::{ENTRY_BYTES, KEY_BYTES};
+use crate::answers::{ENTRY_BYTES, KEY_BYTES, word};
 
 /// How many announcements (L) and package places (Q) a tracker has room for: 1 to 100,000 and 1 to 4,096.
+///
+/// ```
+/// use tracker::{Error, Sizes};
+///
+/// const SIZES: Sizes = match Sizes::new(100, 2) {
+///     Ok(sizes) => sizes,
+///     Err(_) => panic!("out of range"),
+/// };
+/// let store = [0_u8; SIZES.need()];
+/// assert_eq!(store.len(), 22_976);
+/// assert_eq!(Sizes::new(0, 2), Err(Error::SizesOutOfRange));
+/// ```
 #[derive(Clone, Copy, Debug, Eq, Hash, PartialEq)]
 pub struct Sizes {
     announcements: u64,
@@ -17,6 +29,12 @@ impl Sizes {
             return Err(Error::SizesOutOfRange);
         }
         Ok(Self { announcements, places })
+    }
+
+    /// Those of a store, as its header has them; none if it is too short for one or they are out of range. Of bytes that are not
+    /// sound they say nothing.
+    pub fn of(store: &[u8]) -> Option<Self> {
+        if store.len() < 24 { None } else { Self::new(word(store, 1), word(store, 2)).ok() }
     }
 
     /// L.

@@ -1,19 +1,36 @@
 //! What calls are given and answer: identities, items, connections, announcements.
 
-use std::fmt;
-use std::num::NonZeroU64;
+use core::cmp::Ordering;
+use core::fmt;
+use core::num::NonZeroU64;
+
+use crate::Error;
+use crate::answers::{KEY_BYTES, put};
 
 macro_rules! ids {
     ($($(#[$doc:meta])* $name:ident),*) => {$(
         $(#[$doc])*
         ///
-        /// 32 bytes as they stand on the wire, byte 31 the most significant; shown from there, as explorers do.
-        #[derive(Clone, Copy, Eq, Hash, Ord, PartialEq, PartialOrd)]
+        /// 32 bytes as they stand on the wire, byte 31 the most significant; shown from there, as explorers do, and ordered by
+        /// number, as the tracker does.
+        #[derive(Clone, Copy, Eq, Hash, PartialEq)]
         #[repr(transparent)]
         pub struct $name(
             /// The bytes.
             pub [u8; 32],
         );
+
+        impl Ord for $name {
+            fn cmp(&self, other: &Self) -> Ordering {
+                self.0.iter().rev().cmp(other.0.iter().rev())
+            }
+        }
+
+        impl PartialOrd for $name {
+            fn partial_cmp(&self, other: &Self) -> Option<Ordering> {
+                Some(self.cmp(other))
+            }
+        }
 
         impl fmt::Display for $name {
             fn fmt(&self, f: &mut fmt::Formatter<'_>) -> fmt::Result {
@@ -48,8 +65,8 @@ ids! {
     Wtxid
 }
 
-/// A request's key. The two keys of one hash are two requests.
-#[derive(Clone, Copy, Debug, Eq, Hash, PartialEq)]
+/// A request's key. The two keys of one hash are two requests. Every Txid key is before every Wtxid key.
+#[derive(Clone, Copy, Debug, Eq, Hash, Ord, PartialEq, PartialOrd)]
 pub enum Key {
     /// Of a transaction whose witness may be any.
     Txid(Txid),
@@ -70,6 +87,32 @@ impl Key {
     pub const fn from_parts(kind: u64, hash: [u8; 32]) -> Self {
         if kind == 0 { Self::Txid(Txid(hash)) } else { Self::Wtxid(Wtxid(hash)) }
     }
+
+    /// As an element of a list that is given.
+    pub fn to_bytes(&self) -> [u8; KEY_BYTES] {
+        let (kind, hash) = self.parts();
+        element(kind, hash)
+    }
+}
+
+impl From<Txid> for Key {
+    fn from(txid: Txid) -> Self {
+        Self::Txid(txid)
+    }
+}
+
+impl From<Wtxid> for Key {
+    fn from(wtxid: Wtxid) -> Self {
+        Self::Wtxid(wtxid)
+    }
+}
+
+/// A number and a hash, as a key and an item stand in a list.
+fn element(number: u64, hash: &[u8; 32]) -> [u8; KEY_BYTES] {
+    let mut bytes = [0; KEY_BYTES];
+    put(&mut bytes, 0, number);
+    bytes[8..].copy_from_slice(hash);
+    bytes
 }
 
 /// An item of an inv, a getdata or a notfound.
@@ -115,9 +158,22 @@ impl Item {
             _ => None,
         }
     }
+
+    /// As an element of a list that is given.
+    pub fn to_bytes(&self) -> [u8; KEY_BYTES] {
+        let (number, hash) = self.parts();
+        element(number.into(), hash)
+    }
 }
 
 /// A connection: any 64-bit number that the host has for it, but 0.
+///
+/// ```
+/// use tracker::{Connection, Error};
+///
+/// assert_eq!(Connection::new(7).map(Connection::get), Some(7));
+/// assert_eq!(Connection::try_from(0), Err(Error::NoConnection));
+/// ```
 #[derive(Clone, Copy, Debug, Eq, Hash, Ord, PartialEq, PartialOrd)]
 #[repr(transparent)]
 pub struct Connection(NonZeroU64);
@@ -143,6 +199,14 @@ impl From<NonZeroU64> for Connection {
     }
 }
 
+impl TryFrom<u64> for Connection {
+    type Error = Error;
+
+    fn try_from(number: u64) -> Result<Self, Error> {
+        Self::new(number).ok_or(Error::NoConnection)
+    }
+}
+
 impl fmt::Display for Connection {
     fn fmt(&self, f: &mut fmt::Formatter<'_>) -> fmt::Result {
         self.0.fmt(f)
@@ -150,6 +214,14 @@ impl fmt::Display for Connection {
 }
 
 /// That a connection can deliver an item: from when on, and how it ranks.
+///
+/// ```
+/// use tracker::{Announcement, Connection, Item, Txid};
+///
+/// let peer = Connection::new(7).expect("not 0");
+/// let announced = Announcement::new(peer, Item::Tx(Txid([1; 32]))).preferred().ready_at(1_000).priority(5);
+/// assert_eq!((announced.ready, announced.preferred, announced.priority), (1_000, true, 5));
+/// ```
 #[derive(Clone, Copy, Debug, Eq, Hash, PartialEq)]
 pub struct Announcement {
     /// Who can deliver.

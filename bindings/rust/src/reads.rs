@@ -1,0 +1,69 @@
+//! The calls of a tracker that leave its store as it is.
+
+use crate::abi::owned as abi;
+use crate::lists::listed;
+use crate::owner::settled;
+use crate::{Connection, Entries, Entry, Figures, Key, Now, Store, Tracker, bytes};
+
+impl<S: Store> Tracker<S> {
+    // begin: written by bindings/generate out of crates/owned/src
+
+    /// How many announcements are held, how many more fit, and how full the tracker is in thousandths.
+    pub fn sum(&self) -> Figures {
+        let mut held = 0;
+        let mut room = 0;
+        let mut permille = 0;
+        let store = self.store.bytes();
+        // SAFETY: the store is sound and nobody else can write it; what the call may write is lent to it alone.
+        let status = unsafe {
+            abi::tracker_owned_sum(store.as_ptr(), store.len(), &mut held, &mut room, &mut permille)
+        };
+        settled(status, Figures { held, free: room, permille })
+    }
+
+    /// What a claim has taken, by ascending connection, then in claim order. A t item of a marked request
+    /// turns v for a witness connection.
+    ///
+    /// ```
+    /// use tracker::{Connection, Entry, Item, Now, Parents, Tracker, Txid};
+    ///
+    /// let mut tracker = Tracker::new(100, 2)?;
+    /// let (now, peer) = (Now::new(0)?, Connection::new(7).expect("not 0"));
+    /// tracker.announce_parents(peer, Parents::of(&[Txid([1; 32])]), now); // a request with the mark
+    /// let planned: Vec<Entry> = tracker.plan(now).entries.collect();
+    /// let taken: Vec<Entry> = tracker.claim(now, &planned).collect();
+    ///
+    /// let list = tracker.arrange(&[peer], &taken); // 7 takes witnesses
+    /// let getdata = list.part(peer).map(|entry| entry.candidate.item);
+    /// assert!(getdata.eq([Item::WitnessTx(Txid([1; 32]))]));
+    /// # Ok::<(), tracker::Error>(())
+    /// ```
+    pub fn arrange(&mut self, witnesses: &[Connection], taken: &[Entry]) -> Entries<'_> {
+        self.room(taken.len() * bytes::ENTRY_BYTES);
+        let witnesses = listed(witnesses);
+        let taken = listed(taken);
+        let mut count = 0;
+        let store = self.store.bytes();
+        // SAFETY: the store is sound and nobody else can write it; what the call may write is lent to it alone.
+        let status = unsafe {
+            abi::tracker_owned_arrange(store.as_ptr(), store.len(), witnesses.as_ptr(), witnesses.len(),
+                taken.as_ptr(), taken.len(), self.answer.as_mut_ptr(), self.answer.len(), &mut count)
+        };
+        settled(status, Entries::new(&self.answer, count as usize))
+    }
+
+    /// The connection that is asked for package info of the request at the key, and in time.
+    pub fn package_info_owner(&self, key: Key, now: Now) -> Option<Connection> {
+        let (kind, hash) = key.parts();
+        let mut owner = 0;
+        let store = self.store.bytes();
+        // SAFETY: the store is sound and nobody else can write it; what the call may write is lent to it alone.
+        let status = unsafe {
+            abi::tracker_owned_package_info_owner(store.as_ptr(), store.len(), kind, hash, now.millis(),
+                &mut owner)
+        };
+        settled(status, Connection::new(owner))
+    }
+
+    // end: written by bindings/generate
+}
