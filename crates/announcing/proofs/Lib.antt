@@ -8,3 +8,5 @@ pub mod Repeats
 pub mod Listing
 pub mod Heads
 pub mod Taking
+pub mod Falling
+pub mod Ranking

@@ -50,7 +50,7 @@ upon-append : (o : Option Entry) (a b : List Entry) → upon o (a ++ b) ≡ upon
 upon-append o [] b = ap (λ (x : Option Entry). upon x b) (sym (upon-nil o))
 upon-append o (e ∷ a) b = upon-more o e (a ++ b) ∙ upon-append (some (greater o e)) a b ∙ ap (λ (x : Option Entry). upon x b) (sym (upon-more o e a))
 
-over-append : (o : Option Entry) (a b : List Row) → greatestOver o (a ++ b) ≡ greatestOver (greatestOver o a) b
+pub over-append : (o : Option Entry) (a b : List Row) → greatestOver o (a ++ b) ≡ greatestOver (greatestOver o a) b
 unfolding greatestOver
 over-append o [] b = refl
 over-append o (r ∷ a) b = over-append (orRow o r) a b

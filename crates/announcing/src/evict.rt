@@ -42,7 +42,7 @@ pub fn nobody() -> Victim
 }
 
 // Whether a row's bits say that its candidate is preferred, or owns its request.
-fn stays(bits: u64) -> bool
+pub fn stays(bits: u64) -> bool
     ensures { λ r. ⌜ r ≡ protected bits ⌝ }
 {
     (bits / 4 % 2 == 1) | (bits / 8 % 2 == 1)
@@ -83,7 +83,7 @@ fn key_after(a: regions::Row, b: regions::Row) -> bool
 }
 
 // Whether a comes after b by (priority, key, connection).
-fn after(a: regions::Row, b: regions::Row) -> bool
+pub fn after(a: regions::Row, b: regions::Row) -> bool
     ensures { λ r. ⌜ r ≡ machine.after (entryAt a) (entryAt b) ⌝ }
 {
     if b.prio < a.prio {
