@@ -10,3 +10,5 @@ pub mod Heads
 pub mod Taking
 pub mod Falling
 pub mod Ranking
+pub mod Giving
+pub mod Swapping

@@ -97,6 +97,9 @@ over-table (r ∷ t) o a =
     ∙ over-table t (upon o (victimsIn r (r .candidates))) (a .1)
     ∙ sym (upon-append o (victimsIn r (r .candidates)) (victims anywhere t))
 
+pub greatest-rows : (t : Table) → All Lawful t → greatestOver none (rowsOf t) ≡ greatest (victims anywhere t)
+greatest-rows t a = over-table t none a
+
 pub found-anywhere : (t : Table) → All Lawful t → {o : Option Entry} → o ≡ none → {n : ℕ} → n ≡ length (rowsOf t) → greatestOver o (part 0 n (rowsOf t)) ≡ greatest (victims anywhere t)
 found-anywhere t a {o} e {n} l =
     let m : length (rowsOf t) ≤ n - 0 = omega arith in
