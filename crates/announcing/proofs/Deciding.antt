@@ -39,7 +39,7 @@ barred-second {r} {a} {x} {b} e n q = q ∙ ap (λ (z : Bool). z || b) (sym n �
 
 -- ---- the greatest of a list is one of it
 
-greatest-each : (P : Entry → Type 0) (l : List Entry) → Each P l → {e : Entry} → greatest l ≡ some e → P e
+pub greatest-each : (P : Entry → Type 0) (l : List Entry) → Each P l → {e : Entry} → greatest l ≡ some e → P e
 unfolding greatest
 greatest-each P [] a q = let z : _≡_ {A = ℕ} 0 1 = cc in absurd (omega arith)
 greatest-each P (v ∷ l) a {e} q = let z : greatestFrom v l ≡ e = cc in subst P z (greatest-of P v l (a .0) (a .1))

@@ -8,3 +8,7 @@ pub mod Repeats
 pub mod Listing
 pub mod Heads
 pub mod Taking
+pub mod Falling
+pub mod Ranking
+pub mod Giving
+pub mod Swapping

@@ -2,14 +2,14 @@
 -- Assumes nothing.
 use Prim.Native.Nat.{ℕ, zero, suc, _+_, _-_, _%_, _^_, _≤_, _<_}
 use mathlib.Core.Path.{_≡_, refl, sym, ap, _∙_}
-use mathlib.Core.Bool.{Bool, true, false, not, _||_}
+use mathlib.Core.Bool.{Bool, true, false, not, _&&_, _||_}
 use mathlib.Core.List.{List}
 use mathlib.Core.Option.{Option, none, some}
 use native.Mathlib.Omega.{arith}
 use lib.Dec.{ltb, eqb}
 use lib.ListN.{length, getD}
 use lib.Seq.{drop-cons}
-use borrow.Author.Tests.{lt-ltb, le-ltb, eq-eqb, ne-eqb, not-true, not-false}
+use borrow.Author.Tests.{lt-ltb, le-ltb, ltb-true, not-true, not-false}
 use Rattle.ident.specs.declared.Kind.{Kind}
 use Rattle.ident.specs.declared.Kind.the-variants.{Wtxid}
 use Rattle.ident.specs.If.{if_then_else_}
@@ -20,6 +20,7 @@ use Rattle.regions.specs.declared.Key.{Key as RowKey}
 use Rattle.regions.specs.Rows.{quadWords, quadNumber, keyNumber, keyOf}
 use Rattle.machine.specs.State.{Entry}
 use Rattle.machine.specs.Announce.{after}
+use Rattle.machine.proofs.Tests.{by-test, never, or-left}
 use Rattle.store.specs.Gather.{kindIs, keyAt, candidateAt}
 use Rattle.store.proofs.Keys.{row-number}
 use Rattle.announcing.specs.declared.evict.Victim.{Victim}
@@ -65,19 +66,24 @@ module _ (a b : Row) where
 
 -- ---- one row more
 
-module _ (x y : ℕ) where
-  pub first-bit : x ≡ 1 → eqb x 1 ≡ (eqb x 1 || eqb y 1)
-  first-bit e = rw (eq-eqb x 1 e)
-
-  pub second-bit : (x ≡ 1 → ⊥) → eqb y 1 ≡ (eqb x 1 || eqb y 1)
-  second-bit n = rw (ne-eqb x 1 n)
-
 pub none-found : (v : Victim) → v .some ≡ false → found v ≡ none
 none-found v e = ap (λ (b : Bool). if b then some (entryAt (v .row)) else none) e
 
 -- what a scan has found, as a flag and a row
 abbrev is : Bool → Row → Option Entry
 is b row = if b then some (entryAt row) else none
+
+-- a row that passes by its bits or its priority alone
+module _ (r row : Row) (b : Bool) {x : Bool} (ex : x ≡ (protected (r .bits) || (b && ltb (r .prio) (row .prio)))) where
+  pub row-passes : x ≡ true → is b row ≡ orRow (is b row) r
+  row-passes e = by-test (λ (o : Option Entry). is b row ≡ o) (protected (r .bits)) (λ _. refl) (λ n. less b (sym (rw n at ex) ∙ e))
+    where
+      less : (z : Bool) → (z && ltb (r .prio) (row .prio)) ≡ true → is z row ≡ some (greater (is z row) (entryAt r))
+      less false q = never q
+      less true q = rw (sym (prio-lower r row (ltb-true (r .prio) (row .prio) q)))
+
+  pub row-free : x ≡ false → false ≡ protected (r .bits)
+  row-free e = sym (or-left (protected (r .bits)) (b && ltb (r .prio) (row .prio)) (sym ex ∙ e))
 
 module _ (r : Row) {x : Bool} (ex : x ≡ protected (r .bits)) where
   pub row-stays : x ≡ true → (o : Option Entry) → o ≡ orRow o r

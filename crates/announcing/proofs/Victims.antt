@@ -50,7 +50,7 @@ upon-append : (o : Option Entry) (a b : List Entry) → upon o (a ++ b) ≡ upon
 upon-append o [] b = ap (λ (x : Option Entry). upon x b) (sym (upon-nil o))
 upon-append o (e ∷ a) b = upon-more o e (a ++ b) ∙ upon-append (some (greater o e)) a b ∙ ap (λ (x : Option Entry). upon x b) (sym (upon-more o e a))
 
-over-append : (o : Option Entry) (a b : List Row) → greatestOver o (a ++ b) ≡ greatestOver (greatestOver o a) b
+pub over-append : (o : Option Entry) (a b : List Row) → greatestOver o (a ++ b) ≡ greatestOver (greatestOver o a) b
 unfolding greatestOver
 over-append o [] b = refl
 over-append o (r ∷ a) b = over-append (orRow o r) a b
@@ -96,6 +96,9 @@ over-table (r ∷ t) o a =
     ∙ ap (λ (x : Option Entry). greatestOver x (rowsOf t)) (over-request r (r .candidates) o (a .0 .candidates))
     ∙ over-table t (upon o (victimsIn r (r .candidates))) (a .1)
     ∙ sym (upon-append o (victimsIn r (r .candidates)) (victims anywhere t))
+
+pub greatest-rows : (t : Table) → All Lawful t → greatestOver none (rowsOf t) ≡ greatest (victims anywhere t)
+greatest-rows t a = over-table t none a
 
 pub found-anywhere : (t : Table) → All Lawful t → {o : Option Entry} → o ≡ none → {n : ℕ} → n ≡ length (rowsOf t) → greatestOver o (part 0 n (rowsOf t)) ≡ greatest (victims anywhere t)
 found-anywhere t a {o} e {n} l =

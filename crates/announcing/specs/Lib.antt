@@ -1,3 +1,4 @@
 pub mod Answers
 pub mod Evicts
 pub mod Enters
+pub mod Falls

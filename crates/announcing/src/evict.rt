@@ -1,8 +1,9 @@
 // Which announcement gives way to a preferred one: of the unpreferred candidates that do not own their request, the one with the
 // greatest (priority, key, connection) (document 01, "announce").
 ghost use mathlib.Core.Path.{_≡_};
-ghost use mathlib.Core.Bool.{false};
+ghost use mathlib.Core.Bool.{false, _&&_, _||_};
 ghost use Prim.Native.Nat.{_≤_};
+ghost use lib.Dec.{ltb};
 ghost use Rattle.ident.specs.Words.{hashNum, keyNum};
 ghost use Rattle.regions.specs.Rows.{keyOf};
 ghost use Rattle.machine.specs.Announce as machine;
@@ -41,10 +42,19 @@ pub fn nobody() -> Victim
 }
 
 // Whether a row's bits say that its candidate is preferred, or owns its request.
-fn stays(bits: u64) -> bool
+pub fn stays(bits: u64) -> bool
     ensures { λ r. ⌜ r ≡ protected bits ⌝ }
 {
-    bits / 4 % 2 == 1 || bits / 8 % 2 == 1
+    (bits / 4 % 2 == 1) | (bits / 8 % 2 == 1)
+}
+
+// Whether a row's bits or its priority alone tell that it is not greater than what has been found. Most rows of a scan end here, in one
+// branch: `|` and `&` have none.
+fn passed(best: Victim, r: regions::Row) -> bool
+    ensures { λ p. ⌜ p ≡ (protected (r .bits) || (best .some && ltb (r .prio) (best .row .prio))) ⌝ }
+{
+    let row = best.row;
+    stays(r.bits) | (best.some & (r.prio < row.prio))
 }
 
 pub fn row_key(r: regions::Row) -> regions::Key
@@ -73,7 +83,7 @@ fn key_after(a: regions::Row, b: regions::Row) -> bool
 }
 
 // Whether a comes after b by (priority, key, connection).
-fn after(a: regions::Row, b: regions::Row) -> bool
+pub fn after(a: regions::Row, b: regions::Row) -> bool
     ensures { λ r. ⌜ r ≡ machine.after (entryAt a) (entryAt b) ⌝ }
 {
     if b.prio < a.prio {
@@ -89,7 +99,7 @@ fn after(a: regions::Row, b: regions::Row) -> bool
 fn greater(best: Victim, r: regions::Row) -> Victim
     ensures { λ v. ⌜ found v ≡ orRow (found best) r ⌝ }
 {
-    if stays(r.bits) {
+    if passed(best, r) {
         return best;
     }
     if best.some {

@@ -5,6 +5,7 @@ ghost use Rattle.requests.specs.Changes.{candidateOf};
 ghost use Rattle.announcing.specs.Answers.{Answered};
 
 pub mod evict;
+pub mod foremost;
 pub mod keyed;
 pub mod parent;
 pub mod parents;

@@ -104,38 +104,43 @@ module _ (st : State) (s : Sound st) (k : Key) (c : Candidate) (small : k .hash 
 
 -- ---- who waits then
 
-each-more : (P : Entry → Type 0) (l : List Entry) (b : Entry) → Each P l → P b → Each P (l ++ (b ∷ []))
+pub each-more : (P : Entry → Type 0) (l : List Entry) (b : Entry) → Each P l → P b → Each P (l ++ (b ∷ []))
 each-more P [] b h r = (r, tt)
 each-more P (x ∷ l) b h r = (h .0, each-more P l b (h .1) r)
 
-same : {n : ℕ} {t : Table} {es : List Entry} {w : List ℕ} {d r : ℕ} → Aside n t es w d → r ≡ 0 → Aside n t es w (d + r)
-same a e = record { ready = a .ready; idle = a .idle; count = omega (arith, a .count); rows = a .rows }
+pub same-aside : {n : ℕ} {t : Table} {es : List Entry} {w : List ℕ} {d r : ℕ} → Aside n t es w d → r ≡ 0 → Aside n t es w (d + r)
+same-aside a e = record { ready = a .ready; idle = a .idle; count = omega (arith, a .count); rows = a .rows }
+
+-- one more, whose row is put in its place
+pub aside-more : (k : Key) (c : Candidate) {t : Table} {es : List Entry} {w w′ : List ℕ} {d : ℕ} → Aside (c .connection) t es w d → {y : Row} → k .hash < top → d < space → ownerIs (c .connection) ((at k t) .owner) ≡ false → y ≡ rowOf (at k t) c → PutIn w w′ d y
+    → Aside (c .connection) t (es ++ (record { key = k; candidate = c } ∷ [])) w′ (d + 1)
+aside-more k c {t} {es} {w} {w′} {d} a {y} small l i e p =
+    let b : Entry = record { key = k; candidate = c } in
+    let one : placed y (gathered t es []) ≡ gathered t (es ++ (b ∷ [])) [] = ap (λ (z : Row). placed z (gathered t es [])) e ∙ sym (gathered-more t es b []) in
+    record {
+      ready = each-more (Ready (c .connection)) es b (a .ready) (record { mine = refl; small = small });
+      idle = each-more (λ (x : Entry). ownerIs (x .candidate .connection) ((at (x .key) t) .owner) ≡ false) es b (a .idle) i;
+      count = length-append es (b ∷ []) ∙ omega (arith, a .count);
+      rows = subst (λ (zs : List Row). Holds rowSize rowWords space zs w′) one (p space (gathered t es []) (few-rows a) l (sorted-gathered t es) (a .rows));
+    }
 
 module _ {m : Limits} {t : Table} {es : List Entry} {c : Candidate} {w : List ℕ} {d : ℕ} (a : Aside (c .connection) t es w d) where
   pub joined-none : {r : ℕ} → r ≡ 0 → Joined m t es w (d + r) none c
   unfolding announceKeyed
-  joined-none e = record { entries = es; aside = same a e; table = refl; room = λ h. omega (arith, a .count) }
+  joined-none e = record { entries = es; aside = same-aside a e; table = refl; room = λ h. omega (arith, a .count) }
 
   pub joined-not : {k : Key} {r : ℕ} → r ≡ 0 → Fares m t es k c r → Joined m t es w (d + r) (some k) c
   unfolding announceKeyed
-  joined-not e f = record { entries = es; aside = same a e; table = f .stays e; room = λ h. omega (arith, a .count) }
+  joined-not e f = record { entries = es; aside = same-aside a e; table = f .stays e; room = λ h. omega (arith, a .count) }
 
   pub joined-in : {k : Key} {w′ : List ℕ} {y : Row} → k .hash < top → d < space → Fares m t es k c 1 → y ≡ rowOf (at k t) c → PutIn w w′ d y → Joined m t es w′ (d + 1) (some k) c
   unfolding announceKeyed
-  joined-in {k} {w′} {y} small l f e p =
-      let b : Entry = record { key = k; candidate = c } in
-      let one : placed y (gathered t es []) ≡ gathered t (es ++ (b ∷ [])) [] = ap (λ (z : Row). placed z (gathered t es [])) e ∙ sym (gathered-more t es b []) in
-      record {
-        entries = es ++ (b ∷ []);
-        aside = record {
-          ready = each-more (Ready (c .connection)) es b (a .ready) (record { mine = refl; small = small });
-          idle = each-more (λ (x : Entry). ownerIs (x .candidate .connection) ((at (x .key) t) .owner) ≡ false) es b (a .idle) (f .idle refl);
-          count = length-append es (b ∷ []) ∙ omega (arith, a .count);
-          rows = subst (λ (zs : List Row). Holds rowSize rowWords space zs w′) one (p space (gathered t es []) (few-rows a) l (sorted-gathered t es) (a .rows));
-        };
-        table = f .joins refl;
-        room = λ h. omega (arith, f .room refl, a .count);
-      }
+  joined-in {k} {w′} {y} small l f e p = record {
+    entries = es ++ (record { key = k; candidate = c } ∷ []);
+    aside = aside-more k c a small l (f .idle refl) e p;
+    table = f .joins refl;
+    room = λ h. omega (arith, f .room refl, a .count);
+  }
 
 -- ---- what a call does with one announcement
 

@@ -9,3 +9,4 @@ pub mod Looking
 pub mod Faring
 pub mod ItemKeys
 pub mod Arriving
+pub mod Exchanging

@@ -1,21 +1,20 @@
 -- The region of rows that wait: what its searches find, and what is put in.
 -- Assumes nothing.
-use Prim.Native.Nat.{ℕ, _+_, _-_, _≤_, _<_}
+use Prim.Native.Nat.{ℕ, _+_, _≤_, _<_}
 use mathlib.Core.Path.{_≡_, sym, ap, subst, _∙_}
 use mathlib.Core.Bool.{Bool, true, false, _||_}
-use mathlib.Core.List.{List, [], append-nil}
+use mathlib.Core.List.{List, []}
 use native.Mathlib.Nat.{add-zero}
 use native.Mathlib.Omega.{arith}
 use lib.Dec.{ltb}
-use lib.ListN.{length, drop, replicate, length-replicate, drop-of-length-le}
+use lib.ListN.{length}
 use Rattle.ident.specs.Number.{top, place, txid, wtxid}
-use Rattle.words.specs.Words.{recs, splice}
+use Rattle.words.specs.Words.{recs}
 use Rattle.regions.specs.declared.Key.{Key as RowKey}
 use Rattle.regions.specs.declared.Row.{Row}
 use Rattle.regions.specs.Order.{Bound, Sought}
-use Rattle.regions.specs.Regions.{each, padded, Holds, Inserted}
+use Rattle.regions.specs.Regions.{Holds, Inserted}
 use Rattle.regions.specs.Rows.{rowSize, rowWords, rowKey, keyNumber, keyOf}
-use Rattle.regions.proofs.Regions.{padded-fit}
 use Rattle.machine.specs.State.{Entry, Table}
 use Rattle.store.specs.Shown.{rowNumbers}
 use Rattle.store.proofs.Searches.{row-sought}
@@ -23,15 +22,6 @@ use Rattle.gathering.specs.Merges.{gathered}
 use Rattle.gathering.specs.Aside.{space, numbered, KeyIn, PutIn, Aside, WaitsAt}
 use Rattle.gathering.proofs.ComingIn.{length-gathered}
 use Rattle.gathering.proofs.InOrder.{sorted-gathered, put-placed, numbered-is, waits-is}
-
--- words that are cleared hold no row
-pub no-rows : (n : ℕ) (w : List ℕ) {w′ : List ℕ} → w′ ≡ splice w 0 (replicate n 0) → length w ≡ n → w′ ≡ padded n (each rowWords [])
-unfolding splice each
-no-rows n w e l =
-    let zs : List ℕ = replicate n 0 in
-    let z : drop (0 + length zs) w ≡ [] = drop-of-length-le w {i = 0 + length zs} (omega (arith, length-replicate {A = ℕ} n 0)) in
-    let q : n ≡ n - length {A = ℕ} [] = omega arith in
-    e ∙ rw z (append-nil zs) ∙ ap (λ (k : ℕ). replicate k 0) q ∙ sym (padded-fit n [] (omega arith))
 
 pub key-in : {w : List ℕ} {m i j : ℕ} (x : ℕ) → Sought (recs rowSize rowKey m w) m (x + 0) i → Sought (recs rowSize rowKey m w) m (x + 1) j → KeyIn w m x (ltb i j)
 key-in x a b L ys e l s h =

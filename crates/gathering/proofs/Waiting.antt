@@ -15,7 +15,7 @@ use Rattle.regions.specs.Regions.{insertAt}
 use Rattle.machine.specs.Limits.{Limits, maxPeerAnnouncements}
 use Rattle.machine.specs.State.{Candidate, Entry, Table, Answer}
 use Rattle.machine.specs.Table.{at, one, any, by, under, byUnder, count, held, heldBy, heldAt, isCandidate}
-use Rattle.machine.specs.Announce.{push, announceAt}
+use Rattle.machine.specs.Announce.{victims, greatest, anywhere, evicting, push, announceAt}
 use Rattle.machine.specs.Sound.{Ordered}
 use Rattle.machine.specs.Typed.{Each}
 use Rattle.machine.proofs.Tests.{test, or-left, or-right, or-true}
@@ -27,7 +27,7 @@ use Rattle.store.proofs.Bits.{key-row, conn-row}
 use Rattle.store.proofs.Counts.{rows-append, count-rows}
 use Rattle.store.proofs.RowsAt.{push-rows}
 use Rattle.store.proofs.Split.{rowsBelow}
-use Rattle.announcing.proofs.Deciding.{when-barred, when-crowded-out, when-full-out, when-room}
+use Rattle.announcing.proofs.Deciding.{when-barred, when-crowded-out, when-full, when-full-out, when-room}
 use Rattle.gathering.specs.Waits.{pushes, Ready, waits, barredBeside, fullBeside}
 
 -- ---- counts, exactly
@@ -167,6 +167,10 @@ module _ (m : Limits) (c : Candidate) (es : List Entry) (t : Table) (a : Each (R
             | inl d ↦ ap (λ (x : Answer). x .table) (when-crowded-out m k c (pushes es t) free (crowded-is ∙ d) p)
             | inr d ↦ ap (λ (x : Answer). x .table) (when-full-out m k c (pushes es t) free (crowded-is ∙ d) (full-is ∙ sym (ap (λ (z : Bool). z || Full) d) ∙ f) p)
           ]
+
+      -- one has to give way
+      pub taken-evicting : Crowded ≡ false → Full ≡ true → c .preferred ≡ true → announceAt m k c (pushes es t) ≡ evicting (greatest (victims anywhere (pushes es t))) k c (pushes es t)
+      taken-evicting d f p = when-full m k c (pushes es t) free (crowded-is ∙ d) (full-is ∙ f) p
 
       pub taken-in : fullBeside m es k t ≡ false → Taken k (es ++ (record { key = k; candidate = c } ∷ []))
       taken-in f =

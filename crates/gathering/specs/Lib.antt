@@ -1,3 +1,4 @@
 pub mod Waits
 pub mod Merges
 pub mod Aside
+pub mod Exchanges

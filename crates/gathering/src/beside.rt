@@ -36,7 +36,7 @@ fn full(s: &[u8], m: usize) -> bool
 }
 
 // With the m that wait the connection n has as many announcements as it may, or one at the hash of k, under either kind.
-fn barred(s: &[u8], new: &[u8], m: usize, k: ident::Key, n: u64) -> bool
+pub fn barred(s: &[u8], new: &[u8], m: usize, k: ident::Key, n: u64) -> bool
     requires { ⌜ Kept (now s) × (8 * (rowSize * m) ≤ length (now new)) × (m ≤ space) ⌝ }
     ensures { λ r. ⌜ BarredIn (now (s .entry)) (words (now (new .entry))) m (keyNum k) n r ⌝ }
 {
@@ -80,7 +80,7 @@ fn fares(s: &[u8], new: &[u8], m: usize, k: ident::Key, c: requests::Candidate) 
 }
 
 // The row of c, which is to wait under the key k.
-fn waiting_row(s: &[u8], k: ident::Key, c: requests::Candidate) -> regions::Row
+pub fn waiting_row(s: &[u8], k: ident::Key, c: requests::Candidate) -> regions::Row
     requires { ⌜ Kept (now s) ⌝ }
     ensures { λ r. ⌜ RowIn (now (s .entry)) (keyNum k) (candidateOf c) r ⌝ }
 {

@@ -13,7 +13,7 @@ use Rattle.ident.specs.If.{if_then_else_}
 use Rattle.ident.specs.Number.{top, Key, place}
 use Rattle.machine.specs.Limits.{Limits}
 use Rattle.machine.specs.State.{Candidate, Request, Table, withCandidates, ownerIs}
-use Rattle.machine.specs.Table.{at, keep, has}
+use Rattle.machine.specs.Table.{at, has}
 use Rattle.machine.specs.Announce.{without, cut}
 use Rattle.machine.specs.Fail.{Listed, nothing}
 use Rattle.machine.specs.Leave.{keysOf, dropAt, dropEach}
@@ -21,27 +21,10 @@ use Rattle.machine.specs.Sound.{Ordered, All, Filled}
 use Rattle.machine.proofs.Tests.{test, by-test}
 use Rattle.machine.proofs.Table.{place-inj, ordered-change, filled-change, all-at}
 use Rattle.machine.proofs.At.{kept, kept-some, at-here, at-there, at-same, at-other}
-use Rattle.machine.proofs.Same.{walk, walk-same}
 use Rattle.packages.specs.Dead.{filter}
+use Rattle.announcing.proofs.Swapping.{table-same}
 use Rattle.leaving.specs.Cuts.{between, cutAt, cutEach, cuts, listed, Rising, Unowned}
 use Rattle.leaving.proofs.AtOnce.{without-none}
-
--- ---- a table is told by what stands at each key
-
-put : Request → Table → Table
-put r t = keep r (r .candidates) t
-
-walk-all : (t : Table) → All Filled t → walk put [] t ≡ t
-unfolding walk put keep
-walk-all [] f = refl
-walk-all (r ∷ t) f = ap (put r) (walk-all t (f .1)) ∙ some (r .candidates) (f .0)
-  where
-    some : (cs : List Candidate) → 1 ≤ length cs → keep r cs t ≡ r ∷ t
-    some [] h = absurd (omega arith)
-    some (c ∷ cs) h = refl
-
-pub table-same : (t′ t : Table) → Ordered 0 t′ → Ordered 0 t → All Filled t′ → All Filled t → ((j : Key) → j .hash < top → at j t′ ≡ at j t) → t′ ≡ t
-table-same t′ t o′ o f′ f e = sym (walk-all t′ f′) ∙ walk-same put [] (λ k a. unfold put keep in refl) 0 0 t′ t o′ o (λ j s a. ap (λ (q : Request). put q a) (e j s)) ∙ walk-all t f
 
 -- ---- what a cut leaves at each key
 

@@ -2,7 +2,7 @@
 use native.Mathlib.Omega.{arith}
 use Rattle.words.specs.Words.{words}
 use Rattle.words.proofs.Words.{length-words}
-use Rattle.gathering.proofs.Looking.{no-rows}
+use Rattle.announcing.proofs.Ranking.{no-rows}
 use borrow.Author.Needs.{needs}
 use Rattle.gathering.proofs.region.clear.Statement.{statement}
 use Rattle.gathering.proofs.region.clear.Tie as tie
