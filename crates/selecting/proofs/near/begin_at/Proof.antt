@@ -31,7 +31,8 @@ falls-short-requires c κs = search needs
 returns-3 : tie.Need-returns-3
 returns-3 c =
     let a = c .before .before .before .before .before .before .args in
-    let h = rw (c .before .before .key-at .ensures) at (ltb-true (keyNumber (c .before .before .key-at .result)) (keyNumber (a .k) + one (a .after)) (sym (c .before .falls-short .ensures) ∙ c .if3 .taken)) in
+    let m = c .before .before .key-at in
+    let h = rw (m .ensures) at (ltb-true (keyNumber (m .result)) (keyNumber (a .k) + one (a .after)) (sym (c .before .falls-short .ensures) ∙ c .if3 .taken)) in
     behind-guess (recs rowSize rowKey (a .n) (words (a .s .now))) (a .n) (keyNumber (a .k) + one (a .after)) (a .guess) (length-recs rowSize rowKey (a .n) (words (a .s .now))) (omega arith)
     (omega arith) (rw (row-key-at (words (a .s .now)) (a .n) (a .guess - 1) (omega arith)) h)
 

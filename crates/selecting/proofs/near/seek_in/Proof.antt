@@ -57,7 +57,8 @@ loop-again : tie.Need-loop-again Inv-loop μ-loop
 loop-again c =
     let a = c .before .before .before .before .before .before .before .before .args in
     let m = c .before .before .before .before .before .loop .lo + c .before .before .before .ahead .result in
-    let h = rw (c .before .before .key-at .ensures) at (ltb-true (keyNumber (c .before .before .key-at .result)) (keyNumber (a .k) + one (a .after)) (sym (c .before .falls-short .ensures) ∙ c .if1 .taken)) in
+    let met = c .before .before .key-at in
+    let h = rw (met .ensures) at (ltb-true (keyNumber (met .result)) (keyNumber (a .k) + one (a .after)) (sym (c .before .falls-short .ensures) ∙ c .if1 .taken)) in
     search-up (c .before .before .before .before .before .loop .inv) m (omega arith) (omega arith) (rw (row-key-at (words (a .s .now)) (a .n) m (omega arith)) h)
 
 loop-less-2 : tie.Need-loop-less-2 Inv-loop μ-loop
@@ -67,7 +68,8 @@ loop-again-2 : tie.Need-loop-again-2 Inv-loop μ-loop
 loop-again-2 c =
     let a = c .before .before .before .before .before .before .before .before .args in
     let m = c .before .before .before .before .before .loop .lo + c .before .before .before .ahead .result in
-    let h = rw (c .before .before .key-at .ensures) at (ltb-false (keyNumber (c .before .before .key-at .result)) (keyNumber (a .k) + one (a .after)) (sym (c .before .falls-short .ensures) ∙ c .if1 .left)) in
+    let met = c .before .before .key-at in
+    let h = rw (met .ensures) at (ltb-false (keyNumber (met .result)) (keyNumber (a .k) + one (a .after)) (sym (c .before .falls-short .ensures) ∙ c .if1 .left)) in
     search-down (c .before .before .before .before .before .loop .inv) m (omega arith) (omega arith) (rw (row-key-at (words (a .s .now)) (a .n) m (omega arith)) h)
 
 returns : tie.Need-returns Inv-loop μ-loop

@@ -26,12 +26,13 @@ abbrev μ-loop : tie.MeasureT-loop
 
 loop-holds : tie.Need-loop-holds Inv-loop μ-loop
 loop-holds c =
-    let from = c .before .before .args .from in
+    let start = c .before .before in
+    let from = start .args .from in
     let z : 0 ≤ from - from = omega arith in (
-      (omega arith, c .before .before .pre .4 .0),
+      (omega arith, start .pre .4 .0),
       refl,
       refl,
-      scans-as (scans-start (λ st. keysOver from (c .before .before .args .to) (rowsOf (st .table))) (c .before .before .args .v) (c .before .before .pre .0) (c .before .before .pre .3)) _ _ z (λ st l s m. refl),
+      scans-as (scans-start (λ st. keysOver from (start .args .to) (rowsOf (st .table))) (start .args .v) (start .pre .0) (start .pre .3)) _ _ z (λ st l s m. refl),
     )
 
 same-length : tie.Need-same-length Inv-loop μ-loop
@@ -42,29 +43,42 @@ same-length-2 c = c .before .before .before .loop .inv .2
 
 returns : tie.Need-returns Inv-loop μ-loop
 returns c =
-    let at = c .before .before .before .loop .inv .0 in
-    scans-full (c .before .before .before .loop .inv .3) (λ st. []) _ (omega (arith, at)) (c .if1 .taken)
+    let turn = c .before .before .before in
+    let at = turn .loop .inv .0 in
+    scans-full (turn .loop .inv .3) (λ st. []) _ (omega (arith, at)) (c .if1 .taken)
 
 row-at-requires : tie.Need-row-at-requires Inv-loop μ-loop
-row-at-requires c κs = let x = c .before .before .before .before .loop .inv .3 in (kept-shown (x .kept), omega (arith, c .before .before .before .loop-test .taken, x .rows-same, c .before .before .before .before .before .before .before .pre .4 .1))
+row-at-requires c κs =
+    let inside = c .before .before .before in
+    let turn = inside .before in
+    let start = turn .before .before .before in
+    let x = turn .loop .inv .3 in (kept-shown (x .kept), omega (arith, inside .loop-test .taken, x .rows-same, start .pre .4 .1))
 
 add-i : tie.Need-add-i Inv-loop μ-loop
 add-i c = omega (arith, c .before .before .before .before .loop-test .taken)
 
 ends-key-requires : tie.Need-ends-key-requires Inv-loop μ-loop
-ends-key-requires c κs = let x = c .before .before .before .before .before .before .loop .inv .3 in (kept-shown (x .kept), omega (arith, c .before .before .before .before .before .loop-test .taken), omega (arith, x .rows-same, c .before .before .before .before .before .before .before .before .before .pre .4 .1))
+ends-key-requires c κs =
+    let inside = c .before .before .before .before .before in
+    let turn = inside .before in
+    let start = turn .before .before .before in
+    let x = turn .loop .inv .3 in (kept-shown (x .kept), omega (arith, inside .loop-test .taken), omega (arith, x .rows-same, start .pre .4 .1))
 
 key-of-requires : tie.Need-key-of-requires Inv-loop μ-loop
 key-of-requires c κs = search needs
 
 consider-next-requires : tie.Need-consider-next-requires Inv-loop μ-loop
 consider-next-requires c κs =
-    let x = c .before .before .before .before .before .before .before .before .before .before .before .loop .inv .3 in
-    let at = c .before .before .before .before .before .before .before .before .before .before .before .loop .inv .0 in (
+    let onward = c .before .before .before .before .before .before .before .before in
+    let inside = onward .before .before in
+    let turn = inside .before in
+    let start = turn .before .before .before in
+    let x = turn .loop .inv .3 in
+    let at = turn .loop .inv .0 in (
       x .kept,
-      c .before .before .before .before .before .before .before .before .before .before .before .before .before .before .pre .1,
-      omega (arith, x .roomy .more (c .before .before .before .before .before .before .before .before .if1 .left), c .before .before .before .before .before .before .before .before .before .before .before .loop .inv .2, c .before .before .before .before .before .before .before .before .before .before .before .before .before .before .pre .2),
-      omega (arith, x .near, at, c .before .before .before .before .before .before .before .before .before .before .loop-test .taken, c .before .before .before .before .before .before .before .before .before .before .before .before .before .before .pre .5),
+      start .pre .1,
+      omega (arith, x .roomy .more (onward .if1 .left), turn .loop .inv .2, start .pre .2),
+      omega (arith, x .near, at, inside .loop-test .taken, start .pre .5),
     )
 
 loop-less : tie.Need-loop-less Inv-loop μ-loop
@@ -72,18 +86,27 @@ loop-less c = omega (arith, c .before .before .before .before .before .before .b
 
 loop-again : tie.Need-loop-again Inv-loop μ-loop
 loop-again c =
-    let i = c .before .before .before .before .before .before .before .before .before .before .before .before .before .before .before .before .loop .i in
-    let to = c .before .before .before .before .before .before .before .before .before .before .before .before .before .before .before .before .before .before .before .args .to in
-    let x = c .before .before .before .before .before .before .before .before .before .before .before .before .before .before .before .before .loop .inv .3 in
-    let at = c .before .before .before .before .before .before .before .before .before .before .before .before .before .before .before .before .loop .inv .0 in
-    let less = c .before .before .before .before .before .before .before .before .before .before .before .before .before .before .before .loop-test .taken in
-    let d : i - c .before .before .before .before .before .before .before .before .before .before .before .before .before .before .before .before .before .before .before .args .from + 1 ≤ i + 1 - c .before .before .before .before .before .before .before .before .before .before .before .before .before .before .before .before .before .before .before .args .from = omega (arith, at) in (
+    let called = c .before .before .before .before in
+    let keyed = called .before .before .before in
+    let ended = keyed .before in
+    let looked = ended .before in
+    let read = looked .before .before in
+    let onward = read .before .before in
+    let inside = onward .before .before in
+    let turn = inside .before in
+    let start = turn .before .before .before in
+    let i = turn .loop .i in
+    let to = start .args .to in
+    let x = turn .loop .inv .3 in
+    let at = turn .loop .inv .0 in
+    let less = inside .loop-test .taken in
+    let d : i - start .args .from + 1 ≤ i + 1 - start .args .from = omega (arith, at) in (
       (omega (arith, at), omega (arith, less)),
-      c .before .before .before .before .consider-next .kept .0 ∙ c .before .before .before .before .before .before .before .before .before .before .before .before .before .before .before .before .loop .inv .1,
-      c .before .before .before .before .consider-next .kept .1 .1 .1 .0 ∙ c .before .before .before .before .before .before .before .before .before .before .before .before .before .before .before .before .loop .inv .2,
-      scans-more x (λ st. keysOver (i + 1) to (rowsOf (st .table))) _ d (c .before .before .before .before .before .before .before .before .before .before .before .before .before .if1 .left) (c .before .before .before .before .consider-next .ensures)
-          (λ st l s m. row-ends s m i to less (omega (arith, c .before .before .before .before .before .before .before .before .before .before .before .before .before .before .before .before .before .before .before .pre .4 .1, x .rows-same)) (c .before .before .before .before .before .before .before .before .before .before .before .row-at .ensures) (c .before .before .before .before .before .before .before .before .before .ends-key .ensures) (c .before .before .before .before .before .before .before .before .if2 .taken)
-          ∙ ap (λ (k : Key). k ∷ keysOver (i + 1) to (rowsOf (st .table))) (sym (c .before .before .before .before .before .before .before .key-of .ensures))),
+      called .consider-next .kept .0 ∙ turn .loop .inv .1,
+      called .consider-next .kept .1 .1 .1 .0 ∙ turn .loop .inv .2,
+      scans-more x (λ st. keysOver (i + 1) to (rowsOf (st .table))) _ d (onward .if1 .left) (called .consider-next .ensures)
+          (λ st l s m. row-ends s m i to less (omega (arith, start .pre .4 .1, x .rows-same)) (read .row-at .ensures) (looked .ends-key .ensures) (ended .if2 .taken)
+          ∙ ap (λ (k : Key). k ∷ keysOver (i + 1) to (rowsOf (st .table))) (sym (keyed .key-of .ensures))),
     )
 
 loop-less-2 : tie.Need-loop-less-2 Inv-loop μ-loop
@@ -91,17 +114,22 @@ loop-less-2 c = omega (arith, c .before .before .before .before .before .before 
 
 loop-again-2 : tie.Need-loop-again-2 Inv-loop μ-loop
 loop-again-2 c =
-    let i = c .before .before .before .before .before .before .before .before .loop .i in
-    let to = c .before .before .before .before .before .before .before .before .before .before .before .args .to in
-    let x = c .before .before .before .before .before .before .before .before .loop .inv .3 in
-    let at = c .before .before .before .before .before .before .before .before .loop .inv .0 in
-    let less = c .before .before .before .before .before .before .before .loop-test .taken in
-    let d : i - c .before .before .before .before .before .before .before .before .before .before .before .args .from ≤ i + 1 - c .before .before .before .before .before .before .before .before .before .before .before .args .from = omega (arith, at) in (
+    let looked = c .before in
+    let read = looked .before .before in
+    let inside = read .before .before .before .before in
+    let turn = inside .before in
+    let start = turn .before .before .before in
+    let i = turn .loop .i in
+    let to = start .args .to in
+    let x = turn .loop .inv .3 in
+    let at = turn .loop .inv .0 in
+    let less = inside .loop-test .taken in
+    let d : i - start .args .from ≤ i + 1 - start .args .from = omega (arith, at) in (
       (omega (arith, at), omega (arith, less)),
-      c .before .before .before .before .before .before .before .before .loop .inv .1,
-      c .before .before .before .before .before .before .before .before .loop .inv .2,
+      turn .loop .inv .1,
+      turn .loop .inv .2,
       scans-as x (λ st. keysOver (i + 1) to (rowsOf (st .table))) _ d
-          (λ st l s m. row-goes-on s m i to less (omega (arith, c .before .before .before .before .before .before .before .before .before .before .before .pre .4 .1, x .rows-same)) (c .before .before .before .row-at .ensures) (c .before .ends-key .ensures) (c .if2 .left)),
+          (λ st l s m. row-goes-on s m i to less (omega (arith, start .pre .4 .1, x .rows-same)) (read .row-at .ensures) (looked .ends-key .ensures) (c .if2 .left)),
     )
 
 same-length-3 : tie.Need-same-length-3 Inv-loop μ-loop
@@ -112,11 +140,14 @@ same-length-4 c = c .before .before .loop .inv .2
 
 returns-2 : tie.Need-returns-2 Inv-loop μ-loop
 returns-2 c =
-    let at = c .before .before .loop .inv .0 in
-    let i = c .before .before .loop .i in
-    let to = c .before .before .before .before .before .args .to in
-    let d : i - c .before .before .before .before .before .args .from ≤ to - c .before .before .before .before .before .args .from = omega (arith, at) in
-    scans-as (c .before .before .loop .inv .3) (λ st. []) _ d (λ st l s m. over-none (rowsOf (st .table)) i to (omega (arith, c .before .loop-test .left)))
+    let inside = c .before in
+    let turn = inside .before in
+    let start = turn .before .before .before in
+    let at = turn .loop .inv .0 in
+    let i = turn .loop .i in
+    let to = start .args .to in
+    let d : i - start .args .from ≤ to - start .args .from = omega (arith, at) in
+    scans-as (turn .loop .inv .3) (λ st. []) _ d (λ st l s m. over-none (rowsOf (st .table)) i to (omega (arith, inside .loop-test .left)))
 
 pub keys-over-spec : {M : Type 1} → statement M
 keys-over-spec =
