@@ -7,7 +7,7 @@ ghost use Rattle.machine.specs.Call.{On, Sum};
 ghost use Rattle.asking.specs.Calls.{openOf, numberForm, numberCall, keysForm, keysCall, leaveCall, inventoryCall, hashesForm, hashesCall};
 ghost use Rattle.asking.specs.Calls.{planLine, wantLine, takeLine, missingLine, partLine, lineWith, lineOf};
 ghost use Rattle.reading.specs.Line.{Asks, ending};
-ghost use Rattle.reading.specs.Given.{FormRead};
+ghost use Rattle.reading.specs.Given.{FormRead, WholeRead};
 ghost use Rattle.asking.specs.Given.{askedLine};
 use crate::vocabulary::HashesWord;
 use crate::vocabulary::KeysWord;
@@ -17,7 +17,9 @@ use reading::fields::NumberAt;
 use reading::fields::number_at;
 use reading::forms::Values;
 use reading::forms::ValuesAt;
+use reading::forms::Whole;
 use reading::forms::read_form;
+use reading::forms::read_whole;
 
 // What a line asks for. A list stands behind the comma at an index: it is read where its call is carried out.
 pub enum Asked {
@@ -69,67 +71,58 @@ fn summing(line: &[u8], e: usize) -> Asked
 }
 
 // The fields behind the comma at index e, in the form of the word.
-fn number_values(line: &[u8], e: usize, w: NumberWord) -> ValuesAt
-    ensures { λ r. ⌜ FormRead (now (line .entry)) e (numberForm w) r ⌝ }
+fn number_values(line: &[u8], e: usize, w: NumberWord) -> Whole
+    ensures { λ r. ⌜ WholeRead (now (line .entry)) e (numberForm w) r ⌝ }
 {
     match w {
-        NumberWord::Announce => read_form(line, e, b"cirpq"),
-        NumberWord::RequestParent => read_form(line, e, b"cirpq"),
-        NumberWord::Failed => read_form(line, e, b"kcn"),
-        NumberWord::Unclaim => read_form(line, e, b"kc"),
-        NumberWord::Forget => read_form(line, e, b"k"),
-        NumberWord::ForgetKnown => read_form(line, e, b"kn"),
-        NumberWord::Teardown => read_form(line, e, b"n"),
-        NumberWord::FailedPackageInfo => read_form(line, e, b"kcn"),
-        NumberWord::PackageInfoOwner => read_form(line, e, b"kn"),
-        NumberWord::ResponseCompleted => read_form(line, e, b"chmn"),
-        NumberWord::PollGate => read_form(line, e, b"n"),
+        NumberWord::Announce => read_whole(line, e, b"cirpq"),
+        NumberWord::RequestParent => read_whole(line, e, b"cirpq"),
+        NumberWord::Failed => read_whole(line, e, b"kcn"),
+        NumberWord::Unclaim => read_whole(line, e, b"kc"),
+        NumberWord::Forget => read_whole(line, e, b"k"),
+        NumberWord::ForgetKnown => read_whole(line, e, b"kn"),
+        NumberWord::Teardown => read_whole(line, e, b"n"),
+        NumberWord::FailedPackageInfo => read_whole(line, e, b"kcn"),
+        NumberWord::PackageInfoOwner => read_whole(line, e, b"kn"),
+        NumberWord::ResponseCompleted => read_whole(line, e, b"chmn"),
+        NumberWord::PollGate => read_whole(line, e, b"n"),
     }
 }
 
 fn number_call(line: &[u8], e: usize, w: NumberWord) -> Asked
     ensures { λ r. ⌜ askedLine (now (line .entry)) r ≡ numberCall w (rest (now (line .entry)) (e + 1)) ⌝ }
 {
-    let ValuesAt::Is(v, end) = number_values(line, e, w) else {
+    let Whole::Is(v) = number_values(line, e, w) else {
         return Asked::Unreadable;
     };
-    if end < line.len() {
-        return Asked::Unreadable;
-    }
     Asked::Number(w, v)
 }
 
-fn keys_values(line: &[u8], e: usize, w: KeysWord) -> ValuesAt
-    ensures { λ r. ⌜ FormRead (now (line .entry)) e (keysForm w) r ⌝ }
+fn keys_values(line: &[u8], e: usize, w: KeysWord) -> Whole
+    ensures { λ r. ⌜ WholeRead (now (line .entry)) e (keysForm w) r ⌝ }
 {
     match w {
-        KeysWord::Sweep => read_form(line, e, b""),
-        KeysWord::FailedWithParents => read_form(line, e, b"kcn"),
-        KeysWord::ReleasePackage => read_form(line, e, b"chn"),
+        KeysWord::Sweep => read_whole(line, e, b""),
+        KeysWord::FailedWithParents => read_whole(line, e, b"kcn"),
+        KeysWord::ReleasePackage => read_whole(line, e, b"chn"),
     }
 }
 
 fn keys_call(line: &[u8], e: usize, w: KeysWord) -> Asked
     ensures { λ r. ⌜ askedLine (now (line .entry)) r ≡ keysCall w (rest (now (line .entry)) (e + 1)) ⌝ }
 {
-    let ValuesAt::Is(v, end) = keys_values(line, e, w) else {
+    let Whole::Is(v) = keys_values(line, e, w) else {
         return Asked::Unreadable;
     };
-    if end < line.len() {
-        return Asked::Unreadable;
-    }
     Asked::Keys(w, v)
 }
 
 fn leave_call(line: &[u8], e: usize) -> Asked
     ensures { λ r. ⌜ askedLine (now (line .entry)) r ≡ leaveCall (rest (now (line .entry)) (e + 1)) ⌝ }
 {
-    let ValuesAt::Is(v, end) = read_form(line, e, b"cn") else {
+    let Whole::Is(v) = read_whole(line, e, b"cn") else {
         return Asked::Unreadable;
     };
-    if end < line.len() {
-        return Asked::Unreadable;
-    }
     Asked::Leaving(v)
 }
 
@@ -166,12 +159,9 @@ fn hashes_call(line: &[u8], e: usize, w: HashesWord) -> Asked
 fn plan_line(line: &[u8], e: usize) -> Asked
     ensures { λ r. ⌜ askedLine (now (line .entry)) r ≡ planLine (rest (now (line .entry)) (e + 1)) ⌝ }
 {
-    let ValuesAt::Is(v, end) = read_form(line, e, b"n") else {
+    let Whole::Is(v) = read_whole(line, e, b"n") else {
         return Asked::Unreadable;
     };
-    if end < line.len() {
-        return Asked::Unreadable;
-    }
     Asked::Planning(v)
 }
 
@@ -187,12 +177,9 @@ fn want_line(line: &[u8], e: usize) -> Asked
 fn take_line(line: &[u8], e: usize) -> Asked
     ensures { λ r. ⌜ askedLine (now (line .entry)) r ≡ takeLine (rest (now (line .entry)) (e + 1)) ⌝ }
 {
-    let ValuesAt::Is(v, end) = read_form(line, e, b"n") else {
+    let Whole::Is(v) = read_whole(line, e, b"n") else {
         return Asked::Unreadable;
     };
-    if end < line.len() {
-        return Asked::Unreadable;
-    }
     Asked::Taking(v)
 }
 
@@ -208,12 +195,9 @@ fn missing_line(line: &[u8], e: usize) -> Asked
 fn part_line(line: &[u8], e: usize) -> Asked
     ensures { λ r. ⌜ askedLine (now (line .entry)) r ≡ partLine (rest (now (line .entry)) (e + 1)) ⌝ }
 {
-    let ValuesAt::Is(v, end) = read_form(line, e, b"c") else {
+    let Whole::Is(v) = read_whole(line, e, b"c") else {
         return Asked::Unreadable;
     };
-    if end < line.len() {
-        return Asked::Unreadable;
-    }
     Asked::Parting(v)
 }
 

@@ -15,9 +15,11 @@ use Rattle.lines.specs.Fields.{numberOf, boolOf, hashOf, keyOf, itemOf, rest}
 use Rattle.reading.specs.declared.forms.Values as forms
 use Rattle.reading.specs.declared.forms.ValuesAt.{ValuesAt}
 use Rattle.reading.specs.declared.forms.ValuesAt.the-variants.{Not, Is}
+use Rattle.reading.specs.declared.forms.Whole.{Whole}
+use Rattle.reading.specs.declared.forms.Whole.the-variants.{Not as NoWhole, Is as IsWhole}
 use Rattle.reading.specs.Line.{Line, taking, ending}
 use Rattle.reading.specs.Forms.{Values, blank, Then, keyField, itemField, isHash, isBool, putKey, putItem, putHash, putNumber, putBool, plainThen, fieldThen, formThen}
-use Rattle.reading.specs.Given.{At, FieldRead, valuesOf, thenValues, PlainTaken, FieldTaken, FormRead}
+use Rattle.reading.specs.Given.{At, FieldRead, valuesOf, thenValues, PlainTaken, FieldTaken, FormRead, wholeLine, WholeRead}
 use Rattle.reading.proofs.Taking.{field-not, field-is, ending-end, ending-more}
 
 -- ---- one field
@@ -119,24 +121,32 @@ module _ {l : List ℕ} {e : ℕ} {form : List ℕ} {i : ℕ} {v : forms.Values}
   pub whole : length form ≤ i → i ≤ length form → FormRead l e form (Is v to)
   whole h g = record { is = λ k. b .is k ∙ ap (λ (x : List ℕ). formThen x (valuesOf v) k (rest l (to + 1))) (drop-none i form h g) ∙ form-none (valuesOf v) k (rest l (to + 1)) }
 
--- ---- the whole line
+-- ---- the line's last fields
 
-module _ {l : List ℕ} {e : ℕ} {form : List ℕ} {r : ValuesAt} (p : FormRead l e form r) (line : Values → Line) where
-  abbrev last : Then
-  last v = ending (some (line v))
+module _ {l : List ℕ} {e : ℕ} {form : List ℕ} {r : ValuesAt} (p : FormRead l e form r) where
+  abbrev last : (Values → Line) → Then
+  last line v = ending (some (line v))
 
-  pub form-not : r ≡ Not → none ≡ formThen form blank last (rest l (e + 1))
-  form-not g = sym (p .is last ∙ ap (thenValues l last) g)
+  pub no-whole : r ≡ Not → WholeRead l e form NoWhole
+  no-whole g = record { is = λ line. p .is (last line) ∙ ap (thenValues l (last line)) g }
 
   module _ {v : forms.Values} {end : ℕ} (g : r ≡ Is v end) where
-    to-end : formThen form blank last (rest l (e + 1)) ≡ last (valuesOf v) (rest l (end + 1))
-    to-end = p .is last ∙ ap (thenValues l last) g
+    to-end : (line : Values → Line) → formThen form blank (last line) (rest l (e + 1)) ≡ last line (valuesOf v) (rest l (end + 1))
+    to-end line = p .is (last line) ∙ ap (thenValues l (last line)) g
 
-    pub form-longer : end < length l → none ≡ formThen form blank last (rest l (e + 1))
-    form-longer h = sym (to-end ∙ ending-more l end _ h)
+    pub longer : end < length l → WholeRead l e form NoWhole
+    longer h = record { is = λ line. to-end line ∙ ending-more l end _ h }
 
-    pub form-is : length l ≤ end → some (line (valuesOf v)) ≡ formThen form blank last (rest l (e + 1))
-    form-is h = sym (to-end ∙ ending-end l end _ h)
+    pub whole-is : length l ≤ end → WholeRead l e form (IsWhole v)
+    whole-is h = record { is = λ line. to-end line ∙ ending-end l end _ h }
+
+-- what they make
+module _ {l : List ℕ} {e : ℕ} {form : List ℕ} {r : Whole} (p : WholeRead l e form r) (line : Values → Line) where
+  pub line-not : r ≡ NoWhole → none ≡ formThen form blank (λ v. ending (some (line v))) (rest l (e + 1))
+  line-not g = sym (p .is line ∙ ap (wholeLine line) g)
+
+  pub line-is : {v : forms.Values} → r ≡ IsWhole v → some (line (valuesOf v)) ≡ formThen form blank (λ v. ending (some (line v))) (rest l (e + 1))
+  line-is g = sym (p .is line ∙ ap (wholeLine line) g)
 
 -- the fields of a form, and what follows them
 module _ {l : List ℕ} {e : ℕ} {form : List ℕ} {r : ValuesAt} (p : FormRead l e form r) (k : Then) where
@@ -149,3 +159,6 @@ module _ {l : List ℕ} {e : ℕ} {form : List ℕ} {r : ValuesAt} (p : FormRead
 -- the form of a word that is known
 pub formed : {W : Type 0} (form : W → List ℕ) {x y : W} {l : List ℕ} {e : ℕ} {r : ValuesAt} → x ≡ y → FormRead l e (form y) r → FormRead l e (form x) r
 formed {W} form {x} {y} {l} {e} {r} g p = subst (λ (w : W). FormRead l e (form w) r) (sym g) p
+
+pub whole-formed : {W : Type 0} (form : W → List ℕ) {x y : W} {l : List ℕ} {e : ℕ} {r : Whole} → x ≡ y → WholeRead l e (form y) r → WholeRead l e (form x) r
+whole-formed {W} form {x} {y} {l} {e} {r} g p = subst (λ (w : W). WholeRead l e (form w) r) (sym g) p

@@ -26,11 +26,13 @@ use Rattle.reading.specs.declared.fields.ItemAt.the-variants.{Not as NoI
 use Rattle.reading.specs.declared.forms.Values as forms
 use Rattle.reading.specs.declared.forms.ValuesAt.{ValuesAt}
 use Rattle.reading.specs.declared.forms.ValuesAt.the-variants.{Not as NoValues, Is as IsValues}
+use Rattle.reading.specs.declared.forms.Whole.{Whole}
+use Rattle.reading.specs.declared.forms.Whole.the-variants.{Not as NoWhole, Is as IsWhole}
 use Rattle.reading.specs.declared.hashes.ListAt.{ListAt}
 use Rattle.reading.specs.declared.hashes.ListAt.the-variants.{Not as NoList, Is as IsList}
 use Rattle.reading.specs.declared.hashes.Hashes.{Hashes}
 use Rattle.reading.specs.declared.hashes.Hashes.the-variants.{None as NoHashes, Are as AreHashes}
-use Rattle.reading.specs.Line.{Line, Asks, taking, Reader, elementsThen}
+use Rattle.reading.specs.Line.{Line, Asks, taking, ending, Reader, elementsThen}
 use Rattle.reading.specs.Forms.{Values, blank, Then, plainThen, fieldThen, formThen}
 use Rattle.reading.specs.Lists.{listCall}
 
@@ -106,6 +108,15 @@ pub record FieldTaken (l : List ℕ) (e f : ℕ) (v : Values) (r : ValuesAt) : T
 pub record FormRead (l : List ℕ) (e : ℕ) (form : List ℕ) (r : ValuesAt) : Type 0 where
   pub is : (k : Then) → formThen form blank k (rest l (e + 1)) ≡ thenValues l k r
 
+-- what `line` makes of the values
+abbrev pub wholeLine : (Values → Line) → Whole → Option Line
+wholeLine line NoWhole = none
+wholeLine line (IsWhole v) = some (line (valuesOf v))
+
+-- the fields of a form, and nothing behind them
+pub record WholeRead (l : List ℕ) (e : ℕ) (form : List ℕ) (r : Whole) : Type 0 where
+  pub is : (line : Values → Line) → formThen form blank (λ v. ending (some (line v))) (rest l (e + 1)) ≡ wholeLine line r
+
 -- ---- lists
 
 abbrev pub longestLine : ℕ
@@ -123,7 +134,7 @@ ElementsAs read l e n xs (IsList to) = ElementsRead read l e n to n xs
 pub record ListRead {A : Type 0} (read : Reader A) (l : List ℕ) (e n : ℕ) (xs : List A) (r : ListAt) : Type 0 where
   pub is : ElementsAs read l e n xs r
 
--- the x is one record more in the bytes, behind i others
+-- x stands in the bytes as one record more, behind i others
 pub record Stored {A : Type 0} (size : ℕ) (f : List ℕ → A) (b b′ : List ℕ) (i : ℕ) (x : A) : Type 0 where
   pub is : recs size f (i + 1) b′ ≡ recs size f i b ++ (x ∷ [])
 

@@ -5,7 +5,7 @@ ghost use lib.Dec.{eqb};
 ghost use Rattle.ident.specs.If.{if_then_else_};
 ghost use Rattle.regions.specs.Rows.{quadNumber};
 ghost use Rattle.reading.specs.Forms.{blank, putKey, putItem, putHash, putNumber, putBool, isHash, isBool};
-ghost use Rattle.reading.specs.Given.{valuesOf, PlainTaken, FieldTaken, FormRead};
+ghost use Rattle.reading.specs.Given.{valuesOf, PlainTaken, FieldTaken, FormRead, WholeRead};
 use crate::fields::BoolAt;
 use crate::fields::HashAt;
 use crate::fields::ItemAt;
@@ -35,6 +35,12 @@ pub struct Values {
 pub enum ValuesAt {
     Not,
     Is(Values, usize),
+}
+
+// The values of a line's last fields.
+pub enum Whole {
+    Not,
+    Is(Values),
 }
 
 fn no_values() -> Values
@@ -270,4 +276,17 @@ pub fn read_form(line: &[u8], e: usize, form: &[u8]) -> ValuesAt
         i += 1;
     }
     ValuesAt::Is(v, to)
+}
+
+// The fields of a form, the line's last, behind the comma at index e.
+pub fn read_whole(line: &[u8], e: usize, form: &[u8]) -> Whole
+    ensures { λ r. ⌜ WholeRead (now (line .entry)) e (now (form .entry)) r ⌝ }
+{
+    let ValuesAt::Is(v, end) = read_form(line, e, form) else {
+        return Whole::Not;
+    };
+    if end < line.len() {
+        return Whole::Not;
+    }
+    Whole::Is(v)
 }

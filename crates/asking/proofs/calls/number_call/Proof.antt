@@ -2,8 +2,8 @@
 -- Assumes nothing.
 use Rattle.machine.specs.Call.{On}
 use Rattle.reading.specs.Line.{Asks}
+use Rattle.reading.proofs.Filling.{line-not, line-is}
 use Rattle.asking.specs.Calls.{numberAsk, numberCall}
-use Rattle.reading.proofs.Filling.{form-not, form-longer, form-is}
 use borrow.Author.Needs.{needs}
 use Rattle.asking.proofs.calls.number_call.Statement.{statement}
 use Rattle.asking.proofs.calls.number_call.Tie as tie
@@ -19,20 +19,11 @@ enum-told c = search needs
 
 returns : tie.Need-returns
 unfolding numberCall
-returns c = form-not (c .before .before .number-values .ensures) (λ v. Asks (On (numberAsk (c .before .before .before .before .args .w) v))) (c .enum-told .given .1)
+returns c = line-not (c .before .before .number-values .ensures) (λ v. Asks (On (numberAsk (c .before .before .before .before .args .w) v))) (c .enum-told .given .1)
 
 returns-2 : tie.Need-returns-2
 unfolding numberCall
-returns-2 c =
-    form-longer (c .before .before .before .before .number-values .ensures) (λ v. Asks (On (numberAsk (c .before .before .before .before .before .before .args .w) v)))
-    (c .before .before .v .given .1) (c .if1 .taken)
-
-returns-3 : tie.Need-returns-3
-unfolding numberCall
-returns-3 c =
-    form-is (c .before .before .before .before .number-values .ensures) (λ v. Asks (On (numberAsk (c .before .before .before .before .before .before .args .w) v))) (c .before .before .v .given .1)
-    (c .if1 .left)
+returns-2 c = line-is (c .before .before .before .number-values .ensures) (λ v. Asks (On (numberAsk (c .before .before .before .before .before .args .w) v))) (c .before .v .given .1)
 
 pub number-call-spec : {M : Type 1} → statement M
-number-call-spec =
-    tie.close (tie.spec number-values-requires enum-known-v enum-told returns returns-2 returns-3)
+number-call-spec = tie.close (tie.spec number-values-requires enum-known-v enum-told returns returns-2)
