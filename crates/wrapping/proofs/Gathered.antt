@@ -34,10 +34,10 @@ use Rattle.wrapping.specs.Batches.{between, announced, Offers, Collected
 use Rattle.wrapping.proofs.Parts.{between-none, announced-join, announced-one, each-between, offers-none, bounded-offers}
 
 -- an offer to read lists with
-anOffer : Offer
+pub anOffer : Offer
 anOffer = record { item = record { kind = WTx; hash = 0 }; priority = 0 }
 
-abbrev made : Terms → List Offer → ℕ → Candidate
+abbrev pub made : Terms → List Offer → ℕ → Candidate
 made a os j = offered (a .connection) (a .clock) (a .preferred) (a .source) (a .late) (getD os j anOffer)
 
 -- ---- collecting

@@ -5,3 +5,4 @@ pub mod Batching
 pub mod Unfound
 pub mod Packaged
 pub mod Behind
+pub mod Swapped

@@ -1,2 +1,3 @@
 pub mod Wraps
 pub mod Batches
+pub mod Swaps

@@ -1,5 +1,6 @@
 // announce_transactions: the items that a connection announces in one message, each with the priority that the host drew for it.
 ghost use mathlib.Core.Path.{_≡_};
+ghost use mathlib.Core.Bool.{true};
 ghost use Prim.Native.Nat.{_+_, _*_, _≤_, _<_};
 ghost use lib.Dec.{leb};
 ghost use lib.ListN.{length};
@@ -12,9 +13,11 @@ ghost use Rattle.machine.specs.Wrapper as machine;
 ghost use Rattle.store.specs.Shown.{Kept};
 ghost use Rattle.lists.specs.Items.{offersIn};
 ghost use Rattle.requests.specs.Changes.{candidateOf, Tells};
+ghost use Rattle.announcing.specs.Falls.{mostListed, listSpace, VictimsIn};
 ghost use Rattle.gathering.specs.Aside.{space, Empty};
 ghost use Rattle.wrapping.specs.Wraps.{Becomes};
 ghost use Rattle.wrapping.specs.Batches.{between, announced, Offers, Collects, Announced};
+ghost use Rattle.wrapping.specs.Swaps.{Whole, Swaps, Went};
 
 // Milliseconds by which a less welcome announcement waits.
 const SOURCE_DELAY: u64 = 2_000;
@@ -189,6 +192,129 @@ fn announce_some(s: &mut [u8], a: Terms, items: &[u8], priorities: &[u8], first:
     next
 }
 
+// ---- where L is held
+
+// L announcements are held.
+fn full(s: &[u8]) -> bool
+    requires { ⌜ Kept (now s) ⌝ }
+    ensures { λ r. ⌜ (r ≡ true → Whole (now (s .entry))) ⌝ }
+{
+    store::head::rows(s) >= store::head::limit(s)
+}
+
+// Candidates of a hash, over both kinds.
+const MAX_ALTERNATES: usize = 8;
+
+// Whether it is worth while to list victims for the items from the first on: they are preferred, L is held, and the first of them does not
+// have to take the place of another at its hash.
+fn displaces(s: &[u8], a: Terms, items: &[u8], priorities: &[u8], first: usize) -> bool
+    requires { ⌜ Kept (now s) × (first < length (offersIn (now items) (now priorities))) ⌝ }
+    ensures { λ r. ⌜ (r ≡ true → Whole (now (s .entry))) ⌝ }
+{
+    let count = lists::offers(items, priorities);
+    if count - first < FEW {
+        return false;
+    }
+    if !a.preferred {
+        return false;
+    }
+    let item = lists::item_at(items, first);
+    let h = item.hash;
+    if requests::candidates_at(s, h) >= MAX_ALTERNATES {
+        return false;
+    }
+    full(s)
+}
+
+// Bytes of the rows that are listed.
+const LISTED: usize = 9_288;
+
+fn list() -> [u8; LISTED] {
+    [0u8; LISTED]
+}
+
+// As many victims are listed at most.
+const MOST: usize = 128;
+
+fn at_most(n: usize) -> usize
+    requires { ⌜ 1 ≤ n ⌝ }
+    ensures { λ r. ⌜ (1 ≤ r) × (r ≤ mostListed) ⌝ }
+{
+    if n < MOST { n } else { MOST }
+}
+
+// Announces items from the first on: each that comes in waits in `new`, which is empty, and the next of the m victims listed in `top` goes.
+fn swap(
+    s: &mut [u8],
+    new: &mut [u8],
+    top: &[u8],
+    m: usize,
+    a: Terms,
+    items: &[u8],
+    priorities: &[u8],
+    first: usize,
+) -> Part
+    requires { ⌜ Kept (now s) × Whole (now s) × VictimsIn (now s) (words (now top)) m × (m ≤ mostListed) × (length (now top) ≡ 8 * (rowSize * listSpace)) × (8 * (rowSize * space) ≤ length (now new)) × Empty (words (now new)) × (a .clock + requestLifetime < word) × (first ≤ length (offersIn (now items) (now priorities))) ⌝ }
+    ensures { λ r. ⌜ Swaps (now (s .entry)) (now (s .exit)) (words (now (new .exit))) (words (now (top .entry))) m a (offersIn (now (items .entry)) (now (priorities .entry))) first (r .next) (r .waiting) ⌝ }
+{
+    let count = lists::offers(items, priorities);
+    let mut i = first;
+    let mut d = 0;
+    while i < count {
+        let c = offered_at(a, items, priorities, i);
+        let more = gathering::instead::exchange(s, new, d, top, m, d, c);
+        if more == 2 {
+            return Part {
+                next: i,
+                waiting: d,
+            };
+        }
+        d += more;
+        i += 1;
+    }
+    Part {
+        next: i,
+        waiting: d,
+    }
+}
+
+// Announces some items from the first on, or none: the victims are found in one pass, and one more pass lets in those that have waited.
+fn announce_for_victims(
+    s: &mut [u8],
+    a: Terms,
+    items: &[u8],
+    priorities: &[u8],
+    first: usize,
+) -> usize
+    requires { ⌜ Kept (now s) × Whole (now s) × (a .clock + requestLifetime < word) × (first < length (offersIn (now items) (now priorities))) ⌝ }
+    ensures { λ r. ⌜ Went (now (s .entry)) (now (s .exit)) a (offersIn (now (items .entry)) (now (priorities .entry))) first r ⌝ }
+{
+    let count = lists::offers(items, priorities);
+    let mut top = list();
+    announcing::foremost::clear(&mut top);
+    let m = announcing::foremost::list_victims(s, &mut top, at_most(count - first));
+    let mut new = region();
+    gathering::region::clear(&mut new);
+    let p = swap(s, &mut new, &top, m, a, items, priorities, first);
+    gathering::coming::come_in(s, a.connection, &new, p.waiting);
+    p.next
+}
+
+// Announces items from the first on, one at least. Answers which comes next.
+fn announce_part(s: &mut [u8], a: Terms, items: &[u8], priorities: &[u8], first: usize) -> usize
+    requires { ⌜ Kept (now s) × (1 ≤ a .connection) × (a .clock + requestLifetime < word) × (first < length (offersIn (now items) (now priorities))) ⌝ }
+    ensures { λ r. ⌜ Announced (now (s .entry)) (now (s .exit)) a (offersIn (now (items .entry)) (now (priorities .entry))) first r ⌝ }
+{
+    if !displaces(s, a, items, priorities, first) {
+        return announce_some(s, a, items, priorities, first);
+    }
+    let next = announce_for_victims(s, a, items, priorities, first);
+    if first < next {
+        return next;
+    }
+    announce_some(s, a, items, priorities, first)
+}
+
 // Announces the items: a part that comes in together costs one pass over the rows. Whether the connection is overloaded is read before
 // the first.
 pub fn announce_transactions(
@@ -214,6 +340,6 @@ pub fn announce_transactions(
     };
     let mut i = 0;
     while i < count {
-        i = announce_some(s, a, items, priorities, i);
+        i = announce_part(s, a, items, priorities, i);
     }
 }

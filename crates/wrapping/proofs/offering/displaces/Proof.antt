@@ -1,0 +1,50 @@
+-- `wrapping::offering::displaces` meets its contract. Assumes nothing.
+use native.Mathlib.Omega.{arith}
+use Rattle.machine.proofs.Tests.{never}
+use Rattle.words.specs.Words.{words}
+use Rattle.lists.specs.Items.{itemsIn}
+use Rattle.lists.proofs.Inventory.{paired-inside}
+use borrow.Author.Needs.{needs}
+use Rattle.wrapping.proofs.offering.displaces.Statement.{statement}
+use Rattle.wrapping.proofs.offering.displaces.Tie as tie
+
+offers-requires : tie.Need-offers-requires
+offers-requires c κs = search needs
+
+sub-if1 : tie.Need-sub-if1
+sub-if1 c = search needs
+
+returns : tie.Need-returns
+returns c = λ e. never e
+
+returns-2 : tie.Need-returns-2
+returns-2 c = λ e. never e
+
+item-at-requires : tie.Need-item-at-requires
+item-at-requires c κs = omega (arith, c .before .before .before .before .before .before .before .pre .1, paired-inside (itemsIn (c .before .before .before .before .before .before .before .args .items .now)) (words (c .before .before .before .before .before .before .before .args .priorities .now)))
+
+candidates-at-requires : tie.Need-candidates-at-requires
+candidates-at-requires c κs = search needs
+
+returns-3 : tie.Need-returns-3
+returns-3 c = λ e. never e
+
+full-requires : tie.Need-full-requires
+full-requires c κs = search needs
+
+returns-4 : tie.Need-returns-4
+returns-4 c = search needs
+
+pub displaces-spec : {M : Type 1} → statement M
+displaces-spec =
+    tie.close
+    (tie.spec
+    offers-requires
+    sub-if1
+    returns
+    returns-2
+    item-at-requires
+    candidates-at-requires
+    returns-3
+    full-requires
+    returns-4)
