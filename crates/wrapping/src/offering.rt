@@ -13,7 +13,7 @@ ghost use Rattle.store.specs.Shown.{Kept};
 ghost use Rattle.lists.specs.Items.{offersIn};
 ghost use Rattle.requests.specs.Changes.{candidateOf, Tells};
 ghost use Rattle.gathering.specs.Aside.{space, Empty};
-ghost use Rattle.wrapping.specs.Wraps.{Becomes};
+ghost use Rattle.claims.specs.Changes.{Becomes};
 ghost use Rattle.wrapping.specs.Batches.{between, announced, Offers, Collects, Announced};
 
 // Milliseconds by which a less welcome announcement waits.
