@@ -22,24 +22,31 @@ fn carry_out(store: &mut [u8], out: &mut [u8], w: HashesWord, v: Values, hashes:
     ensures { λ r. ⌜ Carried (On (hashesAsk w (valuesOf v) (hashesIn (now (hashes .entry))))) (now (store .entry)) (now (store .exit)) (now (out .entry)) (now (out .exit)) r ⌝ }
 {
     let n = v.connection;
-    let h = hash_of(v.hash);
+    let subject = ident::Wtxid(hash_of(v.hash));
     let combined = hash_of(v.combined);
     let clock = v.clock;
     match w {
         HashesWord::SolicitPackageInfo => number(
             out,
-            public_packages::package_info::solicit_package_info(store, n, h, hashes, clock),
+            public_packages::package_info::solicit_package_info(store, n, subject, hashes, clock),
         ),
         HashesWord::ClaimPackage => number(
             out,
-            public_packages::package_calls::claim_package(store, n, h, combined, hashes, clock),
+            public_packages::package_calls::claim_package(
+                store,
+                n,
+                subject,
+                combined,
+                hashes,
+                clock,
+            ),
         ),
         HashesWord::BeginPackageResolution => number(
             out,
             public_packages::package_calls::begin_package_resolution(
                 store,
                 n,
-                h,
+                subject,
                 combined,
                 hashes,
                 clock,

@@ -19,7 +19,7 @@ fn carry_out(store: &mut [u8], w: KeysWord, v: Values, answer: &mut [u8]) -> out
     ensures { λ r. ⌜ LeavesWith (On (keysAsk w (valuesOf v))) (now (store .entry)) (now (store .exit)) (now (answer .exit)) (listingOf r) ⌝ }
 {
     let key = key_of(v);
-    let hash = hash_of(v.hash);
+    let subject = ident::Wtxid(hash_of(v.hash));
     match w {
         KeysWord::Sweep => public_requests::sweeps::sweep(store, answer),
         KeysWord::FailedWithParents => {
@@ -35,7 +35,7 @@ fn carry_out(store: &mut [u8], w: KeysWord, v: Values, answer: &mut [u8]) -> out
             public_packages::package_calls::release_package(
                 store,
                 v.connection,
-                hash,
+                subject,
                 v.clock,
                 answer,
             )

@@ -26,7 +26,7 @@ use Rattle.packages.specs.declared.Request.{Request as Read}
 use Rattle.packages.specs.Changes.{ownerNum, deadlineNum, stageOf, RequestOf}
 use Rattle.announcing.specs.Answers.{KeysListed}
 use Rattle.failing.proofs.Releasing.{stage-read}
-use Rattle.claims.specs.Changes.{MakesWithin}
+use Rattle.claims.specs.Changes.{Becomes}
 
 -- ---- what guards a request
 
@@ -76,13 +76,13 @@ pub room-keys : (l u : ℕ) → l ≤ maxParents → keyBytes * maxParents ≤ u
 room-keys l u few room = omega arith
 
 module _ {b : List ℕ} (k : Key) (v : ℕ) {r : Read} (x : Tells b (λ t. RequestOf (at k t) r)) where
-  pub hand-none : r .owner ≡ 0 → MakesWithin b b (λ m t. ownerParents m v ((at k t) .owner) (at k t) t)
+  pub hand-none : r .owner ≡ 0 → Becomes b b (λ m t. ownerParents m v ((at k t) .owner) (at k t) t)
   hand-none z st s w =
       let q = at k (st .table) in
       subst (λ (t : Table). Writes b (onTable t st)) (handed-none (limitsOf st) v (q .owner) q (st .table) refl (lawful-at k (st .table) (s .bounded .lawful)) (sym (x st s w .owner) ∙ z)) w
 
   pub hand-some : (r .owner ≡ 0 → ⊥) → {b′ u u′ : List ℕ} {c : ℕ} (hs : List ℕ) → Tells b (λ t. hs ≡ parentsFor (r .owner) (at k t)) → KeysListed b b′ u u′ c (λ m t. announceParents m (r .owner) v hs t)
-      → MakesWithin b b′ (λ m t. ownerParents m v ((at k t) .owner) (at k t) t)
+      → Becomes b b′ (λ m t. ownerParents m v ((at k t) .owner) (at k t) t)
   hand-some z {b′} hs h l st s w =
       let q = at k (st .table) in
       subst (λ (t : Table). Writes b′ (onTable t st))
@@ -96,11 +96,11 @@ bounded-handed v none r w e l b = b
 bounded-handed v (some o) r w e l b = bounded-parents (o .connection) v _ (owner-peer (o .connection) r l (rw e (eq-eqb (o .connection) (o .connection) refl))) w (few-for (o .connection) r l) b
 
 module _ {b : List ℕ} (k : Key) (v : ℕ) where
-  pub known-kept : Tells b (λ t. true ≡ guarded v (at k t)) → MakesWithin b b (λ m t. forgetKnown m k v t)
+  pub known-kept : Tells b (λ t. true ≡ guarded v (at k t)) → Becomes b b (λ m t. forgetKnown m k v t)
   unfolding forgetKnown
   known-kept g st s w = rw (sym (g st s w)) w
 
-  module _ (late : v < word) {b₁ : List ℕ} (h : MakesWithin b b₁ (λ m t. ownerParents m v ((at k t) .owner) (at k t) t)) where
+  module _ (late : v < word) {b₁ : List ℕ} (h : Becomes b b₁ (λ m t. ownerParents m v ((at k t) .owner) (at k t) t)) where
     abbrev after : State → State
     after st = onTable (ownerParents (limitsOf st) v ((at k (st .table)) .owner) (at k (st .table)) (st .table)) st
 
@@ -110,6 +110,6 @@ module _ {b : List ℕ} (k : Key) (v : ℕ) where
     pub handed-kept : Kept b → Kept b₁
     handed-kept p = record { state = after (p .state); sound = after-sound (p .state) (p .sound); writes = h (p .state) (p .sound) (p .writes) }
 
-    pub known-gone : {b₂ : List ℕ} → Tells b (λ t. false ≡ guarded v (at k t)) → Makes b₁ b₂ (λ t. Unit {0}) (forget k) → MakesWithin b b₂ (λ m t. forgetKnown m k v t)
+    pub known-gone : {b₂ : List ℕ} → Tells b (λ t. false ≡ guarded v (at k t)) → Makes b₁ b₂ (λ t. Unit {0}) (forget k) → Becomes b b₂ (λ m t. forgetKnown m k v t)
     unfolding forgetKnown
     known-gone g f st s w = rw (sym (g st s w)) (f (after st) (after-sound st s) (h st s w) tt)

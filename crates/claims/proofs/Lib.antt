@@ -4,9 +4,3 @@ pub mod Gathering
 pub mod LastOnes
 pub mod Naming
 pub mod Listing
-pub mod Tearing
-pub mod Undoing
-pub mod TornTables
-pub mod PackageSpots
-pub mod TearingRows
-pub mod TearingPlaces

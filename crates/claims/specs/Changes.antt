@@ -8,5 +8,5 @@ use Rattle.machine.specs.Sound.{Sound}
 use Rattle.store.specs.Image.{Writes}
 
 -- whatever sound state the bytes b write, b′ write it with g of its table, which may ask for the limits
-abbrev pub MakesWithin : List ℕ → List ℕ → (Limits → Table → Table) → Type 0
-MakesWithin b b′ g = (st : State) → Sound st → Writes b st → Writes b′ (onTable (g (limitsOf st) (st .table)) st)
+abbrev pub Becomes : List ℕ → List ℕ → (Limits → Table → Table) → Type 0
+Becomes b b′ g = (st : State) → Sound st → Writes b st → Writes b′ (onTable (g (limitsOf st) (st .table)) st)

@@ -1,15 +1,13 @@
 // Package claims given up, on the bytes of a sound store (document 01, "The request machine"): forget_known; `waiting` has
-// failed_package_claims, `teardown` teardown_package_claims.
+// failed_package_claims.
 ghost use mathlib.Core.Path.{_≡_};
 ghost use Rattle.ident.specs.Words.{keyNum};
 ghost use Rattle.machine.specs.Table.{at};
 ghost use Rattle.machine.specs.Leave as machine;
 ghost use Rattle.store.specs.Shown.{Kept};
 ghost use Rattle.requests.specs.Changes.{Tells};
-ghost use Rattle.claims.specs.Changes.{MakesWithin};
+ghost use Rattle.claims.specs.Changes.{Becomes};
 
-pub mod packaged;
-pub mod teardown;
 pub mod waiting;
 
 // The stage of a place with an Enqueued package.
@@ -35,7 +33,7 @@ fn guarded(s: &[u8], k: ident::Key, clock: u64) -> bool
 // Announces the parents beside the flag or package of the request at k for its owner, if it has one.
 fn hand_on(s: &mut [u8], k: ident::Key, clock: u64)
     requires { ⌜ Kept (now s) ⌝ }
-    ensures { λ _. ⌜ MakesWithin (now (s .entry)) (now (s .exit)) (λ m t. machine.ownerParents m clock ((at (keyNum k) t) .owner) (at (keyNum k) t) t) ⌝ }
+    ensures { λ _. ⌜ Becomes (now (s .entry)) (now (s .exit)) (λ m t. machine.ownerParents m clock ((at (keyNum k) t) .owner) (at (keyNum k) t) t) ⌝ }
 {
     let r = packages::request_at(s, k);
     // owner 0 is none
@@ -51,7 +49,7 @@ fn hand_on(s: &mut [u8], k: ident::Key, clock: u64)
 // The request at k goes once its transaction is known, unless a package is still to come of it; its parents are announced for its owner.
 pub fn forget_known(s: &mut [u8], k: ident::Key, clock: u64)
     requires { ⌜ Kept (now s) ⌝ }
-    ensures { λ _. ⌜ MakesWithin (now (s .entry)) (now (s .exit)) (λ m t. machine.forgetKnown m (keyNum k) clock t) ⌝ }
+    ensures { λ _. ⌜ Becomes (now (s .entry)) (now (s .exit)) (λ m t. machine.forgetKnown m (keyNum k) clock t) ⌝ }
 {
     if guarded(s, k, clock) {
         return;

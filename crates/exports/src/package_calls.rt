@@ -20,8 +20,14 @@ pub extern "C" fn tracker_solicit_package_info(
     ensures { λ r. ⌜ HandsOut (On (SolicitPackageInfo connection (hashGiven (now (hash .entry))) (hashesIn (now (parents .entry))) clock))
         (now (s .entry)) (now (s .exit)) r (now (reply .entry)) (now (reply .exit)) ⌝ }
 {
-    let h = ident::hash_from_bytes(hash);
-    let a = public_packages::package_info::solicit_package_info(s, connection, h, parents, clock);
+    let subject = ident::Wtxid(ident::hash_from_bytes(hash));
+    let a = public_packages::package_info::solicit_package_info(
+        s,
+        connection,
+        subject,
+        parents,
+        clock,
+    );
     hand_out(a, reply)
 }
 
@@ -40,9 +46,9 @@ pub extern "C" fn tracker_claim_package(
     ensures { λ r. ⌜ HandsOut (On (ClaimPackage connection (hashGiven (now (hash .entry))) (hashGiven (now (combined .entry))) (hashesIn (now (wtxids .entry))) clock))
         (now (s .entry)) (now (s .exit)) r (now (reply .entry)) (now (reply .exit)) ⌝ }
 {
-    let h = ident::hash_from_bytes(hash);
+    let subject = ident::Wtxid(ident::hash_from_bytes(hash));
     let d = ident::hash_from_bytes(combined);
-    let a = public_packages::package_calls::claim_package(s, connection, h, d, wtxids, clock);
+    let a = public_packages::package_calls::claim_package(s, connection, subject, d, wtxids, clock);
     hand_out(a, reply)
 }
 
@@ -61,12 +67,12 @@ pub extern "C" fn tracker_begin_package_resolution(
     ensures { λ r. ⌜ HandsOut (On (BeginPackageResolution connection (hashGiven (now (hash .entry))) (hashGiven (now (combined .entry))) (hashesIn (now (wtxids .entry))) clock))
         (now (s .entry)) (now (s .exit)) r (now (reply .entry)) (now (reply .exit)) ⌝ }
 {
-    let h = ident::hash_from_bytes(hash);
+    let subject = ident::Wtxid(ident::hash_from_bytes(hash));
     let d = ident::hash_from_bytes(combined);
     let a = public_packages::package_calls::begin_package_resolution(
         s,
         connection,
-        h,
+        subject,
         d,
         wtxids,
         clock,
@@ -88,7 +94,7 @@ pub extern "C" fn tracker_release_package(
     ensures { λ r. ⌜ HandsKeys (On (ReleasePackage connection (hashGiven (now (hash .entry))) clock (now (answer .entry))))
         (now (s .entry)) (now (s .exit)) (now (answer .exit)) r (now (count .entry)) (now (count .exit)) ⌝ }
 {
-    let h = ident::hash_from_bytes(hash);
-    let l = public_packages::package_calls::release_package(s, connection, h, clock, answer);
+    let subject = ident::Wtxid(ident::hash_from_bytes(hash));
+    let l = public_packages::package_calls::release_package(s, connection, subject, clock, answer);
     hand_count(l, count)
 }

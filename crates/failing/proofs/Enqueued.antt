@@ -99,6 +99,3 @@ module _ {b b₁ : List ℕ} (k : Key) (small : k .hash < top) (n v : ℕ) (late
       keys = λ st s w. l .keys (after st) (after-sound st s) (a st s w tt) ∙ ap (λ (x : Listed). written (keysAnswer (x .keys)) u) (answer-is st s w);
       table = λ st s w. subst (λ (x : Listed). Writes b₂ (onTable (x .table) st)) (answer-is st s w) (l .table (after st) (after-sound st s) (a st s w tt));
     }
-
-pub small-key : {k : Key} (h : ℕ) → k ≡ wtxid h → h < top → k .hash < top
-small-key h q l = rw q l

@@ -84,30 +84,3 @@ change-none k f lo (r ∷ t) o a q =
         | inr d ↦ rw d (ap (λ (l : Table). r ∷ l) (change-none k f _ t (o .2) (a .1) (rw d at q)))
       ])
     ]
-
--- a request without candidates stays away
-pub change-absent : (k : Key) (f : Request → Request) (lo : ℕ) (t : Table) → Ordered lo t → All Filled t → GivesNone f → (at k t) .candidates ≡ [] → change k f t ≡ t
-unfolding change at
-change-absent k f lo [] o a z q = keep-none (f (blank k)) ((f (blank k)) .candidates) [] (z (blank k) refl)
-change-absent k f lo (r ∷ t) o a z q =
-    elim (test (ltb (place k) (place (r .key)))) [
-      | inl e ↦ rw e (keep-none (f (blank k)) ((f (blank k)) .candidates) (r ∷ t) (z (blank k) refl))
-      | inr e ↦ rw e (elim (test (eqb (place k) (place (r .key)))) [
-        | inl d ↦ let c : r .candidates ≡ [] = rw d at q in absurd (omega (arith, a .0, ap length c))
-        | inr d ↦ rw d (ap (λ (l : Table). r ∷ l) (change-absent k f _ t (o .2) (a .1) z (rw d at q)))
-      ])
-    ]
-
--- two changes that leave no candidate
-pub change-gone : (k : Key) (f g : Request → Request) (lo : ℕ) (t : Table) → Ordered lo t → (f (at k t)) .candidates ≡ [] → (g (at k t)) .candidates ≡ [] → change k f t ≡ change k g t
-unfolding change at
-change-gone k f g lo [] o p q = keep-none (f (blank k)) ((f (blank k)) .candidates) [] p ∙ sym (keep-none (g (blank k)) ((g (blank k)) .candidates) [] q)
-change-gone k f g lo (r ∷ t) o p q =
-    elim (test (ltb (place k) (place (r .key)))) [
-      | inl e ↦ let x = at-absent k (place (r .key)) (r ∷ t) (ltb-true _ _ e) (omega arith, o .1, o .2) in
-          rw e (keep-none (f (blank k)) ((f (blank k)) .candidates) (r ∷ t) (rw x at p) ∙ sym (keep-none (g (blank k)) ((g (blank k)) .candidates) (r ∷ t) (rw x at q)))
-      | inr e ↦ rw e (elim (test (eqb (place k) (place (r .key)))) [
-        | inl d ↦ rw d (keep-none (f r) ((f r) .candidates) t (rw d at p) ∙ sym (keep-none (g r) ((g r) .candidates) t (rw d at q)))
-        | inr d ↦ rw d (ap (λ (l : Table). r ∷ l) (change-gone k f g _ t (o .2) (rw d at p) (rw d at q)))
-      ])
-    ]

@@ -220,11 +220,17 @@ fn enqueued_by(s: &[u8], k: ident::Key, n: u64) -> bool
 
 // An Enqueued package of the connection n is given up: n leaves the hash, and the parents are announced for it. Lists in `out` the key
 // and the parents' keys, if there was such a package; answers how many these are.
-pub fn release_package(s: &mut [u8], n: u64, h: ident::Hash, clock: u64, out: &mut [u8]) -> usize
+pub fn release_package(
+    s: &mut [u8],
+    n: u64,
+    subject: ident::Wtxid,
+    clock: u64,
+    out: &mut [u8],
+) -> usize
     requires { ⌜ Kept (now s) × (1 ≤ n) × (keyBytes * (maxParents + 1) ≤ length (now out)) ⌝ }
-    ensures { λ r. ⌜ KeysListed (now (s .entry)) (now (s .exit)) (now (out .entry)) (now (out .exit)) r (λ m t. releasePackage m n (hashNum h) clock t) ⌝ }
+    ensures { λ r. ⌜ KeysListed (now (s .entry)) (now (s .exit)) (now (out .entry)) (now (out .exit)) r (λ m t. releasePackage m n (hashNum (subject .0)) clock t) ⌝ }
 {
-    let k = ident::wtxid_key(ident::Wtxid(h));
+    let k = ident::wtxid_key(subject);
     if !enqueued_by(s, k, n) {
         return 0;
     }

@@ -14,7 +14,7 @@ use Rattle.store.specs.Image.{Writes, SoundStore}
 use Rattle.store.proofs.BytesBack.{Bytes}
 use Rattle.requests.specs.Changes.{Makes, Tells}
 use Rattle.announcing.specs.Answers.{Answered}
-use Rattle.claims.specs.Changes.{MakesWithin}
+use Rattle.claims.specs.Changes.{Becomes}
 use Rattle.outcome.specs.Outcome.{Leaves}
 use Rattle.outcome.specs.Tests.{inTurn}
 use Rattle.outcome.specs.Lent.{Lent}
@@ -27,7 +27,7 @@ pub silent-answer : {b p : List ℕ} {g : Table → Table} → Makes b p (λ t. 
 silent-answer h = record { reply = λ st s w. refl; table = λ st s w. h st s w tt }
 
 -- the same where the limits are looked at
-pub silent-within : {b p : List ℕ} {g : Limits → Table → Table} → MakesWithin b p g → Answered b p true (λ m t. done (g m t))
+pub silent-within : {b p : List ℕ} {g : Limits → Table → Table} → Becomes b p g → Answered b p true (λ m t. done (g m t))
 silent-within h = record { reply = λ st s w. refl; table = h }
 
 -- ---- calls that only read

@@ -21,11 +21,11 @@ pub extern "C" fn tracker_owned_solicit_package_info(
         (now (s .entry)) (now (s .exit)) r (now (reply .entry)) (now (reply .exit)) ⌝ }
     ensures sound { λ r. ⌜ SoundStore (now (s .exit)) ⌝ }
 {
-    let h = ident::hash_from_bytes(hash);
+    let subject = ident::Wtxid(ident::hash_from_bytes(hash));
     let a = public_packages::on_sound::package_info::solicit_package_info(
         s,
         connection,
-        h,
+        subject,
         parents,
         clock,
     );
@@ -49,12 +49,12 @@ pub extern "C" fn tracker_owned_claim_package(
         (now (s .entry)) (now (s .exit)) r (now (reply .entry)) (now (reply .exit)) ⌝ }
     ensures sound { λ r. ⌜ SoundStore (now (s .exit)) ⌝ }
 {
-    let h = ident::hash_from_bytes(hash);
+    let subject = ident::Wtxid(ident::hash_from_bytes(hash));
     let d = ident::hash_from_bytes(combined);
     let a = public_packages::on_sound::package_calls::claim_package(
         s,
         connection,
-        h,
+        subject,
         d,
         wtxids,
         clock,
@@ -79,12 +79,12 @@ pub extern "C" fn tracker_owned_begin_package_resolution(
         (now (s .entry)) (now (s .exit)) r (now (reply .entry)) (now (reply .exit)) ⌝ }
     ensures sound { λ r. ⌜ SoundStore (now (s .exit)) ⌝ }
 {
-    let h = ident::hash_from_bytes(hash);
+    let subject = ident::Wtxid(ident::hash_from_bytes(hash));
     let d = ident::hash_from_bytes(combined);
     let a = public_packages::on_sound::package_calls::begin_package_resolution(
         s,
         connection,
-        h,
+        subject,
         d,
         wtxids,
         clock,
@@ -108,11 +108,11 @@ pub extern "C" fn tracker_owned_release_package(
         (now (s .entry)) (now (s .exit)) (now (answer .exit)) r (now (count .entry)) (now (count .exit)) ⌝ }
     ensures sound { λ r. ⌜ SoundStore (now (s .exit)) ⌝ }
 {
-    let h = ident::hash_from_bytes(hash);
+    let subject = ident::Wtxid(ident::hash_from_bytes(hash));
     let l = public_packages::on_sound::package_calls::release_package(
         s,
         connection,
-        h,
+        subject,
         clock,
         answer,
     );

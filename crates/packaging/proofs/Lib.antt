@@ -6,4 +6,5 @@ pub mod Free
 pub mod Entered
 pub mod Opening
 pub mod Adding
+pub mod Subject
 pub mod Soliciting

@@ -58,18 +58,18 @@ fn may_own(s: &[u8], n: u64, h: ident::Hash) -> bool
 }
 
 // Whether solicit_package_info would reply 1, and so take a place.
-pub fn would_solicit(s: &[u8], n: u64, h: ident::Hash, clock: u64) -> bool
+pub fn would_solicit(s: &[u8], n: u64, subject: ident::Wtxid, clock: u64) -> bool
     requires { ⌜ Kept (now s) ⌝ }
-    ensures { λ r. ⌜ ((hs : List ℕ) (st : State) → Sound st → Writes (now (s .entry)) st → r ≡ (machine.solicit (limitsOf st) n (hashNum h) hs clock (st .table)) .reply) ⌝ }
+    ensures { λ r. ⌜ ((hs : List ℕ) (st : State) → Sound st → Writes (now (s .entry)) st → r ≡ (machine.solicit (limitsOf st) n (hashNum (subject .0)) hs clock (st .table)) .reply) ⌝ }
 {
-    if !may_own(s, n, h) {
+    if !may_own(s, n, subject.0) {
         return false;
     }
-    let k = ident::wtxid_key(ident::Wtxid(h));
+    let k = ident::wtxid_key(subject);
     if requests::holds(s, k, n) {
         return true;
     }
-    announcing::keyed::would_announce(s, k, soliciting(n, h, clock))
+    announcing::keyed::would_announce(s, k, soliciting(n, subject.0, clock))
 }
 
 // The candidate n becomes the owner of the request at the Wtxid key with hash h, and the request gets the flag.
@@ -102,22 +102,22 @@ fn add_parents(s: &mut [u8], h: ident::Hash, parents: &[u8])
 pub fn solicit_package_info(
     s: &mut [u8],
     n: u64,
-    h: ident::Hash,
+    subject: ident::Wtxid,
     parents: &[u8],
     clock: u64,
 ) -> bool
-    requires { ⌜ Kept (now s) × (1 ≤ n) × (clock ≤ latestClock) × (length (hashesIn (now parents)) ≤ maxParents) × Room (now s) n (hashNum h) (hashesIn (now parents)) clock ⌝ }
-    ensures { λ r. ⌜ Answered (now (s .entry)) (now (s .exit)) r (λ m t. machine.solicit m n (hashNum h) (hashesIn (now (parents .entry))) clock t) ⌝ }
+    requires { ⌜ Kept (now s) × (1 ≤ n) × (clock ≤ latestClock) × (length (hashesIn (now parents)) ≤ maxParents) × Room (now s) n (hashNum (subject .0)) (hashesIn (now parents)) clock ⌝ }
+    ensures { λ r. ⌜ Answered (now (s .entry)) (now (s .exit)) r (λ m t. machine.solicit m n (hashNum (subject .0)) (hashesIn (now (parents .entry))) clock t) ⌝ }
 {
-    if !may_own(s, n, h) {
+    if !may_own(s, n, subject.0) {
         return false;
     }
-    let k = ident::wtxid_key(ident::Wtxid(h));
-    announcing::keyed::announce_at(s, k, soliciting(n, h, clock));
+    let k = ident::wtxid_key(subject);
+    announcing::keyed::announce_at(s, k, soliciting(n, subject.0, clock));
     if !requests::holds(s, k, n) {
         return false;
     }
-    own_flagged(s, n, h, clock);
-    add_parents(s, h, parents);
+    own_flagged(s, n, subject.0, clock);
+    add_parents(s, subject.0, parents);
     true
 }

@@ -23,12 +23,12 @@ const AWAITING: u64 = 2;
 // Wtxids of a package.
 const MOST_WTXIDS: usize = 100;
 
-// Whether the request at the Wtxid key with hash h has the stage, and n owns it with the deadline still to come.
-fn owned_at(s: &[u8], n: u64, h: ident::Hash, clock: u64, stage: u64) -> bool
+// Whether the request at the Wtxid key of `subject` has the stage, and n owns it with the deadline still to come.
+fn owned_at(s: &[u8], n: u64, subject: ident::Wtxid, clock: u64, stage: u64) -> bool
     requires { ⌜ Kept (now s) ⌝ }
-    ensures { λ r. ⌜ Tells (now (s .entry)) (λ t. r ≡ (machine.liveOwner n clock ((at (wtxid (hashNum h)) t) .owner) && eqb (stageOf ((at (wtxid (hashNum h)) t) .info) ((at (wtxid (hashNum h)) t) .«package»)) stage)) ⌝ }
+    ensures { λ r. ⌜ Tells (now (s .entry)) (λ t. r ≡ (machine.liveOwner n clock ((at (wtxid (hashNum (subject .0))) t) .owner) && eqb (stageOf ((at (wtxid (hashNum (subject .0))) t) .info) ((at (wtxid (hashNum (subject .0))) t) .«package»)) stage)) ⌝ }
 {
-    let k = ident::wtxid_key(ident::Wtxid(h));
+    let k = ident::wtxid_key(subject);
     let r = packages::request_at(s, k);
     r.owner == n && clock < r.deadline && r.stage == stage
 }
@@ -37,22 +37,22 @@ fn owned_at(s: &[u8], n: u64, h: ident::Hash, clock: u64, stage: u64) -> bool
 pub fn claim_package(
     s: &mut [u8],
     n: u64,
-    h: ident::Hash,
+    subject: ident::Wtxid,
     combined: ident::Hash,
     wtxids: &[u8],
     clock: u64,
 ) -> bool
     requires { ⌜ Kept (now s) ⌝ }
-    ensures { λ r. ⌜ Answered (now (s .entry)) (now (s .exit)) r (λ m t. machine.claimPackage n (hashNum h) (hashNum combined) (hashesIn (now (wtxids .entry))) clock t) ⌝ }
+    ensures { λ r. ⌜ Answered (now (s .entry)) (now (s .exit)) r (λ m t. machine.claimPackage n (hashNum (subject .0)) (hashNum combined) (hashesIn (now (wtxids .entry))) clock t) ⌝ }
 {
     let count = lists::hashes(wtxids);
     if count == 0 || count > MOST_WTXIDS {
         return false;
     }
-    if !owned_at(s, n, h, clock, FLAG) {
+    if !owned_at(s, n, subject, clock, FLAG) {
         return false;
     }
-    packages::claim(s, h, combined, wtxids);
+    packages::claim(s, subject.0, combined, wtxids);
     true
 }
 
@@ -85,21 +85,21 @@ fn same_package(s: &[u8], i: usize, combined: ident::Hash, wtxids: &[u8]) -> boo
 pub fn begin_package_resolution(
     s: &mut [u8],
     n: u64,
-    h: ident::Hash,
+    subject: ident::Wtxid,
     combined: ident::Hash,
     wtxids: &[u8],
     clock: u64,
 ) -> bool
     requires { ⌜ Kept (now s) ⌝ }
-    ensures { λ r. ⌜ Answered (now (s .entry)) (now (s .exit)) r (λ m t. machine.beginResolution n (hashNum h) (hashNum combined) (hashesIn (now (wtxids .entry))) clock t) ⌝ }
+    ensures { λ r. ⌜ Answered (now (s .entry)) (now (s .exit)) r (λ m t. machine.beginResolution n (hashNum (subject .0)) (hashNum combined) (hashesIn (now (wtxids .entry))) clock t) ⌝ }
 {
-    if !owned_at(s, n, h, clock, AWAITING) {
+    if !owned_at(s, n, subject, clock, AWAITING) {
         return false;
     }
-    let p = packages::seek(s, h);
+    let p = packages::seek(s, subject.0);
     if !same_package(s, p.at, combined, wtxids) {
         return false;
     }
-    packages::enqueue(s, h);
+    packages::enqueue(s, subject.0);
     true
 }

@@ -8,21 +8,21 @@ ghost use Rattle.lists.specs.Lists.{hashesIn};
 ghost use Rattle.outcome.specs.Outcome.{Leaves};
 ghost use Rattle.outcome.specs.Reply.{replyOf};
 
-// The connection is asked for the package info of the transaction with wtxid h, whose parents are given in 32 bytes each. The reply is 0 if the hash is owned, if the
+// The connection is asked for the package info of the transaction with the wtxid `subject`, whose parents are given in 32 bytes each. The reply is 0 if the hash is owned, if the
 // connection owns 100 requests, or if it is no candidate and is not kept as one.
 pub fn solicit_package_info(
     s: &mut [u8],
     connection: u64,
-    h: ident::Hash,
+    subject: ident::Wtxid,
     parents: &[u8],
     clock: u64,
 ) -> Answer
-    ensures { λ r. ⌜ Leaves (On (SolicitPackageInfo connection (hashNum h) (hashesIn (now (parents .entry))) clock)) (now (s .entry)) (now (s .exit)) (replyOf r) ⌝ }
+    ensures { λ r. ⌜ Leaves (On (SolicitPackageInfo connection (hashNum (subject .0)) (hashesIn (now (parents .entry))) clock)) (now (s .entry)) (now (s .exit)) (replyOf r) ⌝ }
 {
     if !sound::sound(s) {
         return Answer::Refused(refusals::UNSOUND_STORE);
     }
-    on_sound::package_info::solicit_package_info(s, connection, h, parents, clock)
+    on_sound::package_info::solicit_package_info(s, connection, subject, parents, clock)
 }
 
 // failed, of a connection that is asked for package info. The reply is 0 unless it is.

@@ -25,7 +25,7 @@ use Rattle.lists.specs.Items.{itemsIn, offersIn}
 use Rattle.lists.proofs.Inventory.{paired-at}
 use Rattle.requests.specs.Changes.{Tells}
 use Rattle.wrapping.specs.declared.offering.Terms.{Terms}
-use Rattle.wrapping.specs.Wraps.{Becomes}
+use Rattle.claims.specs.Changes.{Becomes}
 use Rattle.wrapping.specs.Batches.{between, announced, Announced}
 use Rattle.wrapping.proofs.Parts.{take-between, each-take, offers-none, offers-append}
 

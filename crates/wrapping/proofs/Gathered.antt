@@ -29,7 +29,7 @@ use Rattle.gathering.specs.Merges.{gathered}
 use Rattle.gathering.specs.Waits.{pushes}
 use Rattle.gathering.specs.Aside.{space, Empty, SetAside, Gathers, ComeIn}
 use Rattle.wrapping.specs.declared.offering.Terms.{Terms}
-use Rattle.wrapping.specs.Wraps.{Becomes}
+use Rattle.claims.specs.Changes.{Becomes}
 use Rattle.wrapping.specs.Batches.{between, announced, Offers, Collected, Collects}
 use Rattle.wrapping.proofs.Parts.{between-none, announced-join, announced-one, each-between, offers-none, bounded-offers}
 

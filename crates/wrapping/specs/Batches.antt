@@ -13,7 +13,7 @@ use Rattle.store.specs.Image.{Writes}
 use Rattle.gathering.specs.Waits.{pushes}
 use Rattle.gathering.specs.Aside.{space, Aside}
 use Rattle.wrapping.specs.declared.offering.Terms.{Terms}
-use Rattle.wrapping.specs.Wraps.{Becomes}
+use Rattle.claims.specs.Changes.{Becomes}
 
 -- the offers from the i-th on and before the j-th
 abbrev pub between : ℕ → ℕ → List Offer → List Offer

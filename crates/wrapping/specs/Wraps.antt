@@ -5,18 +5,12 @@ use mathlib.Core.List.{List}
 use lib.ListN.{length}
 use Rattle.ident.specs.Number.{Key}
 use Rattle.machine.specs.Limits.{Limits, maxParents}
-use Rattle.machine.specs.State.{State, Table, limitsOf, onTable}
+use Rattle.machine.specs.State.{Table}
 use Rattle.machine.specs.Table.{at, placesHeld}
 use Rattle.machine.specs.Fail.{Listed, parentsFor}
 use Rattle.machine.specs.Package.{listedAfter, failedPackageInfo}
 use Rattle.machine.specs.Call.{keyBytes}
-use Rattle.machine.specs.Sound.{Sound}
-use Rattle.store.specs.Image.{Writes}
 use Rattle.requests.specs.Changes.{Tells}
-
--- whatever sound state the bytes b write, b′ write it with what f makes of its table
-abbrev pub Becomes : List ℕ → List ℕ → (Limits → Table → Table) → Type 0
-Becomes b b′ f = (st : State) → Sound st → Writes b st → Writes b′ (onTable (f (limitsOf st) (st .table)) st)
 
 -- the buffer u has room for a key, and for the parents of every place that is held
 abbrev pub Roomy : List ℕ → List ℕ → Type 0

@@ -15,7 +15,7 @@ ghost use Rattle.lists.specs.Items.{offersIn};
 ghost use Rattle.requests.specs.Changes.{candidateOf, Tells};
 ghost use Rattle.announcing.specs.Falls.{mostListed, listSpace, VictimsIn};
 ghost use Rattle.gathering.specs.Aside.{space, Empty};
-ghost use Rattle.wrapping.specs.Wraps.{Becomes};
+ghost use Rattle.claims.specs.Changes.{Becomes};
 ghost use Rattle.wrapping.specs.Batches.{between, announced, Offers, Collects, Announced};
 ghost use Rattle.wrapping.specs.Swaps.{Whole, Swaps, Went};
 

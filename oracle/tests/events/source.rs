@@ -70,6 +70,49 @@ fn a_disconnected_owners_parents_go_to_the_others() {
 }
 
 #[test]
+fn parents_of_an_enqueued_package_go_to_every_candidate() {
+    check(
+        "open,9,1 => ok
+         ann,8,wa,0,0,3 => 1
+         sol,7,a,0,1,b => 1
+         ann,9,wa,0,0,4 => 1
+         clm,7,a,c,0,1,1 => 1
+         beg,7,a,c,0,1,1 => 1
+         gone,7,5 => 1,wa,tb
+         dump => s,9,1,none,none,none;r,tb,none,none,0,none,0,1;c,8,tb,5,1,0;c,7,tb,5,1,0;c,9,tb,5,1,0;r,wa,7,60000,0,enqueued,c,1,1,1,b,0;c,8,wa,0,0,3;c,7,wa,0,1,0;c,9,wa,0,0,4",
+    );
+}
+
+#[test]
+fn keys_of_a_disconnected_then_parents_in_order_and_once() {
+    check(
+        "open,9,2 => ok
+         ann,8,wa,0,0,3 => 1
+         ann,8,wb,0,0,4 => 1
+         ann,7,wf,0,0,4 => 1
+         sol,7,b,0,2,d,c => 1
+         sol,7,a,0,2,e,d => 1
+         gone,7,5 => 3,wa,wb,wf,tc,td,te",
+    );
+}
+
+#[test]
+fn a_forgotten_request_frees_its_place_at_once() {
+    check(
+        "open,9,1 => ok
+         sol,7,a,0,0 => 1
+         sol,8,b,0,0 => no,8
+         drop,wa => 1
+         sol,8,b,0,0 => 1
+         clm,8,b,c,0,1,1 => 1
+         beg,8,b,c,0,1,1 => 1
+         sol,7,a,0,0 => no,8
+         drop,wb => 1
+         sol,7,a,0,0 => 1",
+    );
+}
+
+#[test]
 fn a_sweep_of_nothing_clears_the_cursor() {
     check(
         "open,9,1 => ok

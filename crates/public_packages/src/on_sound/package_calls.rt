@@ -13,32 +13,32 @@ ghost use Rattle.outcome.specs.Reply.{replyOf, listingOf};
 pub fn claim_package(
     s: &mut [u8],
     connection: u64,
-    h: ident::Hash,
+    subject: ident::Wtxid,
     combined: ident::Hash,
     wtxids: &[u8],
     clock: u64,
 ) -> Answer
     requires { ⌜ SoundStore (now s) ⌝ }
-    ensures { λ r. ⌜ Leaves (On (ClaimPackage connection (hashNum h) (hashNum combined) (hashesIn (now (wtxids .entry))) clock)) (now (s .entry)) (now (s .exit)) (replyOf r) ⌝ }
+    ensures { λ r. ⌜ Leaves (On (ClaimPackage connection (hashNum (subject .0)) (hashNum combined) (hashesIn (now (wtxids .entry))) clock)) (now (s .entry)) (now (s .exit)) (replyOf r) ⌝ }
 {
     let refusal = refusals::of_connection_and_clock(connection, clock);
     if refusal != 0 {
         return Answer::Refused(refusal);
     }
     let n = refusals::need_of(s);
-    replied(packaging::claim_package(&mut s[..n], connection, h, combined, wtxids, clock))
+    replied(packaging::claim_package(&mut s[..n], connection, subject, combined, wtxids, clock))
 }
 
 pub fn begin_package_resolution(
     s: &mut [u8],
     connection: u64,
-    h: ident::Hash,
+    subject: ident::Wtxid,
     combined: ident::Hash,
     wtxids: &[u8],
     clock: u64,
 ) -> Answer
     requires { ⌜ SoundStore (now s) ⌝ }
-    ensures { λ r. ⌜ Leaves (On (BeginPackageResolution connection (hashNum h) (hashNum combined) (hashesIn (now (wtxids .entry))) clock)) (now (s .entry)) (now (s .exit)) (replyOf r) ⌝ }
+    ensures { λ r. ⌜ Leaves (On (BeginPackageResolution connection (hashNum (subject .0)) (hashNum combined) (hashesIn (now (wtxids .entry))) clock)) (now (s .entry)) (now (s .exit)) (replyOf r) ⌝ }
 {
     let refusal = refusals::of_connection_and_clock(connection, clock);
     if refusal != 0 {
@@ -48,7 +48,7 @@ pub fn begin_package_resolution(
     replied(packaging::begin_package_resolution(
         &mut s[..n],
         connection,
-        h,
+        subject,
         combined,
         wtxids,
         clock,
@@ -58,18 +58,18 @@ pub fn begin_package_resolution(
 pub fn release_package(
     s: &mut [u8],
     connection: u64,
-    h: ident::Hash,
+    subject: ident::Wtxid,
     clock: u64,
     answer: &mut [u8],
 ) -> Listing
     requires { ⌜ SoundStore (now s) ⌝ }
-    ensures { λ r. ⌜ LeavesWith (On (ReleasePackage connection (hashNum h) clock (now (answer .entry)))) (now (s .entry)) (now (s .exit)) (now (answer .exit)) (listingOf r) ⌝ }
+    ensures { λ r. ⌜ LeavesWith (On (ReleasePackage connection (hashNum (subject .0)) clock (now (answer .entry)))) (now (s .entry)) (now (s .exit)) (now (answer .exit)) (listingOf r) ⌝ }
 {
     let refusal = refusals::in_turn(connection, clock, 0, answer.len(), refusals::KEYS_ANSWER);
     if refusal != 0 {
         return Listing::Refused(refusal);
     }
     let n = refusals::need_of(s);
-    let listed = failing::release_package(&mut s[..n], connection, h, clock, answer);
+    let listed = failing::release_package(&mut s[..n], connection, subject, clock, answer);
     Listing::Listed(listed as u64)
 }

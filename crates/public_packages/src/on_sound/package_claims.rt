@@ -69,6 +69,6 @@ pub fn teardown_package_claims(s: &mut [u8], clock: u64) -> Answer
         return Answer::Refused(refusal);
     }
     let n = refusals::need_of(s);
-    let cleared = claims::teardown::teardown_package_claims(&mut s[..n], clock);
+    let cleared = tearing::teardown_package_claims(&mut s[..n], clock);
     Answer::Number(cleared as u64)
 }

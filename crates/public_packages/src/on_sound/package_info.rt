@@ -21,12 +21,12 @@ ghost use Rattle.outcome.specs.Reply.{replyOf};
 ghost use Rattle.outcome.specs.Tests.{ofPlace};
 
 // Test 8 of a solicitation, on the bytes of the need.
-fn of_place(s: &[u8], connection: u64, h: ident::Hash, clock: u64) -> u64
+fn of_place(s: &[u8], connection: u64, subject: ident::Wtxid, clock: u64) -> u64
     requires { ⌜ Kept (now s) ⌝ }
     ensures { λ r. ⌜ ((hs : List ℕ) (st : State) → Sound st → Writes (now (s .entry)) st
-        → r ≡ ofPlace ((solicit (limitsOf st) connection (hashNum h) hs clock (st .table)) .reply) (st .places) (placesHeld (st .table))) ⌝ }
+        → r ≡ ofPlace ((solicit (limitsOf st) connection (hashNum (subject .0)) hs clock (st .table)) .reply) (st .places) (placesHeld (st .table))) ⌝ }
 {
-    if !packaging::info::would_solicit(s, connection, h, clock) {
+    if !packaging::info::would_solicit(s, connection, subject, clock) {
         return 0;
     }
     let held = store::head::held_places(s);
@@ -35,12 +35,18 @@ fn of_place(s: &[u8], connection: u64, h: ident::Hash, clock: u64) -> u64
 }
 
 // Tests 4 to 8 of a solicitation with so many parents.
-fn of_solicitation(s: &[u8], connection: u64, h: ident::Hash, count: usize, clock: u64) -> u64
+fn of_solicitation(
+    s: &[u8],
+    connection: u64,
+    subject: ident::Wtxid,
+    count: usize,
+    clock: u64,
+) -> u64
     requires { ⌜ SoundStore (now s) ⌝ }
-    ensures { λ r. ⌜ ((w : SoundStore (now (s .entry))) (hs : List ℕ) → count ≡ length hs → r ≡ askRefusal true (SolicitPackageInfo connection (hashNum h) hs clock) (w .state)) ⌝ }
+    ensures { λ r. ⌜ ((w : SoundStore (now (s .entry))) (hs : List ℕ) → count ≡ length hs → r ≡ askRefusal true (SolicitPackageInfo connection (hashNum (subject .0)) hs clock) (w .state)) ⌝ }
 {
     let n = refusals::need_of(s);
-    let place = of_place(&s[..n], connection, h, clock);
+    let place = of_place(&s[..n], connection, subject, clock);
     let named = refusals::in_turn(connection, clock, count, 0, 0);
     refusals::first(named, place)
 }
@@ -48,20 +54,20 @@ fn of_solicitation(s: &[u8], connection: u64, h: ident::Hash, count: usize, cloc
 pub fn solicit_package_info(
     s: &mut [u8],
     connection: u64,
-    h: ident::Hash,
+    subject: ident::Wtxid,
     parents: &[u8],
     clock: u64,
 ) -> Answer
     requires { ⌜ SoundStore (now s) ⌝ }
-    ensures { λ r. ⌜ Leaves (On (SolicitPackageInfo connection (hashNum h) (hashesIn (now (parents .entry))) clock)) (now (s .entry)) (now (s .exit)) (replyOf r) ⌝ }
+    ensures { λ r. ⌜ Leaves (On (SolicitPackageInfo connection (hashNum (subject .0)) (hashesIn (now (parents .entry))) clock)) (now (s .entry)) (now (s .exit)) (replyOf r) ⌝ }
 {
     let count = lists::hashes(parents);
-    let refusal = of_solicitation(s, connection, h, count, clock);
+    let refusal = of_solicitation(s, connection, subject, count, clock);
     if refusal != 0 {
         return Answer::Refused(refusal);
     }
     let n = refusals::need_of(s);
-    replied(packaging::info::solicit_package_info(&mut s[..n], connection, h, parents, clock))
+    replied(packaging::info::solicit_package_info(&mut s[..n], connection, subject, parents, clock))
 }
 
 pub fn failed_package_info(s: &mut [u8], key: ident::Key, connection: u64, clock: u64) -> Answer

@@ -3,10 +3,10 @@ use native.Mathlib.Omega.{arith}
 use borrow.Author.Needs.{needs}
 use borrow.Author.Tests.{not-true, not-false}
 use Rattle.ident.specs.Words.{hashNum, keyNum}
-use Rattle.ident.proofs.Words.{hash-four, hash-below}
 use Rattle.lists.specs.Lists.{hashesIn}
 use Rattle.machine.proofs.Fail.{Peer}
 use Rattle.requests.specs.Changes.{candidateOf}
+use Rattle.packaging.proofs.Subject.{subject-below}
 use Rattle.packaging.proofs.Soliciting.{as-soliciting, solicit-barred, announced-kept, solicit-refused, may-keeps, room-left, opened-keeps, solicit-done}
 use Rattle.packaging.proofs.info.solicit_package_info.Statement.{statement}
 use Rattle.packaging.proofs.info.solicit_package_info.Tie as tie
@@ -20,8 +20,8 @@ same-length c = search needs
 returns : tie.Need-returns
 returns c =
     let start : tie.Start = c .before .before .before .before .before in
-    let small = hash-below (start .args .h) (hash-four (start .args .h) (start .good .1 .1 .0)) in
-    solicit-barred (start .args .n) (hashNum (start .args .h)) (hashesIn (start .args .parents .now)) (start .args .clock) (record { positive = start .pre .1; small = omega arith }) small (start .pre .2) (c .before .may-own .ensures) (not-true _ (c .if1 .taken))
+    let small = subject-below (start .args .subject) (start .good .1 .1 .0) in
+    solicit-barred (start .args .n) (hashNum (start .args .subject .0)) (hashesIn (start .args .parents .now)) (start .args .clock) (record { positive = start .pre .1; small = omega arith }) small (start .pre .2) (c .before .may-own .ensures) (not-true _ (c .if1 .taken))
 
 wtxid-key-requires : tie.Need-wtxid-key-requires
 wtxid-key-requires c κs = search needs
@@ -36,10 +36,10 @@ holds-requires : tie.Need-holds-requires
 holds-requires c κs =
     let start : tie.Start = c .before .before .before .before .before .before .before .before .before .before .before .before in
     let n = start .args .n in
-    let h = hashNum (start .args .h) in
+    let h = hashNum (start .args .subject .0) in
     let hs = hashesIn (start .args .parents .now) in
     let peer : Peer n = record { positive = start .pre .1; small = omega arith } in
-    let small = hash-below (start .args .h) (hash-four (start .args .h) (start .good .1 .1 .0)) in
+    let small = subject-below (start .args .subject) (start .good .1 .1 .0) in
     let may = c .before .before .before .before .before .before .before .before .may-own .ensures in
     let y = not-false (c .before .before .before .before .before .before .before .before .may-own .result) (c .before .before .before .before .before .before .before .if1 .left) in
     let key = c .before .before .before .before .before .before .wtxid-key in
@@ -53,10 +53,10 @@ returns-2 : tie.Need-returns-2
 returns-2 c =
     let start : tie.Start = c .before .before .before .before .before .before .before .before .before .before .before .before .before .before in
     let n = start .args .n in
-    let h = hashNum (start .args .h) in
+    let h = hashNum (start .args .subject .0) in
     let hs = hashesIn (start .args .parents .now) in
     let peer : Peer n = record { positive = start .pre .1; small = omega arith } in
-    let small = hash-below (start .args .h) (hash-four (start .args .h) (start .good .1 .1 .0)) in
+    let small = subject-below (start .args .subject) (start .good .1 .1 .0) in
     let may = c .before .before .before .before .before .before .before .before .before .before .may-own .ensures in
     let y = not-false (c .before .before .before .before .before .before .before .before .before .before .may-own .result) (c .before .before .before .before .before .before .before .before .before .if1 .left) in
     let key = c .before .before .before .before .before .before .before .before .wtxid-key in
@@ -67,10 +67,10 @@ own-flagged-requires : tie.Need-own-flagged-requires
 own-flagged-requires c κs =
     let start : tie.Start = c .before .before .before .before .before .before .before .before .before .before .before .before .before .before .before in
     let n = start .args .n in
-    let h = hashNum (start .args .h) in
+    let h = hashNum (start .args .subject .0) in
     let hs = hashesIn (start .args .parents .now) in
     let peer : Peer n = record { positive = start .pre .1; small = omega arith } in
-    let small = hash-below (start .args .h) (hash-four (start .args .h) (start .good .1 .1 .0)) in
+    let small = subject-below (start .args .subject) (start .good .1 .1 .0) in
     let may = c .before .before .before .before .before .before .before .before .before .before .before .may-own .ensures in
     let y = not-false (c .before .before .before .before .before .before .before .before .before .before .before .may-own .result) (c .before .before .before .before .before .before .before .before .before .before .if1 .left) in
     let key = c .before .before .before .before .before .before .before .before .before .wtxid-key in
@@ -83,10 +83,10 @@ add-parents-requires : tie.Need-add-parents-requires
 add-parents-requires c κs =
     let start : tie.Start = c .before .before .before .before .before .before .before .before .before .before .before .before .before .before .before .before .before .before .before in
     let n = start .args .n in
-    let h = hashNum (start .args .h) in
+    let h = hashNum (start .args .subject .0) in
     let hs = hashesIn (start .args .parents .now) in
     let peer : Peer n = record { positive = start .pre .1; small = omega arith } in
-    let small = hash-below (start .args .h) (hash-four (start .args .h) (start .good .1 .1 .0)) in
+    let small = subject-below (start .args .subject) (start .good .1 .1 .0) in
     let may = c .before .before .before .before .before .before .before .before .before .before .before .before .before .before .before .may-own .ensures in
     let y = not-false (c .before .before .before .before .before .before .before .before .before .before .before .before .before .before .before .may-own .result) (c .before .before .before .before .before .before .before .before .before .before .before .before .before .before .if1 .left) in
     let key = c .before .before .before .before .before .before .before .before .before .before .before .before .before .wtxid-key in
@@ -101,10 +101,10 @@ returns-3 : tie.Need-returns-3
 returns-3 c =
     let start : tie.Start = c .before .before .before .before .before .before .before .before .before .before .before .before .before .before .before .before .before .before .before .before .before .before in
     let n = start .args .n in
-    let h = hashNum (start .args .h) in
+    let h = hashNum (start .args .subject .0) in
     let hs = hashesIn (start .args .parents .now) in
     let peer : Peer n = record { positive = start .pre .1; small = omega arith } in
-    let small = hash-below (start .args .h) (hash-four (start .args .h) (start .good .1 .1 .0)) in
+    let small = subject-below (start .args .subject) (start .good .1 .1 .0) in
     let may = c .before .before .before .before .before .before .before .before .before .before .before .before .before .before .before .before .before .before .may-own .ensures in
     let y = not-false (c .before .before .before .before .before .before .before .before .before .before .before .before .before .before .before .before .before .before .may-own .result) (c .before .before .before .before .before .before .before .before .before .before .before .before .before .before .before .before .before .if1 .left) in
     let key = c .before .before .before .before .before .before .before .before .before .before .before .before .before .before .before .before .wtxid-key in

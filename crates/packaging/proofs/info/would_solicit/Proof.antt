@@ -18,7 +18,7 @@ may-own-requires c κs = search needs
 returns : tie.Need-returns
 returns c = λ hs st s w.
     let start : tie.Start = c .before .before .before in
-    reply-barred (limitsOf st) (start .args .n) (hashNum (start .args .h)) hs (start .args .clock) (st .table) (sym (c .before .may-own .ensures st s w) ∙ not-true _ (c .if1 .taken))
+    reply-barred (limitsOf st) (start .args .n) (hashNum (start .args .subject .0)) hs (start .args .clock) (st .table) (sym (c .before .may-own .ensures st s w) ∙ not-true _ (c .if1 .taken))
 
 wtxid-key-requires : tie.Need-wtxid-key-requires
 wtxid-key-requires c κs = search needs
@@ -31,7 +31,7 @@ returns-2 c = λ hs st s w.
     let start : tie.Start = c .before .before .before .before .before .before in
     let n = start .args .n in
     let here = ap (λ (k : Key). has n ((at k (st .table)) .candidates)) (c .before .before .wtxid-key .ensures) in
-    reply-held (limitsOf st) n (hashNum (start .args .h)) hs (start .args .clock) (st .table) (sym (c .before .before .before .before .may-own .ensures st s w) ∙ not-false _ (c .before .before .before .if1 .left)) (sym here ∙ sym (c .before .holds .ensures st s w) ∙ c .if2 .taken)
+    reply-held (limitsOf st) n (hashNum (start .args .subject .0)) hs (start .args .clock) (st .table) (sym (c .before .before .before .before .may-own .ensures st s w) ∙ not-false _ (c .before .before .before .if1 .left)) (sym here ∙ sym (c .before .holds .ensures st s w) ∙ c .if2 .taken)
 
 soliciting-requires : tie.Need-soliciting-requires
 soliciting-requires c κs = search needs
@@ -43,7 +43,7 @@ returns-3 : tie.Need-returns-3
 returns-3 c = λ hs st s w.
     let start : tie.Start = c .before .before .before .before .before .before .before .before in
     let n = start .args .n in
-    let h = hashNum (start .args .h) in
+    let h = hashNum (start .args .subject .0) in
     let here = ap (λ (k : Key). has n ((at k (st .table)) .candidates)) (c .before .before .before .before .wtxid-key .ensures) in
     c .would-announce .ensures st s w
     ∙ ap (λ (k : Key). (announceAt (limitsOf st) k (candidateOf (c .before .soliciting .result)) (st .table)) .reply) (c .before .before .before .before .wtxid-key .ensures)

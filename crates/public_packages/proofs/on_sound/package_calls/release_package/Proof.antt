@@ -5,7 +5,7 @@ use borrow.Author.Needs.{needs}
 use Rattle.outcome.proofs.Turns.{some-connection, passed}
 use Rattle.outcome.proofs.Carried.{refused, lists-done}
 use Rattle.public_packages.proofs.Instances.{releases-package}
-use Rattle.ident.proofs.Words.{hash-four, hash-below}
+use Rattle.packaging.proofs.Subject.{subject-below}
 use Rattle.outcome.proofs.ListedKeys.{released-typed}
 use Rattle.public_packages.proofs.on_sound.package_calls.release_package.Statement.{statement}
 use Rattle.public_packages.proofs.on_sound.package_calls.release_package.Tie as tie
@@ -40,9 +40,8 @@ returns-2 : tie.Need-returns-2
 returns-2 c =
     let k = released-typed (c .before .before .before .before .before .before .before .before .before .before .before .before .before .pre .state)
     (c .before .before .before .before .before .before .before .before .before .before .before .before .before .pre .sound) _ _ _
-    (hash-below (c .before .before .before .before .before .before .before .before .before .before .before .before .before .args .h)
-    (hash-four (c .before .before .before .before .before .before .before .before .before .before .before .before .before .args .h)
-    (c .before .before .before .before .before .before .before .before .before .before .before .before .before .good .1 .1 .0))) in
+    (subject-below (c .before .before .before .before .before .before .before .before .before .before .before .before .before .args .subject)
+    (c .before .before .before .before .before .before .before .before .before .before .before .before .before .good .1 .1 .0)) in
     lists-done (releases-package _ _ _ _) (c .before .before .before .before .before .before .before .before .before .before .before .before .before .pre)
     (c .before .before .before .before .before .before .before .before .before .before .in-turn .ensures)
     (c .before .before .before .before .before .before .before .before .before .if1 .left) (c .before .before .before .before .before .before .before .need-of .ensures)
