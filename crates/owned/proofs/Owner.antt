@@ -13,7 +13,8 @@ use Rattle.outcome.specs.Outcome.{Leaves, LeavesWith}
 use Rattle.outcome.specs.Reply.{replyOf, listingOf, departureOf}
 use Rattle.public_plans.specs.Entries.{entriesOf, plannedOf}
 use Rattle.public_plans.specs.declared.Selection.{Selection}
-use Rattle.tracker.proofs.Typed.{Made, made-typed}
+use Rattle.tracker.specs.Made.{Made}
+use Rattle.tracker.proofs.Typed.{made-typed}
 use Rattle.outcome.proofs.Owned.{does-keeps-sound}
 use Rattle.exports.specs.Status.{statusOf, handedOut, listingStatus, countOut, departureStatus, ownOut, parentsOut, numbered, HandsOut}
 use Rattle.exports.specs.Status.{HandsKeys, HandsEntries, HandsDeparture, plannedStatus, consideredOut, chosenOut, HandsPlan}

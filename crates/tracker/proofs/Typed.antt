@@ -1,70 +1,27 @@
 -- The calls that the code can make have arguments of their widths, so that demands 2 and 3 (proofs/Demands) speak of every list of them.
 -- Assumes nothing.
-use Prim.Native.Nat.{ℕ, _<_}
+use Prim.Native.Nat.{ℕ}
 use mathlib.Core.Path.{_≡_}
-use mathlib.Core.Bool.{Bool}
 use mathlib.Core.List.{List, [], _∷_}
-use mathlib.Core.Option.{none, some}
 use lib.ListN.{length}
-use Rattle.ident.specs.declared.Key.{Key}
-use Rattle.ident.specs.Number.{top}
-use Rattle.ident.specs.Words.{keyNum}
-use Rattle.words.specs.Words.{words}
-use Rattle.machine.specs.Limits.{word}
 use Rattle.machine.specs.Typed.{Each, CallTyped}
-use Rattle.machine.specs.Call.{Buffer, Announce, RequestParent, SolicitPackageInfo, ClaimPackage, BeginPackageResolution, AnnounceParents, Failed, FailedWithParents}
-use Rattle.machine.specs.Call.{ReleasePackage, Claim, Disconnected, Unclaim, Forget, ForgetKnown, FailedPackageInfo, PackageInfoOwner, AnnounceTransactions}
-use Rattle.machine.specs.Call.{TransactionResponseCompleted, Sweep, PollGate, FailedPackageClaims, TeardownPackageClaims, TransactionNotFound, Arrange, Plan, Sum, Call, Open, On, openingRefusal}
+use Rattle.machine.specs.Call.{Call, Open, openingRefusal}
 use Rattle.machine.specs.Step.{empty}
 use Rattle.store.specs.Image.{SoundStore}
 use Rattle.store.proofs.BytesBack.{Bytes}
-use Rattle.lists.specs.Lists.{hashesIn}
-use Rattle.lists.specs.Items.{itemsIn, offersIn}
 use Rattle.lists.proofs.Given.{hashes-fit}
 use Rattle.lists.proofs.Inventory.{items-fit, offers-fit}
 use Rattle.claiming.specs.Claiming.{entriesIn}
-use Rattle.selecting.specs.Phasing.{givenKeys}
 use Rattle.selecting.proofs.Given.{given-typed}
-use Rattle.requests.specs.declared.Candidate.{Candidate}
-use Rattle.requests.specs.Changes.{candidateOf}
 use Rattle.outcome.specs.Outcome.{Effect}
-use Rattle.outcome.proofs.Widths.{IsCandidate, candidate-typed, IsKey, key-typed}
+use Rattle.outcome.proofs.Widths.{candidate-typed, key-typed}
 use Rattle.public_plans.proofs.Entered.{entries-whole, whole-typed}
 use Rattle.public_plans.proofs.Sent.{words-small}
-use Rattle.tracker.proofs.Demands.{Ran, Tracked, tracked, tracked-open}
-
--- ---- the calls that the code has, with arguments of its types
-
-pub data Made : Call → Type 0 where
-  opens : (l q : ℕ) → l < word → q < word → Made (Open l q)
-  sums : Made (On Sum)
-  announces : (c : Candidate) → IsCandidate c → Made (On (Announce (candidateOf c)))
-  requests-parent : (c : Candidate) → IsCandidate c → Made (On (RequestParent (candidateOf c)))
-  announces-parents : (n clock : ℕ) (b : List ℕ) (u : Buffer) → n < word → clock < word → Bytes b → Made (On (AnnounceParents n (hashesIn b) clock u))
-  fails : (k : Key) (n clock : ℕ) → IsKey k → n < word → clock < word → Made (On (Failed (keyNum k) n clock))
-  fails-with-parents : (k : Key) (n clock : ℕ) (u : Buffer) → IsKey k → n < word → clock < word → Made (On (FailedWithParents (keyNum k) n clock u))
-  releases-package : (n h clock : ℕ) (u : Buffer) → n < word → h < top → clock < word → Made (On (ReleasePackage n h clock u))
-  claims : (clock : ℕ) (b : List ℕ) (u : Buffer) → clock < word → Bytes b → Made (On (Claim clock (entriesIn b) u))
-  departs : (n clock : ℕ) (u : Buffer) → n < word → clock < word → Made (On (Disconnected n clock u))
-  unclaims : (k : Key) (n : ℕ) → IsKey k → n < word → Made (On (Unclaim (keyNum k) n))
-  forgets : (k : Key) → IsKey k → Made (On (Forget (keyNum k)))
-  forgets-known : (k : Key) (clock : ℕ) → IsKey k → clock < word → Made (On (ForgetKnown (keyNum k) clock))
-  fails-info : (k : Key) (n clock : ℕ) → IsKey k → n < word → clock < word → Made (On (FailedPackageInfo (keyNum k) n clock))
-  reads-owner : (k : Key) (clock : ℕ) → IsKey k → clock < word → Made (On (PackageInfoOwner (keyNum k) clock))
-  announces-transactions : (n clock : ℕ) (preferred source : Bool) (b d : List ℕ) → n < word → clock < word → Bytes b → Bytes d
-      → Made (On (AnnounceTransactions n clock preferred source (offersIn b d)))
-  completes : (n x w clock : ℕ) → n < word → x < top → w < top → clock < word → Made (On (TransactionResponseCompleted n x w clock))
-  sweeps : (u : Buffer) → Made (On (Sweep u))
-  gates : (clock : ℕ) → clock < word → Made (On (PollGate clock))
-  solicits : (n h clock : ℕ) (b : List ℕ) → n < word → h < top → clock < word → Bytes b → Made (On (SolicitPackageInfo n h (hashesIn b) clock))
-  claims-package : (n h c clock : ℕ) (b : List ℕ) → n < word → h < top → c < top → clock < word → Bytes b → Made (On (ClaimPackage n h c (hashesIn b) clock))
-  begins-resolution : (n h c clock : ℕ) (b : List ℕ) → n < word → h < top → c < top → clock < word → Bytes b → Made (On (BeginPackageResolution n h c (hashesIn b) clock))
-  fails-claims : (n clock : ℕ) (b : List ℕ) (u : Buffer) → n < word → clock < word → Bytes b → Made (On (FailedPackageClaims n (hashesIn b) clock u))
-  tears-down : (clock : ℕ) → clock < word → Made (On (TeardownPackageClaims clock))
-  misses : (n clock : ℕ) (b : List ℕ) (u : Buffer) → n < word → clock < word → Bytes b → Made (On (TransactionNotFound n (itemsIn b) clock u))
-  plans : (clock : ℕ) (u : Buffer) → clock < word → Made (On (Plan clock none u))
-  plans-given : (clock : ℕ) (b : List ℕ) (u : Buffer) → clock < word → Bytes b → Made (On (Plan clock (some (givenKeys b)) u))
-  arranges : (v b : List ℕ) (u : Buffer) → Bytes v → Bytes b → Made (On (Arrange (words v) (entriesIn b) u))
+use Rattle.tracker.specs.Tracked.{Ran, Tracked}
+use Rattle.tracker.specs.Made.{Made, opens, sums, announces, requests-parent, announces-parents, fails, fails-with-parents, releases-package, claims}
+use Rattle.tracker.specs.Made.{departs, unclaims, forgets, forgets-known, fails-info, reads-owner, announces-transactions, completes, sweeps, gates}
+use Rattle.tracker.specs.Made.{solicits, claims-package, begins-resolution, fails-claims, tears-down, misses, plans, plans-given, arranges}
+use Rattle.tracker.proofs.Demands.{tracked, tracked-open}
 
 pub made-typed : (c : Call) → Made c → CallTyped c
 made-typed c (opens l q g h) = (g, h)

@@ -4,7 +4,7 @@ use mathlib.Core.Path.{ap}
 use native.Mathlib.Omega.{arith}
 use borrow.Author.Needs.{needs}
 use Rattle.machine.specs.Call.{On, Announce}
-use Rattle.tracker.proofs.Typed.{announces as makes}
+use Rattle.tracker.specs.Made.{announces as makes}
 use Rattle.owned.proofs.Owner.{owner-number}
 use Rattle.owned.proofs.candidates.tracker_owned_announce.Statement.{statement}
 use Rattle.owned.proofs.candidates.tracker_owned_announce.Tie as tie

@@ -3,7 +3,7 @@
 use mathlib.Core.Path.{refl}
 use native.Mathlib.Omega.{arith}
 use borrow.Author.Needs.{needs}
-use Rattle.tracker.proofs.Typed.{announces-parents as makes}
+use Rattle.tracker.specs.Made.{announces-parents as makes}
 use Rattle.owned.proofs.Owner.{owner-keys}
 use Rattle.owned.proofs.candidates.tracker_owned_announce_parents.Statement.{statement}
 use Rattle.owned.proofs.candidates.tracker_owned_announce_parents.Tie as tie

@@ -4,7 +4,7 @@ use mathlib.Core.Path.{ap}
 use native.Mathlib.Omega.{arith}
 use borrow.Author.Needs.{needs}
 use Rattle.machine.specs.Call.{On, RequestParent}
-use Rattle.tracker.proofs.Typed.{requests-parent as makes}
+use Rattle.tracker.specs.Made.{requests-parent as makes}
 use Rattle.owned.proofs.Owner.{owner-number}
 use Rattle.owned.proofs.candidates.tracker_owned_request_parent.Statement.{statement}
 use Rattle.owned.proofs.candidates.tracker_owned_request_parent.Tie as tie

@@ -2,7 +2,7 @@
 -- Assumes nothing.
 use native.Mathlib.Omega.{arith}
 use borrow.Author.Needs.{needs}
-use Rattle.tracker.proofs.Typed.{departs as makes}
+use Rattle.tracker.specs.Made.{departs as makes}
 use Rattle.owned.proofs.Owner.{owner-departure}
 use Rattle.owned.proofs.departures.tracker_owned_disconnected.Statement.{statement}
 use Rattle.owned.proofs.departures.tracker_owned_disconnected.Tie as tie

@@ -4,7 +4,7 @@ use mathlib.Core.Path.{ap}
 use native.Mathlib.Omega.{arith}
 use borrow.Author.Needs.{needs}
 use Rattle.machine.specs.Call.{On, Failed}
-use Rattle.tracker.proofs.Typed.{fails as makes}
+use Rattle.tracker.specs.Made.{fails as makes}
 use Rattle.owned.proofs.Owner.{owner-number}
 use Rattle.owned.proofs.failures.tracker_owned_failed.Statement.{statement}
 use Rattle.owned.proofs.failures.tracker_owned_failed.Tie as tie

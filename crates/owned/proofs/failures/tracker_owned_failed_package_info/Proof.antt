@@ -4,7 +4,7 @@ use mathlib.Core.Path.{ap}
 use native.Mathlib.Omega.{arith}
 use borrow.Author.Needs.{needs}
 use Rattle.machine.specs.Call.{On, FailedPackageInfo}
-use Rattle.tracker.proofs.Typed.{fails-info as makes}
+use Rattle.tracker.specs.Made.{fails-info as makes}
 use Rattle.owned.proofs.Owner.{owner-number}
 use Rattle.owned.proofs.failures.tracker_owned_failed_package_info.Statement.{statement}
 use Rattle.owned.proofs.failures.tracker_owned_failed_package_info.Tie as tie

@@ -4,7 +4,7 @@ use mathlib.Core.Path.{ap}
 use native.Mathlib.Omega.{arith}
 use borrow.Author.Needs.{needs}
 use Rattle.machine.specs.Call.{On, FailedWithParents}
-use Rattle.tracker.proofs.Typed.{fails-with-parents as makes}
+use Rattle.tracker.specs.Made.{fails-with-parents as makes}
 use Rattle.owned.proofs.Owner.{owner-keys}
 use Rattle.owned.proofs.failures.tracker_owned_failed_with_parents.Statement.{statement}
 use Rattle.owned.proofs.failures.tracker_owned_failed_with_parents.Tie as tie

@@ -4,7 +4,7 @@ use mathlib.Core.Path.{ap}
 use native.Mathlib.Omega.{arith}
 use borrow.Author.Needs.{needs}
 use Rattle.machine.specs.Call.{On, Forget}
-use Rattle.tracker.proofs.Typed.{forgets as makes}
+use Rattle.tracker.specs.Made.{forgets as makes}
 use Rattle.exports.proofs.Replies.{forgets}
 use Rattle.owned.proofs.Owner.{owner-one}
 use Rattle.owned.proofs.failures.tracker_owned_forget.Statement.{statement}

@@ -4,7 +4,7 @@ use mathlib.Core.Path.{ap}
 use native.Mathlib.Omega.{arith}
 use borrow.Author.Needs.{needs}
 use Rattle.machine.specs.Call.{On, ForgetKnown}
-use Rattle.tracker.proofs.Typed.{forgets-known as makes}
+use Rattle.tracker.specs.Made.{forgets-known as makes}
 use Rattle.exports.proofs.Replies.{forgets-known}
 use Rattle.owned.proofs.Owner.{owner-one}
 use Rattle.owned.proofs.failures.tracker_owned_forget_known.Statement.{statement}

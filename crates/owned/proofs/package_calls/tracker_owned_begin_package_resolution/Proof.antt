@@ -3,7 +3,7 @@
 use native.Mathlib.Omega.{arith}
 use borrow.Author.Needs.{needs}
 use Rattle.ident.proofs.Words.{hash-four, hash-below}
-use Rattle.tracker.proofs.Typed.{begins-resolution as makes}
+use Rattle.tracker.specs.Made.{begins-resolution as makes}
 use Rattle.owned.proofs.Owner.{owner-number}
 use Rattle.owned.proofs.package_calls.tracker_owned_begin_package_resolution.Statement.{statement}
 use Rattle.owned.proofs.package_calls.tracker_owned_begin_package_resolution.Tie as tie

@@ -3,7 +3,7 @@
 use native.Mathlib.Omega.{arith}
 use borrow.Author.Needs.{needs}
 use Rattle.ident.proofs.Words.{hash-four, hash-below}
-use Rattle.tracker.proofs.Typed.{claims-package as makes}
+use Rattle.tracker.specs.Made.{claims-package as makes}
 use Rattle.owned.proofs.Owner.{owner-number}
 use Rattle.owned.proofs.package_calls.tracker_owned_claim_package.Statement.{statement}
 use Rattle.owned.proofs.package_calls.tracker_owned_claim_package.Tie as tie

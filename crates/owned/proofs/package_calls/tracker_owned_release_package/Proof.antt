@@ -3,7 +3,7 @@
 use native.Mathlib.Omega.{arith}
 use borrow.Author.Needs.{needs}
 use Rattle.ident.proofs.Words.{hash-four, hash-below}
-use Rattle.tracker.proofs.Typed.{releases-package as makes}
+use Rattle.tracker.specs.Made.{releases-package as makes}
 use Rattle.owned.proofs.Owner.{owner-keys}
 use Rattle.owned.proofs.package_calls.tracker_owned_release_package.Statement.{statement}
 use Rattle.owned.proofs.package_calls.tracker_owned_release_package.Tie as tie

@@ -3,7 +3,7 @@
 use mathlib.Core.Path.{refl}
 use native.Mathlib.Omega.{arith}
 use borrow.Author.Needs.{needs}
-use Rattle.tracker.proofs.Typed.{fails-claims as makes}
+use Rattle.tracker.specs.Made.{fails-claims as makes}
 use Rattle.owned.proofs.Owner.{owner-keys}
 use Rattle.owned.proofs.package_claims.tracker_owned_failed_package_claims.Statement.{statement}
 use Rattle.owned.proofs.package_claims.tracker_owned_failed_package_claims.Tie as tie

@@ -3,7 +3,7 @@
 use mathlib.Core.Path.{refl}
 use native.Mathlib.Omega.{arith}
 use borrow.Author.Needs.{needs}
-use Rattle.tracker.proofs.Typed.{tears-down as makes}
+use Rattle.tracker.specs.Made.{tears-down as makes}
 use Rattle.owned.proofs.Owner.{owner-number}
 use Rattle.owned.proofs.package_claims.tracker_owned_teardown_package_claims.Statement.{statement}
 use Rattle.owned.proofs.package_claims.tracker_owned_teardown_package_claims.Tie as tie

@@ -2,7 +2,7 @@
 -- Assumes nothing.
 use native.Mathlib.Omega.{arith}
 use borrow.Author.Needs.{needs}
-use Rattle.tracker.proofs.Typed.{claims as makes}
+use Rattle.tracker.specs.Made.{claims as makes}
 use Rattle.owned.proofs.Owner.{owner-entries}
 use Rattle.owned.proofs.plans.tracker_owned_claim.Statement.{statement}
 use Rattle.owned.proofs.plans.tracker_owned_claim.Tie as tie

@@ -2,7 +2,7 @@
 -- Assumes nothing.
 use native.Mathlib.Omega.{arith}
 use borrow.Author.Needs.{needs}
-use Rattle.tracker.proofs.Typed.{plans as makes}
+use Rattle.tracker.specs.Made.{plans as makes}
 use Rattle.owned.proofs.Owner.{owner-plan}
 use Rattle.owned.proofs.plans.tracker_owned_plan.Statement.{statement}
 use Rattle.owned.proofs.plans.tracker_owned_plan.Tie as tie

@@ -3,7 +3,7 @@
 use mathlib.Core.Path.{refl}
 use native.Mathlib.Omega.{arith}
 use borrow.Author.Needs.{needs}
-use Rattle.tracker.proofs.Typed.{gates as makes}
+use Rattle.tracker.specs.Made.{gates as makes}
 use Rattle.owned.proofs.Owner.{owner-number}
 use Rattle.owned.proofs.sweeps.tracker_owned_poll_gate.Statement.{statement}
 use Rattle.owned.proofs.sweeps.tracker_owned_poll_gate.Tie as tie

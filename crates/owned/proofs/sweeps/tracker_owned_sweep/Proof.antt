@@ -3,7 +3,7 @@
 use mathlib.Core.Path.{refl}
 use native.Mathlib.Omega.{arith}
 use borrow.Author.Needs.{needs}
-use Rattle.tracker.proofs.Typed.{sweeps as makes}
+use Rattle.tracker.specs.Made.{sweeps as makes}
 use Rattle.owned.proofs.Owner.{owner-keys}
 use Rattle.owned.proofs.sweeps.tracker_owned_sweep.Statement.{statement}
 use Rattle.owned.proofs.sweeps.tracker_owned_sweep.Tie as tie

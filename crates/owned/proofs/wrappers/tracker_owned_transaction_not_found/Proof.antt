@@ -3,7 +3,7 @@
 use mathlib.Core.Path.{refl}
 use native.Mathlib.Omega.{arith}
 use borrow.Author.Needs.{needs}
-use Rattle.tracker.proofs.Typed.{misses as makes}
+use Rattle.tracker.specs.Made.{misses as makes}
 use Rattle.owned.proofs.Owner.{owner-keys}
 use Rattle.owned.proofs.wrappers.tracker_owned_transaction_not_found.Statement.{statement}
 use Rattle.owned.proofs.wrappers.tracker_owned_transaction_not_found.Tie as tie
