@@ -10,12 +10,12 @@ use Rattle.machine.specs.Call.{Ask, Call, Open, On, openingRefusal, askRefusal,
 use Rattle.machine.specs.Step.{Refused, Number, Outcome, carryOut, written, empty, bufferOf, stepIf, step}
 use Rattle.machine.specs.Typed.{CallTyped}
 use Rattle.machine.proofs.Kept.{sound-empty}
-use Rattle.store.specs.Image.{SoundStore, stored}
+use Rattle.store.specs.Image.{SoundStore, stored, Bytes}
 use Rattle.store.specs.Read.{stateOf}
-use Rattle.store.proofs.BytesBack.{Bytes}
 use Rattle.outcome.specs.Outcome.{Effect, outcomeIf, Tested, Does}
 use Rattle.outcome.proofs.Sizes.{opening-fits}
-use Rattle.outcome.proofs.Stepped.{Stepped, stepped-stored, call-steps}
+use Rattle.outcome.specs.Steps.{Stepped}
+use Rattle.outcome.proofs.Stepped.{stepped-stored, call-steps}
 
 -- "An opened store" is an empty tracker
 abbrev pub opened : ℕ → ℕ → Outcome

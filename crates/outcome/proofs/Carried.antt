@@ -16,11 +16,9 @@ use Rattle.machine.specs.Fail.{Listed}
 use Rattle.machine.specs.Typed.{Each, KeyTyped}
 use Rattle.machine.specs.Call.{Buffer, Ask, On, keyBytes, named, takesPlace, askRefusal}
 use Rattle.machine.specs.Step.{Reply, Refused, Number, Keys, Result, answered, listed, perform, answerBytes, written}
-use Rattle.store.specs.Image.{Writes, SoundStore}
+use Rattle.store.specs.Image.{Writes, SoundStore, Bytes, needOf}
 use Rattle.store.specs.Shown.{limitIn, placesIn}
 use Rattle.store.proofs.Frame.{sizes}
-use Rattle.store.proofs.BytesBack.{Bytes}
-use Rattle.store.proofs.Stored.{needOf}
 use Rattle.lists.specs.Lists.{keysIn}
 use Rattle.lists.proofs.KeysBack.{keys-back}
 use Rattle.announcing.specs.Answers.{Answered, KeysListed}

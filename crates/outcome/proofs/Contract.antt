@@ -11,10 +11,9 @@ use Rattle.machine.specs.Limits.{need}
 use Rattle.machine.specs.State.{State}
 use Rattle.machine.specs.Call.{Ask, Call, Open, On, named, openingRefusal, askRefusal, refusal}
 use Rattle.machine.specs.Step.{Refused, Number, perform, carryOut, answerBytes, written, empty, bufferOf, stepIf}
-use Rattle.store.specs.Image.{Writes, SoundStore, stored}
+use Rattle.store.specs.Image.{Writes, SoundStore, stored, Bytes, needOf}
 use Rattle.store.specs.Read.{stateOf}
-use Rattle.store.proofs.BytesBack.{Bytes}
-use Rattle.store.proofs.Stored.{needOf, stored-from, state-shown, store-kept}
+use Rattle.store.proofs.Stored.{stored-from, state-shown, store-kept}
 use Rattle.outcome.specs.Outcome.{Effect, outcomeIf, Does}
 
 -- ---- the outcome, by the refusal

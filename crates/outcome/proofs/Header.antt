@@ -14,12 +14,12 @@ use Rattle.machine.specs.State.{State}
 use Rattle.machine.specs.Table.{held}
 use Rattle.machine.proofs.Tests.{never}
 use Rattle.store.specs.Flat.{Flat, flatOf}
-use Rattle.store.specs.Image.{headSize, image, SoundStore}
+use Rattle.store.specs.Image.{headSize, image, SoundStore, needOf}
 use Rattle.store.specs.Read.{headIn, flatIn, stateOf}
 use Rattle.store.proofs.Counts.{held-rows}
 use Rattle.store.proofs.ToFlat.{flat-sound}
 use Rattle.store.proofs.FlatRead.{flat-read}
-use Rattle.store.proofs.Stored.{needOf, words-front, state-shown}
+use Rattle.store.proofs.Stored.{words-front, state-shown}
 
 module _ (b : List ℕ) (w : SoundStore b) where
   -- ---- the header's figures

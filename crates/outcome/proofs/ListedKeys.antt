@@ -24,7 +24,7 @@ use Rattle.machine.proofs.Package.{bounded-failedWithParents}
 use Rattle.machine.proofs.Failing.{HoldsPlace, holds-claims}
 use Rattle.machine.proofs.Wrapper.{bounded-notFoundOne, bounded-notFoundEach}
 use Rattle.machine.proofs.Plan.{round-typed, keys-typed}
-use Rattle.store.proofs.BytesBack.{Bytes}
+use Rattle.store.specs.Image.{Bytes}
 use Rattle.lists.specs.Lists.{hashesIn}
 use Rattle.lists.proofs.Given.{hashes-fit}
 use Rattle.sweeping.specs.Batches.{nextBatch}

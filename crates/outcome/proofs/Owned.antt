@@ -10,9 +10,8 @@ use Rattle.words.specs.Words.{words, Decides}
 use Rattle.machine.specs.Call.{Buffer, Ask, Call, On, named}
 use Rattle.machine.specs.Step.{Refused}
 use Rattle.machine.specs.Typed.{CallTyped}
-use Rattle.store.specs.Image.{SoundStore}
+use Rattle.store.specs.Image.{SoundStore, Bytes}
 use Rattle.store.specs.Read.{stateOf}
-use Rattle.store.proofs.BytesBack.{Bytes}
 use Rattle.outcome.specs.Outcome.{Effect, Does}
 use Rattle.outcome.proofs.Header.{is-sound, not-sound}
 use Rattle.outcome.proofs.Contract.{does-unsound}

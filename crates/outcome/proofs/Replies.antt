@@ -10,8 +10,7 @@ use Rattle.machine.specs.State.{State, Table, done}
 use Rattle.machine.specs.Sound.{Sound}
 use Rattle.machine.specs.Call.{Ask, On}
 use Rattle.machine.specs.Step.{Number, Result, perform, written}
-use Rattle.store.specs.Image.{Writes, SoundStore}
-use Rattle.store.proofs.BytesBack.{Bytes}
+use Rattle.store.specs.Image.{Writes, SoundStore, Bytes}
 use Rattle.requests.specs.Changes.{Makes, Tells}
 use Rattle.announcing.specs.Answers.{Answered}
 use Rattle.claims.specs.Changes.{Becomes}

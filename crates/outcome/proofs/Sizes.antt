@@ -15,7 +15,7 @@ use Rattle.machine.specs.Call.{AnnounceTransactions, TransactionResponseComplet
 use Rattle.machine.specs.Plan.{plan}
 use Rattle.machine.specs.Step.{perform, carryOut, stepIf, step}
 use Rattle.machine.proofs.Tests.{test, by-test}
-use Rattle.store.proofs.Stored.{needOf}
+use Rattle.store.specs.Image.{needOf}
 
 pub need-kept : (a : Ask) (s : State) → needOf ((perform a s) .state) ≡ needOf s
 unfolding perform plan

@@ -7,9 +7,8 @@ use mathlib.Core.Bool.{Bool, true}
 use mathlib.Core.List.{List}
 use native.Mathlib.Omega.{arith}
 use lib.Dec.{eqb}
-use lib.ListN.{length, take, drop}
+use lib.ListN.{length, take}
 use Rattle.ident.specs.If.{if_then_else_}
-use Rattle.words.specs.Words.{bytesOf}
 use Rattle.machine.specs.State.{State}
 use Rattle.machine.specs.Sound.{Sound}
 use Rattle.machine.specs.Call.{Call, refusal}
@@ -17,23 +16,11 @@ use Rattle.machine.specs.Step.{Outcome, stepIf, step}
 use Rattle.machine.specs.Typed.{CallTyped}
 use Rattle.machine.proofs.Tests.{test}
 use Rattle.machine.proofs.Kept.{sound-step}
-use Rattle.store.specs.Image.{image, Writes, SoundStore, stored}
-use Rattle.store.proofs.BytesBack.{Bytes}
-use Rattle.store.proofs.Stored.{needOf, stored-front, stored-back, stored-bytes, stored-length, stored-writes, state-shown, store-kept}
+use Rattle.store.specs.Image.{Writes, SoundStore, stored, Bytes, needOf}
+use Rattle.store.proofs.Stored.{stored-front, stored-back, stored-bytes, stored-length, stored-writes, state-shown, store-kept}
 use Rattle.outcome.specs.Outcome.{Effect, outcomeIf}
+use Rattle.outcome.specs.Steps.{Stepped}
 use Rattle.outcome.proofs.Sizes.{step-room}
-
--- e, left of the store b, is what the machine's outcome o says
-pub record Stepped (b : List ℕ) (o : Outcome) (e : Effect) : Type 0 where
-  pub reply : e .reply ≡ o .reply
-  pub buffer : e .buffer ≡ o .buffer
-  pub sound : SoundStore (e .store)
-  pub state : sound .state ≡ o .state
-  pub bytes : Bytes (e .store)
-  pub long : length (e .store) ≡ length b
-  -- "the store, as far as its need, is the byte image of its state"; "bytes past the need .. stay"
-  pub front : take (needOf (o .state)) (e .store) ≡ bytesOf (image (o .state))
-  pub back : drop (needOf (o .state)) (e .store) ≡ drop (needOf (o .state)) b
 
 -- ---- bytes that a state was stored in
 

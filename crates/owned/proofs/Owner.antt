@@ -4,8 +4,7 @@ use Prim.Native.Nat.{ℕ}
 use mathlib.Core.Path.{_≡_}
 use mathlib.Core.List.{List}
 use Rattle.machine.specs.Call.{Buffer, Call}
-use Rattle.store.specs.Image.{SoundStore}
-use Rattle.store.proofs.BytesBack.{Bytes}
+use Rattle.store.specs.Image.{SoundStore, Bytes}
 use Rattle.outcome.specs.declared.Answer.{Answer}
 use Rattle.outcome.specs.declared.Listing.{Listing}
 use Rattle.outcome.specs.declared.Departure.{Departure}

@@ -22,9 +22,8 @@ use Rattle.machine.proofs.Plan.{bounded-expired, keys-typed, round-typed}
 use Rattle.machine.proofs.Kept.{sound-table}
 use Rattle.machine.proofs.Tests.{never}
 use Rattle.store.specs.Flat.{flatOf, rowsOf}
-use Rattle.store.specs.Image.{Writes}
+use Rattle.store.specs.Image.{Writes, Bytes}
 use Rattle.store.specs.Shown.{limitIn, Kept}
-use Rattle.store.proofs.BytesBack.{Bytes}
 use Rattle.store.proofs.Frame.{sizes}
 use Rattle.store.proofs.Stored.{written-bytes}
 use Rattle.announcing.specs.Evicts.{entryAt}

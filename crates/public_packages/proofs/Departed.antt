@@ -15,8 +15,7 @@ use Rattle.machine.specs.Call.{Buffer, Disconnected, On, keyBytes, named, takes
 use Rattle.machine.specs.Step.{Left, perform, keysAnswer, written}
 use Rattle.machine.proofs.Leave.{keys-of}
 use Rattle.machine.proofs.AnswerLengths.{length-keysAnswer}
-use Rattle.store.specs.Image.{SoundStore}
-use Rattle.store.proofs.BytesBack.{Bytes}
+use Rattle.store.specs.Image.{SoundStore, Bytes}
 use Rattle.lists.specs.Lists.{keysIn}
 use Rattle.lists.proofs.Answer.{keys-append}
 use Rattle.lists.proofs.KeysBack.{keys-back}

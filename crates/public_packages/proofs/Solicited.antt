@@ -12,9 +12,7 @@ use Rattle.machine.specs.Package.{solicit}
 use Rattle.machine.specs.Sound.{Sound}
 use Rattle.machine.specs.Call.{Ask, SolicitPackageInfo, On, named, takesPlace, askRefusal}
 use Rattle.machine.specs.Step.{Reply, Refused, Number, perform}
-use Rattle.store.specs.Image.{Writes, SoundStore}
-use Rattle.store.proofs.BytesBack.{Bytes}
-use Rattle.store.proofs.Stored.{needOf}
+use Rattle.store.specs.Image.{Writes, SoundStore, Bytes, needOf}
 use Rattle.announcing.specs.Answers.{Answered}
 use Rattle.packaging.specs.Solicits.{Room}
 use Rattle.outcome.specs.Outcome.{Leaves}

@@ -26,8 +26,9 @@ use Rattle.machine.specs.Call.{entryBytes}
 use Rattle.machine.specs.Step.{kindNumber, entryAnswer, entriesAnswer, written}
 use Rattle.machine.proofs.Tests.{by-test}
 use Rattle.machine.proofs.AnswerLengths.{length-entryAnswer}
+use Rattle.store.specs.Image.{Bytes}
 use Rattle.store.specs.Gather.{kindIs}
-use Rattle.store.proofs.BytesBack.{Bytes, bytes-take, bytes-drop}
+use Rattle.store.proofs.BytesBack.{bytes-take, bytes-drop}
 use Rattle.claiming.specs.Claiming.{hashFrom, entryFrom, entriesFrom, entriesIn}
 
 -- an entry that bytes can hold

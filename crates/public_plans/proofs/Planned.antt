@@ -24,8 +24,7 @@ use Rattle.machine.proofs.Tests.{by-test}
 use Rattle.machine.proofs.Table.{at-key, lawful-at}
 use Rattle.machine.proofs.Announce.{each-append}
 use Rattle.machine.proofs.Plan.{keys-typed, round-typed, bounded-expired, expired-keys}
-use Rattle.store.specs.Image.{Writes, SoundStore}
-use Rattle.store.proofs.BytesBack.{Bytes}
+use Rattle.store.specs.Image.{Writes, SoundStore, Bytes}
 use Rattle.planning.specs.declared.replying.Reply.{Reply}
 use Rattle.claiming.specs.Claiming.{entriesFrom}
 use Rattle.planning.specs.Replying.{Plans}

@@ -20,8 +20,7 @@ use Rattle.machine.specs.Typed.{Each}
 use Rattle.machine.specs.Call.{Buffer, Arrange, On, entryBytes, named, takesPlace}
 use Rattle.machine.specs.Step.{Entries, perform, entriesAnswer, written}
 use Rattle.machine.proofs.Tests.{by-test}
-use Rattle.store.specs.Image.{SoundStore}
-use Rattle.store.proofs.BytesBack.{Bytes}
+use Rattle.store.specs.Image.{SoundStore, Bytes}
 use Rattle.requests.specs.Changes.{Tells}
 use Rattle.claiming.specs.Claiming.{entriesFrom}
 use Rattle.outcome.specs.Outcome.{Does}

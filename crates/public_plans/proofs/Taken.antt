@@ -9,8 +9,7 @@ use Rattle.machine.specs.Claim.{claim}
 use Rattle.machine.specs.Typed.{Each}
 use Rattle.machine.specs.Call.{Buffer, Claim, On, entryBytes, named, takesPlace}
 use Rattle.machine.specs.Step.{Entries, perform, entriesAnswer, written}
-use Rattle.store.specs.Image.{SoundStore}
-use Rattle.store.proofs.BytesBack.{Bytes}
+use Rattle.store.specs.Image.{SoundStore, Bytes}
 use Rattle.claiming.specs.Claiming.{entriesFrom, Claims}
 use Rattle.outcome.specs.Outcome.{Does}
 use Rattle.outcome.specs.Tests.{inTurn}

@@ -12,8 +12,7 @@ use Rattle.machine.specs.Limits.{maxAnnouncements, maxPlaces, need}
 use Rattle.machine.specs.Call.{Open, sizesTaken, openingRefusal, refusal}
 use Rattle.machine.specs.Step.{Refused, Number, empty, carryOut, written, stepIf}
 use Rattle.machine.proofs.Tests.{and-left, and-right}
-use Rattle.store.specs.Image.{Writes, stored}
-use Rattle.store.proofs.BytesBack.{Bytes}
+use Rattle.store.specs.Image.{Writes, stored, Bytes}
 use Rattle.store.proofs.Stored.{written-bytes}
 use Rattle.outcome.specs.Outcome.{outcomeIf, Leaves}
 use Rattle.outcome.proofs.Contract.{does-not-open}

@@ -12,8 +12,7 @@ use Rattle.machine.specs.Wrapper.{sum}
 use Rattle.machine.specs.Claim.{elem}
 use Rattle.machine.specs.Call.{Sum, On, named, anyLate, takesPlace, askRefusal}
 use Rattle.machine.specs.Step.{Summed, perform, written}
-use Rattle.store.specs.Image.{SoundStore}
-use Rattle.store.proofs.BytesBack.{Bytes}
+use Rattle.store.specs.Image.{SoundStore, Bytes}
 use Rattle.outcome.specs.declared.Figures.{Figures}
 use Rattle.outcome.specs.declared.Figures.the-variants.{Are}
 use Rattle.outcome.specs.Outcome.{Leaves}

@@ -12,12 +12,10 @@ use Rattle.words.proofs.Digits.{length-digits, number-digits}
 use Rattle.words.proofs.Parts.{words-append}
 use Rattle.machine.specs.Limits.{word}
 use Rattle.machine.specs.Typed.{Each}
+use Rattle.store.specs.Image.{Bytes}
 use Rattle.store.proofs.WordsFit.{Word}
 
 -- ---- lists of bytes
-
-abbrev pub Bytes : List ℕ → Type 0
-Bytes b = (i : ℕ) → getD b i 0 < 256
 
 bytes-cons : (x : ℕ) (b : List ℕ) → x < 256 → Bytes b → Bytes (x ∷ b)
 bytes-cons x b h p zero = h

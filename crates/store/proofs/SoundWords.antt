@@ -10,12 +10,12 @@ use Rattle.machine.specs.Limits.{need}
 use Rattle.store.specs.Flat.{Flat, flatOf}
 use Rattle.store.specs.Gather.{stateIn}
 use Rattle.store.specs.FlatSound.{FlatSound}
-use Rattle.store.specs.Image.{wordsOf, image, SoundStore}
+use Rattle.store.specs.Image.{wordsOf, image, SoundStore, needOf}
 use Rattle.store.specs.Read.{flatIn}
 use Rattle.store.proofs.ToFlat.{flat-sound}
 use Rattle.store.proofs.FromFlat.{sound-state, flat-back}
 use Rattle.store.proofs.FlatRead.{flat-read}
-use Rattle.store.proofs.Stored.{needOf, words-front}
+use Rattle.store.proofs.Stored.{words-front}
 
 abbrev pub needIn : Flat → ℕ
 needIn f = need (f .head .limit) (f .head .places)

@@ -13,16 +13,12 @@ use Rattle.machine.specs.Limits.{need}
 use Rattle.machine.specs.State.{State}
 use Rattle.machine.specs.Sound.{Sound}
 use Rattle.store.specs.Flat.{flatOf}
-use Rattle.store.specs.Image.{wordsOf, image, Writes, SoundStore, stored}
+use Rattle.store.specs.Image.{wordsOf, image, Writes, SoundStore, stored, Bytes, needOf}
 use Rattle.store.specs.Read.{stateOf}
 use Rattle.store.proofs.ToFlat.{flat-sound}
 use Rattle.store.proofs.WordsFit.{words-fit}
 use Rattle.store.proofs.FlatRead.{length-image, image-state}
-use Rattle.store.proofs.BytesBack.{Bytes, bytes-append, bytes-take, bytes-drop, bytes-of, length-bytes, words-bytes}
-
--- the bytes that a state needs
-abbrev pub needOf : State → ℕ
-needOf s = need (s .limit) (s .places)
+use Rattle.store.proofs.BytesBack.{bytes-append, bytes-take, bytes-drop, bytes-of, length-bytes, words-bytes}
 
 whole-words : (L Q : ℕ) → need L Q % 8 ≡ 0
 unfolding need

@@ -1,10 +1,10 @@
 -- The one image of a state, as a list of words (docs/STORE.md), and what bytes write.
 -- Assumes nothing.
-use Prim.Native.Nat.{ℕ, _+_, _*_, _≤_}
+use Prim.Native.Nat.{ℕ, _+_, _*_, _≤_, _<_}
 use mathlib.Core.Path.{_≡_}
 use mathlib.Core.List.{List, [], _∷_, _++_}
 use mathlib.Core.Option.{Option, none, some}
-use lib.ListN.{length, take, drop, replicate}
+use lib.ListN.{length, take, drop, replicate, getD}
 use Rattle.ident.specs.declared.Kind.{Kind}
 use Rattle.ident.specs.declared.Kind.the-variants.{Txid, Wtxid}
 use Rattle.ident.specs.Number.{Key}
@@ -57,6 +57,14 @@ unfoldable pub image : State → List ℕ
 image s = wordsOf (flatOf s)
 
 -- ---- bytes
+
+-- each number is a byte
+abbrev pub Bytes : List ℕ → Type 0
+Bytes b = (i : ℕ) → getD b i 0 < 256
+
+-- the bytes that a store of the state needs
+abbrev pub needOf : State → ℕ
+needOf s = need (s .limit) (s .places)
 
 -- bytes that write a flat state, and a state: "each state has one byte image at its L and Q"
 pub record Shows (b : List ℕ) (f : Flat) : Type 0 where

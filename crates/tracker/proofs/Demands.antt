@@ -11,10 +11,9 @@ use Rattle.machine.specs.Step.{empty, step}
 use Rattle.machine.specs.Typed.{Each, CallTyped}
 use Rattle.machine.specs.Demand3.{run, Bounds}
 use Rattle.machine.proofs.Demand3.{demand-3}
-use Rattle.store.specs.Image.{SoundStore}
-use Rattle.store.proofs.BytesBack.{Bytes}
+use Rattle.store.specs.Image.{SoundStore, Bytes}
 use Rattle.outcome.specs.Outcome.{Effect, Does}
-use Rattle.outcome.proofs.Stepped.{Stepped}
+use Rattle.outcome.specs.Steps.{Stepped}
 use Rattle.outcome.proofs.Calls.{opened, does-steps, does-open}
 use Rattle.tracker.specs.Tracked.{Ran, lastStore, Agrees, Follows, Tracked}
 

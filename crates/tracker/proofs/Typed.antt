@@ -7,8 +7,7 @@ use lib.ListN.{length}
 use Rattle.machine.specs.Typed.{Each, CallTyped}
 use Rattle.machine.specs.Call.{Call, Open, openingRefusal}
 use Rattle.machine.specs.Step.{empty}
-use Rattle.store.specs.Image.{SoundStore}
-use Rattle.store.proofs.BytesBack.{Bytes}
+use Rattle.store.specs.Image.{SoundStore, Bytes}
 use Rattle.lists.proofs.Given.{hashes-fit}
 use Rattle.lists.proofs.Inventory.{items-fit, offers-fit}
 use Rattle.claiming.specs.Claiming.{entriesIn}

@@ -13,7 +13,7 @@ use Rattle.machine.specs.Call.{Buffer, Call, Open, On, Sum, Announce, RequestPa
 use Rattle.machine.specs.Call.{Claim, Disconnected, Unclaim, Forget, ForgetKnown, FailedPackageInfo, PackageInfoOwner, AnnounceTransactions}
 use Rattle.machine.specs.Call.{TransactionResponseCompleted, Sweep, PollGate, SolicitPackageInfo, ClaimPackage, BeginPackageResolution}
 use Rattle.machine.specs.Call.{FailedPackageClaims, TeardownPackageClaims, TransactionNotFound, Plan, Arrange}
-use Rattle.store.proofs.BytesBack.{Bytes}
+use Rattle.store.specs.Image.{Bytes}
 use Rattle.lists.specs.Lists.{hashesIn}
 use Rattle.lists.specs.Items.{itemsIn, offersIn}
 use Rattle.claiming.specs.Claiming.{entriesIn}

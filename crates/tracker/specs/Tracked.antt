@@ -10,7 +10,7 @@ use Rattle.machine.specs.Step.{step}
 use Rattle.machine.specs.Demand3.{run, Bounds, Fair}
 use Rattle.store.specs.Image.{SoundStore}
 use Rattle.outcome.specs.Outcome.{Effect, Does}
-use Rattle.outcome.proofs.Stepped.{Stepped}
+use Rattle.outcome.specs.Steps.{Stepped}
 
 -- ---- what a list of calls leaves
 
