@@ -7,6 +7,10 @@ pub mod BareExpiry
 pub mod Slotted
 pub mod Spotting
 pub mod Parting
+pub mod Swapping
+pub mod Marking
 pub mod Notes
+pub mod Alongside
+pub mod InHalves
 pub mod Overdue
 pub mod OneOwner

@@ -1,4 +1,5 @@
 pub mod Bare
 pub mod Apart
 pub mod Noting
+pub mod Waiting
 pub mod Lapsing

@@ -64,12 +64,6 @@ pickedIn hs low high = picked (take halfMost hs) low ++ picked (drop halfMost hs
 
 -- ---- parts of contracts
 
--- the hashes hs are announced, the first with the priority i; r has the bits of those kept
-pub record Announced (b b′ : List ℕ) (n now i : ℕ) (hs : List ℕ) (r : ℕ) : Type 0 where
-  pub bits : (st : State) → Sound st → Writes b st → r ≡ keptBits (limitsOf st) n now i hs (st .table)
-  pub sound : (st : State) → Sound st → Writes b st → Sound (onTable ((parentsFrom (limitsOf st) n now i hs (st .table)) .table) st)
-  pub table : (st : State) → Sound st → Writes b st → Writes b′ (onTable ((parentsFrom (limitsOf st) n now i hs (st .table)) .table) st)
-
 -- all hashes hs are announced, those kept noted in two halves
 pub record Noted (b b′ : List ℕ) (n now : ℕ) (hs : List ℕ) (r : Bits) : Type 0 where
   pub keys : (st : State) → Sound st → Writes b st → pickedIn hs (r .low) (r .high) ≡ (parentsFrom (limitsOf st) n now 0 hs (st .table)) .keys

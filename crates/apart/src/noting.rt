@@ -1,14 +1,18 @@
 // Parents of a place announced one by one, and those kept noted: a bit for each in two numbers.
+use crate::joining;
 ghost use mathlib.Core.Path.{_≡_};
 ghost use Prim.Native.Nat.{_+_, _-_, _*_, _^_, _≤_, _<_};
 ghost use lib.ListN.{length};
 ghost use Rattle.ident.specs.Words.{hashNum};
 ghost use Rattle.words.specs.Words.{words};
+ghost use Rattle.regions.specs.Rows.{rowSize};
 ghost use Rattle.places.specs.Places.{listMost};
 ghost use Rattle.machine.specs.Table.{one};
 ghost use Rattle.store.specs.Shown.{Kept};
+ghost use Rattle.gathering.specs.Aside.{space};
 ghost use Rattle.apart.specs.Apart.{slotBytes};
-ghost use Rattle.apart.specs.Noting.{parentIn, hashesAt, ParentsIn, halfMost, Halved, Announced, Noted};
+ghost use Rattle.apart.specs.Noting.{parentIn, hashesAt, ParentsIn, halfMost, Halved, Noted};
+ghost use Rattle.apart.specs.Waiting.{Waits, HalfIn};
 
 // Parents of a place, and half of them.
 const MOST: usize = 100;
@@ -55,31 +59,65 @@ pub fn parent_of(slot: &[u8], j: usize) -> ident::Hash
     requests::quad_hash(q)
 }
 
-// Announces the parents from .. to of a place for the connection n; answers the bits of those kept.
-fn announce_bits(s: &mut [u8], slot: &[u8], from: usize, to: usize, n: u64, clock: u64) -> u64
-    requires { ⌜ Kept (now s) × (1 ≤ n) × (from ≤ to) × (to ≤ from + halfMost) × (to ≤ listMost) × (length (now slot) ≡ slotBytes) ⌝ }
-    ensures { λ r. ⌜ Announced (now (s .entry)) (now (s .exit)) n clock from (hashesAt (words (now (slot .entry))) from (to - from)) r ⌝ }
+// The bits of one half, and how many of its parents wait.
+pub struct Half {
+    pub bits: u64,
+    pub waiting: usize,
+}
+
+// Announces the parents from .. to of a place for the connection n, beside the m before them that wait; answers the bits of those kept.
+fn announce_bits(
+    s: &mut [u8],
+    slot: &[u8],
+    new: &mut [u8],
+    m: usize,
+    from: usize,
+    to: usize,
+    n: u64,
+    clock: u64,
+    together: bool,
+) -> Half
+    requires { ⌜ Waits (words (now slot)) n clock (now s) (words (now new)) (from - m) m × (1 ≤ n) × (m ≤ from) × (from ≤ to) × (to ≤ from + halfMost) × (to ≤ listMost) × (length (now slot) ≡ slotBytes) × (length (now new) ≡ 8 * (rowSize * space)) ⌝ }
+    ensures { λ r. ⌜ HalfIn (words (now (slot .entry))) n clock (now (s .entry)) (now (s .exit)) (words (now (new .entry))) (words (now (new .exit))) from to m r ⌝ }
 {
     let mut bits = 0;
     let mut w = 1;
+    let mut waiting = m;
     let mut j = from;
     while j < to {
-        let h = parent_of(slot, j);
-        let kept = announcing::parents::announce_parent(s, n, clock, h, j as u64);
-        bits = raised(bits, w, kept);
+        let r = joining::announce_next(s, slot, new, waiting, j, n, clock, together);
+        bits = raised(bits, w, r.kept);
+        waiting = r.waiting;
         w = w * 2;
         j += 1;
     }
-    bits
+    Half { bits, waiting }
 }
+
+// Bytes of the rows that can wait.
+const ROOM: usize = 36_864;
+
+fn region() -> [u8; ROOM] {
+    [0u8; ROOM]
+}
+
+// With fewer parents a pass over the rows costs more than it spares.
+const FEW: usize = 6;
 
 // Announces the c parents of a place for the connection n, and notes those kept.
 pub fn announce_all(s: &mut [u8], slot: &[u8], c: usize, n: u64, clock: u64) -> Bits
     requires { ⌜ Kept (now s) × (1 ≤ n) × (c ≤ listMost) × (length (now slot) ≡ slotBytes) ⌝ }
     ensures { λ r. ⌜ Noted (now (s .entry)) (now (s .exit)) n clock (hashesAt (words (now (slot .entry))) 0 c) r ⌝ }
 {
+    let mut new = region();
+    gathering::region::clear(&mut new);
     let e = first_half(c);
-    let low = announce_bits(s, slot, 0, e, n, clock);
-    let high = announce_bits(s, slot, e, c, n, clock);
-    Bits { low, high }
+    let together = c >= FEW;
+    let low = announce_bits(s, slot, &mut new, 0, 0, e, n, clock, together);
+    let high = announce_bits(s, slot, &mut new, low.waiting, e, c, n, clock, together);
+    joining::let_in(s, slot, &mut new, high.waiting, c, n, clock);
+    Bits {
+        low: low.bits,
+        high: high.bits,
+    }
 }

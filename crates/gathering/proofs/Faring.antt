@@ -25,7 +25,7 @@ use Rattle.store.specs.Flat.{rowOf}
 use Rattle.announcing.proofs.Entering.{fresh}
 use Rattle.gathering.specs.Merges.{placed, gathered}
 use Rattle.gathering.specs.Waits.{pushes, Ready, waits, barredBeside, fullBeside}
-use Rattle.gathering.specs.Aside.{space, PutIn, Aside, Fares, FaresIn, RowIn, Joined, SetAside}
+use Rattle.gathering.specs.Aside.{space, PutIn, Aside, Fares, FaresIn, RowIn, Enters, Joined, SetAside}
 use Rattle.gathering.proofs.Waiting.{taken-barred, taken-out, taken-in}
 use Rattle.gathering.proofs.InOrder.{sorted-gathered, gathered-more}
 use Rattle.gathering.proofs.Looking.{few-rows}
@@ -53,7 +53,7 @@ module _ (es : List Entry) (k : Key) (n : ℕ) (t : Table) {m : ℕ} (e : length
 
 module _ (m : Limits) (t : Table) (es : List Entry) (k : Key) (c : Candidate) where
   pub fares-alone : Fares m t es k c 2
-  fares-alone = record { stays = λ e. absurd (omega arith); joins = λ e. absurd (omega arith); idle = λ e. absurd (omega arith); room = λ e. absurd (omega arith) }
+  fares-alone = record { stays = λ e. absurd (omega arith); joins = λ e. absurd (omega arith); idle = λ e. absurd (omega arith); room = λ e. absurd (omega arith); free = λ e. absurd (omega arith); roomy = λ e. absurd (omega arith) }
 
 module _ (st : State) (s : Sound st) (k : Key) (c : Candidate) (small : k .hash < top) {es : List Entry} {w : List ℕ} {d : ℕ} (a : Aside (c .connection) (st .table) es w d) where
   abbrev m : Limits
@@ -67,7 +67,7 @@ module _ (st : State) (s : Sound st) (k : Key) (c : Candidate) (small : k .hash 
 
   stay : (announceKeyed m (some k) c (pushes es t)) .table ≡ pushes es t → Fares m t es k c 0
   unfolding announceKeyed
-  stay e = record { stays = λ _. e; joins = λ q. absurd (omega arith); idle = λ q. absurd (omega arith); room = λ q. absurd (omega arith) }
+  stay e = record { stays = λ _. e; joins = λ q. absurd (omega arith); idle = λ q. absurd (omega arith); room = λ q. absurd (omega arith); free = λ q. absurd (omega arith); roomy = λ q. absurd (omega arith) }
 
   pub fares-barred : {r : Bool} → r ≡ Barred → r ≡ true → Fares m t es k c 0
   unfolding announceKeyed
@@ -92,14 +92,17 @@ module _ (st : State) (s : Sound st) (k : Key) (c : Candidate) (small : k .hash 
   fares-in {f} {b} {x} qf ef qb eb qx ex =
       let full : leb (st .limit) (held t + length es) ≡ false = ap (λ (i : ℕ). leb (st .limit) (held t + i)) (a .count) ∙ sym qf ∙ ef in
       let crowd : leb maxAlternates (heldAt (k .hash) t) ≡ false = lt-leb maxAlternates (heldAt (k .hash) t) (omega arith) in
+      let spare : fullBeside m es k t ≡ false = ap (λ (z : Bool). z || leb (st .limit) (held t + length es)) crowd ∙ full in
       let free : Barred ≡ false = sym qb ∙ eb in
       let apart = or-left (isCandidate (c .connection) (k .hash) t || waits (k .hash) es) (leb maxPeerAnnouncements (heldBy (c .connection) t + length es)) free in
       let new = or-left (isCandidate (c .connection) (k .hash) t) (waits (k .hash) es) apart in
       record {
         stays = λ e. absurd (omega arith);
-        joins = λ _. taken-in m c es t (a .ready) (s .bounded .ordered) k free (ap (λ (z : Bool). z || leb (st .limit) (held t + length es)) crowd ∙ full);
+        joins = λ _. taken-in m c es t (a .ready) (s .bounded .ordered) k free spare;
         idle = λ _. fresh st s k small (c .connection) new;
         room = λ _. leb-false (st .limit) (held t + length es) full;
+        free = λ _. free;
+        roomy = λ _. spare;
       }
 
 -- ---- who waits then
@@ -127,26 +130,31 @@ aside-more k c {t} {es} {w} {w′} {d} a {y} small l i e p =
 module _ {m : Limits} {t : Table} {es : List Entry} {c : Candidate} {w : List ℕ} {d : ℕ} (a : Aside (c .connection) t es w d) where
   pub joined-none : {r : ℕ} → r ≡ 0 → Joined m t es w (d + r) none c
   unfolding announceKeyed
-  joined-none e = record { entries = es; aside = same-aside a e; table = refl; room = λ h. omega (arith, a .count) }
+  joined-none e = record { entries = es; aside = same-aside a e; table = refl; room = λ h. omega (arith, a .count); enters = λ h. absurd (omega (arith, a .count)) }
 
   pub joined-not : {k : Key} {r : ℕ} → r ≡ 0 → Fares m t es k c r → Joined m t es w (d + r) (some k) c
   unfolding announceKeyed
-  joined-not e f = record { entries = es; aside = same-aside a e; table = f .stays e; room = λ h. omega (arith, a .count) }
+  joined-not e f = record { entries = es; aside = same-aside a e; table = f .stays e; room = λ h. omega (arith, a .count); enters = λ h. absurd (omega (arith, a .count)) }
 
   pub joined-in : {k : Key} {w′ : List ℕ} {y : Row} → k .hash < top → d < space → Fares m t es k c 1 → y ≡ rowOf (at k t) c → PutIn w w′ d y → Joined m t es w′ (d + 1) (some k) c
   unfolding announceKeyed
-  joined-in {k} {w′} {y} small l f e p = record {
-    entries = es ++ (record { key = k; candidate = c } ∷ []);
-    aside = aside-more k c a small l (f .idle refl) e p;
-    table = f .joins refl;
-    room = λ h. omega (arith, f .room refl, a .count);
-  }
+  joined-in {k} {w′} {y} small l f e p =
+      let b : Entry = record { key = k; candidate = c } in
+      record {
+        entries = es ++ (b ∷ []);
+        aside = aside-more k c a small l (f .idle refl) e p;
+        table = f .joins refl;
+        room = λ h. omega (arith, f .room refl, a .count);
+        enters = λ h j q.
+            let z : k ≡ j = cc in
+            subst (λ (i : Key). Enters m t es i c (es ++ (b ∷ []))) z (record { free = f .free refl; roomy = f .roomy refl; last = refl });
+      }
 
 -- ---- what a call does with one announcement
 
 module _ {b w : List ℕ} {m : ℕ} {k : Key} {c : Candidate} where
   pub set-not : {r : ℕ} → FaresIn b w m k c r → (r ≡ 1 → ⊥) → SetAside b w w m (some k) c r
-  set-not f n = record { most = f .most; joined = λ l st s g es a. joined-not a (omega (arith, n)) (f .fares st s g es a); spare = f .spare; alone = λ _. refl }
+  set-not f n = record { most = f .most; joined = λ l st s g es a. joined-not a (omega (arith, n)) (f .fares st s g es a); spare = f .spare; alone = λ _. refl; out = λ _. refl }
 
   pub set-in : {w′ : List ℕ} {r : ℕ} {y : Row} → k .hash < top → FaresIn b w m k c r → r ≡ 1 → RowIn b k c y → PutIn w w′ m y → SetAside b w w′ m (some k) c 1
   set-in {w′} {r} {y} small f e q p = record {
@@ -156,10 +164,11 @@ module _ {b w : List ℕ} {m : ℕ} {k : Key} {c : Candidate} where
         joined-in a small (f .spare e) h (q st s g (h .idle refl)) p;
     spare = λ _. f .spare e;
     alone = λ z. absurd (omega arith);
+    out = λ z. absurd (omega arith);
   }
 
 pub set-none : {b w : List ℕ} {m : ℕ} {c : Candidate} → SetAside b w w m none c 0
-set-none = record { most = omega arith; joined = λ l st s g es a. joined-none a refl; spare = λ e. absurd (omega arith); alone = λ _. refl }
+set-none = record { most = omega arith; joined = λ l st s g es a. joined-none a refl; spare = λ e. absurd (omega arith); alone = λ _. refl; out = λ _. refl }
 
 pub set-keyed : {b w w′ : List ℕ} {m : ℕ} {x y : Option Key} {c : Candidate} {r : ℕ} → x ≡ y → SetAside b w w′ m x c r → SetAside b w w′ m y c r
 set-keyed {b} {w} {w′} {m} {x} {y} {c} {r} e a = subst (λ (k : Option Key). SetAside b w w′ m k c r) e a

@@ -13,7 +13,7 @@ use Rattle.ident.specs.Number.{Key, top}
 use Rattle.regions.specs.declared.Row.{Row}
 use Rattle.regions.specs.Regions.{insertAt}
 use Rattle.machine.specs.Limits.{Limits, maxPeerAnnouncements}
-use Rattle.machine.specs.State.{Candidate, Entry, Table, Answer}
+use Rattle.machine.specs.State.{Candidate, Entry, Table, Answer, done}
 use Rattle.machine.specs.Table.{at, one, any, by, under, byUnder, count, held, heldBy, heldAt, isCandidate}
 use Rattle.machine.specs.Announce.{victims, greatest, anywhere, evicting, push, announceAt}
 use Rattle.machine.specs.Sound.{Ordered}
@@ -49,7 +49,7 @@ among : (Key → ℕ → Bool) → List Entry → ℕ
 among q [] = 0
 among q (a ∷ l) = one (q (a .key) (a .candidate .connection)) + among q l
 
-ordered-pushes : (n : ℕ) (es : List Entry) (t : Table) → Each (Ready n) es → Ordered 0 t → Ordered 0 (pushes es t)
+pub ordered-pushes : (n : ℕ) (es : List Entry) (t : Table) → Each (Ready n) es → Ordered 0 t → Ordered 0 (pushes es t)
 unfolding pushes
 ordered-pushes n [] t a o = o
 ordered-pushes n (e ∷ es) t a o = ordered-pushes n es (push (e .key) (e .candidate) t) (a .1) (ordered-change (e .key) _ 0 t (λ r. refl) (omega arith) (a .0 .small) o)
@@ -176,3 +176,14 @@ module _ (m : Limits) (c : Candidate) (es : List Entry) (t : Table) (a : Each (R
       taken-in f =
           ap (λ (x : Answer). x .table) (when-room m k c (pushes es t) free (crowded-is ∙ or-left Crowded Full f) (full-is ∙ or-right Crowded Full f))
           ∙ sym (pushes-more es (record { key = k; candidate = c }) t)
+
+      -- the same on a table with as many candidates of each kind
+      module _ (f : fullBeside m es k t ≡ false) (u : Table) (same : (q : Key → ℕ → Bool) → count q u ≡ count q (pushes es t)) where
+        pub new-beside : isCandidate (c .connection) (k .hash) u ≡ false
+        new-beside = ap (ltb 0) (same (byUnder (c .connection) (k .hash))) ∙ or-left (isCandidate (c .connection) (k .hash) (pushes es t)) (leb maxPeerAnnouncements (heldBy (c .connection) (pushes es t))) free
+
+        pub room-beside : announceAt m k c u ≡ done (push k c u)
+        room-beside =
+            when-room m k c u (rw (new-beside, same (by (c .connection))) (or-right (isCandidate (c .connection) (k .hash) (pushes es t)) (leb maxPeerAnnouncements (heldBy (c .connection) (pushes es t))) free))
+            (ap (leb (m .alternates)) (same (under (k .hash))) ∙ crowded-is ∙ or-left Crowded Full f)
+            (ap (leb (m .announcements)) (same any) ∙ full-is ∙ or-right Crowded Full f)

@@ -4,7 +4,7 @@ use Prim.Native.Nat.{ℕ, _+_, _≤_, _<_}
 use mathlib.Core.Path.{_≡_}
 use mathlib.Core.Bool.{Bool, false, _||_}
 use mathlib.Core.List.{List, [], _∷_, _++_}
-use mathlib.Core.Option.{Option}
+use mathlib.Core.Option.{Option, some}
 use lib.Dec.{eqb}
 use lib.ListN.{length}
 use Rattle.ident.specs.Number.{Key}
@@ -22,7 +22,7 @@ use Rattle.store.specs.Flat.{rowOf}
 use Rattle.store.specs.Image.{Writes}
 use Rattle.store.specs.Shown.{rowNumbers}
 use Rattle.gathering.specs.Merges.{numberOf, placed, gathered}
-use Rattle.gathering.specs.Waits.{pushes, Ready, Idle, waits, barredBeside}
+use Rattle.gathering.specs.Waits.{pushes, Ready, Idle, waits, barredBeside, fullBeside}
 
 -- as many rows can wait
 abbrev pub space : ℕ
@@ -75,6 +75,8 @@ pub record Fares (m : Limits) (t : Table) (es : List Entry) (k : Key) (c : Candi
   pub joins : r ≡ 1 → (announceAt m k c (pushes es t)) .table ≡ pushes (es ++ (record { key = k; candidate = c } ∷ [])) t
   pub idle : r ≡ 1 → ownerIs (c .connection) ((at k t) .owner) ≡ false
   pub room : r ≡ 1 → held t + length es < m .announcements
+  pub free : r ≡ 1 → barredBeside es k (c .connection) t ≡ false
+  pub roomy : r ≡ 1 → fullBeside m es k t ≡ false
 
 -- whoever waits, and whatever sound state the bytes b write
 pub record FaresIn (b w : List ℕ) (m : ℕ) (k : Key) (c : Candidate) (r : ℕ) : Type 0 where
@@ -86,12 +88,19 @@ pub record FaresIn (b w : List ℕ) (m : ℕ) (k : Key) (c : Candidate) (r : ℕ
 abbrev pub RowIn : List ℕ → Key → Candidate → Row → Type 0
 RowIn b k c y = (st : State) → Sound st → Writes b st → ownerIs (c .connection) ((at k (st .table)) .owner) ≡ false → y ≡ rowOf (at k (st .table)) c
 
+-- c comes in at k behind es, since nothing bars it and nothing has to give way: they are then `entries`
+pub record Enters (m : Limits) (t : Table) (es : List Entry) (k : Key) (c : Candidate) (entries : List Entry) : Type 0 where
+  pub free : barredBeside es k (c .connection) t ≡ false
+  pub roomy : fullBeside m es k t ≡ false
+  pub last : entries ≡ es ++ (record { key = k; candidate = c } ∷ [])
+
 -- who waits once c was announced beside es: their rows are in the words w
 pub record Joined (m : Limits) (t : Table) (es : List Entry) (w : List ℕ) (d : ℕ) (x : Option Key) (c : Candidate) : Type 0 where
   pub entries : List Entry
   pub aside : Aside (c .connection) t entries w d
   pub table : (announceKeyed m x c (pushes es t)) .table ≡ pushes entries t
   pub room : held t + length es ≤ m .announcements → held t + d ≤ m .announcements
+  pub enters : length es < d → (k : Key) → x ≡ some k → Enters m t es k c entries
 
 -- r of 0 or 1: r more wait than the m before; by 2 nothing is done
 pub record SetAside (b w w′ : List ℕ) (m : ℕ) (x : Option Key) (c : Candidate) (r : ℕ) : Type 0 where
@@ -99,6 +108,7 @@ pub record SetAside (b w w′ : List ℕ) (m : ℕ) (x : Option Key) (c : Candid
   pub joined : r ≤ 1 → (st : State) → Sound st → Writes b st → (es : List Entry) → Aside (c .connection) (st .table) es w m → Joined (limitsOf st) (st .table) es w′ (m + r) x c
   pub spare : r ≡ 1 → m < space
   pub alone : r ≡ 2 → w′ ≡ w
+  pub out : r ≡ 0 → w′ ≡ w
 
 -- ---- they come in
 
