@@ -12,9 +12,6 @@ import profiles
 # profile: lines, each with seed "vectors"
 GENERATED = {"mixed": 1_200, "crowd": 900, "full": 1_000, "packages": 1_200, "cursors": 500, "clocks": 800, "wide": 600, "noise": 1_000}
 
-# the words that the event program has
-WORDS = {b"open", b"ann", b"par", b"sol", b"bad", b"off", b"clm", b"beg", b"rel", b"swp", b"gone", b"sum", b"kin", b"drop", b"known", b"fail", b"info", b"who", b"done", b"poll", b"inv", b"tear", b"lost"}
-
 
 def path(name):
     return os.path.join(HERE, name)

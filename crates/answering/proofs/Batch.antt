@@ -4,16 +4,23 @@ use Prim.Native.Nat.{ℕ, _+_}
 use mathlib.Core.Path.{_≡_, sym, subst}
 use mathlib.Core.List.{List}
 use mathlib.Core.Option.{none}
+use Rattle.ident.specs.Number.{Key, Item}
 use Rattle.machine.specs.Wrapper.{Offer}
 use Rattle.machine.specs.Call.{Ask}
 use Rattle.lines.specs.Fields.{rest}
 use Rattle.reading.specs.declared.hashes.Hashes.{Hashes}
 use Rattle.reading.specs.declared.hashes.Hashes.the-variants.{None as NoHashes, Are as AreHashes}
-use Rattle.reading.specs.Calls.{listCall, offersCall}
+use Rattle.reading.specs.Lists.{listCall, offersCall, keyListCall, itemListCall, sendLine}
 use Rattle.reading.specs.Given.{HashesHeld, HashesAs, HashesGiven}
-use Rattle.inventory.specs.declared.Offers.{Offers}
-use Rattle.inventory.specs.declared.Offers.the-variants.{None, Are}
-use Rattle.inventory.specs.Given.{OffersHeld, OffersAs, OffersGiven}
+use Rattle.inventory.specs.declared.offers.Offers.{Offers}
+use Rattle.inventory.specs.declared.offers.Offers.the-variants.{None, Are}
+use Rattle.inventory.specs.declared.keys.Keys.{Keys}
+use Rattle.inventory.specs.declared.keys.Keys.the-variants.{None as NoKeys, Are as AreKeys}
+use Rattle.inventory.specs.declared.items.Items.{Items}
+use Rattle.inventory.specs.declared.items.Items.the-variants.{None as NoItems, Are as AreItems}
+use Rattle.inventory.specs.declared.numbers.Numbers.{Numbers}
+use Rattle.inventory.specs.declared.numbers.Numbers.the-variants.{None as NoNumbers, Are as AreNumbers}
+use Rattle.inventory.specs.Given.{KeysHeld, KeysAs, KeysGiven, ItemsHeld, ItemsAs, ItemsGiven, NumbersHeld, NumbersAs, NumbersGiven, OffersHeld, OffersAs, OffersGiven}
 
 module _ {l : List ℕ} {e : ℕ} {b : List ℕ} {r : Hashes} (p : HashesGiven l e b r) where
   pub no-hashes : r ≡ NoHashes → (ask : List ℕ → Ask) → none ≡ listCall ask (rest l (e + 1))
@@ -28,3 +35,24 @@ module _ {l : List ℕ} {e : ℕ} {b c : List ℕ} {r : Offers} (p : OffersGiven
 
   pub offers-held : {m : ℕ} → r ≡ Are m → OffersHeld l e b c m
   offers-held g = subst (OffersAs l e b c) g (p .is)
+
+module _ {l : List ℕ} {e : ℕ} {b : List ℕ} {r : Keys} (p : KeysGiven l e b r) where
+  pub no-keys : r ≡ NoKeys → (ask : List Key → Ask) → none ≡ keyListCall ask (rest l (e + 1))
+  no-keys g ask = sym (subst (KeysAs l e b) g (p .is) ask)
+
+  pub keys-held : {m : ℕ} → r ≡ AreKeys m → KeysHeld l e b m
+  keys-held g = subst (KeysAs l e b) g (p .is)
+
+module _ {l : List ℕ} {e : ℕ} {b : List ℕ} {r : Items} (p : ItemsGiven l e b r) where
+  pub no-items : r ≡ NoItems → (ask : List Item → Ask) → none ≡ itemListCall ask (rest l (e + 1))
+  no-items g ask = sym (subst (ItemsAs l e b) g (p .is) ask)
+
+  pub items-held : {m : ℕ} → r ≡ AreItems m → ItemsHeld l e b m
+  items-held g = subst (ItemsAs l e b) g (p .is)
+
+module _ {l : List ℕ} {e : ℕ} {b : List ℕ} {r : Numbers} (p : NumbersGiven l e b r) where
+  pub no-numbers : r ≡ NoNumbers → none ≡ sendLine (rest l (e + 1))
+  no-numbers g = sym (subst (NumbersAs l e b) g (p .is))
+
+  pub numbers-held : {m : ℕ} → r ≡ AreNumbers m → NumbersHeld l e b m
+  numbers-held g = subst (NumbersAs l e b) g (p .is)

@@ -18,15 +18,22 @@ use Rattle.answering.specs.Given.{answerRoom, mostKeys, behind, Printed}
 use Rattle.answering.proofs.KeyLists.{keyAt, keys-more, texts-append, key-length, length-keys}
 use Rattle.answering.proofs.Printing.{decimal-end}
 
-joined-behind : (t : List ℕ) (ts : List (List ℕ)) → joined (t ∷ ts) ≡ t ++ behind ts
+pub joined-behind : (t : List ℕ) (ts : List (List ℕ)) → joined (t ∷ ts) ≡ t ++ behind ts
 unfolding joined behind
 joined-behind t [] = sym (append-nil t)
 joined-behind t (u ∷ ts) = ap (λ (l : List ℕ). t ++ (44 ∷ l)) (joined-behind u ts)
 
-behind-append : (ts : List (List ℕ)) (u : List ℕ) → behind (ts ++ (u ∷ [])) ≡ behind ts ++ (44 ∷ u)
+pub behind-both : (ts us : List (List ℕ)) → behind (ts ++ us) ≡ behind ts ++ behind us
 unfolding behind
-behind-append [] u = ap (λ (l : List ℕ). 44 ∷ l) (append-nil u)
-behind-append (t ∷ ts) u = ap (λ (l : List ℕ). 44 ∷ (t ++ l)) (behind-append ts u) ∙ ap (λ (l : List ℕ). 44 ∷ l) (sym (append-assoc t (behind ts) (44 ∷ u)))
+behind-both [] us = refl
+behind-both (t ∷ ts) us = ap (λ (l : List ℕ). 44 ∷ (t ++ l)) (behind-both ts us) ∙ ap (λ (l : List ℕ). 44 ∷ l) (sym (append-assoc t (behind ts) (behind us)))
+
+behind-one : (u : List ℕ) → behind (u ∷ []) ≡ 44 ∷ u
+unfolding behind
+behind-one u = ap (λ (l : List ℕ). 44 ∷ l) (append-nil u)
+
+behind-append : (ts : List (List ℕ)) (u : List ℕ) → behind (ts ++ (u ∷ [])) ≡ behind ts ++ (44 ∷ u)
+behind-append ts u = behind-both ts (u ∷ []) ∙ ap (λ (l : List ℕ). behind ts ++ l) (behind-one u)
 
 -- ---- the loop over the keys
 

@@ -41,7 +41,7 @@ leaves-fits true n r u s b = long-written (answerBytes (r .reply)) u
 leaves-fits false n r u s b = omega arith
 
 module _ {a : Ask} {b : List ℕ} {e : Effect} (d : Does (On a) b e) where
-  reply-fits : length (answerBytes (e .reply)) ≤ length (e .buffer)
+  pub reply-fits : length (answerBytes (e .reply)) ≤ length (e .buffer)
   reply-fits =
       subst (λ (z : Effect). length (answerBytes (z .reply)) ≤ length (z .buffer)) (sym (d .effect ∙ leaves-is (d .sound) b a))
       (leaves-fits (eqb (askRefusal (d .sound) a (stateOf (words b))) 0) (askRefusal (d .sound) a (stateOf (words b))) (perform a (stateOf (words b))) ((named a (stateOf (words b))) .buffer) (stateOf (words b)) b)

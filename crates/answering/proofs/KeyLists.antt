@@ -56,7 +56,7 @@ more-of (j ∷ ks) k h = ap joined (texts-append (j ∷ ks) k) ∙ joined-append
 
 -- ---- a key in the buffer
 
-drop-take : (m n : ℕ) (l : List ℕ) → drop m (take (m + n) l) ≡ take n (drop m l)
+pub drop-take : (m n : ℕ) (l : List ℕ) → drop m (take (m + n) l) ≡ take n (drop m l)
 drop-take zero n l = rw (zero-add n)
 drop-take (suc m) n [] = rw (suc-add, take-nil n)
 drop-take (suc m) n (x ∷ l) = rw suc-add (drop-take m n l)

@@ -3,7 +3,6 @@
 use Prim.Native.Nat.{ℕ, _+_, _<_, _≤_}
 use mathlib.Core.Path.{_≡_, sym, ap, subst}
 use mathlib.Core.List.{List, [], _∷_, append-assoc}
-use mathlib.Core.Option.{Option, none, some}
 use native.Mathlib.Omega.{arith}
 use lib.ListN.{length}
 use Rattle.ident.specs.Number.{Key}
@@ -13,15 +12,16 @@ use Rattle.outcome.specs.declared.Listing.{Listing}
 use Rattle.outcome.specs.declared.Departure.{Departure}
 use Rattle.outcome.specs.Reply.{listingOf, departureOf}
 use Rattle.outcome.specs.Outcome.{Effect, Does, Leaves}
-use Rattle.reading.specs.declared.vocabulary.NumberWord.{NumberWord}
-use Rattle.reading.specs.declared.vocabulary.KeysWord.{KeysWord}
-use Rattle.reading.specs.declared.vocabulary.HashesWord.{HashesWord}
-use Rattle.reading.specs.Calls.{Values, numberAsk, keysAsk, hashesAsk}
+use Rattle.asking.specs.declared.vocabulary.NumberWord.{NumberWord}
+use Rattle.asking.specs.declared.vocabulary.KeysWord.{KeysWord}
+use Rattle.asking.specs.declared.vocabulary.HashesWord.{HashesWord}
+use Rattle.reading.specs.Forms.{Values}
+use Rattle.asking.specs.Calls.{numberAsk, keysAsk, hashesAsk}
 use Rattle.lines.specs.Text.{decimalDigits, decimal, Wrote}
 use Rattle.lines.proofs.Numerals.{length-numeral}
 use Rattle.lines.proofs.Writing.{wrote-more}
-use Rattle.answering.specs.Replies.{refusalText, joined, listed, keyTexts, unreadable, replyText}
-use Rattle.answering.specs.Given.{answerRoom, Printed, Numbered, Carried, AnsweredAs, Answered}
+use Rattle.answering.specs.Replies.{refusalText, joined, listed, keyTexts, replyText}
+use Rattle.answering.specs.Given.{answerRoom, Printed, Numbered, Carried}
 
 -- where a number's text ends
 pub decimal-end : {s s′ : List ℕ} {a r : ℕ} (n : ℕ) → Wrote s s′ a (decimal n) r → r ≤ a + decimalDigits
@@ -95,25 +95,6 @@ listing-same u e = ap (λ (x : Listing). listingOf x u) e
 
 pub departure-same : {x y : Departure} (u : Buffer) → x ≡ y → departureOf x u ≡ departureOf y u
 departure-same u e = ap (λ (x : Departure). departureOf x u) e
-
--- ---- a line, by what it asks for
-
-module _ {o : Option Call} {b b′ out out′ : List ℕ} {r : ℕ} where
-  pub as-unread : none ≡ o → b′ ≡ b → Printed out out′ (refusalText unreadable) r → Answered o b b′ out out′ r
-  as-unread e s t = rw (← e) (record { is = record { store = s; text = t } })
-
-  pub as-call : {c : Call} → some c ≡ o → Carried c b b′ out out′ r → Answered o b b′ out out′ r
-  as-call e d = rw (← e) (record { is = d })
-
-  pub as-line : {p : Option Call} → p ≡ o → Answered p b b′ out out′ r → Answered o b b′ out out′ r
-  as-line e d = subst (λ (x : Option Call). Answered x b b′ out out′ r) e d
-
-pub room-of : {o : Option Call} {b b′ out out′ : List ℕ} {r : ℕ} → Answered o b b′ out out′ r → r < answerRoom
-room-of {o} {b} {b′} {out} {out′} {r} p = go o b b′ out out′ r (p .is)
-  where
-    go : (o : Option Call) (b b′ out out′ : List ℕ) (r : ℕ) → AnsweredAs o b b′ out out′ r → r < answerRoom
-    go none b b′ out out′ r p = p .text .room
-    go (some c) b b′ out out′ r p = p .text .room
 
 -- ---- the call of a word that is known, with its values as the code has them and as the line has them
 

@@ -1,32 +1,38 @@
 -- What the contracts of the event program's step on one line say.
 -- Assumes nothing.
-use Prim.Native.Nat.{ℕ, _<_}
+use Prim.Native.Nat.{ℕ, _+_, _*_, _<_}
 use mathlib.Core.Path.{_≡_}
 use mathlib.Core.List.{List, [], _∷_, _++_}
-use mathlib.Core.Option.{Option, none, some}
 use lib.Dec.{eqb}
 use Rattle.ident.specs.If.{if_then_else_}
 use Rattle.ident.specs.declared.Kind.{Kind}
 use Rattle.ident.specs.declared.Kind.the-variants.{Txid, Wtxid}
+use Rattle.machine.specs.State.{Candidate, Entry}
 use Rattle.machine.specs.Call.{Ask, Call, On}
 use Rattle.machine.specs.Step.{Reply}
 use Rattle.outcome.specs.Outcome.{Effect, Does}
-use Rattle.lines.specs.Text.{Wrote}
-use Rattle.answering.specs.Replies.{refusalText, unreadable, replyText}
+use Rattle.lines.specs.Text.{decimalDigits, decimal, hashDigits, boolText, keyText, itemText, Wrote}
+use Rattle.answering.specs.Replies.{replyText}
 
--- ---- answers
+-- ---- room
 
 -- the longest line that is read
 abbrev pub lineRoom : ℕ
 lineRoom = 65536
 
--- the bytes of the answer buffer: 300 keys of at most 66 bytes each with a number before them, and a line feed, fit
+-- the bytes of the answer buffer: so many keys of at most 66 bytes each with a number before them, and a line feed, fit
 abbrev pub answerRoom : ℕ
-answerRoom = 32768
+answerRoom = 1500000
 
--- "disconnected min(5,000, L) + 100 × Q", for L = 100 and Q = 2: the most that a call of this program lists
+-- "not-found its items + 100 × Q", for the 21,845 items that a line has room for and Q = 2: the most that a call of this program lists
 abbrev pub mostKeys : ℕ
-mostKeys = 300
+mostKeys = 22045
+
+-- an answer buffer of 12,000 bytes has room for so many entries
+abbrev pub mostEntries : ℕ
+mostEntries = 107
+
+-- ---- keys
 
 -- the kind that a key's word stands for
 abbrev pub kindIn : ℕ → Kind
@@ -40,6 +46,39 @@ nextText i t = if eqb i 0 then t else 44 ∷ t
 unfoldable pub behind : List (List ℕ) → List ℕ
 behind [] = []
 behind (t ∷ ts) = 44 ∷ (t ++ behind ts)
+
+-- ---- entries
+
+-- what stands behind an entry's key
+abbrev pub candidateTexts : Candidate → List (List ℕ)
+candidateTexts c = decimal (c .connection) ∷ itemText (c .item) ∷ decimal (c .ready) ∷ boolText (c .preferred) ∷ decimal (c .priority) ∷ []
+
+-- an entry's six texts, parted by commas
+abbrev pub entryText : Entry → List ℕ
+entryText a = keyText (a .key) ++ behind (candidateTexts (a .candidate))
+
+-- the most bytes of each text: `w` and a hash; `o`, a number and `:`; both; a comma and a number
+abbrev pub keyRoom : ℕ
+keyRoom = 1 + hashDigits
+
+abbrev pub kindRoom : ℕ
+kindRoom = 2 + decimalDigits
+
+abbrev pub itemRoom : ℕ
+itemRoom = kindRoom + hashDigits
+
+abbrev pub numberRoom : ℕ
+numberRoom = 1 + decimalDigits
+
+-- three numbers, an item and a bool, each behind a comma
+abbrev pub candidateRoom : ℕ
+candidateRoom = 3 * numberRoom + (1 + itemRoom) + 2
+
+-- an entry behind a comma
+abbrev pub entryRoom : ℕ
+entryRoom = 1 + keyRoom + candidateRoom
+
+-- ---- answers
 
 -- the text of an answer at the front of out, with room for a line feed behind it
 pub record Printed (out out′ : List ℕ) (text : List ℕ) (r : ℕ) : Type 0 where
@@ -56,16 +95,3 @@ pub record Carried (c : Call) (b b′ out out′ : List ℕ) (r : ℕ) : Type 0 
   pub does : Does c b effect
   pub store : b′ ≡ effect .store
   pub text : Printed out out′ (replyText c (effect .reply)) r
-
--- a line that is no call leaves the store, and says that it is unreadable
-pub record Unread (b b′ out out′ : List ℕ) (r : ℕ) : Type 0 where
-  pub store : b′ ≡ b
-  pub text : Printed out out′ (refusalText unreadable) r
-
-abbrev pub AnsweredAs : Option Call → List ℕ → List ℕ → List ℕ → List ℕ → ℕ → Type 0
-AnsweredAs none b b′ out out′ r = Unread b b′ out out′ r
-AnsweredAs (some c) b b′ out out′ r = Carried c b b′ out out′ r
-
--- the step on one line, which is the call o or none
-pub record Answered (o : Option Call) (b b′ out out′ : List ℕ) (r : ℕ) : Type 0 where
-  pub is : AnsweredAs o b b′ out out′ r

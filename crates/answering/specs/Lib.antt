@@ -1,2 +1,5 @@
 pub mod Replies
 pub mod Given
+pub mod Lists
+pub mod Kept
+pub mod Answers

@@ -1,6 +1,7 @@
 // Calls carried out, and their replies as text at the front of the answer buffer.
 ghost use Prim.Native.Nat.{_≤_};
 ghost use mathlib.Core.List.{[], _∷_};
+ghost use mathlib.Core.Option.{some};
 ghost use lib.ListN.{length};
 ghost use Rattle.machine.specs.Call.{Open, On, TransactionResponseCompleted, Sum};
 ghost use mathlib.Core.Path.{_≡_};
@@ -10,16 +11,20 @@ ghost use Rattle.requests.specs.Changes.{candidateOf};
 ghost use Rattle.outcome.specs.Outcome.{Leaves};
 ghost use Rattle.outcome.specs.Reply.{replyOf};
 ghost use Rattle.lines.specs.Text.{decimal};
-ghost use Rattle.reading.specs.Calls.{keyIn, candidateIn, numberAsk, callOf};
+ghost use Rattle.reading.specs.Line.{Asks};
+ghost use Rattle.reading.specs.Forms.{keyIn, candidateIn};
+ghost use Rattle.asking.specs.Calls.{numberAsk, lineOf};
 ghost use Rattle.answering.specs.Replies.{refusalText, joined, unreadable};
 ghost use Rattle.reading.specs.Given.{valuesOf};
-ghost use Rattle.answering.specs.Given.{lineRoom, answerRoom, Printed, Numbered, Carried, Answered};
+ghost use Rattle.answering.specs.Given.{lineRoom, answerRoom, Printed, Numbered};
+ghost use Rattle.answering.specs.Lists.{InOrder};
+ghost use Rattle.answering.specs.Answers.{Keeping, Stepped};
+use asking::calls::Asked;
+use asking::vocabulary::NumberWord;
 use lines::write::put_bytes;
 use lines::write::put_decimal;
-use reading::calls::Asked;
 use reading::forms::Values;
 use reading::hashes::hash_of;
-use reading::vocabulary::NumberWord;
 
 pub fn refusal(out: &mut [u8], n: u64) -> usize
     requires { ⌜ answerRoom ≤ length (now out) ⌝ }
@@ -48,20 +53,23 @@ fn figures(out: &mut [u8], held: u64, free: u64, permille: u64) -> usize
     put_decimal(out, from, permille)
 }
 
-fn answer_open(store: &mut [u8], out: &mut [u8], l: u64, q: u64) -> usize
-    requires { ⌜ answerRoom ≤ length (now out) ⌝ }
-    ensures { λ r. ⌜ Carried (Open l q) (now (store .entry)) (now (store .exit)) (now (out .entry)) (now (out .exit)) r ⌝ }
+fn answer_open(store: &mut [u8], lists: &mut [u8], out: &mut [u8], l: u64, q: u64) -> usize
+    requires { ⌜ InOrder (now lists) × (answerRoom ≤ length (now out)) ⌝ }
+    ensures { λ r. ⌜ Stepped (some (Asks (Open l q))) (now (lists .entry)) (now (lists .exit)) (now (store .entry)) (now (store .exit)) (now (out .entry)) (now (out .exit)) r ⌝ }
 {
     let a = public_requests::open(store, l, q);
     match a {
         outcome::Answer::Refused(n) => refusal(out, n),
-        outcome::Answer::Number(_) => put_bytes(out, 0, b"ok"),
+        outcome::Answer::Number(_) => {
+            crate::kept::empty(lists);
+            put_bytes(out, 0, b"ok")
+        }
     }
 }
 
 fn answer_sum(store: &[u8], out: &mut [u8]) -> usize
     requires { ⌜ answerRoom ≤ length (now out) ⌝ }
-    ensures { λ r. ⌜ Carried (On Sum) (now (store .entry)) (now (store .entry)) (now (out .entry)) (now (out .exit)) r ⌝ }
+    ensures { λ r. ⌜ Keeping (some (Asks (On Sum))) (now (store .entry)) (now (store .entry)) (now (out .entry)) (now (out .exit)) r ⌝ }
 {
     let a = public_requests::sum(store);
     match a {
@@ -151,24 +159,30 @@ fn carry_out(store: &mut [u8], w: NumberWord, v: Values) -> outcome::Answer
 
 fn answer_number(store: &mut [u8], out: &mut [u8], w: NumberWord, v: Values) -> usize
     requires { ⌜ answerRoom ≤ length (now out) ⌝ }
-    ensures { λ r. ⌜ Carried (On (numberAsk w (valuesOf v))) (now (store .entry)) (now (store .exit)) (now (out .entry)) (now (out .exit)) r ⌝ }
+    ensures { λ r. ⌜ Keeping (some (Asks (On (numberAsk w (valuesOf v))))) (now (store .entry)) (now (store .exit)) (now (out .entry)) (now (out .exit)) r ⌝ }
 {
     let a = carry_out(store, w, v);
     number(out, a)
 }
 
 // The step on one line.
-pub fn answer_line(store: &mut [u8], line: &[u8], out: &mut [u8]) -> usize
-    requires { ⌜ (answerRoom ≤ length (now out)) × (length (now line) ≤ lineRoom) ⌝ }
-    ensures { λ r. ⌜ Answered (callOf (now (line .entry))) (now (store .entry)) (now (store .exit)) (now (out .entry)) (now (out .exit)) r ⌝ }
+pub fn answer_line(store: &mut [u8], lists: &mut [u8], line: &[u8], out: &mut [u8]) -> usize
+    requires { ⌜ InOrder (now lists) × (answerRoom ≤ length (now out)) × (length (now line) ≤ lineRoom) ⌝ }
+    ensures { λ r. ⌜ Stepped (lineOf (now (line .entry))) (now (lists .entry)) (now (lists .exit)) (now (store .entry)) (now (store .exit)) (now (out .entry)) (now (out .exit)) r ⌝ }
 {
-    let asked = reading::calls::call_of(line);
+    let asked = asking::calls::call_of(line);
     match asked {
         Asked::Unreadable => unreadable(out),
-        Asked::Opening(l, q) => answer_open(store, out, l, q),
+        Asked::Opening(l, q) => answer_open(store, lists, out, l, q),
         Asked::Summing => answer_sum(store, out),
         Asked::Leaving(v) => crate::departures::answer_leaving(store, out, v),
         Asked::Offers(v, e) => crate::offers::answer_offers(store, line, out, v, e),
+        Asked::Planning(v) => crate::plans::answer_plan(store, lists, out, v.clock),
+        Asked::Wanting(v, e) => crate::plans::answer_want(store, lists, line, out, v, e),
+        Asked::Missing(v, e) => crate::missing::answer_missing(store, line, out, v, e),
+        Asked::Taking(v) => crate::plans::answer_take(store, lists, out, v.clock),
+        Asked::Sending(e) => crate::arranging::answer_send(store, lists, line, out, e),
+        Asked::Parting(v) => crate::arranging::answer_part(store, lists, out, v.connection),
         Asked::Number(w, v) => answer_number(store, out, w, v),
         Asked::Keys(w, v) => crate::listings::answer_keys(store, out, w, v),
         Asked::Hashes(w, v, e) => crate::hashes::answer_hashes(store, line, out, w, v, e),

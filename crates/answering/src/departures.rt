@@ -2,15 +2,18 @@
 ghost use Prim.Native.Nat.{_≤_};
 ghost use lib.ListN.{length};
 ghost use Rattle.machine.specs.Call.{On};
-ghost use Rattle.reading.specs.Calls.{leaveAsk};
+ghost use mathlib.Core.Option.{some};
+ghost use Rattle.reading.specs.Line.{Asks};
+ghost use Rattle.asking.specs.Calls.{leaveAsk};
 ghost use Rattle.reading.specs.Given.{valuesOf};
-ghost use Rattle.answering.specs.Given.{answerRoom, Carried};
+ghost use Rattle.answering.specs.Given.{answerRoom};
+ghost use Rattle.answering.specs.Answers.{Keeping};
 use crate::answers::refusal;
 use reading::forms::Values;
 
 pub fn answer_leaving(store: &mut [u8], out: &mut [u8], v: Values) -> usize
     requires { ⌜ answerRoom ≤ length (now out) ⌝ }
-    ensures { λ r. ⌜ Carried (On (leaveAsk (valuesOf v))) (now (store .entry)) (now (store .exit)) (now (out .entry)) (now (out .exit)) r ⌝ }
+    ensures { λ r. ⌜ Keeping (some (Asks (On (leaveAsk (valuesOf v))))) (now (store .entry)) (now (store .exit)) (now (out .entry)) (now (out .exit)) r ⌝ }
 {
     let mut answer = crate::parents::answer_buffer();
     let a = public_packages::departures::disconnected(store, v.connection, v.clock, &mut answer);

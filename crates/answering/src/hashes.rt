@@ -5,17 +5,19 @@ ghost use lib.ListN.{length};
 ghost use Rattle.machine.specs.Call.{On};
 ghost use Rattle.lists.specs.Lists.{hashesIn};
 ghost use Rattle.lines.specs.Fields.{rest};
-ghost use Rattle.reading.specs.Calls.{hashesAsk, listCall};
+ghost use Rattle.reading.specs.Lists.{listCall};
+ghost use Rattle.asking.specs.Calls.{hashesAsk};
 ghost use Rattle.reading.specs.Given.{valuesOf};
-ghost use Rattle.answering.specs.Given.{lineRoom, answerRoom, Carried, Answered};
+ghost use Rattle.answering.specs.Given.{lineRoom, answerRoom, Carried};
+ghost use Rattle.answering.specs.Answers.{Keeping};
 use crate::answers::number;
 use crate::answers::unreadable;
+use asking::vocabulary::HashesWord;
 use reading::forms::Values;
 use reading::hashes::Hashes;
 use reading::hashes::hash_buffer;
 use reading::hashes::hash_of;
 use reading::hashes::read_list;
-use reading::vocabulary::HashesWord;
 
 fn carry_out(store: &mut [u8], out: &mut [u8], w: HashesWord, v: Values, hashes: &[u8]) -> usize
     requires { ⌜ answerRoom ≤ length (now out) ⌝ }
@@ -71,7 +73,7 @@ pub fn answer_hashes(
     e: usize,
 ) -> usize
     requires { ⌜ (answerRoom ≤ length (now out)) × (length (now line) ≤ lineRoom) ⌝ }
-    ensures { λ r. ⌜ Answered (listCall (hashesAsk w (valuesOf v)) (rest (now (line .entry)) (e + 1))) (now (store .entry)) (now (store .exit)) (now (out .entry)) (now (out .exit)) r ⌝ }
+    ensures { λ r. ⌜ Keeping (listCall (hashesAsk w (valuesOf v)) (rest (now (line .entry)) (e + 1))) (now (store .entry)) (now (store .exit)) (now (out .entry)) (now (out .exit)) r ⌝ }
 {
     let mut hashes = hash_buffer();
     let Hashes::Are(n) = read_list(line, e, &mut hashes) else {

@@ -5,14 +5,17 @@ ghost use lib.ListN.{length};
 ghost use Rattle.machine.specs.Call.{On};
 ghost use Rattle.outcome.specs.Outcome.{LeavesWith};
 ghost use Rattle.outcome.specs.Reply.{listingOf};
-ghost use Rattle.reading.specs.Calls.{answerBuffer, keysAsk};
+ghost use mathlib.Core.Option.{some};
+ghost use Rattle.reading.specs.Line.{Asks};
+ghost use Rattle.asking.specs.Calls.{answerBuffer, keysAsk};
 ghost use Rattle.reading.specs.Given.{valuesOf};
-ghost use Rattle.answering.specs.Given.{answerRoom, Carried};
+ghost use Rattle.answering.specs.Given.{answerRoom};
+ghost use Rattle.answering.specs.Answers.{Keeping};
 use crate::answers::key_of;
 use crate::answers::refusal;
+use asking::vocabulary::KeysWord;
 use reading::forms::Values;
 use reading::hashes::hash_of;
-use reading::vocabulary::KeysWord;
 
 fn carry_out(store: &mut [u8], w: KeysWord, v: Values, answer: &mut [u8]) -> outcome::Listing
     requires { ⌜ now answer ≡ answerBuffer ⌝ }
@@ -45,7 +48,7 @@ fn carry_out(store: &mut [u8], w: KeysWord, v: Values, answer: &mut [u8]) -> out
 
 pub fn answer_keys(store: &mut [u8], out: &mut [u8], w: KeysWord, v: Values) -> usize
     requires { ⌜ answerRoom ≤ length (now out) ⌝ }
-    ensures { λ r. ⌜ Carried (On (keysAsk w (valuesOf v))) (now (store .entry)) (now (store .exit)) (now (out .entry)) (now (out .exit)) r ⌝ }
+    ensures { λ r. ⌜ Keeping (some (Asks (On (keysAsk w (valuesOf v))))) (now (store .entry)) (now (store .exit)) (now (out .entry)) (now (out .exit)) r ⌝ }
 {
     let mut answer = crate::parents::answer_buffer();
     let a = carry_out(store, w, v, &mut answer);

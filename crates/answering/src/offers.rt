@@ -2,26 +2,28 @@
 ghost use Prim.Native.Nat.{_+_, _≤_};
 ghost use lib.ListN.{length};
 ghost use Rattle.lines.specs.Fields.{rest};
-ghost use Rattle.reading.specs.Calls.{inventoryAsk, offersCall};
+ghost use Rattle.reading.specs.Lists.{offersCall};
+ghost use Rattle.asking.specs.Calls.{inventoryAsk};
 ghost use Rattle.reading.specs.Given.{valuesOf};
-ghost use Rattle.answering.specs.Given.{lineRoom, answerRoom, Answered};
+ghost use Rattle.answering.specs.Given.{lineRoom, answerRoom};
+ghost use Rattle.answering.specs.Answers.{Keeping};
 use crate::answers::number;
 use crate::answers::unreadable;
-use inventory::Offers;
+use inventory::offers::Offers;
 use reading::forms::Values;
 
 // The step on a line whose offers stand behind the comma at index e.
 pub fn answer_offers(store: &mut [u8], line: &[u8], out: &mut [u8], v: Values, e: usize) -> usize
     requires { ⌜ (answerRoom ≤ length (now out)) × (length (now line) ≤ lineRoom) ⌝ }
-    ensures { λ r. ⌜ Answered (offersCall (inventoryAsk (valuesOf v)) (rest (now (line .entry)) (e + 1))) (now (store .entry)) (now (store .exit)) (now (out .entry)) (now (out .exit)) r ⌝ }
+    ensures { λ r. ⌜ Keeping (offersCall (inventoryAsk (valuesOf v)) (rest (now (line .entry)) (e + 1))) (now (store .entry)) (now (store .exit)) (now (out .entry)) (now (out .exit)) r ⌝ }
 {
-    let mut items = inventory::item_buffer();
-    let mut priorities = inventory::priority_buffer();
-    let Offers::Are(n) = inventory::read_list(line, e, &mut items, &mut priorities) else {
+    let mut items = inventory::offers::item_buffer();
+    let mut priorities = inventory::offers::priority_buffer();
+    let Offers::Are(n) = inventory::offers::read_list(line, e, &mut items, &mut priorities) else {
         return unreadable(out);
     };
-    let k = n * inventory::ITEM;
-    let m = n * inventory::PRIORITY;
+    let k = n * inventory::items::ITEM;
+    let m = n * inventory::numbers::NUMBER;
     let a = public_plans::wrappers::announce_transactions(
         store,
         v.connection,

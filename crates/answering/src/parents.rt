@@ -4,7 +4,7 @@ ghost use Prim.Native.Nat.{_≤_};
 ghost use lib.ListN.{length};
 ghost use Rattle.machine.specs.Call.{On, AnnounceParents, FailedPackageClaims};
 ghost use Rattle.lists.specs.Lists.{hashesIn};
-ghost use Rattle.reading.specs.Calls.{answerBuffer};
+ghost use Rattle.asking.specs.Calls.{answerBuffer};
 ghost use Rattle.answering.specs.Given.{answerRoom, Carried};
 use crate::answers::refusal;
 

@@ -8,7 +8,8 @@ const STORE: usize = 22_976;
 
 fn main() {
     let mut store = [0u8; STORE];
-    let mut line = [0u8; input::LINE];
-    let mut out = [0u8; input::OUT];
-    input::run(&mut store, &mut line, &mut out);
+    let mut lists = input::list_buffer();
+    let mut line = input::line_buffer();
+    let mut out = input::out_buffer();
+    input::run(&mut store, &mut lists, &mut line, &mut out);
 }

@@ -188,7 +188,7 @@ whole-typed [] g = tt
 whole-typed (a ∷ l) g = (g .0 .typed, whole-typed l (g .1))
 
 -- how many they are
-length-from : (b : List ℕ) (i n : ℕ) → length (entriesFrom b i n) ≡ n
+pub length-from : (b : List ℕ) (i n : ℕ) → length (entriesFrom b i n) ≡ n
 unfolding entriesFrom
 length-from b i zero = refl
 length-from b i (suc n) = ap suc (length-from b (i + 1) n)

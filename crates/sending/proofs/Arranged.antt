@@ -33,14 +33,17 @@ unfolding sortByConnection
 ascend-sort [] = tt
 ascend-sort (a ∷ l) = ascend-insert 0 a (sortByConnection l) (omega arith) (ascend-sort l)
 
+-- "arranged by ascending connection"
+pub arrange-sorted : (ws : List ℕ) (l : List machine.Entry) (t : Table) → Sorted (connections (arrange ws l t))
+unfolding arrange
+arrange-sorted ws l t = ascend-sorted 0 (connections (arrange ws l t)) (ascend-sort (map (forWitness ws t) l))
+
 declared-connections : (l : List Entry) → connectionsOf l ≡ connections (map entryOf l)
 declared-connections [] = refl
 declared-connections (e ∷ l) = ap (λ (r : List ℕ). e .connection ∷ r) (declared-connections l)
 
 -- "one connection's requests are handed back as that part of the arranged list"
 pub part-of-arranged : (n : ℕ) (ws : List ℕ) (k : List machine.Entry) (t : Table) {l p : List Entry} → map entryOf l ≡ arrange ws k t → Parted n l p → map entryOf p ≡ partOf n (arrange ws k t)
-unfolding arrange
 part-of-arranged n ws k t {l} e v =
-    let sorted : Sorted (connectionsOf l) =
-    subst Sorted (ap connections (sym e) ∙ sym (declared-connections l)) (ascend-sorted 0 (connections (arrange ws k t)) (ascend-sort (map (forWitness ws t) k))) in
+    let sorted : Sorted (connectionsOf l) = subst Sorted (ap connections (sym e) ∙ sym (declared-connections l)) (arrange-sorted ws k t) in
     v .arranged sorted ∙ ap (partOf n) e

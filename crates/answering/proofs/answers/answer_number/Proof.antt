@@ -2,6 +2,9 @@
 -- Assumes nothing.
 use mathlib.Core.Path.{refl}
 use Rattle.answering.proofs.Printing.{carried}
+use Rattle.answering.proofs.Unplanned.{number-unplanned}
+use Rattle.answering.proofs.Stepping.{keeps-call}
+use Rattle.reading.specs.Given.{valuesOf}
 use borrow.Author.Needs.{needs}
 use Rattle.answering.proofs.answers.answer_number.Statement.{statement}
 use Rattle.answering.proofs.answers.answer_number.Tie as tie
@@ -19,7 +22,7 @@ same-length-2 : tie.Need-same-length-2
 same-length-2 c = search needs
 
 returns : tie.Need-returns
-returns c = carried _ (c .before .before .before .before .before .before .carry-out .ensures) refl (c .before .before .number .ensures .text _)
+returns c = keeps-call refl (number-unplanned (c .before .before .before .before .before .before .before .before .before .before .args .w) (valuesOf (c .before .before .before .before .before .before .before .before .before .before .args .v))) (carried _ (c .before .before .before .before .before .before .carry-out .ensures) refl (c .before .before .number .ensures .text _))
 
 pub answer-number-spec : {M : Type 1} → statement M
 answer-number-spec =

@@ -3,6 +3,8 @@
 use mathlib.Core.Path.{refl, ap}
 use Rattle.outcome.specs.Reply.{figuresOf}
 use Rattle.answering.proofs.Printing.{carried, reply-refused, reply-figures}
+use Rattle.answering.proofs.Unplanned.{sum-unplanned}
+use Rattle.answering.proofs.Stepping.{keeps-call}
 use borrow.Author.Needs.{needs}
 use Rattle.answering.proofs.answers.answer_sum.Statement.{statement}
 use Rattle.answering.proofs.answers.answer_sum.Tie as tie
@@ -26,13 +28,13 @@ same-length : tie.Need-same-length
 same-length c = search needs
 
 returns : tie.Need-returns
-returns c = carried _ (c .before .before .before .before .before .before .before .sum .ensures) refl (reply-refused _ (ap figuresOf (c .before .before .before .before .before .a .given .1)) (c .before .before .refusal .ensures))
+returns c = keeps-call refl sum-unplanned (carried _ (c .before .before .before .before .before .before .before .sum .ensures) refl (reply-refused _ (ap figuresOf (c .before .before .before .before .before .a .given .1)) (c .before .before .refusal .ensures)))
 
 same-length-2 : tie.Need-same-length-2
 same-length-2 c = search needs
 
 returns-2 : tie.Need-returns-2
-returns-2 c = carried _ (c .before .before .before .before .before .before .before .sum .ensures) refl (reply-figures (ap figuresOf (c .before .before .before .before .before .a2 .given .1)) (c .before .before .figures .ensures))
+returns-2 c = keeps-call refl sum-unplanned (carried _ (c .before .before .before .before .before .before .before .sum .ensures) refl (reply-figures (ap figuresOf (c .before .before .before .before .before .a2 .given .1)) (c .before .before .figures .ensures)))
 
 pub answer-sum-spec : {M : Type 1} → statement M
 answer-sum-spec =

@@ -6,6 +6,9 @@ use Rattle.machine.specs.Call.{Buffer, Disconnected}
 use Rattle.answering.proofs.Printing.{carried, reply-refused, does-is, departure-same}
 use Rattle.answering.proofs.Fitting.{departure-fits}
 use Rattle.answering.proofs.Behind.{reply-departure}
+use Rattle.answering.proofs.Unplanned.{leaving-unplanned}
+use Rattle.answering.proofs.Stepping.{keeps-call}
+use Rattle.reading.specs.Given.{valuesOf}
 use borrow.Author.Needs.{needs}
 use Rattle.answering.proofs.departures.answer_leaving.Statement.{statement}
 use Rattle.answering.proofs.departures.answer_leaving.Tie as tie
@@ -44,7 +47,7 @@ same-length-2 : tie.Need-same-length-2
 same-length-2 c = search needs
 
 returns : tie.Need-returns
-returns c = carried _ (does-is (ap (λ (u : Buffer). Disconnected (c .before .before .before .before .before .before .before .before .before .before .before .before .before .before .before .before .args .v .connection) (c .before .before .before .before .before .before .before .before .before .before .before .before .before .before .before .before .args .v .clock) u) (c .before .before .before .before .before .before .before .before .before .before .before .before .before .answer-buffer .ensures)) (c .before .before .before .before .before .before .before .before .before .before .disconnected .ensures)) refl (reply-refused _ (departure-same _ (c .before .before .before .before .before .a .given .1)) (c .before .before .refusal .ensures))
+returns c = keeps-call refl (leaving-unplanned (valuesOf (c .before .before .before .before .before .before .before .before .before .before .before .before .before .before .before .before .args .v))) (carried _ (does-is (ap (λ (u : Buffer). Disconnected (c .before .before .before .before .before .before .before .before .before .before .before .before .before .before .before .before .args .v .connection) (c .before .before .before .before .before .before .before .before .before .before .before .before .before .before .before .before .args .v .clock) u) (c .before .before .before .before .before .before .before .before .before .before .before .before .before .answer-buffer .ensures)) (c .before .before .before .before .before .before .before .before .before .before .disconnected .ensures)) refl (reply-refused _ (departure-same _ (c .before .before .before .before .before .a .given .1)) (c .before .before .refusal .ensures)))
 
 same-length-3 : tie.Need-same-length-3
 same-length-3 c = search needs
@@ -53,7 +56,7 @@ same-length-4 : tie.Need-same-length-4
 same-length-4 c = search needs
 
 returns-2 : tie.Need-returns-2
-returns-2 c = carried _ (does-is (ap (λ (u : Buffer). Disconnected (c .before .before .before .before .before .before .before .before .before .before .before .before .before .before .before .before .before .args .v .connection) (c .before .before .before .before .before .before .before .before .before .before .before .before .before .before .before .before .before .args .v .clock) u) (c .before .before .before .before .before .before .before .before .before .before .before .before .before .before .answer-buffer .ensures)) (c .before .before .before .before .before .before .before .before .before .before .before .disconnected .ensures)) refl (reply-departure _ _ _ _ (departure-same _ (c .before .before .before .before .before .before .a2 .given .1)) (c .before .before .put-departure .ensures))
+returns-2 c = keeps-call refl (leaving-unplanned (valuesOf (c .before .before .before .before .before .before .before .before .before .before .before .before .before .before .before .before .before .args .v))) (carried _ (does-is (ap (λ (u : Buffer). Disconnected (c .before .before .before .before .before .before .before .before .before .before .before .before .before .before .before .before .before .args .v .connection) (c .before .before .before .before .before .before .before .before .before .before .before .before .before .before .before .before .before .args .v .clock) u) (c .before .before .before .before .before .before .before .before .before .before .before .before .before .before .answer-buffer .ensures)) (c .before .before .before .before .before .before .before .before .before .before .before .disconnected .ensures)) refl (reply-departure _ _ _ _ (departure-same _ (c .before .before .before .before .before .before .a2 .given .1)) (c .before .before .put-departure .ensures)))
 
 pub answer-leaving-spec : {M : Type 1} → statement M
 answer-leaving-spec =

@@ -3,9 +3,10 @@
 use mathlib.Core.Path.{refl, sym}
 use native.Mathlib.Omega.{arith}
 use lib.ListN.{length-take}
-use Rattle.reading.specs.Calls.{hashesAsk}
+use Rattle.asking.specs.Calls.{hashesAsk}
 use Rattle.reading.specs.Given.{valuesOf}
-use Rattle.answering.proofs.Printing.{as-unread, as-call}
+use Rattle.answering.proofs.Unplanned.{hashes-unplanned}
+use Rattle.answering.proofs.Stepping.{keeps-unread, keeps-call}
 use Rattle.answering.proofs.Batch.{no-hashes, hashes-held}
 use borrow.Author.Needs.{needs}
 use Rattle.answering.proofs.hashes.answer_hashes.Statement.{statement}
@@ -33,7 +34,7 @@ same-length : tie.Need-same-length
 same-length c = search needs
 
 returns : tie.Need-returns
-returns c = as-unread (no-hashes (c .before .before .before .before .before .before .before .read-list .ensures) (c .before .before .before .before .enum-told .given .1) (hashesAsk (c .before .before .before .before .before .before .before .before .before .before .before .before .before .args .w) (valuesOf (c .before .before .before .before .before .before .before .before .before .before .before .before .before .args .v)))) refl (c .before .before .unreadable .ensures)
+returns c = keeps-unread (no-hashes (c .before .before .before .before .before .before .before .read-list .ensures) (c .before .before .before .before .enum-told .given .1) (hashesAsk (c .before .before .before .before .before .before .before .before .before .before .before .before .before .args .w) (valuesOf (c .before .before .before .before .before .before .before .before .before .before .before .before .before .args .v)))) refl (c .before .before .unreadable .ensures)
 
 array-share-prefix-hashes : tie.Need-array-share-prefix-hashes
 array-share-prefix-hashes c = let h = hashes-held (c .before .before .before .before .before .before .read-list .ensures) (c .before .before .before .n .given .1) in omega (arith, h .inside)
@@ -53,7 +54,7 @@ same-length-3 c = search needs
 returns-2 : tie.Need-returns-2
 returns-2 c =
     let h = hashes-held (c .before .before .before .before .before .before .before .before .before .before .before .before .read-list .ensures) (c .before .before .before .before .before .before .before .before .before .n .given .1) in
-    as-call (sym (h .is (hashesAsk (c .before .before .before .before .before .before .before .before .before .before .before .before .before .before .before .before .before .before .args .w) (valuesOf (c .before .before .before .before .before .before .before .before .before .before .before .before .before .before .before .before .before .before .args .v))))) (c .before .before .before .before .carry-out .ensures)
+    keeps-call (sym (h .is (hashesAsk (c .before .before .before .before .before .before .before .before .before .before .before .before .before .before .before .before .before .before .args .w) (valuesOf (c .before .before .before .before .before .before .before .before .before .before .before .before .before .before .before .before .before .before .args .v))))) (hashes-unplanned (c .before .before .before .before .before .before .before .before .before .before .before .before .before .before .before .before .before .before .args .w) (valuesOf (c .before .before .before .before .before .before .before .before .before .before .before .before .before .before .before .before .before .before .args .v)) _) (c .before .before .before .before .carry-out .ensures)
 
 pub answer-hashes-spec : {M : Type 1} → statement M
 answer-hashes-spec =

@@ -4,6 +4,9 @@ use mathlib.Core.Path.{refl}
 use native.Mathlib.Omega.{arith}
 use Rattle.answering.proofs.Printing.{carried, reply-refused, reply-keys, listing-same}
 use Rattle.answering.proofs.Fitting.{keys-fit}
+use Rattle.answering.proofs.Unplanned.{keys-unplanned}
+use Rattle.answering.proofs.Stepping.{keeps-call}
+use Rattle.reading.specs.Given.{valuesOf}
 use borrow.Author.Needs.{needs}
 use Rattle.answering.proofs.listings.answer_keys.Statement.{statement}
 use Rattle.answering.proofs.listings.answer_keys.Tie as tie
@@ -39,7 +42,7 @@ same-length-2 : tie.Need-same-length-2
 same-length-2 c = search needs
 
 returns : tie.Need-returns
-returns c = carried _ (c .before .before .before .before .before .before .before .before .before .before .carry-out .ensures) refl (reply-refused _ (listing-same _ (c .before .before .before .before .before .a .given .1)) (c .before .before .refusal .ensures))
+returns c = keeps-call refl (keys-unplanned (c .before .before .before .before .before .before .before .before .before .before .before .before .before .before .before .before .args .w) (valuesOf (c .before .before .before .before .before .before .before .before .before .before .before .before .before .before .before .before .args .v))) (carried _ (c .before .before .before .before .before .before .before .before .before .before .carry-out .ensures) refl (reply-refused _ (listing-same _ (c .before .before .before .before .before .a .given .1)) (c .before .before .refusal .ensures)))
 
 same-length-3 : tie.Need-same-length-3
 same-length-3 c = search needs
@@ -48,7 +51,7 @@ same-length-4 : tie.Need-same-length-4
 same-length-4 c = search needs
 
 returns-2 : tie.Need-returns-2
-returns-2 c = carried _ (c .before .before .before .before .before .before .before .before .before .before .before .carry-out .ensures) refl (reply-keys _ _ (listing-same _ (c .before .before .before .before .before .before .a2 .given .1)) (c .before .before .put-keys .ensures))
+returns-2 c = keeps-call refl (keys-unplanned (c .before .before .before .before .before .before .before .before .before .before .before .before .before .before .before .before .before .args .w) (valuesOf (c .before .before .before .before .before .before .before .before .before .before .before .before .before .before .before .before .before .args .v))) (carried _ (c .before .before .before .before .before .before .before .before .before .before .before .carry-out .ensures) refl (reply-keys _ _ (listing-same _ (c .before .before .before .before .before .before .a2 .given .1)) (c .before .before .put-keys .ensures)))
 
 pub answer-keys-spec : {M : Type 1} → statement M
 answer-keys-spec =

@@ -4,7 +4,7 @@ use mathlib.Core.Path.{ap, _∙_}
 use Prim.Native.Nat.{ℕ}
 use Rattle.ident.specs.Number.{Key}
 use Rattle.machine.specs.Call.{Buffer, Sweep, FailedWithParents, ReleasePackage}
-use Rattle.reading.specs.Calls.{keyIn}
+use Rattle.reading.specs.Forms.{keyIn}
 use Rattle.reading.specs.Given.{valuesOf}
 use Rattle.answering.proofs.Printing.{listing-did}
 use borrow.Author.Needs.{needs}

@@ -3,9 +3,11 @@
 use mathlib.Core.Path.{refl, sym}
 use native.Mathlib.Omega.{arith}
 use lib.ListN.{length-take}
-use Rattle.reading.specs.Calls.{inventoryAsk}
+use Rattle.asking.specs.Calls.{inventoryAsk}
 use Rattle.reading.specs.Given.{valuesOf}
-use Rattle.answering.proofs.Printing.{carried, as-unread, as-call}
+use Rattle.answering.proofs.Printing.{carried}
+use Rattle.answering.proofs.Unplanned.{offers-unplanned}
+use Rattle.answering.proofs.Stepping.{keeps-unread, keeps-call}
 use Rattle.answering.proofs.Batch.{no-offers, offers-held}
 use borrow.Author.Needs.{needs}
 use Rattle.answering.proofs.offers.answer_offers.Statement.{statement}
@@ -39,7 +41,7 @@ same-length : tie.Need-same-length
 same-length c = search needs
 
 returns : tie.Need-returns
-returns c = as-unread (no-offers (c .before .before .before .before .before .before .before .before .read-list .ensures) (c .before .before .before .before .enum-told .given .1) (inventoryAsk (valuesOf (c .before .before .before .before .before .before .before .before .before .before .before .before .before .before .before .before .args .v)))) refl (c .before .before .unreadable .ensures)
+returns c = keeps-unread (no-offers (c .before .before .before .before .before .before .before .before .read-list .ensures) (c .before .before .before .before .enum-told .given .1) (inventoryAsk (valuesOf (c .before .before .before .before .before .before .before .before .before .before .before .before .before .before .before .before .args .v)))) refl (c .before .before .unreadable .ensures)
 
 mul-k : tie.Need-mul-k
 mul-k c = let h = offers-held (c .before .before .before .before .before .read-list .ensures) (c .before .n .given .1) in omega (arith, h .few)
@@ -74,7 +76,7 @@ same-length-3 c = search needs
 returns-2 : tie.Need-returns-2
 returns-2 c =
     let h = offers-held (c .before .before .before .before .before .before .before .before .before .before .before .before .before .before .before .read-list .ensures) (c .before .before .before .before .before .before .before .before .before .before .before .n .given .1) in
-    as-call (sym (h .is (inventoryAsk (valuesOf (c .before .before .before .before .before .before .before .before .before .before .before .before .before .before .before .before .before .before .before .before .before .before .before .args .v))))) (carried _ (c .before .before .before .before .before .before .announce-transactions .ensures) refl (c .before .before .number .ensures .text _))
+    keeps-call (sym (h .is (inventoryAsk (valuesOf (c .before .before .before .before .before .before .before .before .before .before .before .before .before .before .before .before .before .before .before .before .before .before .before .args .v))))) (offers-unplanned (valuesOf (c .before .before .before .before .before .before .before .before .before .before .before .before .before .before .before .before .before .before .before .before .before .before .before .args .v)) _) (carried _ (c .before .before .before .before .before .before .announce-transactions .ensures) refl (c .before .before .number .ensures .text _))
 
 pub answer-offers-spec : {M : Type 1} → statement M
 answer-offers-spec =

@@ -1,7 +1,7 @@
 -- `answering::parents::answer_buffer` meets its contract.
 -- Assumes nothing.
 use mathlib.Core.Path.{refl}
-use Rattle.reading.specs.Calls.{answerBuffer}
+use Rattle.asking.specs.Calls.{answerBuffer}
 use Rattle.answering.proofs.parents.answer_buffer.Statement.{statement}
 use Rattle.answering.proofs.parents.answer_buffer.Tie as tie
 

@@ -2,26 +2,26 @@
 -- Assumes nothing.
 use native.Mathlib.Omega.{arith}
 use lib.ListN.{length-set, length-take}
-use Rattle.answering.proofs.Printing.{room-of}
+use Rattle.answering.proofs.Stepping.{room-of}
 use Rattle.events.proofs.Bytewise.{fed}
 use borrow.Author.Needs.{needs}
 use Rattle.events.proofs.input.answer.Statement.{statement}
 use Rattle.events.proofs.input.answer.Tie as tie
 
 print-requires : tie.Need-print-requires
-print-requires c κs = search needs
+print-requires c κs = (c .before .before .before .before .before .before .before .pre .0, c .before .before .before .before .before .before .before .pre .1, c .before .before .before .before .before .before .before .pre .2)
 
 slice-write-out : tie.Need-slice-write-out
-slice-write-out c = omega (arith, room-of (c .before .before .before .before .print .ensures))
+slice-write-out c = omega (arith, c .before .before .before .before .before .before .before .before .before .before .before .before .before .before .pre .1, room-of (c .before .before .before .before .before .before .print .ensures .answered), c .before .before .before .before .before .before .print .kept)
 
 add-end : tie.Need-add-end
-add-end c = omega (arith, room-of (c .before .before .before .before .print .ensures))
+add-end c = omega (arith, c .before .before .before .before .before .before .before .before .before .before .before .before .before .before .pre .1, room-of (c .before .before .before .before .before .before .print .ensures .answered))
 
 slice-reshare-prefix-write-all : tie.Need-slice-reshare-prefix-write-all
-slice-reshare-prefix-write-all c = simp length-set (omega (arith, room-of (c .before .before .before .before .print .ensures)))
+slice-reshare-prefix-write-all c = simp length-set (omega (arith, c .before .before .before .before .before .before .before .before .before .before .before .before .before .before .pre .1, room-of (c .before .before .before .before .before .before .print .ensures .answered), c .before .before .before .before .before .before .print .kept))
 
 slice-aggregate-write-all : tie.Need-slice-aggregate-write-all
-slice-aggregate-write-all c = simp (length-take, length-set) (omega (arith, room-of (c .before .before .before .before .before .print .ensures)))
+slice-aggregate-write-all c = simp (length-take, length-set) (omega (arith, c .before .before .before .before .before .before .before .before .before .before .before .before .before .before .before .pre .1, room-of (c .before .before .before .before .before .before .before .print .ensures .answered), c .before .before .before .before .before .before .before .print .kept))
 
 write-all-requires : tie.Need-write-all-requires
 write-all-requires c κs = search needs
@@ -32,8 +32,11 @@ same-length c = search needs
 same-length-2 : tie.Need-same-length-2
 same-length-2 c = search needs
 
+same-length-3 : tie.Need-same-length-3
+same-length-3 c = search needs
+
 returns : tie.Need-returns
-returns c = fed (c .before .before .before .before .before .before .print .ensures) (omega (arith, room-of (c .before .before .before .before .before .before .print .ensures))) (omega arith)
+returns c = fed (c .before .before .before .before .before .before .before .before .print .ensures) (omega (arith, c .before .before .before .before .before .before .before .before .before .before .before .before .before .before .before .before .pre .1, room-of (c .before .before .before .before .before .before .before .before .print .ensures .answered), c .before .before .before .before .before .before .before .before .print .kept)) (omega arith)
 
 pub answer-spec : {M : Type 1} → statement M
 answer-spec =
@@ -47,4 +50,5 @@ answer-spec =
     write-all-requires
     same-length
     same-length-2
+    same-length-3
     returns)

@@ -2,16 +2,16 @@
 -- Assumes nothing.
 use native.Mathlib.Omega.{arith}
 use lib.ListN.{length-take}
-use Rattle.events.proofs.Bytewise.{ended-line, ended-empty}
+use Rattle.events.proofs.Bytewise.{order-of, ended-line, ended-empty}
 use borrow.Author.Needs.{needs}
 use Rattle.events.proofs.input.end.Statement.{statement}
 use Rattle.events.proofs.input.end.Tie as tie
 
 slice-aggregate-answer : tie.Need-slice-aggregate-answer
-slice-aggregate-answer c = simp length-take (omega arith)
+slice-aggregate-answer c = simp length-take (omega (arith, c .before .before .before .before .before .before .before .before .pre .1, c .before .before .before .before .before .before .before .before .pre .3))
 
 answer-requires : tie.Need-answer-requires
-answer-requires c κs = (omega arith, simp length-take (omega arith))
+answer-requires c κs = (order-of (c .before .before .before .before .before .before .before .before .before .args .lists .now) (c .before .before .before .before .before .before .before .before .before .pre .0), c .before .before .before .before .before .before .before .before .before .pre .2, simp length-take (omega (arith, c .before .before .before .before .before .before .before .before .before .pre .3)))
 
 same-length : tie.Need-same-length
 same-length c = search needs
@@ -19,8 +19,11 @@ same-length c = search needs
 same-length-2 : tie.Need-same-length-2
 same-length-2 c = search needs
 
+same-length-3 : tie.Need-same-length-3
+same-length-3 c = search needs
+
 returns : tie.Need-returns
-returns c p g = ended-line g (c .before .before .before .before .before .before .before .before .if1 .taken) (c .before .before .before .before .answer .ensures)
+returns c p g = ended-line g (c .before .before .before .before .before .before .before .before .before .before .before .if1 .taken) (c .before .before .before .before .before .before .answer .ensures)
 
 returns-2 : tie.Need-returns-2
 returns-2 c p g = ended-empty g (omega (arith, c .if1 .left))
@@ -28,4 +31,11 @@ returns-2 c p g = ended-empty g (omega (arith, c .if1 .left))
 pub end-spec : {M : Type 1} → statement M
 end-spec =
     tie.close
-    (tie.spec slice-aggregate-answer answer-requires same-length same-length-2 returns returns-2)
+    (tie.spec
+    slice-aggregate-answer
+    answer-requires
+    same-length
+    same-length-2
+    same-length-3
+    returns
+    returns-2)
