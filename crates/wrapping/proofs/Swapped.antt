@@ -123,10 +123,17 @@ module _ {b b₁ w v : List ℕ} {m : ℕ} {a : Terms} {os : List Offer} {i j d 
 
 -- ---- some, and the others behind them
 
-module _ {b b₁ : List ℕ} {a : Terms} {os : List Offer} {i j : ℕ} (x : Went b b₁ a os i j) where
-  pub went-some : i < j → Announced b b₁ a os i j
-  went-some l = record { more = l; inside = x .inside; table = x .table }
+-- none
+pub went-none : {b : List ℕ} (a : Terms) (os : List Offer) (i : ℕ) → i ≤ length os → Went b b a os i i
+went-none {b} a os i l = record {
+  from = omega arith;
+  inside = l;
+  table = λ st s g.
+      let e = ap (λ (l : List Offer). announced a l (limitsOf st) (st .table)) (between-none i os) ∙ offers-none (limitsOf st) (a .connection) (a .clock) (a .preferred) (a .source) (a .late) (st .table) in
+      subst (λ (t : Table). Writes b (onTable t st)) (sym e) g;
+}
 
+module _ {b b₁ : List ℕ} {a : Terms} {os : List Offer} {i j : ℕ} (x : Went b b₁ a os i j) where
   module _ (peer : Peer (a .connection)) (late : a .clock + requestLifetime < word) (typed : Each OfferTyped os) where
     pub went-kept : Kept b → Kept b₁
     went-kept k = part-kept a os i j (x .table) peer late typed k

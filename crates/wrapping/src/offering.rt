@@ -293,6 +293,9 @@ fn announce_for_victims(
     let mut top = list();
     announcing::foremost::clear(&mut top);
     let m = announcing::foremost::list_victims(s, &mut top, at_most(count - first));
+    if m == 0 {
+        return first;
+    }
     let mut new = region();
     gathering::region::clear(&mut new);
     let p = swap(s, &mut new, &top, m, a, items, priorities, first);

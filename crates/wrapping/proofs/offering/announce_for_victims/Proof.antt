@@ -1,6 +1,7 @@
 -- `wrapping::offering::announce_for_victims` meets its contract. Assumes nothing.
 use native.Mathlib.Omega.{arith}
-use Rattle.wrapping.proofs.Swapped.{swaps-gathers, swaps-in}
+use Rattle.lists.specs.Items.{offersIn}
+use Rattle.wrapping.proofs.Swapped.{swaps-gathers, swaps-in, went-none}
 use borrow.Author.Needs.{needs}
 use Rattle.wrapping.proofs.offering.announce_for_victims.Statement.{statement}
 use Rattle.wrapping.proofs.offering.announce_for_victims.Tie as tie
@@ -29,6 +30,12 @@ at-most-requires c κs = search needs
 list-victims-requires : tie.Need-list-victims-requires
 list-victims-requires c κs = search needs
 
+same-length : tie.Need-same-length
+same-length c = search needs
+
+returns : tie.Need-returns
+returns c = went-none (c .before .before .before .before .before .before .before .before .before .before .before .before .before .before .args .a) (offersIn (c .before .before .before .before .before .before .before .before .before .before .before .before .before .before .args .items .now) (c .before .before .before .before .before .before .before .before .before .before .before .before .before .before .args .priorities .now)) (c .before .before .before .before .before .before .before .before .before .before .before .before .before .before .args .first) (omega (arith, c .before .before .before .before .before .before .before .before .before .before .before .before .before .before .pre .3))
+
 region-requires : tie.Need-region-requires
 region-requires c κs = search needs
 
@@ -46,28 +53,28 @@ slice-aggregate-swap-2 c = search needs
 
 swap-requires : tie.Need-swap-requires
 swap-requires c κs = (
-  c .before .before .before .before .before .before .before .before .before .before .before .before .before .before .before .before .before .before .before .before .pre .0,
-  c .before .before .before .before .before .before .before .before .before .before .before .before .before .before .before .before .before .before .before .before .pre .1,
-  c .before .before .before .before .before .before .before .before .list-victims .ensures .1,
-  omega (arith, c .before .before .before .before .before .before .before .before .list-victims .ensures .0, c .before .before .before .before .before .before .before .before .before .at-most .ensures .1),
-  omega (arith, c .before .before .before .before .before .before .before .before .list-victims .kept .1 .0, c .before .before .before .before .before .before .before .before .before .before .before .before .before .clear .kept .0),
+  c .before .before .before .before .before .before .before .before .before .before .before .before .before .before .before .before .before .before .before .before .before .pre .0,
+  c .before .before .before .before .before .before .before .before .before .before .before .before .before .before .before .before .before .before .before .before .before .pre .1,
+  c .before .before .before .before .before .before .before .before .before .list-victims .ensures .1,
+  omega (arith, c .before .before .before .before .before .before .before .before .before .list-victims .ensures .0, c .before .before .before .before .before .before .before .before .before .before .at-most .ensures .1),
+  omega (arith, c .before .before .before .before .before .before .before .before .before .list-victims .kept .1 .0, c .before .before .before .before .before .before .before .before .before .before .before .before .before .before .clear .kept .0),
   omega (arith, c .before .before .before .before .clear2 .kept .0),
   c .before .before .before .before .clear2 .ensures,
-  c .before .before .before .before .before .before .before .before .before .before .before .before .before .before .before .before .before .before .before .before .pre .2,
-  omega (arith, c .before .before .before .before .before .before .before .before .before .before .before .before .before .before .before .before .before .before .before .before .pre .3),
+  c .before .before .before .before .before .before .before .before .before .before .before .before .before .before .before .before .before .before .before .before .before .pre .2,
+  omega (arith, c .before .before .before .before .before .before .before .before .before .before .before .before .before .before .before .before .before .before .before .before .before .pre .3),
 )
 
 slice-aggregate-come-in : tie.Need-slice-aggregate-come-in
 slice-aggregate-come-in c = search needs
 
 come-in-requires : tie.Need-come-in-requires
-come-in-requires c κs = (swaps-gathers (c .before .before .before .before .before .swap .ensures) (c .before .before .before .before .before .before .before .before .before .before .before .before .before .before .before .before .before .before .before .before .before .before .before .before .before .before .pre .0), omega (arith, c .before .before .before .before .before .swap .ensures .few, c .before .before .before .before .before .swap .kept .1 .0, c .before .before .before .before .before .before .before .before .before .before .clear2 .kept .0))
+come-in-requires c κs = (swaps-gathers (c .before .before .before .before .before .swap .ensures) (c .before .before .before .before .before .before .before .before .before .before .before .before .before .before .before .before .before .before .before .before .before .before .before .before .before .before .before .pre .0), omega (arith, c .before .before .before .before .before .swap .ensures .few, c .before .before .before .before .before .swap .kept .1 .0, c .before .before .before .before .before .before .before .before .before .before .clear2 .kept .0))
 
-same-length : tie.Need-same-length
-same-length c = search needs
+same-length-2 : tie.Need-same-length-2
+same-length-2 c = search needs
 
-returns : tie.Need-returns
-returns c = swaps-in (c .before .before .before .before .before .before .before .before .swap .ensures) (c .before .before .come-in .ensures)
+returns-2 : tie.Need-returns-2
+returns-2 c = swaps-in (c .before .before .before .before .before .before .before .before .swap .ensures) (c .before .before .come-in .ensures)
 
 pub announce-for-victims-spec : {M : Type 1} → statement M
 announce-for-victims-spec =
@@ -81,6 +88,8 @@ announce-for-victims-spec =
     sub-at-most
     at-most-requires
     list-victims-requires
+    same-length
+    returns
     region-requires
     slice-aggregate-clear-2
     clear-requires-2
@@ -89,5 +98,5 @@ announce-for-victims-spec =
     swap-requires
     slice-aggregate-come-in
     come-in-requires
-    same-length
-    returns)
+    same-length-2
+    returns-2)
