@@ -48,7 +48,8 @@ not-owner n (some w) cs h f =
 
 module _ (st : State) (s : Sound st) (k : Key) (small : k .hash < top) (n : ℕ) where
   pub fresh : isCandidate n (k .hash) (st .table) ≡ false → ownerIs n ((at k (st .table)) .owner) ≡ false
-  fresh e = not-owner n ((at k (st .table)) .owner) ((at k (st .table)) .candidates) (hasnt n (k .hash) small (st .table) (s .bounded .ordered) e (k .kind)) ((lawful-at k (st .table) (s .bounded .lawful)) .owner)
+  fresh e = not-owner n ((at k (st .table)) .owner) ((at k (st .table)) .candidates) (hasnt n (k .hash) small (st .table) (s .bounded .ordered) e (k .kind))
+      ((lawful-at k (st .table) (s .bounded .lawful)) .owner)
 
 -- ---- once the victim has gone
 
@@ -69,15 +70,18 @@ module _ (st : State) (s : Sound st) (r : Row) (g : Goes r (st .table)) where
   }
 
   pub cleared-fresh : (n h : ℕ) → isCandidate n h (st .table) ≡ false → isCandidate n h (cleared .table) ≡ false
-  cleared-fresh n h e = le-ltb 0 (count (byUnder n h) (cleared .table)) (omega (arith, count-cut (byUnder n h) (keyAt r) (r .conn) (st .table) (g .small) (s .bounded .ordered) (g .held), ltb-false 0 (count (byUnder n h) (st .table)) e))
+  cleared-fresh n h e = le-ltb 0 (count (byUnder n h) (cleared .table))
+      (omega (arith, count-cut (byUnder n h) (keyAt r) (r .conn) (st .table) (g .small) (s .bounded .ordered) (g .held), ltb-false 0 (count (byUnder n h) (st .table)) e))
 
   pub cleared-room : {b : List ℕ} → Writes b cleared → rowsIn b < limitIn b
   cleared-room w =
       let z = sizes w in
       omega (arith, z .rows, z .limit, held-rows (cleared .table), count-cut any (keyAt r) (r .conn) (st .table) (g .small) (s .bounded .ordered) (g .held), s .bounded .fits)
 
-  pub cut-writes : {b b′ : List ℕ} {k : Key} → k ≡ keyAt r → Makes b b′ (λ t. (has (r .conn) ((at k t) .candidates) ≡ true) × (ownerIs (r .conn) ((at k t) .owner) ≡ false)) (cut k (r .conn)) → Writes b st → Writes b′ cleared
-  cut-writes {b} {b′} {k} e h w = subst (λ (j : Key). Makes b b′ (λ t. (has (r .conn) ((at j t) .candidates) ≡ true) × (ownerIs (r .conn) ((at j t) .owner) ≡ false)) (cut j (r .conn))) e h st s w (g .held, g .free)
+  pub cut-writes : {b b′ : List ℕ} {k : Key} → k ≡ keyAt r → Makes b b′ (λ t. (has (r .conn) ((at k t) .candidates) ≡ true) × (ownerIs (r .conn) ((at k t) .owner) ≡ false)) (cut k (r .conn))
+      → Writes b st → Writes b′ cleared
+  cut-writes {b} {b′} {k} e h w = subst (λ (j : Key). Makes b b′ (λ t. (has (r .conn) ((at j t) .candidates) ≡ true) × (ownerIs (r .conn) ((at j t) .owner) ≡ false)) (cut j (r .conn))) e h st s w
+      (g .held, g .free)
 
   pub cleared-kept : {b : List ℕ} → Writes b cleared → Kept b
   cleared-kept w = record { state = cleared; sound = cleared-sound; writes = w }
@@ -91,7 +95,8 @@ room-in st w h =
 -- ---- the answer
 
 module _ {b b′ : List ℕ} (k : Key) (c : Candidate) (d : Verdict) (x : (st : State) → Sound st → Writes b st → Decided (limitsOf st) k c (st .table) d) where
-  answered : {r : Bool} (g : Table → Table) → ((st : State) → Sound st → Writes b st → announceAt (limitsOf st) k c (st .table) ≡ record { reply = r; table = g (st .table) }) → ((st : State) → Sound st → Writes b st → Writes b′ (onTable (g (st .table)) st)) → Answered b b′ r (λ m t. announceAt m k c t)
+  answered : {r : Bool} (g : Table → Table) → ((st : State) → Sound st → Writes b st → announceAt (limitsOf st) k c (st .table) ≡ record { reply = r; table = g (st .table) })
+      → ((st : State) → Sound st → Writes b st → Writes b′ (onTable (g (st .table)) st)) → Answered b b′ r (λ m t. announceAt m k c t)
   answered g e h = record {
     reply = λ st s w. ap (λ (a : Answer). a .reply) (sym (e st s w));
     table = λ st s w. subst (λ (a : Answer). Writes b′ (onTable (a .table) st)) (sym (e st s w)) (h st s w);

@@ -55,7 +55,8 @@ victims-push k c (r ∷ t) p =
     by-test (λ (x : Table). victims anywhere x ≡ victims anywhere (r ∷ t)) (ltb (place k) (place (r .key)))
     (λ e. unfold keep victimsIn in rw p)
     (λ e. by-test (λ (x : Table). victims anywhere x ≡ victims anywhere (r ∷ t)) (eqb (place k) (place (r .key)))
-    (λ d. ap (victims anywhere) (keep-push (withCandidates (r .candidates ++ (c ∷ [])) r) (r .candidates) c t) ∙ ap (λ (l : List Entry). l ++ victims anywhere t) (in-push r (r .candidates ++ (c ∷ [])) c (r .candidates) p))
+    (λ d. ap (victims anywhere) (keep-push (withCandidates (r .candidates ++ (c ∷ [])) r) (r .candidates) c t) ∙
+    ap (λ (l : List Entry). l ++ victims anywhere t) (in-push r (r .candidates ++ (c ∷ [])) c (r .candidates) p))
     (λ d. ap (λ (l : List Entry). victimsIn r (r .candidates) ++ l) (victims-push k c t p)))
 
 -- ---- the first gives way
@@ -108,7 +109,8 @@ module _ (st : State) (s : Sound st) (v : Row) (vs : List Row) (f : Foremost (v 
 
   own-his : his own ≡ true
   own-his =
-      rw (key-row (at k t) (found .one), conn-row (at k t) (found .one), at-key k 0 t (first-goes .small) (s .bounded .ordered), eq-eqb (k .hash) (k .hash) refl) (eq-eqb (found .one .connection) (v .conn) (found .is))
+      rw (key-row (at k t) (found .one), conn-row (at k t) (found .one), at-key k 0 t (first-goes .small) (s .bounded .ordered), eq-eqb (k .hash) (k .hash) refl)
+      (eq-eqb (found .one .connection) (v .conn) (found .is))
 
   apart : (rs : List Row) → countRows his rs ≡ 0 → Apart (entryAt v) rs
   unfolding countRows candidateAt

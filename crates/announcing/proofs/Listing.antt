@@ -57,7 +57,8 @@ module _ {n now kept : ℕ} {hs s₀ s u₀ u : List ℕ} (p : Peer n) (late : n
 
   -- a hash that did not occur
   module _ (h : ℕ) (e : elem h hs ≡ false) {s₁ : List ℕ} {r : Bool} (a : Answered s s₁ r (λ m t. oneParent m n now h (length (dedup hs)) t)) where
-    keys-are : (st : State) → Sound st → Writes s₀ st → (announceParents (limitsOf st) n now (hs ++ (h ∷ [])) (st .table)) .keys ≡ (announceParents (limitsOf st) n now hs (st .table)) .keys ++ keyIf (limitsOf st) n now r h
+    keys-are : (st : State) → Sound st → Writes s₀ st → (announceParents (limitsOf st) n now (hs ++ (h ∷ [])) (st .table)) .keys ≡ (announceParents (limitsOf st) n now hs (st .table)) .keys ++
+        keyIf (limitsOf st) n now r h
     keys-are st g w =
         new-keys (limitsOf st) n now hs h (st .table) e
         ∙ ap (λ (b : Bool). (announceParents (limitsOf st) n now hs (st .table)) .keys ++ keyIf (limitsOf st) n now b h) (sym (a .reply (after st) (after-sound st g) (l .table st g w)))
@@ -82,7 +83,8 @@ module _ {n now kept : ℕ} {hs s₀ s u₀ u : List ℕ} (p : Peer n) (late : n
       table = table-is;
     }
       where
-        more : (st : State) → Sound st → Writes s₀ st → (announceParents (limitsOf st) n now (hs ++ (h ∷ [])) (st .table)) .keys ≡ (announceParents (limitsOf st) n now hs (st .table)) .keys ++ (txid h ∷ [])
+        more : (st : State) → Sound st → Writes s₀ st → (announceParents (limitsOf st) n now (hs ++ (h ∷ [])) (st .table)) .keys ≡ (announceParents (limitsOf st) n now hs (st .table)) .keys ++
+            (txid h ∷ [])
         more st g w = rw q at (keys-are st g w)
 
         behind : (ks : List Key) → kept ≡ length ks → u ≡ written (keysAnswer ks) u₀ → splice u (keyBytes * kept) (keyAnswer (txid h)) ≡ written (keysAnswer (ks ++ (txid h ∷ []))) u₀
@@ -110,7 +112,8 @@ hashes-take (suc i) [] a = tt
 hashes-take (suc i) (h ∷ hs) a = (a .0, hashes-take i hs (a .1))
 
 -- the same of values that two ways of the code bring together
-pub turned-as : {n now kept kept′ priority priority′ i : ℕ} {hs s₀ s s′ u₀ u u′ : List ℕ} → s′ ≡ s → u′ ≡ u → kept′ ≡ kept → priority′ ≡ priority → Turned n now hs s₀ s u₀ u kept priority i → Turned n now hs s₀ s′ u₀ u′ kept′ priority′ i
+pub turned-as : {n now kept kept′ priority priority′ i : ℕ} {hs s₀ s s′ u₀ u u′ : List ℕ} → s′ ≡ s → u′ ≡ u → kept′ ≡ kept → priority′ ≡ priority → Turned n now hs s₀ s u₀ u kept priority i
+    → Turned n now hs s₀ s′ u₀ u′ kept′ priority′ i
 turned-as a b c d v = rw (a, b, c, d) v
 
 module _ {n now kept priority i : ℕ} {hs s₀ s u₀ u : List ℕ} (v : Turned n now hs s₀ s u₀ u kept priority i) where
@@ -157,7 +160,8 @@ module _ {n now kept priority i : ℕ} {hs s₀ s u₀ u : List ℕ} (v : Turned
           listing = rw grown (listing-left p late few-first (v .listing) x e asked d);
         }
 
-        pub turned-more : {u₁ : List ℕ} → r ≡ true → keyBytes * length hs ≤ length u₀ → u₁ ≡ splice u (keyBytes * kept) (keyAnswer (txid x)) → Turned n now hs s₀ s₁ u₀ u₁ (kept + 1) (priority + 1) (i + 1)
+        pub turned-more : {u₁ : List ℕ} → r ≡ true → keyBytes * length hs ≤ length u₀ → u₁ ≡ splice u (keyBytes * kept) (keyAnswer (txid x))
+            → Turned n now hs s₀ s₁ u₀ u₁ (kept + 1) (priority + 1) (i + 1)
         turned-more d room put = record {
           inside = omega arith;
           few = omega (arith, v .few);

@@ -17,7 +17,8 @@ use Rattle.requests.specs.Changes.{Makes}
 use Rattle.announcing.specs.Answers.{Answered, oneParent}
 
 -- the parent's key, as the code has it, is k
-module _ {s s₁ : List ℕ} {r : Bool} (n now h i : ℕ) (p : Peer n) (w : now < word) (v : i < word) (small : h < top) (k : Key) (q : k ≡ txid h) (a : Answered s s₁ r (λ m t. requestParentAt m k (parentOf n now h i) t)) where
+module _ {s s₁ : List ℕ} {r : Bool} (n now h i : ℕ) (p : Peer n) (w : now < word) (v : i < word) (small : h < top) (k : Key) (q : k ≡ txid h)
+    (a : Answered s s₁ r (λ m t. requestParentAt m k (parentOf n now h i) t)) where
   asked : Answered s s₁ r (λ m t. requestParentAt m (txid h) (parentOf n now h i) t)
   asked = subst (λ (j : Key). Answered s s₁ r (λ m t. requestParentAt m j (parentOf n now h i) t)) q a
 

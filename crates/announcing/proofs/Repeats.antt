@@ -68,7 +68,8 @@ module _ (m : Limits) (n now : ℕ) where
       let t′ = (oneParent m n now g i t) .table in
       let p = parentsFrom m n now (suc i) hs t′ in
       let e : suc i + length hs ≡ i + suc (length hs) = omega arith in
-      cons-append ((oneParent m n now g i t) .reply) (txid g) _ (p .keys) _ (subst (λ (j : ℕ). (parentsFrom m n now (suc i) (hs ++ (h ∷ [])) t′) .keys ≡ p .keys ++ keyIf ((oneParent m n now h j (p .table)) .reply) h) e (from-keys (suc i) hs h t′))
+      cons-append ((oneParent m n now g i t) .reply) (txid g) _ (p .keys) _
+      (subst (λ (j : ℕ). (parentsFrom m n now (suc i) (hs ++ (h ∷ [])) t′) .keys ≡ p .keys ++ keyIf ((oneParent m n now h j (p .table)) .reply) h) e (from-keys (suc i) hs h t′))
 
   from-table : (i : ℕ) (hs : List ℕ) (h : ℕ) (t : Table)
       → (parentsFrom m n now i (hs ++ (h ∷ [])) t) .table ≡ (oneParent m n now h (i + length hs) ((parentsFrom m n now i hs t) .table)) .table
@@ -85,7 +86,8 @@ module _ (m : Limits) (n now : ℕ) where
   repeat-same hs h t e = ap (λ (l : List ℕ). parentsFrom m n now 0 l t) (dedup-met h hs e)
 
   module _ (hs : List ℕ) (h : ℕ) (t : Table) (e : elem h hs ≡ false) where
-    pub new-keys : (announceParents m n now (hs ++ (h ∷ [])) t) .keys ≡ (announceParents m n now hs t) .keys ++ keyIf ((oneParent m n now h (length (dedup hs)) ((announceParents m n now hs t) .table)) .reply) h
+    pub new-keys : (announceParents m n now (hs ++ (h ∷ [])) t) .keys ≡ (announceParents m n now hs t) .keys ++
+        keyIf ((oneParent m n now h (length (dedup hs)) ((announceParents m n now hs t) .table)) .reply) h
     unfolding announceParents
     new-keys = rw (dedup-new h hs e) (rw (zero-add (length (dedup hs))) at (from-keys 0 (dedup hs) h t))
 

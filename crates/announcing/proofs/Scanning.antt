@@ -119,7 +119,8 @@ module _ (rs : List Row) where
       rw (drop-cons rs i d m, z, s)
 
   -- a turn of the scan
-  pub over-step : (v : Option Entry) {v′ w : Option Entry} {r : Row} (d : Row) (i to : ℕ) → i < to → to ≤ length rs → v′ ≡ orRow v r → r ≡ getD rs i d → greatestOver v (part i to rs) ≡ w → greatestOver v′ (part (i + 1) to rs) ≡ w
+  pub over-step : (v : Option Entry) {v′ w : Option Entry} {r : Row} (d : Row) (i to : ℕ) → i < to → to ≤ length rs → v′ ≡ orRow v r → r ≡ getD rs i d → greatestOver v (part i to rs) ≡ w
+      → greatestOver v′ (part (i + 1) to rs) ≡ w
   over-step v d i to l h e f q = ap (λ (o : Option Entry). greatestOver o (part (i + 1) to rs)) (e ∙ ap (orRow v) f) ∙ sym (over-more v i to d l h) ∙ q
 
 -- ---- the key of a row

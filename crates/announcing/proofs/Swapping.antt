@@ -44,9 +44,12 @@ change-swap j k f g t sj sk d ff gg o a =
     table-same (change j f (change k g t)) (change k g (change j f t)) (ordered-change j f 0 (change k g t) ff (omega arith) sj ok) (ordered-change k g 0 (change j f t) gg (omega arith) sk oj)
     (filled-change j f (change k g t) (filled-change k g t a)) (filled-change k g (change j f t) (filled-change j f t a))
     (λ i s. elim (test (eqb (place i) (place j))) [
-      | inl e ↦ rw (place-inj i j s sj (eqb-true (place i) (place j) e)) (at-same j f 0 (change k g t) ff ok ∙ ap (λ (r : Request). kept j (f r) ((f r) .candidates)) (at-other j k g t gg d) ∙ sym (at-other j k g (change j f t) gg d ∙ at-same j f 0 t ff o))
+      | inl e ↦ rw (place-inj i j s sj (eqb-true (place i) (place j) e)) (at-same j f 0 (change k g t) ff ok ∙ ap (λ (r : Request). kept j (f r) ((f r) .candidates)) (at-other j k g t gg d) ∙
+          sym (at-other j k g (change j f t) gg d ∙ at-same j f 0 t ff o))
       | inr e ↦ at-other i j f (change k g t) ff (eqb-false (place i) (place j) e) ∙ elim (test (eqb (place i) (place k))) [
-        | inl q ↦ rw (place-inj i k s sk (eqb-true (place i) (place k) q)) (at-same k g 0 t gg o ∙ sym (at-same k g 0 (change j f t) gg oj ∙ ap (λ (r : Request). kept k (g r) ((g r) .candidates)) (at-other k j f t ff (λ z. d (sym z)))))
-        | inr q ↦ at-other i k g t gg (eqb-false (place i) (place k) q) ∙ sym (at-other i k g (change j f t) gg (eqb-false (place i) (place k) q) ∙ at-other i j f t ff (eqb-false (place i) (place j) e))
+        | inl q ↦ rw (place-inj i k s sk (eqb-true (place i) (place k) q))
+            (at-same k g 0 t gg o ∙ sym (at-same k g 0 (change j f t) gg oj ∙ ap (λ (r : Request). kept k (g r) ((g r) .candidates)) (at-other k j f t ff (λ z. d (sym z)))))
+        | inr q ↦ at-other i k g t gg (eqb-false (place i) (place k) q) ∙
+            sym (at-other i k g (change j f t) gg (eqb-false (place i) (place k) q) ∙ at-other i j f t ff (eqb-false (place i) (place j) e))
       ]
     ])

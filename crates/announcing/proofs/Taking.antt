@@ -71,7 +71,8 @@ module _ {M : Type 1} (𝓤 : URA M) (H : Heap 𝓤) (A : Atoms 𝓤) (mem : Mem
 
     pub goes-key-of : Given 𝓤 H A → IsOf Ca.the-row c (candidate-val c ∷ []) → ent 𝓤 (emp 𝓤) (KeyOf .pre to-key-of)
     goes-key-of W gc =
-        qed W [] ∵ nothing ! $ nothing ! $ owned ! I.the-row (IsOf I.the-row) (LL.makes I.the-type I′.the-plain 𝓤 H A) (c .item) (item-val ∷ []) (LL.owed Ca.the-type Ca′.the-laws c _ gc .1 .0) $ fjoin ! $ nothing ! $ join ! $ frame ! $ done !
+        qed W [] ∵ nothing ! $ nothing ! $ owned ! I.the-row (IsOf I.the-row) (LL.makes I.the-type I′.the-plain 𝓤 H A) (c .item) (item-val ∷ []) (LL.owed Ca.the-type Ca′.the-laws c _ gc .1 .0) $
+        fjoin ! $ nothing ! $ join ! $ frame ! $ done !
 
     pub key-of-says : (r : MaybeKey) → ent 𝓤 (ensured 𝓤 H A key-of.ended (key-of.clauses 𝓤 H A mem run) tt (c .item, tt) tt r) (fact 𝓤 (maybeKeyNum r ≡ keyOf (itemNum (c .item))))
     key-of-says r = exE 𝓤 _ (λ ws. snd∗ 𝓤 (sem 𝓤 H A (lasts key-of.ended tt (c .item, tt) ws)) (fact 𝓤 (maybeKeyNum r ≡ keyOf (itemNum (c .item)))))

@@ -144,7 +144,8 @@ module _ (h : ℕ) (small : h < top) where
         rw e (at-hash _ t (o .2) ∙ sym (ap (λ (l : List Entry). l ++ at-key (wtxid h) (r ∷ t)) a ∙ ap (λ (l : List Entry). at-key (txid h) t ++ l) b))
   ]
     where
-      here : (k : Kind) → r .key .kind ≡ k → r .key .hash ≡ h → victims (atHash h) t ≡ at-key (txid h) t ++ at-key (wtxid h) t → victimsIn r (r .candidates) ++ victims (atHash h) t ≡ at-key (txid h) (r ∷ t) ++ at-key (wtxid h) (r ∷ t)
+      here : (k : Kind) → r .key .kind ≡ k → r .key .hash ≡ h → victims (atHash h) t ≡ at-key (txid h) t ++ at-key (wtxid h) t
+          → victimsIn r (r .candidates) ++ victims (atHash h) t ≡ at-key (txid h) (r ∷ t) ++ at-key (wtxid h) (r ∷ t)
       here Txid e q i =
           let w : place (r .key) ≡ h = ap (λ (x : Kind). base x + r .key .hash) e ∙ omega arith in
           let a = key-here (txid h) r t (omega arith) in

@@ -44,7 +44,8 @@ pub none-behind : (out : List ℕ) (at : ℕ) (u : Buffer) {at′ : ℕ} → at�
 unfolding behind keyTexts keysIn recs
 none-behind out at u e = record { bytes = (wrote-none out at) .bytes; next = omega (arith, e) }
 
-pub more-behind : {out₀ out s s′ : List ℕ} {at₀ at e r : ℕ} (i : ℕ) (u : Buffer) → at + (2 + hashDigits) ≤ length out₀ → length out ≡ length out₀ → Wrote out₀ out at₀ (behind (keyTexts (keysIn i u))) at
+pub more-behind : {out₀ out s s′ : List ℕ} {at₀ at e r : ℕ} (i : ℕ) (u : Buffer) → at + (2 + hashDigits) ≤ length out₀ → length out ≡ length out₀
+    → Wrote out₀ out at₀ (behind (keyTexts (keysIn i u))) at
     → Wrote out s at (44 ∷ []) e → Wrote s s′ e (keyText (keyAt u i)) r → (r ≤ at + 66) × Wrote out₀ s′ at₀ (behind (keyTexts (keysIn (i + 1) u))) r
 more-behind i u h l p q w =
     let k = key-length (keyAt u i) in

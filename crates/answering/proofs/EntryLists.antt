@@ -51,7 +51,8 @@ hash-is : {h : Hash} {q : Quad} → Words h q → quadNumber q ≡ hashNum h
 hash-is {h} v = ap quadNumber (v .words-are) ∙ number-quad (hashNum h)
 
 module _ {s s′ : List ℕ} {a r : ℕ} where
-  pub key-of-hash : (k : Kind) {h : Hash} {q : Quad} → Words h q → Wrote s s′ a (keyText (record { kind = k; hash = quadNumber q })) r → Wrote s s′ a (keyText (record { kind = k; hash = hashNum h })) r
+  pub key-of-hash : (k : Kind) {h : Hash} {q : Quad} → Words h q → Wrote s s′ a (keyText (record { kind = k; hash = quadNumber q })) r
+      → Wrote s s′ a (keyText (record { kind = k; hash = hashNum h })) r
   key-of-hash k v w = rw (← hash-is v) w
 
   pub as-kind : {t : List ℕ} {k l : ItemKind} → k ≡ l → itemKindText l ≡ t → Wrote s s′ a t r → Wrote s s′ a (itemKindText k) r
@@ -69,7 +70,8 @@ module _ {s : List ℕ} {a : ℕ} {s₁ s₂ : List ℕ} {e r : ℕ} where
   unfolding itemText
   wrote-item k {h} m p v w = wrote-more p (rw (hash-is v) at w) (omega (arith, p .next, kind-length k, length-numeral 16 hashDigits (hashNum h)))
 
-pub wrote-other : {s s₁ s₂ s₃ : List ℕ} {a e₁ e₂ r n : ℕ} {k : ItemKind} → k ≡ Other n → a + kindRoom ≤ length s → Wrote s s₁ a (111 ∷ []) e₁ → Wrote s₁ s₂ e₁ (decimal n) e₂ → Wrote s₂ s₃ e₂ (58 ∷ []) r
+pub wrote-other : {s s₁ s₂ s₃ : List ℕ} {a e₁ e₂ r n : ℕ} {k : ItemKind} → k ≡ Other n → a + kindRoom ≤ length s → Wrote s s₁ a (111 ∷ []) e₁ → Wrote s₁ s₂ e₁ (decimal n) e₂
+    → Wrote s₂ s₃ e₂ (58 ∷ []) r
     → Wrote s s₃ a (itemKindText k) r
 wrote-other {n = n} e h p q w =
     let l = length-numeral 10 decimalDigits n in
@@ -96,7 +98,8 @@ module _ {s s′ : List ℕ} {a r : ℕ} where
 
 -- ---- one entry
 
-fields-are : (c : Candidate) → behind (candidateTexts c) ≡ (((((44 ∷ decimal (c .connection)) ++ (44 ∷ [])) ++ itemText (c .item)) ++ (44 ∷ decimal (c .ready))) ++ (44 ∷ boolText (c .preferred))) ++ (44 ∷ decimal (c .priority))
+fields-are : (c : Candidate) → behind (candidateTexts c) ≡ (((((44 ∷ decimal (c .connection)) ++ (44 ∷ [])) ++ itemText (c .item)) ++ (44 ∷ decimal (c .ready))) ++
+    (44 ∷ boolText (c .preferred))) ++ (44 ∷ decimal (c .priority))
 unfolding behind
 fields-are c = simp (append-assoc, append-nil)
 
@@ -129,7 +132,8 @@ candidate-length c =
 pub entry-length : (a : Entry) → length (entryText a) + 1 ≤ entryRoom
 entry-length a = omega (arith, length-append (keyText (a .key)) (behind (candidateTexts (a .candidate))), key-length (a .key), candidate-length (a .candidate))
 
-pub wrote-entry : {a b : Entry} {s s₁ s₂ : List ℕ} {at e r : ℕ} → a ≡ b → at + (keyRoom + candidateRoom) ≤ length s → Wrote s s₁ at (keyText (a .key)) e → Wrote s₁ s₂ e (behind (candidateTexts (a .candidate))) r → Wrote s s₂ at (entryText b) r
+pub wrote-entry : {a b : Entry} {s s₁ s₂ : List ℕ} {at e r : ℕ} → a ≡ b → at + (keyRoom + candidateRoom) ≤ length s → Wrote s s₁ at (keyText (a .key)) e
+    → Wrote s₁ s₂ e (behind (candidateTexts (a .candidate))) r → Wrote s s₂ at (entryText b) r
 wrote-entry {a} {b} {s} {s₁} {s₂} {at} {e} {r} g h p q =
     let k = key-length (a .key) in
     subst (λ (x : Entry). Wrote s s₂ at (entryText x) r) g (wrote-more p q (omega (arith, p .next, candidate-length (a .candidate))))
@@ -181,7 +185,8 @@ pub no-entries : (out : List ℕ) (at : ℕ) (u : List ℕ) (first : ℕ) {at′
 unfolding behind entryTexts entriesFrom
 no-entries out at u first e = record { bytes = (wrote-none out at) .bytes; next = omega (arith, e) }
 
-pub more-entries : {out₀ out s s′ : List ℕ} {at₀ at e r : ℕ} (first i : ℕ) (u : List ℕ) → at + entryRoom ≤ length out₀ → length out ≡ length out₀ → Wrote out₀ out at₀ (behind (entryTexts (entriesFrom u first i))) at
+pub more-entries : {out₀ out s s′ : List ℕ} {at₀ at e r : ℕ} (first i : ℕ) (u : List ℕ) → at + entryRoom ≤ length out₀ → length out ≡ length out₀
+    → Wrote out₀ out at₀ (behind (entryTexts (entriesFrom u first i))) at
     → Wrote out s at (44 ∷ []) e → Wrote s s′ e (entryText (entryFrom u (first + i))) r → (r ≤ at + entryRoom) × Wrote out₀ s′ at₀ (behind (entryTexts (entriesFrom u first (i + 1)))) r
 more-entries first i u h l p q w =
     let k = entry-length (entryFrom u (first + i)) in
@@ -200,7 +205,8 @@ module _ {out₀ : List ℕ} (room : answerRoom ≤ length out₀) (u : List ℕ
   unfolding entriesFrom entryTexts
   none-listed first e p = rw e (record { wrote = p; room = omega (arith, p .next) })
 
-  pub all-listed : {out out′ : List ℕ} {e r : ℕ} (first n : ℕ) → (n ≡ 0 → ⊥) → n ≤ mostEntries → Wrote out₀ out 0 (entryText (entryFrom u first)) e → Wrote out out′ e (behind (entryTexts (entriesFrom u (first + 1) (n - 1)))) r
+  pub all-listed : {out out′ : List ℕ} {e r : ℕ} (first n : ℕ) → (n ≡ 0 → ⊥) → n ≤ mostEntries → Wrote out₀ out 0 (entryText (entryFrom u first)) e
+      → Wrote out out′ e (behind (entryTexts (entriesFrom u (first + 1) (n - 1)))) r
       → r ≤ e + entryRoom * (n - 1) → Printed out₀ out′ (listed (entryTexts (entriesFrom u first n))) r
   all-listed {out} {out′} {e} {r} first zero z m p q h = absurd (z refl)
   all-listed {out} {out′} {e} {r} first (suc n) z m p q h =
@@ -209,7 +215,8 @@ module _ {out₀ : List ℕ} (room : answerRoom ≤ length out₀) (u : List ℕ
       let q′ : Wrote out out′ e (behind (entryTexts (entriesFrom u (first + 1) n))) r = rw f at q in
       record { wrote = rw (some-listed u first n) (wrote-more p q′ (omega (arith, p .next, q′ .next))); room = omega (arith, p .next) }
 
-  pub selection-wrote : {out out′ : List ℕ} {e r : ℕ} (considered n : ℕ) → n ≤ mostEntries → Wrote out₀ out 0 (decimal considered) e → Wrote out out′ e (behind (entryTexts (entriesFrom u 0 n))) r → r ≤ e + entryRoom * n
+  pub selection-wrote : {out out′ : List ℕ} {e r : ℕ} (considered n : ℕ) → n ≤ mostEntries → Wrote out₀ out 0 (decimal considered) e → Wrote out out′ e (behind (entryTexts (entriesFrom u 0 n))) r
+      → r ≤ e + entryRoom * n
       → Printed out₀ out′ (joined (decimal considered ∷ entryTexts (entriesFrom u 0 n))) r
   selection-wrote considered n m p q h =
       let d = decimal-end considered p in

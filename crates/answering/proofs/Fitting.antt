@@ -28,7 +28,8 @@ leaves ok n r u s b = record {
 }
 
 module _ (x : Bool) (b : List ℕ) (a : Ask) where
-  pub leaves-is : outcomeIf x b (On a) ≡ leaves (eqb (askRefusal x a (stateOf (words b))) 0) (askRefusal x a (stateOf (words b))) (perform a (stateOf (words b))) ((named a (stateOf (words b))) .buffer) (stateOf (words b)) b
+  pub leaves-is : outcomeIf x b (On a) ≡ leaves (eqb (askRefusal x a (stateOf (words b))) 0) (askRefusal x a (stateOf (words b))) (perform a (stateOf (words b)))
+      ((named a (stateOf (words b))) .buffer) (stateOf (words b)) b
   unfolding outcomeIf stepIf refusal carryOut
   leaves-is = refl
 
@@ -44,10 +45,19 @@ module _ {a : Ask} {b : List ℕ} {e : Effect} (d : Does (On a) b e) where
   pub reply-fits : length (answerBytes (e .reply)) ≤ length (e .buffer)
   reply-fits =
       subst (λ (z : Effect). length (answerBytes (z .reply)) ≤ length (z .buffer)) (sym (d .effect ∙ leaves-is (d .sound) b a))
-      (leaves-fits (eqb (askRefusal (d .sound) a (stateOf (words b))) 0) (askRefusal (d .sound) a (stateOf (words b))) (perform a (stateOf (words b))) ((named a (stateOf (words b))) .buffer) (stateOf (words b)) b)
+      (leaves-fits (eqb (askRefusal (d .sound) a (stateOf (words b))) 0) (askRefusal (d .sound) a (stateOf (words b))) (perform a (stateOf (words b))) ((named a (stateOf (words b))) .buffer)
+      (stateOf (words b)) b)
 
   pub keys-fit : (m : ℕ) (u : Buffer) → e .reply ≡ Keys (keysIn m u) → keyBytes * m ≤ length (e .buffer)
   keys-fit m u g = omega (arith, reply-fits, ap (λ (y : Reply). length (answerBytes y)) g, length-keysAnswer (keysIn m u), length-keys m u)
 
   pub departure-fits : (m n : ℕ) (u v : Buffer) → e .reply ≡ Left (keysIn m u) (keysIn n v) → keyBytes * (m + n) ≤ length (e .buffer)
-  departure-fits m n u v g = omega (arith, reply-fits, ap (λ (y : Reply). length (answerBytes y)) g, length-keysAnswer (keysIn m u ++ keysIn n v), length-append (keysIn m u) (keysIn n v), length-keys m u, length-keys n v)
+  departure-fits m n u v g = omega (
+    arith,
+    reply-fits,
+    ap (λ (y : Reply). length (answerBytes y)) g,
+    length-keysAnswer (keysIn m u ++ keysIn n v),
+    length-append (keysIn m u) (keysIn n v),
+    length-keys m u,
+    length-keys n v,
+  )

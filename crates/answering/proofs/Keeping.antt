@@ -154,10 +154,12 @@ new-plan l {l′} p h k e = record {
   long = ap length e ∙ length-append p (drop listBytes l) ∙ omega (arith, length-drop listBytes l);
   plan-is = ap planPart e ∙ take-at p (drop listBytes l) listBytes k;
   taken-is = ap takenPart e ∙ ap (take listBytes) (drop-at p (drop listBytes l) listBytes k);
-  arranged-is = ap arrangedPart e ∙ ap (take listBytes) (sym (drop-drop listBytes listBytes (p ++ drop listBytes l)) ∙ ap (drop listBytes) (drop-at p (drop listBytes l) listBytes k) ∙ drop-drop listBytes listBytes l);
+  arranged-is = ap arrangedPart e ∙ ap (take listBytes) (sym (drop-drop listBytes listBytes (p ++ drop listBytes l)) ∙ ap (drop listBytes) (drop-at p (drop listBytes l) listBytes k) ∙
+      drop-drop listBytes listBytes l);
 }
 
-pub new-taken : (l : List ℕ) {l′ : List ℕ} (p : List ℕ) → length l ≡ keptBytes → length p ≡ listBytes → l′ ≡ take listBytes l ++ (p ++ drop listBytes (drop listBytes l)) → Three l′ (planPart l) p (arrangedPart l)
+pub new-taken : (l : List ℕ) {l′ : List ℕ} (p : List ℕ) → length l ≡ keptBytes → length p ≡ listBytes → l′ ≡ take listBytes l ++ (p ++ drop listBytes (drop listBytes l))
+    → Three l′ (planPart l) p (arrangedPart l)
 new-taken l {l′} p h k e =
     let z = drop listBytes (drop listBytes l) in
     let f : length (take listBytes l) ≡ listBytes = length-take-le listBytes l (omega arith) in
@@ -169,7 +171,8 @@ new-taken l {l′} p h k e =
       arranged-is = ap (take listBytes) (sym (drop-drop listBytes listBytes l′) ∙ ap (drop listBytes) a ∙ drop-at p z listBytes k ∙ drop-drop listBytes listBytes l);
     }
 
-pub new-arranged : (l : List ℕ) {l′ : List ℕ} (p : List ℕ) → length l ≡ keptBytes → length p ≡ listBytes → l′ ≡ take (2 * listBytes) l ++ (p ++ drop listBytes (drop (2 * listBytes) l)) → Three l′ (planPart l) (takenPart l) p
+pub new-arranged : (l : List ℕ) {l′ : List ℕ} (p : List ℕ) → length l ≡ keptBytes → length p ≡ listBytes → l′ ≡ take (2 * listBytes) l ++ (p ++ drop listBytes (drop (2 * listBytes) l))
+    → Three l′ (planPart l) (takenPart l) p
 new-arranged l {l′} p h k e =
     let z = drop listBytes (drop (2 * listBytes) l) in
     let f : length (take (2 * listBytes) l) ≡ 2 * listBytes = length-take-le (2 * listBytes) l (omega arith) in
@@ -215,7 +218,8 @@ module _ {l s₁ s₂ s₃ : List ℕ} (long : length l ≡ keptBytes) (p₁ : P
   first-count : countIn (planPart s₃) ≡ 0
   first-count =
       word-front s₃ listBytes (omega arith) 0 (lit≤ tt)
-      ∙ zero-word 0 (getD-set-other (set (set (words l) 0 0) 1512 0) 3024 0 0 0 (λ z. omega arith) ∙ getD-set-other (set (words l) 0 0) 1512 0 0 0 (λ z. omega arith) ∙ getD-set-same (words l) 0 0 0 (omega (arith, length-words l)))
+      ∙ zero-word 0 (getD-set-other (set (set (words l) 0 0) 1512 0) 3024 0 0 0 (λ z. omega arith) ∙ getD-set-other (set (words l) 0 0) 1512 0 0 0 (λ z. omega arith) ∙
+      getD-set-same (words l) 0 0 0 (omega (arith, length-words l)))
 
   part-count : (k : ℕ) → 8 * k + listBytes ≤ length s₃ → countIn (take listBytes (drop (8 * k) s₃)) ≡ getD (words s₃) (k + 0) 0
   part-count k h =
@@ -224,10 +228,12 @@ module _ {l s₁ s₂ s₃ : List ℕ} (long : length l ≡ keptBytes) (p₁ : P
   second-count : countIn (takenPart s₃) ≡ 0
   second-count =
       part-count 1512 (omega arith)
-      ∙ zero-word 1512 (getD-set-other (set (set (words l) 0 0) 1512 0) 3024 1512 0 0 (λ z. omega arith) ∙ getD-set-same (set (words l) 0 0) 1512 0 0 (omega (arith, length-words l, length-set (words l) 0 0)))
+      ∙ zero-word 1512 (getD-set-other (set (set (words l) 0 0) 1512 0) 3024 1512 0 0 (λ z. omega arith) ∙
+      getD-set-same (set (words l) 0 0) 1512 0 0 (omega (arith, length-words l, length-set (words l) 0 0)))
 
   third-count : countIn (arrangedPart s₃) ≡ 0
-  third-count = part-count 3024 (omega arith) ∙ zero-word 3024 (getD-set-same (set (set (words l) 0 0) 1512 0) 3024 0 0 (omega (arith, length-words l, length-set (words l) 0 0, length-set (set (words l) 0 0) 1512 0)))
+  third-count = part-count 3024 (omega arith) ∙
+      zero-word 3024 (getD-set-same (set (set (words l) 0 0) 1512 0) 3024 0 0 (omega (arith, length-words l, length-set (words l) 0 0, length-set (set (words l) 0 0) 1512 0)))
 
   pub emptied : Emptied s₃
   emptied =

@@ -79,7 +79,8 @@ wrote-key u i l {s} {s′} {a} {r} {w} {k} {h} {q} e f g v p = subst (λ (x : Ke
     number-is : quadNumber q ≡ number 256 (take hashBytes (drop (i * 5 * 8 + 8) u))
     number-is = ap quadNumber (v .words-are) ∙ number-quad (hashNum h) ∙ g
 
-    same : kindIn w ≡ kindIn (getD (words u) (i * 5) 0) → _≡_ {A = Key} (record { kind = k; hash = quadNumber q }) (record { kind = kindIn (getD (words u) (i * 5) 0); hash = number 256 (take hashBytes (drop (i * 5 * 8 + 8) u)) })
+    same : kindIn w ≡ kindIn (getD (words u) (i * 5) 0) → _≡_ {A = Key} (record { kind = k; hash = quadNumber q })
+        (record { kind = kindIn (getD (words u) (i * 5) 0); hash = number 256 (take hashBytes (drop (i * 5 * 8 + 8) u)) })
     same z = cc (f ∙ z, number-is)
 
 pub length-keys : (n : ℕ) (u : List ℕ) → length (keysIn n u) ≡ n
@@ -104,7 +105,8 @@ key-length k = omega (arith, length-numeral 16 hashDigits (k .hash))
 pub next-first : {t s s′ : List ℕ} {a r i : ℕ} → i ≡ 0 → Wrote s s′ a t r → Wrote s s′ a (nextText i t) r
 next-first {i = i} e p = rw (eq-eqb i 0 e) p
 
-pub next-key : (k : Key) {s s₁ s₂ : List ℕ} {a e r i : ℕ} → (i ≡ 0 → ⊥) → a + (2 + hashDigits) ≤ length s → Wrote s s₁ a (44 ∷ []) e → Wrote s₁ s₂ e (keyText k) r → Wrote s s₂ a (nextText i (keyText k)) r
+pub next-key : (k : Key) {s s₁ s₂ : List ℕ} {a e r i : ℕ} → (i ≡ 0 → ⊥) → a + (2 + hashDigits) ≤ length s → Wrote s s₁ a (44 ∷ []) e → Wrote s₁ s₂ e (keyText k) r
+    → Wrote s s₂ a (nextText i (keyText k)) r
 next-key k {i = i} n h p q = rw (ne-eqb i 0 n) (wrote-more p q (omega (arith, p .next, key-length k)))
 
 next-joined : (i : ℕ) (u : List ℕ) → joined (keyTexts (keysIn (i + 1) u)) ≡ joined (keyTexts (keysIn i u)) ++ nextText i (keyText (keyAt u i))

@@ -31,7 +31,8 @@ module _ {s : List ℕ} (room : answerRoom ≤ length s) where
   pub printed-refusal : {s₁ s₂ : List ℕ} {e r : ℕ} (n : ℕ) → Wrote s s₁ 0 (110 ∷ 111 ∷ 44 ∷ []) e → Wrote s₁ s₂ e (decimal n) r → Printed s s₂ (refusalText n) r
   printed-refusal n p q = record { wrote = wrote-more p q (omega (arith, p .next, length-numeral 10 decimalDigits n)); room = omega (arith, p .next, decimal-end n q) }
 
-  pub printed-figures : {s₁ s₂ s₃ s₄ s₅ : List ℕ} {e₁ e₂ e₃ e₄ r : ℕ} (h f p : ℕ) → Wrote s s₁ 0 (decimal h) e₁ → Wrote s₁ s₂ e₁ (44 ∷ []) e₂ → Wrote s₂ s₃ e₂ (decimal f) e₃ → Wrote s₃ s₄ e₃ (44 ∷ []) e₄ → Wrote s₄ s₅ e₄ (decimal p) r
+  pub printed-figures : {s₁ s₂ s₃ s₄ s₅ : List ℕ} {e₁ e₂ e₃ e₄ r : ℕ} (h f p : ℕ) → Wrote s s₁ 0 (decimal h) e₁ → Wrote s₁ s₂ e₁ (44 ∷ []) e₂ → Wrote s₂ s₃ e₂ (decimal f) e₃
+      → Wrote s₃ s₄ e₃ (44 ∷ []) e₄ → Wrote s₄ s₅ e₄ (decimal p) r
       → Printed s s₅ (joined (decimal h ∷ decimal f ∷ decimal p ∷ [])) r
   unfolding joined
   printed-figures h f p w₁ w₂ w₃ w₄ w₅ =
@@ -101,5 +102,6 @@ departure-same u e = ap (λ (x : Departure). departureOf x u) e
 pub listing-did : (v : Values) {w x : KeysWord} {a : Ask} {b : List ℕ} {e : Effect} → w ≡ x → a ≡ keysAsk x v → Does (On a) b e → Does (On (keysAsk w v)) b e
 listing-did v {w} {x} {a} {b} {e} g h d = subst (λ (z : KeysWord). Does (On (keysAsk z v)) b e) (sym g) (does-is h d)
 
-pub hashes-did : (v : Values) (hs : List ℕ) {w x : HashesWord} {a : Ask} {b b′ out out′ : List ℕ} {r : ℕ} → w ≡ x → a ≡ hashesAsk x v hs → Carried (On a) b b′ out out′ r → Carried (On (hashesAsk w v hs)) b b′ out out′ r
+pub hashes-did : (v : Values) (hs : List ℕ) {w x : HashesWord} {a : Ask} {b b′ out out′ : List ℕ} {r : ℕ} → w ≡ x → a ≡ hashesAsk x v hs → Carried (On a) b b′ out out′ r
+    → Carried (On (hashesAsk w v hs)) b b′ out out′ r
 hashes-did v hs {w} {x} {a} {b} {b′} {out} {out′} {r} g h c = subst (λ (z : HashesWord). Carried (On (hashesAsk z v hs)) b b′ out out′ r) (sym g) (carried-is h c)

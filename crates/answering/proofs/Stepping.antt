@@ -81,13 +81,19 @@ module _ {l b : List ℕ} {e : Effect} (L Q : ℕ) (d : Does (Open L Q) b e) {b�
   pub step-refused : InOrder l → e .reply ≡ Refused n → Printed out out′ (refusalText n) r → Stepped (some (Asks (Open L Q))) l l b b′ out out′ r
   step-refused w y t = record {
     order = w;
-    answered = record { is = record { carried = record { effect = e; does = d; store = s; text = reply-refused (Open L Q) y t }; kept = sym (ap (λ (z : Reply). keptAfter (Asks (Open L Q)) z (keptLists l)) y) } };
+    answered = record {
+      is =
+          record { carried = record { effect = e; does = d; store = s; text = reply-refused (Open L Q) y t }; kept = sym (ap (λ (z : Reply). keptAfter (Asks (Open L Q)) z (keptLists l)) y) };
+    };
   }
 
   pub step-opened : {l′ : List ℕ} → Emptied l′ → e .reply ≡ Number n → Wrote out out′ 0 (111 ∷ 107 ∷ []) r → Stepped (some (Asks (Open L Q))) l l′ b b′ out out′ r
   step-opened w y t = record {
     order = w .order;
-    answered = record { is = record { carried = record { effect = e; does = d; store = s; text = reply-ok L Q y t }; kept = w .none ∙ sym (ap (λ (z : Reply). keptAfter (Asks (Open L Q)) z (keptLists l)) y) } };
+    answered = record {
+      is =
+          record { carried = record { effect = e; does = d; store = s; text = reply-ok L Q y t }; kept = w .none ∙ sym (ap (λ (z : Reply). keptAfter (Asks (Open L Q)) z (keptLists l)) y) };
+    };
   }
 
 -- ---- replies that list entries
@@ -124,12 +130,14 @@ pub listable : {a : Ask} {b : List ℕ} {e : Effect} → Does (On a) b e → len
 listable d n = record { long = n; fits = reply-fits d }
 
 -- an arrangement ascends by connection, and a refused one leaves what was kept
-sorted-if : (ok : Bool) (n : ℕ) (ws : List ℕ) (k : List Entry) (u v : Buffer) (s : State) (b : List ℕ) (l : List Entry) → Sorted (connectionsIn l) → Sorted (connectionsIn (entriesOr l ((leaves ok n (perform (Arrange ws k u) s) v s b) .reply)))
+sorted-if : (ok : Bool) (n : ℕ) (ws : List ℕ) (k : List Entry) (u v : Buffer) (s : State) (b : List ℕ) (l : List Entry) → Sorted (connectionsIn l)
+    → Sorted (connectionsIn (entriesOr l ((leaves ok n (perform (Arrange ws k u) s) v s b) .reply)))
 unfolding perform
 sorted-if true n ws k u v s b l w = arrange-sorted ws k (s .table)
 sorted-if false n ws k u v s b l w = w
 
-still-sorted : (ws : List ℕ) (k : List Entry) {u : Buffer} {b : List ℕ} {e : Effect} → Does (On (Arrange ws k u)) b e → (l : List Entry) → Sorted (connectionsIn l) → Sorted (connectionsIn (entriesOr l (e .reply)))
+still-sorted : (ws : List ℕ) (k : List Entry) {u : Buffer} {b : List ℕ} {e : Effect} → Does (On (Arrange ws k u)) b e → (l : List Entry) → Sorted (connectionsIn l)
+    → Sorted (connectionsIn (entriesOr l (e .reply)))
 still-sorted ws k {u} {b} {e} d l w =
     let a = Arrange ws k u in
     let s = stateOf (words b) in
@@ -139,10 +147,14 @@ still-sorted ws k {u} {b} {e} d l w =
 -- ---- steps that change a list
 
 module _ {l b : List ℕ} {e : Effect} (w : InOrder l) {b′ out out′ : List ℕ} {r : ℕ} {p l′ : List ℕ} where
-  pub step-planned : {a : Ask} → Does (On a) b e → b′ ≡ e .store → KeptReply p (chosenOr (listIn (planPart l)) (e .reply)) out out′ (e .reply) r → l′ ≡ p ++ drop listBytes l → Stepped (some (Asks (On a))) l l′ b b′ out out′ r
+  pub step-planned : {a : Ask} → Does (On a) b e → b′ ≡ e .store → KeptReply p (chosenOr (listIn (planPart l)) (e .reply)) out out′ (e .reply) r → l′ ≡ p ++ drop listBytes l
+      → Stepped (some (Asks (On a))) l l′ b b′ out out′ r
   step-planned {a} d s k f =
       let t = new-plan l p (w .long) (k .fits .long) f in
-      record { order = in-order t (k .fits) (w .taken) (w .arranged) (w .sorted); answered = record { is = record { carried = record { effect = e; does = d; store = s; text = k .text a }; kept = kept-is t (k .list) refl refl } } }
+      record {
+        order = in-order t (k .fits) (w .taken) (w .arranged) (w .sorted);
+        answered = record { is = record { carried = record { effect = e; does = d; store = s; text = k .text a }; kept = kept-is t (k .list) refl refl } };
+      }
 
   pub step-taken : (now : ℕ) → Does (On (Claim now (listIn (planPart l)) answerBuffer)) b e → b′ ≡ e .store → KeptReply p (entriesOr (listIn (takenPart l)) (e .reply)) out out′ (e .reply) r
       → l′ ≡ take listBytes l ++ (p ++ drop listBytes (drop listBytes l)) → Stepped (some (Take now)) l l′ b b′ out out′ r
@@ -157,10 +169,12 @@ module _ {l b : List ℕ} {e : Effect} (w : InOrder l) {b′ out out′ : List �
       → l′ ≡ take (2 * listBytes) l ++ (p ++ drop listBytes (drop (2 * listBytes) l)) → Stepped (some (Send ws)) l l′ b b′ out out′ r
   step-sent ws d s k f =
       let t = new-arranged l p (w .long) (k .fits .long) f in
-      let o : Sorted (connectionsIn (listIn p)) = subst (λ (x : List Entry). Sorted (connectionsIn x)) (sym (k .list)) (still-sorted ws (listIn (takenPart l)) d (listIn (arrangedPart l)) (w .sorted)) in
+      let o : Sorted (connectionsIn (listIn p)) = subst (λ (x : List Entry). Sorted (connectionsIn x)) (sym (k .list))
+      (still-sorted ws (listIn (takenPart l)) d (listIn (arrangedPart l)) (w .sorted)) in
       record {
         order = in-order t (w .plan) (w .taken) (k .fits) o;
-        answered = record { is = record { carried = record { effect = e; does = d; store = s; text = k .text (Arrange ws (listIn (takenPart l)) answerBuffer) }; kept = kept-is t refl refl (k .list) } };
+        answered =
+            record { is = record { carried = record { effect = e; does = d; store = s; text = k .text (Arrange ws (listIn (takenPart l)) answerBuffer) }; kept = kept-is t refl refl (k .list) } };
       }
 
 -- ---- one connection's part
@@ -168,12 +182,15 @@ module _ {l b : List ℕ} {e : Effect} (w : InOrder l) {b′ out out′ : List �
 pub part-fits : (n : ℕ) {p v : List ℕ} {end first count : ℕ} → Fits p → end ≡ countIn p * entryBytes + entryBytes → v ≡ take (end - entryBytes) (drop entryBytes p) → PartIs n (entriesIn v) first count
     → (count ≤ mostEntries) × (entryBytes * (first + count) ≤ length v)
 part-fits n {p} {v} {end} f e c q =
-    let l : length v ≡ countIn p * entryBytes = ap length c ∙ length-take-le (end - entryBytes) (drop entryBytes p) (omega (arith, e, f .long, f .count, length-drop entryBytes p)) ∙ omega (arith, e) in
+    let l : length v ≡ countIn p * entryBytes = ap length c ∙ length-take-le (end - entryBytes) (drop entryBytes p) (omega (arith, e, f .long, f .count, length-drop entryBytes p)) ∙
+    omega (arith, e) in
     let k = length-entries v in
     (omega (arith, l, k, f .count, q .inside), omega (arith, l, k, q .inside))
 
-pub printed-part : (n : ℕ) (p : List ℕ) {v : List ℕ} {end first count : ℕ} → end ≡ countIn p * entryBytes + entryBytes → v ≡ take (end - entryBytes) (drop entryBytes p) → Sorted (connectionsIn (listIn p))
-    → PartIs n (entriesIn v) first count → {out out′ : List ℕ} {r : ℕ} → Printed out out′ (listed (entryTexts (entriesFrom v first count))) r → Printed out out′ (listed (entryTexts (partOf n (listIn p)))) r
+pub printed-part : (n : ℕ) (p : List ℕ) {v : List ℕ} {end first count : ℕ} → end ≡ countIn p * entryBytes + entryBytes → v ≡ take (end - entryBytes) (drop entryBytes p)
+    → Sorted (connectionsIn (listIn p))
+    → PartIs n (entriesIn v) first count → {out out′ : List ℕ} {r : ℕ} → Printed out out′ (listed (entryTexts (entriesFrom v first count))) r
+    → Printed out out′ (listed (entryTexts (partOf n (listIn p)))) r
 printed-part n p {v} {end} {first} {count} e c s q {out} {out′} {r} t =
     let g : entriesIn v ≡ listIn p = ap entriesIn c ∙ list-bytes p e in
     let a : take count (drop first (entriesIn v)) ≡ partOf n (entriesIn v) = q .arranged (subst (λ (x : List Entry). Sorted (connectionsIn x)) (sym g) s) in
@@ -192,5 +209,6 @@ module _ {l b out out′ : List ℕ} {r n : ℕ} (w : InOrder l) where
   pub part-unnamed : (x : Bool) → Decides x (SoundStore b) → not x ≡ false → n ≡ 0 → Printed out out′ (refusalText 4) r → Stepped (some (Part n)) l l b b out out′ r
   part-unnamed x d e z t = step-part x d (rw (e, eq-eqb n 0 z) t)
 
-  pub part-named : (x : Bool) → Decides x (SoundStore b) → not x ≡ false → (n ≡ 0 → ⊥) → Printed out out′ (listed (entryTexts (partOf n (listIn (arrangedPart l))))) r → Stepped (some (Part n)) l l b b out out′ r
+  pub part-named : (x : Bool) → Decides x (SoundStore b) → not x ≡ false → (n ≡ 0 → ⊥) → Printed out out′ (listed (entryTexts (partOf n (listIn (arrangedPart l))))) r
+      → Stepped (some (Part n)) l l b b out out′ r
   part-named x d e z t = step-part x d (rw (e, ne-eqb n 0 z) t)

@@ -29,7 +29,8 @@ const NO_CONNECTION: u64 = 4;
 // Arranges the entries of a list.
 fn arrange_list(store: &[u8], witnesses: &[u8], list: &[u8], answer: &mut [u8]) -> outcome::Listing
     requires { ⌜ Fits (now list) ⌝ }
-    ensures { λ r. ⌜ LeavesWith (On (Arrange (words (now (witnesses .entry))) (listIn (now (list .entry))) (now (answer .entry)))) (now (store .entry)) (now (store .entry)) (now (answer .exit)) (entriesOf r) ⌝ }
+    ensures { λ r. ⌜ LeavesWith (On (Arrange (words (now (witnesses .entry))) (listIn (now (list .entry))) (now (answer .entry)))) (now (store .entry)) (now (store .entry))
+        (now (answer .exit)) (entriesOf r) ⌝ }
 {
     let end = crate::kept::list_end(list);
     public_plans::arrangements::arrange(store, witnesses, &list[ENTRY..end], answer)
@@ -38,7 +39,8 @@ fn arrange_list(store: &[u8], witnesses: &[u8], list: &[u8], answer: &mut [u8]) 
 // Arranges what was taken, for the witness connections, of 8 bytes each.
 fn arrange_taken(store: &[u8], lists: &mut [u8], out: &mut [u8], witnesses: &[u8]) -> usize
     requires { ⌜ InOrder (now lists) × (answerRoom ≤ length (now out)) ⌝ }
-    ensures { λ r. ⌜ Stepped (some (Send (words (now (witnesses .entry))))) (now (lists .entry)) (now (lists .exit)) (now (store .entry)) (now (store .entry)) (now (out .entry)) (now (out .exit)) r ⌝ }
+    ensures { λ r. ⌜ Stepped (some (Send (words (now (witnesses .entry))))) (now (lists .entry)) (now (lists .exit)) (now (store .entry)) (now (store .entry)) (now (out .entry))
+        (now (out .exit)) r ⌝ }
 {
     let mut answer = answer_buffer();
     let a = arrange_list(store, witnesses, &lists[LIST..2 * LIST], &mut answer);

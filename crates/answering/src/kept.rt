@@ -53,7 +53,8 @@ pub fn empty(lists: &mut [u8])
 // The reply of a take or of an arrangement as text. Entries that it lists become the list.
 pub fn keep_entries(list: &mut [u8], out: &mut [u8], answer: &[u8], a: Listing) -> usize
     requires { ⌜ Fits (now list) × (answerRoom ≤ length (now out)) × Listable (entriesOf a (now answer)) (now answer) ⌝ }
-    ensures { λ r. ⌜ KeptReply (now (list .exit)) (entriesOr (listIn (now (list .entry))) (entriesOf a (now (answer .entry)))) (now (out .entry)) (now (out .exit)) (entriesOf a (now (answer .entry))) r ⌝ }
+    ensures { λ r. ⌜ KeptReply (now (list .exit)) (entriesOr (listIn (now (list .entry))) (entriesOf a (now (answer .entry)))) (now (out .entry)) (now (out .exit))
+        (entriesOf a (now (answer .entry))) r ⌝ }
 {
     match a {
         Listing::Refused(n) => refusal(out, n),
@@ -67,7 +68,8 @@ pub fn keep_entries(list: &mut [u8], out: &mut [u8], answer: &[u8], a: Listing) 
 // The reply of a plan as text. What it has selected becomes the list.
 pub fn keep_selection(list: &mut [u8], out: &mut [u8], answer: &[u8], a: Selection) -> usize
     requires { ⌜ Fits (now list) × (answerRoom ≤ length (now out)) × Listable (plannedOf a (now answer)) (now answer) ⌝ }
-    ensures { λ r. ⌜ KeptReply (now (list .exit)) (chosenOr (listIn (now (list .entry))) (plannedOf a (now (answer .entry)))) (now (out .entry)) (now (out .exit)) (plannedOf a (now (answer .entry))) r ⌝ }
+    ensures { λ r. ⌜ KeptReply (now (list .exit)) (chosenOr (listIn (now (list .entry))) (plannedOf a (now (answer .entry)))) (now (out .entry)) (now (out .exit))
+        (plannedOf a (now (answer .entry))) r ⌝ }
 {
     match a {
         Selection::Refused(n) => refusal(out, n),

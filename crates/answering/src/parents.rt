@@ -49,7 +49,8 @@ pub fn failed_package_claims(
     clock: u64,
 ) -> usize
     requires { ⌜ answerRoom ≤ length (now out) ⌝ }
-    ensures { λ r. ⌜ Carried (On (FailedPackageClaims connection (hashesIn (now (combined .entry))) clock answerBuffer)) (now (store .entry)) (now (store .exit)) (now (out .entry)) (now (out .exit)) r ⌝ }
+    ensures { λ r. ⌜ Carried (On (FailedPackageClaims connection (hashesIn (now (combined .entry))) clock answerBuffer)) (now (store .entry)) (now (store .exit)) (now (out .entry))
+        (now (out .exit)) r ⌝ }
 {
     let mut answer = answer_buffer();
     let a = public_packages::package_claims::failed_package_claims(

@@ -23,7 +23,8 @@ use reading::forms::Values;
 
 pub fn answer_plan(store: &mut [u8], lists: &mut [u8], out: &mut [u8], clock: u64) -> usize
     requires { ⌜ InOrder (now lists) × (answerRoom ≤ length (now out)) ⌝ }
-    ensures { λ r. ⌜ Stepped (some (Asks (On (Plan clock none answerBuffer)))) (now (lists .entry)) (now (lists .exit)) (now (store .entry)) (now (store .exit)) (now (out .entry)) (now (out .exit)) r ⌝ }
+    ensures { λ r. ⌜ Stepped (some (Asks (On (Plan clock none answerBuffer)))) (now (lists .entry)) (now (lists .exit)) (now (store .entry)) (now (store .exit)) (now (out .entry))
+        (now (out .exit)) r ⌝ }
 {
     let mut answer = answer_buffer();
     let a = public_plans::plans::plan(store, clock, &mut answer);
@@ -33,7 +34,8 @@ pub fn answer_plan(store: &mut [u8], lists: &mut [u8], out: &mut [u8], clock: u6
 // Plans over the keys that are given, in 40 bytes each.
 fn plan_given(store: &mut [u8], lists: &mut [u8], out: &mut [u8], clock: u64, given: &[u8]) -> usize
     requires { ⌜ InOrder (now lists) × (answerRoom ≤ length (now out)) ⌝ }
-    ensures { λ r. ⌜ Stepped (some (Asks (On (Plan clock (some (givenKeys (now (given .entry)))) answerBuffer)))) (now (lists .entry)) (now (lists .exit)) (now (store .entry)) (now (store .exit)) (now (out .entry)) (now (out .exit)) r ⌝ }
+    ensures { λ r. ⌜ Stepped (some (Asks (On (Plan clock (some (givenKeys (now (given .entry)))) answerBuffer)))) (now (lists .entry)) (now (lists .exit)) (now (store .entry)) (now (store .exit))
+        (now (out .entry)) (now (out .exit)) r ⌝ }
 {
     let mut answer = answer_buffer();
     let a = public_plans::plans::plan_given(store, clock, given, &mut answer);
@@ -50,7 +52,8 @@ pub fn answer_want(
     e: usize,
 ) -> usize
     requires { ⌜ InOrder (now lists) × (answerRoom ≤ length (now out)) × (length (now line) ≤ lineRoom) ⌝ }
-    ensures { λ r. ⌜ Stepped (keyListCall (wantAsk (valuesOf v)) (rest (now (line .entry)) (e + 1))) (now (lists .entry)) (now (lists .exit)) (now (store .entry)) (now (store .exit)) (now (out .entry)) (now (out .exit)) r ⌝ }
+    ensures { λ r. ⌜ Stepped (keyListCall (wantAsk (valuesOf v)) (rest (now (line .entry)) (e + 1))) (now (lists .entry)) (now (lists .exit)) (now (store .entry)) (now (store .exit))
+        (now (out .entry)) (now (out .exit)) r ⌝ }
 {
     let mut keys = inventory::keys::key_buffer();
     let Keys::Are(n) = inventory::keys::read_list(line, e, &mut keys) else {

@@ -94,7 +94,8 @@ module _ {z : List ℕ} {n now : ℕ} {b w : List ℕ} {i d : ℕ} {st : State} 
 
 -- ---- one more waits
 
-module _ {z : List ℕ} {n now : ℕ} {b w : List ℕ} {i d : ℕ} {st : State} {t : Table} (v : Beside z n now b w i d st t) (p : Peer n) (late : now < word) (short : i + d < word) {h : ℕ} (is : parentIn z (i + d) ≡ h) (low : h < top) {w′ : List ℕ} (a : SetAside b w w′ d (some (txid h)) (parentOf n now h (i + d)) 1) where
+module _ {z : List ℕ} {n now : ℕ} {b w : List ℕ} {i d : ℕ} {st : State} {t : Table} (v : Beside z n now b w i d st t) (p : Peer n) (late : now < word) (short : i + d < word) {h : ℕ}
+    (is : parentIn z (i + d) ≡ h) (low : h < top) {w′ : List ℕ} (a : SetAside b w w′ d (some (txid h)) (parentOf n now h (i + d)) 1) where
   abbrev m : Limits
   m = limitsOf st
 
@@ -189,7 +190,8 @@ bounded-one {m} {Q} {t} n now h i p w v s b =
     let b′ = bounded-parentAt (txid h) (parentOf n now h i) s (record { item = refl; positive = p .positive; connection = p .small; ready = w; priority = v }) b in
     by-test (Bounded m Q) (x .reply) (λ e. bounded-mark h s b′) (λ e. b′)
 
-pub alone-next : {z : List ℕ} {n now : ℕ} {b b′ w : List ℕ} {j : ℕ} {st : State} {t : Table} {h : ℕ} {r : Bool} → Beside z n now b w j 0 st t → Peer n → now < word → j < word → h < top → h ≡ parentIn z j
+pub alone-next : {z : List ℕ} {n now : ℕ} {b b′ w : List ℕ} {j : ℕ} {st : State} {t : Table} {h : ℕ} {r : Bool} → Beside z n now b w j 0 st t → Peer n → now < word
+    → j < word → h < top → h ≡ parentIn z j
     → Answered b b′ r (λ m t. oneParent m n now h j t) → NextAt z n now b′ w j st t (record { kept = r; waiting = 0 })
 alone-next {z} {n} {now} {b} {b′} {w} {j} {st} {t} {h} {r} v p late short low is a =
     let m = limitsOf st in
@@ -215,7 +217,8 @@ module _ {z : List ℕ} {n now : ℕ} {b w : List ℕ} {j d h : ℕ} (p : Peer n
     alone = λ e. elim (test (eqb r 0)) [ inl x ↦ a .out (eqb-true r 0 x) | inr x ↦ a .alone (omega (arith, a .most, eqb-false r 0 x, eqb-false r 1 e)) ];
   }
 
-  pub next-alone : {b₁ b₂ w₁ w₂ : List ℕ} {r : Bool} → w₁ ≡ w → LetIn z n now b b₁ w₁ w₂ j d → Answered b₁ b₂ r (λ m t. oneParent m n now h j t) → NextIn z n now b b₂ w w₂ j d (record { kept = r; waiting = 0 })
+  pub next-alone : {b₁ b₂ w₁ w₂ : List ℕ} {r : Bool} → w₁ ≡ w → LetIn z n now b b₁ w₁ w₂ j d → Answered b₁ b₂ r (λ m t. oneParent m n now h j t)
+      → NextIn z n now b b₂ w w₂ j d (record { kept = r; waiting = 0 })
   next-alone {b₁} {b₂} {w₁} {w₂} e x a = record {
     most = omega arith;
     next = λ st t v. alone-next (x st t (subst (λ (y : List ℕ). Beside z n now b y (j - d) d st t) (sym e) v)) p late short low is a;

@@ -51,7 +51,8 @@ module _ (z : List ℕ) (n now : ℕ) (from to : ℕ) where
         let m = limitsOf st in
         let q = y .next st u (g .beside) in
         let hs = hashesAt z (j + 1) (to - (j + 1)) in
-        let next : hashesAt z j (to - j) ≡ parentIn z j ∷ hs = hashes-next z j (to - j) (omega arith) ∙ ap (λ (c : ℕ). parentIn z j ∷ hashesAt z (j + 1) c) (let f : to - j - 1 ≡ to - (j + 1) = omega arith in f) in
+        let next : hashesAt z j (to - j) ≡ parentIn z j ∷ hs = hashes-next z j (to - j) (omega arith) ∙
+        ap (λ (c : ℕ). parentIn z j ∷ hashesAt z (j + 1) c) (let f : to - j - 1 ≡ to - (j + 1) = omega arith in f) in
         let u′ = (oneParent m n now (parentIn z j) j u) .table in
         let s = keptBits m n now (j + 1) hs u′ in
         record {
@@ -75,7 +76,8 @@ module _ (z : List ℕ) (n now : ℕ) (from to : ℕ) where
       half = λ st t k.
           let g = x st t k in
           let none : hashesAt z j (to - j) ≡ [] = hashes-none z j (to - j) (omega arith) in
-          let u : g .now-table ≡ (parentsFrom (limitsOf st) n now from (hashesAt z from (to - from)) t) .table = sym (ap (λ (l : List ℕ). (parentsFrom (limitsOf st) n now j l (g .now-table)) .table) none) ∙ g .rest in
+          let u : g .now-table ≡ (parentsFrom (limitsOf st) n now from (hashesAt z from (to - from)) t) .table =
+          sym (ap (λ (l : List ℕ). (parentsFrom (limitsOf st) n now j l (g .now-table)) .table) none) ∙ g .rest in
           let q = ap (λ (l : List ℕ). r + v * keptBits (limitsOf st) n now j l (g .now-table)) none in
           record {
             bits = omega (arith, q, g .bits);
@@ -91,7 +93,8 @@ none-waits k e = record { state = k .state; with-them = k .state .table; beside 
 pub half-waits : {z b b₁ w w₁ : List ℕ} {n now from to d : ℕ} {r : Half} → HalfIn z n now b b₁ w w₁ from to d r → Waits z n now b w (from - d) d → Waits z n now b₁ w₁ (to - r .waiting) (r .waiting)
 half-waits x k = record { state = k .state; with-them = _; beside = x .half (k .state) (k .with-them) (k .beside) .beside }
 
-module _ {b b₁ b₂ b₃ w₀ w₁ w₂ w₃ : List ℕ} {n now c e : ℕ} {x y : Half} (z : List ℕ) (empty : Empty w₀) (h : Halved c e) (first : HalfIn z n now b b₁ w₀ w₁ 0 e 0 x) (second : HalfIn z n now b₁ b₂ w₁ w₂ e c (x .waiting) y) (came : LetIn z n now b₂ b₃ w₂ w₃ c (y .waiting)) where
+module _ {b b₁ b₂ b₃ w₀ w₁ w₂ w₃ : List ℕ} {n now c e : ℕ} {x y : Half} (z : List ℕ) (empty : Empty w₀) (h : Halved c e) (first : HalfIn z n now b b₁ w₀ w₁ 0 e 0 x)
+    (second : HalfIn z n now b₁ b₂ w₁ w₂ e c (x .waiting) y) (came : LetIn z n now b₂ b₃ w₂ w₃ c (y .waiting)) where
   abbrev hs : List ℕ
   hs = hashesAt z 0 c
 

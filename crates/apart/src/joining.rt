@@ -97,7 +97,8 @@ pub fn announce_next(
     clock: u64,
     together: bool,
 ) -> Next
-    requires { ⌜ Waits (words (now slot)) n clock (now s) (words (now new)) (j - m) m × (1 ≤ n) × (m ≤ j) × (j < listMost) × (length (now slot) ≡ slotBytes) × (length (now new) ≡ 8 * (rowSize * space)) ⌝ }
+    requires { ⌜ Waits (words (now slot)) n clock (now s) (words (now new)) (j - m) m × (1 ≤ n) × (m ≤ j) × (j < listMost) × (length (now slot) ≡ slotBytes)
+        × (length (now new) ≡ 8 * (rowSize * space)) ⌝ }
     ensures { λ r. ⌜ NextIn (words (now (slot .entry))) n clock (now (s .entry)) (now (s .exit)) (words (now (new .entry))) (words (now (new .exit))) j m r ⌝ }
 {
     if wait_with(s, slot, new, m, j, n, clock, together) {

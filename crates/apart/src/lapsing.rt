@@ -65,7 +65,8 @@ pub fn expire_one(
     clock: u64,
 )
     requires { ⌜ Parted (now s) (now first) m c × (1 ≤ n) × (c ≤ length (now low)) × (c ≤ length (now high)) ⌝ }
-    ensures { λ _. ⌜ Expires (now (s .entry)) (now (s .exit)) (now (first .entry)) (now (first .exit)) m c (now (low .entry)) (now (low .exit)) (now (high .entry)) (now (high .exit)) (keyNum k) n clock ⌝ }
+    ensures { λ _. ⌜ Expires (now (s .entry)) (now (s .exit)) (now (first .entry)) (now (first .exit)) m c (now (low .entry)) (now (low .exit)) (now (high .entry))
+        (now (high .exit)) (keyNum k) n clock ⌝ }
 {
     let p = slots::find(s, m, first, c, k);
     if p.stage == 0 {

@@ -77,7 +77,8 @@ fn announce_bits(
     clock: u64,
     together: bool,
 ) -> Half
-    requires { ⌜ Waits (words (now slot)) n clock (now s) (words (now new)) (from - m) m × (1 ≤ n) × (m ≤ from) × (from ≤ to) × (to ≤ from + halfMost) × (to ≤ listMost) × (length (now slot) ≡ slotBytes) × (length (now new) ≡ 8 * (rowSize * space)) ⌝ }
+    requires { ⌜ Waits (words (now slot)) n clock (now s) (words (now new)) (from - m) m × (1 ≤ n) × (m ≤ from) × (from ≤ to) × (to ≤ from + halfMost) × (to ≤ listMost)
+        × (length (now slot) ≡ slotBytes) × (length (now new) ≡ 8 * (rowSize * space)) ⌝ }
     ensures { λ r. ⌜ HalfIn (words (now (slot .entry))) n clock (now (s .entry)) (now (s .exit)) (words (now (new .entry))) (words (now (new .exit))) from to m r ⌝ }
 {
     let mut bits = 0;

@@ -41,7 +41,8 @@ use Rattle.claims.proofs.Noting.{claim-yes, claim-no, awaiting-place, r
 
 -- ---- one claim more
 
-put-more : (u : List ℕ) (m a h : ℕ) {u′ : List ℕ} → a ≡ m * hashBytes → m < maxInFlight → hashBytes * maxInFlight ≤ length u → h < top → u′ ≡ splice u a (digits 256 hashBytes h) → firstHashes (m + 1) u′ ≡ firstHashes m u ++ (h ∷ [])
+put-more : (u : List ℕ) (m a h : ℕ) {u′ : List ℕ} → a ≡ m * hashBytes → m < maxInFlight → hashBytes * maxInFlight ≤ length u → h < top → u′ ≡ splice u a (digits 256 hashBytes h)
+    → firstHashes (m + 1) u′ ≡ firstHashes m u ++ (h ∷ [])
 put-more u m a h {u′} e few room small q =
     let z : a ≡ hashBytes * m = omega arith in
     ap (firstHashes (m + 1)) (q ∙ ap (λ (x : ℕ). splice u x (digits 256 hashBytes h)) z) ∙ hash-more u m h small (omega arith)
@@ -70,20 +71,24 @@ module _ (n : ℕ) (r : Row) {b : List ℕ} where
         let z : j ≡ Wtxid = ap (λ (a : Key). a .kind) k ∙ ap (λ (a : Key). a .kind) (sym x) ∙ y .kind in
         sym k ∙ ap (λ (a : Kind). record { kind = a; hash = h }) z
 
-    pub noted-one : {keys sums : List ℕ} {m x : ℕ} {keys′ sums′ : List ℕ} (a d : ℕ) → a ≡ m * hashBytes → d ≡ m * hashBytes → Tells b (λ t. isClaimRow n t r ≡ true → m < maxInFlight) → hashBytes * maxInFlight ≤ length keys → hashBytes * maxInFlight ≤ length sums → x < top
-        → Tells b (λ t. awaiting ((at (wtxid h) t) .«package») ≡ true → x ≡ combinedOf ((at (wtxid h) t) .«package»)) → keys′ ≡ splice keys a (digits 256 hashBytes h) → sums′ ≡ splice sums d (digits 256 hashBytes x) → Noted n r b keys keys′ sums sums′ m (m + 1)
+    pub noted-one : {keys sums : List ℕ} {m x : ℕ} {keys′ sums′ : List ℕ} (a d : ℕ) → a ≡ m * hashBytes → d ≡ m * hashBytes → Tells b (λ t. isClaimRow n t r ≡ true → m < maxInFlight)
+        → hashBytes * maxInFlight ≤ length keys → hashBytes * maxInFlight ≤ length sums → x < top
+        → Tells b (λ t. awaiting ((at (wtxid h) t) .«package») ≡ true → x ≡ combinedOf ((at (wtxid h) t) .«package»)) → keys′ ≡ splice keys a (digits 256 hashBytes h)
+        → sums′ ≡ splice sums d (digits 256 hashBytes x) → Noted n r b keys keys′ sums sums′ m (m + 1)
     noted-one {keys} {sums} {m} {x} {keys′} {sums′} a d ea ed few room-k room-s small-x is pk ps = record {
       count = λ st s w. rw (claim-yes n (st .table) r (e st s w));
       keys-are = λ st s w.
           let t = st .table in
           rw (claim-yes n t r (e st s w))
-          (put-more keys m a h ea (few st s w (e st s w)) room-k small pk ∙ ap (λ (y : ℕ). firstHashes m keys ++ (y ∷ [])) (ap (λ (y : Key). y .hash) k ∙ sym (ap (λ (y : Key). y .hash) (at-key (keyAt r) 0 t small-key (s .bounded .ordered)))));
+          (put-more keys m a h ea (few st s w (e st s w)) room-k small pk ∙ ap (λ (y : ℕ). firstHashes m keys ++ (y ∷ []))
+          (ap (λ (y : Key). y .hash) k ∙ sym (ap (λ (y : Key). y .hash) (at-key (keyAt r) 0 t small-key (s .bounded .ordered)))));
       sums-are = λ st s w.
           let t = st .table in
           let g : keyAt r ≡ wtxid h = key-is st s w in
           let v : awaiting ((at (wtxid h) t) .«package») ≡ true = ap (λ (y : Key). awaiting ((at y t) .«package»)) (sym g) ∙ awaits-it st s w in
           rw (claim-yes n t r (e st s w))
-          (put-more sums m d x ed (few st s w (e st s w)) room-s small-x ps ∙ ap (λ (y : ℕ). firstHashes m sums ++ (y ∷ [])) (is st s w v ∙ ap (λ (y : Key). combinedOf ((at y t) .«package»)) (sym g)));
+          (put-more sums m d x ed (few st s w (e st s w)) room-s small-x ps ∙ ap (λ (y : ℕ). firstHashes m sums ++ (y ∷ []))
+          (is st s w v ∙ ap (λ (y : Key). combinedOf ((at y t) .«package»)) (sym g)));
     }
 
 -- ---- the loop
@@ -100,14 +105,16 @@ pub gathered-none : (n : ℕ) (b keys sums : List ℕ) → Gathered n b keys key
 unfolding each recs
 gathered-none n b keys sums = record { long-keys = refl; long-sums = refl; count = λ st s w. refl; keys-are = λ st s w. refl; sums-are = λ st s w. refl }
 
-module _ {n : ℕ} {b k₀ keys s₀ sums : List ℕ} {m i : ℕ} (g : Gathered n b k₀ keys s₀ sums m i) (r : Row) (inside : (st : State) → Writes b st → i < length (rowsOf (st .table))) (is : (st : State) (d : Row) → Writes b st → r ≡ getD (rowsOf (st .table)) i d) where
+module _ {n : ℕ} {b k₀ keys s₀ sums : List ℕ} {m i : ℕ} (g : Gathered n b k₀ keys s₀ sums m i) (r : Row) (inside : (st : State) → Writes b st → i < length (rowsOf (st .table)))
+    (is : (st : State) (d : Row) → Writes b st → r ≡ getD (rowsOf (st .table)) i d) where
   next : (st : State) → Writes b st → each (claimOf n (st .table)) (take (i + 1) (rowsOf (st .table))) ≡ each (claimOf n (st .table)) (take i (rowsOf (st .table))) ++ claimOf n (st .table) r
   unfolding each
   next st w =
       let t = st .table in
       let rs = rowsOf t in
       rw (add-one i, take-suc rs i r (inside st w))
-      (each-append (claimOf n t) (take i rs) (getD rs i r ∷ []) ∙ ap (λ (x : Row). each (claimOf n t) (take i rs) ++ (claimOf n t x ++ [])) (sym (is st r w)) ∙ ap (λ (x : Table). each (claimOf n t) (take i rs) ++ x) (append-nil (claimOf n t r)))
+      (each-append (claimOf n t) (take i rs) (getD rs i r ∷ []) ∙ ap (λ (x : Row). each (claimOf n t) (take i rs) ++ (claimOf n t x ++ [])) (sym (is st r w)) ∙
+      ap (λ (x : Table). each (claimOf n t) (take i rs) ++ x) (append-nil (claimOf n t r)))
 
   -- "no connection owns more than 100 requests"
   pub gathered-room : Tells b (λ t. isClaimRow n t r ≡ true → m < maxInFlight)
@@ -117,7 +124,8 @@ module _ {n : ℕ} {b k₀ keys s₀ sums : List ℕ} {m i : ℕ} (g : Gathered 
       let a = each (claimOf n t) (take i rs) in
       let z = each (claimOf n t) (drop (i + 1) rs) in
       let x : length (each (claimOf n t) (take (i + 1) rs)) ≡ length a + 1 = ap length (next st w ∙ ap (λ (y : Table). a ++ y) (claim-yes n t r e)) ∙ length-append a (at (keyAt r) t ∷ []) in
-      let y : length (each (claimOf n t) rs) ≡ length (each (claimOf n t) (take (i + 1) rs)) + length z = ap (λ (y : List Row). length (each (claimOf n t) y)) (sym (take-append-drop (i + 1) rs)) ∙ ap length (each-append (claimOf n t) (take (i + 1) rs) (drop (i + 1) rs)) ∙ length-append (each (claimOf n t) (take (i + 1) rs)) z in
+      let y : length (each (claimOf n t) rs) ≡ length (each (claimOf n t) (take (i + 1) rs)) + length z = ap (λ (y : List Row). length (each (claimOf n t) y)) (sym (take-append-drop (i + 1) rs)) ∙
+      ap length (each-append (claimOf n t) (take (i + 1) rs) (drop (i + 1) rs)) ∙ length-append (each (claimOf n t) (take (i + 1) rs)) z in
       let v = ap length (rows-claims n t st s refl) in
       omega (arith, g .count st s w, claims-few n t t, s .bounded .owned n)
 
@@ -129,11 +137,14 @@ module _ {n : ℕ} {b k₀ keys s₀ sums : List ℕ} {m i : ℕ} (g : Gathered 
         let a = each (claimOf n (st .table)) (take i (rowsOf (st .table))) in
         let x = ap length (next st w) ∙ length-append a (claimOf n (st .table) r) in
         omega (arith, p .count st s w, g .count st s w);
-    keys-are = λ st s w. p .keys-are st s w ∙ ap (λ (x : List ℕ). x ++ map hashOf (claimOf n (st .table) r)) (g .keys-are st s w) ∙ sym (ap (map hashOf) (next st w) ∙ map-append hashOf (each (claimOf n (st .table)) (take i (rowsOf (st .table)))) (claimOf n (st .table) r));
-    sums-are = λ st s w. p .sums-are st s w ∙ ap (λ (x : List ℕ). x ++ map sumOf (claimOf n (st .table) r)) (g .sums-are st s w) ∙ sym (ap (map sumOf) (next st w) ∙ map-append sumOf (each (claimOf n (st .table)) (take i (rowsOf (st .table)))) (claimOf n (st .table) r));
+    keys-are = λ st s w. p .keys-are st s w ∙ ap (λ (x : List ℕ). x ++ map hashOf (claimOf n (st .table) r)) (g .keys-are st s w) ∙
+        sym (ap (map hashOf) (next st w) ∙ map-append hashOf (each (claimOf n (st .table)) (take i (rowsOf (st .table)))) (claimOf n (st .table) r));
+    sums-are = λ st s w. p .sums-are st s w ∙ ap (λ (x : List ℕ). x ++ map sumOf (claimOf n (st .table) r)) (g .sums-are st s w) ∙
+        sym (ap (map sumOf) (next st w) ∙ map-append sumOf (each (claimOf n (st .table)) (take i (rowsOf (st .table)))) (claimOf n (st .table) r));
   }
 
-pub gathered-done : {n : ℕ} {b k₀ keys s₀ sums : List ℕ} {m i : ℕ} → Gathered n b k₀ keys s₀ sums m i → Kept b → ((st : State) → Writes b st → length (rowsOf (st .table)) ≤ i) → ClaimsNoted n b keys sums m
+pub gathered-done : {n : ℕ} {b k₀ keys s₀ sums : List ℕ} {m i : ℕ} → Gathered n b k₀ keys s₀ sums m i → Kept b → ((st : State) → Writes b st → length (rowsOf (st .table)) ≤ i)
+    → ClaimsNoted n b keys sums m
 gathered-done {n} {b} {k₀} {keys} {s₀} {sums} {m} {i} g kept all = record {
   few = let st = kept .state in
       let v = ap length (whole st (kept .sound) (kept .writes)) in

@@ -81,7 +81,8 @@ module _ {b : List ℕ} (k : Key) (v : ℕ) {r : Read} (x : Tells b (λ t. Reque
       let q = at k (st .table) in
       subst (λ (t : Table). Writes b (onTable t st)) (handed-none (limitsOf st) v (q .owner) q (st .table) refl (lawful-at k (st .table) (s .bounded .lawful)) (sym (x st s w .owner) ∙ z)) w
 
-  pub hand-some : (r .owner ≡ 0 → ⊥) → {b′ u u′ : List ℕ} {c : ℕ} (hs : List ℕ) → Tells b (λ t. hs ≡ parentsFor (r .owner) (at k t)) → KeysListed b b′ u u′ c (λ m t. announceParents m (r .owner) v hs t)
+  pub hand-some : (r .owner ≡ 0 → ⊥) → {b′ u u′ : List ℕ} {c : ℕ} (hs : List ℕ) → Tells b (λ t. hs ≡ parentsFor (r .owner) (at k t))
+      → KeysListed b b′ u u′ c (λ m t. announceParents m (r .owner) v hs t)
       → Becomes b b′ (λ m t. ownerParents m v ((at k t) .owner) (at k t) t)
   hand-some z {b′} hs h l st s w =
       let q = at k (st .table) in

@@ -49,7 +49,8 @@ use Rattle.claims.proofs.Naming.{somes, claimGiven, claimsGiven, claims
 -- ---- the part of a buffer behind c keys
 
 module _ (u : List ℕ) (c x y : ℕ) (ex : x ≡ c * keyBytes) (ey : y ≡ length u) where
-  part-back : (ks : List Key) {v : List ℕ} → v ≡ written (keysAnswer ks) (take (y - x) (drop x u)) → take x u ++ (v ++ drop (y - x) (drop x u)) ≡ take (keyBytes * c) u ++ written (keysAnswer ks) (drop (keyBytes * c) u)
+  part-back : (ks : List Key) {v : List ℕ} → v ≡ written (keysAnswer ks) (take (y - x) (drop x u))
+      → take x u ++ (v ++ drop (y - x) (drop x u)) ≡ take (keyBytes * c) u ++ written (keysAnswer ks) (drop (keyBytes * c) u)
   part-back ks {v} q =
       let e : x ≡ keyBytes * c = omega arith in
       let whole : take (y - x) (drop x u) ≡ drop x u = take-all (y - x) (drop x u) (simp length-drop (omega arith)) in
@@ -107,7 +108,8 @@ unfolding someKeys failEach
 missing-each o n v e m t = rw e
 
 module _ {b u : List ℕ} {c : ℕ} (n v : ℕ) {o : Option Key} where
-  pub same-claim : {b′ u′ : List ℕ} {r : ℕ} {p : Option Key} → o ≡ p → ListedOn b b′ u u′ c r (λ m t. failEach m n v (someKeys (o ∷ [])) t) → ListedOn b b′ u u′ c r (λ m t. failEach m n v (someKeys (p ∷ [])) t)
+  pub same-claim : {b′ u′ : List ℕ} {r : ℕ} {p : Option Key} → o ≡ p → ListedOn b b′ u u′ c r (λ m t. failEach m n v (someKeys (o ∷ [])) t)
+      → ListedOn b b′ u u′ c r (λ m t. failEach m n v (someKeys (p ∷ [])) t)
   same-claim {b′} {u′} {r} e l = subst (λ (x : Option Key). ListedOn b b′ u u′ c r (λ m t. failEach m n v (someKeys (x ∷ [])) t)) e l
 
   pub no-claim : o ≡ none → ListedOn b b u u c c (λ m t. failEach m n v (someKeys (o ∷ [])) t)
@@ -157,7 +159,8 @@ over-both x y u n l =
     let e : length (x ++ y) ≡ n + length y = length-append x y ∙ ap (λ (z : ℕ). z + length y) l in
     rw (l, take-at x (drop n u) n l, drop-at x (drop n u) n l, drop-drop (length y) n u, e, append-assoc x y (drop (n + length y) u))
 
-written-then : (ks js : List Key) (u : List ℕ) (c : ℕ) → c ≡ length ks → take (keyBytes * c) (written (keysAnswer ks) u) ++ written (keysAnswer js) (drop (keyBytes * c) (written (keysAnswer ks) u)) ≡ written (keysAnswer (ks ++ js)) u
+written-then : (ks js : List Key) (u : List ℕ) (c : ℕ) → c ≡ length ks
+    → take (keyBytes * c) (written (keysAnswer ks) u) ++ written (keysAnswer js) (drop (keyBytes * c) (written (keysAnswer ks) u)) ≡ written (keysAnswer (ks ++ js)) u
 written-then ks js u c e =
     let l : length (keysAnswer ks) ≡ keyBytes * c = length-keysAnswer ks ∙ ap (λ (z : ℕ). keyBytes * z) (sym e) in
     over-both (keysAnswer ks) (keysAnswer js) u (keyBytes * c) l ∙ ap (λ (z : List ℕ). written z u) (sym (keys-both ks js))
@@ -216,7 +219,8 @@ module _ {b₀ b u₀ u : List ℕ} {n v : ℕ} {os : List (Option ℕ)} {i c : 
   abbrev after : State → State
   after st = onTable ((claimsGiven (limitsOf st) n (take i os) v (st .table)) .table) st
 
-  left : (st : State) → Sound st → Left (limitsOf st) (st .places) n (st .table) (length (someKeys (map (claimGiven n (st .table)) (take i os)))) (claimsGiven (limitsOf st) n (take i os) v (st .table))
+  left : (st : State) → Sound st → Left (limitsOf st) (st .places) n (st .table) (length (someKeys (map (claimGiven n (st .table)) (take i os))))
+      (claimsGiven (limitsOf st) n (take i os) v (st .table))
   unfolding claimsGiven
   left st s = each-left n v _ p late (holds-given n (take i os) (st .table) (s .bounded .ordered)) (s .bounded)
 
@@ -243,7 +247,8 @@ module _ {b₀ b u₀ u : List ℕ} {n v : ℕ} {os : List (Option ℕ)} {i c : 
           | inr r ↦ omega (arith, f .listed .count st s (kept .writes), left st s .named, few-keys n t (take i os), somes-take i os, f .long)
         ]
 
-    pub failed-room : {hs xs : List ℕ} (o : Option ℕ) → i < length os → o ≡ getD os i none → Tells b₀ (λ t. ClaimsAre n t hs xs) → (k : Key) → lastOf o hs xs ≡ some k → Tells b (λ t. ownerIs n ((at k t) .owner) ≡ true → keyBytes * (c + (maxParents + 1)) ≤ length u)
+    pub failed-room : {hs xs : List ℕ} (o : Option ℕ) → i < length os → o ≡ getD os i none → Tells b₀ (λ t. ClaimsAre n t hs xs) → (k : Key) → lastOf o hs xs ≡ some k
+        → Tells b (λ t. ownerIs n ((at k t) .owner) ≡ true → keyBytes * (c + (maxParents + 1)) ≤ length u)
     failed-room {hs} {xs} o inside is a k e =
         let st = kept .state in
         let s = kept .sound in
@@ -259,13 +264,15 @@ module _ {b₀ b u₀ u : List ℕ} {n v : ℕ} {os : List (Option ℕ)} {i c : 
           | inr r ↦ omega (arith, holds-on (l .loosened) k h .place q, place-counts k (l .bounded), l .named, few-keys n t (take i os), more, f .listed .count st s w, f .long)
         ])
 
-  pub failed-more : {b′ u′ : List ℕ} {hs xs : List ℕ} {r : ℕ} (x : Option ℕ) → i < length os → x ≡ getD os i none → Tells b₀ (λ t. ClaimsAre n t hs xs) → length b′ ≡ length b → length u′ ≡ length u → ListedOn b b′ u u′ c r (λ m t. failEach m n v (someKeys (lastOf x hs xs ∷ [])) t)
+  pub failed-more : {b′ u′ : List ℕ} {hs xs : List ℕ} {r : ℕ} (x : Option ℕ) → i < length os → x ≡ getD os i none → Tells b₀ (λ t. ClaimsAre n t hs xs) → length b′ ≡ length b
+      → length u′ ≡ length u → ListedOn b b′ u u′ c r (λ m t. failEach m n v (someKeys (lastOf x hs xs ∷ [])) t)
       → Failed b₀ b′ u₀ u′ n v os (i + 1) r
   failed-more {b′} {u′} {hs} {xs} {r} x inside ex a lb ll l = record {
     size = lb ∙ f .size;
     long = ll ∙ f .long;
     listed = record {
-      count = λ st s w. l .count (after st) (after-sound st s) (f .listed .table st s w) ∙ ap (λ (z : ℕ). z + length (rest st .keys)) (f .listed .count st s w) ∙ sym (length-append (first st .keys) (rest st .keys)) ∙ ap (λ (z : Listed). length (z .keys)) (sym (whole st s w));
+      count = λ st s w. l .count (after st) (after-sound st s) (f .listed .table st s w) ∙ ap (λ (z : ℕ). z + length (rest st .keys)) (f .listed .count st s w) ∙
+          sym (length-append (first st .keys) (rest st .keys)) ∙ ap (λ (z : Listed). length (z .keys)) (sym (whole st s w));
       keys = λ st s w.
           l .keys (after st) (after-sound st s) (f .listed .table st s w)
           ∙ ap (λ (z : List ℕ). take (keyBytes * c) z ++ written (keysAnswer (rest st .keys)) (drop (keyBytes * c) z)) (f .listed .keys st s w)
@@ -284,14 +291,17 @@ module _ {b₀ b u₀ u : List ℕ} {n v : ℕ} {os : List (Option ℕ)} {i c : 
       whole : (st : State) → Sound st → Writes b₀ st → claimsGiven (limitsOf st) n (take (i + 1) os) v (st .table) ≡ record { keys = first st .keys ++ rest st .keys; table = rest st .table }
       whole st s w =
           claims-more (limitsOf st) n v os i (st .table) inside
-          ∙ ap (λ (o : Option Key). then (first st) (failEach (limitsOf st) n v (someKeys (o ∷ [])) (first st .table))) (ap (claimGiven n (st .table)) (sym ex) ∙ sym (last-named x (s .bounded .lawful) (a st s w)))
+          ∙ ap (λ (o : Option Key). then (first st) (failEach (limitsOf st) n v (someKeys (o ∷ [])) (first st .table)))
+          (ap (claimGiven n (st .table)) (sym ex) ∙ sym (last-named x (s .bounded .lawful) (a st s w)))
 
 pub same-many : {n : ℕ} {t : Table} {hs xs : List ℕ} → ClaimsAre n t hs xs → length xs ≡ length hs
 same-many {n} {t} a = ap length (a .sums-are) ∙ length-map (claimsIn n t) sumOf ∙ sym (ap length (a .keys-are) ∙ length-map (claimsIn n t) hashOf)
 
-pub failed-done : {b₀ b u₀ u : List ℕ} {n v : ℕ} {os : List (Option ℕ)} {i c : ℕ} (cs : List ℕ) → Failed b₀ b u₀ u n v os i c → length os ≤ i → somes os ≡ cs → KeysListed b₀ b u₀ u c (λ m t. failedPackageClaims m n cs v t)
+pub failed-done : {b₀ b u₀ u : List ℕ} {n v : ℕ} {os : List (Option ℕ)} {i c : ℕ} (cs : List ℕ) → Failed b₀ b u₀ u n v os i c → length os ≤ i → somes os ≡ cs
+    → KeysListed b₀ b u₀ u c (λ m t. failedPackageClaims m n cs v t)
 failed-done {b₀} {b} {u₀} {u} {n} {v} {os} {i} {c} cs f h e =
-    let g : (m : Limits) (t : Table) → claimsGiven m n (take i os) v t ≡ failedPackageClaims m n cs v t = λ m t. ap (λ (x : List (Option ℕ)). claimsGiven m n x v t) (take-all i os h) ∙ claims-given m n os v t ∙ ap (λ (x : List ℕ). failedPackageClaims m n x v t) e in
+    let g : (m : Limits) (t : Table) → claimsGiven m n (take i os) v t ≡ failedPackageClaims m n cs v t = λ m t. ap (λ (x : List (Option ℕ)). claimsGiven m n x v t) (take-all i os h) ∙
+    claims-given m n os v t ∙ ap (λ (x : List ℕ). failedPackageClaims m n x v t) e in
     record {
       count = λ st s w. f .listed .count st s w ∙ ap (λ (x : Listed). length (x .keys)) (g (limitsOf st) (st .table));
       keys = λ st s w. f .listed .keys st s w ∙ ap (λ (x : Listed). written (keysAnswer (x .keys)) u₀) (g (limitsOf st) (st .table));

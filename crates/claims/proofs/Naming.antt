@@ -131,7 +131,8 @@ entries-hashes false b e = sym (length-map (hashesIn b) some)
 named-held : (i : Item) {held : Bool} → held ≡ isType msgPkgTxns (i .kind) → hashFound held (i .hash) ≡ packageNamed i
 named-held i e = elim (test (isType msgPkgTxns (i .kind))) [ inl d ↦ rw (e, d) | inr d ↦ rw (e, d) ]
 
-pub entry-item : (items : Bool) (b : List ℕ) (i : ℕ) (x : Item) {held : Bool} → items ≡ true → i < length (entriesIn items b) → ((d : Item) → x ≡ getD (itemsIn b) i d) → held ≡ isType msgPkgTxns (x .kind) → hashFound held (x .hash) ≡ getD (entriesIn items b) i none
+pub entry-item : (items : Bool) (b : List ℕ) (i : ℕ) (x : Item) {held : Bool} → items ≡ true → i < length (entriesIn items b) → ((d : Item) → x ≡ getD (itemsIn b) i d)
+    → held ≡ isType msgPkgTxns (x .kind) → hashFound held (x .hash) ≡ getD (entriesIn items b) i none
 entry-item true b i x e h is q = named-held x q ∙ ap packageNamed (is x) ∙ named-at packageNamed (itemsIn b) i x (omega (arith, entries-items true b refl))
 entry-item false b i x e h is q = never e
 

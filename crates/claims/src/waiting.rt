@@ -132,7 +132,8 @@ fn latest(keys: &[u8], sums: &[u8], c: ident::Hash) -> Found
 
 // failed_with_parents at the Wtxid key with hash h, unless it has failed before; lists its keys in `out` behind c others.
 fn fail_claim(s: &mut [u8], n: u64, h: ident::Hash, clock: u64, out: &mut [u8], c: usize) -> usize
-    requires { ⌜ Kept (now s) × (1 ≤ n) × (keyBytes * c ≤ length (now out)) × Tells (now s) (λ t. ownerIs n ((at (wtxid (hashNum h)) t) .owner) ≡ true → keyBytes * (c + (maxParents + 1)) ≤ length (now out)) × (c ≤ (maxParents + 1) * maxPlaces) ⌝ }
+    requires { ⌜ Kept (now s) × (1 ≤ n) × (keyBytes * c ≤ length (now out)) × Tells (now s) (λ t. ownerIs n ((at (wtxid (hashNum h)) t) .owner) ≡ true
+        → keyBytes * (c + (maxParents + 1)) ≤ length (now out)) × (c ≤ (maxParents + 1) * maxPlaces) ⌝ }
     ensures { λ r. ⌜ ListedOn (now (s .entry)) (now (s .exit)) (now (out .entry)) (now (out .exit)) c r (λ m t. failedWithParents m (wtxid (hashNum h)) n clock t) ⌝ }
 {
     let k = ident::wtxid_key(ident::Wtxid(h));
@@ -157,8 +158,11 @@ fn fail_latest(
     out: &mut [u8],
     c: usize,
 ) -> usize
-    requires { ⌜ Kept (now s) × (1 ≤ n) × (keyBytes * c ≤ length (now out)) × (length (hashesIn (now sums)) ≡ length (hashesIn (now keys))) × ((k : Key) → lastAmong (hashNum sum) (hashesIn (now keys)) (hashesIn (now sums)) ≡ some k → Tells (now s) (λ t. ownerIs n ((at k t) .owner) ≡ true → keyBytes * (c + (maxParents + 1)) ≤ length (now out))) × (c ≤ (maxParents + 1) * maxPlaces) ⌝ }
-    ensures { λ r. ⌜ ListedOn (now (s .entry)) (now (s .exit)) (now (out .entry)) (now (out .exit)) c r (λ m t. failEach m n clock (someKeys (lastAmong (hashNum sum) (hashesIn (now (keys .entry))) (hashesIn (now (sums .entry))) ∷ [])) t) ⌝ }
+    requires { ⌜ Kept (now s) × (1 ≤ n) × (keyBytes * c ≤ length (now out)) × (length (hashesIn (now sums)) ≡ length (hashesIn (now keys)))
+        × ((k : Key) → lastAmong (hashNum sum) (hashesIn (now keys)) (hashesIn (now sums)) ≡ some k
+        → Tells (now s) (λ t. ownerIs n ((at k t) .owner) ≡ true → keyBytes * (c + (maxParents + 1)) ≤ length (now out))) × (c ≤ (maxParents + 1) * maxPlaces) ⌝ }
+    ensures { λ r. ⌜ ListedOn (now (s .entry)) (now (s .exit)) (now (out .entry)) (now (out .exit)) c r
+        (λ m t. failEach m n clock (someKeys (lastAmong (hashNum sum) (hashesIn (now (keys .entry))) (hashesIn (now (sums .entry))) ∷ [])) t) ⌝ }
 {
     let f = latest(keys, sums, sum);
     if f.held {
@@ -220,8 +224,11 @@ fn fail_entry(
     out: &mut [u8],
     c: usize,
 ) -> usize
-    requires { ⌜ Kept (now s) × (1 ≤ n) × (keyBytes * c ≤ length (now out)) × (length (hashesIn (now sums)) ≡ length (hashesIn (now keys))) × ((k : Key) → lastOf (hashFound (g .held) (hashNum (g .hash))) (hashesIn (now keys)) (hashesIn (now sums)) ≡ some k → Tells (now s) (λ t. ownerIs n ((at k t) .owner) ≡ true → keyBytes * (c + (maxParents + 1)) ≤ length (now out))) × (c ≤ (maxParents + 1) * maxPlaces) ⌝ }
-    ensures { λ r. ⌜ ListedOn (now (s .entry)) (now (s .exit)) (now (out .entry)) (now (out .exit)) c r (λ m t. failEach m n clock (someKeys (lastOf (hashFound (g .held) (hashNum (g .hash))) (hashesIn (now (keys .entry))) (hashesIn (now (sums .entry))) ∷ [])) t) ⌝ }
+    requires { ⌜ Kept (now s) × (1 ≤ n) × (keyBytes * c ≤ length (now out)) × (length (hashesIn (now sums)) ≡ length (hashesIn (now keys)))
+        × ((k : Key) → lastOf (hashFound (g .held) (hashNum (g .hash))) (hashesIn (now keys)) (hashesIn (now sums)) ≡ some k
+        → Tells (now s) (λ t. ownerIs n ((at k t) .owner) ≡ true → keyBytes * (c + (maxParents + 1)) ≤ length (now out))) × (c ≤ (maxParents + 1) * maxPlaces) ⌝ }
+    ensures { λ r. ⌜ ListedOn (now (s .entry)) (now (s .exit)) (now (out .entry)) (now (out .exit)) c r
+        (λ m t. failEach m n clock (someKeys (lastOf (hashFound (g .held) (hashNum (g .hash))) (hashesIn (now (keys .entry))) (hashesIn (now (sums .entry))) ∷ [])) t) ⌝ }
 {
     if g.held {
         let sum = g.hash;

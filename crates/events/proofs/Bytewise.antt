@@ -23,7 +23,8 @@ use Rattle.answering.specs.Kept.{Meant, Calls, Parts, meant}
 use Rattle.answering.specs.Answers as answers
 use Rattle.answering.specs.Answers.{AnsweredAs, Answered, Stepped}
 use Rattle.answering.proofs.Stepping.{step-unread}
-use Rattle.events.specs.Input.{asksFor, MeantAs, Replied, lineFeed, LineAnswered, Reading, started, ReadsAs, Reads, ReadsAll, nothing, further, EndsAs, Input, Held, Ordered, Said, Took, TookAll, TookSome, Ended, Ran}
+use Rattle.events.specs.Input.{asksFor, MeantAs, Replied, lineFeed, LineAnswered, Reading, started, ReadsAs, Reads, ReadsAll}
+use Rattle.events.specs.Input.{nothing, further, EndsAs, Input, Held, Ordered, Said, Took, TookAll, TookSome, Ended, Ran}
 
 -- ---- one answer
 
@@ -84,7 +85,8 @@ asked-line {k} {buffer} {store} {lists} {p} g =
     ∙ asked-as (ltb lineRoom (length (p .line))) (p .line) (take (k .len) buffer) (λ e. kept-line g (ltb-false lineRoom (length (p .line)) e))
 
 module _ {k : Kept} {buffer store lists : List ℕ} {p : Reading} (g : Held k buffer store lists p) where
-  answered-line : {lists′ store′ out : List ℕ} {r : ℕ} (a : Said (if k .long then none else lineOf (take (k .len) buffer)) lists lists′ store store′ out r) → LineAnswered (p .line) (p .kept) (keptLists lists′) (p .store) store′ (a .text ++ (lineFeed ∷ []))
+  answered-line : {lists′ store′ out : List ℕ} {r : ℕ} (a : Said (if k .long then none else lineOf (take (k .len) buffer)) lists lists′ store store′ out r)
+      → LineAnswered (p .line) (p .kept) (keptLists lists′) (p .store) store′ (a .text ++ (lineFeed ∷ []))
   answered-line {lists′} {store′} a =
       let w = subst (λ (o : Option Line). Replied o (keptLists lists) (keptLists lists′) store store′ (a .text)) (asked-line g) (a .replied) in
       let x = subst (λ (b : List ℕ). Replied (asksFor (p .line)) (keptLists lists) (keptLists lists′) b store′ (a .text)) (g .store-is) w in
@@ -92,7 +94,8 @@ module _ {k : Kept} {buffer store lists : List ℕ} {p : Reading} (g : Held k bu
 
   -- ---- a byte
 
-  pub took-feed : {x : ℕ} {k′ : Kept} {lists′ store′ out : List ℕ} {r : ℕ} → x ≡ lineFeed → k′ .len ≡ 0 → k′ .long ≡ false → Said (if k .long then none else lineOf (take (k .len) buffer)) lists lists′ store store′ out r
+  pub took-feed : {x : ℕ} {k′ : Kept} {lists′ store′ out : List ℕ} {r : ℕ} → x ≡ lineFeed → k′ .len ≡ 0 → k′ .long ≡ false
+      → Said (if k .long then none else lineOf (take (k .len) buffer)) lists lists′ store store′ out r
       → Took p x k′ buffer store′ lists′ out
   took-feed {x} {k′} {lists′} {store′} {out} {r} e n f a =
       record {
@@ -143,7 +146,8 @@ module _ {k : Kept} {buffer store lists : List ℕ} {p : Reading} (g : Held k bu
           held = record {
             len = omega (arith, one-more);
             front =
-                rw e (take-suc-set buffer (k .len) x (omega arith) ∙ ap (λ (t : List ℕ). t ++ (x ∷ [])) (kept-line g (omega arith)) ∙ sym (take-all (suc (k .len)) (p .line ++ (x ∷ [])) (omega (arith, one-more))));
+                rw e (take-suc-set buffer (k .len) x (omega arith) ∙ ap (λ (t : List ℕ). t ++ (x ∷ [])) (kept-line g (omega arith)) ∙
+                sym (take-all (suc (k .len)) (p .line ++ (x ∷ [])) (omega (arith, one-more))));
             long = f ∙ sym (le-ltb lineRoom (length (p .line ++ (x ∷ []))) (omega (arith, one-more)));
             store-is = g .store-is;
             lists-are = g .lists-are;
@@ -161,9 +165,11 @@ module _ {k : Kept} {buffer store lists : List ℕ} {p : Reading} (g : Held k bu
       go (x ∷ l) z = absurd (omega (arith, z))
 
   pub ended-line : {lists′ store′ out : List ℕ} {r : ℕ} → 0 < k .len → Said (if k .long then none else lineOf (take (k .len) buffer)) lists lists′ store store′ out r → Ended p store′ out
-  ended-line {lists′} {store′} {out} h a = record { kept = keptLists lists′; said = a .text ++ (lineFeed ∷ []); ends = go (p .line) (omega (arith, g .len)) (answered-line a); shown = rw (← a .count) (a .shown) }
+  ended-line {lists′} {store′} {out} h a =
+      record { kept = keptLists lists′; said = a .text ++ (lineFeed ∷ []); ends = go (p .line) (omega (arith, g .len)) (answered-line a); shown = rw (← a .count) (a .shown) }
     where
-      go : (l : List ℕ) → 0 < length l → LineAnswered l (p .kept) (keptLists lists′) (p .store) store′ (a .text ++ (lineFeed ∷ [])) → EndsAs l (p .kept) (keptLists lists′) (p .store) store′ (a .text ++ (lineFeed ∷ []))
+      go : (l : List ℕ) → 0 < length l → LineAnswered l (p .kept) (keptLists lists′) (p .store) store′ (a .text ++ (lineFeed ∷ []))
+          → EndsAs l (p .kept) (keptLists lists′) (p .store) store′ (a .text ++ (lineFeed ∷ []))
       go [] z w = absurd (omega (arith, z))
       go (x ∷ l) z w = w
 
@@ -172,20 +178,36 @@ module _ {k : Kept} {buffer store lists : List ℕ} {p : Reading} (g : Held k bu
 pub took-none : {k : Kept} {buffer store lists : List ℕ} {p : Reading} → Held k buffer store lists p → TookAll p [] k buffer store lists
 took-none {p = p} g = record { next = p; said = []; reads = nothing p; held = g }
 
-pub took-one : {p : Reading} {xs ys : List ℕ} {k : Kept} {buffer store lists : List ℕ} {x : ℕ} {k′ : Kept} {buffer′ store′ lists′ out : List ℕ} → (t : TookAll p xs k buffer store lists) → Took (t .next) x k′ buffer′ store′ lists′ out → ys ≡ xs ++ (x ∷ [])
+pub took-one : {p : Reading} {xs ys : List ℕ} {k : Kept} {buffer store lists : List ℕ} {x : ℕ} {k′ : Kept} {buffer′ store′ lists′ out : List ℕ} → (t : TookAll p xs k buffer store lists)
+    → Took (t .next) x k′ buffer′ store′ lists′ out → ys ≡ xs ++ (x ∷ [])
     → TookAll p ys k′ buffer′ store′ lists′
-took-one {p} {xs} {ys} {x = x} t u e = record { next = u .next; said = t .said ++ u .said; reads = subst (λ (l : List ℕ). ReadsAll p l (u .next) (t .said ++ u .said)) (sym e) (further p xs (t .next) (t .said) x (u .next) (u .said) (t .reads) (u .reads)); held = u .held }
+took-one {p} {xs} {ys} {x = x} t u e = record {
+  next = u .next;
+  said = t .said ++ u .said;
+  reads = subst (λ (l : List ℕ). ReadsAll p l (u .next) (t .said ++ u .said)) (sym e) (further p xs (t .next) (t .said) x (u .next) (u .said) (t .reads) (u .reads));
+  held = u .held;
+}
 
 -- one list of bytes behind the other
 reads-on : (p m : Reading) (xs a : List ℕ) → ReadsAll p xs m a → (m′ q : Reading) (ys c : List ℕ) → ReadsAll m′ ys q c → m ≡ m′ → ReadsAll p (xs ++ ys) q (a ++ c)
-reads-on p m xs a r m′ q ys c (nothing s) e = subst (λ (l : List ℕ). ReadsAll p (xs ++ []) m′ l) (sym (append-nil a)) (subst (λ (l : List ℕ). ReadsAll p l m′ a) (sym (append-nil xs)) (subst (λ (z : Reading). ReadsAll p xs z a) e r))
+reads-on p m xs a r m′ q ys c (nothing s) e = subst (λ (l : List ℕ). ReadsAll p (xs ++ []) m′ l) (sym (append-nil a))
+    (subst (λ (l : List ℕ). ReadsAll p l m′ a) (sym (append-nil xs)) (subst (λ (z : Reading). ReadsAll p xs z a) e r))
 reads-on p m xs a r m′ q ys c (further s zs n before x t said u v) e =
     let w = further p (xs ++ zs) n (a ++ before) x q said (reads-on p m xs a r m′ n zs before u e) v in
     subst (λ (l : List ℕ). ReadsAll p (xs ++ (zs ++ (x ∷ []))) q l) (append-assoc a before said) (subst (λ (l : List ℕ). ReadsAll p l q ((a ++ before) ++ said)) (append-assoc xs zs (x ∷ [])) w)
 
-pub took-more : {p : Reading} {k : Kept} {buffer store lists : List ℕ} {k′ : Kept} {buffer′ store′ lists′ : List ℕ} → (t : TookSome p k buffer store lists) → TookSome (t .all .next) k′ buffer′ store′ lists′ → TookSome p k′ buffer′ store′ lists′
+pub took-more : {p : Reading} {k : Kept} {buffer store lists : List ℕ} {k′ : Kept} {buffer′ store′ lists′ : List ℕ} → (t : TookSome p k buffer store lists)
+    → TookSome (t .all .next) k′ buffer′ store′ lists′ → TookSome p k′ buffer′ store′ lists′
 took-more {p} t u =
-    record { bytes = t .bytes ++ u .bytes; all = record { next = u .all .next; said = t .all .said ++ u .all .said; reads = reads-on p (t .all .next) (t .bytes) (t .all .said) (t .all .reads) (t .all .next) (u .all .next) (u .bytes) (u .all .said) (u .all .reads) refl; held = u .all .held } }
+    record {
+      bytes = t .bytes ++ u .bytes;
+      all = record {
+        next = u .all .next;
+        said = t .all .said ++ u .all .said;
+        reads = reads-on p (t .all .next) (t .bytes) (t .all .said) (t .all .reads) (t .all .next) (u .all .next) (u .bytes) (u .all .said) (u .all .reads) refl;
+        held = u .all .held;
+      };
+    }
 
 pub nothing-held : {k : Kept} (buffer store lists : List ℕ) → keptLists lists ≡ noLists → k .len ≡ 0 → k .long ≡ false → Held k buffer store lists (started store)
 nothing-held buffer store lists w n f = record { len = n; front = rw n; long = f; store-is = refl; lists-are = w }
@@ -203,15 +225,21 @@ order-of l w = w
 -- ---- the whole input
 
 pub ran : {b : List ℕ} {k : Kept} {buffer store lists store′ out : List ℕ} → (t : TookSome (started b) k buffer store lists) → Ended (t .all .next) store′ out → Ran b store′
-ran t e = record { bytes = t .bytes; said = t .all .said ++ e .said; input = record { last = t .all .next; kept = e .kept; before = t .all .said; behind = e .said; reads = t .all .reads; ends = e .ends; said-is = refl } }
+ran t e = record {
+  bytes = t .bytes;
+  said = t .all .said ++ e .said;
+  input = record { last = t .all .next; kept = e .kept; before = t .all .said; behind = e .said; reads = t .all .reads; ends = e .ends; said-is = refl };
+}
 
 -- ---- the code's forms
 
 -- a line that is too long, and one that is read
-pub printed-long : {t : Bool} (l : List ℕ) {lists b out out′ : List ℕ} {r : ℕ} → InOrder lists → t ≡ true → Printed out out′ (refusalText unreadable) r → Stepped (if t then none else lineOf l) lists lists b b out out′ r
+pub printed-long : {t : Bool} (l : List ℕ) {lists b out out′ : List ℕ} {r : ℕ} → InOrder lists → t ≡ true → Printed out out′ (refusalText unreadable) r
+    → Stepped (if t then none else lineOf l) lists lists b b out out′ r
 printed-long {t} l {lists} {b} {out} {out′} {r} w e p = subst (λ (x : Bool). Stepped (if x then none else lineOf l) lists lists b b out out′ r) (sym e) (step-unread w refl refl p)
 
-pub printed-line : {t : Bool} (l : List ℕ) {lists lists′ b b′ out out′ : List ℕ} {r : ℕ} → t ≡ false → Stepped (lineOf l) lists lists′ b b′ out out′ r → Stepped (if t then none else lineOf l) lists lists′ b b′ out out′ r
+pub printed-line : {t : Bool} (l : List ℕ) {lists lists′ b b′ out out′ : List ℕ} {r : ℕ} → t ≡ false → Stepped (lineOf l) lists lists′ b b′ out out′ r
+    → Stepped (if t then none else lineOf l) lists lists′ b b′ out out′ r
 printed-line {t} l {lists} {lists′} {b} {b′} {out} {out′} {r} e a = subst (λ (x : Bool). Stepped (if x then none else lineOf l) lists lists′ b b′ out out′ r) (sym e) a
 
 -- the next byte of a list, and all of them

@@ -85,7 +85,8 @@ pub record Reads (p : Reading) (x : ℕ) (q : Reading) (said : List ℕ) : Type 
 -- its fold over a list of bytes
 pub data ReadsAll : Reading → List ℕ → Reading → List ℕ → Type 0 where
   nothing : (p : Reading) → ReadsAll p [] p []
-  further : (p : Reading) (xs : List ℕ) (m : Reading) (before : List ℕ) (x : ℕ) (q : Reading) (said : List ℕ) → ReadsAll p xs m before → Reads m x q said → ReadsAll p (xs ++ (x ∷ [])) q (before ++ said)
+  further : (p : Reading) (xs : List ℕ) (m : Reading) (before : List ℕ) (x : ℕ) (q : Reading) (said : List ℕ) → ReadsAll p xs m before → Reads m x q said
+      → ReadsAll p (xs ++ (x ∷ [])) q (before ++ said)
 
 -- the end of the input: the last line may lack its line feed
 abbrev pub EndsAs : List ℕ → KeptLists → KeptLists → List ℕ → List ℕ → List ℕ → Type 0

@@ -52,7 +52,8 @@ struct Read {
 // The text of a line's answer: of no call, if the line is too long.
 fn print(store: &mut [u8], lists: &mut [u8], line: &[u8], long: bool, out: &mut [u8]) -> usize
     requires { ⌜ InOrder (now lists) × (answerRoom ≤ length (now out)) × (length (now line) ≤ lineRoom) ⌝ }
-    ensures { λ r. ⌜ Stepped (if long then none else lineOf (now (line .entry))) (now (lists .entry)) (now (lists .exit)) (now (store .entry)) (now (store .exit)) (now (out .entry)) (now (out .exit)) r ⌝ }
+    ensures { λ r. ⌜ Stepped (if long then none else lineOf (now (line .entry))) (now (lists .entry)) (now (lists .exit)) (now (store .entry)) (now (store .exit)) (now (out .entry))
+        (now (out .exit)) r ⌝ }
 {
     if long {
         return answering::answers::unreadable(out);
@@ -84,7 +85,8 @@ fn take(
 ) -> Kept
     requires { ⌜ Ordered (now lists) × (lineRoom ≤ length (now line)) × (answerRoom ≤ length (now out)) × (kept .len ≤ lineRoom) ⌝ }
     ensures { λ r. ⌜ Ordered (now (lists .exit)) × (r .len ≤ lineRoom) ⌝ }
-    ensures took { λ r. ⌜ ((p : Reading) → Held kept (now (line .entry)) (now (store .entry)) (now (lists .entry)) p → Took p b r (now (line .exit)) (now (store .exit)) (now (lists .exit)) (now (out .exit))) ⌝ }
+    ensures took { λ r. ⌜ ((p : Reading) → Held kept (now (line .entry)) (now (store .entry)) (now (lists .entry)) p
+        → Took p b r (now (line .exit)) (now (store .exit)) (now (lists .exit)) (now (out .exit))) ⌝ }
 {
     let len = kept.len;
     if b == b'\n' {
@@ -114,7 +116,8 @@ fn take_all(
 ) -> Kept
     requires { ⌜ Ordered (now lists) × (lineRoom ≤ length (now line)) × (answerRoom ≤ length (now out)) × (kept .len ≤ lineRoom) ⌝ }
     ensures { λ r. ⌜ Ordered (now (lists .exit)) × (r .len ≤ lineRoom) ⌝ }
-    ensures took { λ r. ⌜ ((p : Reading) → Held kept (now (line .entry)) (now (store .entry)) (now (lists .entry)) p → TookAll p (now (bytes .entry)) r (now (line .exit)) (now (store .exit)) (now (lists .exit))) ⌝ }
+    ensures took { λ r. ⌜ ((p : Reading) → Held kept (now (line .entry)) (now (store .entry)) (now (lists .entry)) p
+        → TookAll p (now (bytes .entry)) r (now (line .exit)) (now (store .exit)) (now (lists .exit))) ⌝ }
 {
     let mut now = kept;
     let mut i = 0;

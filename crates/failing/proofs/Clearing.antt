@@ -29,13 +29,23 @@ use Rattle.failing.proofs.Fusing.{change-fuse, change-none}
 shrinks-closed : Shrinks closed
 shrinks-closed = record {
   key = λ r. refl;
-  at-each = λ r. record { fewer = λ p. omega arith; less = λ p. omega arith; place = omega arith; lawful = λ h. record { candidates = h .candidates; owner = h .owner; packed = refl; parents = parents-none; mark = h .mark } };
+  at-each = λ r. record {
+    fewer = λ p. omega arith;
+    less = λ p. omega arith;
+    place = omega arith;
+    lawful = λ h. record { candidates = h .candidates; owner = h .owner; packed = refl; parents = parents-none; mark = h .mark };
+  };
 }
 
 pub shrinks-unowned : Shrinks unowned
 shrinks-unowned = record {
   key = λ r. refl;
-  at-each = λ r. record { fewer = λ p. omega arith; less = λ p. omega arith; place = omega arith; lawful = λ h. record { candidates = h .candidates; owner = tt; packed = refl; parents = parents-none; mark = h .mark } };
+  at-each = λ r. record {
+    fewer = λ p. omega arith;
+    less = λ p. omega arith;
+    place = omega arith;
+    lawful = λ h. record { candidates = h .candidates; owner = tt; packed = refl; parents = parents-none; mark = h .mark };
+  };
 }
 
 -- an owner is a candidate
@@ -45,10 +55,12 @@ owner-held n (some o) cs f e = has-some (o .connection) cs (f .0)
 
 -- ---- "only on Wtxid keys"
 
-closed-with : (q : Request) (i : Bool) (p : Option Package) (hs : List ℕ) → i ≡ false → p ≡ none → hs ≡ [] → closed q ≡ record { key = q .key; candidates = q .candidates; owner = q .owner; info = i; «package» = p; parents = hs; fallback = q .fallback }
+closed-with : (q : Request) (i : Bool) (p : Option Package) (hs : List ℕ) → i ≡ false → p ≡ none → hs ≡ []
+    → closed q ≡ record { key = q .key; candidates = q .candidates; owner = q .owner; info = i; «package» = p; parents = hs; fallback = q .fallback }
 closed-with q i p hs a b c = rw (a, b, c)
 
-closed-txid : (q : Request) {j : Kind} (o : Option Owner) (hs : List ℕ) (i : Bool) (p : Option Package) → j ≡ Txid → Packed j o i p hs → closed q ≡ record { key = q .key; candidates = q .candidates; owner = q .owner; info = i; «package» = p; parents = hs; fallback = q .fallback }
+closed-txid : (q : Request) {j : Kind} (o : Option Owner) (hs : List ℕ) (i : Bool) (p : Option Package) → j ≡ Txid → Packed j o i p hs
+    → closed q ≡ record { key = q .key; candidates = q .candidates; owner = q .owner; info = i; «package» = p; parents = hs; fallback = q .fallback }
 closed-txid q o hs true (some p) e k = absurd k
 closed-txid q o hs true none e k = let z : Txid ≡ Wtxid = sym e ∙ k .1 in let y : _≡_ {A = ℕ} 0 1 = cc in absurd (omega arith)
 closed-txid q o hs false (some p) e k = let z : Txid ≡ Wtxid = sym e ∙ k .1 in let y : _≡_ {A = ℕ} 0 1 = cc in absurd (omega arith)
@@ -58,7 +70,8 @@ module _ (st : State) (s : Sound st) (k : Key) (small : k .hash < top) where
   pub nothing-closed : k .kind ≡ Txid → {b : List ℕ} → Writes b st → Writes b (onTable (change k closed (st .table)) st)
   nothing-closed e {b} w =
       let q = at k (st .table) in
-      let same : closed q ≡ q = closed-txid q (q .owner) (q .parents) (q .info) (q .«package») (ap (λ (j : Key). j .kind) (at-key k 0 (st .table) small (s .bounded .ordered)) ∙ e) (lawful-at k (st .table) (s .bounded .lawful) .packed) in
+      let same : closed q ≡ q = closed-txid q (q .owner) (q .parents) (q .info) (q .«package») (ap (λ (j : Key). j .kind) (at-key k 0 (st .table) small (s .bounded .ordered)) ∙ e)
+      (lawful-at k (st .table) (s .bounded .lawful) .packed) in
       subst (λ (t : Table). Writes b (onTable t st)) (sym (change-none k closed 0 (st .table) (s .bounded .ordered) (s .bounded .filled) same)) w
 
   -- ---- once the place is closed
@@ -81,5 +94,6 @@ module _ (st : State) (s : Sound st) (k : Key) (small : k .hash < top) where
   pub clears : change k unowned (shut .table) ≡ change k unowned (st .table)
   clears = change-fuse k closed unowned 0 (st .table) (λ r. refl) (λ r z. z) (s .bounded .ordered)
 
-  pub cleared-from : {b b′ : List ℕ} (n : ℕ) → ownerIs n ((at k (st .table)) .owner) ≡ true → Writes b shut → Makes b b′ (λ t. OwnedBare n (at k t)) (change k unowned) → Writes b′ (onTable (change k unowned (st .table)) st)
+  pub cleared-from : {b b′ : List ℕ} (n : ℕ) → ownerIs n ((at k (st .table)) .owner) ≡ true → Writes b shut → Makes b b′ (λ t. OwnedBare n (at k t)) (change k unowned)
+      → Writes b′ (onTable (change k unowned (st .table)) st)
   cleared-from {b} {b′} n e w h = subst (λ (t : Table). Writes b′ (onTable t st)) clears (h shut shut-sound w (owned-shut n e))

@@ -67,7 +67,8 @@ pub copied-none : (b : List ℕ) (i m : ℕ) (u : List ℕ) → Copied b i m u u
 unfolding recs
 copied-none b i m u = record { most = omega arith; long = refl; front = λ h x st s w p. refl }
 
-pub copied-more : {b : List ℕ} {i m : ℕ} {u₀ u u′ : List ℕ} {j : ℕ} (h a : ℕ) → Copied b i m u₀ u j → j < m → m ≤ listMost → hashBytes * listMost ≤ length u₀ → ReadAt b i (λ q. m ≡ length (q .parents))
+pub copied-more : {b : List ℕ} {i m : ℕ} {u₀ u u′ : List ℕ} {j : ℕ} (h a : ℕ) → Copied b i m u₀ u j → j < m → m ≤ listMost → hashBytes * listMost ≤ length u₀
+    → ReadAt b i (λ q. m ≡ length (q .parents))
     → ReadAt b i (λ q. j < length (q .parents) → h ≡ getD (q .parents) j 0) → a ≡ hashBytes * j → u′ ≡ splice u a (digits 256 hashBytes h) → Copied b i m u₀ u′ (j + 1)
 copied-more {b} {i} {m} {u₀} {u} {u′} {j} h a c l few room count is e put = record {
   most = omega arith;
@@ -130,7 +131,8 @@ module _ {q : Request} {r : Read} (x : RequestOf q r) (n : ℕ) (h : 1 ≤ n) (u
       let p : (q .info || isSome (q .«package»)) ≡ true = stage-place (q .info) (q .«package») (λ y. z (x .stage ∙ y)) in
       ap (λ (b : Bool). if b && (q .info || isSome (q .«package»)) then q .parents else []) o ∙ ap (λ (b : Bool). if b then q .parents else []) p
 
-module _ (st : State) (s : Sound st) (k : Key) (small : k .hash < top) {r : Read} (x : RequestOf (at k (st .table)) r) (z : r .stage ≡ 0 → ⊥) {i : ℕ} {held : Bool} (p : PlaceSpot (st .table) (k .hash) i held) where
+module _ (st : State) (s : Sound st) (k : Key) (small : k .hash < top) {r : Read} (x : RequestOf (at k (st .table)) r) (z : r .stage ≡ 0 → ⊥) {i : ℕ} {held : Bool}
+    (p : PlaceSpot (st .table) (k .hash) i held) where
   kind-is : k .kind ≡ Wtxid
   kind-is = not-txid (k .kind) (λ e. z (x .stage ∙ txid-stage st s k small e))
 
@@ -143,6 +145,7 @@ module _ (st : State) (s : Sound st) (k : Key) (small : k .hash < top) {r : Read
       let there : hasPlace q ≡ true = stage-place (q .info) (q .«package») (λ y. z (x .stage ∙ y)) in
       never (sym e ∙ p .held-is ∙ ap (λ (j : Key). hasPlace (at j (st .table))) (sym key-is) ∙ there)
 
-  pub its-parents : (n : ℕ) → 1 ≤ n → r .owner ≡ n → held ≡ true → (u : List ℕ) (m : ℕ) → (PlaceSpot (st .table) (k .hash) i true → firstHashes m u ≡ (at (wtxid (k .hash)) (st .table)) .parents) → firstHashes m u ≡ parentsFor n (at k (st .table))
+  pub its-parents : (n : ℕ) → 1 ≤ n → r .owner ≡ n → held ≡ true → (u : List ℕ) (m : ℕ) → (PlaceSpot (st .table) (k .hash) i true → firstHashes m u ≡ (at (wtxid (k .hash)) (st .table)) .parents)
+      → firstHashes m u ≡ parentsFor n (at k (st .table))
   its-parents n h e y u m f =
       f (record { bound = p .bound; held-is = sym y ∙ p .held-is }) ∙ ap (λ (j : Key). (at j (st .table)) .parents) (sym key-is) ∙ sym (parents-all x n h u e z)

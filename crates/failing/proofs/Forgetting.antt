@@ -33,7 +33,8 @@ owner-named none e h = absurd (h e)
 owner-named (some o) {n} e h = eq-eqb (o .connection) n (sym e)
 
 -- who has no owner has nothing to clear
-unowned-same : (q : Request) (j : Kind) (k : Key) (o : Option Owner) (i : Bool) (p : Option Package) (hs : List ℕ) → ownerNum o ≡ 0 → OwnerFits o (q .candidates) → AllFit k (q .candidates) → Packed j o i p hs
+unowned-same : (q : Request) (j : Kind) (k : Key) (o : Option Owner) (i : Bool) (p : Option Package) (hs : List ℕ) → ownerNum o ≡ 0 → OwnerFits o (q .candidates)
+    → AllFit k (q .candidates) → Packed j o i p hs
     → unowned q ≡ record { key = q .key; candidates = q .candidates; owner = o; info = i; «package» = p; parents = hs; fallback = q .fallback }
 unowned-same q j k (some o) i p hs e w f x = absurd (omega (arith, positive (o .connection) k (q .candidates) (w .0) f))
 unowned-same q j k none true (some p) hs e w f x = absurd x

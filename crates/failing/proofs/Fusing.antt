@@ -36,7 +36,8 @@ change-first : (k : Key) (g : Request → Request) (r : Request) (t : Table) →
 unfolding change
 change-first k g r t e = rw (le-ltb (place k) (place (r .key)) (omega arith), eq-eqb (place k) (place (r .key)) e)
 
-fuse-keep : (k : Key) (g : Request → Request) (r : Request) (cs : List Candidate) (lo : ℕ) (t : Table) → GivesNone g → r .candidates ≡ cs → place k ≡ place (r .key) → place k < lo → Ordered lo t → change k g (keep r cs t) ≡ keep (g r) ((g r) .candidates) t
+fuse-keep : (k : Key) (g : Request → Request) (r : Request) (cs : List Candidate) (lo : ℕ) (t : Table) → GivesNone g → r .candidates ≡ cs → place k ≡ place (r .key) → place k < lo → Ordered lo t
+    → change k g (keep r cs t) ≡ keep (g r) ((g r) .candidates) t
 unfolding keep
 fuse-keep k g r [] lo t z q e h o = change-before k g lo t z h o ∙ sym (keep-none (g r) ((g r) .candidates) t (z r q))
 fuse-keep k g r (c ∷ cs) lo t z q e h o = change-first k g r t e

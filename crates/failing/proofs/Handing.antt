@@ -55,7 +55,8 @@ module _ (u u₁ : List ℕ) (k : Key) (y : ℕ) (e : u₁ ≡ splice u (keyByte
   nothing-left = drop-of-length-le (drop keyBytes u₁) {i = y - keyBytes} (simp length-drop (omega arith))
 
   -- what is lent of the buffer, and comes back as v
-  behind-keys : (ks : List Key) {v : List ℕ} → v ≡ written (keysAnswer ks) (take (y - keyBytes) (drop keyBytes u₁)) → take keyBytes u₁ ++ (v ++ drop (y - keyBytes) (drop keyBytes u₁)) ≡ written (keysAnswer (k ∷ ks)) u
+  behind-keys : (ks : List Key) {v : List ℕ} → v ≡ written (keysAnswer ks) (take (y - keyBytes) (drop keyBytes u₁))
+      → take keyBytes u₁ ++ (v ++ drop (y - keyBytes) (drop keyBytes u₁)) ≡ written (keysAnswer (k ∷ ks)) u
   behind-keys ks {v} x =
       ap (λ (z : List ℕ). take keyBytes u₁ ++ (z ++ drop (y - keyBytes) (drop keyBytes u₁))) (x ∙ ap (written (keysAnswer ks)) whole)
       ∙ ap (λ (z : List ℕ). take keyBytes u₁ ++ (written (keysAnswer ks) (drop keyBytes u₁) ++ z)) nothing-left
@@ -63,7 +64,8 @@ module _ (u u₁ : List ℕ) (k : Key) (y : ℕ) (e : u₁ ≡ splice u (keyByte
       ∙ behind-front (keyAnswer k) (keysAnswer ks) u keyBytes (length-keyAnswer k)
       ∙ ap (λ (z : List ℕ). written z u) (more-keys k ks)
 
-  pub listed-behind : {b b′ v : List ℕ} {c : ℕ} (f : Limits → Table → Listed) → KeysListed b b′ (take (y - keyBytes) (drop keyBytes u₁)) v c f → KeysListed b b′ u (take keyBytes u₁ ++ (v ++ drop (y - keyBytes) (drop keyBytes u₁))) (c + 1) (λ m t. led k (f m t))
+  pub listed-behind : {b b′ v : List ℕ} {c : ℕ} (f : Limits → Table → Listed) → KeysListed b b′ (take (y - keyBytes) (drop keyBytes u₁)) v c f
+      → KeysListed b b′ u (take keyBytes u₁ ++ (v ++ drop (y - keyBytes) (drop keyBytes u₁))) (c + 1) (λ m t. led k (f m t))
   listed-behind f l = record { count = λ st s w. omega (arith, l .count st s w); keys = λ st s w. behind-keys ((f (limitsOf st) (st .table)) .keys) (l .keys st s w); table = l .table }
 
 -- ---- the hashes of a list's front
@@ -109,11 +111,13 @@ module _ {b b₁ : List ℕ} {r : Bool} (k : Key) (small : k .hash < top) (n v :
   pub failed-kept : Kept b → Kept b₁
   failed-kept p = record { state = after (p .state); sound = after-sound (p .state) (p .sound); writes = a .table (p .state) (p .sound) (p .writes) }
 
-  answer-is : (hs : List ℕ) → Tells b (λ t. hs ≡ parentsFor n (at k t)) → (st : State) → Sound st → Writes b st → led k (announceParents (limitsOf st) n v hs ((failed k n v (st .table)) .table)) ≡ failedWithParents (limitsOf st) k n v (st .table)
+  answer-is : (hs : List ℕ) → Tells b (λ t. hs ≡ parentsFor n (at k t)) → (st : State) → Sound st → Writes b st
+      → led k (announceParents (limitsOf st) n v hs ((failed k n v (st .table)) .table)) ≡ failedWithParents (limitsOf st) k n v (st .table)
   unfolding failedWithParents listedAfter
   answer-is hs h st s w = rw (sym (a .reply st s w) ∙ e) (ap (λ (x : List ℕ). led k (announceParents (limitsOf st) n v x ((failed k n v (st .table)) .table))) (h st s w))
 
-  pub handed : {b₂ u u₂ : List ℕ} {c : ℕ} (hs : List ℕ) → Tells b (λ t. hs ≡ parentsFor n (at k t)) → KeysListed b₁ b₂ u u₂ c (λ m t. led k (announceParents m n v hs t)) → KeysListed b b₂ u u₂ c (λ m t. failedWithParents m k n v t)
+  pub handed : {b₂ u u₂ : List ℕ} {c : ℕ} (hs : List ℕ) → Tells b (λ t. hs ≡ parentsFor n (at k t)) → KeysListed b₁ b₂ u u₂ c (λ m t. led k (announceParents m n v hs t))
+      → KeysListed b b₂ u u₂ c (λ m t. failedWithParents m k n v t)
   handed {b₂} {u} {u₂} {c} hs h l = record {
     count = λ st s w. l .count (after st) (after-sound st s) (a .table st s w) ∙ ap (λ (x : Listed). length (x .keys)) (answer-is hs h st s w);
     keys = λ st s w. l .keys (after st) (after-sound st s) (a .table st s w) ∙ ap (λ (x : Listed). written (keysAnswer (x .keys)) u) (answer-is hs h st s w);

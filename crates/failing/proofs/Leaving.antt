@@ -183,7 +183,8 @@ pub unclaim-refused : (st : State) (k : Key) (n : ℕ) → releasable n (at k (s
 unfolding unclaim
 unclaim-refused st k n e w = rw e w
 
-pub unclaimed : (st : State) → Sound st → (k : Key) (n : ℕ) → releasable n (at k (st .table)) ≡ true → {b b′ : List ℕ} → Writes b st → Clears b b′ k n → Writes b′ (onTable (unclaim k n (st .table)) st)
+pub unclaimed : (st : State) → Sound st → (k : Key) (n : ℕ) → releasable n (at k (st .table)) ≡ true → {b b′ : List ℕ} → Writes b st → Clears b b′ k n
+    → Writes b′ (onTable (unclaim k n (st .table)) st)
 unfolding unclaim
 unclaimed st s k n e w h = rw e (h st s w (owner-of n (at k (st .table)) e))
 

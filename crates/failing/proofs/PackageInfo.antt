@@ -101,7 +101,8 @@ info-failed : (k : Key) (n v : ℕ) (t : Table) → infoOwned n (at k t) ≡ tru
 unfolding failedPackageInfo
 info-failed k n v t e = rw e
 
-pub info-answered : {b b′ : List ℕ} {x : Bool} (k : Key) (n v : ℕ) → Tells b (λ t. infoOwned n (at k t) ≡ true) → Answered b b′ x (λ m t. failed k n v t) → Answered b b′ x (λ m t. failedPackageInfo k n v t)
+pub info-answered : {b b′ : List ℕ} {x : Bool} (k : Key) (n v : ℕ) → Tells b (λ t. infoOwned n (at k t) ≡ true) → Answered b b′ x (λ m t. failed k n v t)
+    → Answered b b′ x (λ m t. failedPackageInfo k n v t)
 info-answered {b} {b′} k n v r a = record {
   reply = λ st s w. a .reply st s w ∙ ap (λ (y : Answer). y .reply) (sym (info-failed k n v (st .table) (r st s w)));
   table = λ st s w. subst (λ (y : Answer). Writes b′ (onTable (y .table) st)) (sym (info-failed k n v (st .table) (r st s w))) (a .table st s w);

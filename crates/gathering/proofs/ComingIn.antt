@@ -82,13 +82,15 @@ length-gathered t (e ∷ es) ys =
 places-pushes : (n : ℕ) (es : List Entry) (t : Table) → Each (Ready n) es → Ordered 0 t → placesOf (pushes es t) ≡ placesOf t
 unfolding pushes
 places-pushes n [] t a o = refl
-places-pushes n (e ∷ es) t a o = places-pushes n es (push (e .key) (e .candidate) t) (a .1) (ordered-change (e .key) _ 0 t (λ r. refl) (omega arith) (a .0 .small) o) ∙ push-places (e .key) 0 t o (e .candidate)
+places-pushes n (e ∷ es) t a o = places-pushes n es (push (e .key) (e .candidate) t) (a .1) (ordered-change (e .key) _ 0 t (λ r. refl) (omega arith) (a .0 .small) o) ∙
+    push-places (e .key) 0 t o (e .candidate)
 
 -- ---- the state
 
 -- bytes with the rows merged and the connection's entry raised write the table with all of them
 pub came-in : (n : ℕ) (st : State) → Sound st → (es : List Entry) → Each (Ready n) es → Idle (st .table) es → {b : List ℕ}
-    → Shows b (withConns (raise n (length es) (tally (rowsOf (st .table)))) (withRows (merged (rowsOf (st .table)) (gathered (st .table) es [])) (flatOf st))) → Writes b (onTable (pushes es (st .table)) st)
+    → Shows b (withConns (raise n (length es) (tally (rowsOf (st .table)))) (withRows (merged (rowsOf (st .table)) (gathered (st .table) es [])) (flatOf st)))
+    → Writes b (onTable (pushes es (st .table)) st)
 came-in n st s es a i h =
     let t = st .table in
     let o = s .bounded .ordered in

@@ -52,8 +52,10 @@ module _ (j : Key) (x : ℕ) (small : j .hash < top) where
   cut-pushes n [] t a w o f = refl
   cut-pushes n (e ∷ es) t a w o f =
       let d = elsewhere (e .key) (a .0 .small) (or-left (eqb (e .key .hash) (j .hash)) (waits (j .hash) es) w) in
-      cut-pushes n es (push (e .key) (e .candidate) t) (a .1) (or-right (eqb (e .key .hash) (j .hash)) (waits (j .hash) es) w) (ordered-change (e .key) _ 0 t (λ r. refl) (omega arith) (a .0 .small) o) (filled-change (e .key) _ t f)
-      ∙ ap (pushes es) (change-swap j (e .key) (λ r. withCandidates (without x (r .candidates)) r) (λ r. withCandidates (r .candidates ++ (e .candidate ∷ [])) r) t small (a .0 .small) (λ z. d (sym z)) (λ r. refl) (λ r. refl) o f)
+      cut-pushes n es (push (e .key) (e .candidate) t) (a .1) (or-right (eqb (e .key .hash) (j .hash)) (waits (j .hash) es) w)
+      (ordered-change (e .key) _ 0 t (λ r. refl) (omega arith) (a .0 .small) o) (filled-change (e .key) _ t f)
+      ∙ ap (pushes es) (change-swap j (e .key) (λ r. withCandidates (without x (r .candidates)) r) (λ r. withCandidates (r .candidates ++ (e .candidate ∷ [])) r) t small (a .0 .small)
+      (λ z. d (sym z)) (λ r. refl) (λ r. refl) o f)
 
   at-still : (n : ℕ) (e : Entry) (t : Table) → Ready n e → eqb (e .key .hash) (j .hash) ≡ false → at (e .key) (cut j x t) ≡ at (e .key) t
   at-still n e t r w = at-other (e .key) j (λ q. withCandidates (without x (q .candidates)) q) t (λ q. refl) (elsewhere (e .key) (r .small) w)
@@ -62,13 +64,16 @@ module _ (j : Key) (x : ℕ) (small : j .hash < top) where
   unfolding gathered waits
   gathered-still n [] t ys a w = refl
   gathered-still n (e ∷ es) t ys a w =
-      rw (at-still n e t (a .0) (or-left (eqb (e .key .hash) (j .hash)) (waits (j .hash) es) w)) (gathered-still n es t (placed (rowOf (at (e .key) t) (e .candidate)) ys) (a .1) (or-right (eqb (e .key .hash) (j .hash)) (waits (j .hash) es) w))
+      rw (at-still n e t (a .0) (or-left (eqb (e .key .hash) (j .hash)) (waits (j .hash) es) w))
+      (gathered-still n es t (placed (rowOf (at (e .key) t) (e .candidate)) ys) (a .1) (or-right (eqb (e .key .hash) (j .hash)) (waits (j .hash) es) w))
 
   idle-still : (n : ℕ) (es : List Entry) (t : Table) → Each (Ready n) es → waits (j .hash) es ≡ false → Idle t es → Idle (cut j x t) es
   unfolding waits
   idle-still n [] t a w i = tt
-  idle-still n (e ∷ es) t a w i =
-      (rw (at-still n e t (a .0) (or-left (eqb (e .key .hash) (j .hash)) (waits (j .hash) es) w)) (i .0), idle-still n es t (a .1) (or-right (eqb (e .key .hash) (j .hash)) (waits (j .hash) es) w) (i .1))
+  idle-still n (e ∷ es) t a w i = (
+    rw (at-still n e t (a .0) (or-left (eqb (e .key .hash) (j .hash)) (waits (j .hash) es) w)) (i .0),
+    idle-still n es t (a .1) (or-right (eqb (e .key .hash) (j .hash)) (waits (j .hash) es) w) (i .1),
+  )
 
   aside-still : {n d : ℕ} {t : Table} {es : List Entry} {w : List ℕ} → Aside n t es w d → waits (j .hash) es ≡ false → Aside n (cut j x t) es w d
   aside-still {n} {d} {t} {es} {w} a e = record { ready = a .ready; idle = idle-still n es t (a .ready) e (a .idle); count = a .count; rows = rw (gathered-still n es t [] (a .ready) e) (a .rows) }
@@ -111,23 +116,27 @@ module _ (c : Candidate) {b w v : List ℕ} {d p m : ℕ} {st : State} (f : Full
     b₁ = record { key = k; candidate = c }
 
     unknown : isCandidate (c .connection) (k .hash) t ≡ false
-    unknown = or-left (isCandidate (c .connection) (k .hash) t) (waits (k .hash) es) (or-left (isCandidate (c .connection) (k .hash) t || waits (k .hash) es) (leb maxPeerAnnouncements (heldBy (c .connection) t + length es)) (x .free refl))
+    unknown = or-left (isCandidate (c .connection) (k .hash) t) (waits (k .hash) es)
+        (or-left (isCandidate (c .connection) (k .hash) t || waits (k .hash) es) (leb maxPeerAnnouncements (heldBy (c .connection) t + length es)) (x .free refl))
 
     -- the machine evicts it, and the order of what is done does not matter
     table-is : (announceKeyed (limitsOf st) (some k) c (pushes es t)) .table ≡ pushes (es ++ (b₁ ∷ [])) after
     unfolding announceKeyed evicting candidateAt
     table-is =
-        let e = taken-evicting (limitsOf st) c es t (f .aside .ready) (f .sound .bounded .ordered) k (x .free refl) (lt-leb maxAlternates (heldAt (k .hash) t) (x .room refl)) (le-leb (st .limit) (held t + length es) (omega (arith, f .whole, f .aside .count))) (x .preferred refl) in
+        let e = taken-evicting (limitsOf st) c es t (f .aside .ready) (f .sound .bounded .ordered) k (x .free refl) (lt-leb maxAlternates (heldAt (k .hash) t) (x .room refl))
+        (le-leb (st .limit) (held t + length es) (omega (arith, f .whole, f .aside .count))) (x .preferred refl) in
         let g : greatest (victims anywhere (pushes es t)) ≡ some (entryAt y) = ap greatest (victims-pushes es t (f .preferred)) ∙ first-greatest st (f .sound) y left here in
         ap (λ (a : Answer). a .table) (e ∙ ap (λ (o : Option Entry). evicting o k c (pushes es t)) g)
         ∙ ap (push k c) (cut-pushes (keyAt y) (y .conn) (gives-way .small) (c .connection) es t (f .aside .ready) (x .apart refl) (f .sound .bounded .ordered) (f .sound .bounded .filled))
         ∙ sym (pushes-more es b₁ after)
 
-    pub swapped-in : {b′ w′ : List ℕ} {j : Key} {z : Row} → d < space → j ≡ keyAt y → Makes b b′ (λ u. (has (y .conn) ((at j u) .candidates) ≡ true) × (ownerIs (y .conn) ((at j u) .owner) ≡ false)) (cut j (y .conn)) → RowIn b′ k c z → PutIn w w′ d z → Swapped b′ w′ v (d + 1) (p + 1) m (some k) c st es
+    pub swapped-in : {b′ w′ : List ℕ} {j : Key} {z : Row} → d < space → j ≡ keyAt y → Makes b b′ (λ u. (has (y .conn) ((at j u) .candidates) ≡ true)
+        × (ownerIs (y .conn) ((at j u) .owner) ≡ false)) (cut j (y .conn)) → RowIn b′ k c z → PutIn w w′ d z → Swapped b′ w′ v (d + 1) (p + 1) m (some k) c st es
     swapped-in {b′} {w′} {j} {z} sp q h row put =
         let s′ = cleared-sound st (f .sound) y gives-way in
         let g = cut-writes st (f .sound) y gives-way q h (f .writes) in
-        let i : ownerIs (c .connection) ((at k after) .owner) ≡ false = fresh (onTable after st) s′ k small (c .connection) (cleared-fresh st (f .sound) y gives-way (c .connection) (k .hash) unknown) in
+        let i : ownerIs (c .connection) ((at k after) .owner) ≡ false = fresh (onTable after st) s′ k small (c .connection)
+        (cleared-fresh st (f .sound) y gives-way (c .connection) (k .hash) unknown) in
         let n : suc p ≡ p + 1 = omega arith in
         record {
           table = after;
@@ -138,7 +147,12 @@ module _ (c : Candidate) {b w v : List ℕ} {d p m : ℕ} {st : State} (f : Full
             aside = aside-more k c (aside-still (keyAt y) (y .conn) (gives-way .small) (f .aside) (x .apart refl)) small sp i (row (onTable after st) s′ g i) put;
             preferred = each-more (λ (a : Entry). a .candidate .preferred ≡ true) es b₁ (f .preferred) (x .preferred refl);
             whole = omega (arith, one-less st (f .sound) y left here, f .whole);
-            victims = record { rows = f .victims .rows; count = f .victims .count; holds = f .victims .holds; first = subst (λ (i : ℕ). Foremost (drop i (f .victims .rows)) (rowsOf after)) n (next-first st (f .sound) y left here) };
+            victims = record {
+              rows = f .victims .rows;
+              count = f .victims .count;
+              holds = f .victims .holds;
+              first = subst (λ (i : ℕ). Foremost (drop i (f .victims .rows)) (rowsOf after)) n (next-first st (f .sound) y left here);
+            };
           };
           same = table-is;
         }
@@ -146,7 +160,8 @@ module _ (c : Candidate) {b w v : List ℕ} {d p m : ℕ} {st : State} (f : Full
 -- ---- nobody goes
 
 module _ {b w v : List ℕ} {d p m : ℕ} {st : State} {c : Candidate} (f : Full b w v (c .connection) d p m st) {r : ℕ} (e : r ≡ 0) where
-  pub swapped-not : {x : Option Key} → (announceKeyed (limitsOf st) x c (pushes (f .entries) (st .table))) .table ≡ pushes (f .entries) (st .table) → Swapped b w v (d + r) (p + r) m x c st (f .entries)
+  pub swapped-not : {x : Option Key} → (announceKeyed (limitsOf st) x c (pushes (f .entries) (st .table))) .table ≡ pushes (f .entries) (st .table)
+      → Swapped b w v (d + r) (p + r) m x c st (f .entries)
   swapped-not q =
       let n : p ≡ p + r = omega arith in
       record {
@@ -158,7 +173,12 @@ module _ {b w v : List ℕ} {d p m : ℕ} {st : State} {c : Candidate} (f : Full
           aside = same-aside (f .aside) e;
           preferred = f .preferred;
           whole = omega (arith, f .whole);
-          victims = record { rows = f .victims .rows; count = f .victims .count; holds = f .victims .holds; first = subst (λ (i : ℕ). Foremost (drop i (f .victims .rows)) (rowsOf (st .table))) n (f .victims .first) };
+          victims = record {
+            rows = f .victims .rows;
+            count = f .victims .count;
+            holds = f .victims .holds;
+            first = subst (λ (i : ℕ). Foremost (drop i (f .victims .rows)) (rowsOf (st .table))) n (f .victims .first);
+          };
         };
         same = q;
       }
@@ -169,17 +189,30 @@ pub suits-alone : {b w : List ℕ} {d : ℕ} {k : Key} {c : Candidate} {y : Row}
 suits-alone = record {
   most = omega arith;
   spare = λ e. absurd (omega arith);
-  suits = λ st s g es a. record { barred = λ e. absurd (omega arith); free = λ e. absurd (omega arith); room = λ e. absurd (omega arith); preferred = λ e. absurd (omega arith); apart = λ e. absurd (omega arith) };
+  suits = λ st s g es a. record {
+    barred = λ e. absurd (omega arith);
+    free = λ e. absurd (omega arith);
+    room = λ e. absurd (omega arith);
+    preferred = λ e. absurd (omega arith);
+    apart = λ e. absurd (omega arith);
+  };
 }
 
 pub suits-barred : {b w : List ℕ} {d : ℕ} {k : Key} {c : Candidate} {y : Row} {r : Bool} → BarredIn b w d k (c .connection) r → r ≡ true → SuitsIn b w d k c y 0
 suits-barred q e = record {
   most = omega arith;
   spare = λ e. absurd (omega arith);
-  suits = λ st s g es a. record { barred = λ _. sym (q st s g es a) ∙ e; free = λ e. absurd (omega arith); room = λ e. absurd (omega arith); preferred = λ e. absurd (omega arith); apart = λ e. absurd (omega arith) };
+  suits = λ st s g es a. record {
+    barred = λ _. sym (q st s g es a) ∙ e;
+    free = λ e. absurd (omega arith);
+    room = λ e. absurd (omega arith);
+    preferred = λ e. absurd (omega arith);
+    apart = λ e. absurd (omega arith);
+  };
 }
 
-pub suits-in : {b w : List ℕ} {d : ℕ} {k : Key} {c : Candidate} {y : Row} {r z : Bool} {n h : ℕ} → d < space → c .preferred ≡ true → BarredIn b w d k (c .connection) r → r ≡ false → Tells b (λ t. n ≡ heldAt (k .hash) t) → n < maxAlternates → h ≡ quadNumber (y .hash) → WaitsAt w d h z → z ≡ false
+pub suits-in : {b w : List ℕ} {d : ℕ} {k : Key} {c : Candidate} {y : Row} {r z : Bool} {n h : ℕ} → d < space → c .preferred ≡ true → BarredIn b w d k (c .connection) r → r ≡ false
+    → Tells b (λ t. n ≡ heldAt (k .hash) t) → n < maxAlternates → h ≡ quadNumber (y .hash) → WaitsAt w d h z → z ≡ false
     → SuitsIn b w d k c y 1
 unfolding keyAt
 suits-in {b} {w} {d} {k} {c} {y} {r} {z} {n} {h} l p q e x few i wait u = record {
@@ -210,16 +243,19 @@ module _ {b w v : List ℕ} {d p m : ℕ} {c : Candidate} where
       spare = λ e. absurd (n e);
       swapped = λ h st f.
           let z : r ≡ 0 = omega (arith, n) in
-          swapped-not f z (taken-barred (limitsOf st) c (f .entries) (st .table) (f .aside .ready) (f .sound .bounded .ordered) k (s .suits st (f .sound) (f .writes) (f .entries) (f .aside) .barred z));
+          swapped-not f z (taken-barred (limitsOf st) c (f .entries) (st .table) (f .aside .ready) (f .sound .bounded .ordered) k
+          (s .suits st (f .sound) (f .writes) (f .entries) (f .aside) .barred z));
       alone = λ _. (refl, refl);
     }
 
     pub exchanged-in : {b′ w′ : List ℕ} {j : Key} {z : Row} {r : ℕ} → k .hash < top → p < m → Found rowSize rowWords v readRow p y → SuitsIn b w d k c y r → r ≡ 1 → j ≡ keyAt y
-        → Makes b b′ (λ u. (has (y .conn) ((at j u) .candidates) ≡ true) × (ownerIs (y .conn) ((at j u) .owner) ≡ false)) (cut j (y .conn)) → RowIn b′ k c z → PutIn w w′ d z → Exchanged b b′ w w′ v d p m (some k) c 1
+        → Makes b b′ (λ u. (has (y .conn) ((at j u) .candidates) ≡ true) × (ownerIs (y .conn) ((at j u) .owner) ≡ false)) (cut j (y .conn)) → RowIn b′ k c z → PutIn w w′ d z
+        → Exchanged b b′ w w′ v d p m (some k) c 1
     exchanged-in {b′} {w′} {j} {z} {r} small l found s e q h row put = record {
       most = omega arith;
       spare = λ _. (s .spare e, l);
-      swapped = λ _ st f. swapped-in c f l y found small (subst (λ (i : ℕ). Suits (st .table) (f .entries) k c y i) e (s .suits st (f .sound) (f .writes) (f .entries) (f .aside))) (s .spare e) q h row put;
+      swapped = λ _ st f. swapped-in c f l y found small (subst (λ (i : ℕ). Suits (st .table) (f .entries) k c y i) e (s .suits st (f .sound) (f .writes) (f .entries) (f .aside)))
+          (s .spare e) q h row put;
       alone = λ i. absurd (omega arith);
     }
 

@@ -53,7 +53,14 @@ module _ (es : List Entry) (k : Key) (n : ℕ) (t : Table) {m : ℕ} (e : length
 
 module _ (m : Limits) (t : Table) (es : List Entry) (k : Key) (c : Candidate) where
   pub fares-alone : Fares m t es k c 2
-  fares-alone = record { stays = λ e. absurd (omega arith); joins = λ e. absurd (omega arith); idle = λ e. absurd (omega arith); room = λ e. absurd (omega arith); free = λ e. absurd (omega arith); roomy = λ e. absurd (omega arith) }
+  fares-alone = record {
+    stays = λ e. absurd (omega arith);
+    joins = λ e. absurd (omega arith);
+    idle = λ e. absurd (omega arith);
+    room = λ e. absurd (omega arith);
+    free = λ e. absurd (omega arith);
+    roomy = λ e. absurd (omega arith);
+  }
 
 module _ (st : State) (s : Sound st) (k : Key) (c : Candidate) (small : k .hash < top) {es : List Entry} {w : List ℕ} {d : ℕ} (a : Aside (c .connection) (st .table) es w d) where
   abbrev m : Limits
@@ -67,7 +74,14 @@ module _ (st : State) (s : Sound st) (k : Key) (c : Candidate) (small : k .hash 
 
   stay : (announceKeyed m (some k) c (pushes es t)) .table ≡ pushes es t → Fares m t es k c 0
   unfolding announceKeyed
-  stay e = record { stays = λ _. e; joins = λ q. absurd (omega arith); idle = λ q. absurd (omega arith); room = λ q. absurd (omega arith); free = λ q. absurd (omega arith); roomy = λ q. absurd (omega arith) }
+  stay e = record {
+    stays = λ _. e;
+    joins = λ q. absurd (omega arith);
+    idle = λ q. absurd (omega arith);
+    room = λ q. absurd (omega arith);
+    free = λ q. absurd (omega arith);
+    roomy = λ q. absurd (omega arith);
+  }
 
   pub fares-barred : {r : Bool} → r ≡ Barred → r ≡ true → Fares m t es k c 0
   unfolding announceKeyed
@@ -115,7 +129,8 @@ pub same-aside : {n : ℕ} {t : Table} {es : List Entry} {w : List ℕ} {d r : �
 same-aside a e = record { ready = a .ready; idle = a .idle; count = omega (arith, a .count); rows = a .rows }
 
 -- one more, whose row is put in its place
-pub aside-more : (k : Key) (c : Candidate) {t : Table} {es : List Entry} {w w′ : List ℕ} {d : ℕ} → Aside (c .connection) t es w d → {y : Row} → k .hash < top → d < space → ownerIs (c .connection) ((at k t) .owner) ≡ false → y ≡ rowOf (at k t) c → PutIn w w′ d y
+pub aside-more : (k : Key) (c : Candidate) {t : Table} {es : List Entry} {w w′ : List ℕ} {d : ℕ} → Aside (c .connection) t es w d → {y : Row} → k .hash < top → d < space
+    → ownerIs (c .connection) ((at k t) .owner) ≡ false → y ≡ rowOf (at k t) c → PutIn w w′ d y
     → Aside (c .connection) t (es ++ (record { key = k; candidate = c } ∷ [])) w′ (d + 1)
 aside-more k c {t} {es} {w} {w′} {d} a {y} small l i e p =
     let b : Entry = record { key = k; candidate = c } in

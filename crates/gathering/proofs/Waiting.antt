@@ -153,7 +153,8 @@ module _ (m : Limits) (c : Candidate) (es : List Entry) (t : Table) (a : Each (R
       free = barred-beside (c .connection) es t a o k ∙ b
 
       waits-not : waits (k .hash) es ≡ false
-      waits-not = or-right (isCandidate (c .connection) (k .hash) t) (waits (k .hash) es) (or-left (isCandidate (c .connection) (k .hash) t || waits (k .hash) es) (leb maxPeerAnnouncements (heldBy (c .connection) t + length es)) b)
+      waits-not = or-right (isCandidate (c .connection) (k .hash) t) (waits (k .hash) es)
+          (or-left (isCandidate (c .connection) (k .hash) t || waits (k .hash) es) (leb maxPeerAnnouncements (heldBy (c .connection) t + length es)) b)
 
       crowded-is : leb (m .alternates) (heldAt (k .hash) (pushes es t)) ≡ Crowded
       crowded-is = ap (leb (m .alternates)) (at-beside (c .connection) es t a o (k .hash) waits-not)
@@ -180,10 +181,12 @@ module _ (m : Limits) (c : Candidate) (es : List Entry) (t : Table) (a : Each (R
       -- the same on a table with as many candidates of each kind
       module _ (f : fullBeside m es k t ≡ false) (u : Table) (same : (q : Key → ℕ → Bool) → count q u ≡ count q (pushes es t)) where
         pub new-beside : isCandidate (c .connection) (k .hash) u ≡ false
-        new-beside = ap (ltb 0) (same (byUnder (c .connection) (k .hash))) ∙ or-left (isCandidate (c .connection) (k .hash) (pushes es t)) (leb maxPeerAnnouncements (heldBy (c .connection) (pushes es t))) free
+        new-beside = ap (ltb 0) (same (byUnder (c .connection) (k .hash))) ∙ or-left (isCandidate (c .connection) (k .hash) (pushes es t))
+            (leb maxPeerAnnouncements (heldBy (c .connection) (pushes es t))) free
 
         pub room-beside : announceAt m k c u ≡ done (push k c u)
         room-beside =
-            when-room m k c u (rw (new-beside, same (by (c .connection))) (or-right (isCandidate (c .connection) (k .hash) (pushes es t)) (leb maxPeerAnnouncements (heldBy (c .connection) (pushes es t))) free))
+            when-room m k c u
+            (rw (new-beside, same (by (c .connection))) (or-right (isCandidate (c .connection) (k .hash) (pushes es t)) (leb maxPeerAnnouncements (heldBy (c .connection) (pushes es t))) free))
             (ap (leb (m .alternates)) (same (under (k .hash))) ∙ crowded-is ∙ or-left Crowded Full f)
             (ap (leb (m .announcements)) (same any) ∙ full-is ∙ or-right Crowded Full f)

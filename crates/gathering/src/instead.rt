@@ -67,7 +67,8 @@ fn exchange_at(
     k: ident::Key,
     c: requests::Candidate,
 ) -> usize
-    requires { ⌜ Underway (now s) (words (now new)) (words (now top)) (c .connection) d p m × (8 * (rowSize * space) ≤ length (now new)) × (length (now top) ≡ 8 * (rowSize * listSpace)) × (d ≤ space) × (m ≤ listSpace) ⌝ }
+    requires { ⌜ Underway (now s) (words (now new)) (words (now top)) (c .connection) d p m × (8 * (rowSize * space) ≤ length (now new)) × (length (now top) ≡ 8 * (rowSize * listSpace))
+        × (d ≤ space) × (m ≤ listSpace) ⌝ }
     ensures { λ r. ⌜ Exchanged (now (s .entry)) (now (s .exit)) (words (now (new .entry))) (words (now (new .exit))) (words (now (top .entry))) d p m (some (keyNum k)) (candidateOf c) r ⌝ }
 {
     if p >= m {
@@ -94,7 +95,8 @@ pub fn exchange(
     p: usize,
     c: requests::Candidate,
 ) -> usize
-    requires { ⌜ Underway (now s) (words (now new)) (words (now top)) (c .connection) d p m × (8 * (rowSize * space) ≤ length (now new)) × (length (now top) ≡ 8 * (rowSize * listSpace)) × (d ≤ space) × (m ≤ listSpace) ⌝ }
+    requires { ⌜ Underway (now s) (words (now new)) (words (now top)) (c .connection) d p m × (8 * (rowSize * space) ≤ length (now new)) × (length (now top) ≡ 8 * (rowSize * listSpace))
+        × (d ≤ space) × (m ≤ listSpace) ⌝ }
     ensures { λ r. ⌜ Exchanged (now (s .entry)) (now (s .exit)) (words (now (new .entry))) (words (now (new .exit))) (words (now (top .entry))) d p m (keyOf (itemNum (c .item))) (candidateOf c) r ⌝ }
 {
     let item = c.item;

@@ -79,7 +79,8 @@ module _ (n now : ℕ) (hs : List ℕ) (f : FewHashes hs) {b b₁ v v₁ : List 
 
 -- ---- one connection more
 
-for-keys : (m : Limits) (now : ℕ) (hs ns : List ℕ) (n : ℕ) (t : Table) → (announceFor m now hs (ns ++ (n ∷ [])) t) .keys ≡ (announceFor m now hs ns t) .keys ++ (announceParents m n now hs ((announceFor m now hs ns t) .table)) .keys
+for-keys : (m : Limits) (now : ℕ) (hs ns : List ℕ) (n : ℕ) (t : Table) → (announceFor m now hs (ns ++ (n ∷ [])) t) .keys ≡ (announceFor m now hs ns t) .keys ++
+    (announceParents m n now hs ((announceFor m now hs ns t) .table)) .keys
 unfolding announceFor
 for-keys m now hs [] n t = append-nil _
 for-keys m now hs (x ∷ ns) n t =
@@ -91,7 +92,8 @@ unfolding announceFor
 for-table m now hs [] n t = refl
 for-table m now hs (x ∷ ns) n t = for-table m now hs ns n ((announceParents m x now hs t) .table)
 
-for-front : (m : Limits) (now : ℕ) (hs ns js : List ℕ) (t : Table) → (announceFor m now hs (ns ++ js) t) .keys ≡ (announceFor m now hs ns t) .keys ++ (announceFor m now hs js ((announceFor m now hs ns t) .table)) .keys
+for-front : (m : Limits) (now : ℕ) (hs ns js : List ℕ) (t : Table) → (announceFor m now hs (ns ++ js) t) .keys ≡ (announceFor m now hs ns t) .keys ++
+    (announceFor m now hs js ((announceFor m now hs ns t) .table)) .keys
 unfolding announceFor
 for-front m now hs [] js t = refl
 for-front m now hs (x ∷ ns) js t =
@@ -119,7 +121,8 @@ pub handing-none : (now : ℕ) (hs ns b u : List ℕ) (n : ℕ) → InOrder u n 
 unfolding announceFor
 handing-none now hs ns b u n o = record { inside = omega arith; store-long = refl; merged = record { merged = λ st s w. merged-none o; table = λ st s w. w } }
 
-module _ {now : ℕ} {hs ns b₀ b u₀ u : List ℕ} {n r i : ℕ} (late : now < word) (few : FewHashes hs) (peers : Peers ns) (o : InOrder u₀ n) (room : Roomy b₀ u₀ n (λ m t. announceFor m now hs ns t)) (v : Handing now hs ns b₀ b u₀ u n r i) where
+module _ {now : ℕ} {hs ns b₀ b u₀ u : List ℕ} {n r i : ℕ} (late : now < word) (few : FewHashes hs) (peers : Peers ns) (o : InOrder u₀ n) (room : Roomy b₀ u₀ n (λ m t. announceFor m now hs ns t))
+    (v : Handing now hs ns b₀ b u₀ u n r i) where
   abbrev after : State → State
   after st = onTable ((announceFor (limitsOf st) now hs (take i ns) (st .table)) .table) st
 
@@ -136,7 +139,8 @@ module _ {now : ℕ} {hs ns b₀ b u₀ u : List ℕ} {n r i : ℕ} (late : now 
   unfolding keysTo
   front j st s w =
       let rest = (announceFor (limitsOf st) now hs (drop j ns) ((announceFor (limitsOf st) now hs (take j ns) (st .table)) .table)) .keys in
-      takes-front (keysTo j st) rest u₀ n (rw (sym (ap (λ (l : List ℕ). (announceFor (limitsOf st) now hs l (st .table)) .keys) (sym (take-append-drop j ns)) ∙ for-front (limitsOf st) now hs (take j ns) (drop j ns) (st .table))) (room st s w))
+      takes-front (keysTo j st) rest u₀ n (rw (sym (ap (λ (l : List ℕ). (announceFor (limitsOf st) now hs l (st .table)) .keys) (sym (take-append-drop j ns)) ∙
+      for-front (limitsOf st) now hs (take j ns) (drop j ns) (st .table))) (room st s w))
 
   typed : (st : State) → Each KeyTyped (keysTo i st)
   unfolding keysTo
@@ -182,8 +186,10 @@ module _ {now : ℕ} {hs ns b₀ b u₀ u : List ℕ} {n r i : ℕ} (late : now 
       inside = omega arith;
       store-long = long ∙ v .store-long;
       merged = record {
-        merged = λ st s w. subst (λ (l : List Key). Merged l u₀ u₁ n q) (sym (more-keys st)) (merged-then o (typed st) (front i st s w) (v .merged .merged st s w) (m .merged (after st) (after-sound st s) (v .merged .table st s w)));
-        table = λ st s w. subst (λ (t : Table). Writes b₁ (onTable t st)) (sym (ap (λ (l : List ℕ). (announceFor (limitsOf st) now hs l (st .table)) .table) next ∙ for-table (limitsOf st) now hs (take i ns) x (st .table))) (m .table (after st) (after-sound st s) (v .merged .table st s w));
+        merged = λ st s w. subst (λ (l : List Key). Merged l u₀ u₁ n q) (sym (more-keys st))
+            (merged-then o (typed st) (front i st s w) (v .merged .merged st s w) (m .merged (after st) (after-sound st s) (v .merged .table st s w)));
+        table = λ st s w. subst (λ (t : Table). Writes b₁ (onTable t st)) (sym (ap (λ (l : List ℕ). (announceFor (limitsOf st) now hs l (st .table)) .table) next ∙
+            for-table (limitsOf st) now hs (take i ns) x (st .table))) (m .table (after st) (after-sound st s) (v .merged .table st s w));
       };
     }
 

@@ -125,7 +125,8 @@ cuts-at-once n p lo (r ∷ t) o f =
     each-there n ks r t past ∙ ap (λ (x : Table). r ∷ x) rest ∙ sym (same n p r (quitAll n p t) (f .0) e) in
     elim (test (has n (r .candidates))) [
       | inl h ↦ rw h (elim (test (p (r .key))) [
-        | inl d ↦ by-key d (ap (cutEach n ks) (cut-here n p r t (f .0) d) ∙ each-keep n ks (withCandidates (leftIn n p r) r) (leftIn n p r) t past ∙ ap (keep (withCandidates (leftIn n p r) r) (leftIn n p r)) rest)
+        | inl d ↦ by-key d (ap (cutEach n ks) (cut-here n p r t (f .0) d) ∙ each-keep n ks (withCandidates (leftIn n p r) r) (leftIn n p r) t past ∙
+            ap (keep (withCandidates (leftIn n p r) r) (leftIn n p r)) rest)
         | inr d ↦ by-none d (untouched (left-untested n p r d))
       ])
       | inr h ↦ rw h (untouched (left-absent n p r h))

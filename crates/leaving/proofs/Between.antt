@@ -56,8 +56,15 @@ last-of lo (suc e) (a ∷ []) js d r h = absurd (omega arith)
 last-of lo zero (a ∷ (x ∷ ks)) js d r h = absurd (omega arith)
 last-of lo (suc e) (a ∷ (x ∷ ks)) js d r h =
     let z = last-of (suc (place a)) e (x ∷ ks) js d (r .2) (omega arith) in
-    let b = getD (x ∷ ks) e d in
-    (((r .0, omega (arith, z .2)), each-map (λ k. (suc (place a) ≤ place k) × (place k ≤ place b)) (λ k. (lo ≤ place k) × (place k ≤ place b)) (x ∷ ks) (λ k q. (omega (arith, q .0, r .0), q .1)) (z .0)), z .1, omega (arith, z .2, r .0))
+    let b = getD (x ∷ ks) e d in (
+      (
+        (r .0, omega (arith, z .2)),
+        each-map (λ k. (suc (place a) ≤ place k) × (place k ≤ place b)) (λ k. (lo ≤ place k) × (place k ≤ place b)) (x ∷ ks) (λ k q.
+            (omega (arith, q .0, r .0), q .1)) (z .0),
+      ),
+      z .1,
+      omega (arith, z .2, r .0),
+    )
 
 pub record Ends (lo : ℕ) (a b : Key) (ks js : List Key) : Type 0 where
   pub low : lo ≤ place a
@@ -99,7 +106,11 @@ apart-keys n st s k small h = go (keysOf n (st .table)) (held-keys n 0 (st .tabl
   where
     go : (ks : List Key) → Each (λ k. has n ((at k (st .table)) .candidates) ≡ true) ks → Each (λ k. k .hash < top) ks → Each (λ i. place i ≡ place (other k) → ⊥) ks
     go [] a b = tt
-    go (i ∷ ks) a b = ((λ e. not-both n k (st .table) small (s .bounded .ordered) (s .bounded .once n (k .hash)) h (ap (λ (j : Key). has n ((at j (st .table)) .candidates)) (sym (place-inj i (other k) (b .0) small e)) ∙ a .0)), go ks (a .1) (b .1))
+    go (i ∷ ks) a b = (
+      (λ e. not-both n k (st .table) small (s .bounded .ordered) (s .bounded .once n (k .hash)) h
+          (ap (λ (j : Key). has n ((at j (st .table)) .candidates)) (sym (place-inj i (other k) (b .0) small e)) ∙ a .0)),
+      go ks (a .1) (b .1),
+    )
 
 pub held-at : (n : ℕ) (st : State) → Sound st → (ks : List Key) (k : Key) (js : List Key) → keysOf n (st .table) ≡ ks ++ (k ∷ js) → has n ((at k (st .table)) .candidates) ≡ true
 held-at n st s ks k js e = (each-back (λ k. has n ((at k (st .table)) .candidates) ≡ true) ks (k ∷ js) (rw e at (held-keys n 0 (st .table) (s .bounded .ordered)))) .0

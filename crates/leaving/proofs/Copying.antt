@@ -50,7 +50,8 @@ map-append : (a c : List Row) → rowConns (a ++ c) ≡ rowConns a ++ rowConns c
 map-append [] c = refl
 map-append (x ∷ a) c = rw (map-append a c)
 
-pub copied-more : {b : List ℕ} {from n : ℕ} {u₀ u u₁ : List ℕ} {i : ℕ} (r : Row) → Copied b from n u₀ u i → i < n → 8 * n ≤ length u₀ → length u₁ ≡ length u → ((f : Flat) → Shows b f → from + n ≤ length (f .rows)) → ((f : Flat) (d : Row) → Shows b f → r ≡ getD (f .rows) (from + i) d) → Put u u₁ i (r .conn) → Copied b from n u₀ u₁ (i + 1)
+pub copied-more : {b : List ℕ} {from n : ℕ} {u₀ u u₁ : List ℕ} {i : ℕ} (r : Row) → Copied b from n u₀ u i → i < n → 8 * n ≤ length u₀ → length u₁ ≡ length u
+    → ((f : Flat) → Shows b f → from + n ≤ length (f .rows)) → ((f : Flat) (d : Row) → Shows b f → r ≡ getD (f .rows) (from + i) d) → Put u u₁ i (r .conn) → Copied b from n u₀ u₁ (i + 1)
 copied-more {b} {from} {n} {u₀} {u} {u₁} {i} r c l room long inside is p = record {
   most = omega arith;
   long = long ∙ c .long;
@@ -72,7 +73,8 @@ conns-row : (q : Request) (cs : List Candidate) → rowConns (map (rowOf q) cs) 
 conns-row q [] = refl
 conns-row q (c ∷ cs) = ap (λ (l : List ℕ). (rowOf q c) .conn ∷ l) (conns-row q cs) ∙ ap (λ (x : ℕ). x ∷ connsOf cs) (conn-row q c)
 
-pub copied-all : {b : List ℕ} {from n : ℕ} {u₀ u : List ℕ} {i : ℕ} (st : State) → Sound st → (k : Key) → Copied b from n u₀ u i → n ≤ i → (f : Flat) → f .rows ≡ rowsOf (st .table) → Shows b f → from ≡ length (rowsBelow k (st .table)) → n ≡ length ((at k (st .table)) .candidates)
+pub copied-all : {b : List ℕ} {from n : ℕ} {u₀ u : List ℕ} {i : ℕ} (st : State) → Sound st → (k : Key) → Copied b from n u₀ u i → n ≤ i → (f : Flat) → f .rows ≡ rowsOf (st .table) → Shows b f
+    → from ≡ length (rowsBelow k (st .table)) → n ≡ length ((at k (st .table)) .candidates)
     → connsIn n u ≡ connsOf ((at k (st .table)) .candidates)
 unfolding rowsFor
 copied-all {b} {from} {n} {u₀} {u} {i} st s k c l f e h a z =

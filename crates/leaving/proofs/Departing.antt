@@ -52,7 +52,8 @@ typed-drop {m} {Q} {t} n now k b =
     let hs = parentsFor n (at k t) in
     let t′ = (failed k n now t) .table in
     by-test (λ (x : Listed). Each KeyTyped (x .keys)) (ownerIs n ((at k t) .owner))
-    (λ e. subst (λ (x : Listed). Each KeyTyped (x .keys)) (sym (for-left m now hs ((at k t′) .candidates) t′)) (typed-for m now hs (connsOf ((at k t′) .candidates)) t′ (few-for n (at k t) (lawful-at k t (b .lawful)))))
+    (λ e. subst (λ (x : Listed). Each KeyTyped (x .keys)) (sym (for-left m now hs ((at k t′) .candidates) t′))
+    (typed-for m now hs (connsOf ((at k t′) .candidates)) t′ (few-for n (at k t) (lawful-at k t (b .lawful)))))
     (λ e. tt)
 
 pub typed-each : {m : Limits} {Q : ℕ} {t : Table} (n now : ℕ) (ks : List Key) → now < word → Each KeyTyped ks → Bounded m Q t → Each KeyTyped ((dropEach m n now ks t) .keys)
@@ -81,7 +82,8 @@ module _ (ks S : List Key) (u₀ u : List ℕ) (x : ℕ) (l : length ks * keyByt
   lent-is y h = take-all (y - x) (drop x u) (rw (length-drop x u) (omega arith)) ∙ ap (drop x) split ∙ drop-at (keysAnswer ks) (written (keysAnswer S) (drop x u₀)) x long
 
   -- what comes back in its place
-  pub back-is : (y : ℕ) (S₁ : List Key) {v v₁ : List ℕ} → y ≡ length u → v ≡ take (y - x) (drop x u) → length S ≤ length S₁ → keyBytes * length S ≤ length (drop x u₀) → v₁ ≡ written (keysAnswer S₁) v → take x u ++ (v₁ ++ drop (y - x) (drop x u)) ≡ written (keysAnswer (ks ++ S₁)) u₀
+  pub back-is : (y : ℕ) (S₁ : List Key) {v v₁ : List ℕ} → y ≡ length u → v ≡ take (y - x) (drop x u) → length S ≤ length S₁ → keyBytes * length S ≤ length (drop x u₀)
+      → v₁ ≡ written (keysAnswer S₁) v → take x u ++ (v₁ ++ drop (y - x) (drop x u)) ≡ written (keysAnswer (ks ++ S₁)) u₀
   back-is y S₁ {v} {v₁} h p more room q =
       let none : drop (y - x) (drop x u) ≡ [] = drop-of-length-le (drop x u) {i = y - x} (rw (length-drop x u) (omega arith)) in
       let front : take x u ≡ keysAnswer ks = ap (take x) split ∙ take-at (keysAnswer ks) (written (keysAnswer S) (drop x u₀)) x long in
@@ -115,7 +117,8 @@ module _ {n now : ℕ} {st : State} {u₀ b u : List ℕ} {own from i parents : 
   going-long late = ap length (g .bytes) ∙ length-over (ks ++ S) u₀ (omega (arith, g .room, length-append ks S, length-append ks (sortKeys ((dropEach m n now ks (st .table)) .keys)), fewer))
     where
       fewer : length S ≤ length (sortKeys ((dropEach m n now ks (st .table)) .keys))
-      fewer = rw (g .keys-left) (sorted-grows (g .acc) ((dropEach m n now (g .waiting ++ g .rest) (g .table)) .keys) (g .typed) (typed-each n now (g .waiting ++ g .rest) late (rising-typed (g .lo) (g .waiting ++ g .rest) (g .rising)) (g .sound .bounded)))
+      fewer = rw (g .keys-left) (sorted-grows (g .acc) ((dropEach m n now (g .waiting ++ g .rest) (g .table)) .keys) (g .typed)
+          (typed-each n now (g .waiting ++ g .rest) late (rising-typed (g .lo) (g .waiting ++ g .rest) (g .rising)) (g .sound .bounded)))
 
   -- the part of the buffer behind its own keys, which is lent
   module _ (late : now < word) (y : ℕ) (end : y ≡ length u) where
@@ -254,13 +257,15 @@ module _ {n now : ℕ} {st : State} {u₀ b u : List ℕ} {own from i parents : 
             lo = suc (place k);
             parents-are = mm .count ∙ ap length merged-is;
             bytes = back-is ks S u₀ u (own * keyBytes) start (g .bytes) y S₁ end refl more S-fits (mm .bytes ∙ ap (λ (l : List Key). written (keysAnswer l) v) merged-is);
-            all = g .all ∙ ap (λ (l : List Key). g .done ++ (g .waiting ++ l)) (nx .is) ∙ ap (λ (l : List Key). g .done ++ l) (sym (append-assoc (g .waiting) (k ∷ []) (nx .later))) ∙ sym (append-assoc (g .done) (g .waiting ++ (k ∷ [])) (nx .later));
+            all = g .all ∙ ap (λ (l : List Key). g .done ++ (g .waiting ++ l)) (nx .is) ∙ ap (λ (l : List Key). g .done ++ l) (sym (append-assoc (g .waiting) (k ∷ []) (nx .later))) ∙
+                sym (append-assoc (g .done) (g .waiting ++ (k ∷ [])) (nx .later));
             own-are = g .own-are;
             from-is = omega (arith, g .i-is, g .from-is, length-append (g .done) (g .waiting ++ (k ∷ [])), length-append (g .waiting) (k ∷ []));
             i-is = omega arith;
             rising = rising-back (g .lo) (g .waiting) k (nx .later) rise;
             unowned = tt;
-            within = within-next n now (g .lo) (g .waiting) k (nx .later) (g .table) ((rising-at k (nx .later) (g .lo) (g .waiting) rise) .0) (next-small g late nx) late before (sound₁ .bounded) (rw (nx .is) at (g .within));
+            within = within-next n now (g .lo) (g .waiting) k (nx .later) (g .table) ((rising-at k (nx .later) (g .lo) (g .waiting) rise) .0) (next-small g late nx) late before (sound₁ .bounded)
+                (rw (nx .is) at (g .within));
             keys-left = keys₂;
             table-left = g .table-left ∙ ap (λ (l : Listed). l .table) same-drop;
           }

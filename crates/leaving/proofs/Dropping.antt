@@ -50,7 +50,8 @@ pub drop-is : (m : Limits) (n now : ℕ) (k : Key) (t : Table) → ownerIs n ((a
     → dropAt m n now k t ≡ announceFor m now (parentsFor n (at k t)) (connsOf ((at k ((failed k n now t) .table)) .candidates)) ((failed k n now t) .table)
 unfolding dropAt
 drop-is m n now k t e =
-    ap (λ (b : Bool). if b then announceEach m now (parentsFor n (at k t)) (if isEmpty (parentsFor n (at k t)) then [] else (at k ((failed k n now t) .table)) .candidates) ((failed k n now t) .table) else nothing (cut k n t)) e
+    ap (λ (b : Bool). if b then announceEach m now (parentsFor n (at k t)) (if isEmpty (parentsFor n (at k t)) then [] else (at k ((failed k n now t) .table)) .candidates)
+    ((failed k n now t) .table) else nothing (cut k n t)) e
     ∙ for-left m now (parentsFor n (at k t)) ((at k ((failed k n now t) .table)) .candidates) ((failed k n now t) .table)
 
 -- ---- bytes
@@ -69,7 +70,8 @@ module _ (k : Key) (small : k .hash < top) (n now : ℕ) (late : now < word) {b 
   pub drop-kept : Kept b → Kept b₁
   drop-kept p = record { state = after (p .state); sound = after-sound (p .state) (p .sound); writes = a .table (p .state) (p .sound) (p .writes) }
 
-  module _ (own : Tells b (λ t. ownerIs n ((at k t) .owner) ≡ true)) (hs : List ℕ) (h : Tells b (λ t. hs ≡ parentsFor n (at k t))) (ns : List ℕ) (g : Tells b₁ (λ t. ns ≡ connsOf ((at k t) .candidates))) where
+  module _ (own : Tells b (λ t. ownerIs n ((at k t) .owner) ≡ true)) (hs : List ℕ) (h : Tells b (λ t. hs ≡ parentsFor n (at k t))) (ns : List ℕ)
+      (g : Tells b₁ (λ t. ns ≡ connsOf ((at k t) .candidates))) where
     pub drop-peers : Kept b → Peers ns
     drop-peers p =
         let q = drop-kept p in
@@ -85,7 +87,8 @@ module _ (k : Key) (small : k .hash < top) (n now : ℕ) (late : now < word) {b 
     drop-room u c p room st s w =
         let x = p .state in
         let e = same-state (after x) st (after-sound x (p .sound)) s (a .table x (p .sound) (p .writes)) w in
-        subst (λ (z : State). Takes ((announceFor (limitsOf z) now hs ns (z .table)) .keys) u c) e (subst (λ (l : Listed). Takes (l .keys) u c) (same x (p .sound) (p .writes)) (room x (p .sound) (p .writes)))
+        subst (λ (z : State). Takes ((announceFor (limitsOf z) now hs ns (z .table)) .keys) u c) e
+        (subst (λ (l : Listed). Takes (l .keys) u c) (same x (p .sound) (p .writes)) (room x (p .sound) (p .writes)))
 
     pub dropped : {b₂ u u₂ : List ℕ} {c q : ℕ} → KeysMerged b₁ b₂ u u₂ c q (λ m t. announceFor m now hs ns t) → KeysMerged b b₂ u u₂ c q (λ m t. dropAt m n now k t)
     dropped {b₂} {u} {u₂} {c} {q} m = record {

@@ -100,7 +100,8 @@ module _ (n now : ℕ) (k : Key) (t : Table) (s : k .hash < top) (o : Ordered 0 
 
   free : ownerIs n ((at k (eased n now k t)) .owner) ≡ false
   free =
-      ap (λ (r : Request). ownerIs n (r .owner)) (at-other k (other k) (left n now) x (left-key n now) (λ z. other-place k s (sym z)) ∙ ap (at k) (change-fuse k unowned (readied now) 0 t (λ r. refl) (ready-none now) o) ∙ at-same k (λ r. readied now (unowned r)) 0 t (λ r. refl) o)
+      ap (λ (r : Request). ownerIs n (r .owner)) (at-other k (other k) (left n now) x (left-key n now) (λ z. other-place k s (sym z)) ∙
+      ap (at k) (change-fuse k unowned (readied now) 0 t (λ r. refl) (ready-none now) o) ∙ at-same k (λ r. readied now (unowned r)) 0 t (λ r. refl) o)
       ∙ kept-free n k (readied now (unowned (at k t))) (map (readyAt now) ((at k t) .candidates)) refl
 
   pub eased-cut : ownerIs n ((at k t) .owner) ≡ true → cutAt n k (eased n now k t) ≡ leaves k n now t
@@ -112,11 +113,13 @@ module _ (n now : ℕ) (k : Key) (t : Table) (s : k .hash < top) (o : Ordered 0 
 
 -- ---- and it may wait
 
-eased-swap : (n now lo : ℕ) (ks : List Key) (k : Key) (t : Table) → Rising lo ks → k .hash < top → Each (λ i. place i ≡ place k → ⊥) ks → Each (λ i. place i ≡ place (other k) → ⊥) ks → Ordered 0 t → All Filled t
+eased-swap : (n now lo : ℕ) (ks : List Key) (k : Key) (t : Table) → Rising lo ks → k .hash < top → Each (λ i. place i ≡ place k → ⊥) ks → Each (λ i. place i ≡ place (other k) → ⊥) ks
+    → Ordered 0 t → All Filled t
     → cutEach n ks (eased n now k t) ≡ eased n now k (cutEach n ks t)
 eased-swap n now lo ks k t r s d d′ o a =
     each-swap n lo ks (other k) (left n now) (change k (readied now) (change k unowned t)) r s d′ (left-key n now) (ox n now k t s o a) (ax n now k t s o a)
-    ∙ ap (change (other k) (left n now)) (each-swap n lo ks k (readied now) (change k unowned t) r s d (λ q. refl) (ordered-change k unowned 0 t (λ q. refl) (omega arith) s o) (filled-change k unowned t a) ∙ ap (change k (readied now)) (each-swap n lo ks k unowned t r s d (λ q. refl) o a))
+    ∙ ap (change (other k) (left n now)) (each-swap n lo ks k (readied now) (change k unowned t) r s d (λ q. refl) (ordered-change k unowned 0 t (λ q. refl) (omega arith) s o)
+    (filled-change k unowned t a) ∙ ap (change k (readied now)) (each-swap n lo ks k unowned t r s d (λ q. refl) o a))
 
 each-last : (n : ℕ) (ks : List Key) (k : Key) (t : Table) → cutEach n (ks ++ (k ∷ [])) t ≡ cutAt n k (cutEach n ks t)
 unfolding cutEach
@@ -179,13 +182,18 @@ drop-eased m n now lo ks k js t r u l s d d′ o a e h =
     let w₁ = owned-of n (at k t₁) e₁ in
     drop-part m n now lo ks (k ∷ js) t r u
     ∙ drop-next m n now k js t₁ (leaves k n now t₁) (drop-plain m n now k t₁ s (ordered-each n lo ks t r o) w₁ e₁ h₁)
-    ∙ ap (dropEach m n now js) (sym (each-last n ks k (eased n now k t) ∙ ap (cutAt n k) (eased-swap n now lo ks k t r s d d′ o a) ∙ eased-cut n now k t₁ s (ordered-each n lo ks t r o) (filled-each n ks t a) w₁))
+    ∙ ap (dropEach m n now js)
+    (sym (each-last n ks k (eased n now k t) ∙ ap (cutAt n k) (eased-swap n now lo ks k t r s d d′ o a) ∙ eased-cut n now k t₁ s (ordered-each n lo ks t r o) (filled-each n ks t a) w₁))
 
 -- what the loop keeps: the key waits with the others, and no key came in
-pub eased-unowned : (n now : ℕ) (ks : List Key) (k : Key) (t : Table) → k .hash < top → Each (λ i. place i ≡ place k → ⊥) ks → Each (λ i. place i ≡ place (other k) → ⊥) ks → Ordered 0 t → All Filled t → Unowned n t ks → Unowned n (eased n now k t) (ks ++ (k ∷ []))
+pub eased-unowned : (n now : ℕ) (ks : List Key) (k : Key) (t : Table) → k .hash < top → Each (λ i. place i ≡ place k → ⊥) ks → Each (λ i. place i ≡ place (other k) → ⊥) ks → Ordered 0 t
+    → All Filled t → Unowned n t ks → Unowned n (eased n now k t) (ks ++ (k ∷ []))
 eased-unowned n now [] k t s d d′ o a u = (free n now k t s o a, tt)
-eased-unowned n now (i ∷ ks) k t s d d′ o a u =
-    (ap (λ (r : Request). ownerIs n (r .owner)) (at-other i (other k) (left n now) (change k (readied now) (change k unowned t)) (left-key n now) (d′ .0) ∙ at-other i k (readied now) (change k unowned t) (λ r. refl) (d .0) ∙ at-other i k unowned t (λ r. refl) (d .0)) ∙ u .0, eased-unowned n now ks k t s (d .1) (d′ .1) o a (u .1))
+eased-unowned n now (i ∷ ks) k t s d d′ o a u = (
+  ap (λ (r : Request). ownerIs n (r .owner)) (at-other i (other k) (left n now) (change k (readied now) (change k unowned t)) (left-key n now) (d′ .0) ∙
+      at-other i k (readied now) (change k unowned t) (λ r. refl) (d .0) ∙ at-other i k unowned t (λ r. refl) (d .0)) ∙ u .0,
+  eased-unowned n now ks k t s (d .1) (d′ .1) o a (u .1),
+)
 
 pub within-eased : (n lo now : ℕ) (ks : List Key) (k : Key) (t : Table) → k .hash < top → Ordered 0 t → Within n lo ks t → Within n lo ks (eased n now k t)
 within-eased n lo now ks k t s o v = record { known = λ j z l h. v .known j z l (fewer-eased n lo now k t s o .had j z l h) }

@@ -87,7 +87,8 @@ module _ (n now : ℕ) (late : now < word) (st : State) (s : Sound st) {b : List
   }
 
   -- n owns nothing: all of its keys wait
-  pub going-idle : (u : List ℕ) (own : ℕ) → own ≡ length (keysOf n (st .table)) → u ≡ written (keysAnswer (keysOf n (st .table))) u → Need b u → ownedBy n (st .table) ≡ 0 → Going n now st u b u own 0 own 0
+  pub going-idle : (u : List ℕ) (own : ℕ) → own ≡ length (keysOf n (st .table)) → u ≡ written (keysAnswer (keysOf n (st .table))) u → Need b u → ownedBy n (st .table) ≡ 0
+      → Going n now st u b u own 0 own 0
   unfolding sortKeys
   going-idle u own e q h z =
       let ks = keysOf n (st .table) in
@@ -117,7 +118,8 @@ module _ (n now : ℕ) (late : now < word) (st : State) (s : Sound st) {b : List
         table-left = ap (λ (l : List Key). (dropEach (limitsOf st) n now l (st .table)) .table) (sym same);
       }
 
-  pub going-first : (u : List ℕ) (own : ℕ) {i : ℕ} → own ≡ length (keysOf n (st .table)) → u ≡ written (keysAnswer (keysOf n (st .table))) u → Need b u → Idle n b own i → Going n now st u b u own 0 i 0
+  pub going-first : (u : List ℕ) (own : ℕ) {i : ℕ} → own ≡ length (keysOf n (st .table)) → u ≡ written (keysAnswer (keysOf n (st .table))) u → Need b u → Idle n b own i
+      → Going n now st u b u own 0 i 0
   going-first u own e q h (inl z) = rw z (going-start u own e q h)
   going-first u own e q h (inr z) = rw (z .0) (going-idle u own e q h (z .1 st s w))
 
@@ -129,7 +131,8 @@ module _ (n now : ℕ) (late : now < word) (st : State) (s : Sound st) {b : List
       let e = o .keys st s w in
       (ap length e ∙ length-over ks u r, e ∙ sym (ap (written (keysAnswer ks)) e ∙ written-over ks ks u (omega arith) r))
 
-  pub parted-keys : {u u₁ u₂ : List ℕ} {own : ℕ} → OwnKeys n b u u₁ own → Need b u → (ps : List Key) → u₂ ≡ written (keysAnswer (keysOf n (st .table) ++ ps)) u₁ → u₂ ≡ written (keysAnswer (keysOf n (st .table) ++ ps)) u
+  pub parted-keys : {u u₁ u₂ : List ℕ} {own : ℕ} → OwnKeys n b u u₁ own → Need b u → (ps : List Key) → u₂ ≡ written (keysAnswer (keysOf n (st .table) ++ ps)) u₁
+      → u₂ ≡ written (keysAnswer (keysOf n (st .table) ++ ps)) u
   parted-keys {u} {u₁} o h ps e =
       let ks = keysOf n (st .table) in
       let r : keyBytes * length ks ≤ length u = omega (arith, room-is u h, length-append ks (sortKeys ((dropEach (limitsOf st) n now ks (st .table)) .keys))) in
@@ -155,7 +158,8 @@ module _ {n now : ℕ} {st : State} {u₀ b u : List ℕ} {own from i parents : 
       let none : g .rest ≡ [] = empty (g .rest) (omega (arith, counted g, g .own-are, g .from-is, g .i-is)) in
       let c₁ : CutListed n u from i b b₁ = subst (λ (j : ℕ). CutListed n u from j b b₁) (sym same) c in
       let last : dropEach m n now (g .waiting ++ g .rest) (g .table) ≡ nothing (cutEach n (g .waiting) (g .table)) =
-      ap (λ (l : List Key). dropEach m n now (g .waiting ++ l) (g .table)) none ∙ drop-part m n now (g .lo) (g .waiting) [] (g .table) (rising-front (g .lo) (g .waiting) (g .rest) (g .rising)) (g .unowned) ∙ drop-none m n now (cutEach n (g .waiting) (g .table)) in
+      ap (λ (l : List Key). dropEach m n now (g .waiting ++ l) (g .table)) none ∙ drop-part m n now (g .lo) (g .waiting) [] (g .table) (rising-front (g .lo) (g .waiting) (g .rest) (g .rising))
+      (g .unowned) ∙ drop-none m n now (cutEach n (g .waiting) (g .table)) in
       let keys : (dropEach m n now ks (st .table)) .keys ≡ g .acc = g .keys-left ∙ ap (λ (l : Listed). g .acc ++ l .keys) last ∙ append-nil (g .acc) in
       let table : (dropEach m n now ks (st .table)) .table ≡ cutEach n (g .waiting) (g .table) = g .table-left ∙ ap (λ (l : Listed). l .table) last in
       record {

@@ -56,7 +56,13 @@ shrinks-ready now w = record {
     fewer = λ p. omega (arith, count-ready p now (r .candidates));
     less = λ p. omega arith;
     place = omega arith;
-    lawful = λ h. record { candidates = fit-ready now (r .key) (r .candidates) w (h .candidates); owner = owner-ready now (r .owner) (r .candidates) (h .owner); packed = h .packed; parents = h .parents; mark = h .mark };
+    lawful = λ h. record {
+      candidates = fit-ready now (r .key) (r .candidates) w (h .candidates);
+      owner = owner-ready now (r .owner) (r .candidates) (h .owner);
+      packed = h .packed;
+      parents = h .parents;
+      mark = h .mark;
+    };
   };
 }
 
@@ -100,7 +106,10 @@ module _ {b b₁ : List ℕ} (k : Key) (small : k .hash < top) (n now : ℕ) (la
         let e = owner-of n (at k (st .table)) (r st s (p .writes)) in
         let free : ownerIs n ((at (other k) (ready st .table)) .owner) ≡ false =
         ap (λ (x : Request). ownerIs n (x .owner)) (at-other (other k) k (readied now) (change k unowned (st .table)) (λ x. refl) (other-place k small)) ∙ free-other st s k small n e in
-        rw q (record { state = ready st; sound = ready-sound st s; writes = ready-writes st s (p .writes) }, told (λ t. ownerIs n ((at (other k) t) .owner) ≡ false) (ready st) (ready-sound st s) (ready-writes st s (p .writes)) free)
+        rw q (
+          record { state = ready st; sound = ready-sound st s; writes = ready-writes st s (p .writes) },
+          told (λ t. ownerIs n ((at (other k) t) .owner) ≡ false) (ready st) (ready-sound st s) (ready-writes st s (p .writes)) free,
+        )
 
     pub eased-made : {b₃ : List ℕ} {j : Key} → j ≡ other k → Makes b₂ b₃ (λ t. Unit {0}) (change j (left n now)) → Makes b b₃ (λ t. Unit {0}) (eased n now k)
     unfolding ready

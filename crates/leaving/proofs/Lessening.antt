@@ -109,7 +109,8 @@ tally-left q n d rs i e = sym (ap (lessen n d) (tally-more q n d rs i e) ∙ les
 -- ---- where a search says
 
 module _ (x d : ℕ) where
-  lessen-there : (cs : List Conn) (i : ℕ) (c₀ : Conn) → ((j : ℕ) → j < i → getD (connNames cs) j 0 < x) → i < length cs → (getD cs i c₀) .conn ≡ x → lessen x d cs ≡ take i cs ++ lesser d (getD cs i c₀) (drop (suc i) cs)
+  lessen-there : (cs : List Conn) (i : ℕ) (c₀ : Conn) → ((j : ℕ) → j < i → getD (connNames cs) j 0 < x) → i < length cs → (getD cs i c₀) .conn ≡ x
+      → lessen x d cs ≡ take i cs ++ lesser d (getD cs i c₀) (drop (suc i) cs)
   unfolding lessen
   lessen-there [] i c₀ b h e = absurd (omega arith)
   lessen-there (c ∷ cs) zero c₀ b h e = rw (eq-eqb x (c .conn) (sym e))
@@ -150,7 +151,8 @@ module _ {b′ : List ℕ} (f : Flat) {x i : ℕ} (bd : Bound (connNames (f .con
     less-some h s =
         let z : lesser d c (drop (suc i) (f .conns)) ≡ record { conn = c .conn; held = c .held - d; owned = c .owned } ∷ drop (suc i) (f .conns) = rw (lt-ltb d (c .held) h) in
         let y = lessen-there x d (f .conns) i c₀ (bd .below) l e in
-        subst (With b′ f) (sym (y ∙ ap (λ (a : Conn). take i (f .conns) ++ lesser d a (drop (suc i) (f .conns))) (sym k) ∙ ap (λ (a : List Conn). take i (f .conns) ++ a) z ∙ sym (set-split (f .conns) i _ l))) s
+        subst (With b′ f)
+        (sym (y ∙ ap (λ (a : Conn). take i (f .conns) ++ lesser d a (drop (suc i) (f .conns))) (sym k) ∙ ap (λ (a : List Conn). take i (f .conns) ++ a) z ∙ sym (set-split (f .conns) i _ l))) s
 
     pub less-all : c .held ≤ d → With b′ f (removeAt i (f .conns)) → With b′ f (lessen x d (f .conns))
     unfolding removeAt

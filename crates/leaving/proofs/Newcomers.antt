@@ -50,9 +50,11 @@ has-kept n k r [] e h = nobody n h
 has-kept n k r (c ∷ cs) e h = h
 
 module _ (n lo : ℕ) where
-  fewer-change : (k : Key) (f : Request → Request) (t : Table) → k .hash < top → KeepsKey f → Ordered 0 t → (has n ((f (at k t)) .candidates) ≡ true → has n ((at k t) .candidates) ≡ true) → Fewer n lo t (change k f t)
+  fewer-change : (k : Key) (f : Request → Request) (t : Table) → k .hash < top → KeepsKey f → Ordered 0 t → (has n ((f (at k t)) .candidates) ≡ true → has n ((at k t) .candidates) ≡ true)
+      → Fewer n lo t (change k f t)
   fewer-change k f t s ff o e = record {
-    had = λ j z l. at-either (λ i r. has n (r .candidates) ≡ true → has n ((at i t) .candidates) ≡ true) k f t s ff o (λ h. e (has-kept n k (f (at k t)) ((f (at k t)) .candidates) refl h)) (λ i u h. h) j z;
+    had = λ j z l. at-either (λ i r. has n (r .candidates) ≡ true → has n ((at i t) .candidates) ≡ true) k f t s ff o (λ h. e (has-kept n k (f (at k t)) ((f (at k t)) .candidates) refl h))
+        (λ i u h. h) j z;
   }
 
   -- what happens under a Txid key
@@ -126,7 +128,8 @@ module _ (n lo : ℕ) (b : top ≤ lo) where
       P : Answer → Type 0
       P x = Fewer n lo t (x .table)
 
-  fewer-parentsFrom : {m : Limits} {Q : ℕ} {t : Table} (x now i : ℕ) (hs : List ℕ) → Peer x → now < word → Hashes hs → i + length hs ≤ word → Bounded m Q t → Fewer n lo t ((parentsFrom m x now i hs t) .table)
+  fewer-parentsFrom : {m : Limits} {Q : ℕ} {t : Table} (x now i : ℕ) (hs : List ℕ) → Peer x → now < word → Hashes hs → i + length hs ≤ word → Bounded m Q t
+      → Fewer n lo t ((parentsFrom m x now i hs t) .table)
   unfolding parentsFrom
   fewer-parentsFrom x now i [] p w a l d = fewer-same
   fewer-parentsFrom {m} {Q} {t} x now i (h ∷ hs) p w a l d =
@@ -141,7 +144,8 @@ module _ (n lo : ℕ) (b : top ≤ lo) where
   unfolding announceParents
   fewer-parents x now hs p w a d = let f = parents-dedup hs a in fewer-parentsFrom x now 0 (dedup hs) p w (f .hashes) (omega (arith, f .few)) d
 
-  fewer-announceEach : {m : Limits} {Q : ℕ} {t : Table} (now : ℕ) (k : Key) (hs : List ℕ) (cs : List Candidate) → now < word → AllFit k cs → FewHashes hs → Bounded m Q t → Fewer n lo t ((announceEach m now hs cs t) .table)
+  fewer-announceEach : {m : Limits} {Q : ℕ} {t : Table} (now : ℕ) (k : Key) (hs : List ℕ) (cs : List Candidate) → now < word → AllFit k cs → FewHashes hs → Bounded m Q t
+      → Fewer n lo t ((announceEach m now hs cs t) .table)
   unfolding announceEach
   fewer-announceEach now k hs [] w f a d = fewer-same
   fewer-announceEach now k hs (c ∷ cs) w f a d =
@@ -154,7 +158,8 @@ fewer-failed : (n lo : ℕ) (k : Key) (x now : ℕ) (t : Table) → k .hash < to
 unfolding failed
 fewer-failed n lo k x now t s o =
     by-test (λ (a : Answer). Fewer n lo t (a .table)) (releasable x (at k t))
-    (λ e. fewer-then (fewer-left n lo k x now t s o) (fewer-left n lo (other k) x now (change k (left x now) t) s (unfold left in ordered-change k (left x now) 0 t (λ r. by-test (λ (q : Request). q .key ≡ r .key) (ownerIs x (r .owner)) (λ e. refl) (λ e. refl)) (omega arith) s o)))
+    (λ e. fewer-then (fewer-left n lo k x now t s o) (fewer-left n lo (other k) x now (change k (left x now) t) s (unfold left in
+    ordered-change k (left x now) 0 t (λ r. by-test (λ (q : Request). q .key ≡ r .key) (ownerIs x (r .owner)) (λ e. refl) (λ e. refl)) (omega arith) s o)))
     (λ e. fewer-same)
 
 -- a request under a Txid key has no parents
@@ -191,7 +196,8 @@ fewer-drop {m} {Q} {t} n now k s w b =
     go Wtxid e =
         let b′ = bounded-failed k n now s w b in
         let far : top ≤ suc (place k) = rw e (omega arith) in
-        fewer-announceEach n (suc (place k)) far now ((at k t′) .key) _ _ w (by-test (AllFit ((at k t′) .key)) (isEmpty (parentsFor n (at k t))) (λ d. tt) (λ d. (lawful-at k t′ (b′ .lawful)) .candidates)) (few-for n (at k t) (lawful-at k t (b .lawful))) b′
+        fewer-announceEach n (suc (place k)) far now ((at k t′) .key) _ _ w
+        (by-test (AllFit ((at k t′) .key)) (isEmpty (parentsFor n (at k t))) (λ d. tt) (λ d. (lawful-at k t′ (b′ .lawful)) .candidates)) (few-for n (at k t) (lawful-at k t (b .lawful))) b′
     go Txid e =
         let q : k ≡ txid (k .hash) = λ i. record { kind = e i; hash = k .hash } in
         let none : parentsFor n (at k t) ≡ [] = ap (λ (x : Key). parentsFor n (at x t)) q ∙ no-parents n (k .hash) t s (b .ordered) (b .lawful) in

@@ -109,33 +109,41 @@ module _ {n : ℕ} {b u₀ u : List ℕ} {c i : ℕ} (v : Owning n b u₀ u c i)
   keys-next f d l = rw (add-one i, take-suc (f .rows) i d l) (keys-append n (take i (f .rows)) (getD (f .rows) i d ∷ []))
 
   -- room for one key more
-  pub owning-room : (k : Kept b) (r : Row) → keyBytes * min maxPeerAnnouncements (limitIn b) ≤ length u₀ → i < length (rowsOf (k .state .table)) → r ≡ getD (rowsOf (k .state .table)) i r → r .conn ≡ n → keyBytes * c + keyBytes ≤ length u
+  pub owning-room : (k : Kept b) (r : Row) → keyBytes * min maxPeerAnnouncements (limitIn b) ≤ length u₀ → i < length (rowsOf (k .state .table)) → r ≡ getD (rowsOf (k .state .table)) i r
+      → r .conn ≡ n → keyBytes * c + keyBytes ≤ length u
   owning-room k r room l e own =
       let rs = rowsOf (k .state .table) in
       let f = flatOf (k .state) in
-      let x : length (keysIn n (take (i + 1) rs)) ≡ length (keysIn n (take i rs)) + 1 = ap length (keys-next f r l) ∙ length-append (keysIn n (take i rs)) (keysIn n (getD rs i r ∷ [])) ∙ ap (λ (q : Row). length (keysIn n (take i rs)) + length (keysIn n (q ∷ []))) (sym e) ∙ ap (λ (q : List Row). length (keysIn n (take i rs)) + length (map keyAt q)) (filter-one (isOf n) r (eq-eqb (r .conn) n own)) in
-      let y : length (keysIn n rs) ≡ length (keysIn n (take (i + 1) rs)) + length (keysIn n (drop (i + 1) rs)) = ap (λ (q : List Row). length (keysIn n q)) (sym (take-append-drop (i + 1) rs)) ∙ ap length (keys-append n (take (i + 1) rs) (drop (i + 1) rs)) ∙ length-append (keysIn n (take (i + 1) rs)) (keysIn n (drop (i + 1) rs)) in
+      let x : length (keysIn n (take (i + 1) rs)) ≡ length (keysIn n (take i rs)) + 1 = ap length (keys-next f r l) ∙
+      length-append (keysIn n (take i rs)) (keysIn n (getD rs i r ∷ [])) ∙ ap (λ (q : Row). length (keysIn n (take i rs)) + length (keysIn n (q ∷ []))) (sym e) ∙
+      ap (λ (q : List Row). length (keysIn n (take i rs)) + length (map keyAt q)) (filter-one (isOf n) r (eq-eqb (r .conn) n own)) in
+      let y : length (keysIn n rs) ≡ length (keysIn n (take (i + 1) rs)) + length (keysIn n (drop (i + 1) rs)) = ap (λ (q : List Row). length (keysIn n q)) (sym (take-append-drop (i + 1) rs)) ∙
+      ap length (keys-append n (take (i + 1) rs) (drop (i + 1) rs)) ∙ length-append (keysIn n (take (i + 1) rs)) (keysIn n (drop (i + 1) rs)) in
       let z = keys-few n k in
       let w = v .count f (k .writes) in
       omega (arith, v .long)
 
-  pub owning-more : {u₁ : List ℕ} {w : ℕ} (r : Row) → (r .conn ≡ n → keyBytes * c + keyBytes ≤ length u) → ((f : Flat) → Shows b f → i < length (f .rows)) → ((f : Flat) (d : Row) → Shows b f → r ≡ getD (f .rows) i d) → PutIf n r u u₁ c w → Owning n b u₀ u₁ w (i + 1)
+  pub owning-more : {u₁ : List ℕ} {w : ℕ} (r : Row) → (r .conn ≡ n → keyBytes * c + keyBytes ≤ length u) → ((f : Flat) → Shows b f → i < length (f .rows))
+      → ((f : Flat) (d : Row) → Shows b f → r ≡ getD (f .rows) i d) → PutIf n r u u₁ c w → Owning n b u₀ u₁ w (i + 1)
   owning-more {u₁} {w} r room inside is p = elim (test (isOf n r)) [
     | inl e ↦ let bytes : u₁ ≡ splice u (keyBytes * c) (keyAnswer (keyAt r)) = rw e at (p .bytes) in
         let count : w ≡ c + 1 = rw e at (p .count) in
         let fits = room (eqb-true (r .conn) n e) in
-        let next : (f : Flat) → Shows b f → keysIn n (take (i + 1) (f .rows)) ≡ keysIn n (take i (f .rows)) ++ (keyAt r ∷ []) = λ f h. keys-next f r (inside f h) ∙ ap (λ (q : Row). keysIn n (take i (f .rows)) ++ keysIn n (q ∷ [])) (sym (is f r h)) ∙ ap (λ (q : List Row). keysIn n (take i (f .rows)) ++ map keyAt q) (filter-one (isOf n) r e) in
+        let next : (f : Flat) → Shows b f → keysIn n (take (i + 1) (f .rows)) ≡ keysIn n (take i (f .rows)) ++ (keyAt r ∷ []) = λ f h. keys-next f r (inside f h) ∙
+        ap (λ (q : Row). keysIn n (take i (f .rows)) ++ keysIn n (q ∷ [])) (sym (is f r h)) ∙ ap (λ (q : List Row). keysIn n (take i (f .rows)) ++ map keyAt q) (filter-one (isOf n) r e) in
         record {
           long = ap length bytes ∙ length-splice u (keyBytes * c) (keyAnswer (keyAt r)) (omega (arith, length-keyAnswer (keyAt r))) ∙ v .long;
           count = λ f h. count ∙ sym (ap length (next f h) ∙ length-append (keysIn n (take i (f .rows))) (keyAt r ∷ []) ∙ ap (λ (x : ℕ). x + 1) (sym (v .count f h)));
           bytes = λ f h.
               let ks = keysIn n (take i (f .rows)) in
               let l : keyBytes * length ks + keyBytes ≤ length u₀ = omega (arith, v .count f h, v .long) in
-              bytes ∙ ap (λ (x : ℕ). splice u (keyBytes * x) (keyAnswer (keyAt r))) (v .count f h) ∙ ap (λ (x : List ℕ). splice x (keyBytes * length ks) (keyAnswer (keyAt r))) (v .bytes f h) ∙ written-more ks (keyAt r) u₀ l ∙ ap (λ (x : List Key). written (keysAnswer x) u₀) (sym (next f h));
+              bytes ∙ ap (λ (x : ℕ). splice u (keyBytes * x) (keyAnswer (keyAt r))) (v .count f h) ∙ ap (λ (x : List ℕ). splice x (keyBytes * length ks) (keyAnswer (keyAt r))) (v .bytes f h) ∙
+              written-more ks (keyAt r) u₀ l ∙ ap (λ (x : List Key). written (keysAnswer x) u₀) (sym (next f h));
         }
     | inr e ↦ let bytes : u₁ ≡ u = rw e at (p .bytes) in
         let count : w ≡ c + 0 = rw e at (p .count) in
-        let next : (f : Flat) → Shows b f → keysIn n (take (i + 1) (f .rows)) ≡ keysIn n (take i (f .rows)) = λ f h. keys-next f r (inside f h) ∙ ap (λ (q : Row). keysIn n (take i (f .rows)) ++ keysIn n (q ∷ [])) (sym (is f r h)) ∙ ap (λ (q : List Row). keysIn n (take i (f .rows)) ++ map keyAt q) (filter-none (isOf n) r e) ∙ append-nil (keysIn n (take i (f .rows))) in
+        let next : (f : Flat) → Shows b f → keysIn n (take (i + 1) (f .rows)) ≡ keysIn n (take i (f .rows)) = λ f h. keys-next f r (inside f h) ∙ ap (λ (q : Row). keysIn n (take i (f .rows)) ++
+        keysIn n (q ∷ [])) (sym (is f r h)) ∙ ap (λ (q : List Row). keysIn n (take i (f .rows)) ++ map keyAt q) (filter-none (isOf n) r e) ∙ append-nil (keysIn n (take i (f .rows))) in
         record {
           long = ap length bytes ∙ v .long;
           count = λ f h. count ∙ add-zero c ∙ v .count f h ∙ ap length (sym (next f h));

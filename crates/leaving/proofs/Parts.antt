@@ -62,7 +62,8 @@ listed-behind j lo (k ∷ ks) r h = rw (ne-eqb (place k) (place j) (λ e. omega 
 
 -- ---- a part is a range
 
-pub part-range : (n lo : ℕ) (a b : Key) (ks js : List Key) (t : Table) → lo ≤ place a → Rising lo ks → InPart a b ks → Rising (suc (place b)) js → Ordered 0 t → All Filled t → Within n lo (ks ++ js) t → cutEach n ks t ≡ cuts n (between a b) t
+pub part-range : (n lo : ℕ) (a b : Key) (ks js : List Key) (t : Table) → lo ≤ place a → Rising lo ks → InPart a b ks → Rising (suc (place b)) js → Ordered 0 t → All Filled t
+    → Within n lo (ks ++ js) t → cutEach n ks t ≡ cuts n (between a b) t
 part-range n lo a b ks js t la rise i behind o f w = part-between n lo ks a b t rise o f agree
   where
     in-range : (j : Key) → place a ≤ place j → place j ≤ place b → between a b j ≡ true
@@ -111,7 +112,8 @@ skip-first : (j k : Key) (js : List Key) → eqb (place k) (place j) ≡ false �
 unfolding listed
 skip-first j k js e y = rw e at y
 
-pub within-next : {m : Limits} {Q : ℕ} (n now lo : ℕ) (ks : List Key) (k : Key) (js : List Key) (t : Table) → lo ≤ place k → k .hash < top → now < word → Each (λ i. place i < place k) ks → Bounded m Q (cutEach n ks t) → Within n lo (ks ++ (k ∷ js)) t
+pub within-next : {m : Limits} {Q : ℕ} (n now lo : ℕ) (ks : List Key) (k : Key) (js : List Key) (t : Table) → lo ≤ place k → k .hash < top → now < word → Each (λ i. place i < place k) ks
+    → Bounded m Q (cutEach n ks t) → Within n lo (ks ++ (k ∷ js)) t
     → Within n (suc (place k)) js ((dropAt m n now k (cutEach n ks t)) .table)
 within-next {m} {Q} n now lo ks k js t lk s w before b v = record {
   known = λ j z l h.
@@ -162,11 +164,14 @@ parts-same m n now lo ks [] t r u = sym (drop-part m n now lo ks [] t (rising-fr
 parts-same m n now lo ks (k ∷ js) t r u =
     let a = dropAt m n now k (cutEach n ks t) in
     by-test (λ (x : Listed). x ≡ dropEach m n now (ks ++ (k ∷ js)) t) (ownerIs n ((at k t) .owner))
-    (λ e. ap (joined a) (parts-same m n now (suc (place k)) [] js (a .table) (rising-back lo ks k js r) tt) ∙ sym (drop-part m n now lo ks (k ∷ js) t (rising-front lo ks (k ∷ js) r) u ∙ drop-first m n now k js (cutEach n ks t)))
+    (λ e. ap (joined a) (parts-same m n now (suc (place k)) [] js (a .table) (rising-back lo ks k js r) tt) ∙
+    sym (drop-part m n now lo ks (k ∷ js) t (rising-front lo ks (k ∷ js) r) u ∙ drop-first m n now k js (cutEach n ks t)))
     (λ e. let same : (ks ++ (k ∷ [])) ++ js ≡ ks ++ (k ∷ js) = append-assoc ks (k ∷ []) js in
     parts-same m n now lo (ks ++ (k ∷ [])) js t (rw same r) (unowned-more n t ks k u e) ∙ ap (λ (l : List Key). dropEach m n now l t) same)
 
 -- disconnected, as it may be carried out
-pub disconnected-in-parts : (m : Limits) (n now : ℕ) (t : Table) → Ordered 0 t → disconnected m n now t ≡ (let a = inParts m n now [] (keysOf n t) t in record { own = keysOf n t; parents = sortKeys (a .keys); table = a .table })
+pub disconnected-in-parts : (m : Limits) (n now : ℕ) (t : Table) → Ordered 0 t → disconnected m n now t ≡ (let a = inParts m n now [] (keysOf n t) t in
+    record { own = keysOf n t; parents = sortKeys (a .keys); table = a .table })
 unfolding disconnected
-disconnected-in-parts m n now t o = ap (λ (a : Listed). record { own = keysOf n t; parents = sortKeys (a .keys); table = a .table }) (sym (parts-same m n now 0 [] (keysOf n t) t (rising-all n t o) tt))
+disconnected-in-parts m n now t o = ap (λ (a : Listed). record { own = keysOf n t; parents = sortKeys (a .keys); table = a .table })
+    (sym (parts-same m n now 0 [] (keysOf n t) t (rising-all n t o) tt))

@@ -139,7 +139,8 @@ listed-keys n p lo (r ∷ t) j s o =
     let rest = listed-keys n p (suc (place (r .key))) t j s (o .2) in
     elim (test (eqb (place (r .key)) (place j))) [
       | inl e ↦ let q : r .key ≡ j = place-inj (r .key) j (o .1) s (eqb-true (place (r .key)) (place j) e) in
-          let below : listed j (filter p (keysOf n t)) ≡ false = listed-below j (suc (place (r .key))) (filter p (keysOf n t)) (rising-keys n p (suc (place (r .key))) t (o .2)) (omega (arith, eqb-true (place (r .key)) (place j) e)) in
+          let below : listed j (filter p (keysOf n t)) ≡ false = listed-below j (suc (place (r .key))) (filter p (keysOf n t)) (rising-keys n p (suc (place (r .key))) t (o .2))
+          (omega (arith, eqb-true (place (r .key)) (place j) e)) in
           let here : at j (r ∷ t) ≡ r = at-here j r t (sym (eqb-true (place (r .key)) (place j) e)) in
           first-whole p (has n (r .candidates)) (r .key) j (keysOf n t) below e ∙ ap (λ (k : Key). has n (r .candidates) && p k) q ∙ ap (λ (x : Request). has n (x .candidates) && p j) (sym here)
       | inr e ↦ let there : at j (r ∷ t) ≡ at j t = at-there j r t (λ d. eqb-false (place (r .key)) (place j) e (sym d)) in

@@ -39,7 +39,8 @@ module _ {n now : ℕ} {st : State} {u₀ b u : List ℕ} {own from i parents : 
         owns : ownerIs n ((at k (g .table)) .owner) ≡ true
         owns = w .owns q (onTable (g .table) st) (g .sound) (g .writes)
 
-        pub drop-asks : 1 ≤ n → Kept b₂ × (1 ≤ n) × Tells b₂ (λ t. ownerIs n ((at k t) .owner) ≡ true) × InOrder (take (length u - own * keyBytes) (drop (own * keyBytes) u)) parents × Roomy b₂ (take (length u - own * keyBytes) (drop (own * keyBytes) u)) parents (λ m t. dropAt m n now k t)
+        pub drop-asks : 1 ≤ n → Kept b₂ × (1 ≤ n) × Tells b₂ (λ t. ownerIs n ((at k t) .owner) ≡ true) × InOrder (take (length u - own * keyBytes) (drop (own * keyBytes) u)) parents
+            × Roomy b₂ (take (length u - own * keyBytes) (drop (own * keyBytes) u)) parents (λ m t. dropAt m n now k t)
         drop-asks p =
             let x = next-key g k h e in
             (cut-kept g late (length u) refl x cut owns, p, cut-owned g late (length u) refl x cut owns, part-order g late (length u) refl, cut-room g late (length u) refl x cut owns)

@@ -110,11 +110,13 @@ module _ {n now : ℕ} {st : State} {u₀ b u : List ℕ} {own from i parents : 
       go (a ∷ W) q =
           let l : length (g .waiting) ≡ suc (length W) = ap length q in
           let e₁ : keyOut u from ≡ a = ap (λ (j : ℕ). keyOut u j) (zero-more from) ∙ key-waiting 0 a (omega arith) ∙ ap (λ (x : List Key). getD x 0 a) q in
-          let e₂ : keyOut u (i - 1) ≡ getD (a ∷ W) (length W) a = ap (λ (j : ℕ). keyOut u j) (last (length W) (g .i-is) l) ∙ key-waiting (length W) a (omega arith) ∙ ap (λ (x : List Key). getD x (length W) a) q in
+          let e₂ : keyOut u (i - 1) ≡ getD (a ∷ W) (length W) a = ap (λ (j : ℕ). keyOut u j) (last (length W) (g .i-is) l) ∙ key-waiting (length W) a (omega arith) ∙
+          ap (λ (x : List Key). getD x (length W) a) q in
           let rise : Rising (g .lo) ((a ∷ W) ++ g .rest) = rw q at (g .rising) in
           let ends = ends-of (g .lo) (length W) a W (g .rest) rise refl in
           let same : cutEach n (a ∷ W) (g .table) ≡ cuts n (between a (getD (a ∷ W) (length W) a)) (g .table) =
-          part-range n (g .lo) a (getD (a ∷ W) (length W) a) (a ∷ W) (g .rest) (g .table) (ends .low) (rising-front (g .lo) (a ∷ W) (g .rest) rise) (ends .part) (ends .behind) (bounded .ordered) (bounded .filled) (rw q at (g .within)) in
+          part-range n (g .lo) a (getD (a ∷ W) (length W) a) (a ∷ W) (g .rest) (g .table) (ends .low) (rising-front (g .lo) (a ∷ W) (g .rest) rise) (ends .part) (ends .behind) (bounded .ordered)
+          (bounded .filled) (rw q at (g .within)) in
           let w = c .some (omega (arith, g .i-is)) (onTable (g .table) st) (g .sound) (g .writes) tt in
           subst (λ (t : Table). Writes b₁ (onTable t st)) (ap (λ (k : Key). cuts n (between k (keyOut u (i - 1))) (g .table)) e₁ ∙ ap (λ (k : Key). cuts n (between a k) (g .table)) e₂ ∙ sym same) w
         where
@@ -176,14 +178,16 @@ module _ {n now : ℕ} {st : State} {u₀ b u : List ℕ} {own from i parents : 
     }
 
     pub turn-waits : {b₁ : List ℕ} → Rests n now k b₁ (onTable (g .table) st) → Going n now st u₀ b₁ u own from (i + 1) parents
-    turn-waits {b₁} (inl f) = waits-as (g .table) (g .sound) (f .1) (unowned-more n (g .table) (g .waiting) k (g .unowned) (f .0)) (g .within) (ap (λ (l : List Key). dropEach (limitsOf st) n now l (g .table)) (sym joins))
+    turn-waits {b₁} (inl f) = waits-as (g .table) (g .sound) (f .1) (unowned-more n (g .table) (g .waiting) k (g .unowned) (f .0)) (g .within)
+        (ap (λ (l : List Key). dropEach (limitsOf st) n now l (g .table)) (sym joins))
     turn-waits {b₁} (inr f) =
         let t = g .table in
         let t′ = eased n now k t in
         let free = eased-unowned n now (g .waiting) k t next-small (before-differ k (g .waiting) before) no-twin (bounded .ordered) (bounded .filled) (g .unowned) in
         let s = sound-table (g .sound) (bounded-eased n now k next-small late bounded) in
         let low = rising-front (g .lo) (g .waiting ++ (k ∷ [])) (x .later) (subst (Rising (g .lo)) (sym joins) (g .rising)) in
-        let one = drop-eased (limitsOf st) n now (g .lo) (g .waiting) k (x .later) t (rising-front (g .lo) (g .waiting) (g .rest) (g .rising)) (g .unowned) (before-listed k (g .waiting) before) next-small (before-differ k (g .waiting) before) no-twin (bounded .ordered) (bounded .filled) (f .0) (f .1) in
+        let one = drop-eased (limitsOf st) n now (g .lo) (g .waiting) k (x .later) t (rising-front (g .lo) (g .waiting) (g .rest) (g .rising)) (g .unowned)
+        (before-listed k (g .waiting) before) next-small (before-differ k (g .waiting) before) no-twin (bounded .ordered) (bounded .filled) (f .0) (f .1) in
         let two = drop-part (limitsOf st) n now (g .lo) (g .waiting ++ (k ∷ [])) (x .later) t′ low free in
         waits-as t′ s (f .2) free (within-eased n (g .lo) now (g .waiting ++ g .rest) k t next-small (bounded .ordered) (g .within))
         (ap (λ (l : List Key). dropEach (limitsOf st) n now (g .waiting ++ l) t) (x .is) ∙ one ∙ sym two)

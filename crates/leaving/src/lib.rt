@@ -225,7 +225,8 @@ fn take_turn(
     p: Progress,
 ) -> Progress
     requires { ⌜ Underway n clock (now s) (now out) own (p .from) i (p .parents) × (1 ≤ n) × (i < own) ⌝ }
-    ensures { λ r. ⌜ ((st : State) (u₀ : List ℕ) → Going n clock st u₀ (now (s .entry)) (now (out .entry)) own (p .from) i (p .parents) → Going n clock st u₀ (now (s .exit)) (now (out .exit)) own (r .from) (i + 1) (r .parents)) ⌝ }
+    ensures { λ r. ⌜ ((st : State) (u₀ : List ℕ) → Going n clock st u₀ (now (s .entry)) (now (out .entry)) own (p .from) i (p .parents)
+        → Going n clock st u₀ (now (s .exit)) (now (out .exit)) own (r .from) (i + 1) (r .parents)) ⌝ }
 {
     let k = lists::key_at(out, i);
     let w = owner::waits(s, k, n, clock, p.next);

@@ -71,7 +71,8 @@ fn announce_each(
     u: &mut [u8],
     n: usize,
 ) -> usize
-    requires { ⌜ Kept (now s) × (length (hashesIn (now list)) ≤ maxParents) × (8 * q ≤ length (now conns)) × Peers (connsIn q (now conns)) × InOrder (now u) n × Roomy (now s) (now u) n (λ m t. announceFor m clock (hashesIn (now list)) (connsIn q (now conns)) t) ⌝ }
+    requires { ⌜ Kept (now s) × (length (hashesIn (now list)) ≤ maxParents) × (8 * q ≤ length (now conns)) × Peers (connsIn q (now conns)) × InOrder (now u) n
+        × Roomy (now s) (now u) n (λ m t. announceFor m clock (hashesIn (now list)) (connsIn q (now conns)) t) ⌝ }
     ensures { λ r. ⌜ KeysMerged (now (s .entry)) (now (s .exit)) (now (u .entry)) (now (u .exit)) n r (λ m t. announceFor m clock (hashesIn (now (list .entry))) (connsIn q (now (conns .entry))) t) ⌝ }
 {
     let mut r = n;

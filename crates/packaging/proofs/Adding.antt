@@ -41,7 +41,8 @@ change-none : (k : Key) (f : Request → Request) (lo : ℕ) (t : Table) → Ord
 unfolding change at
 change-none k f lo [] o e h = absurd (omega arith)
 change-none k f lo (r ∷ t) o e h = elim (test (ltb (place k) (place (r .key)))) [
-  | inl d ↦ let z = at-absent k (place (r .key)) (r ∷ t) (ltb-true (place k) (place (r .key)) d) (omega arith, o .1, o .2) in absurd (none-here (subst (λ (x : Request). 1 ≤ length (x .candidates)) z h))
+  | inl d ↦ let z = at-absent k (place (r .key)) (r ∷ t) (ltb-true (place k) (place (r .key)) d) (omega arith, o .1, o .2) in
+      absurd (none-here (subst (λ (x : Request). 1 ≤ length (x .candidates)) z h))
   | inr d ↦ rw d (elim (test (eqb (place k) (place (r .key)))) [
     | inl x ↦ rw x (ap (λ (y : Request). keep y (y .candidates) t) (rw x at e) ∙ keep-some r (r .candidates) t (rw x at h))
     | inr x ↦ rw x (ap (λ (y : Table). r ∷ y) (change-none k f _ t (o .2) (rw x at e) (rw x at h)))
@@ -81,7 +82,13 @@ module _ (h : ℕ) (small : h < top) where
       after-sound : Sound after
       after-sound =
           sound-beside st s k small (given (dedup hs)) (λ r. refl) (record { key = refl; candidates = refl; owner = refl; fallback = refl })
-          (record { candidates = l .candidates; owner = l .owner; packed = repacked (q .key .kind) (q .owner) (q .info) (q .«package») (q .parents) (dedup hs) (p .held) (l .packed); parents = parents-dedup hs f; mark = l .mark }) (omega (arith, s .bounded .room))
+          (record {
+            candidates = l .candidates;
+            owner = l .owner;
+            packed = repacked (q .key .kind) (q .owner) (q .info) (q .«package») (q .parents) (dedup hs) (p .held) (l .packed);
+            parents = parents-dedup hs f;
+            mark = l .mark;
+          }) (omega (arith, s .bounded .room))
 
       after-takes : length (dedup hs) < maxParents → TakesParent (at k (after .table))
       after-takes e = rw (at-changed k (given (dedup hs)) (st .table) (λ r. refl) (s .bounded .ordered) cands) (record { held = p .held; few = e })
@@ -104,11 +111,13 @@ module _ (h : ℕ) (small : h < top) where
   adds-repeat : {b₀ b : List ℕ} (hs : List ℕ) (x : ℕ) → elem x hs ≡ true → Adds b₀ b hs → Adds b₀ b (hs ++ (x ∷ []))
   adds-repeat {b₀} {b} hs x e a st s w p = subst (λ (ps : List ℕ). Writes b (onTable (change k (given ps) (st .table)) st)) (sym (dedup-met x hs e)) (a st s w p)
 
-  adds-more : {b₀ b b₁ : List ℕ} (hs : List ℕ) (x : ℕ) → FewHashes hs → FewHashes (hs ++ (x ∷ [])) → elem x hs ≡ false → Adds b₀ b hs → Makes b b₁ (λ t. TakesParent (at k t)) (change k (withParent x)) → Adds b₀ b₁ (hs ++ (x ∷ []))
+  adds-more : {b₀ b b₁ : List ℕ} (hs : List ℕ) (x : ℕ) → FewHashes hs → FewHashes (hs ++ (x ∷ [])) → elem x hs ≡ false → Adds b₀ b hs
+      → Makes b b₁ (λ t. TakesParent (at k t)) (change k (withParent x)) → Adds b₀ b₁ (hs ++ (x ∷ []))
   adds-more {b₀} {b} {b₁} hs x f g e a m st s w p =
       let few : length (dedup hs ++ (x ∷ [])) ≤ maxParents = rw (dedup-new x hs e) at (parents-dedup (hs ++ (x ∷ [])) g .few) in
       let r = m (after st s p hs f) (after-sound st s p hs f) (a st s w p) (after-takes st s p hs f (omega (arith, length-append (dedup hs) (x ∷ [])))) in
-      subst (λ (t : Table). Writes b₁ (onTable t st)) (change-twice k (given (dedup hs)) (withParent x) (λ r. refl) 0 (st .table) (s .bounded .ordered) (cands st s p) ∙ ap (λ (ps : List ℕ). change k (given ps) (st .table)) (sym (dedup-new x hs e))) r
+      subst (λ (t : Table). Writes b₁ (onTable t st)) (change-twice k (given (dedup hs)) (withParent x) (λ r. refl) 0 (st .table) (s .bounded .ordered) (cands st s p) ∙
+      ap (λ (ps : List ℕ). change k (given ps) (st .table)) (sym (dedup-new x hs e))) r
 
 -- ---- by index
 
@@ -144,4 +153,8 @@ module _ (h : ℕ) (small : h < top) (hs : List ℕ) where
         added-repeat e = record { inside = omega arith; long = v .long; adds = rw grown (adds-repeat h small (take i hs) x e (v .adds)) }
 
         pub added-more : {s₁ : List ℕ} → elem x (take i hs) ≡ false → length s₁ ≡ length s → Makes s s₁ (λ t. TakesParent (at (wtxid h) t)) (change (wtxid h) (withParent x)) → Added h hs s₀ s₁ (i + 1)
-        added-more e z m = record { inside = omega arith; long = z ∙ v .long; adds = rw grown (adds-more h small (take i hs) x (first i (v .inside)) (subst FewHashes grown (first (i + 1) (omega arith))) e (v .adds) m) }
+        added-more e z m = record {
+          inside = omega arith;
+          long = z ∙ v .long;
+          adds = rw grown (adds-more h small (take i hs) x (first i (v .inside)) (subst FewHashes grown (first (i + 1) (omega arith))) e (v .adds) m);
+        }

@@ -81,7 +81,8 @@ module _ (n h c : ℕ) (ws : List ℕ) (now : ℕ) {b : List ℕ} where
             let z : samePackage c ws (some (p .its)) ≡ true = rw (p .is) at (sym (same st s w) ∙ f) in
             rw (eqb-true (p .its .combined) c (and-left (eqb (p .its .combined) c) (sameList (p .its .wtxids) ws) z), same-equal (p .its .wtxids) ws (and-right (eqb (p .its .combined) c) _ z)) refl
 
-        pub begin-done : {b′ : List ℕ} → v ≡ true → ((p : Package) → Makes b b′ (λ t. (at (wtxid h) t) .«package» ≡ some p) (change (wtxid h) (packaged (begun p)))) → Answered b b′ true (λ m t. beginResolution n h c ws now t)
+        pub begin-done : {b′ : List ℕ} → v ≡ true → ((p : Package) → Makes b b′ (λ t. (at (wtxid h) t) .«package» ≡ some p) (change (wtxid h) (packaged (begun p))))
+            → Answered b b′ true (λ m t. beginResolution n h c ws now t)
         unfolding beginResolution
         begin-done {b′} f g = record { reply = λ st s w. rw (allowed st s w) refl; table = λ st s w. rw (allowed st s w) (changed st s w) }
           where
@@ -89,4 +90,5 @@ module _ (n h c : ℕ) (ws : List ℕ) (now : ℕ) {b : List ℕ} where
             allowed st s w = may n c ws now (at (wtxid h) (st .table)) ∙ rw (sym (e st s w) ∙ d, sym (same st s w) ∙ f) refl
 
             changed : (st : State) → Sound st → Writes b st → Writes b′ (onTable (change (wtxid h) (packaged (record { combined = c; wtxids = ws; enqueued = true })) (st .table)) st)
-            changed st s w = subst (λ (p : Package). Writes b′ (onTable (change (wtxid h) (packaged p) (st .table)) st)) (begun-is f st s w) (g (its-package st s w .its) st s w (its-package st s w .is))
+            changed st s w = subst (λ (p : Package). Writes b′ (onTable (change (wtxid h) (packaged p) (st .table)) st)) (begun-is f st s w)
+                (g (its-package st s w .its) st s w (its-package st s w .is))

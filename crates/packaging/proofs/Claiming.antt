@@ -63,9 +63,11 @@ module _ (n h c : ℕ) (ws : List ℕ) (now : ℕ) where
     pub claim-barred : r ≡ false → Answered b b false (λ m t. claimPackage n h c ws now t)
     claim-barred d = refusing (λ st s w. may (at (wtxid h) (st .table)) ∙ sym (e st s w) ∙ d)
 
-    pub claim-done : {b′ : List ℕ} → r ≡ true → Makes b b′ (λ t. FlagOnly (at (wtxid h) t)) (change (wtxid h) (packaged (record { combined = c; wtxids = ws; enqueued = false }))) → Answered b b′ true (λ m t. claimPackage n h c ws now t)
+    pub claim-done : {b′ : List ℕ} → r ≡ true → Makes b b′ (λ t. FlagOnly (at (wtxid h) t)) (change (wtxid h) (packaged (record { combined = c; wtxids = ws; enqueued = false })))
+        → Answered b b′ true (λ m t. claimPackage n h c ws now t)
     unfolding claimPackage
-    claim-done {b′} d g = record { reply = λ st s w. rw (yes-it-may st s w) refl; table = λ st s w. rw (yes-it-may st s w) (g st s w (flag-only n now (at (wtxid h) (st .table)) (sym (e st s w) ∙ d))) }
+    claim-done {b′} d g =
+        record { reply = λ st s w. rw (yes-it-may st s w) refl; table = λ st s w. rw (yes-it-may st s w) (g st s w (flag-only n now (at (wtxid h) (st .table)) (sym (e st s w) ∙ d))) }
       where
         yes-it-may : (st : State) → Sound st → Writes b st → mayClaim n ws now (at (wtxid h) (st .table)) ≡ true
         yes-it-may st s w = may (at (wtxid h) (st .table)) ∙ sym (e st s w) ∙ d

@@ -63,5 +63,6 @@ module _ (x c : ℕ) (a b : List ℕ) where
       pub all-same : length a ≡ j → length b ≡ j → true ≡ (eqb x c && sameList a b)
       all-same h l = rw e (sym (ended a b j h l) ∙ v)
 
-pub next-same : (a b : List ℕ) (j : ℕ) → sameList (drop j a) (drop j b) ≡ sameList a b → j < length a → j < length b → eqb (getD a j 0) (getD b j 0) ≡ true → sameList (drop (j + 1) a) (drop (j + 1) b) ≡ sameList a b
+pub next-same : (a b : List ℕ) (j : ℕ) → sameList (drop j a) (drop j b) ≡ sameList a b → j < length a → j < length b → eqb (getD a j 0) (getD b j 0) ≡ true
+    → sameList (drop (j + 1) a) (drop (j + 1) b) ≡ sameList a b
 next-same a b j v h l d = rw add-one (sym (rw d at (step a b j h l)) ∙ v)

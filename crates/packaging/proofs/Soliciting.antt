@@ -28,7 +28,8 @@ use Rattle.packaging.specs.Solicits.{Keeps, MayOwn, Opened, given, Room}
 use Rattle.packaging.proofs.Opening.{place-in, some-candidate, opened-sound, opened-at}
 
 -- the code's key and candidate
-pub as-soliciting : {b b₁ : List ℕ} {r : Bool} (n h now : ℕ) (j : Key) (x : Candidate) → j ≡ wtxid h → x ≡ soliciting n h now → Answered b b₁ r (λ m t. announceAt m j x t) → Answered b b₁ r (λ m t. announceAt m (wtxid h) (soliciting n h now) t)
+pub as-soliciting : {b b₁ : List ℕ} {r : Bool} (n h now : ℕ) (j : Key) (x : Candidate) → j ≡ wtxid h → x ≡ soliciting n h now → Answered b b₁ r (λ m t. announceAt m j x t)
+    → Answered b b₁ r (λ m t. announceAt m (wtxid h) (soliciting n h now) t)
 as-soliciting {b} {b₁} {r} n h now j x e q a = subst (λ (y : Candidate). Answered b b₁ r (λ m t. announceAt m (wtxid h) y t)) q (subst (λ (i : Key). Answered b b₁ r (λ m t. announceAt m i x t)) e a)
 
 abbrev free : ℕ → ℕ → Table → Bool
@@ -44,7 +45,8 @@ module _ (n h : ℕ) (hs : List ℕ) (now : ℕ) (p : Peer n) (small : h < top) 
     after st = onTable ((announceAt (limitsOf st) (wtxid h) (soliciting n h now) (st .table)) .table) st
 
     follows : (st : State) → Sound st → Follows (limitsOf st) (st .places) (st .table) (after st .table)
-    follows st s = follows-announceAt (wtxid h) (soliciting n h now) small (record { item = refl; positive = p .positive; connection = p .small; ready = omega arith; priority = omega arith }) (s .bounded)
+    follows st s = follows-announceAt (wtxid h) (soliciting n h now) small (record { item = refl; positive = p .positive; connection = p .small; ready = omega arith; priority = omega arith })
+        (s .bounded)
 
     after-sound : (st : State) → Sound st → Sound (after st)
     after-sound st s = sound-table s (follows st s .bounded)
@@ -76,7 +78,12 @@ module _ (n h : ℕ) (hs : List ℕ) (now : ℕ) (p : Peer n) (small : h < top) 
         after-room st s w = omega (arith, follows st s .no-place, room st s w (replies st s w))
 
         pub may-keeps : Kept b → Keeps b₁ (MayOwn n h)
-        may-keeps k = record { state = after (k .state); sound = after-sound (k .state) (k .sound); writes = a .table (k .state) (k .sound) (k .writes); holds = after-may (k .state) (k .sound) (k .writes) }
+        may-keeps k = record {
+          state = after (k .state);
+          sound = after-sound (k .state) (k .sound);
+          writes = a .table (k .state) (k .sound) (k .writes);
+          holds = after-may (k .state) (k .sound) (k .writes);
+        }
 
         pub room-left : Kept b → heldPlacesIn b₁ < placesIn b₁
         room-left k = place-in (after (k .state)) (a .table (k .state) (k .sound) (k .writes)) (after-room (k .state) (k .sound) (k .writes))
@@ -106,4 +113,5 @@ module _ (n h : ℕ) (hs : List ℕ) (now : ℕ) (p : Peer n) (small : h < top) 
               all-done st s w =
                   let x = opened-keeps-of st s w in
                   let cands = some-candidate (after st) (after-sound st s) n h now small late (after-may st s w) in
-                  subst (λ (t : Table). Writes b₃ (onTable t st)) (change-twice (wtxid h) (solicited n (now + requestLifetime) []) (given (dedup hs)) (λ r. refl) 0 (after st .table) (after-sound st s .bounded .ordered) cands) (add (opened st) (x .sound) (x .writes) (x .holds))
+                  subst (λ (t : Table). Writes b₃ (onTable t st)) (change-twice (wtxid h) (solicited n (now + requestLifetime) []) (given (dedup hs)) (λ r. refl) 0 (after st .table)
+                  (after-sound st s .bounded .ordered) cands) (add (opened st) (x .sound) (x .writes) (x .holds))

@@ -26,7 +26,8 @@ const MOST_WTXIDS: usize = 100;
 // Whether the request at the Wtxid key of `subject` has the stage, and n owns it with the deadline still to come.
 fn owned_at(s: &[u8], n: u64, subject: ident::Wtxid, clock: u64, stage: u64) -> bool
     requires { ⌜ Kept (now s) ⌝ }
-    ensures { λ r. ⌜ Tells (now (s .entry)) (λ t. r ≡ (machine.liveOwner n clock ((at (wtxid (hashNum (subject .0))) t) .owner) && eqb (stageOf ((at (wtxid (hashNum (subject .0))) t) .info) ((at (wtxid (hashNum (subject .0))) t) .«package»)) stage)) ⌝ }
+    ensures { λ r. ⌜ Tells (now (s .entry)) (λ t. r ≡ (machine.liveOwner n clock ((at (wtxid (hashNum (subject .0))) t) .owner) && eqb
+        (stageOf ((at (wtxid (hashNum (subject .0))) t) .info) ((at (wtxid (hashNum (subject .0))) t) .«package»)) stage)) ⌝ }
 {
     let k = ident::wtxid_key(subject);
     let r = packages::request_at(s, k);

@@ -23,8 +23,10 @@ fn consider_bits(
     picks: &mut [usize],
     v: selecting::Scan,
 ) -> selecting::Scan
-    requires { ⌜ Kept (now s) × (clock ≤ latestClock) × (maxRequestChecks < length (now picks)) × Roomy v × ((from ≤ to) × (to ≤ listMost)) × (length (now slot) ≡ slotBytes) × (v .considered + (to - from) ≤ half) ⌝ }
-    ensures { λ w. ⌜ Scans (now (s .entry)) (now (s .exit)) (now (picks .entry)) (now (picks .exit)) clock (λ st. picked (hashesAt (words (now (slot .entry))) from (to - from)) bits) (λ st. []) v w (to - from) ⌝ }
+    requires { ⌜ Kept (now s) × (clock ≤ latestClock) × (maxRequestChecks < length (now picks)) × Roomy v × ((from ≤ to) × (to ≤ listMost)) × (length (now slot) ≡ slotBytes)
+        × (v .considered + (to - from) ≤ half) ⌝ }
+    ensures { λ w. ⌜ Scans (now (s .entry)) (now (s .exit)) (now (picks .entry)) (now (picks .exit)) clock (λ st. picked (hashesAt (words (now (slot .entry))) from (to - from)) bits)
+        (λ st. []) v w (to - from) ⌝ }
 {
     let mut w = v;
     let mut left = bits;
@@ -58,7 +60,8 @@ fn consider_place(
     v: selecting::Scan,
 ) -> selecting::Scan
     requires { ⌜ Kept (now s) × (clock ≤ latestClock) × (maxRequestChecks < length (now picks)) × Roomy v × (c ≤ listMost) × (length (now slot) ≡ slotBytes) × (v .considered + listMost ≤ half) ⌝ }
-    ensures { λ w. ⌜ Scans (now (s .entry)) (now (s .exit)) (now (picks .entry)) (now (picks .exit)) clock (λ st. pickedIn (hashesAt (words (now (slot .entry))) 0 c) low high) (λ st. []) v w listMost ⌝ }
+    ensures { λ w. ⌜ Scans (now (s .entry)) (now (s .exit)) (now (picks .entry)) (now (picks .exit)) clock (λ st. pickedIn (hashesAt (words (now (slot .entry))) 0 c) low high)
+        (λ st. []) v w listMost ⌝ }
 {
     let e = apart::noting::first_half(c);
     let x = consider_bits(s, clock, slot, 0, e, low, picks, v);
@@ -101,7 +104,8 @@ fn keys_kept(
     picks: &mut [usize],
     v: selecting::Scan,
 ) -> selecting::Scan
-    requires { ⌜ Room (now s) (now first) m c × Kept (take m (now s)) × (clock ≤ latestClock) × (maxRequestChecks < length (now picks)) × Roomy v × (v .considered + listMost * c ≤ half) × ((c ≤ length (now low)) × (c ≤ length (now high))) ⌝ }
+    requires { ⌜ Room (now s) (now first) m c × Kept (take m (now s)) × (clock ≤ latestClock) × (maxRequestChecks < length (now picks)) × Roomy v × (v .considered + listMost * c ≤ half)
+        × ((c ≤ length (now low)) × (c ≤ length (now high))) ⌝ }
     ensures { λ w. ⌜ KeptScans (now (s .entry)) (now (s .exit)) (now (first .entry)) m c c (now (low .entry)) (now (high .entry)) (now (picks .entry)) (now (picks .exit)) clock v w ⌝ }
 {
     let mut w = v;
@@ -128,7 +132,8 @@ pub fn phase_kept(
     picks: &mut [usize],
     v: selecting::Scan,
 ) -> selecting::Scan
-    requires { ⌜ Room (now s) (now first) m c × Kept (take m (now s)) × (clock ≤ latestClock) × (maxRequestChecks < length (now picks)) × (v .chosen ≤ maxRequestChecks) × (v .considered + listMost * c ≤ half) × ((c ≤ length (now low)) × (c ≤ length (now high))) ⌝ }
+    requires { ⌜ Room (now s) (now first) m c × Kept (take m (now s)) × (clock ≤ latestClock) × (maxRequestChecks < length (now picks)) × (v .chosen ≤ maxRequestChecks)
+        × (v .considered + listMost * c ≤ half) × ((c ≤ length (now low)) × (c ≤ length (now high))) ⌝ }
     ensures { λ w. ⌜ KeptPhased (now (s .entry)) (now (s .exit)) (now (first .entry)) m c (now (low .entry)) (now (high .entry)) (now (picks .entry)) (now (picks .exit)) clock v w ⌝ }
 {
     let w = selecting::phase::opened(v);

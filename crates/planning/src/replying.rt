@@ -80,7 +80,8 @@ pub fn ask_round(
     v: selecting::Scan,
     out: &mut [u8],
 ) -> Reply
-    requires { ⌜ Begun clock (now s) (now picks) v × (clock ≤ latestClock) × (maxRequestChecks < length (now picks)) × (entryBytes * min (maxRequestChecks + 1) (limitIn (now s)) ≤ length (now out)) × (v .considered ≤ mostKept) ⌝ }
+    requires { ⌜ Begun clock (now s) (now picks) v × (clock ≤ latestClock) × (maxRequestChecks < length (now picks))
+        × (entryBytes * min (maxRequestChecks + 1) (limitIn (now s)) ≤ length (now out)) × (v .considered ≤ mostKept) ⌝ }
     ensures { λ r. ⌜ AsksOf (now (s .entry)) (now (s .exit)) (now (picks .entry)) (now (out .entry)) (now (out .exit)) clock none v r ⌝ }
 {
     let w = selecting::phase::phase_round(s, clock, picks, v);
@@ -102,7 +103,8 @@ pub fn ask_given(
     v: selecting::Scan,
     out: &mut [u8],
 ) -> Reply
-    requires { ⌜ Begun clock (now s) (now picks) v × (clock ≤ latestClock) × (maxRequestChecks < length (now picks)) × (entryBytes * min (maxRequestChecks + 1) (limitIn (now s)) ≤ length (now out)) × (v .considered ≤ mostKept) ⌝ }
+    requires { ⌜ Begun clock (now s) (now picks) v × (clock ≤ latestClock) × (maxRequestChecks < length (now picks))
+        × (entryBytes * min (maxRequestChecks + 1) (limitIn (now s)) ≤ length (now out)) × (v .considered ≤ mostKept) ⌝ }
     ensures { λ r. ⌜ AsksOf (now (s .entry)) (now (s .exit)) (now (picks .entry)) (now (out .entry)) (now (out .exit)) clock (some (givenKeys (now (given .entry)))) v r ⌝ }
 {
     let w = selecting::phase::phase_given(s, clock, given, picks, v);

@@ -8,7 +8,8 @@ use Rattle.machine.specs.Limits.{maxParents}
 use Rattle.machine.specs.State.{done, onTable}
 use Rattle.machine.specs.Leave.{forgetKnown}
 use Rattle.machine.specs.Package.{claimPackage, beginResolution, failedPackageInfo, packageInfoOwner, releasePackage, failedPackageClaims, teardown}
-use Rattle.machine.specs.Call.{Buffer, ClaimPackage, BeginPackageResolution, ReleasePackage, FailedPackageInfo, PackageInfoOwner, ForgetKnown, FailedPackageClaims, TeardownPackageClaims, named, takesPlace}
+use Rattle.machine.specs.Call.{Buffer, ClaimPackage, BeginPackageResolution, ReleasePackage, FailedPackageInfo}
+use Rattle.machine.specs.Call.{PackageInfoOwner, ForgetKnown, FailedPackageClaims, TeardownPackageClaims, named, takesPlace}
 use Rattle.machine.specs.Step.{perform}
 use Rattle.outcome.proofs.Carried.{YesNo, Lists}
 use Rattle.outcome.proofs.Replies.{Reads, Counts}

@@ -29,7 +29,8 @@ pub fn failed_package_claims(
     clock: u64,
     answer: &mut [u8],
 ) -> Listing
-    ensures { λ r. ⌜ LeavesWith (On (FailedPackageClaims connection (hashesIn (now (combined .entry))) clock (now (answer .entry)))) (now (s .entry)) (now (s .exit)) (now (answer .exit)) (listingOf r) ⌝ }
+    ensures { λ r. ⌜ LeavesWith (On (FailedPackageClaims connection (hashesIn (now (combined .entry))) clock (now (answer .entry)))) (now (s .entry)) (now (s .exit))
+        (now (answer .exit)) (listingOf r) ⌝ }
 {
     if !sound::sound(s) {
         return Listing::Refused(refusals::UNSOUND_STORE);

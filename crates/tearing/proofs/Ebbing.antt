@@ -45,7 +45,8 @@ module _ (n o : ℕ) where
       ]
 
 module _ {b′ : List ℕ} (f : Flat) {x i : ℕ} (bd : Bound (connNames (f .conns)) x i) (d : Conn) (o : ℕ) where
-  pub ebbed-found : i < length (f .conns) → (getD (f .conns) i d) .conn ≡ x → {c : Conn} → c ≡ getD (f .conns) i d → Shows b′ (withConns (set (f .conns) i (ebb o c)) f) → Shows b′ (withConns (ebbed x o (f .conns)) f)
+  pub ebbed-found : i < length (f .conns) → (getD (f .conns) i d) .conn ≡ x → {c : Conn} → c ≡ getD (f .conns) i d → Shows b′ (withConns (set (f .conns) i (ebb o c)) f)
+      → Shows b′ (withConns (ebbed x o (f .conns)) f)
   ebbed-found l e k s = subst (λ (cs : List Conn). Shows b′ (withConns cs f)) (ap (λ (c : Conn). set (f .conns) i (ebb o c)) k ∙ sym (there x o (f .conns) i d (bd .below) l e)) s
 
   pub ebbed-missing : (i < length (f .conns) → (getD (f .conns) i d) .conn ≡ x → ⊥) → Sorted (connNames (f .conns)) → Shows b′ f → Shows b′ (withConns (ebbed x o (f .conns)) f)

@@ -133,7 +133,8 @@ module _ {b₀ b : List ℕ} {i m : ℕ} (c : Sifting b₀ b i m) where
   sifting-shown k =
       let g = c .going (k .flat) (k .shows) in
       let z = k .sized in
-      shown (g .shows) (record { limit = z .limit; places = z .places; rows-few = z .rows-few; conns-few = omega (arith, z .conns-few, g .sifted .long); places-few = z .places-few }) (g .light (k .light))
+      shown (g .shows) (record { limit = z .limit; places = z .places; rows-few = z .rows-few; conns-few = omega (arith, z .conns-few, g .sifted .long); places-few = z .places-few })
+      (g .light (k .light))
 
   pub sifting-more : {b′ : List ℕ} {r : ℕ} → i < connsIn b₀ → length b′ ≡ length b → KeptBusy b b′ m i r → Sifting b₀ b′ (i + 1) r
   sifting-more {b′} {r} l e t = record {

@@ -81,7 +81,8 @@ either P now t r cs p q = elim (test (packagedRow t r)) [
 ]
 
 -- the entries with a row are the tally of what stays
-left-tally : (now : ℕ) (t : Table) (x : List Row) (r : Row) (y : List Row) (cs : List Conn) → Rising 0 cs → filter busy cs ≡ tally (x ++ (r ∷ y)) → filter busy (tornEntries t r cs) ≡ tally (x ++ (tornRow now t r ++ y))
+left-tally : (now : ℕ) (t : Table) (x : List Row) (r : Row) (y : List Row) (cs : List Conn) → Rising 0 cs → filter busy cs ≡ tally (x ++ (r ∷ y))
+    → filter busy (tornEntries t r cs) ≡ tally (x ++ (tornRow now t r ++ y))
 left-tally now t x r y cs up e = elim (test (packagedRow t r)) [
   | inl p ↦ elim (test (owns r)) [
     | inl o ↦ ap (filter busy) (entries-less now t r p o cs) ∙ ebbed-busy (r .conn) 1 0 cs up ∙ ap (unbump (r .conn) 1) e

@@ -109,7 +109,8 @@ module _ {m : Limits} {Q : ℕ} {t : Table} (k : Key) (v : ℕ) (small : k .hash
           let here : leftIfOwned n v (at k t) ≡ quit v (at k t) = left-own n v (at k t) own (ap ownerNum q) in
           let there : at (other k) t₁ ≡ at (other k) t = at-other (other k) k (leftIfOwned n v) t kk (other-place k small) in
           let free : ownerIs n ((at (other k) t₁) .owner) ≡ false = ap (λ (r : Request). ownerIs n (r .owner)) there ∙ owner-not n ((at (other k) t) .owner) (owned-once k small b (ap isSome q)) in
-          change-none (other k) (leftIfOwned n v) 0 t₁ (ordered-change k (leftIfOwned n v) 0 t kk (omega arith) small (b .ordered)) (filled-change k (leftIfOwned n v) t (b .filled)) (left-free n v (at (other k) t₁) free)
+          change-none (other k) (leftIfOwned n v) 0 t₁ (ordered-change k (leftIfOwned n v) 0 t kk (omega arith) small (b .ordered)) (filled-change k (leftIfOwned n v) t (b .filled))
+          (left-free n v (at (other k) t₁) free)
           ∙ change-same k (leftIfOwned n v) (quit v) 0 t (b .ordered) here
 
   pub bounded-quit : Bounded m Q (change k (quit v) t)

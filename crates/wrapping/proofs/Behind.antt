@@ -52,7 +52,9 @@ afterwards f st = onTable ((f (limitsOf st) (st .table)) .table) st
 pub listed-then : {s₀ s s₁ u₀ u v : List ℕ} {kept c a y : ℕ} (f g : Limits → Table → Listed) → KeysListed s₀ s u₀ u kept f → ((st : State) → Sound st → Sound (afterwards f st))
     → a ≡ keyBytes * kept → y ≡ length u → KeysListed s s₁ (take (y - a) (drop a u)) v c g → KeysListed s₀ s₁ u₀ (take a u ++ (v ++ drop (y - a) (drop a u))) (kept + c) (λ m t. andThen (f m t) (g m))
 listed-then {s₀} {s} {s₁} {u₀} {u} {v} {kept} {c} {a} {y} f g l sound from end o = record {
-  count = λ st x w. let ks = (f (limitsOf st) (st .table)) .keys in omega (arith, l .count st x w, o .count (afterwards f st) (sound st x) (l .table st x w), length-append ks ((g (limitsOf st) ((afterwards f st) .table)) .keys));
-  keys = λ st x w. keys-behind u₀ u ((f (limitsOf st) (st .table)) .keys) a y (l .keys st x w) (from ∙ ap (λ (n : ℕ). keyBytes * n) (l .count st x w)) end ((g (limitsOf st) ((afterwards f st) .table)) .keys) (o .keys (afterwards f st) (sound st x) (l .table st x w));
+  count = λ st x w. let ks = (f (limitsOf st) (st .table)) .keys in
+      omega (arith, l .count st x w, o .count (afterwards f st) (sound st x) (l .table st x w), length-append ks ((g (limitsOf st) ((afterwards f st) .table)) .keys));
+  keys = λ st x w. keys-behind u₀ u ((f (limitsOf st) (st .table)) .keys) a y (l .keys st x w) (from ∙ ap (λ (n : ℕ). keyBytes * n) (l .count st x w)) end
+      ((g (limitsOf st) ((afterwards f st) .table)) .keys) (o .keys (afterwards f st) (sound st x) (l .table st x w));
   table = λ st x w. o .table (afterwards f st) (sound st x) (l .table st x w);
 }

@@ -27,6 +27,7 @@ module _ {b b₁ : List ℕ} {r : Bool} (k : Key) (small : k .hash < top) (n now
   after-kept p = record { state = after (p .state); sound = after-sound (p .state) (p .sound); writes = a .table (p .state) (p .sound) (p .writes) }
 
   -- and then the other identity
-  pub both-failed : {b₂ : List ℕ} {q : Bool} (x w : ℕ) (j : Key) → k ≡ txid x → j ≡ wtxid w → Answered b₁ b₂ q (λ m t. failed j n now t) → Makes b b₂ (λ (t : Table). Unit {0}) (responseCompleted n x w now)
+  pub both-failed : {b₂ : List ℕ} {q : Bool} (x w : ℕ) (j : Key) → k ≡ txid x → j ≡ wtxid w → Answered b₁ b₂ q (λ m t. failed j n now t)
+      → Makes b b₂ (λ (t : Table). Unit {0}) (responseCompleted n x w now)
   unfolding responseCompleted
   both-failed x w j e f c st s g u = rw (e, f) at (c .table (after st) (after-sound st s) (a .table st s g))

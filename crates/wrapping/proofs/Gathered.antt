@@ -57,7 +57,8 @@ collects-start a os {i} e l = record {
   };
 }
 
-module _ {b w : List ℕ} {a : Terms} {os : List Offer} {i j d : ℕ} (x : Collects b w a os i j d) (l : j < length os) {c : Candidate} (q : Offers a os j c) {w′ : List ℕ} {r : ℕ} (y : SetAside b w w′ d (keyOf (c .item)) c r) where
+module _ {b w : List ℕ} {a : Terms} {os : List Offer} {i j d : ℕ} (x : Collects b w a os i j d) (l : j < length os) {c : Candidate} (q : Offers a os j c) {w′ : List ℕ} {r : ℕ}
+    (y : SetAside b w w′ d (keyOf (c .item)) c r) where
   one-aside : SetAside b w w′ d (keyOf (made a os j .item)) (made a os j) r
   one-aside = subst (λ (k : Candidate). SetAside b w w′ d (keyOf (k .item)) k r) (q anOffer) y
 
@@ -123,7 +124,8 @@ after-sound : (a : Terms) (os : List Offer) (i j : ℕ) → Peer (a .connection)
 after-sound a os i j peer late typed st s =
     sound-table s (bounded-offers (a .connection) (a .clock) (a .preferred) (a .source) (a .late) (between i j os) peer late (each-between i j os typed) (s .bounded))
 
-module _ {b b₁ : List ℕ} (a : Terms) (os : List Offer) (i j : ℕ) (h : Becomes b b₁ (announced a (between i j os))) (peer : Peer (a .connection)) (late : a .clock + requestLifetime < word) (typed : Each OfferTyped os) where
+module _ {b b₁ : List ℕ} (a : Terms) (os : List Offer) (i j : ℕ) (h : Becomes b b₁ (announced a (between i j os))) (peer : Peer (a .connection)) (late : a .clock + requestLifetime < word)
+    (typed : Each OfferTyped os) where
   pub part-kept : Kept b → Kept b₁
   part-kept k = record { state = after a os i j (k .state); sound = after-sound a os i j peer late typed (k .state) (k .sound); writes = h (k .state) (k .sound) (k .writes) }
 

@@ -27,7 +27,8 @@ use Rattle.announcing.specs.Answers.{KeysListed}
 use Rattle.failing.proofs.Leaving.{told}
 use Rattle.wrapping.proofs.Behind.{listed-then}
 
-module _ {n now kept : ℕ} (l : List Item) {s₀ s u₀ u : List ℕ} (v : KeysListed s₀ s u₀ u kept (λ m t. notFoundEach m n now l t)) (long : length u ≡ length u₀) (peer : Peer n) (late : now < word) (hashed : Each (λ (i : Item). i .hash < top) l) (k : Kept s₀)
+module _ {n now kept : ℕ} (l : List Item) {s₀ s u₀ u : List ℕ} (v : KeysListed s₀ s u₀ u kept (λ m t. notFoundEach m n now l t)) (long : length u ≡ length u₀) (peer : Peer n) (late : now < word)
+    (hashed : Each (λ (i : Item). i .hash < top) l) (k : Kept s₀)
     (room : keyBytes * (length l + maxParents * placesIn s₀) ≤ length u₀) where
   abbrev after : State → State
   after st = onTable ((notFoundEach (limitsOf st) n now l (st .table)) .table) st

@@ -79,5 +79,6 @@ module _ (a : Terms) (m : Limits) (os : List Offer) (t : Table) where
   announced-join i j k p q =
       sym (offers-append m (a .connection) (a .clock) (a .preferred) (a .source) (a .late) (between i j os) (between j k os) t) ∙ ap (λ (l : List Offer). From l t) (between-join i j k os p q)
 
-  pub announced-one : (i : ℕ) (o : Offer) → i < length os → From (between i (i + 1) os) t ≡ (announce m (offered (a .connection) (a .clock) (a .preferred) (a .source) (a .late) (getD os i o)) t) .table
+  pub announced-one : (i : ℕ) (o : Offer) → i < length os
+      → From (between i (i + 1) os) t ≡ (announce m (offered (a .connection) (a .clock) (a .preferred) (a .source) (a .late) (getD os i o)) t) .table
   announced-one i o h = ap (λ (l : List Offer). From l t) (between-one i os o h) ∙ offers-one m (a .connection) (a .clock) (a .preferred) (a .source) (a .late) (getD os i o) t

@@ -129,7 +129,8 @@ went-none {b} a os i l = record {
   from = omega arith;
   inside = l;
   table = λ st s g.
-      let e = ap (λ (l : List Offer). announced a l (limitsOf st) (st .table)) (between-none i os) ∙ offers-none (limitsOf st) (a .connection) (a .clock) (a .preferred) (a .source) (a .late) (st .table) in
+      let e = ap (λ (l : List Offer). announced a l (limitsOf st) (st .table)) (between-none i os) ∙ offers-none (limitsOf st) (a .connection) (a .clock) (a .preferred)
+      (a .source) (a .late) (st .table) in
       subst (λ (t : Table). Writes b (onTable t st)) (sym e) g;
 }
 

@@ -254,8 +254,10 @@ fn swap(
     priorities: &[u8],
     first: usize,
 ) -> Part
-    requires { ⌜ Kept (now s) × Whole (now s) × VictimsIn (now s) (words (now top)) m × (m ≤ mostListed) × (length (now top) ≡ 8 * (rowSize * listSpace)) × (8 * (rowSize * space) ≤ length (now new)) × Empty (words (now new)) × (a .clock + requestLifetime < word) × (first ≤ length (offersIn (now items) (now priorities))) ⌝ }
-    ensures { λ r. ⌜ Swaps (now (s .entry)) (now (s .exit)) (words (now (new .exit))) (words (now (top .entry))) m a (offersIn (now (items .entry)) (now (priorities .entry))) first (r .next) (r .waiting) ⌝ }
+    requires { ⌜ Kept (now s) × Whole (now s) × VictimsIn (now s) (words (now top)) m × (m ≤ mostListed) × (length (now top) ≡ 8 * (rowSize * listSpace))
+        × (8 * (rowSize * space) ≤ length (now new)) × Empty (words (now new)) × (a .clock + requestLifetime < word) × (first ≤ length (offersIn (now items) (now priorities))) ⌝ }
+    ensures { λ r. ⌜ Swaps (now (s .entry)) (now (s .exit)) (words (now (new .exit))) (words (now (top .entry))) m a (offersIn (now (items .entry)) (now (priorities .entry))) first
+        (r .next) (r .waiting) ⌝ }
 {
     let count = lists::offers(items, priorities);
     let mut i = first;

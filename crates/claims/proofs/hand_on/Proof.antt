@@ -32,19 +32,34 @@ slice-aggregate-announce-parents : tie.Need-slice-aggregate-announce-parents
 slice-aggregate-announce-parents c = search needs
 
 announce-parents-requires : tie.Need-announce-parents-requires
-announce-parents-requires c κs = (c .before .before .before .before .before .before .before .before .before .before .before .before .before .pre, omega (arith, c .before .before .before .before .before .before .before .before .if1 .taken), few-first _ (c .before .before .before .before .before .parents-for .result) _ refl (c .before .before .before .before .before .parents-for .ensures .0) (omega (arith, c .before .before .before .before .before .parents-for .kept)), room-keys _ _ (few-first _ (c .before .before .before .before .before .parents-for .result) _ refl (c .before .before .before .before .before .parents-for .ensures .0) (omega (arith, c .before .before .before .before .before .parents-for .kept))) (omega arith))
+announce-parents-requires c κs = (
+  c .before .before .before .before .before .before .before .before .before .before .before .before .before .pre,
+  omega (arith, c .before .before .before .before .before .before .before .before .if1 .taken),
+  few-first _ (c .before .before .before .before .before .parents-for .result) _ refl
+      (c .before .before .before .before .before .parents-for .ensures .0) (omega (arith, c .before .before .before .before .before .parents-for .kept)),
+  room-keys _ _ (few-first _ (c .before .before .before .before .before .parents-for .result) _ refl (c .before .before .before .before .before .parents-for .ensures .0)
+      (omega (arith, c .before .before .before .before .before .parents-for .kept))) (omega arith),
+)
 
 same-length : tie.Need-same-length
 same-length c = search needs
 
 returns : tie.Need-returns
-returns c = hand-some (keyNum (c .before .before .before .before .before .before .before .before .before .before .before .before .before .before .before .before .before .args .k)) (c .before .before .before .before .before .before .before .before .before .before .before .before .before .before .before .before .before .args .clock) (λ st s w. c .before .before .before .before .before .before .before .before .before .before .before .before .before .before .request-at .ensures .is st s w) (c .before .before .before .before .before .before .before .before .before .before .before .before .if1 .taken) _ (λ st s w. first-are _ (c .before .before .before .before .before .before .before .before .before .parents-for .result) _ refl (c .before .before .before .before .before .before .before .before .before .parents-for .ensures .0) (omega (arith, c .before .before .before .before .before .before .before .before .before .parents-for .kept)) _ (c .before .before .before .before .before .before .before .before .before .parents-for .ensures .1 st s w)) (c .before .before .before .announce-parents .ensures)
+returns c = hand-some (keyNum (c .before .before .before .before .before .before .before .before .before .before .before .before .before .before .before .before .before .args .k))
+    (c .before .before .before .before .before .before .before .before .before .before .before .before .before .before .before .before .before .args .clock)
+    (λ st s w. c .before .before .before .before .before .before .before .before .before .before .before .before .before .before .request-at .ensures .is st s w)
+    (c .before .before .before .before .before .before .before .before .before .before .before .before .if1 .taken) _
+    (λ st s w. first-are _ (c .before .before .before .before .before .before .before .before .before .parents-for .result) _ refl
+    (c .before .before .before .before .before .before .before .before .before .parents-for .ensures .0)
+    (omega (arith, c .before .before .before .before .before .before .before .before .before .parents-for .kept)) _
+    (c .before .before .before .before .before .before .before .before .before .parents-for .ensures .1 st s w)) (c .before .before .before .announce-parents .ensures)
 
 same-length-2 : tie.Need-same-length-2
 same-length-2 c = search needs
 
 returns-2 : tie.Need-returns-2
-returns-2 c = hand-none (keyNum (c .before .before .before .before .before .args .k)) (c .before .before .before .before .before .args .clock) (λ st s w. c .before .before .request-at .ensures .is st s w) (c .if1 .left)
+returns-2 c = hand-none (keyNum (c .before .before .before .before .before .args .k)) (c .before .before .before .before .before .args .clock)
+    (λ st s w. c .before .before .request-at .ensures .is st s w) (c .if1 .left)
 
 pub hand-on-spec : {M : Type 1} → statement M
 hand-on-spec =

@@ -28,7 +28,14 @@ announce-parents-requires c κs = search needs
 add-result : tie.Need-add-result
 add-result c =
     let kept = c .before .before .before .before .before .before .before .before .before .before .before .before .before .before .pre .0 in
-    omega (arith, c .before .before .before .before .announce-parents .ensures .count (kept .state) (kept .sound) (kept .writes), length-announceParents (limitsOf (kept .state)) (c .before .before .before .before .before .before .before .before .before .before .before .before .before .before .args .n) (c .before .before .before .before .before .before .before .before .before .before .before .before .before .before .args .clock) (hashesIn (c .before .before .before .before .before .before .before .before .before .before .before .before .before .before .args .list .now)) (kept .state .table), c .before .before .before .before .before .before .before .before .before .before .before .before .before .before .pre .2)
+    omega (
+      arith,
+      c .before .before .before .before .announce-parents .ensures .count (kept .state) (kept .sound) (kept .writes),
+      length-announceParents (limitsOf (kept .state)) (c .before .before .before .before .before .before .before .before .before .before .before .before .before .before .args .n)
+          (c .before .before .before .before .before .before .before .before .before .before .before .before .before .before .args .clock) (hashesIn
+          (c .before .before .before .before .before .before .before .before .before .before .before .before .before .before .args .list .now)) (kept .state .table),
+      c .before .before .before .before .before .before .before .before .before .before .before .before .before .before .pre .2,
+    )
 
 same-length : tie.Need-same-length
 same-length c = search needs
@@ -37,7 +44,13 @@ same-length-2 : tie.Need-same-length-2
 same-length-2 c = search needs
 
 returns : tie.Need-returns
-returns c = listed-behind (c .before .before .before .before .before .before .before .before .before .before .before .before .before .before .args .out .now) _ (keyNum (c .before .before .before .before .before .before .before .before .before .before .before .before .before .before .args .k)) _ (c .before .before .before .before .before .before .before .before .before .put-key .ensures) refl (λ m t. announceParents m (c .before .before .before .before .before .before .before .before .before .before .before .before .before .before .args .n) (c .before .before .before .before .before .before .before .before .before .before .before .before .before .before .args .clock) (hashesIn (c .before .before .before .before .before .before .before .before .before .before .before .before .before .before .args .list .now)) t) (c .before .before .before .before .announce-parents .ensures)
+returns c = listed-behind (c .before .before .before .before .before .before .before .before .before .before .before .before .before .before .args .out .now) _
+    (keyNum (c .before .before .before .before .before .before .before .before .before .before .before .before .before .before .args .k)) _
+    (c .before .before .before .before .before .before .before .before .before .put-key .ensures) refl
+    (λ m t. announceParents m (c .before .before .before .before .before .before .before .before .before .before .before .before .before .before .args .n)
+    (c .before .before .before .before .before .before .before .before .before .before .before .before .before .before .args .clock)
+    (hashesIn (c .before .before .before .before .before .before .before .before .before .before .before .before .before .before .args .list .now)) t)
+    (c .before .before .before .before .announce-parents .ensures)
 
 pub announce-behind-spec : {M : Type 1} → statement M
 announce-behind-spec =

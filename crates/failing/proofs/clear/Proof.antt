@@ -11,13 +11,18 @@ close-requires c κs = search needs
 disown-requires : tie.Need-disown-requires
 disown-requires c κs =
     let kept = c .before .before .before .before .before .before .pre in
-    shut-kept (kept .state) (kept .sound) (keyNum (c .before .before .before .before .before .before .args .k)) (hash-below (c .before .before .before .before .before .before .args .k .hash) (key-four (c .before .before .before .before .before .before .args .k) (c .before .before .before .before .before .before .good .1 .0))) (c .before .before .before .close .ensures (kept .state) (kept .sound) (kept .writes) tt)
+    shut-kept (kept .state) (kept .sound) (keyNum (c .before .before .before .before .before .before .args .k)) (hash-below (c .before .before .before .before .before .before .args .k .hash)
+    (key-four (c .before .before .before .before .before .before .args .k) (c .before .before .before .before .before .before .good .1 .0)))
+    (c .before .before .before .close .ensures (kept .state) (kept .sound) (kept .writes) tt)
 
 same-length : tie.Need-same-length
 same-length c = search needs
 
 returns : tie.Need-returns
-returns c = λ st s w e. cleared-from st s (keyNum (c .before .before .before .before .before .before .before .before .before .args .k)) (hash-below (c .before .before .before .before .before .before .before .before .before .args .k .hash) (key-four (c .before .before .before .before .before .before .before .before .before .args .k) (c .before .before .before .before .before .before .before .before .before .good .1 .0))) (c .before .before .before .before .before .before .before .before .before .args .n) e (c .before .before .before .before .before .before .close .ensures st s w tt) (c .before .before .disown .ensures)
+returns c = λ st s w e. cleared-from st s (keyNum (c .before .before .before .before .before .before .before .before .before .args .k)) (hash-below
+    (c .before .before .before .before .before .before .before .before .before .args .k .hash) (key-four (c .before .before .before .before .before .before .before .before .before .args .k)
+    (c .before .before .before .before .before .before .before .before .before .good .1 .0))) (c .before .before .before .before .before .before .before .before .before .args .n) e
+    (c .before .before .before .before .before .before .close .ensures st s w tt) (c .before .before .disown .ensures)
 
 pub clear-spec : {M : Type 1} → statement M
 clear-spec = tie.close (tie.spec close-requires disown-requires same-length returns)

@@ -15,7 +15,8 @@ close-requires : tie.Need-close-requires
 close-requires c κs = search needs
 
 returns : tie.Need-returns
-returns c = λ st s w u. nothing-closed st s (keyNum (c .before .before .before .before .args .k)) (hash-below (c .before .before .before .before .args .k .hash) (key-four (c .before .before .before .before .args .k) (c .before .before .before .before .good .1 .0))) (c .enum-told .given .1) w
+returns c = λ st s w u. nothing-closed st s (keyNum (c .before .before .before .before .args .k)) (hash-below (c .before .before .before .before .args .k .hash)
+    (key-four (c .before .before .before .before .args .k) (c .before .before .before .before .good .1 .0))) (c .enum-told .given .1) w
 
 same-length : tie.Need-same-length
 same-length c = search needs

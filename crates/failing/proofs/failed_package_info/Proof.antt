@@ -13,7 +13,8 @@ same-length : tie.Need-same-length
 same-length c = search needs
 
 returns : tie.Need-returns
-returns c = info-refused (keyNum (c .before .before .before .before .args .k)) (c .before .before .before .before .args .n) (c .before .before .before .before .args .clock) (λ st s w. sym (c .before .info-owned .ensures st s w) ∙ not-true (c .before .info-owned .result) (c .if1 .taken))
+returns c = info-refused (keyNum (c .before .before .before .before .args .k)) (c .before .before .before .before .args .n) (c .before .before .before .before .args .clock)
+    (λ st s w. sym (c .before .info-owned .ensures st s w) ∙ not-true (c .before .info-owned .result) (c .if1 .taken))
 
 failed-requires : tie.Need-failed-requires
 failed-requires c κs = search needs
@@ -22,7 +23,9 @@ same-length-2 : tie.Need-same-length-2
 same-length-2 c = search needs
 
 returns-2 : tie.Need-returns-2
-returns-2 c = info-answered (keyNum (c .before .before .before .before .before .before .before .before .args .k)) (c .before .before .before .before .before .before .before .before .args .n) (c .before .before .before .before .before .before .before .before .args .clock) (λ st s w. sym (c .before .before .before .before .before .info-owned .ensures st s w) ∙ not-false (c .before .before .before .before .before .info-owned .result) (c .before .before .before .before .if1 .left)) (c .before .before .failed .ensures)
+returns-2 c = info-answered (keyNum (c .before .before .before .before .before .before .before .before .args .k)) (c .before .before .before .before .before .before .before .before .args .n)
+    (c .before .before .before .before .before .before .before .before .args .clock) (λ st s w. sym (c .before .before .before .before .before .info-owned .ensures st s w) ∙
+    not-false (c .before .before .before .before .before .info-owned .result) (c .before .before .before .before .if1 .left)) (c .before .before .failed .ensures)
 
 pub failed-package-info-spec : {M : Type 1} → statement M
 failed-package-info-spec =

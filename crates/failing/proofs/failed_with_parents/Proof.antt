@@ -23,7 +23,11 @@ same-length : tie.Need-same-length
 same-length c = search needs
 
 returns : tie.Need-returns
-returns c = nothing-handed (keyNum (c .before .before .before .before .before .before .before .before .before .before .before .args .k)) (c .before .before .before .before .before .before .before .before .before .before .before .args .n) (c .before .before .before .before .before .before .before .before .before .before .before .args .clock) (c .before .before .before .before .before .before .before .before .before .before .before .args .out .now) (not-true (c .before .before .before .failed .result) (c .if1 .taken)) (c .before .before .before .failed .ensures)
+returns c = nothing-handed (keyNum (c .before .before .before .before .before .before .before .before .before .before .before .args .k))
+    (c .before .before .before .before .before .before .before .before .before .before .before .args .n)
+    (c .before .before .before .before .before .before .before .before .before .before .before .args .clock)
+    (c .before .before .before .before .before .before .before .before .before .before .before .args .out .now) (not-true (c .before .before .before .failed .result) (c .if1 .taken))
+    (c .before .before .before .failed .ensures)
 
 mul-e : tie.Need-mul-e
 mul-e c = search needs
@@ -39,11 +43,26 @@ part-announce-behind-end c = search needs
 
 announce-behind-requires : tie.Need-announce-behind-requires
 announce-behind-requires c κs =
-    let v : c .before .before .before .before .before .before .before .before .before .before .before .before .before .before .before .args .clock < word = omega (arith, c .before .before .before .before .before .before .before .before .before .before .before .before .before .before .before .good .1 .1 .1 .0) in (
-      failed-kept (keyNum (c .before .before .before .before .before .before .before .before .before .before .before .before .before .before .before .args .k)) (hash-below (c .before .before .before .before .before .before .before .before .before .before .before .before .before .before .before .args .k .hash) (key-four (c .before .before .before .before .before .before .before .before .before .before .before .before .before .before .before .args .k) (c .before .before .before .before .before .before .before .before .before .before .before .before .before .before .before .good .1 .0))) (c .before .before .before .before .before .before .before .before .before .before .before .before .before .before .before .args .n) (c .before .before .before .before .before .before .before .before .before .before .before .before .before .before .before .args .clock) v (not-false (c .before .before .before .before .before .before .before .failed .result) (c .before .before .before .before .if1 .left)) (c .before .before .before .before .before .before .before .failed .ensures) (c .before .before .before .before .before .before .before .before .before .before .before .before .before .before .before .pre .0),
+    let v : c .before .before .before .before .before .before .before .before .before .before .before .before .before .before .before .args .clock < word =
+    omega (arith, c .before .before .before .before .before .before .before .before .before .before .before .before .before .before .before .good .1 .1 .1 .0) in (
+      failed-kept (keyNum (c .before .before .before .before .before .before .before .before .before .before .before .before .before .before .before .args .k))
+          (hash-below (c .before .before .before .before .before .before .before .before .before .before .before .before .before .before .before .args .k .hash)
+          (key-four (c .before .before .before .before .before .before .before .before .before .before .before .before .before .before .before .args .k)
+          (c .before .before .before .before .before .before .before .before .before .before .before .before .before .before .before .good .1 .0)))
+          (c .before .before .before .before .before .before .before .before .before .before .before .before .before .before .before .args .n)
+          (c .before .before .before .before .before .before .before .before .before .before .before .before .before .before .before .args .clock) v
+          (not-false (c .before .before .before .before .before .before .before .failed .result) (c .before .before .before .before .if1 .left))
+          (c .before .before .before .before .before .before .before .failed .ensures)
+          (c .before .before .before .before .before .before .before .before .before .before .before .before .before .before .before .pre .0),
       c .before .before .before .before .before .before .before .before .before .before .before .before .before .before .before .pre .1,
-      few-first _ (c .before .before .before .before .before .before .before .before .before .before .parents-for .result) _ refl (c .before .before .before .before .before .before .before .before .before .before .parents-for .ensures .0) (omega (arith, c .before .before .before .before .before .before .before .before .before .before .parents-for .kept)),
-      room-first _ (c .before .before .before .before .before .before .before .before .before .before .parents-for .result) _ refl (c .before .before .before .before .before .before .before .before .before .before .parents-for .ensures .0) (omega (arith, c .before .before .before .before .before .before .before .before .before .before .parents-for .kept)) (c .before .before .before .before .before .before .before .before .before .before .before .before .before .before .before .args .out .now) (c .before .before .before .before .before .before .before .before .before .before .before .before .before .before .before .pre .2),
+      few-first _ (c .before .before .before .before .before .before .before .before .before .before .parents-for .result) _ refl
+          (c .before .before .before .before .before .before .before .before .before .before .parents-for .ensures .0)
+          (omega (arith, c .before .before .before .before .before .before .before .before .before .before .parents-for .kept)),
+      room-first _ (c .before .before .before .before .before .before .before .before .before .before .parents-for .result) _ refl
+          (c .before .before .before .before .before .before .before .before .before .before .parents-for .ensures .0)
+          (omega (arith, c .before .before .before .before .before .before .before .before .before .before .parents-for .kept))
+          (c .before .before .before .before .before .before .before .before .before .before .before .before .before .before .before .args .out .now)
+          (c .before .before .before .before .before .before .before .before .before .before .before .before .before .before .before .pre .2),
     )
 
 same-length-2 : tie.Need-same-length-2
@@ -54,8 +73,26 @@ same-length-3 c = search needs
 
 returns-2 : tie.Need-returns-2
 returns-2 c =
-    let v : c .before .before .before .before .before .before .before .before .before .before .before .before .before .before .before .before .before .before .before .before .args .clock < word = omega (arith, c .before .before .before .before .before .before .before .before .before .before .before .before .before .before .before .before .before .before .before .before .good .1 .1 .1 .0) in
-    handed (keyNum (c .before .before .before .before .before .before .before .before .before .before .before .before .before .before .before .before .before .before .before .before .args .k)) (hash-below (c .before .before .before .before .before .before .before .before .before .before .before .before .before .before .before .before .before .before .before .before .args .k .hash) (key-four (c .before .before .before .before .before .before .before .before .before .before .before .before .before .before .before .before .before .before .before .before .args .k) (c .before .before .before .before .before .before .before .before .before .before .before .before .before .before .before .before .before .before .before .before .good .1 .0))) (c .before .before .before .before .before .before .before .before .before .before .before .before .before .before .before .before .before .before .before .before .args .n) (c .before .before .before .before .before .before .before .before .before .before .before .before .before .before .before .before .before .before .before .before .args .clock) v (not-false (c .before .before .before .before .before .before .before .before .before .before .before .before .failed .result) (c .before .before .before .before .before .before .before .before .before .if1 .left)) (c .before .before .before .before .before .before .before .before .before .before .before .before .failed .ensures) _ (λ st s w. first-are _ (c .before .before .before .before .before .before .before .before .before .before .before .before .before .before .before .parents-for .result) _ refl (c .before .before .before .before .before .before .before .before .before .before .before .before .before .before .before .parents-for .ensures .0) (omega (arith, c .before .before .before .before .before .before .before .before .before .before .before .before .before .before .before .parents-for .kept)) _ (c .before .before .before .before .before .before .before .before .before .before .before .before .before .before .before .parents-for .ensures .1 st s w)) (c .before .before .before .before .announce-behind .ensures)
+    let v : c .before .before .before .before .before .before .before .before .before .before .before .before .before .before .before .before .before .before .before .before .args .clock < word =
+    omega (
+      arith,
+      c .before .before .before .before .before .before .before .before .before .before .before .before .before .before .before .before .before .before .before .before .good .1 .1 .1 .0,
+    ) in
+    handed (keyNum (c .before .before .before .before .before .before .before .before .before .before .before .before .before .before .before .before .before .before .before .before .args .k))
+    (hash-below
+    (c .before .before .before .before .before .before .before .before .before .before .before .before .before .before .before .before .before .before .before .before .args .k .hash)
+    (key-four (c .before .before .before .before .before .before .before .before .before .before .before .before .before .before .before .before .before .before .before .before .args .k)
+    (c .before .before .before .before .before .before .before .before .before .before .before .before .before .before .before .before .before .before .before .before .good .1 .0)))
+    (c .before .before .before .before .before .before .before .before .before .before .before .before .before .before .before .before .before .before .before .before .args .n)
+    (c .before .before .before .before .before .before .before .before .before .before .before .before .before .before .before .before .before .before .before .before .args .clock) v
+    (not-false (c .before .before .before .before .before .before .before .before .before .before .before .before .failed .result)
+    (c .before .before .before .before .before .before .before .before .before .if1 .left))
+    (c .before .before .before .before .before .before .before .before .before .before .before .before .failed .ensures) _
+    (λ st s w. first-are _ (c .before .before .before .before .before .before .before .before .before .before .before .before .before .before .before .parents-for .result) _ refl
+    (c .before .before .before .before .before .before .before .before .before .before .before .before .before .before .before .parents-for .ensures .0)
+    (omega (arith, c .before .before .before .before .before .before .before .before .before .before .before .before .before .before .before .parents-for .kept)) _
+    (c .before .before .before .before .before .before .before .before .before .before .before .before .before .before .before .parents-for .ensures .1 st s w))
+    (c .before .before .before .before .announce-behind .ensures)
 
 pub failed-with-parents-spec : {M : Type 1} → statement M
 failed-with-parents-spec =

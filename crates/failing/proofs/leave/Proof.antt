@@ -12,7 +12,10 @@ ready-all-requires : tie.Need-ready-all-requires
 ready-all-requires c κs =
     let kept = c .before .before .before .before .before .before .pre .0 in
     let free = c .before .before .before .before .before .before .pre .1 (kept .state) (kept .sound) (kept .writes) in
-    cut-kept (kept .state) (kept .sound) (keyNum (c .before .before .before .before .before .before .args .k)) (hash-below (c .before .before .before .before .before .before .args .k .hash) (key-four (c .before .before .before .before .before .before .args .k) (c .before .before .before .before .before .before .good .1 .0))) (c .before .before .before .before .before .before .args .n) (c .before .before .before .before .before .before .args .clock) free (c .before .before .before .withdraw .ensures (kept .state) (kept .sound) (kept .writes) free)
+    cut-kept (kept .state) (kept .sound) (keyNum (c .before .before .before .before .before .before .args .k)) (hash-below (c .before .before .before .before .before .before .args .k .hash)
+    (key-four (c .before .before .before .before .before .before .args .k) (c .before .before .before .before .before .before .good .1 .0)))
+    (c .before .before .before .before .before .before .args .n) (c .before .before .before .before .before .before .args .clock) free
+    (c .before .before .before .withdraw .ensures (kept .state) (kept .sound) (kept .writes) free)
 
 same-length : tie.Need-same-length
 same-length c = search needs
@@ -20,7 +23,11 @@ same-length c = search needs
 returns : tie.Need-returns
 returns c = λ st s w u.
     let free = c .before .before .before .before .before .before .before .before .before .pre .1 st s w in
-    left-from st s (keyNum (c .before .before .before .before .before .before .before .before .before .args .k)) (hash-below (c .before .before .before .before .before .before .before .before .before .args .k .hash) (key-four (c .before .before .before .before .before .before .before .before .before .args .k) (c .before .before .before .before .before .before .before .before .before .good .1 .0))) (c .before .before .before .before .before .before .before .before .before .args .n) (c .before .before .before .before .before .before .before .before .before .args .clock) free (c .before .before .before .before .before .before .withdraw .ensures st s w free) (c .before .before .ready-all .ensures)
+    left-from st s (keyNum (c .before .before .before .before .before .before .before .before .before .args .k))
+    (hash-below (c .before .before .before .before .before .before .before .before .before .args .k .hash)
+    (key-four (c .before .before .before .before .before .before .before .before .before .args .k) (c .before .before .before .before .before .before .before .before .before .good .1 .0)))
+    (c .before .before .before .before .before .before .before .before .before .args .n) (c .before .before .before .before .before .before .before .before .before .args .clock) free
+    (c .before .before .before .before .before .before .withdraw .ensures st s w free) (c .before .before .ready-all .ensures)
 
 pub leave-spec : {M : Type 1} → statement M
 leave-spec = tie.close (tie.spec withdraw-requires ready-all-requires same-length returns)

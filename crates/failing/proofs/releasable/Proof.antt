@@ -12,10 +12,12 @@ request-at-requires : tie.Need-request-at-requires
 request-at-requires c κs = search needs
 
 returns-2 : tie.Need-returns-2
-returns-2 c = λ st s w. owned-staged (c .before .before .before .request-at .ensures .is st s w) (c .before .before .before .before .before .before .args .n) (omega (arith, c .before .before .before .before .if1 .left)) (c .before .if2 .taken)
+returns-2 c = λ st s w. owned-staged (c .before .before .before .request-at .ensures .is st s w) (c .before .before .before .before .before .before .args .n)
+    (omega (arith, c .before .before .before .before .if1 .left)) (c .before .if2 .taken)
 
 returns-3 : tie.Need-returns-3
-returns-3 c = λ st s w. not-owned (c .before .before .request-at .ensures .is st s w) (c .before .before .before .before .before .args .n) (omega (arith, c .before .before .before .if1 .left)) (c .if2 .left)
+returns-3 c = λ st s w. not-owned (c .before .before .request-at .ensures .is st s w) (c .before .before .before .before .before .args .n) (omega (arith, c .before .before .before .if1 .left))
+    (c .if2 .left)
 
 pub releasable-spec : {M : Type 1} → statement M
 releasable-spec = tie.close (tie.spec returns request-at-requires returns-2 returns-3)

@@ -15,7 +15,8 @@ same-length : tie.Need-same-length
 same-length c = search needs
 
 returns : tie.Need-returns
-returns c = λ st s w u. c .before .before .clear .ensures st s w (owner-named ((at (keyNum (c .before .before .before .before .before .before .before .before .before .args .k)) (st .table)) .owner) (c .before .before .before .before .before .before .request-at .ensures .is st s w .owner) (c .before .before .before .before .if1 .taken))
+returns c = λ st s w u. c .before .before .clear .ensures st s w (owner-named ((at (keyNum (c .before .before .before .before .before .before .before .before .before .args .k))
+    (st .table)) .owner) (c .before .before .before .before .before .before .request-at .ensures .is st s w .owner) (c .before .before .before .before .if1 .taken))
 
 same-length-2 : tie.Need-same-length-2
 same-length-2 c = search needs

@@ -17,13 +17,15 @@ same-length c = search needs
 returns : tie.Need-returns
 returns c = λ st s w u.
     let e = sym (c .before .before .before .before .before .releasable .ensures st s w) ∙ c .before .before .before .before .if1 .taken in
-    unclaimed st s (keyNum (c .before .before .before .before .before .before .before .before .args .k)) (c .before .before .before .before .before .before .before .before .args .n) e w (c .before .before .clear .ensures)
+    unclaimed st s (keyNum (c .before .before .before .before .before .before .before .before .args .k)) (c .before .before .before .before .before .before .before .before .args .n) e w
+    (c .before .before .clear .ensures)
 
 same-length-2 : tie.Need-same-length-2
 same-length-2 c = search needs
 
 returns-2 : tie.Need-returns-2
-returns-2 c = λ st s w u. unclaim-refused st (keyNum (c .before .before .before .before .args .k)) (c .before .before .before .before .args .n) (sym (c .before .releasable .ensures st s w) ∙ c .if1 .left) w
+returns-2 c = λ st s w u. unclaim-refused st (keyNum (c .before .before .before .before .args .k)) (c .before .before .before .before .args .n)
+    (sym (c .before .releasable .ensures st s w) ∙ c .if1 .left) w
 
 pub unclaim-spec : {M : Type 1} → statement M
 unclaim-spec =

@@ -10,8 +10,11 @@ own-keys-requires : tie.Need-own-keys-requires
 own-keys-requires c κs = search needs
 
 drop-keys-requires : tie.Need-drop-keys-requires
-drop-keys-requires c κs = let late : c .before .before .before .before .before .before .before .before .before .args .clock < word = omega (arith, c .before .before .before .before .before .before .before .before .before .good .1 .1 .0) in
-    parted-asks (c .before .before .before .before .before .before .before .before .before .args .n) (c .before .before .before .before .before .before .before .before .before .args .clock) late (c .before .before .before .before .before .before .before .before .before .pre .0) (c .before .before .before .before .before .before .before .before .before .pre .1) (c .before .before .before .before .before .before .before .before .before .pre .2) (c .before .before .before .before .own-keys .ensures)
+drop-keys-requires c κs = let late : c .before .before .before .before .before .before .before .before .before .args .clock < word =
+    omega (arith, c .before .before .before .before .before .before .before .before .before .good .1 .1 .0) in
+    parted-asks (c .before .before .before .before .before .before .before .before .before .args .n) (c .before .before .before .before .before .before .before .before .before .args .clock) late
+    (c .before .before .before .before .before .before .before .before .before .pre .0) (c .before .before .before .before .before .before .before .before .before .pre .1)
+    (c .before .before .before .before .before .before .before .before .before .pre .2) (c .before .before .before .before .own-keys .ensures)
 
 same-length : tie.Need-same-length
 same-length c = search needs
@@ -20,8 +23,12 @@ same-length-2 : tie.Need-same-length-2
 same-length-2 c = search needs
 
 returns : tie.Need-returns
-returns c = let late : c .before .before .before .before .before .before .before .before .before .before .before .before .before .before .args .clock < word = omega (arith, c .before .before .before .before .before .before .before .before .before .before .before .before .before .before .good .1 .1 .0) in
-    parted (c .before .before .before .before .before .before .before .before .before .before .before .before .before .before .args .n) (c .before .before .before .before .before .before .before .before .before .before .before .before .before .before .args .clock) late (c .before .before .before .before .before .before .before .before .before .before .before .before .before .before .pre .2) (c .before .before .before .before .before .before .before .before .before .own-keys .ensures) (c .before .before .before .before .drop-keys .ensures)
+returns c = let late : c .before .before .before .before .before .before .before .before .before .before .before .before .before .before .args .clock < word =
+    omega (arith, c .before .before .before .before .before .before .before .before .before .before .before .before .before .before .good .1 .1 .0) in
+    parted (c .before .before .before .before .before .before .before .before .before .before .before .before .before .before .args .n)
+    (c .before .before .before .before .before .before .before .before .before .before .before .before .before .before .args .clock) late
+    (c .before .before .before .before .before .before .before .before .before .before .before .before .before .before .pre .2)
+    (c .before .before .before .before .before .before .before .before .before .own-keys .ensures) (c .before .before .before .before .drop-keys .ensures)
 
 pub disconnected-spec : {M : Type 1} → statement M
 disconnected-spec =

@@ -24,11 +24,21 @@ idle-keys-requires c κs = c .before .before .before .pre .0
 loop-holds : tie.Need-loop-holds Inv-loop μ-loop
 loop-holds c = λ st s w.
     let late : c .before .before .before .before .args .clock < word = omega (arith, c .before .before .before .before .good .1 .1 .0) in
-    going-first (c .before .before .before .before .args .n) (c .before .before .before .before .args .clock) late st s w (c .before .before .before .before .args .out .now) (c .before .before .before .before .args .own) (c .before .before .before .before .pre .3 .count st s w) (c .before .before .before .before .pre .3 .keys st s w) (c .before .before .before .before .pre .2) (c .idle-keys .ensures)
+    going-first (c .before .before .before .before .args .n) (c .before .before .before .before .args .clock) late st s w (c .before .before .before .before .args .out .now)
+    (c .before .before .before .before .args .own) (c .before .before .before .before .pre .3 .count st s w) (c .before .before .before .before .pre .3 .keys st s w)
+    (c .before .before .before .before .pre .2) (c .idle-keys .ensures)
 
 take-turn-requires : tie.Need-take-turn-requires Inv-loop μ-loop
-take-turn-requires c κs = let kept = c .before .before .before .before .before .before .before .before .pre .0 in
-    (record { state = kept .state; buffer = c .before .before .before .before .before .before .before .before .args .out .now; going = c .before .before .before .loop .inv (kept .state) (kept .sound) (kept .writes) }, c .before .before .before .before .before .before .before .before .pre .1, c .before .before .loop-test .taken)
+take-turn-requires c κs = let kept = c .before .before .before .before .before .before .before .before .pre .0 in (
+  record {
+    state = kept .state;
+    buffer = c .before .before .before .before .before .before .before .before .args .out .now;
+    going = c .before .before .before .loop .inv (kept .state)
+        (kept .sound) (kept .writes);
+  },
+  c .before .before .before .before .before .before .before .before .pre .1,
+  c .before .before .loop-test .taken,
+)
 
 add-i : tie.Need-add-i Inv-loop μ-loop
 add-i c = omega (arith, c .before .before .before .before .before .before .before .loop-test .taken)
@@ -37,11 +47,14 @@ loop-less : tie.Need-loop-less Inv-loop μ-loop
 loop-less c = omega (arith, c .before .before .before .before .before .before .before .loop-test .taken)
 
 loop-again : tie.Need-loop-again Inv-loop μ-loop
-loop-again c = λ st s w. c .before .before .before .before .take-turn .ensures st (c .before .before .before .before .before .before .before .before .before .before .before .before .before .args .out .now) (c .before .before .before .before .before .before .before .before .loop .inv st s w)
+loop-again c = λ st s w. c .before .before .before .before .take-turn .ensures st
+    (c .before .before .before .before .before .before .before .before .before .before .before .before .before .args .out .now)
+    (c .before .before .before .before .before .before .before .before .loop .inv st s w)
 
 cut-listed-requires : tie.Need-cut-listed-requires Inv-loop μ-loop
 cut-listed-requires c κs = let kept = c .before .before .before .before .before .before .before .before .pre .0 in
-    let late : c .before .before .before .before .before .before .before .before .args .clock < word = omega (arith, c .before .before .before .before .before .before .before .before .good .1 .1 .0) in
+    let late : c .before .before .before .before .before .before .before .before .args .clock < word =
+    omega (arith, c .before .before .before .before .before .before .before .before .good .1 .1 .0) in
     let g = c .before .before .before .loop .inv (kept .state) (kept .sound) (kept .writes) in
     (going-kept g, omega (arith, keys-inside g late))
 
@@ -52,7 +65,8 @@ same-length c = let kept = c .before .before .before .before .before .before .be
 
 same-length-2 : tie.Need-same-length-2 Inv-loop μ-loop
 same-length-2 c = let kept = c .before .before .before .before .before .before .before .before .before .before .before .pre .0 in
-    let late : c .before .before .before .before .before .before .before .before .before .before .before .args .clock < word = omega (arith, c .before .before .before .before .before .before .before .before .before .before .before .good .1 .1 .0) in
+    let late : c .before .before .before .before .before .before .before .before .before .before .before .args .clock < word =
+    omega (arith, c .before .before .before .before .before .before .before .before .before .before .before .good .1 .1 .0) in
     going-long (c .before .before .before .before .before .before .loop .inv (kept .state) (kept .sound) (kept .writes)) late
 
 returns : tie.Need-returns Inv-loop μ-loop

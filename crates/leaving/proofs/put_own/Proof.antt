@@ -16,7 +16,9 @@ same-length : tie.Need-same-length
 same-length c = search needs
 
 returns : tie.Need-returns
-returns c = put-its (c .before .before .before .before .before .before .before .before .args .n) (c .before .before .before .before .before .before .before .before .args .r) (c .before .before .before .before .before .before .before .before .args .out .now) (c .before .before .before .before .before .before .before .before .args .c) (c .before .before .before .before .before .if1 .taken) (c .before .before .before .before .key-of .ensures) (c .before .before .put-key .ensures)
+returns c = put-its (c .before .before .before .before .before .before .before .before .args .n) (c .before .before .before .before .before .before .before .before .args .r)
+    (c .before .before .before .before .before .before .before .before .args .out .now) (c .before .before .before .before .before .before .before .before .args .c)
+    (c .before .before .before .before .before .if1 .taken) (c .before .before .before .before .key-of .ensures) (c .before .before .put-key .ensures)
 
 returns-2 : tie.Need-returns-2
 returns-2 c = put-not (c .before .before .before .args .n) (c .before .before .before .args .r) (c .before .before .before .args .out .now) (c .before .before .before .args .c) (c .if1 .left)

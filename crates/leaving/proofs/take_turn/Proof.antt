@@ -23,31 +23,52 @@ same-length-2 c = search needs
 
 returns : tie.Need-returns
 returns c = λ st u₀ g.
-    let late : c .before .before .before .before .before .before .before .before .before .args .clock < word = omega (arith, c .before .before .before .before .before .before .before .before .before .good .1 .1 .0) in
-    turn-rests g late (keyNum (c .before .before .before .before .before .key-at .result)) (c .before .before .before .before .before .before .before .before .before .pre .2) (c .before .before .before .before .before .key-at .ensures) (c .before .before .before .waits .ensures) (c .if1 .taken)
+    let late : c .before .before .before .before .before .before .before .before .before .args .clock < word =
+    omega (arith, c .before .before .before .before .before .before .before .before .before .good .1 .1 .0) in
+    turn-rests g late (keyNum (c .before .before .before .before .before .key-at .result)) (c .before .before .before .before .before .before .before .before .before .pre .2)
+    (c .before .before .before .before .before .key-at .ensures) (c .before .before .before .waits .ensures) (c .if1 .taken)
 
 cut-listed-requires : tie.Need-cut-listed-requires
-cut-listed-requires c κs = let late : c .before .before .before .before .before .before .before .before .before .before .before .args .clock < word = omega (arith, c .before .before .before .before .before .before .before .before .before .before .before .good .1 .1 .0) in
-    (still-kept (c .before .before .before .before .before .before .before .before .before .before .before .pre .0 .going) late (keyNum (c .before .before .before .before .before .before .before .key-at .result)) (c .before .before .before .before .before .before .before .before .before .before .before .pre .2) (c .before .before .before .before .before .before .before .key-at .ensures) (c .before .before .before .before .before .waits .ensures) (c .before .before .if1 .left), omega (arith, keys-inside (c .before .before .before .before .before .before .before .before .before .before .before .pre .0 .going) late, c .before .before .before .before .before .before .before .before .before .before .before .pre .2))
+cut-listed-requires c κs = let late : c .before .before .before .before .before .before .before .before .before .before .before .args .clock < word =
+    omega (arith, c .before .before .before .before .before .before .before .before .before .before .before .good .1 .1 .0) in (
+      still-kept (c .before .before .before .before .before .before .before .before .before .before .before .pre .0 .going) late (keyNum
+          (c .before .before .before .before .before .before .before .key-at .result)) (c .before .before .before .before .before .before .before .before .before .before .before .pre .2)
+          (c .before .before .before .before .before .before .before .key-at .ensures) (c .before .before .before .before .before .waits .ensures) (c .before .before .if1 .left),
+      omega (
+        arith,
+        keys-inside (c .before .before .before .before .before .before .before .before .before .before .before .pre .0 .going) late,
+        c .before .before .before .before .before .before .before .before .before .before .before .pre .2,
+      ),
+    )
 
 mul-x : tie.Need-mul-x
-mul-x c = let late : c .before .before .before .before .before .before .before .before .before .before .before .before .before .before .args .clock < word = omega (arith, c .before .before .before .before .before .before .before .before .before .before .before .before .before .before .good .1 .1 .0) in
+mul-x c = let late : c .before .before .before .before .before .before .before .before .before .before .before .before .before .before .args .clock < word =
+    omega (arith, c .before .before .before .before .before .before .before .before .before .before .before .before .before .before .good .1 .1 .0) in
     omega (arith, keys-inside (c .before .before .before .before .before .before .before .before .before .before .before .before .before .before .pre .0 .going) late)
 
 sub-drop-owned : tie.Need-sub-drop-owned
-sub-drop-owned c = let late : c .before .before .before .before .before .before .before .before .before .before .before .before .before .before .before .args .clock < word = omega (arith, c .before .before .before .before .before .before .before .before .before .before .before .before .before .before .before .good .1 .1 .0) in
+sub-drop-owned c = let late : c .before .before .before .before .before .before .before .before .before .before .before .before .before .before .before .args .clock < word =
+    omega (arith, c .before .before .before .before .before .before .before .before .before .before .before .before .before .before .before .good .1 .1 .0) in
     omega (arith, keys-inside (c .before .before .before .before .before .before .before .before .before .before .before .before .before .before .before .pre .0 .going) late)
 
 part-drop-owned-start : tie.Need-part-drop-owned-start
-part-drop-owned-start c = let late : c .before .before .before .before .before .before .before .before .before .before .before .before .before .before .before .args .clock < word = omega (arith, c .before .before .before .before .before .before .before .before .before .before .before .before .before .before .before .good .1 .1 .0) in
+part-drop-owned-start c = let late : c .before .before .before .before .before .before .before .before .before .before .before .before .before .before .before .args .clock < word =
+    omega (arith, c .before .before .before .before .before .before .before .before .before .before .before .before .before .before .before .good .1 .1 .0) in
     omega (arith, keys-inside (c .before .before .before .before .before .before .before .before .before .before .before .before .before .before .before .pre .0 .going) late)
 
 part-drop-owned-end : tie.Need-part-drop-owned-end
 part-drop-owned-end c = search needs
 
 drop-owned-requires : tie.Need-drop-owned-requires
-drop-owned-requires c κs = let late : c .before .before .before .before .before .before .before .before .before .before .before .before .before .before .before .before .args .clock < word = omega (arith, c .before .before .before .before .before .before .before .before .before .before .before .before .before .before .before .before .good .1 .1 .0) in
-    drop-asks (c .before .before .before .before .before .before .before .before .before .before .before .before .before .before .before .before .pre .0 .going) late (keyNum (c .before .before .before .before .before .before .before .before .before .before .before .before .key-at .result)) (c .before .before .before .before .before .before .before .before .before .before .before .before .before .before .before .before .pre .2) (c .before .before .before .before .before .before .before .before .before .before .before .before .key-at .ensures) (c .before .before .before .before .before .before .before .before .before .before .waits .ensures) (c .before .before .before .before .before .before .before .if1 .left) (c .before .before .before .before .cut-listed .ensures) (c .before .before .before .before .before .before .before .before .before .before .before .before .before .before .before .before .pre .1)
+drop-owned-requires c κs = let late : c .before .before .before .before .before .before .before .before .before .before .before .before .before .before .before .before .args .clock < word =
+    omega (arith, c .before .before .before .before .before .before .before .before .before .before .before .before .before .before .before .before .good .1 .1 .0) in
+    drop-asks (c .before .before .before .before .before .before .before .before .before .before .before .before .before .before .before .before .pre .0 .going) late
+    (keyNum (c .before .before .before .before .before .before .before .before .before .before .before .before .key-at .result))
+    (c .before .before .before .before .before .before .before .before .before .before .before .before .before .before .before .before .pre .2)
+    (c .before .before .before .before .before .before .before .before .before .before .before .before .key-at .ensures)
+    (c .before .before .before .before .before .before .before .before .before .before .waits .ensures)
+    (c .before .before .before .before .before .before .before .if1 .left) (c .before .before .before .before .cut-listed .ensures)
+    (c .before .before .before .before .before .before .before .before .before .before .before .before .before .before .before .before .pre .1)
 
 add-t26 : tie.Need-add-t26
 add-t26 c = search needs
@@ -60,8 +81,17 @@ same-length-4 c = search needs
 
 returns-2 : tie.Need-returns-2
 returns-2 c = λ st u₀ g.
-    let late : c .before .before .before .before .before .before .before .before .before .before .before .before .before .before .before .before .before .before .before .before .before .args .clock < word = omega (arith, c .before .before .before .before .before .before .before .before .before .before .before .before .before .before .before .before .before .before .before .before .before .good .1 .1 .0) in
-    turn-owned g late (keyNum (c .before .before .before .before .before .before .before .before .before .before .before .before .before .before .before .before .before .key-at .result)) (c .before .before .before .before .before .before .before .before .before .before .before .before .before .before .before .before .before .before .before .before .before .pre .2) (c .before .before .before .before .before .before .before .before .before .before .before .before .before .before .before .before .before .key-at .ensures) (c .before .before .before .before .before .before .before .before .before .before .before .before .before .before .before .waits .ensures) (c .before .before .before .before .before .before .before .before .before .before .before .before .if1 .left) (c .before .before .before .before .before .before .before .before .before .cut-listed .ensures) (c .before .before .before .before .drop-owned .ensures)
+    let late : c .before .before .before .before .before .before .before .before .before .before .before .before
+    .before .before .before .before .before .before .before .before .before .args .clock < word = omega (
+      arith,
+      c .before .before .before .before .before .before .before .before .before .before .before .before .before .before .before .before .before .before .before .before .before .good .1 .1 .0,
+    ) in
+    turn-owned g late (keyNum (c .before .before .before .before .before .before .before .before .before .before .before .before .before .before .before .before .before .key-at .result))
+    (c .before .before .before .before .before .before .before .before .before .before .before .before .before .before .before .before .before .before .before .before .before .pre .2)
+    (c .before .before .before .before .before .before .before .before .before .before .before .before .before .before .before .before .before .key-at .ensures)
+    (c .before .before .before .before .before .before .before .before .before .before .before .before .before .before .before .waits .ensures)
+    (c .before .before .before .before .before .before .before .before .before .before .before .before .if1 .left)
+    (c .before .before .before .before .before .before .before .before .before .cut-listed .ensures) (c .before .before .before .before .drop-owned .ensures)
 
 pub take-turn-spec : {M : Type 1} → statement M
 take-turn-spec =

@@ -16,15 +16,19 @@ same-length c = search needs
 returns : tie.Need-returns
 returns c =
     let start : tie.Start = c .before .before .before .before .before in
-    begin-barred (start .args .n) (hashNum (start .args .subject .0)) (hashNum (start .args .combined)) (hashesIn (start .args .wtxids .now)) (start .args .clock) (c .before .owned-at .ensures) (not-true _ (c .if1 .taken))
+    begin-barred (start .args .n) (hashNum (start .args .subject .0)) (hashNum (start .args .combined)) (hashesIn (start .args .wtxids .now)) (start .args .clock) (c .before .owned-at .ensures)
+    (not-true _ (c .if1 .taken))
 
 seek-requires : tie.Need-seek-requires
 seek-requires c κs = search needs
 
 same-package-requires : tie.Need-same-package-requires
 same-package-requires c κs =
-    let start : tie.Start = c .before .before .before .before .before .before .before .before in
-    (start .pre, begin-inside (start .args .n) (hashNum (start .args .subject .0)) (hashNum (start .args .combined)) (hashesIn (start .args .wtxids .now)) (start .args .clock) (c .before .before .before .before .owned-at .ensures) (not-false _ (c .before .before .before .if1 .left)) (c .before .seek .ensures) (start .pre))
+    let start : tie.Start = c .before .before .before .before .before .before .before .before in (
+      start .pre,
+      begin-inside (start .args .n) (hashNum (start .args .subject .0)) (hashNum (start .args .combined)) (hashesIn (start .args .wtxids .now)) (start .args .clock)
+          (c .before .before .before .before .owned-at .ensures) (not-false _ (c .before .before .before .if1 .left)) (c .before .seek .ensures) (start .pre),
+    )
 
 same-length-2 : tie.Need-same-length-2
 same-length-2 c = search needs
@@ -34,7 +38,9 @@ returns-2 c =
     let start : tie.Start = c .before .before .before .before .before .before .before .before .before .before in
     let e = c .before .before .before .before .before .before .owned-at .ensures in
     let d = not-false (c .before .before .before .before .before .before .owned-at .result) (c .before .before .before .before .before .if1 .left) in
-    begin-other (start .args .n) (hashNum (start .args .subject .0)) (hashNum (start .args .combined)) (hashesIn (start .args .wtxids .now)) (start .args .clock) e d (begin-read (start .args .n) (hashNum (start .args .subject .0)) (hashNum (start .args .combined)) (hashesIn (start .args .wtxids .now)) (start .args .clock) e d (c .before .before .before .seek .ensures) (c .before .same-package .ensures)) (not-true _ (c .if2 .taken))
+    begin-other (start .args .n) (hashNum (start .args .subject .0)) (hashNum (start .args .combined)) (hashesIn (start .args .wtxids .now)) (start .args .clock) e d
+    (begin-read (start .args .n) (hashNum (start .args .subject .0)) (hashNum (start .args .combined)) (hashesIn (start .args .wtxids .now)) (start .args .clock) e d
+    (c .before .before .before .seek .ensures) (c .before .same-package .ensures)) (not-true _ (c .if2 .taken))
 
 enqueue-requires : tie.Need-enqueue-requires
 enqueue-requires c κs = search needs
@@ -46,8 +52,12 @@ returns-3 : tie.Need-returns-3
 returns-3 c =
     let start : tie.Start = c .before .before .before .before .before .before .before .before .before .before .before .before .before .before in
     let e = c .before .before .before .before .before .before .before .before .before .before .owned-at .ensures in
-    let d = not-false (c .before .before .before .before .before .before .before .before .before .before .owned-at .result) (c .before .before .before .before .before .before .before .before .before .if1 .left) in
-    begin-done (start .args .n) (hashNum (start .args .subject .0)) (hashNum (start .args .combined)) (hashesIn (start .args .wtxids .now)) (start .args .clock) e d (begin-read (start .args .n) (hashNum (start .args .subject .0)) (hashNum (start .args .combined)) (hashesIn (start .args .wtxids .now)) (start .args .clock) e d (c .before .before .before .before .before .before .before .seek .ensures) (c .before .before .before .before .before .same-package .ensures)) (not-false _ (c .before .before .before .before .if2 .left)) (c .before .before .enqueue .ensures)
+    let d = not-false (c .before .before .before .before .before .before .before .before .before .before .owned-at .result)
+    (c .before .before .before .before .before .before .before .before .before .if1 .left) in
+    begin-done (start .args .n) (hashNum (start .args .subject .0)) (hashNum (start .args .combined)) (hashesIn (start .args .wtxids .now)) (start .args .clock) e d
+    (begin-read (start .args .n) (hashNum (start .args .subject .0)) (hashNum (start .args .combined)) (hashesIn (start .args .wtxids .now)) (start .args .clock) e d
+    (c .before .before .before .before .before .before .before .seek .ensures) (c .before .before .before .before .before .same-package .ensures))
+    (not-false _ (c .before .before .before .before .if2 .left)) (c .before .before .enqueue .ensures)
 
 pub begin-package-resolution-spec : {M : Type 1} → statement M
 begin-package-resolution-spec =

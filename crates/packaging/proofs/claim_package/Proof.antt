@@ -20,7 +20,8 @@ returns c =
     let x = c .before .hashes .ensures in
     ⊎-elim
     (λ z. claim-none (start .args .n) (hashNum (start .args .subject .0)) (hashNum (start .args .combined)) (hashesIn (start .args .wtxids .now)) (start .args .clock) (sym x ∙ z .taken))
-    (λ z. claim-many (start .args .n) (hashNum (start .args .subject .0)) (hashNum (start .args .combined)) (hashesIn (start .args .wtxids .now)) (start .args .clock) (omega (arith, ltb-true 100 (c .before .hashes .result) (z .1 .taken), x)))
+    (λ z. claim-many (start .args .n) (hashNum (start .args .subject .0)) (hashNum (start .args .combined)) (hashesIn (start .args .wtxids .now)) (start .args .clock)
+    (omega (arith, ltb-true 100 (c .before .hashes .result) (z .1 .taken), x)))
     (c .if1 .came)
 
 owned-at-requires : tie.Need-owned-at-requires
@@ -34,12 +35,20 @@ returns-2 c =
     let start : tie.Start = c .before .before .before .before .before .before .before .before in
     let ws = hashesIn (start .args .wtxids .now) in
     let x = c .before .before .before .before .before .hashes .ensures in
-    claim-barred (start .args .n) (hashNum (start .args .subject .0)) (hashNum (start .args .combined)) ws (start .args .clock) (omega (arith, x, c .before .before .before .before .if1 .left)) (omega (arith, x, ltb-false maxWtxids (c .before .before .before .before .before .hashes .result) (c .before .before .before .if2 .left))) (c .before .owned-at .ensures) (not-true _ (c .if3 .taken))
+    claim-barred (start .args .n) (hashNum (start .args .subject .0)) (hashNum (start .args .combined)) ws (start .args .clock) (omega (arith, x, c .before .before .before .before .if1 .left))
+    (omega (arith, x, ltb-false maxWtxids (c .before .before .before .before .before .hashes .result) (c .before .before .before .if2 .left))) (c .before .owned-at .ensures)
+    (not-true _ (c .if3 .taken))
 
 claim-requires : tie.Need-claim-requires
 claim-requires c κs =
-    let start : tie.Start = c .before .before .before .before .before .before .before .before .before in
-    (start .pre, omega (arith, c .before .before .before .before .before .before .hashes .ensures, ltb-false maxWtxids (c .before .before .before .before .before .before .hashes .result) (c .before .before .before .before .if2 .left)))
+    let start : tie.Start = c .before .before .before .before .before .before .before .before .before in (
+      start .pre,
+      omega (
+        arith,
+        c .before .before .before .before .before .before .hashes .ensures,
+        ltb-false maxWtxids (c .before .before .before .before .before .before .hashes .result) (c .before .before .before .before .if2 .left),
+      ),
+    )
 
 same-length-2 : tie.Need-same-length-2
 same-length-2 c = search needs
@@ -49,7 +58,13 @@ returns-3 c =
     let start : tie.Start = c .before .before .before .before .before .before .before .before .before .before .before .before in
     let ws = hashesIn (start .args .wtxids .now) in
     let x = c .before .before .before .before .before .before .before .before .before .hashes .ensures in
-    claim-done (start .args .n) (hashNum (start .args .subject .0)) (hashNum (start .args .combined)) ws (start .args .clock) (omega (arith, x, c .before .before .before .before .before .before .before .before .if1 .left)) (omega (arith, x, ltb-false maxWtxids (c .before .before .before .before .before .before .before .before .before .hashes .result) (c .before .before .before .before .before .before .before .if2 .left))) (c .before .before .before .before .before .owned-at .ensures) (not-false _ (c .before .before .before .before .if3 .left)) (c .before .before .claim .ensures)
+    claim-done (start .args .n) (hashNum (start .args .subject .0)) (hashNum (start .args .combined)) ws (start .args .clock)
+    (omega (arith, x, c .before .before .before .before .before .before .before .before .if1 .left)) (omega (
+      arith,
+      x,
+      ltb-false maxWtxids (c .before .before .before .before .before .before .before .before .before .hashes .result) (c .before .before .before .before .before .before .before .if2 .left),
+    ))
+    (c .before .before .before .before .before .owned-at .ensures) (not-false _ (c .before .before .before .before .if3 .left)) (c .before .before .claim .ensures)
 
 pub claim-package-spec : {M : Type 1} → statement M
 claim-package-spec =

@@ -42,7 +42,8 @@ pub fn failed_package_claims(
     answer: &mut [u8],
 ) -> Listing
     requires { ⌜ SoundStore (now s) ⌝ }
-    ensures { λ r. ⌜ LeavesWith (On (FailedPackageClaims connection (hashesIn (now (combined .entry))) clock (now (answer .entry)))) (now (s .entry)) (now (s .exit)) (now (answer .exit)) (listingOf r) ⌝ }
+    ensures { λ r. ⌜ LeavesWith (On (FailedPackageClaims connection (hashesIn (now (combined .entry))) clock (now (answer .entry)))) (now (s .entry)) (now (s .exit))
+        (now (answer .exit)) (listingOf r) ⌝ }
 {
     let needs = claims_needs(s);
     let refusal = refusals::in_turn(connection, clock, 0, answer.len(), needs);

@@ -17,7 +17,8 @@ same-length : tie.Need-same-length
 same-length c = search needs
 
 returns : tie.Need-returns
-returns c = place-goes (c .before .before .before .before .before .before .before .before .before .args .c) (c .before .before .before .before .before .before .place-at .ensures) (c .before .before .before .before .if1 .taken) (c .before .before .set-stage .ensures)
+returns c = place-goes (c .before .before .before .before .before .before .before .before .before .args .c) (c .before .before .before .before .before .before .place-at .ensures)
+    (c .before .before .before .before .if1 .taken) (c .before .before .set-stage .ensures)
 
 same-length-2 : tie.Need-same-length-2
 same-length-2 c = search needs

@@ -19,7 +19,16 @@ loop-holds : tie.Need-loop-holds Inv-loop μ-loop
 loop-holds c = tearing-none _ (c .before .before .before .args .clock)
 
 tear-row-requires : tie.Need-tear-row-requires Inv-loop μ-loop
-tear-row-requires c κs = (tearing-shown (c .before .before .loop .inv) (c .before .before .before .before .before .before .pre), c .before .before .loop .inv .less, omega (arith, tearing-rows (c .before .before .loop .inv) (c .before .before .before .before .before .before .pre), c .before .loop-test .taken, c .before .before .before .rows .ensures .word))
+tear-row-requires c κs = (
+  tearing-shown (c .before .before .loop .inv) (c .before .before .before .before .before .before .pre),
+  c .before .before .loop .inv .less,
+  omega (
+    arith,
+    tearing-rows (c .before .before .loop .inv) (c .before .before .before .before .before .before .pre),
+    c .before .loop-test .taken,
+    c .before .before .before .rows .ensures .word,
+  ),
+)
 
 add-i : tie.Need-add-i Inv-loop μ-loop
 add-i c = omega (arith, c .before .before .before .before .loop-test .taken)
@@ -28,19 +37,31 @@ loop-less : tie.Need-loop-less Inv-loop μ-loop
 loop-less c = omega (arith, c .before .before .before .before .loop-test .taken)
 
 loop-again : tie.Need-loop-again Inv-loop μ-loop
-loop-again c = tearing-more (c .before .before .before .before .before .loop .inv) (omega (arith, c .before .before .before .before .before .before .rows .ensures .word, c .before .before .before .before .loop-test .taken)) (c .before .before .tear-row .kept .0) (c .before .before .tear-row .ensures)
+loop-again c = tearing-more (c .before .before .before .before .before .loop .inv)
+    (omega (arith, c .before .before .before .before .before .before .rows .ensures .word, c .before .before .before .before .loop-test .taken)) (c .before .before .tear-row .kept .0)
+    (c .before .before .tear-row .ensures)
 
 drop-rows-requires : tie.Need-drop-rows-requires Inv-loop μ-loop
-drop-rows-requires c κs = (tearing-shown (c .before .before .loop .inv) (c .before .before .before .before .before .before .pre), omega (arith, c .before .before .loop .inv .less, c .before .before .loop .inv .most, c .before .before .before .rows .ensures .word), omega (arith, tearing-rows (c .before .before .loop .inv) (c .before .before .before .before .before .before .pre), c .before .before .before .rows .ensures .word))
+drop-rows-requires c κs = (
+  tearing-shown (c .before .before .loop .inv) (c .before .before .before .before .before .before .pre),
+  omega (arith, c .before .before .loop .inv .less, c .before .before .loop .inv .most, c .before .before .before .rows .ensures .word),
+  omega (arith, tearing-rows (c .before .before .loop .inv) (c .before .before .before .before .before .before .pre), c .before .before .before .rows .ensures .word),
+)
 
 drop-idle-requires : tie.Need-drop-idle-requires Inv-loop μ-loop
-drop-idle-requires c κs = tearing-cut (c .before .before .before .before .before .before .loop .inv) (c .before .before .before .before .before .before .before .rows .ensures .word) (omega (arith, c .before .before .before .before .before .loop-test .left)) (c .before .before .before .drop-rows .ensures) (c .before .before .before .before .before .before .before .before .before .before .pre)
+drop-idle-requires c κs = tearing-cut (c .before .before .before .before .before .before .loop .inv) (c .before .before .before .before .before .before .before .rows .ensures .word)
+    (omega (arith, c .before .before .before .before .before .loop-test .left)) (c .before .before .before .drop-rows .ensures)
+    (c .before .before .before .before .before .before .before .before .before .before .pre)
 
 same-length : tie.Need-same-length Inv-loop μ-loop
-same-length c = c .before .before .drop-idle .kept .0 ∙ c .before .before .before .before .before .before .drop-rows .kept .0 ∙ c .before .before .before .before .before .before .before .before .before .loop .inv .size
+same-length c = c .before .before .drop-idle .kept .0 ∙ c .before .before .before .before .before .before .drop-rows .kept .0 ∙
+    c .before .before .before .before .before .before .before .before .before .loop .inv .size
 
 returns : tie.Need-returns Inv-loop μ-loop
-returns c = tearing-end (c .before .before .before .before .before .before .before .before .before .loop .inv) (c .before .before .before .before .before .before .before .before .before .before .rows .ensures .word) (omega (arith, c .before .before .before .before .before .before .before .before .loop-test .left)) (c .before .before .before .before .before .before .drop-rows .ensures) (c .before .before .drop-idle .ensures)
+returns c = tearing-end (c .before .before .before .before .before .before .before .before .before .loop .inv)
+    (c .before .before .before .before .before .before .before .before .before .before .rows .ensures .word)
+    (omega (arith, c .before .before .before .before .before .before .before .before .loop-test .left)) (c .before .before .before .before .before .before .drop-rows .ensures)
+    (c .before .before .drop-idle .ensures)
 
 pub tear-rows-spec : {M : Type 1} → statement M
 tear-rows-spec =

@@ -11,15 +11,18 @@ tear-rows-requires : tie.Need-tear-rows-requires
 tear-rows-requires c κs = search needs
 
 tear-places-requires : tie.Need-tear-places-requires
-tear-places-requires c κs = let k = c .before .before .before .before .before .before .pre in torn-shown (c .before .before .before .before .before .before .args .clock) (k .state) (k .sound) (c .before .before .before .tear-rows .ensures (k .state) (k .sound) (k .writes))
+tear-places-requires c κs = let k = c .before .before .before .before .before .before .pre in
+    torn-shown (c .before .before .before .before .before .before .args .clock) (k .state) (k .sound) (c .before .before .before .tear-rows .ensures (k .state) (k .sound) (k .writes))
 
 same-length : tie.Need-same-length
 same-length c = search needs
 
 returns : tie.Need-returns
 returns c =
-    let late : c .before .before .before .before .before .before .before .before .before .args .clock < word = omega (arith, c .before .before .before .before .before .before .before .before .before .good .1 .0) in
-    cleared (c .before .before .before .before .before .before .before .before .before .args .clock) late (c .before .before .before .before .before .before .tear-rows .ensures) (c .before .before .tear-places .ensures)
+    let late : c .before .before .before .before .before .before .before .before .before .args .clock < word =
+    omega (arith, c .before .before .before .before .before .before .before .before .before .good .1 .0) in
+    cleared (c .before .before .before .before .before .before .before .before .before .args .clock) late (c .before .before .before .before .before .before .tear-rows .ensures)
+    (c .before .before .tear-places .ensures)
 
 pub teardown-package-claims-spec : {M : Type 1} → statement M
 teardown-package-claims-spec =

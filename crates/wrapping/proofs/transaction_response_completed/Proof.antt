@@ -20,7 +20,8 @@ failed-requires-2 : tie.Need-failed-requires-2
 failed-requires-2 c κs =
     let start : tie.Start = c .before .before .before .before .before .before .before .before in
     let k = c .before .before .before .before .before .txid-key .result in
-    after-kept (keyNum k) (hash-below (k .hash) (key-four k (c .before .before .before .before .before .txid-key .ok))) (start .args .n) (start .args .clock) (omega arith) (c .before .before .before .before .failed .ensures) (start .pre)
+    after-kept (keyNum k) (hash-below (k .hash) (key-four k (c .before .before .before .before .before .txid-key .ok))) (start .args .n) (start .args .clock) (omega arith)
+    (c .before .before .before .before .failed .ensures) (start .pre)
 
 same-length : tie.Need-same-length
 same-length c = search needs
@@ -29,7 +30,9 @@ returns : tie.Need-returns
 returns c =
     let start : tie.Start = c .before .before .before .before .before .before .before .before .before .before .before in
     let k = c .before .before .before .before .before .before .before .before .txid-key .result in
-    both-failed (keyNum k) (hash-below (k .hash) (key-four k (c .before .before .before .before .before .before .before .before .txid-key .ok))) (start .args .n) (start .args .clock) (omega arith) (c .before .before .before .before .before .before .before .failed .ensures) _ _ _ (c .before .before .before .before .before .before .before .before .txid-key .ensures) (c .before .before .before .wtxid-key .ensures) (c .before .before .failed2 .ensures)
+    both-failed (keyNum k) (hash-below (k .hash) (key-four k (c .before .before .before .before .before .before .before .before .txid-key .ok))) (start .args .n) (start .args .clock)
+    (omega arith) (c .before .before .before .before .before .before .before .failed .ensures) _ _ _ (c .before .before .before .before .before .before .before .before .txid-key .ensures)
+    (c .before .before .before .wtxid-key .ensures) (c .before .before .failed2 .ensures)
 
 pub transaction-response-completed-spec : {M : Type 1} → statement M
 transaction-response-completed-spec =

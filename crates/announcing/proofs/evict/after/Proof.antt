@@ -14,7 +14,8 @@ key-after-requires : tie.Need-key-after-requires
 key-after-requires c κs = search needs
 
 returns-3 : tie.Need-returns-3
-returns-3 c = prio-same (c .before .before .before .before .before .before .before .args .a) (c .before .before .before .before .before .before .before .args .b) (omega (arith, c .before .before .before .before .if1 .left, c .before .if2 .left)) (c .key-after .ensures)
+returns-3 c = prio-same (c .before .before .before .before .before .before .before .args .a) (c .before .before .before .before .before .before .before .args .b)
+    (omega (arith, c .before .before .before .before .if1 .left, c .before .if2 .left)) (c .key-after .ensures)
 
 pub after-spec : {M : Type 1} → statement M
 after-spec = tie.close (tie.spec returns returns-2 key-after-requires returns-3)

@@ -36,7 +36,9 @@ loop-again c = (
   omega arith,
   λ f w.
       let z = sizes w in
-      over-step (f .rows) (found (c .before .before .before .loop .v)) (c .before .row-at .result) (c .before .before .before .loop .i) (c .before .before .before .before .before .args .to) (omega arith) (omega (arith, c .before .before .before .before .before .pre .2)) (c .greater .ensures) (c .before .row-at .ensures f (c .before .row-at .result) w) (c .before .before .before .loop .inv .1 f w),
+      over-step (f .rows) (found (c .before .before .before .loop .v)) (c .before .row-at .result) (c .before .before .before .loop .i) (c .before .before .before .before .before .args .to)
+      (omega arith) (omega (arith, c .before .before .before .before .before .pre .2)) (c .greater .ensures) (c .before .row-at .ensures f (c .before .row-at .result) w)
+      (c .before .before .before .loop .inv .1 f w),
 )
 
 returns : tie.Need-returns Inv-loop μ-loop

@@ -9,7 +9,8 @@ stays-requires : tie.Need-stays-requires
 stays-requires c κs = search needs
 
 returns : tie.Need-returns
-returns c = ap (λ (b : Bool). b || (c .before .before .before .before .before .args .best .some && ltb (c .before .before .before .before .before .args .r .prio) (c .before .before .before .before .before .args .best .row .prio))) (c .before .before .before .stays .ensures)
+returns c = ap (λ (b : Bool). b || (c .before .before .before .before .before .args .best .some && ltb (c .before .before .before .before .before .args .r .prio)
+    (c .before .before .before .before .before .args .best .row .prio))) (c .before .before .before .stays .ensures)
 
 pub passed-spec : {M : Type 1} → statement M
 passed-spec = tie.close (tie.spec stays-requires returns)

@@ -18,7 +18,8 @@ greatest-in-requires : tie.Need-greatest-in-requires
 greatest-in-requires c κs = (kept-shown (c .before .before .before .pre), omega arith, omega (arith, c .before .rows .ensures .word))
 
 returns : tie.Need-returns
-returns c = λ st s w. c .greatest-in .ensures (flatOf st) w ∙ found-anywhere (st .table) (s .bounded .lawful) (none-found (c .before .nobody .result) (c .before .nobody .ensures)) (c .before .before .rows .ensures .field (flatOf st) w)
+returns c = λ st s w. c .greatest-in .ensures (flatOf st) w ∙ found-anywhere (st .table) (s .bounded .lawful) (none-found (c .before .nobody .result) (c .before .nobody .ensures))
+    (c .before .before .rows .ensures .field (flatOf st) w)
 
 pub victim-anywhere-spec : {M : Type 1} → statement M
 victim-anywhere-spec =

@@ -14,12 +14,17 @@ same-length : tie.Need-same-length
 same-length c = search needs
 
 returns : tie.Need-returns
-returns c = answered-refusing (keyNum (c .before .before .before .before .before .args .k)) (candidateOf (c .before .before .before .before .before .args .c)) (c .before .before .decide .result) (c .before .before .decide .ensures) (not-true (c .before .before .decide .result .enters) (c .if1 .taken))
+returns c = answered-refusing (keyNum (c .before .before .before .before .before .args .k)) (candidateOf (c .before .before .before .before .before .args .c)) (c .before .before .decide .result)
+    (c .before .before .decide .ensures) (not-true (c .before .before .decide .result .enters) (c .if1 .taken))
 
 replace-requires : tie.Need-replace-requires
 replace-requires c κs =
-    let e = not-false (c .before .before .before .before .before .before .decide .result .enters) (c .before .before .before .before .if1 .left) in
-    (c .before .before .before .before .before .before .before .before .before .pre, λ st s w. (c .before .before .before .before .before .before .decide .ensures st s w) .goes e (c .before .before .if2 .taken), λ st s w. (c .before .before .before .before .before .before .decide .ensures st s w) .new e)
+    let e = not-false (c .before .before .before .before .before .before .decide .result .enters) (c .before .before .before .before .if1 .left) in (
+      c .before .before .before .before .before .before .before .before .before .pre,
+      λ st s w. (c .before .before .before .before .before .before .decide .ensures st s w) .goes e
+          (c .before .before .if2 .taken),
+      λ st s w. (c .before .before .before .before .before .before .decide .ensures st s w) .new e,
+    )
 
 push-requires : tie.Need-push-requires
 push-requires c κs =
@@ -31,13 +36,22 @@ same-length-2 : tie.Need-same-length-2
 same-length-2 c = search needs
 
 returns-2 : tie.Need-returns-2
-returns-2 c = answered-evicting (keyNum (c .before .before .before .before .before .before .before .before .before .before .before .before .args .k)) (candidateOf (c .before .before .before .before .before .before .before .before .before .before .before .before .args .c)) (c .before .before .before .before .before .before .before .before .before .decide .result) (c .before .before .before .before .before .before .before .before .before .decide .ensures) (not-false (c .before .before .before .before .before .before .before .before .before .decide .result .enters) (c .before .before .before .before .before .before .before .if1 .left)) (c .before .before .before .before .before .if2 .taken) (c .before .before .replace .ensures)
+returns-2 c = answered-evicting (keyNum (c .before .before .before .before .before .before .before .before .before .before .before .before .args .k))
+    (candidateOf (c .before .before .before .before .before .before .before .before .before .before .before .before .args .c))
+    (c .before .before .before .before .before .before .before .before .before .decide .result) (c .before .before .before .before .before .before .before .before .before .decide .ensures)
+    (not-false (c .before .before .before .before .before .before .before .before .before .decide .result .enters) (c .before .before .before .before .before .before .before .if1 .left))
+    (c .before .before .before .before .before .if2 .taken) (c .before .before .replace .ensures)
 
 same-length-3 : tie.Need-same-length-3
 same-length-3 c = search needs
 
 returns-3 : tie.Need-returns-3
-returns-3 c = answered-room (keyNum (c .before .before .before .before .before .before .before .before .before .before .before .args .k)) (candidateOf (c .before .before .before .before .before .before .before .before .before .before .before .args .c)) (c .before .before .before .before .before .before .before .before .decide .result) (c .before .before .before .before .before .before .before .before .decide .ensures) (not-false (c .before .before .before .before .before .before .before .before .decide .result .enters) (c .before .before .before .before .before .before .if1 .left)) (hash-below (c .before .before .before .before .before .before .before .before .before .before .before .args .k .hash) (key-four (c .before .before .before .before .before .before .before .before .before .before .before .args .k) (c .before .before .before .before .before .before .before .before .before .before .before .good .1 .0))) (c .before .before .before .before .if2 .left) (c .before .before .push .ensures)
+returns-3 c = answered-room (keyNum (c .before .before .before .before .before .before .before .before .before .before .before .args .k)) (candidateOf
+    (c .before .before .before .before .before .before .before .before .before .before .before .args .c)) (c .before .before .before .before .before .before .before .before .decide .result)
+    (c .before .before .before .before .before .before .before .before .decide .ensures) (not-false (c .before .before .before .before .before .before .before .before .decide .result .enters)
+    (c .before .before .before .before .before .before .if1 .left)) (hash-below (c .before .before .before .before .before .before .before .before .before .before .before .args .k .hash)
+    (key-four (c .before .before .before .before .before .before .before .before .before .before .before .args .k)
+    (c .before .before .before .before .before .before .before .before .before .before .before .good .1 .0))) (c .before .before .before .before .if2 .left) (c .before .before .push .ensures)
 
 pub announce-at-spec : {M : Type 1} → statement M
 announce-at-spec =

@@ -17,7 +17,8 @@ figures-requires : tie.Need-figures-requires
 figures-requires c κs = search needs
 
 returns-2 : tie.Need-returns-2
-returns-2 c = λ st s w. barred-second (c .before .before .before .is-candidate .ensures st s w) (c .before .before .if1 .left) (ap (leb maxPeerAnnouncements) (c .before .figures .ensures st s w .held))
+returns-2 c = λ st s w. barred-second (c .before .before .before .is-candidate .ensures st s w) (c .before .before .if1 .left)
+    (ap (leb maxPeerAnnouncements) (c .before .figures .ensures st s w .held))
 
 pub barred-spec : {M : Type 1} → statement M
 barred-spec = tie.close (tie.spec is-candidate-requires returns figures-requires returns-2)

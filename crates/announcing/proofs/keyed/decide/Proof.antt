@@ -39,7 +39,8 @@ returns-2 c = λ st s w.
     let x = candidateOf (c .before .before .before .before .before .before .before .before .before .args .c) in
     let t = st .table in
     let b = (sym (c .before .before .before .before .before .before .barred .ensures st s w) ∙ c .before .before .before .before .before .if1 .left) in
-    replacing m k x t (atHash (k .hash)) (s .bounded .ordered) b (when-crowded m k x t b (sym (c .before .before .before .before .crowded .ensures st s w) ∙ c .before .before .before .if2 .taken) (c .before .before .if3 .taken)) (c .before .victim-at .result) (c .before .victim-at .ensures st s w) (c .in-place-of .result) (c .in-place-of .ensures .0) (c .in-place-of .ensures .1)
+    replacing m k x t (atHash (k .hash)) (s .bounded .ordered) b (when-crowded m k x t b (sym (c .before .before .before .before .crowded .ensures st s w) ∙ c .before .before .before .if2 .taken)
+    (c .before .before .if3 .taken)) (c .before .victim-at .result) (c .before .victim-at .ensures st s w) (c .in-place-of .result) (c .in-place-of .ensures .0) (c .in-place-of .ensures .1)
 
 refused-requires-2 : tie.Need-refused-requires-2
 refused-requires-2 c κs = search needs
@@ -50,7 +51,8 @@ returns-3 c = λ st s w.
     let k = keyNum (c .before .before .before .before .before .before .before .before .args .k) in
     let x = candidateOf (c .before .before .before .before .before .before .before .before .args .c) in
     let t = st .table in
-    refusing m k x t (when-crowded-out m k x t (sym (c .before .before .before .before .before .barred .ensures st s w) ∙ c .before .before .before .before .if1 .left) (sym (c .before .before .before .crowded .ensures st s w) ∙ c .before .before .if2 .taken) (c .before .if3 .left)) (c .refused2 .result) (c .refused2 .ensures)
+    refusing m k x t (when-crowded-out m k x t (sym (c .before .before .before .before .before .barred .ensures st s w) ∙ c .before .before .before .before .if1 .left)
+    (sym (c .before .before .before .crowded .ensures st s w) ∙ c .before .before .if2 .taken) (c .before .if3 .left)) (c .refused2 .result) (c .refused2 .ensures)
 
 full-requires : tie.Need-full-requires
 full-requires c κs = search needs
@@ -68,7 +70,10 @@ returns-4 c = λ st s w.
     let x = candidateOf (c .before .before .before .before .before .before .before .before .before .before .before .args .c) in
     let t = st .table in
     let b = (sym (c .before .before .before .before .before .before .before .before .barred .ensures st s w) ∙ c .before .before .before .before .before .before .before .if1 .left) in
-    replacing m k x t anywhere (s .bounded .ordered) b (when-full m k x t b (sym (c .before .before .before .before .before .before .crowded .ensures st s w) ∙ c .before .before .before .before .before .if2 .left) (sym (c .before .before .before .before .full .ensures st s w) ∙ c .before .before .before .if4 .taken) (c .before .before .if5 .taken)) (c .before .victim-anywhere .result) (c .before .victim-anywhere .ensures st s w) (c .in-place-of2 .result) (c .in-place-of2 .ensures .0) (c .in-place-of2 .ensures .1)
+    replacing m k x t anywhere (s .bounded .ordered) b
+    (when-full m k x t b (sym (c .before .before .before .before .before .before .crowded .ensures st s w) ∙ c .before .before .before .before .before .if2 .left)
+    (sym (c .before .before .before .before .full .ensures st s w) ∙ c .before .before .before .if4 .taken) (c .before .before .if5 .taken)) (c .before .victim-anywhere .result)
+    (c .before .victim-anywhere .ensures st s w) (c .in-place-of2 .result) (c .in-place-of2 .ensures .0) (c .in-place-of2 .ensures .1)
 
 refused-requires-3 : tie.Need-refused-requires-3
 refused-requires-3 c κs = search needs
@@ -79,7 +84,9 @@ returns-5 c = λ st s w.
     let k = keyNum (c .before .before .before .before .before .before .before .before .before .before .args .k) in
     let x = candidateOf (c .before .before .before .before .before .before .before .before .before .before .args .c) in
     let t = st .table in
-    refusing m k x t (when-full-out m k x t (sym (c .before .before .before .before .before .before .before .barred .ensures st s w) ∙ c .before .before .before .before .before .before .if1 .left) (sym (c .before .before .before .before .before .crowded .ensures st s w) ∙ c .before .before .before .before .if2 .left) (sym (c .before .before .before .full .ensures st s w) ∙ c .before .before .if4 .taken) (c .before .if5 .left)) (c .refused3 .result) (c .refused3 .ensures)
+    refusing m k x t (when-full-out m k x t (sym (c .before .before .before .before .before .before .before .barred .ensures st s w) ∙ c .before .before .before .before .before .before .if1 .left)
+    (sym (c .before .before .before .before .before .crowded .ensures st s w) ∙ c .before .before .before .before .if2 .left)
+    (sym (c .before .before .before .full .ensures st s w) ∙ c .before .before .if4 .taken) (c .before .if5 .left)) (c .refused3 .result) (c .refused3 .ensures)
 
 nobody-requires : tie.Need-nobody-requires
 nobody-requires c κs = search needs
@@ -90,7 +97,9 @@ returns-6 c = λ st s w.
     let k = keyNum (c .before .before .before .before .before .before .before .before .before .args .k) in
     let x = candidateOf (c .before .before .before .before .before .before .before .before .before .args .c) in
     let t = st .table in
-    entering m k x t (sym (c .before .before .before .before .before .before .barred .ensures st s w) ∙ c .before .before .before .before .before .if1 .left) (sym (c .before .before .before .before .crowded .ensures st s w) ∙ c .before .before .before .if2 .left) (sym (c .before .before .full .ensures st s w) ∙ c .before .if4 .left) (record { enters = true; victim = c .nobody .result }) refl (c .nobody .ensures)
+    entering m k x t (sym (c .before .before .before .before .before .before .barred .ensures st s w) ∙ c .before .before .before .before .before .if1 .left)
+    (sym (c .before .before .before .before .crowded .ensures st s w) ∙ c .before .before .before .if2 .left) (sym (c .before .before .full .ensures st s w) ∙ c .before .if4 .left)
+    (record { enters = true; victim = c .nobody .result }) refl (c .nobody .ensures)
 
 pub decide-spec : {M : Type 1} → statement M
 decide-spec =

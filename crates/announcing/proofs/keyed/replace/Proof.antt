@@ -17,7 +17,9 @@ push-requires c κs =
     let st = kept .state in
     let s = kept .sound in
     let g = c .before .before .before .before .before .before .before .pre .1 st s (kept .writes) in
-    let w = cut-writes st s (c .before .before .before .before .before .before .before .args .r) g (c .before .before .before .before .key-of .ensures) (c .before .before .before .cut .ensures) (kept .writes) in (cleared-kept st s (c .before .before .before .before .before .before .before .args .r) g w, cleared-room st s (c .before .before .before .before .before .before .before .args .r) g w)
+    let w = cut-writes st s (c .before .before .before .before .before .before .before .args .r) g
+    (c .before .before .before .before .key-of .ensures) (c .before .before .before .cut .ensures) (kept .writes) in
+    (cleared-kept st s (c .before .before .before .before .before .before .before .args .r) g w, cleared-room st s (c .before .before .before .before .before .before .before .args .r) g w)
 
 same-length : tie.Need-same-length
 same-length c = search needs
@@ -27,9 +29,14 @@ returns c = λ st s w u.
     let k = keyNum (c .before .before .before .before .before .before .before .before .before .before .args .k) in
     let n = c .before .before .before .before .before .before .before .before .before .before .args .c .connection in
     let g = c .before .before .before .before .before .before .before .before .before .before .pre .1 st s w in
-    let small = hash-below (c .before .before .before .before .before .before .before .before .before .before .args .k .hash) (key-four (c .before .before .before .before .before .before .before .before .before .before .args .k) (c .before .before .before .before .before .before .before .before .before .before .good .1 .1 .0)) in
+    let small = hash-below (c .before .before .before .before .before .before .before .before .before .before .args .k .hash)
+    (key-four (c .before .before .before .before .before .before .before .before .before .before .args .k)
+    (c .before .before .before .before .before .before .before .before .before .before .good .1 .1 .0)) in
     let sound = cleared-sound st s (c .before .before .before .before .before .before .before .before .before .before .args .r) g in
-    c .before .before .push .ensures _ sound (cut-writes st s (c .before .before .before .before .before .before .before .before .before .before .args .r) g (c .before .before .before .before .before .before .before .key-of .ensures) (c .before .before .before .before .before .before .cut .ensures) w) (fresh _ sound k small n (cleared-fresh st s (c .before .before .before .before .before .before .before .before .before .before .args .r) g n (k .hash) (c .before .before .before .before .before .before .before .before .before .before .pre .2 st s w)))
+    c .before .before .push .ensures _ sound (cut-writes st s (c .before .before .before .before .before .before .before .before .before .before .args .r) g
+    (c .before .before .before .before .before .before .before .key-of .ensures) (c .before .before .before .before .before .before .cut .ensures) w)
+    (fresh _ sound k small n (cleared-fresh st s (c .before .before .before .before .before .before .before .before .before .before .args .r) g n (k .hash)
+    (c .before .before .before .before .before .before .before .before .before .before .pre .2 st s w)))
 
 pub replace-spec : {M : Type 1} → statement M
 replace-spec = tie.close (tie.spec key-of-requires cut-requires push-requires same-length returns)

@@ -18,7 +18,8 @@ same-length c = search needs
 returns : tie.Need-returns
 returns c =
     let start : tie.Start = c .before .before .before .before .before .before .before .before in
-    at-key _ _ (keyNum (start .args .k)) (candidateOf (start .args .c)) (c .before .before .before .before .before .holds .ensures) (c .before .before .before .before .if1 .taken) (c .before .before .adopt .ensures)
+    at-key _ _ (keyNum (start .args .k)) (candidateOf (start .args .c)) (c .before .before .before .before .before .holds .ensures) (c .before .before .before .before .if1 .taken)
+    (c .before .before .adopt .ensures)
 
 same-hash-other-kind-requires : tie.Need-same-hash-other-kind-requires
 same-hash-other-kind-requires c κs = search needs
@@ -35,7 +36,9 @@ same-length-2 c = search needs
 returns-2 : tie.Need-returns-2
 returns-2 c =
     let start : tie.Start = c .before .before .before .before .before .before .before .before .before .before .before .before in
-    at-other _ _ (keyNum (start .args .k)) (candidateOf (start .args .c)) _ (c .before .before .before .before .before .before .before .same-hash-other-kind .ensures) (c .before .before .before .before .before .before .before .before .before .holds .ensures) (c .before .before .before .before .before .before .before .before .if1 .left) (c .before .before .before .before .before .holds2 .ensures) (c .before .before .before .before .if2 .taken) (c .before .before .adopt2 .ensures)
+    at-other _ _ (keyNum (start .args .k)) (candidateOf (start .args .c)) _ (c .before .before .before .before .before .before .before .same-hash-other-kind .ensures)
+    (c .before .before .before .before .before .before .before .before .before .holds .ensures) (c .before .before .before .before .before .before .before .before .if1 .left)
+    (c .before .before .before .before .before .holds2 .ensures) (c .before .before .before .before .if2 .taken) (c .before .before .adopt2 .ensures)
 
 announce-at-requires : tie.Need-announce-at-requires
 announce-at-requires c κs = search needs
@@ -46,7 +49,9 @@ same-length-3 c = search needs
 returns-3 : tie.Need-returns-3
 returns-3 c =
     let start : tie.Start = c .before .before .before .before .before .before .before .before .before .before .before .before in
-    at-neither _ _ (keyNum (start .args .k)) (candidateOf (start .args .c)) _ (c .before .before .before .before .before .before .before .same-hash-other-kind .ensures) (c .before .before .before .before .before .before .before .before .before .holds .ensures) (c .before .before .before .before .before .before .before .before .if1 .left) (c .before .before .before .before .before .holds2 .ensures) (c .before .before .before .before .if2 .left) (c .before .before .announce-at .ensures)
+    at-neither _ _ (keyNum (start .args .k)) (candidateOf (start .args .c)) _ (c .before .before .before .before .before .before .before .same-hash-other-kind .ensures)
+    (c .before .before .before .before .before .before .before .before .before .holds .ensures) (c .before .before .before .before .before .before .before .before .if1 .left)
+    (c .before .before .before .before .before .holds2 .ensures) (c .before .before .before .before .if2 .left) (c .before .before .announce-at .ensures)
 
 pub request-parent-at-spec : {M : Type 1} → statement M
 request-parent-at-spec =

@@ -17,7 +17,9 @@ mark-requires : tie.Need-mark-requires
 mark-requires c κs =
     let start : tie.Start = c .before .before .before .before .before .before .before .before in
     let h = start .args .h in
-    asked-kept (start .args .n) (start .args .clock) (hashNum h) (start .args .priority) (record { positive = start .pre .1; small = omega arith }) (omega arith) (omega arith) (hash-below h (hash-four h (start .good .1 .1 .1 .0))) _ (c .before .before .before .before .before .before .txid-key .ensures) (c .before .before .before .before .request-parent-at .ensures) (start .pre .0)
+    asked-kept (start .args .n) (start .args .clock) (hashNum h) (start .args .priority) (record { positive = start .pre .1; small = omega arith }) (omega arith)
+    (omega arith) (hash-below h (hash-four h (start .good .1 .1 .1 .0))) _ (c .before .before .before .before .before .before .txid-key .ensures)
+    (c .before .before .before .before .request-parent-at .ensures) (start .pre .0)
 
 same-length : tie.Need-same-length
 same-length c = search needs
@@ -26,7 +28,9 @@ returns : tie.Need-returns
 returns c =
     let start : tie.Start = c .before .before .before .before .before .before .before .before .before .before .before in
     let h = start .args .h in
-    parent-marked (start .args .n) (start .args .clock) (hashNum h) (start .args .priority) (record { positive = start .pre .1; small = omega arith }) (omega arith) (omega arith) (hash-below h (hash-four h (start .good .1 .1 .1 .0))) _ (c .before .before .before .before .before .before .before .before .before .txid-key .ensures) (c .before .before .before .before .before .before .before .request-parent-at .ensures) (c .before .before .before .before .if1 .taken) (c .before .before .mark .ensures)
+    parent-marked (start .args .n) (start .args .clock) (hashNum h) (start .args .priority) (record { positive = start .pre .1; small = omega arith }) (omega arith)
+    (omega arith) (hash-below h (hash-four h (start .good .1 .1 .1 .0))) _ (c .before .before .before .before .before .before .before .before .before .txid-key .ensures)
+    (c .before .before .before .before .before .before .before .request-parent-at .ensures) (c .before .before .before .before .if1 .taken) (c .before .before .mark .ensures)
 
 same-length-2 : tie.Need-same-length-2
 same-length-2 c = search needs
@@ -35,7 +39,8 @@ returns-2 : tie.Need-returns-2
 returns-2 c =
     let start : tie.Start = c .before .before .before .before .before .before .before in
     let h = start .args .h in
-    parent-left (start .args .n) (start .args .clock) (hashNum h) (start .args .priority) (record { positive = start .pre .1; small = omega arith }) (omega arith) (omega arith) (hash-below h (hash-four h (start .good .1 .1 .1 .0))) _ (c .before .before .before .before .before .txid-key .ensures) (c .before .before .before .request-parent-at .ensures) (c .if1 .left)
+    parent-left (start .args .n) (start .args .clock) (hashNum h) (start .args .priority) (record { positive = start .pre .1; small = omega arith }) (omega arith) (omega arith) (hash-below h
+    (hash-four h (start .good .1 .1 .1 .0))) _ (c .before .before .before .before .before .txid-key .ensures) (c .before .before .before .request-parent-at .ensures) (c .if1 .left)
 
 pub announce-parent-spec : {M : Type 1} → statement M
 announce-parent-spec =

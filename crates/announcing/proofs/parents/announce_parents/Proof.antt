@@ -48,8 +48,16 @@ hash-in-requires c κs = omega (arith, c .before .before .loop-test .taken, c .b
 
 announce-parent-requires : tie.Need-announce-parent-requires Inv-loop μ-loop
 announce-parent-requires c κs =
-    let start : tie.Start Inv-loop μ-loop = c .before .before .before .before .before .before .before .before .before .before in
-    (turned-kept (c .before .before .before .before .before .loop .inv) (omega (arith, c .before .before .before .before .loop-test .taken, c .before .before .before .before .before .before .hashes .ensures)) _ (c .before .hash-in .ensures) (record { positive = start .pre .1; small = omega arith }) (omega arith) (record { hashes = hashes-fit (start .args .parents .now) (λ j. omega (arith, c .before .before .before .before .before .before .before .before .shared-slice-known .given j)); few = start .pre .2 }) (start .pre .0), start .pre .1)
+    let start : tie.Start Inv-loop μ-loop = c .before .before .before .before .before .before .before .before .before .before in (
+      turned-kept (c .before .before .before .before .before .loop .inv)
+          (omega (arith, c .before .before .before .before .loop-test .taken, c .before .before .before .before .before .before .hashes .ensures)) _
+          (c .before .hash-in .ensures) (record { positive = start .pre .1; small = omega arith }) (omega arith) (record {
+            hashes = hashes-fit (start .args .parents .now)
+                (λ j. omega (arith, c .before .before .before .before .before .before .before .before .shared-slice-known .given j));
+            few = start .pre .2;
+          }) (start .pre .0),
+      start .pre .1,
+    )
 
 txid-key-requires : tie.Need-txid-key-requires Inv-loop μ-loop
 txid-key-requires c κs = search needs
@@ -58,17 +66,34 @@ put-key-requires : tie.Need-put-key-requires Inv-loop μ-loop
 put-key-requires c κs =
     let start : tie.Start Inv-loop μ-loop = c .before .before .before .before .before .before .before .before .before .before .before .before .before .before .before .before in
     let v = c .before .before .before .before .before .before .before .before .before .before .before .loop .inv in
-    omega (arith, c .before .before .before .before .before .before .before .before .before .before .loop-test .taken, c .before .before .before .before .before .before .before .before .before .before .before .before .hashes .ensures, v .few, v .buffer-long, start .pre .3)
+    omega (
+      arith,
+      c .before .before .before .before .before .before .before .before .before .before .loop-test .taken,
+      c .before .before .before .before .before .before .before .before .before .before .before .before .hashes .ensures,
+      v .few,
+      v .buffer-long,
+      start .pre .3,
+    )
 
 add-kept : tie.Need-add-kept Inv-loop μ-loop
 add-kept c =
     let start : tie.Start Inv-loop μ-loop = c .before .before .before .before .before .before .before .before .before .before .before .before .before .before .before .before .before .before .before in
-    omega (arith, c .before .before .before .before .before .before .before .before .before .before .before .before .before .before .loop .inv .few, c .before .before .before .before .before .before .before .before .before .before .before .before .before .before .loop .inv .inside, start .pre .2)
+    omega (
+      arith,
+      c .before .before .before .before .before .before .before .before .before .before .before .before .before .before .loop .inv .few,
+      c .before .before .before .before .before .before .before .before .before .before .before .before .before .before .loop .inv .inside,
+      start .pre .2,
+    )
 
 add-priority : tie.Need-add-priority Inv-loop μ-loop
 add-priority c =
     let start : tie.Start Inv-loop μ-loop = c .before .before .before .before .before .before .before .before .before .before .before .before .before .before in
-    omega (arith, c .before .before .before .before .before .before .before .before .before .loop .inv .low, c .before .before .before .before .before .before .before .before .before .loop .inv .inside, start .pre .2)
+    omega (
+      arith,
+      c .before .before .before .before .before .before .before .before .before .loop .inv .low,
+      c .before .before .before .before .before .before .before .before .before .loop .inv .inside,
+      start .pre .2,
+    )
 
 add-i : tie.Need-add-i Inv-loop μ-loop
 add-i c = omega (arith, c .before .before .loop-test .taken)
@@ -82,14 +107,19 @@ loop-again c =
     let hs = hashesIn (start .args .parents .now) in
     let v = c .before .before .before .loop .inv in
     let inside : c .before .before .before .loop .i < length hs = omega (arith, c .before .before .loop-test .taken, c .before .before .before .before .hashes .ensures) in
-    let few : FewHashes hs = record { hashes = hashes-fit (start .args .parents .now) (λ j. omega (arith, c .before .before .before .before .before .before .shared-slice-known .given j)); few = start .pre .2 } in
+    let few : FewHashes hs = record {
+      hashes = hashes-fit (start .args .parents .now) (λ j. omega (arith, c .before .before .before .before .before .before .shared-slice-known .given j));
+      few = start .pre .2;
+    } in
     let peer : Peer (start .args .n) = record { positive = start .pre .1; small = omega arith } in
     let late : start .args .clock < word = omega arith in
     ⊎-elim
     (λ w.
     ⊎-elim
-    (λ z. turned-as (w .7) (w .8 ∙ z .6) (w .9 ∙ z .7) (w .10) (turned-more v inside _ (w .1 .ensures) peer late few (absent _ (w .0 .taken) (c .before .occurs-before .ensures) (w .1 .ensures)) (w .3 .kept .0) (w .3 .ensures) (z .0 .taken) (start .pre .3) (keyed _ _ (z .2 .ensures) (z .3 .ensures))))
-    (λ z. turned-as (w .7) (w .8 ∙ z .1) (w .9 ∙ z .2) (w .10) (turned-left v inside _ (w .1 .ensures) peer late few (absent _ (w .0 .taken) (c .before .occurs-before .ensures) (w .1 .ensures)) (w .3 .kept .0) (w .3 .ensures) (z .0 .left)))
+    (λ z. turned-as (w .7) (w .8 ∙ z .6) (w .9 ∙ z .7) (w .10) (turned-more v inside _ (w .1 .ensures) peer late few (absent _ (w .0 .taken) (c .before .occurs-before .ensures) (w .1 .ensures))
+    (w .3 .kept .0) (w .3 .ensures) (z .0 .taken) (start .pre .3) (keyed _ _ (z .2 .ensures) (z .3 .ensures))))
+    (λ z. turned-as (w .7) (w .8 ∙ z .1) (w .9 ∙ z .2) (w .10)
+    (turned-left v inside _ (w .1 .ensures) peer late few (absent _ (w .0 .taken) (c .before .occurs-before .ensures) (w .1 .ensures)) (w .3 .kept .0) (w .3 .ensures) (z .0 .left)))
     (w .6 .came))
     (λ w. turned-as (w .1) (w .2) (w .3) (w .4) (turned-repeat v inside _ refl (sym (c .before .occurs-before .ensures) ∙ not-false _ (w .0 .left))))
     (c .if1 .came)

@@ -22,7 +22,9 @@ same-length-2 : tie.Need-same-length-2
 same-length-2 c = search needs
 
 returns : tie.Need-returns
-returns c = keeps-call refl (number-unplanned (c .before .before .before .before .before .before .before .before .before .before .args .w) (valuesOf (c .before .before .before .before .before .before .before .before .before .before .args .v))) (carried _ (c .before .before .before .before .before .before .carry-out .ensures) refl (c .before .before .number .ensures .text _))
+returns c = keeps-call refl (number-unplanned (c .before .before .before .before .before .before .before .before .before .before .args .w)
+    (valuesOf (c .before .before .before .before .before .before .before .before .before .before .args .v)))
+    (carried _ (c .before .before .before .before .before .before .carry-out .ensures) refl (c .before .before .number .ensures .text _))
 
 pub answer-number-spec : {M : Type 1} → statement M
 answer-number-spec =

@@ -36,7 +36,11 @@ same-length-2 : tie.Need-same-length-2
 same-length-2 c = search needs
 
 returns : tie.Need-returns
-returns c = step-refused (c .before .before .before .before .before .before .before .before .before .before .before .before .before .before .args .l) (c .before .before .before .before .before .before .before .before .before .before .before .before .before .before .args .q) (c .before .before .before .before .before .before .before .before .before .«open» .ensures) refl (c .before .before .before .before .before .before .before .before .before .before .before .before .before .before .pre .0) (ap replyOf (c .before .before .before .before .before .a .given .1)) (c .before .before .refusal .ensures)
+returns c = step-refused (c .before .before .before .before .before .before .before .before .before .before .before .before .before .before .args .l)
+    (c .before .before .before .before .before .before .before .before .before .before .before .before .before .before .args .q)
+    (c .before .before .before .before .before .before .before .before .before .«open» .ensures) refl
+    (c .before .before .before .before .before .before .before .before .before .before .before .before .before .before .pre .0)
+    (ap replyOf (c .before .before .before .before .before .a .given .1)) (c .before .before .refusal .ensures)
 
 same-length-3 : tie.Need-same-length-3
 same-length-3 c = search needs
@@ -48,7 +52,11 @@ same-length-5 : tie.Need-same-length-5
 same-length-5 c = search needs
 
 returns-2 : tie.Need-returns-2
-returns-2 c = step-opened (c .before .before .before .before .before .before .before .before .before .before .before .before .before .before .before .before .before .before .args .l) (c .before .before .before .before .before .before .before .before .before .before .before .before .before .before .before .before .before .before .args .q) (c .before .before .before .before .before .before .before .before .before .before .before .before .before .«open» .ensures) refl (c .before .before .before .before .before .before .before .empty .ensures) (ap replyOf (c .before .before .before .before .before .before .before .before .before .enum-told .given .1)) (c .before .before .put-bytes .ensures)
+returns-2 c = step-opened (c .before .before .before .before .before .before .before .before .before .before .before .before .before .before .before .before .before .before .args .l)
+    (c .before .before .before .before .before .before .before .before .before .before .before .before .before .before .before .before .before .before .args .q)
+    (c .before .before .before .before .before .before .before .before .before .before .before .before .before .«open» .ensures) refl
+    (c .before .before .before .before .before .before .before .empty .ensures) (ap replyOf (c .before .before .before .before .before .before .before .before .before .enum-told .given .1))
+    (c .before .before .put-bytes .ensures)
 
 pub answer-open-spec : {M : Type 1} → statement M
 answer-open-spec =

@@ -28,13 +28,15 @@ same-length : tie.Need-same-length
 same-length c = search needs
 
 returns : tie.Need-returns
-returns c = keeps-call refl sum-unplanned (carried _ (c .before .before .before .before .before .before .before .sum .ensures) refl (reply-refused _ (ap figuresOf (c .before .before .before .before .before .a .given .1)) (c .before .before .refusal .ensures)))
+returns c = keeps-call refl sum-unplanned (carried _ (c .before .before .before .before .before .before .before .sum .ensures) refl
+    (reply-refused _ (ap figuresOf (c .before .before .before .before .before .a .given .1)) (c .before .before .refusal .ensures)))
 
 same-length-2 : tie.Need-same-length-2
 same-length-2 c = search needs
 
 returns-2 : tie.Need-returns-2
-returns-2 c = keeps-call refl sum-unplanned (carried _ (c .before .before .before .before .before .before .before .sum .ensures) refl (reply-figures (ap figuresOf (c .before .before .before .before .before .a2 .given .1)) (c .before .before .figures .ensures)))
+returns-2 c = keeps-call refl sum-unplanned (carried _ (c .before .before .before .before .before .before .before .sum .ensures) refl
+    (reply-figures (ap figuresOf (c .before .before .before .before .before .a2 .given .1)) (c .before .before .figures .ensures)))
 
 pub answer-sum-spec : {M : Type 1} → statement M
 answer-sum-spec =

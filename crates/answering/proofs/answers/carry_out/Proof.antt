@@ -108,7 +108,8 @@ same-length-3 c = search needs
 returns-3 : tie.Need-returns-3
 returns-3 c =
     did (valuesOf (c .before .before .before .before .before .before .before .before .args .v)) (c .before .before .before .before .enum-told3 .given .1)
-    (ap (λ (k : Key). Failed k (c .before .before .before .before .before .before .before .before .args .v .connection) (c .before .before .before .before .before .before .before .before .args .v .clock)) (c .before .before .before .before .before .before .key-of .ensures))
+    (ap (λ (k : Key). Failed k (c .before .before .before .before .before .before .before .before .args .v .connection)
+    (c .before .before .before .before .before .before .before .before .args .v .clock)) (c .before .before .before .before .before .before .key-of .ensures))
     (c .before .before .failed .ensures)
 
 same-length-4 : tie.Need-same-length-4
@@ -142,7 +143,8 @@ same-length-7 : tie.Need-same-length-7
 same-length-7 c = search needs
 
 returns-7 : tie.Need-returns-7
-returns-7 c = did (valuesOf (c .before .before .before .before .before .before .before .before .args .v)) (c .before .before .before .before .enum-told7 .given .1) refl (c .before .before .teardown-package-claims .ensures)
+returns-7 c = did (valuesOf (c .before .before .before .before .before .before .before .before .args .v)) (c .before .before .before .before .enum-told7 .given .1) refl
+    (c .before .before .teardown-package-claims .ensures)
 
 same-length-8 : tie.Need-same-length-8
 same-length-8 c = search needs
@@ -150,7 +152,8 @@ same-length-8 c = search needs
 returns-8 : tie.Need-returns-8
 returns-8 c =
     did (valuesOf (c .before .before .before .before .before .before .before .before .args .v)) (c .before .before .before .before .enum-told8 .given .1)
-    (ap (λ (k : Key). FailedPackageInfo k (c .before .before .before .before .before .before .before .before .args .v .connection) (c .before .before .before .before .before .before .before .before .args .v .clock)) (c .before .before .before .before .before .before .key-of .ensures))
+    (ap (λ (k : Key). FailedPackageInfo k (c .before .before .before .before .before .before .before .before .args .v .connection)
+    (c .before .before .before .before .before .before .before .before .args .v .clock)) (c .before .before .before .before .before .before .key-of .ensures))
     (c .before .before .failed-package-info .ensures)
 
 same-length-9 : tie.Need-same-length-9
@@ -166,13 +169,15 @@ same-length-10 : tie.Need-same-length-10
 same-length-10 c = search needs
 
 returns-10 : tie.Need-returns-10
-returns-10 c = did (valuesOf (c .before .before .before .before .before .before .before .before .args .v)) (c .before .before .before .before .enum-told10 .given .1) refl (c .before .before .response-completed .ensures)
+returns-10 c = did (valuesOf (c .before .before .before .before .before .before .before .before .args .v)) (c .before .before .before .before .enum-told10 .given .1) refl
+    (c .before .before .response-completed .ensures)
 
 same-length-11 : tie.Need-same-length-11
 same-length-11 c = search needs
 
 returns-11 : tie.Need-returns-11
-returns-11 c = did (valuesOf (c .before .before .before .before .before .before .before .before .args .v)) (c .before .before .before .before .enum-told11 .given .1) refl (c .before .before .poll-gate .ensures)
+returns-11 c = did (valuesOf (c .before .before .before .before .before .before .before .before .args .v)) (c .before .before .before .before .enum-told11 .given .1) refl
+    (c .before .before .poll-gate .ensures)
 
 pub carry-out-spec : {M : Type 1} → statement M
 carry-out-spec =

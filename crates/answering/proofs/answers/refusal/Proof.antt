@@ -18,7 +18,9 @@ same-length : tie.Need-same-length
 same-length c = search needs
 
 returns : tie.Need-returns
-returns c = printed-refusal (c .before .before .before .before .before .before .before .before .before .before .pre) (c .before .before .before .before .before .before .before .before .before .before .args .n) (c .before .before .before .before .before .before .put-bytes .ensures) (c .before .before .put-decimal .ensures)
+returns c = printed-refusal (c .before .before .before .before .before .before .before .before .before .before .pre)
+    (c .before .before .before .before .before .before .before .before .before .before .args .n) (c .before .before .before .before .before .before .put-bytes .ensures)
+    (c .before .before .put-decimal .ensures)
 
 pub refusal-spec : {M : Type 1} → statement M
 refusal-spec =

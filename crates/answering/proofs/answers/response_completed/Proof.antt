@@ -26,7 +26,8 @@ returns : tie.Need-returns
 returns c =
     let v = c .before .before .before .before .before .before .before .args .v in
     does-is
-    (ap (λ (h : ℕ). TransactionResponseCompleted (v .connection) h (hashNum (c .before .before .before .before .hash-of2 .result)) (v .clock)) (c .before .before .before .before .before .hash-of .ensures)
+    (ap (λ (h : ℕ). TransactionResponseCompleted (v .connection) h (hashNum (c .before .before .before .before .hash-of2 .result)) (v .clock))
+    (c .before .before .before .before .before .hash-of .ensures)
     ∙ ap (λ (h : ℕ). TransactionResponseCompleted (v .connection) (quadNumber (v .hash)) h (v .clock)) (c .before .before .before .before .hash-of2 .ensures))
     (c .before .before .transaction-response-completed .ensures)
 

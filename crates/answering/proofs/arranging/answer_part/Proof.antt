@@ -16,7 +16,8 @@ same-length : tie.Need-same-length
 same-length c = search needs
 
 returns : tie.Need-returns
-returns c = part-unsound (c .before .before .before .before .before .before .before .before .before .pre .0) (c .before .before .before .before .before .sound .result) (c .before .before .before .before .before .sound .ensures) (c .before .before .before .before .if1 .taken) (c .before .before .refusal .ensures)
+returns c = part-unsound (c .before .before .before .before .before .before .before .before .before .pre .0) (c .before .before .before .before .before .sound .result)
+    (c .before .before .before .before .before .sound .ensures) (c .before .before .before .before .if1 .taken) (c .before .before .refusal .ensures)
 
 refusal-requires-2 : tie.Need-refusal-requires-2
 refusal-requires-2 c κs = search needs
@@ -25,7 +26,9 @@ same-length-2 : tie.Need-same-length-2
 same-length-2 c = search needs
 
 returns-2 : tie.Need-returns-2
-returns-2 c = part-unnamed (c .before .before .before .before .before .before .before .before .before .before .pre .0) (c .before .before .before .before .before .before .sound .result) (c .before .before .before .before .before .before .sound .ensures) (c .before .before .before .before .before .if1 .left) (c .before .before .before .before .if2 .taken) (c .before .before .refusal2 .ensures)
+returns-2 c = part-unnamed (c .before .before .before .before .before .before .before .before .before .before .pre .0) (c .before .before .before .before .before .before .sound .result)
+    (c .before .before .before .before .before .before .sound .ensures) (c .before .before .before .before .before .if1 .left) (c .before .before .before .before .if2 .taken)
+    (c .before .before .refusal2 .ensures)
 
 mul-put-part : tie.Need-mul-put-part
 mul-put-part c = search needs
@@ -43,13 +46,19 @@ part-put-part-end : tie.Need-part-put-part-end
 part-put-part-end c = omega (arith, c .before .before .before .before .before .before .before .pre .0 .long)
 
 put-part-requires : tie.Need-put-part-requires
-put-part-requires c κs = (c .before .before .before .before .before .before .before .before .pre .0 .arranged, c .before .before .before .before .before .before .before .before .pre .0 .sorted, c .before .before .before .before .before .before .before .before .pre .1)
+put-part-requires c κs = (
+  c .before .before .before .before .before .before .before .before .pre .0 .arranged,
+  c .before .before .before .before .before .before .before .before .pre .0 .sorted,
+  c .before .before .before .before .before .before .before .before .pre .1,
+)
 
 same-length-3 : tie.Need-same-length-3
 same-length-3 c = search needs
 
 returns-3 : tie.Need-returns-3
-returns-3 c = part-named (c .before .before .before .before .before .before .before .before .before .before .before .pre .0) (c .before .before .before .before .before .before .before .sound .result) (c .before .before .before .before .before .before .before .sound .ensures) (c .before .before .before .before .before .before .if1 .left) (c .before .before .before .before .before .if2 .left) (c .before .before .put-part .ensures)
+returns-3 c = part-named (c .before .before .before .before .before .before .before .before .before .before .before .pre .0)
+    (c .before .before .before .before .before .before .before .sound .result) (c .before .before .before .before .before .before .before .sound .ensures)
+    (c .before .before .before .before .before .before .if1 .left) (c .before .before .before .before .before .if2 .left) (c .before .before .put-part .ensures)
 
 pub answer-part-spec : {M : Type 1} → statement M
 answer-part-spec =

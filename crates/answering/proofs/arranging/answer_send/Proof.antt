@@ -31,7 +31,8 @@ same-length : tie.Need-same-length
 same-length c = search needs
 
 returns : tie.Need-returns
-returns c = step-unread (c .before .before .before .before .before .before .before .before .before .before .before .before .before .before .pre .0) (no-numbers (c .before .before .before .before .before .before .before .read-list .ensures) (c .before .before .before .before .enum-told .given .1)) refl (c .before .before .unreadable .ensures)
+returns c = step-unread (c .before .before .before .before .before .before .before .before .before .before .before .before .before .before .pre .0) (no-numbers
+    (c .before .before .before .before .before .before .before .read-list .ensures) (c .before .before .before .before .enum-told .given .1)) refl (c .before .before .unreadable .ensures)
 
 mul-m : tie.Need-mul-m
 mul-m c = let h = numbers-held (c .before .before .before .before .read-list .ensures) (c .before .n .given .1) in omega (arith, h .few)
@@ -40,7 +41,13 @@ array-share-prefix-witnesses : tie.Need-array-share-prefix-witnesses
 array-share-prefix-witnesses c = let h = numbers-held (c .before .before .before .before .before .before .read-list .ensures) (c .before .before .before .n .given .1) in omega (arith, h .few)
 
 slice-aggregate-arrange-taken : tie.Need-slice-aggregate-arrange-taken
-slice-aggregate-arrange-taken c = let h = numbers-held (c .before .before .before .before .before .before .before .read-list .ensures) (c .before .before .before .before .n .given .1) in simp length-take (omega (arith, h .few, c .before .before .before .before .before .before .before .before .before .number-buffer .ensures, c .before .before .before .before .before .before .before .read-list .kept))
+slice-aggregate-arrange-taken c = let h = numbers-held (c .before .before .before .before .before .before .before .read-list .ensures) (c .before .before .before .before .n .given .1) in
+    simp length-take (omega (
+      arith,
+      h .few,
+      c .before .before .before .before .before .before .before .before .before .number-buffer .ensures,
+      c .before .before .before .before .before .before .before .read-list .kept,
+    ))
 
 arrange-taken-requires : tie.Need-arrange-taken-requires
 arrange-taken-requires c κs = search needs
@@ -52,7 +59,8 @@ same-length-3 : tie.Need-same-length-3
 same-length-3 c = search needs
 
 returns-2 : tie.Need-returns-2
-returns-2 c = let h = numbers-held (c .before .before .before .before .before .before .before .before .before .before .before .before .read-list .ensures) (c .before .before .before .before .before .before .before .before .before .n .given .1) in step-is (sym (h .is)) (c .before .before .before .before .arrange-taken .ensures)
+returns-2 c = let h = numbers-held (c .before .before .before .before .before .before .before .before .before .before .before .before .read-list .ensures)
+    (c .before .before .before .before .before .before .before .before .before .n .given .1) in step-is (sym (h .is)) (c .before .before .before .before .arrange-taken .ensures)
 
 pub answer-send-spec : {M : Type 1} → statement M
 answer-send-spec =

@@ -30,7 +30,10 @@ same-length : tie.Need-same-length
 same-length c = search needs
 
 returns : tie.Need-returns
-returns c = does-is (ap (λ (x : List Entry). Arrange (words (c .before .before .before .before .before .before .before .before .before .before .args .witnesses .now)) x (c .before .before .before .before .before .before .before .before .before .before .args .answer .now)) (list-bytes (c .before .before .before .before .before .before .before .before .before .before .args .list .now) (c .before .before .before .before .before .list-end .ensures))) (c .before .before .arrange .ensures)
+returns c = does-is (ap (λ (x : List Entry). Arrange (words (c .before .before .before .before .before .before .before .before .before .before .args .witnesses .now)) x
+    (c .before .before .before .before .before .before .before .before .before .before .args .answer .now))
+    (list-bytes (c .before .before .before .before .before .before .before .before .before .before .args .list .now) (c .before .before .before .before .before .list-end .ensures)))
+    (c .before .before .arrange .ensures)
 
 pub arrange-list-spec : {M : Type 1} → statement M
 arrange-list-spec =

@@ -51,7 +51,11 @@ slice-aggregate-keep-entries : tie.Need-slice-aggregate-keep-entries
 slice-aggregate-keep-entries c = search needs
 
 keep-entries-requires : tie.Need-keep-entries-requires
-keep-entries-requires c κs = (c .before .before .before .before .before .before .before .before .before .before .before .before .before .pre .0 .arranged, c .before .before .before .before .before .before .before .before .before .before .before .before .before .pre .1, listable (c .before .before .before .before .arrange-list .ensures) (omega (arith, c .before .before .before .before .arrange-list .kept)))
+keep-entries-requires c κs = (
+  c .before .before .before .before .before .before .before .before .before .before .before .before .before .pre .0 .arranged,
+  c .before .before .before .before .before .before .before .before .before .before .before .before .before .pre .1,
+  listable (c .before .before .before .before .arrange-list .ensures) (omega (arith, c .before .before .before .before .arrange-list .kept)),
+)
 
 same-length : tie.Need-same-length
 same-length c = search needs
@@ -61,7 +65,13 @@ same-length-2 c = search needs
 
 returns : tie.Need-returns
 returns c =
-    step-sent (c .before .before .before .before .before .before .before .before .before .before .before .before .before .before .before .before .before .before .pre .0) (words (c .before .before .before .before .before .before .before .before .before .before .before .before .before .before .before .before .before .before .args .witnesses .now)) (does-is (ap (λ (u : Buffer). Arrange (words (c .before .before .before .before .before .before .before .before .before .before .before .before .before .before .before .before .before .before .args .witnesses .now)) (listIn (takenPart (c .before .before .before .before .before .before .before .before .before .before .before .before .before .before .before .before .before .before .args .lists .now))) u) (c .before .before .before .before .before .before .before .before .before .before .before .before .before .answer-buffer .ensures)) (c .before .before .before .before .before .before .before .before .before .arrange-list .ensures)) refl (c .before .before .before .before .keep-entries .ensures) refl
+    step-sent (c .before .before .before .before .before .before .before .before .before .before .before .before .before .before .before .before .before .before .pre .0)
+    (words (c .before .before .before .before .before .before .before .before .before .before .before .before .before .before .before .before .before .before .args .witnesses .now))
+    (does-is (ap (λ (u : Buffer). Arrange
+    (words (c .before .before .before .before .before .before .before .before .before .before .before .before .before .before .before .before .before .before .args .witnesses .now)) (listIn
+    (takenPart (c .before .before .before .before .before .before .before .before .before .before .before .before .before .before .before .before .before .before .args .lists .now))) u)
+    (c .before .before .before .before .before .before .before .before .before .before .before .before .before .answer-buffer .ensures))
+    (c .before .before .before .before .before .before .before .before .before .arrange-list .ensures)) refl (c .before .before .before .before .keep-entries .ensures) refl
 
 pub arrange-taken-spec : {M : Type 1} → statement M
 arrange-taken-spec =

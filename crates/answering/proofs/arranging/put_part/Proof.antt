@@ -22,13 +22,16 @@ part-requires : tie.Need-part-requires
 part-requires c κs = search needs
 
 put-entries-requires : tie.Need-put-entries-requires
-put-entries-requires c κs = let f = part-fits (c .before .before .before .before .before .before .args .connection) (c .before .before .before .before .before .before .pre .0) (c .before .before .before .list-end .ensures) refl (c .before .part .ensures) in (c .before .before .before .before .before .before .pre .2, f .0, f .1)
+put-entries-requires c κs = let f = part-fits (c .before .before .before .before .before .before .args .connection) (c .before .before .before .before .before .before .pre .0)
+    (c .before .before .before .list-end .ensures) refl (c .before .part .ensures) in (c .before .before .before .before .before .before .pre .2, f .0, f .1)
 
 same-length : tie.Need-same-length
 same-length c = search needs
 
 returns : tie.Need-returns
-returns c = printed-part (c .before .before .before .before .before .before .before .before .before .args .connection) (c .before .before .before .before .before .before .before .before .before .args .list .now) (c .before .before .before .before .before .before .list-end .ensures) refl (c .before .before .before .before .before .before .before .before .before .pre .1) (c .before .before .before .before .part .ensures) (c .before .before .put-entries .ensures)
+returns c = printed-part (c .before .before .before .before .before .before .before .before .before .args .connection)
+    (c .before .before .before .before .before .before .before .before .before .args .list .now) (c .before .before .before .before .before .before .list-end .ensures) refl
+    (c .before .before .before .before .before .before .before .before .before .pre .1) (c .before .before .before .before .part .ensures) (c .before .before .put-entries .ensures)
 
 pub put-part-spec : {M : Type 1} → statement M
 put-part-spec =

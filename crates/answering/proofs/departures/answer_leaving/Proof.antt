@@ -35,10 +35,16 @@ slice-aggregate-put-departure : tie.Need-slice-aggregate-put-departure
 slice-aggregate-put-departure c = search needs
 
 add-put-departure : tie.Need-add-put-departure
-add-put-departure c = let f = departure-fits (c .before .before .before .before .before .before .before .before .disconnected .ensures) _ _ _ _ (departure-same _ (c .before .before .before .a2 .given .1)) in omega (arith, f, c .before .before .before .before .before .before .before .before .disconnected .kept)
+add-put-departure c = let f = departure-fits (c .before .before .before .before .before .before .before .before .disconnected .ensures) _ _ _ _
+    (departure-same _ (c .before .before .before .a2 .given .1)) in omega (arith, f, c .before .before .before .before .before .before .before .before .disconnected .kept)
 
 put-departure-requires : tie.Need-put-departure-requires
-put-departure-requires c κs = let f = departure-fits (c .before .before .before .before .before .before .before .before .disconnected .ensures) _ _ _ _ (departure-same _ (c .before .before .before .a2 .given .1)) in (omega arith, omega (arith, f, c .before .before .before .before .before .before .before .before .disconnected .kept), omega (arith, f, c .before .before .before .before .before .before .before .before .disconnected .kept))
+put-departure-requires c κs = let f = departure-fits (c .before .before .before .before .before .before .before .before .disconnected .ensures) _ _ _ _
+    (departure-same _ (c .before .before .before .a2 .given .1)) in (
+      omega arith,
+      omega (arith, f, c .before .before .before .before .before .before .before .before .disconnected .kept),
+      omega (arith, f, c .before .before .before .before .before .before .before .before .disconnected .kept),
+    )
 
 same-length : tie.Need-same-length
 same-length c = search needs
@@ -47,7 +53,13 @@ same-length-2 : tie.Need-same-length-2
 same-length-2 c = search needs
 
 returns : tie.Need-returns
-returns c = keeps-call refl (leaving-unplanned (valuesOf (c .before .before .before .before .before .before .before .before .before .before .before .before .before .before .before .before .args .v))) (carried _ (does-is (ap (λ (u : Buffer). Disconnected (c .before .before .before .before .before .before .before .before .before .before .before .before .before .before .before .before .args .v .connection) (c .before .before .before .before .before .before .before .before .before .before .before .before .before .before .before .before .args .v .clock) u) (c .before .before .before .before .before .before .before .before .before .before .before .before .before .answer-buffer .ensures)) (c .before .before .before .before .before .before .before .before .before .before .disconnected .ensures)) refl (reply-refused _ (departure-same _ (c .before .before .before .before .before .a .given .1)) (c .before .before .refusal .ensures)))
+returns c = keeps-call refl
+    (leaving-unplanned (valuesOf (c .before .before .before .before .before .before .before .before .before .before .before .before .before .before .before .before .args .v))) (carried _ (does-is
+    (ap (λ (u : Buffer). Disconnected (c .before .before .before .before .before .before .before .before .before .before .before .before .before .before .before .before .args .v .connection)
+    (c .before .before .before .before .before .before .before .before .before .before .before .before .before .before .before .before .args .v .clock) u)
+    (c .before .before .before .before .before .before .before .before .before .before .before .before .before .answer-buffer .ensures))
+    (c .before .before .before .before .before .before .before .before .before .before .disconnected .ensures)) refl
+    (reply-refused _ (departure-same _ (c .before .before .before .before .before .a .given .1)) (c .before .before .refusal .ensures)))
 
 same-length-3 : tie.Need-same-length-3
 same-length-3 c = search needs
@@ -56,7 +68,13 @@ same-length-4 : tie.Need-same-length-4
 same-length-4 c = search needs
 
 returns-2 : tie.Need-returns-2
-returns-2 c = keeps-call refl (leaving-unplanned (valuesOf (c .before .before .before .before .before .before .before .before .before .before .before .before .before .before .before .before .before .args .v))) (carried _ (does-is (ap (λ (u : Buffer). Disconnected (c .before .before .before .before .before .before .before .before .before .before .before .before .before .before .before .before .before .args .v .connection) (c .before .before .before .before .before .before .before .before .before .before .before .before .before .before .before .before .before .args .v .clock) u) (c .before .before .before .before .before .before .before .before .before .before .before .before .before .before .answer-buffer .ensures)) (c .before .before .before .before .before .before .before .before .before .before .before .disconnected .ensures)) refl (reply-departure _ _ _ _ (departure-same _ (c .before .before .before .before .before .before .a2 .given .1)) (c .before .before .put-departure .ensures)))
+returns-2 c = keeps-call refl (leaving-unplanned (valuesOf
+    (c .before .before .before .before .before .before .before .before .before .before .before .before .before .before .before .before .before .args .v))) (carried _ (does-is (ap (λ (u : Buffer).
+    Disconnected (c .before .before .before .before .before .before .before .before .before .before .before .before .before .before .before .before .before .args .v .connection)
+    (c .before .before .before .before .before .before .before .before .before .before .before .before .before .before .before .before .before .args .v .clock) u)
+    (c .before .before .before .before .before .before .before .before .before .before .before .before .before .before .answer-buffer .ensures))
+    (c .before .before .before .before .before .before .before .before .before .before .before .disconnected .ensures)) refl
+    (reply-departure _ _ _ _ (departure-same _ (c .before .before .before .before .before .before .a2 .given .1)) (c .before .before .put-departure .ensures)))
 
 pub answer-leaving-spec : {M : Type 1} → statement M
 answer-leaving-spec =

@@ -20,7 +20,8 @@ abbrev μ-loop : tie.MeasureT-loop
 μ-loop out₀ at answer first n to₀ i₀ t9 out to i = n - i
 
 loop-holds : tie.Need-loop-holds Inv-loop μ-loop
-loop-holds c = (omega arith, refl, omega arith, no-entries (c .before .before .args .out .now) (c .before .before .args .at) (c .before .before .args .answer .now) (c .before .before .args .first) refl)
+loop-holds c =
+    (omega arith, refl, omega arith, no-entries (c .before .before .args .out .now) (c .before .before .args .at) (c .before .before .args .answer .now) (c .before .before .args .first) refl)
 
 slice-aggregate-put-bytes : tie.Need-slice-aggregate-put-bytes Inv-loop μ-loop
 slice-aggregate-put-bytes c = search needs
@@ -42,7 +43,12 @@ loop-less c = search needs
 
 loop-again : tie.Need-loop-again Inv-loop μ-loop
 loop-again c =
-    let w = more-entries (c .before .before .before .before .before .before .before .before .before .before .before .before .before .args .first) (c .before .before .before .before .before .before .before .before .before .before .loop .i) (c .before .before .before .before .before .before .before .before .before .before .before .before .before .args .answer .now) (omega arith) (c .before .before .before .before .before .before .before .before .before .before .loop .inv .1) (c .before .before .before .before .before .before .before .before .before .before .loop .inv .3) (c .before .before .before .before .before .before .put-bytes .ensures) (c .before .before .put-entry .ensures) in
+    let w = more-entries (c .before .before .before .before .before .before .before .before .before .before .before .before .before .args .first)
+    (c .before .before .before .before .before .before .before .before .before .before .loop .i)
+    (c .before .before .before .before .before .before .before .before .before .before .before .before .before .args .answer .now)
+    (omega arith) (c .before .before .before .before .before .before .before .before .before .before .loop .inv .1)
+    (c .before .before .before .before .before .before .before .before .before .before .loop .inv .3) (c .before .before .before .before .before .before .put-bytes .ensures)
+    (c .before .before .put-entry .ensures) in
     (omega arith, omega (arith, c .before .before .put-entry .kept, c .before .before .before .before .before .before .put-bytes .kept), omega (arith, w .0), w .1)
 
 same-length : tie.Need-same-length Inv-loop μ-loop

@@ -18,26 +18,75 @@ put-bytes-requires : tie.Need-put-bytes-requires
 put-bytes-requires c κs = omega (arith, number-end _ (c .before .before .before .before .put-number .ensures), c .before .before .before .before .put-number .kept)
 
 put-item-requires : tie.Need-put-item-requires
-put-item-requires c κs = omega (arith, number-end _ (c .before .before .before .before .before .before .before .before .put-number .ensures), c .before .before .before .before .before .before .before .before .put-number .kept, c .before .before .before .put-bytes .ensures .next, c .before .before .before .put-bytes .kept)
+put-item-requires c κs = omega (
+  arith,
+  number-end _ (c .before .before .before .before .before .before .before .before .put-number .ensures),
+  c .before .before .before .before .before .before .before .before .put-number .kept,
+  c .before .before .before .put-bytes .ensures .next,
+  c .before .before .before .put-bytes .kept,
+)
 
 put-number-requires-2 : tie.Need-put-number-requires-2
 put-number-requires-2 c κs =
-    omega (arith, number-end _ (c .before .before .before .before .before .before .before .before .before .before .before .before .put-number .ensures), c .before .before .before .before .before .before .before .before .before .before .before .before .put-number .kept, c .before .before .before .before .before .before .before .put-bytes .ensures .next, c .before .before .before .before .before .before .before .put-bytes .kept, item-end (itemNum (c .before .before .before .before .before .before .before .before .before .before .before .before .before .before .before .before .args .c .item)) (c .before .before .before .put-item .ensures), c .before .before .before .put-item .kept)
+    omega (
+      arith,
+      number-end _ (c .before .before .before .before .before .before .before .before .before .before .before .before .put-number .ensures),
+      c .before .before .before .before .before .before .before .before .before .before .before .before .put-number .kept,
+      c .before .before .before .before .before .before .before .put-bytes .ensures .next,
+      c .before .before .before .before .before .before .before .put-bytes .kept,
+      item-end (itemNum (c .before .before .before .before .before .before .before .before .before .before .before .before .before .before .before .before .args .c .item))
+          (c .before .before .before .put-item .ensures),
+      c .before .before .before .put-item .kept,
+    )
 
 put-bool-requires : tie.Need-put-bool-requires
 put-bool-requires c κs =
-    omega (arith, number-end _ (c .before .before .before .before .before .before .before .before .before .before .before .before .before .before .before .before .put-number .ensures), c .before .before .before .before .before .before .before .before .before .before .before .before .before .before .before .before .put-number .kept, c .before .before .before .before .before .before .before .before .before .before .before .put-bytes .ensures .next, c .before .before .before .before .before .before .before .before .before .before .before .put-bytes .kept, item-end (itemNum (c .before .before .before .before .before .before .before .before .before .before .before .before .before .before .before .before .before .before .before .before .args .c .item)) (c .before .before .before .before .before .before .before .put-item .ensures), c .before .before .before .before .before .before .before .put-item .kept, number-end _ (c .before .before .before .put-number2 .ensures), c .before .before .before .put-number2 .kept)
+    omega (
+      arith,
+      number-end _ (c .before .before .before .before .before .before .before .before .before .before .before .before .before .before .before .before .put-number .ensures),
+      c .before .before .before .before .before .before .before .before .before .before .before .before .before .before .before .before .put-number .kept,
+      c .before .before .before .before .before .before .before .before .before .before .before .put-bytes .ensures .next,
+      c .before .before .before .before .before .before .before .before .before .before .before .put-bytes .kept,
+      item-end (itemNum
+          (c .before .before .before .before .before .before .before .before .before .before .before .before .before .before .before .before .before .before .before .before .args .c .item))
+          (c .before .before .before .before .before .before .before .put-item .ensures),
+      c .before .before .before .before .before .before .before .put-item .kept,
+      number-end _ (c .before .before .before .put-number2 .ensures),
+      c .before .before .before .put-number2 .kept,
+    )
 
 put-number-requires-3 : tie.Need-put-number-requires-3
 put-number-requires-3 c κs =
-    omega (arith, number-end _ (c .before .before .before .before .before .before .before .before .before .before .before .before .before .before .before .before .before .before .before .before .put-number .ensures), c .before .before .before .before .before .before .before .before .before .before .before .before .before .before .before .before .before .before .before .before .put-number .kept, c .before .before .before .before .before .before .before .before .before .before .before .before .before .before .before .put-bytes .ensures .next, c .before .before .before .before .before .before .before .before .before .before .before .before .before .before .before .put-bytes .kept, item-end (itemNum (c .before .before .before .before .before .before .before .before .before .before .before .before .before .before .before .before .before .before .before .before .before .before .before .before .args .c .item)) (c .before .before .before .before .before .before .before .before .before .before .before .put-item .ensures), c .before .before .before .before .before .before .before .before .before .before .before .put-item .kept, number-end _ (c .before .before .before .before .before .before .before .put-number2 .ensures), c .before .before .before .before .before .before .before .put-number2 .kept, bool-end (c .before .before .before .before .before .before .before .before .before .before .before .before .before .before .before .before .before .before .before .before .before .before .before .before .args .c .preferred) (c .before .before .before .put-bool .ensures), c .before .before .before .put-bool .kept)
+    omega (
+      arith,
+      number-end _
+          (c .before .before .before .before .before .before .before .before .before .before .before .before .before .before .before .before .before .before .before .before .put-number .ensures),
+      c .before .before .before .before .before .before .before .before .before .before .before .before .before .before .before .before .before .before .before .before .put-number .kept,
+      c .before .before .before .before .before .before .before .before .before .before .before .before .before .before .before .put-bytes .ensures .next,
+      c .before .before .before .before .before .before .before .before .before .before .before .before .before .before .before .put-bytes .kept,
+      item-end (itemNum (c .before .before .before .before .before .before .before .before .before .before .before .before .before .before .before .before .before .before .before
+          .before .before .before .before .before .args .c .item)) (c .before .before .before .before .before .before .before .before .before .before .before .put-item .ensures),
+      c .before .before .before .before .before .before .before .before .before .before .before .put-item .kept,
+      number-end _ (c .before .before .before .before .before .before .before .put-number2 .ensures),
+      c .before .before .before .before .before .before .before .put-number2 .kept,
+      bool-end (c .before .before .before .before .before .before .before .before .before .before .before .before .before .before .before .before .before .before .before .before .before .before
+          .before .before .args .c .preferred) (c .before .before .before .put-bool .ensures),
+      c .before .before .before .put-bool .kept,
+    )
 
 same-length : tie.Need-same-length
 same-length c = search needs
 
 returns : tie.Need-returns
 returns c =
-    wrote-candidate (candidateOf (c .before .before .before .before .before .before .before .before .before .before .before .before .before .before .before .before .before .before .before .before .before .before .before .before .before .before .before .args .c)) (c .before .before .before .before .before .before .before .before .before .before .before .before .before .before .before .before .before .before .before .before .before .before .before .before .before .before .before .pre) (c .before .before .before .before .before .before .before .before .before .before .before .before .before .before .before .before .before .before .before .before .before .before .before .put-number .ensures) (c .before .before .before .before .before .before .before .before .before .before .before .before .before .before .before .before .before .before .put-bytes .ensures) (c .before .before .before .before .before .before .before .before .before .before .before .before .before .before .put-item .ensures) (c .before .before .before .before .before .before .before .before .before .before .put-number2 .ensures) (c .before .before .before .before .before .before .put-bool .ensures) (c .before .before .put-number3 .ensures)
+    wrote-candidate (candidateOf (c .before .before .before .before .before .before .before .before .before .before .before .before .before .before .before .before .before .before
+    .before .before .before .before .before .before .before .before .before .args .c)) (c .before .before .before .before .before .before .before .before .before .before .before
+    .before .before .before .before .before .before .before .before .before .before .before .before .before .before .before .before .pre) (c .before .before .before .before
+    .before .before .before .before .before .before .before .before .before .before .before .before .before .before .before .before .before .before .before .put-number .ensures)
+    (c .before .before .before .before .before .before .before .before .before .before .before .before .before .before .before .before .before .before .put-bytes .ensures)
+    (c .before .before .before .before .before .before .before .before .before .before .before .before .before .before .put-item .ensures)
+    (c .before .before .before .before .before .before .before .before .before .before .put-number2 .ensures) (c .before .before .before .before .before .before .put-bool .ensures)
+    (c .before .before .put-number3 .ensures)
 
 pub put-candidate-spec : {M : Type 1} → statement M
 put-candidate-spec =

@@ -13,13 +13,20 @@ put-key-requires : tie.Need-put-key-requires
 put-key-requires c κs = search needs
 
 put-candidate-requires : tie.Need-put-candidate-requires
-put-candidate-requires c κs = omega (arith, key-end _ (c .before .before .before .put-key .ensures), c .before .before .before .put-key .kept, c .before .before .before .before .before .before .before .before .before .before .pre .1)
+put-candidate-requires c κs = omega (
+  arith,
+  key-end _ (c .before .before .before .put-key .ensures),
+  c .before .before .before .put-key .kept,
+  c .before .before .before .before .before .before .before .before .before .before .pre .1,
+)
 
 same-length : tie.Need-same-length
 same-length c = search needs
 
 returns : tie.Need-returns
-returns c = wrote-entry (c .before .before .before .before .before .before .before .before .before .before .entry-in .ensures) (c .before .before .before .before .before .before .before .before .before .before .before .before .before .pre .1) (c .before .before .before .before .before .before .put-key .ensures) (c .before .before .put-candidate .ensures)
+returns c = wrote-entry (c .before .before .before .before .before .before .before .before .before .before .entry-in .ensures)
+    (c .before .before .before .before .before .before .before .before .before .before .before .before .before .pre .1) (c .before .before .before .before .before .before .put-key .ensures)
+    (c .before .before .put-candidate .ensures)
 
 pub put-entry-spec : {M : Type 1} → statement M
 put-entry-spec =

@@ -13,13 +13,19 @@ hash-quad-requires : tie.Need-hash-quad-requires
 hash-quad-requires c κs = search needs
 
 put-hash-requires : tie.Need-put-hash-requires
-put-hash-requires c κs = omega (arith, kind-end (c .before .before .before .before .before .before .before .before .args .i .kind) (c .before .before .before .before .put-kind .ensures), c .before .before .before .before .put-kind .kept)
+put-hash-requires c κs = omega (
+  arith,
+  kind-end (c .before .before .before .before .before .before .before .before .args .i .kind) (c .before .before .before .before .put-kind .ensures),
+  c .before .before .before .before .put-kind .kept,
+)
 
 same-length : tie.Need-same-length
 same-length c = search needs
 
 returns : tie.Need-returns
-returns c = wrote-item (c .before .before .before .before .before .before .before .before .before .before .before .args .i .kind) (c .before .before .before .before .before .before .before .before .before .before .before .pre) (c .before .before .before .before .before .before .before .put-kind .ensures) (c .before .before .before .hash-quad .ensures) (c .before .before .put-hash .ensures)
+returns c = wrote-item (c .before .before .before .before .before .before .before .before .before .before .before .args .i .kind)
+    (c .before .before .before .before .before .before .before .before .before .before .before .pre) (c .before .before .before .before .before .before .before .put-kind .ensures)
+    (c .before .before .before .hash-quad .ensures) (c .before .before .put-hash .ensures)
 
 pub put-item-spec : {M : Type 1} → statement M
 put-item-spec =

@@ -54,7 +54,14 @@ slice-aggregate-put-bytes-5 : tie.Need-slice-aggregate-put-bytes-5
 slice-aggregate-put-bytes-5 c = search needs
 
 put-bytes-requires-5 : tie.Need-put-bytes-requires-5
-put-bytes-requires-5 c κs = omega (arith, c .before .before .before .before .before .before .before .before .put-bytes4 .ensures .next, c .before .before .before .before .before .before .before .before .put-bytes4 .kept, decimal-end _ (c .before .before .before .before .put-decimal .ensures), c .before .before .before .before .put-decimal .kept)
+put-bytes-requires-5 c κs =
+    omega (
+      arith,
+      c .before .before .before .before .before .before .before .before .put-bytes4 .ensures .next,
+      c .before .before .before .before .before .before .before .before .put-bytes4 .kept,
+      decimal-end _ (c .before .before .before .before .put-decimal .ensures),
+      c .before .before .before .before .put-decimal .kept,
+    )
 
 same-length : tie.Need-same-length
 same-length c = search needs
@@ -78,7 +85,10 @@ same-length-4 : tie.Need-same-length-4
 same-length-4 c = search needs
 
 returns-4 : tie.Need-returns-4
-returns-4 c = wrote-other (c .before .before .before .before .before .before .before .before .before .before .before .before .before .before .before .k .given .1) (c .before .before .before .before .before .before .before .before .before .before .before .before .before .before .before .before .before .before .pre) (c .before .before .before .before .before .before .before .before .before .before .before .put-bytes4 .ensures) (c .before .before .before .before .before .before .before .put-decimal .ensures) (c .before .before .put-bytes5 .ensures)
+returns-4 c = wrote-other (c .before .before .before .before .before .before .before .before .before .before .before .before .before .before .before .k .given .1)
+    (c .before .before .before .before .before .before .before .before .before .before .before .before .before .before .before .before .before .before .pre)
+    (c .before .before .before .before .before .before .before .before .before .before .before .put-bytes4 .ensures)
+    (c .before .before .before .before .before .before .before .put-decimal .ensures) (c .before .before .put-bytes5 .ensures)
 
 pub put-kind-spec : {M : Type 1} → statement M
 put-kind-spec =

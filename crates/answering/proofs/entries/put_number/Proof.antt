@@ -18,7 +18,9 @@ same-length : tie.Need-same-length
 same-length c = search needs
 
 returns : tie.Need-returns
-returns c = wrote-number (c .before .before .before .before .before .before .before .before .before .before .args .n) (c .before .before .before .before .before .before .before .before .before .before .pre) (c .before .before .before .before .before .before .put-bytes .ensures) (c .before .before .put-decimal .ensures)
+returns c = wrote-number (c .before .before .before .before .before .before .before .before .before .before .args .n)
+    (c .before .before .before .before .before .before .before .before .before .before .pre) (c .before .before .before .before .before .before .put-bytes .ensures)
+    (c .before .before .put-decimal .ensures)
 
 pub put-number-spec : {M : Type 1} → statement M
 put-number-spec =

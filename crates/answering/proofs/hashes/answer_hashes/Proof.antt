@@ -34,13 +34,21 @@ same-length : tie.Need-same-length
 same-length c = search needs
 
 returns : tie.Need-returns
-returns c = keeps-unread (no-hashes (c .before .before .before .before .before .before .before .read-list .ensures) (c .before .before .before .before .enum-told .given .1) (hashesAsk (c .before .before .before .before .before .before .before .before .before .before .before .before .before .args .w) (valuesOf (c .before .before .before .before .before .before .before .before .before .before .before .before .before .args .v)))) refl (c .before .before .unreadable .ensures)
+returns c = keeps-unread (no-hashes (c .before .before .before .before .before .before .before .read-list .ensures) (c .before .before .before .before .enum-told .given .1)
+    (hashesAsk (c .before .before .before .before .before .before .before .before .before .before .before .before .before .args .w)
+    (valuesOf (c .before .before .before .before .before .before .before .before .before .before .before .before .before .args .v)))) refl (c .before .before .unreadable .ensures)
 
 array-share-prefix-hashes : tie.Need-array-share-prefix-hashes
 array-share-prefix-hashes c = let h = hashes-held (c .before .before .before .before .before .before .read-list .ensures) (c .before .before .before .n .given .1) in omega (arith, h .inside)
 
 slice-aggregate-carry-out : tie.Need-slice-aggregate-carry-out
-slice-aggregate-carry-out c = let h = hashes-held (c .before .before .before .before .before .before .before .read-list .ensures) (c .before .before .before .before .n .given .1) in simp length-take (omega (arith, h .inside, c .before .before .before .before .before .before .before .before .before .hash-buffer .ensures, c .before .before .before .before .before .before .before .read-list .kept))
+slice-aggregate-carry-out c = let h = hashes-held (c .before .before .before .before .before .before .before .read-list .ensures) (c .before .before .before .before .n .given .1) in
+    simp length-take (omega (
+      arith,
+      h .inside,
+      c .before .before .before .before .before .before .before .before .before .hash-buffer .ensures,
+      c .before .before .before .before .before .before .before .read-list .kept,
+    ))
 
 carry-out-requires : tie.Need-carry-out-requires
 carry-out-requires c κs = search needs
@@ -53,8 +61,13 @@ same-length-3 c = search needs
 
 returns-2 : tie.Need-returns-2
 returns-2 c =
-    let h = hashes-held (c .before .before .before .before .before .before .before .before .before .before .before .before .read-list .ensures) (c .before .before .before .before .before .before .before .before .before .n .given .1) in
-    keeps-call (sym (h .is (hashesAsk (c .before .before .before .before .before .before .before .before .before .before .before .before .before .before .before .before .before .before .args .w) (valuesOf (c .before .before .before .before .before .before .before .before .before .before .before .before .before .before .before .before .before .before .args .v))))) (hashes-unplanned (c .before .before .before .before .before .before .before .before .before .before .before .before .before .before .before .before .before .before .args .w) (valuesOf (c .before .before .before .before .before .before .before .before .before .before .before .before .before .before .before .before .before .before .args .v)) _) (c .before .before .before .before .carry-out .ensures)
+    let h = hashes-held (c .before .before .before .before .before .before .before .before .before .before .before .before .read-list .ensures)
+    (c .before .before .before .before .before .before .before .before .before .n .given .1) in
+    keeps-call (sym (h .is (hashesAsk (c .before .before .before .before .before .before .before .before .before .before .before .before .before .before .before .before .before .before .args .w)
+    (valuesOf (c .before .before .before .before .before .before .before .before .before .before .before .before .before .before .before .before .before .before .args .v)))))
+    (hashes-unplanned (c .before .before .before .before .before .before .before .before .before .before .before .before .before .before .before .before .before .before .args .w)
+    (valuesOf (c .before .before .before .before .before .before .before .before .before .before .before .before .before .before .before .before .before .before .args .v)) _)
+    (c .before .before .before .before .carry-out .ensures)
 
 pub answer-hashes-spec : {M : Type 1} → statement M
 answer-hashes-spec =

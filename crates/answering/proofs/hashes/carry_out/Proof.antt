@@ -82,7 +82,8 @@ returns-2 c =
     let v = c .before .before .before .before .before .before .before .before .before .before .before .before .before .before .before .args .v in
     let hs = hashesIn (c .before .before .before .before .before .before .before .before .before .before .before .before .before .before .before .args .hashes .now) in
     hashes-did (valuesOf v) hs (c .before .before .before .before .before .before .before .before .enum-told2 .given .1)
-    (ap (λ (h : ℕ). ClaimPackage (v .connection) h (hashNum (c .before .before .before .before .before .before .before .before .before .before .hash-of2 .result)) hs (v .clock)) (c .before .before .before .before .before .before .before .before .before .before .before .hash-of .ensures)
+    (ap (λ (h : ℕ). ClaimPackage (v .connection) h (hashNum (c .before .before .before .before .before .before .before .before .before .before .hash-of2 .result)) hs (v .clock))
+    (c .before .before .before .before .before .before .before .before .before .before .before .hash-of .ensures)
     ∙ ap (λ (h : ℕ). ClaimPackage (v .connection) (quadNumber (v .hash)) h hs (v .clock)) (c .before .before .before .before .before .before .before .before .before .before .hash-of2 .ensures))
     (carried _ (c .before .before .before .before .before .claim-package .ensures) refl (c .before .before .number2 .ensures .text _))
 
@@ -97,8 +98,10 @@ returns-3 c =
     let v = c .before .before .before .before .before .before .before .before .before .before .before .before .before .before .before .args .v in
     let hs = hashesIn (c .before .before .before .before .before .before .before .before .before .before .before .before .before .before .before .args .hashes .now) in
     hashes-did (valuesOf v) hs (c .before .before .before .before .before .before .before .before .enum-told3 .given .1)
-    (ap (λ (h : ℕ). BeginPackageResolution (v .connection) h (hashNum (c .before .before .before .before .before .before .before .before .before .before .hash-of2 .result)) hs (v .clock)) (c .before .before .before .before .before .before .before .before .before .before .before .hash-of .ensures)
-    ∙ ap (λ (h : ℕ). BeginPackageResolution (v .connection) (quadNumber (v .hash)) h hs (v .clock)) (c .before .before .before .before .before .before .before .before .before .before .hash-of2 .ensures))
+    (ap (λ (h : ℕ). BeginPackageResolution (v .connection) h (hashNum (c .before .before .before .before .before .before .before .before .before .before .hash-of2 .result)) hs (v .clock))
+    (c .before .before .before .before .before .before .before .before .before .before .before .hash-of .ensures)
+    ∙ ap (λ (h : ℕ). BeginPackageResolution (v .connection) (quadNumber (v .hash)) h hs (v .clock))
+    (c .before .before .before .before .before .before .before .before .before .before .hash-of2 .ensures))
     (carried _ (c .before .before .before .before .before .begin-package-resolution .ensures) refl (c .before .before .number3 .ensures .text _))
 
 same-length-7 : tie.Need-same-length-7

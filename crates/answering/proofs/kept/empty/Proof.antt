@@ -22,7 +22,10 @@ same-length : tie.Need-same-length
 same-length c = search needs
 
 returns : tie.Need-returns
-returns c = emptied (c .before .before .before .before .before .before .before .before .before .before .before .before .before .pre) (c .before .before .before .before .before .before .before .before .before .before .put .ensures) (c .before .before .before .before .before .before .put2 .ensures) (c .before .before .put3 .ensures) (c .before .before .put3 .kept .0 ∙ c .before .before .before .before .before .before .put2 .kept .0 ∙ c .before .before .before .before .before .before .before .before .before .before .put .kept .0)
+returns c = emptied (c .before .before .before .before .before .before .before .before .before .before .before .before .before .pre)
+    (c .before .before .before .before .before .before .before .before .before .before .put .ensures) (c .before .before .before .before .before .before .put2 .ensures)
+    (c .before .before .put3 .ensures) (c .before .before .put3 .kept .0 ∙ c .before .before .before .before .before .before .put2 .kept .0 ∙
+    c .before .before .before .before .before .before .before .before .before .before .put .kept .0)
 
 pub empty-spec : {M : Type 1} → statement M
 empty-spec =

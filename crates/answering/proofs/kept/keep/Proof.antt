@@ -42,7 +42,14 @@ same-length : tie.Need-same-length
 same-length c = search needs
 
 returns : tie.Need-returns
-returns c = list-held (c .before .before .before .before .before .before .before .before .before .before .before .args .answer .now) (c .before .before .before .before .before .before .before .before .before .before .before .args .n) (c .before .before .before .before .before .before .before .before .before .before .before .pre .0) (c .before .before .before .before .before .before .before .before .before .before .before .pre .1) (c .before .before .before .before .before .before .before .before .before .before .before .pre .2) (c .before .before .before .before .before .before .before .put .ensures) (c .before .before .before .before .before .before .before .put .kept .0) (c .before .before .copy-slot .ensures ∙ ap (λ (j : ℕ). take j (c .before .before .before .before .before .before .before .before .before .before .before .args .answer .now)) (whole (c .before .before .before .before .before .before .before .before .before .before .before .args .n))) refl
+returns c = list-held (c .before .before .before .before .before .before .before .before .before .before .before .args .answer .now)
+    (c .before .before .before .before .before .before .before .before .before .before .before .args .n)
+    (c .before .before .before .before .before .before .before .before .before .before .before .pre .0)
+    (c .before .before .before .before .before .before .before .before .before .before .before .pre .1)
+    (c .before .before .before .before .before .before .before .before .before .before .before .pre .2)
+    (c .before .before .before .before .before .before .before .put .ensures) (c .before .before .before .before .before .before .before .put .kept .0)
+    (c .before .before .copy-slot .ensures ∙ ap (λ (j : ℕ). take j (c .before .before .before .before .before .before .before .before .before .before .before .args .answer .now))
+    (whole (c .before .before .before .before .before .before .before .before .before .before .before .args .n))) refl
 
 pub keep-spec : {M : Type 1} → statement M
 keep-spec =

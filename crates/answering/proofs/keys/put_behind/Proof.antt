@@ -39,7 +39,11 @@ loop-less c = search needs
 
 loop-again : tie.Need-loop-again Inv-loop μ-loop
 loop-again c =
-    let w = more-behind (c .before .before .before .before .before .before .before .before .before .before .loop .i) (c .before .before .before .before .before .before .before .before .before .before .before .before .before .args .answer .now) (omega arith) (c .before .before .before .before .before .before .before .before .before .before .loop .inv .1) (c .before .before .before .before .before .before .before .before .before .before .loop .inv .3) (c .before .before .before .before .before .before .put-bytes .ensures) (c .before .before .put-key .ensures) in
+    let w = more-behind (c .before .before .before .before .before .before .before .before .before .before .loop .i)
+    (c .before .before .before .before .before .before .before .before .before .before .before .before .before .args .answer .now)
+    (omega arith) (c .before .before .before .before .before .before .before .before .before .before .loop .inv .1)
+    (c .before .before .before .before .before .before .before .before .before .before .loop .inv .3) (c .before .before .before .before .before .before .put-bytes .ensures)
+    (c .before .before .put-key .ensures) in
     (omega arith, omega (arith, c .before .before .put-key .kept, c .before .before .before .before .before .before .put-bytes .kept), omega (arith, w .0), w .1)
 
 same-length : tie.Need-same-length Inv-loop μ-loop

@@ -11,13 +11,18 @@ put-decimal-requires : tie.Need-put-decimal-requires
 put-decimal-requires c κs = search needs
 
 put-behind-requires : tie.Need-put-behind-requires
-put-behind-requires c κs = let d = decimal-end (c .before .before .before .before .before .before .before .args .own) (c .before .before .before .put-decimal .ensures) in (omega (arith, d, c .before .before .before .put-decimal .kept), c .before .before .before .before .before .before .before .pre .2)
+put-behind-requires c κs = let d = decimal-end (c .before .before .before .before .before .before .before .args .own) (c .before .before .before .put-decimal .ensures) in
+    (omega (arith, d, c .before .before .before .put-decimal .kept), c .before .before .before .before .before .before .before .pre .2)
 
 same-length : tie.Need-same-length
 same-length c = search needs
 
 returns : tie.Need-returns
-returns c = departure-wrote (c .before .before .before .before .before .before .before .before .before .before .pre .0) (c .before .before .before .before .before .before .before .before .before .before .args .answer .now) (c .before .before .before .before .before .before .before .before .before .before .args .own) (c .before .before .before .before .before .before .before .before .before .before .args .n) (c .before .before .before .before .before .before .before .before .before .before .pre .1) (c .before .before .before .before .before .before .put-decimal .ensures) (c .before .before .put-behind .ensures .1) (c .before .before .put-behind .ensures .0)
+returns c = departure-wrote (c .before .before .before .before .before .before .before .before .before .before .pre .0)
+    (c .before .before .before .before .before .before .before .before .before .before .args .answer .now)
+    (c .before .before .before .before .before .before .before .before .before .before .args .own) (c .before .before .before .before .before .before .before .before .before .before .args .n)
+    (c .before .before .before .before .before .before .before .before .before .before .pre .1) (c .before .before .before .before .before .before .put-decimal .ensures)
+    (c .before .before .put-behind .ensures .1) (c .before .before .put-behind .ensures .0)
 
 pub put-departure-spec : {M : Type 1} → statement M
 put-departure-spec =

@@ -33,7 +33,10 @@ same-length : tie.Need-same-length
 same-length c = search needs
 
 returns : tie.Need-returns
-returns c = wrote-key (c .before .before .before .before .before .before .before .before .before .before .args .answer .now) (c .before .before .before .before .before .before .before .before .before .before .args .i) (c .before .before .before .before .before .before .before .before .before .before .pre .0) (c .before .before .before .before .before .before .before .get .ensures) (c .before .before .before .before .before .before .kind-of .ensures) (c .before .before .before .before .before .hash-at .ensures) (c .before .before .before .hash-quad .ensures) (c .before .before .put-key .ensures)
+returns c = wrote-key (c .before .before .before .before .before .before .before .before .before .before .args .answer .now)
+    (c .before .before .before .before .before .before .before .before .before .before .args .i) (c .before .before .before .before .before .before .before .before .before .before .pre .0)
+    (c .before .before .before .before .before .before .before .get .ensures) (c .before .before .before .before .before .before .kind-of .ensures)
+    (c .before .before .before .before .before .hash-at .ensures) (c .before .before .before .hash-quad .ensures) (c .before .before .put-key .ensures)
 
 pub put-key-spec : {M : Type 1} → statement M
 put-key-spec =

@@ -29,7 +29,8 @@ same-length : tie.Need-same-length Inv-loop μ-loop
 same-length c = search needs
 
 returns : tie.Need-returns Inv-loop μ-loop
-returns c = none-wrote (c .before .before .before .before .before .before .before .before .pre .0) (c .before .before .before .before .before .before .before .before .args .answer .now) (c .before .before .before .before .before .if1 .taken) (c .before .before .put-bytes .ensures)
+returns c = none-wrote (c .before .before .before .before .before .before .before .before .pre .0) (c .before .before .before .before .before .before .before .before .args .answer .now)
+    (c .before .before .before .before .before .if1 .taken) (c .before .before .put-bytes .ensures)
 
 loop-holds : tie.Need-loop-holds Inv-loop μ-loop
 loop-holds c = (omega arith, omega arith, omega arith, start-wrote (c .before .before .before .pre .0) (c .before .before .before .args .answer .now))
@@ -45,14 +46,18 @@ loop-less c = search needs
 
 loop-again : tie.Need-loop-again Inv-loop μ-loop
 loop-again c =
-    let w = more-wrote (c .before .before .before .before .before .before .before .before .before .pre .0) (c .before .before .before .before .before .before .before .before .before .args .answer .now) (omega arith) (c .before .before .before .before .before .loop .inv .2) (c .before .before .before .before .before .loop .inv .3) (c .before .before .put-next .ensures) in
+    let w = more-wrote (c .before .before .before .before .before .before .before .before .before .pre .0)
+    (c .before .before .before .before .before .before .before .before .before .args .answer .now) (omega arith) (c .before .before .before .before .before .loop .inv .2)
+    (c .before .before .before .before .before .loop .inv .3) (c .before .before .put-next .ensures) in
     (omega arith, c .before .before .put-next .kept .0 ∙ c .before .before .before .before .before .loop .inv .1, w .0, w .1)
 
 same-length-2 : tie.Need-same-length-2 Inv-loop μ-loop
 same-length-2 c = c .before .loop .inv .1
 
 returns-2 : tie.Need-returns-2 Inv-loop μ-loop
-returns-2 c = all-wrote (c .before .before .before .before .before .pre .0) (c .before .before .before .before .before .args .answer .now) (pos-of-ne-zero (c .before .before .if1 .left)) (c .before .before .before .before .before .pre .1) (omega arith) (let e : c .before .loop .i ≡ c .before .before .before .before .before .args .n = omega arith in rw e at (c .before .loop .inv .3))
+returns-2 c = all-wrote (c .before .before .before .before .before .pre .0) (c .before .before .before .before .before .args .answer .now) (pos-of-ne-zero (c .before .before .if1 .left))
+    (c .before .before .before .before .before .pre .1) (omega arith) (let e : c .before .loop .i ≡ c .before .before .before .before .before .args .n = omega arith in
+    rw e at (c .before .loop .inv .3))
 
 pub put-keys-spec : {M : Type 1} → statement M
 put-keys-spec =

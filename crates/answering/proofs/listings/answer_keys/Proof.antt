@@ -33,7 +33,8 @@ slice-aggregate-put-keys : tie.Need-slice-aggregate-put-keys
 slice-aggregate-put-keys c = search needs
 
 put-keys-requires : tie.Need-put-keys-requires
-put-keys-requires c κs = let f = keys-fit (c .before .before .before .before .before .before .before .before .carry-out .ensures) _ _ (listing-same _ (c .before .before .before .a2 .given .1)) in (omega arith, omega (arith, f), omega (arith, f, c .before .before .before .before .before .before .before .before .carry-out .kept))
+put-keys-requires c κs = let f = keys-fit (c .before .before .before .before .before .before .before .before .carry-out .ensures) _ _ (listing-same _ (c .before .before .before .a2 .given .1)) in
+    (omega arith, omega (arith, f), omega (arith, f, c .before .before .before .before .before .before .before .before .carry-out .kept))
 
 same-length : tie.Need-same-length
 same-length c = search needs
@@ -42,7 +43,10 @@ same-length-2 : tie.Need-same-length-2
 same-length-2 c = search needs
 
 returns : tie.Need-returns
-returns c = keeps-call refl (keys-unplanned (c .before .before .before .before .before .before .before .before .before .before .before .before .before .before .before .before .args .w) (valuesOf (c .before .before .before .before .before .before .before .before .before .before .before .before .before .before .before .before .args .v))) (carried _ (c .before .before .before .before .before .before .before .before .before .before .carry-out .ensures) refl (reply-refused _ (listing-same _ (c .before .before .before .before .before .a .given .1)) (c .before .before .refusal .ensures)))
+returns c = keeps-call refl (keys-unplanned (c .before .before .before .before .before .before .before .before .before .before .before .before .before .before .before .before .args .w)
+    (valuesOf (c .before .before .before .before .before .before .before .before .before .before .before .before .before .before .before .before .args .v)))
+    (carried _ (c .before .before .before .before .before .before .before .before .before .before .carry-out .ensures) refl
+    (reply-refused _ (listing-same _ (c .before .before .before .before .before .a .given .1)) (c .before .before .refusal .ensures)))
 
 same-length-3 : tie.Need-same-length-3
 same-length-3 c = search needs
@@ -51,7 +55,10 @@ same-length-4 : tie.Need-same-length-4
 same-length-4 c = search needs
 
 returns-2 : tie.Need-returns-2
-returns-2 c = keeps-call refl (keys-unplanned (c .before .before .before .before .before .before .before .before .before .before .before .before .before .before .before .before .before .args .w) (valuesOf (c .before .before .before .before .before .before .before .before .before .before .before .before .before .before .before .before .before .args .v))) (carried _ (c .before .before .before .before .before .before .before .before .before .before .before .carry-out .ensures) refl (reply-keys _ _ (listing-same _ (c .before .before .before .before .before .before .a2 .given .1)) (c .before .before .put-keys .ensures)))
+returns-2 c = keeps-call refl (keys-unplanned (c .before .before .before .before .before .before .before .before .before .before .before .before .before .before .before .before .before .args .w)
+    (valuesOf (c .before .before .before .before .before .before .before .before .before .before .before .before .before .before .before .before .before .args .v)))
+    (carried _ (c .before .before .before .before .before .before .before .before .before .before .before .carry-out .ensures) refl
+    (reply-keys _ _ (listing-same _ (c .before .before .before .before .before .before .a2 .given .1)) (c .before .before .put-keys .ensures)))
 
 pub answer-keys-spec : {M : Type 1} → statement M
 answer-keys-spec =

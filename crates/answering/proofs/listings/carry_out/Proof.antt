@@ -42,7 +42,9 @@ same-length-2 : tie.Need-same-length-2
 same-length-2 c = search needs
 
 returns : tie.Need-returns
-returns c = listing-did (valuesOf (c .before .before .before .before .before .before .before .before .before .before .before .before .before .args .v)) (c .before .before .before .before .before .before .before .enum-told .given .1) (ap Sweep (c .before .before .before .before .before .before .before .before .before .before .before .before .before .pre)) (c .before .before .before .before .sweep .ensures)
+returns c = listing-did (valuesOf (c .before .before .before .before .before .before .before .before .before .before .before .before .before .args .v))
+    (c .before .before .before .before .before .before .before .enum-told .given .1)
+    (ap Sweep (c .before .before .before .before .before .before .before .before .before .before .before .before .before .pre)) (c .before .before .before .before .sweep .ensures)
 
 same-length-3 : tie.Need-same-length-3
 same-length-3 c = search needs
@@ -51,7 +53,16 @@ same-length-4 : tie.Need-same-length-4
 same-length-4 c = search needs
 
 returns-2 : tie.Need-returns-2
-returns-2 c = listing-did (valuesOf (c .before .before .before .before .before .before .before .before .before .before .before .before .before .args .v)) (c .before .before .before .before .before .before .before .enum-told2 .given .1) (ap (λ (k : Key). FailedWithParents k (c .before .before .before .before .before .before .before .before .before .before .before .before .before .args .v .connection) (c .before .before .before .before .before .before .before .before .before .before .before .before .before .args .v .clock) (c .before .before .before .before .before .before .before .before .before .before .before .before .before .args .answer .now)) (c .before .before .before .before .before .before .before .before .before .before .key-of .ensures) ∙ ap (FailedWithParents (keyIn (valuesOf (c .before .before .before .before .before .before .before .before .before .before .before .before .before .args .v))) (c .before .before .before .before .before .before .before .before .before .before .before .before .before .args .v .connection) (c .before .before .before .before .before .before .before .before .before .before .before .before .before .args .v .clock)) (c .before .before .before .before .before .before .before .before .before .before .before .before .before .pre)) (c .before .before .before .before .failed-with-parents .ensures)
+returns-2 c = listing-did (valuesOf (c .before .before .before .before .before .before .before .before .before .before .before .before .before .args .v))
+    (c .before .before .before .before .before .before .before .enum-told2 .given .1)
+    (ap (λ (k : Key). FailedWithParents k (c .before .before .before .before .before .before .before .before .before .before .before .before .before .args .v .connection)
+    (c .before .before .before .before .before .before .before .before .before .before .before .before .before .args .v .clock)
+    (c .before .before .before .before .before .before .before .before .before .before .before .before .before .args .answer .now))
+    (c .before .before .before .before .before .before .before .before .before .before .key-of .ensures) ∙
+    ap (FailedWithParents (keyIn (valuesOf (c .before .before .before .before .before .before .before .before .before .before .before .before .before .args .v)))
+    (c .before .before .before .before .before .before .before .before .before .before .before .before .before .args .v .connection)
+    (c .before .before .before .before .before .before .before .before .before .before .before .before .before .args .v .clock))
+    (c .before .before .before .before .before .before .before .before .before .before .before .before .before .pre)) (c .before .before .before .before .failed-with-parents .ensures)
 
 same-length-5 : tie.Need-same-length-5
 same-length-5 c = search needs
@@ -60,7 +71,16 @@ same-length-6 : tie.Need-same-length-6
 same-length-6 c = search needs
 
 returns-3 : tie.Need-returns-3
-returns-3 c = listing-did (valuesOf (c .before .before .before .before .before .before .before .before .before .before .before .before .before .args .v)) (c .before .before .before .before .before .before .before .enum-told3 .given .1) (ap (λ (h : ℕ). ReleasePackage (c .before .before .before .before .before .before .before .before .before .before .before .before .before .args .v .connection) h (c .before .before .before .before .before .before .before .before .before .before .before .before .before .args .v .clock) (c .before .before .before .before .before .before .before .before .before .before .before .before .before .args .answer .now)) (c .before .before .before .before .before .before .before .before .before .hash-of .ensures) ∙ ap (ReleasePackage (c .before .before .before .before .before .before .before .before .before .before .before .before .before .args .v .connection) (valuesOf (c .before .before .before .before .before .before .before .before .before .before .before .before .before .args .v) .hash) (c .before .before .before .before .before .before .before .before .before .before .before .before .before .args .v .clock)) (c .before .before .before .before .before .before .before .before .before .before .before .before .before .pre)) (c .before .before .before .before .release-package .ensures)
+returns-3 c = listing-did (valuesOf (c .before .before .before .before .before .before .before .before .before .before .before .before .before .args .v))
+    (c .before .before .before .before .before .before .before .enum-told3 .given .1)
+    (ap (λ (h : ℕ). ReleasePackage (c .before .before .before .before .before .before .before .before .before .before .before .before .before .args .v .connection) h
+    (c .before .before .before .before .before .before .before .before .before .before .before .before .before .args .v .clock)
+    (c .before .before .before .before .before .before .before .before .before .before .before .before .before .args .answer .now))
+    (c .before .before .before .before .before .before .before .before .before .hash-of .ensures) ∙
+    ap (ReleasePackage (c .before .before .before .before .before .before .before .before .before .before .before .before .before .args .v .connection)
+    (valuesOf (c .before .before .before .before .before .before .before .before .before .before .before .before .before .args .v) .hash)
+    (c .before .before .before .before .before .before .before .before .before .before .before .before .before .args .v .clock))
+    (c .before .before .before .before .before .before .before .before .before .before .before .before .before .pre)) (c .before .before .before .before .release-package .ensures)
 
 pub carry-out-spec : {M : Type 1} → statement M
 carry-out-spec =

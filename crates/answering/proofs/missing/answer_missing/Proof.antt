@@ -34,7 +34,8 @@ same-length : tie.Need-same-length
 same-length c = search needs
 
 returns : tie.Need-returns
-returns c = keeps-unread (no-items (c .before .before .before .before .before .before .before .read-list .ensures) (c .before .before .before .before .enum-told .given .1) (missingAsk (valuesOf (c .before .before .before .before .before .before .before .before .before .before .before .before .before .args .v)))) refl (c .before .before .unreadable .ensures)
+returns c = keeps-unread (no-items (c .before .before .before .before .before .before .before .read-list .ensures) (c .before .before .before .before .enum-told .given .1)
+    (missingAsk (valuesOf (c .before .before .before .before .before .before .before .before .before .before .before .before .before .args .v)))) refl (c .before .before .unreadable .ensures)
 
 mul-m : tie.Need-mul-m
 mul-m c = let h = items-held (c .before .before .before .before .read-list .ensures) (c .before .n .given .1) in omega (arith, h .few)
@@ -43,7 +44,13 @@ array-share-prefix-items : tie.Need-array-share-prefix-items
 array-share-prefix-items c = let h = items-held (c .before .before .before .before .before .before .read-list .ensures) (c .before .before .before .n .given .1) in omega (arith, h .few)
 
 slice-aggregate-carry-out : tie.Need-slice-aggregate-carry-out
-slice-aggregate-carry-out c = let h = items-held (c .before .before .before .before .before .before .before .read-list .ensures) (c .before .before .before .before .n .given .1) in simp length-take (omega (arith, h .few, c .before .before .before .before .before .before .before .before .before .item-buffer .ensures, c .before .before .before .before .before .before .before .read-list .kept))
+slice-aggregate-carry-out c = let h = items-held (c .before .before .before .before .before .before .before .read-list .ensures) (c .before .before .before .before .n .given .1) in
+    simp length-take (omega (
+      arith,
+      h .few,
+      c .before .before .before .before .before .before .before .before .before .item-buffer .ensures,
+      c .before .before .before .before .before .before .before .read-list .kept,
+    ))
 
 carry-out-requires : tie.Need-carry-out-requires
 carry-out-requires c κs = search needs
@@ -55,7 +62,11 @@ same-length-3 : tie.Need-same-length-3
 same-length-3 c = search needs
 
 returns-2 : tie.Need-returns-2
-returns-2 c = let h = items-held (c .before .before .before .before .before .before .before .before .before .before .before .before .read-list .ensures) (c .before .before .before .before .before .before .before .before .before .n .given .1) in keeps-call (sym (h .is (missingAsk (valuesOf (c .before .before .before .before .before .before .before .before .before .before .before .before .before .before .before .before .before .before .args .v))))) (missing-unplanned (valuesOf (c .before .before .before .before .before .before .before .before .before .before .before .before .before .before .before .before .before .before .args .v)) _) (c .before .before .before .before .carry-out .ensures)
+returns-2 c = let h = items-held (c .before .before .before .before .before .before .before .before .before .before .before .before .read-list .ensures)
+    (c .before .before .before .before .before .before .before .before .before .n .given .1) in keeps-call (sym (h .is
+    (missingAsk (valuesOf (c .before .before .before .before .before .before .before .before .before .before .before .before .before .before .before .before .before .before .args .v)))))
+    (missing-unplanned (valuesOf (c .before .before .before .before .before .before .before .before .before .before .before .before .before .before .before .before .before .before .args .v)) _)
+    (c .before .before .before .before .carry-out .ensures)
 
 pub answer-missing-spec : {M : Type 1} → statement M
 answer-missing-spec =

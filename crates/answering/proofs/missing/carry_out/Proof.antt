@@ -33,8 +33,11 @@ slice-aggregate-put-keys c = search needs
 
 put-keys-requires : tie.Need-put-keys-requires
 put-keys-requires c κs =
-    let f = keys-fit (c .before .before .before .before .before .before .before .before .transaction-not-found .ensures) _ _ (listing-same _ (c .before .before .before .a2 .given .1)) in
-    (omega arith, omega (arith, f, c .before .before .before .before .before .before .before .before .transaction-not-found .kept), omega (arith, f, c .before .before .before .before .before .before .before .before .transaction-not-found .kept))
+    let f = keys-fit (c .before .before .before .before .before .before .before .before .transaction-not-found .ensures) _ _ (listing-same _ (c .before .before .before .a2 .given .1)) in (
+      omega arith,
+      omega (arith, f, c .before .before .before .before .before .before .before .before .transaction-not-found .kept),
+      omega (arith, f, c .before .before .before .before .before .before .before .before .transaction-not-found .kept),
+    )
 
 same-length : tie.Need-same-length
 same-length c = search needs
@@ -43,7 +46,13 @@ same-length-2 : tie.Need-same-length-2
 same-length-2 c = search needs
 
 returns : tie.Need-returns
-returns c = carried _ (does-is (ap (λ (u : Buffer). TransactionNotFound (c .before .before .before .before .before .before .before .before .before .before .before .before .before .before .before .before .before .args .v .connection) (itemsIn (c .before .before .before .before .before .before .before .before .before .before .before .before .before .before .before .before .before .args .items .now)) (c .before .before .before .before .before .before .before .before .before .before .before .before .before .before .before .before .before .args .v .clock) u) (c .before .before .before .before .before .before .before .before .before .before .before .before .before .missing-buffer .ensures)) (c .before .before .before .before .before .before .before .before .before .before .transaction-not-found .ensures)) refl (reply-refused _ (listing-same _ (c .before .before .before .before .before .a .given .1)) (c .before .before .refusal .ensures))
+returns c = carried _ (does-is (ap (λ (u : Buffer). TransactionNotFound
+    (c .before .before .before .before .before .before .before .before .before .before .before .before .before .before .before .before .before .args .v .connection)
+    (itemsIn (c .before .before .before .before .before .before .before .before .before .before .before .before .before .before .before .before .before .args .items .now))
+    (c .before .before .before .before .before .before .before .before .before .before .before .before .before .before .before .before .before .args .v .clock) u)
+    (c .before .before .before .before .before .before .before .before .before .before .before .before .before .missing-buffer .ensures))
+    (c .before .before .before .before .before .before .before .before .before .before .transaction-not-found .ensures)) refl
+    (reply-refused _ (listing-same _ (c .before .before .before .before .before .a .given .1)) (c .before .before .refusal .ensures))
 
 same-length-3 : tie.Need-same-length-3
 same-length-3 c = search needs
@@ -52,7 +61,13 @@ same-length-4 : tie.Need-same-length-4
 same-length-4 c = search needs
 
 returns-2 : tie.Need-returns-2
-returns-2 c = carried _ (does-is (ap (λ (u : Buffer). TransactionNotFound (c .before .before .before .before .before .before .before .before .before .before .before .before .before .before .before .before .before .before .args .v .connection) (itemsIn (c .before .before .before .before .before .before .before .before .before .before .before .before .before .before .before .before .before .before .args .items .now)) (c .before .before .before .before .before .before .before .before .before .before .before .before .before .before .before .before .before .before .args .v .clock) u) (c .before .before .before .before .before .before .before .before .before .before .before .before .before .before .missing-buffer .ensures)) (c .before .before .before .before .before .before .before .before .before .before .before .transaction-not-found .ensures)) refl (reply-keys _ _ (listing-same _ (c .before .before .before .before .before .before .a2 .given .1)) (c .before .before .put-keys .ensures))
+returns-2 c = carried _ (does-is (ap (λ (u : Buffer). TransactionNotFound
+    (c .before .before .before .before .before .before .before .before .before .before .before .before .before .before .before .before .before .before .args .v .connection)
+    (itemsIn (c .before .before .before .before .before .before .before .before .before .before .before .before .before .before .before .before .before .before .args .items .now))
+    (c .before .before .before .before .before .before .before .before .before .before .before .before .before .before .before .before .before .before .args .v .clock) u)
+    (c .before .before .before .before .before .before .before .before .before .before .before .before .before .before .missing-buffer .ensures))
+    (c .before .before .before .before .before .before .before .before .before .before .before .transaction-not-found .ensures)) refl
+    (reply-keys _ _ (listing-same _ (c .before .before .before .before .before .before .a2 .given .1)) (c .before .before .put-keys .ensures))
 
 pub carry-out-spec : {M : Type 1} → statement M
 carry-out-spec =

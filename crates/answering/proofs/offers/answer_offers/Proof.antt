@@ -41,7 +41,9 @@ same-length : tie.Need-same-length
 same-length c = search needs
 
 returns : tie.Need-returns
-returns c = keeps-unread (no-offers (c .before .before .before .before .before .before .before .before .read-list .ensures) (c .before .before .before .before .enum-told .given .1) (inventoryAsk (valuesOf (c .before .before .before .before .before .before .before .before .before .before .before .before .before .before .before .before .args .v)))) refl (c .before .before .unreadable .ensures)
+returns c = keeps-unread (no-offers (c .before .before .before .before .before .before .before .before .read-list .ensures) (c .before .before .before .before .enum-told .given .1)
+    (inventoryAsk (valuesOf (c .before .before .before .before .before .before .before .before .before .before .before .before .before .before .before .before .args .v)))) refl
+    (c .before .before .unreadable .ensures)
 
 mul-k : tie.Need-mul-k
 mul-k c = let h = offers-held (c .before .before .before .before .before .read-list .ensures) (c .before .n .given .1) in omega (arith, h .few)
@@ -53,13 +55,26 @@ array-share-prefix-items : tie.Need-array-share-prefix-items
 array-share-prefix-items c = let h = offers-held (c .before .before .before .before .before .before .read-list .ensures) (c .before .before .n .given .1) in omega (arith, h .few)
 
 slice-aggregate-announce-transactions : tie.Need-slice-aggregate-announce-transactions
-slice-aggregate-announce-transactions c = let h = offers-held (c .before .before .before .before .before .before .before .read-list .ensures) (c .before .before .before .n .given .1) in simp length-take (omega (arith, h .few, c .before .before .before .before .before .before .before .before .before .before .before .item-buffer .ensures, c .before .before .before .before .before .before .before .read-list .kept))
+slice-aggregate-announce-transactions c = let h = offers-held (c .before .before .before .before .before .before .before .read-list .ensures) (c .before .before .before .n .given .1) in
+    simp length-take (omega (
+      arith,
+      h .few,
+      c .before .before .before .before .before .before .before .before .before .before .before .item-buffer .ensures,
+      c .before .before .before .before .before .before .before .read-list .kept,
+    ))
 
 array-share-prefix-priorities : tie.Need-array-share-prefix-priorities
 array-share-prefix-priorities c = let h = offers-held (c .before .before .before .before .before .before .before .read-list .ensures) (c .before .before .before .n .given .1) in omega (arith, h .few)
 
 slice-aggregate-announce-transactions-2 : tie.Need-slice-aggregate-announce-transactions-2
-slice-aggregate-announce-transactions-2 c = let h = offers-held (c .before .before .before .before .before .before .before .before .read-list .ensures) (c .before .before .before .before .n .given .1) in simp length-take (omega (arith, h .few, c .before .before .before .before .before .before .before .before .before .before .before .priority-buffer .ensures, c .before .before .before .before .before .before .before .before .read-list .kept))
+slice-aggregate-announce-transactions-2 c = let h =
+    offers-held (c .before .before .before .before .before .before .before .before .read-list .ensures) (c .before .before .before .before .n .given .1) in
+    simp length-take (omega (
+      arith,
+      h .few,
+      c .before .before .before .before .before .before .before .before .before .before .before .priority-buffer .ensures,
+      c .before .before .before .before .before .before .before .before .read-list .kept,
+    ))
 
 announce-transactions-requires : tie.Need-announce-transactions-requires
 announce-transactions-requires c κs = search needs
@@ -75,8 +90,12 @@ same-length-3 c = search needs
 
 returns-2 : tie.Need-returns-2
 returns-2 c =
-    let h = offers-held (c .before .before .before .before .before .before .before .before .before .before .before .before .before .before .before .read-list .ensures) (c .before .before .before .before .before .before .before .before .before .before .before .n .given .1) in
-    keeps-call (sym (h .is (inventoryAsk (valuesOf (c .before .before .before .before .before .before .before .before .before .before .before .before .before .before .before .before .before .before .before .before .before .before .before .args .v))))) (offers-unplanned (valuesOf (c .before .before .before .before .before .before .before .before .before .before .before .before .before .before .before .before .before .before .before .before .before .before .before .args .v)) _) (carried _ (c .before .before .before .before .before .before .announce-transactions .ensures) refl (c .before .before .number .ensures .text _))
+    let h = offers-held (c .before .before .before .before .before .before .before .before .before .before .before .before .before .before .before .read-list .ensures)
+    (c .before .before .before .before .before .before .before .before .before .before .before .n .given .1) in
+    keeps-call (sym (h .is (inventoryAsk (valuesOf (c .before .before .before .before .before .before .before .before .before .before .before .before .before .before
+    .before .before .before .before .before .before .before .before .before .args .v))))) (offers-unplanned (valuesOf (c .before .before .before .before .before
+    .before .before .before .before .before .before .before .before .before .before .before .before .before .before .before .before .before .before .args .v)) _)
+    (carried _ (c .before .before .before .before .before .before .announce-transactions .ensures) refl (c .before .before .number .ensures .text _))
 
 pub answer-offers-spec : {M : Type 1} → statement M
 answer-offers-spec =

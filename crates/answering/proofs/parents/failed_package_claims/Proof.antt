@@ -43,7 +43,13 @@ same-length-2 : tie.Need-same-length-2
 same-length-2 c = search needs
 
 returns : tie.Need-returns
-returns c = carried _ (does-is (ap (λ (u : Buffer). FailedPackageClaims (c .before .before .before .before .before .before .before .before .before .before .before .before .before .before .before .before .before .args .connection) (hashesIn (c .before .before .before .before .before .before .before .before .before .before .before .before .before .before .before .before .before .args .combined .now)) (c .before .before .before .before .before .before .before .before .before .before .before .before .before .before .before .before .before .args .clock) u) (c .before .before .before .before .before .before .before .before .before .before .before .before .before .answer-buffer .ensures)) (c .before .before .before .before .before .before .before .before .before .before .failed-package-claims .ensures)) refl (reply-refused _ (listing-same _ (c .before .before .before .before .before .a .given .1)) (c .before .before .refusal .ensures))
+returns c = carried _ (does-is (ap (λ (u : Buffer). FailedPackageClaims
+    (c .before .before .before .before .before .before .before .before .before .before .before .before .before .before .before .before .before .args .connection)
+    (hashesIn (c .before .before .before .before .before .before .before .before .before .before .before .before .before .before .before .before .before .args .combined .now))
+    (c .before .before .before .before .before .before .before .before .before .before .before .before .before .before .before .before .before .args .clock) u)
+    (c .before .before .before .before .before .before .before .before .before .before .before .before .before .answer-buffer .ensures))
+    (c .before .before .before .before .before .before .before .before .before .before .failed-package-claims .ensures)) refl
+    (reply-refused _ (listing-same _ (c .before .before .before .before .before .a .given .1)) (c .before .before .refusal .ensures))
 
 same-length-3 : tie.Need-same-length-3
 same-length-3 c = search needs
@@ -52,7 +58,13 @@ same-length-4 : tie.Need-same-length-4
 same-length-4 c = search needs
 
 returns-2 : tie.Need-returns-2
-returns-2 c = carried _ (does-is (ap (λ (u : Buffer). FailedPackageClaims (c .before .before .before .before .before .before .before .before .before .before .before .before .before .before .before .before .before .before .args .connection) (hashesIn (c .before .before .before .before .before .before .before .before .before .before .before .before .before .before .before .before .before .before .args .combined .now)) (c .before .before .before .before .before .before .before .before .before .before .before .before .before .before .before .before .before .before .args .clock) u) (c .before .before .before .before .before .before .before .before .before .before .before .before .before .before .answer-buffer .ensures)) (c .before .before .before .before .before .before .before .before .before .before .before .failed-package-claims .ensures)) refl (reply-keys _ _ (listing-same _ (c .before .before .before .before .before .before .a2 .given .1)) (c .before .before .put-keys .ensures))
+returns-2 c = carried _ (does-is (ap (λ (u : Buffer). FailedPackageClaims
+    (c .before .before .before .before .before .before .before .before .before .before .before .before .before .before .before .before .before .before .args .connection)
+    (hashesIn (c .before .before .before .before .before .before .before .before .before .before .before .before .before .before .before .before .before .before .args .combined .now))
+    (c .before .before .before .before .before .before .before .before .before .before .before .before .before .before .before .before .before .before .args .clock) u)
+    (c .before .before .before .before .before .before .before .before .before .before .before .before .before .before .answer-buffer .ensures))
+    (c .before .before .before .before .before .before .before .before .before .before .before .failed-package-claims .ensures)) refl
+    (reply-keys _ _ (listing-same _ (c .before .before .before .before .before .before .a2 .given .1)) (c .before .before .put-keys .ensures))
 
 pub failed-package-claims-spec : {M : Type 1} → statement M
 failed-package-claims-spec =

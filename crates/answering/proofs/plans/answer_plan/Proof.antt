@@ -32,7 +32,11 @@ slice-aggregate-keep-selection : tie.Need-slice-aggregate-keep-selection
 slice-aggregate-keep-selection c = search needs
 
 keep-selection-requires : tie.Need-keep-selection-requires
-keep-selection-requires c κs = (c .before .before .before .before .before .before .before .before .before .before .before .before .before .pre .0 .plan, c .before .before .before .before .before .before .before .before .before .before .before .before .before .pre .1, listable (c .before .before .before .before .before .before .plan .ensures) (omega (arith, c .before .before .before .before .before .before .plan .kept)))
+keep-selection-requires c κs = (
+  c .before .before .before .before .before .before .before .before .before .before .before .before .before .pre .0 .plan,
+  c .before .before .before .before .before .before .before .before .before .before .before .before .before .pre .1,
+  listable (c .before .before .before .before .before .before .plan .ensures) (omega (arith, c .before .before .before .before .before .before .plan .kept)),
+)
 
 same-length : tie.Need-same-length
 same-length c = search needs
@@ -44,7 +48,10 @@ same-length-3 : tie.Need-same-length-3
 same-length-3 c = search needs
 
 returns : tie.Need-returns
-returns c = step-planned (c .before .before .before .before .before .before .before .before .before .before .before .before .before .before .before .before .before .before .pre .0) (does-is (ap (λ (u : Buffer). Plan (c .before .before .before .before .before .before .before .before .before .before .before .before .before .before .before .before .before .before .args .clock) none u) (c .before .before .before .before .before .before .before .before .before .before .before .before .before .before .answer-buffer .ensures)) (c .before .before .before .before .before .before .before .before .before .before .before .plan .ensures)) refl (c .before .before .before .before .keep-selection .ensures) refl
+returns c = step-planned (c .before .before .before .before .before .before .before .before .before .before .before .before .before .before .before .before .before .before .pre .0) (does-is
+    (ap (λ (u : Buffer). Plan (c .before .before .before .before .before .before .before .before .before .before .before .before .before .before .before .before .before .before .args .clock)
+    none u) (c .before .before .before .before .before .before .before .before .before .before .before .before .before .before .answer-buffer .ensures))
+    (c .before .before .before .before .before .before .before .before .before .before .before .plan .ensures)) refl (c .before .before .before .before .keep-selection .ensures) refl
 
 pub answer-plan-spec : {M : Type 1} → statement M
 answer-plan-spec =

@@ -44,7 +44,11 @@ slice-aggregate-keep-entries : tie.Need-slice-aggregate-keep-entries
 slice-aggregate-keep-entries c = search needs
 
 keep-entries-requires : tie.Need-keep-entries-requires
-keep-entries-requires c κs = (c .before .before .before .before .before .before .before .before .before .before .before .before .before .before .before .pre .0 .taken, c .before .before .before .before .before .before .before .before .before .before .before .before .before .before .before .pre .1, listable (c .before .before .before .before .before .before .claim-list .ensures) (omega (arith, c .before .before .before .before .before .before .claim-list .kept)))
+keep-entries-requires c κs = (
+  c .before .before .before .before .before .before .before .before .before .before .before .before .before .before .before .pre .0 .taken,
+  c .before .before .before .before .before .before .before .before .before .before .before .before .before .before .before .pre .1,
+  listable (c .before .before .before .before .before .before .claim-list .ensures) (omega (arith, c .before .before .before .before .before .before .claim-list .kept)),
+)
 
 same-length : tie.Need-same-length
 same-length c = search needs
@@ -57,7 +61,14 @@ same-length-3 c = search needs
 
 returns : tie.Need-returns
 returns c =
-    step-taken (c .before .before .before .before .before .before .before .before .before .before .before .before .before .before .before .before .before .before .before .before .pre .0) (c .before .before .before .before .before .before .before .before .before .before .before .before .before .before .before .before .before .before .before .before .args .clock) (does-is (ap (λ (u : Buffer). Claim (c .before .before .before .before .before .before .before .before .before .before .before .before .before .before .before .before .before .before .before .before .args .clock) (listIn (planPart (c .before .before .before .before .before .before .before .before .before .before .before .before .before .before .before .before .before .before .before .before .args .lists .now))) u) (c .before .before .before .before .before .before .before .before .before .before .before .before .before .before .before .before .answer-buffer .ensures)) (c .before .before .before .before .before .before .before .before .before .before .before .claim-list .ensures)) refl (c .before .before .before .before .keep-entries .ensures) refl
+    step-taken (c .before .before .before .before .before .before .before .before .before .before .before .before .before .before .before .before .before .before .before .before .pre .0)
+    (c .before .before .before .before .before .before .before .before .before .before .before .before .before .before .before .before .before .before .before .before .args .clock)
+    (does-is (ap (λ (u : Buffer). Claim
+    (c .before .before .before .before .before .before .before .before .before .before .before .before .before .before .before .before .before .before .before .before .args .clock)
+    (listIn (planPart
+    (c .before .before .before .before .before .before .before .before .before .before .before .before .before .before .before .before .before .before .before .before .args .lists .now))) u)
+    (c .before .before .before .before .before .before .before .before .before .before .before .before .before .before .before .before .answer-buffer .ensures))
+    (c .before .before .before .before .before .before .before .before .before .before .before .claim-list .ensures)) refl (c .before .before .before .before .keep-entries .ensures) refl
 
 pub answer-take-spec : {M : Type 1} → statement M
 answer-take-spec =

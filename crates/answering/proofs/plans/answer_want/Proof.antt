@@ -33,7 +33,9 @@ same-length : tie.Need-same-length
 same-length c = search needs
 
 returns : tie.Need-returns
-returns c = step-unread (c .before .before .before .before .before .before .before .before .before .before .before .before .before .before .pre .0) (no-keys (c .before .before .before .before .before .before .before .read-list .ensures) (c .before .before .before .before .enum-told .given .1) (wantAsk (valuesOf (c .before .before .before .before .before .before .before .before .before .before .before .before .before .before .args .v)))) refl (c .before .before .unreadable .ensures)
+returns c = step-unread (c .before .before .before .before .before .before .before .before .before .before .before .before .before .before .pre .0)
+    (no-keys (c .before .before .before .before .before .before .before .read-list .ensures) (c .before .before .before .before .enum-told .given .1)
+    (wantAsk (valuesOf (c .before .before .before .before .before .before .before .before .before .before .before .before .before .before .args .v)))) refl (c .before .before .unreadable .ensures)
 
 mul-m : tie.Need-mul-m
 mul-m c = let h = keys-held (c .before .before .before .before .read-list .ensures) (c .before .n .given .1) in omega (arith, h .few)
@@ -42,7 +44,13 @@ array-share-prefix-keys : tie.Need-array-share-prefix-keys
 array-share-prefix-keys c = let h = keys-held (c .before .before .before .before .before .before .before .read-list .ensures) (c .before .before .before .before .n .given .1) in omega (arith, h .few)
 
 slice-aggregate-plan-given : tie.Need-slice-aggregate-plan-given
-slice-aggregate-plan-given c = let h = keys-held (c .before .before .before .before .before .before .before .before .read-list .ensures) (c .before .before .before .before .before .n .given .1) in simp length-take (omega (arith, h .few, c .before .before .before .before .before .before .before .before .before .before .key-buffer .ensures, c .before .before .before .before .before .before .before .before .read-list .kept))
+slice-aggregate-plan-given c = let h = keys-held (c .before .before .before .before .before .before .before .before .read-list .ensures) (c .before .before .before .before .before .n .given .1) in
+    simp length-take (omega (
+      arith,
+      h .few,
+      c .before .before .before .before .before .before .before .before .before .before .key-buffer .ensures,
+      c .before .before .before .before .before .before .before .before .read-list .kept,
+    ))
 
 plan-given-requires : tie.Need-plan-given-requires
 plan-given-requires c κs = search needs
@@ -57,7 +65,10 @@ same-length-4 : tie.Need-same-length-4
 same-length-4 c = search needs
 
 returns-2 : tie.Need-returns-2
-returns-2 c = let h = keys-held (c .before .before .before .before .before .before .before .before .before .before .before .before .before .before .before .read-list .ensures) (c .before .before .before .before .before .before .before .before .before .before .before .before .n .given .1) in step-is (sym (h .is (wantAsk (valuesOf (c .before .before .before .before .before .before .before .before .before .before .before .before .before .before .before .before .before .before .before .before .before .before .args .v))))) (c .before .before .before .before .before .before .plan-given .ensures)
+returns-2 c = let h = keys-held (c .before .before .before .before .before .before .before .before .before .before .before .before .before .before .before .read-list .ensures)
+    (c .before .before .before .before .before .before .before .before .before .before .before .before .n .given .1) in step-is (sym (h .is (wantAsk (valuesOf
+    (c .before .before .before .before .before .before .before .before .before .before .before .before .before .before .before .before .before .before .before .before .before .before .args .v)))))
+    (c .before .before .before .before .before .before .plan-given .ensures)
 
 pub answer-want-spec : {M : Type 1} → statement M
 answer-want-spec =

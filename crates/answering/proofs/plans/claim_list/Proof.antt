@@ -32,7 +32,10 @@ same-length-2 : tie.Need-same-length-2
 same-length-2 c = search needs
 
 returns : tie.Need-returns
-returns c = does-is (ap (λ (x : List Entry). Claim (c .before .before .before .before .before .before .before .before .before .before .before .before .args .clock) x (c .before .before .before .before .before .before .before .before .before .before .before .before .args .answer .now)) (list-bytes (c .before .before .before .before .before .before .before .before .before .before .before .before .args .list .now) (c .before .before .before .before .before .before .before .before .list-end .ensures))) (c .before .before .before .before .claim .ensures)
+returns c = does-is (ap (λ (x : List Entry). Claim (c .before .before .before .before .before .before .before .before .before .before .before .before .args .clock) x
+    (c .before .before .before .before .before .before .before .before .before .before .before .before .args .answer .now))
+    (list-bytes (c .before .before .before .before .before .before .before .before .before .before .before .before .args .list .now)
+    (c .before .before .before .before .before .before .before .before .list-end .ensures))) (c .before .before .before .before .claim .ensures)
 
 pub claim-list-spec : {M : Type 1} → statement M
 claim-list-spec =

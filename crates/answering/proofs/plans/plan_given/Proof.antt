@@ -33,7 +33,11 @@ slice-aggregate-keep-selection : tie.Need-slice-aggregate-keep-selection
 slice-aggregate-keep-selection c = search needs
 
 keep-selection-requires : tie.Need-keep-selection-requires
-keep-selection-requires c κs = (c .before .before .before .before .before .before .before .before .before .before .before .before .before .before .pre .0 .plan, c .before .before .before .before .before .before .before .before .before .before .before .before .before .before .pre .1, listable (c .before .before .before .before .before .before .plan-given .ensures) (omega (arith, c .before .before .before .before .before .before .plan-given .kept)))
+keep-selection-requires c κs = (
+  c .before .before .before .before .before .before .before .before .before .before .before .before .before .before .pre .0 .plan,
+  c .before .before .before .before .before .before .before .before .before .before .before .before .before .before .pre .1,
+  listable (c .before .before .before .before .before .before .plan-given .ensures) (omega (arith, c .before .before .before .before .before .before .plan-given .kept)),
+)
 
 same-length : tie.Need-same-length
 same-length c = search needs
@@ -46,7 +50,12 @@ same-length-3 c = search needs
 
 returns : tie.Need-returns
 returns c =
-    step-planned (c .before .before .before .before .before .before .before .before .before .before .before .before .before .before .before .before .before .before .before .pre .0) (does-is (ap (λ (u : Buffer). Plan (c .before .before .before .before .before .before .before .before .before .before .before .before .before .before .before .before .before .before .before .args .clock) (some (givenKeys (c .before .before .before .before .before .before .before .before .before .before .before .before .before .before .before .before .before .before .before .args .given .now))) u) (c .before .before .before .before .before .before .before .before .before .before .before .before .before .before .answer-buffer .ensures)) (c .before .before .before .before .before .before .before .before .before .before .before .plan-given .ensures)) refl (c .before .before .before .before .keep-selection .ensures) refl
+    step-planned (c .before .before .before .before .before .before .before .before .before .before .before .before .before .before .before .before .before .before .before .pre .0)
+    (does-is (ap (λ (u : Buffer). Plan
+    (c .before .before .before .before .before .before .before .before .before .before .before .before .before .before .before .before .before .before .before .args .clock) (some (givenKeys
+    (c .before .before .before .before .before .before .before .before .before .before .before .before .before .before .before .before .before .before .before .args .given .now))) u)
+    (c .before .before .before .before .before .before .before .before .before .before .before .before .before .before .answer-buffer .ensures))
+    (c .before .before .before .before .before .before .before .before .before .before .before .plan-given .ensures)) refl (c .before .before .before .before .keep-selection .ensures) refl
 
 pub plan-given-spec : {M : Type 1} → statement M
 plan-given-spec =

@@ -22,13 +22,26 @@ returns : tie.Need-returns
 returns c = next-waits (c .before .before .before .before .before .before .before .before .before .pre .2) (c .if1 .taken) (c .before .before .before .wait-with .ensures)
 
 let-in-requires : tie.Need-let-in-requires
-let-in-requires c κs = (waits-same (c .before .before .before .before .before .wait-with .ensures .alone (c .before .before .if1 .left)) (c .before .before .before .before .before .before .before .before .before .before .before .pre .0), c .before .before .before .before .before .before .before .before .before .before .before .pre .2, omega (arith, c .before .before .before .before .before .before .before .before .before .before .before .pre .3), c .before .before .before .before .before .before .before .before .before .before .before .pre .4, search needs)
+let-in-requires c κs = (
+  waits-same (c .before .before .before .before .before .wait-with .ensures .alone
+      (c .before .before .if1 .left)) (c .before .before .before .before .before .before .before .before .before .before .before .pre .0),
+  c .before .before .before .before .before .before .before .before .before .before .before .pre .2,
+  omega (arith, c .before .before .before .before .before .before .before .before .before .before .before .pre .3),
+  c .before .before .before .before .before .before .before .before .before .before .before .pre .4,
+  search needs,
+)
 
 parent-of-requires : tie.Need-parent-of-requires
 parent-of-requires c κs = search needs
 
 announce-parent-requires : tie.Need-announce-parent-requires
-announce-parent-requires c κs = (let-kept (c .before .before .before .before .before .before .let-in .ensures) (waits-same (c .before .before .before .before .before .before .before .before .before .before .before .before .wait-with .ensures .alone (c .before .before .before .before .before .before .before .before .before .if1 .left)) (c .before .before .before .before .before .before .before .before .before .before .before .before .before .before .before .before .before .before .pre .0)), c .before .before .before .before .before .before .before .before .before .before .before .before .before .before .before .before .before .before .pre .1)
+announce-parent-requires c κs = (
+  let-kept (c .before .before .before .before .before .before .let-in .ensures) (waits-same
+      (c .before .before .before .before .before .before .before .before .before .before .before .before .wait-with .ensures .alone
+      (c .before .before .before .before .before .before .before .before .before .if1 .left))
+      (c .before .before .before .before .before .before .before .before .before .before .before .before .before .before .before .before .before .before .pre .0)),
+  c .before .before .before .before .before .before .before .before .before .before .before .before .before .before .before .before .before .before .pre .1,
+)
 
 same-length-3 : tie.Need-same-length-3
 same-length-3 c = search needs
@@ -38,7 +51,20 @@ same-length-4 c = search needs
 
 returns-2 : tie.Need-returns-2
 returns-2 c =
-    next-alone (record { positive = c .before .before .before .before .before .before .before .before .before .before .before .before .before .before .before .before .before .before .before .before .before .pre .1; small = omega arith }) (omega arith) (omega (arith, c .before .before .before .before .before .before .before .before .before .before .before .before .before .before .before .before .before .before .before .before .before .pre .3)) (c .before .before .before .before .before .before .before .before .before .before .before .before .before .before .before .before .before .before .before .before .before .pre .2) (hash-below (c .before .before .before .before .parent-of .result) (hash-four (c .before .before .before .before .parent-of .result) (c .before .before .before .before .parent-of .ok))) (c .before .before .before .before .parent-of .ensures) (c .before .before .before .before .before .before .before .before .before .before .before .before .before .before .before .wait-with .ensures .alone (c .before .before .before .before .before .before .before .before .before .before .before .before .if1 .left)) (c .before .before .before .before .before .before .before .before .before .let-in .ensures) (c .before .before .announce-parent .ensures)
+    next-alone (record {
+      positive =
+          c .before .before .before .before .before .before .before .before .before .before .before .before .before .before .before .before .before .before .before .before .before .pre .1;
+      small = omega arith;
+    }) (omega arith) (omega (
+      arith,
+      c .before .before .before .before .before .before .before .before .before .before .before .before .before .before .before .before .before .before .before .before .before .pre .3,
+    ))
+    (c .before .before .before .before .before .before .before .before .before .before .before .before .before .before .before .before .before .before .before .before .before .pre .2)
+    (hash-below (c .before .before .before .before .parent-of .result) (hash-four (c .before .before .before .before .parent-of .result) (c .before .before .before .before .parent-of .ok)))
+    (c .before .before .before .before .parent-of .ensures)
+    (c .before .before .before .before .before .before .before .before .before .before .before .before .before .before .before .wait-with .ensures .alone
+    (c .before .before .before .before .before .before .before .before .before .before .before .before .if1 .left))
+    (c .before .before .before .before .before .before .before .before .before .let-in .ensures) (c .before .before .announce-parent .ensures)
 
 pub announce-next-spec : {M : Type 1} → statement M
 announce-next-spec =

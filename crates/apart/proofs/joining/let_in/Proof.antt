@@ -15,7 +15,12 @@ sub-mark-parents : tie.Need-sub-mark-parents
 sub-mark-parents c = search needs
 
 mark-parents-requires : tie.Need-mark-parents-requires
-mark-parents-requires c κs = (came-kept (c .before .before .before .before .before .before .before .before .before .before .pre .0 .beside) (c .before .before .before .come-in .ensures), omega arith, c .before .before .before .before .before .before .before .before .before .before .pre .2, c .before .before .before .before .before .before .before .before .before .before .pre .3)
+mark-parents-requires c κs = (
+  came-kept (c .before .before .before .before .before .before .before .before .before .before .pre .0 .beside) (c .before .before .before .come-in .ensures),
+  omega arith,
+  c .before .before .before .before .before .before .before .before .before .before .pre .2,
+  c .before .before .before .before .before .before .before .before .before .before .pre .3,
+)
 
 clear-requires : tie.Need-clear-requires
 clear-requires c κs = search needs
@@ -27,7 +32,9 @@ same-length-2 : tie.Need-same-length-2
 same-length-2 c = search needs
 
 returns-2 : tie.Need-returns-2
-returns-2 c = let-in (c .before .before .before .before .before .before .before .before .before .before .before .before .before .before .before .before .before .pre .1) (c .before .before .before .before .before .before .before .before .before .before .come-in .ensures) (c .before .before .before .before .before .before .mark-parents .ensures) (c .before .before .clear .ensures)
+returns-2 c = let-in (c .before .before .before .before .before .before .before .before .before .before .before .before .before .before .before .before .before .pre .1)
+    (c .before .before .before .before .before .before .before .before .before .before .come-in .ensures) (c .before .before .before .before .before .before .mark-parents .ensures)
+    (c .before .before .clear .ensures)
 
 pub let-in-spec : {M : Type 1} → statement M
 let-in-spec =

@@ -38,7 +38,10 @@ loop-again : tie.Need-loop-again Inv-loop μ-loop
 loop-again c = (
   (omega (arith, c .before .before .before .before .before .before .before .loop .inv .0), omega (arith, c .before .before .before .before .before .before .loop-test .taken)),
   c .before .before .mark .kept .0 ∙ c .before .before .before .before .before .before .before .loop .inv .1,
-  marking-goes (c .before .before .before .before .before .before .before .loop .inv .2) (c .before .before .before .before .before .before .loop-test .taken) (hash-below (c .before .before .before .before .before .parent-of .result) (hash-four (c .before .before .before .before .before .parent-of .result) (c .before .before .before .before .before .parent-of .ok))) (c .before .before .before .before .before .parent-of .ensures) (c .before .before .before .txid-key .ensures) (c .before .before .mark .ensures),
+  marking-goes (c .before .before .before .before .before .before .before .loop .inv .2)
+      (c .before .before .before .before .before .before .loop-test .taken) (hash-below (c .before .before .before .before .before .parent-of .result)
+      (hash-four (c .before .before .before .before .before .parent-of .result) (c .before .before .before .before .before .parent-of .ok)))
+      (c .before .before .before .before .before .parent-of .ensures) (c .before .before .before .txid-key .ensures) (c .before .before .mark .ensures),
 )
 
 same-length : tie.Need-same-length Inv-loop μ-loop

@@ -25,7 +25,11 @@ same-length c = search needs
 
 returns-2 : tie.Need-returns-2
 returns-2 c =
-    waits-with (record { positive = c .before .before .before .before .before .before .before .before .before .before .pre .1; small = omega arith }) (omega arith) (omega (arith, c .before .before .before .before .before .before .before .before .before .before .pre .3)) (c .before .before .before .before .before .before .before .before .before .before .pre .2) (hash-below (c .before .before .before .before .before .parent-of .result) (hash-four (c .before .before .before .before .before .parent-of .result) (c .before .before .before .before .before .parent-of .ok))) (c .before .before .before .before .before .parent-of .ensures) (c .before .before .before .before .offered .ensures) (c .before .before .set-aside .ensures)
+    waits-with (record { positive = c .before .before .before .before .before .before .before .before .before .before .pre .1; small = omega arith })
+    (omega arith) (omega (arith, c .before .before .before .before .before .before .before .before .before .before .pre .3))
+    (c .before .before .before .before .before .before .before .before .before .before .pre .2) (hash-below (c .before .before .before .before .before .parent-of .result)
+    (hash-four (c .before .before .before .before .before .parent-of .result) (c .before .before .before .before .before .parent-of .ok)))
+    (c .before .before .before .before .before .parent-of .ensures) (c .before .before .before .before .offered .ensures) (c .before .before .set-aside .ensures)
 
 pub wait-with-spec : {M : Type 1} → statement M
 wait-with-spec =

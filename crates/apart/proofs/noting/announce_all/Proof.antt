@@ -23,29 +23,60 @@ slice-aggregate-announce-bits c = search needs
 
 announce-bits-requires : tie.Need-announce-bits-requires
 announce-bits-requires c κs =
-    let h = c .before .before .first-half .ensures in
-    (none-waits (c .before .before .before .before .before .before .before .before .before .pre .0) (c .before .before .before .before .clear .ensures), c .before .before .before .before .before .before .before .before .before .pre .1, omega arith, omega arith, omega (arith, h .most), omega (arith, h .within, c .before .before .before .before .before .before .before .before .before .pre .2), c .before .before .before .before .before .before .before .before .before .pre .3, search needs)
+    let h = c .before .before .first-half .ensures in (
+      none-waits (c .before .before .before .before .before .before .before .before .before .pre .0) (c .before .before .before .before .clear .ensures),
+      c .before .before .before .before .before .before .before .before .before .pre .1,
+      omega arith,
+      omega arith,
+      omega (arith, h .most),
+      omega (arith, h .within, c .before .before .before .before .before .before .before .before .before .pre .2),
+      c .before .before .before .before .before .before .before .before .before .pre .3,
+      search needs,
+    )
 
 slice-aggregate-announce-bits-2 : tie.Need-slice-aggregate-announce-bits-2
 slice-aggregate-announce-bits-2 c = search needs
 
 announce-bits-requires-2 : tie.Need-announce-bits-requires-2
 announce-bits-requires-2 c κs =
-    let h = c .before .before .before .before .before .before .before .before .first-half .ensures in
-    (half-waits (c .before .before .before .before .before .announce-bits .ensures) (none-waits (c .before .before .before .before .before .before .before .before .before .before .before .before .before .before .before .pre .0) (c .before .before .before .before .before .before .before .before .before .before .clear .ensures)), c .before .before .before .before .before .before .before .before .before .before .before .before .before .before .before .pre .1, c .before .before .before .before .before .announce-bits .ensures .most, h .within, h .rest (c .before .before .before .before .before .before .before .before .before .before .before .before .before .before .before .pre .2), c .before .before .before .before .before .before .before .before .before .before .before .before .before .before .before .pre .2, c .before .before .before .before .before .before .before .before .before .before .before .before .before .before .before .pre .3, search needs)
+    let h = c .before .before .before .before .before .before .before .before .first-half .ensures in (
+      half-waits (c .before .before .before .before .before .announce-bits .ensures) (none-waits
+          (c .before .before .before .before .before .before .before .before .before .before .before .before .before .before .before .pre .0)
+          (c .before .before .before .before .before .before .before .before .before .before .clear .ensures)),
+      c .before .before .before .before .before .before .before .before .before .before .before .before .before .before .before .pre .1,
+      c .before .before .before .before .before .announce-bits .ensures .most,
+      h .within,
+      h .rest (c .before .before .before .before .before .before .before .before .before .before .before .before .before .before .before .pre .2),
+      c .before .before .before .before .before .before .before .before .before .before .before .before .before .before .before .pre .2,
+      c .before .before .before .before .before .before .before .before .before .before .before .before .before .before .before .pre .3,
+      search needs,
+    )
 
 slice-aggregate-let-in : tie.Need-slice-aggregate-let-in
 slice-aggregate-let-in c = search needs
 
 let-in-requires : tie.Need-let-in-requires
-let-in-requires c κs =
-    (half-waits (c .before .before .before .before .before .announce-bits2 .ensures) (half-waits (c .before .before .before .before .before .before .before .before .before .before .before .announce-bits .ensures) (none-waits (c .before .before .before .before .before .before .before .before .before .before .before .before .before .before .before .before .before .before .before .before .before .pre .0) (c .before .before .before .before .before .before .before .before .before .before .before .before .before .before .before .before .clear .ensures))), c .before .before .before .before .before .announce-bits2 .ensures .most, c .before .before .before .before .before .before .before .before .before .before .before .before .before .before .before .before .before .before .before .before .before .pre .2, c .before .before .before .before .before .before .before .before .before .before .before .before .before .before .before .before .before .before .before .before .before .pre .3, search needs)
+let-in-requires c κs = (
+  half-waits (c .before .before .before .before .before .announce-bits2 .ensures) (half-waits
+      (c .before .before .before .before .before .before .before .before .before .before .before .announce-bits .ensures) (none-waits
+      (c .before .before .before .before .before .before .before .before .before .before .before .before .before .before .before .before .before .before .before .before .before .pre .0)
+      (c .before .before .before .before .before .before .before .before .before .before .before .before .before .before .before .before .clear .ensures))),
+  c .before .before .before .before .before .announce-bits2 .ensures .most,
+  c .before .before .before .before .before .before .before .before .before .before .before .before .before .before .before .before .before .before .before .before .before .pre .2,
+  c .before .before .before .before .before .before .before .before .before .before .before .before .before .before .before .before .before .before .before .before .before .pre .3,
+  search needs,
+)
 
 same-length : tie.Need-same-length
 same-length c = search needs
 
 returns : tie.Need-returns
-returns c = both-noted (words (c .before .before .before .before .before .before .before .before .before .before .before .before .before .before .before .before .before .before .before .before .before .before .before .before .before .args .slot .now)) (c .before .before .before .before .before .before .before .before .before .before .before .before .before .before .before .before .before .before .before .before .clear .ensures) (c .before .before .before .before .before .before .before .before .before .before .before .before .before .before .before .before .before .before .first-half .ensures) (c .before .before .before .before .before .before .before .before .before .before .before .before .before .before .before .announce-bits .ensures) (c .before .before .before .before .before .before .before .before .before .announce-bits2 .ensures) (c .before .before .before .let-in .ensures)
+returns c = both-noted (words (c .before .before .before .before .before .before .before .before .before .before .before .before
+    .before .before .before .before .before .before .before .before .before .before .before .before .before .args .slot .now))
+    (c .before .before .before .before .before .before .before .before .before .before .before .before .before .before .before .before .before .before .before .before .clear .ensures)
+    (c .before .before .before .before .before .before .before .before .before .before .before .before .before .before .before .before .before .before .first-half .ensures)
+    (c .before .before .before .before .before .before .before .before .before .before .before .before .before .before .before .announce-bits .ensures)
+    (c .before .before .before .before .before .before .before .before .before .announce-bits2 .ensures) (c .before .before .before .let-in .ensures)
 
 pub announce-all-spec : {M : Type 1} → statement M
 announce-all-spec =

@@ -18,13 +18,21 @@ rows-requires : tie.Need-rows-requires Inv-loop μ-loop
 rows-requires c κs = omega (arith, sizes (c .before .before .before .pre .0 .writes))
 
 loop-holds : tie.Need-loop-holds Inv-loop μ-loop
-loop-holds c = gathered-none (c .before .before .before .before .args .n) (c .before .before .before .before .args .s .now) (c .before .before .before .before .args .keys .now) (c .before .before .before .before .args .sums .now)
+loop-holds c = gathered-none (c .before .before .before .before .args .n) (c .before .before .before .before .args .s .now) (c .before .before .before .before .args .keys .now)
+    (c .before .before .before .before .args .sums .now)
 
 row-at-requires : tie.Need-row-at-requires Inv-loop μ-loop
 row-at-requires c κs = (kept-shown (c .before .before .before .before .before .before .pre .0), omega (arith, c .before .before .rows .ensures .word, c .loop-test .taken))
 
 note-claim-requires : tie.Need-note-claim-requires Inv-loop μ-loop
-note-claim-requires c κs = (c .before .before .before .before .before .before .before .before .before .pre .0, omega (arith, c .before .before .before .before .before .before .before .before .before .pre .1, c .before .before .before .before .loop .inv .long-keys), omega (arith, c .before .before .before .before .before .before .before .before .before .pre .2, c .before .before .before .before .loop .inv .long-sums), gathered-room (c .before .before .before .before .loop .inv) (c .before .before .row-at .result) (λ st w. omega (arith, c .before .before .before .before .before .rows .ensures .field (flatOf st) w, c .before .before .before .loop-test .taken)) (λ st d w. c .before .before .row-at .ensures (flatOf st) d w))
+note-claim-requires c κs = (
+  c .before .before .before .before .before .before .before .before .before .pre .0,
+  omega (arith, c .before .before .before .before .before .before .before .before .before .pre .1, c .before .before .before .before .loop .inv .long-keys),
+  omega (arith, c .before .before .before .before .before .before .before .before .before .pre .2, c .before .before .before .before .loop .inv .long-sums),
+  gathered-room (c .before .before .before .before .loop .inv) (c .before .before .row-at .result) (λ st w.
+      omega (arith, c .before .before .before .before .before .rows .ensures .field (flatOf st) w, c .before .before .before .loop-test .taken)) (λ st d w. c .before .before .row-at .ensures
+      (flatOf st) d w),
+)
 
 add-i : tie.Need-add-i Inv-loop μ-loop
 add-i c = search needs
@@ -33,7 +41,14 @@ loop-less : tie.Need-loop-less Inv-loop μ-loop
 loop-less c = search needs
 
 loop-again : tie.Need-loop-again Inv-loop μ-loop
-loop-again c = gathered-more (c .before .before .before .before .before .before .before .before .before .loop .inv) (c .before .before .before .before .before .before .before .row-at .result) (λ st w. omega (arith, c .before .before .before .before .before .before .before .before .before .before .rows .ensures .field (flatOf st) w, c .before .before .before .before .before .before .before .before .loop-test .taken)) (λ st d w. c .before .before .before .before .before .before .before .row-at .ensures (flatOf st) d w) (omega (arith, c .before .before .before .before .note-claim .kept)) (omega (arith, c .before .before .before .before .note-claim .kept)) (c .before .before .before .before .note-claim .ensures)
+loop-again c = gathered-more (c .before .before .before .before .before .before .before .before .before .loop .inv) (c .before .before .before .before .before .before .before .row-at .result)
+    (λ st w. omega (
+      arith,
+      c .before .before .before .before .before .before .before .before .before .before .rows .ensures .field (flatOf st) w,
+      c .before .before .before .before .before .before .before .before .loop-test .taken,
+    )) (λ st d w. c .before .before .before .before .before .before .before .row-at .ensures (flatOf st) d w)
+    (omega (arith, c .before .before .before .before .note-claim .kept)) (omega (arith, c .before .before .before .before .note-claim .kept))
+    (c .before .before .before .before .note-claim .ensures)
 
 same-length : tie.Need-same-length Inv-loop μ-loop
 same-length c = c .before .loop .inv .long-keys
@@ -42,7 +57,8 @@ same-length-2 : tie.Need-same-length-2 Inv-loop μ-loop
 same-length-2 c = c .before .loop .inv .long-sums
 
 returns : tie.Need-returns Inv-loop μ-loop
-returns c = gathered-done (c .before .loop .inv) (c .before .before .before .before .before .before .pre .0) (λ st w. omega (arith, c .before .before .rows .ensures .field (flatOf st) w, c .loop-test .left))
+returns c = gathered-done (c .before .loop .inv) (c .before .before .before .before .before .before .pre .0)
+    (λ st w. omega (arith, c .before .before .rows .ensures .field (flatOf st) w, c .loop-test .left))
 
 pub claims-of-spec : {M : Type 1} → statement M
 claims-of-spec =

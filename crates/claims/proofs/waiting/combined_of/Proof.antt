@@ -17,7 +17,8 @@ combined-at-requires c κs = (c .before .before .before .pre, c .before .seek .e
 returns : tie.Need-returns
 returns c = λ st s w a.
     let p = c .before .before .seek .ensures .is st s w in
-    c .combined-at .ensures (hashNum (c .before .before .before .before .args .h)) (c .before .before .seek .ensures .small) st s w (record { bound = p .bound; held-is = sym (c .before .if1 .taken) ∙ p .held-is })
+    c .combined-at .ensures (hashNum (c .before .before .before .before .args .h)) (c .before .before .seek .ensures .small) st s w
+    (record { bound = p .bound; held-is = sym (c .before .if1 .taken) ∙ p .held-is })
 
 returns-2 : tie.Need-returns-2
 returns-2 c = λ st s w a. never (sym (c .if1 .left) ∙ c .before .seek .ensures .is st s w .held-is ∙ awaiting-place (at (wtxid (hashNum (c .before .before .before .args .h))) (st .table)) a)

@@ -19,7 +19,12 @@ same-length : tie.Need-same-length
 same-length c = search needs
 
 returns : tie.Need-returns
-returns c = nothing-on _ (c .before .before .before .before .before .before .before .args .c) (λ m t. failedWithParents m (wtxid (hashNum (c .before .before .before .before .before .before .before .args .h))) (c .before .before .before .before .before .before .before .args .n) (c .before .before .before .before .before .before .before .args .clock) t) (λ st s w. fails-nothing (limitsOf st) (wtxid (hashNum (c .before .before .before .before .before .before .before .args .h))) (c .before .before .before .before .before .before .before .args .n) (c .before .before .before .before .before .before .before .args .clock) (st .table) (not-owner (st .table) (c .before .before .before .before .wtxid-key .ensures) (c .before .before .request-at .ensures .is st s w) (c .before .before .before .before .before .before .before .pre .1) (c .if1 .taken)))
+returns c = nothing-on _ (c .before .before .before .before .before .before .before .args .c)
+    (λ m t. failedWithParents m (wtxid (hashNum (c .before .before .before .before .before .before .before .args .h)))
+    (c .before .before .before .before .before .before .before .args .n) (c .before .before .before .before .before .before .before .args .clock) t) (λ st s w. fails-nothing
+    (limitsOf st) (wtxid (hashNum (c .before .before .before .before .before .before .before .args .h))) (c .before .before .before .before .before .before .before .args .n)
+    (c .before .before .before .before .before .before .before .args .clock) (st .table) (not-owner (st .table) (c .before .before .before .before .wtxid-key .ensures)
+    (c .before .before .request-at .ensures .is st s w) (c .before .before .before .before .before .before .before .pre .1) (c .if1 .taken)))
 
 mul-x : tie.Need-mul-x
 mul-x c = search needs
@@ -34,10 +39,33 @@ part-failed-with-parents-end : tie.Need-part-failed-with-parents-end
 part-failed-with-parents-end c = search needs
 
 failed-with-parents-requires : tie.Need-failed-with-parents-requires
-failed-with-parents-requires c κs = (c .before .before .before .before .before .before .before .before .before .pre .0, c .before .before .before .before .before .before .before .before .before .pre .1, part-room (c .before .before .before .before .before .before .before .before .before .args .out .now) (c .before .before .before .before .before .before .before .before .before .args .c) _ _ refl refl (c .before .before .before .before .before .before .before .before .before .pre .3 (c .before .before .before .before .before .before .before .before .before .pre .0 .state) (c .before .before .before .before .before .before .before .before .before .pre .0 .sound) (c .before .before .before .before .before .before .before .before .before .pre .0 .writes) (the-owner _ (c .before .before .before .before .before .before .wtxid-key .ensures) (c .before .before .before .before .request-at .ensures .is (c .before .before .before .before .before .before .before .before .before .pre .0 .state) (c .before .before .before .before .before .before .before .before .before .pre .0 .sound) (c .before .before .before .before .before .before .before .before .before .pre .0 .writes)) (c .before .before .before .before .before .before .before .before .before .pre .1) (c .before .before .if1 .left))))
+failed-with-parents-requires c κs = (
+  c .before .before .before .before .before .before .before .before .before .pre .0,
+  c .before .before .before .before .before .before .before .before .before .pre .1,
+  part-room (c .before .before .before .before .before .before .before .before .before .args .out .now)
+      (c .before .before .before .before .before .before .before .before .before .args .c) _ _ refl refl (c .before .before .before .before .before .before .before .before .before .pre .3
+      (c .before .before .before .before .before .before .before .before .before .pre .0 .state) (c .before .before .before .before .before .before .before .before .before .pre .0 .sound)
+      (c .before .before .before .before .before .before .before .before .before .pre .0 .writes) (the-owner _ (c .before .before .before .before .before .before .wtxid-key .ensures)
+      (c .before .before .before .before .request-at .ensures .is (c .before .before .before .before .before .before .before .before .before .pre .0 .state)
+      (c .before .before .before .before .before .before .before .before .before .pre .0 .sound) (c .before .before .before .before .before .before .before .before .before .pre .0 .writes))
+      (c .before .before .before .before .before .before .before .before .before .pre .1) (c .before .before .if1 .left))),
+)
 
 add-result : tie.Need-add-result
-add-result c = omega (arith, c .before .before .before .before .before .before .before .before .before .before .before .before .before .before .pre .4, c .before .before .before .before .failed-with-parents .ensures .count (c .before .before .before .before .before .before .before .before .before .before .before .before .before .before .pre .0 .state) (c .before .before .before .before .before .before .before .before .before .before .before .before .before .before .pre .0 .sound) (c .before .before .before .before .before .before .before .before .before .before .before .before .before .before .pre .0 .writes), fails-few (limitsOf (c .before .before .before .before .before .before .before .before .before .before .before .before .before .before .pre .0 .state)) (keyNum (c .before .before .before .before .before .before .before .before .before .before .before .wtxid-key .result)) (c .before .before .before .before .before .before .before .before .before .before .before .before .before .before .args .n) (c .before .before .before .before .before .before .before .before .before .before .before .before .before .before .args .clock) (c .before .before .before .before .before .before .before .before .before .before .before .before .before .before .pre .0 .state) (c .before .before .before .before .before .before .before .before .before .before .before .before .before .before .pre .0 .sound))
+add-result c = omega (
+  arith,
+  c .before .before .before .before .before .before .before .before .before .before .before .before .before .before .pre .4,
+  c .before .before .before .before .failed-with-parents .ensures .count
+      (c .before .before .before .before .before .before .before .before .before .before .before .before .before .before .pre .0 .state)
+      (c .before .before .before .before .before .before .before .before .before .before .before .before .before .before .pre .0 .sound)
+      (c .before .before .before .before .before .before .before .before .before .before .before .before .before .before .pre .0 .writes),
+  fails-few (limitsOf (c .before .before .before .before .before .before .before .before .before .before .before .before .before .before .pre .0 .state)) (keyNum
+      (c .before .before .before .before .before .before .before .before .before .before .before .wtxid-key .result))
+      (c .before .before .before .before .before .before .before .before .before .before .before .before .before .before .args .n)
+      (c .before .before .before .before .before .before .before .before .before .before .before .before .before .before .args .clock)
+      (c .before .before .before .before .before .before .before .before .before .before .before .before .before .before .pre .0 .state)
+      (c .before .before .before .before .before .before .before .before .before .before .before .before .before .before .pre .0 .sound),
+)
 
 same-length-2 : tie.Need-same-length-2
 same-length-2 c = search needs
@@ -46,7 +74,20 @@ same-length-3 : tie.Need-same-length-3
 same-length-3 c = search needs
 
 returns-2 : tie.Need-returns-2
-returns-2 c = same-on (λ m t. failedWithParents m (keyNum (c .before .before .before .before .before .before .before .before .before .before .before .wtxid-key .result)) (c .before .before .before .before .before .before .before .before .before .before .before .before .before .before .args .n) (c .before .before .before .before .before .before .before .before .before .before .before .before .before .before .args .clock) t) (λ m t. failedWithParents m (wtxid (hashNum (c .before .before .before .before .before .before .before .before .before .before .before .before .before .before .args .h))) (c .before .before .before .before .before .before .before .before .before .before .before .before .before .before .args .n) (c .before .before .before .before .before .before .before .before .before .before .before .before .before .before .args .clock) t) (λ m t. ap (λ (k : Key). failedWithParents m k (c .before .before .before .before .before .before .before .before .before .before .before .before .before .before .args .n) (c .before .before .before .before .before .before .before .before .before .before .before .before .before .before .args .clock) t) (c .before .before .before .before .before .before .before .before .before .before .before .wtxid-key .ensures)) (listed-on _ (c .before .before .before .before .before .before .before .before .before .before .before .before .before .before .args .c) _ _ refl refl (λ m t. failedWithParents m (keyNum (c .before .before .before .before .before .before .before .before .before .before .before .wtxid-key .result)) (c .before .before .before .before .before .before .before .before .before .before .before .before .before .before .args .n) (c .before .before .before .before .before .before .before .before .before .before .before .before .before .before .args .clock) t) (c .before .before .before .before .failed-with-parents .ensures))
+returns-2 c = same-on (λ m t. failedWithParents m (keyNum (c .before .before .before .before .before .before .before .before .before .before .before .wtxid-key .result))
+    (c .before .before .before .before .before .before .before .before .before .before .before .before .before .before .args .n)
+    (c .before .before .before .before .before .before .before .before .before .before .before .before .before .before .args .clock) t)
+    (λ m t. failedWithParents m (wtxid (hashNum (c .before .before .before .before .before .before .before .before .before .before .before .before .before .before .args .h)))
+    (c .before .before .before .before .before .before .before .before .before .before .before .before .before .before .args .n)
+    (c .before .before .before .before .before .before .before .before .before .before .before .before .before .before .args .clock) t)
+    (λ m t. ap (λ (k : Key). failedWithParents m k (c .before .before .before .before .before .before .before .before .before .before .before .before .before .before .args .n)
+    (c .before .before .before .before .before .before .before .before .before .before .before .before .before .before .args .clock) t)
+    (c .before .before .before .before .before .before .before .before .before .before .before .wtxid-key .ensures))
+    (listed-on _ (c .before .before .before .before .before .before .before .before .before .before .before .before .before .before .args .c) _ _ refl refl
+    (λ m t. failedWithParents m (keyNum (c .before .before .before .before .before .before .before .before .before .before .before .wtxid-key .result))
+    (c .before .before .before .before .before .before .before .before .before .before .before .before .before .before .args .n)
+    (c .before .before .before .before .before .before .before .before .before .before .before .before .before .before .args .clock) t)
+    (c .before .before .before .before .failed-with-parents .ensures))
 
 pub fail-claim-spec : {M : Type 1} → statement M
 fail-claim-spec =

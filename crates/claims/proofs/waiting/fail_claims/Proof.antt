@@ -36,7 +36,14 @@ part-fail-given-end-2 : tie.Need-part-fail-given-end-2
 part-fail-given-end-2 c = search needs
 
 fail-given-requires : tie.Need-fail-given-requires
-fail-given-requires c κs = (c .before .before .before .before .before .before .before .before .before .before .before .before .before .before .before .pre .0, c .before .before .before .before .before .before .before .before .before .before .before .before .before .before .before .pre .1, c .before .before .before .before .before .before .before .before .before .before .before .before .before .before .before .pre .2, claims-lent _ _ (c .before .before .before .before .before .before .before .before .claims-of .result) _ refl (c .before .before .before .before .before .before .before .before .claims-of .ensures) (omega (arith, c .before .before .before .before .before .before .before .before .claims-of .kept)) (omega (arith, c .before .before .before .before .before .before .before .before .claims-of .kept)))
+fail-given-requires c κs = (
+  c .before .before .before .before .before .before .before .before .before .before .before .before .before .before .before .pre .0,
+  c .before .before .before .before .before .before .before .before .before .before .before .before .before .before .before .pre .1,
+  c .before .before .before .before .before .before .before .before .before .before .before .before .before .before .before .pre .2,
+  claims-lent _ _ (c .before .before .before .before .before .before .before .before .claims-of .result) _ refl
+      (c .before .before .before .before .before .before .before .before .claims-of .ensures) (omega (arith, c .before .before .before .before .before .before .before .before .claims-of .kept))
+      (omega (arith, c .before .before .before .before .before .before .before .before .claims-of .kept)),
+)
 
 same-length : tie.Need-same-length
 same-length c = search needs

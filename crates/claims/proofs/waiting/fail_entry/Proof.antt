@@ -8,7 +8,16 @@ use Rattle.claims.proofs.waiting.fail_entry.Statement.{statement}
 use Rattle.claims.proofs.waiting.fail_entry.Tie as tie
 
 fail-latest-requires : tie.Need-fail-latest-requires
-fail-latest-requires c κs = (c .before .before .before .before .before .before .before .before .pre .0, c .before .before .before .before .before .before .before .before .pre .1, c .before .before .before .before .before .before .before .before .pre .2, c .before .before .before .before .before .before .before .before .pre .3, (λ k e. c .before .before .before .before .before .before .before .before .pre .4 k (sym (held-last (hashNum (c .before .before .before .before .before .before .before .before .args .g .hash)) (hashesIn (c .before .before .before .before .before .before .before .before .args .keys .now)) (hashesIn (c .before .before .before .before .before .before .before .before .args .sums .now)) (c .before .before .before .if1 .taken)) ∙ e)), c .before .before .before .before .before .before .before .before .pre .5)
+fail-latest-requires c κs = (
+  c .before .before .before .before .before .before .before .before .pre .0,
+  c .before .before .before .before .before .before .before .before .pre .1,
+  c .before .before .before .before .before .before .before .before .pre .2,
+  c .before .before .before .before .before .before .before .before .pre .3,
+  (λ k e. c .before .before .before .before .before .before .before .before .pre .4 k (sym (held-last (hashNum (c .before .before .before .before .before .before .before .before .args .g .hash))
+      (hashesIn (c .before .before .before .before .before .before .before .before .args .keys .now)) (hashesIn (c .before .before .before .before .before .before .before .before .args .sums .now))
+      (c .before .before .before .if1 .taken)) ∙ e)),
+  c .before .before .before .before .before .before .before .before .pre .5,
+)
 
 same-length : tie.Need-same-length
 same-length c = search needs
@@ -17,10 +26,17 @@ same-length-2 : tie.Need-same-length-2
 same-length-2 c = search needs
 
 returns : tie.Need-returns
-returns c = same-claim (c .before .before .before .before .before .before .before .before .before .before .before .before .before .args .n) (c .before .before .before .before .before .before .before .before .before .before .before .before .before .args .clock) (held-last (hashNum (c .before .before .before .before .before .before .before .before .before .before .before .before .before .args .g .hash)) (hashesIn (c .before .before .before .before .before .before .before .before .before .before .before .before .before .args .keys .now)) (hashesIn (c .before .before .before .before .before .before .before .before .before .before .before .before .before .args .sums .now)) (c .before .before .before .before .before .before .before .before .if1 .taken)) (c .before .before .before .before .fail-latest .ensures)
+returns c = same-claim (c .before .before .before .before .before .before .before .before .before .before .before .before .before .args .n)
+    (c .before .before .before .before .before .before .before .before .before .before .before .before .before .args .clock)
+    (held-last (hashNum (c .before .before .before .before .before .before .before .before .before .before .before .before .before .args .g .hash))
+    (hashesIn (c .before .before .before .before .before .before .before .before .before .before .before .before .before .args .keys .now))
+    (hashesIn (c .before .before .before .before .before .before .before .before .before .before .before .before .before .args .sums .now))
+    (c .before .before .before .before .before .before .before .before .if1 .taken)) (c .before .before .before .before .fail-latest .ensures)
 
 returns-2 : tie.Need-returns-2
-returns-2 c = no-claim (c .before .before .before .before .before .args .n) (c .before .before .before .before .before .args .clock) (unheld-last (hashNum (c .before .before .before .before .before .args .g .hash)) (hashesIn (c .before .before .before .before .before .args .keys .now)) (hashesIn (c .before .before .before .before .before .args .sums .now)) (c .if1 .left))
+returns-2 c = no-claim (c .before .before .before .before .before .args .n) (c .before .before .before .before .before .args .clock)
+    (unheld-last (hashNum (c .before .before .before .before .before .args .g .hash)) (hashesIn (c .before .before .before .before .before .args .keys .now))
+    (hashesIn (c .before .before .before .before .before .args .sums .now)) (c .if1 .left))
 
 pub fail-entry-spec : {M : Type 1} → statement M
 fail-entry-spec =

@@ -22,7 +22,8 @@ entries-requires : tie.Need-entries-requires Inv-loop μ-loop
 entries-requires c κs = search needs
 
 loop-holds : tie.Need-loop-holds Inv-loop μ-loop
-loop-holds c = failed-none _ _ (c .before .before .before .before .before .before .args .n) (c .before .before .before .before .before .before .args .clock) (entriesIn (c .before .before .before .before .before .before .args .items) (c .before .before .before .before .before .before .args .given .now))
+loop-holds c = failed-none _ _ (c .before .before .before .before .before .before .args .n) (c .before .before .before .before .before .before .args .clock)
+    (entriesIn (c .before .before .before .before .before .before .args .items) (c .before .before .before .before .before .before .args .given .now))
 
 entry-at-requires : tie.Need-entry-at-requires Inv-loop μ-loop
 entry-at-requires c κs = omega (arith, c .before .before .entries .ensures, c .loop-test .taken)
@@ -34,14 +35,16 @@ fail-entry-requires c κs =
     let peer : Peer (a .n) = record { positive = start .pre .1; small = omega arith } in
     let late : a .clock < word = omega arith in
     let v = c .before .before .before .before .loop .inv in
-    let inside : c .before .before .before .before .loop .i < length (entriesIn (a .items) (a .given .now)) = omega (arith, c .before .before .before .before .before .entries .ensures, c .before .before .before .loop-test .taken) in
+    let inside : c .before .before .before .before .loop .i < length (entriesIn (a .items) (a .given .now)) =
+    omega (arith, c .before .before .before .before .before .entries .ensures, c .before .before .before .loop-test .taken) in
     let given = somes-given (a .items) (a .given .now) in
     let kept = start .pre .0 in (
       failed-kept v peer late kept,
       start .pre .1,
       failed-fits v peer late kept (ap length given) (start .pre .2),
       same-many (start .pre .3 (kept .state) (kept .sound) (kept .writes)),
-      failed-room v peer late kept (ap length given) (start .pre .2) (hashFound (c .before .before .entry-at .result .held) (hashNum (c .before .before .entry-at .result .hash))) inside (c .before .before .entry-at .ensures) (start .pre .3),
+      failed-room v peer late kept (ap length given) (start .pre .2) (hashFound (c .before .before .entry-at .result .held) (hashNum (c .before .before .entry-at .result .hash))) inside
+          (c .before .before .entry-at .ensures) (start .pre .3),
       failed-few v peer late kept,
     )
 
@@ -58,8 +61,15 @@ loop-again c =
     let peer : Peer (a .n) = record { positive = start .pre .1; small = omega arith } in
     let late : a .clock < word = omega arith in
     let v = c .before .before .before .before .before .before .before .before .before .loop .inv in
-    let inside : c .before .before .before .before .before .before .before .before .before .loop .i < length (entriesIn (a .items) (a .given .now)) = omega (arith, c .before .before .before .before .before .before .before .before .before .before .entries .ensures, c .before .before .before .before .before .before .before .before .loop-test .taken) in
-    failed-more v peer late (hashFound (c .before .before .before .before .before .before .before .entry-at .result .held) (hashNum (c .before .before .before .before .before .before .before .entry-at .result .hash))) inside (c .before .before .before .before .before .before .before .entry-at .ensures) (start .pre .3) (omega (arith, c .before .before .before .before .fail-entry .kept)) (omega (arith, c .before .before .before .before .fail-entry .kept)) (c .before .before .before .before .fail-entry .ensures)
+    let inside : c .before .before .before .before .before .before .before .before .before .loop .i < length (entriesIn (a .items) (a .given .now)) = omega (
+      arith,
+      c .before .before .before .before .before .before .before .before .before .before .entries .ensures,
+      c .before .before .before .before .before .before .before .before .loop-test .taken,
+    ) in
+    failed-more v peer late (hashFound (c .before .before .before .before .before .before .before .entry-at .result .held)
+    (hashNum (c .before .before .before .before .before .before .before .entry-at .result .hash))) inside (c .before .before .before .before .before .before .before .entry-at .ensures)
+    (start .pre .3) (omega (arith, c .before .before .before .before .fail-entry .kept)) (omega (arith, c .before .before .before .before .fail-entry .kept))
+    (c .before .before .before .before .fail-entry .ensures)
 
 same-length : tie.Need-same-length Inv-loop μ-loop
 same-length c = c .before .loop .inv .size
@@ -68,7 +78,9 @@ same-length-2 : tie.Need-same-length-2 Inv-loop μ-loop
 same-length-2 c = c .before .loop .inv .long
 
 returns : tie.Need-returns Inv-loop μ-loop
-returns c = failed-done (givenIn (c .before .before .before .before .before .before .before .before .args .items) (c .before .before .before .before .before .before .before .before .args .given .now)) (c .before .loop .inv) (omega (arith, c .before .before .entries .ensures, c .loop-test .left)) (somes-given (c .before .before .before .before .before .before .before .before .args .items) (c .before .before .before .before .before .before .before .before .args .given .now))
+returns c = failed-done (givenIn (c .before .before .before .before .before .before .before .before .args .items)
+    (c .before .before .before .before .before .before .before .before .args .given .now)) (c .before .loop .inv) (omega (arith, c .before .before .entries .ensures, c .loop-test .left))
+    (somes-given (c .before .before .before .before .before .before .before .before .args .items) (c .before .before .before .before .before .before .before .before .args .given .now))
 
 pub fail-given-spec : {M : Type 1} → statement M
 fail-given-spec =

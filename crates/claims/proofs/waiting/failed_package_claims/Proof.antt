@@ -6,7 +6,11 @@ use Rattle.claims.proofs.waiting.failed_package_claims.Statement.{state
 use Rattle.claims.proofs.waiting.failed_package_claims.Tie as tie
 
 fail-claims-requires : tie.Need-fail-claims-requires
-fail-claims-requires c κs = (c .before .before .before .before .before .pre .0, c .before .before .before .before .before .pre .1, (λ st s w. inl (omega (arith, c .before .before .before .before .before .pre .2, s .bounded .room, sizes w .places))))
+fail-claims-requires c κs = (
+  c .before .before .before .before .before .pre .0,
+  c .before .before .before .before .before .pre .1,
+  (λ st s w. inl (omega (arith, c .before .before .before .before .before .pre .2, s .bounded .room, sizes w .places))),
+)
 
 same-length : tie.Need-same-length
 same-length c = search needs

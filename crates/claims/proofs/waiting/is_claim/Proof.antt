@@ -16,7 +16,8 @@ request-at-requires : tie.Need-request-at-requires
 request-at-requires c κs = search needs
 
 returns-3 : tie.Need-returns-3
-returns-3 c = λ st s w. row-staged (c .before .before .before .before .before .before .before .before .args .n) (c .before .before .before .before .before .before .before .before .args .r) (c .before .before .before .before .before .if1 .left) (c .before .before .before .if2 .left) (st .table) (c .before .before .key-of .ensures) (c .before .request-at .ensures .is st s w)
+returns-3 c = λ st s w. row-staged (c .before .before .before .before .before .before .before .before .args .n) (c .before .before .before .before .before .before .before .before .args .r)
+    (c .before .before .before .before .before .if1 .left) (c .before .before .before .if2 .left) (st .table) (c .before .before .key-of .ensures) (c .before .request-at .ensures .is st s w)
 
 pub is-claim-spec : {M : Type 1} → statement M
 is-claim-spec =

@@ -34,13 +34,18 @@ hash-in-requires-2 : tie.Need-hash-in-requires-2 Inv-loop μ-loop
 hash-in-requires-2 c κs = omega (arith, c .before .before .before .loop-test .taken, c .before .before .before .before .loop .inv .most)
 
 returns : tie.Need-returns Inv-loop μ-loop
-returns c = found-here (c .before .before .before .before .before .loop .j - 1) (c .before .before .before .before .before .loop .inv) (c .before .before .before .before .before .before .before .before .before .pre) (omega (arith, c .before .before .before .before .loop-test .taken)) (ap (λ (z : ℕ). eqb z (hashNum (c .before .before .before .before .before .before .before .before .before .args .c))) (sym (c .before .before .before .hash-in .ensures)) ∙ sym (c .before .before .same-hash .ensures) ∙ c .before .if1 .taken) (c .hash-in2 .ensures)
+returns c = found-here (c .before .before .before .before .before .loop .j - 1) (c .before .before .before .before .before .loop .inv)
+    (c .before .before .before .before .before .before .before .before .before .pre) (omega (arith, c .before .before .before .before .loop-test .taken))
+    (ap (λ (z : ℕ). eqb z (hashNum (c .before .before .before .before .before .before .before .before .before .args .c))) (sym (c .before .before .before .hash-in .ensures)) ∙
+    sym (c .before .before .same-hash .ensures) ∙ c .before .if1 .taken) (c .hash-in2 .ensures)
 
 loop-less : tie.Need-loop-less Inv-loop μ-loop
 loop-less c = omega (arith, c .before .before .before .loop-test .taken)
 
 loop-again : tie.Need-loop-again Inv-loop μ-loop
-loop-again c = none-more (c .before .before .before .before .loop .j - 1) (c .before .before .before .before .loop .inv) (c .before .before .before .before .before .before .before .before .pre) (omega (arith, c .before .before .before .loop-test .taken)) (ap (λ (z : ℕ). eqb z (hashNum (c .before .before .before .before .before .before .before .before .args .c))) (sym (c .before .before .hash-in .ensures)) ∙ sym (c .before .same-hash .ensures) ∙ c .if1 .left)
+loop-again c = none-more (c .before .before .before .before .loop .j - 1) (c .before .before .before .before .loop .inv) (c .before .before .before .before .before .before .before .before .pre)
+    (omega (arith, c .before .before .before .loop-test .taken)) (ap (λ (z : ℕ). eqb z (hashNum (c .before .before .before .before .before .before .before .before .args .c)))
+    (sym (c .before .before .hash-in .ensures)) ∙ sym (c .before .same-hash .ensures) ∙ c .if1 .left)
 
 returns-2 : tie.Need-returns-2 Inv-loop μ-loop
 returns-2 c = found-none (hashNum (c .before .before .before .before .before .args .c)) (c .before .loop .inv) (omega (arith, c .loop-test .left))

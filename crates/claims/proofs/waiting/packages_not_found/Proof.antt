@@ -4,7 +4,11 @@ use Rattle.claims.proofs.waiting.packages_not_found.Statement.{statemen
 use Rattle.claims.proofs.waiting.packages_not_found.Tie as tie
 
 fail-claims-requires : tie.Need-fail-claims-requires
-fail-claims-requires c κs = (c .before .before .before .before .before .pre .0, c .before .before .before .before .before .pre .1, (λ st s w. inr (c .before .before .before .before .before .pre .2 st s w)))
+fail-claims-requires c κs = (
+  c .before .before .before .before .before .pre .0,
+  c .before .before .before .before .before .pre .1,
+  (λ st s w. inr (c .before .before .before .before .before .pre .2 st s w)),
+)
 
 same-length : tie.Need-same-length
 same-length c = search needs

@@ -8,10 +8,16 @@ use Rattle.events.proofs.input.end.Statement.{statement}
 use Rattle.events.proofs.input.end.Tie as tie
 
 slice-aggregate-answer : tie.Need-slice-aggregate-answer
-slice-aggregate-answer c = simp length-take (omega (arith, c .before .before .before .before .before .before .before .before .pre .1, c .before .before .before .before .before .before .before .before .pre .3))
+slice-aggregate-answer c = simp length-take
+    (omega (arith, c .before .before .before .before .before .before .before .before .pre .1, c .before .before .before .before .before .before .before .before .pre .3))
 
 answer-requires : tie.Need-answer-requires
-answer-requires c κs = (order-of (c .before .before .before .before .before .before .before .before .before .args .lists .now) (c .before .before .before .before .before .before .before .before .before .pre .0), c .before .before .before .before .before .before .before .before .before .pre .2, simp length-take (omega (arith, c .before .before .before .before .before .before .before .before .before .pre .3)))
+answer-requires c κs = (
+  order-of (c .before .before .before .before .before .before .before .before .before .args .lists .now)
+      (c .before .before .before .before .before .before .before .before .before .pre .0),
+  c .before .before .before .before .before .before .before .before .before .pre .2,
+  simp length-take (omega (arith, c .before .before .before .before .before .before .before .before .before .pre .3)),
+)
 
 same-length : tie.Need-same-length
 same-length c = search needs
@@ -23,7 +29,8 @@ same-length-3 : tie.Need-same-length-3
 same-length-3 c = search needs
 
 returns : tie.Need-returns
-returns c p g = ended-line g (c .before .before .before .before .before .before .before .before .before .before .before .if1 .taken) (c .before .before .before .before .before .before .answer .ensures)
+returns c p g = ended-line g (c .before .before .before .before .before .before .before .before .before .before .before .if1 .taken)
+    (c .before .before .before .before .before .before .answer .ensures)
 
 returns-2 : tie.Need-returns-2
 returns-2 c p g = ended-empty g (omega (arith, c .if1 .left))

@@ -14,31 +14,76 @@ use Rattle.events.proofs.input.read_lines.Tie as tie
 
 abbrev Inv-loop : tie.InvT-loop
 Inv-loop store₀ lists₀ line₀ out₀ kept₀ turns₀ store lists line out kept turns =
-    (length store ≡ length store₀) × (length lists ≡ length lists₀) × (length line ≡ length line₀) × (length out ≡ length out₀) × Ordered lists × (kept .len ≤ lineRoom) × TookSome (started store₀) kept line store lists
+    (length store ≡ length store₀) × (length lists ≡ length lists₀) × (length line ≡ length line₀) × (length out ≡ length out₀) × Ordered lists × (kept .len ≤ lineRoom)
+    × TookSome (started store₀) kept line store lists
 
 abbrev μ-loop : tie.MeasureT-loop
 μ-loop store₀ lists₀ line₀ out₀ kept₀ turns₀ store lists line out kept turns = turns
 
 loop-holds : tie.Need-loop-holds Inv-loop μ-loop
-loop-holds c = (refl, refl, refl, refl, c .before .before .before .before .pre .0, omega arith, record { bytes = []; all = took-none (nothing-held (c .before .before .before .before .args .line .now) (c .before .before .before .before .args .store .now) (c .before .before .before .before .args .lists .now) (c .before .before .before .before .pre .1) refl refl) })
+loop-holds c = (
+  refl,
+  refl,
+  refl,
+  refl,
+  c .before .before .before .before .pre .0,
+  omega arith,
+  record {
+    bytes = [];
+    all = took-none (nothing-held (c .before .before .before .before .args .line .now)
+        (c .before .before .before .before .args .store .now) (c .before .before .before .before .args .lists .now) (c .before .before .before .before .pre .1) refl refl);
+  },
+)
 
 read-some-requires : tie.Need-read-some-requires Inv-loop μ-loop
-read-some-requires c κs = (c .before .before .before .before .before .loop .inv .4, omega (arith, c .before .before .before .before .before .before .before .before .before .before .pre .2, c .before .before .before .before .before .loop .inv .2), omega (arith, c .before .before .before .before .before .before .before .before .before .before .pre .3, c .before .before .before .before .before .loop .inv .3), c .before .before .before .before .before .loop .inv .5)
+read-some-requires c κs = (
+  c .before .before .before .before .before .loop .inv .4,
+  omega (
+    arith,
+    c .before .before .before .before .before .before .before .before .before .before .pre .2,
+    c .before .before .before .before .before .loop .inv .2,
+  ),
+  omega (
+    arith,
+    c .before .before .before .before .before .before .before .before .before .before .pre .3,
+    c .before .before .before .before .before .loop .inv .3,
+  ),
+  c .before .before .before .before .before .loop .inv .5,
+)
 
 same-length : tie.Need-same-length Inv-loop μ-loop
-same-length c = omega (arith, c .before .before .before .before .before .before .before .before .before .before .before .read-some .kept, c .before .before .before .before .before .before .before .before .before .before .before .before .before .before .before .before .before .loop .inv .0)
+same-length c = omega (
+  arith,
+  c .before .before .before .before .before .before .before .before .before .before .before .read-some .kept,
+  c .before .before .before .before .before .before .before .before .before .before .before .before .before .before .before .before .before .loop .inv .0,
+)
 
 same-length-2 : tie.Need-same-length-2 Inv-loop μ-loop
-same-length-2 c = omega (arith, c .before .before .before .before .before .before .before .before .before .before .before .read-some .kept, c .before .before .before .before .before .before .before .before .before .before .before .before .before .before .before .before .before .loop .inv .1)
+same-length-2 c = omega (
+  arith,
+  c .before .before .before .before .before .before .before .before .before .before .before .read-some .kept,
+  c .before .before .before .before .before .before .before .before .before .before .before .before .before .before .before .before .before .loop .inv .1,
+)
 
 same-length-3 : tie.Need-same-length-3 Inv-loop μ-loop
-same-length-3 c = omega (arith, c .before .before .before .before .before .before .before .before .before .before .before .read-some .kept, c .before .before .before .before .before .before .before .before .before .before .before .before .before .before .before .before .before .loop .inv .2)
+same-length-3 c = omega (
+  arith,
+  c .before .before .before .before .before .before .before .before .before .before .before .read-some .kept,
+  c .before .before .before .before .before .before .before .before .before .before .before .before .before .before .before .before .before .loop .inv .2,
+)
 
 same-length-4 : tie.Need-same-length-4 Inv-loop μ-loop
-same-length-4 c = omega (arith, c .before .before .before .before .before .before .before .before .before .before .before .read-some .kept, c .before .before .before .before .before .before .before .before .before .before .before .before .before .before .before .before .before .loop .inv .3)
+same-length-4 c = omega (
+  arith,
+  c .before .before .before .before .before .before .before .before .before .before .before .read-some .kept,
+  c .before .before .before .before .before .before .before .before .before .before .before .before .before .before .before .before .before .loop .inv .3,
+)
 
 returns : tie.Need-returns Inv-loop μ-loop
-returns c = let t = c .before .before .before .before .before .before .before .before .before .before .before .before .before .before .before .before .before .loop .inv .6 in (c .before .before .before .before .before .before .before .before .before .before .before .read-some .ensures .0, took-more t (c .before .before .before .before .before .before .before .before .before .before .before .read-some .ensures .1 (t .all .next) (t .all .held)))
+returns c = let t = c .before .before .before .before .before .before .before .before .before .before .before .before .before .before .before .before .before .loop .inv .6 in (
+  c .before .before .before .before .before .before .before .before .before .before .before .read-some .ensures .0,
+  took-more t (c .before .before .before .before .before .before .before .before .before .before .before .read-some .ensures .1 (t .all .next) (t .all .held)),
+)
 
 sub-turns : tie.Need-sub-turns Inv-loop μ-loop
 sub-turns c = search needs
@@ -48,8 +93,31 @@ loop-less c = omega (arith, c .before .before .before .before .before .before .b
 
 loop-again : tie.Need-loop-again Inv-loop μ-loop
 loop-again c =
-    let t = c .before .before .before .before .before .before .before .before .before .before .before .before .before .before .before .before .before .loop .inv .6 in
-    (omega (arith, c .before .before .before .before .before .before .before .before .before .before .before .read-some .kept, c .before .before .before .before .before .before .before .before .before .before .before .before .before .before .before .before .before .loop .inv .0), omega (arith, c .before .before .before .before .before .before .before .before .before .before .before .read-some .kept, c .before .before .before .before .before .before .before .before .before .before .before .before .before .before .before .before .before .loop .inv .1), omega (arith, c .before .before .before .before .before .before .before .before .before .before .before .read-some .kept, c .before .before .before .before .before .before .before .before .before .before .before .before .before .before .before .before .before .loop .inv .2), omega (arith, c .before .before .before .before .before .before .before .before .before .before .before .read-some .kept, c .before .before .before .before .before .before .before .before .before .before .before .before .before .before .before .before .before .loop .inv .3), c .before .before .before .before .before .before .before .before .before .before .before .read-some .ensures .0 .0, c .before .before .before .before .before .before .before .before .before .before .before .read-some .ensures .0 .1, took-more t (c .before .before .before .before .before .before .before .before .before .before .before .read-some .ensures .1 (t .all .next) (t .all .held)))
+    let t = c .before .before .before .before .before .before .before .before .before .before .before .before .before .before .before .before .before .loop .inv .6 in (
+      omega (
+        arith,
+        c .before .before .before .before .before .before .before .before .before .before .before .read-some .kept,
+        c .before .before .before .before .before .before .before .before .before .before .before .before .before .before .before .before .before .loop .inv .0,
+      ),
+      omega (
+        arith,
+        c .before .before .before .before .before .before .before .before .before .before .before .read-some .kept,
+        c .before .before .before .before .before .before .before .before .before .before .before .before .before .before .before .before .before .loop .inv .1,
+      ),
+      omega (
+        arith,
+        c .before .before .before .before .before .before .before .before .before .before .before .read-some .kept,
+        c .before .before .before .before .before .before .before .before .before .before .before .before .before .before .before .before .before .loop .inv .2,
+      ),
+      omega (
+        arith,
+        c .before .before .before .before .before .before .before .before .before .before .before .read-some .kept,
+        c .before .before .before .before .before .before .before .before .before .before .before .before .before .before .before .before .before .loop .inv .3,
+      ),
+      c .before .before .before .before .before .before .before .before .before .before .before .read-some .ensures .0 .0,
+      c .before .before .before .before .before .before .before .before .before .before .before .read-some .ensures .0 .1,
+      took-more t (c .before .before .before .before .before .before .before .before .before .before .before .read-some .ensures .1 (t .all .next) (t .all .held)),
+    )
 
 same-length-5 : tie.Need-same-length-5 Inv-loop μ-loop
 same-length-5 c = c .before .loop .inv .0

@@ -12,10 +12,16 @@ slice-reshare-prefix-answer : tie.Need-slice-reshare-prefix-answer
 slice-reshare-prefix-answer c = omega (arith, c .before .before .before .before .before .before .before .pre .1, c .before .before .before .before .before .before .before .pre .3)
 
 slice-aggregate-answer : tie.Need-slice-aggregate-answer
-slice-aggregate-answer c = simp length-take (omega (arith, c .before .before .before .before .before .before .before .before .pre .1, c .before .before .before .before .before .before .before .before .pre .3))
+slice-aggregate-answer c = simp length-take
+    (omega (arith, c .before .before .before .before .before .before .before .before .pre .1, c .before .before .before .before .before .before .before .before .pre .3))
 
 answer-requires : tie.Need-answer-requires
-answer-requires c κs = (order-of (c .before .before .before .before .before .before .before .before .before .args .lists .now) (c .before .before .before .before .before .before .before .before .before .pre .0), c .before .before .before .before .before .before .before .before .before .pre .2, simp length-take (omega (arith, c .before .before .before .before .before .before .before .before .before .pre .3)))
+answer-requires c κs = (
+  order-of (c .before .before .before .before .before .before .before .before .before .args .lists .now)
+      (c .before .before .before .before .before .before .before .before .before .pre .0),
+  c .before .before .before .before .before .before .before .before .before .pre .2,
+  simp length-take (omega (arith, c .before .before .before .before .before .before .before .before .before .pre .3)),
+)
 
 same-length : tie.Need-same-length
 same-length c = search needs
@@ -30,10 +36,17 @@ same-length-4 : tie.Need-same-length-4
 same-length-4 c = search needs
 
 returns : tie.Need-returns
-returns c = ((ordered (c .before .before .before .before .before .before .answer .ensures .order), omega arith), λ p g. took-feed g (c .before .before .before .before .before .before .before .before .before .before .before .if1 .taken) refl refl (c .before .before .before .before .before .before .answer .ensures))
+returns c = (
+  (ordered (c .before .before .before .before .before .before .answer .ensures .order), omega arith),
+  λ p g. took-feed g
+      (c .before .before .before .before .before .before .before .before .before .before .before .if1 .taken) refl refl (c .before .before .before .before .before .before .answer .ensures),
+)
 
 returns-2 : tie.Need-returns-2
-returns-2 c = ((c .before .before .before .before .before .before .pre .0, c .before .before .before .before .before .before .pre .3), λ p g. took-over g (c .before .if1 .left) (c .if2 .taken) refl refl)
+returns-2 c = (
+  (c .before .before .before .before .before .before .pre .0, c .before .before .before .before .before .before .pre .3),
+  λ p g. took-over g (c .before .if1 .left) (c .if2 .taken) refl refl,
+)
 
 slice-write-line : tie.Need-slice-write-line
 slice-write-line c = omega (arith, c .before .before .before .before .before .before .pre .1, c .before .before .before .before .before .before .pre .3, c .if2 .left)
@@ -45,7 +58,11 @@ same-length-5 : tie.Need-same-length-5
 same-length-5 c = search needs
 
 returns-3 : tie.Need-returns-3
-returns-3 c = ((c .before .before .before .before .before .before .pre .0, omega (arith, c .if2 .left, c .before .before .before .before .before .before .pre .3)), λ p g. took-byte g (c .before .if1 .left) (omega (arith, c .if2 .left, c .before .before .before .before .before .before .pre .3)) (c .before .before .before .before .before .before .pre .1) refl refl)
+returns-3 c = (
+  (c .before .before .before .before .before .before .pre .0, omega (arith, c .if2 .left, c .before .before .before .before .before .before .pre .3)),
+  λ p g. took-byte g
+      (c .before .if1 .left) (omega (arith, c .if2 .left, c .before .before .before .before .before .before .pre .3)) (c .before .before .before .before .before .before .pre .1) refl refl,
+)
 
 pub take-spec : {M : Type 1} → statement M
 take-spec =

@@ -13,7 +13,8 @@ use Rattle.events.proofs.input.take_all.Tie as tie
 
 abbrev Inv-loop : tie.InvT-loop
 Inv-loop store₀ lists₀ line₀ out₀ bytes now₀ i₀ store lists line out now i =
-    (length store ≡ length store₀) × (length lists ≡ length lists₀) × (length line ≡ length line₀) × (length out ≡ length out₀) × Ordered lists × (now .len ≤ lineRoom) × (i ≤ length bytes) × ((p : Reading) → Held now₀ line₀ store₀ lists₀ p → TookAll p (take i bytes) now line store lists)
+    (length store ≡ length store₀) × (length lists ≡ length lists₀) × (length line ≡ length line₀) × (length out ≡ length out₀) × Ordered lists × (now .len ≤ lineRoom) × (i ≤ length bytes)
+    × ((p : Reading) → Held now₀ line₀ store₀ lists₀ p → TookAll p (take i bytes) now line store lists)
 
 abbrev μ-loop : tie.MeasureT-loop
 μ-loop store₀ lists₀ line₀ out₀ bytes now₀ i₀ store lists line out now i = length bytes - i
@@ -25,7 +26,12 @@ shared-slice-read-take : tie.Need-shared-slice-read-take Inv-loop μ-loop
 shared-slice-read-take c = omega (arith, c .before .before .before .before .before .loop-test .taken)
 
 take-requires : tie.Need-take-requires Inv-loop μ-loop
-take-requires c κs = (c .before .before .before .before .before .before .loop .inv .4, omega (arith, c .before .before .before .before .before .before .before .before .before .before .before .before .pre .1, c .before .before .before .before .before .before .loop .inv .2), omega (arith, c .before .before .before .before .before .before .before .before .before .before .before .before .pre .2, c .before .before .before .before .before .before .loop .inv .3), c .before .before .before .before .before .before .loop .inv .5)
+take-requires c κs = (
+  c .before .before .before .before .before .before .loop .inv .4,
+  omega (arith, c .before .before .before .before .before .before .before .before .before .before .before .before .pre .1, c .before .before .before .before .before .before .loop .inv .2),
+  omega (arith, c .before .before .before .before .before .before .before .before .before .before .before .before .pre .2, c .before .before .before .before .before .before .loop .inv .3),
+  c .before .before .before .before .before .before .loop .inv .5,
+)
 
 add-i : tie.Need-add-i Inv-loop μ-loop
 add-i c = search needs
@@ -35,14 +41,33 @@ loop-less c = omega (arith, c .before .before .before .before .before .before .b
 
 loop-again : tie.Need-loop-again Inv-loop μ-loop
 loop-again c = (
-  omega (arith, c .before .before .before .before .before .before .before .before .take .kept, c .before .before .before .before .before .before .before .before .before .before .before .before .before .before .before .loop .inv .0),
-  omega (arith, c .before .before .before .before .before .before .before .before .take .kept, c .before .before .before .before .before .before .before .before .before .before .before .before .before .before .before .loop .inv .1),
-  omega (arith, c .before .before .before .before .before .before .before .before .take .kept, c .before .before .before .before .before .before .before .before .before .before .before .before .before .before .before .loop .inv .2),
-  omega (arith, c .before .before .before .before .before .before .before .before .take .kept, c .before .before .before .before .before .before .before .before .before .before .before .before .before .before .before .loop .inv .3),
+  omega (
+    arith,
+    c .before .before .before .before .before .before .before .before .take .kept,
+    c .before .before .before .before .before .before .before .before .before .before .before .before .before .before .before .loop .inv .0,
+  ),
+  omega (
+    arith,
+    c .before .before .before .before .before .before .before .before .take .kept,
+    c .before .before .before .before .before .before .before .before .before .before .before .before .before .before .before .loop .inv .1,
+  ),
+  omega (
+    arith,
+    c .before .before .before .before .before .before .before .before .take .kept,
+    c .before .before .before .before .before .before .before .before .before .before .before .before .before .before .before .loop .inv .2,
+  ),
+  omega (
+    arith,
+    c .before .before .before .before .before .before .before .before .take .kept,
+    c .before .before .before .before .before .before .before .before .before .before .before .before .before .before .before .loop .inv .3,
+  ),
   c .before .before .before .before .before .before .before .before .take .ensures .0 .0,
   c .before .before .before .before .before .before .before .before .take .ensures .0 .1,
   omega arith,
-  λ p g. let t = c .before .before .before .before .before .before .before .before .before .before .before .before .before .before .before .loop .inv .7 p g in took-one t (c .before .before .before .before .before .before .before .before .take .ensures .1 (t .next) (t .held)) (take-next (c .before .before .before .before .before .before .before .before .before .before .before .before .before .before .before .before .before .before .before .before .before .args .bytes .now) (c .before .before .before .before .before .before .before .before .before .before .before .before .before .before .before .loop .i) (omega arith)),
+  λ p g. let t = c .before .before .before .before .before .before .before .before .before .before .before .before .before .before .before .loop .inv .7 p g in
+      took-one t (c .before .before .before .before .before .before .before .before .take .ensures .1 (t .next) (t .held)) (take-next
+      (c .before .before .before .before .before .before .before .before .before .before .before .before .before .before .before .before .before .before .before .before .before .args .bytes .now)
+      (c .before .before .before .before .before .before .before .before .before .before .before .before .before .before .before .loop .i) (omega arith)),
 )
 
 same-length : tie.Need-same-length Inv-loop μ-loop

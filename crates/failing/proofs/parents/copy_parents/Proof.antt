@@ -18,13 +18,20 @@ loop-holds : tie.Need-loop-holds Inv-loop μ-loop
 loop-holds c = copied-none (c .before .before .before .args .s .now) (c .before .before .before .args .i) (c .parents .result) (c .before .before .before .args .list .now)
 
 parent-at-requires : tie.Need-parent-at-requires Inv-loop μ-loop
-parent-at-requires c κs = (c .before .before .before .before .before .pre .0, c .before .before .before .before .before .pre .1, omega (arith, c .before .before .parents .ensures .0, c .loop-test .taken))
+parent-at-requires c κs =
+    (c .before .before .before .before .before .pre .0, c .before .before .before .before .before .pre .1, omega (arith, c .before .before .parents .ensures .0, c .loop-test .taken))
 
 mul-put-hash : tie.Need-mul-put-hash Inv-loop μ-loop
 mul-put-hash c = omega (arith, c .before .before .before .before .parents .ensures .0, c .before .before .loop-test .taken)
 
 put-hash-requires : tie.Need-put-hash-requires Inv-loop μ-loop
-put-hash-requires c κs = omega (arith, c .before .before .before .before .parents .ensures .0, c .before .before .loop-test .taken, c .before .before .before .before .before .before .before .pre .2, c .before .before .before .loop .inv .long)
+put-hash-requires c κs = omega (
+  arith,
+  c .before .before .before .before .parents .ensures .0,
+  c .before .before .loop-test .taken,
+  c .before .before .before .before .before .before .before .pre .2,
+  c .before .before .before .loop .inv .long,
+)
 
 add-j : tie.Need-add-j Inv-loop μ-loop
 add-j c = omega (arith, c .before .before .before .before .before .before .before .parents .ensures .0, c .before .before .before .before .before .loop-test .taken)
@@ -33,7 +40,10 @@ loop-less : tie.Need-loop-less Inv-loop μ-loop
 loop-less c = omega (arith, c .before .before .before .before .before .loop-test .taken)
 
 loop-again : tie.Need-loop-again Inv-loop μ-loop
-loop-again c = copied-more (hashNum (c .before .before .before .before .parent-at .result)) (c .before .before .before .before .before .before .loop .j * hashBytes) (c .before .before .before .before .before .before .loop .inv) (c .before .before .before .before .before .loop-test .taken) (c .before .before .before .before .before .before .before .parents .ensures .0) (c .before .before .before .before .before .before .before .before .before .before .pre .2) (c .before .before .before .before .before .before .before .parents .ensures .1) (c .before .before .before .before .parent-at .ensures) (omega arith) (c .before .before .put-hash .ensures)
+loop-again c = copied-more (hashNum (c .before .before .before .before .parent-at .result)) (c .before .before .before .before .before .before .loop .j * hashBytes)
+    (c .before .before .before .before .before .before .loop .inv) (c .before .before .before .before .before .loop-test .taken)
+    (c .before .before .before .before .before .before .before .parents .ensures .0) (c .before .before .before .before .before .before .before .before .before .before .pre .2)
+    (c .before .before .before .before .before .before .before .parents .ensures .1) (c .before .before .before .before .parent-at .ensures) (omega arith) (c .before .before .put-hash .ensures)
 
 same-length : tie.Need-same-length Inv-loop μ-loop
 same-length c = c .before .loop .inv .long

@@ -22,7 +22,12 @@ returns-3 : tie.Need-returns-3
 returns-3 c =
     let k = c .before .before .before .before .before .before .args .k in
     let small = hash-below (k .hash) (key-four k (c .before .before .before .before .before .before .good .1 .1 .1 .0)) in
-    record { most = omega arith; spare = λ e. absurd (omega arith); fares = λ st s w es a. fares-full st s (keyNum k) (candidateOf (c .before .before .before .before .before .before .args .c)) small a (c .before .before .full .ensures st s w) (c .before .if2 .taken) (c .if3 .left) }
+    record {
+      most = omega arith;
+      spare = λ e. absurd (omega arith);
+      fares = λ st s w es a. fares-full st s (keyNum k) (candidateOf
+          (c .before .before .before .before .before .before .args .c)) small a (c .before .before .full .ensures st s w) (c .before .if2 .taken) (c .if3 .left);
+    }
 
 barred-requires : tie.Need-barred-requires
 barred-requires c κs = search needs
@@ -31,7 +36,12 @@ returns-4 : tie.Need-returns-4
 returns-4 c =
     let k = c .before .before .before .before .before .before .before .args .k in
     let small = hash-below (k .hash) (key-four k (c .before .before .before .before .before .before .before .good .1 .1 .1 .0)) in
-    record { most = omega arith; spare = λ e. absurd (omega arith); fares = λ st s w es a. fares-barred st s (keyNum k) (candidateOf (c .before .before .before .before .before .before .before .args .c)) small a (c .before .barred .ensures st s w es a) (c .if4 .taken) }
+    record {
+      most = omega arith;
+      spare = λ e. absurd (omega arith);
+      fares = λ st s w es a. fares-barred st s (keyNum k) (candidateOf
+          (c .before .before .before .before .before .before .before .args .c)) small a (c .before .barred .ensures st s w es a) (c .if4 .taken);
+    }
 
 candidates-at-requires : tie.Need-candidates-at-requires
 candidates-at-requires c κs = search needs
@@ -43,13 +53,24 @@ returns-6 : tie.Need-returns-6
 returns-6 c =
     let k = c .before .before .before .before .before .before .before .before .before .before .before .args .k in
     let small = hash-below (k .hash) (key-four k (c .before .before .before .before .before .before .before .before .before .before .before .good .1 .1 .1 .0)) in
-    record { most = omega arith; spare = λ e. absurd (omega arith); fares = λ st s w es a. fares-crowded st s (keyNum k) (candidateOf (c .before .before .before .before .before .before .before .before .before .before .before .args .c)) small a (c .before .before .candidates-at .ensures st s w) (c .before .if5 .taken) (c .if6 .left) }
+    record {
+      most = omega arith;
+      spare = λ e. absurd (omega arith);
+      fares = λ st s w es a. fares-crowded st s (keyNum k) (candidateOf (c .before .before .before .before .before .before .before .before .before .before .before .args .c)) small a
+          (c .before .before .candidates-at .ensures st s w) (c .before .if5 .taken) (c .if6 .left);
+    }
 
 returns-7 : tie.Need-returns-7
 returns-7 c =
     let k = c .before .before .before .before .before .before .before .before .before .before .args .k in
     let small = hash-below (k .hash) (key-four k (c .before .before .before .before .before .before .before .before .before .before .good .1 .1 .1 .0)) in
-    record { most = omega arith; spare = λ e. omega (arith, c .before .before .before .before .before .before .before .if1 .left); fares = λ st s w es a. fares-in st s (keyNum k) (candidateOf (c .before .before .before .before .before .before .before .before .before .before .args .c)) small a (c .before .before .before .before .before .before .full .ensures st s w) (c .before .before .before .before .before .if2 .left) (c .before .before .before .before .barred .ensures st s w es a) (c .before .before .before .if4 .left) (c .before .candidates-at .ensures st s w) (c .if5 .left) }
+    record {
+      most = omega arith;
+      spare = λ e. omega (arith, c .before .before .before .before .before .before .before .if1 .left);
+      fares = λ st s w es a. fares-in st s (keyNum k) (candidateOf (c .before .before .before .before .before .before .before .before .before .before .args .c)) small a
+          (c .before .before .before .before .before .before .full .ensures st s w) (c .before .before .before .before .before .if2 .left) (c .before .before .before .before .barred .ensures st s w
+          es a) (c .before .before .before .if4 .left) (c .before .candidates-at .ensures st s w) (c .if5 .left);
+    }
 
 pub fares-spec : {M : Type 1} → statement M
 fares-spec =

@@ -19,7 +19,8 @@ limit-requires : tie.Need-limit-requires
 limit-requires c κs = let z = kept-shown (c .before .before .pre .0) .sizes in omega arith
 
 returns : tie.Need-returns
-returns c = λ st s w. rw (c .limit .ensures .field (flatOf st) w) (ap (λ (i : _). leb (st .limit) (i + c .before .before .before .args .m)) (c .before .rows .ensures .field (flatOf st) w ∙ held-rows (st .table)))
+returns c = λ st s w. rw (c .limit .ensures .field (flatOf st) w)
+    (ap (λ (i : _). leb (st .limit) (i + c .before .before .before .args .m)) (c .before .rows .ensures .field (flatOf st) w ∙ held-rows (st .table)))
 
 pub full-spec : {M : Type 1} → statement M
 full-spec = tie.close (tie.spec rows-requires add-result limit-requires returns)

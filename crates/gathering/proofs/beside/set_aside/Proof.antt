@@ -19,7 +19,8 @@ same-length : tie.Need-same-length
 same-length c = search needs
 
 returns : tie.Need-returns
-returns c = set-keyed (key-t (hashNum (c .before .before .before .before .before .before .before .before .before .before .before .args .c .item .hash)) (c .before .before .before .before .before .enum-told .given .1) (c .before .before .before .txid-key .ensures)) (c .before .before .set-aside-at .ensures)
+returns c = set-keyed (key-t (hashNum (c .before .before .before .before .before .before .before .before .before .before .before .args .c .item .hash))
+    (c .before .before .before .before .before .enum-told .given .1) (c .before .before .before .txid-key .ensures)) (c .before .before .set-aside-at .ensures)
 
 enum-told-2 : tie.Need-enum-told-2
 enum-told-2 c = search needs
@@ -34,7 +35,8 @@ same-length-2 : tie.Need-same-length-2
 same-length-2 c = search needs
 
 returns-2 : tie.Need-returns-2
-returns-2 c = set-keyed (key-v (hashNum (c .before .before .before .before .before .before .before .before .before .before .before .args .c .item .hash)) (c .before .before .before .before .before .enum-told2 .given .1) (c .before .before .before .txid-key2 .ensures)) (c .before .before .set-aside-at2 .ensures)
+returns-2 c = set-keyed (key-v (hashNum (c .before .before .before .before .before .before .before .before .before .before .before .args .c .item .hash))
+    (c .before .before .before .before .before .enum-told2 .given .1) (c .before .before .before .txid-key2 .ensures)) (c .before .before .set-aside-at2 .ensures)
 
 enum-told-3 : tie.Need-enum-told-3
 enum-told-3 c = search needs
@@ -49,7 +51,8 @@ same-length-3 : tie.Need-same-length-3
 same-length-3 c = search needs
 
 returns-3 : tie.Need-returns-3
-returns-3 c = set-keyed (key-w (hashNum (c .before .before .before .before .before .before .before .before .before .before .before .args .c .item .hash)) (c .before .before .before .before .before .enum-told3 .given .1) (c .before .before .before .wtxid-key .ensures)) (c .before .before .set-aside-at3 .ensures)
+returns-3 c = set-keyed (key-w (hashNum (c .before .before .before .before .before .before .before .before .before .before .before .args .c .item .hash))
+    (c .before .before .before .before .before .enum-told3 .given .1) (c .before .before .before .wtxid-key .ensures)) (c .before .before .set-aside-at3 .ensures)
 
 enum-told-4 : tie.Need-enum-told-4
 enum-told-4 c = search needs

@@ -27,7 +27,9 @@ same-length-2 c = search needs
 returns-2 : tie.Need-returns-2
 returns-2 c =
     let k = c .before .before .before .before .before .before .before .before .before .before .args .k in
-    set-in (hash-below (k .hash) (key-four k (c .before .before .before .before .before .before .before .before .before .before .good .1 .1 .1 .0))) (c .before .before .before .before .before .before .fares .ensures) (c .before .before .before .before .before .if1 .left) (c .before .before .before .before .waiting-row .ensures) (c .before .before .put-in .ensures)
+    set-in (hash-below (k .hash) (key-four k (c .before .before .before .before .before .before .before .before .before .before .good .1 .1 .1 .0)))
+    (c .before .before .before .before .before .before .fares .ensures) (c .before .before .before .before .before .if1 .left) (c .before .before .before .before .waiting-row .ensures)
+    (c .before .before .put-in .ensures)
 
 pub set-aside-at-spec : {M : Type 1} → statement M
 set-aside-at-spec =

@@ -11,7 +11,8 @@ add-rows-requires : tie.Need-add-rows-requires
 add-rows-requires c κs = let r = room-for (c .before .before .before .before .pre .0) in (r .0, r .1, c .before .before .before .before .pre .1)
 
 count-more-requires : tie.Need-count-more-requires
-count-more-requires c κs = with-shown (c .before .before .before .before .before .before .before .before .pre .0) (c .before .before .before .add-rows .ensures) (c .before .before .before .before .before .if1 .left)
+count-more-requires c κs = with-shown (c .before .before .before .before .before .before .before .before .pre .0) (c .before .before .before .add-rows .ensures)
+    (c .before .before .before .before .before .if1 .left)
 
 same-length : tie.Need-same-length
 same-length c = search needs

@@ -22,7 +22,9 @@ same-length-2 : tie.Need-same-length-2
 same-length-2 c = search needs
 
 returns : tie.Need-returns
-returns c = exchanged-keyed (key-t (hashNum (c .before .before .before .before .before .before .before .before .before .before .before .before .before .before .before .args .c .item .hash)) (c .before .before .before .before .before .before .before .before .enum-told .given .1) (c .before .before .before .before .before .txid-key .ensures)) (c .before .before .before .before .exchange-at .ensures)
+returns c = exchanged-keyed (key-t (hashNum (c .before .before .before .before .before .before .before .before .before .before .before .before .before .before .before .args .c .item .hash))
+    (c .before .before .before .before .before .before .before .before .enum-told .given .1) (c .before .before .before .before .before .txid-key .ensures))
+    (c .before .before .before .before .exchange-at .ensures)
 
 enum-told-2 : tie.Need-enum-told-2
 enum-told-2 c = search needs
@@ -40,7 +42,9 @@ same-length-4 : tie.Need-same-length-4
 same-length-4 c = search needs
 
 returns-2 : tie.Need-returns-2
-returns-2 c = exchanged-keyed (key-v (hashNum (c .before .before .before .before .before .before .before .before .before .before .before .before .before .before .before .args .c .item .hash)) (c .before .before .before .before .before .before .before .before .enum-told2 .given .1) (c .before .before .before .before .before .txid-key2 .ensures)) (c .before .before .before .before .exchange-at2 .ensures)
+returns-2 c = exchanged-keyed (key-v (hashNum (c .before .before .before .before .before .before .before .before .before .before .before .before .before .before .before .args .c .item .hash))
+    (c .before .before .before .before .before .before .before .before .enum-told2 .given .1) (c .before .before .before .before .before .txid-key2 .ensures))
+    (c .before .before .before .before .exchange-at2 .ensures)
 
 enum-told-3 : tie.Need-enum-told-3
 enum-told-3 c = search needs
@@ -58,7 +62,9 @@ same-length-6 : tie.Need-same-length-6
 same-length-6 c = search needs
 
 returns-3 : tie.Need-returns-3
-returns-3 c = exchanged-keyed (key-w (hashNum (c .before .before .before .before .before .before .before .before .before .before .before .before .before .before .before .args .c .item .hash)) (c .before .before .before .before .before .before .before .before .enum-told3 .given .1) (c .before .before .before .before .before .wtxid-key .ensures)) (c .before .before .before .before .exchange-at3 .ensures)
+returns-3 c = exchanged-keyed (key-w (hashNum (c .before .before .before .before .before .before .before .before .before .before .before .before .before .before .before .args .c .item .hash))
+    (c .before .before .before .before .before .before .before .before .enum-told3 .given .1) (c .before .before .before .before .before .wtxid-key .ensures))
+    (c .before .before .before .before .exchange-at3 .ensures)
 
 enum-told-4 : tie.Need-enum-told-4
 enum-told-4 c = search needs

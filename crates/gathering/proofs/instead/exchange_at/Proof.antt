@@ -32,10 +32,20 @@ cut-requires : tie.Need-cut-requires
 cut-requires c κs = search needs
 
 waiting-row-requires : tie.Need-waiting-row-requires
-waiting-row-requires c κs = after-kept (candidateOf (c .before .before .before .before .before .before .before .before .before .before .before .before .before .before .before .args .c)) (c .before .before .before .before .before .before .before .before .before .before .before .before .before .before .before .pre .0 .full) (omega (arith, c .before .before .before .before .before .before .before .before .before .before .before .if1 .left)) (c .before .before .before .before .before .before .before .before .before .before .read-row .result) (c .before .before .before .before .before .before .before .before .before .before .read-row .ensures) (c .before .before .before .before .key-of .ensures) (c .before .before .before .cut .ensures)
+waiting-row-requires c κs = after-kept (candidateOf (c .before .before .before .before .before .before .before .before .before .before .before .before .before .before .before .args .c))
+    (c .before .before .before .before .before .before .before .before .before .before .before .before .before .before .before .pre .0 .full)
+    (omega (arith, c .before .before .before .before .before .before .before .before .before .before .before .if1 .left))
+    (c .before .before .before .before .before .before .before .before .before .before .read-row .result)
+    (c .before .before .before .before .before .before .before .before .before .before .read-row .ensures) (c .before .before .before .before .key-of .ensures)
+    (c .before .before .before .cut .ensures)
 
 put-in-requires : tie.Need-put-in-requires
-put-in-requires c κs = omega (arith, c .before .before .before .before .before .before .before .before .before .suits .ensures .spare (c .before .before .before .before .before .before .before .before .if2 .left), c .before .before .before .before .before .before .before .before .before .before .before .before .before .before .before .before .before .pre .1)
+put-in-requires c κs =
+    omega (
+      arith,
+      c .before .before .before .before .before .before .before .before .before .suits .ensures .spare (c .before .before .before .before .before .before .before .before .if2 .left),
+      c .before .before .before .before .before .before .before .before .before .before .before .before .before .before .before .before .before .pre .1,
+    )
 
 same-length-3 : tie.Need-same-length-3
 same-length-3 c = search needs
@@ -46,7 +56,14 @@ same-length-4 c = search needs
 returns-3 : tie.Need-returns-3
 returns-3 c =
     let k = c .before .before .before .before .before .before .before .before .before .before .before .before .before .before .before .before .before .before .before .before .args .k in
-    exchanged-in (hash-below (k .hash) (key-four k (c .before .before .before .before .before .before .before .before .before .before .before .before .before .before .before .before .before .before .before .before .good .1 .1 .1 .1 .1 .1 .0))) (omega (arith, c .before .before .before .before .before .before .before .before .before .before .before .before .before .before .before .before .if1 .left)) (c .before .before .before .before .before .before .before .before .before .before .before .before .before .before .before .read-row .ensures) (c .before .before .before .before .before .before .before .before .before .before .before .before .suits .ensures) (c .before .before .before .before .before .before .before .before .before .before .before .if2 .left) (c .before .before .before .before .before .before .before .before .before .key-of .ensures) (c .before .before .before .before .before .before .before .before .cut .ensures) (c .before .before .before .before .waiting-row .ensures) (c .before .before .put-in .ensures)
+    exchanged-in (hash-below (k .hash) (key-four k (c .before .before .before .before .before .before .before .before .before
+    .before .before .before .before .before .before .before .before .before .before .before .good .1 .1 .1 .1 .1 .1 .0)))
+    (omega (arith, c .before .before .before .before .before .before .before .before .before .before .before .before .before .before .before .before .if1 .left))
+    (c .before .before .before .before .before .before .before .before .before .before .before .before .before .before .before .read-row .ensures)
+    (c .before .before .before .before .before .before .before .before .before .before .before .before .suits .ensures)
+    (c .before .before .before .before .before .before .before .before .before .before .before .if2 .left)
+    (c .before .before .before .before .before .before .before .before .before .key-of .ensures) (c .before .before .before .before .before .before .before .before .cut .ensures)
+    (c .before .before .before .before .waiting-row .ensures) (c .before .before .put-in .ensures)
 
 pub exchange-at-spec : {M : Type 1} → statement M
 exchange-at-spec =

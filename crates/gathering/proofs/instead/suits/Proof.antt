@@ -34,7 +34,11 @@ returns-5 : tie.Need-returns-5
 returns-5 c = suits-alone
 
 returns-6 : tie.Need-returns-6
-returns-6 c = suits-in (omega (arith, c .before .before .before .before .before .before .before .before .before .before .before .if1 .left)) (not-false (c .before .before .before .before .before .before .before .before .before .before .before .before .before .before .args .c .preferred) (c .before .before .before .before .before .before .before .before .before .if2 .left)) (c .before .before .before .before .before .before .before .before .barred .ensures) (c .before .before .before .before .before .before .before .if3 .left) (c .before .before .before .before .before .candidates-at .ensures) (omega (arith, c .before .before .before .before .if4 .left)) (c .before .before .quad-hash .ensures) (c .before .waits-at .ensures) (c .if5 .left)
+returns-6 c = suits-in (omega (arith, c .before .before .before .before .before .before .before .before .before .before .before .if1 .left))
+    (not-false (c .before .before .before .before .before .before .before .before .before .before .before .before .before .before .args .c .preferred)
+    (c .before .before .before .before .before .before .before .before .before .if2 .left)) (c .before .before .before .before .before .before .before .before .barred .ensures)
+    (c .before .before .before .before .before .before .before .if3 .left) (c .before .before .before .before .before .candidates-at .ensures)
+    (omega (arith, c .before .before .before .before .if4 .left)) (c .before .before .quad-hash .ensures) (c .before .waits-at .ensures) (c .if5 .left)
 
 pub suits-spec : {M : Type 1} → statement M
 suits-spec =

@@ -24,8 +24,26 @@ slice-aggregate-merge c = search needs
 merge-requires : tie.Need-merge-requires
 merge-requires c κs = let kept = c .before .before .before .before .before .before .before .before .before .before .before .before .pre .0 in
     let hs = hashesIn (c .before .before .before .before .before .before .before .before .before .before .before .before .args .list .now) in
-    let few : FewHashes hs = record { hashes = hashes-fit (c .before .before .before .before .before .before .before .before .before .before .before .before .args .list .now) (λ j. omega (arith, c .before .before .before .before .before .before .before .before .before .before .shared-slice-known .given j)); few = c .before .before .before .before .before .before .before .before .before .before .before .before .pre .2 } in
-    (c .before .before .before .before .before .before .before .before .before .before .before .before .pre .3, omega (arith, c .before .before .before .before .before .before .before .before .before .before .before .before .pre .2, c .before .before .before .before .before .announce-parents .kept, c .before .before .before .before .before .announce-parents .ensures .count (kept .state) (kept .sound) (kept .writes), length-announceParents (limitsOf (kept .state)) (c .before .before .before .before .before .before .before .before .before .before .before .before .args .x) (c .before .before .before .before .before .before .before .before .before .before .before .before .args .clock) hs (kept .state .table)), merge-room (c .before .before .before .before .before .before .before .before .before .before .before .before .args .x) (c .before .before .before .before .before .before .before .before .before .before .before .before .args .clock) hs few (c .before .before .before .before .before .announce-parents .ensures) (c .before .before .before .before .before .before .before .before .before .before .before .before .args .u .now) (c .before .before .before .before .before .before .before .before .before .before .before .before .args .n) kept (c .before .before .before .before .before .before .before .before .before .before .before .before .pre .4))
+    let few : FewHashes hs = record {
+      hashes = hashes-fit (c .before .before .before .before .before .before .before .before .before .before .before .before .args .list .now)
+          (λ j. omega (arith, c .before .before .before .before .before .before .before .before .before .before .shared-slice-known .given j));
+      few = c .before .before .before .before .before .before .before .before .before .before .before .before .pre .2;
+    } in (
+      c .before .before .before .before .before .before .before .before .before .before .before .before .pre .3,
+      omega (
+        arith,
+        c .before .before .before .before .before .before .before .before .before .before .before .before .pre .2,
+        c .before .before .before .before .before .announce-parents .kept,
+        c .before .before .before .before .before .announce-parents .ensures .count (kept .state) (kept .sound) (kept .writes),
+        length-announceParents (limitsOf (kept .state)) (c .before .before .before .before .before .before .before .before .before .before .before .before .args .x)
+            (c .before .before .before .before .before .before .before .before .before .before .before .before .args .clock) hs (kept .state .table),
+      ),
+      merge-room (c .before .before .before .before .before .before .before .before .before .before .before .before .args .x)
+          (c .before .before .before .before .before .before .before .before .before .before .before .before .args .clock) hs few
+          (c .before .before .before .before .before .announce-parents .ensures) (c .before .before .before .before .before .before .before .before .before .before .before .before .args .u .now)
+          (c .before .before .before .before .before .before .before .before .before .before .before .before .args .n) kept
+          (c .before .before .before .before .before .before .before .before .before .before .before .before .pre .4),
+    )
 
 same-length : tie.Need-same-length
 same-length c = search needs
@@ -35,8 +53,15 @@ same-length-2 c = search needs
 
 returns : tie.Need-returns
 returns c = let hs = hashesIn (c .before .before .before .before .before .before .before .before .before .before .before .before .before .before .before .args .list .now) in
-    let few : FewHashes hs = record { hashes = hashes-fit (c .before .before .before .before .before .before .before .before .before .before .before .before .before .before .before .args .list .now) (λ j. omega (arith, c .before .before .before .before .before .before .before .before .before .before .before .before .before .shared-slice-known .given j)); few = c .before .before .before .before .before .before .before .before .before .before .before .before .before .before .before .pre .2 } in
-    one-merged (c .before .before .before .before .before .before .before .before .before .before .before .before .before .before .before .args .x) (c .before .before .before .before .before .before .before .before .before .before .before .before .before .before .before .args .clock) hs few (c .before .before .before .before .before .before .before .before .announce-parents .ensures) (c .before .before .merge .ensures)
+    let few : FewHashes hs =
+    record {
+      hashes = hashes-fit (c .before .before .before .before .before .before .before .before .before .before .before .before .before .before .before .args .list .now)
+          (λ j. omega (arith, c .before .before .before .before .before .before .before .before .before .before .before .before .before .shared-slice-known .given j));
+      few = c .before .before .before .before .before .before .before .before .before .before .before .before .before .before .before .pre .2;
+    } in
+    one-merged (c .before .before .before .before .before .before .before .before .before .before .before .before .before .before .before .args .x)
+    (c .before .before .before .before .before .before .before .before .before .before .before .before .before .before .before .args .clock) hs few
+    (c .before .before .before .before .before .before .before .before .announce-parents .ensures) (c .before .before .merge .ensures)
 
 pub announce-for-spec : {M : Type 1} → statement M
 announce-for-spec =

@@ -32,14 +32,21 @@ loop-holds c = let kept = c .before .before .before .before .before .pre .0 in
     let st = kept .state in
     let k = keyNum (c .before .before .before .before .before .args .k) in
     let key = c .before .before .key-words .ensures in
-    let n = window-size k (st .table) (from-at st (kept .sound) k (key .small) (key .number) (c .before .window-of .ensures .from-is st (kept .sound) (kept .writes))) (to-at st (kept .sound) k (key .small) (key .number) (c .before .window-of .ensures .to-is st (kept .sound) (kept .writes))) in
-    (copied-none (c .before .before .before .before .before .args .s .now) (c .before .window-of .result .from) (c .before .window-of .result .to - c .before .window-of .result .from) (c .before .before .before .before .before .args .conns .now), omega (arith, n, few-candidates st (kept .sound) k (key .small), c .before .before .before .before .before .pre .1))
+    let n = window-size k (st .table) (from-at st (kept .sound) k (key .small) (key .number) (c .before .window-of .ensures .from-is st (kept .sound) (kept .writes)))
+    (to-at st (kept .sound) k (key .small) (key .number) (c .before .window-of .ensures .to-is st (kept .sound) (kept .writes))) in (
+      copied-none (c .before .before .before .before .before .args .s .now) (c .before .window-of .result .from) (c .before .window-of .result .to - c .before .window-of .result .from)
+          (c .before .before .before .before .before .args .conns .now),
+      omega (arith, n, few-candidates st (kept .sound) k (key .small), c .before .before .before .before .before .pre .1),
+    )
 
 add-row-at : tie.Need-add-row-at Inv-loop μ-loop
 add-row-at c = omega (arith, c .before .before .before .window-of .ensures .most, c .before .before .before .window-of .ensures .order, c .loop-test .taken)
 
 row-at-requires : tie.Need-row-at-requires Inv-loop μ-loop
-row-at-requires c κs = (kept-shown (c .before .before .before .before .before .before .before .pre .0), omega (arith, c .before .before .before .window-of .ensures .most, c .before .before .before .window-of .ensures .order, c .loop-test .taken))
+row-at-requires c κs = (
+  kept-shown (c .before .before .before .before .before .before .before .pre .0),
+  omega (arith, c .before .before .before .window-of .ensures .most, c .before .before .before .window-of .ensures .order, c .loop-test .taken),
+)
 
 put-requires : tie.Need-put-requires Inv-loop μ-loop
 put-requires c κs = omega (arith, c .before .before .loop-test .taken, c .before .before .before .loop .inv .0 .long, c .before .before .before .loop .inv .1)
@@ -51,7 +58,16 @@ loop-less : tie.Need-loop-less Inv-loop μ-loop
 loop-less c = omega (arith, c .before .before .before .before .before .loop-test .taken)
 
 loop-again : tie.Need-loop-again Inv-loop μ-loop
-loop-again c = (copied-more (c .before .before .before .before .row-at .result) (c .before .before .before .before .before .before .loop .inv .0) (c .before .before .before .before .before .loop-test .taken) (c .before .before .before .before .before .before .loop .inv .1) (c .before .before .put .kept .0) (λ f h. omega (arith, c .before .before .before .before .before .before .before .before .window-of .ensures .most, c .before .before .before .before .before .before .before .before .window-of .ensures .order, sizes h .rows)) (λ f d h. c .before .before .before .before .row-at .ensures f d h) (c .before .before .put .ensures), c .before .before .before .before .before .before .loop .inv .1)
+loop-again c = (
+  copied-more (c .before .before .before .before .row-at .result) (c .before .before .before .before .before .before .loop .inv .0)
+      (c .before .before .before .before .before .loop-test .taken) (c .before .before .before .before .before .before .loop .inv .1) (c .before .before .put .kept .0) (λ f h. omega (
+        arith,
+        c .before .before .before .before .before .before .before .before .window-of .ensures .most,
+        c .before .before .before .before .before .before .before .before .window-of .ensures .order,
+        sizes h .rows,
+      )) (λ f d h. c .before .before .before .before .row-at .ensures f d h) (c .before .before .put .ensures),
+  c .before .before .before .before .before .before .loop .inv .1,
+)
 
 same-length : tie.Need-same-length Inv-loop μ-loop
 same-length c = c .before .loop .inv .0 .long

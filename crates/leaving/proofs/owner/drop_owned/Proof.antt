@@ -23,8 +23,17 @@ slice-aggregate-copy-conns : tie.Need-slice-aggregate-copy-conns
 slice-aggregate-copy-conns c = search needs
 
 copy-conns-requires : tie.Need-copy-conns-requires
-copy-conns-requires c κs = let v : c .before .before .before .before .before .before .before .before .before .before .before .before .args .clock < word = omega (arith, c .before .before .before .before .before .before .before .before .before .before .before .before .good .1 .1 .1 .0) in
-    (drop-kept (keyNum (c .before .before .before .before .before .before .before .before .before .before .before .before .args .k)) (hash-below (c .before .before .before .before .before .before .before .before .before .before .before .before .args .k .hash) (key-four (c .before .before .before .before .before .before .before .before .before .before .before .before .args .k) (c .before .before .before .before .before .before .before .before .before .before .before .before .good .1 .0))) (c .before .before .before .before .before .before .before .before .before .before .before .before .args .n) (c .before .before .before .before .before .before .before .before .before .before .before .before .args .clock) v (c .before .before .before .before .failed .ensures) (c .before .before .before .before .before .before .before .before .before .before .before .before .pre .0), search needs)
+copy-conns-requires c κs = let v : c .before .before .before .before .before .before .before .before .before .before .before .before .args .clock < word =
+    omega (arith, c .before .before .before .before .before .before .before .before .before .before .before .before .good .1 .1 .1 .0) in (
+      drop-kept (keyNum (c .before .before .before .before .before .before .before .before .before .before .before .before .args .k)) (hash-below
+          (c .before .before .before .before .before .before .before .before .before .before .before .before .args .k .hash)
+          (key-four (c .before .before .before .before .before .before .before .before .before .before .before .before .args .k)
+          (c .before .before .before .before .before .before .before .before .before .before .before .before .good .1 .0)))
+          (c .before .before .before .before .before .before .before .before .before .before .before .before .args .n)
+          (c .before .before .before .before .before .before .before .before .before .before .before .before .args .clock) v (c .before .before .before .before .failed .ensures)
+          (c .before .before .before .before .before .before .before .before .before .before .before .before .pre .0),
+      search needs,
+    )
 
 mul-e : tie.Need-mul-e
 mul-e c = search needs
@@ -42,9 +51,49 @@ slice-aggregate-announce-each : tie.Need-slice-aggregate-announce-each
 slice-aggregate-announce-each c = search needs
 
 announce-each-requires : tie.Need-announce-each-requires
-announce-each-requires c κs = let v : c .before .before .before .before .before .before .before .before .before .before .before .before .before .before .before .before .before .before .before .args .clock < word = omega (arith, c .before .before .before .before .before .before .before .before .before .before .before .before .before .before .before .before .before .before .before .good .1 .1 .1 .0) in
-    let small = hash-below (c .before .before .before .before .before .before .before .before .before .before .before .before .before .before .before .before .before .before .before .args .k .hash) (key-four (c .before .before .before .before .before .before .before .before .before .before .before .before .before .before .before .before .before .before .before .args .k) (c .before .before .before .before .before .before .before .before .before .before .before .before .before .before .before .before .before .before .before .good .1 .0)) in
-    (drop-kept (keyNum (c .before .before .before .before .before .before .before .before .before .before .before .before .before .before .before .before .before .before .before .args .k)) small (c .before .before .before .before .before .before .before .before .before .before .before .before .before .before .before .before .before .before .before .args .n) (c .before .before .before .before .before .before .before .before .before .before .before .before .before .before .before .before .before .before .before .args .clock) v (c .before .before .before .before .before .before .before .before .before .before .before .failed .ensures) (c .before .before .before .before .before .before .before .before .before .before .before .before .before .before .before .before .before .before .before .pre .0), few-first _ (c .before .before .before .before .before .before .before .before .before .before .before .before .before .before .parents-for .result) _ refl (c .before .before .before .before .before .before .before .before .before .before .before .before .before .before .parents-for .ensures .0) (omega (arith, c .before .before .before .before .before .before .before .before .before .before .before .before .before .before .parents-for .kept)), omega (arith, c .before .before .before .before .before .before .copy-conns .ensures .0, c .before .before .before .before .before .before .copy-conns .kept), drop-peers (keyNum (c .before .before .before .before .before .before .before .before .before .before .before .before .before .before .before .before .before .before .before .args .k)) small (c .before .before .before .before .before .before .before .before .before .before .before .before .before .before .before .before .before .before .before .args .n) (c .before .before .before .before .before .before .before .before .before .before .before .before .before .before .before .before .before .before .before .args .clock) v (c .before .before .before .before .before .before .before .before .before .before .before .failed .ensures) (c .before .before .before .before .before .before .before .before .before .before .before .before .before .before .before .before .before .before .before .pre .2) _ (λ st s w. first-are _ (c .before .before .before .before .before .before .before .before .before .before .before .before .before .before .parents-for .result) _ refl (c .before .before .before .before .before .before .before .before .before .before .before .before .before .before .parents-for .ensures .0) (omega (arith, c .before .before .before .before .before .before .before .before .before .before .before .before .before .before .parents-for .kept)) _ (c .before .before .before .before .before .before .before .before .before .before .before .before .before .before .parents-for .ensures .1 st s w)) _ (c .before .before .before .before .before .before .copy-conns .ensures .1) (c .before .before .before .before .before .before .before .before .before .before .before .before .before .before .before .before .before .before .before .pre .0), c .before .before .before .before .before .before .before .before .before .before .before .before .before .before .before .before .before .before .before .pre .3, drop-room (keyNum (c .before .before .before .before .before .before .before .before .before .before .before .before .before .before .before .before .before .before .before .args .k)) small (c .before .before .before .before .before .before .before .before .before .before .before .before .before .before .before .before .before .before .before .args .n) (c .before .before .before .before .before .before .before .before .before .before .before .before .before .before .before .before .before .before .before .args .clock) v (c .before .before .before .before .before .before .before .before .before .before .before .failed .ensures) (c .before .before .before .before .before .before .before .before .before .before .before .before .before .before .before .before .before .before .before .pre .2) _ (λ st s w. first-are _ (c .before .before .before .before .before .before .before .before .before .before .before .before .before .before .parents-for .result) _ refl (c .before .before .before .before .before .before .before .before .before .before .before .before .before .before .parents-for .ensures .0) (omega (arith, c .before .before .before .before .before .before .before .before .before .before .before .before .before .before .parents-for .kept)) _ (c .before .before .before .before .before .before .before .before .before .before .before .before .before .before .parents-for .ensures .1 st s w)) _ (c .before .before .before .before .before .before .copy-conns .ensures .1) (c .before .before .before .before .before .before .before .before .before .before .before .before .before .before .before .before .before .before .before .args .u .now) (c .before .before .before .before .before .before .before .before .before .before .before .before .before .before .before .before .before .before .before .args .c) (c .before .before .before .before .before .before .before .before .before .before .before .before .before .before .before .before .before .before .before .pre .0) (c .before .before .before .before .before .before .before .before .before .before .before .before .before .before .before .before .before .before .before .pre .4))
+announce-each-requires c κs =
+    let v : c .before .before .before .before .before .before .before .before .before .before .before .before .before .before .before .before .before .before .before .args .clock < word =
+    omega (arith, c .before .before .before .before .before .before .before .before .before .before .before .before .before .before .before .before .before .before .before .good .1 .1 .1 .0) in
+    let small = hash-below
+    (c .before .before .before .before .before .before .before .before .before .before .before .before .before .before .before .before .before .before .before .args .k .hash)
+    (key-four (c .before .before .before .before .before .before .before .before .before .before .before .before .before .before .before .before .before .before .before .args .k)
+    (c .before .before .before .before .before .before .before .before .before .before .before .before .before .before .before .before .before .before .before .good .1 .0)) in (
+      drop-kept (keyNum (c .before .before .before .before .before .before .before .before .before .before .before .before .before .before .before .before .before .before .before .args .k)) small
+          (c .before .before .before .before .before .before .before .before .before .before .before .before .before .before .before .before .before .before .before .args .n)
+          (c .before .before .before .before .before .before .before .before .before .before .before .before .before .before .before .before .before .before .before .args .clock) v
+          (c .before .before .before .before .before .before .before .before .before .before .before .failed .ensures)
+          (c .before .before .before .before .before .before .before .before .before .before .before .before .before .before .before .before .before .before .before .pre .0),
+      few-first _ (c .before .before .before .before .before .before .before .before .before .before .before .before .before .before .parents-for .result) _ refl
+          (c .before .before .before .before .before .before .before .before .before .before .before .before .before .before .parents-for .ensures .0)
+          (omega (arith, c .before .before .before .before .before .before .before .before .before .before .before .before .before .before .parents-for .kept)),
+      omega (arith, c .before .before .before .before .before .before .copy-conns .ensures .0, c .before .before .before .before .before .before .copy-conns .kept),
+      drop-peers (keyNum (c .before .before .before .before .before .before .before .before .before .before .before .before .before .before .before .before .before .before .before .args .k))
+          small (c .before .before .before .before .before .before .before .before .before .before .before .before .before .before .before .before .before .before .before .args .n)
+          (c .before .before .before .before .before .before .before .before .before .before .before .before .before .before .before .before .before .before .before .args .clock) v
+          (c .before .before .before .before .before .before .before .before .before .before .before .failed .ensures)
+          (c .before .before .before .before .before .before .before .before .before .before .before .before .before .before .before .before .before .before .before .pre .2) _ (λ st s w. first-are _
+          (c .before .before .before .before .before .before .before .before .before .before .before .before .before .before .parents-for .result) _ refl
+          (c .before .before .before .before .before .before .before .before .before .before .before .before .before .before .parents-for .ensures .0)
+          (omega (arith, c .before .before .before .before .before .before .before .before .before .before .before .before .before .before .parents-for .kept)) _
+          (c .before .before .before .before .before .before .before .before .before .before .before .before .before .before .parents-for .ensures .1 st s w)) _
+          (c .before .before .before .before .before .before .copy-conns .ensures .1)
+          (c .before .before .before .before .before .before .before .before .before .before .before .before .before .before .before .before .before .before .before .pre .0),
+      c .before .before .before .before .before .before .before .before .before .before .before .before .before .before .before .before .before .before .before .pre .3,
+      drop-room (keyNum (c .before .before .before .before .before .before .before .before .before .before .before .before .before .before .before .before .before .before .before .args .k))
+          small (c .before .before .before .before .before .before .before .before .before .before .before .before .before .before .before .before .before .before .before .args .n)
+          (c .before .before .before .before .before .before .before .before .before .before .before .before .before .before .before .before .before .before .before .args .clock) v
+          (c .before .before .before .before .before .before .before .before .before .before .before .failed .ensures)
+          (c .before .before .before .before .before .before .before .before .before .before .before .before .before .before .before .before .before .before .before .pre .2) _ (λ st s w. first-are _
+          (c .before .before .before .before .before .before .before .before .before .before .before .before .before .before .parents-for .result) _ refl
+          (c .before .before .before .before .before .before .before .before .before .before .before .before .before .before .parents-for .ensures .0)
+          (omega (arith, c .before .before .before .before .before .before .before .before .before .before .before .before .before .before .parents-for .kept)) _
+          (c .before .before .before .before .before .before .before .before .before .before .before .before .before .before .parents-for .ensures .1 st s w)) _
+          (c .before .before .before .before .before .before .copy-conns .ensures .1)
+          (c .before .before .before .before .before .before .before .before .before .before .before .before .before .before .before .before .before .before .before .args .u .now)
+          (c .before .before .before .before .before .before .before .before .before .before .before .before .before .before .before .before .before .before .before .args .c)
+          (c .before .before .before .before .before .before .before .before .before .before .before .before .before .before .before .before .before .before .before .pre .0)
+          (c .before .before .before .before .before .before .before .before .before .before .before .before .before .before .before .before .before .before .before .pre .4),
+    )
 
 same-length : tie.Need-same-length
 same-length c = search needs
@@ -53,9 +102,28 @@ same-length-2 : tie.Need-same-length-2
 same-length-2 c = search needs
 
 returns : tie.Need-returns
-returns c = let v : c .before .before .before .before .before .before .before .before .before .before .before .before .before .before .before .before .before .before .before .before .before .before .before .before .args .clock < word = omega (arith, c .before .before .before .before .before .before .before .before .before .before .before .before .before .before .before .before .before .before .before .before .before .before .before .before .good .1 .1 .1 .0) in
-    let small = hash-below (c .before .before .before .before .before .before .before .before .before .before .before .before .before .before .before .before .before .before .before .before .before .before .before .before .args .k .hash) (key-four (c .before .before .before .before .before .before .before .before .before .before .before .before .before .before .before .before .before .before .before .before .before .before .before .before .args .k) (c .before .before .before .before .before .before .before .before .before .before .before .before .before .before .before .before .before .before .before .before .before .before .before .before .good .1 .0)) in
-    dropped (keyNum (c .before .before .before .before .before .before .before .before .before .before .before .before .before .before .before .before .before .before .before .before .before .before .before .before .args .k)) small (c .before .before .before .before .before .before .before .before .before .before .before .before .before .before .before .before .before .before .before .before .before .before .before .before .args .n) (c .before .before .before .before .before .before .before .before .before .before .before .before .before .before .before .before .before .before .before .before .before .before .before .before .args .clock) v (c .before .before .before .before .before .before .before .before .before .before .before .before .before .before .before .before .failed .ensures) (c .before .before .before .before .before .before .before .before .before .before .before .before .before .before .before .before .before .before .before .before .before .before .before .before .pre .2) _ (λ st s w. first-are _ (c .before .before .before .before .before .before .before .before .before .before .before .before .before .before .before .before .before .before .before .parents-for .result) _ refl (c .before .before .before .before .before .before .before .before .before .before .before .before .before .before .before .before .before .before .before .parents-for .ensures .0) (omega (arith, c .before .before .before .before .before .before .before .before .before .before .before .before .before .before .before .before .before .before .before .parents-for .kept)) _ (c .before .before .before .before .before .before .before .before .before .before .before .before .before .before .before .before .before .before .before .parents-for .ensures .1 st s w)) _ (c .before .before .before .before .before .before .before .before .before .before .before .copy-conns .ensures .1) (c .before .before .before .before .announce-each .ensures)
+returns c = let v : c .before .before .before .before .before .before .before .before .before .before .before .before .before .before .before .before .before .before .before .before .before
+    .before .before .before .args .clock < word = omega (
+      arith,
+      c .before .before .before .before .before .before .before .before .before .before .before .before .before .before .before .before
+          .before .before .before .before .before .before .before .before .good .1 .1 .1 .0,
+    ) in
+    let small = hash-below (c .before .before .before .before .before .before .before .before .before .before .before .before .before .before .before .before .before .before .before .before
+    .before .before .before .before .args .k .hash) (key-four (c .before .before .before .before .before .before .before .before .before .before .before .before .before .before .before .before
+    .before .before .before .before .before .before .before .before .args .k) (c .before .before .before .before .before .before .before .before .before .before .before .before .before .before
+    .before .before .before .before .before .before .before .before .before .before .good .1 .0)) in
+    dropped (keyNum (c .before .before .before .before .before .before .before .before .before .before .before .before .before .before .before .before .before .before
+    .before .before .before .before .before .before .args .k)) small (c .before .before .before .before .before .before .before .before .before .before .before .before
+    .before .before .before .before .before .before .before .before .before .before .before .before .args .n) (c .before .before .before .before .before .before
+    .before .before .before .before .before .before .before .before .before .before .before .before .before .before .before .before .before .before .args .clock) v
+    (c .before .before .before .before .before .before .before .before .before .before .before .before .before .before .before .before .failed .ensures)
+    (c .before .before .before .before .before .before .before .before .before .before .before .before .before .before
+    .before .before .before .before .before .before .before .before .before .before .pre .2) _ (λ st s w. first-are _
+    (c .before .before .before .before .before .before .before .before .before .before .before .before .before .before .before .before .before .before .before .parents-for .result) _ refl
+    (c .before .before .before .before .before .before .before .before .before .before .before .before .before .before .before .before .before .before .before .parents-for .ensures .0) (omega
+    (arith, c .before .before .before .before .before .before .before .before .before .before .before .before .before .before .before .before .before .before .before .parents-for .kept)) _
+    (c .before .before .before .before .before .before .before .before .before .before .before .before .before .before .before .before .before .before .before .parents-for .ensures .1 st s w))
+    _ (c .before .before .before .before .before .before .before .before .before .before .before .copy-conns .ensures .1) (c .before .before .before .before .announce-each .ensures)
 
 pub drop-owned-spec : {M : Type 1} → statement M
 drop-owned-spec =

@@ -31,7 +31,11 @@ returns : tie.Need-returns
 returns c = λ st s w.
     let n = c .before .before .before .before .before .before .before .before .rows .ensures .field (flatOf st) w in
     let l : c .before .before .before .before .before .before .find-row .result < length (rowsOf (st .table)) = omega (arith, c .before .before .before .before .before .if2 .taken) in
-    row-says st s (c .before .before .before .before .before .before .before .before .before .before .args .n) (c .before .before .before .before .before .before .before .before .before .before .args .k) (c .before .before .before .key-words .ensures) l (c .before .before .before .before .row-at .ensures (flatOf st) (c .before .before .before .before .row-at .result) w) (c .before .before .before .before .before .before .find-row .ensures .first (flatOf st) w .found (c .before .before .before .before .before .if2 .taken)) (c .before .before .has-key .ensures (c .before .if3 .taken))
+    row-says st s (c .before .before .before .before .before .before .before .before .before .before .args .n)
+    (c .before .before .before .before .before .before .before .before .before .before .args .k) (c .before .before .before .key-words .ensures) l
+    (c .before .before .before .before .row-at .ensures (flatOf st) (c .before .before .before .before .row-at .result) w)
+    (c .before .before .before .before .before .before .find-row .ensures .first (flatOf st) w .found (c .before .before .before .before .before .if2 .taken))
+    (c .before .before .has-key .ensures (c .before .if3 .taken))
 
 search-owner-requires : tie.Need-search-owner-requires
 search-owner-requires c κs = search needs

@@ -47,7 +47,11 @@ add-parent-requires : tie.Need-add-parent-requires Inv-loop μ-loop
 add-parent-requires c κs =
     let start : tie.Start Inv-loop μ-loop = c .before .before .before .before .before .before .before .before .before in
     let h = start .args .h in
-    added-kept (hashNum h) (hash-below h (hash-four h (start .good .1 .0))) (hashesIn (start .args .parents .now)) (c .before .before .before .before .before .loop .inv) (record { hashes = hashes-fit (start .args .parents .now) (λ j. omega (arith, c .before .before .before .before .before .before .before .shared-slice-known .given j)); few = start .pre .1 }) (start .pre .0)
+    added-kept (hashNum h) (hash-below h (hash-four h (start .good .1 .0))) (hashesIn (start .args .parents .now)) (c .before .before .before .before .before .loop .inv) (record {
+      hashes =
+          hashes-fit (start .args .parents .now) (λ j. omega (arith, c .before .before .before .before .before .before .before .shared-slice-known .given j));
+      few = start .pre .1;
+    }) (start .pre .0)
 
 add-i : tie.Need-add-i Inv-loop μ-loop
 add-i c = omega (arith, c .before .before .loop-test .taken)
@@ -63,7 +67,10 @@ loop-again c =
     let hs = hashesIn (start .args .parents .now) in
     let v = c .before .before .before .loop .inv in
     let inside : c .before .before .before .loop .i < length hs = omega (arith, c .before .before .loop-test .taken, c .before .before .before .before .hashes .ensures) in
-    let few : FewHashes hs = record { hashes = hashes-fit (start .args .parents .now) (λ j. omega (arith, c .before .before .before .before .before .shared-slice-known .given j)); few = start .pre .1 } in
+    let few : FewHashes hs = record {
+      hashes = hashes-fit (start .args .parents .now) (λ j. omega (arith, c .before .before .before .before .before .shared-slice-known .given j));
+      few = start .pre .1;
+    } in
     ⊎-elim
     (λ w. added-as (w .6) (added-more (hashNum h) small hs v few inside _ (w .1 .ensures) (absent _ (w .0 .taken) (c .before .occurs-before .ensures) (w .1 .ensures)) (w .3 .kept .0) (w .3 .ensures)))
     (λ w. added-as (w .1) (added-repeat (hashNum h) small hs v few inside _ refl (sym (c .before .occurs-before .ensures) ∙ not-false _ (w .0 .left))))
@@ -76,7 +83,8 @@ returns : tie.Need-returns Inv-loop μ-loop
 returns c =
     let start : tie.Start Inv-loop μ-loop = c .before .before .before .before .before in
     let h = start .args .h in
-    added-done (hashNum h) (hash-below h (hash-four h (start .good .1 .0))) (hashesIn (start .args .parents .now)) (c .before .loop .inv) (omega (arith, c .before .loop .inv .inside, c .loop-test .left, c .before .before .hashes .ensures))
+    added-done (hashNum h) (hash-below h (hash-four h (start .good .1 .0))) (hashesIn (start .args .parents .now)) (c .before .loop .inv)
+    (omega (arith, c .before .loop .inv .inside, c .loop-test .left, c .before .before .hashes .ensures))
 
 pub add-parents-spec : {M : Type 1} → statement M
 add-parents-spec =

@@ -30,7 +30,8 @@ returns c = λ st s w.
     let small = hash-below h (hash-four h (start .good .1 .1 .0)) in
     let a = owner-at (st .table) (c .before .before .before .before .before .txid-key .ensures) (c .before .before .before .before .request-at .ensures .is st s w) in
     let b = owner-at (st .table) (c .before .before .before .wtxid-key .ensures) (c .before .before .request-at2 .ensures .is st s w) in
-    ⊎-elim (λ z. owned-first st s (start .args .n) (hashNum h) small a b (z .taken) (ltb (ownedBy (start .args .n) (st .table)) maxInFlight)) (λ z. owned-second st s (start .args .n) (hashNum h) small a b (eqb-false _ 0 (not-true _ (z .2 .taken))) (ltb (ownedBy (start .args .n) (st .table)) maxInFlight)) (c .if1 .came)
+    ⊎-elim (λ z. owned-first st s (start .args .n) (hashNum h) small a b (z .taken) (ltb (ownedBy (start .args .n) (st .table)) maxInFlight))
+    (λ z. owned-second st s (start .args .n) (hashNum h) small a b (eqb-false _ 0 (not-true _ (z .2 .taken))) (ltb (ownedBy (start .args .n) (st .table)) maxInFlight)) (c .if1 .came)
 
 figures-requires : tie.Need-figures-requires
 figures-requires c κs = search needs
@@ -40,9 +41,11 @@ returns-2 c = λ st s w.
     let start : tie.Start = c .before .before .before .before .before .before .before .before .before .before .before in
     let h = start .args .h in
     let small = hash-below h (hash-four h (start .good .1 .1 .0)) in
-    let a = owner-at (st .table) (c .before .before .before .before .before .before .before .before .before .txid-key .ensures) (c .before .before .before .before .before .before .before .before .request-at .ensures .is st s w) in
+    let a = owner-at (st .table) (c .before .before .before .before .before .before .before .before .before .txid-key .ensures)
+    (c .before .before .before .before .before .before .before .before .request-at .ensures .is st s w) in
     let b = owner-at (st .table) (c .before .before .before .before .before .before .before .wtxid-key .ensures) (c .before .before .before .before .before .before .request-at2 .ensures .is st s w) in
-    owned-none st s (start .args .n) (hashNum h) small a b (c .before .before .before .before .if1 .left) (eqb-true _ 0 (not-false _ (c .before .before .if2 .left))) (c .before .figures .ensures st s w .owned)
+    owned-none st s (start .args .n) (hashNum h) small a b (c .before .before .before .before .if1 .left) (eqb-true _ 0 (not-false _ (c .before .before .if2 .left)))
+    (c .before .figures .ensures st s w .owned)
 
 pub may-own-spec : {M : Type 1} → statement M
 may-own-spec =

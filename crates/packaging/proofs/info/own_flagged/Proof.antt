@@ -23,8 +23,12 @@ open-info-requires c κs =
     let g = start .pre .0 in
     let small = hash-below h (hash-four h (start .good .1 .1 .0)) in
     let m = g .holds in
-    let key = c .before .before .before .before .before .wtxid-key in
-    (owned-kept (g .state) (g .sound) (start .args .n) (hashNum h) (start .args .clock) small (start .pre .2) m (keyNum (key .result)) (key .ensures) (c .before .before .before .own .ensures) (g .writes), owned-place (g .state) (g .sound) (start .args .n) (hashNum h) (start .args .clock) small (start .pre .2) m (keyNum (key .result)) (key .ensures) (c .before .before .before .own .ensures) (g .writes) (start .pre .1))
+    let key = c .before .before .before .before .before .wtxid-key in (
+      owned-kept (g .state) (g .sound) (start .args .n) (hashNum h) (start .args .clock) small (start .pre .2) m (keyNum (key .result)) (key .ensures)
+          (c .before .before .before .own .ensures) (g .writes),
+      owned-place (g .state) (g .sound) (start .args .n) (hashNum h) (start .args .clock) small (start .pre .2) m (keyNum
+          (key .result)) (key .ensures) (c .before .before .before .own .ensures) (g .writes) (start .pre .1),
+    )
 
 same-length : tie.Need-same-length
 same-length c = search needs
@@ -35,7 +39,8 @@ returns c = λ st s w m.
     let h = start .args .h in
     let small = hash-below h (hash-four h (start .good .1 .1 .0)) in
     let key = c .before .before .before .before .before .before .before .before .wtxid-key in
-    opened-writes st s (start .args .n) (hashNum h) (start .args .clock) small (start .pre .2) m (keyNum (key .result)) (key .ensures) (c .before .before .before .before .before .before .own .ensures) w (c .before .before .open-info .ensures)
+    opened-writes st s (start .args .n) (hashNum h) (start .args .clock) small (start .pre .2) m (keyNum (key .result)) (key .ensures)
+    (c .before .before .before .before .before .before .own .ensures) w (c .before .before .open-info .ensures)
 
 pub own-flagged-spec : {M : Type 1} → statement M
 own-flagged-spec =

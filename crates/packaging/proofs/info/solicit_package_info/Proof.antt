@@ -21,7 +21,8 @@ returns : tie.Need-returns
 returns c =
     let start : tie.Start = c .before .before .before .before .before in
     let small = subject-below (start .args .subject) (start .good .1 .1 .0) in
-    solicit-barred (start .args .n) (hashNum (start .args .subject .0)) (hashesIn (start .args .parents .now)) (start .args .clock) (record { positive = start .pre .1; small = omega arith }) small (start .pre .2) (c .before .may-own .ensures) (not-true _ (c .if1 .taken))
+    solicit-barred (start .args .n) (hashNum (start .args .subject .0)) (hashesIn (start .args .parents .now)) (start .args .clock) (record { positive = start .pre .1; small = omega arith }) small
+    (start .pre .2) (c .before .may-own .ensures) (not-true _ (c .if1 .taken))
 
 wtxid-key-requires : tie.Need-wtxid-key-requires
 wtxid-key-requires c κs = search needs
@@ -43,7 +44,8 @@ holds-requires c κs =
     let may = c .before .before .before .before .before .before .before .before .may-own .ensures in
     let y = not-false (c .before .before .before .before .before .before .before .before .may-own .result) (c .before .before .before .before .before .before .before .if1 .left) in
     let key = c .before .before .before .before .before .before .wtxid-key in
-    let a = as-soliciting n h (start .args .clock) (keyNum (key .result)) (candidateOf (c .before .before .before .before .soliciting .result)) (key .ensures) (c .before .before .before .before .soliciting .ensures) (c .before .before .before .announce-at .ensures) in
+    let a = as-soliciting n h (start .args .clock) (keyNum (key .result)) (candidateOf (c .before .before .before .before .soliciting .result)) (key .ensures)
+    (c .before .before .before .before .soliciting .ensures) (c .before .before .before .announce-at .ensures) in
     announced-kept n h hs (start .args .clock) peer small (start .pre .2) may y a (start .pre .0)
 
 same-length-2 : tie.Need-same-length-2
@@ -58,9 +60,11 @@ returns-2 c =
     let peer : Peer n = record { positive = start .pre .1; small = omega arith } in
     let small = subject-below (start .args .subject) (start .good .1 .1 .0) in
     let may = c .before .before .before .before .before .before .before .before .before .before .may-own .ensures in
-    let y = not-false (c .before .before .before .before .before .before .before .before .before .before .may-own .result) (c .before .before .before .before .before .before .before .before .before .if1 .left) in
+    let y = not-false (c .before .before .before .before .before .before .before .before .before .before .may-own .result)
+    (c .before .before .before .before .before .before .before .before .before .if1 .left) in
     let key = c .before .before .before .before .before .before .before .before .wtxid-key in
-    let a = as-soliciting n h (start .args .clock) (keyNum (key .result)) (candidateOf (c .before .before .before .before .before .before .soliciting .result)) (key .ensures) (c .before .before .before .before .before .before .soliciting .ensures) (c .before .before .before .before .before .announce-at .ensures) in
+    let a = as-soliciting n h (start .args .clock) (keyNum (key .result)) (candidateOf (c .before .before .before .before .before .before .soliciting .result)) (key .ensures)
+    (c .before .before .before .before .before .before .soliciting .ensures) (c .before .before .before .before .before .announce-at .ensures) in
     solicit-refused n h hs (start .args .clock) peer small (start .pre .2) may y a (keyNum (key .result)) (key .ensures) (c .before .holds .ensures) (not-true _ (c .if2 .taken))
 
 own-flagged-requires : tie.Need-own-flagged-requires
@@ -72,12 +76,17 @@ own-flagged-requires c κs =
     let peer : Peer n = record { positive = start .pre .1; small = omega arith } in
     let small = subject-below (start .args .subject) (start .good .1 .1 .0) in
     let may = c .before .before .before .before .before .before .before .before .before .before .before .may-own .ensures in
-    let y = not-false (c .before .before .before .before .before .before .before .before .before .before .before .may-own .result) (c .before .before .before .before .before .before .before .before .before .before .if1 .left) in
+    let y = not-false (c .before .before .before .before .before .before .before .before .before .before .before .may-own .result)
+    (c .before .before .before .before .before .before .before .before .before .before .if1 .left) in
     let key = c .before .before .before .before .before .before .before .before .before .wtxid-key in
-    let a = as-soliciting n h (start .args .clock) (keyNum (key .result)) (candidateOf (c .before .before .before .before .before .before .before .soliciting .result)) (key .ensures) (c .before .before .before .before .before .before .before .soliciting .ensures) (c .before .before .before .before .before .before .announce-at .ensures) in
+    let a = as-soliciting n h (start .args .clock) (keyNum (key .result)) (candidateOf (c .before .before .before .before .before .before .before .soliciting .result)) (key .ensures)
+    (c .before .before .before .before .before .before .before .soliciting .ensures) (c .before .before .before .before .before .before .announce-at .ensures) in
     let z = c .before .before .holds .ensures in
-    let d = not-false (c .before .before .holds .result) (c .before .if2 .left) in
-    (may-keeps n h hs (start .args .clock) peer small (start .pre .2) may y a (keyNum (key .result)) (key .ensures) z d (start .pre .4) (start .pre .0), room-left n h hs (start .args .clock) peer small (start .pre .2) may y a (keyNum (key .result)) (key .ensures) z d (start .pre .4) (start .pre .0), start .pre .2)
+    let d = not-false (c .before .before .holds .result) (c .before .if2 .left) in (
+      may-keeps n h hs (start .args .clock) peer small (start .pre .2) may y a (keyNum (key .result)) (key .ensures) z d (start .pre .4) (start .pre .0),
+      room-left n h hs (start .args .clock) peer small (start .pre .2) may y a (keyNum (key .result)) (key .ensures) z d (start .pre .4) (start .pre .0),
+      start .pre .2,
+    )
 
 add-parents-requires : tie.Need-add-parents-requires
 add-parents-requires c κs =
@@ -88,29 +97,43 @@ add-parents-requires c κs =
     let peer : Peer n = record { positive = start .pre .1; small = omega arith } in
     let small = subject-below (start .args .subject) (start .good .1 .1 .0) in
     let may = c .before .before .before .before .before .before .before .before .before .before .before .before .before .before .before .may-own .ensures in
-    let y = not-false (c .before .before .before .before .before .before .before .before .before .before .before .before .before .before .before .may-own .result) (c .before .before .before .before .before .before .before .before .before .before .before .before .before .before .if1 .left) in
+    let y = not-false (c .before .before .before .before .before .before .before .before .before .before .before .before .before .before .before .may-own .result)
+    (c .before .before .before .before .before .before .before .before .before .before .before .before .before .before .if1 .left) in
     let key = c .before .before .before .before .before .before .before .before .before .before .before .before .before .wtxid-key in
-    let a = as-soliciting n h (start .args .clock) (keyNum (key .result)) (candidateOf (c .before .before .before .before .before .before .before .before .before .before .before .soliciting .result)) (key .ensures) (c .before .before .before .before .before .before .before .before .before .before .before .soliciting .ensures) (c .before .before .before .before .before .before .before .before .before .before .announce-at .ensures) in
-    let d = not-false (c .before .before .before .before .before .before .holds .result) (c .before .before .before .before .before .if2 .left) in
-    (opened-keeps n h hs (start .args .clock) peer small (start .pre .2) may y a (keyNum (key .result)) (key .ensures) (c .before .before .before .before .before .before .holds .ensures) d (start .pre .4) (c .before .before .before .own-flagged .ensures) (start .pre .0), start .pre .3)
+    let a = as-soliciting n h (start .args .clock) (keyNum (key .result))
+    (candidateOf (c .before .before .before .before .before .before .before .before .before .before .before .soliciting .result))
+    (key .ensures) (c .before .before .before .before .before .before .before .before .before .before .before .soliciting .ensures)
+    (c .before .before .before .before .before .before .before .before .before .before .announce-at .ensures) in
+    let d = not-false (c .before .before .before .before .before .before .holds .result) (c .before .before .before .before .before .if2 .left) in (
+      opened-keeps n h hs (start .args .clock) peer small (start .pre .2) may y a (keyNum (key .result)) (key .ensures) (c .before .before .before .before .before .before .holds .ensures) d
+          (start .pre .4) (c .before .before .before .own-flagged .ensures) (start .pre .0),
+      start .pre .3,
+    )
 
 same-length-3 : tie.Need-same-length-3
 same-length-3 c = search needs
 
 returns-3 : tie.Need-returns-3
 returns-3 c =
-    let start : tie.Start = c .before .before .before .before .before .before .before .before .before .before .before .before .before .before .before .before .before .before .before .before .before .before in
+    let start : tie.Start =
+    c .before .before .before .before .before .before .before .before .before .before .before .before .before .before .before .before .before .before .before .before .before .before in
     let n = start .args .n in
     let h = hashNum (start .args .subject .0) in
     let hs = hashesIn (start .args .parents .now) in
     let peer : Peer n = record { positive = start .pre .1; small = omega arith } in
     let small = subject-below (start .args .subject) (start .good .1 .1 .0) in
     let may = c .before .before .before .before .before .before .before .before .before .before .before .before .before .before .before .before .before .before .may-own .ensures in
-    let y = not-false (c .before .before .before .before .before .before .before .before .before .before .before .before .before .before .before .before .before .before .may-own .result) (c .before .before .before .before .before .before .before .before .before .before .before .before .before .before .before .before .before .if1 .left) in
+    let y = not-false (c .before .before .before .before .before .before .before .before .before .before .before .before .before .before .before .before .before .before .may-own .result)
+    (c .before .before .before .before .before .before .before .before .before .before .before .before .before .before .before .before .before .if1 .left) in
     let key = c .before .before .before .before .before .before .before .before .before .before .before .before .before .before .before .before .wtxid-key in
-    let a = as-soliciting n h (start .args .clock) (keyNum (key .result)) (candidateOf (c .before .before .before .before .before .before .before .before .before .before .before .before .before .before .soliciting .result)) (key .ensures) (c .before .before .before .before .before .before .before .before .before .before .before .before .before .before .soliciting .ensures) (c .before .before .before .before .before .before .before .before .before .before .before .before .before .announce-at .ensures) in
+    let a = as-soliciting n h (start .args .clock) (keyNum (key .result))
+    (candidateOf (c .before .before .before .before .before .before .before .before .before .before .before .before .before .before .soliciting .result))
+    (key .ensures) (c .before .before .before .before .before .before .before .before .before .before .before .before .before .before .soliciting .ensures)
+    (c .before .before .before .before .before .before .before .before .before .before .before .before .before .announce-at .ensures) in
     let d = not-false (c .before .before .before .before .before .before .before .before .before .holds .result) (c .before .before .before .before .before .before .before .before .if2 .left) in
-    solicit-done n h hs (start .args .clock) peer small (start .pre .2) may y a (keyNum (key .result)) (key .ensures) (c .before .before .before .before .before .before .before .before .before .holds .ensures) d (start .pre .4) (c .before .before .before .before .before .before .own-flagged .ensures) (c .before .before .add-parents .ensures)
+    solicit-done n h hs (start .args .clock) peer small (start .pre .2) may y a (keyNum (key .result)) (key .ensures)
+    (c .before .before .before .before .before .before .before .before .before .holds .ensures) d (start .pre .4) (c .before .before .before .before .before .before .own-flagged .ensures)
+    (c .before .before .add-parents .ensures)
 
 pub solicit-package-info-spec : {M : Type 1} → statement M
 solicit-package-info-spec =

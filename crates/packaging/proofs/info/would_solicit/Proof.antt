@@ -31,7 +31,8 @@ returns-2 c = λ hs st s w.
     let start : tie.Start = c .before .before .before .before .before .before in
     let n = start .args .n in
     let here = ap (λ (k : Key). has n ((at k (st .table)) .candidates)) (c .before .before .wtxid-key .ensures) in
-    reply-held (limitsOf st) n (hashNum (start .args .subject .0)) hs (start .args .clock) (st .table) (sym (c .before .before .before .before .may-own .ensures st s w) ∙ not-false _ (c .before .before .before .if1 .left)) (sym here ∙ sym (c .before .holds .ensures st s w) ∙ c .if2 .taken)
+    reply-held (limitsOf st) n (hashNum (start .args .subject .0)) hs (start .args .clock) (st .table)
+    (sym (c .before .before .before .before .may-own .ensures st s w) ∙ not-false _ (c .before .before .before .if1 .left)) (sym here ∙ sym (c .before .holds .ensures st s w) ∙ c .if2 .taken)
 
 soliciting-requires : tie.Need-soliciting-requires
 soliciting-requires c κs = search needs
@@ -48,7 +49,8 @@ returns-3 c = λ hs st s w.
     c .would-announce .ensures st s w
     ∙ ap (λ (k : Key). (announceAt (limitsOf st) k (candidateOf (c .before .soliciting .result)) (st .table)) .reply) (c .before .before .before .before .wtxid-key .ensures)
     ∙ ap (λ (x : Candidate). (announceAt (limitsOf st) (wtxid h) x (st .table)) .reply) (c .before .soliciting .ensures)
-    ∙ reply-new (limitsOf st) n h hs (start .args .clock) (st .table) (sym (c .before .before .before .before .before .before .may-own .ensures st s w) ∙ not-false _ (c .before .before .before .before .before .if1 .left)) (sym here ∙ sym (c .before .before .before .holds .ensures st s w) ∙ c .before .before .if2 .left)
+    ∙ reply-new (limitsOf st) n h hs (start .args .clock) (st .table) (sym (c .before .before .before .before .before .before .may-own .ensures st s w) ∙
+    not-false _ (c .before .before .before .before .before .if1 .left)) (sym here ∙ sym (c .before .before .before .holds .ensures st s w) ∙ c .before .before .if2 .left)
 
 pub would-solicit-spec : {M : Type 1} → statement M
 would-solicit-spec =

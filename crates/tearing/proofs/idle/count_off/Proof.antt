@@ -25,7 +25,10 @@ less-requires-2 : tie.Need-less-requires-2
 less-requires-2 c κs = search needs
 
 set-conn-requires : tie.Need-set-conn-requires
-set-conn-requires c κs = (c .before .before .before .before .before .before .before .before .before .before .before .pre, c .before .before .before .before .before .before .is-entry .ensures .inside (c .before .before .before .before .before .if1 .taken))
+set-conn-requires c κs = (
+  c .before .before .before .before .before .before .before .before .before .before .before .pre,
+  c .before .before .before .before .before .before .is-entry .ensures .inside (c .before .before .before .before .before .if1 .taken),
+)
 
 same-length : tie.Need-same-length
 same-length c = search needs
@@ -35,8 +38,14 @@ returns c = λ f so h.
     let d = fresh 0 0 in
     let z = sizes h in
     let bd = c .before .before .before .before .before .before .before .before .before .before .before .seek-conn .ensures .bound f h so in
-    let l : c .before .before .before .before .before .before .before .before .before .before .before .seek-conn .result < length (f .conns) = omega (arith, c .before .before .before .before .before .before .before .before .before .is-entry .ensures .inside (c .before .before .before .before .before .before .before .before .if1 .taken)) in
-    ebbed-found f bd d (c .before .before .before .before .before .before .before .before .before .before .before .before .before .before .args .o) l (c .before .before .before .before .before .before .before .before .before .is-entry .ensures .is f d h (c .before .before .before .before .before .before .before .before .if1 .taken)) (c .before .before .before .before .before .before .conn-at .ensures f d h) (rw (c .before .before .before .before .before .less .ensures, c .before .before .before .before .less2 .ensures) at (c .before .before .set-conn .ensures f h))
+    let l : c .before .before .before .before .before .before .before .before .before .before .before .seek-conn .result < length (f .conns) = omega (
+      arith,
+      c .before .before .before .before .before .before .before .before .before .is-entry .ensures .inside (c .before .before .before .before .before .before .before .before .if1 .taken),
+    ) in
+    ebbed-found f bd d (c .before .before .before .before .before .before .before .before .before .before .before .before .before .before .args .o) l
+    (c .before .before .before .before .before .before .before .before .before .is-entry .ensures .is f d h (c .before .before .before .before .before .before .before .before .if1 .taken))
+    (c .before .before .before .before .before .before .conn-at .ensures f d h)
+    (rw (c .before .before .before .before .before .less .ensures, c .before .before .before .before .less2 .ensures) at (c .before .before .set-conn .ensures f h))
 
 same-length-2 : tie.Need-same-length-2
 same-length-2 c = search needs
@@ -44,7 +53,8 @@ same-length-2 c = search needs
 returns-2 : tie.Need-returns-2
 returns-2 c = λ f so h.
     let d = fresh 0 0 in
-    ebbed-missing f (c .before .before .before .seek-conn .ensures .bound f h so) d (c .before .before .before .before .before .before .args .o) (λ l z. c .before .is-entry .ensures .not f d h (c .if1 .left) l z) so h
+    ebbed-missing f (c .before .before .before .seek-conn .ensures .bound f h so) d (c .before .before .before .before .before .before .args .o)
+    (λ l z. c .before .is-entry .ensures .not f d h (c .if1 .left) l z) so h
 
 pub count-off-spec : {M : Type 1} → statement M
 count-off-spec = tie.close (tie.spec seek-conn-requires is-entry-requires conn-at-requires less-requires less-requires-2 set-conn-requires same-length returns same-length-2 returns-2)

@@ -20,13 +20,22 @@ sub-n : tie.Need-sub-n Inv-loop μ-loop
 sub-n c = omega (arith, c .loop-test .taken)
 
 drop-conn-requires : tie.Need-drop-conn-requires Inv-loop μ-loop
-drop-conn-requires c κs = (cutting-shown (c .before .before .loop .inv) (c .before .before .before .before .before .before .pre .0), omega (arith, cutting-conns (c .before .before .loop .inv) (c .before .before .before .before .before .before .pre .0 .flat) (c .before .before .before .before .before .before .pre .0 .shows), c .before .loop-test .taken))
+drop-conn-requires c κs = (
+  cutting-shown (c .before .before .loop .inv) (c .before .before .before .before .before .before .pre .0),
+  omega (
+    arith,
+    cutting-conns (c .before .before .loop .inv)
+        (c .before .before .before .before .before .before .pre .0 .flat) (c .before .before .before .before .before .before .pre .0 .shows),
+    c .before .loop-test .taken,
+  ),
+)
 
 loop-less : tie.Need-loop-less Inv-loop μ-loop
 loop-less c = omega (arith, c .before .before .before .before .loop-test .taken)
 
 loop-again : tie.Need-loop-again Inv-loop μ-loop
-loop-again c = cutting-more (c .before .before .before .before .before .loop .inv) (omega (arith, c .before .before .before .before .loop-test .taken)) (c .before .before .before .before .loop-test .taken) (c .before .before .drop-conn .kept .0) (c .before .before .drop-conn .ensures)
+loop-again c = cutting-more (c .before .before .before .before .before .loop .inv) (omega (arith, c .before .before .before .before .loop-test .taken))
+    (c .before .before .before .before .loop-test .taken) (c .before .before .drop-conn .kept .0) (c .before .before .drop-conn .ensures)
 
 same-length : tie.Need-same-length Inv-loop μ-loop
 same-length c = c .before .loop .inv .size

@@ -19,7 +19,16 @@ loop-holds : tie.Need-loop-holds Inv-loop μ-loop
 loop-holds c = sifting-none _
 
 keep-busy-requires : tie.Need-keep-busy-requires Inv-loop μ-loop
-keep-busy-requires c κs = (sifting-shown (c .before .before .loop .inv) (c .before .before .before .before .before .before .pre), c .before .before .loop .inv .less, omega (arith, sifting-conns (c .before .before .loop .inv) (c .before .before .before .before .before .before .pre .flat) (c .before .before .before .before .before .before .pre .shows), c .before .loop-test .taken, c .before .before .before .conns .ensures .word))
+keep-busy-requires c κs = (
+  sifting-shown (c .before .before .loop .inv) (c .before .before .before .before .before .before .pre),
+  c .before .before .loop .inv .less,
+  omega (
+    arith,
+    sifting-conns (c .before .before .loop .inv) (c .before .before .before .before .before .before .pre .flat) (c .before .before .before .before .before .before .pre .shows),
+    c .before .loop-test .taken,
+    c .before .before .before .conns .ensures .word,
+  ),
+)
 
 add-i : tie.Need-add-i Inv-loop μ-loop
 add-i c = omega (arith, c .before .before .before .before .loop-test .taken)
@@ -28,16 +37,27 @@ loop-less : tie.Need-loop-less Inv-loop μ-loop
 loop-less c = omega (arith, c .before .before .before .before .loop-test .taken)
 
 loop-again : tie.Need-loop-again Inv-loop μ-loop
-loop-again c = sifting-more (c .before .before .before .before .before .loop .inv) (omega (arith, c .before .before .before .before .before .before .conns .ensures .word, c .before .before .before .before .loop-test .taken)) (c .before .before .keep-busy .kept .0) (c .before .before .keep-busy .ensures)
+loop-again c = sifting-more (c .before .before .before .before .before .loop .inv)
+    (omega (arith, c .before .before .before .before .before .before .conns .ensures .word, c .before .before .before .before .loop-test .taken)) (c .before .before .keep-busy .kept .0)
+    (c .before .before .keep-busy .ensures)
 
 cut-conns-requires : tie.Need-cut-conns-requires Inv-loop μ-loop
-cut-conns-requires c κs = (sifting-shown (c .before .before .loop .inv) (c .before .before .before .before .before .before .pre), omega (arith, sifting-conns (c .before .before .loop .inv) (c .before .before .before .before .before .before .pre .flat) (c .before .before .before .before .before .before .pre .shows), c .before .before .loop .inv .less, c .before .before .loop .inv .most))
+cut-conns-requires c κs = (
+  sifting-shown (c .before .before .loop .inv) (c .before .before .before .before .before .before .pre),
+  omega (
+    arith,
+    sifting-conns (c .before .before .loop .inv) (c .before .before .before .before .before .before .pre .flat) (c .before .before .before .before .before .before .pre .shows),
+    c .before .before .loop .inv .less,
+    c .before .before .loop .inv .most,
+  ),
+)
 
 same-length : tie.Need-same-length Inv-loop μ-loop
 same-length c = c .before .before .cut-conns .kept .0 ∙ c .before .before .before .before .before .loop .inv .size
 
 returns : tie.Need-returns Inv-loop μ-loop
-returns c = sifting-end (c .before .before .before .before .before .loop .inv) (omega (arith, c .before .before .before .before .before .before .conns .ensures .word, c .before .before .before .before .loop-test .left)) (c .before .before .cut-conns .ensures)
+returns c = sifting-end (c .before .before .before .before .before .loop .inv)
+    (omega (arith, c .before .before .before .before .before .before .conns .ensures .word, c .before .before .before .before .loop-test .left)) (c .before .before .cut-conns .ensures)
 
 pub drop-idle-spec : {M : Type 1} → statement M
 drop-idle-spec =

@@ -15,7 +15,8 @@ quad-less-requires : tie.Need-quad-less-requires
 quad-less-requires c κs = search needs
 
 returns : tie.Need-returns
-returns c = λ f d w. c .quad-less .ensures ∙ ap (λ (x : ℕ). ltb x (quadNumber (c .before .before .before .before .args .q))) (head-hash (getD (f .places) (c .before .before .before .before .args .i) d) (c .before .before .place-at .ensures f d w))
+returns c = λ f d w. c .quad-less .ensures ∙ ap (λ (x : ℕ). ltb x (quadNumber (c .before .before .before .before .args .q)))
+    (head-hash (getD (f .places) (c .before .before .before .before .args .i) d) (c .before .before .place-at .ensures f d w))
 
 pub comes-before-spec : {M : Type 1} → statement M
 comes-before-spec = tie.close (tie.spec place-at-requires quad-less-requires returns)

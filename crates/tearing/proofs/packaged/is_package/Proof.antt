@@ -15,10 +15,14 @@ quad-less-requires : tie.Need-quad-less-requires
 quad-less-requires c κs = search needs
 
 returns : tie.Need-returns
-returns c = other-place (c .before .before .before .before .before .before .before .pre .1) (c .before .before .before .place-at .ensures) (omega (arith, c .before .before .before .before .if1 .taken, c .before .before .before .before .before .held-places .ensures .word)) (blank 0 0) (c .before .quad-less .ensures) (c .if2 .taken)
+returns c = other-place (c .before .before .before .before .before .before .before .pre .1) (c .before .before .before .place-at .ensures)
+    (omega (arith, c .before .before .before .before .if1 .taken, c .before .before .before .before .before .held-places .ensures .word)) (blank 0 0)
+    (c .before .quad-less .ensures) (c .if2 .taken)
 
 returns-2 : tie.Need-returns-2
-returns-2 c = its-stage (c .before .before .before .before .before .before .before .before .pre .1) (c .before .before .before .before .place-at .ensures) (omega (arith, c .before .before .before .before .before .if1 .taken, c .before .before .before .before .before .before .held-places .ensures .word)) (blank 0 0) (c .before .before .quad-less .ensures) (c .before .if2 .left)
+returns-2 c = its-stage (c .before .before .before .before .before .before .before .before .pre .1) (c .before .before .before .before .place-at .ensures)
+    (omega (arith, c .before .before .before .before .before .if1 .taken, c .before .before .before .before .before .before .held-places .ensures .word)) (blank 0 0)
+    (c .before .before .quad-less .ensures) (c .before .if2 .left)
 
 returns-3 : tie.Need-returns-3
 returns-3 c = no-place (c .before .before .before .pre .1) (omega (arith, c .if1 .left, c .before .held-places .ensures .word)) (blank 0 0)

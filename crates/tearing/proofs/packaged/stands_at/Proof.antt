@@ -28,11 +28,16 @@ comes-before-requires c κs = search needs
 
 returns-3 : tie.Need-returns-3
 returns-3 c = λ e.
-    stood (blank 0 0) (omega (arith, c .before .before .before .before .if1 .left, c .before .before .before .before .before .held-places .ensures .word)) (λ f w l. c .before .before .before .follows-last .ensures (not-false (c .before .before .before .follows-last .result) (c .before .before .if2 .left)) f (blank 0 0) w l) (λ f w l. ltb-false ((getD (f .places) (c .before .before .before .before .before .before .before .args .i) (blank 0 0)) .hash) (quadNumber (c .before .before .before .before .before .before .before .args .q)) (sym (c .comes-before .ensures f (blank 0 0) w) ∙ not-true (c .comes-before .result) e))
+    stood (blank 0 0) (omega (arith, c .before .before .before .before .if1 .left, c .before .before .before .before .before .held-places .ensures .word))
+    (λ f w l. c .before .before .before .follows-last .ensures (not-false (c .before .before .before .follows-last .result) (c .before .before .if2 .left)) f (blank 0 0) w l)
+    (λ f w l. ltb-false ((getD (f .places) (c .before .before .before .before .before .before .before .args .i) (blank 0 0)) .hash)
+    (quadNumber (c .before .before .before .before .before .before .before .args .q)) (sym (c .comes-before .ensures f (blank 0 0) w) ∙ not-true (c .comes-before .result) e))
 
 returns-4 : tie.Need-returns-4
 returns-4 c = λ e.
-    stood (blank 0 0) (omega (arith, c .before .before .before .if1 .left, c .before .before .before .before .held-places .ensures .word)) (λ f w l. c .before .before .follows-last .ensures (not-false (c .before .before .follows-last .result) (c .before .if2 .left)) f (blank 0 0) w l) (λ f w l. absurd (omega (arith, sizes w, c .if3 .left, c .before .before .before .before .held-places .ensures .word)))
+    stood (blank 0 0) (omega (arith, c .before .before .before .if1 .left, c .before .before .before .before .held-places .ensures .word))
+    (λ f w l. c .before .before .follows-last .ensures (not-false (c .before .before .follows-last .result) (c .before .if2 .left)) f (blank 0 0) w l)
+    (λ f w l. absurd (omega (arith, sizes w, c .if3 .left, c .before .before .before .before .held-places .ensures .word)))
 
 pub stands-at-spec : {M : Type 1} → statement M
 stands-at-spec =

@@ -14,10 +14,18 @@ same-length : tie.Need-same-length
 same-length c = search needs
 
 returns : tie.Need-returns
-returns c = info-unlisted (keyNum (c .before .before .before .before .before .args .k)) (c .before .before .before .before .before .args .n) (c .before .before .before .before .before .args .clock) _ (λ st s w. sym (c .before .info-owned .ensures st s w) ∙ not-true (c .before .info-owned .result) (c .if1 .taken))
+returns c = info-unlisted (keyNum (c .before .before .before .before .before .args .k)) (c .before .before .before .before .before .args .n)
+    (c .before .before .before .before .before .args .clock) _ (λ st s w. sym (c .before .info-owned .ensures st s w) ∙ not-true (c .before .info-owned .result) (c .if1 .taken))
 
 failed-with-parents-requires : tie.Need-failed-with-parents-requires
-failed-with-parents-requires c κs = (c .before .before .before .before .before .before .before .pre .0, c .before .before .before .before .before .before .before .pre .1, info-room (keyNum (c .before .before .before .before .before .before .before .args .k)) (c .before .before .before .before .before .before .before .args .n) (c .before .before .before .before .before .before .before .args .clock) (λ st s w. sym (c .before .before .before .info-owned .ensures st s w) ∙ not-false (c .before .before .before .info-owned .result) (c .before .before .if1 .left)) (c .before .before .before .before .before .before .before .args .out .now) (c .before .before .before .before .before .before .before .pre .0) (c .before .before .before .before .before .before .before .pre .2))
+failed-with-parents-requires c κs = (
+  c .before .before .before .before .before .before .before .pre .0,
+  c .before .before .before .before .before .before .before .pre .1,
+  info-room (keyNum (c .before .before .before .before .before .before .before .args .k)) (c .before .before .before .before .before .before .before .args .n)
+      (c .before .before .before .before .before .before .before .args .clock) (λ st s w. sym (c .before .before .before .info-owned .ensures st s w) ∙
+      not-false (c .before .before .before .info-owned .result) (c .before .before .if1 .left)) (c .before .before .before .before .before .before .before .args .out .now)
+      (c .before .before .before .before .before .before .before .pre .0) (c .before .before .before .before .before .before .before .pre .2),
+)
 
 same-length-2 : tie.Need-same-length-2
 same-length-2 c = search needs
@@ -26,7 +34,12 @@ same-length-3 : tie.Need-same-length-3
 same-length-3 c = search needs
 
 returns-2 : tie.Need-returns-2
-returns-2 c = info-listed (keyNum (c .before .before .before .before .before .before .before .before .before .before .before .before .args .k)) (c .before .before .before .before .before .before .before .before .before .before .before .before .args .n) (c .before .before .before .before .before .before .before .before .before .before .before .before .args .clock) (λ st s w. sym (c .before .before .before .before .before .before .before .before .info-owned .ensures st s w) ∙ not-false (c .before .before .before .before .before .before .before .before .info-owned .result) (c .before .before .before .before .before .before .before .if1 .left)) (c .before .before .before .before .failed-with-parents .ensures)
+returns-2 c = info-listed (keyNum (c .before .before .before .before .before .before .before .before .before .before .before .before .args .k))
+    (c .before .before .before .before .before .before .before .before .before .before .before .before .args .n)
+    (c .before .before .before .before .before .before .before .before .before .before .before .before .args .clock)
+    (λ st s w. sym (c .before .before .before .before .before .before .before .before .info-owned .ensures st s w) ∙
+    not-false (c .before .before .before .before .before .before .before .before .info-owned .result) (c .before .before .before .before .before .before .before .if1 .left))
+    (c .before .before .before .before .failed-with-parents .ensures)
 
 pub fail-info-spec : {M : Type 1} → statement M
 fail-info-spec =

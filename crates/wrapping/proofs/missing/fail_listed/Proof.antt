@@ -18,13 +18,17 @@ same-length-2 : tie.Need-same-length-2
 same-length-2 c = search needs
 
 returns : tie.Need-returns
-returns c = key-listed (keyNum (c .before .before .before .before .before .before .before .before .before .before .before .args .k)) (c .before .before .before .before .before .before .before .before .before .before .before .args .n) (c .before .before .before .before .before .before .before .before .before .before .before .args .clock) (c .before .before .before .before .before .before .before .failed .ensures) (c .before .before .before .before .if1 .taken) (c .before .before .before .before .before .before .before .before .before .before .before .pre .1) (c .before .before .put-key .ensures)
+returns c = key-listed (keyNum (c .before .before .before .before .before .before .before .before .before .before .before .args .k))
+    (c .before .before .before .before .before .before .before .before .before .before .before .args .n)
+    (c .before .before .before .before .before .before .before .before .before .before .before .args .clock) (c .before .before .before .before .before .before .before .failed .ensures)
+    (c .before .before .before .before .if1 .taken) (c .before .before .before .before .before .before .before .before .before .before .before .pre .1) (c .before .before .put-key .ensures)
 
 same-length-3 : tie.Need-same-length-3
 same-length-3 c = search needs
 
 returns-2 : tie.Need-returns-2
-returns-2 c = key-unlisted (keyNum (c .before .before .before .before .before .before .before .args .k)) (c .before .before .before .before .before .before .before .args .n) (c .before .before .before .before .before .before .before .args .clock) (c .before .before .before .failed .ensures) (c .if1 .left)
+returns-2 c = key-unlisted (keyNum (c .before .before .before .before .before .before .before .args .k)) (c .before .before .before .before .before .before .before .args .n)
+    (c .before .before .before .before .before .before .before .args .clock) (c .before .before .before .failed .ensures) (c .if1 .left)
 
 pub fail-listed-spec : {M : Type 1} → statement M
 fail-listed-spec =

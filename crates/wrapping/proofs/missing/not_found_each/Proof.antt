@@ -86,16 +86,27 @@ add-kept c =
     let late : a .clock < word = omega arith in
     let hashed = items-fit (a .items .now) (λ j. omega (arith, c .before .before .before .before .before .before .before .before .before .before .before .before .shared-slice-known .given j)) in
     let v = c .before .before .before .before .before .before .before .before .before .loop .inv in
-    let inside : c .before .before .before .before .before .before .before .before .before .loop .i < length l = omega (arith, c .before .before .before .before .before .before .before .before .loop-test .taken, c .before .before .before .before .before .before .before .before .before .before .items .ensures) in
-    let from : c .before .before .before .before .before .before .before .before .before .loop .kept * keyBytes ≡ keyBytes * c .before .before .before .before .before .before .before .before .before .loop .kept = omega arith in
-    let next = turned-more v peer late hashed (start .pre .0) (start .pre .2) inside from (sym (v .buffer-long)) _ (c .before .before .before .before .before .before .before .item-at .ensures) (c .before .before .before .before .not-found-one .kept .0) (c .before .before .before .before .not-found-one .kept .1 .1 .1 .1 .0) (c .before .before .before .before .not-found-one .ensures) in
+    let inside : c .before .before .before .before .before .before .before .before .before .loop .i < length l = omega (
+      arith,
+      c .before .before .before .before .before .before .before .before .loop-test .taken,
+      c .before .before .before .before .before .before .before .before .before .before .items .ensures,
+    ) in
+    let from : c .before .before .before .before .before .before .before .before .before .loop .kept * keyBytes ≡
+    keyBytes * c .before .before .before .before .before .before .before .before .before .loop .kept = omega arith in
+    let next = turned-more v peer late hashed (start .pre .0) (start .pre .2) inside from (sym (v .buffer-long)) _ (c .before .before .before .before .before .before .before .item-at .ensures)
+    (c .before .before .before .before .not-found-one .kept .0) (c .before .before .before .before .not-found-one .kept .1 .1 .1 .1 .0)
+    (c .before .before .before .before .not-found-one .ensures) in
     omega (arith, turned-fits next peer late hashed (start .pre .0) (start .pre .2))
 
 add-i : tie.Need-add-i Inv-loop μ-loop
 add-i c = omega (arith, c .before .before .before .before .before .before .before .before .loop-test .taken)
 
 loop-less : tie.Need-loop-less Inv-loop μ-loop
-loop-less c = omega (arith, c .before .before .before .before .before .before .before .before .loop-test .taken, c .before .before .before .before .before .before .before .before .before .before .items .ensures)
+loop-less c = omega (
+  arith,
+  c .before .before .before .before .before .before .before .before .loop-test .taken,
+  c .before .before .before .before .before .before .before .before .before .before .items .ensures,
+)
 
 loop-again : tie.Need-loop-again Inv-loop μ-loop
 loop-again c =
@@ -106,9 +117,16 @@ loop-again c =
     let late : a .clock < word = omega arith in
     let hashed = items-fit (a .items .now) (λ j. omega (arith, c .before .before .before .before .before .before .before .before .before .before .before .before .shared-slice-known .given j)) in
     let v = c .before .before .before .before .before .before .before .before .before .loop .inv in
-    let inside : c .before .before .before .before .before .before .before .before .before .loop .i < length l = omega (arith, c .before .before .before .before .before .before .before .before .loop-test .taken, c .before .before .before .before .before .before .before .before .before .before .items .ensures) in
-    let from : c .before .before .before .before .before .before .before .before .before .loop .kept * keyBytes ≡ keyBytes * c .before .before .before .before .before .before .before .before .before .loop .kept = omega arith in
-    turned-more v peer late hashed (start .pre .0) (start .pre .2) inside from (sym (v .buffer-long)) _ (c .before .before .before .before .before .before .before .item-at .ensures) (c .before .before .before .before .not-found-one .kept .0) (c .before .before .before .before .not-found-one .kept .1 .1 .1 .1 .0) (c .before .before .before .before .not-found-one .ensures)
+    let inside : c .before .before .before .before .before .before .before .before .before .loop .i < length l = omega (
+      arith,
+      c .before .before .before .before .before .before .before .before .loop-test .taken,
+      c .before .before .before .before .before .before .before .before .before .before .items .ensures,
+    ) in
+    let from : c .before .before .before .before .before .before .before .before .before .loop .kept * keyBytes ≡
+    keyBytes * c .before .before .before .before .before .before .before .before .before .loop .kept = omega arith in
+    turned-more v peer late hashed (start .pre .0) (start .pre .2) inside from (sym (v .buffer-long)) _ (c .before .before .before .before .before .before .before .item-at .ensures)
+    (c .before .before .before .before .not-found-one .kept .0) (c .before .before .before .before .not-found-one .kept .1 .1 .1 .1 .0)
+    (c .before .before .before .before .not-found-one .ensures)
 
 same-length : tie.Need-same-length Inv-loop μ-loop
 same-length c = c .before .loop .inv .store-long

@@ -13,7 +13,11 @@ txid-key-requires : tie.Need-txid-key-requires
 txid-key-requires c κs = search needs
 
 fail-listed-requires : tie.Need-fail-listed-requires
-fail-listed-requires c κs = (c .before .before .before .before .before .before .before .before .pre .0, one-room (c .before .before .before .before .before .before .before .before .args .out .now) (c .before .before .before .before .before .before .before .before .pre .0) (c .before .before .before .before .before .before .before .before .pre .2))
+fail-listed-requires c κs = (
+  c .before .before .before .before .before .before .before .before .pre .0,
+  one-room (c .before .before .before .before .before .before .before .before .args .out .now)
+      (c .before .before .before .before .before .before .before .before .pre .0) (c .before .before .before .before .before .before .before .before .pre .2),
+)
 
 same-length : tie.Need-same-length
 same-length c = search needs
@@ -22,7 +26,13 @@ same-length-2 : tie.Need-same-length-2
 same-length-2 c = search needs
 
 returns : tie.Need-returns
-returns c = one-keyed (c .before .before .before .before .before .before .before .before .before .before .before .before .before .args .n) (c .before .before .before .before .before .before .before .before .before .before .before .before .before .args .clock) (hashNum (c .before .before .before .before .before .before .before .before .before .before .before .before .before .args .item .hash)) (c .before .before .before .before .before .before .before .before .before .before .before .before .before .args .item .kind) _ (key-t (hashNum (c .before .before .before .before .before .before .before .before .before .before .before .before .before .args .item .hash)) (c .before .before .before .before .before .before .before .before .enum-told .given .1) (c .before .before .before .before .before .before .txid-key .ensures)) (c .before .before .before .before .fail-listed .ensures)
+returns c = one-keyed (c .before .before .before .before .before .before .before .before .before .before .before .before .before .args .n)
+    (c .before .before .before .before .before .before .before .before .before .before .before .before .before .args .clock)
+    (hashNum (c .before .before .before .before .before .before .before .before .before .before .before .before .before .args .item .hash))
+    (c .before .before .before .before .before .before .before .before .before .before .before .before .before .args .item .kind) _
+    (key-t (hashNum (c .before .before .before .before .before .before .before .before .before .before .before .before .before .args .item .hash))
+    (c .before .before .before .before .before .before .before .before .enum-told .given .1) (c .before .before .before .before .before .before .txid-key .ensures))
+    (c .before .before .before .before .fail-listed .ensures)
 
 enum-told-2 : tie.Need-enum-told-2
 enum-told-2 c = search needs
@@ -31,7 +41,11 @@ txid-key-requires-2 : tie.Need-txid-key-requires-2
 txid-key-requires-2 c κs = search needs
 
 fail-listed-requires-2 : tie.Need-fail-listed-requires-2
-fail-listed-requires-2 c κs = (c .before .before .before .before .before .before .before .before .pre .0, one-room (c .before .before .before .before .before .before .before .before .args .out .now) (c .before .before .before .before .before .before .before .before .pre .0) (c .before .before .before .before .before .before .before .before .pre .2))
+fail-listed-requires-2 c κs = (
+  c .before .before .before .before .before .before .before .before .pre .0,
+  one-room (c .before .before .before .before .before .before .before .before .args .out .now)
+      (c .before .before .before .before .before .before .before .before .pre .0) (c .before .before .before .before .before .before .before .before .pre .2),
+)
 
 same-length-3 : tie.Need-same-length-3
 same-length-3 c = search needs
@@ -40,7 +54,13 @@ same-length-4 : tie.Need-same-length-4
 same-length-4 c = search needs
 
 returns-2 : tie.Need-returns-2
-returns-2 c = one-keyed (c .before .before .before .before .before .before .before .before .before .before .before .before .before .args .n) (c .before .before .before .before .before .before .before .before .before .before .before .before .before .args .clock) (hashNum (c .before .before .before .before .before .before .before .before .before .before .before .before .before .args .item .hash)) (c .before .before .before .before .before .before .before .before .before .before .before .before .before .args .item .kind) _ (key-v (hashNum (c .before .before .before .before .before .before .before .before .before .before .before .before .before .args .item .hash)) (c .before .before .before .before .before .before .before .before .enum-told2 .given .1) (c .before .before .before .before .before .before .txid-key2 .ensures)) (c .before .before .before .before .fail-listed2 .ensures)
+returns-2 c = one-keyed (c .before .before .before .before .before .before .before .before .before .before .before .before .before .args .n)
+    (c .before .before .before .before .before .before .before .before .before .before .before .before .before .args .clock)
+    (hashNum (c .before .before .before .before .before .before .before .before .before .before .before .before .before .args .item .hash))
+    (c .before .before .before .before .before .before .before .before .before .before .before .before .before .args .item .kind) _
+    (key-v (hashNum (c .before .before .before .before .before .before .before .before .before .before .before .before .before .args .item .hash))
+    (c .before .before .before .before .before .before .before .before .enum-told2 .given .1) (c .before .before .before .before .before .before .txid-key2 .ensures))
+    (c .before .before .before .before .fail-listed2 .ensures)
 
 enum-told-3 : tie.Need-enum-told-3
 enum-told-3 c = search needs
@@ -49,7 +69,11 @@ wtxid-key-requires : tie.Need-wtxid-key-requires
 wtxid-key-requires c κs = search needs
 
 fail-listed-requires-3 : tie.Need-fail-listed-requires-3
-fail-listed-requires-3 c κs = (c .before .before .before .before .before .before .before .before .pre .0, one-room (c .before .before .before .before .before .before .before .before .args .out .now) (c .before .before .before .before .before .before .before .before .pre .0) (c .before .before .before .before .before .before .before .before .pre .2))
+fail-listed-requires-3 c κs = (
+  c .before .before .before .before .before .before .before .before .pre .0,
+  one-room (c .before .before .before .before .before .before .before .before .args .out .now)
+      (c .before .before .before .before .before .before .before .before .pre .0) (c .before .before .before .before .before .before .before .before .pre .2),
+)
 
 same-length-5 : tie.Need-same-length-5
 same-length-5 c = search needs
@@ -58,7 +82,13 @@ same-length-6 : tie.Need-same-length-6
 same-length-6 c = search needs
 
 returns-3 : tie.Need-returns-3
-returns-3 c = one-keyed (c .before .before .before .before .before .before .before .before .before .before .before .before .before .args .n) (c .before .before .before .before .before .before .before .before .before .before .before .before .before .args .clock) (hashNum (c .before .before .before .before .before .before .before .before .before .before .before .before .before .args .item .hash)) (c .before .before .before .before .before .before .before .before .before .before .before .before .before .args .item .kind) _ (key-w (hashNum (c .before .before .before .before .before .before .before .before .before .before .before .before .before .args .item .hash)) (c .before .before .before .before .before .before .before .before .enum-told3 .given .1) (c .before .before .before .before .before .before .wtxid-key .ensures)) (c .before .before .before .before .fail-listed3 .ensures)
+returns-3 c = one-keyed (c .before .before .before .before .before .before .before .before .before .before .before .before .before .args .n)
+    (c .before .before .before .before .before .before .before .before .before .before .before .before .before .args .clock)
+    (hashNum (c .before .before .before .before .before .before .before .before .before .before .before .before .before .args .item .hash))
+    (c .before .before .before .before .before .before .before .before .before .before .before .before .before .args .item .kind) _
+    (key-w (hashNum (c .before .before .before .before .before .before .before .before .before .before .before .before .before .args .item .hash))
+    (c .before .before .before .before .before .before .before .before .enum-told3 .given .1) (c .before .before .before .before .before .before .wtxid-key .ensures))
+    (c .before .before .before .before .fail-listed3 .ensures)
 
 enum-known-kind : tie.Need-enum-known-kind
 enum-known-kind c = search needs
@@ -76,10 +106,15 @@ same-length-8 : tie.Need-same-length-8
 same-length-8 c = search needs
 
 returns-4 : tie.Need-returns-4
-returns-4 c = one-info (c .before .before .before .before .before .before .before .before .before .before .before .before .before .before .before .args .n) (c .before .before .before .before .before .before .before .before .before .before .before .before .before .before .before .args .clock) (hashNum (c .before .before .before .before .before .before .before .before .before .before .before .before .before .before .before .args .item .hash)) _ _ (c .before .before .before .before .before .before .before .before .before .before .kind .given .1) (c .before .before .before .before .before .before .before .before .if1 .taken) (c .before .before .before .before .before .before .wtxid-key2 .ensures) (c .before .before .before .before .fail-info .ensures)
+returns-4 c = one-info (c .before .before .before .before .before .before .before .before .before .before .before .before .before .before .before .args .n)
+    (c .before .before .before .before .before .before .before .before .before .before .before .before .before .before .before .args .clock)
+    (hashNum (c .before .before .before .before .before .before .before .before .before .before .before .before .before .before .before .args .item .hash)) _ _
+    (c .before .before .before .before .before .before .before .before .before .before .kind .given .1) (c .before .before .before .before .before .before .before .before .if1 .taken)
+    (c .before .before .before .before .before .before .wtxid-key2 .ensures) (c .before .before .before .before .fail-info .ensures)
 
 returns-5 : tie.Need-returns-5
-returns-5 c = one-other (c .before .before .before .before .before .before .before .args .n) (c .before .before .before .before .before .before .before .args .clock) (hashNum (c .before .before .before .before .before .before .before .args .item .hash)) _ (c .before .before .kind .given .1) (c .if1 .left)
+returns-5 c = one-other (c .before .before .before .before .before .before .before .args .n) (c .before .before .before .before .before .before .before .args .clock)
+    (hashNum (c .before .before .before .before .before .before .before .args .item .hash)) _ (c .before .before .kind .given .1) (c .if1 .left)
 
 pub not-found-one-spec : {M : Type 1} → statement M
 not-found-one-spec =

@@ -64,7 +64,8 @@ packages-not-found-requires c κs =
     let hashed = items-fit (a .items .now) (λ j. omega (arith, c .before .before .before .before .before .before .before .before .before .before .shared-slice-known .given j)) in
     let v = c .before .before .before .before .before .before .not-found-each .ensures in
     let long = c .before .before .before .before .before .before .not-found-each .kept .1 .1 .1 .1 .0 in
-    let from : c .before .before .before .before .before .before .not-found-each .result * keyBytes ≡ keyBytes * c .before .before .before .before .before .before .not-found-each .result = omega arith in
+    let from : c .before .before .before .before .before .before .not-found-each .result * keyBytes ≡ keyBytes * c .before .before .before .before .before .before .not-found-each .result =
+    omega arith in
     (items-kept l v long peer late hashed (start .pre .0) (start .pre .2), start .pre .1, packages-room l v long peer late hashed (start .pre .0) (start .pre .2) from refl)
 
 add-result : tie.Need-add-result
@@ -74,10 +75,12 @@ add-result c =
     let l = itemsIn (a .items .now) in
     let peer : Peer (a .n) = record { positive = start .pre .1; small = omega arith } in
     let late : a .clock < word = omega arith in
-    let hashed = items-fit (a .items .now) (λ j. omega (arith, c .before .before .before .before .before .before .before .before .before .before .before .before .before .before .before .shared-slice-known .given j)) in
+    let hashed = items-fit (a .items .now)
+    (λ j. omega (arith, c .before .before .before .before .before .before .before .before .before .before .before .before .before .before .before .shared-slice-known .given j)) in
     let v = c .before .before .before .before .before .before .before .before .before .before .before .not-found-each .ensures in
     let long = c .before .before .before .before .before .before .before .before .before .before .before .not-found-each .kept .1 .1 .1 .1 .0 in
-    let from : c .before .before .before .before .before .before .before .before .before .before .before .not-found-each .result * keyBytes ≡ keyBytes * c .before .before .before .before .before .before .before .before .before .before .before .not-found-each .result = omega arith in
+    let from : c .before .before .before .before .before .before .before .before .before .before .before .not-found-each .result * keyBytes ≡
+    keyBytes * c .before .before .before .before .before .before .before .before .before .before .before .not-found-each .result = omega arith in
     omega (arith, packages-within l v long peer late hashed (start .pre .0) (start .pre .2) from refl (c .before .before .before .before .packages-not-found .ensures))
 
 same-length : tie.Need-same-length
@@ -93,10 +96,12 @@ returns c =
     let l = itemsIn (a .items .now) in
     let peer : Peer (a .n) = record { positive = start .pre .1; small = omega arith } in
     let late : a .clock < word = omega arith in
-    let hashed = items-fit (a .items .now) (λ j. omega (arith, c .before .before .before .before .before .before .before .before .before .before .before .before .before .before .before .shared-slice-known .given j)) in
+    let hashed = items-fit (a .items .now)
+    (λ j. omega (arith, c .before .before .before .before .before .before .before .before .before .before .before .before .before .before .before .shared-slice-known .given j)) in
     let v = c .before .before .before .before .before .before .before .before .before .before .before .not-found-each .ensures in
     let long = c .before .before .before .before .before .before .before .before .before .before .before .not-found-each .kept .1 .1 .1 .1 .0 in
-    let from : c .before .before .before .before .before .before .before .before .before .before .before .not-found-each .result * keyBytes ≡ keyBytes * c .before .before .before .before .before .before .before .before .before .before .before .not-found-each .result = omega arith in
+    let from : c .before .before .before .before .before .before .before .before .before .before .before .not-found-each .result * keyBytes ≡
+    keyBytes * c .before .before .before .before .before .before .before .before .before .before .before .not-found-each .result = omega arith in
     packages-listed l v long peer late hashed (start .pre .0) (start .pre .2) from refl (c .before .before .before .before .packages-not-found .ensures)
 
 pub transaction-not-found-spec : {M : Type 1} → statement M

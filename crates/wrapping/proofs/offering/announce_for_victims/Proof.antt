@@ -34,7 +34,11 @@ same-length : tie.Need-same-length
 same-length c = search needs
 
 returns : tie.Need-returns
-returns c = went-none (c .before .before .before .before .before .before .before .before .before .before .before .before .before .before .args .a) (offersIn (c .before .before .before .before .before .before .before .before .before .before .before .before .before .before .args .items .now) (c .before .before .before .before .before .before .before .before .before .before .before .before .before .before .args .priorities .now)) (c .before .before .before .before .before .before .before .before .before .before .before .before .before .before .args .first) (omega (arith, c .before .before .before .before .before .before .before .before .before .before .before .before .before .before .pre .3))
+returns c = went-none (c .before .before .before .before .before .before .before .before .before .before .before .before .before .before .args .a)
+    (offersIn (c .before .before .before .before .before .before .before .before .before .before .before .before .before .before .args .items .now)
+    (c .before .before .before .before .before .before .before .before .before .before .before .before .before .before .args .priorities .now))
+    (c .before .before .before .before .before .before .before .before .before .before .before .before .before .before .args .first)
+    (omega (arith, c .before .before .before .before .before .before .before .before .before .before .before .before .before .before .pre .3))
 
 region-requires : tie.Need-region-requires
 region-requires c κs = search needs
@@ -56,8 +60,16 @@ swap-requires c κs = (
   c .before .before .before .before .before .before .before .before .before .before .before .before .before .before .before .before .before .before .before .before .before .pre .0,
   c .before .before .before .before .before .before .before .before .before .before .before .before .before .before .before .before .before .before .before .before .before .pre .1,
   c .before .before .before .before .before .before .before .before .before .list-victims .ensures .1,
-  omega (arith, c .before .before .before .before .before .before .before .before .before .list-victims .ensures .0, c .before .before .before .before .before .before .before .before .before .before .at-most .ensures .1),
-  omega (arith, c .before .before .before .before .before .before .before .before .before .list-victims .kept .1 .0, c .before .before .before .before .before .before .before .before .before .before .before .before .before .before .clear .kept .0),
+  omega (
+    arith,
+    c .before .before .before .before .before .before .before .before .before .list-victims .ensures .0,
+    c .before .before .before .before .before .before .before .before .before .before .at-most .ensures .1,
+  ),
+  omega (
+    arith,
+    c .before .before .before .before .before .before .before .before .before .list-victims .kept .1 .0,
+    c .before .before .before .before .before .before .before .before .before .before .before .before .before .before .clear .kept .0,
+  ),
   omega (arith, c .before .before .before .before .clear2 .kept .0),
   c .before .before .before .before .clear2 .ensures,
   c .before .before .before .before .before .before .before .before .before .before .before .before .before .before .before .before .before .before .before .before .before .pre .2,
@@ -68,7 +80,16 @@ slice-aggregate-come-in : tie.Need-slice-aggregate-come-in
 slice-aggregate-come-in c = search needs
 
 come-in-requires : tie.Need-come-in-requires
-come-in-requires c κs = (swaps-gathers (c .before .before .before .before .before .swap .ensures) (c .before .before .before .before .before .before .before .before .before .before .before .before .before .before .before .before .before .before .before .before .before .before .before .before .before .before .before .pre .0), omega (arith, c .before .before .before .before .before .swap .ensures .few, c .before .before .before .before .before .swap .kept .1 .0, c .before .before .before .before .before .before .before .before .before .before .clear2 .kept .0))
+come-in-requires c κs = (
+  swaps-gathers (c .before .before .before .before .before .swap .ensures) (c .before .before .before .before .before .before .before .before .before .before .before .before .before .before
+      .before .before .before .before .before .before .before .before .before .before .before .before .before .pre .0),
+  omega (
+    arith,
+    c .before .before .before .before .before .swap .ensures .few,
+    c .before .before .before .before .before .swap .kept .1 .0,
+    c .before .before .before .before .before .before .before .before .before .before .clear2 .kept .0,
+  ),
+)
 
 same-length-2 : tie.Need-same-length-2
 same-length-2 c = search needs

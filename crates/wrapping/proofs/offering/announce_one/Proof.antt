@@ -15,7 +15,10 @@ same-length : tie.Need-same-length
 same-length c = search needs
 
 returns : tie.Need-returns
-returns c = one-announced (c .before .before .before .before .before .before .before .before .args .a) (offersIn (c .before .before .before .before .before .before .before .before .args .items .now) (c .before .before .before .before .before .before .before .before .args .priorities .now)) (c .before .before .before .before .before .before .before .before .args .i) (c .before .before .before .before .before .before .before .before .pre .2) (c .before .before .before .before .offered-at .ensures) (c .before .before .announce .ensures)
+returns c = one-announced (c .before .before .before .before .before .before .before .before .args .a)
+    (offersIn (c .before .before .before .before .before .before .before .before .args .items .now) (c .before .before .before .before .before .before .before .before .args .priorities .now))
+    (c .before .before .before .before .before .before .before .before .args .i) (c .before .before .before .before .before .before .before .before .pre .2)
+    (c .before .before .before .before .offered-at .ensures) (c .before .before .announce .ensures)
 
 pub announce-one-spec : {M : Type 1} → statement M
 announce-one-spec = tie.close (tie.spec offered-at-requires announce-requires same-length returns)

@@ -23,7 +23,13 @@ returns : tie.Need-returns
 returns c = search needs
 
 announce-for-victims-requires : tie.Need-announce-for-victims-requires
-announce-for-victims-requires c κs = (c .before .before .before .before .before .before .before .pre .0, c .before .before .displaces .ensures (not-false (c .before .before .displaces .result) (c .before .if1 .left)), c .before .before .before .before .before .before .before .pre .2, c .before .before .before .before .before .before .before .pre .3)
+announce-for-victims-requires c κs = (
+  c .before .before .before .before .before .before .before .pre .0,
+  c .before .before .displaces .ensures (not-false (c .before .before .displaces .result)
+      (c .before .if1 .left)),
+  c .before .before .before .before .before .before .before .pre .2,
+  c .before .before .before .before .before .before .before .pre .3,
+)
 
 same-length-2 : tie.Need-same-length-2
 same-length-2 c = search needs
@@ -33,20 +39,43 @@ returns-2 c = search needs
 
 announce-some-requires-2 : tie.Need-announce-some-requires-2
 announce-some-requires-2 c κs =
-    let os = offersIn (c .before .before .before .before .before .before .before .before .before .before .before .before .args .items .now) (c .before .before .before .before .before .before .before .before .before .before .before .before .args .priorities .now) in
-    let peer : Peer (c .before .before .before .before .before .before .before .before .before .before .before .before .args .a .connection) = record { positive = c .before .before .before .before .before .before .before .before .before .before .before .before .pre .1; small = omega (arith, c .before .before .before .before .before .before .before .before .before .before .before .before .good .1 .0) } in
-    let typed : Each OfferTyped os = offers-fit (c .before .before .before .before .before .before .before .before .before .before .before .before .args .items .now) (c .before .before .before .before .before .before .before .before .before .before .before .before .args .priorities .now) (λ j. omega (arith, c .before .before .before .before .before .before .before .before .before .before .shared-slice-known .given j)) (λ j. omega (arith, c .before .before .before .before .before .before .before .before .before .shared-slice-known2 .given j)) in
-    (went-kept (c .before .before .before .before .announce-for-victims .ensures) peer (c .before .before .before .before .before .before .before .before .before .before .before .before .pre .2) typed (c .before .before .before .before .before .before .before .before .before .before .before .before .pre .0), c .before .before .before .before .before .before .before .before .before .before .before .before .pre .1, c .before .before .before .before .before .before .before .before .before .before .before .before .pre .2, c .before .before .before .before .before .before .before .before .before .before .before .before .pre .3)
+    let os = offersIn (c .before .before .before .before .before .before .before .before .before .before .before .before .args .items .now)
+    (c .before .before .before .before .before .before .before .before .before .before .before .before .args .priorities .now) in
+    let peer : Peer (c .before .before .before .before .before .before .before .before .before .before .before .before .args .a .connection) =
+    record {
+      positive = c .before .before .before .before .before .before .before .before .before .before .before .before .pre .1;
+      small = omega (arith, c .before .before .before .before .before .before .before .before .before .before .before .before .good .1 .0);
+    } in
+    let typed : Each OfferTyped os = offers-fit (c .before .before .before .before .before .before .before .before .before .before .before .before .args .items .now)
+    (c .before .before .before .before .before .before .before .before .before .before .before .before .args .priorities .now)
+    (λ j. omega (arith, c .before .before .before .before .before .before .before .before .before .before .shared-slice-known .given j))
+    (λ j. omega (arith, c .before .before .before .before .before .before .before .before .before .shared-slice-known2 .given j)) in (
+      went-kept (c .before .before .before .before .announce-for-victims .ensures) peer (c .before .before .before .before .before .before .before .before .before .before .before .before .pre .2)
+          typed (c .before .before .before .before .before .before .before .before .before .before .before .before .pre .0),
+      c .before .before .before .before .before .before .before .before .before .before .before .before .pre .1,
+      c .before .before .before .before .before .before .before .before .before .before .before .before .pre .2,
+      c .before .before .before .before .before .before .before .before .before .before .before .before .pre .3,
+    )
 
 same-length-3 : tie.Need-same-length-3
 same-length-3 c = search needs
 
 returns-3 : tie.Need-returns-3
 returns-3 c =
-    let os = offersIn (c .before .before .before .before .before .before .before .before .before .before .before .before .before .before .before .args .items .now) (c .before .before .before .before .before .before .before .before .before .before .before .before .before .before .before .args .priorities .now) in
-    let peer : Peer (c .before .before .before .before .before .before .before .before .before .before .before .before .before .before .before .args .a .connection) = record { positive = c .before .before .before .before .before .before .before .before .before .before .before .before .before .before .before .pre .1; small = omega (arith, c .before .before .before .before .before .before .before .before .before .before .before .before .before .before .before .good .1 .0) } in
-    let typed : Each OfferTyped os = offers-fit (c .before .before .before .before .before .before .before .before .before .before .before .before .before .before .before .args .items .now) (c .before .before .before .before .before .before .before .before .before .before .before .before .before .before .before .args .priorities .now) (λ j. omega (arith, c .before .before .before .before .before .before .before .before .before .before .before .before .before .shared-slice-known .given j)) (λ j. omega (arith, c .before .before .before .before .before .before .before .before .before .before .before .before .shared-slice-known2 .given j)) in
-    went-then (c .before .before .before .before .before .before .before .announce-for-victims .ensures) peer (c .before .before .before .before .before .before .before .before .before .before .before .before .before .before .before .pre .2) typed (omega (arith, c .before .before .before .before .if2 .left)) (c .before .before .announce-some2 .ensures)
+    let os = offersIn (c .before .before .before .before .before .before .before .before .before .before .before .before .before .before .before .args .items .now)
+    (c .before .before .before .before .before .before .before .before .before .before .before .before .before .before .before .args .priorities .now) in
+    let peer : Peer (c .before .before .before .before .before .before .before .before .before .before .before .before .before .before .before .args .a .connection) =
+    record {
+      positive = c .before .before .before .before .before .before .before .before .before .before .before .before .before .before .before .pre .1;
+      small = omega (arith, c .before .before .before .before .before .before .before .before .before .before .before .before .before .before .before .good .1 .0);
+    } in
+    let typed : Each OfferTyped os = offers-fit (c .before .before .before .before .before .before .before .before .before .before .before .before .before .before .before .args .items .now)
+    (c .before .before .before .before .before .before .before .before .before .before .before .before .before .before .before .args .priorities .now)
+    (λ j. omega (arith, c .before .before .before .before .before .before .before .before .before .before .before .before .before .shared-slice-known .given j))
+    (λ j. omega (arith, c .before .before .before .before .before .before .before .before .before .before .before .before .shared-slice-known2 .given j)) in
+    went-then (c .before .before .before .before .before .before .before .announce-for-victims .ensures) peer
+    (c .before .before .before .before .before .before .before .before .before .before .before .before .before .before .before .pre .2) typed
+    (omega (arith, c .before .before .before .before .if2 .left)) (c .before .before .announce-some2 .ensures)
 
 pub announce-part-spec : {M : Type 1} → statement M
 announce-part-spec =

@@ -47,15 +47,43 @@ slice-aggregate-come-in : tie.Need-slice-aggregate-come-in
 slice-aggregate-come-in c = search needs
 
 come-in-requires : tie.Need-come-in-requires
-come-in-requires c κs = (collects-gathers (c .before .before .before .collect .ensures) (c .before .before .before .before .before .before .before .before .before .before .before .before .before .before .before .pre .0), omega (arith, c .before .before .before .collect .ensures .few, c .before .before .before .collect .kept .1 .0, c .before .before .before .before .before .before .before .clear .kept .0))
+come-in-requires c κs = (
+  collects-gathers (c .before .before .before .collect .ensures)
+      (c .before .before .before .before .before .before .before .before .before .before .before .before .before .before .before .pre .0),
+  omega (arith, c .before .before .before .collect .ensures .few, c .before .before .before .collect .kept .1 .0, c .before .before .before .before .before .before .before .clear .kept .0),
+)
 
 announce-one-requires-2 : tie.Need-announce-one-requires-2
 announce-one-requires-2 c κs =
-    let os = offersIn (c .before .before .before .before .before .before .before .before .before .before .before .before .before .before .before .before .before .before .before .before .args .items .now) (c .before .before .before .before .before .before .before .before .before .before .before .before .before .before .before .before .before .before .before .before .args .priorities .now) in
-    let peer : Peer (c .before .before .before .before .before .before .before .before .before .before .before .before .before .before .before .before .before .before .before .before .args .a .connection) = record { positive = c .before .before .before .before .before .before .before .before .before .before .before .before .before .before .before .before .before .before .before .before .pre .1; small = omega (arith, c .before .before .before .before .before .before .before .before .before .before .before .before .before .before .before .before .before .before .before .before .good .1 .0) } in
-    let typed : Each OfferTyped os = offers-fit (c .before .before .before .before .before .before .before .before .before .before .before .before .before .before .before .before .before .before .before .before .args .items .now) (c .before .before .before .before .before .before .before .before .before .before .before .before .before .before .before .before .before .before .before .before .args .priorities .now) (λ j. omega (arith, c .before .before .before .before .before .before .before .before .before .before .before .before .before .before .before .before .before .before .shared-slice-known .given j)) (λ j. omega (arith, c .before .before .before .before .before .before .before .before .before .before .before .before .before .before .before .before .before .shared-slice-known2 .given j)) in
-    let came = collects-in (c .before .before .before .before .before .before .before .before .collect .ensures) (c .before .before .before .before .come-in .ensures) in
-    (part-kept (c .before .before .before .before .before .before .before .before .before .before .before .before .before .before .before .before .before .before .before .before .args .a) os (c .before .before .before .before .before .before .before .before .before .before .before .before .before .before .before .before .before .before .before .before .args .first) (c .before .before .before .before .before .before .before .before .collect .result .next) came peer (c .before .before .before .before .before .before .before .before .before .before .before .before .before .before .before .before .before .before .before .before .pre .2) typed (c .before .before .before .before .before .before .before .before .before .before .before .before .before .before .before .before .before .before .before .before .pre .0), c .before .before .before .before .before .before .before .before .before .before .before .before .before .before .before .before .before .before .before .before .pre .2, omega (arith, c .before .if2 .taken, c .before .before .before .before .before .before .before .before .before .before .before .before .before .before .before .before .offers .ensures))
+    let os = offersIn
+    (c .before .before .before .before .before .before .before .before .before .before .before .before .before .before .before .before .before .before .before .before .args .items .now)
+    (c .before .before .before .before .before .before .before .before .before .before .before .before .before .before .before .before .before .before .before .before .args .priorities .now)
+    in
+    let peer : Peer
+    (c .before .before .before .before .before .before .before .before .before .before .before .before .before .before .before .before .before .before .before .before .args .a .connection) =
+    record {
+      positive =
+          c .before .before .before .before .before .before .before .before .before .before .before .before .before .before .before .before .before .before .before .before .pre .1;
+      small = omega
+          (arith, c .before .before .before .before .before .before .before .before .before .before .before .before .before .before .before .before .before .before .before .before .good .1 .0);
+    } in
+    let typed : Each OfferTyped os = offers-fit
+    (c .before .before .before .before .before .before .before .before .before .before .before .before .before .before .before .before .before .before .before .before .args .items .now)
+    (c .before .before .before .before .before .before .before .before .before .before .before .before .before .before .before .before .before .before .before .before .args .priorities .now)
+    (λ j. omega (
+      arith,
+      c .before .before .before .before .before .before .before .before .before .before .before .before .before .before .before .before .before .before .shared-slice-known .given j,
+    )) (λ j.
+    omega (arith, c .before .before .before .before .before .before .before .before .before .before .before .before .before .before .before .before .before .shared-slice-known2 .given j)) in
+    let came = collects-in (c .before .before .before .before .before .before .before .before .collect .ensures) (c .before .before .before .before .come-in .ensures) in (
+      part-kept (c .before .before .before .before .before .before .before .before .before .before .before .before .before .before .before .before .before .before .before .before .args .a) os
+          (c .before .before .before .before .before .before .before .before .before .before .before .before .before .before .before .before .before .before .before .before .args .first)
+          (c .before .before .before .before .before .before .before .before .collect .result .next) came peer
+          (c .before .before .before .before .before .before .before .before .before .before .before .before .before .before .before .before .before .before .before .before .pre .2) typed
+          (c .before .before .before .before .before .before .before .before .before .before .before .before .before .before .before .before .before .before .before .before .pre .0),
+      c .before .before .before .before .before .before .before .before .before .before .before .before .before .before .before .before .before .before .before .before .pre .2,
+      omega (arith, c .before .if2 .taken, c .before .before .before .before .before .before .before .before .before .before .before .before .before .before .before .before .offers .ensures),
+    )
 
 add-result-2 : tie.Need-add-result-2
 add-result-2 c = search needs
@@ -65,14 +93,45 @@ same-length-2 c = search needs
 
 returns-2 : tie.Need-returns-2
 returns-2 c =
-    let os = offersIn (c .before .before .before .before .before .before .before .before .before .before .before .before .before .before .before .before .before .before .before .before .before .before .before .args .items .now) (c .before .before .before .before .before .before .before .before .before .before .before .before .before .before .before .before .before .before .before .before .before .before .before .args .priorities .now) in
-    let peer : Peer (c .before .before .before .before .before .before .before .before .before .before .before .before .before .before .before .before .before .before .before .before .before .before .before .args .a .connection) = record { positive = c .before .before .before .before .before .before .before .before .before .before .before .before .before .before .before .before .before .before .before .before .before .before .before .pre .1; small = omega (arith, c .before .before .before .before .before .before .before .before .before .before .before .before .before .before .before .before .before .before .before .before .before .before .before .good .1 .0) } in
-    let typed : Each OfferTyped os = offers-fit (c .before .before .before .before .before .before .before .before .before .before .before .before .before .before .before .before .before .before .before .before .before .before .before .args .items .now) (c .before .before .before .before .before .before .before .before .before .before .before .before .before .before .before .before .before .before .before .before .before .before .before .args .priorities .now) (λ j. omega (arith, c .before .before .before .before .before .before .before .before .before .before .before .before .before .before .before .before .before .before .before .before .before .shared-slice-known .given j)) (λ j. omega (arith, c .before .before .before .before .before .before .before .before .before .before .before .before .before .before .before .before .before .before .before .before .shared-slice-known2 .given j)) in
-    let came = collects-in (c .before .before .before .before .before .before .before .before .before .before .before .collect .ensures) (c .before .before .before .before .before .before .before .come-in .ensures) in
+    let os = offersIn (c .before .before .before .before .before .before .before .before .before .before .before .before .before .before .before .before .before .before .before .before .before
+    .before .before .args .items .now) (c .before .before .before .before .before .before .before .before .before .before .before .before .before .before .before .before .before .before
+    .before .before .before .before .before .args .priorities .now) in
+    let peer : Peer (c .before .before .before .before .before .before .before .before .before .before .before .before .before .before .before .before .before .before .before .before .before
+    .before .before .args .a .connection) = record {
+      positive = c .before .before .before .before .before .before .before .before .before .before .before .before .before .before .before
+          .before .before .before .before .before .before .before .before .pre .1;
+      small = omega (
+        arith,
+        c .before .before .before .before .before .before .before .before .before .before .before
+            .before .before .before .before .before .before .before .before .before .before .before .before .good .1 .0,
+      );
+    } in
+    let typed : Each OfferTyped os = offers-fit (c .before .before .before .before .before .before .before .before .before .before .before .before .before .before .before .before .before .before
+    .before .before .before .before .before .args .items .now) (c .before .before .before .before .before .before .before .before .before .before .before .before .before .before .before
+    .before .before .before .before .before .before .before .before .args .priorities .now) (λ j. omega (
+      arith,
+      c .before .before .before .before .before .before .before .before .before
+          .before .before .before .before .before .before .before .before .before .before .before .before .shared-slice-known .given j,
+    )) (λ j. omega (
+      arith,
+      c .before .before .before .before .before
+          .before .before .before .before .before .before .before .before .before .before .before .before .before .before .before .shared-slice-known2 .given j,
+    )) in
+    let came = collects-in (c .before .before .before .before .before .before .before .before .before .before .before .collect .ensures)
+    (c .before .before .before .before .before .before .before .come-in .ensures) in
     record {
       more = omega (arith, c .before .before .before .before .before .before .before .before .before .before .before .collect .ensures .from);
-      inside = omega (arith, c .before .before .before .before .if2 .taken, c .before .before .before .before .before .before .before .before .before .before .before .before .before .before .before .before .before .before .before .offers .ensures);
-      table = part-join (c .before .before .before .before .before .before .before .before .before .before .before .before .before .before .before .before .before .before .before .before .before .before .before .args .a) os (c .before .before .before .before .before .before .before .before .before .before .before .before .before .before .before .before .before .before .before .before .before .before .before .args .first) (c .before .before .before .before .before .before .before .before .before .before .before .collect .result .next) came peer (c .before .before .before .before .before .before .before .before .before .before .before .before .before .before .before .before .before .before .before .before .before .before .before .pre .2) typed (c .before .before .before .before .before .before .before .before .before .before .before .collect .result .next + 1) (c .before .before .before .before .before .before .before .before .before .before .before .collect .ensures .from) (omega arith) (c .before .before .announce-one2 .ensures);
+      inside = omega (
+        arith,
+        c .before .before .before .before .if2 .taken,
+        c .before .before .before .before .before .before .before .before .before .before .before .before .before .before .before .before .before .before .before .offers .ensures,
+      );
+      table = part-join (c .before .before .before .before .before .before .before .before .before .before .before .before .before .before .before .before .before .before .before .before
+          .before .before .before .args .a) os (c .before .before .before .before .before .before .before .before .before .before .before .before .before .before .before .before .before .before
+          .before .before .before .before .before .args .first) (c .before .before .before .before .before .before .before .before .before .before .before .collect .result .next) came peer
+          (c .before .before .before .before .before .before .before .before .before .before .before .before .before .before .before .before .before .before .before .before
+          .before .before .before .pre .2) typed (c .before .before .before .before .before .before .before .before .before .before .before .collect .result .next + 1)
+          (c .before .before .before .before .before .before .before .before .before .before .before .collect .ensures .from) (omega arith) (c .before .before .announce-one2 .ensures);
     }
 
 same-length-3 : tie.Need-same-length-3
@@ -81,7 +140,12 @@ same-length-3 c = search needs
 returns-3 : tie.Need-returns-3
 returns-3 c =
     record {
-      more = omega (arith, c .if2 .left, c .before .before .before .before .before .before .before .before .before .before .before .before .before .before .before .offers .ensures, c .before .before .before .before .before .before .before .before .before .before .before .before .before .before .before .before .before .before .before .pre .3);
+      more = omega (
+        arith,
+        c .if2 .left,
+        c .before .before .before .before .before .before .before .before .before .before .before .before .before .before .before .offers .ensures,
+        c .before .before .before .before .before .before .before .before .before .before .before .before .before .before .before .before .before .before .before .pre .3,
+      );
       inside = c .before .before .before .before .before .before .before .collect .ensures .inside;
       table = collects-in (c .before .before .before .before .before .before .before .collect .ensures) (c .before .before .before .come-in .ensures);
     }

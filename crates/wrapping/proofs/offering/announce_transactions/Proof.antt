@@ -28,18 +28,36 @@ loop-holds c = batched-start _ _ _ _ _ _
 
 announce-part-requires : tie.Need-announce-part-requires Inv-loop μ-loop
 announce-part-requires c κs =
-    let peer : Peer (c .before .before .before .before .before .before .before .before .before .args .n) = record { positive = c .before .before .before .before .before .before .before .before .before .pre .1; small = omega arith } in
-    let typed : Each OfferTyped (offersIn (c .before .before .before .before .before .before .before .before .before .args .items .now) (c .before .before .before .before .before .before .before .before .before .args .priorities .now)) = offers-fit (c .before .before .before .before .before .before .before .before .before .args .items .now) (c .before .before .before .before .before .before .before .before .before .args .priorities .now) (λ j. omega (arith, c .before .before .before .before .before .before .before .shared-slice-known .given j)) (λ j. omega (arith, c .before .before .before .before .before .before .shared-slice-known2 .given j)) in
-    (batched-kept (c .before .before .loop .inv) peer (c .before .before .before .before .before .before .before .before .before .pre .2) typed (c .before .before .before .before .before .before .before .before .before .pre .0), c .before .before .before .before .before .before .before .before .before .pre .1, c .before .before .before .before .before .before .before .before .before .pre .2, omega (arith, c .before .loop-test .taken, c .before .before .before .offers .ensures))
+    let peer : Peer (c .before .before .before .before .before .before .before .before .before .args .n) =
+    record { positive = c .before .before .before .before .before .before .before .before .before .pre .1; small = omega arith } in
+    let typed : Each OfferTyped (offersIn (c .before .before .before .before .before .before .before .before .before .args .items .now)
+    (c .before .before .before .before .before .before .before .before .before .args .priorities .now)) =
+    offers-fit (c .before .before .before .before .before .before .before .before .before .args .items .now)
+    (c .before .before .before .before .before .before .before .before .before .args .priorities .now)
+    (λ j. omega (arith, c .before .before .before .before .before .before .before .shared-slice-known .given j))
+    (λ j. omega (arith, c .before .before .before .before .before .before .shared-slice-known2 .given j)) in (
+      batched-kept (c .before .before .loop .inv) peer (c .before .before .before .before .before .before .before .before .before .pre .2) typed
+          (c .before .before .before .before .before .before .before .before .before .pre .0),
+      c .before .before .before .before .before .before .before .before .before .pre .1,
+      c .before .before .before .before .before .before .before .before .before .pre .2,
+      omega (arith, c .before .loop-test .taken, c .before .before .before .offers .ensures),
+    )
 
 loop-less : tie.Need-loop-less Inv-loop μ-loop
 loop-less c = omega (arith, c .before .before .announce-part .ensures .more, c .before .before .before .before .loop-test .taken, c .before .before .before .before .before .before .offers .ensures)
 
 loop-again : tie.Need-loop-again Inv-loop μ-loop
 loop-again c =
-    let peer : Peer (c .before .before .before .before .before .before .before .before .before .before .before .before .args .n) = record { positive = c .before .before .before .before .before .before .before .before .before .before .before .before .pre .1; small = omega arith } in
-    let typed : Each OfferTyped (offersIn (c .before .before .before .before .before .before .before .before .before .before .before .before .args .items .now) (c .before .before .before .before .before .before .before .before .before .before .before .before .args .priorities .now)) = offers-fit (c .before .before .before .before .before .before .before .before .before .before .before .before .args .items .now) (c .before .before .before .before .before .before .before .before .before .before .before .before .args .priorities .now) (λ j. omega (arith, c .before .before .before .before .before .before .before .before .before .before .shared-slice-known .given j)) (λ j. omega (arith, c .before .before .before .before .before .before .before .before .before .shared-slice-known2 .given j)) in
-    batched-more (c .before .before .before .before .before .loop .inv) peer (c .before .before .before .before .before .before .before .before .before .before .before .before .pre .2) typed (c .before .before .before .before .before .before .before .overloaded .ensures) (c .before .before .announce-part .ensures) (c .before .before .announce-part .kept .0)
+    let peer : Peer (c .before .before .before .before .before .before .before .before .before .before .before .before .args .n) =
+    record { positive = c .before .before .before .before .before .before .before .before .before .before .before .before .pre .1; small = omega arith } in
+    let typed : Each OfferTyped (offersIn (c .before .before .before .before .before .before .before .before .before .before .before .before .args .items .now)
+    (c .before .before .before .before .before .before .before .before .before .before .before .before .args .priorities .now)) =
+    offers-fit (c .before .before .before .before .before .before .before .before .before .before .before .before .args .items .now)
+    (c .before .before .before .before .before .before .before .before .before .before .before .before .args .priorities .now)
+    (λ j. omega (arith, c .before .before .before .before .before .before .before .before .before .before .shared-slice-known .given j))
+    (λ j. omega (arith, c .before .before .before .before .before .before .before .before .before .shared-slice-known2 .given j)) in
+    batched-more (c .before .before .before .before .before .loop .inv) peer (c .before .before .before .before .before .before .before .before .before .before .before .before .pre .2) typed
+    (c .before .before .before .before .before .before .before .overloaded .ensures) (c .before .before .announce-part .ensures) (c .before .before .announce-part .kept .0)
 
 same-length : tie.Need-same-length Inv-loop μ-loop
 same-length c = c .before .loop .inv .long

@@ -21,21 +21,33 @@ offers-requires : tie.Need-offers-requires Inv-loop μ-loop
 offers-requires c κs = search needs
 
 loop-holds : tie.Need-loop-holds Inv-loop μ-loop
-loop-holds c = (collects-start (c .before .before .before .before .before .args .a) (offersIn (c .before .before .before .before .before .args .items .now) (c .before .before .before .before .before .args .priorities .now)) (c .before .before .before .before .before .pre .2) (c .before .before .before .before .before .pre .4), refl)
+loop-holds c = (
+  collects-start (c .before .before .before .before .before .args .a) (offersIn (c .before .before .before .before .before .args .items .now)
+      (c .before .before .before .before .before .args .priorities .now)) (c .before .before .before .before .before .pre .2) (c .before .before .before .before .before .pre .4),
+  refl,
+)
 
 offered-at-requires : tie.Need-offered-at-requires Inv-loop μ-loop
 offered-at-requires c κs = (c .before .before .before .before .before .before .before .pre .3, omega (arith, c .loop-test .taken, c .before .before .offers .ensures))
 
 set-aside-requires : tie.Need-set-aside-requires Inv-loop μ-loop
-set-aside-requires c κs = (c .before .before .before .before .before .before .before .before .before .pre .0, omega (arith, c .before .before .before .before .before .before .before .before .before .pre .1, c .before .before .before .loop .inv .1), c .before .before .before .loop .inv .0 .few)
+set-aside-requires c κs = (
+  c .before .before .before .before .before .before .before .before .before .pre .0,
+  omega (arith, c .before .before .before .before .before .before .before .before .before .pre .1, c .before .before .before .loop .inv .1),
+  c .before .before .before .loop .inv .0 .few,
+)
 
 same-length : tie.Need-same-length Inv-loop μ-loop
 same-length c = c .before .before .before .set-aside .kept .1 .0 ∙ c .before .before .before .before .before .before .before .loop .inv .1
 
 returns : tie.Need-returns Inv-loop μ-loop
 returns c =
-    let inside : c .before .before .before .before .before .before .before .loop .i < length (offersIn (c .before .before .before .before .before .before .before .before .before .before .before .before .before .args .items .now) (c .before .before .before .before .before .before .before .before .before .before .before .before .before .args .priorities .now)) = omega (arith, c .before .before .before .before .before .before .loop-test .taken, c .before .before .before .before .before .before .before .before .offers .ensures) in
-    collects-same (c .before .before .before .before .before .before .before .loop .inv .0) inside (c .before .before .before .before .before .offered-at .ensures) (c .before .before .before .set-aside .ensures) (c .if1 .taken)
+    let inside : c .before .before .before .before .before .before .before .loop .i
+    < length (offersIn (c .before .before .before .before .before .before .before .before .before .before .before .before .before .args .items .now)
+    (c .before .before .before .before .before .before .before .before .before .before .before .before .before .args .priorities .now)) =
+    omega (arith, c .before .before .before .before .before .before .loop-test .taken, c .before .before .before .before .before .before .before .before .offers .ensures) in
+    collects-same (c .before .before .before .before .before .before .before .loop .inv .0) inside (c .before .before .before .before .before .offered-at .ensures)
+    (c .before .before .before .set-aside .ensures) (c .if1 .taken)
 
 add-m : tie.Need-add-m Inv-loop μ-loop
 add-m c = omega (arith, c .before .before .before .before .before .before .before .loop .inv .0 .few, c .before .before .before .set-aside .ensures .most)
@@ -48,8 +60,14 @@ loop-less c = omega (arith, c .before .before .before .before .before .before .l
 
 loop-again : tie.Need-loop-again Inv-loop μ-loop
 loop-again c =
-    let inside : c .before .before .before .before .before .before .before .loop .i < length (offersIn (c .before .before .before .before .before .before .before .before .before .before .before .before .before .args .items .now) (c .before .before .before .before .before .before .before .before .before .before .before .before .before .args .priorities .now)) = omega (arith, c .before .before .before .before .before .before .loop-test .taken, c .before .before .before .before .before .before .before .before .offers .ensures) in
-    (collects-more (c .before .before .before .before .before .before .before .loop .inv .0) inside (c .before .before .before .before .before .offered-at .ensures) (c .before .before .before .set-aside .ensures) (c .if1 .left), c .before .before .before .set-aside .kept .1 .0 ∙ c .before .before .before .before .before .before .before .loop .inv .1)
+    let inside : c .before .before .before .before .before .before .before .loop .i
+    < length (offersIn (c .before .before .before .before .before .before .before .before .before .before .before .before .before .args .items .now)
+    (c .before .before .before .before .before .before .before .before .before .before .before .before .before .args .priorities .now)) =
+    omega (arith, c .before .before .before .before .before .before .loop-test .taken, c .before .before .before .before .before .before .before .before .offers .ensures) in (
+      collects-more (c .before .before .before .before .before .before .before .loop .inv .0) inside (c .before .before .before .before .before .offered-at .ensures)
+          (c .before .before .before .set-aside .ensures) (c .if1 .left),
+      c .before .before .before .set-aside .kept .1 .0 ∙ c .before .before .before .before .before .before .before .loop .inv .1,
+    )
 
 same-length-2 : tie.Need-same-length-2 Inv-loop μ-loop
 same-length-2 c = c .before .loop .inv .1

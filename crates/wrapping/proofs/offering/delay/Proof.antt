@@ -28,7 +28,11 @@ mul-result : tie.Need-mul-result
 mul-result c = omega arith
 
 returns : tie.Need-returns
-returns c = (delay-is (c .before .before .before .before .args .preferred) (c .before .before .before .before .args .source) (c .before .before .before .before .args .overloaded) (itemNum (c .before .before .before .before .args .item)) (c .before .before .before .is-wtx .ensures) (c .before .before .one .ensures .0) (c .before .one2 .ensures .0) (c .one3 .ensures .0), omega arith)
+returns c = (
+  delay-is (c .before .before .before .before .args .preferred) (c .before .before .before .before .args .source) (c .before .before .before .before .args .overloaded) (itemNum
+      (c .before .before .before .before .args .item)) (c .before .before .before .is-wtx .ensures) (c .before .before .one .ensures .0) (c .before .one2 .ensures .0) (c .one3 .ensures .0),
+  omega arith,
+)
 
 pub delay-spec : {M : Type 1} → statement M
 delay-spec =

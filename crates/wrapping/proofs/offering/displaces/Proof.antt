@@ -21,7 +21,12 @@ returns-2 : tie.Need-returns-2
 returns-2 c = λ e. never e
 
 item-at-requires : tie.Need-item-at-requires
-item-at-requires c κs = omega (arith, c .before .before .before .before .before .before .before .pre .1, paired-inside (itemsIn (c .before .before .before .before .before .before .before .args .items .now)) (words (c .before .before .before .before .before .before .before .args .priorities .now)))
+item-at-requires c κs = omega (
+  arith,
+  c .before .before .before .before .before .before .before .pre .1,
+  paired-inside (itemsIn
+      (c .before .before .before .before .before .before .before .args .items .now)) (words (c .before .before .before .before .before .before .before .args .priorities .now)),
+)
 
 candidates-at-requires : tie.Need-candidates-at-requires
 candidates-at-requires c κs = search needs

@@ -14,7 +14,14 @@ limit-requires : tie.Need-limit-requires
 limit-requires c κs = let z = kept-shown (c .before .before .pre) .sizes in omega arith
 
 returns : tie.Need-returns
-returns c = λ e st s w. omega (arith, leb-true (c .limit .result) (c .before .rows .result) e, c .limit .ensures .field (flatOf st) w, c .before .rows .ensures .field (flatOf st) w, held-rows (st .table), s .bounded .fits)
+returns c = λ e st s w. omega (
+  arith,
+  leb-true (c .limit .result) (c .before .rows .result) e,
+  c .limit .ensures .field (flatOf st) w,
+  c .before .rows .ensures .field (flatOf st) w,
+  held-rows (st .table),
+  s .bounded .fits,
+)
 
 pub full-spec : {M : Type 1} → statement M
 full-spec = tie.close (tie.spec rows-requires limit-requires returns)

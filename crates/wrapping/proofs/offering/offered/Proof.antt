@@ -14,7 +14,13 @@ add-ready : tie.Need-add-ready
 add-ready c = omega arith
 
 returns : tie.Need-returns
-returns c = ap (λ (d : ℕ). record { connection = c .before .args .n; item = itemNum (c .before .args .item); ready = c .before .args .clock + d; preferred = c .before .args .preferred; priority = c .before .args .priority }) (c .delay .ensures .0)
+returns c = ap (λ (d : ℕ). record {
+  connection = c .before .args .n;
+  item = itemNum (c .before .args .item);
+  ready = c .before .args .clock + d;
+  preferred = c .before .args .preferred;
+  priority = c .before .args .priority;
+}) (c .delay .ensures .0)
 
 pub offered-spec : {M : Type 1} → statement M
 offered-spec = tie.close (tie.spec delay-requires add-ready returns)
