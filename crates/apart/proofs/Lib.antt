@@ -7,7 +7,6 @@ pub mod BareExpiry
 pub mod Slotted
 pub mod Spotting
 pub mod Parting
-pub mod Swapping
 pub mod Marking
 pub mod Notes
 pub mod Alongside

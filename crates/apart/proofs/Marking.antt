@@ -23,7 +23,7 @@ use Rattle.machine.proofs.Fail.{bounded-mark}
 use Rattle.machine.proofs.Kept.{sound-table}
 use Rattle.gathering.specs.Waits.{Ready, waits}
 use Rattle.apart.specs.Waiting.{parentEntries, marks}
-use Rattle.apart.proofs.Swapping.{change-swap}
+use Rattle.announcing.proofs.Swapping.{change-swap}
 
 -- ---- counts
 

@@ -26,7 +26,7 @@ use Rattle.gathering.specs.Waits.{pushes}
 use Rattle.gathering.specs.Aside.{space, Empty, Gathers, ComeIn}
 use Rattle.gathering.specs.Exchanges.{Underway, Exchanged}
 use Rattle.wrapping.specs.declared.offering.Terms.{Terms}
-use Rattle.wrapping.specs.Wraps.{Becomes}
+use Rattle.claims.specs.Changes.{Becomes}
 use Rattle.wrapping.specs.Batches.{between, announced, Announced, Offers}
 use Rattle.wrapping.specs.Swaps.{Whole, Standing, Swaps, Went}
 use Rattle.wrapping.proofs.Parts.{between-none, announced-join, announced-one, offers-none}

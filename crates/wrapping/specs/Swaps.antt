@@ -13,7 +13,7 @@ use Rattle.gathering.specs.Waits.{pushes}
 use Rattle.gathering.specs.Aside.{space}
 use Rattle.gathering.specs.Exchanges.{Full}
 use Rattle.wrapping.specs.declared.offering.Terms.{Terms}
-use Rattle.wrapping.specs.Wraps.{Becomes}
+use Rattle.claims.specs.Changes.{Becomes}
 use Rattle.wrapping.specs.Batches.{between, announced}
 
 -- L announcements are held in the sound state that the bytes b write
