@@ -7,10 +7,13 @@ pub mod BareExpiry
 pub mod Slotted
 pub mod Spotting
 pub mod Parting
-pub mod Swapping
 pub mod Marking
 pub mod Notes
 pub mod Alongside
 pub mod InHalves
 pub mod Overdue
 pub mod OneOwner
+pub mod DroppingRows
+pub mod DroppedTables
+pub mod Dropping
+pub mod Silence

@@ -21,9 +21,9 @@ use Rattle.machine.proofs.Tests.{test, or-left, or-right}
 use Rattle.machine.proofs.Table.{place-inj, ordered-change, filled-change}
 use Rattle.machine.proofs.Fail.{bounded-mark}
 use Rattle.machine.proofs.Kept.{sound-table}
+use Rattle.leaving.proofs.Easing.{change-swap}
 use Rattle.gathering.specs.Waits.{Ready, waits}
 use Rattle.apart.specs.Waiting.{parentEntries, marks}
-use Rattle.apart.proofs.Swapping.{change-swap}
 
 -- ---- counts
 
