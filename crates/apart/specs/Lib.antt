@@ -3,3 +3,4 @@ pub mod Apart
 pub mod Noting
 pub mod Waiting
 pub mod Lapsing
+pub mod Silent

@@ -12,6 +12,7 @@ ghost use Rattle.apart.specs.Apart.{slotBytes, bareBytes, SetApart, Part
 pub mod joining;
 pub mod lapsing;
 pub mod noting;
+pub mod silent;
 pub mod slots;
 
 // Words of a row, of a connection's entry and of a place.

@@ -4,5 +4,6 @@ pub mod RowsDue
 pub mod NextDue
 pub mod Keepings
 pub mod AllExpired
+pub mod Readying
 pub mod Whole
 pub mod Planned

@@ -28,7 +28,8 @@ use Rattle.store.proofs.Frame.{sizes}
 use Rattle.store.proofs.Keys.{row-number}
 use Rattle.requests.specs.Changes.{KeyWords}
 use Rattle.requests.proofs.Keeping.{rows-in-order}
-use Rattle.planning.specs.Expiring.{dueFrom, isDue, rowDue, dueRows, SeekDue, NextDue}
+use Rattle.apart.specs.Silent.{isDue}
+use Rattle.planning.specs.Expiring.{dueFrom, rowDue, dueRows, SeekDue, NextDue}
 use Rattle.selecting.proofs.InOrder.{mapped-at}
 use Rattle.planning.proofs.Overdue.{First, due-first}
 use Rattle.planning.proofs.RowsDue.{table-rows, rows-from, rows-next, rows-over}

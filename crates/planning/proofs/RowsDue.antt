@@ -30,7 +30,8 @@ use Rattle.store.proofs.Bits.{key-row, owns-row, conn-row}
 use Rattle.store.proofs.Counts.{DistinctIn}
 use Rattle.store.proofs.Frame.{sizes}
 use Rattle.store.proofs.Keys.{row-number}
-use Rattle.planning.specs.Expiring.{dueHere, dueFrom, isDue, rowDue, dueRows}
+use Rattle.apart.specs.Silent.{isDue}
+use Rattle.planning.specs.Expiring.{dueHere, dueFrom, rowDue, dueRows}
 
 -- ---- rows that say nothing
 

@@ -2,7 +2,7 @@
 -- Assumes nothing.
 use Prim.Native.Nat.{ℕ, suc, _≤_, _<_}
 use mathlib.Core.Path.{_≡_}
-use mathlib.Core.Bool.{Bool, true, false, _&&_}
+use mathlib.Core.Bool.{true, false}
 use mathlib.Core.List.{List, [], _∷_, _++_}
 use lib.Dec.{leb}
 use lib.ListN.{length, getD, drop}
@@ -14,17 +14,17 @@ use Rattle.machine.specs.Limits.{Limits}
 use Rattle.machine.specs.State.{Request, Table, State, limitsOf, onTable}
 use Rattle.machine.specs.Table.{at}
 use Rattle.machine.specs.Fail.{Listed, failed, announceParents, parentsFor}
-use Rattle.machine.specs.Plan.{Due, dueOf, expired}
+use Rattle.machine.specs.Plan.{Due, dueOf, due, expired}
 use Rattle.machine.specs.Sound.{Sound}
 use Rattle.store.specs.Flat.{Flat}
-use Rattle.store.specs.FlatSound.{owns}
 use Rattle.store.specs.Gather.{keyAt}
 use Rattle.store.specs.Image.{Shows, Writes}
 use Rattle.store.specs.Shown.{rowsIn}
-use Rattle.requests.specs.Changes.{Tells}
+use Rattle.requests.specs.Changes.{Makes, Tells}
 use Rattle.places.specs.Places.{Place}
 use Rattle.apart.specs.Apart.{Apart}
 use Rattle.apart.specs.Lapsing.{family, noted, Clear}
+use Rattle.apart.specs.Silent.{readyEach, isDue}
 use Rattle.planning.specs.declared.expiring.Turn.{Turn}
 
 -- one owner whose time is over: it fails, and its parents are announced for it
@@ -40,10 +40,6 @@ dueFrom now x [] = []
 dueFrom now x (r ∷ t) = dueHere now x r ++ dueFrom now x t
 
 -- ---- as rows have them
-
--- the row says an owner whose time is over
-abbrev pub isDue : ℕ → Row → Bool
-isDue now r = owns r && leb (r .deadline) now
 
 abbrev pub rowDue : ℕ → ℕ → Row → List Due
 rowDue now x r = if leb x (place (keyAt r)) then if isDue now r then record { key = keyAt r; connection = r .conn } ∷ [] else [] else []
@@ -70,6 +66,13 @@ pub record DueNext (b : List ℕ) (now x : ℕ) (k : Key) (n : ℕ) : Type 0 whe
 pub record NextDue (b : List ℕ) (now x : ℕ) (w : Turn) : Type 0 where
   pub ends : w .more ≡ false → Tells b (λ t. dueFrom now x t ≡ [])
   pub goes : w .more ≡ true → DueNext b now x (keyNum (w .key)) (w .conn)
+
+-- ---- all that are due, where there are no places
+
+-- the candidates beside each of them are ready, under both kinds
+pub record MadeReady (b b′ : List ℕ) (now : ℕ) : Type 0 where
+  pub sound : (st : State) → Sound st → Sound (onTable (readyEach now (due now (st .table)) (st .table)) st)
+  pub table : Makes b b′ (λ t. Unit {0}) (λ t. readyEach now (due now t) t)
 
 -- ---- all that are due, where the places are set apart
 

@@ -5,21 +5,16 @@ ghost use Rattle.ident.specs.Number.{place};
 ghost use Rattle.ident.specs.Words.{keyNum};
 ghost use Rattle.machine.specs.Table.{one};
 ghost use Rattle.store.specs.Shown.{rowsIn, Kept};
+ghost use Rattle.requests.specs.Changes.{Makes};
 ghost use Rattle.apart.specs.Apart.{Parted};
-ghost use Rattle.planning.specs.Expiring.{isDue, SeekDue, NextDue, Clean, ExpiresAll};
+ghost use Rattle.apart.specs.Silent.{Placeless, silenced};
+ghost use Rattle.planning.specs.Expiring.{SeekDue, NextDue, MadeReady, Clean, ExpiresAll};
 
 // One turn of expiring: whether an owner is due, its key and its connection.
 pub struct Turn {
     pub more: bool,
     pub key: ident::Key,
     pub conn: u64,
-}
-
-// Whether the row says an owner whose time is over.
-fn is_due(r: regions::Row, clock: u64) -> bool
-    ensures { λ y. ⌜ y ≡ isDue clock r ⌝ }
-{
-    (r.bits / 8 % 2 == 1) & (r.deadline <= clock)
 }
 
 // The first of the rows from `from` on whose owner's time is over, or how many rows there are.
@@ -31,7 +26,7 @@ fn seek_due(s: &[u8], clock: u64, from: usize) -> usize
     let mut i = from;
     while i < n {
         let r = store::rows::row_at(s, i);
-        if is_due(r, clock) {
+        if apart::silent::is_due(r, clock) {
             return i;
         }
         i += 1;
@@ -74,9 +69,37 @@ fn first_key() -> ident::Key
     }
 }
 
-// Every owner whose time is over fails, in key order, and its parents are announced for it. The c places of the store are set apart; the
-// parents kept are noted in low and high at the number of their place.
-pub fn expire(
+// All candidates of the hash of an owner that is due, under both kinds, get ready at `clock`.
+fn ready_due(s: &mut [u8], clock: u64)
+    requires { ⌜ Kept (now s) ⌝ }
+    ensures { λ _. ⌜ MadeReady (now (s .entry)) (now (s .exit)) clock ⌝ }
+{
+    let mut k = first_key();
+    let mut after = false;
+    loop {
+        let w = next_due(s, clock, k, after);
+        if !w.more {
+            return;
+        }
+        let j = w.key;
+        requests::ready_all(s, j, clock);
+        requests::ready_all(s, ident::same_hash_other_kind(j), clock);
+        k = j;
+        after = true;
+    }
+}
+
+// Every owner whose time is over fails, where no request has a package: the rows move once, however many they are.
+fn expire_silent(s: &mut [u8], clock: u64)
+    requires { ⌜ Kept (now s) ⌝ }
+    ensures { λ _. ⌜ Makes (now (s .entry)) (now (s .exit)) Placeless (silenced clock) ⌝ }
+{
+    ready_due(s, clock);
+    apart::silent::drop_due(s, clock);
+}
+
+// Every owner whose time is over fails, in key order, and its parents are announced for it, one owner after the other.
+fn expire_each(
     s: &mut [u8],
     m: usize,
     first: &mut [u8],
@@ -99,5 +122,26 @@ pub fn expire(
         apart::lapsing::expire_one(s, m, first, c, low, high, j, w.conn, clock);
         k = j;
         after = true;
+    }
+}
+
+// Every owner whose time is over fails, in key order, and its parents are announced for it. The c places of the store are set apart; the
+// parents kept are noted in low and high at the number of their place.
+pub fn expire(
+    s: &mut [u8],
+    m: usize,
+    first: &mut [u8],
+    c: usize,
+    low: &mut [u64],
+    high: &mut [u64],
+    clock: u64,
+)
+    requires { ⌜ Parted (now s) (now first) m c × Clean (now low) (now high) c ⌝ }
+    ensures { λ _. ⌜ ExpiresAll (now (s .entry)) (now (s .exit)) (now (first .entry)) (now (first .exit)) m c (now (low .exit)) (now (high .exit)) clock ⌝ }
+{
+    if c == 0 {
+        expire_silent(&mut s[0..m], clock);
+    } else {
+        expire_each(s, m, first, c, low, high, clock);
     }
 }
