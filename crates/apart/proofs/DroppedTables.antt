@@ -36,7 +36,8 @@ module _ (now : ℕ) where
 
   is-due : (q : Request) (c : Candidate) (w : Option Owner) → q .owner ≡ w → isDue now (rowOf q c) ≡ (ownerIs (c .connection) w && leb (deadlineFor (c .connection) w) now)
   unfolding rowOf
-  is-due q c w e = ap (λ (b : Bool). b && leb (deadlineFor (c .connection) (q .owner)) now) (owns-row q c) ∙ ap (λ (x : Option Owner). ownerIs (c .connection) x && leb (deadlineFor (c .connection) x) now) e
+  is-due q c w e = ap (λ (b : Bool). b && leb (deadlineFor (c .connection) (q .owner)) now) (owns-row q c) ∙
+      ap (λ (x : Option Owner). ownerIs (c .connection) x && leb (deadlineFor (c .connection) x) now) e
 
   stays : (q : Request) (c : Candidate) (w : Option Owner) → q .owner ≡ w → late now w ≡ false → keptRow now (rowOf q c) ≡ rowOf q c ∷ []
   stays q c none e l = row-stays now (rowOf q c) (is-due q c none e)
@@ -103,11 +104,14 @@ module _ (now : ℕ) where
   rows-dropped q d = by-owner (q .owner) refl
     where
       by-owner : (w : Option Owner) → q .owner ≡ w → each (keptRow now) (rowsFor q) ≡ rowsFor (droppedIn now q)
-      by-owner none e = unfold rowsFor in (all-stay q (ap (late now) e) (q .candidates) ∙ sym (ap (λ (b : Bool). map (rowOf (if b then gone (ownerNum (q .owner)) q else q)) ((if b then gone (ownerNum (q .owner)) q else q) .candidates)) (ap (late now) e)))
+      by-owner none e = unfold rowsFor in (all-stay q (ap (late now) e) (q .candidates) ∙
+          sym (ap (λ (b : Bool). map (rowOf (if b then gone (ownerNum (q .owner)) q else q)) ((if b then gone (ownerNum (q .owner)) q else q) .candidates)) (ap (late now) e)))
       by-owner (some o) e =
           elim (test (leb (o .deadline) now)) [
-            | inl l ↦ owner-goes q o e l d ∙ sym (ap (λ (w : Option Owner). rowsFor (if late now w then gone (ownerNum w) q else q)) e ∙ ap (λ (b : Bool). rowsFor (if b then gone (o .connection) q else q)) l)
-            | inr l ↦ unfold rowsFor in (all-stay q (ap (late now) e ∙ l) (q .candidates) ∙ sym (ap (λ (b : Bool). map (rowOf (if b then gone (ownerNum (q .owner)) q else q)) ((if b then gone (ownerNum (q .owner)) q else q) .candidates)) (ap (late now) e ∙ l)))
+            | inl l ↦ owner-goes q o e l d ∙ sym (ap (λ (w : Option Owner). rowsFor (if late now w then gone (ownerNum w) q else q)) e ∙
+                ap (λ (b : Bool). rowsFor (if b then gone (o .connection) q else q)) l)
+            | inr l ↦ unfold rowsFor in (all-stay q (ap (late now) e ∙ l) (q .candidates) ∙
+                sym (ap (λ (b : Bool). map (rowOf (if b then gone (ownerNum (q .owner)) q else q)) ((if b then gone (ownerNum (q .owner)) q else q) .candidates)) (ap (late now) e ∙ l)))
           ]
 
   -- ---- all rows

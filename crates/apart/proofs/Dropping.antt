@@ -189,7 +189,8 @@ module _ {m : Limits} {Q : ℕ} {t : Table} (now : ℕ) (late : now < word) (k :
     still-owned (suc (place (d .key))) ds (omega (arith, r .0)) (r .1) (a .1) (o .1),
   )
 
-fail-each : {m : Limits} {Q : ℕ} (now lo : ℕ) (ds : List Due) (t : Table) → now < word → Bounded m Q t → Packless t → Rising lo ds → Keyed ds → Owned t ds → failEach now ds t ≡ goneEach ds (readyEach now ds t)
+fail-each : {m : Limits} {Q : ℕ} (now lo : ℕ) (ds : List Due) (t : Table) → now < word → Bounded m Q t → Packless t → Rising lo ds → Keyed ds → Owned t ds
+    → failEach now ds t ≡ goneEach ds (readyEach now ds t)
 unfolding failEach goneEach readyEach
 fail-each now lo [] t w b p r a o = refl
 fail-each now lo (d ∷ ds) t w b p r a o =
@@ -312,7 +313,8 @@ gone-all now lo (r ∷ t) o f = go (gone-all now (suc (place (r .key))) t (o .2)
         ∙ sym (ap (λ (b : Bool). keep (if b then gone (ownerNum (r .owner)) r else r) ((if b then gone (ownerNum (r .owner)) r else r) .candidates) (droppedAll now t)) l
         ∙ keep-filled r (r .candidates) (droppedAll now t) (f .0))
 
-    go : goneEach (due now t) t ≡ droppedAll now t → (w : Option Owner) → r .owner ≡ w → goneEach (dueOf now (r .key) w ++ due now t) (r ∷ t) ≡ keep (droppedIn now r) ((droppedIn now r) .candidates) (droppedAll now t)
+    go : goneEach (due now t) t ≡ droppedAll now t → (w : Option Owner) → r .owner ≡ w
+        → goneEach (dueOf now (r .key) w ++ due now t) (r ∷ t) ≡ keep (droppedIn now r) ((droppedIn now r) .candidates) (droppedAll now t)
     go rest none e = stay rest (ap (late now) e)
     go rest (some w) e = elim (test (leb (w .deadline) now)) [
       | inl l ↦ rw l (unfold goneEach in

@@ -54,7 +54,8 @@ unplaced r u = rw (u .flag, u .nothing) refl
 closed-same : (r : Request) → Lawful r → Unheld r → closed r ≡ r
 closed-same r l u =
     let childless : r .parents ≡ [] = go (r .info) (r .«package») (u .flag) (u .nothing) (l .packed) in
-    let mk : Bool → Option Package → List ℕ → Request = λ a p hs. record { key = r .key; candidates = r .candidates; owner = r .owner; info = a; «package» = p; parents = hs; fallback = r .fallback } in
+    let mk : Bool → Option Package → List ℕ → Request =
+    λ a p hs. record { key = r .key; candidates = r .candidates; owner = r .owner; info = a; «package» = p; parents = hs; fallback = r .fallback } in
     ap (λ (a : Bool). mk a none []) (sym (u .flag)) ∙ ap (λ (p : Option Package). mk (r .info) p []) (sym (u .nothing)) ∙ ap (mk (r .info) (r .«package»)) (sym childless)
   where
     go : (i : Bool) (p : Option Package) → i ≡ false → p ≡ none → Packed (r .key .kind) (r .owner) i p (r .parents) → r .parents ≡ []

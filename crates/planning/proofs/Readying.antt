@@ -72,7 +72,8 @@ ready-starts b now x e st s g = record {
   now-table = st .table;
   sound = s;
   writes = g;
-  rest = ap (λ (i : ℕ). readyEach now (dueFrom now i (st .table)) (st .table)) e ∙ ap (λ (ds : List Due). readyEach now ds (st .table)) (due-whole now 0 0 (st .table) (omega arith) (s .bounded .ordered));
+  rest = ap (λ (i : ℕ). readyEach now (dueFrom now i (st .table)) (st .table)) e ∙ ap (λ (ds : List Due). readyEach now ds (st .table))
+      (due-whole now 0 0 (st .table) (omega arith) (s .bounded .ordered));
 }
 
 module _ {b₀ b : List ℕ} {now x : ℕ} (way : ReadyWay b₀ b now x) where

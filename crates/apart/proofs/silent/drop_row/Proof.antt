@@ -17,7 +17,9 @@ same-length : tie.Need-same-length
 same-length c = search needs
 
 returns : tie.Need-returns
-returns c = drop-goes (c .before .before .before .before .before .before .before .before .before .args .clock) (c .before .before .before .before .before .before .before .before .before .args .m) (c .before .before .before .before .before .before .before .before .before .args .i) (c .before .before .before .before .before .before .row-at .ensures) (c .before .before .before .before .before .is-due .ensures) (c .before .before .before .before .if1 .taken) (c .before .before .count-out .ensures)
+returns c = drop-goes (c .before .before .before .before .before .before .before .before .before .args .clock) (c .before .before .before .before .before .before .before .before .before .args .m)
+    (c .before .before .before .before .before .before .before .before .before .args .i) (c .before .before .before .before .before .before .row-at .ensures)
+    (c .before .before .before .before .before .is-due .ensures) (c .before .before .before .before .if1 .taken) (c .before .before .count-out .ensures)
 
 keep-row-requires : tie.Need-keep-row-requires
 keep-row-requires c κs = search needs
@@ -29,7 +31,10 @@ same-length-2 : tie.Need-same-length-2
 same-length-2 c = search needs
 
 returns-2 : tie.Need-returns-2
-returns-2 c = drop-stays (c .before .before .before .before .before .before .before .before .before .args .clock) (c .before .before .before .before .before .before .before .before .before .args .m) (c .before .before .before .before .before .before .before .before .before .args .i) (c .before .before .before .before .before .before .row-at .ensures) (c .before .before .before .before .before .is-due .ensures) (c .before .before .before .before .if1 .left) (c .before .before .keep-row .ensures)
+returns-2 c = drop-stays (c .before .before .before .before .before .before .before .before .before .args .clock)
+    (c .before .before .before .before .before .before .before .before .before .args .m) (c .before .before .before .before .before .before .before .before .before .args .i)
+    (c .before .before .before .before .before .before .row-at .ensures) (c .before .before .before .before .before .is-due .ensures) (c .before .before .before .before .if1 .left)
+    (c .before .before .keep-row .ensures)
 
 pub drop-row-spec : {M : Type 1} → statement M
 drop-row-spec =

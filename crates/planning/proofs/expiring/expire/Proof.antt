@@ -35,7 +35,8 @@ same-length c = search needs
 
 -- src/expiring.rt:130:1
 returns : tie.Need-returns
-returns c = let late : c .before .before .before .before .before .before .before .before .before .args .clock < word = omega arith in all-silent late (c .before .before .before .before .if1 .taken) (c .before .before .expire-silent .kept .0) (c .before .before .expire-silent .ensures) (search needs) refl
+returns c = let late : c .before .before .before .before .before .before .before .before .before .args .clock < word = omega arith in
+    all-silent late (c .before .before .before .before .if1 .taken) (c .before .before .expire-silent .kept .0) (c .before .before .expire-silent .ensures) (search needs) refl
 
 -- src/expiring.rt:130:1
 same-length-2 : tie.Need-same-length-2

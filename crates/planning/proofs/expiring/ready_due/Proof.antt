@@ -45,21 +45,33 @@ same-hash-other-kind-requires c κs = search needs
 
 ready-all-requires-2 : tie.Need-ready-all-requires-2 Inv-loop μ-loop
 ready-all-requires-2 c κs =
-    let g = c .before .before .before .before .before .before .before .before .before .next-due .ensures .goes (not-false (c .before .before .before .before .before .before .before .before .before .next-due .result .more) (c .before .before .before .before .before .before .before .if1 .left)) in
+    let g = c .before .before .before .before .before .before .before .before .before .next-due .ensures .goes
+    (not-false (c .before .before .before .before .before .before .before .before .before .next-due .result .more) (c .before .before .before .before .before .before .before .if1 .left)) in
     let late : c .before .before .before .before .before .before .before .before .before .before .before .before .before .before .args .clock < word = omega arith in
-    half-kept (c .before .before .before .before .before .before .before .before .before .before .before .loop .inv .2) (keyNum (c .before .before .before .before .before .before .before .before .before .next-due .result .key)) late (g .small) (c .before .before .before .before .ready-all .ensures) (c .before .before .before .before .before .before .before .before .before .before .before .before .before .before .pre)
+    half-kept (c .before .before .before .before .before .before .before .before .before .before .before .loop .inv .2)
+    (keyNum (c .before .before .before .before .before .before .before .before .before .next-due .result .key)) late (g .small) (c .before .before .before .before .ready-all .ensures)
+    (c .before .before .before .before .before .before .before .before .before .before .before .before .before .before .pre)
 
 loop-less : tie.Need-loop-less Inv-loop μ-loop
 loop-less c =
-    let g = c .before .before .before .before .before .before .before .before .before .before .before .before .next-due .ensures .goes (not-false (c .before .before .before .before .before .before .before .before .before .before .before .before .next-due .result .more) (c .before .before .before .before .before .before .before .before .before .before .if1 .left)) in
+    let g = c .before .before .before .before .before .before .before .before .before .before .before .before .next-due .ensures .goes
+    (not-false (c .before .before .before .before .before .before .before .before .before .before .before .before .next-due .result .more)
+    (c .before .before .before .before .before .before .before .before .before .before .if1 .left)) in
     let p = place-small (keyNum (c .before .before .before .before .before .before .before .before .before .before .before .before .next-due .result .key)) (g .small) in
     omega (arith, g .from, p)
 
 loop-again : tie.Need-loop-again Inv-loop μ-loop
 loop-again c =
-    let g = c .before .before .before .before .before .before .before .before .before .before .before .before .next-due .ensures .goes (not-false (c .before .before .before .before .before .before .before .before .before .before .before .before .next-due .result .more) (c .before .before .before .before .before .before .before .before .before .before .if1 .left)) in
-    let late : c .before .before .before .before .before .before .before .before .before .before .before .before .before .before .before .before .before .args .clock < word = omega arith in
-    (c .before .before .ready-all2 .kept .0 ∙ c .before .before .before .before .before .before .before .ready-all .kept .0 ∙ c .before .before .before .before .before .before .before .before .before .before .before .before .before .before .loop .inv .0, place-small (keyNum (c .before .before .before .before .before .before .before .before .before .before .before .before .next-due .result .key)) (g .small), ready-goes (c .before .before .before .before .before .before .before .before .before .before .before .before .before .before .loop .inv .2) late g (c .before .before .before .same-hash-other-kind .ensures) (c .before .before .before .before .before .before .before .ready-all .ensures) (c .before .before .ready-all2 .ensures))
+    let g = c .before .before .before .before .before .before .before .before .before .before .before .before .next-due .ensures .goes
+    (not-false (c .before .before .before .before .before .before .before .before .before .before .before .before .next-due .result .more)
+    (c .before .before .before .before .before .before .before .before .before .before .if1 .left)) in
+    let late : c .before .before .before .before .before .before .before .before .before .before .before .before .before .before .before .before .before .args .clock < word = omega arith in (
+      c .before .before .ready-all2 .kept .0 ∙ c .before .before .before .before .before .before .before .ready-all .kept .0 ∙
+          c .before .before .before .before .before .before .before .before .before .before .before .before .before .before .loop .inv .0,
+      place-small (keyNum (c .before .before .before .before .before .before .before .before .before .before .before .before .next-due .result .key)) (g .small),
+      ready-goes (c .before .before .before .before .before .before .before .before .before .before .before .before .before .before .loop .inv .2) late g
+          (c .before .before .before .same-hash-other-kind .ensures) (c .before .before .before .before .before .before .before .ready-all .ensures) (c .before .before .ready-all2 .ensures),
+    )
 
 pub ready-due-spec : {M : Type 1} → statement M
 ready-due-spec =
