@@ -101,12 +101,16 @@ static void ask_all(uint64_t now) {
     memcpy(sides[1].numbers, sides[0].numbers, sizeof sides[0].numbers);
 }
 
-static void requests(void) {
+static void batch(uint64_t connection, size_t id, uint64_t now) {
     for (uint64_t i = 0; i < 8; i++) {
-        tracker_put_item(items, i, i % 2 ? TRACKER_ITEM_WTX : TRACKER_ITEM_TX, ids[200 + i]);
+        tracker_put_item(items, i, i % 2 ? TRACKER_ITEM_WTX : TRACKER_ITEM_TX, ids[id + i]);
         tracker_put_word(priorities + 8 * i, i);
     }
-    CALL(announce_transactions, 7, 1000, true, true, items, sizeof items, priorities, sizeof priorities);
+    CALL(announce_transactions, connection, now, true, true, items, sizeof items, priorities, sizeof priorities);
+}
+
+static void requests(void) {
+    batch(7, 200, 1000);
     CALL(announce, 8, TRACKER_ITEM_WTX, ids[201], 1000, false, 3, NUMBER);
     WAS(1, "announce");
     CALL(request_parent, 8, TRACKER_ITEM_WITNESS_TX, ids[202], 1000, false, 3, NUMBER);
@@ -167,7 +171,7 @@ static void packages(void) {
     CALL(transaction_not_found, 17, items, sizeof items, 70008, ANSWER, NUMBER);
 }
 
-/* Owners that are late, with parents and with L held, so that parents evict; then a connection that leaves its packages to others. */
+/* A batch that evicts, where L is held; owners that are late, with parents, so that these evict; then a connection that leaves its packages to others. */
 static void late(void) {
     for (uint64_t i = 0; i < L; i++)
         for (struct side *s = sides; s < sides + 2; s++)
@@ -178,6 +182,7 @@ static void late(void) {
     package(19, 324, 2, 80001);
     CALL(sum, NUMBER, &s->numbers[1], &s->numbers[2]);
     WAS(L, "sum");
+    batch(29, 1700, 80001);
     ask_all(80002);
     ask_all(140001);
     CALL(disconnected, 14, 140002, ANSWER, NUMBER, &s->numbers[1]);
