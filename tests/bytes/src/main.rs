@@ -1,7 +1,8 @@
 //! The library's calls against the Rust's tracker by bytes: answers, answer buffers and whole stores after every call.
 //!
-//!     bytes [CALLS [SEED [SECONDS]]] [--table]    generated calls, as many as there is time for; the table has each call by
-//!                                                 replies, refusals and cases
+//!     bytes [CALLS [SEED [SECONDS]]] [--table] [--plans]
+//!                                                 generated calls, as many as there is time for; the table has each call by
+//!                                                 replies, refusals and cases; with --plans every second call is a plan
 //!     bytes self-test                             the program on calls with planted errors
 
 mod ask;
@@ -36,13 +37,17 @@ fn number(words: &[String], at: usize, default: u64) -> Result<u64, String> {
     text.parse().map_err(|_| format!("a number is wanted, not {text:?}"))
 }
 
-fn generated(words: &[String], table: bool) -> Result<(), String> {
+fn generated(words: &[String], options: &[String]) -> Result<(), String> {
+    let given = |name: &str| options.iter().any(|option| option == name);
+    if let Some(odd) = options.iter().find(|option| !["--table", "--plans"].contains(&option.as_str())) {
+        return Err(format!("no option {odd:?}; there are --table and --plans"));
+    }
     let (calls, seed) = (number(words, 0, CALLS)?, number(words, 1, 1)?);
     let stop = Instant::now().checked_add(Duration::from_secs(number(words, 2, u64::MAX)?));
     let mut tally = Tally::default();
-    let done = run::rounds(calls, seed, stop, &mut ask::library, &mut tally);
+    let done = run::rounds(&profiles::in_use(given("--plans")), calls, seed, stop, &mut ask::library, &mut tally);
     tally.print();
-    if table {
+    if given("--table") {
         tally.print_table();
     }
     if done? {
@@ -61,11 +66,11 @@ fn generated(words: &[String], table: bool) -> Result<(), String> {
 
 fn main() -> ExitCode {
     let (options, words): (Vec<String>, Vec<String>) =
-        std::env::args().skip(1).partition(|word| word == "--table");
+        std::env::args().skip(1).partition(|word| word.starts_with("--"));
     let done = if words.first().is_some_and(|word| word == "self-test") {
         planted::all().map(|text| println!("{text}"))
     } else {
-        generated(&words, !options.is_empty())
+        generated(&words, &options)
     };
     match done {
         Ok(()) => ExitCode::SUCCESS,

@@ -47,6 +47,7 @@ pub enum Theme {
     Packages,
 }
 
+#[derive(Clone, Copy)]
 pub struct Profile {
     pub name: &'static str,
     pub theme: Theme,
@@ -121,7 +122,12 @@ const PACKAGES: Profile = Profile {
     ..SMALL
 };
 
-pub const PROFILES: &[Profile] = &[
+/// The profiles; with `plans` every second call of each is a plan.
+pub fn in_use(plans: bool) -> Vec<Profile> {
+    PROFILES.iter().map(|profile| Profile { plans: plans || profile.plans, ..*profile }).collect()
+}
+
+const PROFILES: &[Profile] = &[
     SMALL,
     Profile { name: "few of each, any state", start: Start::Any, ..SMALL },
     MARKED,

@@ -9,7 +9,7 @@ use oracle::random::Rng;
 use crate::ask::{Ask, Given};
 use crate::damage::{self, Store};
 use crate::draw::{Draw, Planned};
-use crate::profiles::{PROFILES, Profile, Start};
+use crate::profiles::{Profile, Start};
 use crate::tally::Tally;
 use crate::trial::{Library, Trial};
 
@@ -81,6 +81,7 @@ fn damaged(trial: &mut Trial, ask: &Ask, rng: &mut Rng) -> Result<(), String> {
 
 /// Rounds of runs until there were so many calls, or the time has come; whether it has.
 pub fn rounds(
+    profiles: &[Profile],
     calls: u64,
     seed: u64,
     stop: Option<Instant>,
@@ -91,7 +92,7 @@ pub fn rounds(
     let late = || stop.is_some_and(|stop| Instant::now() >= stop);
     while tally.calls < calls {
         let end = calls.min(tally.calls + ROUND);
-        let mut large = PROFILES
+        let mut large = profiles
             .iter()
             .filter(|profile| profile.large)
             .flat_map(|profile| profile.sizes.iter().map(move |sizes| (profile, *sizes)));
@@ -99,7 +100,7 @@ pub fn rounds(
             if late() {
                 return Ok(true);
             }
-            let (profile, sizes) = large.next().unwrap_or_else(|| small(&mut rng));
+            let (profile, sizes) = large.next().unwrap_or_else(|| small(profiles, &mut rng));
             let times = if profile.large { 1 } else { (SHARE / profile.calls).max(1) };
             for _ in 0..times {
                 let own = Rng::new(rng.next());
@@ -113,8 +114,8 @@ pub fn rounds(
 }
 
 /// A profile that is not large, and its sizes.
-pub fn small(rng: &mut Rng) -> (&'static Profile, (u64, u64)) {
-    let small: Vec<&Profile> = PROFILES.iter().filter(|profile| !profile.large).collect();
+pub fn small<'a>(profiles: &'a [Profile], rng: &mut Rng) -> (&'a Profile, (u64, u64)) {
+    let small: Vec<&Profile> = profiles.iter().filter(|profile| !profile.large).collect();
     let profile = rng.pick(&small);
     (profile, rng.pick(profile.sizes))
 }
