@@ -5,6 +5,7 @@ use std::collections::BTreeMap;
 use oracle::Machine;
 use oracle::calls::{Call, Candidate, Hash, Item, Key, Kind, Reply};
 use oracle::random::Rng;
+use oracle::sound::MAX_OF_CONNECTION;
 use oracle::state::{Owner, Package, Request, State};
 
 /// Connections that hold the state, and the one that the calls are about.
@@ -110,9 +111,11 @@ fn crowd(request: &mut Request) -> Key {
     request.key
 }
 
-fn announcing(l: u64, count: u64) -> Scene {
+/// So many new items of a connection in one call: with room for as many as may come in (half of L at the most), or preferred where L is held, so that each evicts.
+fn announcing(l: u64, count: u64, held: bool) -> Scene {
     let rng = &mut Rng::new(19);
-    let state = state(l, 16, requests(rng, l - count));
+    let room = if held { 0 } else { count.min(MAX_OF_CONNECTION).min(l / 2) };
+    let state = state(l, 16, requests(rng, l - room));
     let items = (0..count)
         .map(|i| {
             let hash = fresh(rng);
@@ -120,8 +123,9 @@ fn announcing(l: u64, count: u64) -> Scene {
         })
         .collect();
     let call =
-        Call::AnnounceTransactions { connection: OWN, now: NOW, preferred: false, wtxid_source: true, items };
-    scene(format!("announce_transactions, {count} with room"), state, vec![call])
+        Call::AnnounceTransactions { connection: OWN, now: NOW, preferred: held, wtxid_source: true, items };
+    let where_to = if held { "L held, preferred" } else { "with room" };
+    scene(format!("announce_transactions, {count} {where_to}"), state, vec![call])
 }
 
 /// A connection with as many announcements as it may have, or half of L; so many of them owned, so many with package
@@ -237,7 +241,9 @@ fn planning(l: u64, ready: bool, owners: u64, parents: usize) -> Scene {
 
 pub fn all(l: u64) -> Vec<Scene> {
     let mut scenes = plain(l);
-    scenes.extend([1, 100, 1_000].into_iter().filter(|count| *count < l).map(|count| announcing(l, count)));
+    for held in [false, true] {
+        scenes.extend([1, 100, 1_000, 50_000].map(|count| announcing(l, count, held)));
+    }
     scenes.extend([(0, 0), (100, 0), (100, 100)].map(|(owned, places)| leaving(l, owned, places)));
     scenes.push(claiming(l));
     scenes.extend([tearing(l), missing(l)]);
