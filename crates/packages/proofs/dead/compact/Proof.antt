@@ -4,12 +4,14 @@ use Prim.Native.Nat.{_-_}
 use mathlib.Core.Path.{_≡_, refl, _∙_}
 use lib.ListN.{length}
 use Rattle.words.specs.Words.{words}
+use Rattle.places.specs.Places.{blank, placeSize, placeWords}
+use Rattle.packages.specs.Dead.{live}
 use Rattle.packages.proofs.Compacting.{Compacting, compacting-none, compacting-more, compacting-end}
 use Rattle.packages.proofs.dead.compact.Statement.{statement}
 use Rattle.packages.proofs.dead.compact.Tie as tie
 
 abbrev Inv-loop : tie.InvT-loop
-Inv-loop s₀ n m₀ i₀ s m i = Compacting (words s₀) (words s) n i m × (length s ≡ length s₀)
+Inv-loop s₀ n m₀ i₀ s m i = Compacting placeSize placeWords live (words s₀) (words s) n i m × (length s ≡ length s₀)
 
 abbrev μ-loop : tie.MeasureT-loop
 μ-loop s₀ n m₀ i₀ s m i = n - i
@@ -28,7 +30,7 @@ loop-less c = search needs
 
 loop-again : tie.Need-loop-again Inv-loop μ-loop
 loop-again c = (
-  compacting-more (c .before .before .before .before .before .loop .inv .0) (c .before .before .before .before .loop-test .taken) (c .before .before .keep-live .ensures),
+  compacting-more (blank 0 0) (c .before .before .before .before .before .loop .inv .0) (c .before .before .before .before .loop-test .taken) (c .before .before .keep-live .ensures),
   c .before .before .keep-live .kept .0 ∙ c .before .before .before .before .before .loop .inv .1,
 )
 
