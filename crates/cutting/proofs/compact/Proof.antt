@@ -23,12 +23,6 @@ loop-holds c = (compacting-none (words (c .before .args .s .now)) (c .before .ar
 keep-row-requires : tie.Need-keep-row-requires Inv-loop μ-loop
 keep-row-requires c κs = (c .before .before .loop .inv .0 .less, omega (arith, c .before .before .loop .inv .1, c .before .loop-test .taken, c .before .before .before .before .pre))
 
-add-i : tie.Need-add-i Inv-loop μ-loop
-add-i c = search needs
-
-loop-less : tie.Need-loop-less Inv-loop μ-loop
-loop-less c = search needs
-
 loop-again : tie.Need-loop-again Inv-loop μ-loop
 loop-again c = (
   compacting-more none (c .before .before .before .before .before .loop .inv .0) (c .before .before .before .before .loop-test .taken) (c .before .before .keep-row .ensures),
@@ -48,14 +42,5 @@ returns c = compacting-end (c .before .before .before .before .before .loop .inv
 pub compact-spec : {M : Type 1} → statement M
 compact-spec =
     tie.close
-    (tie.spec
-    Inv-loop
-    μ-loop
-    loop-holds
-    keep-row-requires
-    add-i
-    loop-less
-    loop-again
-    truncate-rows-requires
-    same-length
+    (tie.spec Inv-loop μ-loop loop-holds keep-row-requires (λ c. search needs) (λ c. search needs) loop-again truncate-rows-requires same-length
     returns)

@@ -8,17 +8,8 @@ use borrow.Author.Needs.{needs}
 use Rattle.cutting.proofs.count_less.Statement.{statement}
 use Rattle.cutting.proofs.count_less.Tie as tie
 
-seek-conn-requires : tie.Need-seek-conn-requires
-seek-conn-requires c κs = search needs
-
-is-entry-requires : tie.Need-is-entry-requires
-is-entry-requires c κs = search needs
-
 conn-at-requires : tie.Need-conn-at-requires
 conn-at-requires c κs = (c .before .before .before .before .before .before .before .pre, c .before .before .is-entry .ensures .inside (c .before .if1 .taken))
-
-sub-t15 : tie.Need-sub-t15
-sub-t15 c = search needs
 
 set-conn-requires : tie.Need-set-conn-requires
 set-conn-requires c κs = (
@@ -31,9 +22,6 @@ drop-conn-requires c κs = (
   c .before .before .before .before .before .before .before .before .before .before .before .pre,
   c .before .before .before .before .before .before .is-entry .ensures .inside (c .before .before .before .before .before .if1 .taken),
 )
-
-same-length : tie.Need-same-length
-same-length c = search needs
 
 returns : tie.Need-returns
 returns c = λ f so h.
@@ -52,9 +40,6 @@ returns c = λ f so h.
     less-some f bd (c .before .before .before .before .before .before .before .before .before .before .before .before .before .before .before .args .d) d l e _ k
     (c .before .before .before .before .before .if2 .taken) (c .before .before .set-conn .ensures f h)
 
-same-length-2 : tie.Need-same-length-2
-same-length-2 c = search needs
-
 returns-2 : tie.Need-returns-2
 returns-2 c = λ f so h.
     let d = fresh 0 0 in
@@ -69,9 +54,6 @@ returns-2 c = λ f so h.
     less-all f bd (c .before .before .before .before .before .before .before .before .before .before .before .before .before .before .args .d) d l e _ k
     (omega (arith, c .before .before .before .before .if2 .left)) (c .before .before .drop-conn .ensures f h)
 
-same-length-3 : tie.Need-same-length-3
-same-length-3 c = search needs
-
 returns-3 : tie.Need-returns-3
 returns-3 c = λ f so h.
     let d = fresh 0 0 in
@@ -81,16 +63,5 @@ returns-3 c = λ f so h.
 pub count-less-spec : {M : Type 1} → statement M
 count-less-spec =
     tie.close
-    (tie.spec
-    seek-conn-requires
-    is-entry-requires
-    conn-at-requires
-    sub-t15
-    set-conn-requires
-    drop-conn-requires
-    same-length
-    returns
-    same-length-2
-    returns-2
-    same-length-3
-    returns-3)
+    (tie.spec (λ c κs. search needs) (λ c κs. search needs) conn-at-requires (λ c. search needs) set-conn-requires drop-conn-requires
+    (λ c. search needs) returns (λ c. search needs) returns-2 (λ c. search needs) returns-3)

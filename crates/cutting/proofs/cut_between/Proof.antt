@@ -7,12 +7,6 @@ use borrow.Author.Needs.{needs}
 use Rattle.cutting.proofs.cut_between.Statement.{statement}
 use Rattle.cutting.proofs.cut_between.Tie as tie
 
-key-words-requires : tie.Need-key-words-requires
-key-words-requires c κs = search needs
-
-key-words-requires-2 : tie.Need-key-words-requires-2
-key-words-requires-2 c κs = search needs
-
 drop-rows-requires : tie.Need-drop-rows-requires
 drop-rows-requires c κs = kept-shown (c .before .before .before .before .pre)
 
@@ -22,9 +16,6 @@ count-less-requires c κs =
     dropped-shown (kept .state) (kept .sound) (stays (c .before .before .before .before .before .before .before .before .args .n)
     (c .before .before .before .before .before .before .key-words .result) (c .before .before .before .before .before .key-words2 .result))
     (c .before .before .before .drop-rows .ensures .rows (flatOf (kept .state)) (kept .writes))
-
-same-length : tie.Need-same-length
-same-length c = search needs
 
 returns : tie.Need-returns
 returns c = λ st s w _.
@@ -39,10 +30,4 @@ returns c = λ st s w _.
 pub cut-between-spec : {M : Type 1} → statement M
 cut-between-spec =
     tie.close
-    (tie.spec
-    key-words-requires
-    key-words-requires-2
-    drop-rows-requires
-    count-less-requires
-    same-length
-    returns)
+    (tie.spec (λ c κs. search needs) (λ c κs. search needs) drop-rows-requires count-less-requires (λ c. search needs) returns)

@@ -7,45 +7,6 @@ use borrow.Author.Needs.{needs}
 use Rattle.cutting.proofs.drop_rows.Statement.{statement}
 use Rattle.cutting.proofs.drop_rows.Tie as tie
 
-rows-requires : tie.Need-rows-requires
-rows-requires c κs = search needs
-
-mul-x : tie.Need-mul-x
-mul-x c = search needs
-
-limit-requires : tie.Need-limit-requires
-limit-requires c κs = search needs
-
-mul-y : tie.Need-mul-y
-mul-y c = search needs
-
-add-y : tie.Need-add-y
-add-y c = search needs
-
-mul-y-2 : tie.Need-mul-y-2
-mul-y-2 c = search needs
-
-sub-compact : tie.Need-sub-compact
-sub-compact c = search needs
-
-part-compact-start : tie.Need-part-compact-start
-part-compact-start c = search needs
-
-part-compact-end : tie.Need-part-compact-end
-part-compact-end c = search needs
-
-compact-requires : tie.Need-compact-requires
-compact-requires c κs = search needs
-
-put-requires : tie.Need-put-requires
-put-requires c κs = search needs
-
-sub-result : tie.Need-sub-result
-sub-result c = search needs
-
-same-length : tie.Need-same-length
-same-length c = search needs
-
 returns : tie.Need-returns
 returns c =
     let p = c .before .before .before .before .before .before .before .before .before .before .before .before .before .args .p in
@@ -69,18 +30,6 @@ returns c =
 pub drop-rows-spec : {M : Type 1} → statement M
 drop-rows-spec =
     tie.close
-    (tie.spec
-    rows-requires
-    mul-x
-    limit-requires
-    mul-y
-    add-y
-    mul-y-2
-    sub-compact
-    part-compact-start
-    part-compact-end
-    compact-requires
-    put-requires
-    sub-result
-    same-length
+    (tie.spec (λ c κs. search needs) (λ c. search needs) (λ c κs. search needs) (λ c. search needs) (λ c. search needs) (λ c. search needs)
+    (λ c. search needs) (λ c. search needs) (λ c. search needs) (λ c κs. search needs) (λ c κs. search needs) (λ c. search needs) (λ c. search needs)
     returns)

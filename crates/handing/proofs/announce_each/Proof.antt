@@ -125,15 +125,4 @@ returns c = let late : c .before .before .before .before .before .before .args .
 pub announce-each-spec : {M : Type 1} → statement M
 announce-each-spec =
     tie.close
-    (tie.spec
-    Inv-loop
-    μ-loop
-    loop-holds
-    get-requires
-    announce-for-requires
-    add-i
-    loop-less
-    loop-again
-    same-length
-    same-length-2
-    returns)
+    (tie.spec Inv-loop μ-loop loop-holds get-requires announce-for-requires add-i loop-less loop-again same-length same-length-2 returns)

@@ -9,18 +9,6 @@ use borrow.Author.Needs.{needs}
 use Rattle.handing.proofs.announce_for.Statement.{statement}
 use Rattle.handing.proofs.announce_for.Tie as tie
 
-no-keys-requires : tie.Need-no-keys-requires
-no-keys-requires c κs = search needs
-
-slice-aggregate-announce-parents : tie.Need-slice-aggregate-announce-parents
-slice-aggregate-announce-parents c = search needs
-
-announce-parents-requires : tie.Need-announce-parents-requires
-announce-parents-requires c κs = search needs
-
-slice-aggregate-merge : tie.Need-slice-aggregate-merge
-slice-aggregate-merge c = search needs
-
 merge-requires : tie.Need-merge-requires
 merge-requires c κs = let kept = c .before .before .before .before .before .before .before .before .before .before .before .before .pre .0 in
     let hs = hashesIn (c .before .before .before .before .before .before .before .before .before .before .before .before .args .list .now) in
@@ -45,12 +33,6 @@ merge-requires c κs = let kept = c .before .before .before .before .before .bef
           (c .before .before .before .before .before .before .before .before .before .before .before .before .pre .4),
     )
 
-same-length : tie.Need-same-length
-same-length c = search needs
-
-same-length-2 : tie.Need-same-length-2
-same-length-2 c = search needs
-
 returns : tie.Need-returns
 returns c = let hs = hashesIn (c .before .before .before .before .before .before .before .before .before .before .before .before .before .before .before .args .list .now) in
     let few : FewHashes hs =
@@ -66,12 +48,5 @@ returns c = let hs = hashesIn (c .before .before .before .before .before .before
 pub announce-for-spec : {M : Type 1} → statement M
 announce-for-spec =
     tie.close
-    (tie.spec
-    no-keys-requires
-    slice-aggregate-announce-parents
-    announce-parents-requires
-    slice-aggregate-merge
-    merge-requires
-    same-length
-    same-length-2
-    returns)
+    (tie.spec (λ c κs. search needs) (λ c. search needs) (λ c κs. search needs) (λ c. search needs) merge-requires (λ c. search needs)
+    (λ c. search needs) returns)

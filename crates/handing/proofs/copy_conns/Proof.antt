@@ -18,15 +18,6 @@ Inv-loop s conns₀ from n i₀ conns i = Copied s from n conns₀ conns i × (8
 abbrev μ-loop : tie.MeasureT-loop
 μ-loop s conns₀ from n i₀ conns i = n - i
 
-key-words-requires : tie.Need-key-words-requires Inv-loop μ-loop
-key-words-requires c κs = search needs
-
-window-of-requires : tie.Need-window-of-requires Inv-loop μ-loop
-window-of-requires c κs = search needs
-
-sub-n : tie.Need-sub-n Inv-loop μ-loop
-sub-n c = search needs
-
 loop-holds : tie.Need-loop-holds Inv-loop μ-loop
 loop-holds c = let kept = c .before .before .before .before .before .pre .0 in
     let st = kept .state in
@@ -86,18 +77,5 @@ returns c = (
 pub copy-conns-spec : {M : Type 1} → statement M
 copy-conns-spec =
     tie.close
-    (tie.spec
-    Inv-loop
-    μ-loop
-    key-words-requires
-    window-of-requires
-    sub-n
-    loop-holds
-    add-row-at
-    row-at-requires
-    put-requires
-    add-i
-    loop-less
-    loop-again
-    same-length
-    returns)
+    (tie.spec Inv-loop μ-loop (λ c κs. search needs) (λ c κs. search needs) (λ c. search needs) loop-holds add-row-at row-at-requires put-requires
+    add-i loop-less loop-again same-length returns)

@@ -10,18 +10,6 @@ use borrow.Author.Needs.{needs}
 use Rattle.handing.proofs.drop_owned.Statement.{statement}
 use Rattle.handing.proofs.drop_owned.Tie as tie
 
-slice-aggregate-parents-for : tie.Need-slice-aggregate-parents-for
-slice-aggregate-parents-for c = search needs
-
-parents-for-requires : tie.Need-parents-for-requires
-parents-for-requires c κs = search needs
-
-failed-requires : tie.Need-failed-requires
-failed-requires c κs = search needs
-
-slice-aggregate-copy-conns : tie.Need-slice-aggregate-copy-conns
-slice-aggregate-copy-conns c = search needs
-
 copy-conns-requires : tie.Need-copy-conns-requires
 copy-conns-requires c κs = let v : c .before .before .before .before .before .before .before .before .before .before .before .before .args .clock < word =
     omega (arith, c .before .before .before .before .before .before .before .before .before .before .before .before .good .1 .1 .1 .0) in (
@@ -34,21 +22,6 @@ copy-conns-requires c κs = let v : c .before .before .before .before .before .b
           (c .before .before .before .before .before .before .before .before .before .before .before .before .pre .0),
       search needs,
     )
-
-mul-e : tie.Need-mul-e
-mul-e c = search needs
-
-sub-announce-each : tie.Need-sub-announce-each
-sub-announce-each c = search needs
-
-part-announce-each-start : tie.Need-part-announce-each-start
-part-announce-each-start c = search needs
-
-part-announce-each-end : tie.Need-part-announce-each-end
-part-announce-each-end c = search needs
-
-slice-aggregate-announce-each : tie.Need-slice-aggregate-announce-each
-slice-aggregate-announce-each c = search needs
 
 announce-each-requires : tie.Need-announce-each-requires
 announce-each-requires c κs =
@@ -95,12 +68,6 @@ announce-each-requires c κs =
           (c .before .before .before .before .before .before .before .before .before .before .before .before .before .before .before .before .before .before .before .pre .4),
     )
 
-same-length : tie.Need-same-length
-same-length c = search needs
-
-same-length-2 : tie.Need-same-length-2
-same-length-2 c = search needs
-
 returns : tie.Need-returns
 returns c = let v : c .before .before .before .before .before .before .before .before .before .before .before .before .before .before .before .before .before .before .before .before .before
     .before .before .before .args .clock < word = omega (
@@ -128,18 +95,6 @@ returns c = let v : c .before .before .before .before .before .before .before .b
 pub drop-owned-spec : {M : Type 1} → statement M
 drop-owned-spec =
     tie.close
-    (tie.spec
-    slice-aggregate-parents-for
-    parents-for-requires
-    failed-requires
-    slice-aggregate-copy-conns
-    copy-conns-requires
-    mul-e
-    sub-announce-each
-    part-announce-each-start
-    part-announce-each-end
-    slice-aggregate-announce-each
-    announce-each-requires
-    same-length
-    same-length-2
+    (tie.spec (λ c. search needs) (λ c κs. search needs) (λ c κs. search needs) (λ c. search needs) copy-conns-requires (λ c. search needs)
+    (λ c. search needs) (λ c. search needs) (λ c. search needs) (λ c. search needs) announce-each-requires (λ c. search needs) (λ c. search needs)
     returns)

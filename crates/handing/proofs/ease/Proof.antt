@@ -8,12 +8,6 @@ use borrow.Author.Needs.{needs}
 use Rattle.handing.proofs.ease.Statement.{statement}
 use Rattle.handing.proofs.ease.Tie as tie
 
-same-hash-other-kind-requires : tie.Need-same-hash-other-kind-requires
-same-hash-other-kind-requires c κs = search needs
-
-unclaim-requires : tie.Need-unclaim-requires
-unclaim-requires c κs = search needs
-
 ready-all-requires : tie.Need-ready-all-requires
 ready-all-requires c κs = let v : c .before .before .before .before .before .before .before .args .clock < word =
     omega (arith, c .before .before .before .before .before .before .before .good .1 .1 .1 .0) in
@@ -35,9 +29,6 @@ leave-requires c κs = let v : c .before .before .before .before .before .before
     (c .before .before .before .ready-all .ensures) (c .before .before .before .before .before .before .before .before .before .same-hash-other-kind .ensures)
     (c .before .before .before .before .before .before .before .before .before .before .before .pre .0)
 
-same-length : tie.Need-same-length
-same-length c = search needs
-
 returns : tie.Need-returns
 returns c = let v : c .before .before .before .before .before .before .before .before .before .before .before .before .before .before .args .clock < word =
     omega (arith, c .before .before .before .before .before .before .before .before .before .before .before .before .before .before .good .1 .1 .1 .0) in
@@ -54,10 +45,4 @@ returns c = let v : c .before .before .before .before .before .before .before .b
 pub ease-spec : {M : Type 1} → statement M
 ease-spec =
     tie.close
-    (tie.spec
-    same-hash-other-kind-requires
-    unclaim-requires
-    ready-all-requires
-    leave-requires
-    same-length
-    returns)
+    (tie.spec (λ c κs. search needs) (λ c κs. search needs) ready-all-requires leave-requires (λ c. search needs) returns)

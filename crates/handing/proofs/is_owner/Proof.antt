@@ -18,15 +18,6 @@ find-row-requires c κs = (kept-shown (c .before .before .before .pre .0), omega
 row-at-requires : tie.Need-row-at-requires
 row-at-requires c κs = (kept-shown (c .before .before .before .before .before .pre .0), omega (arith, c .before .before .before .rows .ensures .word, c .if2 .taken))
 
-key-words-requires : tie.Need-key-words-requires
-key-words-requires c κs = search needs
-
-has-key-requires : tie.Need-has-key-requires
-has-key-requires c κs = search needs
-
-add-t15 : tie.Need-add-t15
-add-t15 c = search needs
-
 returns : tie.Need-returns
 returns c = λ st s w.
     let n = c .before .before .before .before .before .before .before .before .rows .ensures .field (flatOf st) w in
@@ -37,22 +28,8 @@ returns c = λ st s w.
     (c .before .before .before .before .before .before .find-row .ensures .first (flatOf st) w .found (c .before .before .before .before .before .if2 .taken))
     (c .before .before .has-key .ensures (c .before .if3 .taken))
 
-search-owner-requires : tie.Need-search-owner-requires
-search-owner-requires c κs = search needs
-
-returns-2 : tie.Need-returns-2
-returns-2 c = search needs
-
 pub is-owner-spec : {M : Type 1} → statement M
 is-owner-spec =
     tie.close
-    (tie.spec
-    rows-requires
-    find-row-requires
-    row-at-requires
-    key-words-requires
-    has-key-requires
-    add-t15
-    returns
-    search-owner-requires
-    returns-2)
+    (tie.spec rows-requires find-row-requires row-at-requires (λ c κs. search needs) (λ c κs. search needs) (λ c. search needs) returns
+    (λ c κs. search needs) (λ c. search needs))

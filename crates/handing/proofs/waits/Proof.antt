@@ -6,32 +6,14 @@ use borrow.Author.Needs.{needs}
 use Rattle.handing.proofs.waits.Statement.{statement}
 use Rattle.handing.proofs.waits.Tie as tie
 
-is-owner-requires : tie.Need-is-owner-requires
-is-owner-requires c κs = search needs
-
-same-length : tie.Need-same-length
-same-length c = search needs
-
 returns : tie.Need-returns
 returns c = waits-free (c .before .before .before .before .before .args .n) (c .before .before .before .before .before .args .clock) (keyNum (c .before .before .before .before .before .args .k))
     (λ st s w. sym (c .before .before .is-owner .ensures st s w) ∙ not-true (c .before .before .is-owner .result .owner) (c .if1 .taken))
-
-is-silent-requires : tie.Need-is-silent-requires
-is-silent-requires c κs = search needs
-
-same-length-2 : tie.Need-same-length-2
-same-length-2 c = search needs
 
 returns-2 : tie.Need-returns-2
 returns-2 c = waits-not (c .before .before .before .before .before .before .before .before .args .n) (c .before .before .before .before .before .before .before .before .args .clock)
     (keyNum (c .before .before .before .before .before .before .before .before .args .k)) (λ st s w. sym (c .before .before .before .before .before .is-owner .ensures st s w) ∙
     not-false (c .before .before .before .before .before .is-owner .result .owner) (c .before .before .before .if1 .left))
-
-releasable-requires : tie.Need-releasable-requires
-releasable-requires c κs = search needs
-
-same-length-3 : tie.Need-same-length-3
-same-length-3 c = search needs
 
 returns-3 : tie.Need-returns-3
 returns-3 c = waits-not (c .before .before .before .before .before .before .before .before .before .before .before .args .n)
@@ -46,9 +28,6 @@ ease-requires c κs = (
   λ st s w. sym (c .before .before .releasable .ensures st s w) ∙ not-false (c .before .before .releasable .result) (c .before .if3 .left),
 )
 
-same-length-4 : tie.Need-same-length-4
-same-length-4 c = search needs
-
 returns-4 : tie.Need-returns-4
 returns-4 c = waits-eased (c .before .before .before .before .before .before .before .before .before .before .before .before .before .before .before .args .n)
     (c .before .before .before .before .before .before .before .before .before .before .before .before .before .before .before .args .clock)
@@ -61,16 +40,5 @@ returns-4 c = waits-eased (c .before .before .before .before .before .before .be
 pub waits-spec : {M : Type 1} → statement M
 waits-spec =
     tie.close
-    (tie.spec
-    is-owner-requires
-    same-length
-    returns
-    is-silent-requires
-    same-length-2
-    returns-2
-    releasable-requires
-    same-length-3
-    returns-3
-    ease-requires
-    same-length-4
-    returns-4)
+    (tie.spec (λ c κs. search needs) (λ c. search needs) returns (λ c κs. search needs) (λ c. search needs) returns-2 (λ c κs. search needs)
+    (λ c. search needs) returns-3 ease-requires (λ c. search needs) returns-4)
