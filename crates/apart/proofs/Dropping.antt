@@ -33,8 +33,8 @@ use Rattle.store.proofs.Counts.{in-has, in-hasnt}
 use Rattle.requests.proofs.AtHash.{at-hash}
 use Rattle.packages.specs.Changes.{ownerNum}
 use Rattle.failing.proofs.Fusing.{GivesNone, change-fuse, change-same}
-use Rattle.leaving.specs.Cuts.{readied}
-use Rattle.leaving.proofs.AtOnce.{without-none}
+use Rattle.handing.specs.Hands.{readied}
+use Rattle.cutting.proofs.AtOnce.{without-none}
 use Rattle.announcing.proofs.Swapping.{change-swap}
 use Rattle.apart.specs.Silent.{failEach, readiedBoth, readyEach, late, gone, droppedIn, droppedAll}
 

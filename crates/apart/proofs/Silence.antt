@@ -29,7 +29,7 @@ use Rattle.packages.specs.Changes.{closed, hasPlace}
 use Rattle.packages.specs.Dead.{filter, live}
 use Rattle.packages.proofs.Seeking.{place-free}
 use Rattle.requests.specs.Changes.{Makes}
-use Rattle.leaving.specs.Cuts.{readied}
+use Rattle.handing.specs.Hands.{readied}
 use Rattle.apart.specs.Bare.{bare, bareState}
 use Rattle.apart.specs.Apart.{Apart}
 use Rattle.apart.specs.Silent.{readiedBoth, readyEach, silenced, Placeless}

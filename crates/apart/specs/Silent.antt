@@ -20,7 +20,7 @@ use Rattle.store.specs.Flat.{placesFor}
 use Rattle.store.specs.FlatSound.{owns}
 use Rattle.packages.specs.Changes.{ownerNum}
 use Rattle.requests.specs.Changes.{Shorn}
-use Rattle.leaving.specs.Cuts.{readied}
+use Rattle.handing.specs.Hands.{readied}
 
 -- ---- the machine: one after the other
 

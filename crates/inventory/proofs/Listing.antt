@@ -10,7 +10,7 @@ use lib.ListN.{length, take}
 use Rattle.ident.specs.Number.{Key, Item}
 use Rattle.words.specs.Words.{number, words}
 use Rattle.machine.specs.Call.{Ask, On, keyBytes}
-use Rattle.lists.specs.Lists.{keyIn, keysIn}
+use Rattle.lists.specs.Lists.{keyIn, givenKeys, keysIn}
 use Rattle.lists.specs.Items.{itemBytes, itemIn, itemsIn}
 use Rattle.lines.specs.Fields.{numberOf, keyOf, itemOf, rest}
 use Rattle.reading.specs.Line.{Line, Asks, Send, taking, Reader, listThen}
@@ -20,13 +20,13 @@ use Rattle.reading.proofs.Stored.{all-stored}
 use Rattle.inventory.specs.declared.keys.Keys.the-variants.{None as NoKeys, Are as AreKeys}
 use Rattle.inventory.specs.declared.items.Items.the-variants.{None as NoItems, Are as AreItems}
 use Rattle.inventory.specs.declared.numbers.Numbers.the-variants.{None as NoNumbers, Are as AreNumbers}
-use Rattle.inventory.specs.Given.{mostListed, listedRoom, keysGiven, KeysGiven, itemsOf, ItemsGiven, mostNumbers, numberRoom, numberBytes, numbersOf, NumbersGiven}
+use Rattle.inventory.specs.Given.{mostListed, listedRoom, KeysGiven, itemsOf, ItemsGiven, mostNumbers, numberRoom, numberBytes, numbersOf, NumbersGiven}
 
 -- the list is xs, whatever it is for
 abbrev pub IsList : {A : Type 0} → Reader A → List ℕ → ℕ → List A → Type 0
 IsList {A} read l e xs = (line : List A → Line) → listThen read line (rest l (e + 1)) ≡ some (line xs)
 
-pub keys-stored : (n : ℕ) (b : List ℕ) → n ≤ mostListed → listedRoom ≤ length b → keysGiven (take (n * keyBytes) b) ≡ keysIn n b
+pub keys-stored : (n : ℕ) (b : List ℕ) → n ≤ mostListed → listedRoom ≤ length b → givenKeys (take (n * keyBytes) b) ≡ keysIn n b
 unfolding keysIn
 keys-stored n b m s = all-stored keyBytes keyIn n b (lit≤ tt) (omega arith)
 

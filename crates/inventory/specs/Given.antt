@@ -1,17 +1,17 @@
 -- What the contracts of the readers of lists say.
 -- Assumes nothing.
-use Prim.Native.Nat.{ℕ, _+_, _*_, _/_, _≤_}
+use Prim.Native.Nat.{ℕ, _+_, _*_, _≤_}
 use mathlib.Core.Path.{_≡_}
 use mathlib.Core.Bool.{true}
-use mathlib.Core.List.{List, _∷_, [], _++_}
+use mathlib.Core.List.{List}
 use mathlib.Core.Option.{Option, none, some}
-use lib.ListN.{length, take}
+use lib.ListN.{take}
 use Rattle.ident.specs.declared.ItemKind.{ItemKind}
-use Rattle.ident.specs.Number.{Key, Item, isPlain}
+use Rattle.ident.specs.Number.{Item, isPlain}
 use Rattle.words.specs.Words.{number, words, recs}
 use Rattle.machine.specs.Wrapper.{Offer}
 use Rattle.machine.specs.Call.{Ask, On, keyBytes}
-use Rattle.lists.specs.Lists.{keysIn}
+use Rattle.lists.specs.Lists.{givenKeys}
 use Rattle.lists.specs.Items.{itemBytes, itemIn, itemsIn, paired, offersIn}
 use Rattle.lines.specs.Fields.{rest}
 use Rattle.reading.specs.Line.{Line, Asks, Send}
@@ -50,12 +50,8 @@ mostListed = 21845
 abbrev pub listedRoom : ℕ
 listedRoom = 873800
 
--- the keys in bytes, as a plan takes them
-abbrev pub keysGiven : List ℕ → List Key
-keysGiven b = keysIn (length b / keyBytes) b
-
 abbrev pub KeysHeld : List ℕ → ℕ → List ℕ → ℕ → Type 0
-KeysHeld l e b m = Held keyListCall l e mostListed m (keysGiven (take (m * keyBytes) b))
+KeysHeld l e b m = Held keyListCall l e mostListed m (givenKeys (take (m * keyBytes) b))
 
 abbrev pub KeysAs : List ℕ → ℕ → List ℕ → Keys → Type 0
 KeysAs l e b NoKeys = Unlisted keyListCall l e

@@ -17,7 +17,8 @@ use Rattle.machine.proofs.Announce.{each-map}
 use Rattle.machine.proofs.Tests.{by-test}
 use Rattle.machine.proofs.At.{at-here, at-there}
 use Rattle.machine.proofs.Table.{place-inj}
-use Rattle.leaving.specs.Cuts.{listed, Rising}
+use Rattle.merging.specs.Merges.{Rising}
+use Rattle.leaving.specs.Parts.{listed}
 use Rattle.leaving.proofs.Parts.{InPart, rising-all}
 use Rattle.leaving.proofs.Easing.{not-both}
 

@@ -6,7 +6,7 @@ use mathlib.Core.List.{List}
 use native.Mathlib.Omega.{arith}
 use Rattle.ident.specs.Number.{Key}
 use Rattle.requests.specs.Changes.{Makes}
-use Rattle.leaving.specs.Cuts.{between, cuts}
+use Rattle.cutting.specs.Cuts.{between, cuts}
 use Rattle.leaving.specs.Parting.{keyOut, CutListed}
 
 module _ (n : ℕ) (u : List ℕ) (from to : ℕ) where

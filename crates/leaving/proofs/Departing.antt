@@ -11,10 +11,9 @@ use Rattle.ident.specs.Number.{Key, place}
 use Rattle.machine.specs.Limits.{Limits, word}
 use Rattle.machine.specs.State.{State, Table, Request, limitsOf, onTable, ownerIs}
 use Rattle.machine.specs.Table.{at}
-use Rattle.machine.specs.Announce.{cut}
 use Rattle.machine.specs.Call.{keyBytes}
-use Rattle.machine.specs.Fail.{Listed, nothing, failed, parentsFor}
-use Rattle.machine.specs.Leave.{keysOf, dropAt, dropEach, sortKeys, disconnected}
+use Rattle.machine.specs.Fail.{Listed, failed, parentsFor}
+use Rattle.machine.specs.Leave.{keysOf, dropAt, dropEach, sortKeys}
 use Rattle.machine.specs.Sound.{Sound, Bounded}
 use Rattle.machine.specs.Step.{keysAnswer, written}
 use Rattle.machine.specs.Typed.{Each, KeyTyped}
@@ -32,16 +31,17 @@ use Rattle.lists.specs.Lists.{keysIn}
 use Rattle.lists.proofs.Answer.{keys-append}
 use Rattle.lists.proofs.KeysBack.{keys-back}
 use Rattle.failing.proofs.Leaving.{told}
-use Rattle.leaving.specs.Cuts.{cutEach, Rising}
-use Rattle.leaving.specs.Merges.{inserts, InOrder, Takes}
-use Rattle.leaving.specs.Hands.{connsOf, Roomy, KeysMerged}
+use Rattle.merging.specs.Merges.{Rising}
+use Rattle.cutting.specs.Cuts.{cutEach}
+use Rattle.merging.specs.Merges.{inserts, InOrder, Takes}
+use Rattle.handing.specs.Hands.{connsOf, Roomy, KeysMerged}
 use Rattle.leaving.specs.Parting.{CutListed, Going}
 use Rattle.leaving.proofs.Parts.{joined, each-else, within-next, rising-back, rising-front, drop-first}
 use Rattle.leaving.proofs.Segments.{drop-part}
 use Rattle.leaving.proofs.Between.{rising-at, rising-before, before-listed}
-use Rattle.leaving.proofs.Merging.{rising-typed, sort-inserts, length-over, written-over}
-use Rattle.leaving.proofs.Announcing.{same-state, typed-for}
-use Rattle.leaving.proofs.Dropping.{for-left}
+use Rattle.merging.proofs.Merging.{rising-typed, sort-inserts, length-over, written-over}
+use Rattle.handing.proofs.Announcing.{same-state, typed-for}
+use Rattle.handing.proofs.Dropping.{for-left}
 use Rattle.leaving.proofs.Walking.{sorted-grows, sorted, Next, next-small, flushed, flushed-sound}
 
 -- ---- the keys that are listed are keys

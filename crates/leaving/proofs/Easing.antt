@@ -7,7 +7,6 @@ use mathlib.Core.Bool.{Bool, true, false}
 use mathlib.Core.List.{List, [], _∷_, _++_, map}
 use native.Mathlib.Omega.{arith}
 use lib.Dec.{eqb}
-use borrow.Author.Tests.{eqb-true, eqb-false}
 use Rattle.ident.specs.declared.Kind.{Kind}
 use Rattle.ident.specs.declared.Kind.the-variants.{Txid, Wtxid}
 use Rattle.ident.specs.If.{if_then_else_}
@@ -21,10 +20,13 @@ use Rattle.machine.specs.Leave.{isEmpty, announceEach, dropAt, dropEach}
 use Rattle.machine.specs.Sound.{Ordered, All, Filled}
 use Rattle.machine.specs.Typed.{Each}
 use Rattle.machine.proofs.Tests.{test, by-test, and-left}
-use Rattle.machine.proofs.Table.{place-inj, ordered-change, filled-change}
+use Rattle.machine.proofs.Table.{ordered-change, filled-change}
 use Rattle.machine.proofs.At.{KeepsKey, kept, at-same, at-other, other-place}
-use Rattle.leaving.specs.Cuts.{cutAt, cutEach, listed, Rising, Unowned, Within, readied, eased}
-use Rattle.leaving.specs.Hands.{Silent}
+use Rattle.merging.specs.Merges.{Rising}
+use Rattle.cutting.specs.Cuts.{cutAt, cutEach}
+use Rattle.handing.specs.Hands.{readied, eased}
+use Rattle.leaving.specs.Parts.{listed, Unowned, Within}
+use Rattle.handing.specs.Hands.{Silent}
 use Rattle.leaving.proofs.Segments.{ordered-cut, filled-cut, ordered-each, filled-each, drop-part}
 use Rattle.leaving.proofs.Parts.{each-else}
 use Rattle.leaving.proofs.Newcomers.{fewer-eased}

@@ -23,11 +23,12 @@ use Rattle.machine.proofs.Lengths.{length-disconnected}
 use Rattle.store.specs.Image.{Writes}
 use Rattle.store.specs.Shown.{limitIn, placesIn, Kept}
 use Rattle.store.proofs.Frame.{sizes}
-use Rattle.leaving.specs.Cuts.{cutEach, Unowned, OwnKeys}
+use Rattle.cutting.specs.Cuts.{cutEach}
+use Rattle.leaving.specs.Parts.{Unowned, OwnKeys}
 use Rattle.leaving.specs.Parting.{CutListed, Idle, Going, Ended, Parted}
 use Rattle.leaving.proofs.Parts.{rising-all, within-start, rising-front, drop-none}
 use Rattle.leaving.proofs.Segments.{drop-part}
-use Rattle.leaving.proofs.Merging.{length-over, written-over}
+use Rattle.merging.proofs.Merging.{length-over, written-over}
 use Rattle.leaving.proofs.Walking.{counted, flushed}
 
 -- ---- who owns nothing

@@ -1,20 +1,7 @@
-pub mod AtOnce
-pub mod RowsLeft
-pub mod Lessening
-pub mod Packing
-pub mod Testing
-pub mod Made
 pub mod Segments
 pub mod Newcomers
 pub mod Parts
 pub mod OwnRows
-pub mod Sorting
-pub mod Merging
-pub mod Inserting
-pub mod Copying
-pub mod Announcing
-pub mod Dropping
-pub mod GivingBack
 pub mod Easing
 pub mod Between
 pub mod Walking
@@ -22,4 +9,3 @@ pub mod Departing
 pub mod Ending
 pub mod Turning
 pub mod Cutting
-pub mod RowOwners

@@ -5,7 +5,7 @@ use Prim.Native.Nat.{ℕ, suc, _+_, _≤_, _<_}
 use mathlib.Core.Path.{_≡_, refl, sym, ap, subst, _∙_}
 use mathlib.Core.Logic.{inl, inr}
 use mathlib.Core.Bool.{Bool, true, false, _&&_, _||_}
-use mathlib.Core.List.{List, [], _∷_, map}
+use mathlib.Core.List.{List, [], _∷_}
 use mathlib.Core.Option.{Option, none, some}
 use native.Mathlib.Omega.{arith}
 use lib.Dec.{leb, eqb}
@@ -15,7 +15,7 @@ use Rattle.ident.specs.declared.Kind.the-variants.{Txid, Wtxid}
 use Rattle.ident.specs.If.{if_then_else_}
 use Rattle.ident.specs.Number.{Key, place, other, top, txid, wtxid}
 use Rattle.machine.specs.Limits.{Limits, maxPeerAnnouncements, word}
-use Rattle.machine.specs.State.{Candidate, Owner, Package, Request, Table, Entry, Answer, marked, unowned, readyAt, ownerIs, isSome}
+use Rattle.machine.specs.State.{Candidate, Owner, Package, Request, Table, Entry, Answer, marked, unowned, ownerIs, isSome}
 use Rattle.machine.specs.Table.{at, change, has, held, heldBy, heldAt, isCandidate}
 use Rattle.machine.specs.Announce.{without, cut, victims, greatest, greatestFrom, evicting, atHash, anywhere, announceAt, adopt, requestParentAt}
 use Rattle.machine.specs.Fail.{Listed, left, releasable, failed, dedup, parentOf, parentsFrom, announceParents, parentsFor}
@@ -28,7 +28,8 @@ use Rattle.machine.proofs.Announce.{Victim, victims-all, greatest-of}
 use Rattle.machine.proofs.Fail.{Peer, FewHashes, parents-dedup, bounded-parentAt, bounded-mark, bounded-parents, bounded-failed, few-for}
 use Rattle.machine.proofs.At.{KeepsKey, kept, at-other}
 use Rattle.machine.proofs.Alone.{at-either}
-use Rattle.leaving.specs.Cuts.{readied, eased}
+use Rattle.handing.specs.Hands.{readied, eased}
+use Rattle.handing.proofs.GivingBack.{has-ready}
 
 -- from the place lo on, n is a candidate under no key where it was none
 pub record Fewer (n lo : ℕ) (t t′ : Table) : Type 0 where
@@ -76,11 +77,6 @@ has-adopt : (n : ℕ) (b : Bool) (c : Candidate) (cs : List Candidate) → has n
 unfolding has adopt
 has-adopt n b c [] = refl
 has-adopt n b c (d ∷ cs) = elim (test (eqb (d .connection) (c .connection))) [ inl e ↦ rw e | inr e ↦ rw (e, has-adopt n b c cs) ]
-
-pub has-ready : (n now : ℕ) (cs : List Candidate) → has n (map (readyAt now) cs) ≡ has n cs
-unfolding has
-has-ready n now [] = refl
-has-ready n now (c ∷ cs) = rw (has-ready n now cs)
 
 module _ (n lo : ℕ) where
   pub fewer-cut : (k : Key) (x : ℕ) (t : Table) → k .hash < top → Ordered 0 t → Fewer n lo t (cut k x t)

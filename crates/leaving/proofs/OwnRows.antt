@@ -20,7 +20,7 @@ use Rattle.regions.specs.Regions.{each}
 use Rattle.machine.specs.Limits.{maxPeerAnnouncements}
 use Rattle.machine.specs.Call.{keyBytes}
 use Rattle.machine.specs.State.{Candidate, Request, Table, State}
-use Rattle.machine.specs.Table.{has, one, countIn}
+use Rattle.machine.specs.Table.{has, countIn}
 use Rattle.machine.specs.Leave.{keysOf}
 use Rattle.machine.specs.Sound.{All, Sound}
 use Rattle.machine.specs.Step.{keyAnswer, keysAnswer, written}
@@ -38,8 +38,8 @@ use Rattle.requests.proofs.Keeping.{sized-of}
 use Rattle.lists.proofs.Answer.{written-more, written-none}
 use Rattle.packages.specs.Dead.{filter}
 use Rattle.packages.proofs.Compacting.{filter-append, filter-one, filter-none}
-use Rattle.leaving.specs.Cuts.{isOf, keysIn, PutIf, OwnKeys}
-use Rattle.leaving.proofs.Lessening.{filter-fewer}
+use Rattle.leaving.specs.Parts.{isOf, keysIn, PutIf, OwnKeys}
+use Rattle.cutting.proofs.Lessening.{filter-fewer}
 
 map-append : {A B : Type 0} (f : A → B) (a b : List A) → map f (a ++ b) ≡ map f a ++ map f b
 map-append f [] b = refl

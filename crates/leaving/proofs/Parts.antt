@@ -19,7 +19,9 @@ use Rattle.machine.specs.Typed.{Each}
 use Rattle.machine.proofs.Tests.{test, by-test, never}
 use Rattle.machine.proofs.Change.{bounded-cut}
 use Rattle.packages.specs.Dead.{filter}
-use Rattle.leaving.specs.Cuts.{between, cutAt, cutEach, cuts, listed, Rising, Unowned, Within, inParts}
+use Rattle.merging.specs.Merges.{Rising}
+use Rattle.cutting.specs.Cuts.{between, cutAt, cutEach, cuts}
+use Rattle.leaving.specs.Parts.{listed, Unowned, Within, inParts}
 use Rattle.leaving.proofs.Segments.{at-cut-else, rising-keys, listed-keys, part-between, drop-part}
 use Rattle.leaving.proofs.Newcomers.{fewer-drop}
 

@@ -7,14 +7,13 @@ use mathlib.Core.Bool.{Bool, true, false, _&&_}
 use mathlib.Core.List.{List, [], _∷_, _++_}
 use native.Mathlib.Omega.{arith}
 use lib.Dec.{eqb}
-use lib.ListN.{length}
 use borrow.Author.Tests.{eqb-true, eqb-false, ne-eqb}
 use Rattle.ident.specs.If.{if_then_else_}
 use Rattle.ident.specs.Number.{top, Key, place}
 use Rattle.machine.specs.Limits.{Limits}
 use Rattle.machine.specs.State.{Candidate, Request, Table, withCandidates, ownerIs}
 use Rattle.machine.specs.Table.{at, has}
-use Rattle.machine.specs.Announce.{without, cut}
+use Rattle.machine.specs.Announce.{without}
 use Rattle.machine.specs.Fail.{Listed, nothing}
 use Rattle.machine.specs.Leave.{keysOf, dropAt, dropEach}
 use Rattle.machine.specs.Sound.{Ordered, All, Filled}
@@ -23,8 +22,10 @@ use Rattle.machine.proofs.Table.{place-inj, ordered-change, filled-change, all-
 use Rattle.machine.proofs.At.{kept, kept-some, at-here, at-there, at-same, at-other}
 use Rattle.packages.specs.Dead.{filter}
 use Rattle.announcing.proofs.Swapping.{table-same}
-use Rattle.leaving.specs.Cuts.{between, cutAt, cutEach, cuts, listed, Rising, Unowned}
-use Rattle.leaving.proofs.AtOnce.{without-none}
+use Rattle.merging.specs.Merges.{Rising}
+use Rattle.cutting.specs.Cuts.{between, cutAt, cutEach, cuts}
+use Rattle.leaving.specs.Parts.{listed, Unowned}
+use Rattle.cutting.proofs.AtOnce.{without-none}
 
 -- ---- what a cut leaves at each key
 

@@ -13,8 +13,8 @@ use Rattle.machine.specs.Call.{keyBytes}
 use Rattle.machine.specs.Leave.{dropAt}
 use Rattle.store.specs.Shown.{Kept}
 use Rattle.requests.specs.Changes.{Tells}
-use Rattle.leaving.specs.Merges.{InOrder}
-use Rattle.leaving.specs.Hands.{Roomy, KeysMerged, Waits}
+use Rattle.merging.specs.Merges.{InOrder}
+use Rattle.handing.specs.Hands.{Roomy, KeysMerged, Waits}
 use Rattle.leaving.specs.Parting.{keyOut, CutListed, Going}
 use Rattle.leaving.proofs.Walking.{going-kept, next-key, turn-waits}
 use Rattle.leaving.proofs.Departing.{start-inside, part-order, cut-kept, cut-owned, cut-room, turn-drops}

@@ -22,15 +22,18 @@ use Rattle.store.specs.Image.{Writes}
 use Rattle.store.specs.Shown.{Kept}
 use Rattle.lists.specs.Lists.{keysIn}
 use Rattle.lists.proofs.KeysBack.{keys-back, key-is}
-use Rattle.leaving.specs.Cuts.{between, cuts, cutEach, Rising, Unowned, Within, eased}
-use Rattle.leaving.specs.Hands.{Rests}
+use Rattle.merging.specs.Merges.{Rising}
+use Rattle.cutting.specs.Cuts.{between, cuts, cutEach}
+use Rattle.handing.specs.Hands.{eased}
+use Rattle.leaving.specs.Parts.{Unowned, Within}
+use Rattle.handing.specs.Hands.{Rests}
 use Rattle.leaving.specs.Parting.{keyOut, CutListed, Going}
 use Rattle.leaving.proofs.Parts.{part-range, bounded-each, unowned-more, rising-front}
 use Rattle.leaving.proofs.Segments.{drop-part}
 use Rattle.leaving.proofs.Easing.{drop-eased, eased-unowned, within-eased}
 use Rattle.leaving.proofs.Between.{each-front, each-back, rising-at, rising-before, before-listed, before-differ, ends-of, apart-keys, held-at}
-use Rattle.leaving.proofs.Merging.{rising-typed, rising-inserts, sort-inserts, inserts-grow}
-use Rattle.leaving.proofs.GivingBack.{bounded-eased}
+use Rattle.merging.proofs.Merging.{rising-typed, rising-inserts, sort-inserts, inserts-grow}
+use Rattle.handing.proofs.GivingBack.{bounded-eased}
 
 -- ---- sorted lists
 

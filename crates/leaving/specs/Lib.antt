@@ -1,4 +1,2 @@
-pub mod Cuts
-pub mod Merges
-pub mod Hands
+pub mod Parts
 pub mod Parting

@@ -16,7 +16,9 @@ use Rattle.machine.specs.Typed.{Each, KeyTyped}
 use Rattle.store.specs.Image.{Writes}
 use Rattle.lists.specs.Lists.{keyIn}
 use Rattle.requests.specs.Changes.{Makes, Tells}
-use Rattle.leaving.specs.Cuts.{between, cuts, Rising, Unowned, Within}
+use Rattle.merging.specs.Merges.{Rising}
+use Rattle.cutting.specs.Cuts.{between, cuts}
+use Rattle.leaving.specs.Parts.{Unowned, Within}
 use Rattle.leaving.specs.declared.Left.{Left}
 
 -- the i-th key of a buffer

@@ -27,3 +27,10 @@ keyIn b = record { kind = kindIn (number 256 (take 8 b)); hash = number 256 (dro
 -- the first n keys of an answer buffer
 unfoldable pub keysIn : ℕ → List ℕ → List Key
 keysIn n b = recs keyBytes keyIn n b
+
+-- the keys given to a call, 40 bytes each; a rest of fewer bytes is no key
+abbrev pub keyCount : List ℕ → ℕ
+keyCount b = length b / keyBytes
+
+abbrev pub givenKeys : List ℕ → List Key
+givenKeys b = keysIn (keyCount b) b

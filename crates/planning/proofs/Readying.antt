@@ -23,8 +23,8 @@ use Rattle.machine.proofs.Tests.{test}
 use Rattle.store.specs.Image.{Writes}
 use Rattle.store.specs.Shown.{Kept}
 use Rattle.requests.specs.Changes.{Makes, Tells}
-use Rattle.leaving.specs.Cuts.{readied}
-use Rattle.leaving.proofs.GivingBack.{shrinks-ready}
+use Rattle.handing.specs.Hands.{readied}
+use Rattle.handing.proofs.GivingBack.{shrinks-ready}
 use Rattle.apart.specs.Apart.{Apart}
 use Rattle.apart.specs.Lapsing.{family, noted}
 use Rattle.apart.specs.Silent.{readiedBoth, readyEach, droppedAll, silenced, Placeless}

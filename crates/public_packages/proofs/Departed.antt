@@ -21,7 +21,7 @@ use Rattle.lists.proofs.Answer.{keys-append}
 use Rattle.lists.proofs.KeysBack.{keys-back}
 use Rattle.leaving.specs.declared.Left.{Left as Counts}
 use Rattle.leaving.specs.Parting.{Parted}
-use Rattle.leaving.proofs.Merging.{rising-typed}
+use Rattle.merging.proofs.Merging.{rising-typed}
 use Rattle.leaving.proofs.Walking.{sorted-rising}
 use Rattle.leaving.proofs.Departing.{typed-each}
 use Rattle.outcome.specs.Outcome.{Does}

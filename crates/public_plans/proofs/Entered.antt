@@ -30,6 +30,7 @@ use Rattle.store.specs.Image.{Bytes}
 use Rattle.store.specs.Gather.{kindIs}
 use Rattle.store.proofs.BytesBack.{bytes-take, bytes-drop}
 use Rattle.claiming.specs.Claiming.{hashFrom, entryFrom, entriesFrom, entriesIn}
+pub use Rattle.sending.proofs.Ordering.{length-from}
 
 -- an entry that bytes can hold
 pub record Whole (a : Entry) : Type 0 where
@@ -188,11 +189,6 @@ whole-typed [] g = tt
 whole-typed (a ∷ l) g = (g .0 .typed, whole-typed l (g .1))
 
 -- how many they are
-pub length-from : (b : List ℕ) (i n : ℕ) → length (entriesFrom b i n) ≡ n
-unfolding entriesFrom
-length-from b i zero = refl
-length-from b i (suc n) = ap suc (length-from b (i + 1) n)
-
 pub length-entries : (b : List ℕ) → length (entriesIn b) ≡ length b / entryBytes
 length-entries b = length-from b 0 (length b / entryBytes)
 

@@ -323,7 +323,7 @@ pub fn key_at(s: &[u8], i: usize) -> Key
 }
 
 // Whether the key m comes before k; with `after`, whether it does not come after it.
-fn falls_short(m: Key, k: Key, after: bool) -> bool
+pub fn falls_short(m: Key, k: Key, after: bool) -> bool
     ensures { λ r. ⌜ r ≡ ltb (keyNumber m) (keyNumber k + one after) ⌝ }
 {
     if after {

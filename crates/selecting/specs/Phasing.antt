@@ -1,27 +1,18 @@
 -- What the contracts of a phase say: the keys of a list considered one after the other, from any earlier scan on.
 -- Assumes nothing.
-use Prim.Native.Nat.{ℕ, _+_, _*_, _/_, _≤_}
+use Prim.Native.Nat.{ℕ, _+_, _≤_}
 use mathlib.Core.Path.{_≡_}
-use mathlib.Core.Bool.{Bool, true, false}
+use mathlib.Core.Bool.{false}
 use mathlib.Core.List.{List, _++_}
-use lib.ListN.{length, take, drop}
 use Rattle.ident.specs.If.{if_then_else_}
 use Rattle.ident.specs.Number.{Key}
 use Rattle.machine.specs.Limits.{maxRequestChecks}
 use Rattle.machine.specs.State.{State}
 use Rattle.machine.specs.Plan as machine
-use Rattle.machine.specs.Call.{keyBytes}
 use Rattle.store.specs.Shown.{rowsIn, Kept}
-use Rattle.lists.specs.Lists.{keyIn, keysIn}
+pub use Rattle.lists.specs.Lists.{keyCount, givenKeys}
 use Rattle.selecting.specs.declared.Scan.{Scan}
 use Rattle.selecting.specs.Selecting.{Scanning}
-
--- the keys given, 40 bytes each; a rest of fewer bytes is no key
-abbrev pub keyCount : List ℕ → ℕ
-keyCount b = length b / keyBytes
-
-abbrev pub givenKeys : List ℕ → List Key
-givenKeys b = keysIn (keyCount b) b
 
 -- v says how far a phase has come: what is left of it leads to the scan `all`
 pub record Phasing (now : ℕ) (st : State) (b p : List ℕ) (v : Scan) (left : List Key) (all : machine.Scan) : Type 0 where

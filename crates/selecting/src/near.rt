@@ -1,7 +1,5 @@
 // Searches that begin at a guess: a walk over the rows in their order finds each hash near the last one. The guess is tested, not trusted.
-ghost use mathlib.Core.Path.{_≡_};
 ghost use Prim.Native.Nat.{_+_, _*_, _≤_, _<_};
-ghost use lib.Dec.{ltb};
 ghost use lib.ListN.{length};
 ghost use Rattle.ident.specs.Words.{hashNum};
 ghost use Rattle.words.specs.Words.{words, recs};
@@ -14,17 +12,6 @@ ghost use Rattle.selecting.specs.Near.{Behind};
 // Words of a row.
 const ROW: usize = 9;
 
-// Whether the key m comes before k; with `after`, whether it does not come after it.
-fn falls_short(m: regions::Key, k: regions::Key, after: bool) -> bool
-    ensures { λ r. ⌜ r ≡ ltb (keyNumber m) (keyNumber k + one after) ⌝ }
-{
-    if after {
-        !regions::key_less(k, m)
-    } else {
-        regions::key_less(m, k)
-    }
-}
-
 // The guess, if the row before it falls short; otherwise the first row.
 fn begin_at(s: &[u8], n: usize, k: regions::Key, after: bool, guess: usize) -> usize
     requires { ⌜ 8 * (rowSize * n) ≤ length (now s) ⌝ }
@@ -36,7 +23,7 @@ fn begin_at(s: &[u8], n: usize, k: regions::Key, after: bool, guess: usize) -> u
     if n < guess {
         return 0;
     }
-    if falls_short(regions::key_at(s, guess - 1), k, after) {
+    if regions::falls_short(regions::key_at(s, guess - 1), k, after) {
         guess
     } else {
         0
@@ -63,7 +50,7 @@ fn seek_in(s: &[u8], n: usize, k: regions::Key, after: bool, guess: usize) -> us
     while lo < hi {
         let d = ahead(hi - lo, step);
         let mid = lo + d;
-        if falls_short(regions::key_at(s, mid), k, after) {
+        if regions::falls_short(regions::key_at(s, mid), k, after) {
             lo = mid + 1;
             step = 2 * d + 1;
         } else {

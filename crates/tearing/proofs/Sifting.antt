@@ -1,4 +1,4 @@
--- The elements that pass a test moved to the front of a list, one after the other, and what is behind them cut off.
+-- The entries that have a row moved to the front, one after the other, and what is behind them cut off.
 -- Assumes nothing.
 use Prim.Native.Nat.{ℕ, zero, suc, _+_, _≤_, _<_}
 use mathlib.Core.Path.{_≡_, refl, sym, ap, subst, _∙_}
@@ -6,10 +6,9 @@ use mathlib.Core.Logic.{inl, inr}
 use mathlib.Core.Bool.{Bool, true, false}
 use mathlib.Core.List.{List, [], _∷_, _++_, append-nil}
 use native.Mathlib.Nat.{add-zero}
-use native.Mathlib.Numerals.{add-one}
 use native.Mathlib.Omega.{arith}
-use lib.ListN.{length, take, drop, getD, set, length-set, drop-of-length-le}
-use lib.Seq.{length-take-le, take-all, take-suc, take-take, drop-drop, getD-drop, take-suc-set, drop-set-lt}
+use lib.ListN.{length, take, drop, getD, set, drop-of-length-le}
+use lib.Seq.{length-take-le, take-all, take-take}
 use borrow.Author.Tests.{lt-ltb, le-ltb}
 use Rattle.regions.specs.declared.Conn.{Conn}
 use Rattle.regions.specs.Regions.{removeAt}
@@ -23,7 +22,7 @@ use Rattle.store.proofs.Frame.{shown, sizes}
 use Rattle.store.proofs.Missing.{each-at}
 use Rattle.store.proofs.Tally.{fresh}
 use Rattle.packages.specs.Dead.{filter}
-use Rattle.packages.proofs.Compacting.{filter-append, filter-one, filter-none}
+use Rattle.packages.proofs.Compacting.{Sifted, sifted-none, sifted-all, sifted-stays, sifted-goes}
 use Rattle.tearing.specs.Idle.{busy, KeptBusy}
 
 each-set : {A : Type 0} (P : A → Type 0) (l : List A) (i : ℕ) (x : A) → Each P l → P x → Each P (set l i x)
@@ -35,49 +34,6 @@ each-take : {A : Type 0} (P : A → Type 0) (n : ℕ) (l : List A) → Each P l 
 each-take P zero l a = tt
 each-take P (suc n) [] a = tt
 each-take P (suc n) (x ∷ l) a = (a .0, each-take P n l (a .1))
-
--- ---- of a list xs the first i were looked at: what passes stands at the front of ys, m of them
-
-pub record Sifted {A : Type 0} (p : A → Bool) (xs ys : List A) (i m : ℕ) : Type 0 where
-  pub long : length ys ≡ length xs
-  pub front : take m ys ≡ filter p (take i xs)
-  pub rest : drop i ys ≡ drop i xs
-
-module _ {A : Type 0} {p : A → Bool} {xs ys : List A} {i m : ℕ} (g : Sifted p xs ys i m) where
-  sifted-all : length xs ≤ i → take m ys ≡ filter p xs
-  sifted-all l = g .front ∙ ap (filter p) (take-all i xs l)
-
-  module _ (l : i < length xs) (k : m ≤ i) (d : A) where
-    here : getD ys i d ≡ getD xs i d
-    here =
-        let e : (x : List A) → getD x i d ≡ getD (drop i x) 0 d = λ x. ap (λ (j : ℕ). getD x j d) (sym (add-zero i)) ∙ sym (getD-drop i x 0 d) in
-        e ys ∙ ap (λ (x : List A). getD x 0 d) (g .rest) ∙ sym (e xs)
-
-    next-rest : drop (i + 1) ys ≡ drop (i + 1) xs
-    next-rest = sym (drop-drop 1 i ys) ∙ ap (drop 1) (g .rest) ∙ drop-drop 1 i xs
-
-    longer : filter p (take (i + 1) xs) ≡ filter p (take i xs) ++ filter p (getD xs i d ∷ [])
-    longer = rw (add-one i, take-suc xs i d l) (filter-append p (take i xs) (getD xs i d ∷ []))
-
-    sifted-stays : p (getD ys i d) ≡ true → Sifted p xs (set ys m (getD ys i d)) (i + 1) (m + 1)
-    sifted-stays e = record {
-      long = length-set ys m (getD ys i d) ∙ g .long;
-      front =
-          let x = getD ys i d in
-          let a : take (m + 1) (set ys m x) ≡ take m ys ++ (x ∷ []) = rw (add-one m) (take-suc-set ys m x (omega (arith, g .long))) in
-          let b : filter p (getD xs i d ∷ []) ≡ x ∷ [] = rw (← here) (filter-one p x e) in
-          a ∙ ap (λ (y : List A). y ++ (x ∷ [])) (g .front) ∙ ap (λ (y : List A). filter p (take i xs) ++ y) (sym b) ∙ sym longer;
-      rest = drop-set-lt (i + 1) ys m (getD ys i d) (omega arith) ∙ next-rest;
-    }
-
-    sifted-goes : p (getD ys i d) ≡ false → Sifted p xs ys (i + 1) m
-    sifted-goes e = record {
-      long = g .long;
-      front =
-          let b : filter p (getD xs i d ∷ []) ≡ [] = rw (← here) (filter-none p (getD ys i d) e) in
-          g .front ∙ sym (longer ∙ ap (λ (y : List A). filter p (take i xs) ++ y) b ∙ append-nil (filter p (take i xs)));
-      rest = next-rest;
-    }
 
 -- ---- one entry
 
@@ -117,12 +73,11 @@ pub record Sifting (b₀ b : List ℕ) (i m : ℕ) : Type 0 where
   pub going : (f : Flat) → Shows b₀ f → Going b f i m
 
 pub sifting-none : (b : List ℕ) → Sifting b b 0 0
-unfolding filter
 sifting-none b = record {
   most = omega arith;
   less = omega arith;
   size = refl;
-  going = λ f w. record { conns = f .conns; sifted = record { long = refl; front = refl; rest = refl }; shows = w; light = λ a. a };
+  going = λ f w. record { conns = f .conns; sifted = sifted-none; shows = w; light = λ a. a };
 }
 
 module _ {b₀ b : List ℕ} {i m : ℕ} (c : Sifting b₀ b i m) where

@@ -14,9 +14,6 @@ use Rattle.choosing.proofs.choose_within.Tie as tie
 owned-in-requires : tie.Need-owned-in-requires
 owned-in-requires c κs = (kept-shown (c .before .pre .0), c .before .pre .1 .0, c .before .pre .1 .1)
 
-nothing-requires : tie.Need-nothing-requires
-nothing-requires c κs = search needs
-
 returns : tie.Need-returns
 returns c = record {
   is = λ h z st s w.
@@ -31,9 +28,6 @@ returns c = record {
 owned-in-requires-2 : tie.Need-owned-in-requires-2
 owned-in-requires-2 c κs = (kept-shown (c .before .before .before .pre .0), c .before .before .before .pre .2 .0, c .before .before .before .pre .2 .1)
 
-nothing-requires-2 : tie.Need-nothing-requires-2
-nothing-requires-2 c κs = search needs
-
 returns-2 : tie.Need-returns-2
 returns-2 c = record {
   is = λ h z st s w.
@@ -44,15 +38,6 @@ returns-2 c = record {
       (is-none (c .nothing2 .result .row) (c .nothing2 .result .some) (c .nothing2 .ensures));
   found = λ f w. found-none (f .rows) (c .nothing2 .result) (c .nothing2 .ensures);
 }
-
-least-in-requires : tie.Need-least-in-requires
-least-in-requires c κs = search needs
-
-least-in-requires-2 : tie.Need-least-in-requires-2
-least-in-requires-2 c κs = search needs
-
-either-requires : tie.Need-either-requires
-either-requires c κs = search needs
 
 returns-3 : tie.Need-returns-3
 returns-3 c = record {
@@ -73,14 +58,5 @@ returns-3 c = record {
 pub choose-within-spec : {M : Type 1} → statement M
 choose-within-spec =
     tie.close
-    (tie.spec
-    owned-in-requires
-    nothing-requires
-    returns
-    owned-in-requires-2
-    nothing-requires-2
-    returns-2
-    least-in-requires
-    least-in-requires-2
-    either-requires
-    returns-3)
+    (tie.spec owned-in-requires (λ c κs. search needs) returns owned-in-requires-2 (λ c κs. search needs) returns-2 (λ c κs. search needs)
+    (λ c κs. search needs) (λ c κs. search needs) returns-3)

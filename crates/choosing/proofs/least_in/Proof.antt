@@ -24,9 +24,6 @@ Inv-loop s clock from to i₀ v₀ i v = (from ≤ i) × (i ≤ to) × Tells s (
 abbrev μ-loop : tie.MeasureT-loop
 μ-loop s clock from to i₀ v₀ i v = i - from
 
-nothing-requires : tie.Need-nothing-requires Inv-loop μ-loop
-nothing-requires c κs = search needs
-
 loop-holds : tie.Need-loop-holds Inv-loop μ-loop
 loop-holds c = (
   c .before .before .pre .1,
@@ -36,17 +33,11 @@ loop-holds c = (
   λ f w. found-none (f .rows) (c .nothing .result) (c .nothing .ensures),
 )
 
-sub-i : tie.Need-sub-i Inv-loop μ-loop
-sub-i c = omega arith
-
 row-at-requires : tie.Need-row-at-requires Inv-loop μ-loop
 row-at-requires c κs = (kept-shown (c .before .before .before .before .pre .0), omega arith)
 
 with-row-requires : tie.Need-with-row-requires Inv-loop μ-loop
 with-row-requires c κs = c .before .before .before .before .before .pre .0
-
-loop-less : tie.Need-loop-less Inv-loop μ-loop
-loop-less c = omega arith
 
 loop-again : tie.Need-loop-again Inv-loop μ-loop
 loop-again c = (
@@ -77,14 +68,5 @@ returns c = record {
 pub least-in-spec : {M : Type 1} → statement M
 least-in-spec =
     tie.close
-    (tie.spec
-    Inv-loop
-    μ-loop
-    nothing-requires
-    loop-holds
-    sub-i
-    row-at-requires
-    with-row-requires
-    loop-less
-    loop-again
+    (tie.spec Inv-loop μ-loop (λ c κs. search needs) loop-holds (λ c. omega arith) row-at-requires with-row-requires (λ c. omega arith) loop-again
     returns)

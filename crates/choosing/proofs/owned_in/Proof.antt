@@ -31,12 +31,6 @@ returns c = λ f w.
     (omega (arith, c .before .before .before .before .before .before .pre .2)) (c .before .before .row-at .ensures f (c .before .before .row-at .result) w) (eq-eqb _ 1 (c .if1 .taken))
     ∙ c .before .before .before .before .loop .inv .1 f w
 
-add-i : tie.Need-add-i Inv-loop μ-loop
-add-i c = omega arith
-
-loop-less : tie.Need-loop-less Inv-loop μ-loop
-loop-less c = omega arith
-
 loop-again : tie.Need-loop-again Inv-loop μ-loop
 loop-again c = (
   omega arith,
@@ -53,13 +47,4 @@ returns-2 c = λ f w. owns-none (f .rows) (c .before .loop .i) (c .before .befor
 pub owned-in-spec : {M : Type 1} → statement M
 owned-in-spec =
     tie.close
-    (tie.spec
-    Inv-loop
-    μ-loop
-    loop-holds
-    row-at-requires
-    returns
-    add-i
-    loop-less
-    loop-again
-    returns-2)
+    (tie.spec Inv-loop μ-loop loop-holds row-at-requires returns (λ c. omega arith) (λ c. omega arith) loop-again returns-2)

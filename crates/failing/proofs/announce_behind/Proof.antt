@@ -10,21 +10,6 @@ use borrow.Author.Needs.{needs}
 use Rattle.failing.proofs.announce_behind.Statement.{statement}
 use Rattle.failing.proofs.announce_behind.Tie as tie
 
-put-key-requires : tie.Need-put-key-requires
-put-key-requires c κs = search needs
-
-sub-announce-parents : tie.Need-sub-announce-parents
-sub-announce-parents c = search needs
-
-part-announce-parents-start : tie.Need-part-announce-parents-start
-part-announce-parents-start c = search needs
-
-part-announce-parents-end : tie.Need-part-announce-parents-end
-part-announce-parents-end c = search needs
-
-announce-parents-requires : tie.Need-announce-parents-requires
-announce-parents-requires c κs = search needs
-
 add-result : tie.Need-add-result
 add-result c =
     let kept = c .before .before .before .before .before .before .before .before .before .before .before .before .before .before .pre .0 in
@@ -36,12 +21,6 @@ add-result c =
           (c .before .before .before .before .before .before .before .before .before .before .before .before .before .before .args .list .now)) (kept .state .table),
       c .before .before .before .before .before .before .before .before .before .before .before .before .before .before .pre .2,
     )
-
-same-length : tie.Need-same-length
-same-length c = search needs
-
-same-length-2 : tie.Need-same-length-2
-same-length-2 c = search needs
 
 returns : tie.Need-returns
 returns c = listed-behind (c .before .before .before .before .before .before .before .before .before .before .before .before .before .before .args .out .now) _
@@ -55,13 +34,5 @@ returns c = listed-behind (c .before .before .before .before .before .before .be
 pub announce-behind-spec : {M : Type 1} → statement M
 announce-behind-spec =
     tie.close
-    (tie.spec
-    put-key-requires
-    sub-announce-parents
-    part-announce-parents-start
-    part-announce-parents-end
-    announce-parents-requires
-    add-result
-    same-length
-    same-length-2
-    returns)
+    (tie.spec (λ c κs. search needs) (λ c. search needs) (λ c. search needs) (λ c. search needs) (λ c κs. search needs) add-result (λ c. search needs)
+    (λ c. search needs) returns)

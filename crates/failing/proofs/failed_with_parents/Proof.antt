@@ -10,36 +10,12 @@ use borrow.Author.Needs.{needs}
 use Rattle.failing.proofs.failed_with_parents.Statement.{statement}
 use Rattle.failing.proofs.failed_with_parents.Tie as tie
 
-slice-aggregate-parents-for : tie.Need-slice-aggregate-parents-for
-slice-aggregate-parents-for c = search needs
-
-parents-for-requires : tie.Need-parents-for-requires
-parents-for-requires c κs = search needs
-
-failed-requires : tie.Need-failed-requires
-failed-requires c κs = search needs
-
-same-length : tie.Need-same-length
-same-length c = search needs
-
 returns : tie.Need-returns
 returns c = nothing-handed (keyNum (c .before .before .before .before .before .before .before .before .before .before .before .args .k))
     (c .before .before .before .before .before .before .before .before .before .before .before .args .n)
     (c .before .before .before .before .before .before .before .before .before .before .before .args .clock)
     (c .before .before .before .before .before .before .before .before .before .before .before .args .out .now) (not-true (c .before .before .before .failed .result) (c .if1 .taken))
     (c .before .before .before .failed .ensures)
-
-mul-e : tie.Need-mul-e
-mul-e c = search needs
-
-sub-announce-behind : tie.Need-sub-announce-behind
-sub-announce-behind c = search needs
-
-part-announce-behind-start : tie.Need-part-announce-behind-start
-part-announce-behind-start c = search needs
-
-part-announce-behind-end : tie.Need-part-announce-behind-end
-part-announce-behind-end c = search needs
 
 announce-behind-requires : tie.Need-announce-behind-requires
 announce-behind-requires c κs =
@@ -64,12 +40,6 @@ announce-behind-requires c κs =
           (c .before .before .before .before .before .before .before .before .before .before .before .before .before .before .before .args .out .now)
           (c .before .before .before .before .before .before .before .before .before .before .before .before .before .before .before .pre .2),
     )
-
-same-length-2 : tie.Need-same-length-2
-same-length-2 c = search needs
-
-same-length-3 : tie.Need-same-length-3
-same-length-3 c = search needs
 
 returns-2 : tie.Need-returns-2
 returns-2 c =
@@ -97,17 +67,5 @@ returns-2 c =
 pub failed-with-parents-spec : {M : Type 1} → statement M
 failed-with-parents-spec =
     tie.close
-    (tie.spec
-    slice-aggregate-parents-for
-    parents-for-requires
-    failed-requires
-    same-length
-    returns
-    mul-e
-    sub-announce-behind
-    part-announce-behind-start
-    part-announce-behind-end
-    announce-behind-requires
-    same-length-2
-    same-length-3
-    returns-2)
+    (tie.spec (λ c. search needs) (λ c κs. search needs) (λ c κs. search needs) (λ c. search needs) returns (λ c. search needs) (λ c. search needs)
+    (λ c. search needs) (λ c. search needs) announce-behind-requires (λ c. search needs) (λ c. search needs) returns-2)

@@ -12,26 +12,11 @@ use borrow.Author.Needs.{needs}
 use Rattle.failing.proofs.release_package.Statement.{statement}
 use Rattle.failing.proofs.release_package.Tie as tie
 
-wtxid-key-requires : tie.Need-wtxid-key-requires
-wtxid-key-requires c κs = search needs
-
-enqueued-by-requires : tie.Need-enqueued-by-requires
-enqueued-by-requires c κs = search needs
-
-same-length : tie.Need-same-length
-same-length c = search needs
-
 returns : tie.Need-returns
 returns c = nothing-released (keyNum (c .before .before .before .wtxid-key .result)) (hashNum (c .before .before .before .before .before .before .args .subject .0))
     (c .before .before .before .before .before .before .args .n) (c .before .before .before .before .before .before .args .clock)
     (c .before .before .before .before .before .before .args .out .now) (c .before .before .before .wtxid-key .ensures)
     (λ st s w. sym (c .before .enqueued-by .ensures st s w) ∙ not-true (c .before .enqueued-by .result) (c .if1 .taken))
-
-slice-aggregate-parents-for : tie.Need-slice-aggregate-parents-for
-slice-aggregate-parents-for c = search needs
-
-parents-for-requires : tie.Need-parents-for-requires
-parents-for-requires c κs = search needs
 
 leave-both-requires : tie.Need-leave-both-requires
 leave-both-requires c κs = (
@@ -40,18 +25,6 @@ leave-both-requires c κs = (
       (c .before .before .before .before .before .before .before .before .wtxid-key .result)) (st .table)) (sym (c .before .before .before .before .before .before .enqueued-by .ensures st s w) ∙
       not-false (c .before .before .before .before .before .before .enqueued-by .result) (c .before .before .before .before .before .if1 .left)),
 )
-
-mul-e : tie.Need-mul-e
-mul-e c = search needs
-
-sub-announce-behind : tie.Need-sub-announce-behind
-sub-announce-behind c = search needs
-
-part-announce-behind-start : tie.Need-part-announce-behind-start
-part-announce-behind-start c = search needs
-
-part-announce-behind-end : tie.Need-part-announce-behind-end
-part-announce-behind-end c = search needs
 
 announce-behind-requires : tie.Need-announce-behind-requires
 announce-behind-requires c κs =
@@ -75,12 +48,6 @@ announce-behind-requires c κs =
           (c .before .before .before .before .before .before .before .before .before .before .before .before .before .before .before .before .before .before .args .out .now)
           (c .before .before .before .before .before .before .before .before .before .before .before .before .before .before .before .before .before .before .pre .2),
     )
-
-same-length-2 : tie.Need-same-length-2
-same-length-2 c = search needs
-
-same-length-3 : tie.Need-same-length-3
-same-length-3 c = search needs
 
 returns-2 : tie.Need-returns-2
 returns-2 c =
@@ -114,19 +81,6 @@ returns-2 c =
 pub release-package-spec : {M : Type 1} → statement M
 release-package-spec =
     tie.close
-    (tie.spec
-    wtxid-key-requires
-    enqueued-by-requires
-    same-length
-    returns
-    slice-aggregate-parents-for
-    parents-for-requires
-    leave-both-requires
-    mul-e
-    sub-announce-behind
-    part-announce-behind-start
-    part-announce-behind-end
-    announce-behind-requires
-    same-length-2
-    same-length-3
+    (tie.spec (λ c κs. search needs) (λ c κs. search needs) (λ c. search needs) returns (λ c. search needs) (λ c κs. search needs) leave-both-requires
+    (λ c. search needs) (λ c. search needs) (λ c. search needs) (λ c. search needs) announce-behind-requires (λ c. search needs) (λ c. search needs)
     returns-2)

@@ -75,16 +75,5 @@ returns c = λ st s w. ended (c .before .before .before .before .before .before 
 pub drop-keys-spec : {M : Type 1} → statement M
 drop-keys-spec =
     tie.close
-    (tie.spec
-    Inv-loop
-    μ-loop
-    idle-keys-requires
-    loop-holds
-    take-turn-requires
-    add-i
-    loop-less
-    loop-again
-    cut-listed-requires
-    same-length
-    same-length-2
-    returns)
+    (tie.spec Inv-loop μ-loop idle-keys-requires loop-holds take-turn-requires add-i loop-less loop-again cut-listed-requires same-length
+    same-length-2 returns)

@@ -15,12 +15,6 @@ key-at-requires c κs = let late : c .before .before .before .args .clock < word
 waits-requires : tie.Need-waits-requires
 waits-requires c κs = (going-kept (c .before .before .before .before .before .pre .0 .going), c .before .before .before .before .before .pre .1)
 
-same-length : tie.Need-same-length
-same-length c = search needs
-
-same-length-2 : tie.Need-same-length-2
-same-length-2 c = search needs
-
 returns : tie.Need-returns
 returns c = λ st u₀ g.
     let late : c .before .before .before .before .before .before .before .before .before .args .clock < word =
@@ -56,9 +50,6 @@ part-drop-owned-start c = let late : c .before .before .before .before .before .
     omega (arith, c .before .before .before .before .before .before .before .before .before .before .before .before .before .before .before .good .1 .1 .0) in
     omega (arith, keys-inside (c .before .before .before .before .before .before .before .before .before .before .before .before .before .before .before .pre .0 .going) late)
 
-part-drop-owned-end : tie.Need-part-drop-owned-end
-part-drop-owned-end c = search needs
-
 drop-owned-requires : tie.Need-drop-owned-requires
 drop-owned-requires c κs = let late : c .before .before .before .before .before .before .before .before .before .before .before .before .before .before .before .before .args .clock < word =
     omega (arith, c .before .before .before .before .before .before .before .before .before .before .before .before .before .before .before .before .good .1 .1 .0) in
@@ -69,15 +60,6 @@ drop-owned-requires c κs = let late : c .before .before .before .before .before
     (c .before .before .before .before .before .before .before .before .before .before .waits .ensures)
     (c .before .before .before .before .before .before .before .if1 .left) (c .before .before .before .before .cut-listed .ensures)
     (c .before .before .before .before .before .before .before .before .before .before .before .before .before .before .before .before .pre .1)
-
-add-t26 : tie.Need-add-t26
-add-t26 c = search needs
-
-same-length-3 : tie.Need-same-length-3
-same-length-3 c = search needs
-
-same-length-4 : tie.Need-same-length-4
-same-length-4 c = search needs
 
 returns-2 : tie.Need-returns-2
 returns-2 c = λ st u₀ g.
@@ -96,19 +78,5 @@ returns-2 c = λ st u₀ g.
 pub take-turn-spec : {M : Type 1} → statement M
 take-turn-spec =
     tie.close
-    (tie.spec
-    key-at-requires
-    waits-requires
-    same-length
-    same-length-2
-    returns
-    cut-listed-requires
-    mul-x
-    sub-drop-owned
-    part-drop-owned-start
-    part-drop-owned-end
-    drop-owned-requires
-    add-t26
-    same-length-3
-    same-length-4
-    returns-2)
+    (tie.spec key-at-requires waits-requires (λ c. search needs) (λ c. search needs) returns cut-listed-requires mul-x sub-drop-owned
+    part-drop-owned-start (λ c. search needs) drop-owned-requires (λ c. search needs) (λ c. search needs) (λ c. search needs) returns-2)

@@ -23,9 +23,6 @@ abbrev μ-loop : tie.MeasureT-loop
 same-as : {r b : Bool} {g h x y : ℕ} → r ≡ eqb g h → g ≡ x → h ≡ y → r ≡ b → eqb x y ≡ b
 same-as e p q t = cc
 
-hash-in-requires : tie.Need-hash-in-requires Inv-loop μ-loop
-hash-in-requires c κs = search needs
-
 loop-holds : tie.Need-loop-holds Inv-loop μ-loop
 unfolding elem
 loop-holds c = (omega arith, refl)
@@ -41,12 +38,6 @@ returns c =
     let start : tie.Start Inv-loop μ-loop = c .before .before .before .before .before .before .before in
     sym (elem-met _ _ (start .args .i) (c .before .before .before .before .loop .j) (omega arith) (omega (arith, start .pre))
     (same-as (c .before .same-hash .ensures) (c .before .before .hash-in2 .ensures) (c .before .before .before .before .before .hash-in .ensures) (c .if1 .taken)))
-
-add-j : tie.Need-add-j Inv-loop μ-loop
-add-j c = omega arith
-
-loop-less : tie.Need-loop-less Inv-loop μ-loop
-loop-less c = omega arith
 
 loop-again : tie.Need-loop-again Inv-loop μ-loop
 loop-again c =
@@ -64,15 +55,5 @@ returns-2 c =
 pub occurs-before-spec : {M : Type 1} → statement M
 occurs-before-spec =
     tie.close
-    (tie.spec
-    Inv-loop
-    μ-loop
-    hash-in-requires
-    loop-holds
-    hash-in-requires-2
-    same-hash-requires
-    returns
-    add-j
-    loop-less
-    loop-again
-    returns-2)
+    (tie.spec Inv-loop μ-loop (λ c κs. search needs) loop-holds hash-in-requires-2 same-hash-requires returns (λ c. omega arith) (λ c. omega arith)
+    loop-again returns-2)

@@ -16,14 +16,8 @@ use borrow.Author.Needs.{needs}
 use Rattle.packages.proofs.add_parent.Statement.{statement}
 use Rattle.packages.proofs.add_parent.Tie as tie
 
-seek-requires : tie.Need-seek-requires
-seek-requires c κs = search needs
-
 parents-requires : tie.Need-parents-requires
 parents-requires c κs = (c .before .before .before .before .before .pre, c .before .before .seek .ensures .inside (c .before .if1 .taken))
-
-hash-quad-requires : tie.Need-hash-quad-requires
-hash-quad-requires c κs = search needs
 
 push-parent-requires : tie.Need-push-parent-requires
 push-parent-requires c κs = (
@@ -31,9 +25,6 @@ push-parent-requires c κs = (
   c .before .before .before .before .before .before .seek .ensures .inside (c .before .before .before .before .before .if1 .taken),
   c .before .if2 .taken,
 )
-
-same-length : tie.Need-same-length
-same-length c = search needs
 
 returns : tie.Need-returns
 returns c = λ st s w o.
@@ -50,9 +41,6 @@ returns c = λ st s w o.
     parent-added st s h (c .before .before .before .before .before .before .before .before .before .seek .ensures .small) (p .bound) n e d
     (rw x at (c .before .before .push-parent .ensures (flatOf st) d (ap (λ (y : Place). length (y .parents)) there ∙ sym count) w))
 
-same-length-2 : tie.Need-same-length-2
-same-length-2 c = search needs
-
 returns-2 : tie.Need-returns-2
 returns-2 c = λ st s w o.
     let h = hashNum (c .before .before .before .before .before .before .before .before .args .h) in
@@ -60,9 +48,6 @@ returns-2 c = λ st s w o.
     let e = sym (p .held-is) ∙ c .before .before .before .before .if1 .taken in
     let count = c .before .before .parents .ensures .1 h (c .before .before .before .before .before .seek .ensures .small) st s w (record { bound = p .bound; held-is = sym e }) in
     absurd (omega (arith, o .few, c .if2 .left))
-
-same-length-3 : tie.Need-same-length-3
-same-length-3 c = search needs
 
 returns-3 : tie.Need-returns-3
 returns-3 c = λ st s w o.
@@ -72,14 +57,5 @@ returns-3 c = λ st s w o.
 pub add-parent-spec : {M : Type 1} → statement M
 add-parent-spec =
     tie.close
-    (tie.spec
-    seek-requires
-    parents-requires
-    hash-quad-requires
-    push-parent-requires
-    same-length
-    returns
-    same-length-2
-    returns-2
-    same-length-3
-    returns-3)
+    (tie.spec (λ c κs. search needs) parents-requires (λ c κs. search needs) push-parent-requires (λ c. search needs) returns (λ c. search needs)
+    returns-2 (λ c. search needs) returns-3)

@@ -28,9 +28,6 @@ seek-requires c κs = c .before .before .before .pre .0
 place-at-requires : tie.Need-place-at-requires
 place-at-requires c κs = (kept-shown (c .before .before .before .before .before .before .pre .0), c .before .before .seek .ensures .inside (c .before .if1 .taken))
 
-hash-quad-requires : tie.Need-hash-quad-requires
-hash-quad-requires c κs = search needs
-
 push-wtxids-requires : tie.Need-push-wtxids-requires
 push-wtxids-requires c κs = (
   no-wtxids (c .before .before .before .before .before .before .before .before .before .before .before .pre .0)
@@ -62,9 +59,6 @@ set-stage-requires c κs =
     let turn = c .before .before .before .set-combined .ensures d in
     (turned-shown x i g d turn, turned-inside x i g d turn y)
 
-same-length : tie.Need-same-length
-same-length c = search needs
-
 returns : tie.Need-returns
 returns c = λ st s w o.
     let h = hashNum (c .before .before .before .before .before .before .before .before .before .before .before .before .before .before .before .before .before .before .before
@@ -95,9 +89,6 @@ returns c = λ st s w o.
     let b = c .before .before .set-stage .ensures d _ (c .before .before .before .before .before .before .set-combined .ensures d _ listed) in
     claimed st s h small (p .bound) n hs o d (rw x at (set-thrice (flatOf st) i (withWtxids hs (getD ps i d)) d (withCombined (quadNumber q)) (withStage 2) l b))
 
-same-length-2 : tie.Need-same-length-2
-same-length-2 c = search needs
-
 returns-2 : tie.Need-returns-2
 returns-2 c = λ st s w o.
     let h = hashNum (c .before .before .before .before .before .before .before .before .before .before .args .h) in
@@ -105,9 +96,6 @@ returns-2 c = λ st s w o.
     let p = c .before .before .before .before .before .before .seek .ensures .is st s w in
     let there = its-place st s h (c .before .before .before .before .before .before .seek .ensures .small) (p .bound) (sym (p .held-is) ∙ c .before .before .before .before .before .if1 .taken) d in
     absurd (c .if2 .left (head-stage _ (c .before .before .before .place-at .ensures (flatOf st) d w) ∙ ap (λ (x : Place). x .stage) there ∙ flag-stage (at (wtxid h) (st .table)) o))
-
-same-length-3 : tie.Need-same-length-3
-same-length-3 c = search needs
 
 returns-3 : tie.Need-returns-3
 returns-3 c = λ st s w o.
@@ -117,16 +105,5 @@ returns-3 c = λ st s w o.
 pub claim-spec : {M : Type 1} → statement M
 claim-spec =
     tie.close
-    (tie.spec
-    seek-requires
-    place-at-requires
-    hash-quad-requires
-    push-wtxids-requires
-    set-combined-requires
-    set-stage-requires
-    same-length
-    returns
-    same-length-2
-    returns-2
-    same-length-3
-    returns-3)
+    (tie.spec seek-requires place-at-requires (λ c κs. search needs) push-wtxids-requires set-combined-requires set-stage-requires (λ c. search needs)
+    returns (λ c. search needs) returns-2 (λ c. search needs) returns-3)

@@ -33,12 +33,6 @@ returns c = λ f d h.
       deadline = ap (λ (r : Row). r .deadline) e;
     })
 
-add-i : tie.Need-add-i Inv-loop μ-loop
-add-i c = search needs
-
-loop-less : tie.Need-loop-less Inv-loop μ-loop
-loop-less c = search needs
-
 loop-again : tie.Need-loop-again Inv-loop μ-loop
 loop-again c = unowned-more (c .before .before .before .before .loop .inv) (c .before .before .before .loop-test .taken) (c .before .before .row-at .ensures) (c .if1 .left)
 
@@ -48,13 +42,4 @@ returns-2 c = λ f d h. inr (record { free = λ j p q z. c .before .loop .inv .f
 pub owner-in-spec : {M : Type 1} → statement M
 owner-in-spec =
     tie.close
-    (tie.spec
-    Inv-loop
-    μ-loop
-    loop-holds
-    row-at-requires
-    returns
-    add-i
-    loop-less
-    loop-again
-    returns-2)
+    (tie.spec Inv-loop μ-loop loop-holds row-at-requires returns (λ c. search needs) (λ c. search needs) loop-again returns-2)

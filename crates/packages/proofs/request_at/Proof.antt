@@ -13,17 +13,8 @@ use borrow.Author.Needs.{needs}
 use Rattle.packages.proofs.request_at.Statement.{statement}
 use Rattle.packages.proofs.request_at.Tie as tie
 
-key-words-requires : tie.Need-key-words-requires
-key-words-requires c κs = search needs
-
-window-of-requires : tie.Need-window-of-requires
-window-of-requires c κs = search needs
-
 owner-in-requires : tie.Need-owner-in-requires
 owner-in-requires c κs = (kept-shown (c .before .before .before .pre), c .window-of .ensures .order, c .window-of .ensures .most)
-
-stage-at-requires : tie.Need-stage-at-requires
-stage-at-requires c κs = search needs
 
 mark-in-requires : tie.Need-mark-in-requires
 mark-in-requires c κs = (kept-shown (c .before .before .before .before .before .pre), c .before .before .window-of .ensures .most)
@@ -52,10 +43,4 @@ returns c =
 pub request-at-spec : {M : Type 1} → statement M
 request-at-spec =
     tie.close
-    (tie.spec
-    key-words-requires
-    window-of-requires
-    owner-in-requires
-    stage-at-requires
-    mark-in-requires
-    returns)
+    (tie.spec (λ c κs. search needs) (λ c κs. search needs) owner-in-requires (λ c κs. search needs) mark-in-requires returns)

@@ -16,9 +16,6 @@ use borrow.Author.Needs.{needs}
 use Rattle.packages.proofs.seek.Statement.{statement}
 use Rattle.packages.proofs.seek.Tie as tie
 
-hash-quad-requires : tie.Need-hash-quad-requires
-hash-quad-requires c κs = search needs
-
 seek-place-requires : tie.Need-seek-place-requires
 seek-place-requires c κs = kept-shown (c .before .before .pre)
 
@@ -27,9 +24,6 @@ held-places-requires c κs = let z = kept-shown (c .before .before .before .pre)
 
 place-at-requires : tie.Need-place-at-requires
 place-at-requires c κs = (kept-shown (c .before .before .before .before .before .pre), omega (arith, c .before .held-places .ensures .word, c .if1 .taken))
-
-quad-less-requires : tie.Need-quad-less-requires
-quad-less-requires c κs = search needs
 
 returns : tie.Need-returns
 returns c = record {
@@ -70,11 +64,4 @@ returns-2 c = record {
 pub seek-spec : {M : Type 1} → statement M
 seek-spec =
     tie.close
-    (tie.spec
-    hash-quad-requires
-    seek-place-requires
-    held-places-requires
-    place-at-requires
-    quad-less-requires
-    returns
-    returns-2)
+    (tie.spec (λ c κs. search needs) seek-place-requires held-places-requires place-at-requires (λ c κs. search needs) returns returns-2)

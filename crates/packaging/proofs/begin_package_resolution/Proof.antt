@@ -7,20 +7,11 @@ use Rattle.packaging.proofs.Beginning.{begin-barred, begin-inside, begi
 use Rattle.packaging.proofs.begin_package_resolution.Statement.{statement}
 use Rattle.packaging.proofs.begin_package_resolution.Tie as tie
 
-owned-at-requires : tie.Need-owned-at-requires
-owned-at-requires c κs = search needs
-
-same-length : tie.Need-same-length
-same-length c = search needs
-
 returns : tie.Need-returns
 returns c =
     let start : tie.Start = c .before .before .before .before .before in
     begin-barred (start .args .n) (hashNum (start .args .subject .0)) (hashNum (start .args .combined)) (hashesIn (start .args .wtxids .now)) (start .args .clock) (c .before .owned-at .ensures)
     (not-true _ (c .if1 .taken))
-
-seek-requires : tie.Need-seek-requires
-seek-requires c κs = search needs
 
 same-package-requires : tie.Need-same-package-requires
 same-package-requires c κs =
@@ -30,9 +21,6 @@ same-package-requires c κs =
           (c .before .before .before .before .owned-at .ensures) (not-false _ (c .before .before .before .if1 .left)) (c .before .seek .ensures) (start .pre),
     )
 
-same-length-2 : tie.Need-same-length-2
-same-length-2 c = search needs
-
 returns-2 : tie.Need-returns-2
 returns-2 c =
     let start : tie.Start = c .before .before .before .before .before .before .before .before .before .before in
@@ -41,12 +29,6 @@ returns-2 c =
     begin-other (start .args .n) (hashNum (start .args .subject .0)) (hashNum (start .args .combined)) (hashesIn (start .args .wtxids .now)) (start .args .clock) e d
     (begin-read (start .args .n) (hashNum (start .args .subject .0)) (hashNum (start .args .combined)) (hashesIn (start .args .wtxids .now)) (start .args .clock) e d
     (c .before .before .before .seek .ensures) (c .before .same-package .ensures)) (not-true _ (c .if2 .taken))
-
-enqueue-requires : tie.Need-enqueue-requires
-enqueue-requires c κs = search needs
-
-same-length-3 : tie.Need-same-length-3
-same-length-3 c = search needs
 
 returns-3 : tie.Need-returns-3
 returns-3 c =
@@ -62,14 +44,5 @@ returns-3 c =
 pub begin-package-resolution-spec : {M : Type 1} → statement M
 begin-package-resolution-spec =
     tie.close
-    (tie.spec
-    owned-at-requires
-    same-length
-    returns
-    seek-requires
-    same-package-requires
-    same-length-2
-    returns-2
-    enqueue-requires
-    same-length-3
-    returns-3)
+    (tie.spec (λ c κs. search needs) (λ c. search needs) returns (λ c κs. search needs) same-package-requires (λ c. search needs) returns-2
+    (λ c κs. search needs) (λ c. search needs) returns-3)

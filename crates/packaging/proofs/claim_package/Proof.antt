@@ -11,9 +11,6 @@ use Rattle.packaging.proofs.Claiming.{claim-none, claim-many, claim-bar
 use Rattle.packaging.proofs.claim_package.Statement.{statement}
 use Rattle.packaging.proofs.claim_package.Tie as tie
 
-hashes-requires : tie.Need-hashes-requires
-hashes-requires c κs = search needs
-
 returns : tie.Need-returns
 returns c =
     let start : tie.Start = c .before .before .before .before in
@@ -23,12 +20,6 @@ returns c =
     (λ z. claim-many (start .args .n) (hashNum (start .args .subject .0)) (hashNum (start .args .combined)) (hashesIn (start .args .wtxids .now)) (start .args .clock)
     (omega (arith, ltb-true 100 (c .before .hashes .result) (z .1 .taken), x)))
     (c .if1 .came)
-
-owned-at-requires : tie.Need-owned-at-requires
-owned-at-requires c κs = search needs
-
-same-length : tie.Need-same-length
-same-length c = search needs
 
 returns-2 : tie.Need-returns-2
 returns-2 c =
@@ -50,9 +41,6 @@ claim-requires c κs =
       ),
     )
 
-same-length-2 : tie.Need-same-length-2
-same-length-2 c = search needs
-
 returns-3 : tie.Need-returns-3
 returns-3 c =
     let start : tie.Start = c .before .before .before .before .before .before .before .before .before .before .before .before in
@@ -69,12 +57,4 @@ returns-3 c =
 pub claim-package-spec : {M : Type 1} → statement M
 claim-package-spec =
     tie.close
-    (tie.spec
-    hashes-requires
-    returns
-    owned-at-requires
-    same-length
-    returns-2
-    claim-requires
-    same-length-2
-    returns-3)
+    (tie.spec (λ c κs. search needs) returns (λ c κs. search needs) (λ c. search needs) returns-2 claim-requires (λ c. search needs) returns-3)

@@ -21,24 +21,12 @@ Inv-loop s i wtxids count j₀ j = (j ≤ count) × ReadAt s i (λ q. sameList (
 abbrev μ-loop : tie.MeasureT-loop
 μ-loop s i wtxids count j₀ j = count - j
 
-combined-at-requires : tie.Need-combined-at-requires Inv-loop μ-loop
-combined-at-requires c κs = search needs
-
-same-hash-requires : tie.Need-same-hash-requires Inv-loop μ-loop
-same-hash-requires c κs = search needs
-
 returns : tie.Need-returns Inv-loop μ-loop
 returns c = λ h small st s w p.
     let start : tie.Start Inv-loop μ-loop = c .before .before .before .before .before in
     let q = at (wtxid h) (st .table) in
     other-hash (combinedOf (q .«package»)) (hashNum (start .args .combined)) (wtxidsOf (q .«package»)) (hashesIn (start .args .wtxids .now))
     (compared (c .before .same-hash .ensures) (c .before .before .combined-at .ensures h small st s w p) refl (not-true _ (c .if1 .taken)))
-
-wtxids-requires : tie.Need-wtxids-requires Inv-loop μ-loop
-wtxids-requires c κs = search needs
-
-hashes-requires : tie.Need-hashes-requires Inv-loop μ-loop
-hashes-requires c κs = search needs
 
 returns-2 : tie.Need-returns-2 Inv-loop μ-loop
 returns-2 c = λ h small st s w p.
@@ -126,21 +114,5 @@ returns-4 c = λ h small st s w p.
 pub same-package-spec : {M : Type 1} → statement M
 same-package-spec =
     tie.close
-    (tie.spec
-    Inv-loop
-    μ-loop
-    combined-at-requires
-    same-hash-requires
-    returns
-    wtxids-requires
-    hashes-requires
-    returns-2
-    loop-holds
-    wtxid-at-requires
-    hash-in-requires
-    same-hash-requires-2
-    returns-3
-    add-j
-    loop-less
-    loop-again
-    returns-4)
+    (tie.spec Inv-loop μ-loop (λ c κs. search needs) (λ c κs. search needs) returns (λ c κs. search needs) (λ c κs. search needs) returns-2 loop-holds
+    wtxid-at-requires hash-in-requires same-hash-requires-2 returns-3 add-j loop-less loop-again returns-4)

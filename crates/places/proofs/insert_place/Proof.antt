@@ -6,30 +6,6 @@ use borrow.Author.Needs.{needs}
 use Rattle.places.proofs.insert_place.Statement.{statement}
 use Rattle.places.proofs.insert_place.Tie as tie
 
-mul-a : tie.Need-mul-a
-mul-a c = search needs
-
-mul-move-up : tie.Need-mul-move-up
-mul-move-up c = search needs
-
-move-up-requires : tie.Need-move-up-requires
-move-up-requires c κs = search needs
-
-clear-requires : tie.Need-clear-requires
-clear-requires c κs = search needs
-
-write-quad-requires : tie.Need-write-quad-requires
-write-quad-requires c κs = search needs
-
-add-put : tie.Need-add-put
-add-put c = search needs
-
-put-requires : tie.Need-put-requires
-put-requires c κs = search needs
-
-same-length : tie.Need-same-length
-same-length c = search needs
-
 returns : tie.Need-returns
 returns c =
     let start = c .before .before .before .before .before .before .before .before .before .before .before .before .before .before .before .before .before in
@@ -47,13 +23,5 @@ returns c =
 pub insert-place-spec : {M : Type 1} → statement M
 insert-place-spec =
     tie.close
-    (tie.spec
-    mul-a
-    mul-move-up
-    move-up-requires
-    clear-requires
-    write-quad-requires
-    add-put
-    put-requires
-    same-length
-    returns)
+    (tie.spec (λ c. search needs) (λ c. search needs) (λ c κs. search needs) (λ c κs. search needs) (λ c κs. search needs) (λ c. search needs)
+    (λ c κs. search needs) (λ c. search needs) returns)

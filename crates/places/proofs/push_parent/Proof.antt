@@ -8,33 +8,6 @@ use borrow.Author.Needs.{needs}
 use Rattle.places.proofs.push_parent.Statement.{statement}
 use Rattle.places.proofs.push_parent.Tie as tie
 
-mul-a : tie.Need-mul-a
-mul-a c = search needs
-
-mul-write-quad : tie.Need-mul-write-quad
-mul-write-quad c = search needs
-
-add-write-quad : tie.Need-add-write-quad
-add-write-quad c = search needs
-
-add-write-quad-2 : tie.Need-add-write-quad-2
-add-write-quad-2 c = search needs
-
-write-quad-requires : tie.Need-write-quad-requires
-write-quad-requires c κs = search needs
-
-add-put : tie.Need-add-put
-add-put c = search needs
-
-add-put-2 : tie.Need-add-put-2
-add-put-2 c = search needs
-
-put-requires : tie.Need-put-requires
-put-requires c κs = search needs
-
-same-length : tie.Need-same-length
-same-length c = search needs
-
 returns : tie.Need-returns
 returns c =
     let start = c .before .before .before .before .before .before .before .before .before in
@@ -45,14 +18,5 @@ returns c =
 pub push-parent-spec : {M : Type 1} → statement M
 push-parent-spec =
     tie.close
-    (tie.spec
-    mul-a
-    mul-write-quad
-    add-write-quad
-    add-write-quad-2
-    write-quad-requires
-    add-put
-    add-put-2
-    put-requires
-    same-length
-    returns)
+    (tie.spec (λ c. search needs) (λ c. search needs) (λ c. search needs) (λ c. search needs) (λ c κs. search needs) (λ c. search needs)
+    (λ c. search needs) (λ c κs. search needs) (λ c. search needs) returns)

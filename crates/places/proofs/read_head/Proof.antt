@@ -6,36 +6,6 @@ use borrow.Author.Needs.{needs}
 use Rattle.places.proofs.read_head.Statement.{statement}
 use Rattle.places.proofs.read_head.Tie as tie
 
-mul-a : tie.Need-mul-a
-mul-a c = search needs
-
-read-quad-requires : tie.Need-read-quad-requires
-read-quad-requires c κs = search needs
-
-add-read-quad : tie.Need-add-read-quad
-add-read-quad c = search needs
-
-read-quad-requires-2 : tie.Need-read-quad-requires-2
-read-quad-requires-2 c κs = search needs
-
-add-get : tie.Need-add-get
-add-get c = search needs
-
-get-requires : tie.Need-get-requires
-get-requires c κs = search needs
-
-add-get-2 : tie.Need-add-get-2
-add-get-2 c = search needs
-
-get-requires-2 : tie.Need-get-requires-2
-get-requires-2 c κs = search needs
-
-add-get-3 : tie.Need-add-get-3
-add-get-3 c = search needs
-
-get-requires-3 : tie.Need-get-requires-3
-get-requires-3 c κs = search needs
-
 returns : tie.Need-returns
 returns c =
     let start = c .before .before .before .before .before .before in
@@ -45,15 +15,5 @@ returns c =
 pub read-head-spec : {M : Type 1} → statement M
 read-head-spec =
     tie.close
-    (tie.spec
-    mul-a
-    read-quad-requires
-    add-read-quad
-    read-quad-requires-2
-    add-get
-    get-requires
-    add-get-2
-    get-requires-2
-    add-get-3
-    get-requires-3
-    returns)
+    (tie.spec (λ c. search needs) (λ c κs. search needs) (λ c. search needs) (λ c κs. search needs) (λ c. search needs) (λ c κs. search needs)
+    (λ c. search needs) (λ c κs. search needs) (λ c. search needs) (λ c κs. search needs) returns)

@@ -8,21 +8,6 @@ use borrow.Author.Needs.{needs}
 use Rattle.places.proofs.read_wtxid.Statement.{statement}
 use Rattle.places.proofs.read_wtxid.Tie as tie
 
-mul-read-quad : tie.Need-mul-read-quad
-mul-read-quad c = search needs
-
-mul-read-quad-2 : tie.Need-mul-read-quad-2
-mul-read-quad-2 c = search needs
-
-add-read-quad : tie.Need-add-read-quad
-add-read-quad c = search needs
-
-add-read-quad-2 : tie.Need-add-read-quad-2
-add-read-quad-2 c = search needs
-
-read-quad-requires : tie.Need-read-quad-requires
-read-quad-requires c κs = search needs
-
 returns : tie.Need-returns
 returns c =
     let start = c .before .before in
@@ -32,10 +17,4 @@ returns c =
 pub read-wtxid-spec : {M : Type 1} → statement M
 read-wtxid-spec =
     tie.close
-    (tie.spec
-    mul-read-quad
-    mul-read-quad-2
-    add-read-quad
-    add-read-quad-2
-    read-quad-requires
-    returns)
+    (tie.spec (λ c. search needs) (λ c. search needs) (λ c. search needs) (λ c. search needs) (λ c κs. search needs) returns)

@@ -23,27 +23,6 @@ loop-holds c =
     let start = c .before in
     search-start _ _ _ (length-recs placeSize placeKey (start .args .n) (words (start .args .s .now)))
 
-sub-mid : tie.Need-sub-mid Inv-loop μ-loop
-sub-mid c = search needs
-
-add-mid : tie.Need-add-mid Inv-loop μ-loop
-add-mid c = search needs
-
-mul-read-quad : tie.Need-mul-read-quad Inv-loop μ-loop
-mul-read-quad c = search needs
-
-read-quad-requires : tie.Need-read-quad-requires Inv-loop μ-loop
-read-quad-requires c κs = search needs
-
-quad-less-requires : tie.Need-quad-less-requires Inv-loop μ-loop
-quad-less-requires c κs = search needs
-
-add-lo : tie.Need-add-lo Inv-loop μ-loop
-add-lo c = search needs
-
-loop-less : tie.Need-loop-less Inv-loop μ-loop
-loop-less c = search needs
-
 loop-again : tie.Need-loop-again Inv-loop μ-loop
 loop-again c =
     let start = c .before .before .before .before .before .before in
@@ -51,9 +30,6 @@ loop-again c =
     let h = ltb-true (quadNumber (c .before .before .read-quad .result)) (quadNumber (start .args .h)) (sym (c .before .quad-less .ensures) ∙ c .if1 .taken) in
     search-up (c .before .before .before .before .loop .inv) m (omega arith) (omega arith)
     (rw (place-key-at (words (start .args .s .now)) (start .args .n) m (omega arith), ← (c .before .before .read-quad .ensures)) h)
-
-loop-less-2 : tie.Need-loop-less-2 Inv-loop μ-loop
-loop-less-2 c = search needs
 
 loop-again-2 : tie.Need-loop-again-2 Inv-loop μ-loop
 loop-again-2 c =
@@ -69,18 +45,5 @@ returns c = search-end (c .before .loop .inv) (c .loop-test .left)
 pub seek-place-spec : {M : Type 1} → statement M
 seek-place-spec =
     tie.close
-    (tie.spec
-    Inv-loop
-    μ-loop
-    loop-holds
-    sub-mid
-    add-mid
-    mul-read-quad
-    read-quad-requires
-    quad-less-requires
-    add-lo
-    loop-less
-    loop-again
-    loop-less-2
-    loop-again-2
-    returns)
+    (tie.spec Inv-loop μ-loop loop-holds (λ c. search needs) (λ c. search needs) (λ c. search needs) (λ c κs. search needs) (λ c κs. search needs)
+    (λ c. search needs) (λ c. search needs) loop-again (λ c. search needs) loop-again-2 returns)

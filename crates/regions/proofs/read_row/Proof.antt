@@ -9,42 +9,6 @@ use borrow.Author.Needs.{needs}
 use Rattle.regions.proofs.read_row.Statement.{statement}
 use Rattle.regions.proofs.read_row.Tie as tie
 
-mul-a : tie.Need-mul-a
-mul-a c = search needs
-
-read-quad-requires : tie.Need-read-quad-requires
-read-quad-requires c κs = search needs
-
-add-get : tie.Need-add-get
-add-get c = search needs
-
-get-requires : tie.Need-get-requires
-get-requires c κs = search needs
-
-add-get-2 : tie.Need-add-get-2
-add-get-2 c = search needs
-
-get-requires-2 : tie.Need-get-requires-2
-get-requires-2 c κs = search needs
-
-add-get-3 : tie.Need-add-get-3
-add-get-3 c = search needs
-
-get-requires-3 : tie.Need-get-requires-3
-get-requires-3 c κs = search needs
-
-add-get-4 : tie.Need-add-get-4
-add-get-4 c = search needs
-
-get-requires-4 : tie.Need-get-requires-4
-get-requires-4 c κs = search needs
-
-add-get-5 : tie.Need-add-get-5
-add-get-5 c = search needs
-
-get-requires-5 : tie.Need-get-requires-5
-get-requires-5 c κs = search needs
-
 returns : tie.Need-returns
 unfolding rowWords readRow
 returns c =
@@ -56,17 +20,5 @@ returns c =
 pub read-row-spec : {M : Type 1} → statement M
 read-row-spec =
     tie.close
-    (tie.spec
-    mul-a
-    read-quad-requires
-    add-get
-    get-requires
-    add-get-2
-    get-requires-2
-    add-get-3
-    get-requires-3
-    add-get-4
-    get-requires-4
-    add-get-5
-    get-requires-5
-    returns)
+    (tie.spec (λ c. search needs) (λ c κs. search needs) (λ c. search needs) (λ c κs. search needs) (λ c. search needs) (λ c κs. search needs)
+    (λ c. search needs) (λ c κs. search needs) (λ c. search needs) (λ c κs. search needs) (λ c. search needs) (λ c κs. search needs) returns)

@@ -11,45 +11,6 @@ use borrow.Author.Needs.{needs}
 use Rattle.regions.proofs.remove_row.Statement.{statement}
 use Rattle.regions.proofs.remove_row.Tie as tie
 
-mul-gap : tie.Need-mul-gap
-mul-gap c = search needs
-
-mul-end : tie.Need-mul-end
-mul-end c = search needs
-
-sub-end : tie.Need-sub-end
-sub-end c = search needs
-
-mul-x : tie.Need-mul-x
-mul-x c = search needs
-
-add-y : tie.Need-add-y
-add-y c = search needs
-
-mul-y : tie.Need-mul-y
-mul-y c = search needs
-
-sub-rows-down : tie.Need-sub-rows-down
-sub-rows-down c = search needs
-
-part-rows-down-start : tie.Need-part-rows-down-start
-part-rows-down-start c = search needs
-
-part-rows-down-end : tie.Need-part-rows-down-end
-part-rows-down-end c = search needs
-
-sub-rows-down-2 : tie.Need-sub-rows-down-2
-sub-rows-down-2 c = search needs
-
-rows-down-requires : tie.Need-rows-down-requires
-rows-down-requires c κs = search needs
-
-clear-requires : tie.Need-clear-requires
-clear-requires c κs = search needs
-
-same-length : tie.Need-same-length
-same-length c = search needs
-
 returns : tie.Need-returns
 unfolding rowWords
 returns c =
@@ -64,18 +25,6 @@ returns c =
 pub remove-row-spec : {M : Type 1} → statement M
 remove-row-spec =
     tie.close
-    (tie.spec
-    mul-gap
-    mul-end
-    sub-end
-    mul-x
-    add-y
-    mul-y
-    sub-rows-down
-    part-rows-down-start
-    part-rows-down-end
-    sub-rows-down-2
-    rows-down-requires
-    clear-requires
-    same-length
+    (tie.spec (λ c. search needs) (λ c. search needs) (λ c. search needs) (λ c. search needs) (λ c. search needs) (λ c. search needs)
+    (λ c. search needs) (λ c. search needs) (λ c. search needs) (λ c. search needs) (λ c κs. search needs) (λ c κs. search needs) (λ c. search needs)
     returns)

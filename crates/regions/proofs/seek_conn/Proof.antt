@@ -20,33 +20,12 @@ loop-holds c =
     let start = c .before in
     search-start _ _ _ (length-recs connSize connKey (start .args .n) (words (start .args .s .now)))
 
-sub-mid : tie.Need-sub-mid Inv-loop μ-loop
-sub-mid c = search needs
-
-add-mid : tie.Need-add-mid Inv-loop μ-loop
-add-mid c = search needs
-
-mul-get : tie.Need-mul-get Inv-loop μ-loop
-mul-get c = search needs
-
-get-requires : tie.Need-get-requires Inv-loop μ-loop
-get-requires c κs = search needs
-
-add-lo : tie.Need-add-lo Inv-loop μ-loop
-add-lo c = search needs
-
-loop-less : tie.Need-loop-less Inv-loop μ-loop
-loop-less c = search needs
-
 loop-again : tie.Need-loop-again Inv-loop μ-loop
 loop-again c =
     let start = c .before .before .before .before .before in
     let m = c .before .before .before .loop .lo + (c .before .before .before .loop .hi - c .before .before .before .loop .lo) / 2 in
     let e = conn-key-at (words (start .args .s .now)) (start .args .n) m (omega arith) in
     search-up (c .before .before .before .loop .inv) m (omega arith) (omega arith) (rw (e, ← (c .before .get .ensures)) (c .if1 .taken))
-
-loop-less-2 : tie.Need-loop-less-2 Inv-loop μ-loop
-loop-less-2 c = search needs
 
 loop-again-2 : tie.Need-loop-again-2 Inv-loop μ-loop
 loop-again-2 c =
@@ -61,17 +40,5 @@ returns c = search-end (c .before .loop .inv) (c .loop-test .left)
 pub seek-conn-spec : {M : Type 1} → statement M
 seek-conn-spec =
     tie.close
-    (tie.spec
-    Inv-loop
-    μ-loop
-    loop-holds
-    sub-mid
-    add-mid
-    mul-get
-    get-requires
-    add-lo
-    loop-less
-    loop-again
-    loop-less-2
-    loop-again-2
-    returns)
+    (tie.spec Inv-loop μ-loop loop-holds (λ c. search needs) (λ c. search needs) (λ c. search needs) (λ c κs. search needs) (λ c. search needs)
+    (λ c. search needs) loop-again (λ c. search needs) loop-again-2 returns)

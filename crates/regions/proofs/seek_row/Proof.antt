@@ -23,24 +23,6 @@ loop-holds c =
     let start = c .before in
     search-start _ _ _ (length-recs rowSize rowKey (start .args .n) (words (start .args .s .now)))
 
-sub-mid : tie.Need-sub-mid Inv-loop μ-loop
-sub-mid c = search needs
-
-add-mid : tie.Need-add-mid Inv-loop μ-loop
-add-mid c = search needs
-
-key-at-requires : tie.Need-key-at-requires Inv-loop μ-loop
-key-at-requires c κs = search needs
-
-falls-short-requires : tie.Need-falls-short-requires Inv-loop μ-loop
-falls-short-requires c κs = search needs
-
-add-lo : tie.Need-add-lo Inv-loop μ-loop
-add-lo c = search needs
-
-loop-less : tie.Need-loop-less Inv-loop μ-loop
-loop-less c = search needs
-
 loop-again : tie.Need-loop-again Inv-loop μ-loop
 loop-again c =
     let start = c .before .before .before .before .before .before in
@@ -48,9 +30,6 @@ loop-again c =
     let h = rw (c .before .before .key-at .ensures) at (ltb-true (keyNumber (c .before .before .key-at .result)) (keyNumber (start .args .k) + one (start .args .after))
     (sym (c .before .falls-short .ensures) ∙ c .if1 .taken)) in
     search-up (c .before .before .before .before .loop .inv) m (omega arith) (omega arith) (rw (row-key-at (words (start .args .s .now)) (start .args .n) m (omega arith)) h)
-
-loop-less-2 : tie.Need-loop-less-2 Inv-loop μ-loop
-loop-less-2 c = search needs
 
 loop-again-2 : tie.Need-loop-again-2 Inv-loop μ-loop
 loop-again-2 c =
@@ -66,17 +45,5 @@ returns c = search-end (c .before .loop .inv) (c .loop-test .left)
 pub seek-row-spec : {M : Type 1} → statement M
 seek-row-spec =
     tie.close
-    (tie.spec
-    Inv-loop
-    μ-loop
-    loop-holds
-    sub-mid
-    add-mid
-    key-at-requires
-    falls-short-requires
-    add-lo
-    loop-less
-    loop-again
-    loop-less-2
-    loop-again-2
-    returns)
+    (tie.spec Inv-loop μ-loop loop-holds (λ c. search needs) (λ c. search needs) (λ c κs. search needs) (λ c κs. search needs) (λ c. search needs)
+    (λ c. search needs) loop-again (λ c. search needs) loop-again-2 returns)

@@ -9,27 +9,6 @@ use borrow.Author.Needs.{needs}
 use Rattle.regions.proofs.write_conn.Statement.{statement}
 use Rattle.regions.proofs.write_conn.Tie as tie
 
-mul-a : tie.Need-mul-a
-mul-a c = search needs
-
-put-requires : tie.Need-put-requires
-put-requires c κs = search needs
-
-add-put : tie.Need-add-put
-add-put c = search needs
-
-put-requires-2 : tie.Need-put-requires-2
-put-requires-2 c κs = search needs
-
-add-put-2 : tie.Need-add-put-2
-add-put-2 c = search needs
-
-put-requires-3 : tie.Need-put-requires-3
-put-requires-3 c κs = search needs
-
-same-length : tie.Need-same-length
-same-length c = search needs
-
 returns : tie.Need-returns
 unfolding connWords
 returns c =
@@ -42,12 +21,5 @@ returns c =
 pub write-conn-spec : {M : Type 1} → statement M
 write-conn-spec =
     tie.close
-    (tie.spec
-    mul-a
-    put-requires
-    add-put
-    put-requires-2
-    add-put-2
-    put-requires-3
-    same-length
-    returns)
+    (tie.spec (λ c. search needs) (λ c κs. search needs) (λ c. search needs) (λ c κs. search needs) (λ c. search needs) (λ c κs. search needs)
+    (λ c. search needs) returns)

@@ -9,45 +9,6 @@ use borrow.Author.Needs.{needs}
 use Rattle.regions.proofs.write_row.Statement.{statement}
 use Rattle.regions.proofs.write_row.Tie as tie
 
-mul-a : tie.Need-mul-a
-mul-a c = search needs
-
-write-quad-requires : tie.Need-write-quad-requires
-write-quad-requires c κs = search needs
-
-add-put : tie.Need-add-put
-add-put c = search needs
-
-put-requires : tie.Need-put-requires
-put-requires c κs = search needs
-
-add-put-2 : tie.Need-add-put-2
-add-put-2 c = search needs
-
-put-requires-2 : tie.Need-put-requires-2
-put-requires-2 c κs = search needs
-
-add-put-3 : tie.Need-add-put-3
-add-put-3 c = search needs
-
-put-requires-3 : tie.Need-put-requires-3
-put-requires-3 c κs = search needs
-
-add-put-4 : tie.Need-add-put-4
-add-put-4 c = search needs
-
-put-requires-4 : tie.Need-put-requires-4
-put-requires-4 c κs = search needs
-
-add-put-5 : tie.Need-add-put-5
-add-put-5 c = search needs
-
-put-requires-5 : tie.Need-put-requires-5
-put-requires-5 c κs = search needs
-
-same-length : tie.Need-same-length
-same-length c = search needs
-
 returns : tie.Need-returns
 unfolding rowWords
 returns c =
@@ -64,18 +25,6 @@ returns c =
 pub write-row-spec : {M : Type 1} → statement M
 write-row-spec =
     tie.close
-    (tie.spec
-    mul-a
-    write-quad-requires
-    add-put
-    put-requires
-    add-put-2
-    put-requires-2
-    add-put-3
-    put-requires-3
-    add-put-4
-    put-requires-4
-    add-put-5
-    put-requires-5
-    same-length
-    returns)
+    (tie.spec (λ c. search needs) (λ c κs. search needs) (λ c. search needs) (λ c κs. search needs) (λ c. search needs) (λ c κs. search needs)
+    (λ c. search needs) (λ c κs. search needs) (λ c. search needs) (λ c κs. search needs) (λ c. search needs) (λ c κs. search needs)
+    (λ c. search needs) returns)

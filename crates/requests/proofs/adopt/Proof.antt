@@ -12,26 +12,14 @@ use borrow.Author.Needs.{needs}
 use Rattle.requests.proofs.adopt.Statement.{statement}
 use Rattle.requests.proofs.adopt.Tie as tie
 
-key-words-requires : tie.Need-key-words-requires
-key-words-requires c κs = search needs
-
-spot-of-requires : tie.Need-spot-of-requires
-spot-of-requires c κs = search needs
-
 row-at-requires : tie.Need-row-at-requires
 row-at-requires c κs = (kept-shown (c .before .before .before .before .before .before .before .pre), omega (arith, c .before .before .before .spot-of .ensures .spans .most, c .before .if1 .taken))
-
-adopted-row-requires : tie.Need-adopted-row-requires
-adopted-row-requires c κs = search needs
 
 set-row-requires : tie.Need-set-row-requires
 set-row-requires c κs = (
   kept-shown (c .before .before .before .before .before .before .before .before .before .before .pre),
   omega (arith, c .before .before .before .before .before .before .spot-of .ensures .spans .most, c .before .before .before .before .if1 .taken),
 )
-
-same-length : tie.Need-same-length
-same-length c = search needs
 
 returns : tie.Need-returns
 returns c = λ st s w p.
@@ -48,9 +36,6 @@ returns c = λ st s w p.
     (c .before .before .before .before .before .before .before .before .before .before .before .before .before .args .same) f i
     (c .before .before .before .adopted-row .ensures (at k (st .table)) (f .one) q) (c .before .before .set-row .ensures (flatOf st) w)
 
-same-length-2 : tie.Need-same-length-2
-same-length-2 c = search needs
-
 returns-2 : tie.Need-returns-2
 returns-2 c = λ st s w p.
     let k = keyNum (c .before .before .before .before .before .before .args .k) in
@@ -65,13 +50,5 @@ returns-2 c = λ st s w p.
 pub adopt-spec : {M : Type 1} → statement M
 adopt-spec =
     tie.close
-    (tie.spec
-    key-words-requires
-    spot-of-requires
-    row-at-requires
-    adopted-row-requires
-    set-row-requires
-    same-length
-    returns
-    same-length-2
-    returns-2)
+    (tie.spec (λ c κs. search needs) (λ c κs. search needs) row-at-requires (λ c κs. search needs) set-row-requires (λ c. search needs) returns
+    (λ c. search needs) returns-2)

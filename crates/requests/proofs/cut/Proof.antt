@@ -12,12 +12,6 @@ use borrow.Author.Needs.{needs}
 use Rattle.requests.proofs.cut.Statement.{statement}
 use Rattle.requests.proofs.cut.Tie as tie
 
-key-words-requires : tie.Need-key-words-requires
-key-words-requires c κs = search needs
-
-spot-of-requires : tie.Need-spot-of-requires
-spot-of-requires c κs = search needs
-
 drop-row-requires : tie.Need-drop-row-requires
 drop-row-requires c κs = (kept-shown (c .before .before .before .before .before .before .before .pre), omega (arith, c .before .before .before .spot-of .ensures .spans .most))
 
@@ -28,9 +22,6 @@ count-out-requires c κs =
     let l : c .before .before .before .before .before .before .before .spot-of .result .at < length (rowsOf (kept .state .table)) =
     omega (arith, c .before .before .before .before .before .before .before .spot-of .ensures .spans .most, c .before .before .before .before .before .if1 .taken) in
     dropped-shown (kept .state) (kept .sound) (c .before .before .before .drop-row .ensures (flatOf (kept .state)) (kept .writes)) l
-
-same-length : tie.Need-same-length
-same-length c = search needs
 
 returns : tie.Need-returns
 returns c = λ st s w p.
@@ -43,9 +34,6 @@ returns c = λ st s w p.
     let i = found-at k n 0 (st .table) (s .bounded .ordered) f from to
     (c .before .before .before .before .before .before .before .before .before .before .spot-of .ensures .met .first (flatOf st) w) in
     cut-made st s k n (p .1) f i (c .before .before .count-out .ensures _ (conns-in-order (rowsOf (st .table))) (c .before .before .before .before .before .before .drop-row .ensures (flatOf st) w))
-
-same-length-2 : tie.Need-same-length-2
-same-length-2 c = search needs
 
 returns-2 : tie.Need-returns-2
 returns-2 c = λ st s w p.
@@ -61,12 +49,5 @@ returns-2 c = λ st s w p.
 pub cut-spec : {M : Type 1} → statement M
 cut-spec =
     tie.close
-    (tie.spec
-    key-words-requires
-    spot-of-requires
-    drop-row-requires
-    count-out-requires
-    same-length
-    returns
-    same-length-2
+    (tie.spec (λ c κs. search needs) (λ c κs. search needs) drop-row-requires count-out-requires (λ c. search needs) returns (λ c. search needs)
     returns-2)

@@ -12,17 +12,8 @@ use borrow.Author.Needs.{needs}
 use Rattle.requests.proofs.disown.Statement.{statement}
 use Rattle.requests.proofs.disown.Tie as tie
 
-key-words-requires : tie.Need-key-words-requires
-key-words-requires c κs = search needs
-
-spot-of-requires : tie.Need-spot-of-requires
-spot-of-requires c κs = search needs
-
 row-at-requires : tie.Need-row-at-requires
 row-at-requires c κs = (kept-shown (c .before .before .before .before .before .before .before .pre), omega (arith, c .before .before .before .spot-of .ensures .spans .most, c .before .if1 .taken))
-
-unowned-row-requires : tie.Need-unowned-row-requires
-unowned-row-requires c κs = search needs
 
 set-row-requires : tie.Need-set-row-requires
 set-row-requires c κs = (
@@ -37,9 +28,6 @@ recount-requires c κs =
           (c .before .before .before .before .unowned-row .result) (c .before .before .before .set-row .ensures (flatOf (kept .state)) (kept .writes)),
       omega arith,
     )
-
-same-length : tie.Need-same-length
-same-length c = search needs
 
 returns : tie.Need-returns
 returns c = λ st s w p.
@@ -60,9 +48,6 @@ returns c = λ st s w p.
     disown-made st s k n f i q (v .owner) (v .is) (v .name) (p .info) (p .bare) (c .before .before .before .before .before .before .before .unowned-row .ensures)
     (c .before .before .recount .ensures _ (conns-in-order (rowsOf (st .table))) (c .before .before .before .before .before .before .set-row .ensures (flatOf st) w))
 
-same-length-2 : tie.Need-same-length-2
-same-length-2 c = search needs
-
 returns-2 : tie.Need-returns-2
 returns-2 c = λ st s w p.
     let k = keyNum (c .before .before .before .before .before .before .args .k) in
@@ -77,14 +62,5 @@ returns-2 c = λ st s w p.
 pub disown-spec : {M : Type 1} → statement M
 disown-spec =
     tie.close
-    (tie.spec
-    key-words-requires
-    spot-of-requires
-    row-at-requires
-    unowned-row-requires
-    set-row-requires
-    recount-requires
-    same-length
-    returns
-    same-length-2
-    returns-2)
+    (tie.spec (λ c κs. search needs) (λ c κs. search needs) row-at-requires (λ c κs. search needs) set-row-requires recount-requires
+    (λ c. search needs) returns (λ c. search needs) returns-2)

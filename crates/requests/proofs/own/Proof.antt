@@ -14,12 +14,6 @@ use borrow.Author.Needs.{needs}
 use Rattle.requests.proofs.own.Statement.{statement}
 use Rattle.requests.proofs.own.Tie as tie
 
-key-words-requires : tie.Need-key-words-requires
-key-words-requires c κs = search needs
-
-spot-of-requires : tie.Need-spot-of-requires
-spot-of-requires c κs = search needs
-
 row-at-requires : tie.Need-row-at-requires
 row-at-requires c κs = (kept-shown (c .before .before .before .before .before .before .before .pre), omega (arith, c .before .before .before .spot-of .ensures .spans .most, c .before .if1 .taken))
 
@@ -46,9 +40,6 @@ recount-requires c κs =
       omega arith,
     )
 
-same-length : tie.Need-same-length
-same-length c = search needs
-
 returns : tie.Need-returns
 returns c = λ st s w p.
     let k = keyNum (c .before .before .before .before .before .before .before .before .before .before .before .before .before .before .before .before .before .args .k) in
@@ -68,9 +59,6 @@ returns c = λ st s w p.
     (p .1) (c .before .before .before .before .before .before .before .owned-row .ensures)
     (c .before .before .recount .ensures _ (conns-in-order (rowsOf (st .table))) (c .before .before .before .before .before .before .set-row .ensures (flatOf st) w))
 
-same-length-2 : tie.Need-same-length-2
-same-length-2 c = search needs
-
 returns-2 : tie.Need-returns-2
 returns-2 c = λ st s w p.
     let k = keyNum (c .before .before .before .before .before .before .args .k) in
@@ -85,14 +73,5 @@ returns-2 c = λ st s w p.
 pub own-spec : {M : Type 1} → statement M
 own-spec =
     tie.close
-    (tie.spec
-    key-words-requires
-    spot-of-requires
-    row-at-requires
-    owned-row-requires
-    set-row-requires
-    recount-requires
-    same-length
-    returns
-    same-length-2
-    returns-2)
+    (tie.spec (λ c κs. search needs) (λ c κs. search needs) row-at-requires owned-row-requires set-row-requires recount-requires (λ c. search needs)
+    returns (λ c. search needs) returns-2)

@@ -13,17 +13,8 @@ use borrow.Author.Needs.{needs}
 use Rattle.requests.proofs.push.Statement.{statement}
 use Rattle.requests.proofs.push.Tie as tie
 
-key-words-requires : tie.Need-key-words-requires
-key-words-requires c κs = search needs
-
-window-of-requires : tie.Need-window-of-requires
-window-of-requires c κs = search needs
-
 mark-in-requires : tie.Need-mark-in-requires
 mark-in-requires c κs = (kept-shown (c .before .before .before .before .before .pre .0), c .before .window-of .ensures .most)
-
-new-row-requires : tie.Need-new-row-requires
-new-row-requires c κs = search needs
 
 add-row-requires : tie.Need-add-row-requires
 add-row-requires c κs = (
@@ -42,9 +33,6 @@ count-in-requires c κs =
     let m : length rs < kept .state .limit = omega (arith, c .before .before .before .before .before .before .before .before .before .before .before .before .pre .1) in
     added-shown (kept .state) (kept .sound) (c .before .before .before .before .before .new-row .result) (c .before .before .before .add-row .ensures (flatOf (kept .state)) (kept .writes)) l m
 
-same-length : tie.Need-same-length
-same-length c = search needs
-
 returns : tie.Need-returns
 returns c = λ st s w o.
     let k = keyNum (c .before .before .before .before .before .before .before .before .before .before .before .before .before .before .before .args .k) in
@@ -62,12 +50,5 @@ returns c = λ st s w o.
 pub push-spec : {M : Type 1} → statement M
 push-spec =
     tie.close
-    (tie.spec
-    key-words-requires
-    window-of-requires
-    mark-in-requires
-    new-row-requires
-    add-row-requires
-    count-in-requires
-    same-length
-    returns)
+    (tie.spec (λ c κs. search needs) (λ c κs. search needs) mark-in-requires (λ c κs. search needs) add-row-requires count-in-requires
+    (λ c. search needs) returns)

@@ -13,9 +13,6 @@ Inv-loop s₀ n c₀ i₀ s c i = Marking s₀ s i c
 abbrev μ-loop : tie.MeasureT-loop
 μ-loop s₀ n c₀ i₀ s c i = n - i
 
-held-places-requires : tie.Need-held-places-requires Inv-loop μ-loop
-held-places-requires c κs = search needs
-
 loop-holds : tie.Need-loop-holds Inv-loop μ-loop
 loop-holds c = marking-none (c .before .before .before .pre)
 
@@ -50,15 +47,4 @@ returns c = marking-end (c .before .before .before .before .before .loop .inv) (
 pub tear-places-spec : {M : Type 1} → statement M
 tear-places-spec =
     tie.close
-    (tie.spec
-    Inv-loop
-    μ-loop
-    held-places-requires
-    loop-holds
-    tear-place-requires
-    add-i
-    loop-less
-    loop-again
-    drop-dead-requires
-    same-length
-    returns)
+    (tie.spec Inv-loop μ-loop (λ c κs. search needs) loop-holds tear-place-requires add-i loop-less loop-again drop-dead-requires same-length returns)

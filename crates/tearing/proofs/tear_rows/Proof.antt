@@ -66,16 +66,5 @@ returns c = tearing-end (c .before .before .before .before .before .before .befo
 pub tear-rows-spec : {M : Type 1} → statement M
 tear-rows-spec =
     tie.close
-    (tie.spec
-    Inv-loop
-    μ-loop
-    rows-requires
-    loop-holds
-    tear-row-requires
-    add-i
-    loop-less
-    loop-again
-    drop-rows-requires
-    drop-idle-requires
-    same-length
+    (tie.spec Inv-loop μ-loop rows-requires loop-holds tear-row-requires add-i loop-less loop-again drop-rows-requires drop-idle-requires same-length
     returns)

@@ -18,27 +18,12 @@ abbrev μ-loop : tie.MeasureT-loop
 loop-holds : tie.Need-loop-holds Inv-loop μ-loop
 loop-holds c = (search needs, search needs, clear-none _ _)
 
-add-put : tie.Need-add-put Inv-loop μ-loop
-add-put c = search needs
-
-put-requires : tie.Need-put-requires Inv-loop μ-loop
-put-requires c κs = search needs
-
-add-k : tie.Need-add-k Inv-loop μ-loop
-add-k c = search needs
-
-loop-less : tie.Need-loop-less Inv-loop μ-loop
-loop-less c = search needs
-
 loop-again : tie.Need-loop-again Inv-loop μ-loop
 loop-again c =
     let l = c .before .before .before .before .before in
     let a = c .before .before .before .before .before .before .before .args in
     let h : a .a + l .loop .k < length (words (a .s .now)) = omega (arith, length-words (a .s .now)) in
     (search needs, search needs, clear-turn (words (a .s .now)) (a .a) (l .loop .k) h (l .loop .inv .2) (c .before .before .put .ensures .word))
-
-same-length : tie.Need-same-length Inv-loop μ-loop
-same-length c = search needs
 
 returns : tie.Need-returns Inv-loop μ-loop
 returns c =
@@ -48,14 +33,5 @@ returns c =
 pub clear-spec : {M : Type 1} → statement M
 clear-spec =
     tie.close
-    (tie.spec
-    Inv-loop
-    μ-loop
-    loop-holds
-    add-put
-    put-requires
-    add-k
-    loop-less
-    loop-again
-    same-length
-    returns)
+    (tie.spec Inv-loop μ-loop loop-holds (λ c. search needs) (λ c κs. search needs) (λ c. search needs) (λ c. search needs) loop-again
+    (λ c. search needs) returns)

@@ -9,17 +9,8 @@ use borrow.Author.Needs.{needs}
 use Rattle.asking.proofs.calls.call_of.Statement.{statement}
 use Rattle.asking.proofs.calls.call_of.Tie as tie
 
-field-end-requires : tie.Need-field-end-requires
-field-end-requires c κs = search needs
-
 slice-aggregate-word-of : tie.Need-slice-aggregate-word-of
 slice-aggregate-word-of c = simp length-take (omega (arith, end-most 44 (c .before .before .before .args .line .now) 0 (omega arith) (c .before .field-end .ensures)))
-
-word-of-requires : tie.Need-word-of-requires
-word-of-requires c κs = search needs
-
-call-with-requires : tie.Need-call-with-requires
-call-with-requires c κs = search needs
 
 returns : tie.Need-returns
 returns c =
@@ -29,9 +20,4 @@ returns c =
 pub call-of-spec : {M : Type 1} → statement M
 call-of-spec =
     tie.close
-    (tie.spec
-    field-end-requires
-    slice-aggregate-word-of
-    word-of-requires
-    call-with-requires
-    returns)
+    (tie.spec (λ c κs. search needs) slice-aggregate-word-of (λ c κs. search needs) (λ c κs. search needs) returns)

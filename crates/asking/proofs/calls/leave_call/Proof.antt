@@ -8,18 +8,6 @@ use borrow.Author.Needs.{needs}
 use Rattle.asking.proofs.calls.leave_call.Statement.{statement}
 use Rattle.asking.proofs.calls.leave_call.Tie as tie
 
-slice-aggregate-read-whole : tie.Need-slice-aggregate-read-whole
-slice-aggregate-read-whole c = search needs
-
-read-whole-requires : tie.Need-read-whole-requires
-read-whole-requires c κs = search needs
-
-enum-known-v : tie.Need-enum-known-v
-enum-known-v c = search needs
-
-enum-told : tie.Need-enum-told
-enum-told c = search needs
-
 returns : tie.Need-returns
 unfolding leaveCall
 returns c = line-not (c .before .before .read-whole .ensures) (λ v. Asks (On (leaveAsk v))) (c .enum-told .given .1)
@@ -31,10 +19,4 @@ returns-2 c = line-is (c .before .before .before .read-whole .ensures) (λ v. As
 pub leave-call-spec : {M : Type 1} → statement M
 leave-call-spec =
     tie.close
-    (tie.spec
-    slice-aggregate-read-whole
-    read-whole-requires
-    enum-known-v
-    enum-told
-    returns
-    returns-2)
+    (tie.spec (λ c. search needs) (λ c κs. search needs) (λ c. search needs) (λ c. search needs) returns returns-2)

@@ -7,18 +7,6 @@ use borrow.Author.Needs.{needs}
 use Rattle.asking.proofs.calls.missing_line.Statement.{statement}
 use Rattle.asking.proofs.calls.missing_line.Tie as tie
 
-slice-aggregate-read-form : tie.Need-slice-aggregate-read-form
-slice-aggregate-read-form c = search needs
-
-read-form-requires : tie.Need-read-form-requires
-read-form-requires c κs = search needs
-
-enum-known-v : tie.Need-enum-known-v
-enum-known-v c = search needs
-
-enum-told : tie.Need-enum-told
-enum-told c = search needs
-
 returns : tie.Need-returns
 unfolding missingLine
 returns c = fields-not (c .before .before .read-form .ensures) (λ v. itemListCall (missingAsk v)) (c .enum-told .given .1)
@@ -30,10 +18,4 @@ returns-2 c = fields-are (c .before .before .before .read-form .ensures) (λ v. 
 pub missing-line-spec : {M : Type 1} → statement M
 missing-line-spec =
     tie.close
-    (tie.spec
-    slice-aggregate-read-form
-    read-form-requires
-    enum-known-v
-    enum-told
-    returns
-    returns-2)
+    (tie.spec (λ c. search needs) (λ c κs. search needs) (λ c. search needs) (λ c. search needs) returns returns-2)

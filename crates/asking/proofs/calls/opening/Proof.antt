@@ -7,26 +7,8 @@ use borrow.Author.Needs.{needs}
 use Rattle.asking.proofs.calls.opening.Statement.{statement}
 use Rattle.asking.proofs.calls.opening.Tie as tie
 
-number-at-requires : tie.Need-number-at-requires
-number-at-requires c κs = search needs
-
-enum-known-l : tie.Need-enum-known-l
-enum-known-l c = search needs
-
-enum-told : tie.Need-enum-told
-enum-told c = search needs
-
 returns : tie.Need-returns
 returns c = no-limit (c .before .before .number-at .ensures) (ap numberAt (c .enum-told .given .1))
-
-number-at-requires-2 : tie.Need-number-at-requires-2
-number-at-requires-2 c κs = search needs
-
-enum-known-q : tie.Need-enum-known-q
-enum-known-q c = search needs
-
-enum-told-2 : tie.Need-enum-told-2
-enum-told-2 c = search needs
 
 returns-2 : tie.Need-returns-2
 returns-2 c =
@@ -59,16 +41,5 @@ returns-6 c =
 pub opening-spec : {M : Type 1} → statement M
 opening-spec =
     tie.close
-    (tie.spec
-    number-at-requires
-    enum-known-l
-    enum-told
-    returns
-    number-at-requires-2
-    enum-known-q
-    enum-told-2
-    returns-2
-    returns-3
-    returns-4
-    returns-5
-    returns-6)
+    (tie.spec (λ c κs. search needs) (λ c. search needs) (λ c. search needs) returns (λ c κs. search needs) (λ c. search needs) (λ c. search needs)
+    returns-2 returns-3 returns-4 returns-5 returns-6)

@@ -5,42 +5,6 @@ use borrow.Author.Needs.{needs}
 use Rattle.asking.proofs.vocabulary.plan_word.Statement.{statement}
 use Rattle.asking.proofs.vocabulary.plan_word.Tie as tie
 
-slice-aggregate-named : tie.Need-slice-aggregate-named
-slice-aggregate-named c = search needs
-
-named-requires : tie.Need-named-requires
-named-requires c κs = search needs
-
-slice-aggregate-named-2 : tie.Need-slice-aggregate-named-2
-slice-aggregate-named-2 c = search needs
-
-named-requires-2 : tie.Need-named-requires-2
-named-requires-2 c κs = search needs
-
-slice-aggregate-named-3 : tie.Need-slice-aggregate-named-3
-slice-aggregate-named-3 c = search needs
-
-named-requires-3 : tie.Need-named-requires-3
-named-requires-3 c κs = search needs
-
-slice-aggregate-named-4 : tie.Need-slice-aggregate-named-4
-slice-aggregate-named-4 c = search needs
-
-named-requires-4 : tie.Need-named-requires-4
-named-requires-4 c κs = search needs
-
-slice-aggregate-named-5 : tie.Need-slice-aggregate-named-5
-slice-aggregate-named-5 c = search needs
-
-named-requires-5 : tie.Need-named-requires-5
-named-requires-5 c κs = search needs
-
-slice-aggregate-named-6 : tie.Need-slice-aggregate-named-6
-slice-aggregate-named-6 c = search needs
-
-named-requires-6 : tie.Need-named-requires-6
-named-requires-6 c κs = search needs
-
 returns : tie.Need-returns
 unfolding planWord
 returns c =
@@ -56,17 +20,5 @@ returns c =
 pub plan-word-spec : {M : Type 1} → statement M
 plan-word-spec =
     tie.close
-    (tie.spec
-    slice-aggregate-named
-    named-requires
-    slice-aggregate-named-2
-    named-requires-2
-    slice-aggregate-named-3
-    named-requires-3
-    slice-aggregate-named-4
-    named-requires-4
-    slice-aggregate-named-5
-    named-requires-5
-    slice-aggregate-named-6
-    named-requires-6
-    returns)
+    (tie.spec (λ c. search needs) (λ c κs. search needs) (λ c. search needs) (λ c κs. search needs) (λ c. search needs) (λ c κs. search needs)
+    (λ c. search needs) (λ c κs. search needs) (λ c. search needs) (λ c κs. search needs) (λ c. search needs) (λ c κs. search needs) returns)

@@ -20,9 +20,6 @@ Inv-loop s₀ clock checked out₀ count n₀ i₀ s out n i = (i ≤ length che
 abbrev μ-loop : tie.MeasureT-loop
 μ-loop s₀ clock checked out₀ count n₀ i₀ s out n i = length checked / entryBytes - i
 
-entries-requires : tie.Need-entries-requires Inv-loop μ-loop
-entries-requires c κs = search needs
-
 loop-holds : tie.Need-loop-holds Inv-loop μ-loop
 loop-holds c =
     let start : tie.Start Inv-loop μ-loop = c .before .before .before .before in
@@ -83,16 +80,5 @@ returns c = turning-done (c .before .loop .inv .1)
 pub claim-bytes-spec : {M : Type 1} → statement M
 claim-bytes-spec =
     tie.close
-    (tie.spec
-    Inv-loop
-    μ-loop
-    entries-requires
-    loop-holds
-    entry-in-requires
-    claim-next-requires
-    add-i
-    loop-less
-    loop-again
-    same-length
-    same-length-2
-    returns)
+    (tie.spec Inv-loop μ-loop (λ c κs. search needs) loop-holds entry-in-requires claim-next-requires add-i loop-less loop-again same-length
+    same-length-2 returns)

@@ -6,30 +6,12 @@ use borrow.Author.Needs.{needs}
 use Rattle.claiming.proofs.entries.claim_next.Statement.{statement}
 use Rattle.claiming.proofs.entries.claim_next.Tie as tie
 
-claim-entry-requires : tie.Need-claim-entry-requires
-claim-entry-requires c κs = search needs
-
-put-entry-requires : tie.Need-put-entry-requires
-put-entry-requires c κs = search needs
-
-add-result : tie.Need-add-result
-add-result c = search needs
-
-same-length : tie.Need-same-length
-same-length c = search needs
-
-same-length-2 : tie.Need-same-length-2
-same-length-2 c = search needs
-
 returns : tie.Need-returns
 returns c = more-taken (c .before .before .before .before .before .before .before .before .before .before .before .args .clock)
     (entryOf (c .before .before .before .before .before .before .before .before .before .before .before .args .e))
     (key-below (c .before .before .before .before .before .before .before .before .before .before .before .args .e)
     (c .before .before .before .before .before .before .before .before .before .before .before .good .1 .1 .0)) (c .before .before .before .before .before .before .before .claim-entry .ensures)
     (c .before .before .before .before .before .before .before .before .before .before .before .args .n) (c .before .before .before .before .if1 .taken) _ (c .before .before .put-entry .ensures)
-
-same-length-3 : tie.Need-same-length-3
-same-length-3 c = search needs
 
 returns-2 : tie.Need-returns-2
 returns-2 c = more-left (c .before .before .before .before .before .before .before .args .clock) (entryOf (c .before .before .before .before .before .before .before .args .e))
@@ -39,12 +21,5 @@ returns-2 c = more-left (c .before .before .before .before .before .before .befo
 pub claim-next-spec : {M : Type 1} → statement M
 claim-next-spec =
     tie.close
-    (tie.spec
-    claim-entry-requires
-    put-entry-requires
-    add-result
-    same-length
-    same-length-2
-    returns
-    same-length-3
+    (tie.spec (λ c κs. search needs) (λ c κs. search needs) (λ c. search needs) (λ c. search needs) (λ c. search needs) returns (λ c. search needs)
     returns-2)

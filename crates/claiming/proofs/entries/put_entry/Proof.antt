@@ -5,30 +5,6 @@ use borrow.Author.Needs.{needs}
 use Rattle.claiming.proofs.entries.put_entry.Statement.{statement}
 use Rattle.claiming.proofs.entries.put_entry.Tie as tie
 
-mul-w : tie.Need-mul-w
-mul-w c = search needs
-
-put-key-requires : tie.Need-put-key-requires
-put-key-requires c κs = search needs
-
-add-put-item : tie.Need-add-put-item
-add-put-item c = search needs
-
-put-item-requires : tie.Need-put-item-requires
-put-item-requires c κs = search needs
-
-add-put-three : tie.Need-add-put-three
-add-put-three c = search needs
-
-bit-requires : tie.Need-bit-requires
-bit-requires c κs = search needs
-
-put-three-requires : tie.Need-put-three-requires
-put-three-requires c κs = search needs
-
-same-length : tie.Need-same-length
-same-length c = search needs
-
 returns : tie.Need-returns
 returns c = entry-put _ (c .before .before .before .before .before .before .before .before .before .before .before .before .before .before .before .before .args .n) _
     (entryOf (c .before .before .before .before .before .before .before .before .before .before .before .before .before .before .before .before .args .e))
@@ -39,13 +15,5 @@ returns c = entry-put _ (c .before .before .before .before .before .before .befo
 pub put-entry-spec : {M : Type 1} → statement M
 put-entry-spec =
     tie.close
-    (tie.spec
-    mul-w
-    put-key-requires
-    add-put-item
-    put-item-requires
-    add-put-three
-    bit-requires
-    put-three-requires
-    same-length
-    returns)
+    (tie.spec (λ c. search needs) (λ c κs. search needs) (λ c. search needs) (λ c κs. search needs) (λ c. search needs) (λ c κs. search needs)
+    (λ c κs. search needs) (λ c. search needs) returns)

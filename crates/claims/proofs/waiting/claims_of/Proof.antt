@@ -34,12 +34,6 @@ note-claim-requires c κs = (
       (flatOf st) d w),
 )
 
-add-i : tie.Need-add-i Inv-loop μ-loop
-add-i c = search needs
-
-loop-less : tie.Need-loop-less Inv-loop μ-loop
-loop-less c = search needs
-
 loop-again : tie.Need-loop-again Inv-loop μ-loop
 loop-again c = gathered-more (c .before .before .before .before .before .before .before .before .before .loop .inv) (c .before .before .before .before .before .before .before .row-at .result)
     (λ st w. omega (
@@ -63,16 +57,5 @@ returns c = gathered-done (c .before .loop .inv) (c .before .before .before .bef
 pub claims-of-spec : {M : Type 1} → statement M
 claims-of-spec =
     tie.close
-    (tie.spec
-    Inv-loop
-    μ-loop
-    rows-requires
-    loop-holds
-    row-at-requires
-    note-claim-requires
-    add-i
-    loop-less
-    loop-again
-    same-length
-    same-length-2
-    returns)
+    (tie.spec Inv-loop μ-loop rows-requires loop-holds row-at-requires note-claim-requires (λ c. search needs) (λ c. search needs) loop-again
+    same-length same-length-2 returns)

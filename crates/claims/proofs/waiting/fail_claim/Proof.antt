@@ -9,15 +9,6 @@ use borrow.Author.Needs.{needs}
 use Rattle.claims.proofs.waiting.fail_claim.Statement.{statement}
 use Rattle.claims.proofs.waiting.fail_claim.Tie as tie
 
-wtxid-key-requires : tie.Need-wtxid-key-requires
-wtxid-key-requires c κs = search needs
-
-request-at-requires : tie.Need-request-at-requires
-request-at-requires c κs = search needs
-
-same-length : tie.Need-same-length
-same-length c = search needs
-
 returns : tie.Need-returns
 returns c = nothing-on _ (c .before .before .before .before .before .before .before .args .c)
     (λ m t. failedWithParents m (wtxid (hashNum (c .before .before .before .before .before .before .before .args .h)))
@@ -25,18 +16,6 @@ returns c = nothing-on _ (c .before .before .before .before .before .before .bef
     (limitsOf st) (wtxid (hashNum (c .before .before .before .before .before .before .before .args .h))) (c .before .before .before .before .before .before .before .args .n)
     (c .before .before .before .before .before .before .before .args .clock) (st .table) (not-owner (st .table) (c .before .before .before .before .wtxid-key .ensures)
     (c .before .before .request-at .ensures .is st s w) (c .before .before .before .before .before .before .before .pre .1) (c .if1 .taken)))
-
-mul-x : tie.Need-mul-x
-mul-x c = search needs
-
-sub-failed-with-parents : tie.Need-sub-failed-with-parents
-sub-failed-with-parents c = search needs
-
-part-failed-with-parents-start : tie.Need-part-failed-with-parents-start
-part-failed-with-parents-start c = search needs
-
-part-failed-with-parents-end : tie.Need-part-failed-with-parents-end
-part-failed-with-parents-end c = search needs
 
 failed-with-parents-requires : tie.Need-failed-with-parents-requires
 failed-with-parents-requires c κs = (
@@ -67,12 +46,6 @@ add-result c = omega (
       (c .before .before .before .before .before .before .before .before .before .before .before .before .before .before .pre .0 .sound),
 )
 
-same-length-2 : tie.Need-same-length-2
-same-length-2 c = search needs
-
-same-length-3 : tie.Need-same-length-3
-same-length-3 c = search needs
-
 returns-2 : tie.Need-returns-2
 returns-2 c = same-on (λ m t. failedWithParents m (keyNum (c .before .before .before .before .before .before .before .before .before .before .before .wtxid-key .result))
     (c .before .before .before .before .before .before .before .before .before .before .before .before .before .before .args .n)
@@ -92,17 +65,5 @@ returns-2 c = same-on (λ m t. failedWithParents m (keyNum (c .before .before .b
 pub fail-claim-spec : {M : Type 1} → statement M
 fail-claim-spec =
     tie.close
-    (tie.spec
-    wtxid-key-requires
-    request-at-requires
-    same-length
-    returns
-    mul-x
-    sub-failed-with-parents
-    part-failed-with-parents-start
-    part-failed-with-parents-end
-    failed-with-parents-requires
-    add-result
-    same-length-2
-    same-length-3
-    returns-2)
+    (tie.spec (λ c κs. search needs) (λ c κs. search needs) (λ c. search needs) returns (λ c. search needs) (λ c. search needs) (λ c. search needs)
+    (λ c. search needs) failed-with-parents-requires add-result (λ c. search needs) (λ c. search needs) returns-2)

@@ -18,9 +18,6 @@ Inv-loop s₀ n given items clock keys sums out₀ count c₀ i₀ s out c i = F
 abbrev μ-loop : tie.MeasureT-loop
 μ-loop s₀ n given items clock keys sums out₀ count c₀ i₀ s out c i = count - i
 
-entries-requires : tie.Need-entries-requires Inv-loop μ-loop
-entries-requires c κs = search needs
-
 loop-holds : tie.Need-loop-holds Inv-loop μ-loop
 loop-holds c = failed-none _ _ (c .before .before .before .before .before .before .args .n) (c .before .before .before .before .before .before .args .clock)
     (entriesIn (c .before .before .before .before .before .before .args .items) (c .before .before .before .before .before .before .args .given .now))
@@ -47,12 +44,6 @@ fail-entry-requires c κs =
           (c .before .before .entry-at .ensures) (start .pre .3),
       failed-few v peer late kept,
     )
-
-add-i : tie.Need-add-i Inv-loop μ-loop
-add-i c = search needs
-
-loop-less : tie.Need-loop-less Inv-loop μ-loop
-loop-less c = search needs
 
 loop-again : tie.Need-loop-again Inv-loop μ-loop
 loop-again c =
@@ -85,16 +76,5 @@ returns c = failed-done (givenIn (c .before .before .before .before .before .bef
 pub fail-given-spec : {M : Type 1} → statement M
 fail-given-spec =
     tie.close
-    (tie.spec
-    Inv-loop
-    μ-loop
-    entries-requires
-    loop-holds
-    entry-at-requires
-    fail-entry-requires
-    add-i
-    loop-less
-    loop-again
-    same-length
-    same-length-2
-    returns)
+    (tie.spec Inv-loop μ-loop (λ c κs. search needs) loop-holds entry-at-requires fail-entry-requires (λ c. search needs) (λ c. search needs)
+    loop-again same-length same-length-2 returns)

@@ -15,9 +15,6 @@ Inv-loop keys sums c j₀ j = NoneFrom (hashNum c) (hashesIn keys) (hashesIn sum
 abbrev μ-loop : tie.MeasureT-loop
 μ-loop keys sums c j₀ j = j
 
-hashes-requires : tie.Need-hashes-requires Inv-loop μ-loop
-hashes-requires c κs = search needs
-
 loop-holds : tie.Need-loop-holds Inv-loop μ-loop
 loop-holds c = none-yet _ _ _ (c .hashes .ensures)
 
@@ -26,9 +23,6 @@ sub-j c = omega (arith, c .loop-test .taken)
 
 hash-in-requires : tie.Need-hash-in-requires Inv-loop μ-loop
 hash-in-requires c κs = omega (arith, c .loop-test .taken, c .before .loop .inv .most, c .before .before .before .before .before .pre)
-
-same-hash-requires : tie.Need-same-hash-requires Inv-loop μ-loop
-same-hash-requires c κs = search needs
 
 hash-in-requires-2 : tie.Need-hash-in-requires-2 Inv-loop μ-loop
 hash-in-requires-2 c κs = omega (arith, c .before .before .before .loop-test .taken, c .before .before .before .before .loop .inv .most)
@@ -53,16 +47,5 @@ returns-2 c = found-none (hashNum (c .before .before .before .before .before .ar
 pub latest-spec : {M : Type 1} → statement M
 latest-spec =
     tie.close
-    (tie.spec
-    Inv-loop
-    μ-loop
-    hashes-requires
-    loop-holds
-    sub-j
-    hash-in-requires
-    same-hash-requires
-    hash-in-requires-2
-    returns
-    loop-less
-    loop-again
-    returns-2)
+    (tie.spec Inv-loop μ-loop (λ c κs. search needs) loop-holds sub-j hash-in-requires (λ c κs. search needs) hash-in-requires-2 returns loop-less
+    loop-again returns-2)

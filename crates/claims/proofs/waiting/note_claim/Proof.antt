@@ -6,15 +6,6 @@ use borrow.Author.Needs.{needs}
 use Rattle.claims.proofs.waiting.note_claim.Statement.{statement}
 use Rattle.claims.proofs.waiting.note_claim.Tie as tie
 
-is-claim-requires : tie.Need-is-claim-requires
-is-claim-requires c κs = search needs
-
-key-of-requires : tie.Need-key-of-requires
-key-of-requires c κs = search needs
-
-combined-of-requires : tie.Need-combined-of-requires
-combined-of-requires c κs = search needs
-
 mul-put-hash : tie.Need-mul-put-hash
 mul-put-hash c = omega (
   arith,
@@ -80,12 +71,6 @@ add-result c = omega (
       c .before .before .before .before .before .before .before .before .before .before .before .if1 .taken)),
 )
 
-same-length : tie.Need-same-length
-same-length c = search needs
-
-same-length-2 : tie.Need-same-length-2
-same-length-2 c = search needs
-
 returns : tie.Need-returns
 returns c =
     noted-one (c .before .before .before .before .before .before .before .before .before .before .before .before .before .before .before .before .args .n)
@@ -109,16 +94,5 @@ returns-2 c = noted-none (c .before .before .before .before .before .args .n) (c
 pub note-claim-spec : {M : Type 1} → statement M
 note-claim-spec =
     tie.close
-    (tie.spec
-    is-claim-requires
-    key-of-requires
-    combined-of-requires
-    mul-put-hash
-    put-hash-requires
-    mul-put-hash-2
-    put-hash-requires-2
-    add-result
-    same-length
-    same-length-2
-    returns
-    returns-2)
+    (tie.spec (λ c κs. search needs) (λ c κs. search needs) (λ c κs. search needs) mul-put-hash put-hash-requires mul-put-hash-2 put-hash-requires-2
+    add-result (λ c. search needs) (λ c. search needs) returns returns-2)

@@ -54,16 +54,5 @@ returns c = (c .before .before .parents .ensures .0, copied-all (c .before .loop
 pub copy-parents-spec : {M : Type 1} → statement M
 copy-parents-spec =
     tie.close
-    (tie.spec
-    Inv-loop
-    μ-loop
-    parents-requires
-    loop-holds
-    parent-at-requires
-    mul-put-hash
-    put-hash-requires
-    add-j
-    loop-less
-    loop-again
-    same-length
+    (tie.spec Inv-loop μ-loop parents-requires loop-holds parent-at-requires mul-put-hash put-hash-requires add-j loop-less loop-again same-length
     returns)

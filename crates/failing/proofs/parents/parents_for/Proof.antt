@@ -6,9 +6,6 @@ use borrow.Author.Needs.{needs}
 use Rattle.failing.proofs.parents.parents_for.Statement.{statement}
 use Rattle.failing.proofs.parents.parents_for.Tie as tie
 
-request-at-requires : tie.Need-request-at-requires
-request-at-requires c κs = search needs
-
 returns : tie.Need-returns
 returns c = (
   omega arith,
@@ -23,18 +20,12 @@ returns-2 c = (
       (c .before .before .before .before .before .before .before .pre .1) (c .before .before .before .before .before .before .before .args .list .now) (c .before .before .if1 .left) (c .if2 .taken),
 )
 
-seek-requires : tie.Need-seek-requires
-seek-requires c κs = search needs
-
 copy-parents-requires : tie.Need-copy-parents-requires
 copy-parents-requires c κs = (
   c .before .before .before .before .before .before .before .before .before .before .before .pre .0,
   c .before .before .seek .ensures .inside (c .before .if3 .taken),
   c .before .before .before .before .before .before .before .before .before .before .before .pre .2,
 )
-
-same-length : tie.Need-same-length
-same-length c = search needs
 
 returns-3 : tie.Need-returns-3
 returns-3 c = (
@@ -59,12 +50,4 @@ returns-4 c = (
 pub parents-for-spec : {M : Type 1} → statement M
 parents-for-spec =
     tie.close
-    (tie.spec
-    request-at-requires
-    returns
-    returns-2
-    seek-requires
-    copy-parents-requires
-    same-length
-    returns-3
-    returns-4)
+    (tie.spec (λ c κs. search needs) returns returns-2 (λ c κs. search needs) copy-parents-requires (λ c. search needs) returns-3 returns-4)

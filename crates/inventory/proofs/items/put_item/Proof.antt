@@ -11,33 +11,6 @@ use borrow.Author.Needs.{needs}
 use Rattle.inventory.proofs.items.put_item.Statement.{statement}
 use Rattle.inventory.proofs.items.put_item.Tie as tie
 
-mul-put : tie.Need-mul-put
-mul-put c = search needs
-
-item-type-requires : tie.Need-item-type-requires
-item-type-requires c κs = search needs
-
-cast-put : tie.Need-cast-put
-cast-put c = search needs
-
-put-requires : tie.Need-put-requires
-put-requires c κs = search needs
-
-mul-put-hash : tie.Need-mul-put-hash
-mul-put-hash c = search needs
-
-add-put-hash : tie.Need-add-put-hash
-add-put-hash c = search needs
-
-hash-of-requires : tie.Need-hash-of-requires
-hash-of-requires c κs = search needs
-
-put-hash-requires : tie.Need-put-hash-requires
-put-hash-requires c κs = search needs
-
-same-length : tie.Need-same-length
-same-length c = search needs
-
 returns : tie.Need-returns
 returns c =
     let q = c .before .before .before .before .before .before .before .before .before .before .before .args .q in
@@ -54,14 +27,5 @@ returns c =
 pub put-item-spec : {M : Type 1} → statement M
 put-item-spec =
     tie.close
-    (tie.spec
-    mul-put
-    item-type-requires
-    cast-put
-    put-requires
-    mul-put-hash
-    add-put-hash
-    hash-of-requires
-    put-hash-requires
-    same-length
-    returns)
+    (tie.spec (λ c. search needs) (λ c κs. search needs) (λ c. search needs) (λ c κs. search needs) (λ c. search needs) (λ c. search needs)
+    (λ c κs. search needs) (λ c κs. search needs) (λ c. search needs) returns)

@@ -30,15 +30,6 @@ loop-holds c = (
       (none-stored itemBytes itemIn (c .before .before .args .items .now)),
 )
 
-item-at-requires : tie.Need-item-at-requires Inv-loop μ-loop
-item-at-requires c κs = search needs
-
-enum-known-kind : tie.Need-enum-known-kind Inv-loop μ-loop
-enum-known-kind c = search needs
-
-enum-told : tie.Need-enum-told Inv-loop μ-loop
-enum-told c = search needs
-
 same-length : tie.Need-same-length Inv-loop μ-loop
 same-length c = c .before .before .before .before .loop .inv .1
 
@@ -53,12 +44,6 @@ put-item-requires c κs =
       c .before .before .before .before .before .before .before .before .before .pre .0,
       c .before .before .before .before .before .before .before .before .before .pre .1,
     )
-
-add-i : tie.Need-add-i Inv-loop μ-loop
-add-i c = search needs
-
-loop-less : tie.Need-loop-less Inv-loop μ-loop
-loop-less c = search needs
 
 loop-again : tie.Need-loop-again Inv-loop μ-loop
 loop-again c = (
@@ -79,18 +64,5 @@ returns-2 c = record { is = (let e : c .before .loop .i ≡ c .before .before .b
 pub read-items-spec : {M : Type 1} → statement M
 read-items-spec =
     tie.close
-    (tie.spec
-    Inv-loop
-    μ-loop
-    loop-holds
-    item-at-requires
-    enum-known-kind
-    enum-told
-    same-length
-    returns
-    put-item-requires
-    add-i
-    loop-less
-    loop-again
-    same-length-2
-    returns-2)
+    (tie.spec Inv-loop μ-loop loop-holds (λ c κs. search needs) (λ c. search needs) (λ c. search needs) same-length returns put-item-requires
+    (λ c. search needs) (λ c. search needs) loop-again same-length-2 returns-2)

@@ -30,15 +30,6 @@ loop-holds c = (
       (none-stored keyBytes keyIn (c .before .before .args .keys .now)),
 )
 
-key-at-requires : tie.Need-key-at-requires Inv-loop μ-loop
-key-at-requires c κs = search needs
-
-enum-known-kind : tie.Need-enum-known-kind Inv-loop μ-loop
-enum-known-kind c = search needs
-
-enum-told : tie.Need-enum-told Inv-loop μ-loop
-enum-told c = search needs
-
 same-length : tie.Need-same-length Inv-loop μ-loop
 same-length c = c .before .before .before .before .loop .inv .1
 
@@ -53,12 +44,6 @@ put-key-requires c κs =
       c .before .before .before .before .before .before .before .before .before .pre .0,
       c .before .before .before .before .before .before .before .before .before .pre .1,
     )
-
-add-i : tie.Need-add-i Inv-loop μ-loop
-add-i c = search needs
-
-loop-less : tie.Need-loop-less Inv-loop μ-loop
-loop-less c = search needs
 
 loop-again : tie.Need-loop-again Inv-loop μ-loop
 unfolding keysIn
@@ -79,18 +64,5 @@ returns-2 c = record { is = (let e : c .before .loop .i ≡ c .before .before .b
 pub read-keys-spec : {M : Type 1} → statement M
 read-keys-spec =
     tie.close
-    (tie.spec
-    Inv-loop
-    μ-loop
-    loop-holds
-    key-at-requires
-    enum-known-kind
-    enum-told
-    same-length
-    returns
-    put-key-requires
-    add-i
-    loop-less
-    loop-again
-    same-length-2
-    returns-2)
+    (tie.spec Inv-loop μ-loop loop-holds (λ c κs. search needs) (λ c. search needs) (λ c. search needs) same-length returns put-key-requires
+    (λ c. search needs) (λ c. search needs) loop-again same-length-2 returns-2)

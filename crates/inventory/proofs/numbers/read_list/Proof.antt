@@ -12,15 +12,6 @@ use borrow.Author.Needs.{needs}
 use Rattle.inventory.proofs.numbers.read_list.Statement.{statement}
 use Rattle.inventory.proofs.numbers.read_list.Tie as tie
 
-number-at-requires : tie.Need-number-at-requires
-number-at-requires c κs = search needs
-
-enum-known-count : tie.Need-enum-known-count
-enum-known-count c = search needs
-
-enum-told : tie.Need-enum-told
-enum-told c = search needs
-
 returns : tie.Need-returns
 returns c = no-numbers (no-count (taking numberOf) (c .before .before .number-at .ensures) (ap numberAt (c .enum-told .given .1)))
 
@@ -29,34 +20,16 @@ returns-2 c =
     no-numbers (too-long (taking numberOf) (c .before .before .before .before .number-at .ensures) (ap numberAt (c .before .before .count .given .1)) number-takes
     (omega (arith, c .before .before .before .before .before .before .before .pre .0, c .if1 .taken)))
 
-read-numbers-requires : tie.Need-read-numbers-requires
-read-numbers-requires c κs = search needs
-
-enum-known-end : tie.Need-enum-known-end
-enum-known-end c = search needs
-
-enum-told-2 : tie.Need-enum-told-2
-enum-told-2 c = search needs
-
-same-length : tie.Need-same-length
-same-length c = search needs
-
 returns-3 : tie.Need-returns-3
 returns-3 c =
     no-numbers (no-list (taking numberOf) (c .before .before .before .before .before .before .before .before .before .before .number-at .ensures)
     (ap numberAt (c .before .before .before .before .before .before .before .before .count .given .1)) refl (c .before .before .before .before .read-numbers .ensures) (c .enum-told2 .given .1))
-
-same-length-2 : tie.Need-same-length-2
-same-length-2 c = search needs
 
 returns-4 : tie.Need-returns-4
 returns-4 c =
     no-numbers (more-fields (taking numberOf) (c .before .before .before .before .before .before .before .before .before .before .before .before .number-at .ensures)
     (ap numberAt (c .before .before .before .before .before .before .before .before .before .before .count .given .1)) refl
     (c .before .before .before .before .before .before .read-numbers .ensures) (c .before .before .end .given .1) (c .if2 .taken))
-
-same-length-3 : tie.Need-same-length-3
-same-length-3 c = search needs
 
 returns-5 : tie.Need-returns-5
 returns-5 c =
@@ -73,18 +46,5 @@ returns-5 c =
 pub read-list-spec : {M : Type 1} → statement M
 read-list-spec =
     tie.close
-    (tie.spec
-    number-at-requires
-    enum-known-count
-    enum-told
-    returns
-    returns-2
-    read-numbers-requires
-    enum-known-end
-    enum-told-2
-    same-length
-    returns-3
-    same-length-2
-    returns-4
-    same-length-3
-    returns-5)
+    (tie.spec (λ c κs. search needs) (λ c. search needs) (λ c. search needs) returns returns-2 (λ c κs. search needs) (λ c. search needs)
+    (λ c. search needs) (λ c. search needs) returns-3 (λ c. search needs) returns-4 (λ c. search needs) returns-5)

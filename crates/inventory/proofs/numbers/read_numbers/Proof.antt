@@ -30,15 +30,6 @@ loop-holds c = (
       (none-stored numberBytes (number 256) (c .before .before .args .numbers .now)),
 )
 
-number-at-requires : tie.Need-number-at-requires Inv-loop μ-loop
-number-at-requires c κs = search needs
-
-enum-known-v : tie.Need-enum-known-v Inv-loop μ-loop
-enum-known-v c = search needs
-
-enum-told : tie.Need-enum-told Inv-loop μ-loop
-enum-told c = search needs
-
 same-length : tie.Need-same-length Inv-loop μ-loop
 same-length c = c .before .before .before .before .loop .inv .1
 
@@ -53,12 +44,6 @@ put-requires c κs =
       c .before .before .before .before .before .before .before .before .before .pre .0,
       c .before .before .before .before .before .before .before .before .before .pre .1,
     )
-
-add-i : tie.Need-add-i Inv-loop μ-loop
-add-i c = search needs
-
-loop-less : tie.Need-loop-less Inv-loop μ-loop
-loop-less c = search needs
 
 loop-again : tie.Need-loop-again Inv-loop μ-loop
 loop-again c = (
@@ -85,18 +70,5 @@ returns-2 c = record { is = (let e : c .before .loop .i ≡ c .before .before .b
 pub read-numbers-spec : {M : Type 1} → statement M
 read-numbers-spec =
     tie.close
-    (tie.spec
-    Inv-loop
-    μ-loop
-    loop-holds
-    number-at-requires
-    enum-known-v
-    enum-told
-    same-length
-    returns
-    put-requires
-    add-i
-    loop-less
-    loop-again
-    same-length-2
-    returns-2)
+    (tie.spec Inv-loop μ-loop loop-holds (λ c κs. search needs) (λ c. search needs) (λ c. search needs) same-length returns put-requires
+    (λ c. search needs) (λ c. search needs) loop-again same-length-2 returns-2)

@@ -29,15 +29,6 @@ loop-holds c = (
       (none-yet (c .before .before .before .args .items .now) (c .before .before .before .args .priorities .now)),
 )
 
-item-at-requires : tie.Need-item-at-requires Inv-loop μ-loop
-item-at-requires c κs = search needs
-
-enum-known-kind : tie.Need-enum-known-kind Inv-loop μ-loop
-enum-known-kind c = search needs
-
-enum-told : tie.Need-enum-told Inv-loop μ-loop
-enum-told c = search needs
-
 same-length : tie.Need-same-length Inv-loop μ-loop
 same-length c = c .before .before .before .before .loop .inv .1
 
@@ -46,15 +37,6 @@ same-length-2 c = c .before .before .before .before .loop .inv .2
 
 returns : tie.Need-returns Inv-loop μ-loop
 returns c = record { is = no-element (c .before .before .before .before .loop .inv .3) (omega arith) (no-item (c .before .before .item-at .ensures) (ap itemAt (c .enum-told .given .1))) refl }
-
-number-at-requires : tie.Need-number-at-requires Inv-loop μ-loop
-number-at-requires c κs = search needs
-
-enum-known-p : tie.Need-enum-known-p Inv-loop μ-loop
-enum-known-p c = search needs
-
-enum-told-2 : tie.Need-enum-told-2 Inv-loop μ-loop
-enum-told-2 c = search needs
 
 same-length-3 : tie.Need-same-length-3 Inv-loop μ-loop
 same-length-3 c = c .before .before .before .before .before .before .before .before .loop .inv .1
@@ -85,12 +67,6 @@ put-offer-requires c κs = (
   ),
 )
 
-add-i : tie.Need-add-i Inv-loop μ-loop
-add-i c = search needs
-
-loop-less : tie.Need-loop-less Inv-loop μ-loop
-loop-less c = search needs
-
 loop-again : tie.Need-loop-again Inv-loop μ-loop
 loop-again c =
     let p = c .before .before .before .before .before .before .before .before .before .before .before .before .before .before .item-at .ensures in
@@ -118,26 +94,6 @@ returns-3 c = record { is = (let e : c .before .loop .i ≡ c .before .before .b
 pub read-offers-spec : {M : Type 1} → statement M
 read-offers-spec =
     tie.close
-    (tie.spec
-    Inv-loop
-    μ-loop
-    loop-holds
-    item-at-requires
-    enum-known-kind
-    enum-told
-    same-length
-    same-length-2
-    returns
-    number-at-requires
-    enum-known-p
-    enum-told-2
-    same-length-3
-    same-length-4
-    returns-2
-    put-offer-requires
-    add-i
-    loop-less
-    loop-again
-    same-length-5
-    same-length-6
-    returns-3)
+    (tie.spec Inv-loop μ-loop loop-holds (λ c κs. search needs) (λ c. search needs) (λ c. search needs) same-length same-length-2 returns
+    (λ c κs. search needs) (λ c. search needs) (λ c. search needs) same-length-3 same-length-4 returns-2 put-offer-requires (λ c. search needs)
+    (λ c. search needs) loop-again same-length-5 same-length-6 returns-3)

@@ -21,29 +21,14 @@ abbrev μ-loop : tie.MeasureT-loop
 returns : tie.Need-returns Inv-loop μ-loop
 returns c = sym (scan-empty _ _ _ (c .if1 .taken))
 
-shared-slice-read-digit : tie.Need-shared-slice-read-digit Inv-loop μ-loop
-shared-slice-read-digit c = search needs
-
-digit-requires : tie.Need-digit-requires Inv-loop μ-loop
-digit-requires c κs = search needs
-
 returns-2 : tie.Need-returns-2 Inv-loop μ-loop
 returns-2 c = sym (scan-not _ _ _ (c .before .digit .result) (omega arith) (c .before .digit .ensures) (c .if2 .taken))
 
 loop-holds : tie.Need-loop-holds Inv-loop μ-loop
 loop-holds c = (omega arith, scan-start _ _ _ (c .before .digit .result) (omega arith) (c .before .digit .ensures) (c .if2 .left))
 
-shared-slice-read-digit-2 : tie.Need-shared-slice-read-digit-2 Inv-loop μ-loop
-shared-slice-read-digit-2 c = search needs
-
-digit-requires-2 : tie.Need-digit-requires-2 Inv-loop μ-loop
-digit-requires-2 c κs = search needs
-
 returns-3 : tie.Need-returns-3 Inv-loop μ-loop
 returns-3 c = sym (c .before .before .before .before .loop .inv .1 ∙ scan-zero _ _ _ _ _ (c .before .before .before .loop-test .taken) (c .before .digit2 .ensures) (c .if3 .taken))
-
-has-room-requires : tie.Need-has-room-requires Inv-loop μ-loop
-has-room-requires c κs = search needs
 
 returns-4 : tie.Need-returns-4 Inv-loop μ-loop
 returns-4 c = sym (c .before .before .before .before .before .before .loop .inv .1 ∙ scan-stop _ _ _ _ _ (c .before .before .before .before .before .loop-test .taken)
@@ -63,12 +48,6 @@ add-a c = omega (
       (c .before .before .before .before .before .before .before .before .before .before .before .before .args .most) (sym (c .before .has-room .ensures) ∙ not-false _ (c .if4 .left)),
 )
 
-add-i : tie.Need-add-i Inv-loop μ-loop
-add-i c = search needs
-
-loop-less : tie.Need-loop-less Inv-loop μ-loop
-loop-less c = search needs
-
 loop-again : tie.Need-loop-again Inv-loop μ-loop
 loop-again c = (
   omega arith,
@@ -82,22 +61,5 @@ returns-5 c = sym (c .before .loop .inv .1 ∙ scan-end _ _ _ _ _ (c .loop-test 
 pub decimal-spec : {M : Type 1} → statement M
 decimal-spec =
     tie.close
-    (tie.spec
-    Inv-loop
-    μ-loop
-    returns
-    shared-slice-read-digit
-    digit-requires
-    returns-2
-    loop-holds
-    shared-slice-read-digit-2
-    digit-requires-2
-    returns-3
-    has-room-requires
-    returns-4
-    mul-a
-    add-a
-    add-i
-    loop-less
-    loop-again
-    returns-5)
+    (tie.spec Inv-loop μ-loop returns (λ c. search needs) (λ c κs. search needs) returns-2 loop-holds (λ c. search needs) (λ c κs. search needs)
+    returns-3 (λ c κs. search needs) returns-4 mul-a add-a (λ c. search needs) (λ c. search needs) loop-again returns-5)

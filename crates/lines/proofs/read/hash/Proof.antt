@@ -24,12 +24,6 @@ abbrev μ-loop : tie.MeasureT-loop
 returns : tie.Need-returns Inv-loop μ-loop
 returns c = sym (scan-empty _ _ _ (c .if1 .taken))
 
-shared-slice-read-digit : tie.Need-shared-slice-read-digit Inv-loop μ-loop
-shared-slice-read-digit c = search needs
-
-digit-requires : tie.Need-digit-requires Inv-loop μ-loop
-digit-requires c κs = search needs
-
 returns-2 : tie.Need-returns-2 Inv-loop μ-loop
 returns-2 c = sym (scan-not _ _ _ (c .before .digit .result) (omega arith) (c .before .digit .ensures) (c .if2 .taken))
 
@@ -38,18 +32,9 @@ loop-holds c =
     let e = quad-low (c .before .digit .result) in
     (omega arith, omega arith, omega arith, scan-start _ _ _ (c .before .digit .result) (omega arith) (c .before .digit .ensures) (c .if2 .left) ∙ rw e)
 
-shared-slice-read-digit-2 : tie.Need-shared-slice-read-digit-2 Inv-loop μ-loop
-shared-slice-read-digit-2 c = search needs
-
-digit-requires-2 : tie.Need-digit-requires-2 Inv-loop μ-loop
-digit-requires-2 c κs = search needs
-
 returns-3 : tie.Need-returns-3 Inv-loop μ-loop
 returns-3 c = sym (c .before .before .before .before .loop .inv .3 ∙ scan-zero _ _ _ _ _ (c .before .before .before .loop-test .taken) (c .before .digit2 .ensures)
     (c .before .before .before .before .loop .inv .2 (c .if3 .taken)))
-
-hash-has-room-requires : tie.Need-hash-has-room-requires Inv-loop μ-loop
-hash-has-room-requires c κs = search needs
 
 returns-4 : tie.Need-returns-4 Inv-loop μ-loop
 returns-4 c = sym (c .before .before .before .before .before .before .loop .inv .3 ∙ scan-stop _ _ _ _ _ (c .before .before .before .before .before .loop-test .taken)
@@ -58,12 +43,6 @@ returns-4 c = sym (c .before .before .before .before .before .before .loop .inv 
 
 with-digit-requires : tie.Need-with-digit-requires Inv-loop μ-loop
 with-digit-requires c κs = digit-room _ _ _ (sym (c .before .hash-has-room .ensures) ∙ not-false _ (c .if4 .left))
-
-add-i : tie.Need-add-i Inv-loop μ-loop
-add-i c = search needs
-
-loop-less : tie.Need-loop-less Inv-loop μ-loop
-loop-less c = search needs
 
 loop-again : tie.Need-loop-again Inv-loop μ-loop
 loop-again c =
@@ -83,21 +62,5 @@ returns-5 c = sym (c .before .loop .inv .3 ∙ scan-end _ _ _ _ _ (c .loop-test 
 pub hash-spec : {M : Type 1} → statement M
 hash-spec =
     tie.close
-    (tie.spec
-    Inv-loop
-    μ-loop
-    returns
-    shared-slice-read-digit
-    digit-requires
-    returns-2
-    loop-holds
-    shared-slice-read-digit-2
-    digit-requires-2
-    returns-3
-    hash-has-room-requires
-    returns-4
-    with-digit-requires
-    add-i
-    loop-less
-    loop-again
-    returns-5)
+    (tie.spec Inv-loop μ-loop returns (λ c. search needs) (λ c κs. search needs) returns-2 loop-holds (λ c. search needs) (λ c κs. search needs)
+    returns-3 (λ c κs. search needs) returns-4 with-digit-requires (λ c. search needs) (λ c. search needs) loop-again returns-5)

@@ -11,39 +11,9 @@ use Rattle.lines.proofs.read.key.Tie as tie
 returns : tie.Need-returns
 returns c = key-empty _ (c .if1 .taken)
 
-shared-slice-read-kind : tie.Need-shared-slice-read-kind
-shared-slice-read-kind c = search needs
-
-kind-requires : tie.Need-kind-requires
-kind-requires c κs = search needs
-
-enum-known-k : tie.Need-enum-known-k
-enum-known-k c = search needs
-
-enum-told : tie.Need-enum-told
-enum-told c = search needs
-
 returns-2 : tie.Need-returns-2
 returns-2 c = key-no-kind (c .before .before .before .before .before .before .args .f .now) (c .before .before .before .before .if1 .left)
     (sym (c .before .before .kind .ensures) ∙ ap maybeKind (c .enum-told .given .1))
-
-sub-hash : tie.Need-sub-hash
-sub-hash c = search needs
-
-part-hash-start : tie.Need-part-hash-start
-part-hash-start c = search needs
-
-part-hash-end : tie.Need-part-hash-end
-part-hash-end c = search needs
-
-hash-requires : tie.Need-hash-requires
-hash-requires c κs = search needs
-
-enum-known-q : tie.Need-enum-known-q
-enum-known-q c = search needs
-
-enum-told-2 : tie.Need-enum-told-2
-enum-told-2 c = search needs
 
 returns-3 : tie.Need-returns-3
 returns-3 c = key-no-hash (c .before .before .before .before .before .before .before .before .before .before .before .args .f .now)
@@ -57,18 +27,5 @@ returns-4 c = key-is (c .before .before .before .before .before .before .before 
 pub key-spec : {M : Type 1} → statement M
 key-spec =
     tie.close
-    (tie.spec
-    returns
-    shared-slice-read-kind
-    kind-requires
-    enum-known-k
-    enum-told
-    returns-2
-    sub-hash
-    part-hash-start
-    part-hash-end
-    hash-requires
-    enum-known-q
-    enum-told-2
-    returns-3
-    returns-4)
+    (tie.spec returns (λ c. search needs) (λ c κs. search needs) (λ c. search needs) (λ c. search needs) returns-2 (λ c. search needs)
+    (λ c. search needs) (λ c. search needs) (λ c κs. search needs) (λ c. search needs) (λ c. search needs) returns-3 returns-4)

@@ -9,23 +9,11 @@ use Rattle.lines.proofs.Letters.{other-at, other-no-colon, other-no-kin
 use Rattle.lines.proofs.read.other_item.Statement.{statement}
 use Rattle.lines.proofs.read.other_item.Tie as tie
 
-find-requires : tie.Need-find-requires
-find-requires c κs = search needs
-
 returns : tie.Need-returns
 returns c = other-no-colon (c .before .before .before .args .f .now) (c .before .find .result) (c .before .find .ensures) (c .if1 .taken)
 
 slice-aggregate-other-kind : tie.Need-slice-aggregate-other-kind
 slice-aggregate-other-kind c = simp length-take (omega (arith, other-at (c .before .before .before .before .args .f .now) (c .before .before .find .result) (c .before .before .find .ensures)))
-
-other-kind-requires : tie.Need-other-kind-requires
-other-kind-requires c κs = search needs
-
-enum-known-k : tie.Need-enum-known-k
-enum-known-k c = search needs
-
-enum-told : tie.Need-enum-told
-enum-told c = search needs
 
 returns-2 : tie.Need-returns-2
 returns-2 c = other-no-kind (c .before .before .before .before .before .before .before .args .f .now) (c .before .before .before .before .before .find .result)
@@ -54,18 +42,6 @@ part-hash-start c = search (
       (c .before .before .before .before .before .before .find .ensures),
 )
 
-part-hash-end : tie.Need-part-hash-end
-part-hash-end c = search needs
-
-hash-requires : tie.Need-hash-requires
-hash-requires c κs = search needs
-
-enum-known-q : tie.Need-enum-known-q
-enum-known-q c = search needs
-
-enum-told-2 : tie.Need-enum-told-2
-enum-told-2 c = search needs
-
 returns-3 : tie.Need-returns-3
 returns-3 c = other-no-hash (c .before .before .before .before .before .before .before .before .before .before .before .before .args .f .now)
     (c .before .before .before .before .before .before .before .before .before .before .find .result)
@@ -81,20 +57,5 @@ returns-4 c = other-is (c .before .before .before .before .before .before .befor
 pub other-item-spec : {M : Type 1} → statement M
 other-item-spec =
     tie.close
-    (tie.spec
-    find-requires
-    returns
-    slice-aggregate-other-kind
-    other-kind-requires
-    enum-known-k
-    enum-told
-    returns-2
-    add-from
-    sub-hash
-    part-hash-start
-    part-hash-end
-    hash-requires
-    enum-known-q
-    enum-told-2
-    returns-3
-    returns-4)
+    (tie.spec (λ c κs. search needs) returns slice-aggregate-other-kind (λ c κs. search needs) (λ c. search needs) (λ c. search needs) returns-2
+    add-from sub-hash part-hash-start (λ c. search needs) (λ c κs. search needs) (λ c. search needs) (λ c. search needs) returns-3 returns-4)

@@ -10,15 +10,6 @@ use borrow.Author.Needs.{needs}
 use Rattle.lines.proofs.read.other_kind.Statement.{statement}
 use Rattle.lines.proofs.read.other_kind.Tie as tie
 
-decimal-requires : tie.Need-decimal-requires
-decimal-requires c κs = search needs
-
-enum-known-n : tie.Need-enum-known-n
-enum-known-n c = search needs
-
-enum-told : tie.Need-enum-told
-enum-told c = search needs
-
 returns : tie.Need-returns
 returns c = ap otherKind (sym (ap numberIn (c .enum-told .given .1)) ∙ c .before .before .decimal .ensures)
 
@@ -27,9 +18,6 @@ cast-t5 c = record {
   fits = type-text (c .before .before .before .before .before .args .f .now) (c .before .n .given .0 .0)
       (sym (c .before .before .before .decimal .ensures) ∙ ap numberIn (c .before .n .given .1)) .1;
 }
-
-is-plain-requires : tie.Need-is-plain-requires
-is-plain-requires c κs = search needs
 
 returns-2 : tie.Need-returns-2
 returns-2 c = other-named _ _ (sym (c .before .before .before .before .before .decimal .ensures) ∙ ap numberIn (c .before .before .before .n .given .1))
@@ -42,12 +30,4 @@ returns-3 c = other-kind _ _ (sym (c .before .before .before .before .before .de
 pub other-kind-spec : {M : Type 1} → statement M
 other-kind-spec =
     tie.close
-    (tie.spec
-    decimal-requires
-    enum-known-n
-    enum-told
-    returns
-    cast-t5
-    is-plain-requires
-    returns-2
-    returns-3)
+    (tie.spec (λ c κs. search needs) (λ c. search needs) (λ c. search needs) returns cast-t5 (λ c κs. search needs) returns-2 returns-3)

@@ -27,68 +27,16 @@ abbrev put-decimal-below : ℕ → In 1 put-decimal-kinds.ps
 put-decimal-below t =
     and 1 put-decimal-kinds.ps (falls 1 put-decimal-kinds.ps _<_ μ-put-decimal t) put-decimal.Pre
 
-put-decimal-digit-text-requires : (t : ℕ) → put-decimal-lts.Need-digit-text-requires (
-  digit-text-reads.Asked,
-  digit-text-reads.Learnt,
-  put-decimal-below t,
-  put-decimal.Post,
-) (put-decimal-at t) put-decimal.Post
-put-decimal-digit-text-requires t c κs = omega arith
-
-put-decimal-slice-write-s : (t : ℕ) → put-decimal-lts.Need-slice-write-s (
-  digit-text-reads.Asked,
-  digit-text-reads.Learnt,
-  put-decimal-below t,
-  put-decimal.Post,
-) (put-decimal-at t) put-decimal.Post
-put-decimal-slice-write-s t c = omega arith
-
-put-decimal-add-result : (t : ℕ) → put-decimal-lts.Need-add-result (
-  digit-text-reads.Asked,
-  digit-text-reads.Learnt,
-  put-decimal-below t,
-  put-decimal.Post,
-) (put-decimal-at t) put-decimal.Post
-put-decimal-add-result t c = omega arith
-
-put-decimal-same-length : (t : ℕ) → put-decimal-lts.Need-same-length (
-  digit-text-reads.Asked,
-  digit-text-reads.Learnt,
-  put-decimal-below t,
-  put-decimal.Post,
-) (put-decimal-at t) put-decimal.Post
-put-decimal-same-length t c = search needs
-
-put-decimal-returns : (t : ℕ) → put-decimal-lts.Need-returns (
-  digit-text-reads.Asked,
-  digit-text-reads.Learnt,
-  put-decimal-below t,
-  put-decimal.Post,
-) (put-decimal-at t) put-decimal.Post
+put-decimal-returns : (t : ℕ) → put-decimal-lts.Need-returns (digit-text-reads.Asked, digit-text-reads.Learnt, put-decimal-below t, put-decimal.Post)
+    (put-decimal-at t) put-decimal.Post
 put-decimal-returns t c = rw (c .digit-text .ensures) (wrote-one 10 18 (lit< tt) (lit≤ tt) _ _ _ (c .before .before .before .pre .1) (c .before .if1 .taken))
 
-put-decimal-put-decimal-requires : (t : ℕ) → put-decimal-lts.Need-put-decimal-requires (
-  digit-text-reads.Asked,
-  digit-text-reads.Learnt,
-  put-decimal-below t,
-  put-decimal.Post,
-) (put-decimal-at t) put-decimal.Post
+put-decimal-put-decimal-requires : (t : ℕ) → put-decimal-lts.Need-put-decimal-requires
+    (digit-text-reads.Asked, digit-text-reads.Learnt, put-decimal-below t, put-decimal.Post) (put-decimal-at t) put-decimal.Post
 put-decimal-put-decimal-requires t c κs = (omega arith, omega arith)
 
-put-decimal-digit-text-requires-2 : (t : ℕ) → put-decimal-lts.Need-digit-text-requires-2 (
-  digit-text-reads.Asked,
-  digit-text-reads.Learnt,
-  put-decimal-below t,
-  put-decimal.Post,
-) (put-decimal-at t) put-decimal.Post
-put-decimal-digit-text-requires-2 t c κs = omega arith
-
-put-decimal-slice-write-s-2 : (t : ℕ) → put-decimal-lts.Need-slice-write-s-2 (
-  digit-text-reads.Asked,
-  digit-text-reads.Learnt,
-  put-decimal-below t,
-  put-decimal.Post,
-) (put-decimal-at t) put-decimal.Post
+put-decimal-slice-write-s-2 : (t : ℕ) → put-decimal-lts.Need-slice-write-s-2
+    (digit-text-reads.Asked, digit-text-reads.Learnt, put-decimal-below t, put-decimal.Post) (put-decimal-at t) put-decimal.Post
 put-decimal-slice-write-s-2 t c =
     let g = decimal-fits (c .before .before .before .before .before .before .before .fits .n .fits) in
     omega (
@@ -99,12 +47,8 @@ put-decimal-slice-write-s-2 t c =
       c .before .before .before .put-decimal .kept .0,
     )
 
-put-decimal-add-result-2 : (t : ℕ) → put-decimal-lts.Need-add-result-2 (
-  digit-text-reads.Asked,
-  digit-text-reads.Learnt,
-  put-decimal-below t,
-  put-decimal.Post,
-) (put-decimal-at t) put-decimal.Post
+put-decimal-add-result-2 : (t : ℕ) → put-decimal-lts.Need-add-result-2
+    (digit-text-reads.Asked, digit-text-reads.Learnt, put-decimal-below t, put-decimal.Post) (put-decimal-at t) put-decimal.Post
 put-decimal-add-result-2 t c =
     let g = decimal-fits (c .before .before .before .before .before .before .before .fits .n .fits) in
     omega (
@@ -115,20 +59,8 @@ put-decimal-add-result-2 t c =
       c .before .before .before .before .before .before .before .good .0 .0,
     )
 
-put-decimal-same-length-2 : (t : ℕ) → put-decimal-lts.Need-same-length-2 (
-  digit-text-reads.Asked,
-  digit-text-reads.Learnt,
-  put-decimal-below t,
-  put-decimal.Post,
-) (put-decimal-at t) put-decimal.Post
-put-decimal-same-length-2 t c = search needs
-
-put-decimal-returns-2 : (t : ℕ) → put-decimal-lts.Need-returns-2 (
-  digit-text-reads.Asked,
-  digit-text-reads.Learnt,
-  put-decimal-below t,
-  put-decimal.Post,
-) (put-decimal-at t) put-decimal.Post
+put-decimal-returns-2 : (t : ℕ) → put-decimal-lts.Need-returns-2
+    (digit-text-reads.Asked, digit-text-reads.Learnt, put-decimal-below t, put-decimal.Post) (put-decimal-at t) put-decimal.Post
 put-decimal-returns-2 t c =
     let g = decimal-fits (c .before .before .before .before .before .before .before .fits .n .fits) in
     rw (c .digit-text2 .ensures) (wrote-last 10 18 (lit< tt) (lit≤ tt) (c .before .before .before .before .before .before .before .args .s .now)
@@ -136,22 +68,7 @@ put-decimal-returns-2 t c =
     (c .before .before .before .before .before .before .before .pre .1) (c .before .before .before .before .before .if1 .left) g (c .before .before .before .put-decimal .ensures))
 
 pub +put-decimal-spec : {M : Type 1} → statement M
-+put-decimal-spec = close μ-put-decimal λ t. put-decimal-lts.spec (
-  digit-text-reads.Asked,
-  digit-text-reads.Learnt,
-  put-decimal-below t,
-  put-decimal.Post,
-)
-    (put-decimal-at t)
-    put-decimal.Post
-    (put-decimal-digit-text-requires t)
-    (put-decimal-slice-write-s t)
-    (put-decimal-add-result t)
-    (put-decimal-same-length t)
-    (put-decimal-returns t)
-    (put-decimal-put-decimal-requires t)
-    (put-decimal-digit-text-requires-2 t)
-    (put-decimal-slice-write-s-2 t)
-    (put-decimal-add-result-2 t)
-    (put-decimal-same-length-2 t)
-    (put-decimal-returns-2 t)
++put-decimal-spec = close μ-put-decimal λ t. put-decimal-lts.spec
+    (digit-text-reads.Asked, digit-text-reads.Learnt, put-decimal-below t, put-decimal.Post) (put-decimal-at t) put-decimal.Post (λ c κs. omega arith)
+    (λ c. omega arith) (λ c. omega arith) (λ c. search needs) (put-decimal-returns t) (put-decimal-put-decimal-requires t) (λ c κs. omega arith)
+    (put-decimal-slice-write-s-2 t) (put-decimal-add-result-2 t) (λ c. search needs) (put-decimal-returns-2 t)

@@ -31,130 +31,30 @@ abbrev put-hash-below : ℕ → In 1 put-hash-kinds.ps
 put-hash-below t =
     and 1 put-hash-kinds.ps (falls 1 put-hash-kinds.ps _<_ μ-put-hash t) put-hash.Pre
 
-put-hash-is-digit-requires : (t : ℕ) → put-hash-lts.Need-is-digit-requires (
-  is-digit-reads.Asked,
-  is-digit-reads.Learnt,
-  digit-text-reads.Asked,
-  digit-text-reads.Learnt,
-  without-digit-reads.Asked,
-  without-digit-reads.Learnt,
-  put-hash-below t,
-  put-hash.Post,
-) (put-hash-at t) put-hash.Post
-put-hash-is-digit-requires t c κs = search needs
-
-put-hash-digit-text-requires : (t : ℕ) → put-hash-lts.Need-digit-text-requires (
-  is-digit-reads.Asked,
-  is-digit-reads.Learnt,
-  digit-text-reads.Asked,
-  digit-text-reads.Learnt,
-  without-digit-reads.Asked,
-  without-digit-reads.Learnt,
-  put-hash-below t,
-  put-hash.Post,
-) (put-hash-at t) put-hash.Post
+put-hash-digit-text-requires : (t : ℕ) → put-hash-lts.Need-digit-text-requires
+    (is-digit-reads.Asked, is-digit-reads.Learnt, digit-text-reads.Asked, digit-text-reads.Learnt, without-digit-reads.Asked, without-digit-reads.Learnt, put-hash-below t, put-hash.Post)
+    (put-hash-at t) put-hash.Post
 put-hash-digit-text-requires t c κs =
     let h = ltb-true (quadNumber (c .before .before .before .args .q)) 16 (sym (c .before .is-digit .ensures) ∙ c .if1 .taken) in
     omega (arith, digit-word (c .before .before .before .args .q) h)
 
-put-hash-slice-write-s : (t : ℕ) → put-hash-lts.Need-slice-write-s (
-  is-digit-reads.Asked,
-  is-digit-reads.Learnt,
-  digit-text-reads.Asked,
-  digit-text-reads.Learnt,
-  without-digit-reads.Asked,
-  without-digit-reads.Learnt,
-  put-hash-below t,
-  put-hash.Post,
-) (put-hash-at t) put-hash.Post
-put-hash-slice-write-s t c = search needs
-
-put-hash-add-result : (t : ℕ) → put-hash-lts.Need-add-result (
-  is-digit-reads.Asked,
-  is-digit-reads.Learnt,
-  digit-text-reads.Asked,
-  digit-text-reads.Learnt,
-  without-digit-reads.Asked,
-  without-digit-reads.Learnt,
-  put-hash-below t,
-  put-hash.Post,
-) (put-hash-at t) put-hash.Post
-put-hash-add-result t c = search needs
-
-put-hash-same-length : (t : ℕ) → put-hash-lts.Need-same-length (
-  is-digit-reads.Asked,
-  is-digit-reads.Learnt,
-  digit-text-reads.Asked,
-  digit-text-reads.Learnt,
-  without-digit-reads.Asked,
-  without-digit-reads.Learnt,
-  put-hash-below t,
-  put-hash.Post,
-) (put-hash-at t) put-hash.Post
-put-hash-same-length t c = search needs
-
-put-hash-returns : (t : ℕ) → put-hash-lts.Need-returns (
-  is-digit-reads.Asked,
-  is-digit-reads.Learnt,
-  digit-text-reads.Asked,
-  digit-text-reads.Learnt,
-  without-digit-reads.Asked,
-  without-digit-reads.Learnt,
-  put-hash-below t,
-  put-hash.Post,
-) (put-hash-at t) put-hash.Post
+put-hash-returns : (t : ℕ) → put-hash-lts.Need-returns
+    (is-digit-reads.Asked, is-digit-reads.Learnt, digit-text-reads.Asked, digit-text-reads.Learnt, without-digit-reads.Asked, without-digit-reads.Learnt, put-hash-below t, put-hash.Post)
+    (put-hash-at t) put-hash.Post
 put-hash-returns t c = hash-one (c .before .before .before .before .args .s .now) (c .before .before .before .before .args .a)
     (c .before .before .before .before .args .q) (c .before .before .before .before .pre .1) (c .digit-text .ensures)
     (ltb-true (quadNumber (c .before .before .before .before .args .q)) 16 (sym (c .before .before .is-digit .ensures) ∙ c .before .if1 .taken))
 
-put-hash-without-digit-requires : (t : ℕ) → put-hash-lts.Need-without-digit-requires (
-  is-digit-reads.Asked,
-  is-digit-reads.Learnt,
-  digit-text-reads.Asked,
-  digit-text-reads.Learnt,
-  without-digit-reads.Asked,
-  without-digit-reads.Learnt,
-  put-hash-below t,
-  put-hash.Post,
-) (put-hash-at t) put-hash.Post
-put-hash-without-digit-requires t c κs = search needs
-
-put-hash-put-hash-requires : (t : ℕ) → put-hash-lts.Need-put-hash-requires (
-  is-digit-reads.Asked,
-  is-digit-reads.Learnt,
-  digit-text-reads.Asked,
-  digit-text-reads.Learnt,
-  without-digit-reads.Asked,
-  without-digit-reads.Learnt,
-  put-hash-below t,
-  put-hash.Post,
-) (put-hash-at t) put-hash.Post
+put-hash-put-hash-requires : (t : ℕ) → put-hash-lts.Need-put-hash-requires
+    (is-digit-reads.Asked, is-digit-reads.Learnt, digit-text-reads.Asked, digit-text-reads.Learnt, without-digit-reads.Asked, without-digit-reads.Learnt, put-hash-below t, put-hash.Post)
+    (put-hash-at t) put-hash.Post
 put-hash-put-hash-requires t c κs =
     let h = ltb-false (quadNumber (c .before .before .before .before .before .args .q)) 16 (sym (c .before .before .before .is-digit .ensures) ∙ c .before .before .if1 .left) in
     (omega (arith, c .without-digit .ensures), omega arith)
 
-put-hash-digit-text-requires-2 : (t : ℕ) → put-hash-lts.Need-digit-text-requires-2 (
-  is-digit-reads.Asked,
-  is-digit-reads.Learnt,
-  digit-text-reads.Asked,
-  digit-text-reads.Learnt,
-  without-digit-reads.Asked,
-  without-digit-reads.Learnt,
-  put-hash-below t,
-  put-hash.Post,
-) (put-hash-at t) put-hash.Post
-put-hash-digit-text-requires-2 t c κs = search needs
-
-put-hash-slice-write-s-2 : (t : ℕ) → put-hash-lts.Need-slice-write-s-2 (
-  is-digit-reads.Asked,
-  is-digit-reads.Learnt,
-  digit-text-reads.Asked,
-  digit-text-reads.Learnt,
-  without-digit-reads.Asked,
-  without-digit-reads.Learnt,
-  put-hash-below t,
-  put-hash.Post,
-) (put-hash-at t) put-hash.Post
+put-hash-slice-write-s-2 : (t : ℕ) → put-hash-lts.Need-slice-write-s-2
+    (is-digit-reads.Asked, is-digit-reads.Learnt, digit-text-reads.Asked, digit-text-reads.Learnt, without-digit-reads.Asked, without-digit-reads.Learnt, put-hash-below t, put-hash.Post)
+    (put-hash-at t) put-hash.Post
 put-hash-slice-write-s-2 t c =
     let f : Small (c .before .before .before .before .before .before .before .before .before .before .args .q) = omega arith in
     let h = ltb-false (quadNumber (c .before .before .before .before .before .before .before .before .before .before .args .q)) 16
@@ -168,16 +68,9 @@ put-hash-slice-write-s-2 t c =
       c .before .before .before .before .put-hash .kept .0,
     )
 
-put-hash-add-result-2 : (t : ℕ) → put-hash-lts.Need-add-result-2 (
-  is-digit-reads.Asked,
-  is-digit-reads.Learnt,
-  digit-text-reads.Asked,
-  digit-text-reads.Learnt,
-  without-digit-reads.Asked,
-  without-digit-reads.Learnt,
-  put-hash-below t,
-  put-hash.Post,
-) (put-hash-at t) put-hash.Post
+put-hash-add-result-2 : (t : ℕ) → put-hash-lts.Need-add-result-2
+    (is-digit-reads.Asked, is-digit-reads.Learnt, digit-text-reads.Asked, digit-text-reads.Learnt, without-digit-reads.Asked, without-digit-reads.Learnt, put-hash-below t, put-hash.Post)
+    (put-hash-at t) put-hash.Post
 put-hash-add-result-2 t c =
     let f : Small (c .before .before .before .before .before .before .before .before .before .before .args .q) = omega arith in
     let h = ltb-false (quadNumber (c .before .before .before .before .before .before .before .before .before .before .args .q)) 16
@@ -191,28 +84,9 @@ put-hash-add-result-2 t c =
       c .before .before .before .before .before .before .before .before .before .before .good .0 .0,
     )
 
-put-hash-same-length-2 : (t : ℕ) → put-hash-lts.Need-same-length-2 (
-  is-digit-reads.Asked,
-  is-digit-reads.Learnt,
-  digit-text-reads.Asked,
-  digit-text-reads.Learnt,
-  without-digit-reads.Asked,
-  without-digit-reads.Learnt,
-  put-hash-below t,
-  put-hash.Post,
-) (put-hash-at t) put-hash.Post
-put-hash-same-length-2 t c = search needs
-
-put-hash-returns-2 : (t : ℕ) → put-hash-lts.Need-returns-2 (
-  is-digit-reads.Asked,
-  is-digit-reads.Learnt,
-  digit-text-reads.Asked,
-  digit-text-reads.Learnt,
-  without-digit-reads.Asked,
-  without-digit-reads.Learnt,
-  put-hash-below t,
-  put-hash.Post,
-) (put-hash-at t) put-hash.Post
+put-hash-returns-2 : (t : ℕ) → put-hash-lts.Need-returns-2
+    (is-digit-reads.Asked, is-digit-reads.Learnt, digit-text-reads.Asked, digit-text-reads.Learnt, without-digit-reads.Asked, without-digit-reads.Learnt, put-hash-below t, put-hash.Post)
+    (put-hash-at t) put-hash.Post
 put-hash-returns-2 t c =
     let f : Small (c .before .before .before .before .before .before .before .before .before .before .args .q) = omega arith in
     let h = ltb-false (quadNumber (c .before .before .before .before .before .before .before .before .before .before .args .q)) 16
@@ -223,28 +97,8 @@ put-hash-returns-2 t c =
     (c .before .before .before .before .put-hash .ensures) (c .digit-text2 .ensures)
 
 pub +put-hash-spec : {M : Type 1} → statement M
-+put-hash-spec = close μ-put-hash λ t. put-hash-lts.spec (
-  is-digit-reads.Asked,
-  is-digit-reads.Learnt,
-  digit-text-reads.Asked,
-  digit-text-reads.Learnt,
-  without-digit-reads.Asked,
-  without-digit-reads.Learnt,
-  put-hash-below t,
-  put-hash.Post,
-)
-    (put-hash-at t)
-    put-hash.Post
-    (put-hash-is-digit-requires t)
-    (put-hash-digit-text-requires t)
-    (put-hash-slice-write-s t)
-    (put-hash-add-result t)
-    (put-hash-same-length t)
-    (put-hash-returns t)
-    (put-hash-without-digit-requires t)
-    (put-hash-put-hash-requires t)
-    (put-hash-digit-text-requires-2 t)
-    (put-hash-slice-write-s-2 t)
-    (put-hash-add-result-2 t)
-    (put-hash-same-length-2 t)
-    (put-hash-returns-2 t)
++put-hash-spec = close μ-put-hash λ t. put-hash-lts.spec
+    (is-digit-reads.Asked, is-digit-reads.Learnt, digit-text-reads.Asked, digit-text-reads.Learnt, without-digit-reads.Asked, without-digit-reads.Learnt, put-hash-below t, put-hash.Post)
+    (put-hash-at t) put-hash.Post (λ c κs. search needs) (put-hash-digit-text-requires t) (λ c. search needs) (λ c. search needs) (λ c. search needs)
+    (put-hash-returns t) (λ c κs. search needs) (put-hash-put-hash-requires t) (λ c κs. search needs) (put-hash-slice-write-s-2 t)
+    (put-hash-add-result-2 t) (λ c. search needs) (put-hash-returns-2 t)

@@ -9,15 +9,6 @@ use borrow.Author.Needs.{needs}
 use Rattle.lines.proofs.write.put_key.Statement.{statement}
 use Rattle.lines.proofs.write.put_key.Tie as tie
 
-kind-letter-requires : tie.Need-kind-letter-requires
-kind-letter-requires c κs = search needs
-
-slice-write-s : tie.Need-slice-write-s
-slice-write-s c = search needs
-
-add-put-hash : tie.Need-add-put-hash
-add-put-hash c = search needs
-
 put-hash-requires : tie.Need-put-hash-requires
 put-hash-requires c κs = simp length-set (omega arith)
 
@@ -32,10 +23,4 @@ returns c = wrote-key (c .before .before .before .before .before .before .args .
 pub put-key-spec : {M : Type 1} → statement M
 put-key-spec =
     tie.close
-    (tie.spec
-    kind-letter-requires
-    slice-write-s
-    add-put-hash
-    put-hash-requires
-    same-length
-    returns)
+    (tie.spec (λ c κs. search needs) (λ c. search needs) (λ c. search needs) put-hash-requires same-length returns)

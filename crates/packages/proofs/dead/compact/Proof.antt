@@ -4,12 +4,14 @@ use Prim.Native.Nat.{_-_}
 use mathlib.Core.Path.{_≡_, refl, _∙_}
 use lib.ListN.{length}
 use Rattle.words.specs.Words.{words}
+use Rattle.places.specs.Places.{blank, placeSize, placeWords}
+use Rattle.packages.specs.Dead.{live}
 use Rattle.packages.proofs.Compacting.{Compacting, compacting-none, compacting-more, compacting-end}
 use Rattle.packages.proofs.dead.compact.Statement.{statement}
 use Rattle.packages.proofs.dead.compact.Tie as tie
 
 abbrev Inv-loop : tie.InvT-loop
-Inv-loop s₀ n m₀ i₀ s m i = Compacting (words s₀) (words s) n i m × (length s ≡ length s₀)
+Inv-loop s₀ n m₀ i₀ s m i = Compacting placeSize placeWords live (words s₀) (words s) n i m × (length s ≡ length s₀)
 
 abbrev μ-loop : tie.MeasureT-loop
 μ-loop s₀ n m₀ i₀ s m i = n - i
@@ -20,15 +22,9 @@ loop-holds c = (compacting-none (words (c .before .args .s .now)) (c .before .ar
 keep-live-requires : tie.Need-keep-live-requires Inv-loop μ-loop
 keep-live-requires c κs = (c .before .before .loop .inv .0 .less, omega (arith, c .before .before .loop .inv .1, c .before .loop-test .taken, c .before .before .before .before .pre))
 
-add-i : tie.Need-add-i Inv-loop μ-loop
-add-i c = search needs
-
-loop-less : tie.Need-loop-less Inv-loop μ-loop
-loop-less c = search needs
-
 loop-again : tie.Need-loop-again Inv-loop μ-loop
 loop-again c = (
-  compacting-more (c .before .before .before .before .before .loop .inv .0) (c .before .before .before .before .loop-test .taken) (c .before .before .keep-live .ensures),
+  compacting-more (blank 0 0) (c .before .before .before .before .before .loop .inv .0) (c .before .before .before .before .loop-test .taken) (c .before .before .keep-live .ensures),
   c .before .before .keep-live .kept .0 ∙ c .before .before .before .before .before .loop .inv .1,
 )
 
@@ -45,14 +41,5 @@ returns c = compacting-end (c .before .before .before .before .before .loop .inv
 pub compact-spec : {M : Type 1} → statement M
 compact-spec =
     tie.close
-    (tie.spec
-    Inv-loop
-    μ-loop
-    loop-holds
-    keep-live-requires
-    add-i
-    loop-less
-    loop-again
-    truncate-places-requires
-    same-length
+    (tie.spec Inv-loop μ-loop loop-holds keep-live-requires (λ c. search needs) (λ c. search needs) loop-again truncate-places-requires same-length
     returns)

@@ -16,27 +16,6 @@ use borrow.Author.Needs.{needs}
 use Rattle.packages.proofs.dead.mark_dead.Statement.{statement}
 use Rattle.packages.proofs.dead.mark_dead.Tie as tie
 
-hash-quad-requires : tie.Need-hash-quad-requires
-hash-quad-requires c κs = search needs
-
-seek-place-requires : tie.Need-seek-place-requires
-seek-place-requires c κs = search needs
-
-held-places-requires : tie.Need-held-places-requires
-held-places-requires c κs = search needs
-
-place-at-requires : tie.Need-place-at-requires
-place-at-requires c κs = search needs
-
-quad-less-requires : tie.Need-quad-less-requires
-quad-less-requires c κs = search needs
-
-set-stage-requires : tie.Need-set-stage-requires
-set-stage-requires c κs = search needs
-
-same-length : tie.Need-same-length
-same-length c = search needs
-
 returns : tie.Need-returns
 returns c = λ st S s w.
     let h = hashNum (c .before .before .before .before .before .before .before .before .before .before .before .before .before .before .before .before .args .h) in
@@ -61,9 +40,6 @@ returns c = λ st S s w.
     let g = bd .above i (le-refl i) (omega arith) in
     marks-more st s S w h bd l (omega arith) (blank 0 0) (c .before .before .set-stage .ensures (blank 0 0))
 
-same-length-2 : tie.Need-same-length-2
-same-length-2 c = search needs
-
 returns-2 : tie.Need-returns-2
 returns-2 c = λ st S s w.
     let h = hashNum (c .before .before .before .before .before .before .before .before .before .before .before .before .args .h) in
@@ -81,9 +57,6 @@ returns-2 c = λ st S s w.
     (quadNumber (c .before .before .before .place-at .result .hash)) (sym (c .before .quad-less .ensures) ∙ not-false (c .before .quad-less .result) (c .if2 .left)) in
     marks-same st s S w h bd (λ _ e. omega arith)
 
-same-length-3 : tie.Need-same-length-3
-same-length-3 c = search needs
-
 returns-3 : tie.Need-returns-3
 returns-3 c = λ st S s w.
     let h = hashNum (c .before .before .before .before .before .before .before .args .h) in
@@ -97,16 +70,5 @@ returns-3 c = λ st S s w.
 pub mark-dead-spec : {M : Type 1} → statement M
 mark-dead-spec =
     tie.close
-    (tie.spec
-    hash-quad-requires
-    seek-place-requires
-    held-places-requires
-    place-at-requires
-    quad-less-requires
-    set-stage-requires
-    same-length
-    returns
-    same-length-2
-    returns-2
-    same-length-3
-    returns-3)
+    (tie.spec (λ c κs. search needs) (λ c κs. search needs) (λ c κs. search needs) (λ c κs. search needs) (λ c κs. search needs)
+    (λ c κs. search needs) (λ c. search needs) returns (λ c. search needs) returns-2 (λ c. search needs) returns-3)

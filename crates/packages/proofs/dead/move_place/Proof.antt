@@ -1,4 +1,5 @@
 use native.Mathlib.Omega.{arith}
+use Rattle.places.specs.Places.{placeSize, placeWords}
 use Rattle.packages.proofs.Compacting.{moved-none}
 use borrow.Author.Needs.{needs}
 use Rattle.packages.proofs.dead.move_place.Statement.{statement}
@@ -14,7 +15,7 @@ returns : tie.Need-returns
 returns c = search needs
 
 returns-2 : tie.Need-returns-2
-returns-2 c = moved-none (omega (arith, c .before .before .pre .0, c .if1 .left))
+returns-2 c = moved-none placeSize placeWords (omega (arith, c .before .before .pre .0, c .if1 .left))
 
 pub move-place-spec : {M : Type 1} → statement M
 move-place-spec = tie.close (tie.spec copy-place-requires same-length returns returns-2)

@@ -7,24 +7,6 @@ use borrow.Author.Needs.{needs}
 use Rattle.packages.proofs.flat.push_parent.Statement.{statement}
 use Rattle.packages.proofs.flat.push_parent.Tie as tie
 
-places-part-requires : tie.Need-places-part-requires
-places-part-requires c κs = search needs
-
-sub-push-parent : tie.Need-sub-push-parent
-sub-push-parent c = search needs
-
-part-push-parent-start : tie.Need-part-push-parent-start
-part-push-parent-start c = search needs
-
-part-push-parent-end : tie.Need-part-push-parent-end
-part-push-parent-end c = search needs
-
-push-parent-requires : tie.Need-push-parent-requires
-push-parent-requires c κs = search needs
-
-same-length : tie.Need-same-length
-same-length c = search needs
-
 returns : tie.Need-returns
 returns c = λ f d e h.
     let z = sizes h in
@@ -36,11 +18,4 @@ returns c = λ f d e h.
 pub push-parent-spec : {M : Type 1} → statement M
 push-parent-spec =
     tie.close
-    (tie.spec
-    places-part-requires
-    sub-push-parent
-    part-push-parent-start
-    part-push-parent-end
-    push-parent-requires
-    same-length
-    returns)
+    (tie.spec (λ c κs. search needs) (λ c. search needs) (λ c. search needs) (λ c. search needs) (λ c κs. search needs) (λ c. search needs) returns)

@@ -7,24 +7,6 @@ use borrow.Author.Needs.{needs}
 use Rattle.packages.proofs.flat.push_wtxid.Statement.{statement}
 use Rattle.packages.proofs.flat.push_wtxid.Tie as tie
 
-places-part-requires : tie.Need-places-part-requires
-places-part-requires c κs = search needs
-
-sub-push-wtxid : tie.Need-sub-push-wtxid
-sub-push-wtxid c = search needs
-
-part-push-wtxid-start : tie.Need-part-push-wtxid-start
-part-push-wtxid-start c = search needs
-
-part-push-wtxid-end : tie.Need-part-push-wtxid-end
-part-push-wtxid-end c = search needs
-
-push-wtxid-requires : tie.Need-push-wtxid-requires
-push-wtxid-requires c κs = search needs
-
-same-length : tie.Need-same-length
-same-length c = search needs
-
 returns : tie.Need-returns
 returns c = λ f d e h.
     let z = sizes h in
@@ -36,11 +18,4 @@ returns c = λ f d e h.
 pub push-wtxid-spec : {M : Type 1} → statement M
 push-wtxid-spec =
     tie.close
-    (tie.spec
-    places-part-requires
-    sub-push-wtxid
-    part-push-wtxid-start
-    part-push-wtxid-end
-    push-wtxid-requires
-    same-length
-    returns)
+    (tie.spec (λ c κs. search needs) (λ c. search needs) (λ c. search needs) (λ c. search needs) (λ c κs. search needs) (λ c. search needs) returns)

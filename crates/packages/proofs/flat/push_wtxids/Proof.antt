@@ -20,17 +20,11 @@ Inv-loop s₀ i list n j₀ s j = Filled s₀ s i (hashesIn list) j × (n ≡ le
 abbrev μ-loop : tie.MeasureT-loop
 μ-loop s₀ i list n j₀ s j = n - j
 
-hashes-requires : tie.Need-hashes-requires Inv-loop μ-loop
-hashes-requires c κs = search needs
-
 loop-holds : tie.Need-loop-holds Inv-loop μ-loop
 loop-holds c = (filled-none (c .before .before .before .args .i) (hashesIn (c .before .before .before .args .list .now)), c .hashes .ensures)
 
 hash-in-requires : tie.Need-hash-in-requires Inv-loop μ-loop
 hash-in-requires c κs = omega (arith, c .before .loop .inv .1, c .loop-test .taken)
-
-hash-quad-requires : tie.Need-hash-quad-requires Inv-loop μ-loop
-hash-quad-requires c κs = search needs
 
 push-wtxid-requires : tie.Need-push-wtxid-requires Inv-loop μ-loop
 push-wtxid-requires c κs = (
@@ -38,12 +32,6 @@ push-wtxid-requires c κs = (
   listed-inside (c .before .before .before .before .before .before .before .before .pre .0) (blank 0 0) (c .before .before .before .before .loop .inv .0 .turns),
   omega (arith, c .before .before .before .before .before .before .before .before .pre .1, c .before .before .before .before .loop .inv .1, c .before .before .before .loop-test .taken),
 )
-
-add-j : tie.Need-add-j Inv-loop μ-loop
-add-j c = search needs
-
-loop-less : tie.Need-loop-less Inv-loop μ-loop
-loop-less c = search needs
 
 loop-again : tie.Need-loop-again Inv-loop μ-loop
 loop-again c =
@@ -70,16 +58,5 @@ returns c =
 pub push-wtxids-spec : {M : Type 1} → statement M
 push-wtxids-spec =
     tie.close
-    (tie.spec
-    Inv-loop
-    μ-loop
-    hashes-requires
-    loop-holds
-    hash-in-requires
-    hash-quad-requires
-    push-wtxid-requires
-    add-j
-    loop-less
-    loop-again
-    same-length
-    returns)
+    (tie.spec Inv-loop μ-loop (λ c κs. search needs) loop-holds hash-in-requires (λ c κs. search needs) push-wtxid-requires (λ c. search needs)
+    (λ c. search needs) loop-again same-length returns)

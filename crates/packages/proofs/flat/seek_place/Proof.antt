@@ -7,24 +7,6 @@ use borrow.Author.Needs.{needs}
 use Rattle.packages.proofs.flat.seek_place.Statement.{statement}
 use Rattle.packages.proofs.flat.seek_place.Tie as tie
 
-held-places-requires : tie.Need-held-places-requires
-held-places-requires c κs = search needs
-
-places-part-requires : tie.Need-places-part-requires
-places-part-requires c κs = search needs
-
-sub-seek-place : tie.Need-sub-seek-place
-sub-seek-place c = search needs
-
-part-seek-place-start : tie.Need-part-seek-place-start
-part-seek-place-start c = search needs
-
-part-seek-place-end : tie.Need-part-seek-place-end
-part-seek-place-end c = search needs
-
-seek-place-requires : tie.Need-seek-place-requires
-seek-place-requires c κs = search needs
-
 returns : tie.Need-returns
 returns c = record {
   most = omega (arith, c .seek-place .ensures, c .before .before .before .held-places .ensures);
@@ -37,11 +19,4 @@ returns c = record {
 pub seek-place-spec : {M : Type 1} → statement M
 seek-place-spec =
     tie.close
-    (tie.spec
-    held-places-requires
-    places-part-requires
-    sub-seek-place
-    part-seek-place-start
-    part-seek-place-end
-    seek-place-requires
-    returns)
+    (tie.spec (λ c κs. search needs) (λ c κs. search needs) (λ c. search needs) (λ c. search needs) (λ c. search needs) (λ c κs. search needs) returns)

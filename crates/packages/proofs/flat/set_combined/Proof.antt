@@ -7,24 +7,6 @@ use borrow.Author.Needs.{needs}
 use Rattle.packages.proofs.flat.set_combined.Statement.{statement}
 use Rattle.packages.proofs.flat.set_combined.Tie as tie
 
-places-part-requires : tie.Need-places-part-requires
-places-part-requires c κs = search needs
-
-sub-set-combined : tie.Need-sub-set-combined
-sub-set-combined c = search needs
-
-part-set-combined-start : tie.Need-part-set-combined-start
-part-set-combined-start c = search needs
-
-part-set-combined-end : tie.Need-part-set-combined-end
-part-set-combined-end c = search needs
-
-set-combined-requires : tie.Need-set-combined-requires
-set-combined-requires c κs = search needs
-
-same-length : tie.Need-same-length
-same-length c = search needs
-
 returns : tie.Need-returns
 returns c = λ d f h.
     let z = sizes h in
@@ -36,11 +18,4 @@ returns c = λ d f h.
 pub set-combined-spec : {M : Type 1} → statement M
 set-combined-spec =
     tie.close
-    (tie.spec
-    places-part-requires
-    sub-set-combined
-    part-set-combined-start
-    part-set-combined-end
-    set-combined-requires
-    same-length
-    returns)
+    (tie.spec (λ c κs. search needs) (λ c. search needs) (λ c. search needs) (λ c. search needs) (λ c κs. search needs) (λ c. search needs) returns)

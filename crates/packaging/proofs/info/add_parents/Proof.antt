@@ -28,9 +28,6 @@ abbrev μ-loop : tie.MeasureT-loop
 absent : {r : Bool} {x y : ℕ} (l : List ℕ) → not r ≡ true → r ≡ elem y l → x ≡ y → elem x l ≡ false
 absent {r} l t e q = ap (λ (z : ℕ). elem z l) q ∙ sym e ∙ not-true r t
 
-hashes-requires : tie.Need-hashes-requires Inv-loop μ-loop
-hashes-requires c κs = search needs
-
 loop-holds : tie.Need-loop-holds Inv-loop μ-loop
 loop-holds c =
     let start : tie.Start Inv-loop μ-loop = c .before .before .before in
@@ -89,16 +86,5 @@ returns c =
 pub add-parents-spec : {M : Type 1} → statement M
 add-parents-spec =
     tie.close
-    (tie.spec
-    Inv-loop
-    μ-loop
-    hashes-requires
-    loop-holds
-    occurs-before-requires
-    hash-in-requires
-    add-parent-requires
-    add-i
-    loop-less
-    loop-again
-    same-length
-    returns)
+    (tie.spec Inv-loop μ-loop (λ c κs. search needs) loop-holds occurs-before-requires hash-in-requires add-parent-requires add-i loop-less loop-again
+    same-length returns)

@@ -11,18 +11,6 @@ use Rattle.packaging.proofs.Free.{owner-at, owned-first, owned-second, 
 use Rattle.packaging.proofs.info.may_own.Statement.{statement}
 use Rattle.packaging.proofs.info.may_own.Tie as tie
 
-txid-key-requires : tie.Need-txid-key-requires
-txid-key-requires c κs = search needs
-
-request-at-requires : tie.Need-request-at-requires
-request-at-requires c κs = search needs
-
-wtxid-key-requires : tie.Need-wtxid-key-requires
-wtxid-key-requires c κs = search needs
-
-request-at-requires-2 : tie.Need-request-at-requires-2
-request-at-requires-2 c κs = search needs
-
 returns : tie.Need-returns
 returns c = λ st s w.
     let start : tie.Start = c .before .before .before .before .before .before .before in
@@ -32,9 +20,6 @@ returns c = λ st s w.
     let b = owner-at (st .table) (c .before .before .before .wtxid-key .ensures) (c .before .before .request-at2 .ensures .is st s w) in
     ⊎-elim (λ z. owned-first st s (start .args .n) (hashNum h) small a b (z .taken) (ltb (ownedBy (start .args .n) (st .table)) maxInFlight))
     (λ z. owned-second st s (start .args .n) (hashNum h) small a b (eqb-false _ 0 (not-true _ (z .2 .taken))) (ltb (ownedBy (start .args .n) (st .table)) maxInFlight)) (c .if1 .came)
-
-figures-requires : tie.Need-figures-requires
-figures-requires c κs = search needs
 
 returns-2 : tie.Need-returns-2
 returns-2 c = λ st s w.
@@ -50,11 +35,4 @@ returns-2 c = λ st s w.
 pub may-own-spec : {M : Type 1} → statement M
 may-own-spec =
     tie.close
-    (tie.spec
-    txid-key-requires
-    request-at-requires
-    wtxid-key-requires
-    request-at-requires-2
-    returns
-    figures-requires
-    returns-2)
+    (tie.spec (λ c κs. search needs) (λ c κs. search needs) (λ c κs. search needs) (λ c κs. search needs) returns (λ c κs. search needs) returns-2)

@@ -7,9 +7,6 @@ use Rattle.packaging.proofs.Opening.{owned-kept, owned-place, opened-wr
 use Rattle.packaging.proofs.info.own_flagged.Statement.{statement}
 use Rattle.packaging.proofs.info.own_flagged.Tie as tie
 
-wtxid-key-requires : tie.Need-wtxid-key-requires
-wtxid-key-requires c κs = search needs
-
 add-own : tie.Need-add-own
 add-own c = let start : tie.Start = c .before .before .before in omega (arith, start .pre .2)
 
@@ -30,9 +27,6 @@ open-info-requires c κs =
           (key .result)) (key .ensures) (c .before .before .before .own .ensures) (g .writes) (start .pre .1),
     )
 
-same-length : tie.Need-same-length
-same-length c = search needs
-
 returns : tie.Need-returns
 returns c = λ st s w m.
     let start : tie.Start = c .before .before .before .before .before .before .before .before .before .before in
@@ -45,10 +39,4 @@ returns c = λ st s w m.
 pub own-flagged-spec : {M : Type 1} → statement M
 own-flagged-spec =
     tie.close
-    (tie.spec
-    wtxid-key-requires
-    add-own
-    own-requires
-    open-info-requires
-    same-length
-    returns)
+    (tie.spec (λ c κs. search needs) add-own own-requires open-info-requires (λ c. search needs) returns)

@@ -14,21 +14,12 @@ use Rattle.packaging.proofs.info.solicit_package_info.Tie as tie
 may-own-requires : tie.Need-may-own-requires
 may-own-requires c κs = let start : tie.Start = c .before .before .before in start .pre .0
 
-same-length : tie.Need-same-length
-same-length c = search needs
-
 returns : tie.Need-returns
 returns c =
     let start : tie.Start = c .before .before .before .before .before in
     let small = subject-below (start .args .subject) (start .good .1 .1 .0) in
     solicit-barred (start .args .n) (hashNum (start .args .subject .0)) (hashesIn (start .args .parents .now)) (start .args .clock) (record { positive = start .pre .1; small = omega arith }) small
     (start .pre .2) (c .before .may-own .ensures) (not-true _ (c .if1 .taken))
-
-wtxid-key-requires : tie.Need-wtxid-key-requires
-wtxid-key-requires c κs = search needs
-
-soliciting-requires : tie.Need-soliciting-requires
-soliciting-requires c κs = search needs
 
 announce-at-requires : tie.Need-announce-at-requires
 announce-at-requires c κs = let start : tie.Start = c .before .before .before .before .before .before .before .before in start .pre .0
@@ -47,9 +38,6 @@ holds-requires c κs =
     let a = as-soliciting n h (start .args .clock) (keyNum (key .result)) (candidateOf (c .before .before .before .before .soliciting .result)) (key .ensures)
     (c .before .before .before .before .soliciting .ensures) (c .before .before .before .announce-at .ensures) in
     announced-kept n h hs (start .args .clock) peer small (start .pre .2) may y a (start .pre .0)
-
-same-length-2 : tie.Need-same-length-2
-same-length-2 c = search needs
 
 returns-2 : tie.Need-returns-2
 returns-2 c =
@@ -110,9 +98,6 @@ add-parents-requires c κs =
       start .pre .3,
     )
 
-same-length-3 : tie.Need-same-length-3
-same-length-3 c = search needs
-
 returns-3 : tie.Need-returns-3
 returns-3 c =
     let start : tie.Start =
@@ -138,17 +123,5 @@ returns-3 c =
 pub solicit-package-info-spec : {M : Type 1} → statement M
 solicit-package-info-spec =
     tie.close
-    (tie.spec
-    may-own-requires
-    same-length
-    returns
-    wtxid-key-requires
-    soliciting-requires
-    announce-at-requires
-    holds-requires
-    same-length-2
-    returns-2
-    own-flagged-requires
-    add-parents-requires
-    same-length-3
-    returns-3)
+    (tie.spec may-own-requires (λ c. search needs) returns (λ c κs. search needs) (λ c κs. search needs) announce-at-requires holds-requires
+    (λ c. search needs) returns-2 own-flagged-requires add-parents-requires (λ c. search needs) returns-3)

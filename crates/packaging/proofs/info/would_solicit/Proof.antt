@@ -12,19 +12,10 @@ use Rattle.packaging.proofs.Entered.{reply-barred, reply-held, reply-ne
 use Rattle.packaging.proofs.info.would_solicit.Statement.{statement}
 use Rattle.packaging.proofs.info.would_solicit.Tie as tie
 
-may-own-requires : tie.Need-may-own-requires
-may-own-requires c κs = search needs
-
 returns : tie.Need-returns
 returns c = λ hs st s w.
     let start : tie.Start = c .before .before .before in
     reply-barred (limitsOf st) (start .args .n) (hashNum (start .args .subject .0)) hs (start .args .clock) (st .table) (sym (c .before .may-own .ensures st s w) ∙ not-true _ (c .if1 .taken))
-
-wtxid-key-requires : tie.Need-wtxid-key-requires
-wtxid-key-requires c κs = search needs
-
-holds-requires : tie.Need-holds-requires
-holds-requires c κs = search needs
 
 returns-2 : tie.Need-returns-2
 returns-2 c = λ hs st s w.
@@ -33,12 +24,6 @@ returns-2 c = λ hs st s w.
     let here = ap (λ (k : Key). has n ((at k (st .table)) .candidates)) (c .before .before .wtxid-key .ensures) in
     reply-held (limitsOf st) n (hashNum (start .args .subject .0)) hs (start .args .clock) (st .table)
     (sym (c .before .before .before .before .may-own .ensures st s w) ∙ not-false _ (c .before .before .before .if1 .left)) (sym here ∙ sym (c .before .holds .ensures st s w) ∙ c .if2 .taken)
-
-soliciting-requires : tie.Need-soliciting-requires
-soliciting-requires c κs = search needs
-
-would-announce-requires : tie.Need-would-announce-requires
-would-announce-requires c κs = search needs
 
 returns-3 : tie.Need-returns-3
 returns-3 c = λ hs st s w.
@@ -55,12 +40,5 @@ returns-3 c = λ hs st s w.
 pub would-solicit-spec : {M : Type 1} → statement M
 would-solicit-spec =
     tie.close
-    (tie.spec
-    may-own-requires
-    returns
-    wtxid-key-requires
-    holds-requires
-    returns-2
-    soliciting-requires
-    would-announce-requires
+    (tie.spec (λ c κs. search needs) returns (λ c κs. search needs) (λ c κs. search needs) returns-2 (λ c κs. search needs) (λ c κs. search needs)
     returns-3)

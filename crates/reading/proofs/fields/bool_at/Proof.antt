@@ -13,29 +13,8 @@ use Rattle.reading.proofs.fields.bool_at.Tie as tie
 returns : tie.Need-returns
 returns c = taking-past boolOf (c .before .before .args .line .now) (c .before .before .args .e) (c .if1 .taken)
 
-add-from : tie.Need-add-from
-add-from c = search needs
-
-field-end-requires : tie.Need-field-end-requires
-field-end-requires c κs = search needs
-
-sub-boolean : tie.Need-sub-boolean
-sub-boolean c = search needs
-
-part-boolean-start : tie.Need-part-boolean-start
-part-boolean-start c = search needs
-
 part-boolean-end : tie.Need-part-boolean-end
 part-boolean-end c = omega (arith, end-most 44 (c .before .before .before .args .line .now) _ (omega arith) (c .field-end .ensures))
-
-boolean-requires : tie.Need-boolean-requires
-boolean-requires c κs = search needs
-
-enum-known-b : tie.Need-enum-known-b
-enum-known-b c = search needs
-
-enum-told : tie.Need-enum-told
-enum-told c = search needs
 
 returns-2 : tie.Need-returns-2
 returns-2 c =
@@ -51,15 +30,5 @@ returns-3 c =
 pub bool-at-spec : {M : Type 1} → statement M
 bool-at-spec =
     tie.close
-    (tie.spec
-    returns
-    add-from
-    field-end-requires
-    sub-boolean
-    part-boolean-start
-    part-boolean-end
-    boolean-requires
-    enum-known-b
-    enum-told
-    returns-2
-    returns-3)
+    (tie.spec returns (λ c. search needs) (λ c κs. search needs) (λ c. search needs) (λ c. search needs) part-boolean-end (λ c κs. search needs)
+    (λ c. search needs) (λ c. search needs) returns-2 returns-3)

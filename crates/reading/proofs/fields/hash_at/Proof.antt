@@ -13,29 +13,8 @@ use Rattle.reading.proofs.fields.hash_at.Tie as tie
 returns : tie.Need-returns
 returns c = taking-past hashOf (c .before .before .args .line .now) (c .before .before .args .e) (c .if1 .taken)
 
-add-from : tie.Need-add-from
-add-from c = search needs
-
-field-end-requires : tie.Need-field-end-requires
-field-end-requires c κs = search needs
-
-sub-hash : tie.Need-sub-hash
-sub-hash c = search needs
-
-part-hash-start : tie.Need-part-hash-start
-part-hash-start c = search needs
-
 part-hash-end : tie.Need-part-hash-end
 part-hash-end c = omega (arith, end-most 44 (c .before .before .before .args .line .now) _ (omega arith) (c .field-end .ensures))
-
-hash-requires : tie.Need-hash-requires
-hash-requires c κs = search needs
-
-enum-known-q : tie.Need-enum-known-q
-enum-known-q c = search needs
-
-enum-told : tie.Need-enum-told
-enum-told c = search needs
 
 returns-2 : tie.Need-returns-2
 returns-2 c =
@@ -51,15 +30,5 @@ returns-3 c =
 pub hash-at-spec : {M : Type 1} → statement M
 hash-at-spec =
     tie.close
-    (tie.spec
-    returns
-    add-from
-    field-end-requires
-    sub-hash
-    part-hash-start
-    part-hash-end
-    hash-requires
-    enum-known-q
-    enum-told
-    returns-2
-    returns-3)
+    (tie.spec returns (λ c. search needs) (λ c κs. search needs) (λ c. search needs) (λ c. search needs) part-hash-end (λ c κs. search needs)
+    (λ c. search needs) (λ c. search needs) returns-2 returns-3)

@@ -13,29 +13,8 @@ use Rattle.reading.proofs.fields.item_at.Tie as tie
 returns : tie.Need-returns
 returns c = taking-past itemOf (c .before .before .args .line .now) (c .before .before .args .e) (c .if1 .taken)
 
-add-from : tie.Need-add-from
-add-from c = search needs
-
-field-end-requires : tie.Need-field-end-requires
-field-end-requires c κs = search needs
-
-sub-item : tie.Need-sub-item
-sub-item c = search needs
-
-part-item-start : tie.Need-part-item-start
-part-item-start c = search needs
-
 part-item-end : tie.Need-part-item-end
 part-item-end c = omega (arith, end-most 44 (c .before .before .before .args .line .now) _ (omega arith) (c .field-end .ensures))
-
-item-requires : tie.Need-item-requires
-item-requires c κs = search needs
-
-enum-known-k : tie.Need-enum-known-k
-enum-known-k c = search needs
-
-enum-told : tie.Need-enum-told
-enum-told c = search needs
 
 returns-2 : tie.Need-returns-2
 returns-2 c =
@@ -51,15 +30,5 @@ returns-3 c =
 pub item-at-spec : {M : Type 1} → statement M
 item-at-spec =
     tie.close
-    (tie.spec
-    returns
-    add-from
-    field-end-requires
-    sub-item
-    part-item-start
-    part-item-end
-    item-requires
-    enum-known-k
-    enum-told
-    returns-2
-    returns-3)
+    (tie.spec returns (λ c. search needs) (λ c κs. search needs) (λ c. search needs) (λ c. search needs) part-item-end (λ c κs. search needs)
+    (λ c. search needs) (λ c. search needs) returns-2 returns-3)

@@ -13,29 +13,8 @@ use Rattle.reading.proofs.fields.key_at.Tie as tie
 returns : tie.Need-returns
 returns c = taking-past keyOf (c .before .before .args .line .now) (c .before .before .args .e) (c .if1 .taken)
 
-add-from : tie.Need-add-from
-add-from c = search needs
-
-field-end-requires : tie.Need-field-end-requires
-field-end-requires c κs = search needs
-
-sub-key : tie.Need-sub-key
-sub-key c = search needs
-
-part-key-start : tie.Need-part-key-start
-part-key-start c = search needs
-
 part-key-end : tie.Need-part-key-end
 part-key-end c = omega (arith, end-most 44 (c .before .before .before .args .line .now) _ (omega arith) (c .field-end .ensures))
-
-key-requires : tie.Need-key-requires
-key-requires c κs = search needs
-
-enum-known-k : tie.Need-enum-known-k
-enum-known-k c = search needs
-
-enum-told : tie.Need-enum-told
-enum-told c = search needs
 
 returns-2 : tie.Need-returns-2
 returns-2 c =
@@ -51,15 +30,5 @@ returns-3 c =
 pub key-at-spec : {M : Type 1} → statement M
 key-at-spec =
     tie.close
-    (tie.spec
-    returns
-    add-from
-    field-end-requires
-    sub-key
-    part-key-start
-    part-key-end
-    key-requires
-    enum-known-k
-    enum-told
-    returns-2
-    returns-3)
+    (tie.spec returns (λ c. search needs) (λ c κs. search needs) (λ c. search needs) (λ c. search needs) part-key-end (λ c κs. search needs)
+    (λ c. search needs) (λ c. search needs) returns-2 returns-3)

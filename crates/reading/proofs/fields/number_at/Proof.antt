@@ -13,29 +13,8 @@ use Rattle.reading.proofs.fields.number_at.Tie as tie
 returns : tie.Need-returns
 returns c = taking-past numberOf (c .before .before .args .line .now) (c .before .before .args .e) (c .if1 .taken)
 
-add-from : tie.Need-add-from
-add-from c = search needs
-
-field-end-requires : tie.Need-field-end-requires
-field-end-requires c κs = search needs
-
-sub-number : tie.Need-sub-number
-sub-number c = search needs
-
-part-number-start : tie.Need-part-number-start
-part-number-start c = search needs
-
 part-number-end : tie.Need-part-number-end
 part-number-end c = omega (arith, end-most 44 (c .before .before .before .args .line .now) _ (omega arith) (c .field-end .ensures))
-
-number-requires : tie.Need-number-requires
-number-requires c κs = search needs
-
-enum-known-n : tie.Need-enum-known-n
-enum-known-n c = search needs
-
-enum-told : tie.Need-enum-told
-enum-told c = search needs
 
 returns-2 : tie.Need-returns-2
 returns-2 c =
@@ -51,15 +30,5 @@ returns-3 c =
 pub number-at-spec : {M : Type 1} → statement M
 number-at-spec =
     tie.close
-    (tie.spec
-    returns
-    add-from
-    field-end-requires
-    sub-number
-    part-number-start
-    part-number-end
-    number-requires
-    enum-known-n
-    enum-told
-    returns-2
-    returns-3)
+    (tie.spec returns (λ c. search needs) (λ c κs. search needs) (λ c. search needs) (λ c. search needs) part-number-end (λ c κs. search needs)
+    (λ c. search needs) (λ c. search needs) returns-2 returns-3)

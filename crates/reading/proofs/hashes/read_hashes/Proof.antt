@@ -29,15 +29,6 @@ loop-holds c = (
       (none-stored hashBytes (number 256) (c .before .before .args .hashes .now)),
 )
 
-hash-at-requires : tie.Need-hash-at-requires Inv-loop μ-loop
-hash-at-requires c κs = search needs
-
-enum-known-q : tie.Need-enum-known-q Inv-loop μ-loop
-enum-known-q c = search needs
-
-enum-told : tie.Need-enum-told Inv-loop μ-loop
-enum-told c = search needs
-
 same-length : tie.Need-same-length Inv-loop μ-loop
 same-length c = c .before .before .before .before .loop .inv .1
 
@@ -47,12 +38,6 @@ returns c = record { is = no-element (c .before .before .before .before .loop .i
 put-hash-requires : tie.Need-put-hash-requires Inv-loop μ-loop
 put-hash-requires c κs =
     (omega arith, omega (arith, c .before .before .before .before .before .before .loop .inv .1, c .before .before .before .before .before .before .before .before .before .pre .1))
-
-add-i : tie.Need-add-i Inv-loop μ-loop
-add-i c = search needs
-
-loop-less : tie.Need-loop-less Inv-loop μ-loop
-loop-less c = search needs
 
 loop-again : tie.Need-loop-again Inv-loop μ-loop
 loop-again c = (
@@ -72,18 +57,5 @@ returns-2 c = record { is = (let e : c .before .loop .i ≡ c .before .before .b
 pub read-hashes-spec : {M : Type 1} → statement M
 read-hashes-spec =
     tie.close
-    (tie.spec
-    Inv-loop
-    μ-loop
-    loop-holds
-    hash-at-requires
-    enum-known-q
-    enum-told
-    same-length
-    returns
-    put-hash-requires
-    add-i
-    loop-less
-    loop-again
-    same-length-2
-    returns-2)
+    (tie.spec Inv-loop μ-loop loop-holds (λ c κs. search needs) (λ c. search needs) (λ c. search needs) same-length returns put-hash-requires
+    (λ c. search needs) (λ c. search needs) loop-again same-length-2 returns-2)

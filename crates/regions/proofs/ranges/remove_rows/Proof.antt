@@ -11,51 +11,6 @@ use borrow.Author.Needs.{needs}
 use Rattle.regions.proofs.ranges.remove_rows.Statement.{statement}
 use Rattle.regions.proofs.ranges.remove_rows.Tie as tie
 
-sub-d : tie.Need-sub-d
-sub-d c = search needs
-
-mul-by : tie.Need-mul-by
-mul-by c = search needs
-
-mul-gap : tie.Need-mul-gap
-mul-gap c = search needs
-
-mul-end : tie.Need-mul-end
-mul-end c = search needs
-
-sub-end : tie.Need-sub-end
-sub-end c = search needs
-
-mul-x : tie.Need-mul-x
-mul-x c = search needs
-
-add-y : tie.Need-add-y
-add-y c = search needs
-
-mul-y : tie.Need-mul-y
-mul-y c = search needs
-
-sub-rows-down-by : tie.Need-sub-rows-down-by
-sub-rows-down-by c = search needs
-
-part-rows-down-by-start : tie.Need-part-rows-down-by-start
-part-rows-down-by-start c = search needs
-
-part-rows-down-by-end : tie.Need-part-rows-down-by-end
-part-rows-down-by-end c = search needs
-
-sub-rows-down-by-2 : tie.Need-sub-rows-down-by-2
-sub-rows-down-by-2 c = search needs
-
-rows-down-by-requires : tie.Need-rows-down-by-requires
-rows-down-by-requires c κs = search needs
-
-clear-requires : tie.Need-clear-requires
-clear-requires c κs = search needs
-
-same-length : tie.Need-same-length
-same-length c = search needs
-
 returns : tie.Need-returns
 unfolding rowWords
 returns c =
@@ -73,20 +28,6 @@ returns c =
 pub remove-rows-spec : {M : Type 1} → statement M
 remove-rows-spec =
     tie.close
-    (tie.spec
-    sub-d
-    mul-by
-    mul-gap
-    mul-end
-    sub-end
-    mul-x
-    add-y
-    mul-y
-    sub-rows-down-by
-    part-rows-down-by-start
-    part-rows-down-by-end
-    sub-rows-down-by-2
-    rows-down-by-requires
-    clear-requires
-    same-length
-    returns)
+    (tie.spec (λ c. search needs) (λ c. search needs) (λ c. search needs) (λ c. search needs) (λ c. search needs) (λ c. search needs)
+    (λ c. search needs) (λ c. search needs) (λ c. search needs) (λ c. search needs) (λ c. search needs) (λ c. search needs) (λ c κs. search needs)
+    (λ c κs. search needs) (λ c. search needs) returns)

@@ -28,12 +28,6 @@ count-out-requires : tie.Need-count-out-requires Inv-loop μ-loop
 count-out-requires c κs = out-shown (c .before .before .before .before .before .before .before .pre .0) (c .before .before .before .before .before .loop .inv)
     (c .before .before .before .before .before .before .before .pre .2)
 
-add-i : tie.Need-add-i Inv-loop μ-loop
-add-i c = search needs
-
-loop-less : tie.Need-loop-less Inv-loop μ-loop
-loop-less c = search needs
-
 loop-again : tie.Need-loop-again Inv-loop μ-loop
 loop-again c = one-out (c .before .before .before .before .before .before .before .before .before .before .pre .0) (c .before .before .before .before .before .before .before .before .loop .inv)
     (c .before .before .before .before .before .before .before .before .before .before .pre .2) (c .before .before .before .before .before .before .before .loop-test .taken)
@@ -51,14 +45,4 @@ returns c = λ st s w.
 pub count-out-rows-spec : {M : Type 1} → statement M
 count-out-rows-spec =
     tie.close
-    (tie.spec
-    Inv-loop
-    μ-loop
-    loop-holds
-    row-at-requires
-    count-out-requires
-    add-i
-    loop-less
-    loop-again
-    same-length
-    returns)
+    (tie.spec Inv-loop μ-loop loop-holds row-at-requires count-out-requires (λ c. search needs) (λ c. search needs) loop-again same-length returns)

@@ -5,21 +5,9 @@ use borrow.Author.Needs.{needs}
 use Rattle.requests.proofs.whole.drop_all.Statement.{statement}
 use Rattle.requests.proofs.whole.drop_all.Tie as tie
 
-key-words-requires : tie.Need-key-words-requires
-key-words-requires c κs = search needs
-
-window-of-requires : tie.Need-window-of-requires
-window-of-requires c κs = search needs
-
-count-out-rows-requires : tie.Need-count-out-rows-requires
-count-out-rows-requires c κs = search needs
-
 drop-rows-requires : tie.Need-drop-rows-requires
 drop-rows-requires c κs = all-out (c .before .before .before .before .before .before .before .before .before .pre) (c .before .before .before .before .before .window-of .ensures .order)
     (c .before .before .before .before .before .window-of .ensures .most) (c .before .before .before .count-out-rows .kept .0) (c .before .before .before .count-out-rows .ensures)
-
-same-length : tie.Need-same-length
-same-length c = search needs
 
 returns : tie.Need-returns
 returns c = λ st s w free.
@@ -32,10 +20,4 @@ returns c = λ st s w free.
 pub drop-all-spec : {M : Type 1} → statement M
 drop-all-spec =
     tie.close
-    (tie.spec
-    key-words-requires
-    window-of-requires
-    count-out-rows-requires
-    drop-rows-requires
-    same-length
-    returns)
+    (tie.spec (λ c κs. search needs) (λ c κs. search needs) (λ c κs. search needs) drop-rows-requires (λ c. search needs) returns)

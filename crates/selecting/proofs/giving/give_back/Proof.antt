@@ -41,9 +41,6 @@ row-at-requires c κs =
     let less : j < c .before .before .before .before .before .before .args .n = omega (arith, c .before .before .before .loop .inv .0, c .before .before .loop-test .taken) in
     (kept-shown (back-kept (w .sound) (w .marks) j next less g), back-inside (w .sound) (w .marks) j next less g)
 
-key-of-requires : tie.Need-key-of-requires Inv-loop μ-loop
-key-of-requires c κs = search needs
-
 disown-requires : tie.Need-disown-requires Inv-loop μ-loop
 disown-requires c κs =
     let w = c .before .before .before .before .before .before .before .before .before .pre .0 in
@@ -81,17 +78,5 @@ returns c = λ now st l s m.
 pub give-back-spec : {M : Type 1} → statement M
 give-back-spec =
     tie.close
-    (tie.spec
-    Inv-loop
-    μ-loop
-    loop-holds
-    sub-j
-    mul-i
-    shared-slice-read-i
-    row-at-requires
-    key-of-requires
-    disown-requires
-    loop-less
-    loop-again
-    same-length
-    returns)
+    (tie.spec Inv-loop μ-loop loop-holds sub-j mul-i shared-slice-read-i row-at-requires (λ c κs. search needs) disown-requires loop-less loop-again
+    same-length returns)

@@ -41,9 +41,6 @@ row-at-requires c κs = (
       (c .before .loop-test .taken),
 )
 
-entry-of-requires : tie.Need-entry-of-requires Inv-loop μ-loop
-entry-of-requires c κs = search needs
-
 put-entry-requires : tie.Need-put-entry-requires Inv-loop μ-loop
 put-entry-requires c κs = omega (
   arith,
@@ -85,17 +82,5 @@ returns c = λ f l w q g.
 pub put-entries-spec : {M : Type 1} → statement M
 put-entries-spec =
     tie.close
-    (tie.spec
-    Inv-loop
-    μ-loop
-    loop-holds
-    mul-i
-    shared-slice-read-i
-    row-at-requires
-    entry-of-requires
-    put-entry-requires
-    add-j
-    loop-less
-    loop-again
-    same-length
-    returns)
+    (tie.spec Inv-loop μ-loop loop-holds mul-i shared-slice-read-i row-at-requires (λ c κs. search needs) put-entry-requires add-j loop-less
+    loop-again same-length returns)

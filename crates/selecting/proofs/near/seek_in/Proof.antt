@@ -20,38 +20,8 @@ Inv-loop s n k after guess lo₀ hi₀ step₀ lo hi step = Searching (recs rowS
 abbrev μ-loop : tie.MeasureT-loop
 μ-loop s n k after guess lo₀ hi₀ step₀ lo hi step = hi - lo
 
-begin-at-requires : tie.Need-begin-at-requires Inv-loop μ-loop
-begin-at-requires c κs = search needs
-
 loop-holds : tie.Need-loop-holds Inv-loop μ-loop
 loop-holds c = begins (length-recs rowSize rowKey (c .before .before .args .n) (words (c .before .before .args .s .now))) (c .begin-at .ensures)
-
-sub-ahead : tie.Need-sub-ahead Inv-loop μ-loop
-sub-ahead c = search needs
-
-ahead-requires : tie.Need-ahead-requires Inv-loop μ-loop
-ahead-requires c κs = search needs
-
-add-mid : tie.Need-add-mid Inv-loop μ-loop
-add-mid c = search needs
-
-key-at-requires : tie.Need-key-at-requires Inv-loop μ-loop
-key-at-requires c κs = search needs
-
-falls-short-requires : tie.Need-falls-short-requires Inv-loop μ-loop
-falls-short-requires c κs = search needs
-
-add-lo : tie.Need-add-lo Inv-loop μ-loop
-add-lo c = search needs
-
-mul-step : tie.Need-mul-step Inv-loop μ-loop
-mul-step c = search needs
-
-add-step : tie.Need-add-step Inv-loop μ-loop
-add-step c = search needs
-
-loop-less : tie.Need-loop-less Inv-loop μ-loop
-loop-less c = search needs
 
 loop-again : tie.Need-loop-again Inv-loop μ-loop
 loop-again c =
@@ -60,9 +30,6 @@ loop-again c =
     let met = c .before .before .key-at in
     let h = rw (met .ensures) at (ltb-true (keyNumber (met .result)) (keyNumber (a .k) + one (a .after)) (sym (c .before .falls-short .ensures) ∙ c .if1 .taken)) in
     search-up (c .before .before .before .before .before .loop .inv) m (omega arith) (omega arith) (rw (row-key-at (words (a .s .now)) (a .n) m (omega arith)) h)
-
-loop-less-2 : tie.Need-loop-less-2 Inv-loop μ-loop
-loop-less-2 c = search needs
 
 loop-again-2 : tie.Need-loop-again-2 Inv-loop μ-loop
 loop-again-2 c =
@@ -78,21 +45,6 @@ returns c = search-end (c .before .loop .inv) (c .loop-test .left)
 pub seek-in-spec : {M : Type 1} → statement M
 seek-in-spec =
     tie.close
-    (tie.spec
-    Inv-loop
-    μ-loop
-    begin-at-requires
-    loop-holds
-    sub-ahead
-    ahead-requires
-    add-mid
-    key-at-requires
-    falls-short-requires
-    add-lo
-    mul-step
-    add-step
-    loop-less
-    loop-again
-    loop-less-2
-    loop-again-2
+    (tie.spec Inv-loop μ-loop (λ c κs. search needs) loop-holds (λ c. search needs) (λ c κs. search needs) (λ c. search needs) (λ c κs. search needs)
+    (λ c κs. search needs) (λ c. search needs) (λ c. search needs) (λ c. search needs) (λ c. search needs) loop-again (λ c. search needs) loop-again-2
     returns)

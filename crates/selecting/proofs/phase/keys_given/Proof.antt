@@ -20,9 +20,6 @@ Inv-loop s₀ clock given picks₀ count w₀ i₀ s picks w i = (i ≤ length g
 abbrev μ-loop : tie.MeasureT-loop
 μ-loop s₀ clock given picks₀ count w₀ i₀ s picks w i = length given / keyBytes - i
 
-keys-requires : tie.Need-keys-requires Inv-loop μ-loop
-keys-requires c κs = search needs
-
 loop-holds : tie.Need-loop-holds Inv-loop μ-loop
 loop-holds c = (
   omega arith,
@@ -102,19 +99,5 @@ returns-2 c = scans-as (c .before .loop .inv .3) (λ st. []) _ (c .before .loop 
 pub keys-given-spec : {M : Type 1} → statement M
 keys-given-spec =
     tie.close
-    (tie.spec
-    Inv-loop
-    μ-loop
-    keys-requires
-    loop-holds
-    same-length
-    same-length-2
-    returns
-    key-in-requires
-    consider-requires
-    add-i
-    loop-less
-    loop-again
-    same-length-3
-    same-length-4
-    returns-2)
+    (tie.spec Inv-loop μ-loop (λ c κs. search needs) loop-holds same-length same-length-2 returns key-in-requires consider-requires add-i loop-less
+    loop-again same-length-3 same-length-4 returns-2)

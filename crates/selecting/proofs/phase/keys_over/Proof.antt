@@ -64,9 +64,6 @@ ends-key-requires c κs =
     let start = turn .before .before .before in
     let x = turn .loop .inv .3 in (kept-shown (x .kept), omega (arith, inside .loop-test .taken), omega (arith, x .rows-same, start .pre .4 .1))
 
-key-of-requires : tie.Need-key-of-requires Inv-loop μ-loop
-key-of-requires c κs = search needs
-
 consider-next-requires : tie.Need-consider-next-requires Inv-loop μ-loop
 consider-next-requires c κs =
     let onward = c .before .before .before .before .before .before .before .before in
@@ -152,22 +149,5 @@ returns-2 c =
 pub keys-over-spec : {M : Type 1} → statement M
 keys-over-spec =
     tie.close
-    (tie.spec
-    Inv-loop
-    μ-loop
-    loop-holds
-    same-length
-    same-length-2
-    returns
-    row-at-requires
-    add-i
-    ends-key-requires
-    key-of-requires
-    consider-next-requires
-    loop-less
-    loop-again
-    loop-less-2
-    loop-again-2
-    same-length-3
-    same-length-4
-    returns-2)
+    (tie.spec Inv-loop μ-loop loop-holds same-length same-length-2 returns row-at-requires add-i ends-key-requires (λ c κs. search needs)
+    consider-next-requires loop-less loop-again loop-less-2 loop-again-2 same-length-3 same-length-4 returns-2)

@@ -12,14 +12,8 @@ use Rattle.selecting.proofs.phase.phase_round.Tie as tie
 cursor-at-requires : tie.Need-cursor-at-requires
 cursor-at-requires c κs = let z = kept-shown (c .before .before .before .pre .0) .sizes in omega arith
 
-after-cursor-requires : tie.Need-after-cursor-requires
-after-cursor-requires c κs = search needs
-
 rows-requires : tie.Need-rows-requires
 rows-requires c κs = let z = kept-shown (c .before .before .before .before .before .before .before .pre .0) .sizes in omega arith
-
-opened-requires : tie.Need-opened-requires
-opened-requires c κs = search needs
 
 keys-over-requires : tie.Need-keys-over-requires
 keys-over-requires c κs =
@@ -54,12 +48,6 @@ keys-over-requires-2 c κs =
       omega (arith, n, e, f, w .near, c .before .before .before .before .before .before .before .before .before .before .before .before .before .before .before .before .before .before .pre .4),
     )
 
-same-length : tie.Need-same-length
-same-length c = search needs
-
-same-length-2 : tie.Need-same-length-2
-same-length-2 c = search needs
-
 returns : tie.Need-returns
 returns c = round-phased (c .before .before .before .before .before .before .before .before .before .before .before .before .before .before .before .before .before .before .before .cursor-at
     .result) (c .before .before .before .before .before .before .before .before .before .before .before .before .before .before .before .before .before .before .before .cursor-at .ensures)
@@ -71,13 +59,5 @@ returns c = round-phased (c .before .before .before .before .before .before .bef
 pub phase-round-spec : {M : Type 1} → statement M
 phase-round-spec =
     tie.close
-    (tie.spec
-    cursor-at-requires
-    after-cursor-requires
-    rows-requires
-    opened-requires
-    keys-over-requires
-    keys-over-requires-2
-    same-length
-    same-length-2
-    returns)
+    (tie.spec cursor-at-requires (λ c κs. search needs) rows-requires (λ c κs. search needs) keys-over-requires keys-over-requires-2
+    (λ c. search needs) (λ c. search needs) returns)

@@ -8,9 +8,6 @@ use Rattle.sending.proofs.Witnessed.{looked-up, stays-other, stays-unma
 use Rattle.sending.proofs.witness.for_witness.Statement.{statement}
 use Rattle.sending.proofs.witness.for_witness.Tie as tie
 
-is-transaction-requires : tie.Need-is-transaction-requires
-is-transaction-requires c κs = search needs
-
 returns : tie.Need-returns
 returns c =
     let a = c .before .before .before .before .before .before .args in
@@ -19,9 +16,6 @@ returns c =
       entry = λ st s w. stays-other (words (a .witnesses .now)) (st .table) (entryOf (a .e)) (sym (k .ensures) ∙ not-true (k .result) (c .if1 .taken));
       known = c .before .before .before .before .before .before .pre .1;
     }
-
-marked-requires : tie.Need-marked-requires
-marked-requires c κs = search needs
 
 returns-2 : tie.Need-returns-2
 returns-2 c =
@@ -32,9 +26,6 @@ returns-2 c =
       entry = λ st s w. stays-unmarked (words (a .witnesses .now)) (st .table) (entryOf (a .e)) (sym (not-true (m .result) (c .if2 .taken)) ∙ m .ensures st s w);
       known = start .pre .1;
     }
-
-look-up-requires : tie.Need-look-up-requires
-look-up-requires c κs = search needs
 
 returns-3 : tie.Need-returns-3
 returns-3 c =
@@ -63,11 +54,4 @@ returns-4 c =
 pub for-witness-spec : {M : Type 1} → statement M
 for-witness-spec =
     tie.close
-    (tie.spec
-    is-transaction-requires
-    returns
-    marked-requires
-    returns-2
-    look-up-requires
-    returns-3
-    returns-4)
+    (tie.spec (λ c κs. search needs) returns (λ c κs. search needs) returns-2 (λ c κs. search needs) returns-3 returns-4)

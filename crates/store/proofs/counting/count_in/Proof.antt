@@ -8,12 +8,6 @@ use borrow.Author.Needs.{needs}
 use Rattle.store.proofs.counting.count_in.Statement.{statement}
 use Rattle.store.proofs.counting.count_in.Tie as tie
 
-seek-conn-requires : tie.Need-seek-conn-requires
-seek-conn-requires c κs = search needs
-
-is-entry-requires : tie.Need-is-entry-requires
-is-entry-requires c κs = search needs
-
 conn-at-requires : tie.Need-conn-at-requires
 conn-at-requires c κs = (c .before .before .before .before .before .before .before .pre .0, c .before .before .is-entry .ensures .inside (c .before .if1 .taken))
 
@@ -32,12 +26,6 @@ set-conn-requires c κs = (
   c .before .before .before .before .before .is-entry .ensures .inside (c .before .before .before .before .if1 .taken),
 )
 
-add-conn-requires : tie.Need-add-conn-requires
-add-conn-requires c κs = search needs
-
-same-length : tie.Need-same-length
-same-length c = search needs
-
 returns : tie.Need-returns
 returns c = λ f so h.
     let d = fresh 0 0 in
@@ -49,9 +37,6 @@ returns c = λ f so h.
     let k = c .before .before .before .before .before .conn-at .ensures f d h in
     counted-in f bd d l e _ k (c .before .before .set-conn .ensures f h)
 
-same-length-2 : tie.Need-same-length-2
-same-length-2 c = search needs
-
 returns-2 : tie.Need-returns-2
 returns-2 c = λ f so h.
     let d = fresh 0 0 in
@@ -61,14 +46,5 @@ returns-2 c = λ f so h.
 pub count-in-spec : {M : Type 1} → statement M
 count-in-spec =
     tie.close
-    (tie.spec
-    seek-conn-requires
-    is-entry-requires
-    conn-at-requires
-    add-t14
-    set-conn-requires
-    add-conn-requires
-    same-length
-    returns
-    same-length-2
-    returns-2)
+    (tie.spec (λ c κs. search needs) (λ c κs. search needs) conn-at-requires add-t14 set-conn-requires (λ c κs. search needs) (λ c. search needs)
+    returns (λ c. search needs) returns-2)

@@ -8,12 +8,6 @@ use borrow.Author.Needs.{needs}
 use Rattle.store.proofs.counting.count_out.Statement.{statement}
 use Rattle.store.proofs.counting.count_out.Tie as tie
 
-seek-conn-requires : tie.Need-seek-conn-requires
-seek-conn-requires c κs = search needs
-
-is-entry-requires : tie.Need-is-entry-requires
-is-entry-requires c κs = search needs
-
 conn-at-requires : tie.Need-conn-at-requires
 conn-at-requires c κs = (c .before .before .before .before .before .before .before .pre, c .before .before .is-entry .ensures .inside (c .before .if1 .taken))
 
@@ -23,20 +17,11 @@ drop-conn-requires c κs = (
   c .before .before .before .before .before .before .is-entry .ensures .inside (c .before .before .before .before .before .if1 .taken),
 )
 
-less-requires : tie.Need-less-requires
-less-requires c κs = search needs
-
-less-requires-2 : tie.Need-less-requires-2
-less-requires-2 c κs = search needs
-
 set-conn-requires : tie.Need-set-conn-requires
 set-conn-requires c κs = (
   c .before .before .before .before .before .before .before .before .before .before .before .before .before .pre,
   c .before .before .before .before .before .before .before .before .is-entry .ensures .inside (c .before .before .before .before .before .before .before .if1 .taken),
 )
-
-same-length : tie.Need-same-length
-same-length c = search needs
 
 returns : tie.Need-returns
 returns c = λ f so h.
@@ -51,9 +36,6 @@ returns c = λ f so h.
     let k = c .before .before .before .before .before .before .conn-at .ensures f d h in
     counted-last f bd d l e _ k (c .before .before .before .before .before .before .before .before .before .before .before .before .before .before .args .o)
     (c .before .before .before .before .if2 .taken) (c .before .before .drop-conn .ensures f h)
-
-same-length-2 : tie.Need-same-length-2
-same-length-2 c = search needs
 
 returns-2 : tie.Need-returns-2
 returns-2 c = λ f so h.
@@ -73,9 +55,6 @@ returns-2 c = λ f so h.
     (c .before .before .before .before .before .before .if2 .left)
     (rw (c .before .before .before .before .before .less .ensures, c .before .before .before .before .less2 .ensures) at (c .before .before .set-conn .ensures f h))
 
-same-length-3 : tie.Need-same-length-3
-same-length-3 c = search needs
-
 returns-3 : tie.Need-returns-3
 returns-3 c = λ f so h.
     let d = fresh 0 0 in
@@ -85,17 +64,5 @@ returns-3 c = λ f so h.
 pub count-out-spec : {M : Type 1} → statement M
 count-out-spec =
     tie.close
-    (tie.spec
-    seek-conn-requires
-    is-entry-requires
-    conn-at-requires
-    drop-conn-requires
-    less-requires
-    less-requires-2
-    set-conn-requires
-    same-length
-    returns
-    same-length-2
-    returns-2
-    same-length-3
-    returns-3)
+    (tie.spec (λ c κs. search needs) (λ c κs. search needs) conn-at-requires drop-conn-requires (λ c κs. search needs) (λ c κs. search needs)
+    set-conn-requires (λ c. search needs) returns (λ c. search needs) returns-2 (λ c. search needs) returns-3)

@@ -8,17 +8,8 @@ use borrow.Author.Needs.{needs}
 use Rattle.store.proofs.counting.recount.Statement.{statement}
 use Rattle.store.proofs.counting.recount.Tie as tie
 
-seek-conn-requires : tie.Need-seek-conn-requires
-seek-conn-requires c κs = search needs
-
-is-entry-requires : tie.Need-is-entry-requires
-is-entry-requires c κs = search needs
-
 conn-at-requires : tie.Need-conn-at-requires
 conn-at-requires c κs = (c .before .before .before .before .before .before .before .pre .0, c .before .before .is-entry .ensures .inside (c .before .if1 .taken))
-
-less-requires : tie.Need-less-requires
-less-requires c κs = search needs
 
 add-t16 : tie.Need-add-t16
 add-t16 c = omega (
@@ -36,9 +27,6 @@ set-conn-requires c κs = (
   c .before .before .before .before .before .is-entry .ensures .inside (c .before .before .before .before .if1 .taken),
 )
 
-same-length : tie.Need-same-length
-same-length c = search needs
-
 returns : tie.Need-returns
 returns c = λ f so h.
     let d = fresh 0 0 in
@@ -52,9 +40,6 @@ returns c = λ f so h.
     (c .before .before .before .before .before .before .before .before .before .before .before .before .before .args .p)
     (rw (c .before .before .before .before .less .ensures) at (c .before .before .set-conn .ensures f h))
 
-same-length-2 : tie.Need-same-length-2
-same-length-2 c = search needs
-
 returns-2 : tie.Need-returns-2
 returns-2 c = λ f so h.
     let d = fresh 0 0 in
@@ -65,14 +50,5 @@ returns-2 c = λ f so h.
 pub recount-spec : {M : Type 1} → statement M
 recount-spec =
     tie.close
-    (tie.spec
-    seek-conn-requires
-    is-entry-requires
-    conn-at-requires
-    less-requires
-    add-t16
-    set-conn-requires
-    same-length
-    returns
-    same-length-2
-    returns-2)
+    (tie.spec (λ c κs. search needs) (λ c κs. search needs) conn-at-requires (λ c κs. search needs) add-t16 set-conn-requires (λ c. search needs)
+    returns (λ c. search needs) returns-2)

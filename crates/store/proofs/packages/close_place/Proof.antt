@@ -8,72 +8,6 @@ use borrow.Author.Needs.{needs}
 use Rattle.store.proofs.packages.close_place.Statement.{statement}
 use Rattle.store.proofs.packages.close_place.Tie as tie
 
-held-places-requires : tie.Need-held-places-requires
-held-places-requires c κs = search needs
-
-limit-requires : tie.Need-limit-requires
-limit-requires c κs = search needs
-
-places-requires : tie.Need-places-requires
-places-requires c κs = search needs
-
-mul-x : tie.Need-mul-x
-mul-x c = search needs
-
-add-x : tie.Need-add-x
-add-x c = search needs
-
-mul-x-2 : tie.Need-mul-x-2
-mul-x-2 c = search needs
-
-add-x-2 : tie.Need-add-x-2
-add-x-2 c = search needs
-
-mul-x-3 : tie.Need-mul-x-3
-mul-x-3 c = search needs
-
-mul-y : tie.Need-mul-y
-mul-y c = search needs
-
-add-y : tie.Need-add-y
-add-y c = search needs
-
-mul-y-2 : tie.Need-mul-y-2
-mul-y-2 c = search needs
-
-add-y-2 : tie.Need-add-y-2
-add-y-2 c = search needs
-
-mul-y-3 : tie.Need-mul-y-3
-mul-y-3 c = search needs
-
-add-y-3 : tie.Need-add-y-3
-add-y-3 c = search needs
-
-mul-y-4 : tie.Need-mul-y-4
-mul-y-4 c = search needs
-
-sub-remove-place : tie.Need-sub-remove-place
-sub-remove-place c = search needs
-
-part-remove-place-start : tie.Need-part-remove-place-start
-part-remove-place-start c = search needs
-
-part-remove-place-end : tie.Need-part-remove-place-end
-part-remove-place-end c = search needs
-
-remove-place-requires : tie.Need-remove-place-requires
-remove-place-requires c κs = search needs
-
-sub-put : tie.Need-sub-put
-sub-put c = search needs
-
-put-requires : tie.Need-put-requires
-put-requires c κs = search needs
-
-same-length : tie.Need-same-length
-same-length c = search needs
-
 returns : tie.Need-returns
 returns c = λ f h.
     let z = sizes h in
@@ -91,27 +25,7 @@ returns c = λ f h.
 pub close-place-spec : {M : Type 1} → statement M
 close-place-spec =
     tie.close
-    (tie.spec
-    held-places-requires
-    limit-requires
-    places-requires
-    mul-x
-    add-x
-    mul-x-2
-    add-x-2
-    mul-x-3
-    mul-y
-    add-y
-    mul-y-2
-    add-y-2
-    mul-y-3
-    add-y-3
-    mul-y-4
-    sub-remove-place
-    part-remove-place-start
-    part-remove-place-end
-    remove-place-requires
-    sub-put
-    put-requires
-    same-length
-    returns)
+    (tie.spec (λ c κs. search needs) (λ c κs. search needs) (λ c κs. search needs) (λ c. search needs) (λ c. search needs) (λ c. search needs)
+    (λ c. search needs) (λ c. search needs) (λ c. search needs) (λ c. search needs) (λ c. search needs) (λ c. search needs) (λ c. search needs)
+    (λ c. search needs) (λ c. search needs) (λ c. search needs) (λ c. search needs) (λ c. search needs) (λ c κs. search needs) (λ c. search needs)
+    (λ c κs. search needs) (λ c. search needs) returns)

@@ -8,45 +8,6 @@ use borrow.Author.Needs.{needs}
 use Rattle.store.proofs.rows.add_row.Statement.{statement}
 use Rattle.store.proofs.rows.add_row.Tie as tie
 
-rows-requires : tie.Need-rows-requires
-rows-requires c κs = search needs
-
-mul-x : tie.Need-mul-x
-mul-x c = search needs
-
-limit-requires : tie.Need-limit-requires
-limit-requires c κs = search needs
-
-mul-y : tie.Need-mul-y
-mul-y c = search needs
-
-add-y : tie.Need-add-y
-add-y c = search needs
-
-mul-y-2 : tie.Need-mul-y-2
-mul-y-2 c = search needs
-
-sub-insert-row : tie.Need-sub-insert-row
-sub-insert-row c = search needs
-
-part-insert-row-start : tie.Need-part-insert-row-start
-part-insert-row-start c = search needs
-
-part-insert-row-end : tie.Need-part-insert-row-end
-part-insert-row-end c = search needs
-
-insert-row-requires : tie.Need-insert-row-requires
-insert-row-requires c κs = search needs
-
-add-put : tie.Need-add-put
-add-put c = search needs
-
-put-requires : tie.Need-put-requires
-put-requires c κs = search needs
-
-same-length : tie.Need-same-length
-same-length c = search needs
-
 returns : tie.Need-returns
 returns c = λ f h.
     let z = sizes h in
@@ -65,18 +26,6 @@ returns c = λ f h.
 pub add-row-spec : {M : Type 1} → statement M
 add-row-spec =
     tie.close
-    (tie.spec
-    rows-requires
-    mul-x
-    limit-requires
-    mul-y
-    add-y
-    mul-y-2
-    sub-insert-row
-    part-insert-row-start
-    part-insert-row-end
-    insert-row-requires
-    add-put
-    put-requires
-    same-length
+    (tie.spec (λ c κs. search needs) (λ c. search needs) (λ c κs. search needs) (λ c. search needs) (λ c. search needs) (λ c. search needs)
+    (λ c. search needs) (λ c. search needs) (λ c. search needs) (λ c κs. search needs) (λ c. search needs) (λ c κs. search needs) (λ c. search needs)
     returns)

@@ -8,45 +8,6 @@ use borrow.Author.Needs.{needs}
 use Rattle.store.proofs.rows.drop_row.Statement.{statement}
 use Rattle.store.proofs.rows.drop_row.Tie as tie
 
-rows-requires : tie.Need-rows-requires
-rows-requires c κs = search needs
-
-mul-x : tie.Need-mul-x
-mul-x c = search needs
-
-limit-requires : tie.Need-limit-requires
-limit-requires c κs = search needs
-
-mul-y : tie.Need-mul-y
-mul-y c = search needs
-
-add-y : tie.Need-add-y
-add-y c = search needs
-
-mul-y-2 : tie.Need-mul-y-2
-mul-y-2 c = search needs
-
-sub-remove-row : tie.Need-sub-remove-row
-sub-remove-row c = search needs
-
-part-remove-row-start : tie.Need-part-remove-row-start
-part-remove-row-start c = search needs
-
-part-remove-row-end : tie.Need-part-remove-row-end
-part-remove-row-end c = search needs
-
-remove-row-requires : tie.Need-remove-row-requires
-remove-row-requires c κs = search needs
-
-sub-put : tie.Need-sub-put
-sub-put c = search needs
-
-put-requires : tie.Need-put-requires
-put-requires c κs = search needs
-
-same-length : tie.Need-same-length
-same-length c = search needs
-
 returns : tie.Need-returns
 returns c = λ f h.
     let z = sizes h in
@@ -63,18 +24,6 @@ returns c = λ f h.
 pub drop-row-spec : {M : Type 1} → statement M
 drop-row-spec =
     tie.close
-    (tie.spec
-    rows-requires
-    mul-x
-    limit-requires
-    mul-y
-    add-y
-    mul-y-2
-    sub-remove-row
-    part-remove-row-start
-    part-remove-row-end
-    remove-row-requires
-    sub-put
-    put-requires
-    same-length
+    (tie.spec (λ c κs. search needs) (λ c. search needs) (λ c κs. search needs) (λ c. search needs) (λ c. search needs) (λ c. search needs)
+    (λ c. search needs) (λ c. search needs) (λ c. search needs) (λ c κs. search needs) (λ c. search needs) (λ c κs. search needs) (λ c. search needs)
     returns)

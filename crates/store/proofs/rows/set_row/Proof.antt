@@ -7,36 +7,6 @@ use borrow.Author.Needs.{needs}
 use Rattle.store.proofs.rows.set_row.Statement.{statement}
 use Rattle.store.proofs.rows.set_row.Tie as tie
 
-mul-x : tie.Need-mul-x
-mul-x c = search needs
-
-limit-requires : tie.Need-limit-requires
-limit-requires c κs = search needs
-
-mul-y : tie.Need-mul-y
-mul-y c = search needs
-
-add-y : tie.Need-add-y
-add-y c = search needs
-
-mul-y-2 : tie.Need-mul-y-2
-mul-y-2 c = search needs
-
-sub-write-row : tie.Need-sub-write-row
-sub-write-row c = search needs
-
-part-write-row-start : tie.Need-part-write-row-start
-part-write-row-start c = search needs
-
-part-write-row-end : tie.Need-part-write-row-end
-part-write-row-end c = search needs
-
-write-row-requires : tie.Need-write-row-requires
-write-row-requires c κs = search needs
-
-same-length : tie.Need-same-length
-same-length c = search needs
-
 returns : tie.Need-returns
 returns c = λ f h.
     let z = sizes h in
@@ -50,15 +20,5 @@ returns c = λ f h.
 pub set-row-spec : {M : Type 1} → statement M
 set-row-spec =
     tie.close
-    (tie.spec
-    mul-x
-    limit-requires
-    mul-y
-    add-y
-    mul-y-2
-    sub-write-row
-    part-write-row-start
-    part-write-row-end
-    write-row-requires
-    same-length
-    returns)
+    (tie.spec (λ c. search needs) (λ c κs. search needs) (λ c. search needs) (λ c. search needs) (λ c. search needs) (λ c. search needs)
+    (λ c. search needs) (λ c. search needs) (λ c κs. search needs) (λ c. search needs) returns)

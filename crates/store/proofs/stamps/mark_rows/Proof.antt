@@ -21,20 +21,11 @@ loop-holds c = stamped-none markedRow (c .before .pre .0) (c .before .pre .1) (c
 row-at-requires : tie.Need-row-at-requires Inv-loop μ-loop
 row-at-requires c κs = (c .before .before .loop .inv .is-shown, omega (arith, c .before .before .loop .inv .within, c .before .loop-test .taken))
 
-marked-row-requires : tie.Need-marked-row-requires Inv-loop μ-loop
-marked-row-requires c κs = search needs
-
 set-row-requires : tie.Need-set-row-requires Inv-loop μ-loop
 set-row-requires c κs = (
   c .before .before .before .before .before .loop .inv .is-shown,
   omega (arith, c .before .before .before .before .before .loop .inv .within, c .before .before .before .before .loop-test .taken),
 )
-
-add-i : tie.Need-add-i Inv-loop μ-loop
-add-i c = search needs
-
-loop-less : tie.Need-loop-less Inv-loop μ-loop
-loop-less c = search needs
 
 loop-again : tie.Need-loop-again Inv-loop μ-loop
 loop-again c = stamped-more markedRow (c .before .before .before .before .before .row-at .result) (c .before .before .before .marked-row .result)
@@ -52,15 +43,5 @@ returns c = λ f h.
 pub mark-rows-spec : {M : Type 1} → statement M
 mark-rows-spec =
     tie.close
-    (tie.spec
-    Inv-loop
-    μ-loop
-    loop-holds
-    row-at-requires
-    marked-row-requires
-    set-row-requires
-    add-i
-    loop-less
-    loop-again
-    same-length
-    returns)
+    (tie.spec Inv-loop μ-loop loop-holds row-at-requires (λ c κs. search needs) set-row-requires (λ c. search needs) (λ c. search needs) loop-again
+    same-length returns)

@@ -22,20 +22,11 @@ loop-holds c = stamped-none (withReady (c .before .args .v)) (c .before .pre .0)
 row-at-requires : tie.Need-row-at-requires Inv-loop μ-loop
 row-at-requires c κs = (c .before .before .loop .inv .is-shown, omega (arith, c .before .before .loop .inv .within, c .before .loop-test .taken))
 
-ready-row-requires : tie.Need-ready-row-requires Inv-loop μ-loop
-ready-row-requires c κs = search needs
-
 set-row-requires : tie.Need-set-row-requires Inv-loop μ-loop
 set-row-requires c κs = (
   c .before .before .before .before .before .loop .inv .is-shown,
   omega (arith, c .before .before .before .before .before .loop .inv .within, c .before .before .before .before .loop-test .taken),
 )
-
-add-i : tie.Need-add-i Inv-loop μ-loop
-add-i c = search needs
-
-loop-less : tie.Need-loop-less Inv-loop μ-loop
-loop-less c = search needs
 
 loop-again : tie.Need-loop-again Inv-loop μ-loop
 loop-again c = stamped-more (withReady (c .before .before .before .before .before .before .before .before .before .before .args .v))
@@ -55,15 +46,5 @@ returns c = λ f h.
 pub ready-rows-spec : {M : Type 1} → statement M
 ready-rows-spec =
     tie.close
-    (tie.spec
-    Inv-loop
-    μ-loop
-    loop-holds
-    row-at-requires
-    ready-row-requires
-    set-row-requires
-    add-i
-    loop-less
-    loop-again
-    same-length
-    returns)
+    (tie.spec Inv-loop μ-loop loop-holds row-at-requires (λ c κs. search needs) set-row-requires (λ c. search needs) (λ c. search needs) loop-again
+    same-length returns)

@@ -46,14 +46,4 @@ returns c = cutting-end (c .before .loop .inv) (omega (arith, c .loop-test .left
 pub cut-conns-spec : {M : Type 1} → statement M
 cut-conns-spec =
     tie.close
-    (tie.spec
-    Inv-loop
-    μ-loop
-    conns-requires
-    loop-holds
-    sub-n
-    drop-conn-requires
-    loop-less
-    loop-again
-    same-length
-    returns)
+    (tie.spec Inv-loop μ-loop conns-requires loop-holds sub-n drop-conn-requires loop-less loop-again same-length returns)

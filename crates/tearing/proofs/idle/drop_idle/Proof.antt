@@ -62,15 +62,4 @@ returns c = sifting-end (c .before .before .before .before .before .loop .inv)
 pub drop-idle-spec : {M : Type 1} → statement M
 drop-idle-spec =
     tie.close
-    (tie.spec
-    Inv-loop
-    μ-loop
-    conns-requires
-    loop-holds
-    keep-busy-requires
-    add-i
-    loop-less
-    loop-again
-    cut-conns-requires
-    same-length
-    returns)
+    (tie.spec Inv-loop μ-loop conns-requires loop-holds keep-busy-requires add-i loop-less loop-again cut-conns-requires same-length returns)

@@ -5,15 +5,6 @@ use borrow.Author.Needs.{needs}
 use Rattle.tearing.proofs.packaged.is_package.Statement.{statement}
 use Rattle.tearing.proofs.packaged.is_package.Tie as tie
 
-held-places-requires : tie.Need-held-places-requires
-held-places-requires c κs = search needs
-
-place-at-requires : tie.Need-place-at-requires
-place-at-requires c κs = search needs
-
-quad-less-requires : tie.Need-quad-less-requires
-quad-less-requires c κs = search needs
-
 returns : tie.Need-returns
 returns c = other-place (c .before .before .before .before .before .before .before .pre .1) (c .before .before .before .place-at .ensures)
     (omega (arith, c .before .before .before .before .if1 .taken, c .before .before .before .before .before .held-places .ensures .word)) (blank 0 0)
@@ -30,10 +21,4 @@ returns-3 c = no-place (c .before .before .before .pre .1) (omega (arith, c .if1
 pub is-package-spec : {M : Type 1} → statement M
 is-package-spec =
     tie.close
-    (tie.spec
-    held-places-requires
-    place-at-requires
-    quad-less-requires
-    returns
-    returns-2
-    returns-3)
+    (tie.spec (λ c κs. search needs) (λ c κs. search needs) (λ c κs. search needs) returns returns-2 returns-3)

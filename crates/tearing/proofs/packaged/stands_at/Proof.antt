@@ -11,20 +11,11 @@ use borrow.Author.Needs.{needs}
 use Rattle.tearing.proofs.packaged.stands_at.Statement.{statement}
 use Rattle.tearing.proofs.packaged.stands_at.Tie as tie
 
-held-places-requires : tie.Need-held-places-requires
-held-places-requires c κs = search needs
-
 returns : tie.Need-returns
 returns c = λ e. never e
 
-follows-last-requires : tie.Need-follows-last-requires
-follows-last-requires c κs = search needs
-
 returns-2 : tie.Need-returns-2
 returns-2 c = λ e. never e
-
-comes-before-requires : tie.Need-comes-before-requires
-comes-before-requires c κs = search needs
 
 returns-3 : tie.Need-returns-3
 returns-3 c = λ e.
@@ -42,11 +33,4 @@ returns-4 c = λ e.
 pub stands-at-spec : {M : Type 1} → statement M
 stands-at-spec =
     tie.close
-    (tie.spec
-    held-places-requires
-    returns
-    follows-last-requires
-    returns-2
-    comes-before-requires
-    returns-3
-    returns-4)
+    (tie.spec (λ c κs. search needs) returns (λ c κs. search needs) returns-2 (λ c κs. search needs) returns-3 returns-4)

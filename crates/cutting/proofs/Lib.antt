@@ -1,0 +1,5 @@
+pub mod AtOnce
+pub mod RowsLeft
+pub mod Lessening
+pub mod Testing
+pub mod Made

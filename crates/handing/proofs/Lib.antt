@@ -1,0 +1,5 @@
+pub mod Copying
+pub mod Announcing
+pub mod Dropping
+pub mod GivingBack
+pub mod RowOwners
