@@ -6,11 +6,11 @@ use mathlib.Core.Logic.{_⊎_, inl, inr}
 use mathlib.Core.Bool.{Bool, true, false, _&&_}
 use mathlib.Core.List.{List, [], _∷_, _++_}
 use native.Mathlib.Omega.{arith}
-use lib.Dec.{eqb}
+use lib.Dec.{eqb, ltb, leb}
 use lib.ListN.{length, take, drop, getD, set}
 use lib.Seq.{getD-set-same, getD-set-other}
-use borrow.Author.Tests.{eqb-true, eqb-false, eq-eqb, ne-eqb}
-use Rattle.words.specs.Words.{recs}
+use borrow.Author.Tests.{eqb-true, eqb-false, leb-true, leb-false, eq-eqb, ne-eqb}
+use Rattle.words.specs.Words.{recs, Decides}
 use Rattle.words.proofs.Records.{length-recs, recs-add, recs-at}
 use Rattle.regions.specs.declared.Row.{Row}
 use Rattle.regions.specs.declared.Conn.{Conn}
@@ -24,7 +24,7 @@ use Rattle.store.proofs.Counts.{rows-append}
 use Rattle.store.proofs.Tally.{order}
 use Rattle.store.proofs.Certify.{own-bit}
 use Rattle.sound_conns.specs.Conns.{half, heldBy, ownedBy, Counts, Left, names, Rising, Named, Less, Enough, Lessened, Short, Lessening, Inside, Holds, NamedIn, Took, Lacks, Taking, Tallied, blank, Within, Window}
-use Rattle.sound_rows.proofs.Decide.{Iff}
+use Rattle.sound_rows.proofs.Decide.{Iff, test-decides, test-and, test-less}
 use Rattle.sound_conns.proofs.Entries.{length-names, name-entry}
 
 -- ---- one counter less
@@ -104,6 +104,10 @@ counts-grow p n i w h =
     rw (g, rows-append) (omega arith)
 
 -- ---- a row is taken
+
+pub inside-decides : (done last x : ℕ) → Decides (ltb done x && leb x last) (Inside done last x)
+inside-decides done last x = test-decides (ltb done x && leb x last) (test-and (ltb done x) (leb x last) (test-less done x)
+    (record { holds = leb-true x last; fails = λ e h. absurd (omega (arith, leb-false x last e)) }))
 
 module _ (ks : List ℕ) (done last lo x own : ℕ) (t : List ℕ) where
   pub took-outside : (Inside done last x → ⊥) → Holds done last ks lo (length t) → Took ks done last lo x own t t

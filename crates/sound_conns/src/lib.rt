@@ -16,7 +16,7 @@ ghost use Rattle.machine.specs.Typed.{Each};
 ghost use Rattle.regions.specs.Rows.{rowSize, readRow, connSize, readConn};
 ghost use Rattle.store.specs.FlatSound.{ConnFits};
 ghost use Rattle.sound_rows.specs.Rows.{RowsSound};
-ghost use Rattle.sound_conns.specs.Conns.{Entries, EntryStep, names, Rising, Lessening, Holds, Taking, Left, Tallying, Within, Window, LastOf, few, many, most, ConnsSound};
+ghost use Rattle.sound_conns.specs.Conns.{Entries, EntryStep, names, Rising, Lessening, Inside, Holds, Taking, Left, Tallying, Within, Window, LastOf, few, many, most, ConnsSound};
 
 // MAX_PEER_ANNOUNCEMENTS and MAX_PEER_IN_FLIGHT.
 const PEER_ANNOUNCEMENTS: u64 = 5000;
@@ -132,6 +132,13 @@ fn take_off(t: &mut [u32], lo: usize, k: usize, own: u32) -> bool
     true
 }
 
+// Whether x is above done and not above last: one branch for its caller, where two would be foretold badly.
+fn inside(x: u64, done: u64, last: u64) -> bool
+    ensures { λ b. ⌜ Decides b (Inside done last x) ⌝ }
+{
+    (done < x) & (x <= last)
+}
+
 // Takes a row of the connection x off its entry, if x is inside. False if x has no entry, or one with too little left.
 fn take_row(
     s: &[u8],
@@ -150,10 +157,7 @@ fn take_row(
         × Holds done last (names n (words (now s))) lo (length (now t)) × (own ≤ 1) ⌝ }
     ensures { λ b. ⌜ Taking b (names n (words (now (s .entry)))) done last lo x own (now (t .entry)) (now (t .exit)) × (length (now (t .exit)) ≡ length (now (t .entry))) ⌝ }
 {
-    if x <= done {
-        return true;
-    }
-    if last < x {
+    if !inside(x, done, last) {
         return true;
     }
     let k = guesses::find_entry(s, n, lo, x, guess, mask, way);

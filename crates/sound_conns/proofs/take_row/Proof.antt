@@ -3,23 +3,29 @@ use native.Mathlib.Omega.{arith}
 use mathlib.Core.Path.{refl}
 use mathlib.Core.Logic.{inl}
 use Rattle.words.specs.Words.{words}
-use Rattle.sound_conns.specs.Conns.{names}
+use Rattle.sound_rows.proofs.Decide.{passed, failed}
+use Rattle.sound_conns.specs.Conns.{names, Inside}
 use Rattle.sound_conns.proofs.Entries.{length-names}
 use Rattle.sound_conns.proofs.Tally.{took-outside, taking}
 use Rattle.sound_conns.proofs.take_row.Statement.{statement}
 use Rattle.sound_conns.proofs.take_row.Tie as tie
 
-returns : tie.Need-returns
-returns c = (took-outside _ _ _ _ _ _ _ (λ i. absurd (omega (arith, i .0))) (c .before .before .before .before .pre .5), refl)
+inside-requires : tie.Need-inside-requires
+inside-requires c κs = search needs
 
-returns-2 : tie.Need-returns-2
-returns-2 c = (took-outside _ _ _ _ _ _ _ (λ i. absurd (omega (arith, i .1))) (c .before .before .before .before .before .pre .5), refl)
+returns : tie.Need-returns
+returns c =
+    let a = c .before .before .before .before .before .args in
+    (took-outside _ _ _ _ _ _ _ (failed (Inside (a .done) (a .last) (a .x)) (c .before .inside .result) (c .if1 .taken) (c .before .inside .ensures)) (c .before .before .before .before .before .pre .5), refl)
 
 find-entry-requires : tie.Need-find-entry-requires
 find-entry-requires c κs = search needs
 
-returns-3 : tie.Need-returns-3
-returns-3 c = (inl ((omega arith, omega arith), c .before .find-entry .ensures .absent (omega arith) (c .before .before .before .before .before .before .before .pre .1)), refl)
+returns-2 : tie.Need-returns-2
+returns-2 c =
+    let a = c .before .before .before .before .before .before .before .args in
+    let i = passed (Inside (a .done) (a .last) (a .x)) (c .before .before .before .inside .result) (c .before .before .if1 .left) (c .before .before .before .inside .ensures) in
+    (inl (i, c .before .find-entry .ensures .absent (omega arith) (c .before .before .before .before .before .before .before .pre .1)), refl)
 
 take-off-requires : tie.Need-take-off-requires
 take-off-requires c κs = search needs
@@ -27,8 +33,8 @@ take-off-requires c κs = search needs
 same-length : tie.Need-same-length
 same-length c = search needs
 
-returns-4 : tie.Need-returns-4
-returns-4 c =
+returns-3 : tie.Need-returns-3
+returns-3 c =
     let a = c .before .before .before .before .before .before .before .before .before .before .before .args in
     let w = words (a .s .now) in (
       taking (names (a .n) w) (a .done) (a .last) (a .lo) (a .x) (a .own) (a .t .now) (c .before .before .before .before .before .find-entry .result) (c .before .before .take-off .last .0) (omega (arith, length-names (a .n) w))
@@ -39,11 +45,4 @@ returns-4 c =
 pub take-row-spec : {M : Type 1} → statement M
 take-row-spec =
     tie.close
-    (tie.spec
-    returns
-    returns-2
-    find-entry-requires
-    returns-3
-    take-off-requires
-    same-length
-    returns-4)
+    (tie.spec inside-requires returns find-entry-requires returns-2 take-off-requires same-length returns-3)
