@@ -1,22 +1,26 @@
--- The rows of a Wtxid key by a search, and their owner.
+-- The rows of a Wtxid key by a search or by a guess that is tested, and their owner.
 -- Assumes nothing.
 use Prim.Native.Nat.{ℕ, zero, suc, _+_, _-_, _*_, _≤_, _<_}
 use mathlib.Core.Path.{_≡_, refl, sym, ap, _∙_}
-use mathlib.Core.Bool.{Bool, true, false, _&&_}
+use mathlib.Core.Logic.{_⊎_, inl, inr}
+use mathlib.Core.Bool.{Bool, true, false, not, _&&_}
 use mathlib.Core.List.{List, [], _∷_, _++_}
 use native.Mathlib.Nat.{le-trans}
 use native.Mathlib.Omega.{arith}
-use lib.Dec.{eqb}
-use lib.ListN.{length, getD}
-use borrow.Author.Tests.{eq-eqb, ne-eqb}
+use lib.Dec.{eqb, ltb}
+use lib.ListN.{length, take, drop, getD}
+use borrow.Author.Tests.{ltb-true, ltb-false, eq-eqb, ne-eqb}
 use Rattle.ident.specs.Number.{top, place, wtxid}
-use Rattle.words.specs.Words.{recs}
+use Rattle.words.specs.Words.{recs, Decides}
 use Rattle.words.proofs.Records.{length-recs}
 use Rattle.regions.specs.declared.Row.{Row}
 use Rattle.regions.specs.declared.Quad.{Quad}
-use Rattle.regions.specs.Order.{Bound, Sought, one}
-use Rattle.regions.specs.Rows.{rowSize, readRow, rowKey, quadNumber, keyNumber}
+use Rattle.regions.specs.declared.Key.{Key}
+use Rattle.regions.specs.Order.{Sorted, Bound, Sought, one}
+use Rattle.regions.specs.Rows.{rowSize, readRow, rowKey, keyOf, quadNumber, keyNumber}
+use Rattle.regions.proofs.Rows.{row-key-at}
 use Rattle.machine.specs.Typed.{Each}
+use Rattle.machine.proofs.Tests.{test}
 use Rattle.store.specs.Gather.{keyAt}
 use Rattle.store.specs.FlatSound.{countRows, hashAt, owns, ownsKey}
 use Rattle.store.proofs.Counts.{rows-append}
@@ -26,6 +30,39 @@ use Rattle.sound_rows.specs.Groups.{rowAt, rowsIn, Run}
 use Rattle.sound_rows.proofs.Decide.{rest-all}
 use Rattle.sound_rows.proofs.Groups.{in-split, in-each}
 use Rattle.sound_rows.proofs.Halves.{kind-wtxid, keys-sorted, climb, fits-at, key-at}
+
+-- ---- a guess that is tested
+
+pub tested-bound : (ks : List ℕ) (n x i : ℕ) → length ks ≡ n → i ≤ n → (0 < i → getD ks (i - 1) 0 < x) → (i < n → x ≤ getD ks i 0) → Sought ks n x i
+unfolding Sorted
+tested-bound ks n x i l m f g = record {
+  most = m;
+  bound = λ s. record {
+    most = omega arith;
+    below = λ k h. omega (arith, s k (i - 1) (omega arith) (omega arith), f (omega arith));
+    above = λ k h q. omega (arith, s i k h q, g (omega arith));
+  };
+}
+
+module _ (w : List ℕ) (n : ℕ) (k : Key) where
+  row-key : (i : ℕ) {m : Key} → i < n → m ≡ keyOf (readRow (take rowSize (drop (rowSize * i) w))) → getD (recs rowSize rowKey n w) i 0 ≡ keyNumber m
+  row-key i h e = row-key-at w n i h ∙ ap keyNumber (sym e)
+
+  pub short-decides : (i : ℕ) {m : Key} {b : Bool} → i ≤ n → 0 < i → m ≡ keyOf (readRow (take rowSize (drop (rowSize * (i - 1)) w))) → b ≡ ltb (keyNumber m) (keyNumber k)
+      → Decides b ((i ≤ n) × (0 < i → getD (recs rowSize rowKey n w) (i - 1) 0 < keyNumber k))
+  short-decides i {m} h p e f = elim (test (ltb (keyNumber m) (keyNumber k))) [
+    | inl t ↦ rw (f, t) (h, λ _. rw (row-key (i - 1) (omega arith) e) (ltb-true (keyNumber m) (keyNumber k) t))
+    | inr t ↦ rw (f, t) (λ z. omega (arith, z .1 p, row-key (i - 1) (omega arith) e, ltb-false (keyNumber m) (keyNumber k) t))
+  ]
+
+  pub past-decides : (i : ℕ) {m : Key} {b : Bool} → i < n → m ≡ keyOf (readRow (take rowSize (drop (rowSize * i) w))) → b ≡ ltb (keyNumber m) (keyNumber k)
+      → Decides (not b) (i < n → keyNumber k ≤ getD (recs rowSize rowKey n w) i 0)
+  past-decides i {m} h e f = elim (test (ltb (keyNumber m) (keyNumber k))) [
+    | inl t ↦ rw (f, t) (λ z. omega (arith, z h, row-key i h e, ltb-true (keyNumber m) (keyNumber k) t))
+    | inr t ↦ rw (f, t) (λ _. rw (row-key i h e) (ltb-false (keyNumber m) (keyNumber k) t))
+  ]
+
+-- ---- the rows of a key
 
 count-none : (p : Row → Bool) (rs : List Row) → Each (λ r. p r ≡ false) rs → countRows p rs ≡ 0
 unfolding countRows

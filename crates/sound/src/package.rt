@@ -8,9 +8,10 @@ ghost use Rattle.regions.specs.Rows.{rowSize, readRow, quadNumber};
 ghost use Rattle.places.specs.Places.{placeSize, listMost};
 ghost use Rattle.machine.specs.Claim.{elem};
 ghost use Rattle.machine.specs.Sound.{NoRepeat};
-ghost use Rattle.store.specs.FlatSound.{countRows, ownsKey};
 ghost use Rattle.sound_rows.specs.Rows.{RowsSound};
 ghost use Rattle.sound.specs.Places.{PlaceSound, PlacesSound, PlaceFollows, hashesIn, Padded, StagePlain, foldOf, slotCount, slotOf};
+use crate::owner::is_owned;
+use crate::owner::walk_to;
 
 // Words of a place, and where in it the parts lie.
 const PLACE: usize = 824;
@@ -117,17 +118,6 @@ fn distinct(s: &[u8], a: usize, n: usize, slots: &mut [u16], mark: u16) -> bool
     true
 }
 
-// Whether one of the n rows owns the Wtxid key of the hash h.
-fn is_owned(rows: &[u8], n: usize, h: regions::Quad) -> bool
-    requires { ⌜ 8 * (rowSize * n) ≤ length (now rows) ⌝ }
-    ensures { λ r. ⌜ (RowsSound (recs rowSize readRow n (words (now (rows .entry)))) → Decides r (1 ≤ countRows (ownsKey (quadNumber h)) (recs rowSize readRow n (words (now (rows .entry)))))) ⌝ }
-{
-    let k = regions::Key { kind: 1, hash: h };
-    let from = regions::seek_row(rows, n, k, false);
-    let to = sound_rows::group::run_end(rows, from, n, h);
-    sound_rows::group::owners(rows, from, to) >= 1
-}
-
 // Whether stage, combined hash and number of wtxids go together.
 fn stage_fits(stage: u64, combined: regions::Quad, n: u64) -> bool
     ensures { λ r. ⌜ Decides r (StagePlain stage (quadNumber combined) n) ⌝ }
@@ -170,8 +160,8 @@ fn padded(p: &[u8], m: usize, n: usize) -> bool
     words::is_zero(p, KEPT, PLACE)
 }
 
-// Whether the words of one place write it out, and it is fit.
-fn place_fits(p: &[u8], rows: &[u8], n: usize, slots: &mut [u16], mark: u16) -> bool
+// Whether the words of one place write it out, and it is fit. The rows of its key are guessed to begin at the i-th.
+fn place_fits(p: &[u8], rows: &[u8], n: usize, slots: &mut [u16], mark: u16, i: usize) -> bool
     requires { ⌜ (length (now p) ≡ 8 * placeSize) × (8 * (rowSize * n) ≤ length (now rows)) × (length (now slots) ≡ slotCount) ⌝ }
     ensures { λ r. ⌜ (RowsSound (recs rowSize readRow n (words (now (rows .entry)))) → Decides r (PlaceSound (recs rowSize readRow n (words (now (rows .entry)))) (words (now (p .entry)))))
         × (length (now (slots .exit)) ≡ slotCount) ⌝ }
@@ -192,7 +182,7 @@ fn place_fits(p: &[u8], rows: &[u8], n: usize, slots: &mut [u16], mark: u16) -> 
     if !distinct(p, PARENTS, parents as usize, slots, mark) {
         return false;
     }
-    is_owned(rows, n, regions::read_quad(p, 0))
+    is_owned(rows, n, regions::read_quad(p, 0), i)
 }
 
 // Whether the hash of the i-th place is above that of the place before it.
@@ -214,12 +204,14 @@ pub fn places_fit(s: &[u8], q: usize, rows: &[u8], n: usize) -> bool
     ensures { λ r. ⌜ (RowsSound (recs rowSize readRow n (words (now (rows .entry)))) → Decides r (PlacesSound (recs rowSize readRow n (words (now (rows .entry)))) q (words (now (s .entry))))) ⌝ }
 {
     let mut slots: [u16; 4096] = [0; 4096];
+    let mut at = 0;
     let mut i = 0;
     while i < q {
         let a = i * PLACE;
         let x = a * 8;
         let y = (a + PLACE) * 8;
-        if !place_fits(&s[x..y], rows, n, &mut slots, (i % 0xffff + 1) as u16) {
+        at = walk_to(rows, n, regions::read_quad(s, a), at);
+        if !place_fits(&s[x..y], rows, n, &mut slots, (i % 0xffff + 1) as u16, at) {
             return false;
         }
         if !place_follows(s, i) {

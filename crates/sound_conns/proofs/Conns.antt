@@ -14,7 +14,6 @@ use Rattle.words.proofs.Records.{length-recs}
 use Rattle.regions.specs.declared.Row.{Row}
 use Rattle.regions.specs.declared.Conn.{Conn}
 use Rattle.regions.specs.Rows.{rowSize, readRow, connSize, readConn}
-use Rattle.machine.specs.Limits.{maxAnnouncements}
 use Rattle.machine.specs.Typed.{Each}
 use Rattle.machine.proofs.Tests.{test, never, or-true}
 use Rattle.store.specs.Flat.{ownBit, bump, tally}
@@ -22,10 +21,10 @@ use Rattle.store.specs.FlatSound.{RowFits, ConnFits}
 use Rattle.store.proofs.Tally as whole
 use Rattle.store.proofs.Tally.{order, bump-nil, bump-lt, bump-eq, bump-gt, bump-tallied}
 use Rattle.store.proofs.Certify.{Counted, listed, listed-at, certified, tally-counted}
-use Rattle.sound_conns.specs.Conns.{Rise, Entries, Counts, Unpacks, packed, names, Named, Inside, Holds, NamedIn, Tallied, blank, Within, Window, LastOf, many, most, ConnsSound}
-use Rattle.sound_rows.proofs.Decide.{Iff}
+use Rattle.sound_conns.specs.Conns.{Rise, Entries, Counts, names, Named, Inside, Holds, NamedIn, Tallied, blank, Within, Window, LastOf, many, most, ConnsSound}
+use Rattle.sound_rows.proofs.Decide.{Iff, iff-self}
 use Rattle.sound_conns.proofs.Entries.{length-names, name-entry, entries-positive}
-use Rattle.sound_conns.proofs.Tally.{unpacks-iff}
+use Rattle.sound_conns.proofs.Tally.{spent-iff}
 
 -- ---- the tally lists each row's connection
 
@@ -111,18 +110,20 @@ conns-entries rs cs f s = record { rise = tallied-rise 1 cs (rw (s .tally) (tall
 
 -- ---- a window, and all of them
 
+pub window-as : {ks : List ℕ} {rs : List Row} {cs : List Conn} {done last lo m m′ : ℕ} → m ≡ m′ → Iff (Window ks rs cs done last lo m) (Window ks rs cs done last lo m′)
+window-as e = rw e iff-self
+
+-- as far as another list that is as long
+pub below-as : {x m m′ : ℕ} → m ≡ m′ → x < m → x < m′
+below-as e h = omega arith
+
 module _ (rs : List Row) (c : ℕ) (v : List ℕ) where
-  pub window-iff : (done last lo : ℕ) (t : List ℕ) → length rs ≤ maxAnnouncements → Tallied (names c v) rs done last lo t
-      → Iff (Within (λ e j. Unpacks (getD t j 0) e) (recs connSize readConn c v) lo (length t)) (Window (names c v) rs (recs connSize readConn c v) done last lo (length t))
-  window-iff done last lo t few s = record {
-    to = λ u. record { counted = λ j h l. unpacks-iff rs few _ (value j h l) .to (u j h l); named = s .named };
-    from = λ d. λ j h l. unpacks-iff rs few _ (value j h l) .from (d .counted j h l);
+  pub window-iff : (done last lo : ℕ) (t : List ℕ) → Tallied (names c v) rs (recs connSize readConn c v) done last lo t
+      → Iff ((j : ℕ) → j < length t → lo + j < c → getD t j 0 ≡ 0) (Window (names c v) rs (recs connSize readConn c v) done last lo (length t))
+  window-iff done last lo t s = record {
+    to = λ u. record { counted = λ j h l. spent-iff rs _ (s .left j h l) .to (u j h (rw (length-recs connSize readConn c v) at l)); named = s .named };
+    from = λ d. λ j h l. let l′ : lo + j < length (recs connSize readConn c v) = rw (length-recs connSize readConn c v) l in spent-iff rs _ (s .left j h l′) .from (d .counted j h l′);
   }
-    where
-      value : (j : ℕ) → j < length t → lo + j < length (recs connSize readConn c v) → getD t j 0 ≡ packed ((getD (recs connSize readConn c v) (lo + j) blank) .conn) rs
-      value j h l =
-          let m : lo + j < c = rw (length-recs connSize readConn c v) at l in
-          s .counts j h (rw (length-names c v) m) ∙ ap (λ (x : ℕ). packed x rs) (name-entry c v (lo + j) m)
 
   pub sound-window : (done last lo m : ℕ) → ConnsSound rs (recs connSize readConn c v) → Window (names c v) rs (recs connSize readConn c v) done last lo m
   sound-window done last lo m s = record {

@@ -2,6 +2,7 @@
 -- Assumes nothing.
 use Prim.Native.Nat.{ℕ, zero, suc, _+_, _*_, _/_, _%_, _≤_, _<_}
 use mathlib.Core.Path.{_≡_}
+use mathlib.Core.Logic.{_⊎_}
 use mathlib.Core.Bool.{Bool, true, false, _&&_}
 use mathlib.Core.List.{List, [], _∷_}
 use lib.Dec.{eqb}
@@ -43,25 +44,19 @@ heldBy n rs = countRows (λ r. eqb (r .conn) n) rs
 abbrev pub ownedBy : ℕ → List Row → ℕ
 ownedBy n rs = countRows (λ r. eqb (r .conn) n && owns r) rs
 
--- both in one number: rows that own their request count 2^32 more
-abbrev pub half : ℕ
-half = 4294967296
-
-abbrev pub weight : Row → ℕ
-weight r = 1 + ownBit r * half
-
-abbrev pub packed : ℕ → List Row → ℕ
-packed n rs = heldBy n rs + ownedBy n rs * half
-
 -- an entry has its connection's counts
 pub record Counts (rs : List Row) (c : Conn) : Type 0 where
   pub held : c .held ≡ heldBy (c .conn) rs
   pub owned : c .owned ≡ ownedBy (c .conn) rs
 
--- an entry has the counts that v packs
-pub record Unpacks (v : ℕ) (c : Conn) : Type 0 where
-  pub held : c .held ≡ v % half
-  pub owned : c .owned ≡ v / half
+-- a counter v of an entry: in its low half how many rows the entry has left when the rows rs are taken off, in its high half how many
+-- of them may own their request
+abbrev pub half : ℕ
+half = 65536
+
+pub record Left (rs : List Row) (c : Conn) (v : ℕ) : Type 0 where
+  pub held : v % half + heldBy (c .conn) rs ≡ c .held
+  pub owned : v / half + ownedBy (c .conn) rs ≡ c .owned
 
 -- ---- names: the connections of the entries, in order
 
@@ -87,11 +82,30 @@ most = 18446744073709551615
 
 -- ---- counters t of the entries from lo on
 
--- w more in the counter of the entry k, if it is among them
-pub record Bumped (t t′ : List ℕ) (lo k w : ℕ) : Type 0 where
-  pub same-length : length t′ ≡ length t
-  pub here : (j : ℕ) → j < length t → lo + j ≡ k → getD t′ j 0 ≡ getD t j 0 + w
+-- one row less in the counter v, and `own` less that own their request
+pub record Less (own v v′ : ℕ) : Type 0 where
+  pub held : v′ % half + 1 ≡ v % half
+  pub owned : v′ / half + own ≡ v / half
+
+-- there is that much in it
+abbrev pub Enough : ℕ → ℕ → Type 0
+Enough own v = (0 < v % half) × (own ≤ v / half)
+
+-- that much less in the counter of the entry k, if it is among them
+pub record Lessened (t t′ : List ℕ) (lo k own : ℕ) : Type 0 where
+  pub here : (j : ℕ) → j < length t → lo + j ≡ k → Less own (getD t j 0) (getD t′ j 0)
   pub other : (j : ℕ) → (lo + j ≡ k → ⊥) → getD t′ j 0 ≡ getD t j 0
+
+-- it is among them and has less than that
+pub record Short (t : List ℕ) (lo k own : ℕ) : Type 0 where
+  pub at : ℕ
+  pub within : at < length t
+  pub is : lo + at ≡ k
+  pub short : Enough own (getD t at 0) → ⊥
+
+abbrev pub Lessening : Bool → List ℕ → List ℕ → ℕ → ℕ → ℕ → Type 0
+Lessening true t t′ lo k own = Lessened t t′ lo k own
+Lessening false t t′ lo k own = Short t lo k own
 
 -- ---- connections above done and not above last: those that a pass over the rows takes
 
@@ -106,25 +120,24 @@ Holds done last ks lo m = (j : ℕ) → j < m → lo + j < length ks → Inside 
 abbrev pub NamedIn : List ℕ → ℕ → ℕ → List Row → Type 0
 NamedIn ks done last rs = Each (λ r. Inside done last (r .conn) → Named ks (r .conn)) rs
 
--- a row of the connection x, of the weight w, is counted; x has no entry
-pub record Took (ks : List ℕ) (done last lo x w : ℕ) (t t′ : List ℕ) : Type 0 where
-  pub same-length : length t′ ≡ length t
-  pub here : (j : ℕ) → j < length t → lo + j < length ks → getD ks (lo + j) 0 ≡ x → getD t′ j 0 ≡ getD t j 0 + w
+-- a row of the connection x is taken off its entry
+pub record Took (ks : List ℕ) (done last lo x own : ℕ) (t t′ : List ℕ) : Type 0 where
+  pub here : (j : ℕ) → j < length t → lo + j < length ks → getD ks (lo + j) 0 ≡ x → Less own (getD t j 0) (getD t′ j 0)
   pub other : (j : ℕ) → j < length t → lo + j < length ks → (getD ks (lo + j) 0 ≡ x → ⊥) → getD t′ j 0 ≡ getD t j 0
   pub named : Inside done last x → Named ks x
 
+-- x's entry has too little left
+pub record Lacks (ks : List ℕ) (lo x own : ℕ) (t : List ℕ) : Type 0 where
+  pub at : ℕ
+  pub within : at < length t
+  pub entry : lo + at < length ks
+  pub is : getD ks (lo + at) 0 ≡ x
+  pub short : Enough own (getD t at 0) → ⊥
+
+-- or x has no entry
 abbrev pub Taking : Bool → List ℕ → ℕ → ℕ → ℕ → ℕ → ℕ → List ℕ → List ℕ → Type 0
-Taking true ks done last lo x w t t′ = Took ks done last lo x w t t′
-Taking false ks done last lo x w t t′ = Inside done last x × (Named ks x → ⊥)
-
--- the counters of the rows
-pub record Tallied (ks : List ℕ) (rs : List Row) (done last lo : ℕ) (t : List ℕ) : Type 0 where
-  pub counts : (j : ℕ) → j < length t → lo + j < length ks → getD t j 0 ≡ packed (getD ks (lo + j) 0) rs
-  pub named : NamedIn ks done last rs
-
-abbrev pub Tallying : Bool → List ℕ → List Row → ℕ → ℕ → ℕ → List ℕ → Type 0
-Tallying true ks rs done last lo t = Tallied ks rs done last lo t
-Tallying false ks rs done last lo t = NamedIn ks done last rs → ⊥
+Taking true ks done last lo x own t t′ = Took ks done last lo x own t t′
+Taking false ks done last lo x own t t′ = (Inside done last x × (Named ks x → ⊥)) ⊎ Lacks ks lo x own t
 
 abbrev pub blank : Conn
 blank = record { conn = 0; held = 0; owned = 0 }
@@ -137,6 +150,15 @@ pub record Window (ks : List ℕ) (rs : List Row) (cs : List Conn) (done last lo
   pub counted : Within (λ c j. Counts rs c) cs lo m
   pub named : NamedIn ks done last rs
 
+-- the counters when the rows are taken off
+pub record Tallied (ks : List ℕ) (rs : List Row) (cs : List Conn) (done last lo : ℕ) (t : List ℕ) : Type 0 where
+  pub left : Within (λ c j. Left rs c (getD t j 0)) cs lo (length t)
+  pub named : NamedIn ks done last rs
+
+abbrev pub Tallying : Bool → List ℕ → List Row → List Conn → ℕ → ℕ → ℕ → List ℕ → Type 0
+Tallying true ks rs cs done last lo t = Tallied ks rs cs done last lo t
+Tallying false ks rs cs done last lo t = Window ks rs cs done last lo (length t) → ⊥
+
 -- last is at the end of the m entries from lo on
 pub record LastOf (ks : List ℕ) (lo m last : ℕ) : Type 0 where
   pub upto : (j : ℕ) → j < lo + m → j < length ks → getD ks j 0 ≤ last
@@ -148,4 +170,4 @@ abbrev pub few : ℕ
 few = 512
 
 abbrev pub many : ℕ
-many = 16384
+many = 8192

@@ -1,16 +1,22 @@
 // The test of the connections: entries that rise, within the limits, with the counts of the rows.
 //
-// A pass over the rows counts those of up to MANY connections in an array of 128 KiB (4 KiB where there are FEW), so that one pass is
-// enough unless there are more. A pass takes only the rows whose connection is above the last entry of the pass before (`done`), and
-// not above its own last entry (`last`).
+// A pass over the rows takes each off the counts of its connection's entry, and no count may fall below 0 nor be left above it. One pass
+// has counters for a window of up to MANY entries, in an array of 32 KiB (2 KiB where there are FEW), so that one is enough unless
+// there are more. A pass takes only the rows whose connection is above the last entry of the pass before (`done`), and not above its
+// own last entry (`last`).
+mod guesses; // guesses.rt: where a connection's entry is
+
 ghost use mathlib.Core.Path.{_≡_};
-ghost use Prim.Native.Nat.{ℕ, _+_, _*_, _^_, _≤_, _<_};
+ghost use Prim.Native.Nat.{ℕ, _+_, _*_, _/_, _^_, _≤_, _<_};
+ghost use mathlib.Core.List.{[]};
 ghost use lib.ListN.{length, getD};
 ghost use Rattle.words.specs.Words.{words, recs, Decides};
 ghost use Rattle.machine.specs.Limits.{maxAnnouncements};
+ghost use Rattle.machine.specs.Typed.{Each};
 ghost use Rattle.regions.specs.Rows.{rowSize, readRow, connSize, readConn};
+ghost use Rattle.store.specs.FlatSound.{ConnFits};
 ghost use Rattle.sound_rows.specs.Rows.{RowsSound};
-ghost use Rattle.sound_conns.specs.Conns.{Entries, EntryStep, names, Rising, Place, Bumped, Holds, Taking, Tallying, Unpacks, Within, Window, LastOf, few, many, most, ConnsSound};
+ghost use Rattle.sound_conns.specs.Conns.{Entries, EntryStep, names, Rising, Lessening, Inside, Holds, Taking, Left, Tallying, Within, Window, LastOf, few, many, most, ConnsSound};
 
 // MAX_PEER_ANNOUNCEMENTS and MAX_PEER_IN_FLIGHT.
 const PEER_ANNOUNCEMENTS: u64 = 5000;
@@ -20,16 +26,16 @@ const PEER_IN_FLIGHT: u64 = 100;
 // Words of an entry.
 const CONN: usize = 3;
 
-// A counter holds rows in its low half and rows that own their request in its high half.
-const HALF: u64 = 0x1_0000_0000;
+// A counter has in its low half how many rows its entry has left, in its high half how many of them may own their request.
+const HALF: u32 = 0x1_0000;
 
-// Connections that one pass over the rows counts.
-const MANY: usize = 16384;
+// Entries that one pass over the rows counts.
+const MANY: usize = 8192;
 
 const FEW: usize = 512;
 
-// Where a window's entries are guessed by the low bits of a connection: masks of those bits.
-const MANY_MASK: u64 = 32767;
+// Slots of a window's first table of guesses, less one.
+const MANY_MASK: u64 = 16383;
 
 const FEW_MASK: u64 = 2047;
 
@@ -74,141 +80,119 @@ fn entries_fit(s: &[u8], n: usize) -> bool
     true
 }
 
-// Whether the i-th of n entries is x's.
-fn is_entry(s: &[u8], n: usize, i: usize, x: u64) -> bool
-    requires { ⌜ 8 * (connSize * n) ≤ length (now s) ⌝ }
-    ensures { λ b. ⌜ Decides b ((i < n) × (getD (names n (words (now (s .entry)))) i 0 ≡ x)) ⌝ }
+// ---- counters
+
+// The counter of an entry before a row is taken off it.
+fn charge(c: regions::Conn) -> u32
+    requires { ⌜ ConnFits c ⌝ }
+    ensures { λ v. ⌜ Left [] c v ⌝ }
 {
-    if i < n {
-        return words::get(s, i * CONN) == x;
-    }
-    false
+    c.held as u32 + c.owned as u32 * HALF
 }
 
-// Where x's entry is among n, or n. The guess is tried first.
-fn find_entry(s: &[u8], n: usize, x: u64, guess: usize) -> usize
-    requires { ⌜ 8 * (connSize * n) ≤ length (now s) ⌝ }
-    ensures { λ r. ⌜ Place (names n (words (now (s .entry)))) n x r ⌝ }
-{
-    if is_entry(s, n, guess, x) {
-        return guess;
-    }
-    let i = regions::seek_conn(s, n, x);
-    if is_entry(s, n, i, x) {
-        return i;
-    }
-    n
-}
-
-// Adds w to the counter of the entry k, if it is among those from lo on.
-fn bump(t: &mut [u64], lo: usize, k: usize, w: u64)
-    requires { ⌜ ((j : ℕ) → j < length (now t) → lo + j ≡ k → getD (now t) j 0 + w < 2 ^ 64) ⌝ }
-    ensures { λ _. ⌜ Bumped (now (t .entry)) (now (t .exit)) lo k w ⌝ }
-{
-    if k < lo {
-        return;
-    }
-    let j = k - lo;
-    if j < t.len() {
-        t[j] = t[j] + w;
-    }
-}
-
-// Where the guess of x's entry is kept.
-fn low_bits(x: u64, mask: u64) -> usize
-    ensures { λ r. ⌜ r ≤ mask ⌝ }
-{
-    (x & mask) as usize
-}
-
-fn wide(x: u16) -> usize
-    ensures { λ r. ⌜ r < 2 ^ 16 ⌝ }
-{
-    x as usize
-}
-
-// Keeps for the entries from lo on where they are, counted from lo. (Of two that meet, the later; a guess is only tried.)
-fn fill_guesses(s: &[u8], n: usize, lo: usize, guess: &mut [u16], mask: u64)
-    requires { ⌜ (8 * (connSize * n) ≤ length (now s)) × (mask < length (now guess)) ⌝ }
-    ensures { λ _. ⌜ length (now (guess .exit)) ≡ length (now (guess .entry)) ⌝ }
+// Gives the entries from lo on their counters, as far as there are any.
+fn charge_all(s: &[u8], n: usize, lo: usize, t: &mut [u32])
+    requires { ⌜ (8 * (connSize * n) ≤ length (now s)) × Each ConnFits (recs connSize readConn n (words (now s))) ⌝ }
+    ensures { λ _. ⌜ Within (λ c j. Left [] c (getD (now (t .exit)) j 0)) (recs connSize readConn n (words (now (s .entry)))) lo (length (now (t .entry)))
+        × (length (now (t .exit)) ≡ length (now (t .entry))) ⌝ }
 {
     let mut i = lo;
     while i < n {
         let j = i - lo;
-        if j >= MANY {
+        if j >= t.len() {
             return;
         }
-        let at = low_bits(words::get(s, i * CONN), mask);
-        guess[at] = j as u16;
+        let c = regions::read_conn(s, i);
+        t[j] = charge(c);
         i += 1;
     }
 }
 
-// Counts a row of the connection x, of the weight w, if x is inside. False if x has no entry.
+// Takes a row off the counter of the entry k, and one that owns its request if `own` is 1, if k is among those from lo on. False if
+// less than that is left.
+fn take_off(t: &mut [u32], lo: usize, k: usize, own: u32) -> bool
+    requires { ⌜ own ≤ 1 ⌝ }
+    ensures { λ b. ⌜ Lessening b (now (t .entry)) (now (t .exit)) lo k own × (length (now (t .exit)) ≡ length (now (t .entry))) ⌝ }
+{
+    if k < lo {
+        return true;
+    }
+    let j = k - lo;
+    if j >= t.len() {
+        return true;
+    }
+    let v = t[j];
+    if v % HALF == 0 {
+        return false;
+    }
+    if v / HALF < own {
+        return false;
+    }
+    t[j] = v - (1 + own * HALF);
+    true
+}
+
+// Whether x is above done and not above last: one branch for its caller, where two would be foretold badly.
+fn inside(x: u64, done: u64, last: u64) -> bool
+    ensures { λ b. ⌜ Decides b (Inside done last x) ⌝ }
+{
+    (done < x) & (x <= last)
+}
+
+// Takes a row of the connection x off its entry, if x is inside. False if x has no entry, or one with too little left.
 fn take_row(
     s: &[u8],
     n: usize,
     lo: usize,
-    t: &mut [u64],
+    t: &mut [u32],
     guess: &[u16],
     mask: u64,
+    way: u64,
     done: u64,
     last: u64,
     x: u64,
-    w: u64,
+    own: u32,
 ) -> bool
-    requires { ⌜ (8 * (connSize * n) ≤ length (now s)) × Rising (names n (words (now s))) × (lo ≤ n) × (mask < length (now guess)) × Holds done last (names n (words (now s))) lo (length (now t))
-        × ((j : ℕ) → j < length (now t) → lo + j < n → getD (now t) j 0 + w < 2 ^ 64) ⌝ }
-    ensures { λ b. ⌜ Taking b (names n (words (now (s .entry)))) done last lo x w (now (t .entry)) (now (t .exit)) × (length (now (t .exit)) ≡ length (now (t .entry))) ⌝ }
+    requires { ⌜ (8 * (connSize * n) ≤ length (now s)) × Rising (names n (words (now s))) × (lo ≤ n) × (mask < 2 ^ 32) × (mask + 1 + mask / 4 < length (now guess))
+        × Holds done last (names n (words (now s))) lo (length (now t)) × (own ≤ 1) ⌝ }
+    ensures { λ b. ⌜ Taking b (names n (words (now (s .entry)))) done last lo x own (now (t .entry)) (now (t .exit)) × (length (now (t .exit)) ≡ length (now (t .entry))) ⌝ }
 {
-    if x <= done {
+    if !inside(x, done, last) {
         return true;
     }
-    if last < x {
-        return true;
-    }
-    let at = low_bits(x, mask);
-    let k = find_entry(s, n, x, lo + wide(guess[at]));
+    let k = guesses::find_entry(s, n, lo, x, guess, mask, way);
     if k >= n {
         return false;
     }
-    bump(t, lo, k, w);
-    true
+    take_off(t, lo, k, own)
 }
 
-// Counts the n rows of the entries from lo on, of which there are c in all. False if a row inside has a connection without an entry.
+// Takes the n rows off the entries from lo on, of which there are c in all. False if a row inside has a connection without an entry, or
+// an entry has fewer.
 fn count_rows(
     rows: &[u8],
     n: usize,
     conns: &[u8],
     c: usize,
     lo: usize,
-    t: &mut [u64],
+    t: &mut [u32],
     guess: &[u16],
     mask: u64,
+    way: u64,
     done: u64,
     last: u64,
 ) -> bool
-    requires { ⌜ (8 * (rowSize * n) ≤ length (now rows)) × (8 * (connSize * c) ≤ length (now conns)) × (n ≤ maxAnnouncements) × Rising (names c (words (now conns)))
-        × ((j : ℕ) → getD (now t) j 0 ≡ 0) × (lo ≤ c) × (mask < length (now guess)) × Holds done last (names c (words (now conns))) lo (length (now t)) ⌝ }
-    ensures { λ b. ⌜ Tallying b (names c (words (now (conns .entry)))) (recs rowSize readRow n (words (now (rows .entry)))) done last lo (now (t .exit))
-        × (length (now (t .exit)) ≡ length (now (t .entry))) ⌝ }
+    requires { ⌜ (8 * (rowSize * n) ≤ length (now rows)) × (8 * (connSize * c) ≤ length (now conns)) × Rising (names c (words (now conns)))
+        × Within (λ e j. Left [] e (getD (now t) j 0)) (recs connSize readConn c (words (now conns))) lo (length (now t)) × (lo ≤ c)
+        × (mask < 2 ^ 32) × (mask + 1 + mask / 4 < length (now guess)) × Holds done last (names c (words (now conns))) lo (length (now t)) ⌝ }
+    ensures { λ b. ⌜ Tallying b (names c (words (now (conns .entry)))) (recs rowSize readRow n (words (now (rows .entry))))
+        (recs connSize readConn c (words (now (conns .entry)))) done last lo (now (t .exit)) × (length (now (t .exit)) ≡ length (now (t .entry))) ⌝ }
 {
     let mut i = 0;
     while i < n {
         let r = regions::read_row(rows, i);
-        if !take_row(
-            conns,
-            c,
-            lo,
-            t,
-            guess,
-            mask,
-            done,
-            last,
-            r.conn,
-            1 + r.bits / 8 % 2 * HALF,
-        ) {
+        let own = (r.bits / 8 % 2) as u32;
+        if !take_row(conns, c, lo, t, guess, mask, way, done, last, r.conn, own) {
             return false;
         }
         i += 1;
@@ -216,35 +200,20 @@ fn count_rows(
     true
 }
 
-// Whether the entry has the counts that v packs.
-fn unpacks(v: u64, c: regions::Conn) -> bool
-    ensures { λ b. ⌜ Decides b (Unpacks v c) ⌝ }
+// Whether nothing is left of the counters t of the entries from lo on, of which there are n in all.
+fn used_up(n: usize, lo: usize, t: &[u32]) -> bool
+    ensures { λ b. ⌜ Decides b ((j : ℕ) → j < length (now (t .entry)) → lo + j < n → getD (now (t .entry)) j 0 ≡ 0) ⌝ }
 {
-    if c.held != v % HALF {
-        return false;
-    }
-    if c.owned != v / HALF {
-        return false;
-    }
-    true
-}
-
-// Whether the entries from lo on have the counts of the counters t.
-fn counts_match(s: &[u8], n: usize, lo: usize, t: &[u64]) -> bool
-    requires { ⌜ (8 * (connSize * n) ≤ length (now s)) × (lo ≤ n) ⌝ }
-    ensures { λ b. ⌜ Decides b (Within (λ c j. Unpacks (getD (now (t .entry)) j 0) c) (recs connSize readConn n (words (now (s .entry)))) lo (length (now (t .entry)))) ⌝ }
-{
-    let mut j = 0;
-    while j < t.len() {
-        let i = lo + j;
-        if i >= n {
+    let mut i = lo;
+    while i < n {
+        let j = i - lo;
+        if j >= t.len() {
             return true;
         }
-        let c = regions::read_conn(s, i);
-        if !unpacks(t[j], c) {
+        if t[j] != 0 {
             return false;
         }
-        j += 1;
+        i += 1;
     }
     true
 }
@@ -256,47 +225,69 @@ fn window_fits(
     conns: &[u8],
     c: usize,
     lo: usize,
-    t: &mut [u64],
-    guess: &[u16],
+    t: &mut [u32],
+    guess: &mut [u16],
     mask: u64,
     done: u64,
     last: u64,
 ) -> bool
-    requires { ⌜ (8 * (rowSize * n) ≤ length (now rows)) × (8 * (connSize * c) ≤ length (now conns)) × (n ≤ maxAnnouncements) × Rising (names c (words (now conns)))
-        × ((j : ℕ) → getD (now t) j 0 ≡ 0) × (lo ≤ c) × (mask < length (now guess)) × Holds done last (names c (words (now conns))) lo (length (now t)) ⌝ }
+    requires { ⌜ (8 * (rowSize * n) ≤ length (now rows)) × (8 * (connSize * c) ≤ length (now conns)) × Entries (recs connSize readConn c (words (now conns)))
+        × (lo ≤ c) × (mask < 2 ^ 32) × (mask + 1 + mask / 4 < length (now guess)) × Holds done last (names c (words (now conns))) lo (length (now t)) ⌝ }
     ensures { λ b. ⌜ Decides b (Window (names c (words (now (conns .entry)))) (recs rowSize readRow n (words (now (rows .entry))))
         (recs connSize readConn c (words (now (conns .entry)))) done last lo (length (now (t .entry)))) ⌝ }
 {
-    if !count_rows(rows, n, conns, c, lo, t, guess, mask, done, last) {
+    charge_all(conns, c, lo, t);
+    let way = guesses::fill_guesses(conns, c, lo, guess, mask);
+    if !count_rows(rows, n, conns, c, lo, t, guess, mask, way, done, last) {
         return false;
     }
-    counts_match(conns, c, lo, t)
+    used_up(c, lo, t)
 }
 
 // The window of the first few entries.
 fn few_fit(rows: &[u8], n: usize, conns: &[u8], c: usize) -> bool
-    requires { ⌜ (8 * (rowSize * n) ≤ length (now rows)) × (8 * (connSize * c) ≤ length (now conns)) × (n ≤ maxAnnouncements) × Rising (names c (words (now conns)))
+    requires { ⌜ (8 * (rowSize * n) ≤ length (now rows)) × (8 * (connSize * c) ≤ length (now conns)) × Entries (recs connSize readConn c (words (now conns)))
         × Holds 0 most (names c (words (now conns))) 0 few ⌝ }
     ensures { λ b. ⌜ Decides b (Window (names c (words (now (conns .entry)))) (recs rowSize readRow n (words (now (rows .entry))))
         (recs connSize readConn c (words (now (conns .entry)))) 0 most 0 few) ⌝ }
 {
-    let mut guess: [u16; 2048] = [0; 2048];
-    fill_guesses(conns, c, 0, &mut guess, FEW_MASK);
-    let mut t: [u64; FEW] = [0; FEW];
-    window_fits(rows, n, conns, c, 0, &mut t, &guess, FEW_MASK, 0, u64::MAX)
+    let mut guess: [u16; 2560] = [0; 2560];
+    let mut t: [u32; FEW] = [0; FEW];
+    window_fits(
+        rows,
+        n,
+        conns,
+        c,
+        0,
+        &mut t,
+        &mut guess,
+        FEW_MASK,
+        0,
+        u64::MAX,
+    )
 }
 
 // The window of the many entries from lo on.
 fn many_fit(rows: &[u8], n: usize, conns: &[u8], c: usize, lo: usize, done: u64, last: u64) -> bool
-    requires { ⌜ (8 * (rowSize * n) ≤ length (now rows)) × (8 * (connSize * c) ≤ length (now conns)) × (n ≤ maxAnnouncements) × Rising (names c (words (now conns))) × (lo ≤ c)
+    requires { ⌜ (8 * (rowSize * n) ≤ length (now rows)) × (8 * (connSize * c) ≤ length (now conns)) × Entries (recs connSize readConn c (words (now conns))) × (lo ≤ c)
         × Holds done last (names c (words (now conns))) lo many ⌝ }
     ensures { λ b. ⌜ Decides b (Window (names c (words (now (conns .entry)))) (recs rowSize readRow n (words (now (rows .entry))))
         (recs connSize readConn c (words (now (conns .entry)))) done last lo many) ⌝ }
 {
-    let mut guess: [u16; 32768] = [0; 32768];
-    fill_guesses(conns, c, lo, &mut guess, MANY_MASK);
-    let mut t: [u64; MANY] = [0; MANY];
-    window_fits(rows, n, conns, c, lo, &mut t, &guess, MANY_MASK, done, last)
+    let mut guess: [u16; 20480] = [0; 20480];
+    let mut t: [u32; MANY] = [0; MANY];
+    window_fits(
+        rows,
+        n,
+        conns,
+        c,
+        lo,
+        &mut t,
+        &mut guess,
+        MANY_MASK,
+        done,
+        last,
+    )
 }
 
 // The last connection of the many entries from lo on, or the greatest number if no entry is behind them.

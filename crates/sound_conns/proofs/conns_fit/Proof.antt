@@ -34,8 +34,7 @@ few-fit-requires c κs =
     let b = below-words (a .conns .now) (below-bytes (a .conns .now) (c .before .before .before .shared-slice-known2 .given)) in (
       c .before .before .before .before .before .pre .0,
       c .before .before .before .before .before .pre .1,
-      c .before .before .before .before .before .pre .2,
-      entries-rising (a .c) v e,
+      e,
       λ j h l. let m : 0 + j < a .c = omega (arith, length-names (a .c) v) in (entries-positive (a .c) v e (0 + j) m, names-most (a .c) v b (0 + j) m),
     )
 
@@ -69,9 +68,8 @@ many-fit-requires c κs =
     let v = words (a .conns .now) in (
       c .before .before .before .before .before .before .before .before .pre .0,
       c .before .before .before .before .before .before .before .before .pre .1,
-      c .before .before .before .before .before .before .before .before .pre .2,
-      entries-rising (a .c) v (passed (Entries (recs connSize readConn (a .c) v))
-          (c .before .before .before .before .before .entries-fit .result) (c .before .before .before .before .if1 .left) (c .before .before .before .before .before .entries-fit .ensures)),
+      passed (Entries (recs connSize readConn (a .c) v))
+          (c .before .before .before .before .before .entries-fit .result) (c .before .before .before .before .if1 .left) (c .before .before .before .before .before .entries-fit .ensures),
       omega arith,
       walked-holds (recs rowSize readRow (a .n) (words (a .rows .now))) (a .c) v (c .before .before .loop .inv) (c .last-of .ensures),
     )

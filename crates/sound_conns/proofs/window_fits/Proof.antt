@@ -1,57 +1,76 @@
 use borrow.Author.Needs.{needs}
 use native.Mathlib.Omega.{arith}
-use Prim.Native.Nat.{_≤_}
-use mathlib.Core.Path.{_≡_}
+use mathlib.Core.Path.{_≡_, sym, _∙_}
 use mathlib.Core.Bool.{true, false}
 use borrow.Author.Tests.{not-true, not-false}
-use lib.ListN.{length}
 use Rattle.words.specs.Words.{recs, words}
-use Rattle.words.proofs.Records.{length-recs}
-use Rattle.machine.specs.Limits.{maxAnnouncements}
 use Rattle.regions.specs.Rows.{rowSize, readRow}
 use Rattle.sound_rows.proofs.Decide.{decides-iff}
-use Rattle.sound_conns.proofs.Conns.{window-iff}
+use Rattle.sound_conns.proofs.Entries.{entries-rising}
+use Rattle.sound_conns.proofs.Conns.{window-as, below-as, window-iff}
 use Rattle.sound_conns.proofs.window_fits.Statement.{statement}
 use Rattle.sound_conns.proofs.window_fits.Tie as tie
 
+charge-all-requires : tie.Need-charge-all-requires
+charge-all-requires c κs = search needs
+
+fill-guesses-requires : tie.Need-fill-guesses-requires
+fill-guesses-requires c κs = search needs
+
 count-rows-requires : tie.Need-count-rows-requires
-count-rows-requires c κs = search needs
+count-rows-requires c κs =
+    let a = c .before .before .before .before .before .before .before .before .before .before .before .before .before .before .args in
+    let p = c .before .before .before .before .before .before .before .before .before .before .before .before .before .before .pre in
+    let k = c .before .before .before .before .before .before .before .before .charge-all .ensures in (
+      p .0,
+      p .1,
+      entries-rising (a .c) (words (a .conns .now)) (p .2),
+      (λ j h l. k .0 j (below-as (k .1) h) l),
+      p .3,
+      p .4,
+      below-as (sym (c .before .before .before .before .fill-guesses .ensures)) (p .5),
+      λ j h l. p .6 j (below-as (k .1) h) l,
+    )
 
 same-length : tie.Need-same-length
 same-length c = search needs
 
-returns : tie.Need-returns
-returns c =
-    let e : c .before .before .before .count-rows .result ≡ false = not-true _ (c .if1 .taken) in
-    λ d. (rw e at (c .before .before .before .count-rows .ensures .0)) (d .named)
-
-counts-match-requires : tie.Need-counts-match-requires
-counts-match-requires c κs = search needs
-
 same-length-2 : tie.Need-same-length-2
 same-length-2 c = search needs
 
+returns : tie.Need-returns
+returns c =
+    let e : c .before .before .before .count-rows .result ≡ false = not-true _ (c .if1 .taken) in
+    λ o. (rw e at (c .before .before .before .count-rows .ensures .0)) (window-as (sym (c .before .before .before .count-rows .ensures .1 ∙ c .before .before .before .before .before .before .before .before .before .before .before .before .charge-all .ensures .1)) .to o)
+
+used-up-requires : tie.Need-used-up-requires
+used-up-requires c κs = search needs
+
+same-length-3 : tie.Need-same-length-3
+same-length-3 c = search needs
+
+same-length-4 : tie.Need-same-length-4
+same-length-4 c = search needs
+
 returns-2 : tie.Need-returns-2
 returns-2 c =
+    let a = c .before .before .before .before .before .before .before .before .before .before .before .before .before .before .before .before .before .before .before .before .args in
+    let k = c .before .before .before .before .before .count-rows .ensures in
     let e : c .before .before .before .before .before .count-rows .result ≡ true = not-false _ (c .before .before .if1 .left) in
-    let rs = recs rowSize readRow (c .before .before .before .before .before .before .before .before .before .before .before .args .n)
-    (words (c .before .before .before .before .before .before .before .before .before .before .before .args .rows .now)) in
-    let few : length rs ≤ maxAnnouncements = rw length-recs (c .before .before .before .before .before .before .before .before .before .before .before .pre .2) in
-    rw (← (c .before .before .before .before .before .count-rows .ensures .1))
-    (decides-iff (c .counts-match .result) (window-iff rs (c .before .before .before .before .before .before .before .before .before .before .before .args .c)
-    (words (c .before .before .before .before .before .before .before .before .before .before .before .args .conns .now))
-    (c .before .before .before .before .before .before .before .before .before .before .before .args .done)
-    (c .before .before .before .before .before .before .before .before .before .before .before .args .last)
-    (c .before .before .before .before .before .before .before .before .before .before .before .args .lo) _ few (rw e at (c .before .before .before .before .before .count-rows .ensures .0)))
-    (c .counts-match .ensures))
+    let i = window-iff (recs rowSize readRow (a .n) (words (a .rows .now))) (a .c) (words (a .conns .now)) (a .done) (a .last) (a .lo) _ (rw e at (k .0)) in
+    decides-iff (c .used-up .result) (window-as (k .1 ∙ c .before .before .before .before .before .before .before .before .before .before .before .before .before .before .charge-all .ensures .1)) (decides-iff (c .used-up .result) i (c .used-up .ensures))
 
 pub window-fits-spec : {M : Type 1} → statement M
 window-fits-spec =
     tie.close
     (tie.spec
+    charge-all-requires
+    fill-guesses-requires
     count-rows-requires
     same-length
-    returns
-    counts-match-requires
     same-length-2
+    returns
+    used-up-requires
+    same-length-3
+    same-length-4
     returns-2)

@@ -15,11 +15,11 @@ use Rattle.sound.proofs.package.places_fit.Statement.{statement}
 use Rattle.sound.proofs.package.places_fit.Tie as tie
 
 abbrev Inv-loop : tie.InvT-loop
-Inv-loop s q rows n slots₀ i₀ slots i = (length slots ≡ slotCount) × (i ≤ q) × (RowsSound (recs rowSize readRow n (words rows)) → (k : ℕ) → k < i
+Inv-loop s q rows n slots₀ at₀ i₀ slots at i = (length slots ≡ slotCount) × (i ≤ q) × (RowsSound (recs rowSize readRow n (words rows)) → (k : ℕ) → k < i
     → PlaceSound (recs rowSize readRow n (words rows)) (placeAt (words s) k)) × ((k : ℕ) → k < i → PlaceFollows (words s) k)
 
 abbrev μ-loop : tie.MeasureT-loop
-μ-loop s q rows n slots₀ i₀ slots i = q - i
+μ-loop s q rows n slots₀ at₀ i₀ slots at i = q - i
 
 loop-holds : tie.Need-loop-holds Inv-loop μ-loop
 loop-holds c = (length-replicate {A = ℕ} slotCount 0, omega arith, (λ r k h. absurd (omega arith)), λ k h. absurd (omega arith))
@@ -35,6 +35,12 @@ add-y c = search needs
 
 mul-y : tie.Need-mul-y Inv-loop μ-loop
 mul-y c = search needs
+
+read-quad-requires : tie.Need-read-quad-requires Inv-loop μ-loop
+read-quad-requires c κs = search needs
+
+walk-to-requires : tie.Need-walk-to-requires Inv-loop μ-loop
+walk-to-requires c κs = search needs
 
 sub-place-fits : tie.Need-sub-place-fits Inv-loop μ-loop
 sub-place-fits c = search needs
@@ -55,34 +61,34 @@ cast-place-fits : tie.Need-cast-place-fits Inv-loop μ-loop
 cast-place-fits c = search needs
 
 place-fits-requires : tie.Need-place-fits-requires Inv-loop μ-loop
-place-fits-requires c κs = (omega arith, search needs, c .before .before .before .loop .inv .0)
+place-fits-requires c κs = (omega arith, search needs, c .before .before .before .before .before .loop .inv .0)
 
 returns : tie.Need-returns Inv-loop μ-loop
 returns c =
-    let w = words (c .before .before .before .before .before .before .before .before .before .args .s .now) in
-    let rs = recs rowSize readRow (c .before .before .before .before .before .before .before .before .before .args .n)
-    (words (c .before .before .before .before .before .before .before .before .before .args .rows .now)) in
-    let h : placeSize * c .before .before .before .before .before .before .before .before .before .args .q ≤ length w =
-    omega (arith, length-words (c .before .before .before .before .before .before .before .before .before .args .s .now)) in
-    λ r z. let d : Decides (c .before .before .place-fits .result) (PlaceSound rs (placeAt w (c .before .before .before .before .before .before .loop .i))) =
-    rw (place-lent (c .before .before .before .before .before .before .before .before .before .args .s .now) (c .before .before .before .before .before .before .loop .i)
+    let w = words (c .before .before .before .before .before .before .before .before .before .before .before .args .s .now) in
+    let rs = recs rowSize readRow (c .before .before .before .before .before .before .before .before .before .before .before .args .n)
+    (words (c .before .before .before .before .before .before .before .before .before .before .before .args .rows .now)) in
+    let h : placeSize * c .before .before .before .before .before .before .before .before .before .before .before .args .q ≤ length w =
+    omega (arith, length-words (c .before .before .before .before .before .before .before .before .before .before .before .args .s .now)) in
+    λ r z. let d : Decides (c .before .before .place-fits .result) (PlaceSound rs (placeAt w (c .before .before .before .before .before .before .before .before .loop .i))) =
+    rw (place-lent (c .before .before .before .before .before .before .before .before .before .before .before .args .s .now) (c .before .before .before .before .before .before .before .before .loop .i)
     (omega arith)) at (c .before .before .place-fits .ensures .0 r) in
-    failed (PlaceSound rs (placeAt w (c .before .before .before .before .before .before .loop .i))) (c .before .before .place-fits .result) (c .if1 .taken) d
-    (place-of rs (c .before .before .before .before .before .before .before .before .before .args .q) w h z (c .before .before .before .before .before .before .loop .i) (omega arith))
+    failed (PlaceSound rs (placeAt w (c .before .before .before .before .before .before .before .before .loop .i))) (c .before .before .place-fits .result) (c .if1 .taken) d
+    (place-of rs (c .before .before .before .before .before .before .before .before .before .before .before .args .q) w h z (c .before .before .before .before .before .before .before .before .loop .i) (omega arith))
 
 place-follows-requires : tie.Need-place-follows-requires Inv-loop μ-loop
 place-follows-requires c κs = search needs
 
 returns-2 : tie.Need-returns-2 Inv-loop μ-loop
 returns-2 c =
-    let w = words (c .before .before .before .before .before .before .before .before .before .before .before .args .s .now) in
-    let rs = recs rowSize readRow (c .before .before .before .before .before .before .before .before .before .before .before .args .n)
-    (words (c .before .before .before .before .before .before .before .before .before .before .before .args .rows .now)) in
-    let h : placeSize * c .before .before .before .before .before .before .before .before .before .before .before .args .q ≤ length w =
-    omega (arith, length-words (c .before .before .before .before .before .before .before .before .before .before .before .args .s .now)) in
-    λ r z. failed (PlaceFollows w (c .before .before .before .before .before .before .before .before .loop .i)) (c .before .place-follows .result) (c .if2 .taken)
-    (c .before .place-follows .ensures) (follow-iff (c .before .before .before .before .before .before .before .before .before .before .before .args .q) w .from (z .ascend)
-    (c .before .before .before .before .before .before .before .before .loop .i) (omega arith))
+    let w = words (c .before .before .before .before .before .before .before .before .before .before .before .before .before .args .s .now) in
+    let rs = recs rowSize readRow (c .before .before .before .before .before .before .before .before .before .before .before .before .before .args .n)
+    (words (c .before .before .before .before .before .before .before .before .before .before .before .before .before .args .rows .now)) in
+    let h : placeSize * c .before .before .before .before .before .before .before .before .before .before .before .before .before .args .q ≤ length w =
+    omega (arith, length-words (c .before .before .before .before .before .before .before .before .before .before .before .before .before .args .s .now)) in
+    λ r z. failed (PlaceFollows w (c .before .before .before .before .before .before .before .before .before .before .loop .i)) (c .before .place-follows .result) (c .if2 .taken)
+    (c .before .place-follows .ensures) (follow-iff (c .before .before .before .before .before .before .before .before .before .before .before .before .before .args .q) w .from (z .ascend)
+    (c .before .before .before .before .before .before .before .before .before .before .loop .i) (omega arith))
 
 add-i : tie.Need-add-i Inv-loop μ-loop
 add-i c = search needs
@@ -92,21 +98,21 @@ loop-less c = search needs
 
 loop-again : tie.Need-loop-again Inv-loop μ-loop
 loop-again c =
-    let w = words (c .before .before .before .before .before .before .before .before .before .before .before .args .s .now) in
-    let rs = recs rowSize readRow (c .before .before .before .before .before .before .before .before .before .before .before .args .n)
-    (words (c .before .before .before .before .before .before .before .before .before .before .before .args .rows .now)) in
-    let h : placeSize * c .before .before .before .before .before .before .before .before .before .before .before .args .q ≤ length w =
-    omega (arith, length-words (c .before .before .before .before .before .before .before .before .before .before .before .args .s .now)) in (
+    let w = words (c .before .before .before .before .before .before .before .before .before .before .before .before .before .args .s .now) in
+    let rs = recs rowSize readRow (c .before .before .before .before .before .before .before .before .before .before .before .before .before .args .n)
+    (words (c .before .before .before .before .before .before .before .before .before .before .before .before .before .args .rows .now)) in
+    let h : placeSize * c .before .before .before .before .before .before .before .before .before .before .before .before .before .args .q ≤ length w =
+    omega (arith, length-words (c .before .before .before .before .before .before .before .before .before .before .before .before .before .args .s .now)) in (
       c .before .before .before .before .place-fits .ensures .1,
       search needs,
-      (λ r. let d : Decides (c .before .before .before .before .place-fits .result) (PlaceSound rs (placeAt w (c .before .before .before .before .before .before .before .before .loop .i))) =
-          rw (place-lent (c .before .before .before .before .before .before .before .before .before .before .before .args .s .now)
-          (c .before .before .before .before .before .before .before .before .loop .i) (omega arith)) at (c .before .before .before .before .place-fits .ensures .0 r) in below-more (λ k. PlaceSound
-          rs (placeAt w k)) (c .before .before .before .before .before .before .before .before .loop .i) (c .before .before .before .before .before .before .before .before .loop .inv .2 r)
-          (passed (PlaceSound rs (placeAt w (c .before .before .before .before .before .before .before .before .loop .i))) (c .before .before .before .before .place-fits .result)
+      (λ r. let d : Decides (c .before .before .before .before .place-fits .result) (PlaceSound rs (placeAt w (c .before .before .before .before .before .before .before .before .before .before .loop .i))) =
+          rw (place-lent (c .before .before .before .before .before .before .before .before .before .before .before .before .before .args .s .now)
+          (c .before .before .before .before .before .before .before .before .before .before .loop .i) (omega arith)) at (c .before .before .before .before .place-fits .ensures .0 r) in below-more (λ k. PlaceSound
+          rs (placeAt w k)) (c .before .before .before .before .before .before .before .before .before .before .loop .i) (c .before .before .before .before .before .before .before .before .before .before .loop .inv .2 r)
+          (passed (PlaceSound rs (placeAt w (c .before .before .before .before .before .before .before .before .before .before .loop .i))) (c .before .before .before .before .place-fits .result)
           (c .before .before .if1 .left) d)),
-      below-more (λ k. PlaceFollows w k) (c .before .before .before .before .before .before .before .before .loop .i)
-          (c .before .before .before .before .before .before .before .before .loop .inv .3) (passed (PlaceFollows w (c .before .before .before .before .before .before .before .before .loop .i))
+      below-more (λ k. PlaceFollows w k) (c .before .before .before .before .before .before .before .before .before .before .loop .i)
+          (c .before .before .before .before .before .before .before .before .before .before .loop .inv .3) (passed (PlaceFollows w (c .before .before .before .before .before .before .before .before .before .before .loop .i))
           (c .before .place-follows .result) (c .if2 .left) (c .before .place-follows .ensures)),
     )
 
@@ -129,6 +135,8 @@ places-fit-spec =
     mul-x
     add-y
     mul-y
+    read-quad-requires
+    walk-to-requires
     sub-place-fits
     part-place-fits-start
     part-place-fits-end

@@ -1,8 +1,8 @@
 use borrow.Author.Needs.{needs}
 use native.Mathlib.Omega.{arith}
 use lib.Bits.{and-le-r}
-use Rattle.sound_conns.proofs.low_bits.Statement.{statement}
-use Rattle.sound_conns.proofs.low_bits.Tie as tie
+use Rattle.sound_conns.proofs.guesses.low_bits.Statement.{statement}
+use Rattle.sound_conns.proofs.guesses.low_bits.Tie as tie
 
 returns : tie.Need-returns
 returns c = and-le-r (c .args .x) (c .args .mask)

@@ -1,19 +1,20 @@
 use borrow.Author.Needs.{needs}
 use native.Mathlib.Omega.{arith}
-use Prim.Native.Nat.{_-_, _≤_}
-use mathlib.Core.Path.{_≡_, refl, _∙_}
-use lib.ListN.{length, length-set}
-use Rattle.sound_conns.proofs.fill_guesses.Statement.{statement}
-use Rattle.sound_conns.proofs.fill_guesses.Tie as tie
+use Prim.Native.Nat.{_+_, _-_, _≤_}
+use mathlib.Core.Path.{_≡_, refl}
+use lib.ListN.{length}
+use Rattle.sound_conns.specs.Conns.{many}
+use Rattle.sound_conns.proofs.guesses.fill_second.Statement.{statement}
+use Rattle.sound_conns.proofs.guesses.fill_second.Tie as tie
 
 abbrev Inv-loop : tie.InvT-loop
-Inv-loop s n lo guess₀ mask i₀ guess i = (lo ≤ i) × (length guess ≡ length guess₀)
+Inv-loop s n lo guess₀ mask way lost₀ i₀ guess lost i = (lo + lost ≤ i) × (lost ≤ many) × (length guess ≡ length guess₀)
 
 abbrev μ-loop : tie.MeasureT-loop
-μ-loop s n lo guess₀ mask i₀ guess i = n - i
+μ-loop s n lo guess₀ mask way lost₀ i₀ guess lost i = n - i
 
 loop-holds : tie.Need-loop-holds Inv-loop μ-loop
-loop-holds c = (omega arith, refl)
+loop-holds c = (omega arith, omega arith, refl)
 
 sub-j : tie.Need-sub-j Inv-loop μ-loop
 sub-j c = search needs
@@ -22,7 +23,7 @@ same-length : tie.Need-same-length Inv-loop μ-loop
 same-length c = search needs
 
 returns : tie.Need-returns Inv-loop μ-loop
-returns c = search needs
+returns c = (search needs, search needs)
 
 mul-get : tie.Need-mul-get Inv-loop μ-loop
 mul-get c = search needs
@@ -30,17 +31,11 @@ mul-get c = search needs
 get-requires : tie.Need-get-requires Inv-loop μ-loop
 get-requires c κs = search needs
 
-low-bits-requires : tie.Need-low-bits-requires Inv-loop μ-loop
-low-bits-requires c κs = search needs
+give-second-requires : tie.Need-give-second-requires Inv-loop μ-loop
+give-second-requires c κs = search needs
 
-cast-guess : tie.Need-cast-guess Inv-loop μ-loop
-cast-guess c = search needs
-
-mul-guess : tie.Need-mul-guess Inv-loop μ-loop
-mul-guess c = search needs
-
-slice-write-guess : tie.Need-slice-write-guess Inv-loop μ-loop
-slice-write-guess c = search needs
+add-lost : tie.Need-add-lost Inv-loop μ-loop
+add-lost c = search needs
 
 add-i : tie.Need-add-i Inv-loop μ-loop
 add-i c = search needs
@@ -49,16 +44,16 @@ loop-less : tie.Need-loop-less Inv-loop μ-loop
 loop-less c = search needs
 
 loop-again : tie.Need-loop-again Inv-loop μ-loop
-loop-again c = (search needs, search needs)
+loop-again c = (search needs, search needs, search needs)
 
 same-length-2 : tie.Need-same-length-2 Inv-loop μ-loop
 same-length-2 c = search needs
 
 returns-2 : tie.Need-returns-2 Inv-loop μ-loop
-returns-2 c = search needs
+returns-2 c = (search needs, search needs)
 
-pub fill-guesses-spec : {M : Type 1} → statement M
-fill-guesses-spec =
+pub fill-second-spec : {M : Type 1} → statement M
+fill-second-spec =
     tie.close
     (tie.spec
     Inv-loop
@@ -69,10 +64,8 @@ fill-guesses-spec =
     returns
     mul-get
     get-requires
-    low-bits-requires
-    cast-guess
-    mul-guess
-    slice-write-guess
+    give-second-requires
+    add-lost
     add-i
     loop-less
     loop-again

@@ -3,11 +3,11 @@ use native.Mathlib.Omega.{arith}
 use Rattle.words.specs.Words.{words}
 use Rattle.sound.proofs.Owned.{owned-count}
 use Rattle.sound.proofs.Stage.{some-decides}
-use Rattle.sound.proofs.package.is_owned.Statement.{statement}
-use Rattle.sound.proofs.package.is_owned.Tie as tie
+use Rattle.sound.proofs.owner.is_owned.Statement.{statement}
+use Rattle.sound.proofs.owner.is_owned.Tie as tie
 
-seek-row-requires : tie.Need-seek-row-requires
-seek-row-requires c κs = search needs
+seek-near-requires : tie.Need-seek-near-requires
+seek-near-requires c κs = search needs
 
 run-end-requires : tie.Need-run-end-requires
 run-end-requires c κs = search needs
@@ -17,8 +17,8 @@ owners-requires c κs = search needs
 
 returns : tie.Need-returns
 returns c = λ s. rw (owned-count (c .before .before .before .before .args .n) (words (c .before .before .before .before .args .rows .now)) s (c .before .before .before .before .args .h)
-    (c .before .before .seek-row .result) (c .before .run-end .result) (c .before .before .seek-row .ensures) (c .before .run-end .ensures))
+    (c .before .before .seek-near .result) (c .before .run-end .result) (c .before .before .seek-near .ensures) (c .before .run-end .ensures))
     (some-decides (c .owners .result) _ (c .owners .ensures .0))
 
 pub is-owned-spec : {M : Type 1} → statement M
-is-owned-spec = tie.close (tie.spec seek-row-requires run-end-requires owners-requires returns)
+is-owned-spec = tie.close (tie.spec seek-near-requires run-end-requires owners-requires returns)

@@ -2,8 +2,8 @@ use borrow.Author.Needs.{needs}
 use native.Mathlib.Omega.{arith}
 use Rattle.words.specs.Words.{words}
 use Rattle.sound_conns.proofs.Entries.{is-name}
-use Rattle.sound_conns.proofs.is_entry.Statement.{statement}
-use Rattle.sound_conns.proofs.is_entry.Tie as tie
+use Rattle.sound_conns.proofs.guesses.is_entry.Statement.{statement}
+use Rattle.sound_conns.proofs.guesses.is_entry.Tie as tie
 
 mul-get : tie.Need-mul-get
 mul-get c = search needs

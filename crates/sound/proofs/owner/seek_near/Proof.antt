@@ -1,0 +1,42 @@
+use borrow.Author.Needs.{needs}
+use native.Mathlib.Omega.{arith}
+use Prim.Native.Nat.{_+_, _-_, _≤_, _<_}
+use mathlib.Core.Bool.{false}
+use lib.ListN.{getD}
+use Rattle.words.specs.Words.{words, recs}
+use Rattle.words.proofs.Records.{length-recs}
+use Rattle.regions.specs.Order.{one}
+use Rattle.regions.specs.Rows.{rowSize, rowKey, keyNumber}
+use Rattle.sound_rows.proofs.Decide.{passed}
+use Rattle.sound.proofs.Owned.{tested-bound}
+use Rattle.sound.proofs.owner.seek_near.Statement.{statement}
+use Rattle.sound.proofs.owner.seek_near.Tie as tie
+
+short-before-requires : tie.Need-short-before-requires
+short-before-requires c κs = search needs
+
+seek-row-requires : tie.Need-seek-row-requires
+seek-row-requires c κs = search needs
+
+returns : tie.Need-returns
+returns c = search needs
+
+not-short-requires : tie.Need-not-short-requires
+not-short-requires c κs = search needs
+
+seek-row-requires-2 : tie.Need-seek-row-requires-2
+seek-row-requires-2 c κs = search needs
+
+returns-2 : tie.Need-returns-2
+returns-2 c = search needs
+
+returns-3 : tie.Need-returns-3
+returns-3 c =
+    let a = c .before .before .before .before .before .args in
+    let ks = recs rowSize rowKey (a .n) (words (a .s .now)) in
+    let p = passed ((a .i ≤ a .n) × (0 < a .i → getD ks (a .i - 1) 0 < keyNumber (a .k))) (c .before .before .before .short-before .result) (c .before .before .if1 .left) (c .before .before .before .short-before .ensures) in
+    let q = passed (a .i < a .n → keyNumber (a .k) ≤ getD ks (a .i) 0) (c .before .not-short .result) (c .if2 .left) (c .before .not-short .ensures) in
+    tested-bound ks (a .n) (keyNumber (a .k) + one false) (a .i) (length-recs rowSize rowKey (a .n) (words (a .s .now))) (p .0) (λ h. omega (arith, p .1 h)) (λ h. omega (arith, q h))
+
+pub seek-near-spec : {M : Type 1} → statement M
+seek-near-spec = tie.close (tie.spec short-before-requires seek-row-requires returns not-short-requires seek-row-requires-2 returns-2 returns-3)
