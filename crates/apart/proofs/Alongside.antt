@@ -94,6 +94,15 @@ module _ {z : List ℕ} {n now : ℕ} {b w : List ℕ} {i d : ℕ} {st : State} 
 
 -- ---- one more waits
 
+module _ (z : List ℕ) (n now i d : ℕ) {h : ℕ} (is : parentIn z (i + d) ≡ h) where
+  pub hashes-then : hashesAt z i (d + 1) ≡ hashesAt z i d ++ (h ∷ [])
+  unfolding hashesAt
+  hashes-then = hashes-parts z i d 1 ∙ ap (λ (x : ℕ). hashesAt z i d ++ (x ∷ [])) is
+
+  pub entries-then : waiting z n now i (d + 1) ≡ waiting z n now i d ++ (entryOf n now h (i + d) ∷ [])
+  entries-then =
+      ap (parentEntries n now i) hashes-then ∙ entries-more n now i (hashesAt z i d) h ∙ ap (λ (j : ℕ). waiting z n now i d ++ (entryOf n now h (i + j) ∷ [])) (hashes-long z i d)
+
 module _ {z : List ℕ} {n now : ℕ} {b w : List ℕ} {i d : ℕ} {st : State} {t : Table} (v : Beside z n now b w i d st t) (p : Peer n) (late : now < word) (short : i + d < word) {h : ℕ}
     (is : parentIn z (i + d) ≡ h) (low : h < top) {w′ : List ℕ} (a : SetAside b w w′ d (some (txid h)) (parentOf n now h (i + d)) 1) where
   abbrev m : Limits
@@ -105,8 +114,14 @@ module _ {z : List ℕ} {n now : ℕ} {b w : List ℕ} {i d : ℕ} {st : State} 
   abbrev hs : List ℕ
   hs = hashesAt z i d
 
+  hashes-are : hashesAt z i (d + 1) ≡ hs ++ (h ∷ [])
+  hashes-are = hashes-then z n now i d is
+
   abbrev es : List Entry
   es = waiting z n now i d
+
+  entries-are : waiting z n now i (d + 1) ≡ es ++ (entryOf n now h (i + d) ∷ [])
+  entries-are = entries-then z n now i d is
 
   -- the table with those before it
   abbrev u : Table
@@ -134,13 +149,6 @@ module _ {z : List ℕ} {n now : ℕ} {b w : List ℕ} {i d : ℕ} {st : State} 
       let k = sound-marks st hs (pushes es (v .base)) (small v) (v .together) in
       let neither : (x || y) ≡ false = either-kind n h low u (k .bounded .ordered) ∙ new in
       rw (or-left x y neither, or-right x y neither) (room-beside m c es (v .base) (v .aside .ready) o (txid h) (enters .free) (enters .roomy) u same)
-
-  hashes-are : hashesAt z i (d + 1) ≡ hs ++ (h ∷ [])
-  unfolding hashesAt
-  hashes-are = hashes-parts z i d 1 ∙ ap (λ (x : ℕ). hs ++ (x ∷ [])) is
-
-  entries-are : waiting z n now i (d + 1) ≡ es ++ (entryOf n now h (i + d) ∷ [])
-  entries-are = ap (parentEntries n now i) hashes-are ∙ entries-more n now i hs h ∙ ap (λ (j : ℕ). es ++ (entryOf n now h (i + j) ∷ [])) (hashes-long z i d)
 
   -- the table with it
   next-table : mark (txid h) (push (txid h) c u) ≡ marks (hashesAt z i (d + 1)) (pushes (waiting z n now i (d + 1)) (v .base))
@@ -190,18 +198,23 @@ bounded-one {m} {Q} {t} n now h i p w v s b =
     let b′ = bounded-parentAt (txid h) (parentOf n now h i) s (record { item = refl; positive = p .positive; connection = p .small; ready = w; priority = v }) b in
     by-test (Bounded m Q) (x .reply) (λ e. bounded-mark h s b′) (λ e. b′)
 
-pub alone-next : {z : List ℕ} {n now : ℕ} {b b′ w : List ℕ} {j : ℕ} {st : State} {t : Table} {h : ℕ} {r : Bool} → Beside z n now b w j 0 st t → Peer n → now < word
+pub alone-by : {z : List ℕ} {n now : ℕ} {b b′ w : List ℕ} {j : ℕ} {st : State} {t : Table} {h : ℕ} {r : Bool} → Beside z n now b w j 0 st t → Peer n → now < word
     → j < word → h < top → h ≡ parentIn z j
-    → Answered b b′ r (λ m t. oneParent m n now h j t) → NextAt z n now b′ w j st t (record { kept = r; waiting = 0 })
-alone-next {z} {n} {now} {b} {b′} {w} {j} {st} {t} {h} {r} v p late short low is a =
+    → r ≡ (oneParent (limitsOf st) n now h j t) .reply → Writes b′ (onTable ((oneParent (limitsOf st) n now h j t) .table) st) → NextAt z n now b′ w j st t (record { kept = r; waiting = 0 })
+alone-by {z} {n} {now} {b} {b′} {w} {j} {st} {t} {h} {r} v p late short low is said made =
     let m = limitsOf st in
     let s = none-sound v in
-    let g = none-writes v in
-    let all = beside-none {i = j + 1 - 0} (sound-table s (bounded-one n now h j p late short low (s .bounded))) (a .table (onTable t st) s g) (none-empty v) in
+    let all = beside-none {i = j + 1 - 0} (sound-table s (bounded-one n now h j p late short low (s .bounded))) made (none-empty v) in
     record {
-      reply = a .reply (onTable t st) s g ∙ ap (λ (x : ℕ). (oneParent m n now x j t) .reply) is;
+      reply = said ∙ ap (λ (x : ℕ). (oneParent m n now x j t) .reply) is;
       beside = subst (λ (x : ℕ). Beside z n now b′ w (j + 1 - 0) 0 st ((oneParent m n now x j t) .table)) is all;
     }
+
+alone-next : {z : List ℕ} {n now : ℕ} {b b′ w : List ℕ} {j : ℕ} {st : State} {t : Table} {h : ℕ} {r : Bool} → Beside z n now b w j 0 st t → Peer n → now < word
+    → j < word → h < top → h ≡ parentIn z j
+    → Answered b b′ r (λ m t. oneParent m n now h j t) → NextAt z n now b′ w j st t (record { kept = r; waiting = 0 })
+alone-next {st = st} {t = t} v p late short low is a =
+    alone-by v p late short low is (a .reply (onTable t st) (none-sound v) (none-writes v)) (a .table (onTable t st) (none-sound v) (none-writes v))
 
 -- ---- what a call does with the next one
 

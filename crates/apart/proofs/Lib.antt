@@ -10,6 +10,9 @@ pub mod Parting
 pub mod Marking
 pub mod Notes
 pub mod Alongside
+pub mod Spent
+pub mod ForVictims
+pub mod NextParent
 pub mod InHalves
 pub mod Overdue
 pub mod OneOwner

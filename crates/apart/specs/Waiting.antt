@@ -7,15 +7,14 @@ use mathlib.Core.List.{List, [], _∷_}
 use Rattle.ident.specs.Number.{txid}
 use Rattle.machine.specs.State.{Entry, Table, State, limitsOf, onTable}
 use Rattle.machine.specs.Table.{held}
-use Rattle.machine.specs.Fail.{parentOf, parentsFrom, mark}
+use Rattle.machine.specs.Fail.{parentOf, mark}
 use Rattle.machine.specs.Sound.{Sound}
 use Rattle.store.specs.Image.{Writes}
 use Rattle.announcing.specs.Answers.{oneParent}
 use Rattle.gathering.specs.Waits.{pushes}
 use Rattle.gathering.specs.Aside.{Aside}
 use Rattle.apart.specs.declared.joining.Next.{Next}
-use Rattle.apart.specs.declared.noting.Half.{Half}
-use Rattle.apart.specs.Noting.{parentIn, hashesAt, keptBits}
+use Rattle.apart.specs.Noting.{parentIn, hashesAt}
 
 -- the candidates that parents make, the first with the priority i
 unfoldable pub parentEntries : ℕ → ℕ → ℕ → List ℕ → List Entry
@@ -65,12 +64,3 @@ module _ (z : List ℕ) (n now : ℕ) where
   pub record NextIn (b b′ w w′ : List ℕ) (j d : ℕ) (r : Next) : Type 0 where
     pub most : r .waiting ≤ j + 1
     pub next : (st : State) (t : Table) → Beside b w (j - d) d st t → NextAt b′ w′ j st t r
-
-  -- the parents from .. to are announced; r has the bits of those kept
-  pub record HalfAt (b′ w′ : List ℕ) (from to : ℕ) (st : State) (t : Table) (r : Half) : Type 0 where
-    pub bits : r .bits ≡ keptBits (limitsOf st) n now from (hashesAt z from (to - from)) t
-    pub beside : Beside b′ w′ (to - r .waiting) (r .waiting) st ((parentsFrom (limitsOf st) n now from (hashesAt z from (to - from)) t) .table)
-
-  pub record HalfIn (b b′ w w′ : List ℕ) (from to d : ℕ) (r : Half) : Type 0 where
-    pub most : r .waiting ≤ to
-    pub half : (st : State) (t : Table) → Beside b w (from - d) d st t → HalfAt b′ w′ from to st t r

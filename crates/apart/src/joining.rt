@@ -48,7 +48,7 @@ pub fn let_in(s: &mut [u8], slot: &[u8], new: &mut [u8], m: usize, j: usize, n: 
 }
 
 // The candidate that a parent makes.
-fn offered(h: ident::Hash, n: u64, clock: u64, priority: u64) -> requests::Candidate
+pub fn offered(h: ident::Hash, n: u64, clock: u64, priority: u64) -> requests::Candidate
     ensures { λ c. ⌜ candidateOf c ≡ parentOf n clock (hashNum h) priority ⌝ }
 {
     let item = ident::Item {

@@ -9,6 +9,7 @@ ghost use lib.ListN.{length};
 ghost use Rattle.store.specs.Shown.{limitIn, Kept};
 ghost use Rattle.apart.specs.Apart.{slotBytes, bareBytes, SetApart, Parted, PutBack};
 
+pub mod displacing;
 pub mod joining;
 pub mod lapsing;
 pub mod noting;

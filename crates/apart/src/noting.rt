@@ -1,4 +1,5 @@
 // Parents of a place announced one by one, and those kept noted: a bit for each in two numbers.
+use crate::displacing;
 use crate::joining;
 ghost use mathlib.Core.Path.{_≡_};
 ghost use Prim.Native.Nat.{_+_, _-_, _*_, _^_, _≤_, _<_};
@@ -12,7 +13,8 @@ ghost use Rattle.store.specs.Shown.{Kept};
 ghost use Rattle.gathering.specs.Aside.{space};
 ghost use Rattle.apart.specs.Apart.{slotBytes};
 ghost use Rattle.apart.specs.Noting.{parentIn, hashesAt, ParentsIn, halfMost, Halved, Noted};
-ghost use Rattle.apart.specs.Waiting.{Waits, HalfIn};
+ghost use Rattle.announcing.specs.Falls.{listSpace};
+ghost use Rattle.apart.specs.Displacing.{Supplies, HalfIn};
 
 // Parents of a place, and half of them.
 const MOST: usize = 100;
@@ -59,40 +61,63 @@ pub fn parent_of(slot: &[u8], j: usize) -> ident::Hash
     requests::quad_hash(q)
 }
 
-// The bits of one half, and how many of its parents wait.
+// The bits of one half, how many of its parents wait, and what is known of the victims.
 pub struct Half {
     pub bits: u64,
     pub waiting: usize,
+    pub reserve: displacing::Reserve,
 }
 
-// Announces the parents from .. to of a place for the connection n, beside the m before them that wait; answers the bits of those kept.
+// Announces the parents from .. to of the c of a place for the connection n, beside the m before them that wait; answers the bits of those kept.
 fn announce_bits(
     s: &mut [u8],
     slot: &[u8],
     new: &mut [u8],
+    top: &mut [u8],
+    v: displacing::Reserve,
     m: usize,
     from: usize,
     to: usize,
+    c: usize,
     n: u64,
     clock: u64,
     together: bool,
 ) -> Half
-    requires { ⌜ Waits (words (now slot)) n clock (now s) (words (now new)) (from - m) m × (1 ≤ n) × (m ≤ from) × (from ≤ to) × (to ≤ from + halfMost) × (to ≤ listMost)
-        × (length (now slot) ≡ slotBytes) × (length (now new) ≡ 8 * (rowSize * space)) ⌝ }
-    ensures { λ r. ⌜ HalfIn (words (now (slot .entry))) n clock (now (s .entry)) (now (s .exit)) (words (now (new .entry))) (words (now (new .exit))) from to m r ⌝ }
+    requires { ⌜ Supplies (words (now slot)) n clock (now s) (words (now new)) (words (now top)) (from - m) m v × (1 ≤ n) × (m ≤ from) × (from ≤ to) × (to ≤ from + halfMost) × (to ≤ c)
+        × (c ≤ listMost) × (v .count ≤ listSpace) × (length (now slot) ≡ slotBytes) × (length (now new) ≡ 8 * (rowSize * space)) × (length (now top) ≡ 8 * (rowSize * listSpace)) ⌝ }
+    ensures { λ r. ⌜ HalfIn (words (now (slot .entry))) n clock (now (s .entry)) (now (s .exit)) (words (now (new .entry))) (words (now (new .exit))) (words (now (top .entry)))
+        (words (now (top .exit))) from to m v r ⌝ }
 {
     let mut bits = 0;
     let mut w = 1;
     let mut waiting = m;
+    let mut reserve = v;
     let mut j = from;
     while j < to {
-        let r = joining::announce_next(s, slot, new, waiting, j, n, clock, together);
+        let r = displacing::announce_further(
+            s,
+            slot,
+            new,
+            top,
+            reserve,
+            waiting,
+            j,
+            c,
+            n,
+            clock,
+            together,
+        );
         bits = raised(bits, w, r.kept);
         waiting = r.waiting;
+        reserve = r.reserve;
         w = w * 2;
         j += 1;
     }
-    Half { bits, waiting }
+    Half {
+        bits,
+        waiting,
+        reserve,
+    }
 }
 
 // Bytes of the rows that can wait.
@@ -100,6 +125,13 @@ const ROOM: usize = 36_864;
 
 fn region() -> [u8; ROOM] {
     [0u8; ROOM]
+}
+
+// Bytes of the victims that are listed.
+const LISTED: usize = 9_288;
+
+fn list() -> [u8; LISTED] {
+    [0u8; LISTED]
 }
 
 // With fewer parents a pass over the rows costs more than it spares.
@@ -112,10 +144,39 @@ pub fn announce_all(s: &mut [u8], slot: &[u8], c: usize, n: u64, clock: u64) -> 
 {
     let mut new = region();
     gathering::region::clear(&mut new);
+    let mut top = list();
+    let v = displacing::nothing_listed(false);
     let e = first_half(c);
     let together = c >= FEW;
-    let low = announce_bits(s, slot, &mut new, 0, 0, e, n, clock, together);
-    let high = announce_bits(s, slot, &mut new, low.waiting, e, c, n, clock, together);
+    let low = announce_bits(
+        s,
+        slot,
+        &mut new,
+        &mut top,
+        v,
+        0,
+        0,
+        e,
+        c,
+        n,
+        clock,
+        together,
+    );
+    let known = low.reserve;
+    let high = announce_bits(
+        s,
+        slot,
+        &mut new,
+        &mut top,
+        known,
+        low.waiting,
+        e,
+        c,
+        c,
+        n,
+        clock,
+        together,
+    );
     joining::let_in(s, slot, &mut new, high.waiting, c, n, clock);
     Bits {
         low: low.bits,

@@ -37,7 +37,7 @@ use Rattle.announcing.proofs.Swapping.{change-swap}
 use Rattle.gathering.specs.Merges.{placed, gathered}
 use Rattle.gathering.specs.Waits.{pushes, Ready, Idle, waits, barredBeside}
 use Rattle.gathering.specs.Aside.{space, PutIn, Aside, BarredIn, WaitsAt, RowIn}
-use Rattle.gathering.specs.Exchanges.{VictimsFrom, Full, Underway, Suits, SuitsIn, Swapped, Exchanged}
+use Rattle.gathering.specs.Exchanges.{VictimsFrom, Full, Underway, Suits, SuitsIn, Instead, Swapped, Exchanged}
 use Rattle.gathering.proofs.Waiting.{pushes-more, taken-barred, taken-evicting}
 use Rattle.gathering.proofs.Faring.{same-aside, each-more, aside-more}
 
@@ -130,6 +130,19 @@ module _ (c : Candidate) {b w v : List ℕ} {d p m : ℕ} {st : State} (f : Full
         ∙ ap (push k c) (cut-pushes (keyAt y) (y .conn) (gives-way .small) (c .connection) es t (f .aside .ready) (x .apart refl) (f .sound .bounded .ordered) (f .sound .bounded .filled))
         ∙ sym (pushes-more es b₁ after)
 
+    -- it is the machine's victim that goes
+    instead-of : Instead t es k c (es ++ (b₁ ∷ [])) after
+    instead-of = record {
+      row = y;
+      free = x .free refl;
+      room = x .room refl;
+      greatest-is = first-greatest st (f .sound) y left here;
+      small = gives-way .small;
+      apart = x .apart refl;
+      last = refl;
+      rest = refl;
+    }
+
     pub swapped-in : {b′ w′ : List ℕ} {j : Key} {z : Row} → d < space → j ≡ keyAt y → Makes b b′ (λ u. (has (y .conn) ((at j u) .candidates) ≡ true)
         × (ownerIs (y .conn) ((at j u) .owner) ≡ false)) (cut j (y .conn)) → RowIn b′ k c z → PutIn w w′ d z → Swapped b′ w′ v (d + 1) (p + 1) m (some k) c st es
     swapped-in {b′} {w′} {j} {z} sp q h row put =
@@ -155,6 +168,8 @@ module _ (c : Candidate) {b w v : List ℕ} {d p m : ℕ} {st : State} (f : Full
             };
           };
           same = table-is;
+          enters = λ _ i q. let e : k ≡ i = cc in subst (λ (l : Key). Instead t es l c (es ++ (b₁ ∷ [])) after) e instead-of;
+          stays = λ q. absurd (omega (arith, f .aside .count));
         }
 
 -- ---- nobody goes
@@ -181,6 +196,8 @@ module _ {b w v : List ℕ} {d p m : ℕ} {st : State} {c : Candidate} (f : Full
           };
         };
         same = q;
+        enters = λ h. absurd (omega (arith, f .aside .count));
+        stays = λ _. (refl, refl);
       }
 
 -- ---- what a call does with one announcement

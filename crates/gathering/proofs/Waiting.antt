@@ -115,13 +115,13 @@ module _ (n : ℕ) (es : List Entry) (t : Table) (a : Each (Ready n) es) (o : Or
   by-beside : heldBy n (pushes es t) ≡ heldBy n t + length es
   by-beside = omega (arith, count-pushes (by n) n es t a o, among-by n es a)
 
-  held-beside : held (pushes es t) ≡ held t + length es
+  pub held-beside : held (pushes es t) ≡ held t + length es
   held-beside = omega (arith, count-pushes any n es t a o, among-any es)
 
-  at-beside : (h : ℕ) → waits h es ≡ false → heldAt h (pushes es t) ≡ heldAt h t
+  pub at-beside : (h : ℕ) → waits h es ≡ false → heldAt h (pushes es t) ≡ heldAt h t
   at-beside h w = omega (arith, count-pushes (under h) n es t a o, among-under h es w)
 
-  barred-beside : (k : Key) → (isCandidate n (k .hash) (pushes es t) || leb maxPeerAnnouncements (heldBy n (pushes es t))) ≡ barredBeside es k n t
+  pub barred-beside : (k : Key) → (isCandidate n (k .hash) (pushes es t) || leb maxPeerAnnouncements (heldBy n (pushes es t))) ≡ barredBeside es k n t
   barred-beside k = rw (candidate-beside (k .hash), by-beside)
 
 -- ---- one announcement

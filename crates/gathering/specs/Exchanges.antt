@@ -3,22 +3,23 @@
 use Prim.Native.Nat.{ℕ, _+_, _≤_, _<_}
 use mathlib.Core.Path.{_≡_}
 use mathlib.Core.Bool.{true, false}
-use mathlib.Core.List.{List}
-use mathlib.Core.Option.{Option}
+use mathlib.Core.List.{List, [], _∷_, _++_}
+use mathlib.Core.Option.{Option, some}
 use lib.ListN.{length, drop}
-use Rattle.ident.specs.Number.{Key}
+use Rattle.ident.specs.Number.{top, Key}
 use Rattle.regions.specs.declared.Row.{Row}
 use Rattle.regions.specs.Regions.{Holds}
 use Rattle.regions.specs.Rows.{rowSize, rowWords}
 use Rattle.machine.specs.Limits.{Limits, maxAlternates}
 use Rattle.machine.specs.State.{Candidate, Entry, State, Table, limitsOf, onTable}
 use Rattle.machine.specs.Table.{held, heldAt}
-use Rattle.machine.specs.Announce.{announceKeyed}
+use Rattle.machine.specs.Announce.{cut, victims, greatest, anywhere, announceKeyed}
 use Rattle.machine.specs.Sound.{Sound}
 use Rattle.machine.specs.Typed.{Each}
 use Rattle.store.specs.Flat.{rowsOf}
 use Rattle.store.specs.Gather.{keyAt}
 use Rattle.store.specs.Image.{Writes}
+use Rattle.announcing.specs.Evicts.{entryAt}
 use Rattle.announcing.specs.Falls.{listSpace, Foremost}
 use Rattle.gathering.specs.Waits.{pushes, waits, barredBeside}
 use Rattle.gathering.specs.Aside.{space, Aside, Beside}
@@ -60,11 +61,24 @@ pub record SuitsIn (b w : List ℕ) (d : ℕ) (k : Key) (c : Candidate) (y : Row
   pub spare : r ≡ 1 → d < space
   pub suits : (st : State) → Sound st → Writes b st → Beside w d (c .connection) (st .table) (λ es. Suits (st .table) es k c y r)
 
+-- c comes in at k behind es for the candidate of a row, the greatest that can be evicted in the table t: they are then `entries`, and `left` is left of t
+pub record Instead (t : Table) (es : List Entry) (k : Key) (c : Candidate) (entries : List Entry) (left : Table) : Type 0 where
+  pub row : Row
+  pub free : barredBeside es k (c .connection) t ≡ false
+  pub room : heldAt (k .hash) t < maxAlternates
+  pub greatest-is : greatest (victims anywhere t) ≡ some (entryAt row)
+  pub small : (keyAt row) .hash < top
+  pub apart : waits ((keyAt row) .hash) es ≡ false
+  pub last : entries ≡ es ++ (record { key = k; candidate = c } ∷ [])
+  pub rest : left ≡ cut (keyAt row) (row .conn) t
+
 -- what stands once c was announced beside es
 pub record Swapped (b w v : List ℕ) (d p m : ℕ) (x : Option Key) (c : Candidate) (st : State) (es : List Entry) : Type 0 where
   pub table : Table
   pub full : Full b w v (c .connection) d p m (onTable table st)
   pub same : (announceKeyed (limitsOf st) x c (pushes es (st .table))) .table ≡ pushes (full .entries) table
+  pub enters : length es < d → (k : Key) → x ≡ some k → Instead (st .table) es k c (full .entries) table
+  pub stays : d ≡ length es → (full .entries ≡ es) × (table ≡ st .table)
 
 -- r of 0 or 1: r more wait than the d before, and r victims more have gone; by 2 nothing is done
 pub record Exchanged (b b′ w w′ v : List ℕ) (d p m : ℕ) (x : Option Key) (c : Candidate) (r : ℕ) : Type 0 where

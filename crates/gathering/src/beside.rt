@@ -28,7 +28,7 @@ const MAX_ALTERNATES: usize = 8;
 const MAX_PEER_ANNOUNCEMENTS: u64 = 5_000;
 
 // With the m that wait L announcements are held.
-fn full(s: &[u8], m: usize) -> bool
+pub fn full(s: &[u8], m: usize) -> bool
     requires { ⌜ Kept (now s) × (m ≤ space) ⌝ }
     ensures { λ r. ⌜ ((st : State) → Sound st → Writes (now (s .entry)) st → r ≡ leb (st .limit) (held (st .table) + m)) ⌝ }
 {

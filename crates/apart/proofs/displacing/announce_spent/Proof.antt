@@ -1,0 +1,41 @@
+-- `apart::displacing::announce_spent` meets its contract. Assumes nothing.
+use native.Mathlib.Omega.{arith}
+use Rattle.ident.proofs.Words.{hash-four, hash-below}
+use Rattle.apart.proofs.Alongside.{let-kept}
+use Rattle.apart.proofs.NextParent.{spent-alone}
+use borrow.Author.Needs.{needs}
+use Rattle.apart.proofs.displacing.announce_spent.Statement.{statement}
+use Rattle.apart.proofs.displacing.announce_spent.Tie as tie
+
+let-in-requires : tie.Need-let-in-requires
+let-in-requires c κs = search needs
+
+parent-of-requires : tie.Need-parent-of-requires
+parent-of-requires c κs = search needs
+
+announce-unaided-requires : tie.Need-announce-unaided-requires
+announce-unaided-requires c κs = (
+  let-kept (c .before .before .before .before .before .before .let-in .ensures)
+      (c .before .before .before .before .before .before .before .before .before .before .before .before .pre .0),
+  c .before .before .before .before .before .before .before .before .before
+      .before .before .before .pre .1,
+)
+
+same-length : tie.Need-same-length
+same-length c = search needs
+
+same-length-2 : tie.Need-same-length-2
+same-length-2 c = search needs
+
+returns : tie.Need-returns
+returns c = spent-alone (record {
+  positive = c .before .before .before .before .before .before .before .before .before .before .before .before .before .before .before .pre .1;
+  small = omega
+      arith;
+}) (omega arith) (omega (arith, c .before .before .before .before .before .before .before .before .before .before .before .before .before .before .before .pre .3)) (hash-below
+    (c .before .before .before .before .parent-of .result) (hash-four (c .before .before .before .before .parent-of .result) (c .before .before .before .before .parent-of .ok)))
+    (c .before .before .before .before .parent-of .ensures) (c .before .before .before .before .before .before .before .before .before .let-in .ensures)
+    (c .before .before .announce-unaided .ensures)
+
+pub announce-spent-spec : {M : Type 1} → statement M
+announce-spent-spec = tie.close (tie.spec let-in-requires parent-of-requires announce-unaided-requires same-length same-length-2 returns)
