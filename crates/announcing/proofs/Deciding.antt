@@ -45,10 +45,10 @@ greatest-each P [] a q = let z : _≡_ {A = ℕ} 0 1 = cc in absurd (omega arith
 greatest-each P (v ∷ l) a {e} q = let z : greatestFrom v l ≡ e = cc in subst P z (greatest-of P v l (a .0) (a .1))
 
 module _ (m : Limits) (k : Key) (c : Candidate) (t : Table) where
-  abbrev Barred : Bool
+  abbrev pub Barred : Bool
   Barred = isCandidate (c .connection) (k .hash) t || leb maxPeerAnnouncements (heldBy (c .connection) t)
 
-  abbrev Crowded : Bool
+  abbrev pub Crowded : Bool
   Crowded = leb (m .alternates) (heldAt (k .hash) t)
 
   abbrev Full : Bool

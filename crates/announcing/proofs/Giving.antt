@@ -8,26 +8,27 @@ use mathlib.Core.List.{List, [], _∷_, _++_, map}
 use mathlib.Core.Option.{Option, none, some}
 use native.Mathlib.Omega.{arith}
 use lib.Dec.{ltb, eqb}
-use lib.ListN.{length, length-append}
+use lib.ListN.{length}
 use borrow.Author.Tests.{eq-eqb}
 use Rattle.ident.specs.If.{if_then_else_}
 use Rattle.ident.specs.Number.{top, Key, place}
 use Rattle.regions.specs.declared.Row.{Row}
 use Rattle.regions.specs.Regions.{removeAt}
 use Rattle.machine.specs.State.{Candidate, Entry, Request, State, Table, withCandidates, ownerIs}
-use Rattle.machine.specs.Table.{at, keep, change, one, count, byUnder, held}
+use Rattle.machine.specs.Table.{at, keep, change, one, count, any, byUnder, held}
 use Rattle.machine.specs.Announce.{victimsIn, victims, greatest, anywhere, push, cut}
 use Rattle.machine.specs.Sound.{Ordered, Sound}
 use Rattle.machine.specs.Typed.{Each}
 use Rattle.machine.proofs.Announce.{Victim, victims-all}
-use Rattle.machine.proofs.Table.{at-key}
+use Rattle.machine.proofs.Table.{at-key, lawful-at}
 use Rattle.machine.proofs.Tests.{test, by-test}
-use Rattle.store.specs.Flat.{rowOf, rowsOf}
+use Rattle.store.specs.Flat.{rowOf, rowsOf, placesOf}
 use Rattle.store.specs.Gather.{keyAt, candidateAt}
 use Rattle.store.specs.FlatSound.{countRows}
 use Rattle.store.proofs.Bits.{key-row, conn-row}
-use Rattle.store.proofs.Counts.{rows-append, count-rows, held-rows}
-use Rattle.store.proofs.RowsAt.{Among, among, ahead, behind, rows-among, cut-rows, remove-seam}
+use Rattle.store.proofs.Counts.{rows-append, count-rows}
+use Rattle.store.proofs.RowsAt.{Among, among, ahead, behind, rows-among, cut-rows, cut-places, remove-seam}
+use Rattle.requests.proofs.Cutting.{place-stays}
 use Rattle.announcing.specs.Enters.{Goes}
 use Rattle.announcing.specs.Evicts.{entryAt, greatestOver}
 use Rattle.announcing.specs.Falls.{fallen, headOf, Foremost}
@@ -68,7 +69,7 @@ module _ (st : State) (s : Sound st) (v : Row) (vs : List Row) (f : Foremost (v 
   abbrev k : Key
   k = keyAt v
 
-  first : greatestOver none (rowsOf t) ≡ some (entryAt v)
+  pub first : greatestOver none (rowsOf t) ≡ some (entryAt v)
   first = sym (fallen-head [] (rowsOf t)) ∙ ap headOf (f .all)
 
   -- it is the one that the machine evicts
@@ -81,22 +82,22 @@ module _ (st : State) (s : Sound st) (v : Row) (vs : List Row) (f : Foremost (v 
       let x = greatest-each (Victim anywhere 0 t) (victims anywhere t) (victims-all anywhere 0 t (s .bounded .ordered)) first-greatest in
       record { small = x .small; held = x .held; free = x .free }
 
-  abbrev found : Among (v .conn) ((at k t) .candidates)
+  abbrev pub found : Among (v .conn) ((at k t) .candidates)
   found = among (v .conn) ((at k t) .candidates) (first-goes .held)
 
-  abbrev front : List Row
+  abbrev pub front : List Row
   front = ahead k (v .conn) 0 t (s .bounded .ordered) found
 
-  abbrev back : List Row
+  abbrev pub back : List Row
   back = behind k (v .conn) 0 t (s .bounded .ordered) found
 
-  abbrev own : Row
+  abbrev pub own : Row
   own = rowOf (at k t) (found .one)
 
-  rows-are : rowsOf t ≡ front ++ (own ∷ back)
+  pub rows-are : rowsOf t ≡ front ++ (own ∷ back)
   rows-are = rows-among k (v .conn) 0 t (s .bounded .ordered) found
 
-  rows-left : rowsOf (cut k (v .conn) t) ≡ front ++ back
+  pub rows-left : rowsOf (cut k (v .conn) t) ≡ front ++ back
   rows-left = cut-rows k (v .conn) 0 t (s .bounded .ordered) found ∙ ap (removeAt (length front)) rows-are ∙ remove-seam front own back
 
   -- no other row is of its connection at its hash
@@ -123,19 +124,45 @@ module _ (st : State) (s : Sound st) (v : Row) (vs : List Row) (f : Foremost (v 
           let b : r .conn ≡ v .conn = ap (λ (x : Entry). x .candidate .connection) q in
           rw (eq-eqb (keyAt r .hash) (k .hash) a) (eq-eqb (r .conn) (v .conn) b)
 
+  pub front-apart : Apart (entryAt v) front
+  front-apart = apart front (omega (arith, once, ap one own-his))
+
+  pub back-apart : Apart (entryAt v) back
+  back-apart = apart back (omega (arith, once, ap one own-his))
+
+  pub rest-fallen : fallen [] (rowsOf t) ≡ entryAt v ∷ fallen [] (rowsOf (cut k (v .conn) t))
+  rest-fallen =
+      ap (fallen []) rows-are ∙ fallen-tail (entryAt v) front own back front-apart back-apart (ap (greatestOver none) (sym rows-are) ∙ first)
+      ∙ ap (λ (x : List Row). entryAt v ∷ fallen [] x) (sym rows-left)
+
   pub next-first : Foremost vs (rowsOf (cut k (v .conn) t))
-  next-first =
-      let o : one (his own) ≡ 1 = ap one own-his in
-      let na = apart front (omega (arith, once)) in
-      let nb = apart back (omega (arith, once)) in
-      let z : fallen [] (rowsOf t) ≡ entryAt v ∷ fallen [] (rowsOf (cut k (v .conn) t)) =
-      ap (fallen []) rows-are ∙ fallen-tail (entryAt v) front own back na nb (ap (greatestOver none) (sym rows-are) ∙ first) ∙ ap (λ (x : List Row). entryAt v ∷ fallen [] x) (sym rows-left) in
-      record { others = f .others; all = tail (sym z ∙ f .all) }
+  next-first = record { others = f .others; all = tail (sym rest-fallen ∙ f .all) }
     where
       tail : {a b : List Entry} → entryAt v ∷ a ≡ entryAt v ∷ b → a ≡ b
       tail q = cc
 
+  -- one candidate less, of its key and its connection
+  pub count-less : (q : Key → ℕ → Bool) → count q (cut k (v .conn) t) + one (q k (v .conn)) ≡ count q t
+  unfolding countRows
+  count-less q =
+      let p : Row → Bool = λ r. q (keyAt r) (r .conn) in
+      let e : p own ≡ q k (v .conn) =
+      ap (λ (j : Key). q j (own .conn)) (key-row (at k t) (found .one) ∙ at-key k 0 t (first-goes .small) (s .bounded .ordered)) ∙ ap (q k) (conn-row (at k t) (found .one) ∙ found .is) in
+      omega (
+        arith,
+        sym (count-rows q (cut k (v .conn) t)),
+        sym (count-rows q t),
+        ap (countRows p) rows-left,
+        ap (countRows p) rows-are,
+        rows-append p front back,
+        rows-append p front (own ∷ back),
+        ap one e,
+      )
+
   -- one row less
   pub one-less : held (cut k (v .conn) t) + 1 ≡ held t
-  one-less =
-      omega (arith, held-rows (cut k (v .conn) t), held-rows t, ap length rows-left, ap length rows-are, length-append front back, length-append front (own ∷ back))
+  one-less = count-less any
+
+  -- no place goes with it
+  pub places-less : placesOf (cut k (v .conn) t) ≡ placesOf t
+  places-less = cut-places k (v .conn) 0 t (s .bounded .ordered) found (place-stays (at k t) (v .conn) (lawful-at k t (s .bounded .lawful)) (first-goes .free))

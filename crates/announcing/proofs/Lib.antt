@@ -12,3 +12,8 @@ pub mod Falling
 pub mod Ranking
 pub mod Giving
 pub mod Swapping
+pub mod Nobody
+pub mod Precedence
+pub mod DroppingRows
+pub mod GoneBy
+pub mod GoneTogether

@@ -107,7 +107,7 @@ found-anywhere t a {o} e {n} l =
 
 -- ---- the rows of a hash
 
-abbrev at-key : Key → Table → List Entry
+abbrev pub at-key : Key → Table → List Entry
 at-key k t = victimsIn (at k t) ((at k t) .candidates)
 
 module _ (k : Key) (lo : ℕ) (t : Table) (o : Ordered lo t) {from to : ℕ} (p : from ≡ length (rowsBelow k t)) (q : to ≡ length (rowsBelow k t ++ rowsFor (at k t))) where
@@ -133,7 +133,7 @@ unfolding victimsIn
 key-absent k lo t l o = ap (λ (q : Request). victimsIn q (q .candidates)) (at-absent k lo t l o)
 
 module _ (h : ℕ) (small : h < top) where
-  at-hash : (lo : ℕ) (t : Table) → Ordered lo t → victims (atHash h) t ≡ at-key (txid h) t ++ at-key (wtxid h) t
+  pub at-hash : (lo : ℕ) (t : Table) → Ordered lo t → victims (atHash h) t ≡ at-key (txid h) t ++ at-key (wtxid h) t
   unfolding victims at victimsIn
   at-hash lo [] o = refl
   at-hash lo (r ∷ t) o = elim (test (eqb (r .key .hash) h)) [

@@ -4,6 +4,7 @@ ghost use Rattle.store.specs.Shown.{Kept};
 ghost use Rattle.requests.specs.Changes.{candidateOf};
 ghost use Rattle.announcing.specs.Answers.{Answered};
 
+pub mod dropping;
 pub mod evict;
 pub mod foremost;
 pub mod keyed;

@@ -75,7 +75,7 @@ module _ (j : Key) (x : ℕ) (small : j .hash < top) where
     idle-still n es t (a .1) (or-right (eqb (e .key .hash) (j .hash)) (waits (j .hash) es) w) (i .1),
   )
 
-  aside-still : {n d : ℕ} {t : Table} {es : List Entry} {w : List ℕ} → Aside n t es w d → waits (j .hash) es ≡ false → Aside n (cut j x t) es w d
+  pub aside-still : {n d : ℕ} {t : Table} {es : List Entry} {w : List ℕ} → Aside n t es w d → waits (j .hash) es ≡ false → Aside n (cut j x t) es w d
   aside-still {n} {d} {t} {es} {w} a e = record { ready = a .ready; idle = idle-still n es t (a .ready) e (a .idle); count = a .count; rows = rw (gathered-still n es t [] (a .ready) e) (a .rows) }
 
 -- those that wait are preferred: none of them is a victim

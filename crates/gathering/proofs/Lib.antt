@@ -10,3 +10,6 @@ pub mod Faring
 pub mod ItemKeys
 pub mod Arriving
 pub mod Exchanging
+pub mod Deferral
+pub mod Deferrals
+pub mod Departing

@@ -15,7 +15,7 @@ use Rattle.regions.specs.Regions.{insertAt}
 use Rattle.machine.specs.Limits.{Limits, maxPeerAnnouncements}
 use Rattle.machine.specs.State.{Candidate, Entry, Table, Answer, done}
 use Rattle.machine.specs.Table.{at, one, any, by, under, byUnder, count, held, heldBy, heldAt, isCandidate}
-use Rattle.machine.specs.Announce.{victims, greatest, anywhere, evicting, push, announceAt}
+use Rattle.machine.specs.Announce.{victims, greatest, anywhere, atHash, evicting, push, announceAt}
 use Rattle.machine.specs.Sound.{Ordered}
 use Rattle.machine.specs.Typed.{Each}
 use Rattle.machine.proofs.Tests.{test, or-left, or-right, or-true}
@@ -27,7 +27,7 @@ use Rattle.store.proofs.Bits.{key-row, conn-row}
 use Rattle.store.proofs.Counts.{rows-append, count-rows}
 use Rattle.store.proofs.RowsAt.{push-rows}
 use Rattle.store.proofs.Split.{rowsBelow}
-use Rattle.announcing.proofs.Deciding.{when-barred, when-crowded-out, when-full, when-full-out, when-room}
+use Rattle.announcing.proofs.Deciding.{when-barred, when-crowded, when-crowded-out, when-full, when-full-out, when-room}
 use Rattle.gathering.specs.Waits.{pushes, Ready, waits, barredBeside, fullBeside}
 
 -- ---- counts, exactly
@@ -152,7 +152,7 @@ module _ (m : Limits) (c : Candidate) (es : List Entry) (t : Table) (a : Each (R
       free : (isCandidate (c .connection) (k .hash) (pushes es t) || leb maxPeerAnnouncements (heldBy (c .connection) (pushes es t))) ≡ false
       free = barred-beside (c .connection) es t a o k ∙ b
 
-      waits-not : waits (k .hash) es ≡ false
+      pub waits-not : waits (k .hash) es ≡ false
       waits-not = or-right (isCandidate (c .connection) (k .hash) t) (waits (k .hash) es)
           (or-left (isCandidate (c .connection) (k .hash) t || waits (k .hash) es) (leb maxPeerAnnouncements (heldBy (c .connection) t + length es)) b)
 
@@ -169,7 +169,10 @@ module _ (m : Limits) (c : Candidate) (es : List Entry) (t : Table) (a : Each (R
             | inr d ↦ ap (λ (x : Answer). x .table) (when-full-out m k c (pushes es t) free (crowded-is ∙ d) (full-is ∙ sym (ap (λ (z : Bool). z || Full) d) ∙ f) p)
           ]
 
-      -- one has to give way
+      -- one at its hash has to give way, or one anywhere
+      pub taken-crowded : Crowded ≡ true → c .preferred ≡ true → announceAt m k c (pushes es t) ≡ evicting (greatest (victims (atHash (k .hash)) (pushes es t))) k c (pushes es t)
+      taken-crowded d p = when-crowded m k c (pushes es t) free (crowded-is ∙ d) p
+
       pub taken-evicting : Crowded ≡ false → Full ≡ true → c .preferred ≡ true → announceAt m k c (pushes es t) ≡ evicting (greatest (victims anywhere (pushes es t))) k c (pushes es t)
       taken-evicting d f p = when-full m k c (pushes es t) free (crowded-is ∙ d) (full-is ∙ f) p
 

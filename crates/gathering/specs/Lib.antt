@@ -2,3 +2,4 @@ pub mod Waits
 pub mod Merges
 pub mod Aside
 pub mod Exchanges
+pub mod Deferring
