@@ -18,6 +18,24 @@ macro_rules! listed {
     };
 }
 
+/// The calls that end a request or its owner's part in it, and those of packages.
+pub static PACKAGES: &[&Spec] = &[
+    &failed::SPEC,
+    &unclaim::SPEC,
+    &forget::SPEC,
+    &forget_known::SPEC,
+    &failed_package_info::SPEC,
+    &package_info_owner::SPEC,
+    &failed_with_parents::SPEC,
+    &disconnected::SPEC,
+    &solicit_package_info::SPEC,
+    &claim_package::SPEC,
+    &begin_package_resolution::SPEC,
+    &release_package::SPEC,
+    &failed_package_claims::SPEC,
+    &teardown_package_claims::SPEC,
+];
+
 listed! {
     open,
     sum,
