@@ -18,6 +18,8 @@ macro_rules! listed {
     };
 }
 
+pub use counts::{case as counts_case, counted};
+
 /// The calls that end a request or its owner's part in it, and those of packages.
 pub static PACKAGES: &[&Spec] = &[
     &failed::SPEC,
@@ -39,6 +41,7 @@ pub static PACKAGES: &[&Spec] = &[
 listed! {
     open,
     sum,
+    counts,
     announce,
     request_parent,
     announce_parents,
@@ -81,6 +84,8 @@ pub enum Hands {
     /// The count of keys considered, and entries with theirs.
     Plan,
     Figures,
+    /// The counts of a connection.
+    Counts,
 }
 
 /// The call that is carried out in the place of this one, where a rule is mistaken.

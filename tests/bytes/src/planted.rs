@@ -40,7 +40,7 @@ const FAULTS: &[(&str, Fault)] = &[
         done.answer.status == 0
     }),
     ("another second count", |done, _| {
-        let second = matches!(done.ask.spec.hands, Hands::Departure | Hands::Plan);
+        let second = matches!(done.ask.spec.hands, Hands::Departure | Hands::Plan | Hands::Counts);
         done.answer.out[1] ^= u64::from(second);
         second && done.answer.status == 0
     }),
