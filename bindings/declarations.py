@@ -25,6 +25,7 @@ HANDED = {
     ("own", "parents"): ("Left", "Left { own: own as usize, parents: parents as usize }"),
     ("owner",): ("Option<u64>", "(owner != 0).then_some(owner)"),
     ("held", "room", "permille"): ("Figures", "Figures { held, free: room, permille }"),
+    ("announced", "owned"): ("Counts", "Counts { announced, owned }"),
 }
 # Slices that are lists of hashes.
 LISTS = ("parents", "wtxids", "combined")

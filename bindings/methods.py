@@ -64,6 +64,7 @@ HANDED = {
     ("count",): ("u64", "count"),
     ("owner",): ("Option<Connection>", "Connection::new(owner)"),
     ("held", "room", "permille"): ("Figures", "Figures { held, free: room, permille }"),
+    ("announced", "owned"): ("Counts", "Counts { announced, owned }"),
 }
 ANSWERED = {
     ("count",): ("Keys<'_>", KEYS.format("count")),
@@ -107,6 +108,7 @@ SAID = {
     " smaller priority.",
     "plan": "Which candidate is to be asked for what, by priority: at most 1,025 entries. Owners whose deadline has come fail first.",
     "sum": "How many announcements are held, how many more fit, and how full the tracker is in thousandths.",
+    "counts": "How many announcements the connection has, and how many requests it owns, deadlines over or not.",
 }
 
 # Examples, which are run as tests.
@@ -123,6 +125,19 @@ EXAMPLES = {
         let list = tracker.arrange(&[peer], &taken); // 7 takes witnesses
         let getdata = list.part(peer).map(|entry| entry.candidate.item);
         assert!(getdata.eq([Item::WitnessTx(Txid([1; 32]))]));
+        # Ok::<(), tracker::Error>(())
+        """,
+    "counts": """
+        use tracker::{Announcement, Connection, Counts, Entry, Item, Now, Tracker, Txid};
+
+        let mut tracker = Tracker::new(100, 2)?;
+        let (now, peer) = (Now::new(0)?, Connection::new(7).expect("not 0"));
+        for byte in [1, 2] {
+            tracker.announce(&Announcement::new(peer, Item::Tx(Txid([byte; 32]))));
+        }
+        let planned: Vec<Entry> = tracker.plan(now).entries.collect();
+        tracker.claim(now, &planned[..1]); // it is asked for one of the two
+        assert_eq!(tracker.counts(peer), Counts { announced: 2, owned: 1 });
         # Ok::<(), tracker::Error>(())
         """,
     "solicit_package_info": """

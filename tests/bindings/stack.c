@@ -131,6 +131,8 @@ static void requests(void) {
     WAS(1, "poll_gate");
     CALL(sweep, ANSWER, NUMBER);
     CALL(sum, NUMBER, &s->numbers[1], &s->numbers[2]);
+    CALL(counts, 9, NUMBER, &s->numbers[1]);
+    WAS(100, "counts");
 }
 
 /* Solicits the transaction with its hundred parents, and brings its package as far as is said: 0 the flag, 1 Awaiting, 2 Enqueued. */

@@ -95,6 +95,9 @@ def refusals(root):
         tests = [True, given[0] != "[]", given[1] != "[]", parents != "0", form != "plain", name in places]
         need = "" if form == "plain" else said(Needs(given[-1], limits).sum()) + (" keys" if form == "keyed" else " entries")
         found[snake(name)] = ([number for number, test in enumerate(tests, 3) if test], need)
+    # counts is no `Ask`: its contract says them.
+    counting = read(root, "crates/public_requests/specs/Counting.antt")
+    found["counts"] = ([int(number) for number in re.findall(r"→ r ≡ Refused (\d)$", counting, re.M)], "")
     return found
 
 
@@ -126,7 +129,7 @@ def public_calls(root):
     for crate in crates:
         if crate == "tracker" or crate.startswith("public_"):
             for path, text in functions(root, crate).items():
-                if "::on_sound::" not in path and "requires" not in text and re.search(r"\b(Leaves|LeavesWith|Does)\b", text):
+                if "::on_sound::" not in path and "requires" not in text and re.search(r"\b(Leaves|LeavesWith|Does|CountsOf)\b", text):
                     found[path] = text
     return found
 

@@ -52,7 +52,7 @@ static void come(uint64_t now, uint64_t kind, const uint8_t hash[32]) {
 
 int main(void) {
     uint8_t a[32], b[32];
-    uint64_t own, parents, held, room, permille;
+    uint64_t own, parents, held, room, permille, announced, owned;
     memset(a, 0xaa, sizeof a);
     memset(b, 0xbb, sizeof b);
     done(tracker_open(store, sizeof store, L, Q));
@@ -62,6 +62,8 @@ int main(void) {
     announce(9, TRACKER_ITEM_WTX, a, false, 3);
     announce(9, TRACKER_ITEM_TX, b, false, 4);
     ask(1000);
+    done(tracker_counts(store, sizeof store, 9, &announced, &owned));
+    printf("1000: 9 has %" PRIu64 " announcements and owns %" PRIu64 "\n", announced, owned);
 
     come(1500, TRACKER_TXID, b);
     ask(60999); /* nothing: 7 has until 61000 */

@@ -1,6 +1,6 @@
 //! Three connections announce two transactions; one delivers, one stays silent, one leaves. Prints who is asked when.
 
-use tracker::{Announcement, Connection, Entry, Error, Item, Key, Now, Tracker, Txid, Wtxid};
+use tracker::{Announcement, Connection, Counts, Entry, Error, Item, Key, Now, Tracker, Txid, Wtxid};
 
 /// Asks, at that time, whom the tracker selects.
 fn ask(tracker: &mut Tracker, now: Now) {
@@ -27,6 +27,8 @@ fn main() -> Result<(), Error> {
     tracker.announce(&Announcement::new(peer(9), Item::WTx(a)).ready_at(1_000).priority(3));
     tracker.announce(&Announcement::new(peer(9), Item::Tx(b)).ready_at(1_000).priority(4));
     ask(&mut tracker, Now::new(1_000)?);
+    let Counts { announced, owned } = tracker.counts(peer(9));
+    println!("1000: 9 has {announced} announcements and owns {owned}");
 
     println!("1500: {} has come from 9", named(Key::Txid(b)));
     tracker.forget_known(Key::Txid(b), Now::new(1_500)?);

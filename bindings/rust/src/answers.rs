@@ -16,6 +16,15 @@ pub struct Figures {
     pub permille: u64,
 }
 
+/// What a connection has in a tracker.
+#[derive(Clone, Copy, Debug, Default, Eq, PartialEq)]
+pub struct Counts {
+    /// Its announcements, of which each is a candidate of a request.
+    pub announced: u64,
+    /// The requests that it owns: it is asked for them.
+    pub owned: u64,
+}
+
 /// Who is asked for what: an entry of a plan, of a claim, of a list arranged for sending.
 #[derive(Clone, Copy, Debug, Eq, Hash, PartialEq)]
 pub struct Entry {

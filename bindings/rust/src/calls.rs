@@ -4,7 +4,7 @@ use core::ops::Range;
 
 use crate::bytes::{Candidate, Left, Plan};
 use crate::error::done;
-use crate::{Error, Figures, Key, abi};
+use crate::{Counts, Error, Figures, Key, abi};
 
 // begin: written by bindings/generate out of crates/exports/src
 
@@ -105,6 +105,17 @@ pub fn announce_parents(
             parents.len(), now, answer.as_mut_ptr(), answer.len(), &mut count)
     };
     done(status, count as usize)
+}
+
+/// How many announcements the connection has, and how many requests it owns, deadlines over or not.
+pub fn counts(store: &[u8], connection: u64) -> Result<Counts, Error> {
+    let mut announced = 0;
+    let mut owned = 0;
+    // SAFETY: what is lent is lent for the call, and what it may write is lent to it alone.
+    let status = unsafe {
+        abi::tracker_counts(store.as_ptr(), store.len(), connection, &mut announced, &mut owned)
+    };
+    done(status, Counts { announced, owned })
 }
 
 /// The connection leaves every request that it is a candidate of. The keys of these stand in the answer, so

@@ -60,7 +60,7 @@ mod sizes;
 mod store;
 mod values;
 
-pub use answers::{Departed, Entries, Entry, Figures, Keys, Planned};
+pub use answers::{Counts, Departed, Entries, Entry, Figures, Keys, Planned};
 pub use bounded::{Now, Parents};
 pub use error::Error;
 #[cfg(all(feature = "alloc", feature = "owned"))]

@@ -3,7 +3,7 @@
 use crate::abi::owned as abi;
 use crate::lists::listed;
 use crate::owner::settled;
-use crate::{Connection, Entries, Entry, Figures, Key, Now, Store, Tracker, bytes};
+use crate::{Connection, Counts, Entries, Entry, Figures, Key, Now, Store, Tracker, bytes};
 
 impl<S: Store> Tracker<S> {
     // begin: written by bindings/generate out of crates/owned/src
@@ -50,6 +50,33 @@ impl<S: Store> Tracker<S> {
                 taken.as_ptr(), taken.len(), self.answer.as_mut_ptr(), self.answer.len(), &mut count)
         };
         settled(status, Entries::new(&self.answer, count as usize))
+    }
+
+    /// How many announcements the connection has, and how many requests it owns, deadlines over or not.
+    ///
+    /// ```
+    /// use tracker::{Announcement, Connection, Counts, Entry, Item, Now, Tracker, Txid};
+    ///
+    /// let mut tracker = Tracker::new(100, 2)?;
+    /// let (now, peer) = (Now::new(0)?, Connection::new(7).expect("not 0"));
+    /// for byte in [1, 2] {
+    ///     tracker.announce(&Announcement::new(peer, Item::Tx(Txid([byte; 32]))));
+    /// }
+    /// let planned: Vec<Entry> = tracker.plan(now).entries.collect();
+    /// tracker.claim(now, &planned[..1]); // it is asked for one of the two
+    /// assert_eq!(tracker.counts(peer), Counts { announced: 2, owned: 1 });
+    /// # Ok::<(), tracker::Error>(())
+    /// ```
+    pub fn counts(&self, connection: Connection) -> Counts {
+        let mut announced = 0;
+        let mut owned = 0;
+        let store = self.store.bytes();
+        // SAFETY: the store is sound and nobody else can write it; what the call may write is lent to it alone.
+        let status = unsafe {
+            abi::tracker_owned_counts(store.as_ptr(), store.len(), connection.get(), &mut announced,
+                &mut owned)
+        };
+        settled(status, Counts { announced, owned })
     }
 
     /// The connection that is asked for package info of the request at the key, and in time.

@@ -4,8 +4,8 @@
 use std::fmt::Debug;
 
 use tracker::{
-    Announcement, Connection, Entry, Error, Figures, Item, Key, Now, Parents, Sizes, Tracker, Txid, Wtxid,
-    bytes,
+    Announcement, Connection, Counts, Entry, Error, Figures, Item, Key, Now, Parents, Sizes, Tracker, Txid,
+    Wtxid, bytes,
 };
 
 const A: Wtxid = Wtxid([0xa; 32]);
@@ -125,6 +125,13 @@ impl Pair {
         assert_eq!((free, permille), (100 - held, 10 * held));
         held
     }
+
+    /// Announcements and owned requests of a connection.
+    fn counts(&mut self, connection: u64) -> (u64, u64) {
+        let Counts { announced, owned } =
+            self.both(|t| t.counts(peer(connection)), |s, _| bytes::counts(s, connection));
+        (announced, owned)
+    }
 }
 
 #[test]
@@ -187,6 +194,7 @@ fn asked_and_failed() {
 
     pair.both(|t| t.unclaim(Key::Txid(B), peer(7)), |s, _| bytes::unclaim(s, &Key::Txid(B), 7));
     assert_eq!(pair.row(0), [7, 5, 4, 0, 4]);
+    assert_eq!([7, 8, 10].map(|connection| pair.counts(connection)), [(2, 1), (1, 0), (0, 0)]);
     for owned in [true, false] {
         let failed = pair.both(
             |t| t.failed(Key::Wtxid(A), peer(7), at(1_001)),

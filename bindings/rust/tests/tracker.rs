@@ -4,8 +4,8 @@ use std::error::Error as _;
 use std::time::Duration;
 
 use tracker::{
-    Announcement, Connection, Error, Item, Key, Now, Parents, Sizes, Tracker, TrackerMut, TrackerRef, Txid,
-    Wtxid, bytes,
+    Announcement, Connection, Counts, Error, Item, Key, Now, Parents, Sizes, Tracker, TrackerMut, TrackerRef,
+    Txid, Wtxid, bytes,
 };
 
 fn peer(number: u64) -> Connection {
@@ -106,6 +106,7 @@ fn bytes_are_lent() {
         (read.sum().held, read.package_info_owner(Key::Wtxid(Wtxid([1; 32])), Now::from(0))),
         (1, None)
     );
+    assert_eq!(read.counts(peer(7)), Counts { announced: 1, owned: 0 });
     let mut own = Tracker::new(10, 1).unwrap();
     own.announce(&announcement);
     assert_eq!(read, own);

@@ -11,6 +11,7 @@ ghost use Rattle.exports.specs.Status.{numbered, figured, statusOf, hand
 
 pub mod arrangements;
 pub mod candidates;
+pub mod connections;
 pub mod departures;
 pub mod failures;
 pub mod package_calls;

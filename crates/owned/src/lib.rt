@@ -10,6 +10,7 @@ ghost use Rattle.exports.specs.Status.{figured, Stays};
 
 pub mod arrangements;
 pub mod candidates;
+pub mod connections;
 pub mod departures;
 pub mod failures;
 pub mod package_calls;

@@ -1,3 +1,4 @@
 pub mod Opening
 pub mod Summing
+pub mod Counting
 pub mod Instances

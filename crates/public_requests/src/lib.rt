@@ -13,9 +13,16 @@ ghost use Rattle.outcome.specs.declared.Figures.the-variants.{Are};
 ghost use Rattle.outcome.specs.Reply.{replyOf, figuresOf};
 
 pub mod candidates;
+pub mod connections;
 pub mod failures;
 pub mod on_sound;
 pub mod sweeps;
+
+// How many announcements a connection has, and how many requests it owns, or a refusal.
+pub enum Counts {
+    Refused(u64),
+    Are(u64, u64),
+}
 
 // The greatest L and the greatest Q.
 const MAX_ANNOUNCEMENTS: u64 = 100_000;

@@ -10,6 +10,7 @@ ghost use Rattle.outcome.specs.Outcome.{Leaves};
 ghost use Rattle.outcome.specs.Reply.{figuresOf};
 
 pub mod candidates;
+pub mod connections;
 pub mod failures;
 pub mod sweeps;
 

@@ -19,7 +19,14 @@ pub const UNTOUCHED: [u64; 3] = [0x5a5a_5a5a_5a5a_5a5a, 0xa5a5_a5a5_a5a5_a5a5, 0
 /// The arguments.
 #[derive(Clone, Debug)]
 pub enum Given {
-    Open { l: u64, q: u64 },
+    Open {
+        l: u64,
+        q: u64,
+    },
+    /// No call of document 01.
+    Counts {
+        connection: u64,
+    },
     On(Call),
 }
 
@@ -121,6 +128,13 @@ impl Answer {
         answer
     }
 
+    /// The counts of a connection.
+    pub fn counts([announced, owned]: [u64; 2], ask: &Ask) -> Self {
+        let mut answer = Self::refused(0, ask);
+        [answer.out[0], answer.out[1]] = [announced, owned];
+        answer
+    }
+
     fn put_keys<'a>(&mut self, keys: impl Iterator<Item = &'a Key>) {
         for (key, place) in keys.zip(self.buffer.chunks_exact_mut(KEY)) {
             place.copy_from_slice(&key_bytes(*key));
@@ -142,7 +156,7 @@ impl Answer {
             Hands::Departure => KEY * (first + second),
             Hands::Entries => ENTRY * first,
             Hands::Plan => ENTRY * second,
-            Hands::Nothing | Hands::Number | Hands::Figures => 0,
+            Hands::Nothing | Hands::Number | Hands::Figures | Hands::Counts => 0,
         }
     }
 }

@@ -18,9 +18,30 @@ macro_rules! listed {
     };
 }
 
+pub use counts::{case as counts_case, counted};
+
+/// The calls that end a request or its owner's part in it, and those of packages.
+pub static PACKAGES: &[&Spec] = &[
+    &failed::SPEC,
+    &unclaim::SPEC,
+    &forget::SPEC,
+    &forget_known::SPEC,
+    &failed_package_info::SPEC,
+    &package_info_owner::SPEC,
+    &failed_with_parents::SPEC,
+    &disconnected::SPEC,
+    &solicit_package_info::SPEC,
+    &claim_package::SPEC,
+    &begin_package_resolution::SPEC,
+    &release_package::SPEC,
+    &failed_package_claims::SPEC,
+    &teardown_package_claims::SPEC,
+];
+
 listed! {
     open,
     sum,
+    counts,
     announce,
     request_parent,
     announce_parents,
@@ -63,6 +84,8 @@ pub enum Hands {
     /// The count of keys considered, and entries with theirs.
     Plan,
     Figures,
+    /// The counts of a connection.
+    Counts,
 }
 
 /// The call that is carried out in the place of this one, where a rule is mistaken.

@@ -9,9 +9,9 @@ use oracle::random::Rng;
 use oracle::state::State;
 
 use crate::ask::{Ask, ENTRY, Given, HASH_BYTES};
-use crate::calls::{ALL, CLAIM, OPEN, PLANS, Spec};
+use crate::calls::{ALL, CLAIM, OPEN, PACKAGES, PLANS, Spec};
 use crate::look::Held;
-use crate::profiles::Profile;
+use crate::profiles::{Often, Profile};
 use crate::reference::Reference;
 
 /// One call in so many is given something that is refused.
@@ -214,7 +214,7 @@ impl<'a> Draw<'a> {
             0 => None,
             1 | 2 => self.row(seen),
             3..=5 => self.owning(seen),
-            _ => self.holding(seen, None),
+            _ => self.holding(seen, None).or_else(|| self.owning(seen)),
         };
         let found = found.unwrap_or_else(|| self.any());
         self.mistaken(found)
@@ -254,12 +254,18 @@ impl<'a> Draw<'a> {
 
     /// Which call comes next.
     fn spec(&mut self) -> &'static Spec {
-        if self.profile.plans && self.rng.one_in(2) {
-            return self.rng.pick(&PLANS);
+        match self.profile.often {
+            Often::Plans if self.rng.one_in(2) => self.rng.pick(&PLANS),
+            Often::Packages if !self.rng.one_in(3) => self.weighted(PACKAGES),
+            _ => self.weighted(ALL),
         }
+    }
+
+    /// One of the calls, by its weight.
+    fn weighted(&mut self, specs: &[&'static Spec]) -> &'static Spec {
         let theme = self.profile.theme as usize;
-        let mut left = self.rng.below(ALL.iter().map(|spec| spec.weights[theme]).sum());
-        let drawn = ALL.iter().find(|spec| {
+        let mut left = self.rng.below(specs.iter().map(|spec| spec.weights[theme]).sum());
+        let drawn = specs.iter().find(|spec| {
             let here = left < spec.weights[theme];
             left = left.saturating_sub(spec.weights[theme]);
             here

@@ -1,8 +1,9 @@
 //! The library's calls against the Rust's tracker by bytes: answers, answer buffers and whole stores after every call.
 //!
-//!     bytes [CALLS [SEED [SECONDS]]] [--table] [--plans]
+//!     bytes [CALLS [SEED [SECONDS]]] [--table] [--plans | --packages]
 //!                                                 generated calls, as many as there is time for; the table has each call by
-//!                                                 replies, refusals and cases; with --plans every second call is a plan
+//!                                                 replies, refusals and cases; with --plans every second call is a plan,
+//!                                                 with --packages four calls in five are package calls
 //!     bytes self-test                             the program on calls with planted errors
 
 mod ask;
@@ -24,6 +25,7 @@ mod trial;
 use std::process::ExitCode;
 use std::time::{Duration, Instant};
 
+use profiles::Often;
 use tally::Tally;
 
 const CALLS: u64 = 1_000_000;
@@ -37,26 +39,47 @@ fn number(words: &[String], at: usize, default: u64) -> Result<u64, String> {
     text.parse().map_err(|_| format!("a number is wanted, not {text:?}"))
 }
 
-fn generated(words: &[String], options: &[String]) -> Result<(), String> {
-    let given = |name: &str| options.iter().any(|option| option == name);
-    if let Some(odd) = options.iter().find(|option| !["--table", "--plans"].contains(&option.as_str())) {
-        return Err(format!("no option {odd:?}; there are --table and --plans"));
+/// Whether the table is wanted, and which calls are to be frequent.
+fn options(given: &[String]) -> Result<(bool, Often), String> {
+    let (mut table, mut often) = (false, Often::None);
+    for option in given {
+        match (option.as_str(), often) {
+            ("--table", _) => table = true,
+            ("--plans", Often::None) => often = Often::Plans,
+            ("--packages", Often::None) => often = Often::Packages,
+            _ => return Err(format!("not {option:?}; there are --table and one of --plans and --packages")),
+        }
     }
+    Ok((table, often))
+}
+
+/// What a run should have met and has not. One of package calls is held to those.
+fn missing(tally: &Tally, often: Often) -> Vec<String> {
+    let packages = often == Often::Packages;
+    let mut missing = Vec::new();
+    if tally.calls >= run::ROUND && !packages {
+        missing.append(&mut tally.missing());
+    }
+    if tally.calls >= LONG {
+        missing.append(&mut tally.missing_of_calls(if packages { calls::PACKAGES } else { calls::ALL }));
+    }
+    missing
+}
+
+fn generated(words: &[String], given: &[String]) -> Result<(), String> {
+    let (table, often) = options(given)?;
     let (calls, seed) = (number(words, 0, CALLS)?, number(words, 1, 1)?);
     let stop = Instant::now().checked_add(Duration::from_secs(number(words, 2, u64::MAX)?));
     let mut tally = Tally::default();
-    let done = run::rounds(&profiles::in_use(given("--plans")), calls, seed, stop, &mut ask::library, &mut tally);
+    let done = run::rounds(&profiles::in_use(often), calls, seed, stop, &mut ask::library, &mut tally);
     tally.print();
-    if given("--table") {
+    if table {
         tally.print_table();
     }
     if done? {
         println!("ended by the clock after {} calls", tally.calls);
     }
-    let mut missing = if tally.calls >= run::ROUND { tally.missing() } else { Vec::new() };
-    if tally.calls >= LONG {
-        missing.append(&mut tally.missing_of_calls());
-    }
+    let missing = missing(&tally, often);
     if !missing.is_empty() {
         return Err(format!("never met: {}", missing.join("; ")));
     }

@@ -4,8 +4,10 @@ use oracle::Machine;
 use oracle::calls::{Call, LAST_CLOCK, MAX_PARENTS, Reply};
 use oracle::image::{image, need, read};
 use oracle::sound::opens;
+use oracle::state::State;
 
 use crate::ask::{Answer, Ask, Given};
+use crate::calls::counted;
 
 const SHORT_STORE: u64 = 1;
 const BAD_SIZES: u64 = 2;
@@ -38,6 +40,14 @@ pub fn opening_refusal(length: usize, l: u64, q: u64) -> Option<u64> {
     }
 }
 
+/// The counts of a connection, in a sound state.
+pub fn counts(state: &State, connection: u64, ask: &Ask) -> Answer {
+    match connection {
+        0 => Answer::refused(CONNECTION_0, ask),
+        _ => Answer::counts(counted(state, connection), ask),
+    }
+}
+
 /// The call on any bytes: read, carried out by the Rust, written back.
 pub fn call(store: &mut [u8], ask: &Ask) -> Answer {
     let (machine, answer) = match &ask.given {
@@ -45,6 +55,12 @@ pub fn call(store: &mut [u8], ask: &Ask) -> Answer {
             Some(number) => return Answer::refused(number, ask),
             None => (Machine::open(*l, *q).expect("tested above"), Answer::refused(0, ask)),
         },
+        Given::Counts { connection } => {
+            return match read(store) {
+                Ok(state) => counts(&state, *connection, ask),
+                Err(_) => Answer::refused(UNSOUND, ask),
+            };
+        }
         Given::On(call) => {
             let Ok(state) = read(store) else {
                 return Answer::refused(UNSOUND, ask);

@@ -7,7 +7,7 @@ use oracle::sound::opens;
 use crate::ask::{Answer, Ask, Given};
 use crate::calls::{ALL, Hands, Mistake, Spec};
 use crate::oracles;
-use crate::profiles::in_use;
+use crate::profiles::{Often, in_use};
 use crate::run::{run, small};
 use crate::tally::Tally;
 
@@ -40,7 +40,7 @@ const FAULTS: &[(&str, Fault)] = &[
         done.answer.status == 0
     }),
     ("another second count", |done, _| {
-        let second = matches!(done.ask.spec.hands, Hands::Departure | Hands::Plan);
+        let second = matches!(done.ask.spec.hands, Hands::Departure | Hands::Plan | Hands::Counts);
         done.answer.out[1] ^= u64::from(second);
         second && done.answer.status == 0
     }),
@@ -123,7 +123,7 @@ impl Done<'_> {
 /// Runs of a small profile, rightly carried out but for what `wrong` does. How many calls the library got and what was
 /// found.
 fn trial(seed: u64, library: &mut dyn FnMut(&mut [u8], &Ask) -> Answer) -> (u64, Result<(), String>) {
-    let (profiles, mut rng) = (in_use(false), Rng::new(seed));
+    let (profiles, mut rng) = (in_use(Often::None), Rng::new(seed));
     let (profile, sizes) = small(&profiles, &mut rng);
     let mut calls = 0;
     let mut counted = |store: &mut [u8], ask: &Ask| {

@@ -41,9 +41,19 @@ pub enum Start {
 }
 
 /// Which calls are frequent.
-#[derive(Clone, Copy)]
+#[derive(Clone, Copy, PartialEq)]
 pub enum Theme {
     Announcements,
+    Packages,
+}
+
+/// Calls that are drawn more often than by their weights.
+#[derive(Clone, Copy, PartialEq)]
+pub enum Often {
+    None,
+    /// Every second call is a plan.
+    Plans,
+    /// Two draws in three are among the package calls, the third among all: four calls in five are of them.
     Packages,
 }
 
@@ -51,8 +61,7 @@ pub enum Theme {
 pub struct Profile {
     pub name: &'static str,
     pub theme: Theme,
-    /// Every second call is a plan.
-    pub plans: bool,
+    pub often: Often,
     pub sizes: &'static [(u64, u64)],
     pub start: Start,
     pub hashes: Hashes,
@@ -69,7 +78,7 @@ pub struct Profile {
 const SMALL: Profile = Profile {
     name: "few of each, L reached",
     theme: Theme::Announcements,
-    plans: false,
+    often: Often::None,
     sizes: &[(1, 1), (2, 1), (3, 2), (8, 1), (9, 1)],
     start: Start::Opened,
     hashes: Hashes::Any,
@@ -102,7 +111,7 @@ const CROWDED: Profile = Profile {
 const LARGE: Profile = Profile {
     name: "L = 100,000",
     theme: Theme::Announcements,
-    plans: false,
+    often: Often::None,
     sizes: &[(100_000, 1), (100_000, 16)],
     start: Start::Full,
     hashes: Hashes::Any,
@@ -122,9 +131,17 @@ const PACKAGES: Profile = Profile {
     ..SMALL
 };
 
-/// The profiles; with `plans` every second call of each is a plan.
-pub fn in_use(plans: bool) -> Vec<Profile> {
-    PROFILES.iter().map(|profile| Profile { plans: plans || profile.plans, ..*profile }).collect()
+/// Calls of a run of package calls: they end more requests than others begin.
+const SHORT: u64 = 24;
+
+/// The profiles: as they stand, with plans, or those that package calls find enough in.
+pub fn in_use(often: Often) -> Vec<Profile> {
+    let all = PROFILES.iter();
+    match often {
+        Often::None => PROFILES.to_vec(),
+        Often::Plans => all.map(|profile| Profile { often, ..*profile }).collect(),
+        Often::Packages => all.filter_map(Profile::with_package_calls).collect(),
+    }
 }
 
 const PROFILES: &[Profile] = &[
@@ -206,14 +223,14 @@ const PROFILES: &[Profile] = &[
     },
     Profile {
         name: "plans, any state",
-        plans: true,
+        often: Often::Plans,
         sizes: &[(9, 1), (30, 2), (60, 16)],
         calls: 40,
         ..PACKAGES
     },
     Profile {
         name: "plans of connections that own 100",
-        plans: true,
+        often: Often::Plans,
         sizes: &[(150, 1), (280, 2)],
         start: Start::Unowned,
         connections: 1,
@@ -222,7 +239,7 @@ const PROFILES: &[Profile] = &[
     },
     Profile {
         name: "plans, hundreds of parents",
-        plans: true,
+        often: Often::Plans,
         sizes: &[(600, 6), (900, 16)],
         start: Start::Parents,
         calls: 20,
@@ -230,7 +247,7 @@ const PROFILES: &[Profile] = &[
     },
     Profile {
         name: "plans, more than 1,024 parents",
-        plans: true,
+        often: Often::Plans,
         sizes: &[(4_000, 16), (5_000, 20), (6_000, 30)],
         start: Start::Parents,
         calls: 24,
@@ -267,6 +284,13 @@ const PROFILES: &[Profile] = &[
 ];
 
 impl Profile {
+    /// Short runs of package calls, if it is a profile of packages or one of a connection that can leave 5,000 requests.
+    fn with_package_calls(&self) -> Option<Self> {
+        let (often, theme, calls) = (Often::Packages, Theme::Packages, SHORT);
+        let fit = self.theme == theme || matches!(self.start, Start::OneConnection);
+        fit.then_some(Self { often, theme, calls, ..*self })
+    }
+
     pub fn state(&self, rng: &mut Rng, l: u64, q: u64) -> State {
         let less = rng.below(4);
         let shape = Shape {

@@ -3,7 +3,7 @@
 use std::collections::{BTreeMap, BTreeSet};
 
 use crate::ask::Answer;
-use crate::calls::{ALL, Hands, Spec};
+use crate::calls::{ALL, Hands, PACKAGES, Spec};
 
 macro_rules! events {
     ($($name:ident: $text:literal,)*) => {
@@ -78,6 +78,10 @@ impl Row {
     fn refused(&self, number: u64) -> u64 {
         self.refused.get(&number).copied().unwrap_or_default()
     }
+
+    fn calls(&self) -> u64 {
+        self.carried_out() + self.refused.values().sum::<u64>()
+    }
 }
 
 #[derive(Default)]
@@ -125,8 +129,9 @@ impl Tally {
         );
         println!("L: {}", joined(&self.limits, u64::to_string));
         println!("Q: {}", joined(&self.places, u64::to_string));
-        let count = |row: &Row| row.carried_out() + row.refused.values().sum::<u64>();
-        println!("{}", joined(&self.rows, |(name, row)| format!("{name} {}", count(row))));
+        println!("{}", joined(&self.rows, |(name, row)| format!("{name} {}", row.calls())));
+        let packages: u64 = PACKAGES.iter().map(|spec| self.row(spec).calls()).sum();
+        println!("of the {} package calls: {packages}", PACKAGES.len());
         let refused: Vec<u64> = REFUSALS.collect();
         let refused = joined(&refused, |number| format!("{number}: {}", self.refused(*number)));
         println!("refused by number: {refused}; where a later one applies too: {}", self.several);
@@ -137,12 +142,12 @@ impl Tally {
 
     /// Each call by replies and refusals, then its cases.
     pub fn print_table(&self) {
-        print!("{:26}{:>10}{:>9}{:>9}{:>9}", "call", "carried", "0", "1", "more");
+        print!("{:31}{:>9}{:>9}{:>9}{:>9}{:>9}", "call", "calls", "carried", "0", "1", "more");
         REFUSALS.for_each(|number| print!("{:>8}", format!("no,{number}")));
         println!();
         for spec in ALL {
             let row = self.row(spec);
-            print!("{:26}{:>10}", spec.name, row.carried_out());
+            print!("{:31}{:>9}{:>9}", spec.name, row.calls(), row.carried_out());
             let counted = !matches!(spec.hands, Hands::Nothing | Hands::Figures);
             row.replied.iter().for_each(|n| {
                 print!("{:>9}", if counted { n.to_string() } else { "-".to_owned() });
@@ -189,10 +194,10 @@ impl Tally {
             .collect()
     }
 
-    /// What each call of a long run should have met and has not: carried out with 0 and not, each refusal, each case.
-    pub fn missing_of_calls(&self) -> Vec<String> {
+    /// What each of the calls should have met in a long run and has not: carried out with 0 and not, each refusal, each case.
+    pub fn missing_of_calls(&self, specs: &[&Spec]) -> Vec<String> {
         let mut missing = Vec::new();
-        for spec in ALL {
+        for spec in specs {
             let row = self.row(spec);
             let [none, one, more] = row.replied;
             let counted = !matches!(spec.hands, Hands::Nothing | Hands::Figures);

@@ -8,6 +8,7 @@ use oracle::state::State;
 use oracle::write;
 
 use crate::ask::{Answer, Ask, Given};
+use crate::calls::counts_case;
 use crate::names;
 use crate::oracles;
 use crate::parts;
@@ -57,6 +58,7 @@ impl<'a> Trial<'a> {
         let before = if self.store.len() < SHOWN { self.store.clone() } else { Vec::new() };
         match &ask.given {
             Given::Open { l, q } => self.open(ask, *l, *q),
+            Given::Counts { connection } => self.counts(ask, *connection),
             Given::On(call) => self.on(ask, call),
         }
         .map_err(|text| match read(&before) {
@@ -86,6 +88,18 @@ impl<'a> Trial<'a> {
         self.machine = Machine::open(l, q).expect("not refused");
         self.reference = Reference::new(&image(&self.machine.state()));
         self.tail = before[need(l, q)..].to_vec();
+        self.same_store()
+    }
+
+    /// A call that only reads, and that the Rust does not have: its state is counted.
+    fn counts(&mut self, ask: &Ask, connection: u64) -> Result<(), String> {
+        let got = (self.call)(&mut self.store, ask);
+        let wanted = oracles::counts(&self.machine.state(), connection, ask);
+        self.tally.call(ask.spec, &wanted);
+        if let Answer { status: 0, out: [announced, owned, _], .. } = wanted {
+            self.tally.case(ask.spec, counts_case([announced, owned]));
+        }
+        same_answer(ask, &got, &wanted)?;
         self.same_store()
     }
 

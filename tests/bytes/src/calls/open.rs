@@ -17,7 +17,7 @@ pub static SPEC: Spec = Spec {
     link,
     line: |given| match given {
         Given::Open { l, q } => format!("open,{l},{q}"),
-        Given::On(_) => unreachable!(),
+        _ => unreachable!(),
     },
     ..COMMON
 };
