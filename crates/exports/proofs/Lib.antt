@@ -1,3 +1,4 @@
 pub mod Replies
 pub mod Statuses
 pub mod Typed
+pub mod Handing

@@ -1,2 +1,3 @@
 pub mod Status
 pub mod Arguments
+pub mod Payloads
