@@ -20,6 +20,7 @@ HANDED = {
     ("reply",): ("bool", "reply == 1"),
     ("count",): ("usize", "count as usize"),
     ("taken",): ("usize", "taken as usize"),
+    ("written",): ("usize", "written as usize"),
     ("first", "count"): ("Range<usize>", "first as usize..(first + count) as usize"),
     ("considered", "count"): ("Plan", "Plan { considered, count: count as usize }"),
     ("own", "parents"): ("Left", "Left { own: own as usize, parents: parents as usize }"),

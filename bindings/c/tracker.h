@@ -60,8 +60,8 @@ extern "C" {
 #define TRACKER_MUST_USE
 #endif
 
-/* ---- what a call returns: 0, or the number of its refusal. tracker_open tests 2, then 1; any other call tests 3 to 8 in turn, those that
- * its arguments can meet. */
+/* ---- what a call returns: 0, or the number of its refusal. tracker_open tests 2, then 1; the two calls on payloads, which take no store,
+ * test 10, then 7; any other call tests 3 to 8 in turn, those that its arguments can meet. */
 enum tracker_status {
     TRACKER_OK = 0,
     TRACKER_STORE_TOO_SHORT = 1,
@@ -71,7 +71,8 @@ enum tracker_status {
     TRACKER_NOW_TOO_LATE = 5,
     TRACKER_TOO_MANY_PARENTS = 6,
     TRACKER_ANSWER_TOO_SHORT = 7,
-    TRACKER_NO_PLACE = 8
+    TRACKER_NO_PLACE = 8,
+    TRACKER_BAD_PAYLOAD = 10
 };
 
 static inline const char *tracker_status_text(uint64_t status) {
@@ -85,6 +86,7 @@ static inline const char *tracker_status_text(uint64_t status) {
     case TRACKER_TOO_MANY_PARENTS: return "more than 100 parents are given";
     case TRACKER_ANSWER_TOO_SHORT: return "the answer is shorter than its need";
     case TRACKER_NO_PLACE: return "all package places are held";
+    case TRACKER_BAD_PAYLOAD: return "no inventory payload, or items that make none";
     default: return "no status of the tracker";
     }
 }
@@ -111,6 +113,7 @@ static inline const char *tracker_status_text(uint64_t status) {
 #define TRACKER_MAX_WTXIDS UINT64_C(100)           /* of a package */
 #define TRACKER_MAX_SWEPT UINT64_C(1024)           /* keys of a sweep */
 #define TRACKER_MAX_PLANNED UINT64_C(1025)         /* entries of a plan */
+#define TRACKER_MAX_ITEMS UINT64_C(50000)          /* of a payload */
 #define TRACKER_LIFETIME_MS UINT64_C(60000)        /* from a claim to its deadline */
 #define TRACKER_DELAY_MS UINT64_C(2000)            /* each delay of tracker_announce_transactions */
 #define TRACKER_POLL_MS UINT64_C(100)              /* between polls */
@@ -124,6 +127,7 @@ static inline const char *tracker_status_text(uint64_t status) {
 #define TRACKER_KEY_BYTES 40
 #define TRACKER_ITEM_BYTES 40
 #define TRACKER_ENTRY_BYTES 112
+#define TRACKER_WIRE_BYTES 36                      /* of an item in a payload */
 
 /* The answer of announce_parents, failed_with_parents and release_package: 101 keys. */
 #define TRACKER_KEYS_NEED (101 * TRACKER_KEY_BYTES)
@@ -162,6 +166,15 @@ static inline size_t tracker_entries_need(size_t n) {
     return n * TRACKER_ENTRY_BYTES;
 }
 
+/* Of tracker_read_payload, for a payload of so many bytes; of tracker_write_payload, for n items. */
+static inline size_t tracker_read_payload_need(size_t length) {
+    return length / TRACKER_WIRE_BYTES * TRACKER_ITEM_BYTES;
+}
+
+static inline size_t tracker_write_payload_need(size_t n) {
+    return (n < 253 ? 1 : 3) + n * TRACKER_WIRE_BYTES;
+}
+
 /* ---- lists and answers, read and written */
 static inline uint64_t tracker_word(const uint8_t *at) {
     uint64_t word = 0;
@@ -196,6 +209,19 @@ static inline void tracker_put_key(uint8_t *list, uint64_t i, uint64_t kind, con
 /* The i-th item of a list that is given. */
 static inline void tracker_put_item(uint8_t *list, uint64_t i, uint32_t item_type, const uint8_t hash[32]) {
     tracker_put_key(list, i, item_type, hash);
+}
+
+/* The i-th item of a list or of tracker_read_payload's answer: its type and its hash. */
+static inline const uint8_t *tracker_item(const uint8_t *list, uint64_t i) {
+    return list + (size_t)i * TRACKER_ITEM_BYTES;
+}
+
+static inline uint32_t tracker_item_type(const uint8_t *item) {
+    return (uint32_t)tracker_word(item);
+}
+
+static inline const uint8_t *tracker_item_hash(const uint8_t *item) {
+    return item + 8;
 }
 
 /* The i-th entry of an answer or a list: who is asked for what. Its key is at its start (tracker_key_kind, tracker_key_hash). */
@@ -327,6 +353,17 @@ uint64_t tracker_failed_package_claims(uint8_t *store, size_t length, uint64_t c
 
 /* Every package goes, whatever its phase, and its owner leaves the request. `count` says how many went. */
 uint64_t tracker_teardown_package_claims(uint8_t *store, size_t length, uint64_t now, uint64_t *count) TRACKER_MUST_USE;
+
+/* The items of a whole inv, getdata or notfound payload stand in the answer in 40 bytes each: so many as `count` says. They can be given
+ * to tracker_announce_transactions and tracker_transaction_not_found as they stand there. It takes no store. */
+uint64_t tracker_read_payload(const uint8_t *payload, size_t length, uint8_t *answer, size_t answer_length,
+                              uint64_t *count) TRACKER_MUST_USE;
+
+/* The payload of the items, which are given in 40 bytes each, stands in the answer: so many bytes as `written` says. An item whose type's
+ * word is 2^32 or more is an other item of the type that its low 32 bits are, and is refused if that is 1, 5 or 0x40000001. It takes no
+ * store. */
+uint64_t tracker_write_payload(const uint8_t *items, size_t length, uint8_t *answer, size_t answer_length,
+                               uint64_t *written) TRACKER_MUST_USE;
 
 /* Takes, in order, each entry of the checked list, which is given in 112 bytes each, whose hash is unowned and that is still what plan
  * would choose for it. Those that are taken stand in the answer: so many as `taken` says. */

@@ -111,8 +111,27 @@ static void statuses(void) {
     check("no connection", REFUSED(TRACKER_NO_CONNECTION, unclaim, TRACKER_TXID, x, 0));
     store[0] ^= 1;
     check("another format", REFUSED(TRACKER_NOT_SOUND, unclaim, TRACKER_TXID, x, 1));
-    for (uint64_t status = TRACKER_OK; status <= TRACKER_NO_PLACE; status++)
-        check("a text for each status", strcmp(tracker_status_text(status), tracker_status_text(9)) != 0);
+    for (uint64_t status = TRACKER_OK; status <= TRACKER_BAD_PAYLOAD; status++)
+        check("a text for each status", status == 9 || strcmp(tracker_status_text(status), tracker_status_text(9)) != 0);
+}
+
+/* A payload of 253 items, written and read; what is read is announced as it stands. */
+static void payloads(void) {
+    static uint8_t list[253 * TRACKER_ITEM_BYTES], read[253 * TRACKER_ITEM_BYTES], payload[3 + 253 * TRACKER_WIRE_BYTES];
+    for (uint64_t i = 0; i < 253; i++)
+        tracker_put_item(list, i, TRACKER_ITEM_WTX, x);
+    tracker_put_item(list, 252, 9, y);
+    size_t n = tracker_write_payload_need(253);
+    check("a payload's need", n == sizeof payload && tracker_write_payload_need(252) == 1 + 252 * TRACKER_WIRE_BYTES);
+    check("a payload, a byte less", tracker_write_payload(list, sizeof list, payload, n - 1, &a) == TRACKER_ANSWER_TOO_SHORT);
+    check("a payload", tracker_write_payload(list, sizeof list, payload, n, &a) == TRACKER_OK && a == n && payload[0] == 0xfd && payload[1] == 253);
+    check("items, a byte less", tracker_read_payload(payload, n, read, tracker_read_payload_need(n) - 1, &a) == TRACKER_ANSWER_TOO_SHORT);
+    check("items", tracker_read_payload(payload, n, read, tracker_read_payload_need(n), &a) == TRACKER_OK && a == 253 && !memcmp(read, list, sizeof list));
+    check("an item", tracker_item_type(tracker_item(read, 252)) == 9 && !memcmp(tracker_item_hash(tracker_item(read, 252)), y, 32));
+    check("handed on", OK(announce_transactions, 12, 1000, true, false, read, sizeof read, priorities, sizeof priorities));
+    check("no payload", tracker_read_payload(payload, n - 1, read, sizeof read, &a) == TRACKER_BAD_PAYLOAD);
+    list[4] = 1;
+    check("an other item of type 5", tracker_write_payload(list, sizeof list, payload, n, &a) == TRACKER_BAD_PAYLOAD);
 }
 
 int main(void) {
@@ -124,6 +143,7 @@ int main(void) {
     needs();
     addresses();
     packages();
+    payloads();
     statuses();
     return 0;
 }

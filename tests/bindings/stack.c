@@ -15,7 +15,7 @@ struct side {
     uint64_t numbers[3];
 };
 static struct side sides[2];
-static uint8_t ids[IDS][32], items[8 * TRACKER_ITEM_BYTES], priorities[8 * 8], planned[TRACKER_PLAN_NEED], witnesses[16];
+static uint8_t ids[IDS][32], items[8 * TRACKER_ITEM_BYTES], payload[1 + 8 * TRACKER_WIRE_BYTES], priorities[8 * 8], planned[TRACKER_PLAN_NEED], witnesses[16];
 static struct {
     const char *name;
     size_t deepest;
@@ -106,6 +106,9 @@ static void batch(uint64_t connection, size_t id, uint64_t now) {
         tracker_put_item(items, i, i % 2 ? TRACKER_ITEM_WTX : TRACKER_ITEM_TX, ids[id + i]);
         tracker_put_word(priorities + 8 * i, i);
     }
+    ALONE(write_payload, items, sizeof items, payload, sizeof payload, &sides[0].numbers[1]);
+    ALONE(read_payload, payload, sizeof payload, items, sizeof items, &sides[0].numbers[2]);
+    memcpy(sides[1].numbers, sides[0].numbers, sizeof sides[0].numbers);
     CALL(announce_transactions, connection, now, true, true, items, sizeof items, priorities, sizeof priorities);
 }
 

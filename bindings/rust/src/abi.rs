@@ -226,6 +226,26 @@ unsafe extern "C" {
     ) -> u64;
     /// Every package goes, whatever its phase, and its owner leaves the request. `count` says how many went.
     pub fn tracker_teardown_package_claims(store: *mut u8, length: usize, now: u64, count: &mut u64) -> u64;
+    /// The items of a whole inv, getdata or notfound payload stand in the answer in 40 bytes each: so many
+    /// as `count` says. They can be given to tracker_announce_transactions and tracker_transaction_not_found
+    /// as they stand there. It takes no store.
+    pub fn tracker_read_payload(
+        payload: *const u8,
+        length: usize,
+        answer: *mut u8,
+        answer_length: usize,
+        count: &mut u64,
+    ) -> u64;
+    /// The payload of the items, which are given in 40 bytes each, stands in the answer: so many bytes as
+    /// `written` says. An item whose type's word is 2^32 or more is an other item of the type that its low
+    /// 32 bits are, and is refused if that is 1, 5 or 0x40000001. It takes no store.
+    pub fn tracker_write_payload(
+        items: *const u8,
+        length: usize,
+        answer: *mut u8,
+        answer_length: usize,
+        written: &mut u64,
+    ) -> u64;
     /// Takes, in order, each entry of the checked list, which is given in 112 bytes each, whose hash is
     /// unowned and that is still what plan would choose for it. Those that are taken stand in the answer: so
     /// many as `taken` says.

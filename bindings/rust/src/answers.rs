@@ -88,6 +88,33 @@ impl Iterator for Keys<'_> {
 
 impl ExactSizeIterator for Keys<'_> {}
 
+/// The items of an answer.
+#[derive(Clone, Debug)]
+pub struct Items<'a>(&'a [u8]);
+
+impl<'a> Items<'a> {
+    /// The first `count` items of the answer, or as many as it has.
+    pub fn new(answer: &'a [u8], count: usize) -> Self {
+        Self(&answer[..count.min(answer.len() / KEY_BYTES) * KEY_BYTES])
+    }
+}
+
+impl Iterator for Items<'_> {
+    type Item = Item;
+
+    fn next(&mut self) -> Option<Item> {
+        let (bytes, rest) = self.0.split_first_chunk::<KEY_BYTES>()?;
+        self.0 = rest;
+        Some(Item::from_parts(word(bytes, 0) as u32, hash(bytes, 1)))
+    }
+
+    fn size_hint(&self) -> (usize, Option<usize>) {
+        (self.0.len() / KEY_BYTES, Some(self.0.len() / KEY_BYTES))
+    }
+}
+
+impl ExactSizeIterator for Items<'_> {}
+
 /// The entries of an answer.
 #[derive(Clone, Debug)]
 pub struct Entries<'a>(&'a [u8]);

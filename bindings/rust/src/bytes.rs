@@ -1,7 +1,8 @@
 //! The checked calls on a store that the caller lends, whatever its bytes are; each tests them first.
 //!
 //! A store for L announcements and Q package places needs [`Sizes::need`](crate::Sizes::need) bytes. A call tests, in this
-//! order, what its arguments can meet of the refusals 3 to 8; `open` tests 2, then 1. A refused call changes nothing. A list of
+//! order, what its arguments can meet of the refusals 3 to 8; `open` tests 2, then 1. The two calls on payloads take no store, and
+//! test 10, then 7. A refused call changes nothing. A list of
 //! keys or entries stands in the answer, as many as the call says; bytes behind them stay.
 //!
 //! ```
@@ -17,7 +18,7 @@
 //! # Ok::<(), Error>(())
 //! ```
 
-use crate::answers::{self, Entries, Keys};
+use crate::answers::{self, Entries, Items, Keys};
 pub use crate::calls::*;
 
 /// One announcement as C takes it. Item types 1 and 0x40000001 stand for the txid, 5 for the wtxid; any other has no key.
@@ -65,6 +66,26 @@ pub const KEYS_NEED: usize = 101 * KEY_BYTES;
 pub const SWEEP_NEED: usize = 1_024 * KEY_BYTES;
 /// Bytes of the answer that a plan needs at most: it needs the smaller of 1,025 and L entries.
 pub const PLAN_NEED: usize = 1_025 * ENTRY_BYTES;
+
+/// Items that a payload has at most.
+pub const MAX_ITEMS: usize = 50_000;
+/// Bytes of an item in a payload.
+pub const WIRE_BYTES: usize = 36;
+
+/// Bytes of the answer that reading a payload of so many bytes needs.
+pub const fn read_payload_need(length: usize) -> usize {
+    length / WIRE_BYTES * KEY_BYTES
+}
+
+/// Bytes of the answer that writing the payload of so many items needs.
+pub const fn write_payload_need(items: usize) -> usize {
+    (if items < 253 { 1 } else { 3 }) + items * WIRE_BYTES
+}
+
+/// The first `count` items of an answer.
+pub fn items(answer: &[u8], count: usize) -> Items<'_> {
+    Items::new(answer, count)
+}
 
 /// The first `count` keys of an answer.
 pub fn keys(answer: &[u8], count: usize) -> Keys<'_> {

@@ -327,6 +327,32 @@ pub fn teardown_package_claims(store: &mut [u8], now: u64) -> Result<usize, Erro
     done(status, count as usize)
 }
 
+/// The items of a whole inv, getdata or notfound payload stand in the answer in 40 bytes each: so many as
+/// `count` says. They can be given to tracker_announce_transactions and tracker_transaction_not_found as
+/// they stand there. It takes no store.
+pub fn read_payload(payload: &[u8], answer: &mut [u8]) -> Result<usize, Error> {
+    let mut count = 0;
+    // SAFETY: what is lent is lent for the call, and what it may write is lent to it alone.
+    let status = unsafe {
+        abi::tracker_read_payload(payload.as_ptr(), payload.len(), answer.as_mut_ptr(), answer.len(),
+            &mut count)
+    };
+    done(status, count as usize)
+}
+
+/// The payload of the items, which are given in 40 bytes each, stands in the answer: so many bytes as
+/// `written` says. An item whose type's word is 2^32 or more is an other item of the type that its low 32
+/// bits are, and is refused if that is 1, 5 or 0x40000001. It takes no store.
+pub fn write_payload(items: &[u8], answer: &mut [u8]) -> Result<usize, Error> {
+    let mut written = 0;
+    // SAFETY: what is lent is lent for the call, and what it may write is lent to it alone.
+    let status = unsafe {
+        abi::tracker_write_payload(items.as_ptr(), items.len(), answer.as_mut_ptr(), answer.len(),
+            &mut written)
+    };
+    done(status, written as usize)
+}
+
 /// Takes, in order, each entry of the checked list, which is given in 112 bytes each, whose hash is unowned
 /// and that is still what plan would choose for it. Those that are taken stand in the answer: so many as
 /// `taken` says.

@@ -22,11 +22,13 @@ pub enum Error {
     AnswerTooShort = 7,
     /// A solicitation would be taken, and all package places are held.
     NoPlace = 8,
+    /// The bytes are no inventory payload, or the items make none.
+    BadPayload = 10,
 }
 
 impl Error {
     /// Every refusal, by its number.
-    pub const ALL: [Self; 8] = [
+    pub const ALL: [Self; 9] = [
         Self::StoreTooShort,
         Self::SizesOutOfRange,
         Self::NotSound,
@@ -35,6 +37,7 @@ impl Error {
         Self::TooManyParents,
         Self::AnswerTooShort,
         Self::NoPlace,
+        Self::BadPayload,
     ];
 
     /// Its number in the table.
@@ -59,6 +62,7 @@ impl fmt::Display for Error {
             Self::TooManyParents => "more than 100 parents are given",
             Self::AnswerTooShort => "the answer is shorter than its need",
             Self::NoPlace => "all package places are held",
+            Self::BadPayload => "no inventory payload, or items that make none",
         })
     }
 }

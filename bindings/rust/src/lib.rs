@@ -20,6 +20,7 @@
 //! |---|---|
 //! | the root | [`Tracker`], which owns its bytes, [`TrackerMut`] and [`TrackerRef`], to which they are lent, and the types of their calls |
 //! | [`bytes`] | the checked calls on bytes that the caller lends, and may be any |
+//! | `payloads` | whole inv, getdata and notfound payloads, read and written (with `alloc`) |
 //! | [`abi`] | both kinds of calls as C has them |
 //!
 //! The package is no_std. Its features, all of them defaults:
@@ -52,6 +53,8 @@ mod lists;
 mod methods;
 #[cfg(all(feature = "alloc", feature = "owned"))]
 mod owner;
+#[cfg(feature = "alloc")]
+pub mod payloads;
 #[cfg(all(feature = "alloc", feature = "owned"))]
 #[rustfmt::skip]
 mod reads;
@@ -60,7 +63,7 @@ mod sizes;
 mod store;
 mod values;
 
-pub use answers::{Counts, Departed, Entries, Entry, Figures, Keys, Planned};
+pub use answers::{Counts, Departed, Entries, Entry, Figures, Items, Keys, Planned};
 pub use bounded::{Now, Parents};
 pub use error::Error;
 #[cfg(all(feature = "alloc", feature = "owned"))]

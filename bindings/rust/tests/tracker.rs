@@ -5,7 +5,7 @@ use std::time::Duration;
 
 use tracker::{
     Announcement, Connection, Counts, Error, Item, Key, Now, Parents, Sizes, Tracker, TrackerMut, TrackerRef,
-    Txid, Wtxid, bytes,
+    Txid, Wtxid, bytes, payloads,
 };
 
 fn peer(number: u64) -> Connection {
@@ -14,7 +14,7 @@ fn peer(number: u64) -> Connection {
 
 #[test]
 fn refusals_have_numbers_and_words() {
-    assert_eq!(Error::ALL.map(Error::number), [1, 2, 3, 4, 5, 6, 7, 8]);
+    assert_eq!(Error::ALL.map(Error::number), [1, 2, 3, 4, 5, 6, 7, 8, 10]);
     assert!(Error::ALL.iter().all(|error| Error::from_number(error.number()) == Some(*error)));
     assert_eq!((Error::from_number(0), Error::from_number(9)), (None, None));
     assert_eq!(Error::NoPlace.to_string(), "all package places are held");
@@ -166,6 +166,36 @@ fn items_have_numbers_and_keys() {
         let mut tracker = Tracker::new(1, 1).unwrap();
         assert_eq!(tracker.announce(&Announcement::new(peer(7), item)), item.key().is_some());
         assert!(tracker.sweep().eq(item.key()));
+    }
+}
+
+#[test]
+fn payloads_there_and_back() {
+    for n in [0, 1, 252, 253, 50_000, 50_001] {
+        let items: Vec<Item> = (0..n).map(|i| Item::from_parts(i as u32 % 9, [i as u8; 32])).collect();
+        let payload = payloads::write(&items);
+        if n > bytes::MAX_ITEMS {
+            assert_eq!(payload, Err(Error::BadPayload));
+            continue;
+        }
+        let payload = payload.unwrap();
+        assert_eq!(payload.len(), bytes::write_payload_need(n));
+        assert_eq!(payloads::read(&payload), Ok(items));
+        // The needs, by the calls' own test of them.
+        let need = bytes::read_payload_need(payload.len());
+        let mut answer = vec![7; need];
+        assert_eq!(bytes::read_payload(&payload, &mut answer), Ok(n));
+        if n > 0 {
+            assert_eq!(bytes::read_payload(&payload, &mut answer[1..]), Err(Error::AnswerTooShort));
+        }
+        let mut again = vec![7; payload.len()];
+        assert_eq!(bytes::write_payload(&answer, &mut again[1..]), Err(Error::AnswerTooShort));
+        assert_eq!(bytes::write_payload(&answer, &mut again), Ok(payload.len()));
+        assert_eq!(again, payload);
+        assert_eq!(payloads::read(&payload[1..]), Err(Error::BadPayload));
+    }
+    for number in [1, 5, 0x4000_0001] {
+        assert_eq!(payloads::write(&[Item::Other(number, [1; 32])]), Err(Error::BadPayload));
     }
 }
 

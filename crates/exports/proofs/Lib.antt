@@ -2,3 +2,4 @@ pub mod Replies
 pub mod Statuses
 pub mod Typed
 pub mod Counts
+pub mod Handing

@@ -16,6 +16,7 @@ pub mod departures;
 pub mod failures;
 pub mod package_calls;
 pub mod package_claims;
+pub mod payloads;
 pub mod plans;
 pub mod sweeps;
 pub mod wrappers;

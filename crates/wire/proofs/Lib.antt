@@ -1,0 +1,6 @@
+pub mod Counts
+pub mod Records
+pub mod Filling
+pub mod Answers
+pub mod Payloads
+pub mod Trips

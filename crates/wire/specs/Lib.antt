@@ -1,0 +1,3 @@
+pub mod Payload
+pub mod Calls
+pub mod Steps
