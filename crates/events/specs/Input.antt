@@ -113,6 +113,10 @@ pub record Held (k : Kept) (buffer store lists : List ℕ) (p : Reading) : Type 
   pub store-is : store ≡ p .store
   pub lists-are : keptLists lists ≡ p .kept
 
+-- what holds of every reading that the program keeps so
+abbrev pub OfHeld : Kept → List ℕ → List ℕ → List ℕ → (Reading → Type 0) → Type 0
+OfHeld k buffer store lists P = (p : Reading) → Held k buffer store lists p → P p
+
 -- ---- the contracts
 
 -- the line that was printed, and its line feed: r bytes at the front of out, which are written

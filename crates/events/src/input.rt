@@ -9,7 +9,7 @@ ghost use Rattle.printing.specs.Given.{lineRoom, answerRoom};
 ghost use Rattle.printing.specs.Kept.{noLists};
 ghost use Rattle.keeping.specs.Lists.{keptBytes, keptLists, Ordered};
 ghost use Rattle.keeping.specs.Steps.{Stepped};
-ghost use Rattle.events.specs.Input.{Reading, started, Held, Said, Took, TookAll, TookSome, Ended, Ran};
+ghost use Rattle.events.specs.Input.{started, OfHeld, Said, Took, TookAll, TookSome, Ended, Ran};
 use libc::STDIN_FILENO;
 use libc::STDOUT_FILENO;
 
@@ -86,8 +86,8 @@ fn take(
 ) -> Kept
     requires { ⌜ Ordered (now lists) × (lineRoom ≤ length (now line)) × (answerRoom ≤ length (now out)) × (kept .len ≤ lineRoom) ⌝ }
     ensures { λ r. ⌜ Ordered (now (lists .exit)) × (r .len ≤ lineRoom) ⌝ }
-    ensures took { λ r. ⌜ ((p : Reading) → Held kept (now (line .entry)) (now (store .entry)) (now (lists .entry)) p
-        → Took p b r (now (line .exit)) (now (store .exit)) (now (lists .exit)) (now (out .exit))) ⌝ }
+    ensures took { λ r. ⌜ OfHeld kept (now (line .entry)) (now (store .entry)) (now (lists .entry))
+        (λ p. Took p b r (now (line .exit)) (now (store .exit)) (now (lists .exit)) (now (out .exit))) ⌝ }
 {
     let len = kept.len;
     if b == b'\n' {
@@ -117,8 +117,8 @@ fn take_all(
 ) -> Kept
     requires { ⌜ Ordered (now lists) × (lineRoom ≤ length (now line)) × (answerRoom ≤ length (now out)) × (kept .len ≤ lineRoom) ⌝ }
     ensures { λ r. ⌜ Ordered (now (lists .exit)) × (r .len ≤ lineRoom) ⌝ }
-    ensures took { λ r. ⌜ ((p : Reading) → Held kept (now (line .entry)) (now (store .entry)) (now (lists .entry)) p
-        → TookAll p (now (bytes .entry)) r (now (line .exit)) (now (store .exit)) (now (lists .exit))) ⌝ }
+    ensures took { λ r. ⌜ OfHeld kept (now (line .entry)) (now (store .entry)) (now (lists .entry))
+        (λ p. TookAll p (now (bytes .entry)) r (now (line .exit)) (now (store .exit)) (now (lists .exit))) ⌝ }
 {
     let mut now = kept;
     let mut i = 0;
@@ -139,7 +139,8 @@ fn read_some(
 ) -> Read
     requires { ⌜ Ordered (now lists) × (lineRoom ≤ length (now line)) × (answerRoom ≤ length (now out)) × (kept .len ≤ lineRoom) ⌝ }
     ensures { λ r. ⌜ Ordered (now (lists .exit)) × (r .kept .len ≤ lineRoom) ⌝ }
-    ensures took { λ r. ⌜ ((p : Reading) → Held kept (now (line .entry)) (now (store .entry)) (now (lists .entry)) p → TookSome p (r .kept) (now (line .exit)) (now (store .exit)) (now (lists .exit))) ⌝ }
+    ensures took { λ r. ⌜ OfHeld kept (now (line .entry)) (now (store .entry)) (now (lists .entry))
+        (λ p. TookSome p (r .kept) (now (line .exit)) (now (store .exit)) (now (lists .exit))) ⌝ }
 {
     let mut bytes = io::buffer();
     let got = libc::read(STDIN_FILENO, &mut bytes);
@@ -177,7 +178,7 @@ fn read_lines(store: &mut [u8], lists: &mut [u8], line: &mut [u8], out: &mut [u8
 // The end of the input: a last line may lack its line feed.
 fn end(store: &mut [u8], lists: &mut [u8], line: &[u8], out: &mut [u8], kept: Kept)
     requires { ⌜ Ordered (now lists) × (lineRoom ≤ length (now line)) × (answerRoom ≤ length (now out)) × (kept .len ≤ lineRoom) ⌝ }
-    ensures { λ r. ⌜ ((p : Reading) → Held kept (now (line .entry)) (now (store .entry)) (now (lists .entry)) p → Ended p (now (store .exit)) (now (out .exit))) ⌝ }
+    ensures { λ r. ⌜ OfHeld kept (now (line .entry)) (now (store .entry)) (now (lists .entry)) (λ p. Ended p (now (store .exit)) (now (out .exit))) ⌝ }
 {
     let len = kept.len;
     if 0 < len {
