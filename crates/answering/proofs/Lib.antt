@@ -1,10 +1,2 @@
-pub mod Printing
-pub mod KeyLists
-pub mod Behind
-pub mod EntryLists
-pub mod Fitting
-pub mod Batch
+pub mod Opening
 pub mod Unopened
-pub mod Unplanned
-pub mod Keeping
-pub mod Stepping

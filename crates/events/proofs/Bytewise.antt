@@ -1,12 +1,12 @@
 -- Standard input a byte at a time: what the program keeps is what was read.
 -- Assumes nothing.
-use Prim.Native.Nat.{ℕ, zero, suc, min, _+_, _<_, _≤_}
+use Prim.Native.Nat.{ℕ, suc, _+_, _<_, _≤_}
 use mathlib.Core.Path.{_≡_, refl, sym, ap, subst, _∙_}
 use mathlib.Core.Bool.{Bool, true, false}
 use mathlib.Core.List.{List, [], _∷_, _++_, append-assoc, append-nil}
 use mathlib.Core.Option.{Option, none, some}
 use native.Mathlib.Omega.{arith}
-use lib.Dec.{eqb, ltb}
+use lib.Dec.{ltb}
 use lib.ListN.{length, take, drop, set, getD, length-append}
 use lib.Seq.{take-all, take-at, take-append-le, take-suc, take-suc-set}
 use borrow.Author.Tests.{ltb-false, lt-ltb, le-ltb, eq-eqb, ne-eqb}
@@ -16,15 +16,16 @@ use Rattle.lines.specs.Text.{Wrote}
 use Rattle.events.specs.declared.input.Kept.{Kept}
 use Rattle.reading.specs.Line.{Line}
 use Rattle.asking.specs.Calls.{lineOf}
-use Rattle.answering.specs.Replies.{refusalText, unreadable}
-use Rattle.answering.specs.Given.{lineRoom, answerRoom, Printed}
-use Rattle.answering.specs.Lists.{KeptLists, noLists, keptLists, InOrder}
-use Rattle.answering.specs.Kept.{Meant, Calls, Parts, meant}
-use Rattle.answering.specs.Answers as answers
-use Rattle.answering.specs.Answers.{AnsweredAs, Answered, Stepped}
-use Rattle.answering.proofs.Stepping.{step-unread}
-use Rattle.events.specs.Input.{asksFor, MeantAs, Replied, lineFeed, LineAnswered, Reading, started, ReadsAs, Reads, ReadsAll}
-use Rattle.events.specs.Input.{nothing, further, EndsAs, Input, Held, Ordered, Said, Took, TookAll, TookSome, Ended, Ran}
+use Rattle.printing.specs.Replies.{refusalText, unreadable}
+use Rattle.printing.specs.Given.{lineRoom, Printed}
+use Rattle.printing.specs.Kept.{KeptLists, noLists, Meant, Calls, Parts, meant}
+use Rattle.keeping.specs.Lists.{keptLists, Ordered}
+use Rattle.printing.specs.Answers as answers
+use Rattle.printing.specs.Answers.{AnsweredAs}
+use Rattle.keeping.specs.Steps.{Stepped}
+use Rattle.keeping.proofs.Stepping.{step-unread}
+use Rattle.events.specs.Input.{asksFor, MeantAs, Replied, lineFeed, LineAnswered, Reading, started, Reads, ReadsAll}
+use Rattle.events.specs.Input.{nothing, further, EndsAs, Held, Said, Took, TookAll, TookSome, Ended, Ran}
 
 -- ---- one answer
 
@@ -212,16 +213,6 @@ took-more {p} t u =
 pub nothing-held : {k : Kept} (buffer store lists : List ℕ) → keptLists lists ≡ noLists → k .len ≡ 0 → k .long ≡ false → Held k buffer store lists (started store)
 nothing-held buffer store lists w n f = record { len = n; front = rw n; long = f; store-is = refl; lists-are = w }
 
--- ---- the kept lists between lines
-
-pub ordered : {l : List ℕ} → InOrder l → Ordered l
-unfolding Ordered
-ordered w = w
-
-pub order-of : (l : List ℕ) → Ordered l → InOrder l
-unfolding Ordered
-order-of l w = w
-
 -- ---- the whole input
 
 pub ran : {b : List ℕ} {k : Kept} {buffer store lists store′ out : List ℕ} → (t : TookSome (started b) k buffer store lists) → Ended (t .all .next) store′ out → Ran b store′
@@ -234,7 +225,7 @@ ran t e = record {
 -- ---- the code's forms
 
 -- a line that is too long, and one that is read
-pub printed-long : {t : Bool} (l : List ℕ) {lists b out out′ : List ℕ} {r : ℕ} → InOrder lists → t ≡ true → Printed out out′ (refusalText unreadable) r
+pub printed-long : {t : Bool} (l : List ℕ) {lists b out out′ : List ℕ} {r : ℕ} → Ordered lists → t ≡ true → Printed out out′ (refusalText unreadable) r
     → Stepped (if t then none else lineOf l) lists lists b b out out′ r
 printed-long {t} l {lists} {b} {out} {out′} {r} w e p = subst (λ (x : Bool). Stepped (if x then none else lineOf l) lists lists b b out out′ r) (sym e) (step-unread w refl refl p)
 

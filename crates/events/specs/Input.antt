@@ -15,11 +15,11 @@ use Rattle.outcome.specs.Outcome.{Effect, Does}
 use Rattle.events.specs.declared.input.Kept.{Kept}
 use Rattle.reading.specs.Line.{Line}
 use Rattle.asking.specs.Calls.{lineOf}
-use Rattle.answering.specs.Replies.{refusalText, unreadable, replyText}
-use Rattle.answering.specs.Given.{lineRoom}
-use Rattle.answering.specs.Lists.{KeptLists, noLists, keptLists, InOrder}
-use Rattle.answering.specs.Kept.{Meant, Calls, Parts, meant, keptAfter}
-use Rattle.answering.specs.Answers.{partText}
+use Rattle.printing.specs.Replies.{refusalText, unreadable, replyText}
+use Rattle.printing.specs.Given.{lineRoom}
+use Rattle.printing.specs.Kept.{KeptLists, noLists, Meant, Calls, Parts, meant, keptAfter}
+use Rattle.keeping.specs.Lists.{keptLists, Ordered}
+use Rattle.printing.specs.Answers.{partText}
 
 -- ---- what a line does
 
@@ -113,15 +113,15 @@ pub record Held (k : Kept) (buffer store lists : List ℕ) (p : Reading) : Type 
   pub store-is : store ≡ p .store
   pub lists-are : keptLists lists ≡ p .kept
 
--- ---- the contracts
+-- what holds of every reading that the program keeps so
+abbrev pub OfHeld : Kept → List ℕ → List ℕ → List ℕ → (Reading → Type 0) → Type 0
+OfHeld k buffer store lists P = (p : Reading) → Held k buffer store lists p → P p
 
--- the bytes of the kept lists between lines
-unfoldable pub Ordered : List ℕ → Type 0
-Ordered l = InOrder l
+-- ---- the contracts
 
 -- the line that was printed, and its line feed: r bytes at the front of out, which are written
 pub record Said (o : Option Line) (l l′ b b′ out : List ℕ) (r : ℕ) : Type 0 where
-  pub order : InOrder l′
+  pub order : Ordered l′
   pub text : List ℕ
   pub replied : Replied o (keptLists l) (keptLists l′) b b′ text
   pub count : r ≡ length (text ++ (lineFeed ∷ []))

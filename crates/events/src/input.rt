@@ -5,10 +5,11 @@ ghost use mathlib.Core.Option.{none};
 ghost use Rattle.ident.specs.If.{if_then_else_};
 ghost use mathlib.Core.Path.{_≡_};
 ghost use Rattle.asking.specs.Calls.{lineOf};
-ghost use Rattle.answering.specs.Given.{lineRoom, answerRoom};
-ghost use Rattle.answering.specs.Lists.{noLists, keptBytes, keptLists, InOrder};
-ghost use Rattle.answering.specs.Answers.{Stepped};
-ghost use Rattle.events.specs.Input.{Reading, started, Ordered, Held, Said, Took, TookAll, TookSome, Ended, Ran};
+ghost use Rattle.printing.specs.Given.{lineRoom, answerRoom};
+ghost use Rattle.printing.specs.Kept.{noLists};
+ghost use Rattle.keeping.specs.Lists.{keptBytes, keptLists, Ordered};
+ghost use Rattle.keeping.specs.Steps.{Stepped};
+ghost use Rattle.events.specs.Input.{started, OfHeld, Said, Took, TookAll, TookSome, Ended, Ran};
 use libc::STDIN_FILENO;
 use libc::STDOUT_FILENO;
 
@@ -51,12 +52,12 @@ struct Read {
 
 // The text of a line's answer: of no call, if the line is too long.
 fn print(store: &mut [u8], lists: &mut [u8], line: &[u8], long: bool, out: &mut [u8]) -> usize
-    requires { ⌜ InOrder (now lists) × (answerRoom ≤ length (now out)) × (length (now line) ≤ lineRoom) ⌝ }
+    requires { ⌜ Ordered (now lists) × (answerRoom ≤ length (now out)) × (length (now line) ≤ lineRoom) ⌝ }
     ensures { λ r. ⌜ Stepped (if long then none else lineOf (now (line .entry))) (now (lists .entry)) (now (lists .exit)) (now (store .entry)) (now (store .exit)) (now (out .entry))
         (now (out .exit)) r ⌝ }
 {
     if long {
-        return answering::answers::unreadable(out);
+        return printing::numbers::unreadable(out);
     }
     answering::answers::answer_line(store, lists, line, out)
 }
@@ -64,7 +65,7 @@ fn print(store: &mut [u8], lists: &mut [u8], line: &[u8], long: bool, out: &mut 
 // Answers one line: the text with its line feed stands at the front of `out`, and so many bytes are written. Nothing is left to do where standard
 // output takes no more.
 fn answer(store: &mut [u8], lists: &mut [u8], line: &[u8], long: bool, out: &mut [u8]) -> usize
-    requires { ⌜ InOrder (now lists) × (answerRoom ≤ length (now out)) × (length (now line) ≤ lineRoom) ⌝ }
+    requires { ⌜ Ordered (now lists) × (answerRoom ≤ length (now out)) × (length (now line) ≤ lineRoom) ⌝ }
     ensures { λ r. ⌜ Said (if long then none else lineOf (now (line .entry))) (now (lists .entry)) (now (lists .exit)) (now (store .entry)) (now (store .exit)) (now (out .exit)) r ⌝ }
 {
     let n = print(store, lists, line, long, out);
@@ -85,8 +86,8 @@ fn take(
 ) -> Kept
     requires { ⌜ Ordered (now lists) × (lineRoom ≤ length (now line)) × (answerRoom ≤ length (now out)) × (kept .len ≤ lineRoom) ⌝ }
     ensures { λ r. ⌜ Ordered (now (lists .exit)) × (r .len ≤ lineRoom) ⌝ }
-    ensures took { λ r. ⌜ ((p : Reading) → Held kept (now (line .entry)) (now (store .entry)) (now (lists .entry)) p
-        → Took p b r (now (line .exit)) (now (store .exit)) (now (lists .exit)) (now (out .exit))) ⌝ }
+    ensures took { λ r. ⌜ OfHeld kept (now (line .entry)) (now (store .entry)) (now (lists .entry))
+        (λ p. Took p b r (now (line .exit)) (now (store .exit)) (now (lists .exit)) (now (out .exit))) ⌝ }
 {
     let len = kept.len;
     if b == b'\n' {
@@ -116,8 +117,8 @@ fn take_all(
 ) -> Kept
     requires { ⌜ Ordered (now lists) × (lineRoom ≤ length (now line)) × (answerRoom ≤ length (now out)) × (kept .len ≤ lineRoom) ⌝ }
     ensures { λ r. ⌜ Ordered (now (lists .exit)) × (r .len ≤ lineRoom) ⌝ }
-    ensures took { λ r. ⌜ ((p : Reading) → Held kept (now (line .entry)) (now (store .entry)) (now (lists .entry)) p
-        → TookAll p (now (bytes .entry)) r (now (line .exit)) (now (store .exit)) (now (lists .exit))) ⌝ }
+    ensures took { λ r. ⌜ OfHeld kept (now (line .entry)) (now (store .entry)) (now (lists .entry))
+        (λ p. TookAll p (now (bytes .entry)) r (now (line .exit)) (now (store .exit)) (now (lists .exit))) ⌝ }
 {
     let mut now = kept;
     let mut i = 0;
@@ -138,7 +139,8 @@ fn read_some(
 ) -> Read
     requires { ⌜ Ordered (now lists) × (lineRoom ≤ length (now line)) × (answerRoom ≤ length (now out)) × (kept .len ≤ lineRoom) ⌝ }
     ensures { λ r. ⌜ Ordered (now (lists .exit)) × (r .kept .len ≤ lineRoom) ⌝ }
-    ensures took { λ r. ⌜ ((p : Reading) → Held kept (now (line .entry)) (now (store .entry)) (now (lists .entry)) p → TookSome p (r .kept) (now (line .exit)) (now (store .exit)) (now (lists .exit))) ⌝ }
+    ensures took { λ r. ⌜ OfHeld kept (now (line .entry)) (now (store .entry)) (now (lists .entry))
+        (λ p. TookSome p (r .kept) (now (line .exit)) (now (store .exit)) (now (lists .exit))) ⌝ }
 {
     let mut bytes = io::buffer();
     let got = libc::read(STDIN_FILENO, &mut bytes);
@@ -176,7 +178,7 @@ fn read_lines(store: &mut [u8], lists: &mut [u8], line: &mut [u8], out: &mut [u8
 // The end of the input: a last line may lack its line feed.
 fn end(store: &mut [u8], lists: &mut [u8], line: &[u8], out: &mut [u8], kept: Kept)
     requires { ⌜ Ordered (now lists) × (lineRoom ≤ length (now line)) × (answerRoom ≤ length (now out)) × (kept .len ≤ lineRoom) ⌝ }
-    ensures { λ r. ⌜ ((p : Reading) → Held kept (now (line .entry)) (now (store .entry)) (now (lists .entry)) p → Ended p (now (store .exit)) (now (out .exit))) ⌝ }
+    ensures { λ r. ⌜ OfHeld kept (now (line .entry)) (now (store .entry)) (now (lists .entry)) (λ p. Ended p (now (store .exit)) (now (out .exit))) ⌝ }
 {
     let len = kept.len;
     if 0 < len {
@@ -189,7 +191,7 @@ pub fn run(store: &mut [u8], lists: &mut [u8], line: &mut [u8], out: &mut [u8])
     requires { ⌜ (length (now lists) ≡ keptBytes) × (lineRoom ≤ length (now line)) × (answerRoom ≤ length (now out)) ⌝ }
     ensures { λ r. ⌜ Ran (now (store .entry)) (now (store .exit)) ⌝ }
 {
-    answering::kept::empty(lists);
+    keeping::kept::empty(lists);
     let last = read_lines(store, lists, line, out);
     end(store, lists, line, out, last);
 }

@@ -2,7 +2,7 @@
 -- Assumes nothing.
 use mathlib.Core.Path.{refl, sym, ap, _∙_}
 use Rattle.asking.specs.Given.{askedLine}
-use Rattle.answering.proofs.Stepping.{step-unread, step-keeps, step-is}
+use Rattle.keeping.proofs.Stepping.{step-unread, step-keeps, step-is}
 use borrow.Author.Needs.{needs}
 use Rattle.answering.proofs.answers.answer_line.Statement.{statement}
 use Rattle.answering.proofs.answers.answer_line.Tie as tie

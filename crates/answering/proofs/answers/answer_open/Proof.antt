@@ -3,7 +3,8 @@
 use mathlib.Core.Path.{refl, ap}
 use native.Mathlib.Omega.{arith}
 use Rattle.outcome.specs.Reply.{replyOf}
-use Rattle.answering.proofs.Stepping.{step-refused, step-opened}
+use Rattle.keeping.proofs.Keeping.{order-of}
+use Rattle.answering.proofs.Opening.{step-refused, step-opened}
 use borrow.Author.Needs.{needs}
 use Rattle.answering.proofs.answers.answer_open.Statement.{statement}
 use Rattle.answering.proofs.answers.answer_open.Tie as tie
@@ -21,7 +22,9 @@ enum-told : tie.Need-enum-told
 enum-told c = search needs
 
 empty-requires : tie.Need-empty-requires
-empty-requires c κs = search needs
+empty-requires c κs =
+    let s = c .before .before .before .before .before .before .before .before .before .before in
+    order-of (s .args .lists .now) (s .pre .0) .long
 
 slice-aggregate-put-bytes : tie.Need-slice-aggregate-put-bytes
 slice-aggregate-put-bytes c = search needs

@@ -2,7 +2,7 @@
 -- Assumes nothing.
 use native.Mathlib.Omega.{arith}
 use lib.ListN.{length-set, length-take}
-use Rattle.answering.proofs.Stepping.{room-of}
+use Rattle.printing.proofs.Lines.{room-of}
 use Rattle.events.proofs.Bytewise.{fed}
 use borrow.Author.Needs.{needs}
 use Rattle.events.proofs.input.answer.Statement.{statement}

@@ -2,7 +2,7 @@
 -- Assumes nothing.
 use native.Mathlib.Omega.{arith}
 use lib.ListN.{length-take}
-use Rattle.events.proofs.Bytewise.{order-of, ended-line, ended-empty}
+use Rattle.events.proofs.Bytewise.{ended-line, ended-empty}
 use borrow.Author.Needs.{needs}
 use Rattle.events.proofs.input.end.Statement.{statement}
 use Rattle.events.proofs.input.end.Tie as tie
@@ -13,8 +13,7 @@ slice-aggregate-answer c = simp length-take
 
 answer-requires : tie.Need-answer-requires
 answer-requires c κs = (
-  order-of (c .before .before .before .before .before .before .before .before .before .args .lists .now)
-      (c .before .before .before .before .before .before .before .before .before .pre .0),
+  c .before .before .before .before .before .before .before .before .before .pre .0,
   c .before .before .before .before .before .before .before .before .before .pre .2,
   simp length-take (omega (arith, c .before .before .before .before .before .before .before .before .before .pre .3)),
 )

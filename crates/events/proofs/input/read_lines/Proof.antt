@@ -5,8 +5,9 @@ use mathlib.Core.Path.{_≡_, refl}
 use mathlib.Core.List.{[]}
 use native.Mathlib.Omega.{arith}
 use lib.ListN.{length}
-use Rattle.answering.specs.Given.{lineRoom}
-use Rattle.events.specs.Input.{started, Ordered, TookSome}
+use Rattle.printing.specs.Given.{lineRoom}
+use Rattle.keeping.specs.Lists.{Ordered}
+use Rattle.events.specs.Input.{started, TookSome}
 use Rattle.events.proofs.Bytewise.{took-none, nothing-held, took-more}
 use borrow.Author.Needs.{needs}
 use Rattle.events.proofs.input.read_lines.Statement.{statement}

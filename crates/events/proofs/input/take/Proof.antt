@@ -3,7 +3,7 @@
 use native.Mathlib.Omega.{arith}
 use mathlib.Core.Path.{refl}
 use lib.ListN.{length-take}
-use Rattle.events.proofs.Bytewise.{took-feed, took-over, took-byte, ordered, order-of}
+use Rattle.events.proofs.Bytewise.{took-feed, took-over, took-byte}
 use borrow.Author.Needs.{needs}
 use Rattle.events.proofs.input.take.Statement.{statement}
 use Rattle.events.proofs.input.take.Tie as tie
@@ -17,8 +17,7 @@ slice-aggregate-answer c = simp length-take
 
 answer-requires : tie.Need-answer-requires
 answer-requires c κs = (
-  order-of (c .before .before .before .before .before .before .before .before .before .args .lists .now)
-      (c .before .before .before .before .before .before .before .before .before .pre .0),
+  c .before .before .before .before .before .before .before .before .before .pre .0,
   c .before .before .before .before .before .before .before .before .before .pre .2,
   simp length-take (omega (arith, c .before .before .before .before .before .before .before .before .before .pre .3)),
 )
@@ -37,7 +36,7 @@ same-length-4 c = search needs
 
 returns : tie.Need-returns
 returns c = (
-  (ordered (c .before .before .before .before .before .before .answer .ensures .order), omega arith),
+  (c .before .before .before .before .before .before .answer .ensures .order, omega arith),
   λ p g. took-feed g
       (c .before .before .before .before .before .before .before .before .before .before .before .if1 .taken) refl refl (c .before .before .before .before .before .before .answer .ensures),
 )

@@ -4,8 +4,9 @@ use Prim.Native.Nat.{_≤_, _-_}
 use mathlib.Core.Path.{_≡_, refl}
 use native.Mathlib.Omega.{arith}
 use lib.ListN.{length, take}
-use Rattle.answering.specs.Given.{lineRoom}
-use Rattle.events.specs.Input.{Reading, Held, Ordered, TookAll}
+use Rattle.printing.specs.Given.{lineRoom}
+use Rattle.keeping.specs.Lists.{Ordered}
+use Rattle.events.specs.Input.{Reading, Held, TookAll}
 use Rattle.events.proofs.Bytewise.{took-none, took-one, take-next, took-whole}
 use borrow.Author.Needs.{needs}
 use Rattle.events.proofs.input.take_all.Statement.{statement}

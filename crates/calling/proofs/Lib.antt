@@ -1,0 +1,3 @@
+mod Asked
+mod Batch
+mod Unplanned

@@ -1,0 +1,6 @@
+pub mod Printing
+pub mod KeyLists
+pub mod Behind
+pub mod EntryLists
+pub mod Fitting
+pub mod Lines

@@ -1,0 +1,37 @@
+-- `printing::entries::put_selection` meets its contract.
+-- Assumes nothing.
+use native.Mathlib.Omega.{arith}
+use Rattle.printing.proofs.Printing.{decimal-end}
+use Rattle.printing.proofs.EntryLists.{selection-wrote}
+use borrow.Author.Needs.{needs}
+use Rattle.printing.proofs.entries.put_selection.Statement.{statement}
+use Rattle.printing.proofs.entries.put_selection.Tie as tie
+
+put-decimal-requires : tie.Need-put-decimal-requires
+put-decimal-requires c κs = search needs
+
+put-behind-requires : tie.Need-put-behind-requires
+put-behind-requires c κs = (
+  omega (arith, c .before .before .before .before .before .before .before .pre .2),
+  omega (
+    arith,
+    decimal-end (c .before .before .before .before .before .before .before .args .considered) (c .before .before .before .put-decimal .ensures),
+    c .before .before .before .put-decimal .kept,
+    c .before .before .before .before .before .before .before .pre .0,
+    c .before .before .before .before .before .before .before .pre .1,
+  ),
+)
+
+same-length : tie.Need-same-length
+same-length c = search needs
+
+returns : tie.Need-returns
+returns c = selection-wrote (c .before .before .before .before .before .before .before .before .before .before .pre .0)
+    (c .before .before .before .before .before .before .before .before .before .before .args .answer .now)
+    (c .before .before .before .before .before .before .before .before .before .before .args .considered)
+    (c .before .before .before .before .before .before .before .before .before .before .args .n) (c .before .before .before .before .before .before .before .before .before .before .pre .1)
+    (c .before .before .before .before .before .before .put-decimal .ensures) (c .before .before .put-behind .ensures .1) (c .before .before .put-behind .ensures .0)
+
+pub put-selection-spec : {M : Type 1} → statement M
+put-selection-spec =
+    tie.close (tie.spec put-decimal-requires put-behind-requires same-length returns)

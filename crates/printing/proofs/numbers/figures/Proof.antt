@@ -1,0 +1,78 @@
+-- `printing::numbers::figures` meets its contract.
+-- Assumes nothing.
+use native.Mathlib.Omega.{arith}
+use Rattle.printing.proofs.Printing.{decimal-end, printed-figures}
+use borrow.Author.Needs.{needs}
+use Rattle.printing.proofs.numbers.figures.Statement.{statement}
+use Rattle.printing.proofs.numbers.figures.Tie as tie
+
+put-decimal-requires : tie.Need-put-decimal-requires
+put-decimal-requires c κs = search needs
+
+slice-aggregate-put-bytes : tie.Need-slice-aggregate-put-bytes
+slice-aggregate-put-bytes c = search needs
+
+put-bytes-requires : tie.Need-put-bytes-requires
+put-bytes-requires c κs = omega (arith, decimal-end (c .before .before .before .before .before .before .before .args .held) (c .before .before .before .before .put-decimal .ensures))
+
+put-decimal-requires-2 : tie.Need-put-decimal-requires-2
+put-decimal-requires-2 c κs = omega (
+  arith,
+  decimal-end (c .before .before .before .before .before .before .before .before .before .before .before .args .held)
+      (c .before .before .before .before .before .before .before .before .put-decimal .ensures),
+  c .before .before .before .put-bytes .ensures .next,
+)
+
+slice-aggregate-put-bytes-2 : tie.Need-slice-aggregate-put-bytes-2
+slice-aggregate-put-bytes-2 c = search needs
+
+put-bytes-requires-2 : tie.Need-put-bytes-requires-2
+put-bytes-requires-2 c κs =
+    omega (
+      arith,
+      decimal-end (c .before .before .before .before .before .before .before .before .before .before .before .before .before .before .before .before .args .held)
+          (c .before .before .before .before .before .before .before .before .before .before .before .before .before .put-decimal .ensures),
+      c .before .before .before .before .before .before .before .before .put-bytes .ensures .next,
+      decimal-end (c .before .before .before .before .before .before .before .before .before .before .before .before .before .before .before .before .args .free)
+          (c .before .before .before .before .put-decimal2 .ensures),
+    )
+
+put-decimal-requires-3 : tie.Need-put-decimal-requires-3
+put-decimal-requires-3 c κs = omega (
+  arith,
+  decimal-end (c .before .before .before .before .before .before .before .before .before .before .before .before .before .before .before .before .before .before .before .before .args .held)
+      (c .before .before .before .before .before .before .before .before .before .before .before .before .before .before .before .before .before .put-decimal .ensures),
+  c .before .before .before .before .before .before .before .before .before .before .before .before .put-bytes .ensures .next,
+  decimal-end (c .before .before .before .before .before .before .before .before .before .before .before .before .before .before .before .before .before .before .before .before .args .free)
+      (c .before .before .before .before .before .before .before .before .put-decimal2 .ensures),
+  c .before .before .before .put-bytes2 .ensures .next,
+)
+
+same-length : tie.Need-same-length
+same-length c = search needs
+
+returns : tie.Need-returns
+returns c = printed-figures
+    (c .before .before .before .before .before .before .before .before .before .before .before .before .before .before .before .before .before .before .before .before .before .before .before .pre)
+    (c .before .before .before .before .before .before .before .before .before .before .before .before .before .before .before .before .before .before
+    .before .before .before .before .before .args .held) (c .before .before .before .before .before .before .before .before .before .before .before .before
+    .before .before .before .before .before .before .before .before .before .before .before .args .free) (c .before .before .before .before .before .before
+    .before .before .before .before .before .before .before .before .before .before .before .before .before .before .before .before .before .args .permille)
+    (c .before .before .before .before .before .before .before .before .before .before .before .before .before .before .before .before .before .before .before .before .put-decimal .ensures)
+    (c .before .before .before .before .before .before .before .before .before .before .before .before .before .before .before .put-bytes .ensures)
+    (c .before .before .before .before .before .before .before .before .before .before .before .put-decimal2 .ensures) (c .before .before .before .before .before .before .put-bytes2 .ensures)
+    (c .before .before .put-decimal3 .ensures)
+
+pub figures-spec : {M : Type 1} → statement M
+figures-spec =
+    tie.close
+    (tie.spec
+    put-decimal-requires
+    slice-aggregate-put-bytes
+    put-bytes-requires
+    put-decimal-requires-2
+    slice-aggregate-put-bytes-2
+    put-bytes-requires-2
+    put-decimal-requires-3
+    same-length
+    returns)

@@ -1,0 +1,4 @@
+pub mod Replies
+pub mod Given
+pub mod Kept
+pub mod Answers
