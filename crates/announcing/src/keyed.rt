@@ -1,5 +1,7 @@
 // announce at a key (document 01, "announce"): who is refused, who comes in, and who gives way.
 use crate::evict;
+use machine::limits::MAX_ALTERNATES;
+use machine::limits::MAX_PEER_ANNOUNCEMENTS;
 ghost use mathlib.Core.Path.{_≡_};
 ghost use mathlib.Core.Bool.{false, _||_};
 ghost use lib.Dec.{leb};
@@ -15,12 +17,6 @@ ghost use Rattle.store.specs.Shown.{Kept};
 ghost use Rattle.requests.specs.Changes.{candidateOf, Makes, Tells};
 ghost use Rattle.announcing.specs.Answers.{Answered};
 ghost use Rattle.announcing.specs.Enters.{Goes, Decided};
-
-// Candidates of a hash, over both kinds.
-const MAX_ALTERNATES: usize = 8;
-
-// Announcements of a connection.
-const MAX_PEER_ANNOUNCEMENTS: u64 = 5_000;
 
 // How an announcement fares: whether it comes in, and the candidate that gives way to it, if one has to.
 pub struct Verdict {

@@ -1,6 +1,7 @@
 // An owner whose time is over, where the places are set apart: it fails, its place dies, and its parents are announced and noted.
 use crate::noting;
 use crate::slots;
+use places::ENQUEUED;
 ghost use mathlib.Core.Path.{_≡_};
 ghost use Prim.Native.Nat.{_+_, _≤_, _<_};
 ghost use lib.ListN.{length};
@@ -9,9 +10,6 @@ ghost use Rattle.apart.specs.Apart.{Room, Parted};
 ghost use Rattle.store.specs.Shown.{Kept};
 ghost use lib.ListN.{take};
 ghost use Rattle.apart.specs.Lapsing.{Lapses, PlaceExpiring, PlaceExpires, Expires};
-
-// The stage of an Enqueued package.
-const ENQUEUED: u64 = 3;
 
 // The owner n of the request at k, whose place is p, fails, unless its package is Enqueued, and the place dies.
 fn lapse(

@@ -3,6 +3,9 @@
 // A store is header, rows, connections, places. `set_apart` takes the first place out into an array beside the store and says in the
 // header that there is room for one place and none is held: the bytes as far as that place then write a sound state without packages,
 // and the other places lie untouched behind them. `put_back` undoes it, without the places that died meanwhile.
+use places::PLACE;
+use regions::CONN;
+use regions::ROW;
 ghost use mathlib.Core.Path.{_≡_};
 ghost use Prim.Native.Nat.{_*_, _≤_};
 ghost use lib.ListN.{length};
@@ -15,13 +18,6 @@ pub mod lapsing;
 pub mod noting;
 pub mod silent;
 pub mod slots;
-
-// Words of a row, of a connection's entry and of a place.
-const ROW: usize = 9;
-
-const CONN: usize = 3;
-
-const PLACE: usize = 824;
 
 // Bytes of a place.
 pub const SLOT: usize = 6_592;

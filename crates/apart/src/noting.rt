@@ -1,6 +1,7 @@
 // Parents of a place announced one by one, and those kept noted: a bit for each in two numbers.
 use crate::displacing;
 use crate::joining;
+use gathering::region::ROOM;
 ghost use mathlib.Core.Path.{_≡_};
 ghost use Prim.Native.Nat.{_+_, _-_, _*_, _^_, _≤_, _<_};
 ghost use lib.ListN.{length};
@@ -119,9 +120,6 @@ fn announce_bits(
         reserve,
     }
 }
-
-// Bytes of the rows that can wait.
-const ROOM: usize = 36_864;
 
 fn region() -> [u8; ROOM] {
     [0u8; ROOM]

@@ -1,4 +1,5 @@
 // The places that are set apart, by number: the first in an array, the others from the byte m of the store on.
+use places::DEAD;
 ghost use mathlib.Core.Path.{_≡_};
 ghost use Prim.Native.Nat.{_+_, _*_, _≤_, _<_};
 ghost use lib.ListN.{length, take, drop};
@@ -8,9 +9,6 @@ ghost use Rattle.words.specs.Words.{words};
 ghost use Rattle.places.specs.Places.{placeSize};
 ghost use Rattle.regions.specs.Rows.{quadNumber};
 ghost use Rattle.apart.specs.Apart.{slotBytes, Room, Loaded, HeadIn, SoughtIn, Killed, SpotIn};
-
-// The stage of a place that is to go.
-const DEAD: u64 = 0;
 
 // A place of a key: its number, its stage, how many parents it has. Stage 0: there is none, or it is dead.
 pub struct Spot {

@@ -48,6 +48,6 @@ pub fn answer_missing(store: &mut [u8], line: &[u8], out: &mut [u8], v: Values, 
     let Items::Are(n) = inventory::items::read_list(line, e, &mut items) else {
         return unreadable(out);
     };
-    let m = n * inventory::items::ITEM;
+    let m = n * lists::ITEM;
     carry_out(store, out, v, &items[..m])
 }

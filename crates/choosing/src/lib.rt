@@ -2,6 +2,7 @@
 // connection below 100".
 //
 // The rows of a key are scanned from the last to the first, so that what has been found is the choice among the rows from here on.
+use machine::limits::MAX_PEER_IN_FLIGHT;
 ghost use mathlib.Core.Path.{_≡_};
 ghost use mathlib.Core.Bool.{false};
 ghost use mathlib.Core.List.{[]};
@@ -16,9 +17,6 @@ ghost use Rattle.store.specs.Shown.{rowsIn, Shown, Kept};
 ghost use Rattle.requests.specs.Changes.{Tells};
 ghost use Rattle.announcing.specs.Evicts.{entryAt, part};
 ghost use Rattle.choosing.specs.Choosing.{picked, anyOwns, freeChoice, Better, WithRow, Least, Either, Choice, WindowAs};
-
-// Requests that a connection owns.
-const MAX_IN_FLIGHT: u64 = 100;
 
 // What a scan has found: the row of a candidate, if there is one, and its number.
 pub struct Pick {
@@ -63,7 +61,7 @@ fn able(s: &[u8], clock: u64, r: regions::Row) -> bool
         return false;
     }
     let f = requests::figures(s, r.conn);
-    f.owned < MAX_IN_FLIGHT
+    f.owned < MAX_PEER_IN_FLIGHT
 }
 
 // The sooner of the row r, which is the i-th, and of what has been found; the row, where neither is.

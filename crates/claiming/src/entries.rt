@@ -15,7 +15,7 @@ ghost use Rattle.store.specs.Shown.{Kept};
 ghost use Rattle.claiming.specs.Claiming.{entryOf, itemAnswer, OneMore, keyFrom, itemFrom, entryFrom, entriesIn, Claims};
 
 // Words of an entry.
-const ENTRY: usize = 14;
+pub const ENTRY: usize = 14;
 
 fn kind_number(k: ident::Kind) -> u64
     ensures { λ r. ⌜ r ≡ kindNumber k ⌝ }

@@ -1,5 +1,6 @@
 // claim (document 01, "claim"): an entry of the checked list is taken if its hash is unowned and it is still, in every field, what
 // plan would choose for its hash.
+use machine::limits::REQUEST_LIFETIME;
 ghost use mathlib.Core.Path.{_≡_};
 ghost use Prim.Native.Nat.{_≤_};
 ghost use Rattle.ident.specs.declared.Kind.the-variants.{Txid};
@@ -15,9 +16,6 @@ ghost use Rattle.claiming.specs.Claiming.{entryOf, taking};
 
 pub mod checked;
 pub mod entries;
-
-// From now to the deadline of an owner.
-const REQUEST_LIFETIME: u64 = 60_000;
 
 // What a plan answers and a claim is given: a candidate with its request's key.
 pub struct Entry {

@@ -1,5 +1,8 @@
 // Package claims given up, on the bytes of a sound store (document 01, "The request machine"): forget_known; `waiting` has
 // failed_package_claims.
+use lists::KEYS;
+use lists::LIST;
+use places::ENQUEUED;
 ghost use mathlib.Core.Path.{_≡_};
 ghost use Rattle.ident.specs.Words.{keyNum};
 ghost use Rattle.machine.specs.Table.{at};
@@ -9,14 +12,6 @@ ghost use Rattle.requests.specs.Changes.{Tells};
 ghost use Rattle.claims.specs.Changes.{Becomes};
 
 pub mod waiting;
-
-// The stage of a place with an Enqueued package.
-const ENQUEUED: u64 = 3;
-
-// Bytes of 100 hashes, and of 100 keys.
-const LIST: usize = 3_200;
-
-const KEYS: usize = 4_000;
 
 // Whether the request at k has an Enqueued package, or a flag or package whose owner is in time at clock.
 fn guarded(s: &[u8], k: ident::Key, clock: u64) -> bool

@@ -2,6 +2,9 @@
 //
 // The claims of the connection are noted before any fails: they are at most 100, since it owns no more requests, and one pass over the
 // rows finds them. Each hash that is given is then compared with theirs, whatever the number of places.
+use lists::KEY;
+use lists::LIST;
+use places::AWAITING;
 ghost use mathlib.Core.Path.{_≡_};
 ghost use Prim.Native.Nat.{_+_, _*_, _≤_, _<_};
 ghost use mathlib.Core.Bool.{true};
@@ -24,16 +27,8 @@ ghost use Rattle.packages.specs.Changes.{combinedOf};
 ghost use Rattle.announcing.specs.Answers.{KeysListed};
 ghost use Rattle.claims.specs.Awaited.{awaiting, isClaimRow, Noted, ClaimsNoted, lastAmong, keyFound, ClaimsAre, ListedOn, entriesIn, givenIn, hashFound, lastOf, ClaimsFit};
 
-// The stage of a place with an Awaiting package.
-const AWAITING: u64 = 2;
-
 // The item type of a package's transactions (BIP 331).
 const MSG_PKGTXNS: u32 = 6;
-
-// Bytes of a key, and of 100 hashes.
-const KEY: usize = 40;
-
-const LIST: usize = 3_200;
 
 // Whether the row r is that of the connection n as the owner of a request with an Awaiting package.
 fn is_claim(s: &[u8], n: u64, r: regions::Row) -> bool

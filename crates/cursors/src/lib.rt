@@ -3,6 +3,7 @@
 //
 // The words of the header are read and written by covered functions. A function with a `Cursors` or a `MaybeKey` in it is proved by a
 // walk of its MIR, so it is kept short.
+use machine::limits::REQUEST_POLL_INTERVAL;
 ghost use mathlib.Core.Path.{_≡_};
 ghost use Prim.Native.Nat.{ℕ, _+_, _*_, _≤_, _<_};
 ghost use mathlib.Core.Option.{none, some};
@@ -26,9 +27,6 @@ pub struct Cursors {
     pub known: ident::MaybeKey,
     pub ready: ident::MaybeKey,
 }
-
-// Milliseconds between polls (the Rust's REQUEST_POLL_INTERVAL).
-pub const POLL_INTERVAL: u64 = 100;
 
 // ---- the words of the header
 
@@ -243,7 +241,7 @@ fn poll_after(m: MaybeTime, clock: u64) -> MaybeTime
     ensures { λ r. ⌜ timeNum r ≡ nextPollAfter clock (timeNum m) ⌝ }
 {
     if due(m, clock) {
-        MaybeTime::Is(clock + POLL_INTERVAL)
+        MaybeTime::Is(clock + REQUEST_POLL_INTERVAL)
     } else {
         m
     }

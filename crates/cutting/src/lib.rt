@@ -2,6 +2,7 @@
 // the rows: one by one, each would move every row behind it.
 //
 // `cut_between` comes to the machine's cuts under these keys, one after the other in the order of keys.
+use regions::ROW;
 ghost use mathlib.Core.Path.{_≡_};
 ghost use Prim.Native.Nat.{_+_, _*_, _≤_, _<_};
 ghost use lib.ListN.{length};
@@ -12,9 +13,6 @@ ghost use Rattle.store.specs.Shown.{Shown, Kept, Tallies};
 ghost use Rattle.requests.specs.Changes.{Makes};
 ghost use Rattle.packages.specs.Staying.{Moved, KeptIf, Compacted};
 ghost use Rattle.cutting.specs.Cuts.{between, cuts, rowIn, rowKeyIn, stays, Dropped, lessen};
-
-// Words of a row.
-const ROW: usize = 9;
 
 // A connection, and the keys from .. to.
 pub struct Span {

@@ -1,4 +1,8 @@
 // failed, unclaim, forget, failed_with_parents, release_package and package info on the bytes of a sound store (document 01, "The request machine").
+use lists::KEY;
+use lists::LIST;
+use places::ENQUEUED;
+use places::FLAG;
 ghost use mathlib.Core.Path.{_≡_};
 ghost use Prim.Native.Nat.{_+_, _*_, _≤_};
 ghost use mathlib.Core.Bool.{true, false};
@@ -19,11 +23,6 @@ ghost use Rattle.announcing.specs.Answers.{Answered, KeysListed};
 ghost use Rattle.failing.specs.Changes.{led};
 
 pub mod parents;
-
-// Stages of a place: the flag, and an Enqueued package.
-const FLAG: u64 = 1;
-
-const ENQUEUED: u64 = 3;
 
 // Whether the connection n owns the request at k, and its package is not Enqueued.
 pub fn releasable(s: &[u8], k: ident::Key, n: u64) -> bool
@@ -168,11 +167,6 @@ pub fn failed_package_info(s: &mut [u8], k: ident::Key, n: u64, clock: u64) -> b
 }
 
 // ---- parents
-
-// Bytes of a key, and of 100 hashes.
-const KEY: usize = 40;
-
-const LIST: usize = 3_200;
 
 // Announces the parents, and lists in `out` the key k and behind it the keys of those kept. Answers how many keys these are.
 fn announce_behind(

@@ -1,6 +1,8 @@
 // Announcements of a connection beside those of it that wait: each is tested on the store as it is and on the rows that wait, and
 // waits with them if it comes in without another's giving way.
 use crate::region;
+use machine::limits::MAX_ALTERNATES;
+use machine::limits::MAX_PEER_ANNOUNCEMENTS;
 ghost use mathlib.Core.Path.{_≡_};
 ghost use Prim.Native.Nat.{_+_, _*_, _≤_};
 ghost use mathlib.Core.Option.{some};
@@ -19,13 +21,7 @@ ghost use Rattle.requests.specs.Changes.{candidateOf};
 ghost use Rattle.gathering.specs.Aside.{space, BarredIn, FaresIn, RowIn, SetAside};
 
 // As many rows can wait.
-const SPACE: usize = 512;
-
-// Candidates of a hash, over both kinds.
-const MAX_ALTERNATES: usize = 8;
-
-// Announcements of a connection.
-const MAX_PEER_ANNOUNCEMENTS: u64 = 5_000;
+pub const SPACE: usize = 512;
 
 // With the m that wait L announcements are held.
 pub fn full(s: &[u8], m: usize) -> bool

@@ -1,7 +1,9 @@
 // Announcements of a connection where L are held, with the store left as it is: each that comes in waits beside it, and the next of the
 // victims listed is to go for it, later and with the others.
 use crate::beside;
+use crate::beside::SPACE;
 use crate::region;
+use machine::limits::MAX_ALTERNATES;
 ghost use Prim.Native.Nat.{_+_, _*_, _≤_, _<_};
 ghost use mathlib.Core.Path.{_≡_};
 ghost use mathlib.Core.Option.{some};
@@ -15,12 +17,6 @@ ghost use Rattle.requests.specs.Changes.{candidateOf};
 ghost use Rattle.announcing.specs.Falls.{listSpace};
 ghost use Rattle.gathering.specs.Aside.{space};
 ghost use Rattle.gathering.specs.Deferring.{ListedAt, SuitedIn, Deferred};
-
-// As many rows can wait.
-const SPACE: usize = 512;
-
-// Candidates of a hash, over both kinds.
-const MAX_ALTERNATES: usize = 8;
 
 // Whether one of the first n rows listed is at the hash h.
 fn listed_at(top: &[u8], n: usize, h: ident::Hash) -> bool

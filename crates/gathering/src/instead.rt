@@ -1,6 +1,8 @@
 // Announcements of a connection where L are held: each that comes in waits beside the store, and the first of the victims goes for it.
 use crate::beside;
+use crate::beside::SPACE;
 use crate::region;
+use machine::limits::MAX_ALTERNATES;
 ghost use Prim.Native.Nat.{_+_, _*_, _≤_};
 ghost use mathlib.Core.Path.{_≡_};
 ghost use mathlib.Core.Option.{some};
@@ -14,12 +16,6 @@ ghost use Rattle.requests.specs.Changes.{candidateOf};
 ghost use Rattle.announcing.specs.Falls.{listSpace};
 ghost use Rattle.gathering.specs.Aside.{space};
 ghost use Rattle.gathering.specs.Exchanges.{Underway, SuitsIn, Exchanged};
-
-// As many rows can wait.
-const SPACE: usize = 512;
-
-// Candidates of a hash, over both kinds.
-const MAX_ALTERNATES: usize = 8;
 
 // How the announcement c at k fares beside the d that wait, if the candidate of the row y goes for it: 0 it changes nothing, 1 it can
 // wait, 2 it is to be announced by itself. At the hash of one that waits nobody goes: the mark of their request could be lost.

@@ -10,6 +10,9 @@ ghost use Rattle.gathering.specs.Aside.{space, Empty, KeyIn, PutIn, Wait
 // Words of the region.
 const WORDS: usize = 4_608;
 
+// The same in bytes.
+pub const ROOM: usize = 36_864;
+
 // Makes the region empty.
 pub fn clear(new: &mut [u8])
     requires { ⌜ length (now new) ≡ 8 * (rowSize * space) ⌝ }

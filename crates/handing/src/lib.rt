@@ -1,5 +1,7 @@
 // The connection that leaves owns a request: it fails there (an Enqueued package stays), and the parents are announced for every
 // candidate that is left.
+use lists::KEYS;
+use lists::LIST;
 ghost use mathlib.Core.Path.{_≡_};
 ghost use Prim.Native.Nat.{_*_, _≤_};
 ghost use mathlib.Core.Bool.{true, false};
@@ -20,11 +22,7 @@ ghost use Rattle.handing.specs.Hands.{eased};
 ghost use Rattle.merging.specs.Merges.{InOrder};
 ghost use Rattle.handing.specs.Hands.{connsOf, connsIn, Peers, announceFor, Roomy, KeysMerged, Silent, Waits};
 
-// Bytes of 100 keys, of 100 hashes, and of 8 connections.
-const KEYS: usize = 4_000;
-
-const LIST: usize = 3_200;
-
+// Bytes of eight connections.
 const CONNS: usize = 64;
 
 fn no_keys() -> [u8; KEYS] {

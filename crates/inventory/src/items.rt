@@ -1,4 +1,5 @@
 // A list of items, 40 bytes each: a word for the type, then the hash.
+use lists::ITEM;
 ghost use Prim.Native.Nat.{_+_, _*_, _≤_};
 ghost use mathlib.Core.Path.{_≡_};
 ghost use lib.ListN.{length};
@@ -17,8 +18,6 @@ use reading::hashes::hash_of;
 
 // The most items that a line of 65,536 bytes can hold: each takes a comma, a letter and a digit or more.
 const ITEMS: usize = 21_845;
-
-pub const ITEM: usize = 40;
 
 const STORED: usize = ITEMS * ITEM;
 

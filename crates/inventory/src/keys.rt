@@ -1,4 +1,5 @@
 // A list of keys, 40 bytes each: a word that is 0 for Txid and 1 for Wtxid, then the hash.
+use lists::KEY;
 ghost use Prim.Native.Nat.{_+_, _*_, _≤_};
 ghost use mathlib.Core.Path.{_≡_};
 ghost use lib.ListN.{length};
@@ -18,8 +19,6 @@ use reading::hashes::hash_of;
 
 // The most keys that a line of 65,536 bytes can hold: each takes a comma, a letter and a digit or more.
 const KEYS: usize = 21_845;
-
-pub const KEY: usize = 40;
 
 const STORED: usize = KEYS * KEY;
 

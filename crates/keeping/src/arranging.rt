@@ -23,9 +23,6 @@ use printing::buffers::answer_buffer;
 use printing::numbers::refusal;
 use printing::numbers::unreadable;
 
-// The refusal of a connection that is 0.
-const NO_CONNECTION: u64 = 4;
-
 // Arranges the entries of a list.
 fn arrange_list(store: &[u8], witnesses: &[u8], list: &[u8], answer: &mut [u8]) -> outcome::Listing
     requires { ⌜ Fits (now list) ⌝ }
@@ -79,7 +76,7 @@ pub fn answer_part(store: &[u8], lists: &[u8], out: &mut [u8], connection: u64) 
         return refusal(out, outcome::refusals::UNSOUND_STORE);
     }
     if connection == 0 {
-        return refusal(out, NO_CONNECTION);
+        return refusal(out, outcome::refusals::NO_CONNECTION);
     }
     put_part(out, &lists[2 * LIST..3 * LIST], connection)
 }

@@ -1,5 +1,6 @@
 // A connection leaves (document 01, "disconnected"). Its keys wait to be cut together (crate cutting), up to one that it owns and whose
 // parents are announced (crate handing): cuts may move neither before nor behind that, since it needs room.
+use lists::KEY;
 ghost use mathlib.Core.Path.{_≡_};
 ghost use Prim.Native.Nat.{ℕ, min, _+_, _*_, _≤_, _<_};
 ghost use mathlib.Core.List.{List};
@@ -47,9 +48,6 @@ pub fn own_keys(s: &[u8], n: u64, out: &mut [u8]) -> usize
 }
 
 // ---- disconnected
-
-// Bytes of a key.
-const KEY: usize = 40;
 
 // How many keys are the connection's own, and how many the parents'.
 pub struct Left {

@@ -110,7 +110,7 @@ pub fn number(f: &[u8]) -> MaybeNumber
 // ---- Hashes
 
 // The weight of a word's highest hexadecimal digit.
-const HIGH_DIGIT: u64 = 0x1000_0000_0000_0000;
+pub const HIGH_DIGIT: u64 = 0x1000_0000_0000_0000;
 
 // Whether d is a hexadecimal digit, and four words hold a number that ends in it, behind the digits of q.
 fn hash_has_room(q: regions::Quad, d: u64) -> bool

@@ -1,13 +1,11 @@
 // Values as text, written into lent bytes from an index on. Each function answers the index behind what it wrote.
+use crate::read::HIGH_DIGIT;
 ghost use mathlib.Core.Path.{_≡_};
 ghost use Prim.Native.Nat.{_+_, _/_, _≤_, _<_};
 ghost use lib.Dec.{ltb};
 ghost use lib.ListN.{length};
 ghost use Rattle.regions.specs.Rows.{quadNumber};
 ghost use Rattle.lines.specs.Text.{digitText, decimalDigits, decimal, hashDigits, hexadecimal, kindLetter, keyText, Wrote};
-
-// The weight of a word's highest hexadecimal digit.
-const HIGH_DIGIT: u64 = 0x1000_0000_0000_0000;
 
 // The byte of a digit below 16.
 fn digit_text(d: u64) -> u8

@@ -58,8 +58,15 @@ pub fn occurs_before(s: &[u8], i: usize) -> bool
 
 // ---- items in, and their priorities
 
+// Bytes of 100 hashes, the longest list that a call takes; of a key, and of 100 keys.
+pub const LIST: usize = 3_200;
+
+pub const KEY: usize = 40;
+
+pub const KEYS: usize = 4_000;
+
 // Bytes of an item, and of a priority.
-const ITEM: usize = 40;
+pub const ITEM: usize = 40;
 
 const PRIORITY: usize = 8;
 

@@ -3,6 +3,7 @@
 // A test answers its number, or 0 if it has nothing against the call; `first` takes them in turn. Each says what all of them come to in turn, for a call
 // that names nothing else: a call makes one of them, and one law (proofs/Carried, `refused`) stands for all calls.
 use super::need;
+use machine::limits::MAX_PARENTS;
 ghost use mathlib.Core.Path.{_≡_};
 ghost use mathlib.Core.List.{List, [], _∷_};
 ghost use Prim.Native.Nat.{ℕ};
@@ -17,7 +18,7 @@ pub const BAD_SIZES: u64 = 2;
 
 pub const UNSOUND_STORE: u64 = 3;
 
-const NO_CONNECTION: u64 = 4;
+pub const NO_CONNECTION: u64 = 4;
 
 const LATE_CLOCK: u64 = 5;
 
@@ -29,11 +30,6 @@ pub const NO_PLACE: u64 = 8;
 
 // 2^64 − 60,001
 const LATEST_CLOCK: u64 = 18_446_744_073_709_491_615;
-
-const MAX_PARENTS: usize = 100;
-
-// Bytes of a key in an answer.
-pub const KEY_BYTES: usize = 40;
 
 // Bytes that the answer of a call needs that lists keys, but those whose need is named: 101 keys of 40 bytes.
 pub const KEYS_ANSWER: usize = 4_040;

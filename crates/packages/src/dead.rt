@@ -3,6 +3,7 @@
 // The places of a set of requests are closed by `mark_dead` of each and then one `drop_dead`. Between these the bytes write no sound
 // state, but a sound state with some places marked (`Marks`).
 use crate::flat;
+use places::DEAD;
 ghost use Prim.Native.Nat.{_+_, _*_, _≤_, _<_};
 ghost use lib.ListN.{length};
 ghost use Rattle.ident.specs.Words.{hashNum};
@@ -10,9 +11,6 @@ ghost use Rattle.words.specs.Words.{words};
 ghost use Rattle.places.specs.Places.{placeSize};
 ghost use Rattle.store.specs.Shown.{Shown, withPlaces, Turns};
 ghost use Rattle.packages.specs.Dead.{filter, live, Moved, KeptLive, Compacted, MarksMore};
-
-// The stage of a place that is to go.
-const DEAD: u64 = 0;
 
 // Marks the place of the Wtxid key with hash h dead, if there is one.
 pub fn mark_dead(s: &mut [u8], h: ident::Hash)

@@ -1,4 +1,7 @@
 // The package places of a store as records, beyond store::packages: searched, their lists read and lengthened.
+use places::PLACE;
+use regions::CONN;
+use regions::ROW;
 ghost use Prim.Native.Nat.{_+_, _≤_, _<_};
 ghost use lib.ListN.{length, getD, set};
 ghost use Rattle.lists.specs.Lists.{hashesIn};
@@ -6,13 +9,6 @@ ghost use Rattle.regions.specs.Rows.{quadNumber};
 ghost use Rattle.places.specs.Places.{Place, listMost, withCombined, withWtxids, withParents};
 ghost use Rattle.store.specs.Shown.{heldPlacesIn, Shown, withPlaces, Turns, Seek};
 ghost use Rattle.packages.specs.Records.{PartOf, placeHashes, HashIn, PushedIn, NoWtxids, ListedIn};
-
-// Words of a row, of a connection's entry and of a place.
-const ROW: usize = 9;
-
-const CONN: usize = 3;
-
-const PLACE: usize = 824;
 
 // The bytes of a store that its places lie in.
 pub struct Part {

@@ -2,6 +2,10 @@
 //
 // As in `requests`, a contract speaks of every sound state that the bytes write. A request that has the flag or a package has a place;
 // it is found by the hash of the request's Wtxid key.
+use machine::limits::MAX_PARENTS;
+use places::AWAITING;
+use places::ENQUEUED;
+use places::FLAG;
 ghost use mathlib.Core.Path.{_≡_};
 ghost use Prim.Native.Nat.{_≤_, _<_};
 ghost use mathlib.Core.Option.{some};
@@ -20,15 +24,6 @@ ghost use Rattle.packages.specs.Changes.{stageOf, wtxidsOf, combinedOf, 
 
 pub mod dead;
 pub mod flat;
-
-// Stages of a place.
-const FLAG: u64 = 1;
-
-const AWAITING: u64 = 2;
-
-const ENQUEUED: u64 = 3;
-
-const MOST_PARENTS: usize = 100;
 
 // ---- where the place of a hash stands
 
@@ -201,7 +196,7 @@ pub fn add_parent(s: &mut [u8], h: ident::Hash, parent: ident::Hash)
         let i = p.at;
         let n = parents(s, i);
         let q = requests::hash_quad(parent);
-        if n < MOST_PARENTS {
+        if n < MAX_PARENTS {
             flat::push_parent(s, i, n, q);
         }
     }

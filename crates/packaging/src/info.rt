@@ -1,4 +1,6 @@
 // solicit_package_info on the bytes of a sound store (document 01, "solicit_package_info").
+use machine::limits::MAX_PEER_IN_FLIGHT;
+use machine::limits::REQUEST_LIFETIME;
 ghost use Prim.Native.Nat.{ℕ, _+_, _≤_, _<_};
 ghost use mathlib.Core.Path.{_≡_};
 ghost use mathlib.Core.Bool.{_&&_};
@@ -19,12 +21,6 @@ ghost use Rattle.store.specs.Shown.{placesIn, heldPlacesIn, Kept};
 ghost use Rattle.requests.specs.Changes.{candidateOf, Makes, Tells};
 ghost use Rattle.announcing.specs.Answers.{Answered};
 ghost use Rattle.packaging.specs.Solicits.{Keeps, MayOwn, Opened, given, Room};
-
-// Requests that a connection owns.
-const MAX_IN_FLIGHT: u64 = 100;
-
-// From now to the deadline of an owner.
-const REQUEST_LIFETIME: u64 = 60_000;
 
 // "Announces w, preferred, priority 0, ready now"
 fn soliciting(n: u64, h: ident::Hash, clock: u64) -> requests::Candidate
@@ -54,7 +50,7 @@ fn may_own(s: &[u8], n: u64, h: ident::Hash) -> bool
         return false;
     }
     let f = requests::figures(s, n);
-    f.owned < MAX_IN_FLIGHT
+    f.owned < MAX_PEER_IN_FLIGHT
 }
 
 // Whether solicit_package_info would reply 1, and so take a place.

@@ -1,4 +1,7 @@
 // The package calls on the bytes of a sound store (document 01, "claim_package", "begin_package_resolution").
+use machine::limits::MAX_WTXIDS;
+use places::AWAITING;
+use places::FLAG;
 ghost use mathlib.Core.Path.{_≡_};
 ghost use Prim.Native.Nat.{_<_};
 ghost use mathlib.Core.Bool.{_&&_};
@@ -14,14 +17,6 @@ ghost use Rattle.packages.specs.Changes.{stageOf, wtxidsOf, combinedOf, ReadAt}
 ghost use Rattle.announcing.specs.Answers.{Answered};
 
 pub mod info;
-
-// Stages of a request.
-const FLAG: u64 = 1;
-
-const AWAITING: u64 = 2;
-
-// Wtxids of a package.
-const MOST_WTXIDS: usize = 100;
 
 // Whether the request at the Wtxid key of `subject` has the stage, and n owns it with the deadline still to come.
 fn owned_at(s: &[u8], n: u64, subject: ident::Wtxid, clock: u64, stage: u64) -> bool
@@ -47,7 +42,7 @@ pub fn claim_package(
     ensures { λ r. ⌜ Answered (now (s .entry)) (now (s .exit)) r (λ m t. machine.claimPackage n (hashNum (subject .0)) (hashNum combined) (hashesIn (now (wtxids .entry))) clock t) ⌝ }
 {
     let count = lists::hashes(wtxids);
-    if count == 0 || count > MOST_WTXIDS {
+    if count == 0 || count > MAX_WTXIDS {
         return false;
     }
     if !owned_at(s, n, subject, clock, FLAG) {

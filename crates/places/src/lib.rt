@@ -14,19 +14,28 @@ ghost use Rattle.places.specs.Places.{listMost, placeSize, combinedAt, s
 ghost use Rattle.places.specs.Places.{blank, withStage, withCombined, withWtxids, withParents, HeadAt, HashAt, Pushed};
 
 // Words of a place, and where in it the parts lie.
-const PLACE: usize = 824;
+pub const PLACE: usize = 824;
 
-const COMBINED: usize = 4;
+pub const COMBINED: usize = 4;
 
-const STAGE: usize = 8;
+pub const STAGE: usize = 8;
 
-const WTXID_COUNT: usize = 9;
+pub const WTXID_COUNT: usize = 9;
 
-const PARENT_COUNT: usize = 10;
+pub const PARENT_COUNT: usize = 10;
 
-const WTXIDS: usize = 11;
+pub const WTXIDS: usize = 11;
 
-const PARENTS: usize = 411;
+pub const PARENTS: usize = 411;
+
+// What the stage of a place can be: a place that is to go, which stands in no sound store; the flag; an Awaiting and an Enqueued package.
+pub const DEAD: u64 = 0;
+
+pub const FLAG: u64 = 1;
+
+pub const AWAITING: u64 = 2;
+
+pub const ENQUEUED: u64 = 3;
 
 // What a place has beside its lists. The counts are those of the lists.
 pub struct Head {

@@ -1,5 +1,6 @@
 // The public calls for Sending: arrange, and part, which takes no store (document 01, "Sending").
 use super::on_sound;
+use claiming::entries::ENTRY;
 use outcome::Listing;
 use outcome::refusals;
 ghost use mathlib.Core.Path.{_≡_};
@@ -29,8 +30,6 @@ pub fn arrange(s: &[u8], witnesses: &[u8], taken: &[u8], answer: &mut [u8]) -> L
 // ---- one connection's requests
 
 // Words of an entry, and where its connection stands among them.
-const ENTRY: usize = 14;
-
 const CONNECTION: usize = 5;
 
 // Whether c stands before the connection; with `after`, also whether it is the same.

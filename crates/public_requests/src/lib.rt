@@ -1,5 +1,7 @@
 // The public calls on a request (document 01, "Refusals and replies", "The request machine"): opening, sum, those that bring candidates, those of a failed or
 // withdrawn request, sweep and the poll gate. Each takes any store and asks nothing of it (crates/outcome).
+use machine::limits::MAX_ANNOUNCEMENTS;
+use machine::limits::MAX_PLACES;
 use outcome::Answer;
 use outcome::Figures;
 use outcome::need;
@@ -23,11 +25,6 @@ pub enum Counts {
     Refused(u64),
     Are(u64, u64),
 }
-
-// The greatest L and the greatest Q.
-const MAX_ANNOUNCEMENTS: u64 = 100_000;
-
-const MAX_PLACES: u64 = 4_096;
 
 // Whether opening takes these sizes.
 fn sizes_taken(l: u64, q: u64) -> bool

@@ -1,4 +1,5 @@
 // Lists of hashes, read into bytes that are lent: 32 bytes each.
+use ident::HASH_BYTES;
 ghost use mathlib.Core.Path.{_≡_};
 ghost use Prim.Native.Nat.{_≤_, _<_};
 ghost use lib.ListN.{length};
@@ -16,9 +17,7 @@ use crate::fields::number_at;
 // The most hashes that a line of 65,536 bytes can hold: each takes a comma and a digit or more.
 const HASHES: usize = 32_768;
 
-const HASH: usize = 32;
-
-const STORED: usize = HASHES * HASH;
+const STORED: usize = HASHES * HASH_BYTES;
 
 // A list that was read, with the index where its last field ends.
 pub enum ListAt {
@@ -50,7 +49,7 @@ fn put_hash(hashes: &mut [u8], i: usize, q: regions::Quad)
     requires { ⌜ (i < mostHashes) × (storedBytes ≤ length (now hashes)) ⌝ }
     ensures { λ _. ⌜ Stored hashBytes (number 256) (now (hashes .entry)) (now (hashes .exit)) i (quadNumber q) ⌝ }
 {
-    ident::put_hash(hashes, i * HASH, hash_of(q));
+    ident::put_hash(hashes, i * HASH_BYTES, hash_of(q));
 }
 
 // The n hashes whose fields stand behind the comma at index e.
@@ -89,5 +88,5 @@ pub fn read_list(line: &[u8], e: usize, hashes: &mut [u8]) -> Hashes
     if end < line.len() {
         return Hashes::None;
     }
-    Hashes::Are(n * HASH)
+    Hashes::Are(n * HASH_BYTES)
 }

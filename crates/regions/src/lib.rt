@@ -18,7 +18,7 @@ ghost use Rattle.regions.specs.Rows.{keyNumber, keyOf, rowKey, rowConn, 
 pub mod ranges;
 
 // Words of a row, and where in it some of them lie.
-const ROW: usize = 9;
+pub const ROW: usize = 9;
 
 const READY: usize = 5;
 
@@ -27,7 +27,7 @@ const DEADLINE: usize = 7;
 const BITS: usize = 8;
 
 // Words of a connection's entry.
-const CONN: usize = 3;
+pub const CONN: usize = 3;
 
 // A hash as four words, w3 the most significant.
 pub struct Quad {

@@ -1,13 +1,11 @@
 // Several rows taken out at once: one move of the rows behind them.
+use crate::ROW;
 ghost use mathlib.Core.Path.{_≡_};
 ghost use Prim.Native.Nat.{_+_, _*_, _≤_};
 ghost use lib.ListN.{length};
 ghost use Rattle.words.specs.Words.{words, down};
 ghost use Rattle.regions.specs.Regions.{RangeRemoved};
 ghost use Rattle.regions.specs.Rows.{rowSize, rowWords};
-
-// Words of a row.
-const ROW: usize = 9;
 
 // Moves m words down by d rows. (A key has at most 8 rows; with a constant distance the move is compiled to a memmove.)
 fn rows_down_by(s: &mut [u8], m: usize, d: usize)

@@ -1,6 +1,8 @@
 // The scan of a plan (document 01, "plan"). For its length what is selected owns its request in the store, so that "not yet selected by
 // this plan" and "counting this plan's" are questions to the store. Rows do not move meanwhile: a selection is remembered by the number
 // of its row, and its entry is written once, when the order is known.
+use machine::limits::MAX_REQUEST_CHECKS;
+use machine::limits::REQUEST_LIFETIME;
 ghost use Prim.Native.Nat.{_+_, _≤_, _<_};
 ghost use lib.ListN.{length};
 ghost use Rattle.ident.specs.Words.{hashNum, keyNum};
@@ -13,12 +15,6 @@ pub mod giving;
 pub mod near;
 pub mod ordering;
 pub mod phase;
-
-// From now to the deadline of an owner.
-const REQUEST_LIFETIME: u64 = 60_000;
-
-// Selections at which a phase stops (the Rust's MAX_REQUEST_CHECKS).
-pub const MAX_REQUEST_CHECKS: usize = 1_024;
 
 // How far a scan has come: how many are selected, how many keys were considered, the last of them as a store holds a cursor, and
 // whether the phase has stopped.

@@ -1,4 +1,5 @@
 // Searches that begin at a guess: a walk over the rows in their order finds each hash near the last one. The guess is tested, not trusted.
+use regions::ROW;
 ghost use Prim.Native.Nat.{_+_, _*_, _≤_, _<_};
 ghost use lib.ListN.{length};
 ghost use Rattle.ident.specs.Words.{hashNum};
@@ -8,9 +9,6 @@ ghost use Rattle.regions.specs.Rows.{rowSize, rowKey, keyNumber};
 ghost use Rattle.store.specs.Shown.{rowsIn, rowNumbers, Shown, Seek, Kept};
 ghost use Rattle.choosing.specs.Choosing.{WindowAs};
 ghost use Rattle.selecting.specs.Near.{Behind};
-
-// Words of a row.
-const ROW: usize = 9;
 
 // The guess, if the row before it falls short; otherwise the first row.
 fn begin_at(s: &[u8], n: usize, k: regions::Key, after: bool, guess: usize) -> usize

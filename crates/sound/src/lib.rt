@@ -4,6 +4,13 @@
 // none. Each part decides what FlatSound (crates/store) says of the records that one region holds: the rows (crates/sound_rows), the
 // connections (crates/sound_conns), the package places. A region is a slice whose word 0 is the region's first word; a `requires` says
 // only that the records in question lie within the slice. Each byte of the need is read once or a few times.
+use machine::limits::MAX_ANNOUNCEMENTS;
+use machine::limits::MAX_PLACES;
+use places::PLACE;
+use regions::CONN;
+use regions::ROW;
+use store::head::HEAD;
+
 mod owner; // owner.rt: the owner of a place
 mod package; // package.rt: package places
 
@@ -18,20 +25,6 @@ ghost use Rattle.store.specs.Image.{headSize, SoundStore};
 ghost use Rattle.sound.specs.Whole.{PollPlain, CursorPlain, SizesPlain, HeadPlain, RecordsSound};
 use package::places_fit;
 use package::same_hash;
-
-// Words of the header, of a row, of a connection's entry and of a place.
-const HEAD: usize = 24;
-
-const ROW: usize = 9;
-
-const CONN: usize = 3;
-
-const PLACE: usize = 824;
-
-// The greatest L and Q.
-const MOST_LIMIT: u64 = 100_000;
-
-const MOST_PLACES: u64 = 4096;
 
 // ---- the header
 
@@ -71,14 +64,14 @@ fn sizes_fit(s: &[u8]) -> bool
     if l == 0 {
         return false;
     }
-    if l > MOST_LIMIT {
+    if l > MAX_ANNOUNCEMENTS {
         return false;
     }
     let q = words::get(s, 2);
     if q == 0 {
         return false;
     }
-    if q > MOST_PLACES {
+    if q > MAX_PLACES {
         return false;
     }
     if words::get(s, 3) > l {

@@ -1,4 +1,11 @@
 // The test of the package places: each written out by its words, fit, with its owner among the rows, ascending by hash.
+use places::COMBINED;
+use places::PARENT_COUNT;
+use places::PARENTS;
+use places::PLACE;
+use places::STAGE;
+use places::WTXID_COUNT;
+use places::WTXIDS;
 ghost use mathlib.Core.Path.{_≡_};
 ghost use Prim.Native.Nat.{_+_, _*_, _≤_, _<_};
 ghost use lib.ListN.{length};
@@ -12,21 +19,6 @@ ghost use Rattle.sound_rows.specs.Rows.{RowsSound};
 ghost use Rattle.sound.specs.Places.{PlaceSound, PlacesSound, PlaceFollows, hashesIn, Padded, StagePlain, foldOf, slotCount, slotOf};
 use crate::owner::is_owned;
 use crate::owner::walk_to;
-
-// Words of a place, and where in it the parts lie.
-const PLACE: usize = 824;
-
-const COMBINED: usize = 4;
-
-const STAGE: usize = 8;
-
-const WTXID_COUNT: usize = 9;
-
-const PARENT_COUNT: usize = 10;
-
-const WTXIDS: usize = 11;
-
-const PARENTS: usize = 411;
 
 const KEPT: usize = 811;
 

@@ -3,15 +3,13 @@
 // A window of entries has a first table of slots and behind it a second, a fourth as long, for entries that lost their slot to another
 // one. A slot has where an entry is, counted from the window's first. What is guessed is tested before it is taken, so no contract says
 // what the slots hold.
+use regions::CONN;
 ghost use mathlib.Core.Path.{_≡_};
 ghost use Prim.Native.Nat.{_+_, _*_, _/_, _^_, _≤_, _<_};
 ghost use lib.ListN.{length, getD};
 ghost use Rattle.words.specs.Words.{words, Decides};
 ghost use Rattle.regions.specs.Rows.{connSize};
 ghost use Rattle.sound_conns.specs.Conns.{names, Place, many};
-
-// Words of an entry.
-const CONN: usize = 3;
 
 // Entries of a window at most.
 const MANY: usize = 8192;

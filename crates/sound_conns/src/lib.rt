@@ -4,6 +4,10 @@
 // has counters for a window of up to MANY entries, in an array of 32 KiB (2 KiB where there are FEW), so that one is enough unless
 // there are more. A pass takes only the rows whose connection is above the last entry of the pass before (`done`), and not above its
 // own last entry (`last`).
+use machine::limits::MAX_PEER_ANNOUNCEMENTS;
+use machine::limits::MAX_PEER_IN_FLIGHT;
+use regions::CONN;
+
 mod guesses; // guesses.rt: where a connection's entry is
 
 ghost use mathlib.Core.Path.{_≡_};
@@ -17,14 +21,6 @@ ghost use Rattle.regions.specs.Rows.{rowSize, readRow, connSize, readConn};
 ghost use Rattle.store.specs.FlatSound.{ConnFits};
 ghost use Rattle.sound_rows.specs.Rows.{RowsSound};
 ghost use Rattle.sound_conns.specs.Conns.{Entries, EntryStep, names, Rising, Lessening, Inside, Holds, Taking, Left, Tallying, Within, Window, LastOf, few, many, most, ConnsSound};
-
-// MAX_PEER_ANNOUNCEMENTS and MAX_PEER_IN_FLIGHT.
-const PEER_ANNOUNCEMENTS: u64 = 5000;
-
-const PEER_IN_FLIGHT: u64 = 100;
-
-// Words of an entry.
-const CONN: usize = 3;
 
 // A counter has in its low half how many rows its entry has left, in its high half how many of them may own their request.
 const HALF: u32 = 0x1_0000;
@@ -49,10 +45,10 @@ fn entry_fits(p: regions::Conn, c: regions::Conn) -> bool
     if c.held == 0 {
         return false;
     }
-    if c.held > PEER_ANNOUNCEMENTS {
+    if c.held > MAX_PEER_ANNOUNCEMENTS {
         return false;
     }
-    if c.owned > PEER_IN_FLIGHT {
+    if c.owned > MAX_PEER_IN_FLIGHT {
         return false;
     }
     true

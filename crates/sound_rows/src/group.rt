@@ -1,4 +1,5 @@
 // The test of the rows of one hash over both kinds: few, no connection twice, one owner at most.
+use machine::limits::MAX_ALTERNATES;
 ghost use mathlib.Core.Path.{_≡_};
 ghost use Prim.Native.Nat.{_+_, _*_, _≤_, _<_};
 ghost use mathlib.Core.Bool.{true};
@@ -8,9 +9,6 @@ ghost use Rattle.regions.specs.Rows.{rowSize, readRow, quadNumber};
 ghost use Rattle.store.specs.FlatSound.{countRows, hashAt, owns};
 ghost use Rattle.sound_rows.specs.Rows.{RowsSound};
 ghost use Rattle.sound_rows.specs.Groups.{rowAt, rowsIn, Least, Run, Apart, Once, connSlots, Marking, GroupFits, GroupsSound};
-
-// MAX_ALTERNATES.
-const ALTERNATES: usize = 8;
 
 // Slots in which the connections of a hash are marked.
 const SLOTS: u64 = 1024;
@@ -165,7 +163,7 @@ fn group_fits(
     requires { ⌜ (i ≤ a) × (8 * (rowSize * a) ≤ length (now s)) × (j ≤ b) × (8 * (rowSize * b) ≤ length (now s)) × (length (now slots) ≡ connSlots) ⌝ }
     ensures { λ r. ⌜ Decides r (GroupFits (rowsIn (words (now (s .entry))) i a) (rowsIn (words (now (s .entry))) j b)) × (length (now (slots .exit)) ≡ connSlots) ⌝ }
 {
-    if a - i + (b - j) > ALTERNATES {
+    if a - i + (b - j) > MAX_ALTERNATES {
         return false;
     }
     if !conns_once(s, i, a, j, b, slots, mark) {

@@ -1,5 +1,7 @@
 // The connections: an entry for each that has a row.
 use crate::head;
+use regions::CONN;
+use regions::ROW;
 ghost use mathlib.Core.Path.{_≡_};
 ghost use Prim.Native.Nat.{ℕ, _+_, _≤_, _<_};
 ghost use lib.ListN.{length, getD, set};
@@ -8,11 +10,6 @@ ghost use Rattle.regions.specs.Regions.{insertAt, removeAt};
 ghost use Rattle.store.specs.Flat.{Flat};
 ghost use Rattle.store.specs.Image.{Shows};
 ghost use Rattle.store.specs.Shown.{limitIn, connsIn, connNames, Shown, withConns, Turns, Seek};
-
-// Words of a row, and of a connection's entry.
-const ROW: usize = 9;
-
-const CONN: usize = 3;
 
 // The i-th entry.
 pub fn conn_at(s: &[u8], i: usize) -> regions::Conn

@@ -1,5 +1,8 @@
 // The package places: opened, read, changed, closed, searched.
 use crate::head;
+use places::PLACE;
+use regions::CONN;
+use regions::ROW;
 ghost use mathlib.Core.Path.{_≡_};
 ghost use Prim.Native.Nat.{ℕ, _+_, _≤_, _<_};
 ghost use lib.ListN.{length, getD, set};
@@ -9,13 +12,6 @@ ghost use Rattle.places.specs.Places.{Place, headOf, blank, withStage};
 ghost use Rattle.store.specs.Flat.{Flat};
 ghost use Rattle.store.specs.Image.{Shows};
 ghost use Rattle.store.specs.Shown.{placesIn, heldPlacesIn, Shown, withPlaces, Turns};
-
-// Words of a row, of a connection's entry and of a place.
-const ROW: usize = 9;
-
-const CONN: usize = 3;
-
-const PLACE: usize = 824;
 
 // What the i-th place has beside its lists.
 pub fn place_at(s: &[u8], i: usize) -> places::Head

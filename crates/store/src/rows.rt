@@ -1,5 +1,6 @@
 // The candidate rows: read, replaced, put in, taken out, searched.
 use crate::head;
+use regions::ROW;
 ghost use mathlib.Core.Path.{_≡_};
 ghost use Prim.Native.Nat.{ℕ, _+_, _≤_, _<_};
 ghost use lib.ListN.{length, getD, set};
@@ -10,9 +11,6 @@ ghost use Rattle.regions.specs.Rows.{keyNumber};
 ghost use Rattle.store.specs.Flat.{Flat};
 ghost use Rattle.store.specs.Image.{Shows};
 ghost use Rattle.store.specs.Shown.{limitIn, rowsIn, rowNumbers, Shown, withRows, Turns, Seek, Met};
-
-// Words of a row.
-const ROW: usize = 9;
 
 // The i-th row.
 pub fn row_at(s: &[u8], i: usize) -> regions::Row

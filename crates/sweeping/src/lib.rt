@@ -1,4 +1,5 @@
 // sweep (the Rust's known_batch) and the poll gate, on the bytes of a sound store (document 01, module 6).
+use machine::limits::MAX_KNOWN_CHECKS;
 ghost use Prim.Native.Nat.{min, _*_, _≤_};
 ghost use lib.ListN.{length};
 ghost use Rattle.machine.specs.Limits.{latestClock, maxKnownChecks};
@@ -11,9 +12,6 @@ ghost use Rattle.sweeping.specs.Effects.{Replied, KeysHanded};
 ghost use Rattle.sweeping.specs.Batches.{nextBatch, Batched};
 
 pub mod batch;
-
-// Keys that one sweep hands out at most (the Rust's MAX_KNOWN_CHECKS).
-pub const MAX_KNOWN_CHECKS: usize = 1_024;
 
 // The next keys after the known cursor and round to it, written to `out`; and the last of them.
 pub fn known_batch(s: &[u8], out: &mut [u8]) -> batch::Batch

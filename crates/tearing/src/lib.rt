@@ -3,6 +3,8 @@
 // One pass over the rows takes those of the packages' owners out and readies those beside them, one over the places takes the packages
 // out. The rows come first, since the places say which keys these are. In between the bytes write rows and their tally (`Shorn`); entries of
 // the tally that lose their last row stay for as long as the rows are passed over (`Ebbs`).
+use places::AWAITING;
+use places::DEAD;
 ghost use mathlib.Core.Path.{_≡_};
 ghost use Prim.Native.Nat.{ℕ, _+_, _≤_, _<_};
 ghost use lib.ListN.{length, getD, set};
@@ -17,11 +19,6 @@ ghost use Rattle.tearing.specs.Torn.{RowTorn, RowsTorn, PlaceTorn, Place
 
 pub mod idle;
 pub mod packaged;
-
-// The first stage of a place with a package: Awaiting. And that of a place that goes.
-const AWAITING: u64 = 2;
-
-const DEAD: u64 = 0;
 
 // ---- rows
 

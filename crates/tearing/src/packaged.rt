@@ -1,5 +1,6 @@
 // Whether the request of a row has a package. Rows and places are both in the order of hashes: where rows are asked for in their order, a
 // place is looked for where the one before was found or one behind, and searched only if it is at neither.
+use places::AWAITING;
 ghost use mathlib.Core.Path.{_≡_};
 ghost use Prim.Native.Nat.{ℕ, _-_, _≤_, _<_};
 ghost use mathlib.Core.Bool.{true};
@@ -19,9 +20,6 @@ ghost use Rattle.store.specs.Image.{Shows};
 ghost use Rattle.store.specs.Shown.{heldPlacesIn, Shown, Seek};
 ghost use Rattle.packages.specs.Records.{placeHashes};
 ghost use Rattle.tearing.specs.Torn.{packagedRow, Ebbs, PackageAt};
-
-// The first stage of a place with a package: Awaiting.
-const AWAITING: u64 = 2;
 
 // No store has more places.
 const MOST: usize = 4_096;

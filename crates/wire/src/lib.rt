@@ -27,10 +27,8 @@ enum Found {
 
 pub const MAX_ITEMS: usize = 50_000;
 
-// Bytes of an item in a payload, and in a list.
+// Bytes of an item in a payload.
 pub const WIRE_BYTES: usize = 36;
-
-pub const ITEM_BYTES: usize = 40;
 
 // The numbers of document 01's table, to which request a adds 10.
 const SHORT_BUFFER: u64 = 7;
@@ -134,7 +132,7 @@ pub fn read_payload(p: &[u8], answer: &mut [u8]) -> Answer
     match found {
         Found::Not => Answer::Refused(BAD_PAYLOAD),
         Found::At(n, at) => {
-            if answer.len() < n * ITEM_BYTES {
+            if answer.len() < n * lists::ITEM {
                 return Answer::Refused(SHORT_BUFFER);
             }
             read_items(p, at, n, answer);

@@ -1,5 +1,6 @@
 // transaction_not_found: the items that a connection does not have. An item of package information fails with its parents, any other
 // item with a key just fails; then the claims of the packages among the items fail.
+use lists::KEY;
 ghost use Prim.Native.Nat.{_+_, _*_, _≤_};
 ghost use mathlib.Core.Option.{some};
 ghost use lib.ListN.{length};
@@ -14,9 +15,6 @@ ghost use Rattle.wrapping.specs.Wraps.{Roomy, infoListed};
 
 // The item type of package information (BIP 331).
 const MSG_ANCPKGINFO: u32 = 7;
-
-// Bytes of a key.
-const KEY: usize = 40;
 
 // failed, and the key listed in `out` if it was carried out. Answers how many keys these are.
 fn fail_listed(s: &mut [u8], k: ident::Key, n: u64, clock: u64, out: &mut [u8]) -> usize

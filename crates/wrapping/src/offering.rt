@@ -1,4 +1,8 @@
 // announce_transactions: the items that a connection announces in one message, each with the priority that the host drew for it.
+use gathering::region::ROOM;
+use machine::limits::MAX_ALTERNATES;
+use machine::limits::MAX_PEER_IN_FLIGHT;
+use machine::limits::SOURCE_DELAY;
 ghost use mathlib.Core.Path.{_≡_};
 ghost use mathlib.Core.Bool.{true};
 ghost use Prim.Native.Nat.{_+_, _*_, _≤_, _<_};
@@ -18,12 +22,6 @@ ghost use Rattle.gathering.specs.Aside.{space, Empty};
 ghost use Rattle.claims.specs.Changes.{Becomes};
 ghost use Rattle.wrapping.specs.Batches.{between, announced, Offers, Collects, Announced};
 ghost use Rattle.wrapping.specs.Swaps.{Whole, Swaps, Went};
-
-// Milliseconds by which a less welcome announcement waits.
-const SOURCE_DELAY: u64 = 2_000;
-
-// Requests that a connection may own.
-const MAX_IN_FLIGHT: u64 = 100;
 
 fn one(b: bool) -> u64
     ensures { λ r. ⌜ (r ≡ table.one b) × (r ≤ 1) ⌝ }
@@ -81,7 +79,7 @@ fn overloaded(s: &[u8], n: u64) -> bool
     ensures { λ r. ⌜ Tells (now (s .entry)) (λ t. r ≡ leb maxInFlight (table.ownedBy n t)) ⌝ }
 {
     let f = requests::figures(s, n);
-    f.owned >= MAX_IN_FLIGHT
+    f.owned >= MAX_PEER_IN_FLIGHT
 }
 
 // What holds of every item of a batch. source: a wtxid source exists; late: the connection owned as many requests as it may before.
@@ -159,9 +157,6 @@ fn collect(
     }
 }
 
-// Bytes of the rows that can wait.
-const ROOM: usize = 36_864;
-
 fn region() -> [u8; ROOM] {
     [0u8; ROOM]
 }
@@ -201,9 +196,6 @@ fn full(s: &[u8]) -> bool
 {
     store::head::rows(s) >= store::head::limit(s)
 }
-
-// Candidates of a hash, over both kinds.
-const MAX_ALTERNATES: usize = 8;
 
 // Whether it is worth while to list victims for the items from the first on: they are preferred, L is held, and the first of them does not
 // have to take the place of another at its hash.

@@ -1,4 +1,5 @@
 // disconnected on a sound store.
+use machine::limits::MAX_PARENTS;
 use outcome::Departure;
 use outcome::refusals;
 ghost use mathlib.Core.Path.{_≡_};
@@ -12,17 +13,15 @@ ghost use Rattle.outcome.specs.Reply.{departureOf};
 // Announcements of a connection, and parents of a request.
 const MAX_PEER_ANNOUNCEMENTS: usize = 5_000;
 
-const MAX_PARENTS: usize = 100;
-
 // The bytes of min(5,000, L) + 100 × Q keys.
 fn departure_bytes(l: usize, q: usize) -> usize
     requires { ⌜ (l ≤ maxAnnouncements) × (q ≤ maxPlaces) ⌝ }
     ensures { λ r. ⌜ r ≡ keyBytes * (min maxPeerAnnouncements l + maxParents * q) ⌝ }
 {
     if l < MAX_PEER_ANNOUNCEMENTS {
-        return (l + MAX_PARENTS * q) * refusals::KEY_BYTES;
+        return (l + MAX_PARENTS * q) * lists::KEY;
     }
-    (MAX_PEER_ANNOUNCEMENTS + MAX_PARENTS * q) * refusals::KEY_BYTES
+    (MAX_PEER_ANNOUNCEMENTS + MAX_PARENTS * q) * lists::KEY
 }
 
 // Those that its answer may need.

@@ -1,4 +1,5 @@
 // announce_transactions, transaction_response_completed and transaction_not_found on a sound store.
+use machine::limits::MAX_PARENTS;
 use outcome::Answer;
 use outcome::Listing;
 use outcome::refusals;
@@ -61,9 +62,6 @@ pub fn transaction_response_completed(
     Answer::Number(outcome::RETURNED)
 }
 
-// Parents of a request.
-const MAX_PARENTS: usize = 100;
-
 // The bytes that the answer of transaction_not_found may need: keys of its items, and 100 × Q.
 fn missing_needs(s: &[u8], items: &[u8]) -> usize
     requires { ⌜ SoundStore (now s) ⌝ }
@@ -71,7 +69,7 @@ fn missing_needs(s: &[u8], items: &[u8]) -> usize
 {
     let q = store::head::places(s);
     let count = lists::items(items);
-    (count + MAX_PARENTS * q) * refusals::KEY_BYTES
+    (count + MAX_PARENTS * q) * lists::KEY
 }
 
 pub fn transaction_not_found(

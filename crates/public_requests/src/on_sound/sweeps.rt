@@ -17,10 +17,10 @@ fn sweep_needs(s: &[u8]) -> usize
     ensures { λ r. ⌜ ((w : SoundStore (now (s .entry))) → r ≡ keyBytes * min maxKnownChecks (w .state .limit)) ⌝ }
 {
     let l = store::head::limit(s);
-    if l < sweeping::MAX_KNOWN_CHECKS {
-        return l * refusals::KEY_BYTES;
+    if l < machine::limits::MAX_KNOWN_CHECKS {
+        return l * lists::KEY;
     }
-    sweeping::MAX_KNOWN_CHECKS * refusals::KEY_BYTES
+    machine::limits::MAX_KNOWN_CHECKS * lists::KEY
 }
 
 pub fn sweep(s: &mut [u8], answer: &mut [u8]) -> Listing
