@@ -20,10 +20,10 @@ pub fn mark_dead(s: &mut [u8], h: ident::Hash)
     let q = requests::hash_quad(h);
     let i = flat::seek_place(s, q);
     if i < store::head::held_places(s) {
-        let p = store::packages::place_at(s, i);
+        let p = store::package_places::place_at(s, i);
         let x = p.hash;
         if !regions::quad_less(q, x) {
-            store::packages::set_stage(s, i, DEAD);
+            store::package_places::set_stage(s, i, DEAD);
         }
     }
 }

@@ -1,4 +1,4 @@
-// The package places of a store as records, beyond store::packages: searched, their lists read and lengthened.
+// The package places of a store as records, beyond store::package_places: searched, their lists read and lengthened.
 use places::PLACE;
 use regions::CONN;
 use regions::ROW;

@@ -40,7 +40,7 @@ pub fn seek(s: &[u8], h: ident::Hash) -> Spot
     let q = requests::hash_quad(h);
     let at = flat::seek_place(s, q);
     if at < store::head::held_places(s) {
-        let p = store::packages::place_at(s, at);
+        let p = store::package_places::place_at(s, at);
         let x = p.hash;
         let after = regions::quad_less(q, x);
         Spot { at, held: !after }
@@ -99,7 +99,7 @@ fn stage_at(s: &[u8], k: ident::Key) -> u64
             let h = k.hash;
             let p = seek(s, h);
             if p.held {
-                let x = store::packages::place_at(s, p.at);
+                let x = store::package_places::place_at(s, p.at);
                 x.stage
             } else {
                 0
@@ -136,7 +136,7 @@ pub fn parents(s: &[u8], i: usize) -> usize
     requires { ⌜ Kept (now s) × (i < heldPlacesIn (now s)) ⌝ }
     ensures { λ r. ⌜ (r ≤ listMost) × ReadAt (now (s .entry)) i (λ q. r ≡ length (q .parents)) ⌝ }
 {
-    let p = store::packages::place_at(s, i);
+    let p = store::package_places::place_at(s, i);
     p.parents as usize
 }
 
@@ -145,7 +145,7 @@ pub fn wtxids(s: &[u8], i: usize) -> usize
     requires { ⌜ Kept (now s) × (i < heldPlacesIn (now s)) ⌝ }
     ensures { λ r. ⌜ (r ≤ listMost) × ReadAt (now (s .entry)) i (λ q. r ≡ length (wtxidsOf (q .«package»))) ⌝ }
 {
-    let p = store::packages::place_at(s, i);
+    let p = store::package_places::place_at(s, i);
     p.wtxids as usize
 }
 
@@ -153,7 +153,7 @@ pub fn combined_at(s: &[u8], i: usize) -> ident::Hash
     requires { ⌜ Kept (now s) × (i < heldPlacesIn (now s)) ⌝ }
     ensures { λ r. ⌜ ReadAt (now (s .entry)) i (λ q. hashNum r ≡ combinedOf (q .«package»)) ⌝ }
 {
-    let p = store::packages::place_at(s, i);
+    let p = store::package_places::place_at(s, i);
     let c = p.combined;
     requests::quad_hash(c)
 }
@@ -183,7 +183,7 @@ pub fn open_info(s: &mut [u8], h: ident::Hash)
 {
     let p = seek(s, h);
     let q = requests::hash_quad(h);
-    store::packages::open_place(s, p.at, q, FLAG);
+    store::package_places::open_place(s, p.at, q, FLAG);
 }
 
 // Puts a hash behind the parents of the request, which are fewer than 100.
@@ -211,12 +211,12 @@ pub fn claim(s: &mut [u8], h: ident::Hash, combined: ident::Hash, list: &[u8])
     let p = seek(s, h);
     if p.held {
         let i = p.at;
-        let x = store::packages::place_at(s, i);
+        let x = store::package_places::place_at(s, i);
         let q = requests::hash_quad(combined);
         if x.stage == FLAG {
             flat::push_wtxids(s, i, list);
             flat::set_combined(s, i, q);
-            store::packages::set_stage(s, i, AWAITING);
+            store::package_places::set_stage(s, i, AWAITING);
         }
     }
 }
@@ -228,7 +228,7 @@ pub fn enqueue(s: &mut [u8], h: ident::Hash)
 {
     let p = seek(s, h);
     if p.held {
-        store::packages::set_stage(s, p.at, ENQUEUED);
+        store::package_places::set_stage(s, p.at, ENQUEUED);
     }
 }
 
@@ -239,6 +239,6 @@ pub fn close(s: &mut [u8], h: ident::Hash)
 {
     let p = seek(s, h);
     if p.held {
-        store::packages::close_place(s, p.at);
+        store::package_places::close_place(s, p.at);
     }
 }

@@ -6,6 +6,6 @@
 pub mod conns;
 pub mod counting;
 pub mod head;
-pub mod packages;
+pub mod package_places;
 pub mod rows;
 pub mod stamps;

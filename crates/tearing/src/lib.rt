@@ -96,9 +96,9 @@ fn tear_place(s: &mut [u8], i: usize, c: usize) -> usize
     requires { ⌜ Shown (now s) × (i < heldPlacesIn (now s)) × (c ≤ i) ⌝ }
     ensures { λ r. ⌜ PlaceTorn (now (s .entry)) (now (s .exit)) i c r ⌝ }
 {
-    let p = store::packages::place_at(s, i);
+    let p = store::package_places::place_at(s, i);
     if AWAITING <= p.stage {
-        store::packages::set_stage(s, i, DEAD);
+        store::package_places::set_stage(s, i, DEAD);
         return c + 1;
     }
     c

@@ -29,7 +29,7 @@ fn comes_before(s: &[u8], i: usize, q: regions::Quad) -> bool
     requires { ⌜ Shown (now s) × (i < heldPlacesIn (now s)) ⌝ }
     ensures { λ r. ⌜ ((f : Flat) (d : Place) → Shows (now (s .entry)) f → r ≡ ltb ((getD (f .places) i d) .hash) (quadNumber q)) ⌝ }
 {
-    let p = store::packages::place_at(s, i);
+    let p = store::package_places::place_at(s, i);
     let h = p.hash;
     regions::quad_less(h, q)
 }
@@ -92,7 +92,7 @@ fn is_package(s: &[u8], q: regions::Quad, i: usize) -> bool
     ensures { λ r. ⌜ PackageAt (now (s .entry)) (quadNumber q) r ⌝ }
 {
     if i < store::head::held_places(s) {
-        let p = store::packages::place_at(s, i);
+        let p = store::package_places::place_at(s, i);
         let h = p.hash;
         if regions::quad_less(q, h) {
             return false;

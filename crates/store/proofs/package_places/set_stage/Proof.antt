@@ -3,8 +3,8 @@ use Prim.Native.Nat.{_<_}
 use lib.ListN.{length, length-set}
 use Rattle.store.proofs.Frame.{sizes, places-lent, places-back, places-same}
 use borrow.Author.Needs.{needs}
-use Rattle.store.proofs.packages.set_stage.Statement.{statement}
-use Rattle.store.proofs.packages.set_stage.Tie as tie
+use Rattle.store.proofs.package_places.set_stage.Statement.{statement}
+use Rattle.store.proofs.package_places.set_stage.Tie as tie
 
 returns : tie.Need-returns
 returns c = λ d f h.

@@ -1,8 +1,8 @@
 use native.Mathlib.Omega.{arith}
 use Rattle.store.proofs.Frame.{sizes, places-lent}
 use borrow.Author.Needs.{needs}
-use Rattle.store.proofs.packages.place_at.Statement.{statement}
-use Rattle.store.proofs.packages.place_at.Tie as tie
+use Rattle.store.proofs.package_places.place_at.Statement.{statement}
+use Rattle.store.proofs.package_places.place_at.Tie as tie
 
 returns : tie.Need-returns
 returns c = λ f d h.

@@ -7,8 +7,8 @@ use Rattle.regions.specs.Rows.{quadNumber}
 use Rattle.places.specs.Places.{blank}
 use Rattle.store.proofs.Frame.{sizes, places-lent, places-back, places-counted, length-insert}
 use borrow.Author.Needs.{needs}
-use Rattle.store.proofs.packages.open_place.Statement.{statement}
-use Rattle.store.proofs.packages.open_place.Tie as tie
+use Rattle.store.proofs.package_places.open_place.Statement.{statement}
+use Rattle.store.proofs.package_places.open_place.Tie as tie
 
 returns : tie.Need-returns
 returns c = λ f h.

@@ -5,8 +5,8 @@ use lib.ListN.{length}
 use Rattle.regions.specs.Regions.{removeAt}
 use Rattle.store.proofs.Frame.{sizes, places-lent, places-back, places-counted, length-remove}
 use borrow.Author.Needs.{needs}
-use Rattle.store.proofs.packages.close_place.Statement.{statement}
-use Rattle.store.proofs.packages.close_place.Tie as tie
+use Rattle.store.proofs.package_places.close_place.Statement.{statement}
+use Rattle.store.proofs.package_places.close_place.Tie as tie
 
 returns : tie.Need-returns
 returns c = λ f h.
