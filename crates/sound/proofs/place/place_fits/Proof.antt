@@ -14,8 +14,8 @@ use Rattle.sound_rows.proofs.Decide.{passed, failed}
 use Rattle.sound_rows.proofs.Ranges.{Below, below-bytes, below-words}
 use Rattle.sound.proofs.Stage.{stage-few}
 use Rattle.sound.proofs.PlaceTests.{refuse-stage, refuse-parents, refuse-padded, refuse-repeat, decide-owned}
-use Rattle.sound.proofs.package.place_fits.Statement.{statement}
-use Rattle.sound.proofs.package.place_fits.Tie as tie
+use Rattle.sound.proofs.place.place_fits.Statement.{statement}
+use Rattle.sound.proofs.place.place_fits.Tie as tie
 
 get-requires : tie.Need-get-requires
 get-requires c κs = search needs

@@ -2,8 +2,8 @@ use borrow.Author.Needs.{needs}
 use native.Mathlib.Omega.{arith}
 use mathlib.Core.Path.{refl}
 use Rattle.sound.specs.Places.{foldOf}
-use Rattle.sound.proofs.package.fold.Statement.{statement}
-use Rattle.sound.proofs.package.fold.Tie as tie
+use Rattle.sound.proofs.place.fold.Statement.{statement}
+use Rattle.sound.proofs.place.fold.Tie as tie
 
 returns : tie.Need-returns
 returns c = unfold foldOf in refl

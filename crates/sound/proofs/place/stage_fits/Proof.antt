@@ -4,8 +4,8 @@ use mathlib.Core.Logic.{inl, inr}
 use Rattle.regions.specs.Rows.{quadNumber}
 use Rattle.sound.proofs.Hashes.{zero-number}
 use Rattle.sound.proofs.Stage.{stage-cases, flag-decides, packed-decides}
-use Rattle.sound.proofs.package.stage_fits.Statement.{statement}
-use Rattle.sound.proofs.package.stage_fits.Tie as tie
+use Rattle.sound.proofs.place.stage_fits.Statement.{statement}
+use Rattle.sound.proofs.place.stage_fits.Tie as tie
 
 returns : tie.Need-returns
 returns c = λ p. elim (stage-cases (c .before .before .args .stage) (quadNumber (c .before .before .args .combined)) (c .before .before .args .n) p)

@@ -8,8 +8,8 @@ use Rattle.words.specs.Words.{words}
 use Rattle.places.specs.Places.{wtxidsAt, parentsAt}
 use Rattle.sound.specs.Places.{keptAt}
 use Rattle.sound_rows.proofs.Decide.{decides-iff, passed, failed}
-use Rattle.sound.proofs.package.padded.Statement.{statement}
-use Rattle.sound.proofs.package.padded.Tie as tie
+use Rattle.sound.proofs.place.padded.Statement.{statement}
+use Rattle.sound.proofs.place.padded.Tie as tie
 
 mul-is-zero : tie.Need-mul-is-zero
 mul-is-zero c = search needs

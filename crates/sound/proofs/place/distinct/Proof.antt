@@ -7,8 +7,8 @@ use Rattle.words.specs.Words.{words}
 use Rattle.machine.specs.Sound.{NoRepeat}
 use Rattle.sound.specs.Places.{hashesIn, slotCount}
 use Rattle.sound.proofs.Marks.{Marked, unmarked, none-met, marked-turn, repeat-none, repeat-back, repeat-met}
-use Rattle.sound.proofs.package.distinct.Statement.{statement}
-use Rattle.sound.proofs.package.distinct.Tie as tie
+use Rattle.sound.proofs.place.distinct.Statement.{statement}
+use Rattle.sound.proofs.place.distinct.Tie as tie
 
 abbrev Inv-loop : tie.InvT-loop
 Inv-loop s a n slots₀ mark k₀ slots k = (k ≤ n) × NoRepeat (hashesIn (words s) a k n) × (length slots ≡ slotCount) × Marked mark slots (hashesIn (words s) a k n)

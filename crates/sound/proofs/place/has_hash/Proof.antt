@@ -7,8 +7,8 @@ use Rattle.regions.specs.Rows.{quadNumber}
 use Rattle.machine.specs.Claim.{elem}
 use Rattle.sound.specs.Places.{hashesIn}
 use Rattle.sound.proofs.Hashes.{elem-here, elem-past, elem-end}
-use Rattle.sound.proofs.package.has_hash.Statement.{statement}
-use Rattle.sound.proofs.package.has_hash.Tie as tie
+use Rattle.sound.proofs.place.has_hash.Statement.{statement}
+use Rattle.sound.proofs.place.has_hash.Tie as tie
 
 abbrev Inv-loop : tie.InvT-loop
 Inv-loop s a from to h k₀ k = (from ≤ k) × (k ≤ to) × (elem (quadNumber h) (hashesIn (words s) a from to) ≡ elem (quadNumber h) (hashesIn (words s) a k to))

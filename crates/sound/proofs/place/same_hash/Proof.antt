@@ -3,8 +3,8 @@ use native.Mathlib.Omega.{arith}
 use mathlib.Core.Path.{ap}
 use Rattle.regions.specs.declared.Quad.{Quad}
 use Rattle.sound.proofs.Hashes.{same-quad, quad-same}
-use Rattle.sound.proofs.package.same_hash.Statement.{statement}
-use Rattle.sound.proofs.package.same_hash.Tie as tie
+use Rattle.sound.proofs.place.same_hash.Statement.{statement}
+use Rattle.sound.proofs.place.same_hash.Tie as tie
 
 returns : tie.Need-returns
 returns c = λ e. c .if1 .taken (ap (λ (q : Quad). q .w0) (same-quad (c .before .before .before .args .a) (c .before .before .before .args .b)

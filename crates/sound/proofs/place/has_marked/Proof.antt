@@ -1,8 +1,8 @@
 use borrow.Author.Needs.{needs}
 use mathlib.Core.Path.{sym}
 use borrow.Author.Tests.{not-true}
-use Rattle.sound.proofs.package.has_marked.Statement.{statement}
-use Rattle.sound.proofs.package.has_marked.Tie as tie
+use Rattle.sound.proofs.place.has_marked.Statement.{statement}
+use Rattle.sound.proofs.place.has_marked.Tie as tie
 
 returns : tie.Need-returns
 returns c = sym (c .before .before .pre .2 (not-true _ (c .if1 .taken)))

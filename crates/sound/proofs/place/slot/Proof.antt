@@ -5,8 +5,8 @@ use mathlib.Core.Path.{_≡_, sym, ap, _∙_}
 use Rattle.regions.specs.Rows.{quadNumber, quadOf}
 use Rattle.sound.specs.Places.{foldOf, slotCount}
 use Rattle.store.proofs.Quads.{quad-number}
-use Rattle.sound.proofs.package.slot.Statement.{statement}
-use Rattle.sound.proofs.package.slot.Tie as tie
+use Rattle.sound.proofs.place.slot.Statement.{statement}
+use Rattle.sound.proofs.place.slot.Tie as tie
 
 fold-requires : tie.Need-fold-requires
 fold-requires c κs = search needs

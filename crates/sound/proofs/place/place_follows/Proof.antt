@@ -2,8 +2,8 @@ use borrow.Author.Needs.{needs}
 use native.Mathlib.Omega.{arith}
 use Rattle.words.specs.Words.{words}
 use Rattle.sound.proofs.PlaceWalk.{follows-decides}
-use Rattle.sound.proofs.package.place_follows.Statement.{statement}
-use Rattle.sound.proofs.package.place_follows.Tie as tie
+use Rattle.sound.proofs.place.place_follows.Statement.{statement}
+use Rattle.sound.proofs.place.place_follows.Tie as tie
 
 returns : tie.Need-returns
 returns c = search needs
