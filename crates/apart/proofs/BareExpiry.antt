@@ -25,10 +25,10 @@ use Rattle.machine.proofs.Fail.{few-for, bounded-failed, bounded-parents, owner
 use Rattle.machine.proofs.Table.{place-inj, at-key, lawful-at}
 use Rattle.machine.proofs.Tests.{test, or-left, or-right}
 use Rattle.store.specs.Flat.{placesFor, placesOf}
-use Rattle.packages.specs.Changes.{hasPlace}
-use Rattle.packages.specs.Dead.{filter}
-use Rattle.packages.proofs.Compacting.{filter-append, filter-none}
-use Rattle.packages.proofs.Seeking.{placeIn, place-held, place-free, holding}
+use Rattle.package_stages.specs.Changes.{hasPlace}
+use Rattle.package_stages.specs.Dead.{filter}
+use Rattle.package_stages.proofs.Compacting.{filter-append, filter-none}
+use Rattle.package_stages.proofs.Seeking.{placeIn, place-held, place-free, holding}
 use Rattle.apart.specs.Bare.{bare, bareListed, otherThan}
 use Rattle.apart.proofs.BareChange.{failed-bare, enqueued-stays}
 use Rattle.apart.proofs.BareAnnounce.{announceParents-bare}

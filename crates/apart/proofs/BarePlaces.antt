@@ -29,8 +29,8 @@ use Rattle.machine.proofs.Tests.{test}
 use Rattle.store.specs.Flat.{placeFor, placesFor, placesOf}
 use Rattle.store.proofs.Missing.{each-at}
 use Rattle.store.proofs.Split.{placesBelow, placesAbove, places-at}
-use Rattle.packages.specs.Changes.{hasPlace}
-use Rattle.packages.proofs.Seeking.{placeIn, place-held, place-free, holding}
+use Rattle.package_stages.specs.Changes.{hasPlace}
+use Rattle.package_stages.proofs.Seeking.{placeIn, place-held, place-free, holding}
 
 -- ---- what every request of a table gives
 

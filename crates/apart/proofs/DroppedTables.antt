@@ -27,7 +27,7 @@ use Rattle.store.proofs.Bits.{owns-row}
 use Rattle.store.proofs.Counts.{Distinct, DistinctIn, in-hasnt, distinct-in}
 use Rattle.requests.specs.Changes.{Shorn}
 use Rattle.requests.proofs.Keeping.{writes-by}
-use Rattle.packages.specs.Changes.{ownerNum}
+use Rattle.package_stages.specs.Changes.{ownerNum}
 use Rattle.apart.specs.Silent.{late, gone, droppedIn, droppedAll, Placeless, isDue, keptRow}
 use Rattle.apart.proofs.DroppingRows.{row-goes, row-stays}
 

@@ -31,7 +31,7 @@ use Rattle.machine.proofs.Table.{place-inj, ordered-change, filled-change, lawf
 use Rattle.machine.proofs.Tests.{test, never}
 use Rattle.store.proofs.Counts.{in-has, in-hasnt}
 use Rattle.requests.proofs.AtHash.{at-hash}
-use Rattle.packages.specs.Changes.{ownerNum}
+use Rattle.package_stages.specs.Changes.{ownerNum}
 use Rattle.failing.proofs.Fusing.{GivesNone, change-fuse, change-same}
 use Rattle.handing.specs.Hands.{readied}
 use Rattle.cutting.proofs.AtOnce.{without-none}

@@ -28,10 +28,10 @@ use Rattle.store.specs.Shown.{Kept}
 use Rattle.store.proofs.Missing.{each-at}
 use Rattle.regions.specs.Order.{Sorted}
 use Rattle.store.proofs.Window.{places-sorted}
-use Rattle.packages.specs.Records.{placeHashes}
-use Rattle.packages.specs.Changes.{hasPlace}
-use Rattle.packages.specs.Dead.{filter, live}
-use Rattle.packages.proofs.Seeking.{hash-at}
+use Rattle.package_stages.specs.Records.{placeHashes}
+use Rattle.package_stages.specs.Changes.{hasPlace}
+use Rattle.package_stages.specs.Dead.{filter, live}
+use Rattle.package_stages.proofs.Seeking.{hash-at}
 use Rattle.announcing.specs.Answers.{Answered}
 use Rattle.apart.specs.declared.noting.Bits.{Bits}
 use Rattle.apart.specs.declared.slots.Spot.{Spot}

@@ -33,9 +33,9 @@ use Rattle.store.specs.FlatSound.{PlacesAscend}
 use Rattle.store.specs.Image.{Writes}
 use Rattle.store.specs.Shown.{Kept}
 use Rattle.store.proofs.Missing.{each-at}
-use Rattle.packages.specs.Changes.{stageOf, hasPlace}
-use Rattle.packages.specs.Dead.{filter, live}
-use Rattle.packages.proofs.Seeking.{placeIn}
+use Rattle.package_stages.specs.Changes.{stageOf, hasPlace}
+use Rattle.package_stages.specs.Dead.{filter, live}
+use Rattle.package_stages.proofs.Seeking.{placeIn}
 use Rattle.announcing.specs.Answers.{Answered}
 use Rattle.apart.specs.declared.noting.Bits.{Bits}
 use Rattle.apart.specs.declared.slots.Spot.{Spot}

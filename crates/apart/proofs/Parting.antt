@@ -30,7 +30,7 @@ use Rattle.store.proofs.Frame.{rowPart, connPart, placePart, framed, framed-is,
 use Rattle.store.proofs.HeadWords.{head-length}
 use Rattle.store.proofs.ToFlat.{flat-sound}
 use Rattle.requests.proofs.Keeping.{sized-of, light-of}
-use Rattle.packages.specs.Dead.{filter, live}
+use Rattle.package_stages.specs.Dead.{filter, live}
 use Rattle.apart.specs.Bare.{bare, bareState}
 use Rattle.apart.specs.Apart.{slotBytes, bareBytes, Slots, Apart, SetApart, Parted, PutBack}
 use Rattle.apart.proofs.BareTable.{rows-bare, places-bare}

@@ -25,9 +25,9 @@ use Rattle.machine.proofs.Table.{all-at, all-change, lawful-at, ordered-change}
 use Rattle.machine.proofs.Tests.{never, or-left, or-right}
 use Rattle.store.specs.Flat.{placeFor, placesFor, placesOf}
 use Rattle.store.specs.Image.{Writes}
-use Rattle.packages.specs.Changes.{closed, hasPlace}
-use Rattle.packages.specs.Dead.{filter, live}
-use Rattle.packages.proofs.Seeking.{place-free}
+use Rattle.package_stages.specs.Changes.{closed, hasPlace}
+use Rattle.package_stages.specs.Dead.{filter, live}
+use Rattle.package_stages.proofs.Seeking.{place-free}
 use Rattle.requests.specs.Changes.{Makes}
 use Rattle.handing.specs.Hands.{readied}
 use Rattle.apart.specs.Bare.{bare, bareState}

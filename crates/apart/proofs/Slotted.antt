@@ -17,9 +17,9 @@ use Rattle.regions.proofs.Regions.{length-padded, padded-fit, holds-at}
 use Rattle.places.specs.declared.Head.{Head}
 use Rattle.places.specs.Places.{Place, placeSize, placeWords, placeKey, stageAt, headOf, blank, withStage, HeadAt}
 use Rattle.places.proofs.Places.{length-place}
-use Rattle.packages.specs.Records.{placeHashes}
-use Rattle.packages.proofs.Lending.{place-sought}
-use Rattle.packages.proofs.Seeking.{head-hash}
+use Rattle.package_stages.specs.Records.{placeHashes}
+use Rattle.package_stages.proofs.Lending.{place-sought}
+use Rattle.package_stages.proofs.Seeking.{head-hash}
 use Rattle.apart.specs.Apart.{slotBytes, Slots, Room, SlotOf, Loaded, HeadIn, SoughtIn, Killed}
 
 -- ---- lists

@@ -22,10 +22,10 @@ use Rattle.machine.proofs.Tests.{test, never}
 use Rattle.store.specs.FlatSound.{PlacesAscend}
 use Rattle.store.proofs.Quads.{number-quad}
 use Rattle.store.proofs.Window.{places-sorted}
-use Rattle.packages.specs.Records.{placeHashes}
-use Rattle.packages.specs.Dead.{live}
-use Rattle.packages.proofs.Lending.{place-sought}
-use Rattle.packages.proofs.Seeking.{head-hash, head-stage, head-parents, hash-at}
+use Rattle.package_stages.specs.Records.{placeHashes}
+use Rattle.package_stages.specs.Dead.{live}
+use Rattle.package_stages.proofs.Lending.{place-sought}
+use Rattle.package_stages.proofs.Seeking.{head-hash, head-stage, head-parents, hash-at}
 use Rattle.apart.specs.declared.slots.Spot.{Spot}
 use Rattle.apart.specs.Apart.{Slots, HeadIn, SoughtIn, SpotHeld, SpotNone, SpotIn}
 use Rattle.apart.proofs.Slotted.{rest-lent, first-head}

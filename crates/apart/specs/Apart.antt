@@ -21,8 +21,8 @@ use Rattle.machine.specs.Typed.{Each}
 use Rattle.store.specs.Flat.{placesOf}
 use Rattle.store.specs.FlatSound.{PlacesAscend}
 use Rattle.store.specs.Image.{headSize, Writes}
-use Rattle.packages.specs.Records.{placeHashes}
-use Rattle.packages.specs.Dead.{filter, live}
+use Rattle.package_stages.specs.Records.{placeHashes}
+use Rattle.package_stages.specs.Dead.{filter, live}
 use Rattle.apart.specs.Bare.{bareState}
 use Rattle.apart.specs.declared.slots.Spot.{Spot}
 

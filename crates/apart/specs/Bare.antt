@@ -7,7 +7,7 @@ use lib.Dec.{eqb}
 use Rattle.places.specs.Places.{Place}
 use Rattle.machine.specs.State.{Request, Table, State, Answer}
 use Rattle.machine.specs.Fail.{Listed}
-use Rattle.packages.specs.Changes.{closed}
+use Rattle.package_stages.specs.Changes.{closed}
 
 -- "owner, flag, package and parents": the last three gone, the owner stays
 abbrev pub bareRequest : Request → Request

@@ -14,7 +14,7 @@ use Rattle.machine.specs.State.{Table, State, limitsOf, onTable, ownerIs}
 use Rattle.machine.specs.Table.{at}
 use Rattle.machine.specs.Fail.{Listed, failed, announceParents, parentsFor}
 use Rattle.store.specs.Image.{Writes}
-use Rattle.packages.specs.Records.{placeHashes}
+use Rattle.package_stages.specs.Records.{placeHashes}
 use Rattle.apart.specs.Bare.{bareState}
 use Rattle.apart.specs.declared.noting.Bits.{Bits}
 use Rattle.apart.specs.declared.slots.Spot.{Spot}

@@ -18,7 +18,7 @@ use Rattle.machine.specs.Plan.{Due, due}
 use Rattle.machine.specs.Sound.{All}
 use Rattle.store.specs.Flat.{placesFor}
 use Rattle.store.specs.FlatSound.{owns}
-use Rattle.packages.specs.Changes.{ownerNum}
+use Rattle.package_stages.specs.Changes.{ownerNum}
 use Rattle.requests.specs.Changes.{Shorn}
 use Rattle.handing.specs.Hands.{readied}
 

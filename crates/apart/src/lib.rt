@@ -60,5 +60,5 @@ pub fn put_back(s: &mut [u8], m: usize, first: &[u8], n: usize)
     sorting::gather::copy_slot(first, &mut s[x..m]);
     words::put(s, 2, q as u64);
     words::put(s, 5, n as u64);
-    packages::dead::drop_dead(s);
+    package_stages::dead::drop_dead(s);
 }

@@ -30,8 +30,8 @@ use Rattle.store.specs.Gather.{keyAt}
 use Rattle.store.specs.Image.{Writes}
 use Rattle.store.specs.Shown.{Kept}
 use Rattle.requests.specs.Changes.{Tells}
-use Rattle.packages.specs.Changes.{combinedOf}
-use Rattle.packages.proofs.Seeking.{holding}
+use Rattle.package_stages.specs.Changes.{combinedOf}
+use Rattle.package_stages.proofs.Seeking.{holding}
 use Rattle.failing.specs.Changes.{firstHashes}
 use Rattle.failing.proofs.Copying.{hash-more}
 use Rattle.lists.specs.Lists.{hashesIn}

@@ -22,8 +22,8 @@ use Rattle.machine.proofs.Kept.{sound-table}
 use Rattle.store.specs.Image.{Writes}
 use Rattle.store.specs.Shown.{Kept}
 use Rattle.requests.specs.Changes.{Makes, Tells}
-use Rattle.packages.specs.declared.Request.{Request as Read}
-use Rattle.packages.specs.Changes.{ownerNum, deadlineNum, stageOf, RequestOf}
+use Rattle.package_stages.specs.declared.Request.{Request as Read}
+use Rattle.package_stages.specs.Changes.{ownerNum, deadlineNum, stageOf, RequestOf}
 use Rattle.announcing.specs.Answers.{KeysListed}
 use Rattle.failing.proofs.Releasing.{stage-read}
 use Rattle.claims.specs.Changes.{Becomes}

@@ -19,9 +19,9 @@ use Rattle.machine.specs.State.{Package, Request, Table, ownerIs, isSome}
 use Rattle.machine.specs.Package.{awaitsHash, claimKey}
 use Rattle.machine.specs.Sound.{All, Lawful}
 use Rattle.machine.proofs.Tests.{test, never, and-left, and-right}
-use Rattle.packages.specs.Changes.{combinedOf}
-use Rattle.packages.specs.Dead.{filter}
-use Rattle.packages.proofs.Seeking.{holding}
+use Rattle.package_stages.specs.Changes.{combinedOf}
+use Rattle.package_stages.specs.Dead.{filter}
+use Rattle.package_stages.proofs.Seeking.{holding}
 use Rattle.claims.specs.Awaited.{awaiting, isClaim, claimsIn, hashOf, sumOf, lastAmong, keyFound, ClaimsAre}
 use Rattle.claims.proofs.Noting.{awaiting-place}
 

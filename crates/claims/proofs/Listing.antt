@@ -37,8 +37,8 @@ use Rattle.machine.proofs.Kept.{sound-table}
 use Rattle.store.specs.Image.{Writes}
 use Rattle.store.specs.Shown.{Kept}
 use Rattle.requests.specs.Changes.{Tells}
-use Rattle.packages.specs.declared.Request.{Request as Read}
-use Rattle.packages.specs.Changes.{closed, RequestOf}
+use Rattle.package_stages.specs.declared.Request.{Request as Read}
+use Rattle.package_stages.specs.Changes.{closed, RequestOf}
 use Rattle.lists.proofs.Answer.{written-none}
 use Rattle.announcing.specs.Answers.{KeysListed}
 use Rattle.failing.proofs.Leaving.{told}

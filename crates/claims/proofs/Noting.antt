@@ -25,9 +25,9 @@ use Rattle.store.specs.FlatSound.{owns}
 use Rattle.store.specs.Gather.{keyAt}
 use Rattle.store.proofs.Bits.{key-row, conn-row, owns-row}
 use Rattle.store.proofs.Counts.{DistinctIn, distinct-in}
-use Rattle.packages.specs.declared.Request.{Request as Read}
-use Rattle.packages.specs.Changes.{stageOf, hasPlace, RequestOf}
-use Rattle.packages.specs.Dead.{filter}
+use Rattle.package_stages.specs.declared.Request.{Request as Read}
+use Rattle.package_stages.specs.Changes.{stageOf, hasPlace, RequestOf}
+use Rattle.package_stages.specs.Dead.{filter}
 use Rattle.claims.specs.Awaited.{awaiting, isClaim, claimsIn, isClaimRow, claimOf}
 
 -- ---- one row

@@ -25,8 +25,8 @@ use Rattle.store.specs.FlatSound.{owns}
 use Rattle.store.specs.Gather.{keyAt}
 use Rattle.store.specs.Image.{Writes}
 use Rattle.requests.specs.Changes.{Tells}
-use Rattle.packages.specs.Changes.{combinedOf}
-use Rattle.packages.specs.Dead.{filter}
+use Rattle.package_stages.specs.Changes.{combinedOf}
+use Rattle.package_stages.specs.Dead.{filter}
 use Rattle.failing.specs.Changes.{firstHashes}
 
 -- ---- the claims of a connection: requests that it owns with an Awaiting package, in the order of keys

@@ -18,7 +18,7 @@ fn guarded(s: &[u8], k: ident::Key, clock: u64) -> bool
     requires { ⌜ Kept (now s) ⌝ }
     ensures { λ r. ⌜ Tells (now (s .entry)) (λ t. r ≡ machine.guarded clock (at (keyNum k) t)) ⌝ }
 {
-    let r = packages::request_at(s, k);
+    let r = package_stages::request_at(s, k);
     if r.stage == ENQUEUED {
         return true;
     }
@@ -30,7 +30,7 @@ fn hand_on(s: &mut [u8], k: ident::Key, clock: u64)
     requires { ⌜ Kept (now s) ⌝ }
     ensures { λ _. ⌜ Becomes (now (s .entry)) (now (s .exit)) (λ m t. machine.ownerParents m clock ((at (keyNum k) t) .owner) (at (keyNum k) t) t) ⌝ }
 {
-    let r = packages::request_at(s, k);
+    let r = package_stages::request_at(s, k);
     // owner 0 is none
     if r.owner != 0 {
         let mut list = [0; LIST];

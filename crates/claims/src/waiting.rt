@@ -23,7 +23,7 @@ ghost use Rattle.machine.specs.Package.{someKeys, failEach, failedWithParents, 
 ghost use Rattle.machine.specs.Wrapper.{isType, packagesIn};
 ghost use Rattle.store.specs.Shown.{placesIn, Kept};
 ghost use Rattle.requests.specs.Changes.{Tells};
-ghost use Rattle.packages.specs.Changes.{combinedOf};
+ghost use Rattle.package_stages.specs.Changes.{combinedOf};
 ghost use Rattle.announcing.specs.Answers.{KeysListed};
 ghost use Rattle.claims.specs.Awaited.{awaiting, isClaimRow, Noted, ClaimsNoted, lastAmong, keyFound, ClaimsAre, ListedOn, entriesIn, givenIn, hashFound, lastOf, ClaimsFit};
 
@@ -42,7 +42,7 @@ fn is_claim(s: &[u8], n: u64, r: regions::Row) -> bool
         return false;
     }
     let k = announcing::evict::key_of(r);
-    let q = packages::request_at(s, k);
+    let q = package_stages::request_at(s, k);
     q.stage == AWAITING
 }
 
@@ -51,9 +51,9 @@ fn combined_of(s: &[u8], h: ident::Hash) -> ident::Hash
     requires { ⌜ Kept (now s) ⌝ }
     ensures { λ r. ⌜ Tells (now (s .entry)) (λ t. awaiting ((at (wtxid (hashNum h)) t) .«package») ≡ true → hashNum r ≡ combinedOf ((at (wtxid (hashNum h)) t) .«package»)) ⌝ }
 {
-    let p = packages::seek(s, h);
+    let p = package_stages::seek(s, h);
     if p.held {
-        packages::combined_at(s, p.at)
+        package_stages::combined_at(s, p.at)
     } else {
         h
     }
@@ -132,7 +132,7 @@ fn fail_claim(s: &mut [u8], n: u64, h: ident::Hash, clock: u64, out: &mut [u8], 
     ensures { λ r. ⌜ ListedOn (now (s .entry)) (now (s .exit)) (now (out .entry)) (now (out .exit)) c r (λ m t. failedWithParents m (wtxid (hashNum h)) n clock t) ⌝ }
 {
     let k = ident::wtxid_key(ident::Wtxid(h));
-    let q = packages::request_at(s, k);
+    let q = package_stages::request_at(s, k);
     if q.owner != n {
         return c;
     }

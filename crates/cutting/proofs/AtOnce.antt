@@ -19,7 +19,7 @@ use Rattle.machine.specs.Sound.{Ordered, All, Filled}
 use Rattle.machine.specs.Typed.{Each}
 use Rattle.machine.proofs.Tests.{test, or-left, or-right}
 use Rattle.machine.proofs.At.{at-here, at-there}
-use Rattle.packages.specs.Dead.{filter}
+use Rattle.package_stages.specs.Dead.{filter}
 use Rattle.cutting.specs.Cuts.{cutAt, cutEach, cuts, leftIn, quitAll}
 
 -- ---- keys behind a request do not touch it

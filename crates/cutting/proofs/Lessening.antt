@@ -20,7 +20,7 @@ use Rattle.store.specs.Flat.{Flat, ownBit, bump, tally}
 use Rattle.store.specs.Image.{Shows}
 use Rattle.store.specs.Shown.{connNames, withConns}
 use Rattle.store.proofs.Tally.{order, bump-nil, bump-lt, bump-eq, bump-gt, bump-swap, bump-tallied, Tallied, tally-tallied}
-use Rattle.packages.specs.Dead.{filter}
+use Rattle.package_stages.specs.Dead.{filter}
 use Rattle.cutting.specs.Cuts.{lesser, lessen}
 
 -- ---- rows that go are rows more of what is left

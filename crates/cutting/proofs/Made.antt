@@ -18,7 +18,7 @@ use Rattle.store.specs.Shown.{Shown, withRows, withConns}
 use Rattle.store.proofs.Counts.{distinct-in}
 use Rattle.store.proofs.Frame.{shown}
 use Rattle.requests.proofs.Keeping.{sized-of, light-of, writes-by}
-use Rattle.packages.specs.Dead.{filter}
+use Rattle.package_stages.specs.Dead.{filter}
 use Rattle.cutting.specs.Cuts.{between, cuts, stays, remains, lessen}
 use Rattle.cutting.proofs.AtOnce.{cuts-at-once}
 use Rattle.cutting.proofs.RowsLeft.{rows-left, places-left}

@@ -23,8 +23,8 @@ use Rattle.store.proofs.Bits.{key-row, owns-row, conn-row}
 use Rattle.store.proofs.Counts.{Distinct, DistinctIn, in-hasnt}
 use Rattle.store.proofs.RowBack.{rows-like}
 use Rattle.requests.proofs.Cutting.{place-stays}
-use Rattle.packages.specs.Dead.{filter}
-use Rattle.packages.proofs.Compacting.{filter-append}
+use Rattle.package_stages.specs.Dead.{filter}
+use Rattle.package_stages.proofs.Compacting.{filter-append}
 use Rattle.cutting.specs.Cuts.{leftIn, quitAll, remains}
 
 and-swap : (a b : Bool) → (a && b) ≡ (b && a)

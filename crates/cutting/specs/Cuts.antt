@@ -17,7 +17,7 @@ use Rattle.machine.specs.State.{Candidate, Request, Table, withCandidates, owne
 use Rattle.machine.specs.Table.{at, keep}
 use Rattle.machine.specs.Announce.{without, cut}
 use Rattle.machine.specs.Leave.{keysOf}
-use Rattle.packages.specs.Dead.{filter}
+use Rattle.package_stages.specs.Dead.{filter}
 use Rattle.store.specs.Flat.{Flat}
 use Rattle.store.specs.FlatSound.{owns}
 use Rattle.store.specs.Gather.{keyAt}

@@ -11,7 +11,7 @@ ghost use Rattle.words.specs.Words.{words};
 ghost use Rattle.regions.specs.Rows.{rowSize, rowWords};
 ghost use Rattle.store.specs.Shown.{Shown, Kept, Tallies};
 ghost use Rattle.requests.specs.Changes.{Makes};
-ghost use Rattle.packages.specs.Staying.{Moved, KeptIf, Compacted};
+ghost use Rattle.package_stages.specs.Staying.{Moved, KeptIf, Compacted};
 ghost use Rattle.cutting.specs.Cuts.{between, cuts, rowIn, rowKeyIn, stays, Dropped, lessen};
 
 // A connection, and the keys from .. to.

@@ -23,7 +23,7 @@ use Rattle.machine.proofs.Kept.{sound-table}
 use Rattle.store.specs.Image.{Writes}
 use Rattle.store.specs.Shown.{Kept}
 use Rattle.requests.specs.Changes.{OwnedBare, Makes}
-use Rattle.packages.specs.Changes.{closed}
+use Rattle.package_stages.specs.Changes.{closed}
 use Rattle.failing.proofs.Fusing.{change-fuse, change-none}
 
 shrinks-closed : Shrinks closed

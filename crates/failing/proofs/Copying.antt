@@ -27,9 +27,9 @@ use Rattle.machine.specs.Fail.{parentsFor}
 use Rattle.machine.specs.Sound.{Hashes, Sound}
 use Rattle.machine.proofs.Tests.{never}
 use Rattle.machine.proofs.Table.{lawful-at}
-use Rattle.packages.specs.declared.Request.{Request as Read}
-use Rattle.packages.specs.Changes.{stageOf, hasPlace, RequestOf, PlaceSpot, ReadAt}
-use Rattle.packages.proofs.Seeking.{txid-stage}
+use Rattle.package_stages.specs.declared.Request.{Request as Read}
+use Rattle.package_stages.specs.Changes.{stageOf, hasPlace, RequestOf, PlaceSpot, ReadAt}
+use Rattle.package_stages.proofs.Seeking.{txid-stage}
 use Rattle.failing.specs.Changes.{firstHashes}
 use Rattle.failing.proofs.Releasing.{owner-is}
 

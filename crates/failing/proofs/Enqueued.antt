@@ -24,8 +24,8 @@ use Rattle.store.specs.Image.{Writes}
 use Rattle.store.specs.Shown.{Kept}
 use Rattle.lists.proofs.Answer.{written-none}
 use Rattle.requests.specs.Changes.{Makes, Tells}
-use Rattle.packages.specs.declared.Request.{Request as Read}
-use Rattle.packages.specs.Changes.{RequestOf}
+use Rattle.package_stages.specs.declared.Request.{Request as Read}
+use Rattle.package_stages.specs.Changes.{RequestOf}
 use Rattle.announcing.specs.Answers.{KeysListed}
 use Rattle.failing.specs.Changes.{led}
 use Rattle.failing.proofs.PackageInfo.{manned-is}

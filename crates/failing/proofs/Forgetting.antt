@@ -21,7 +21,7 @@ use Rattle.machine.proofs.Kept.{sound-table}
 use Rattle.store.specs.Image.{Writes}
 use Rattle.store.specs.Shown.{Kept}
 use Rattle.requests.specs.Changes.{Makes}
-use Rattle.packages.specs.Changes.{ownerNum}
+use Rattle.package_stages.specs.Changes.{ownerNum}
 use Rattle.failing.proofs.Fusing.{change-fuse, change-none}
 use Rattle.failing.proofs.Clearing.{shrinks-unowned}
 use Rattle.failing.proofs.Releasing.{positive}

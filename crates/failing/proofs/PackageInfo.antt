@@ -18,8 +18,8 @@ use Rattle.machine.specs.Sound.{Packed, Lawful}
 use Rattle.machine.proofs.Tests.{never}
 use Rattle.store.specs.Image.{Writes}
 use Rattle.requests.specs.Changes.{Tells}
-use Rattle.packages.specs.declared.Request.{Request as Read}
-use Rattle.packages.specs.Changes.{ownerNum, deadlineNum, stageOf, RequestOf}
+use Rattle.package_stages.specs.declared.Request.{Request as Read}
+use Rattle.package_stages.specs.Changes.{ownerNum, deadlineNum, stageOf, RequestOf}
 use Rattle.announcing.specs.Answers.{Answered}
 
 -- "never both": the flag is stage 1

@@ -16,8 +16,8 @@ use Rattle.machine.specs.Fail.{releasable}
 use Rattle.machine.specs.Sound.{Sound, AllFit, OwnerFits}
 use Rattle.machine.proofs.Tests.{test, never}
 use Rattle.machine.proofs.Table.{lawful-at}
-use Rattle.packages.specs.declared.Request.{Request as Read}
-use Rattle.packages.specs.Changes.{ownerNum, stageOf, RequestOf}
+use Rattle.package_stages.specs.declared.Request.{Request as Read}
+use Rattle.package_stages.specs.Changes.{ownerNum, stageOf, RequestOf}
 
 -- ---- no connection is 0
 

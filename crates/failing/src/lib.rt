@@ -18,7 +18,7 @@ ghost use Rattle.machine.specs.Package.{failedWithParents, infoOwned, failedPac
 ghost use Rattle.store.specs.Shown.{Kept};
 ghost use Rattle.lists.specs.Lists.{hashesIn};
 ghost use Rattle.requests.specs.Changes.{Makes, Tells};
-ghost use Rattle.packages.specs.Changes.{closed};
+ghost use Rattle.package_stages.specs.Changes.{closed};
 ghost use Rattle.announcing.specs.Answers.{Answered, KeysListed};
 ghost use Rattle.failing.specs.Changes.{led};
 
@@ -33,7 +33,7 @@ pub fn releasable(s: &[u8], k: ident::Key, n: u64) -> bool
     if n == 0 {
         return false;
     }
-    let r = packages::request_at(s, k);
+    let r = package_stages::request_at(s, k);
     r.owner == n && r.stage != ENQUEUED
 }
 
@@ -46,7 +46,7 @@ fn close(s: &mut [u8], k: ident::Key)
     let h = k.hash;
     match t {
         ident::Kind::Txid => {}
-        ident::Kind::Wtxid => packages::close(s, h),
+        ident::Kind::Wtxid => package_stages::close(s, h),
     }
 }
 
@@ -116,7 +116,7 @@ fn release(s: &mut [u8], k: ident::Key)
     requires { ⌜ Kept (now s) ⌝ }
     ensures { λ _. ⌜ Makes (now (s .entry)) (now (s .exit)) (λ t. Unit {0}) (change (keyNum k) unowned) ⌝ }
 {
-    let r = packages::request_at(s, k);
+    let r = package_stages::request_at(s, k);
     // owner 0 is none
     if r.owner != 0 {
         clear(s, k, r.owner);
@@ -139,7 +139,7 @@ pub fn package_info_owner(s: &[u8], k: ident::Key, clock: u64) -> u64
     requires { ⌜ Kept (now s) ⌝ }
     ensures { λ r. ⌜ Tells (now (s .entry)) (λ t. r ≡ packageInfoOwner (keyNum k) clock t) ⌝ }
 {
-    let r = packages::request_at(s, k);
+    let r = package_stages::request_at(s, k);
     if r.stage != FLAG {
         return 0;
     }
@@ -151,7 +151,7 @@ pub fn info_owned(s: &[u8], k: ident::Key, n: u64) -> bool
     requires { ⌜ Kept (now s) ⌝ }
     ensures { λ r. ⌜ Tells (now (s .entry)) (λ t. r ≡ infoOwned n (at (keyNum k) t)) ⌝ }
 {
-    let r = packages::request_at(s, k);
+    let r = package_stages::request_at(s, k);
     r.stage == FLAG && r.owner == n
 }
 
@@ -208,7 +208,7 @@ fn enqueued_by(s: &[u8], k: ident::Key, n: u64) -> bool
     requires { ⌜ Kept (now s) ⌝ }
     ensures { λ r. ⌜ Tells (now (s .entry)) (λ t. r ≡ enqueuedBy n (at (keyNum k) t)) ⌝ }
 {
-    let r = packages::request_at(s, k);
+    let r = package_stages::request_at(s, k);
     r.stage == ENQUEUED && r.owner == n
 }
 

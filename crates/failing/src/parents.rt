@@ -8,7 +8,7 @@ ghost use Rattle.machine.specs.Table.{at};
 ghost use Rattle.machine.specs.Fail as machine;
 ghost use Rattle.store.specs.Shown.{heldPlacesIn, Kept};
 ghost use Rattle.requests.specs.Changes.{Tells};
-ghost use Rattle.packages.specs.Changes.{ReadAt};
+ghost use Rattle.package_stages.specs.Changes.{ReadAt};
 ghost use Rattle.failing.specs.Changes.{firstHashes};
 
 // Copies the parents of the i-th place to the front of `list`, 32 bytes each; answers how many they are.
@@ -16,10 +16,10 @@ fn copy_parents(s: &[u8], i: usize, list: &mut [u8]) -> usize
     requires { ⌜ Kept (now s) × (i < heldPlacesIn (now s)) × (hashBytes * listMost ≤ length (now list)) ⌝ }
     ensures { λ r. ⌜ (r ≤ listMost) × ReadAt (now (s .entry)) i (λ q. firstHashes r (now (list .exit)) ≡ q .parents) ⌝ }
 {
-    let n = packages::parents(s, i);
+    let n = package_stages::parents(s, i);
     let mut j = 0;
     while j < n {
-        let h = packages::parent_at(s, i, j);
+        let h = package_stages::parent_at(s, i, j);
         ident::put_hash(list, j * ident::HASH_BYTES, h);
         j += 1;
     }
@@ -31,7 +31,7 @@ pub fn parents_for(s: &[u8], k: ident::Key, n: u64, list: &mut [u8]) -> usize
     requires { ⌜ Kept (now s) × (1 ≤ n) × (hashBytes * listMost ≤ length (now list)) ⌝ }
     ensures { λ r. ⌜ (r ≤ listMost) × Tells (now (s .entry)) (λ t. firstHashes r (now (list .exit)) ≡ machine.parentsFor n (at (keyNum k) t)) ⌝ }
 {
-    let r = packages::request_at(s, k);
+    let r = package_stages::request_at(s, k);
     if r.owner != n {
         return 0;
     }
@@ -39,7 +39,7 @@ pub fn parents_for(s: &[u8], k: ident::Key, n: u64, list: &mut [u8]) -> usize
         return 0;
     }
     let h = k.hash;
-    let p = packages::seek(s, h);
+    let p = package_stages::seek(s, h);
     if p.held {
         copy_parents(s, p.at, list)
     } else {

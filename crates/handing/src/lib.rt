@@ -122,7 +122,7 @@ fn search_owner(s: &[u8], k: ident::Key, n: u64) -> Seen
     requires { ⌜ Kept (now s) × (1 ≤ n) ⌝ }
     ensures { λ r. ⌜ Tells (now (s .entry)) (λ t. r .owner ≡ ownerIs n ((at (keyNum k) t) .owner)) ⌝ }
 {
-    let r = packages::request_at(s, k);
+    let r = package_stages::request_at(s, k);
     Seen {
         owner: r.owner == n,
         next: r.to,

@@ -18,7 +18,7 @@ use Rattle.machine.specs.Sound.{Ordered, All, Filled, Bounded}
 use Rattle.machine.specs.Typed.{Each}
 use Rattle.machine.proofs.Tests.{test, by-test, never}
 use Rattle.machine.proofs.Change.{bounded-cut}
-use Rattle.packages.specs.Dead.{filter}
+use Rattle.package_stages.specs.Dead.{filter}
 use Rattle.merging.specs.Merges.{Rising}
 use Rattle.cutting.specs.Cuts.{between, cutAt, cutEach, cuts}
 use Rattle.leaving.specs.Parts.{listed, Unowned, Within, inParts}

@@ -20,7 +20,7 @@ use Rattle.machine.specs.Sound.{Ordered, All, Filled}
 use Rattle.machine.proofs.Tests.{test, by-test}
 use Rattle.machine.proofs.Table.{place-inj, ordered-change, filled-change, all-at}
 use Rattle.machine.proofs.At.{kept, kept-some, at-here, at-there, at-same, at-other}
-use Rattle.packages.specs.Dead.{filter}
+use Rattle.package_stages.specs.Dead.{filter}
 use Rattle.announcing.proofs.Swapping.{table-same}
 use Rattle.merging.specs.Merges.{Rising}
 use Rattle.cutting.specs.Cuts.{between, cutAt, cutEach, cuts}

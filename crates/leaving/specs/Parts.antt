@@ -19,7 +19,7 @@ use Rattle.machine.specs.Typed.{Each}
 use Rattle.machine.specs.Call.{keyBytes}
 use Rattle.machine.specs.Step.{keyAnswer, keysAnswer, written}
 use Rattle.machine.specs.Sound.{Sound}
-use Rattle.packages.specs.Dead.{filter}
+use Rattle.package_stages.specs.Dead.{filter}
 use Rattle.store.specs.Gather.{keyAt}
 use Rattle.store.specs.Image.{Writes}
 use Rattle.cutting.specs.Cuts.{cutEach}

@@ -27,10 +27,10 @@ use Rattle.machine.proofs.Tests.{test, never}
 use Rattle.store.specs.Image.{Writes}
 use Rattle.store.specs.Shown.{Kept}
 use Rattle.requests.specs.Changes.{Makes}
-use Rattle.packages.specs.Changes.{TakesParent, withParent}
-use Rattle.packages.proofs.Seeking.{holding}
-use Rattle.packages.proofs.Sounds.{repacked, sound-beside}
-use Rattle.packages.proofs.Steps.{keep-some, change-twice}
+use Rattle.package_stages.specs.Changes.{TakesParent, withParent}
+use Rattle.package_stages.proofs.Seeking.{holding}
+use Rattle.package_stages.proofs.Sounds.{repacked, sound-beside}
+use Rattle.package_stages.proofs.Steps.{keep-some, change-twice}
 use Rattle.announcing.proofs.Listing.{hashes-take}
 use Rattle.announcing.proofs.Repeats.{dedup-new, dedup-met}
 use Rattle.packaging.specs.Solicits.{Keeps, Opened, given}

@@ -16,8 +16,8 @@ use Rattle.machine.proofs.Tests.{never, and-left, and-right}
 use Rattle.store.specs.Image.{Writes}
 use Rattle.store.specs.Shown.{heldPlacesIn, Kept}
 use Rattle.requests.specs.Changes.{Makes, Tells}
-use Rattle.packages.specs.Changes.{stageOf, wtxidsOf, combinedOf, hasPlace, SpotOf, ReadAt, begun}
-use Rattle.packages.proofs.Placing.{packed-held}
+use Rattle.package_stages.specs.Changes.{stageOf, wtxidsOf, combinedOf, hasPlace, SpotOf, ReadAt, begun}
+use Rattle.package_stages.proofs.Placing.{packed-held}
 use Rattle.announcing.specs.Answers.{Answered}
 use Rattle.packaging.proofs.Owned.{awaiting-is}
 use Rattle.packaging.proofs.SamePackage.{same-equal}

@@ -18,7 +18,7 @@ use Rattle.machine.specs.Package.{liveOwner, packaged, mayClaim, claimPackage}
 use Rattle.machine.proofs.Tests.{never, and-left, and-right}
 use Rattle.store.specs.Image.{Writes}
 use Rattle.requests.specs.Changes.{Makes, Tells}
-use Rattle.packages.specs.Changes.{stageOf, FlagOnly}
+use Rattle.package_stages.specs.Changes.{stageOf, FlagOnly}
 use Rattle.announcing.specs.Answers.{Answered}
 use Rattle.packaging.proofs.Owned.{and-false, flag-is}
 

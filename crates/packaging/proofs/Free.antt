@@ -20,8 +20,8 @@ use Rattle.machine.proofs.Change.{unowned-at}
 use Rattle.machine.proofs.Fail.{owner-peer}
 use Rattle.machine.proofs.Table.{at-absent, lawful-at}
 use Rattle.machine.proofs.Tests.{test}
-use Rattle.packages.specs.declared.Request.{Request as Read}
-use Rattle.packages.specs.Changes.{ownerNum, RequestOf}
+use Rattle.package_stages.specs.declared.Request.{Request as Read}
+use Rattle.package_stages.specs.Changes.{ownerNum, RequestOf}
 
 -- ---- nobody owns the hash, if nobody does at a key with that hash
 

@@ -26,9 +26,9 @@ use Rattle.store.specs.Shown.{placesIn, heldPlacesIn, Kept}
 use Rattle.store.proofs.Counts.{places-rows}
 use Rattle.store.proofs.Frame.{sizes}
 use Rattle.requests.specs.Changes.{Makes}
-use Rattle.packages.specs.Changes.{OwnedPlain, flagged}
-use Rattle.packages.proofs.Sounds.{sound-flagged}
-use Rattle.packages.proofs.Steps.{solicit-flag}
+use Rattle.package_stages.specs.Changes.{OwnedPlain, flagged}
+use Rattle.package_stages.proofs.Sounds.{sound-flagged}
+use Rattle.package_stages.proofs.Steps.{solicit-flag}
 use Rattle.packaging.specs.Solicits.{MayOwn, Opened}
 
 -- room as the header has it

@@ -11,8 +11,8 @@ use Rattle.machine.specs.State as machine
 use Rattle.machine.specs.State.{Owner, Package, isNone}
 use Rattle.machine.specs.Table.{one}
 use Rattle.machine.specs.Package.{liveOwner}
-use Rattle.packages.specs.declared.Request.{Request}
-use Rattle.packages.specs.Changes.{ownerNum, deadlineNum, stageOf, RequestOf}
+use Rattle.package_stages.specs.declared.Request.{Request}
+use Rattle.package_stages.specs.Changes.{ownerNum, deadlineNum, stageOf, RequestOf}
 
 pub and-false : (b : Bool) → (b && false) ≡ false
 and-false true = refl

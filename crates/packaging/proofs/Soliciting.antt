@@ -22,7 +22,7 @@ use Rattle.machine.proofs.Tests.{and-left, and-right}
 use Rattle.store.specs.Image.{Writes}
 use Rattle.store.specs.Shown.{placesIn, heldPlacesIn, Kept}
 use Rattle.requests.specs.Changes.{Makes, Tells}
-use Rattle.packages.proofs.Steps.{change-twice}
+use Rattle.package_stages.proofs.Steps.{change-twice}
 use Rattle.announcing.specs.Answers.{Answered}
 use Rattle.packaging.specs.Solicits.{Keeps, MayOwn, Opened, given, Room}
 use Rattle.packaging.proofs.Opening.{place-in, some-candidate, opened-sound, opened-at}

@@ -11,7 +11,7 @@ use Rattle.machine.specs.Table.{at, has, ownedBy, ownedAt, placesHeld}
 use Rattle.machine.specs.Package.{solicit}
 use Rattle.machine.specs.Sound.{Sound}
 use Rattle.store.specs.Image.{Writes}
-use Rattle.packages.specs.Changes.{hasPlace}
+use Rattle.package_stages.specs.Changes.{hasPlace}
 
 -- the bytes write a sound state, of whose table P holds
 pub record Keeps (b : List ℕ) (P : Table → Type 0) : Type 0 where

@@ -44,8 +44,8 @@ fn may_own(s: &[u8], n: u64, h: ident::Hash) -> bool
     requires { ⌜ Kept (now s) ⌝ }
     ensures { λ r. ⌜ Tells (now (s .entry)) (λ t. r ≡ (eqb (ownedAt (hashNum h) t) 0 && ltb (ownedBy n t) maxInFlight)) ⌝ }
 {
-    let a = packages::request_at(s, ident::txid_key(ident::Txid(h)));
-    let b = packages::request_at(s, ident::wtxid_key(ident::Wtxid(h)));
+    let a = package_stages::request_at(s, ident::txid_key(ident::Txid(h)));
+    let b = package_stages::request_at(s, ident::wtxid_key(ident::Wtxid(h)));
     if a.owner != 0 || b.owner != 0 {
         return false;
     }
@@ -75,7 +75,7 @@ fn own_flagged(s: &mut [u8], n: u64, h: ident::Hash, clock: u64)
 {
     let k = ident::wtxid_key(ident::Wtxid(h));
     requests::own(s, k, n, clock + REQUEST_LIFETIME);
-    packages::open_info(s, h);
+    package_stages::open_info(s, h);
 }
 
 // Stores the parents of the request, repeats dropped; it has the flag, and no parents yet.
@@ -88,7 +88,7 @@ fn add_parents(s: &mut [u8], h: ident::Hash, parents: &[u8])
     while i < count {
         if !lists::occurs_before(parents, i) {
             let p = lists::hash_in(parents, i);
-            packages::add_parent(s, h, p);
+            package_stages::add_parent(s, h, p);
         }
         i += 1;
     }

@@ -13,7 +13,7 @@ ghost use Rattle.machine.specs.Table.{at};
 ghost use Rattle.machine.specs.Package as machine;
 ghost use Rattle.store.specs.Shown.{heldPlacesIn, Kept};
 ghost use Rattle.requests.specs.Changes.{Tells};
-ghost use Rattle.packages.specs.Changes.{stageOf, wtxidsOf, combinedOf, ReadAt};
+ghost use Rattle.package_stages.specs.Changes.{stageOf, wtxidsOf, combinedOf, ReadAt};
 ghost use Rattle.announcing.specs.Answers.{Answered};
 
 pub mod info;
@@ -25,7 +25,7 @@ fn owned_at(s: &[u8], n: u64, subject: ident::Wtxid, clock: u64, stage: u64) -> 
         (stageOf ((at (wtxid (hashNum (subject .0))) t) .info) ((at (wtxid (hashNum (subject .0))) t) .«package»)) stage)) ⌝ }
 {
     let k = ident::wtxid_key(subject);
-    let r = packages::request_at(s, k);
+    let r = package_stages::request_at(s, k);
     r.owner == n && clock < r.deadline && r.stage == stage
 }
 
@@ -48,7 +48,7 @@ pub fn claim_package(
     if !owned_at(s, n, subject, clock, FLAG) {
         return false;
     }
-    packages::claim(s, subject.0, combined, wtxids);
+    package_stages::claim(s, subject.0, combined, wtxids);
     true
 }
 
@@ -57,17 +57,17 @@ fn same_package(s: &[u8], i: usize, combined: ident::Hash, wtxids: &[u8]) -> boo
     requires { ⌜ Kept (now s) × (i < heldPlacesIn (now s)) ⌝ }
     ensures { λ r. ⌜ ReadAt (now (s .entry)) i (λ q. r ≡ (eqb (combinedOf (q .«package»)) (hashNum combined) && machine.sameList (wtxidsOf (q .«package»)) (hashesIn (now (wtxids .entry))))) ⌝ }
 {
-    let c = packages::combined_at(s, i);
+    let c = package_stages::combined_at(s, i);
     if !lists::same_hash(c, combined) {
         return false;
     }
-    let count = packages::wtxids(s, i);
+    let count = package_stages::wtxids(s, i);
     if lists::hashes(wtxids) != count {
         return false;
     }
     let mut j = 0;
     while j < count {
-        let a = packages::wtxid_at(s, i, j);
+        let a = package_stages::wtxid_at(s, i, j);
         let b = lists::hash_in(wtxids, j);
         if !lists::same_hash(a, b) {
             return false;
@@ -92,10 +92,10 @@ pub fn begin_package_resolution(
     if !owned_at(s, n, subject, clock, AWAITING) {
         return false;
     }
-    let p = packages::seek(s, subject.0);
+    let p = package_stages::seek(s, subject.0);
     if !same_package(s, p.at, combined, wtxids) {
         return false;
     }
-    packages::enqueue(s, subject.0);
+    package_stages::enqueue(s, subject.0);
     true
 }

@@ -20,7 +20,7 @@ use Rattle.machine.specs.Sound.{Ordered, All, Lawful, Sound}
 use Rattle.machine.proofs.At.{at-here, at-there}
 use Rattle.store.specs.Shown.{Kept}
 use Rattle.requests.specs.Changes.{Tells}
-use Rattle.packages.specs.Records.{placeHashes}
+use Rattle.package_stages.specs.Records.{placeHashes}
 use Rattle.apart.specs.Bare.{bare, bareState}
 use Rattle.apart.specs.Apart.{Apart, Parted}
 use Rattle.apart.specs.Lapsing.{family, noted, Clear, Expires}

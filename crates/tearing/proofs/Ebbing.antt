@@ -19,7 +19,7 @@ use Rattle.store.specs.Shown.{connNames, Light, withConns}
 use Rattle.store.proofs.Bounds.{Ascend, ascend-weaken, ascend-sorted}
 use Rattle.store.proofs.Missing.{unbump-missing}
 use Rattle.store.proofs.Tally.{Tallied}
-use Rattle.packages.specs.Dead.{filter}
+use Rattle.package_stages.specs.Dead.{filter}
 use Rattle.tearing.specs.Idle.{busy, ebb, ebbed}
 
 -- ---- as the code does it

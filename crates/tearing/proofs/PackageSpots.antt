@@ -29,9 +29,9 @@ use Rattle.store.specs.Shown.{heldPlacesIn, Seek}
 use Rattle.store.proofs.Frame.{sizes}
 use Rattle.store.proofs.ToFlat.{flat-sound}
 use Rattle.store.proofs.Window.{places-sorted}
-use Rattle.packages.specs.Changes.{stageOf, hasPlace}
-use Rattle.packages.specs.Records.{placeHashes}
-use Rattle.packages.proofs.Seeking.{txid-stage, head-hash, head-stage, hash-at, missing, tested, its-place}
+use Rattle.package_stages.specs.Changes.{stageOf, hasPlace}
+use Rattle.package_stages.specs.Records.{placeHashes}
+use Rattle.package_stages.proofs.Seeking.{txid-stage, head-hash, head-stage, hash-at, missing, tested, its-place}
 use Rattle.tearing.specs.Torn.{packagedRow, Ebbs, PackageAt}
 use Rattle.tearing.proofs.TornTables.{staged}
 

@@ -21,8 +21,8 @@ use Rattle.store.specs.Shown.{connsIn, withConns, Light, Shown, Turns}
 use Rattle.store.proofs.Frame.{shown, sizes}
 use Rattle.store.proofs.Missing.{each-at}
 use Rattle.store.proofs.Tally.{fresh}
-use Rattle.packages.specs.Dead.{filter}
-use Rattle.packages.proofs.Compacting.{Sifted, sifted-none, sifted-all, sifted-stays, sifted-goes}
+use Rattle.package_stages.specs.Dead.{filter}
+use Rattle.package_stages.proofs.Compacting.{Sifted, sifted-none, sifted-all, sifted-stays, sifted-goes}
 use Rattle.tearing.specs.Idle.{busy, KeptBusy}
 
 each-set : {A : Type 0} (P : A → Type 0) (l : List A) (i : ℕ) (x : A) → Each P l → P x → Each P (set l i x)

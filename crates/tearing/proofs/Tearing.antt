@@ -21,7 +21,7 @@ use Rattle.machine.specs.Sound.{Ordered, All, Filled, Lawful}
 use Rattle.machine.specs.Typed.{Each}
 use Rattle.machine.proofs.Tests.{test, never}
 use Rattle.machine.proofs.Table.{at-absent}
-use Rattle.packages.proofs.Seeking.{holding}
+use Rattle.package_stages.proofs.Seeking.{holding}
 use Rattle.tearing.specs.Torn.{quit, tornIn, tornAll}
 
 -- ---- one request

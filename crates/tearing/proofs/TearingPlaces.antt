@@ -26,9 +26,9 @@ use Rattle.store.proofs.Counts.{distinct-in}
 use Rattle.store.proofs.Frame.{sizes, shown}
 use Rattle.store.proofs.Stamping.{map-none, map-read, map-more, length-mapIn}
 use Rattle.requests.proofs.Keeping.{writes-by}
-use Rattle.packages.specs.Dead.{filter, live}
-use Rattle.packages.proofs.Compacting.{filter-append}
-use Rattle.packages.proofs.Seeking.{head-stage}
+use Rattle.package_stages.specs.Dead.{filter, live}
+use Rattle.package_stages.proofs.Compacting.{filter-append}
+use Rattle.package_stages.proofs.Seeking.{head-stage}
 use Rattle.tearing.specs.Torn.{tornAll, RowsTorn, isPackage, tornPlace, PlaceTorn, PlacesTorn, Cleared}
 use Rattle.tearing.proofs.Undoing.{teardown-is}
 use Rattle.tearing.proofs.TornTables.{rows-left, places-left, packages-are}

@@ -35,7 +35,7 @@ use Rattle.store.proofs.Tally.{tally-tallied, tally-less, tally-same}
 use Rattle.store.proofs.ToFlat.{flat-sound}
 use Rattle.requests.proofs.Keeping.{sized-of, light-of}
 use Rattle.requests.proofs.Shearing.{shorn-shown}
-use Rattle.packages.specs.Dead.{filter}
+use Rattle.package_stages.specs.Dead.{filter}
 use Rattle.tearing.specs.Idle.{busy, ebbed}
 use Rattle.tearing.specs.Torn.{packagedRow, Ebbs, tornRow, tornRows, tornEntries, putAt, RowTorn, RowsTorn}
 use Rattle.tearing.proofs.Ebbing.{Rising, rising-sorted, tallied-rising, tallied-busy, ebbed-rising, ebbed-long, ebbed-light, ebbed-busy}

@@ -31,9 +31,9 @@ use Rattle.store.specs.Gather.{keyAt}
 use Rattle.store.proofs.Bits.{key-row, owns-row}
 use Rattle.store.proofs.Counts.{Distinct, DistinctIn, in-hasnt}
 use Rattle.store.proofs.Split.{places-none}
-use Rattle.packages.specs.Changes.{ownerNum}
-use Rattle.packages.specs.Dead.{filter, live}
-use Rattle.packages.proofs.Compacting.{filter-append}
+use Rattle.package_stages.specs.Changes.{ownerNum}
+use Rattle.package_stages.specs.Dead.{filter, live}
+use Rattle.package_stages.proofs.Compacting.{filter-append}
 use Rattle.tearing.specs.Torn.{quit, tornIn, tornAll, packagedRow, tornRow, tornRows, isPackage, tornPlace}
 use Rattle.tearing.proofs.Tearing.{owned}
 

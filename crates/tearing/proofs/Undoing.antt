@@ -24,7 +24,7 @@ use Rattle.machine.proofs.Table.{lawful-at, ordered-change, filled-change}
 use Rattle.machine.proofs.At.{at-here, at-there, at-other, other-place}
 use Rattle.machine.proofs.Expired.{owned-once}
 use Rattle.machine.proofs.Package.{shrinks-leftIfOwned, bounded-tearOne}
-use Rattle.packages.specs.Changes.{ownerNum}
+use Rattle.package_stages.specs.Changes.{ownerNum}
 use Rattle.failing.proofs.Fusing.{change-same, change-none}
 use Rattle.tearing.specs.Torn.{quit, tornAll}
 use Rattle.tearing.proofs.Tearing.{owned, quit-bare, torn-step, keys-keep, cons-some, torn-none, keys-from}

@@ -25,8 +25,8 @@ use Rattle.store.specs.Gather.{keyAt}
 use Rattle.store.specs.Image.{Shows, Writes}
 use Rattle.store.specs.Shown.{connNames, withRows, withConns, withPlaces}
 use Rattle.requests.specs.Changes.{Shorn}
-use Rattle.packages.specs.Changes.{ownerNum}
-use Rattle.packages.specs.Dead.{filter, live}
+use Rattle.package_stages.specs.Changes.{ownerNum}
+use Rattle.package_stages.specs.Dead.{filter, live}
 use Rattle.tearing.specs.Idle.{ebbed}
 
 -- the owner of a request leaves it

@@ -3,7 +3,7 @@ ghost use mathlib.Core.Path.{_≡_};
 ghost use Prim.Native.Nat.{_+_, _≤_, _<_};
 ghost use lib.ListN.{take};
 ghost use Rattle.store.specs.Shown.{connsIn, Shown, withConns, Turns, Tallies};
-ghost use Rattle.packages.specs.Dead.{filter};
+ghost use Rattle.package_stages.specs.Dead.{filter};
 ghost use Rattle.tearing.specs.Idle.{busy, ebbed, KeptBusy};
 
 // One row less of the connection x, whose bit of owning was o. Its entry stays.

@@ -116,7 +116,7 @@ fn tear_places(s: &mut [u8]) -> usize
         c = tear_place(s, i, c);
         i += 1;
     }
-    packages::dead::drop_dead(s);
+    package_stages::dead::drop_dead(s);
     c
 }
 

@@ -18,7 +18,7 @@ ghost use Rattle.store.specs.Flat.{Flat};
 ghost use Rattle.store.specs.FlatSound.{hashAt};
 ghost use Rattle.store.specs.Image.{Shows};
 ghost use Rattle.store.specs.Shown.{heldPlacesIn, Shown, Seek};
-ghost use Rattle.packages.specs.Records.{placeHashes};
+ghost use Rattle.package_stages.specs.Records.{placeHashes};
 ghost use Rattle.tearing.specs.Torn.{packagedRow, Ebbs, PackageAt};
 
 // No store has more places.
@@ -77,7 +77,7 @@ fn seek_near(s: &[u8], q: regions::Quad, guess: usize) -> usize
             return next;
         }
     }
-    packages::flat::seek_place(s, q)
+    package_stages::flat::seek_place(s, q)
 }
 
 // Whether a request has a package, and where its place stands, or would.

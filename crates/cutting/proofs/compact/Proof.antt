@@ -6,7 +6,7 @@ use lib.ListN.{length}
 use Rattle.words.specs.Words.{words}
 use Rattle.regions.specs.Rows.{rowSize, rowWords}
 use Rattle.cutting.specs.Cuts.{stays}
-use Rattle.packages.proofs.Compacting.{Compacting, compacting-none, compacting-more, compacting-end}
+use Rattle.package_stages.proofs.Compacting.{Compacting, compacting-none, compacting-more, compacting-end}
 use Rattle.cutting.proofs.Testing.{none}
 use Rattle.cutting.proofs.compact.Statement.{statement}
 use Rattle.cutting.proofs.compact.Tie as tie

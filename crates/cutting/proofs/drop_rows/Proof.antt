@@ -1,7 +1,7 @@
 use native.Mathlib.Omega.{arith}
 use mathlib.Core.Path.{sym}
 use Rattle.store.proofs.Frame.{rows-lent, rows-back, rows-counted}
-use Rattle.packages.specs.Dead.{filter}
+use Rattle.package_stages.specs.Dead.{filter}
 use Rattle.cutting.specs.Cuts.{stays}
 use borrow.Author.Needs.{needs}
 use Rattle.cutting.proofs.drop_rows.Statement.{statement}

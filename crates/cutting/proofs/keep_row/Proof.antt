@@ -1,7 +1,7 @@
 use mathlib.Core.Path.{sym, ap, _∙_}
 use mathlib.Core.Bool.{not}
 use Rattle.cutting.specs.Cuts.{stays}
-use Rattle.packages.proofs.Compacting.{kept-on, kept-off}
+use Rattle.package_stages.proofs.Compacting.{kept-on, kept-off}
 use borrow.Author.Needs.{needs}
 use Rattle.cutting.proofs.keep_row.Statement.{statement}
 use Rattle.cutting.proofs.keep_row.Tie as tie

@@ -1,6 +1,6 @@
 use native.Mathlib.Omega.{arith}
 use Rattle.regions.specs.Rows.{rowSize, rowWords}
-use Rattle.packages.proofs.Compacting.{moved-none}
+use Rattle.package_stages.proofs.Compacting.{moved-none}
 use borrow.Author.Needs.{needs}
 use Rattle.cutting.proofs.move_row.Statement.{statement}
 use Rattle.cutting.proofs.move_row.Tie as tie

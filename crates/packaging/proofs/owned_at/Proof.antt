@@ -4,7 +4,7 @@ use mathlib.Core.Logic.{⊎-elim}
 use borrow.Author.Needs.{needs}
 use Rattle.ident.specs.Number.{Key}
 use Rattle.machine.specs.Table.{at}
-use Rattle.packages.specs.Changes.{RequestOf}
+use Rattle.package_stages.specs.Changes.{RequestOf}
 use Rattle.packaging.proofs.Owned.{both-tests, first-test, stage-read, not-live}
 use Rattle.packaging.proofs.owned_at.Statement.{statement}
 use Rattle.packaging.proofs.owned_at.Tie as tie

@@ -10,7 +10,7 @@ use Rattle.ident.specs.Words.{hashNum}
 use Rattle.lists.specs.Lists.{hashesIn}
 use Rattle.machine.specs.Table.{at}
 use Rattle.machine.specs.Package.{sameList}
-use Rattle.packages.specs.Changes.{wtxidsOf, combinedOf, ReadAt}
+use Rattle.package_stages.specs.Changes.{wtxidsOf, combinedOf, ReadAt}
 use Rattle.packaging.proofs.SamePackage.{compared, other-hash, other-length, other-wtxid, all-same, next-same}
 use Rattle.packaging.proofs.same_package.Statement.{statement}
 use Rattle.packaging.proofs.same_package.Tie as tie

@@ -1,7 +1,7 @@
 -- `apart::noting::parents_in` meets its contract. Assumes nothing.
 use native.Mathlib.Omega.{arith}
 use mathlib.Core.List.{[], _∷_}
-use Rattle.packages.proofs.Seeking.{head-parents}
+use Rattle.package_stages.proofs.Seeking.{head-parents}
 use borrow.Author.Needs.{needs}
 use Rattle.apart.proofs.noting.parents_in.Statement.{statement}
 use Rattle.apart.proofs.noting.parents_in.Tie as tie

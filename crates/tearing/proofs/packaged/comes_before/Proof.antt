@@ -3,7 +3,7 @@ use Prim.Native.Nat.{ℕ}
 use lib.Dec.{ltb}
 use lib.ListN.{getD}
 use Rattle.regions.specs.Rows.{quadNumber}
-use Rattle.packages.proofs.Seeking.{head-hash}
+use Rattle.package_stages.proofs.Seeking.{head-hash}
 use borrow.Author.Needs.{needs}
 use Rattle.tearing.proofs.packaged.comes_before.Statement.{statement}
 use Rattle.tearing.proofs.packaged.comes_before.Tie as tie
