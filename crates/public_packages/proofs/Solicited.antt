@@ -14,7 +14,7 @@ use Rattle.machine.specs.Call.{Ask, SolicitPackageInfo, On, named, takesPlace, 
 use Rattle.machine.specs.Step.{Reply, Refused, Number, perform}
 use Rattle.store.specs.Image.{Writes, SoundStore, Bytes, needOf}
 use Rattle.announcing.specs.Answers.{Answered}
-use Rattle.packaging.specs.Solicits.{Room}
+use Rattle.soliciting.specs.Solicits.{Room}
 use Rattle.outcome.specs.Outcome.{Leaves}
 use Rattle.outcome.specs.Tests.{firstOf, ofPlace, inTurn}
 use Rattle.outcome.specs.Lent.{Lent}

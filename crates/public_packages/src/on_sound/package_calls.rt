@@ -26,7 +26,7 @@ pub fn claim_package(
         return Answer::Refused(refusal);
     }
     let n = refusals::need_of(s);
-    replied(packaging::claim_package(&mut s[..n], connection, subject, combined, wtxids, clock))
+    replied(soliciting::claim_package(&mut s[..n], connection, subject, combined, wtxids, clock))
 }
 
 pub fn begin_package_resolution(
@@ -45,7 +45,7 @@ pub fn begin_package_resolution(
         return Answer::Refused(refusal);
     }
     let n = refusals::need_of(s);
-    replied(packaging::begin_package_resolution(
+    replied(soliciting::begin_package_resolution(
         &mut s[..n],
         connection,
         subject,

@@ -26,7 +26,7 @@ fn of_place(s: &[u8], connection: u64, subject: ident::Wtxid, clock: u64) -> u64
     ensures { λ r. ⌜ ((hs : List ℕ) (st : State) → Sound st → Writes (now (s .entry)) st
         → r ≡ ofPlace ((solicit (limitsOf st) connection (hashNum (subject .0)) hs clock (st .table)) .reply) (st .places) (placesHeld (st .table))) ⌝ }
 {
-    if !packaging::info::would_solicit(s, connection, subject, clock) {
+    if !soliciting::info::would_solicit(s, connection, subject, clock) {
         return 0;
     }
     let held = store::head::held_places(s);
@@ -67,7 +67,7 @@ pub fn solicit_package_info(
         return Answer::Refused(refusal);
     }
     let n = refusals::need_of(s);
-    replied(packaging::info::solicit_package_info(&mut s[..n], connection, subject, parents, clock))
+    replied(soliciting::info::solicit_package_info(&mut s[..n], connection, subject, parents, clock))
 }
 
 pub fn failed_package_info(s: &mut [u8], key: ident::Key, connection: u64, clock: u64) -> Answer

@@ -5,7 +5,7 @@ use borrow.Author.Needs.{needs}
 use Rattle.outcome.proofs.Turns.{some-connection, passed}
 use Rattle.outcome.proofs.Carried.{refused, lists-done}
 use Rattle.public_packages.proofs.Instances.{releases-package}
-use Rattle.packaging.proofs.Subject.{subject-below}
+use Rattle.soliciting.proofs.Subject.{subject-below}
 use Rattle.outcome.proofs.ListedKeys.{released-typed}
 use Rattle.public_packages.proofs.on_sound.package_calls.release_package.Statement.{statement}
 use Rattle.public_packages.proofs.on_sound.package_calls.release_package.Tie as tie

@@ -11,9 +11,9 @@ use Rattle.lists.specs.Lists.{hashesIn}
 use Rattle.machine.specs.Table.{at}
 use Rattle.machine.specs.Package.{sameList}
 use Rattle.package_stages.specs.Changes.{wtxidsOf, combinedOf, ReadAt}
-use Rattle.packaging.proofs.SamePackage.{compared, other-hash, other-length, other-wtxid, all-same, next-same}
-use Rattle.packaging.proofs.same_package.Statement.{statement}
-use Rattle.packaging.proofs.same_package.Tie as tie
+use Rattle.soliciting.proofs.SamePackage.{compared, other-hash, other-length, other-wtxid, all-same, next-same}
+use Rattle.soliciting.proofs.same_package.Statement.{statement}
+use Rattle.soliciting.proofs.same_package.Tie as tie
 
 abbrev Inv-loop : tie.InvT-loop
 Inv-loop s i wtxids count j₀ j = (j ≤ count) × ReadAt s i (λ q. sameList (drop j (wtxidsOf (q .«package»))) (drop j (hashesIn wtxids)) ≡ sameList (wtxidsOf (q .«package»)) (hashesIn wtxids))

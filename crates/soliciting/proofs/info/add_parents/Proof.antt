@@ -14,9 +14,9 @@ use Rattle.lists.specs.Lists.{hashesIn}
 use Rattle.lists.proofs.Given.{hashes-fit}
 use Rattle.machine.specs.Claim.{elem}
 use Rattle.machine.proofs.Fail.{FewHashes}
-use Rattle.packaging.proofs.Adding.{Added, added-as, added-start, added-done, added-kept, added-repeat, added-more}
-use Rattle.packaging.proofs.info.add_parents.Statement.{statement}
-use Rattle.packaging.proofs.info.add_parents.Tie as tie
+use Rattle.soliciting.proofs.Adding.{Added, added-as, added-start, added-done, added-kept, added-repeat, added-more}
+use Rattle.soliciting.proofs.info.add_parents.Statement.{statement}
+use Rattle.soliciting.proofs.info.add_parents.Tie as tie
 
 abbrev Inv-loop : tie.InvT-loop
 Inv-loop s₀ h parents count i₀ s i = Added (hashNum h) (hashesIn parents) s₀ s i

@@ -3,9 +3,9 @@ use native.Mathlib.Omega.{arith}
 use borrow.Author.Needs.{needs}
 use Rattle.ident.specs.Words.{hashNum, keyNum}
 use Rattle.ident.proofs.Words.{hash-four, hash-below}
-use Rattle.packaging.proofs.Opening.{owned-kept, owned-place, opened-writes}
-use Rattle.packaging.proofs.info.own_flagged.Statement.{statement}
-use Rattle.packaging.proofs.info.own_flagged.Tie as tie
+use Rattle.soliciting.proofs.Opening.{owned-kept, owned-place, opened-writes}
+use Rattle.soliciting.proofs.info.own_flagged.Statement.{statement}
+use Rattle.soliciting.proofs.info.own_flagged.Tie as tie
 
 add-own : tie.Need-add-own
 add-own c = let start : tie.Start = c .before .before .before in omega (arith, start .pre .2)

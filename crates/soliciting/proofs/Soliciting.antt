@@ -24,8 +24,8 @@ use Rattle.store.specs.Shown.{placesIn, heldPlacesIn, Kept}
 use Rattle.requests.specs.Changes.{Makes, Tells}
 use Rattle.package_stages.proofs.Steps.{change-twice}
 use Rattle.announcing.specs.Answers.{Answered}
-use Rattle.packaging.specs.Solicits.{Keeps, MayOwn, Opened, given, Room}
-use Rattle.packaging.proofs.Opening.{place-in, some-candidate, opened-sound, opened-at}
+use Rattle.soliciting.specs.Solicits.{Keeps, MayOwn, Opened, given, Room}
+use Rattle.soliciting.proofs.Opening.{place-in, some-candidate, opened-sound, opened-at}
 
 -- the code's key and candidate
 pub as-soliciting : {b b₁ : List ℕ} {r : Bool} (n h now : ℕ) (j : Key) (x : Candidate) → j ≡ wtxid h → x ≡ soliciting n h now → Answered b b₁ r (λ m t. announceAt m j x t)

@@ -19,8 +19,8 @@ use Rattle.requests.specs.Changes.{Makes, Tells}
 use Rattle.package_stages.specs.Changes.{stageOf, wtxidsOf, combinedOf, hasPlace, SpotOf, ReadAt, begun}
 use Rattle.package_stages.proofs.Placing.{packed-held}
 use Rattle.announcing.specs.Answers.{Answered}
-use Rattle.packaging.proofs.Owned.{awaiting-is}
-use Rattle.packaging.proofs.SamePackage.{same-equal}
+use Rattle.soliciting.proofs.Owned.{awaiting-is}
+use Rattle.soliciting.proofs.SamePackage.{same-equal}
 
 -- ---- the two tests of the code
 

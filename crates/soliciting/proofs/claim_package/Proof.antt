@@ -7,9 +7,9 @@ use borrow.Author.Tests.{ltb-true, ltb-false, not-true, not-false}
 use Rattle.ident.specs.Words.{hashNum}
 use Rattle.lists.specs.Lists.{hashesIn}
 use Rattle.machine.specs.Limits.{maxWtxids}
-use Rattle.packaging.proofs.Claiming.{claim-none, claim-many, claim-barred, claim-done}
-use Rattle.packaging.proofs.claim_package.Statement.{statement}
-use Rattle.packaging.proofs.claim_package.Tie as tie
+use Rattle.soliciting.proofs.Claiming.{claim-none, claim-many, claim-barred, claim-done}
+use Rattle.soliciting.proofs.claim_package.Statement.{statement}
+use Rattle.soliciting.proofs.claim_package.Tie as tie
 
 returns : tie.Need-returns
 returns c =

@@ -20,7 +20,7 @@ ghost use Rattle.store.specs.Image.{Writes};
 ghost use Rattle.store.specs.Shown.{placesIn, heldPlacesIn, Kept};
 ghost use Rattle.requests.specs.Changes.{candidateOf, Makes, Tells};
 ghost use Rattle.announcing.specs.Answers.{Answered};
-ghost use Rattle.packaging.specs.Solicits.{Keeps, MayOwn, Opened, given, Room};
+ghost use Rattle.soliciting.specs.Solicits.{Keeps, MayOwn, Opened, given, Room};
 
 // "Announces w, preferred, priority 0, ready now"
 fn soliciting(n: u64, h: ident::Hash, clock: u64) -> requests::Candidate

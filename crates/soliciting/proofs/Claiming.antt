@@ -20,7 +20,7 @@ use Rattle.store.specs.Image.{Writes}
 use Rattle.requests.specs.Changes.{Makes, Tells}
 use Rattle.package_stages.specs.Changes.{stageOf, FlagOnly}
 use Rattle.announcing.specs.Answers.{Answered}
-use Rattle.packaging.proofs.Owned.{and-false, flag-is}
+use Rattle.soliciting.proofs.Owned.{and-false, flag-is}
 
 and-swap : (a b : Bool) → (a && b) ≡ (b && a)
 and-swap true b = sym (and-true b)

@@ -6,10 +6,10 @@ use Rattle.ident.specs.Words.{hashNum, keyNum}
 use Rattle.lists.specs.Lists.{hashesIn}
 use Rattle.machine.proofs.Fail.{Peer}
 use Rattle.requests.specs.Changes.{candidateOf}
-use Rattle.packaging.proofs.Subject.{subject-below}
-use Rattle.packaging.proofs.Soliciting.{as-soliciting, solicit-barred, announced-kept, solicit-refused, may-keeps, room-left, opened-keeps, solicit-done}
-use Rattle.packaging.proofs.info.solicit_package_info.Statement.{statement}
-use Rattle.packaging.proofs.info.solicit_package_info.Tie as tie
+use Rattle.soliciting.proofs.Subject.{subject-below}
+use Rattle.soliciting.proofs.Soliciting.{as-soliciting, solicit-barred, announced-kept, solicit-refused, may-keeps, room-left, opened-keeps, solicit-done}
+use Rattle.soliciting.proofs.info.solicit_package_info.Statement.{statement}
+use Rattle.soliciting.proofs.info.solicit_package_info.Tie as tie
 
 may-own-requires : tie.Need-may-own-requires
 may-own-requires c κs = let start : tie.Start = c .before .before .before in start .pre .0

@@ -11,7 +11,7 @@ use lib.ListN.{length, getD, drop}
 use borrow.Author.Tests.{eqb-true}
 use Rattle.machine.specs.Package.{sameList}
 use Rattle.machine.proofs.Tests.{never, and-left, and-right}
-use Rattle.packaging.proofs.Owned.{and-false}
+use Rattle.soliciting.proofs.Owned.{and-false}
 
 pub same-equal : (a b : List ℕ) → sameList a b ≡ true → a ≡ b
 unfolding sameList

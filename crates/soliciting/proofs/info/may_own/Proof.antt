@@ -7,9 +7,9 @@ use Rattle.ident.specs.Words.{hashNum}
 use Rattle.ident.proofs.Words.{hash-four, hash-below}
 use Rattle.machine.specs.Limits.{maxInFlight}
 use Rattle.machine.specs.Table.{ownedBy}
-use Rattle.packaging.proofs.Free.{owner-at, owned-first, owned-second, owned-none}
-use Rattle.packaging.proofs.info.may_own.Statement.{statement}
-use Rattle.packaging.proofs.info.may_own.Tie as tie
+use Rattle.soliciting.proofs.Free.{owner-at, owned-first, owned-second, owned-none}
+use Rattle.soliciting.proofs.info.may_own.Statement.{statement}
+use Rattle.soliciting.proofs.info.may_own.Tie as tie
 
 returns : tie.Need-returns
 returns c = λ st s w.

@@ -29,7 +29,7 @@ use Rattle.requests.specs.Changes.{Makes}
 use Rattle.package_stages.specs.Changes.{OwnedPlain, flagged}
 use Rattle.package_stages.proofs.Sounds.{sound-flagged}
 use Rattle.package_stages.proofs.Steps.{solicit-flag}
-use Rattle.packaging.specs.Solicits.{MayOwn, Opened}
+use Rattle.soliciting.specs.Solicits.{MayOwn, Opened}
 
 -- room as the header has it
 pub place-free : (st : State) {b : List ℕ} → Writes b st → heldPlacesIn b < placesIn b → placesHeld (st .table) < st .places

@@ -5,9 +5,9 @@ use borrow.Author.Needs.{needs}
 use Rattle.ident.specs.Number.{Key}
 use Rattle.machine.specs.Table.{at}
 use Rattle.package_stages.specs.Changes.{RequestOf}
-use Rattle.packaging.proofs.Owned.{both-tests, first-test, stage-read, not-live}
-use Rattle.packaging.proofs.owned_at.Statement.{statement}
-use Rattle.packaging.proofs.owned_at.Tie as tie
+use Rattle.soliciting.proofs.Owned.{both-tests, first-test, stage-read, not-live}
+use Rattle.soliciting.proofs.owned_at.Statement.{statement}
+use Rattle.soliciting.proofs.owned_at.Tie as tie
 
 wtxid-key-requires : tie.Need-wtxid-key-requires
 wtxid-key-requires c κs = search needs

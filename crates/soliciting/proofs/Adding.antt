@@ -33,7 +33,7 @@ use Rattle.package_stages.proofs.Sounds.{repacked, sound-beside}
 use Rattle.package_stages.proofs.Steps.{keep-some, change-twice}
 use Rattle.announcing.proofs.Listing.{hashes-take}
 use Rattle.announcing.proofs.Repeats.{dedup-new, dedup-met}
-use Rattle.packaging.specs.Solicits.{Keeps, Opened, given}
+use Rattle.soliciting.specs.Solicits.{Keeps, Opened, given}
 
 -- ---- a change that leaves its request alone leaves the table alone
 

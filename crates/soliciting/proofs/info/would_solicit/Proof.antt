@@ -8,9 +8,9 @@ use Rattle.machine.specs.State.{Candidate, limitsOf}
 use Rattle.machine.specs.Table.{at, has}
 use Rattle.machine.specs.Announce.{announceAt}
 use Rattle.requests.specs.Changes.{candidateOf}
-use Rattle.packaging.proofs.Entered.{reply-barred, reply-held, reply-new}
-use Rattle.packaging.proofs.info.would_solicit.Statement.{statement}
-use Rattle.packaging.proofs.info.would_solicit.Tie as tie
+use Rattle.soliciting.proofs.Entered.{reply-barred, reply-held, reply-new}
+use Rattle.soliciting.proofs.info.would_solicit.Statement.{statement}
+use Rattle.soliciting.proofs.info.would_solicit.Tie as tie
 
 returns : tie.Need-returns
 returns c = λ hs st s w.
