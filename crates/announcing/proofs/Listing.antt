@@ -23,7 +23,7 @@ use Rattle.machine.proofs.Kept.{sound-table}
 use Rattle.machine.proofs.AnswerLengths.{length-keyAnswer}
 use Rattle.store.specs.Image.{Writes}
 use Rattle.store.specs.Shown.{Kept}
-use Rattle.lists.proofs.Answer.{written-more, written-none}
+use Rattle.lent_lists.proofs.Answer.{written-more, written-none}
 use Rattle.announcing.specs.Answers.{Answered, KeysListed, oneParent}
 use Rattle.announcing.proofs.Repeats.{keyIf, dedup-new, dedup-met, repeat-same, new-keys, new-table}
 

@@ -7,7 +7,7 @@ ghost use Rattle.machine.specs.Limits.{maxParents};
 ghost use Rattle.machine.specs.Call.{keyBytes};
 ghost use Rattle.machine.specs.Fail as machine;
 ghost use Rattle.store.specs.Shown.{Kept};
-ghost use Rattle.lists.specs.Lists.{hashesIn};
+ghost use Rattle.lent_lists.specs.Lists.{hashesIn};
 ghost use Rattle.announcing.specs.Answers.{Answered, KeysListed, oneParent};
 
 // Requests one parent as t; if kept, a request under its Txid key is marked, even where the candidate sits under the Wtxid key.
@@ -39,15 +39,15 @@ pub fn announce_parents(s: &mut [u8], n: u64, clock: u64, parents: &[u8], out: &
     requires { ⌜ Kept (now s) × (1 ≤ n) × (length (hashesIn (now parents)) ≤ maxParents) × (keyBytes * length (hashesIn (now parents)) ≤ length (now out)) ⌝ }
     ensures { λ r. ⌜ KeysListed (now (s .entry)) (now (s .exit)) (now (out .entry)) (now (out .exit)) r (λ m t. machine.announceParents m n clock (hashesIn (now (parents .entry))) t) ⌝ }
 {
-    let count = lists::hashes(parents);
+    let count = lent_lists::hashes(parents);
     let mut kept = 0;
     let mut priority = 0;
     let mut i = 0;
     while i < count {
-        if !lists::occurs_before(parents, i) {
-            let h = lists::hash_in(parents, i);
+        if !lent_lists::occurs_before(parents, i) {
+            let h = lent_lists::hash_in(parents, i);
             if announce_parent(s, n, clock, h, priority) {
-                lists::put_key(out, kept, ident::txid_key(ident::Txid(h)));
+                lent_lists::put_key(out, kept, ident::txid_key(ident::Txid(h)));
                 kept += 1;
             }
             priority += 1;

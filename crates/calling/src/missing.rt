@@ -3,7 +3,7 @@ ghost use mathlib.Core.Path.{_≡_};
 ghost use Prim.Native.Nat.{_+_, _≤_};
 ghost use lib.ListN.{length};
 ghost use Rattle.machine.specs.Call.{On};
-ghost use Rattle.lists.specs.Items.{itemsIn};
+ghost use Rattle.lent_lists.specs.Items.{itemsIn};
 ghost use Rattle.lines.specs.Fields.{rest};
 ghost use Rattle.reading.specs.Lists.{itemListCall};
 ghost use Rattle.asking.specs.Calls.{missingBuffer, missingAsk};
@@ -48,6 +48,6 @@ pub fn answer_missing(store: &mut [u8], line: &[u8], out: &mut [u8], v: Values, 
     let Items::Are(n) = inventory::items::read_list(line, e, &mut items) else {
         return unreadable(out);
     };
-    let m = n * lists::ITEM;
+    let m = n * lent_lists::ITEM;
     carry_out(store, out, v, &items[..m])
 }

@@ -22,7 +22,7 @@ pub fn answer_offers(store: &mut [u8], line: &[u8], out: &mut [u8], v: Values, e
     let Offers::Are(n) = inventory::offers::read_list(line, e, &mut items, &mut priorities) else {
         return unreadable(out);
     };
-    let k = n * lists::ITEM;
+    let k = n * lent_lists::ITEM;
     let m = n * inventory::numbers::NUMBER;
     let a = public_plans::wrappers::announce_transactions(
         store,

@@ -2,7 +2,7 @@
 ghost use Prim.Native.Nat.{_≤_};
 ghost use lib.ListN.{length};
 ghost use Rattle.machine.specs.Call.{On, AnnounceParents, FailedPackageClaims};
-ghost use Rattle.lists.specs.Lists.{hashesIn};
+ghost use Rattle.lent_lists.specs.Lists.{hashesIn};
 ghost use Rattle.asking.specs.Calls.{answerBuffer};
 ghost use Rattle.printing.specs.Given.{answerRoom, Carried};
 use printing::buffers::answer_buffer;

@@ -69,7 +69,7 @@ fn same_key(a: ident::Key, b: ident::Key) -> bool
 {
     let i = a.kind;
     let j = b.kind;
-    same_kind(i, j) & lists::same_hash(a.hash, b.hash)
+    same_kind(i, j) & lent_lists::same_hash(a.hash, b.hash)
 }
 
 fn same_item(a: ident::Item, b: ident::Item) -> bool
@@ -77,7 +77,7 @@ fn same_item(a: ident::Item, b: ident::Item) -> bool
 {
     let i = a.kind;
     let j = b.kind;
-    (rank(i) == rank(j)) & lists::same_hash(a.hash, b.hash)
+    (rank(i) == rank(j)) & lent_lists::same_hash(a.hash, b.hash)
 }
 
 fn same_entry(a: Entry, b: Entry) -> bool

@@ -34,7 +34,7 @@ use Rattle.package_stages.specs.Changes.{combinedOf}
 use Rattle.package_stages.proofs.Seeking.{holding}
 use Rattle.failing.specs.Changes.{firstHashes}
 use Rattle.failing.proofs.Copying.{hash-more}
-use Rattle.lists.specs.Lists.{hashesIn}
+use Rattle.lent_lists.specs.Lists.{hashesIn}
 use Rattle.failing.proofs.Handing.{hashes-first}
 use Rattle.claims.specs.Awaited.{awaiting, claimsIn, hashOf, sumOf, isClaimRow, claimOf, Noted, ClaimsNoted, ClaimsAre}
 use Rattle.claims.proofs.Noting.{claim-yes, claim-no, awaiting-place, rows-claims, claims-few}

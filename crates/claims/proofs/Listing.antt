@@ -39,7 +39,7 @@ use Rattle.store.specs.Shown.{Kept}
 use Rattle.requests.specs.Changes.{Tells}
 use Rattle.package_stages.specs.declared.Request.{Request as Read}
 use Rattle.package_stages.specs.Changes.{closed, RequestOf}
-use Rattle.lists.proofs.Answer.{written-none}
+use Rattle.lent_lists.proofs.Answer.{written-none}
 use Rattle.announcing.specs.Answers.{KeysListed}
 use Rattle.failing.proofs.Leaving.{told}
 use Rattle.failing.proofs.Releasing.{owner-is}

@@ -21,8 +21,8 @@ use Rattle.machine.specs.Typed.{Each}
 use Rattle.machine.specs.Sound.{All, Lawful, Ordered}
 use Rattle.machine.proofs.Tests.{test, never}
 use Rattle.machine.proofs.Failing.{HoldsPlace, holds-claims}
-use Rattle.lists.specs.Lists.{hashesIn}
-use Rattle.lists.specs.Items.{itemsIn}
+use Rattle.lent_lists.specs.Lists.{hashesIn}
+use Rattle.lent_lists.specs.Items.{itemsIn}
 use Rattle.claims.specs.Awaited.{lastAmong, ClaimsAre, packageNamed, entriesIn, givenIn, hashFound, lastOf}
 use Rattle.claims.proofs.LastOnes.{last-given}
 

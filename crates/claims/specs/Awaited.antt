@@ -19,8 +19,8 @@ use Rattle.machine.specs.Call.{keyBytes}
 use Rattle.machine.specs.Wrapper.{isType, packagesIn}
 use Rattle.machine.specs.Step.{keysAnswer, written}
 use Rattle.machine.specs.Sound.{Sound}
-use Rattle.lists.specs.Lists.{hashesIn}
-use Rattle.lists.specs.Items.{itemsIn}
+use Rattle.lent_lists.specs.Lists.{hashesIn}
+use Rattle.lent_lists.specs.Items.{itemsIn}
 use Rattle.store.specs.FlatSound.{owns}
 use Rattle.store.specs.Gather.{keyAt}
 use Rattle.store.specs.Image.{Writes}

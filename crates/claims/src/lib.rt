@@ -1,7 +1,7 @@
 // Package claims given up, on the bytes of a sound store (document 01, "The request machine"): forget_known; `waiting` has
 // failed_package_claims.
-use lists::KEYS;
-use lists::LIST;
+use lent_lists::KEYS;
+use lent_lists::LIST;
 use places::ENQUEUED;
 ghost use mathlib.Core.Path.{_≡_};
 ghost use Rattle.ident.specs.Words.{keyNum};

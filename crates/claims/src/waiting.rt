@@ -2,8 +2,8 @@
 //
 // The claims of the connection are noted before any fails: they are at most 100, since it owns no more requests, and one pass over the
 // rows finds them. Each hash that is given is then compared with theirs, whatever the number of places.
-use lists::KEY;
-use lists::LIST;
+use lent_lists::KEY;
+use lent_lists::LIST;
 use places::AWAITING;
 ghost use mathlib.Core.Path.{_≡_};
 ghost use Prim.Native.Nat.{_+_, _*_, _≤_, _<_};
@@ -13,8 +13,8 @@ ghost use mathlib.Core.Option.{none, some};
 ghost use lib.ListN.{length, getD};
 ghost use Rattle.ident.specs.Number.{Key, wtxid};
 ghost use Rattle.ident.specs.Words.{hashNum, hashBytes};
-ghost use Rattle.lists.specs.Lists.{hashesIn};
-ghost use Rattle.lists.specs.Items.{itemsIn};
+ghost use Rattle.lent_lists.specs.Lists.{hashesIn};
+ghost use Rattle.lent_lists.specs.Items.{itemsIn};
 ghost use Rattle.machine.specs.Limits.{maxInFlight, maxParents, maxPlaces, msgPkgTxns};
 ghost use Rattle.machine.specs.State.{ownerIs};
 ghost use Rattle.machine.specs.Table.{at, placesHeld};
@@ -110,12 +110,12 @@ fn latest(keys: &[u8], sums: &[u8], c: ident::Hash) -> Found
     requires { ⌜ length (hashesIn (now sums)) ≡ length (hashesIn (now keys)) ⌝ }
     ensures { λ r. ⌜ keyFound (r .held) (hashNum (r .hash)) ≡ lastAmong (hashNum c) (hashesIn (now (keys .entry))) (hashesIn (now (sums .entry))) ⌝ }
 {
-    let mut j = lists::hashes(keys);
+    let mut j = lent_lists::hashes(keys);
     while 0 < j {
         j -= 1;
-        let x = lists::hash_in(sums, j);
-        if lists::same_hash(x, c) {
-            let hash = lists::hash_in(keys, j);
+        let x = lent_lists::hash_in(sums, j);
+        if lent_lists::same_hash(x, c) {
+            let hash = lent_lists::hash_in(keys, j);
             return Found { hash, held: true };
         }
     }
@@ -185,9 +185,9 @@ fn entries(given: &[u8], items: bool) -> usize
     ensures { λ r. ⌜ r ≡ length (entriesIn items (now (given .entry))) ⌝ }
 {
     if items {
-        lists::items(given)
+        lent_lists::items(given)
     } else {
-        lists::hashes(given)
+        lent_lists::hashes(given)
     }
 }
 
@@ -197,13 +197,13 @@ fn entry_at(given: &[u8], items: bool, i: usize) -> Found
     ensures { λ r. ⌜ hashFound (r .held) (hashNum (r .hash)) ≡ getD (entriesIn items (now (given .entry))) i none ⌝ }
 {
     if items {
-        let item = lists::item_at(given, i);
+        let item = lent_lists::item_at(given, i);
         let kind = item.kind;
         let hash = item.hash;
         let held = is_package(kind);
         Found { hash, held }
     } else {
-        let hash = lists::hash_in(given, i);
+        let hash = lent_lists::hash_in(given, i);
         Found { hash, held: true }
     }
 }

@@ -3,7 +3,7 @@ use super::hand_count;
 use super::hand_out;
 ghost use mathlib.Core.Path.{_≡_};
 ghost use Rattle.machine.specs.Call.{On, Announce, RequestParent, AnnounceParents};
-ghost use Rattle.lists.specs.Lists.{hashesIn};
+ghost use Rattle.lent_lists.specs.Lists.{hashesIn};
 ghost use Rattle.requests.specs.Changes.{candidateOf};
 ghost use Rattle.exports.specs.Arguments.{candidateIn};
 ghost use Rattle.exports.specs.Status.{HandsOut, HandsKeys};

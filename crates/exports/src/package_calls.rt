@@ -2,7 +2,7 @@
 use super::hand_count;
 use super::hand_out;
 ghost use Rattle.machine.specs.Call.{On, SolicitPackageInfo, ClaimPackage, BeginPackageResolution, ReleasePackage};
-ghost use Rattle.lists.specs.Lists.{hashesIn};
+ghost use Rattle.lent_lists.specs.Lists.{hashesIn};
 ghost use Rattle.exports.specs.Arguments.{hashGiven};
 ghost use Rattle.exports.specs.Status.{HandsOut, HandsKeys};
 

@@ -2,7 +2,7 @@
 use super::hand_count;
 use super::hand_out;
 ghost use Rattle.machine.specs.Call.{On, FailedPackageClaims, TeardownPackageClaims};
-ghost use Rattle.lists.specs.Lists.{hashesIn};
+ghost use Rattle.lent_lists.specs.Lists.{hashesIn};
 ghost use Rattle.exports.specs.Status.{HandsOut, HandsKeys};
 
 // The claims of the connection whose packages have one of the combined hashes, which are given in 32 bytes each, have failed; of two with one hash, that at the

@@ -1,6 +1,6 @@
 // read_payload and write_payload, for C and Rust: they take no store. A call that is refused hands nothing out.
 ghost use mathlib.Core.Path.{_≡_};
-ghost use Rattle.lists.specs.Items.{itemsIn};
+ghost use Rattle.lent_lists.specs.Items.{itemsIn};
 ghost use Rattle.exports.specs.Payloads.{answerStatus, answerOut, HandsItems, HandsBytes};
 
 // The status of an answer, and its count handed out.

@@ -2,7 +2,7 @@
 use super::hand_count;
 use super::status;
 ghost use Rattle.machine.specs.Call.{On, AnnounceTransactions, TransactionResponseCompleted, TransactionNotFound};
-ghost use Rattle.lists.specs.Items.{itemsIn, offersIn};
+ghost use Rattle.lent_lists.specs.Items.{itemsIn, offersIn};
 ghost use Rattle.outcome.specs.Outcome.{Leaves};
 ghost use Rattle.exports.specs.Arguments.{hashGiven};
 ghost use Rattle.exports.specs.Status.{numbered, HandsKeys};

@@ -22,7 +22,7 @@ use Rattle.machine.proofs.Fail.{bounded-leaves}
 use Rattle.machine.proofs.Kept.{sound-table}
 use Rattle.store.specs.Image.{Writes}
 use Rattle.store.specs.Shown.{Kept}
-use Rattle.lists.proofs.Answer.{written-none}
+use Rattle.lent_lists.proofs.Answer.{written-none}
 use Rattle.requests.specs.Changes.{Makes, Tells}
 use Rattle.package_stages.specs.declared.Request.{Request as Read}
 use Rattle.package_stages.specs.Changes.{RequestOf}

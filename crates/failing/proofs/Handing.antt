@@ -24,8 +24,8 @@ use Rattle.machine.proofs.Kept.{sound-table}
 use Rattle.machine.proofs.AnswerLengths.{length-keyAnswer}
 use Rattle.store.specs.Image.{Writes}
 use Rattle.store.specs.Shown.{Kept}
-use Rattle.lists.specs.Lists.{hashesIn}
-use Rattle.lists.proofs.Answer.{written-none}
+use Rattle.lent_lists.specs.Lists.{hashesIn}
+use Rattle.lent_lists.proofs.Answer.{written-none}
 use Rattle.requests.specs.Changes.{Tells}
 use Rattle.announcing.specs.Answers.{Answered, KeysListed}
 use Rattle.failing.specs.Changes.{firstHashes, led}

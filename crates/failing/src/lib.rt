@@ -1,6 +1,6 @@
 // failed, unclaim, forget, failed_with_parents, release_package and package info on the bytes of a sound store (document 01, "The request machine").
-use lists::KEY;
-use lists::LIST;
+use lent_lists::KEY;
+use lent_lists::LIST;
 use places::ENQUEUED;
 use places::FLAG;
 ghost use mathlib.Core.Path.{_≡_};
@@ -16,7 +16,7 @@ ghost use Rattle.machine.specs.Call.{keyBytes};
 ghost use Rattle.machine.specs.Fail as machine;
 ghost use Rattle.machine.specs.Package.{failedWithParents, infoOwned, failedPackageInfo, packageInfoOwner, enqueuedBy, releasePackage};
 ghost use Rattle.store.specs.Shown.{Kept};
-ghost use Rattle.lists.specs.Lists.{hashesIn};
+ghost use Rattle.lent_lists.specs.Lists.{hashesIn};
 ghost use Rattle.requests.specs.Changes.{Makes, Tells};
 ghost use Rattle.package_stages.specs.Changes.{closed};
 ghost use Rattle.announcing.specs.Answers.{Answered, KeysListed};
@@ -180,7 +180,7 @@ fn announce_behind(
     requires { ⌜ Kept (now s) × (1 ≤ n) × (length (hashesIn (now list)) ≤ maxParents) × (keyBytes * (length (hashesIn (now list)) + 1) ≤ length (now out)) ⌝ }
     ensures { λ r. ⌜ KeysListed (now (s .entry)) (now (s .exit)) (now (out .entry)) (now (out .exit)) r (λ m t. led (keyNum k) (machine.announceParents m n clock (hashesIn (now (list .entry))) t)) ⌝ }
 {
-    lists::put_key(out, 0, k);
+    lent_lists::put_key(out, 0, k);
     let y = out.len();
     let c = announcing::parents::announce_parents(s, n, clock, list, &mut out[KEY..y]);
     c + 1

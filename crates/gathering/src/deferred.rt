@@ -28,7 +28,7 @@ fn listed_at(top: &[u8], n: usize, h: ident::Hash) -> bool
         let x = regions::read_row(top, i);
         let q = x.hash;
         let g = requests::quad_hash(q);
-        if lists::same_hash(g, h) {
+        if lent_lists::same_hash(g, h) {
             return true;
         }
         i += 1;

@@ -25,8 +25,8 @@ use Rattle.machine.proofs.Kept.{sound-table}
 use Rattle.store.specs.Image.{image, Writes}
 use Rattle.store.specs.Shown.{Kept}
 use Rattle.store.proofs.FlatRead.{image-injective}
-use Rattle.lists.specs.Lists.{keysIn}
-use Rattle.lists.proofs.KeysBack.{keys-back}
+use Rattle.lent_lists.specs.Lists.{keysIn}
+use Rattle.lent_lists.proofs.KeysBack.{keys-back}
 use Rattle.announcing.specs.Answers.{KeysListed}
 use Rattle.merging.specs.Merges.{InOrder, Takes, Merged}
 use Rattle.handing.specs.Hands.{connsIn, Peers, announceFor, Roomy, KeysMerged}

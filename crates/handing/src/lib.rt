@@ -1,7 +1,7 @@
 // The connection that leaves owns a request: it fails there (an Enqueued package stays), and the parents are announced for every
 // candidate that is left.
-use lists::KEYS;
-use lists::LIST;
+use lent_lists::KEYS;
+use lent_lists::LIST;
 ghost use mathlib.Core.Path.{_≡_};
 ghost use Prim.Native.Nat.{_*_, _≤_};
 ghost use mathlib.Core.Bool.{true, false};
@@ -16,7 +16,7 @@ ghost use Rattle.machine.specs.Fail.{announceParents, parentsFor};
 ghost use Rattle.machine.specs.Fail as machine;
 ghost use Rattle.machine.specs.Leave.{dropAt};
 ghost use Rattle.store.specs.Shown.{Kept};
-ghost use Rattle.lists.specs.Lists.{hashesIn};
+ghost use Rattle.lent_lists.specs.Lists.{hashesIn};
 ghost use Rattle.requests.specs.Changes.{Makes, Tells};
 ghost use Rattle.handing.specs.Hands.{eased};
 ghost use Rattle.merging.specs.Merges.{InOrder};

@@ -10,8 +10,8 @@ use lib.ListN.{length, take}
 use Rattle.ident.specs.Number.{Key, Item}
 use Rattle.words.specs.Words.{number, words}
 use Rattle.machine.specs.Call.{Ask, On, keyBytes}
-use Rattle.lists.specs.Lists.{keyIn, givenKeys, keysIn}
-use Rattle.lists.specs.Items.{itemBytes, itemIn, itemsIn}
+use Rattle.lent_lists.specs.Lists.{keyIn, givenKeys, keysIn}
+use Rattle.lent_lists.specs.Items.{itemBytes, itemIn, itemsIn}
 use Rattle.lines.specs.Fields.{numberOf, keyOf, itemOf, rest}
 use Rattle.reading.specs.Line.{Line, Asks, Send, taking, Reader, listThen}
 use Rattle.reading.specs.Lists.{keyListCall, itemListCall, sendLine}

@@ -11,7 +11,7 @@ use Rattle.words.specs.Words.{number, recs}
 use Rattle.words.proofs.Records.{length-recs}
 use Rattle.machine.specs.Wrapper.{Offer}
 use Rattle.machine.specs.Call.{Ask, On}
-use Rattle.lists.specs.Items.{itemBytes, itemIn, paired, offersIn}
+use Rattle.lent_lists.specs.Items.{itemBytes, itemIn, paired, offersIn}
 use Rattle.lines.specs.Fields.{numberOf, itemOf}
 use Rattle.reading.specs.Line.{Line, Asks, taking}
 use Rattle.reading.specs.Lists.{offerOf, offerThen, offersCall}

@@ -20,9 +20,9 @@ use Rattle.words.proofs.Splice.{splice-more}
 use Rattle.machine.specs.Call.{keyBytes}
 use Rattle.machine.specs.Step.{keyAnswer, keysAnswer, written}
 use Rattle.machine.proofs.AnswerLengths.{length-keyAnswer}
-use Rattle.lists.specs.Lists.{keyIn, keysIn}
-use Rattle.lists.specs.Items.{itemBytes, typeTop, itemIn}
-use Rattle.lists.proofs.KeysBack.{keys-back}
+use Rattle.lent_lists.specs.Lists.{keyIn, keysIn}
+use Rattle.lent_lists.specs.Items.{itemBytes, typeTop, itemIn}
+use Rattle.lent_lists.proofs.KeysBack.{keys-back}
 use Rattle.reading.specs.Given.{Stored}
 use Rattle.reading.proofs.Stored.{record-put}
 use Rattle.inventory.specs.Given.{itemsOf, ItemPut, numberBytes, numbersOf}

@@ -11,8 +11,8 @@ use Rattle.ident.specs.Number.{Item, isPlain}
 use Rattle.words.specs.Words.{number, words, recs}
 use Rattle.machine.specs.Wrapper.{Offer}
 use Rattle.machine.specs.Call.{Ask, On, keyBytes}
-use Rattle.lists.specs.Lists.{givenKeys}
-use Rattle.lists.specs.Items.{itemBytes, itemIn, itemsIn, paired, offersIn}
+use Rattle.lent_lists.specs.Lists.{givenKeys}
+use Rattle.lent_lists.specs.Items.{itemBytes, itemIn, itemsIn, paired, offersIn}
 use Rattle.lines.specs.Fields.{rest}
 use Rattle.reading.specs.Line.{Line, Asks, Send}
 use Rattle.reading.specs.Lists.{keyListCall, itemListCall, offersCall, sendLine}

@@ -1,10 +1,10 @@
 // A list of items, 40 bytes each: a word for the type, then the hash.
-use lists::ITEM;
+use lent_lists::ITEM;
 ghost use Prim.Native.Nat.{_+_, _*_, _≤_};
 ghost use mathlib.Core.Path.{_≡_};
 ghost use lib.ListN.{length};
 ghost use Rattle.regions.specs.Rows.{quadNumber};
-ghost use Rattle.lists.specs.Items.{itemBytes};
+ghost use Rattle.lent_lists.specs.Items.{itemBytes};
 ghost use Rattle.lines.specs.Fields.{itemOf};
 ghost use Rattle.reading.specs.Line.{taking};
 ghost use Rattle.reading.specs.Given.{longestLine, ListRead};

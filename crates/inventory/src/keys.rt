@@ -1,11 +1,11 @@
 // A list of keys, 40 bytes each: a word that is 0 for Txid and 1 for Wtxid, then the hash.
-use lists::KEY;
+use lent_lists::KEY;
 ghost use Prim.Native.Nat.{_+_, _*_, _≤_};
 ghost use mathlib.Core.Path.{_≡_};
 ghost use lib.ListN.{length};
 ghost use Rattle.regions.specs.Rows.{quadNumber};
 ghost use Rattle.machine.specs.Call.{keyBytes};
-ghost use Rattle.lists.specs.Lists.{keyIn, keysIn};
+ghost use Rattle.lent_lists.specs.Lists.{keyIn, keysIn};
 ghost use Rattle.lines.specs.Fields.{keyOf};
 ghost use Rattle.reading.specs.Line.{taking};
 ghost use Rattle.reading.specs.Given.{longestLine, Stored, ListRead};
@@ -40,7 +40,7 @@ fn put_key(keys: &mut [u8], i: usize, kind: ident::Kind, q: regions::Quad)
     ensures { λ _. ⌜ Stored keyBytes keyIn (now (keys .entry)) (now (keys .exit)) i (record { kind = kind; hash = quadNumber q }) ⌝ }
 {
     let hash = hash_of(q);
-    lists::put_key(keys, i, ident::Key { kind, hash });
+    lent_lists::put_key(keys, i, ident::Key { kind, hash });
 }
 
 // The n keys whose fields stand behind the comma at index e.

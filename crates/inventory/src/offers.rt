@@ -8,7 +8,7 @@ ghost use Rattle.reading.specs.Given.{longestLine, ListRead};
 ghost use Rattle.inventory.specs.Given.{mostOffers, itemRoom, priorityRoom, offersOf, OfferPut, OffersGiven};
 use crate::items::put_item;
 use crate::numbers::NUMBER;
-use lists::ITEM;
+use lent_lists::ITEM;
 use reading::fields::ItemAt;
 use reading::fields::NumberAt;
 use reading::fields::item_at;

@@ -59,7 +59,7 @@ pub fn answer_want(
     let Keys::Are(n) = inventory::keys::read_list(line, e, &mut keys) else {
         return unreadable(out);
     };
-    let m = n * lists::KEY;
+    let m = n * lent_lists::KEY;
     plan_given(store, lists, out, v.clock, &keys[..m])
 }
 

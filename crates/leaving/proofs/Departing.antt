@@ -27,9 +27,9 @@ use Rattle.machine.proofs.AnswerLengths.{length-keysAnswer}
 use Rattle.store.specs.Image.{Writes}
 use Rattle.store.specs.Shown.{Kept}
 use Rattle.requests.specs.Changes.{Tells}
-use Rattle.lists.specs.Lists.{keysIn}
-use Rattle.lists.proofs.Answer.{keys-append}
-use Rattle.lists.proofs.KeysBack.{keys-back}
+use Rattle.lent_lists.specs.Lists.{keysIn}
+use Rattle.lent_lists.proofs.Answer.{keys-append}
+use Rattle.lent_lists.proofs.KeysBack.{keys-back}
 use Rattle.failing.proofs.Leaving.{told}
 use Rattle.merging.specs.Merges.{Rising}
 use Rattle.cutting.specs.Cuts.{cutEach}

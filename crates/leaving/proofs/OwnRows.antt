@@ -35,7 +35,7 @@ use Rattle.store.proofs.Bits.{key-row, conn-row}
 use Rattle.store.proofs.Counts.{DistinctIn, distinct-in, by-rows}
 use Rattle.store.proofs.Frame.{sizes}
 use Rattle.requests.proofs.Keeping.{sized-of}
-use Rattle.lists.proofs.Answer.{written-more, written-none}
+use Rattle.lent_lists.proofs.Answer.{written-more, written-none}
 use Rattle.package_stages.specs.Dead.{filter}
 use Rattle.package_stages.proofs.Compacting.{filter-append, filter-one, filter-none}
 use Rattle.leaving.specs.Parts.{isOf, keysIn, PutIf, OwnKeys}

@@ -20,8 +20,8 @@ use Rattle.machine.proofs.Leave.{keys-of}
 use Rattle.machine.proofs.Kept.{sound-table}
 use Rattle.store.specs.Image.{Writes}
 use Rattle.store.specs.Shown.{Kept}
-use Rattle.lists.specs.Lists.{keysIn}
-use Rattle.lists.proofs.KeysBack.{keys-back, key-is}
+use Rattle.lent_lists.specs.Lists.{keysIn}
+use Rattle.lent_lists.proofs.KeysBack.{keys-back, key-is}
 use Rattle.merging.specs.Merges.{Rising}
 use Rattle.cutting.specs.Cuts.{between, cuts, cutEach}
 use Rattle.handing.specs.Hands.{eased}

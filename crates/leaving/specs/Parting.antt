@@ -14,7 +14,7 @@ use Rattle.machine.specs.Sound.{Sound}
 use Rattle.machine.specs.Step.{keysAnswer, written}
 use Rattle.machine.specs.Typed.{Each, KeyTyped}
 use Rattle.store.specs.Image.{Writes}
-use Rattle.lists.specs.Lists.{keyIn}
+use Rattle.lent_lists.specs.Lists.{keyIn}
 use Rattle.requests.specs.Changes.{Makes, Tells}
 use Rattle.merging.specs.Merges.{Rising}
 use Rattle.cutting.specs.Cuts.{between, cuts}

@@ -1,6 +1,6 @@
 // A connection leaves (document 01, "disconnected"). Its keys wait to be cut together (crate cutting), up to one that it owns and whose
 // parents are announced (crate handing): cuts may move neither before nor behind that, since it needs room.
-use lists::KEY;
+use lent_lists::KEY;
 ghost use mathlib.Core.Path.{_≡_};
 ghost use Prim.Native.Nat.{ℕ, min, _+_, _*_, _≤_, _<_};
 ghost use mathlib.Core.List.{List};
@@ -24,7 +24,7 @@ fn put_own(out: &mut [u8], c: usize, n: u64, r: regions::Row) -> usize
 {
     if r.conn == n {
         let k = announcing::evict::key_of(r);
-        lists::put_key(out, c, k);
+        lent_lists::put_key(out, c, k);
         c + 1
     } else {
         c
@@ -71,8 +71,8 @@ fn cut_listed(s: &mut [u8], n: u64, out: &[u8], from: usize, to: usize)
     ensures { λ _. ⌜ CutListed n (now (out .entry)) from to (now (s .entry)) (now (s .exit)) ⌝ }
 {
     if from < to {
-        let a = lists::key_at(out, from);
-        let b = lists::key_at(out, to - 1);
+        let a = lent_lists::key_at(out, from);
+        let b = lent_lists::key_at(out, to - 1);
         cutting::cut_between(s, n, a, b);
     }
 }
@@ -91,7 +91,7 @@ fn take_turn(
     ensures { λ r. ⌜ ((st : State) (u₀ : List ℕ) → Going n clock st u₀ (now (s .entry)) (now (out .entry)) own (p .from) i (p .parents)
         → Going n clock st u₀ (now (s .exit)) (now (out .exit)) own (r .from) (i + 1) (r .parents)) ⌝ }
 {
-    let k = lists::key_at(out, i);
+    let k = lent_lists::key_at(out, i);
     let w = handing::waits(s, k, n, clock, p.next);
     if w.waits {
         return Progress {

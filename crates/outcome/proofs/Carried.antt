@@ -19,8 +19,8 @@ use Rattle.machine.specs.Step.{Reply, Refused, Number, Keys, Result, answered, 
 use Rattle.store.specs.Image.{Writes, SoundStore, Bytes, needOf}
 use Rattle.store.specs.Shown.{limitIn, placesIn}
 use Rattle.store.proofs.Frame.{sizes}
-use Rattle.lists.specs.Lists.{keysIn}
-use Rattle.lists.proofs.KeysBack.{keys-back}
+use Rattle.lent_lists.specs.Lists.{keysIn}
+use Rattle.lent_lists.proofs.KeysBack.{keys-back}
 use Rattle.announcing.specs.Answers.{Answered, KeysListed}
 use Rattle.sweeping.specs.Effects.{Replied, KeysHanded}
 use Rattle.outcome.specs.Outcome.{Does, Leaves}

@@ -25,8 +25,8 @@ use Rattle.machine.proofs.Failing.{HoldsPlace, holds-claims}
 use Rattle.machine.proofs.Wrapper.{bounded-notFoundOne, bounded-notFoundEach}
 use Rattle.machine.proofs.Plan.{round-typed, keys-typed}
 use Rattle.store.specs.Image.{Bytes}
-use Rattle.lists.specs.Lists.{hashesIn}
-use Rattle.lists.proofs.Given.{hashes-fit}
+use Rattle.lent_lists.specs.Lists.{hashesIn}
+use Rattle.lent_lists.proofs.Given.{hashes-fit}
 use Rattle.sweeping.specs.Batches.{nextBatch}
 
 -- ---- the keys that sweep hands out are those of the table

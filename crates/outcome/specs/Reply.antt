@@ -5,7 +5,7 @@ use lib.ListN.{drop}
 use Rattle.machine.specs.Wrapper.{Sums}
 use Rattle.machine.specs.Call.{Buffer, keyBytes}
 use Rattle.machine.specs.Step.{Reply, Refused, Number, Keys, Left, Summed}
-use Rattle.lists.specs.Lists.{keysIn}
+use Rattle.lent_lists.specs.Lists.{keysIn}
 use Rattle.outcome.specs.declared.Answer.{Answer}
 use Rattle.outcome.specs.declared.Answer.the-variants.{Refused as No, Number as Yes}
 use Rattle.outcome.specs.declared.Figures.{Figures}

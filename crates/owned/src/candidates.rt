@@ -1,6 +1,6 @@
 // The calls that bring candidates, of an owner.
 ghost use Rattle.machine.specs.Call.{On, Announce, RequestParent, AnnounceParents};
-ghost use Rattle.lists.specs.Lists.{hashesIn};
+ghost use Rattle.lent_lists.specs.Lists.{hashesIn};
 ghost use Rattle.store.specs.Image.{SoundStore};
 ghost use Rattle.exports.specs.Arguments.{candidateIn};
 ghost use Rattle.exports.specs.Status.{HandsOut, HandsKeys};

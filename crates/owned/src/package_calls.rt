@@ -1,6 +1,6 @@
 // The calls on packages, of an owner.
 ghost use Rattle.machine.specs.Call.{On, SolicitPackageInfo, ClaimPackage, BeginPackageResolution, ReleasePackage};
-ghost use Rattle.lists.specs.Lists.{hashesIn};
+ghost use Rattle.lent_lists.specs.Lists.{hashesIn};
 ghost use Rattle.store.specs.Image.{SoundStore};
 ghost use Rattle.exports.specs.Arguments.{hashGiven};
 ghost use Rattle.exports.specs.Status.{HandsOut, HandsKeys};

@@ -1,7 +1,7 @@
 // failed_package_claims and teardown_package_claims, of an owner.
 ghost use Rattle.machine.specs.Call.{On, FailedPackageClaims, TeardownPackageClaims};
 ghost use Rattle.store.specs.Image.{SoundStore};
-ghost use Rattle.lists.specs.Lists.{hashesIn};
+ghost use Rattle.lent_lists.specs.Lists.{hashesIn};
 ghost use Rattle.exports.specs.Status.{HandsOut, HandsKeys};
 
 // The claims of the connection whose packages have one of the combined hashes, which are given in 32 bytes each, have failed; of two with one hash, that at the

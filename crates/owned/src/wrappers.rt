@@ -1,7 +1,7 @@
 // The wrappers' calls, of an owner.
 ghost use Rattle.machine.specs.Call.{On, AnnounceTransactions, TransactionResponseCompleted, TransactionNotFound};
 ghost use Rattle.store.specs.Image.{SoundStore};
-ghost use Rattle.lists.specs.Items.{itemsIn, offersIn};
+ghost use Rattle.lent_lists.specs.Items.{itemsIn, offersIn};
 ghost use Rattle.outcome.specs.Outcome.{Leaves};
 ghost use Rattle.exports.specs.Arguments.{hashGiven};
 ghost use Rattle.exports.specs.Status.{numbered, HandsKeys};

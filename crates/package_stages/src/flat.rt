@@ -4,7 +4,7 @@ use regions::CONN;
 use regions::ROW;
 ghost use Prim.Native.Nat.{_+_, _≤_, _<_};
 ghost use lib.ListN.{length, getD, set};
-ghost use Rattle.lists.specs.Lists.{hashesIn};
+ghost use Rattle.lent_lists.specs.Lists.{hashesIn};
 ghost use Rattle.regions.specs.Rows.{quadNumber};
 ghost use Rattle.places.specs.Places.{Place, listMost, withCombined, withWtxids, withParents};
 ghost use Rattle.store.specs.Shown.{heldPlacesIn, Shown, withPlaces, Turns, Seek};
@@ -88,10 +88,10 @@ pub fn push_wtxids(s: &mut [u8], i: usize, list: &[u8])
     requires { ⌜ NoWtxids (now s) i × (length (hashesIn (now list)) ≤ listMost) ⌝ }
     ensures { λ _. ⌜ ListedIn (now (s .entry)) (now (s .exit)) i (hashesIn (now (list .entry))) ⌝ }
 {
-    let n = lists::hashes(list);
+    let n = lent_lists::hashes(list);
     let mut j = 0;
     while j < n {
-        let h = lists::hash_in(list, j);
+        let h = lent_lists::hash_in(list, j);
         let q = requests::hash_quad(h);
         push_wtxid(s, i, j, q);
         j += 1;

@@ -13,7 +13,7 @@ ghost use mathlib.Core.Bool.{false};
 ghost use lib.ListN.{length, getD};
 ghost use Rattle.ident.specs.Number.{wtxid};
 ghost use Rattle.ident.specs.Words.{hashNum, keyNum};
-ghost use Rattle.lists.specs.Lists.{hashesIn};
+ghost use Rattle.lent_lists.specs.Lists.{hashesIn};
 ghost use Rattle.machine.specs.State.{Package};
 ghost use Rattle.machine.specs.Table.{at, change};
 ghost use Rattle.machine.specs.Package.{packaged};

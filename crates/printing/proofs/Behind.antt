@@ -10,7 +10,7 @@ use Rattle.words.specs.Words.{recs}
 use Rattle.words.proofs.Records.{recs-add}
 use Rattle.machine.specs.Call.{Buffer, keyBytes, Ask, On}
 use Rattle.machine.specs.Step.{Reply, Left}
-use Rattle.lists.specs.Lists.{keysIn}
+use Rattle.lent_lists.specs.Lists.{keysIn}
 use Rattle.lines.specs.Text.{hashDigits, decimal, keyText, Wrote}
 use Rattle.lines.proofs.Writing.{wrote-more, wrote-none}
 use Rattle.printing.specs.Replies.{joined, keyTexts, replyText}

@@ -19,7 +19,7 @@ use Rattle.outcome.specs.declared.Listing.{Listing}
 use Rattle.outcome.specs.declared.Listing.the-variants.{Listed}
 use Rattle.outcome.specs.Outcome.{Effect, outcomeIf, Does}
 use Rattle.outcome.specs.Reply.{listingOf}
-use Rattle.lists.specs.Lists.{keysIn}
+use Rattle.lent_lists.specs.Lists.{keysIn}
 use Rattle.printing.specs.Given.{mostKeys, KeysFit}
 use Rattle.printing.proofs.KeyLists.{length-keys}
 

@@ -20,7 +20,7 @@ use Rattle.words.specs.Words.{number, words, recs}
 use Rattle.words.proofs.Words.{word-at}
 use Rattle.words.proofs.Records.{recs-add, length-recs}
 use Rattle.machine.specs.Call.{keyBytes}
-use Rattle.lists.specs.Lists.{keyIn, keysIn}
+use Rattle.lent_lists.specs.Lists.{keyIn, keysIn}
 use Rattle.lines.specs.Text.{hashDigits, keyText, Wrote}
 use Rattle.lines.proofs.Numerals.{length-numeral}
 use borrow.Author.Tests.{eq-eqb, ne-eqb, eqb-true, eqb-false}

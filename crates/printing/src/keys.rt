@@ -4,7 +4,7 @@ ghost use Prim.Native.Nat.{_+_, _*_, _≤_};
 ghost use mathlib.Core.List.{_∷_};
 ghost use lib.ListN.{length, take, drop};
 ghost use Rattle.machine.specs.Call.{keyBytes};
-ghost use Rattle.lists.specs.Lists.{keyIn, keysIn};
+ghost use Rattle.lent_lists.specs.Lists.{keyIn, keysIn};
 ghost use Rattle.outcome.specs.Reply.{listingOf};
 ghost use Rattle.lines.specs.Text.{decimal, hashDigits, keyText, Wrote};
 ghost use Rattle.printing.specs.Replies.{joined, listed, keyTexts};

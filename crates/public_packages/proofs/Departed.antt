@@ -16,9 +16,9 @@ use Rattle.machine.specs.Step.{Left, perform, keysAnswer, written}
 use Rattle.machine.proofs.Leave.{keys-of}
 use Rattle.machine.proofs.AnswerLengths.{length-keysAnswer}
 use Rattle.store.specs.Image.{SoundStore, Bytes}
-use Rattle.lists.specs.Lists.{keysIn}
-use Rattle.lists.proofs.Answer.{keys-append}
-use Rattle.lists.proofs.KeysBack.{keys-back}
+use Rattle.lent_lists.specs.Lists.{keysIn}
+use Rattle.lent_lists.proofs.Answer.{keys-append}
+use Rattle.lent_lists.proofs.KeysBack.{keys-back}
 use Rattle.leaving.specs.declared.Left.{Left as Counts}
 use Rattle.leaving.specs.Parting.{Parted}
 use Rattle.merging.proofs.Merging.{rising-typed}

@@ -4,7 +4,7 @@ use outcome::Answer;
 use outcome::refusals;
 ghost use Rattle.ident.specs.Words.{hashNum, keyNum};
 ghost use Rattle.machine.specs.Call.{On, SolicitPackageInfo, FailedPackageInfo, PackageInfoOwner};
-ghost use Rattle.lists.specs.Lists.{hashesIn};
+ghost use Rattle.lent_lists.specs.Lists.{hashesIn};
 ghost use Rattle.outcome.specs.Outcome.{Leaves};
 ghost use Rattle.outcome.specs.Reply.{replyOf};
 

@@ -4,7 +4,7 @@ use outcome::Answer;
 use outcome::Listing;
 use outcome::refusals;
 ghost use Rattle.machine.specs.Call.{On, Announce, RequestParent, AnnounceParents};
-ghost use Rattle.lists.specs.Lists.{hashesIn};
+ghost use Rattle.lent_lists.specs.Lists.{hashesIn};
 ghost use Rattle.requests.specs.Changes.{candidateOf};
 ghost use Rattle.outcome.specs.Outcome.{Leaves, LeavesWith};
 ghost use Rattle.outcome.specs.Reply.{replyOf, listingOf};

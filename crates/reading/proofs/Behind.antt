@@ -11,7 +11,7 @@ use Rattle.ident.specs.Number.{top}
 use Rattle.ident.specs.Words.{hashBytes}
 use Rattle.words.specs.Words.{number}
 use Rattle.machine.specs.Call.{Ask, On}
-use Rattle.lists.specs.Lists.{hashesIn}
+use Rattle.lent_lists.specs.Lists.{hashesIn}
 use Rattle.lines.specs.Fields.{hashOf, rest}
 use Rattle.reading.specs.declared.hashes.Hashes.the-variants.{None, Are}
 use Rattle.reading.specs.Line.{Line, Asks, taking, listThen}

@@ -11,7 +11,7 @@ use Rattle.ident.specs.Words.{hashBytes}
 use Rattle.words.specs.Words.{number, recs}
 use Rattle.regions.specs.Rows.{quadNumber}
 use Rattle.machine.specs.Call.{Ask, On}
-use Rattle.lists.specs.Lists.{hashesIn}
+use Rattle.lent_lists.specs.Lists.{hashesIn}
 use Rattle.lines.specs.Fields.{rest}
 use Rattle.reading.specs.declared.fields.NumberAt.{NumberAt}
 use Rattle.reading.specs.declared.fields.NumberAt.the-variants.{Not as NoNumber, Is as IsNumber}

@@ -18,7 +18,7 @@ use Rattle.words.proofs.Words.{word-at}
 use Rattle.machine.specs.Call.{keyBytes}
 use Rattle.machine.specs.Typed.{Each, KeyTyped}
 use Rattle.store.specs.Gather.{kindIs}
-use Rattle.lists.specs.Lists.{keyIn, keysIn}
+use Rattle.lent_lists.specs.Lists.{keyIn, keysIn}
 use Rattle.selecting.specs.Phasing.{givenKeys}
 use Rattle.claiming.specs.Claiming.{hashFrom, keyFrom}
 

@@ -10,7 +10,7 @@ use Rattle.machine.specs.Limits.{maxRequestChecks}
 use Rattle.machine.specs.State.{State}
 use Rattle.machine.specs.Plan as machine
 use Rattle.store.specs.Shown.{rowsIn, Kept}
-pub use Rattle.lists.specs.Lists.{keyCount, givenKeys}
+pub use Rattle.lent_lists.specs.Lists.{keyCount, givenKeys}
 use Rattle.selecting.specs.declared.Scan.{Scan}
 use Rattle.selecting.specs.Selecting.{Scanning}
 

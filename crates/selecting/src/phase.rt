@@ -12,7 +12,7 @@ ghost use Rattle.machine.specs.Sweep.{round};
 ghost use Rattle.machine.specs.Table.{keys};
 ghost use Rattle.store.specs.Flat.{rowsOf};
 ghost use Rattle.store.specs.Shown.{rowsIn, half, Kept};
-ghost use Rattle.lists.specs.Lists.{keyIn};
+ghost use Rattle.lent_lists.specs.Lists.{keyIn};
 ghost use Rattle.sweeping.specs.Batches.{keysOver};
 ghost use Rattle.selecting.specs.Phasing.{keyCount, givenKeys, Roomy, Scans, Phased};
 

@@ -9,7 +9,7 @@ ghost use lib.Dec.{ltb, eqb};
 ghost use lib.ListN.{length};
 ghost use Rattle.ident.specs.Number.{wtxid};
 ghost use Rattle.ident.specs.Words.{hashNum};
-ghost use Rattle.lists.specs.Lists.{hashesIn};
+ghost use Rattle.lent_lists.specs.Lists.{hashesIn};
 ghost use Rattle.machine.specs.Fail.{dedup};
 ghost use Rattle.machine.specs.Limits.{maxInFlight, maxParents, requestLifetime, latestClock};
 ghost use Rattle.machine.specs.State.{State, limitsOf};
@@ -83,11 +83,11 @@ fn add_parents(s: &mut [u8], h: ident::Hash, parents: &[u8])
     requires { ⌜ Keeps (now s) (λ t. Opened (at (wtxid (hashNum h)) t)) × (length (hashesIn (now parents)) ≤ maxParents) ⌝ }
     ensures { λ _. ⌜ Makes (now (s .entry)) (now (s .exit)) (λ t. Opened (at (wtxid (hashNum h)) t)) (change (wtxid (hashNum h)) (given (dedup (hashesIn (now (parents .entry)))))) ⌝ }
 {
-    let count = lists::hashes(parents);
+    let count = lent_lists::hashes(parents);
     let mut i = 0;
     while i < count {
-        if !lists::occurs_before(parents, i) {
-            let p = lists::hash_in(parents, i);
+        if !lent_lists::occurs_before(parents, i) {
+            let p = lent_lists::hash_in(parents, i);
             package_stages::add_parent(s, h, p);
         }
         i += 1;

@@ -8,7 +8,7 @@ ghost use mathlib.Core.Bool.{_&&_};
 ghost use lib.Dec.{eqb};
 ghost use Rattle.ident.specs.Number.{wtxid};
 ghost use Rattle.ident.specs.Words.{hashNum};
-ghost use Rattle.lists.specs.Lists.{hashesIn};
+ghost use Rattle.lent_lists.specs.Lists.{hashesIn};
 ghost use Rattle.machine.specs.Table.{at};
 ghost use Rattle.machine.specs.Package as machine;
 ghost use Rattle.store.specs.Shown.{heldPlacesIn, Kept};
@@ -41,7 +41,7 @@ pub fn claim_package(
     requires { ⌜ Kept (now s) ⌝ }
     ensures { λ r. ⌜ Answered (now (s .entry)) (now (s .exit)) r (λ m t. machine.claimPackage n (hashNum (subject .0)) (hashNum combined) (hashesIn (now (wtxids .entry))) clock t) ⌝ }
 {
-    let count = lists::hashes(wtxids);
+    let count = lent_lists::hashes(wtxids);
     if count == 0 || count > MAX_WTXIDS {
         return false;
     }
@@ -58,18 +58,18 @@ fn same_package(s: &[u8], i: usize, combined: ident::Hash, wtxids: &[u8]) -> boo
     ensures { λ r. ⌜ ReadAt (now (s .entry)) i (λ q. r ≡ (eqb (combinedOf (q .«package»)) (hashNum combined) && machine.sameList (wtxidsOf (q .«package»)) (hashesIn (now (wtxids .entry))))) ⌝ }
 {
     let c = package_stages::combined_at(s, i);
-    if !lists::same_hash(c, combined) {
+    if !lent_lists::same_hash(c, combined) {
         return false;
     }
     let count = package_stages::wtxids(s, i);
-    if lists::hashes(wtxids) != count {
+    if lent_lists::hashes(wtxids) != count {
         return false;
     }
     let mut j = 0;
     while j < count {
         let a = package_stages::wtxid_at(s, i, j);
-        let b = lists::hash_in(wtxids, j);
-        if !lists::same_hash(a, b) {
+        let b = lent_lists::hash_in(wtxids, j);
+        if !lent_lists::same_hash(a, b) {
             return false;
         }
         j += 1;

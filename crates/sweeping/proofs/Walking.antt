@@ -25,7 +25,7 @@ use Rattle.store.specs.Gather.{keyAt}
 use Rattle.store.specs.Image.{Shows, Writes, cursorWords}
 use Rattle.store.specs.Shown.{limitIn, rowsIn}
 use Rattle.store.proofs.Frame.{sizes}
-use Rattle.lists.proofs.Answer.{written-more, written-none}
+use Rattle.lent_lists.proofs.Answer.{written-more, written-none}
 use Rattle.announcing.specs.Evicts.{part}
 use Rattle.cursors.specs.declared.Stored.{Stored}
 use Rattle.cursors.specs.InWords.{Stands}

@@ -60,7 +60,7 @@ fn hand(out: &mut [u8], v: Batch, r: regions::Row) -> Batch
 {
     let k = announcing::evict::key_of(r);
     let n = v.count;
-    lists::put_key(out, n, k);
+    lent_lists::put_key(out, n, k);
     let last = cursors::key_stored(k);
     Batch { count: n + 1, last }
 }

@@ -8,8 +8,8 @@ use Rattle.machine.specs.Typed.{Each, CallTyped}
 use Rattle.machine.specs.Call.{Call, Open, openingRefusal}
 use Rattle.machine.specs.Step.{empty}
 use Rattle.store.specs.Image.{SoundStore, Bytes}
-use Rattle.lists.proofs.Given.{hashes-fit}
-use Rattle.lists.proofs.Inventory.{items-fit, offers-fit}
+use Rattle.lent_lists.proofs.Given.{hashes-fit}
+use Rattle.lent_lists.proofs.Inventory.{items-fit, offers-fit}
 use Rattle.claiming.specs.Claiming.{entriesIn}
 use Rattle.selecting.proofs.Given.{given-typed}
 use Rattle.outcome.specs.Outcome.{Effect}

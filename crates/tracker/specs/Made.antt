@@ -14,8 +14,8 @@ use Rattle.machine.specs.Call.{Claim, Disconnected, Unclaim, Forget, ForgetKnow
 use Rattle.machine.specs.Call.{TransactionResponseCompleted, Sweep, PollGate, SolicitPackageInfo, ClaimPackage, BeginPackageResolution}
 use Rattle.machine.specs.Call.{FailedPackageClaims, TeardownPackageClaims, TransactionNotFound, Plan, Arrange}
 use Rattle.store.specs.Image.{Bytes}
-use Rattle.lists.specs.Lists.{hashesIn}
-use Rattle.lists.specs.Items.{itemsIn, offersIn}
+use Rattle.lent_lists.specs.Lists.{hashesIn}
+use Rattle.lent_lists.specs.Items.{itemsIn, offersIn}
 use Rattle.claiming.specs.Claiming.{entriesIn}
 use Rattle.selecting.specs.Phasing.{givenKeys}
 use Rattle.requests.specs.declared.Candidate.{Candidate}

@@ -16,8 +16,8 @@ use Rattle.words.specs.Words.{recs, splice}
 use Rattle.words.proofs.Records.{length-recs}
 use Rattle.machine.specs.Step.{written}
 use Rattle.machine.proofs.Tests.{test}
-use Rattle.lists.specs.Items.{itemBytes, itemIn}
-use Rattle.lists.proofs.Inventory.{Low}
+use Rattle.lent_lists.specs.Items.{itemBytes, itemIn}
+use Rattle.lent_lists.proofs.Inventory.{Low}
 use Rattle.wire.specs.declared.Found.{Found}
 use Rattle.wire.specs.Payload.{maxItems, wireBytes, compactSize, wiresOf, payloadOf, wireItem, itemsOf, allPlain}
 use Rattle.wire.specs.Calls.{badPayload, shortBuffer, Refused, Bytes, itemsAnswer, itemsListed, Reads, Writes}

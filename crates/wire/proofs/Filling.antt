@@ -16,7 +16,7 @@ use Rattle.words.proofs.Digits.{length-digits, number-step}
 use Rattle.words.proofs.Records.{recs-add, length-recs}
 use Rattle.words.proofs.Splice.{splice-more}
 use Rattle.machine.specs.Step.{written}
-use Rattle.lists.specs.Items.{itemBytes}
+use Rattle.lent_lists.specs.Items.{itemBytes}
 use Rattle.wire.specs.Payload.{wireBytes, compactSize, wireOf, wiresOf, wireItem, payloadOf}
 use Rattle.wire.specs.Calls.{itemAnswer, itemsAnswer}
 use Rattle.wire.proofs.Counts.{size-one, size-three}

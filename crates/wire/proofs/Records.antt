@@ -18,8 +18,8 @@ use Rattle.words.proofs.Digits.{length-digits, number-digits, digits-number, nu
 use Rattle.machine.specs.Typed.{Each}
 use Rattle.machine.proofs.Tests.{test, and-left, and-right}
 use Rattle.machine.proofs.AnswerLengths.{length-bytesOf}
-use Rattle.lists.specs.Items.{itemBytes, typeTop, itemKindIn, itemIn, itemsIn}
-use Rattle.lists.proofs.Inventory.{Low, items-fit}
+use Rattle.lent_lists.specs.Items.{itemBytes, typeTop, itemKindIn, itemIn, itemsIn}
+use Rattle.lent_lists.proofs.Inventory.{Low, items-fit}
 use Rattle.wire.specs.Payload.{wireBytes, wireOf, wiresOf, wireItem, allPlain}
 use Rattle.wire.specs.Calls.{itemAnswer, itemsAnswer}
 

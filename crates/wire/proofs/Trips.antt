@@ -18,8 +18,8 @@ use Rattle.machine.specs.Call.{Buffer}
 use Rattle.machine.specs.Step.{written}
 use Rattle.machine.specs.Typed.{Each}
 use Rattle.machine.proofs.Tests.{test, and-left, and-right}
-use Rattle.lists.specs.Items.{itemBytes, itemIn, itemsIn, paired, offersIn}
-use Rattle.lists.proofs.Inventory.{Low}
+use Rattle.lent_lists.specs.Items.{itemBytes, itemIn, itemsIn, paired, offersIn}
+use Rattle.lent_lists.proofs.Inventory.{Low}
 use Rattle.wire.specs.Payload.{maxItems, payloadOf, itemsOf, allPlain, writable}
 use Rattle.wire.specs.Calls.{badPayload, shortBuffer, Reply, Refused, Items, Bytes, Handed, itemsAnswer, itemsRead, Reads, Writes}
 use Rattle.wire.proofs.Records.{Fits, length-answer, answer-back, list-fits}

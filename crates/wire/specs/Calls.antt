@@ -11,7 +11,7 @@ use Rattle.ident.specs.Number.{Item, typeOf}
 use Rattle.words.specs.Words.{bytesOf, recs}
 use Rattle.machine.specs.Call.{Buffer}
 use Rattle.machine.specs.Step.{hashBytes, written}
-use Rattle.lists.specs.Items.{itemBytes, itemIn}
+use Rattle.lent_lists.specs.Items.{itemBytes, itemIn}
 use Rattle.wire.specs.declared.Answer.{Answer}
 use Rattle.wire.specs.declared.Answer.the-variants.{Refused as No, Count}
 use Rattle.wire.specs.Payload.{itemsOf, payloadOf, writable}

@@ -1,6 +1,6 @@
 // Inventory payloads as they come off the wire, read and written (document 02, request a): inv, getdata and notfound carry a count and that many items of 36 bytes.
 //
-// A list of items has 40 bytes for each, in the layout of `lists::item_at`: what the reader leaves in the answer can be lent to `announce_transactions` and
+// A list of items has 40 bytes for each, in the layout of `lent_lists::item_at`: what the reader leaves in the answer can be lent to `announce_transactions` and
 // `transaction_not_found` as it is. Neither call takes a store. Refusal 10 is tested before 7, and both before the first byte is written.
 ghost use mathlib.Core.Path.{_≡_};
 ghost use Prim.Native.Nat.{_+_, _*_, _<_, _≤_};
@@ -8,7 +8,7 @@ ghost use lib.ListN.{length, getD, take, drop};
 ghost use Rattle.ident.specs.Number.{Item};
 ghost use Rattle.words.specs.Words.{number, digits, recs, splice};
 ghost use Rattle.machine.specs.Step.{written};
-ghost use Rattle.lists.specs.Items.{itemBytes, itemsIn};
+ghost use Rattle.lent_lists.specs.Items.{itemBytes, itemsIn};
 ghost use Rattle.wire.specs.Payload.{maxItems, wireBytes, compactSize, wireOf, wiresOf, wireItem, allPlain};
 ghost use Rattle.wire.specs.Calls.{itemAnswer, itemsAnswer, itemsReply, bytesReply, Reads, Writes};
 ghost use Rattle.wire.specs.Steps.{Begins, Holds, Counted};
@@ -132,7 +132,7 @@ pub fn read_payload(p: &[u8], answer: &mut [u8]) -> Answer
     match found {
         Found::Not => Answer::Refused(BAD_PAYLOAD),
         Found::At(n, at) => {
-            if answer.len() < n * lists::ITEM {
+            if answer.len() < n * lent_lists::ITEM {
                 return Answer::Refused(SHORT_BUFFER);
             }
             read_items(p, at, n, answer);
@@ -147,10 +147,10 @@ pub fn read_payload(p: &[u8], answer: &mut [u8]) -> Answer
 fn all_plain(items: &[u8]) -> bool
     ensures { λ r. ⌜ r ≡ allPlain (itemsIn (now (items .entry))) ⌝ }
 {
-    let n = lists::items(items);
+    let n = lent_lists::items(items);
     let mut i = 0;
     while i < n {
-        let item = lists::item_at(items, i);
+        let item = lent_lists::item_at(items, i);
         let kind = item.kind;
         if !ident::is_plain(kind) {
             return false;
@@ -179,7 +179,7 @@ fn write_item(items: &[u8], i: usize, s: &mut [u8], a: usize)
     requires { ⌜ (i < length (itemsIn (now items))) × (a + wireBytes ≤ length (now s)) ⌝ }
     ensures { λ _. ⌜ ((d : Item) → now (s .exit) ≡ splice (now (s .entry)) a (wireOf (getD (itemsIn (now (items .entry))) i d))) ⌝ }
 {
-    let item = lists::item_at(items, i);
+    let item = lent_lists::item_at(items, i);
     let kind = item.kind;
     let hash = item.hash;
     put_type(s, a, ident::item_type(kind));
@@ -224,7 +224,7 @@ fn write_items(items: &[u8], n: usize, s: &mut [u8], at: usize)
 pub fn write_payload(items: &[u8], answer: &mut [u8]) -> Answer
     ensures { λ r. ⌜ Writes (itemsIn (now (items .entry))) (now (answer .entry)) (now (answer .exit)) (bytesReply r) ⌝ }
 {
-    let n = lists::items(items);
+    let n = lent_lists::items(items);
     if MAX_ITEMS < n {
         return Answer::Refused(BAD_PAYLOAD);
     }

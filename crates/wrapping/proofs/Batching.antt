@@ -21,8 +21,8 @@ use Rattle.machine.proofs.Wrapper.{bounded-announceTransactions}
 use Rattle.machine.proofs.Kept.{sound-table}
 use Rattle.store.specs.Image.{Writes}
 use Rattle.store.specs.Shown.{Kept}
-use Rattle.lists.specs.Items.{itemsIn, offersIn}
-use Rattle.lists.proofs.Inventory.{paired-at}
+use Rattle.lent_lists.specs.Items.{itemsIn, offersIn}
+use Rattle.lent_lists.proofs.Inventory.{paired-at}
 use Rattle.requests.specs.Changes.{Tells}
 use Rattle.wrapping.specs.declared.offering.Terms.{Terms}
 use Rattle.claims.specs.Changes.{Becomes}

@@ -1,6 +1,6 @@
 // transaction_not_found: the items that a connection does not have. An item of package information fails with its parents, any other
 // item with a key just fails; then the claims of the packages among the items fail.
-use lists::KEY;
+use lent_lists::KEY;
 ghost use Prim.Native.Nat.{_+_, _*_, _≤_};
 ghost use mathlib.Core.Option.{some};
 ghost use lib.ListN.{length};
@@ -9,7 +9,7 @@ ghost use Rattle.machine.specs.Limits.{maxParents};
 ghost use Rattle.machine.specs.Call.{keyBytes};
 ghost use Rattle.machine.specs.Wrapper as machine;
 ghost use Rattle.store.specs.Shown.{placesIn, Kept};
-ghost use Rattle.lists.specs.Items.{itemsIn};
+ghost use Rattle.lent_lists.specs.Items.{itemsIn};
 ghost use Rattle.announcing.specs.Answers.{KeysListed};
 ghost use Rattle.wrapping.specs.Wraps.{Roomy, infoListed};
 
@@ -22,7 +22,7 @@ fn fail_listed(s: &mut [u8], k: ident::Key, n: u64, clock: u64, out: &mut [u8]) 
     ensures { λ r. ⌜ KeysListed (now (s .entry)) (now (s .exit)) (now (out .entry)) (now (out .exit)) r (λ m t. machine.failKeyed (some (keyNum k)) n clock t) ⌝ }
 {
     if failing::failed(s, k, n, clock) {
-        lists::put_key(out, 0, k);
+        lent_lists::put_key(out, 0, k);
         return 1;
     }
     0
@@ -71,12 +71,12 @@ pub fn not_found_each(s: &mut [u8], n: u64, items: &[u8], clock: u64, out: &mut 
     requires { ⌜ Kept (now s) × (1 ≤ n) × (keyBytes * (length (itemsIn (now items)) + maxParents * placesIn (now s)) ≤ length (now out)) ⌝ }
     ensures { λ r. ⌜ KeysListed (now (s .entry)) (now (s .exit)) (now (out .entry)) (now (out .exit)) r (λ m t. machine.notFoundEach m n clock (itemsIn (now (items .entry))) t) ⌝ }
 {
-    let count = lists::items(items);
+    let count = lent_lists::items(items);
     let y = out.len();
     let mut kept = 0;
     let mut i = 0;
     while i < count {
-        let item = lists::item_at(items, i);
+        let item = lent_lists::item_at(items, i);
         let a = kept * KEY;
         let c = not_found_one(s, n, item, clock, &mut out[a..y]);
         kept += c;

@@ -15,7 +15,7 @@ ghost use Rattle.machine.specs.Limits.{maxInFlight, sourceDelay, requestLifetim
 ghost use Rattle.machine.specs.Table as table;
 ghost use Rattle.machine.specs.Wrapper as machine;
 ghost use Rattle.store.specs.Shown.{Kept};
-ghost use Rattle.lists.specs.Items.{offersIn};
+ghost use Rattle.lent_lists.specs.Items.{offersIn};
 ghost use Rattle.requests.specs.Changes.{candidateOf, Tells};
 ghost use Rattle.announcing.specs.Falls.{mostListed, listSpace, VictimsIn};
 ghost use Rattle.gathering.specs.Aside.{space, Empty};
@@ -96,7 +96,7 @@ fn offered_at(a: Terms, items: &[u8], priorities: &[u8], i: usize) -> requests::
     requires { ⌜ (a .clock + requestLifetime < word) × (i < length (offersIn (now items) (now priorities))) ⌝ }
     ensures { λ c. ⌜ Offers a (offersIn (now (items .entry)) (now (priorities .entry))) i (candidateOf c) ⌝ }
 {
-    let item = lists::item_at(items, i);
+    let item = lent_lists::item_at(items, i);
     let priority = words::get(priorities, i);
     offered(
         a.connection,
@@ -136,7 +136,7 @@ fn collect(
     requires { ⌜ Kept (now s) × (8 * (rowSize * space) ≤ length (now new)) × Empty (words (now new)) × (a .clock + requestLifetime < word) × (first ≤ length (offersIn (now items) (now priorities))) ⌝ }
     ensures { λ r. ⌜ Collects (now (s .entry)) (words (now (new .exit))) a (offersIn (now (items .entry)) (now (priorities .entry))) first (r .next) (r .waiting) ⌝ }
 {
-    let count = lists::offers(items, priorities);
+    let count = lent_lists::offers(items, priorities);
     let mut i = first;
     let mut m = 0;
     while i < count {
@@ -170,7 +170,7 @@ fn announce_some(s: &mut [u8], a: Terms, items: &[u8], priorities: &[u8], first:
     requires { ⌜ Kept (now s) × (1 ≤ a .connection) × (a .clock + requestLifetime < word) × (first < length (offersIn (now items) (now priorities))) ⌝ }
     ensures { λ r. ⌜ Announced (now (s .entry)) (now (s .exit)) a (offersIn (now (items .entry)) (now (priorities .entry))) first r ⌝ }
 {
-    let count = lists::offers(items, priorities);
+    let count = lent_lists::offers(items, priorities);
     if count - first < FEW {
         announce_one(s, a, items, priorities, first);
         return first + 1;
@@ -203,14 +203,14 @@ fn displaces(s: &[u8], a: Terms, items: &[u8], priorities: &[u8], first: usize) 
     requires { ⌜ Kept (now s) × (first < length (offersIn (now items) (now priorities))) ⌝ }
     ensures { λ r. ⌜ (r ≡ true → Whole (now (s .entry))) ⌝ }
 {
-    let count = lists::offers(items, priorities);
+    let count = lent_lists::offers(items, priorities);
     if count - first < FEW {
         return false;
     }
     if !a.preferred {
         return false;
     }
-    let item = lists::item_at(items, first);
+    let item = lent_lists::item_at(items, first);
     let h = item.hash;
     if requests::candidates_at(s, h) >= MAX_ALTERNATES {
         return false;
@@ -251,7 +251,7 @@ fn swap(
     ensures { λ r. ⌜ Swaps (now (s .entry)) (now (s .exit)) (words (now (new .exit))) (words (now (top .entry))) m a (offersIn (now (items .entry)) (now (priorities .entry))) first
         (r .next) (r .waiting) ⌝ }
 {
-    let count = lists::offers(items, priorities);
+    let count = lent_lists::offers(items, priorities);
     let mut i = first;
     let mut d = 0;
     while i < count {
@@ -283,7 +283,7 @@ fn announce_for_victims(
     requires { ⌜ Kept (now s) × Whole (now s) × (a .clock + requestLifetime < word) × (first < length (offersIn (now items) (now priorities))) ⌝ }
     ensures { λ r. ⌜ Went (now (s .entry)) (now (s .exit)) a (offersIn (now (items .entry)) (now (priorities .entry))) first r ⌝ }
 {
-    let count = lists::offers(items, priorities);
+    let count = lent_lists::offers(items, priorities);
     let mut top = list();
     announcing::foremost::clear(&mut top);
     let m = announcing::foremost::list_victims(s, &mut top, at_most(count - first));
@@ -327,7 +327,7 @@ pub fn announce_transactions(
     ensures { λ _. ⌜ Becomes (now (s .entry)) (now (s .exit)) (λ m t. machine.announceTransactions m n clock preferred source (offersIn (now (items .entry)) (now (priorities .entry))) t) ⌝ }
 {
     let late = overloaded(s, n);
-    let count = lists::offers(items, priorities);
+    let count = lent_lists::offers(items, priorities);
     let a = Terms {
         connection: n,
         clock,

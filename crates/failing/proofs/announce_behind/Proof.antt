@@ -1,7 +1,7 @@
 use native.Mathlib.Omega.{arith}
 use mathlib.Core.Path.{refl}
 use Rattle.ident.specs.Words.{keyNum}
-use Rattle.lists.specs.Lists.{hashesIn}
+use Rattle.lent_lists.specs.Lists.{hashesIn}
 use Rattle.machine.specs.State.{limitsOf}
 use Rattle.machine.specs.Fail.{announceParents}
 use Rattle.machine.proofs.AnswerLengths.{length-announceParents}

@@ -3,8 +3,8 @@ use Prim.Native.Nat.{_-_, _<_}
 use lib.ListN.{length}
 use Rattle.machine.specs.Limits.{word}
 use Rattle.machine.proofs.Fail.{FewHashes}
-use Rattle.lists.specs.Lists.{hashesIn}
-use Rattle.lists.proofs.Given.{hashes-fit}
+use Rattle.lent_lists.specs.Lists.{hashesIn}
+use Rattle.lent_lists.proofs.Given.{hashes-fit}
 use Rattle.handing.specs.Hands.{connsIn}
 use Rattle.handing.proofs.Announcing.{Handing, handing-none, handing-kept, handing-long, handing-order, handing-room, handing-more, handing-done, next-peer, length-conns, conn-in}
 use Rattle.handing.proofs.announce_each.Statement.{statement}

@@ -2,8 +2,8 @@ use native.Mathlib.Omega.{arith}
 use Rattle.machine.proofs.Fail.{FewHashes}
 use Rattle.machine.proofs.AnswerLengths.{length-announceParents}
 use Rattle.machine.specs.State.{limitsOf}
-use Rattle.lists.specs.Lists.{hashesIn}
-use Rattle.lists.proofs.Given.{hashes-fit}
+use Rattle.lent_lists.specs.Lists.{hashesIn}
+use Rattle.lent_lists.proofs.Given.{hashes-fit}
 use Rattle.handing.proofs.Announcing.{merge-room, one-merged}
 use borrow.Author.Needs.{needs}
 use Rattle.handing.proofs.announce_for.Statement.{statement}

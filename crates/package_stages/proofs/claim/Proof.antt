@@ -6,7 +6,7 @@ use mathlib.Core.List.{[]}
 use lib.ListN.{length, getD}
 use Rattle.ident.specs.Number.{wtxid}
 use Rattle.ident.specs.Words.{hashNum}
-use Rattle.lists.specs.Lists.{hashesIn}
+use Rattle.lent_lists.specs.Lists.{hashesIn}
 use Rattle.regions.specs.Rows.{quadNumber}
 use Rattle.places.specs.Places.{Place, blank, withStage, withCombined, withWtxids}
 use Rattle.machine.specs.Table.{at}

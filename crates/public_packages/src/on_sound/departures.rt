@@ -19,9 +19,9 @@ fn departure_bytes(l: usize, q: usize) -> usize
     ensures { λ r. ⌜ r ≡ keyBytes * (min maxPeerAnnouncements l + maxParents * q) ⌝ }
 {
     if l < MAX_PEER_ANNOUNCEMENTS {
-        return (l + MAX_PARENTS * q) * lists::KEY;
+        return (l + MAX_PARENTS * q) * lent_lists::KEY;
     }
-    (MAX_PEER_ANNOUNCEMENTS + MAX_PARENTS * q) * lists::KEY
+    (MAX_PEER_ANNOUNCEMENTS + MAX_PARENTS * q) * lent_lists::KEY
 }
 
 // Those that its answer may need.

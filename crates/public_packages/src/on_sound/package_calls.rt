@@ -5,7 +5,7 @@ use outcome::refusals;
 use outcome::replied;
 ghost use Rattle.ident.specs.Words.{hashNum};
 ghost use Rattle.machine.specs.Call.{On, ClaimPackage, BeginPackageResolution, ReleasePackage};
-ghost use Rattle.lists.specs.Lists.{hashesIn};
+ghost use Rattle.lent_lists.specs.Lists.{hashesIn};
 ghost use Rattle.store.specs.Image.{SoundStore};
 ghost use Rattle.outcome.specs.Outcome.{Leaves, LeavesWith};
 ghost use Rattle.outcome.specs.Reply.{replyOf, listingOf};

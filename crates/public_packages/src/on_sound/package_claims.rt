@@ -7,7 +7,7 @@ ghost use Prim.Native.Nat.{_+_, _*_};
 ghost use Rattle.ident.specs.Words.{keyNum};
 ghost use Rattle.machine.specs.Limits.{maxParents};
 ghost use Rattle.machine.specs.Call.{On, ForgetKnown, FailedPackageClaims, TeardownPackageClaims, keyBytes};
-ghost use Rattle.lists.specs.Lists.{hashesIn};
+ghost use Rattle.lent_lists.specs.Lists.{hashesIn};
 ghost use Rattle.store.specs.Image.{SoundStore};
 ghost use Rattle.outcome.specs.Outcome.{Leaves, LeavesWith};
 ghost use Rattle.outcome.specs.Reply.{replyOf, listingOf};

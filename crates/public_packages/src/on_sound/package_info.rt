@@ -13,7 +13,7 @@ ghost use Rattle.machine.specs.Sound.{Sound};
 ghost use Rattle.machine.specs.Table.{placesHeld};
 ghost use Rattle.machine.specs.Package.{solicit};
 ghost use Rattle.machine.specs.Call.{On, SolicitPackageInfo, FailedPackageInfo, PackageInfoOwner, askRefusal};
-ghost use Rattle.lists.specs.Lists.{hashesIn};
+ghost use Rattle.lent_lists.specs.Lists.{hashesIn};
 ghost use Rattle.store.specs.Image.{Writes, SoundStore};
 ghost use Rattle.store.specs.Shown.{Kept};
 ghost use Rattle.outcome.specs.Outcome.{Leaves};
@@ -61,13 +61,19 @@ pub fn solicit_package_info(
     requires { ⌜ SoundStore (now s) ⌝ }
     ensures { λ r. ⌜ Leaves (On (SolicitPackageInfo connection (hashNum (subject .0)) (hashesIn (now (parents .entry))) clock)) (now (s .entry)) (now (s .exit)) (replyOf r) ⌝ }
 {
-    let count = lists::hashes(parents);
+    let count = lent_lists::hashes(parents);
     let refusal = of_solicitation(s, connection, subject, count, clock);
     if refusal != 0 {
         return Answer::Refused(refusal);
     }
     let n = refusals::need_of(s);
-    replied(soliciting::info::solicit_package_info(&mut s[..n], connection, subject, parents, clock))
+    replied(soliciting::info::solicit_package_info(
+        &mut s[..n],
+        connection,
+        subject,
+        parents,
+        clock,
+    ))
 }
 
 pub fn failed_package_info(s: &mut [u8], key: ident::Key, connection: u64, clock: u64) -> Answer

@@ -9,7 +9,7 @@ ghost use lib.ListN.{length};
 ghost use Rattle.ident.specs.Words.{hashNum};
 ghost use Rattle.machine.specs.Limits.{maxParents};
 ghost use Rattle.machine.specs.Call.{On, AnnounceTransactions, TransactionResponseCompleted, TransactionNotFound, keyBytes};
-ghost use Rattle.lists.specs.Items.{itemsIn, offersIn};
+ghost use Rattle.lent_lists.specs.Items.{itemsIn, offersIn};
 ghost use Rattle.store.specs.Image.{SoundStore};
 ghost use Rattle.outcome.specs.Outcome.{Leaves, LeavesWith};
 ghost use Rattle.outcome.specs.Reply.{replyOf, listingOf};
@@ -68,8 +68,8 @@ fn missing_needs(s: &[u8], items: &[u8]) -> usize
     ensures { λ r. ⌜ ((w : SoundStore (now (s .entry))) → r ≡ keyBytes * (length (itemsIn (now (items .entry))) + maxParents * w .state .places)) ⌝ }
 {
     let q = store::head::places(s);
-    let count = lists::items(items);
-    (count + MAX_PARENTS * q) * lists::KEY
+    let count = lent_lists::items(items);
+    (count + MAX_PARENTS * q) * lent_lists::KEY
 }
 
 pub fn transaction_not_found(

@@ -4,7 +4,7 @@ use outcome::Listing;
 use outcome::refusals;
 use outcome::replied;
 ghost use Rattle.machine.specs.Call.{On, Announce, RequestParent, AnnounceParents};
-ghost use Rattle.lists.specs.Lists.{hashesIn};
+ghost use Rattle.lent_lists.specs.Lists.{hashesIn};
 ghost use Rattle.requests.specs.Changes.{candidateOf};
 ghost use Rattle.store.specs.Image.{SoundStore};
 ghost use Rattle.outcome.specs.Outcome.{Leaves, LeavesWith};
@@ -44,7 +44,7 @@ pub fn announce_parents(
     requires { ⌜ SoundStore (now s) ⌝ }
     ensures { λ r. ⌜ LeavesWith (On (AnnounceParents connection (hashesIn (now (parents .entry))) clock (now (answer .entry)))) (now (s .entry)) (now (s .exit)) (now (answer .exit)) (listingOf r) ⌝ }
 {
-    let count = lists::hashes(parents);
+    let count = lent_lists::hashes(parents);
     let refusal = refusals::in_turn(
         connection,
         clock,

@@ -18,9 +18,9 @@ fn sweep_needs(s: &[u8]) -> usize
 {
     let l = store::head::limit(s);
     if l < machine::limits::MAX_KNOWN_CHECKS {
-        return l * lists::KEY;
+        return l * lent_lists::KEY;
     }
-    machine::limits::MAX_KNOWN_CHECKS * lists::KEY
+    machine::limits::MAX_KNOWN_CHECKS * lent_lists::KEY
 }
 
 pub fn sweep(s: &mut [u8], answer: &mut [u8]) -> Listing

@@ -2,7 +2,7 @@
 use borrow.Author.Needs.{needs}
 use borrow.Author.Tests.{not-true, not-false}
 use Rattle.ident.specs.Words.{hashNum}
-use Rattle.lists.specs.Lists.{hashesIn}
+use Rattle.lent_lists.specs.Lists.{hashesIn}
 use Rattle.soliciting.proofs.Beginning.{begin-barred, begin-inside, begin-read, begin-other, begin-done}
 use Rattle.soliciting.proofs.begin_package_resolution.Statement.{statement}
 use Rattle.soliciting.proofs.begin_package_resolution.Tie as tie

@@ -5,7 +5,7 @@ use native.Mathlib.Omega.{arith}
 use borrow.Author.Needs.{needs}
 use borrow.Author.Tests.{ltb-true, ltb-false, not-true, not-false}
 use Rattle.ident.specs.Words.{hashNum}
-use Rattle.lists.specs.Lists.{hashesIn}
+use Rattle.lent_lists.specs.Lists.{hashesIn}
 use Rattle.machine.specs.Limits.{maxWtxids}
 use Rattle.soliciting.proofs.Claiming.{claim-none, claim-many, claim-barred, claim-done}
 use Rattle.soliciting.proofs.claim_package.Statement.{statement}

@@ -7,7 +7,7 @@ use borrow.Author.Needs.{needs}
 use borrow.Author.Tests.{not-true, not-false}
 use Rattle.ident.specs.Number.{wtxid}
 use Rattle.ident.specs.Words.{hashNum}
-use Rattle.lists.specs.Lists.{hashesIn}
+use Rattle.lent_lists.specs.Lists.{hashesIn}
 use Rattle.machine.specs.Table.{at}
 use Rattle.machine.specs.Package.{sameList}
 use Rattle.package_stages.specs.Changes.{wtxidsOf, combinedOf, ReadAt}

@@ -6,7 +6,7 @@ use native.Mathlib.Numerals.{add-one}
 use native.Mathlib.Omega.{arith}
 use borrow.Author.Needs.{needs}
 use borrow.Author.Tests.{not-true, not-false}
-use Rattle.lists.specs.Items.{itemsIn}
+use Rattle.lent_lists.specs.Items.{itemsIn}
 use Rattle.wire.specs.Payload.{allPlain}
 use Rattle.wire.proofs.Answers.{plain-broken, plain-passed, plain-all}
 use Rattle.wire.proofs.all_plain.Statement.{statement}

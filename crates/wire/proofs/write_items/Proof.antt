@@ -5,7 +5,7 @@ use lib.ListN.{length, take}
 use native.Mathlib.Omega.{arith}
 use borrow.Author.Needs.{needs}
 use Rattle.words.specs.Words.{splice}
-use Rattle.lists.specs.Items.{itemsIn}
+use Rattle.lent_lists.specs.Items.{itemsIn}
 use Rattle.wire.specs.Payload.{wiresOf}
 use Rattle.wire.proofs.Filling.{write-none, write-turn, write-all}
 use Rattle.wire.proofs.write_items.Statement.{statement}

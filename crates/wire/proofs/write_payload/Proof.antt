@@ -1,7 +1,7 @@
 -- `wire::write_payload` meets its contract. Assumes nothing.
 use native.Mathlib.Omega.{arith}
 use borrow.Author.Tests.{not-true, not-false}
-use Rattle.lists.specs.Items.{itemsIn}
+use Rattle.lent_lists.specs.Items.{itemsIn}
 use Rattle.wire.proofs.Counts.{few-bytes}
 use Rattle.wire.proofs.Answers.{write-many, write-other, write-short, write-done}
 use borrow.Author.Needs.{needs}

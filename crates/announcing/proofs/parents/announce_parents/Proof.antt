@@ -14,8 +14,8 @@ use Rattle.machine.specs.Limits.{word}
 use Rattle.machine.specs.Claim.{elem}
 use Rattle.machine.specs.Step.{keyAnswer}
 use Rattle.machine.proofs.Fail.{Peer, FewHashes}
-use Rattle.lists.specs.Lists.{hashesIn}
-use Rattle.lists.proofs.Given.{hashes-fit}
+use Rattle.lent_lists.specs.Lists.{hashesIn}
+use Rattle.lent_lists.proofs.Given.{hashes-fit}
 use Rattle.announcing.proofs.Listing.{Turned, turned-start, turned-as, turned-repeat, turned-kept, turned-left, turned-more, turned-done}
 use Rattle.announcing.proofs.parents.announce_parents.Statement.{statement}
 use Rattle.announcing.proofs.parents.announce_parents.Tie as tie

@@ -5,7 +5,7 @@ use mathlib.Core.Path.{refl, ap, _∙_}
 use Rattle.ident.specs.Words.{hashNum}
 use Rattle.regions.specs.Rows.{quadNumber}
 use Rattle.machine.specs.Call.{SolicitPackageInfo, ClaimPackage, BeginPackageResolution}
-use Rattle.lists.specs.Lists.{hashesIn}
+use Rattle.lent_lists.specs.Lists.{hashesIn}
 use Rattle.reading.specs.Given.{valuesOf}
 use Rattle.printing.proofs.Printing.{carried}
 use Rattle.calling.proofs.Asked.{hashes-did}

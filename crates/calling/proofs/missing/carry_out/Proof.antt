@@ -3,7 +3,7 @@
 use mathlib.Core.Path.{refl, ap}
 use native.Mathlib.Omega.{arith}
 use Rattle.machine.specs.Call.{Buffer, TransactionNotFound}
-use Rattle.lists.specs.Items.{itemsIn}
+use Rattle.lent_lists.specs.Items.{itemsIn}
 use Rattle.printing.proofs.Printing.{carried, does-is}
 use Rattle.printing.proofs.Fitting.{keys-fit}
 use borrow.Author.Needs.{needs}

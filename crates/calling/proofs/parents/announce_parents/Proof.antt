@@ -3,7 +3,7 @@
 use mathlib.Core.Path.{refl, ap}
 use native.Mathlib.Omega.{arith}
 use Rattle.machine.specs.Call.{Buffer, AnnounceParents}
-use Rattle.lists.specs.Lists.{hashesIn}
+use Rattle.lent_lists.specs.Lists.{hashesIn}
 use Rattle.printing.proofs.Printing.{carried, does-is}
 use Rattle.printing.proofs.Fitting.{keys-fit}
 use borrow.Author.Needs.{needs}

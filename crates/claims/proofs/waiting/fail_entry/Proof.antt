@@ -1,6 +1,6 @@
 use mathlib.Core.Path.{sym, _∙_}
 use Rattle.ident.specs.Words.{hashNum}
-use Rattle.lists.specs.Lists.{hashesIn}
+use Rattle.lent_lists.specs.Lists.{hashesIn}
 use Rattle.claims.proofs.Naming.{held-last, unheld-last}
 use Rattle.claims.proofs.Listing.{same-claim, no-claim}
 use borrow.Author.Needs.{needs}

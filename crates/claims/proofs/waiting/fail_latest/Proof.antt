@@ -5,7 +5,7 @@ use Rattle.ident.specs.Number.{wtxid}
 use Rattle.ident.specs.Words.{hashNum}
 use Rattle.machine.specs.State.{limitsOf}
 use Rattle.machine.specs.Package.{failedWithParents, failEach, someKeys}
-use Rattle.lists.specs.Lists.{hashesIn}
+use Rattle.lent_lists.specs.Lists.{hashesIn}
 use Rattle.claims.specs.Awaited.{lastAmong, keyFound}
 use Rattle.claims.proofs.Listing.{nothing-on, same-on, found-each, missing-each}
 use borrow.Author.Needs.{needs}

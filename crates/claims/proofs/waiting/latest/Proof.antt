@@ -4,7 +4,7 @@ use native.Mathlib.Omega.{arith}
 use borrow.Author.Needs.{needs}
 use lib.Dec.{eqb}
 use Rattle.ident.specs.Words.{hashNum}
-use Rattle.lists.specs.Lists.{hashesIn}
+use Rattle.lent_lists.specs.Lists.{hashesIn}
 use Rattle.claims.proofs.LastOnes.{NoneFrom, none-yet, none-more, found-here, found-none}
 use Rattle.claims.proofs.waiting.latest.Statement.{statement}
 use Rattle.claims.proofs.waiting.latest.Tie as tie

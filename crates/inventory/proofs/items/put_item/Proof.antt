@@ -4,7 +4,7 @@ use Prim.Native.Nat.{_<_}
 use native.Mathlib.Omega.{arith}
 use Rattle.ident.specs.Number.{typeOf}
 use Rattle.regions.specs.Rows.{quadNumber}
-use Rattle.lists.specs.Items.{typeTop}
+use Rattle.lent_lists.specs.Items.{typeTop}
 use Rattle.reading.proofs.Stored.{quad-below}
 use Rattle.inventory.proofs.Putting.{item-put}
 use borrow.Author.Needs.{needs}

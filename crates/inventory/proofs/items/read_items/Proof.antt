@@ -4,7 +4,7 @@ use Prim.Native.Nat.{_≤_, _-_}
 use mathlib.Core.Path.{_≡_, ap, _∙_}
 use native.Mathlib.Omega.{arith}
 use lib.ListN.{length}
-use Rattle.lists.specs.Items.{itemBytes, itemIn}
+use Rattle.lent_lists.specs.Items.{itemBytes, itemIn}
 use Rattle.lines.specs.Fields.{itemOf}
 use Rattle.reading.specs.Line.{taking}
 use Rattle.reading.specs.Given.{itemAt, ElementsRead}

@@ -5,7 +5,7 @@ use mathlib.Core.Path.{_≡_, ap, _∙_}
 use native.Mathlib.Omega.{arith}
 use lib.ListN.{length}
 use Rattle.machine.specs.Call.{keyBytes}
-use Rattle.lists.specs.Lists.{keyIn, keysIn}
+use Rattle.lent_lists.specs.Lists.{keyIn, keysIn}
 use Rattle.lines.specs.Fields.{keyOf}
 use Rattle.reading.specs.Line.{taking}
 use Rattle.reading.specs.Given.{keyAt, ElementsRead}

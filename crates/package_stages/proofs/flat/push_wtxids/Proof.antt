@@ -5,7 +5,7 @@ use Prim.Native.Nat.{ℕ, _-_, _<_}
 use mathlib.Core.Path.{_≡_, ap, subst, _∙_}
 use lib.ListN.{length, take}
 use lib.Seq.{take-all}
-use Rattle.lists.specs.Lists.{hashesIn}
+use Rattle.lent_lists.specs.Lists.{hashesIn}
 use Rattle.regions.specs.Rows.{quadNumber}
 use Rattle.places.specs.Places.{blank}
 use Rattle.store.proofs.Quads.{number-quad}

@@ -4,7 +4,7 @@ use Prim.Native.Nat.{_+_, _*_, _-_, _≤_}
 use mathlib.Core.Path.{_≡_, refl}
 use native.Mathlib.Omega.{arith}
 use lib.ListN.{length}
-use Rattle.lists.specs.Lists.{keysIn}
+use Rattle.lent_lists.specs.Lists.{keysIn}
 use Rattle.lines.specs.Text.{Wrote}
 use Rattle.printing.specs.Replies.{keyTexts}
 use Rattle.printing.specs.Given.{behind}

@@ -6,7 +6,7 @@ use mathlib.Core.Path.{_≡_, _∙_}
 use native.Mathlib.Nat.{pos-of-ne-zero}
 use native.Mathlib.Omega.{arith}
 use lib.ListN.{length}
-use Rattle.lists.specs.Lists.{keysIn}
+use Rattle.lent_lists.specs.Lists.{keysIn}
 use Rattle.lines.specs.Text.{Wrote}
 use Rattle.printing.specs.Replies.{joined, keyTexts}
 use Rattle.printing.proofs.KeyLists.{start-wrote, more-wrote, all-wrote, none-wrote}

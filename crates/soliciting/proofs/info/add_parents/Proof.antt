@@ -10,8 +10,8 @@ use borrow.Author.Needs.{needs}
 use borrow.Author.Tests.{not-true, not-false}
 use Rattle.ident.specs.Words.{hashNum}
 use Rattle.ident.proofs.Words.{hash-four, hash-below}
-use Rattle.lists.specs.Lists.{hashesIn}
-use Rattle.lists.proofs.Given.{hashes-fit}
+use Rattle.lent_lists.specs.Lists.{hashesIn}
+use Rattle.lent_lists.proofs.Given.{hashes-fit}
 use Rattle.machine.specs.Claim.{elem}
 use Rattle.machine.proofs.Fail.{FewHashes}
 use Rattle.soliciting.proofs.Adding.{Added, added-as, added-start, added-done, added-kept, added-repeat, added-more}

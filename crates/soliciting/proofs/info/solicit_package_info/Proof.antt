@@ -3,7 +3,7 @@ use native.Mathlib.Omega.{arith}
 use borrow.Author.Needs.{needs}
 use borrow.Author.Tests.{not-true, not-false}
 use Rattle.ident.specs.Words.{hashNum, keyNum}
-use Rattle.lists.specs.Lists.{hashesIn}
+use Rattle.lent_lists.specs.Lists.{hashesIn}
 use Rattle.machine.proofs.Fail.{Peer}
 use Rattle.requests.specs.Changes.{candidateOf}
 use Rattle.soliciting.proofs.Subject.{subject-below}

@@ -7,8 +7,8 @@ use borrow.Author.Needs.{needs}
 use Rattle.machine.specs.Limits.{word}
 use Rattle.machine.specs.Call.{keyBytes}
 use Rattle.machine.proofs.Fail.{Peer}
-use Rattle.lists.specs.Items.{itemsIn}
-use Rattle.lists.proofs.Inventory.{items-fit}
+use Rattle.lent_lists.specs.Items.{itemsIn}
+use Rattle.lent_lists.proofs.Inventory.{items-fit}
 use Rattle.wrapping.proofs.Unfound.{Turned, turned-start, turned-kept, turned-fits, turned-roomy, turned-more, turned-done}
 use Rattle.wrapping.proofs.missing.not_found_each.Statement.{statement}
 use Rattle.wrapping.proofs.missing.not_found_each.Tie as tie

@@ -5,8 +5,8 @@ use native.Mathlib.Omega.{arith}
 use Rattle.machine.specs.Limits.{word}
 use Rattle.machine.specs.Call.{keyBytes}
 use Rattle.machine.proofs.Fail.{Peer}
-use Rattle.lists.specs.Items.{itemsIn}
-use Rattle.lists.proofs.Inventory.{items-fit}
+use Rattle.lent_lists.specs.Items.{itemsIn}
+use Rattle.lent_lists.proofs.Inventory.{items-fit}
 use Rattle.wrapping.proofs.Packaged.{items-kept, items-within, packages-room, packages-listed, packages-within}
 use borrow.Author.Needs.{needs}
 use Rattle.wrapping.proofs.missing.transaction_not_found.Statement.{statement}

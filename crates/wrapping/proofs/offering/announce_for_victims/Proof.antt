@@ -1,6 +1,6 @@
 -- `wrapping::offering::announce_for_victims` meets its contract. Assumes nothing.
 use native.Mathlib.Omega.{arith}
-use Rattle.lists.specs.Items.{offersIn}
+use Rattle.lent_lists.specs.Items.{offersIn}
 use Rattle.wrapping.proofs.Swapped.{swaps-gathers, swaps-in, went-none}
 use borrow.Author.Needs.{needs}
 use Rattle.wrapping.proofs.offering.announce_for_victims.Statement.{statement}

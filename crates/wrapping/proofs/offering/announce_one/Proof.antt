@@ -1,5 +1,5 @@
 -- `wrapping::offering::announce_one` meets its contract. Assumes nothing.
-use Rattle.lists.specs.Items.{offersIn}
+use Rattle.lent_lists.specs.Items.{offersIn}
 use Rattle.wrapping.proofs.Gathered.{one-announced}
 use borrow.Author.Needs.{needs}
 use Rattle.wrapping.proofs.offering.announce_one.Statement.{statement}

@@ -3,8 +3,8 @@ use native.Mathlib.Omega.{arith}
 use borrow.Author.Tests.{not-false}
 use Rattle.machine.specs.Typed.{Each, OfferTyped}
 use Rattle.machine.proofs.Fail.{Peer}
-use Rattle.lists.specs.Items.{offersIn}
-use Rattle.lists.proofs.Inventory.{offers-fit}
+use Rattle.lent_lists.specs.Items.{offersIn}
+use Rattle.lent_lists.proofs.Inventory.{offers-fit}
 use Rattle.wrapping.proofs.Swapped.{went-kept, went-then}
 use borrow.Author.Needs.{needs}
 use Rattle.wrapping.proofs.offering.announce_part.Statement.{statement}

@@ -3,8 +3,8 @@ use Prim.Native.Nat.{_+_}
 use native.Mathlib.Omega.{arith}
 use Rattle.machine.specs.Typed.{Each, OfferTyped}
 use Rattle.machine.proofs.Fail.{Peer}
-use Rattle.lists.specs.Items.{offersIn}
-use Rattle.lists.proofs.Inventory.{offers-fit}
+use Rattle.lent_lists.specs.Items.{offersIn}
+use Rattle.lent_lists.proofs.Inventory.{offers-fit}
 use Rattle.wrapping.proofs.Gathered.{collects-gathers, collects-in, part-kept, part-join}
 use borrow.Author.Needs.{needs}
 use Rattle.wrapping.proofs.offering.announce_some.Statement.{statement}

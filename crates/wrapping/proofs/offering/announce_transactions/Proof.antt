@@ -4,8 +4,8 @@ use native.Mathlib.Omega.{arith}
 use lib.ListN.{length}
 use Rattle.machine.specs.Typed.{Each, OfferTyped}
 use Rattle.machine.proofs.Fail.{Peer}
-use Rattle.lists.specs.Items.{offersIn}
-use Rattle.lists.proofs.Inventory.{offers-fit}
+use Rattle.lent_lists.specs.Items.{offersIn}
+use Rattle.lent_lists.proofs.Inventory.{offers-fit}
 use borrow.Author.Needs.{needs}
 use Rattle.wrapping.proofs.Batching.{Batched, batched-start, batched-kept, batched-more, batched-done}
 use Rattle.wrapping.proofs.offering.announce_transactions.Statement.{statement}

@@ -4,7 +4,7 @@ use mathlib.Core.Path.{_≡_, refl, _∙_}
 use native.Mathlib.Omega.{arith}
 use lib.ListN.{length}
 use Rattle.words.specs.Words.{words}
-use Rattle.lists.specs.Items.{offersIn}
+use Rattle.lent_lists.specs.Items.{offersIn}
 use Rattle.wrapping.specs.Batches.{Collects}
 use Rattle.wrapping.proofs.Gathered.{collects-start, collects-more, collects-same}
 use borrow.Author.Needs.{needs}

@@ -2,8 +2,8 @@
 use native.Mathlib.Omega.{arith}
 use Rattle.machine.proofs.Tests.{never}
 use Rattle.words.specs.Words.{words}
-use Rattle.lists.specs.Items.{itemsIn}
-use Rattle.lists.proofs.Inventory.{paired-inside}
+use Rattle.lent_lists.specs.Items.{itemsIn}
+use Rattle.lent_lists.proofs.Inventory.{paired-inside}
 use borrow.Author.Needs.{needs}
 use Rattle.wrapping.proofs.offering.displaces.Statement.{statement}
 use Rattle.wrapping.proofs.offering.displaces.Tie as tie

@@ -4,8 +4,8 @@ use native.Mathlib.Omega.{arith}
 use Rattle.words.specs.Words.{words}
 use Rattle.words.proofs.Words.{length-words}
 use Rattle.machine.specs.Wrapper.{Offer, offered}
-use Rattle.lists.specs.Items.{itemsIn}
-use Rattle.lists.proofs.Inventory.{paired-inside}
+use Rattle.lent_lists.specs.Items.{itemsIn}
+use Rattle.lent_lists.proofs.Inventory.{paired-inside}
 use Rattle.wrapping.proofs.Batching.{offer-is}
 use borrow.Author.Needs.{needs}
 use Rattle.wrapping.proofs.offering.offered_at.Statement.{statement}

@@ -4,7 +4,7 @@ use mathlib.Core.Path.{_≡_, refl, _∙_}
 use native.Mathlib.Omega.{arith}
 use lib.ListN.{length}
 use Rattle.words.specs.Words.{words}
-use Rattle.lists.specs.Items.{offersIn}
+use Rattle.lent_lists.specs.Items.{offersIn}
 use Rattle.wrapping.specs.Swaps.{Swaps}
 use Rattle.wrapping.proofs.Swapped.{swaps-start, swaps-underway, swaps-more, swaps-same, offers-by}
 use borrow.Author.Needs.{needs}

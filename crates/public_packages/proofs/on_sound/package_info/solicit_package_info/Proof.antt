@@ -2,7 +2,7 @@
 -- Assumes nothing.
 use native.Mathlib.Omega.{arith}
 use borrow.Author.Needs.{needs}
-use Rattle.lists.specs.Lists.{hashesIn}
+use Rattle.lent_lists.specs.Lists.{hashesIn}
 use Rattle.outcome.proofs.Turns.{some-connection, early-clock}
 use Rattle.public_packages.proofs.Solicited.{solicit-refused, solicit-passed, solicit-room, solicit-done}
 use Rattle.public_packages.proofs.on_sound.package_info.solicit_package_info.Statement.{statement}

@@ -2,7 +2,7 @@
 -- Assumes nothing.
 use native.Mathlib.Omega.{arith}
 use borrow.Author.Needs.{needs}
-use Rattle.lists.proofs.Inventory.{length-items}
+use Rattle.lent_lists.proofs.Inventory.{length-items}
 use Rattle.outcome.proofs.Header.{head-inside, places-word}
 use Rattle.public_plans.proofs.on_sound.wrappers.missing_needs.Statement.{statement}
 use Rattle.public_plans.proofs.on_sound.wrappers.missing_needs.Tie as tie

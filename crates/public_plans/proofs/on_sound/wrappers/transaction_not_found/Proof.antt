@@ -3,7 +3,7 @@
 use native.Mathlib.Omega.{arith}
 use borrow.Author.Needs.{needs}
 use Rattle.machine.proofs.Fail.{Peer}
-use Rattle.lists.proofs.Inventory.{items-fit}
+use Rattle.lent_lists.proofs.Inventory.{items-fit}
 use Rattle.outcome.proofs.Turns.{some-connection, passed, sized}
 use Rattle.outcome.proofs.Carried.{refused, front-places, lists-done}
 use Rattle.outcome.proofs.ListedKeys.{missing-typed}

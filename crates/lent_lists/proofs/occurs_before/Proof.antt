@@ -8,10 +8,10 @@ use borrow.Author.Needs.{needs}
 use lib.Dec.{eqb}
 use lib.ListN.{getD, take}
 use Rattle.machine.specs.Claim.{elem}
-use Rattle.lists.specs.Lists.{hashesIn}
-use Rattle.lists.proofs.Given.{elem-met, elem-passed}
-use Rattle.lists.proofs.occurs_before.Statement.{statement}
-use Rattle.lists.proofs.occurs_before.Tie as tie
+use Rattle.lent_lists.specs.Lists.{hashesIn}
+use Rattle.lent_lists.proofs.Given.{elem-met, elem-passed}
+use Rattle.lent_lists.proofs.occurs_before.Statement.{statement}
+use Rattle.lent_lists.proofs.occurs_before.Tie as tie
 
 abbrev Inv-loop : tie.InvT-loop
 Inv-loop s i h j₀ j = (j ≤ i) × (elem (getD (hashesIn s) i 0) (take j (hashesIn s)) ≡ false)

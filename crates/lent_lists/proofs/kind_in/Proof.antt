@@ -1,9 +1,9 @@
 -- `lists::kind_in` meets its contract. Assumes nothing.
 use native.Mathlib.Omega.{arith}
 use borrow.Author.Needs.{needs}
-use Rattle.lists.proofs.Inventory.{kind-below, kind-above}
-use Rattle.lists.proofs.kind_in.Statement.{statement}
-use Rattle.lists.proofs.kind_in.Tie as tie
+use Rattle.lent_lists.proofs.Inventory.{kind-below, kind-above}
+use Rattle.lent_lists.proofs.kind_in.Statement.{statement}
+use Rattle.lent_lists.proofs.kind_in.Tie as tie
 
 cast-item-kind : tie.Need-cast-item-kind
 cast-item-kind c = search needs

@@ -1,10 +1,10 @@
 -- `lists::same_hash` meets its contract. Assumes nothing.
 use mathlib.Core.Path.{sym, ap, _∙_}
 use Rattle.ident.specs.Words.{hashNum}
-use Rattle.lists.proofs.Given.{isEqual, equal-is}
+use Rattle.lent_lists.proofs.Given.{isEqual, equal-is}
 use borrow.Author.Needs.{needs}
-use Rattle.lists.proofs.same_hash.Statement.{statement}
-use Rattle.lists.proofs.same_hash.Tie as tie
+use Rattle.lent_lists.proofs.same_hash.Statement.{statement}
+use Rattle.lent_lists.proofs.same_hash.Tie as tie
 
 cmp-hash-requires : tie.Need-cmp-hash-requires
 cmp-hash-requires c κs = search needs

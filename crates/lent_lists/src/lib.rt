@@ -10,8 +10,8 @@ ghost use Rattle.ident.specs.Words.{hashNum, keyNum, itemNum};
 ghost use Rattle.machine.specs.Call.{keyBytes};
 ghost use Rattle.machine.specs.Claim.{elem};
 ghost use Rattle.machine.specs.Step.{kindNumber, keyAnswer};
-ghost use Rattle.lists.specs.Lists.{hashesIn, kindIn, keyIn};
-ghost use Rattle.lists.specs.Items.{itemKindIn, itemsIn, offersIn};
+ghost use Rattle.lent_lists.specs.Lists.{hashesIn, kindIn, keyIn};
+ghost use Rattle.lent_lists.specs.Items.{itemKindIn, itemsIn, offersIn};
 
 // ---- hashes in
 

@@ -3,10 +3,10 @@ use Prim.Native.Nat.{_+_, _*_}
 use mathlib.Core.Path.{_≡_}
 use native.Mathlib.Omega.{arith}
 use borrow.Author.Needs.{needs}
-use Rattle.lists.specs.Items.{itemBytes}
-use Rattle.lists.proofs.Inventory.{length-items, item-is}
-use Rattle.lists.proofs.item_at.Statement.{statement}
-use Rattle.lists.proofs.item_at.Tie as tie
+use Rattle.lent_lists.specs.Items.{itemBytes}
+use Rattle.lent_lists.proofs.Inventory.{length-items, item-is}
+use Rattle.lent_lists.proofs.item_at.Statement.{statement}
+use Rattle.lent_lists.proofs.item_at.Tie as tie
 
 mul-get : tie.Need-mul-get
 mul-get c = omega (arith, length-items (c .before .args .b .now), c .before .pre)

@@ -18,7 +18,7 @@ use Rattle.machine.specs.Call.{keyBytes}
 use Rattle.machine.specs.Step.{keyAnswer, keysAnswer, written}
 use Rattle.machine.specs.Typed.{Each, KeyTyped}
 use Rattle.machine.proofs.AnswerLengths.{length-keyAnswer}
-use Rattle.lists.specs.Lists.{kindIn, keyIn, keysIn}
+use Rattle.lent_lists.specs.Lists.{kindIn, keyIn, keysIn}
 
 word-back : (x : ℕ) → x < 256 ^ 8 → number 256 (bytesOf (x ∷ [])) ≡ x
 unfolding bytesOf

@@ -1,8 +1,8 @@
 -- `lists::hashes` meets its contract. Assumes nothing.
 use mathlib.Core.Path.{sym}
-use Rattle.lists.proofs.Given.{length-hashes}
-use Rattle.lists.proofs.hashes.Statement.{statement}
-use Rattle.lists.proofs.hashes.Tie as tie
+use Rattle.lent_lists.proofs.Given.{length-hashes}
+use Rattle.lent_lists.proofs.hashes.Statement.{statement}
+use Rattle.lent_lists.proofs.hashes.Tie as tie
 
 returns : tie.Need-returns
 returns c = sym (length-hashes (c .args .s .now))

@@ -3,9 +3,9 @@ use Prim.Native.Nat.{_*_}
 use mathlib.Core.Path.{_≡_, sym, _∙_}
 use native.Mathlib.Omega.{arith}
 use Rattle.ident.specs.Words.{hashBytes}
-use Rattle.lists.proofs.Given.{length-hashes, hash-is}
-use Rattle.lists.proofs.hash_in.Statement.{statement}
-use Rattle.lists.proofs.hash_in.Tie as tie
+use Rattle.lent_lists.proofs.Given.{length-hashes, hash-is}
+use Rattle.lent_lists.proofs.hash_in.Statement.{statement}
+use Rattle.lent_lists.proofs.hash_in.Tie as tie
 
 mul-hash-at : tie.Need-mul-hash-at
 mul-hash-at c = omega (arith, length-hashes (c .before .args .s .now), c .before .pre)

@@ -21,7 +21,7 @@ use Rattle.words.proofs.Words.{word-at}
 use Rattle.machine.specs.Limits.{word}
 use Rattle.machine.specs.Wrapper.{Offer}
 use Rattle.machine.specs.Typed.{Each, OfferTyped}
-use Rattle.lists.specs.Items.{itemBytes, typeTop, itemKindIn, itemIn, itemsIn, paired, offersIn}
+use Rattle.lent_lists.specs.Items.{itemBytes, typeTop, itemKindIn, itemIn, itemsIn, paired, offersIn}
 
 -- ---- a type's word
 

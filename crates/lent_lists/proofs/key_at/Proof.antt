@@ -1,7 +1,7 @@
-use Rattle.lists.proofs.KeysBack.{key-read}
+use Rattle.lent_lists.proofs.KeysBack.{key-read}
 use borrow.Author.Needs.{needs}
-use Rattle.lists.proofs.key_at.Statement.{statement}
-use Rattle.lists.proofs.key_at.Tie as tie
+use Rattle.lent_lists.proofs.key_at.Statement.{statement}
+use Rattle.lent_lists.proofs.key_at.Tie as tie
 
 returns : tie.Need-returns
 returns c = key-read (c .before .before .before .before .args .u .now) (c .before .before .before .before .args .i) (c .before .kind-from .result) (c .before .before .before .before .pre)

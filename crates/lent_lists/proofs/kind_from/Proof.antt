@@ -1,6 +1,6 @@
 use borrow.Author.Tests.{eq-eqb, ne-eqb}
-use Rattle.lists.proofs.kind_from.Statement.{statement}
-use Rattle.lists.proofs.kind_from.Tie as tie
+use Rattle.lent_lists.proofs.kind_from.Statement.{statement}
+use Rattle.lent_lists.proofs.kind_from.Tie as tie
 
 returns : tie.Need-returns
 returns c = rw (eq-eqb _ 0 (c .if1 .taken))

@@ -4,10 +4,10 @@ use native.Mathlib.Omega.{arith}
 use borrow.Author.Needs.{needs}
 use Rattle.words.specs.Words.{words}
 use Rattle.words.proofs.Words.{length-words}
-use Rattle.lists.specs.Items.{itemsIn}
-use Rattle.lists.proofs.Inventory.{shorter-items, shorter-priorities}
-use Rattle.lists.proofs.offers.Statement.{statement}
-use Rattle.lists.proofs.offers.Tie as tie
+use Rattle.lent_lists.specs.Items.{itemsIn}
+use Rattle.lent_lists.proofs.Inventory.{shorter-items, shorter-priorities}
+use Rattle.lent_lists.proofs.offers.Statement.{statement}
+use Rattle.lent_lists.proofs.offers.Tie as tie
 
 items-requires : tie.Need-items-requires
 items-requires c κs = search needs

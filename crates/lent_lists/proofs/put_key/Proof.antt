@@ -1,9 +1,9 @@
 -- `lists::put_key` meets its contract. Assumes nothing.
 use Rattle.ident.specs.Words.{keyNum}
-use Rattle.lists.proofs.Answer.{key-put}
+use Rattle.lent_lists.proofs.Answer.{key-put}
 use borrow.Author.Needs.{needs}
-use Rattle.lists.proofs.put_key.Statement.{statement}
-use Rattle.lists.proofs.put_key.Tie as tie
+use Rattle.lent_lists.proofs.put_key.Statement.{statement}
+use Rattle.lent_lists.proofs.put_key.Tie as tie
 
 returns : tie.Need-returns
 returns c =

@@ -1,8 +1,8 @@
 -- `lists::items` meets its contract. Assumes nothing.
 use mathlib.Core.Path.{sym}
-use Rattle.lists.proofs.Inventory.{length-items}
-use Rattle.lists.proofs.items.Statement.{statement}
-use Rattle.lists.proofs.items.Tie as tie
+use Rattle.lent_lists.proofs.Inventory.{length-items}
+use Rattle.lent_lists.proofs.items.Statement.{statement}
+use Rattle.lent_lists.proofs.items.Tie as tie
 
 returns : tie.Need-returns
 returns c = sym (length-items (c .args .b .now))

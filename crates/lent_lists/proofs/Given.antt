@@ -22,7 +22,7 @@ use Rattle.words.proofs.Records.{length-recs, recs-at}
 use Rattle.machine.specs.Claim.{elem}
 use Rattle.machine.specs.Sound.{Hashes}
 use Rattle.machine.proofs.Tests.{or-left, or-right, or-true}
-use Rattle.lists.specs.Lists.{hashesIn}
+use Rattle.lent_lists.specs.Lists.{hashesIn}
 
 pub length-hashes : (b : List ℕ) → length (hashesIn b) ≡ length b / hashBytes
 unfolding hashesIn
