@@ -1,4 +1,4 @@
--- `lists::hashes` meets its contract. Assumes nothing.
+-- `lent_lists::hashes` meets its contract. Assumes nothing.
 use mathlib.Core.Path.{sym}
 use Rattle.lent_lists.proofs.Given.{length-hashes}
 use Rattle.lent_lists.proofs.hashes.Statement.{statement}

@@ -1,4 +1,4 @@
--- `lists::offers` meets its contract. Assumes nothing.
+-- `lent_lists::offers` meets its contract. Assumes nothing.
 use mathlib.Core.Path.{_≡_, sym, _∙_}
 use native.Mathlib.Omega.{arith}
 use borrow.Author.Needs.{needs}
