@@ -1,5 +1,4 @@
 -- request_parent by its two tests: a candidate at the key, a candidate at the other kind, neither.
--- Assumes nothing.
 use Prim.Native.Nat.{ℕ}
 use mathlib.Core.Path.{_≡_, sym, subst, _∙_}
 use mathlib.Core.Bool.{Bool, true, false}

@@ -1,5 +1,4 @@
 -- What the machine's announce answers in each case, and the verdict that says so.
--- Assumes nothing.
 use Prim.Native.Nat.{ℕ}
 use mathlib.Core.Path.{_≡_, refl, sym, ap, subst, _∙_}
 use mathlib.Core.Logic.{inl, inr}

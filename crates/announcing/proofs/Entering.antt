@@ -1,5 +1,4 @@
 -- What coming in does to the bytes: after a victim has gone they write a sound state, with room for one more.
--- Assumes nothing.
 use Prim.Native.Nat.{ℕ, _<_}
 use mathlib.Core.Path.{_≡_, refl, sym, ap, subst, _∙_}
 use mathlib.Core.Logic.{inl, inr}

@@ -1,5 +1,4 @@
 -- The first of the victims gives way: the next ones are then the first. A preferred candidate that comes in changes nothing in their order.
--- Assumes nothing.
 use Prim.Native.Nat.{ℕ, _+_, _-_, _≤_, _<_}
 use mathlib.Core.Path.{_≡_, refl, sym, ap, subst, _∙_}
 use mathlib.Core.Logic.{inl, inr}

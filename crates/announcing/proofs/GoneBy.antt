@@ -1,5 +1,4 @@
 -- Those that give way first are the rows that can be evicted and that the last of them does not come after: they can go in one pass.
--- Assumes nothing.
 use Prim.Native.Nat.{ℕ, _+_, _≤_, _<_}
 use mathlib.Core.Path.{_≡_, refl, sym, ap, subst, _∙_}
 use mathlib.Core.Logic.{_⊎_, inl, inr}

@@ -1,5 +1,4 @@
 -- announce and request_parent of an item: by its key, or refused where it has none.
--- Assumes nothing.
 use Prim.Native.Nat.{ℕ}
 use mathlib.Core.Path.{_≡_, refl, subst}
 use mathlib.Core.Bool.{Bool, false}

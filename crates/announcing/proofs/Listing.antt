@@ -1,5 +1,4 @@
 -- announce_parents on the bytes, hash by hash: what stands after the first i hashes given.
--- Assumes nothing.
 use Prim.Native.Nat.{ℕ, zero, suc, _+_, _*_, _≤_, _<_}
 use mathlib.Core.Path.{_≡_, refl, sym, ap, subst, _∙_}
 use mathlib.Core.Bool.{Bool, true, false}

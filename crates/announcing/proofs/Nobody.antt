@@ -1,5 +1,4 @@
 -- Where L are held and nobody can be evicted, a preferred announcement changes nothing.
--- Assumes nothing.
 use Prim.Native.Nat.{ℕ, _+_, _≤_}
 use mathlib.Core.Path.{_≡_, refl, sym, ap, _∙_}
 use mathlib.Core.Logic.{inl, inr}

@@ -1,5 +1,4 @@
 -- One parent of announce_parents: requested at its Txid key, and marked there if kept.
--- Assumes nothing.
 use Prim.Native.Nat.{ℕ, _<_}
 use mathlib.Core.Path.{_≡_, refl, sym, subst, _∙_}
 use mathlib.Core.Bool.{Bool, true, false}

@@ -1,5 +1,4 @@
 -- announce_parents with one hash more behind the others: a repeat changes nothing, a new one is the last parent.
--- Assumes nothing.
 use Prim.Native.Nat.{ℕ, suc, _+_}
 use mathlib.Core.Path.{_≡_, refl, sym, ap, subst, _∙_}
 use mathlib.Core.Logic.{inl, inr}

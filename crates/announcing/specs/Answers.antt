@@ -1,5 +1,4 @@
 -- What the contracts of announce, request_parent and announce_parents say.
--- Assumes nothing.
 use Prim.Native.Nat.{ℕ}
 use mathlib.Core.Path.{_≡_}
 use mathlib.Core.Bool.{Bool}

@@ -1,5 +1,4 @@
 -- Rows that pass a test taken out in one pass: those that stay move to the front, and those that go are counted out.
--- Assumes nothing.
 use Prim.Native.Nat.{ℕ, _+_, _≤_}
 use mathlib.Core.Path.{_≡_}
 use mathlib.Core.Bool.{Bool}

@@ -1,5 +1,4 @@
 -- What the contracts of announcing at a key say.
--- Assumes nothing.
 use Prim.Native.Nat.{_<_}
 use mathlib.Core.Path.{_≡_}
 use mathlib.Core.Bool.{true, false}

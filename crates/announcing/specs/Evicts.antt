@@ -1,5 +1,4 @@
 -- What the contracts of the scan for a victim say: the machine's entries, as rows have them.
--- Assumes nothing.
 use Prim.Native.Nat.{ℕ, _-_, _/_, _%_}
 use mathlib.Core.Bool.{Bool, true, false, _||_}
 use mathlib.Core.List.{List, [], _∷_}

@@ -1,5 +1,4 @@
 -- Opening: refused it leaves the kept lists, carried out it empties them.
--- Assumes nothing.
 use Prim.Native.Nat.{ℕ}
 use mathlib.Core.Path.{_≡_, sym, ap, _∙_}
 use mathlib.Core.List.{List, [], _∷_}

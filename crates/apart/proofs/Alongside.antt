@@ -1,5 +1,4 @@
 -- Parents that wait beside the store: one more waits, they come in, one is announced where none waits.
--- Assumes nothing.
 use Prim.Native.Nat.{ℕ, _+_, _-_, _≤_, _<_}
 use mathlib.Core.Path.{_≡_, refl, sym, ap, subst, _∙_}
 use mathlib.Core.Logic.{inl, inr}

@@ -1,5 +1,4 @@
 -- Announcing commutes with taking the packages away: announce, request_parent and announce_parents look at candidates and owners alone.
--- Assumes nothing.
 use Prim.Native.Nat.{ℕ, suc}
 use mathlib.Core.Path.{_≡_, refl, ap, _∙_}
 use mathlib.Core.Logic.{inl, inr}

@@ -1,5 +1,4 @@
 -- A change at one key commutes with taking the packages away, wherever its change of a request does; and so failing does.
--- Assumes nothing.
 use Prim.Native.Nat.{ℕ}
 use mathlib.Core.Path.{_≡_, refl, sym, ap, _∙_}
 use mathlib.Core.Logic.{inl, inr}

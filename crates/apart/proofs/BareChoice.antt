@@ -1,5 +1,4 @@
 -- What a plan looks at is the same without packages: the owners that are due, the choice for a key, and a phase over keys.
--- Assumes nothing.
 use Prim.Native.Nat.{ℕ, suc, _+_}
 use mathlib.Core.Path.{_≡_, refl, ap, _∙_}
 use mathlib.Core.Bool.{Bool, _&&_}

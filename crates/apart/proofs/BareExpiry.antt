@@ -1,5 +1,4 @@
 -- One owner that expires: on the table without packages it is the same, and its place, unless Enqueued, is the one that goes.
--- Assumes nothing.
 use Prim.Native.Nat.{ℕ, _<_}
 use mathlib.Core.Path.{_≡_, refl, sym, ap, subst, _∙_}
 use mathlib.Core.Logic.{inl, inr}

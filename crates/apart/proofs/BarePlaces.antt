@@ -1,5 +1,4 @@
 -- The places of a table: tables that hold the same at every key have the same places; each place is that of the request at its hash.
--- Assumes nothing.
 use Prim.Native.Nat.{ℕ, suc, _≤_, _<_}
 use mathlib.Core.Path.{_≡_, refl, sym, ap, subst, _∙_}
 use mathlib.Core.Logic.{inl, inr}

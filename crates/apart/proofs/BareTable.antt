@@ -1,5 +1,4 @@
 -- A table without packages: what stands at a key, its keys, counts and rows are those of the table; it holds no place, and is sound.
--- Assumes nothing.
 use Prim.Native.Nat.{ℕ}
 use mathlib.Core.Path.{_≡_, refl, ap}
 use mathlib.Core.Logic.{inl, inr}

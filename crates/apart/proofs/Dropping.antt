@@ -1,5 +1,4 @@
 -- Owners whose time is over fail one after the other: the same as all candidates beside them made ready first, and then all of them dropped.
--- Assumes nothing.
 use Prim.Native.Nat.{ℕ, suc, _+_, _≤_, _<_}
 use mathlib.Core.Path.{_≡_, refl, sym, ap, subst, _∙_}
 use mathlib.Core.Logic.{inl, inr}

@@ -1,5 +1,4 @@
 -- Parents announced one after the other, in two halves, some of them waiting beside the store: the bits of each half.
--- Assumes nothing.
 use Prim.Native.Nat.{ℕ, _+_, _-_, _*_, _≤_, _<_}
 use mathlib.Core.Path.{_≡_, refl, sym, ap, subst, _∙_}
 use mathlib.Core.Bool.{Bool, false}

@@ -1,5 +1,4 @@
 -- Requests marked one after the other: no count changes, and a candidate at another key may come in before or after.
--- Assumes nothing.
 use Prim.Native.Nat.{ℕ, suc, _+_, _<_}
 use mathlib.Core.Path.{_≡_, refl, sym, ap, _∙_}
 use mathlib.Core.Logic.{inl, inr}

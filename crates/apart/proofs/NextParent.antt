@@ -1,5 +1,4 @@
 -- The next parent, whatever is known of the victims: what is listed for it, how it is announced, and what is known then.
--- Assumes nothing.
 use Prim.Native.Nat.{ℕ, _+_, _-_, _≤_, _<_}
 use mathlib.Core.Path.{_≡_, refl, sym, ap, subst, _∙_}
 use mathlib.Core.Bool.{Bool, true, false, not}

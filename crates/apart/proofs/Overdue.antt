@@ -1,5 +1,4 @@
 -- An owner whose time is over, where the places are set apart: what is read of its place, what failing and announcing make of the whole.
--- Assumes nothing.
 use Prim.Native.Nat.{ℕ, zero, suc, _+_, _-_, _*_, _≤_, _<_}
 use mathlib.Core.Path.{_≡_, refl, sym, ap, subst, _∙_}
 use mathlib.Core.Logic.{inl, inr}

@@ -1,5 +1,4 @@
 -- Every owner that is due expires, where no place is set apart: one pass over the rows comes to the same.
--- Assumes nothing.
 use Prim.Native.Nat.{ℕ, _+_, _-_, _≤_, _<_}
 use mathlib.Core.Path.{_≡_, refl, sym, ap, subst, _∙_}
 use mathlib.Core.Bool.{Bool, true, false, _||_}

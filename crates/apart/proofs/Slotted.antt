@@ -1,5 +1,4 @@
 -- The places that are set apart: one read, searched, killed, in the array or behind the store.
--- Assumes nothing.
 use Prim.Native.Nat.{ℕ, zero, suc, _+_, _-_, _*_, _≤_, _<_}
 use mathlib.Core.Path.{_≡_, refl, sym, ap, subst, _∙_}
 use mathlib.Core.Logic.{inl, inr}

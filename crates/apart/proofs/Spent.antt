@@ -1,5 +1,4 @@
 -- Where no candidate can be evicted: a parent that is announced leaves it so, and with L held it comes in only if its connection has announced it.
--- Assumes nothing.
 use Prim.Native.Nat.{ℕ, suc, _≤_, _<_}
 use mathlib.Core.Path.{_≡_, refl, sym, ap, subst, _∙_}
 use mathlib.Core.Logic.{inl, inr}

@@ -1,6 +1,5 @@
 -- A store whose package places are set apart: its first bytes write the state without packages, the first place lies in an array beside
 -- it, the others behind those bytes. A place whose stage is 0 is dead: its request has lost it.
--- Assumes nothing.
 use Prim.Native.Nat.{ℕ, _+_, _-_, _*_, _≤_, _<_}
 use mathlib.Core.Path.{_≡_}
 use mathlib.Core.Logic.{_⊎_}

@@ -1,5 +1,4 @@
 -- A state without its packages: every request has lost flag, package and parents, and nothing else.
--- Assumes nothing.
 use Prim.Native.Nat.{ℕ}
 use mathlib.Core.Bool.{Bool, not}
 use mathlib.Core.List.{[], _∷_}

@@ -1,5 +1,4 @@
 -- Parents of a place where L are held: the victims that give way to them are listed beside the store, or it is known that there are none.
--- Assumes nothing.
 use Prim.Native.Nat.{ℕ, _+_, _-_, _≤_, _<_}
 use mathlib.Core.Path.{_≡_}
 use mathlib.Core.Bool.{Bool, true, false}

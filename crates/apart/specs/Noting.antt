@@ -1,5 +1,4 @@
 -- Parents of a place announced one by one, and which of them were kept noted as the bits of a number, the first the least.
--- Assumes nothing.
 use Prim.Native.Nat.{ℕ, zero, suc, _+_, _-_, _*_, _/_, _%_, _≤_}
 use mathlib.Core.Path.{_≡_}
 use mathlib.Core.List.{List, [], _∷_, _++_}

@@ -1,5 +1,4 @@
 -- Owners whose time is over, where no request has a package: their rows go in one pass.
--- Assumes nothing.
 use Prim.Native.Nat.{ℕ, _+_, _≤_}
 use mathlib.Core.Path.{_≡_}
 use mathlib.Core.Bool.{Bool, false, _&&_}

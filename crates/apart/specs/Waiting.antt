@@ -1,5 +1,4 @@
 -- Parents of a place that wait beside the store: their rows come in together, and their requests are marked then.
--- Assumes nothing.
 use Prim.Native.Nat.{ℕ, suc, _+_, _-_, _≤_}
 use mathlib.Core.Path.{_≡_}
 use mathlib.Core.Bool.{Bool, true, false}

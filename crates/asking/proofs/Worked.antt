@@ -1,5 +1,4 @@
 -- Lines by computation: those of document 01's worked example, one of each word with a list or about one, and unreadable ones.
--- Assumes nothing.
 use Prim.Native.Nat.{ℕ}
 use mathlib.Core.Path.{_≡_, refl}
 use mathlib.Core.Bool.{false}

@@ -1,5 +1,4 @@
 -- Which line the fields behind a word are (docs/EVENTS.md, "Words"); none for a line of no listed form.
--- Assumes nothing.
 use Prim.Native.Nat.{ℕ}
 use mathlib.Core.Bool.{_&&_}
 use mathlib.Core.List.{List, [], _∷_}

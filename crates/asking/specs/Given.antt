@@ -1,5 +1,4 @@
 -- What the contracts of the readers of lines say.
--- Assumes nothing.
 use Prim.Native.Nat.{ℕ, _+_}
 use mathlib.Core.List.{List}
 use mathlib.Core.Option.{Option, none, some}

@@ -1,5 +1,4 @@
 -- The words of event lines (docs/EVENTS.md, "Words"): the first field of a line.
--- Assumes nothing.
 use Prim.Native.Nat.{ℕ}
 use mathlib.Core.List.{List, [], _∷_}
 use Rattle.ident.specs.If.{if_then_else_}

@@ -1,5 +1,4 @@
 -- The call of a word that is known, with its values as the code has them and as the line has them.
--- Assumes nothing.
 use Prim.Native.Nat.{ℕ}
 use mathlib.Core.Path.{_≡_, sym, subst}
 use mathlib.Core.List.{List}

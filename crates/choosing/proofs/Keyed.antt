@@ -1,5 +1,4 @@
 -- The rows of a key say what a plan chooses there.
--- Assumes nothing.
 use Prim.Native.Nat.{ℕ, _<_}
 use native.Mathlib.Omega.{arith}
 use mathlib.Core.Path.{_≡_, refl, sym, ap, _∙_}

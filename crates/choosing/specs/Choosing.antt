@@ -1,5 +1,4 @@
 -- What the contracts of choosing say: the machine's choice, as rows have it.
--- Assumes nothing.
 use Prim.Native.Nat.{ℕ, _<_}
 use mathlib.Core.Path.{_≡_}
 use mathlib.Core.Bool.{Bool, true, false, _||_}

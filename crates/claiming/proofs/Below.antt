@@ -1,5 +1,4 @@
 -- The ranges of a declared entry's fields.
--- Assumes nothing.
 use Prim.Native.Nat.{_<_}
 use denote.Laws.{Is}
 use denote.Struct.Laws as LL

@@ -1,5 +1,4 @@
 -- A claim on the bytes, entry by entry: what is left of the list, from the table that stands, comes to the same as the whole list.
--- Assumes nothing.
 use Prim.Native.Nat.{ℕ, _+_, _*_, _≤_, _<_}
 use mathlib.Core.Path.{_≡_, refl, sym, ap, subst, _∙_}
 use mathlib.Core.Logic.{inl, inr}

@@ -1,7 +1,6 @@
 -- Calls to which a list of entries or bytes are lent, as steps of a walk over any rest of the context.
 --     reads-listed       `entry_at`, to which a `&[Entry]` is passed, and kept
 --     claims-lent        `claim_next`, to which the two `&mut [u8]` of a claim are lent again
--- Assumes nothing.
 use mathlib.Core.Path.{_≡_, refl, sym, ap, subst, _∙_}
 use Prim.Native.Nat.{ℕ, _+_, _*_, _<_, _≤_, _^_}
 use mathlib.Core.List.{List, [], _∷_}

@@ -1,5 +1,4 @@
 -- One entry of a claim: whether it is taken, and what becomes of the bytes.
--- Assumes nothing.
 use Prim.Native.Nat.{ℕ, _+_, _*_, _<_}
 use mathlib.Core.Path.{_≡_, refl, sym, ap, _∙_}
 use mathlib.Core.Logic.{inl, inr}

@@ -1,5 +1,4 @@
 -- What the contracts of claim say: the declared entries as the machine's, and what becomes of one of them.
--- Assumes nothing.
 use Prim.Native.Nat.{ℕ, zero, suc, _+_, _*_, _/_, _%_, _<_}
 use mathlib.Core.Path.{_≡_}
 use mathlib.Core.Bool.{Bool, true, false, not}

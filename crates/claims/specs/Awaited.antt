@@ -1,5 +1,4 @@
 -- failed_package_claims: the claims of a connection in the table, in rows and in lists of hashes; keys listed behind others.
--- Assumes nothing.
 use Prim.Native.Nat.{ℕ, _+_, _*_, _≤_}
 use mathlib.Core.Logic.{_⊎_}
 use mathlib.Core.Path.{_≡_}

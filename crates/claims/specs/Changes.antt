@@ -1,5 +1,4 @@
 -- What the contracts of the calls that give package claims up say.
--- Assumes nothing.
 use Prim.Native.Nat.{ℕ}
 use mathlib.Core.List.{List}
 use Rattle.machine.specs.Limits.{Limits}

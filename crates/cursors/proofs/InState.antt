@@ -1,5 +1,4 @@
 -- Next poll and cursors of the state that bytes write: as the header's words have them, and with others in their place.
--- Assumes nothing.
 use Prim.Native.Nat.{ℕ, _+_}
 use mathlib.Core.Path.{_≡_, sym, ap, subst, _∙_}
 use mathlib.Core.Bool.{Bool}

@@ -2,7 +2,6 @@
 --     loads-lent                     `load`, to which a `&mut [u8]` is lent as a `&[u8]`
 --     saves-lent                     `save`, to which a `&mut [u8]` is lent again
 --     lends-record, record-back      a local record, lent as a `&mut` and taken back once the call is over
--- Assumes nothing.
 use mathlib.Core.Path.{_≡_, refl, sym, ap, subst}
 use Prim.Native.Nat.{ℕ, _*_, _≤_}
 use mathlib.Core.List.{List, [], _∷_}

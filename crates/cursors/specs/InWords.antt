@@ -1,5 +1,4 @@
 -- Next poll and cursors as words of the header (docs/STORE.md, words 6 to 17).
--- Assumes nothing.
 use Prim.Native.Nat.{ℕ, _+_}
 use mathlib.Core.Path.{_≡_}
 use mathlib.Core.List.{List, _∷_}

@@ -1,5 +1,4 @@
 -- The record of next poll and cursors in the machine's numbers (document 01: "next poll time, known cursor, ready cursor, each possibly none").
--- Assumes nothing.
 use Prim.Native.Nat.{ℕ}
 use mathlib.Core.Path.{_≡_}
 use mathlib.Core.Bool.{Bool}

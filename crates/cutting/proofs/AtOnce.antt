@@ -1,5 +1,4 @@
 -- The cuts of a connection, one after the other, are one pass over the table.
--- Assumes nothing.
 use Prim.Native.Nat.{ℕ, suc, _≤_, _<_}
 use mathlib.Core.Path.{_≡_, refl, sym, ap, _∙_}
 use mathlib.Core.Logic.{inl, inr}

@@ -1,5 +1,4 @@
 -- The rows are out, then the tally: the bytes write the table that the connection has left.
--- Assumes nothing.
 use Prim.Native.Nat.{ℕ, _+_}
 use mathlib.Core.Path.{_≡_, refl, sym, ap, _∙_}
 use mathlib.Core.Bool.{Bool}

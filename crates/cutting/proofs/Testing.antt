@@ -1,5 +1,4 @@
 -- The test of one row, and that the rows that go are those of one connection, none of which owns its request.
--- Assumes nothing.
 use Prim.Native.Nat.{ℕ, _/_, _%_}
 use mathlib.Core.Path.{_≡_, refl, sym}
 use mathlib.Core.Logic.{inl, inr}

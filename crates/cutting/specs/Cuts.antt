@@ -1,6 +1,5 @@
 -- The candidates of a connection cut under many keys at once: the machine's cuts one after the other, and what they come to
 -- in the table, in the rows and in the tally.
--- Assumes nothing.
 use Prim.Native.Nat.{ℕ, _+_, _-_}
 use mathlib.Core.Path.{_≡_}
 use mathlib.Core.Bool.{Bool, not, _&&_}

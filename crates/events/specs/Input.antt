@@ -1,5 +1,4 @@
 -- Standard input, a byte at a time (docs/EVENTS.md): its lines, what each answers, and the store.
--- Assumes nothing.
 use Prim.Native.Nat.{ℕ, min}
 use mathlib.Core.Path.{_≡_}
 use mathlib.Core.Bool.{Bool, true, false}

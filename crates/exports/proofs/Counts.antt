@@ -1,5 +1,4 @@
 -- From the answer of `counts` to the status and the numbers that its export hands out.
--- Assumes nothing.
 use Prim.Native.Nat.{ℕ, zero, suc}
 use mathlib.Core.Path.{_≡_, refl}
 use mathlib.Core.List.{List}

@@ -1,5 +1,4 @@
 -- From the answer of a call on a payload to the status and the count that its export hands out.
--- Assumes nothing.
 use Prim.Native.Nat.{ℕ, zero, suc}
 use mathlib.Core.Path.{_≡_, refl}
 use mathlib.Core.Logic.{_⊎_, ⊎-elim}

@@ -1,5 +1,4 @@
 -- No call replies a refusal when it is carried out: one law for all. And those of which the Rust returns nothing reply 1.
--- Assumes nothing.
 use Prim.Native.Nat.{ℕ}
 use mathlib.Core.Path.{_≡_, refl}
 use mathlib.Core.Bool.{Bool}

@@ -1,5 +1,4 @@
 -- From the answer of a public call to the status and the numbers that its export hands out.
--- Assumes nothing.
 use Prim.Native.Nat.{ℕ, zero, suc}
 use mathlib.Core.Path.{_≡_, refl, sym, ap, subst, _∙_}
 use mathlib.Core.Bool.{Bool}

@@ -1,5 +1,4 @@
 -- The arguments of an exported call have their widths, as those of the public call have (crates/tracker, proofs/Typed).
--- Assumes nothing.
 use Prim.Native.Nat.{ℕ, _<_}
 use mathlib.Core.Path.{_≡_}
 use mathlib.Core.Bool.{Bool}

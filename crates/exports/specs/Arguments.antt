@@ -1,5 +1,4 @@
 -- What the arguments of an exported call stand for.
--- Assumes nothing.
 use Prim.Native.Nat.{ℕ}
 use mathlib.Core.Bool.{Bool}
 use mathlib.Core.List.{List}

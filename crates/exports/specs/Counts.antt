@@ -1,5 +1,4 @@
 -- What the numbers of the exported `counts` say.
--- Assumes nothing.
 use Prim.Native.Nat.{ℕ, zero, suc}
 use mathlib.Core.List.{List}
 use Rattle.public_requests.specs.declared.Counts.{Counts}

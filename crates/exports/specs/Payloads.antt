@@ -1,5 +1,4 @@
 -- What the numbers of the exported calls on payloads say.
--- Assumes nothing.
 use Prim.Native.Nat.{ℕ, zero, suc}
 use mathlib.Core.List.{List}
 use Rattle.ident.specs.Number.{Item}

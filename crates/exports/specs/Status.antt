@@ -1,5 +1,4 @@
 -- What the numbers of an exported call say, in document 01's numbers and values.
--- Assumes nothing.
 use Prim.Native.Nat.{ℕ, zero, suc}
 use mathlib.Core.Path.{_≡_}
 use mathlib.Core.List.{List}

@@ -1,5 +1,4 @@
 -- One change after another at the same key is one change; a change matters only by what it makes of the request that is there.
--- Assumes nothing.
 use Prim.Native.Nat.{ℕ, suc, _≤_, _<_}
 use mathlib.Core.Path.{_≡_, refl, sym, ap, _∙_}
 use mathlib.Core.Logic.{inl, inr}

@@ -1,5 +1,4 @@
 -- A connection leaves a request, and then both kinds of a hash, in bytes.
--- Assumes nothing.
 use Prim.Native.Nat.{ℕ, _<_}
 use mathlib.Core.Path.{_≡_, refl, sym, ap, subst, _∙_}
 use mathlib.Core.Bool.{Bool, true, false, not}

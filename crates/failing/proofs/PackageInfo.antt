@@ -1,5 +1,4 @@
 -- Who is asked for package info, from the numbers that a request is read as.
--- Assumes nothing.
 use Prim.Native.Nat.{ℕ, _≤_, _<_}
 use mathlib.Core.Path.{_≡_, refl, sym, ap, subst, _∙_}
 use mathlib.Core.Bool.{Bool, true, false, _&&_}

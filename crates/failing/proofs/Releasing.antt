@@ -1,5 +1,4 @@
 -- The test of failed and unclaim, from the numbers that a request is read as.
--- Assumes nothing.
 use Prim.Native.Nat.{ℕ, _≤_, _<_}
 use mathlib.Core.Path.{_≡_, refl, sym, ap, _∙_}
 use mathlib.Core.Logic.{inl, inr}

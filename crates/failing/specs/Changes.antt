@@ -1,5 +1,4 @@
 -- What the contracts say of parents that are copied, and of keys that are listed.
--- Assumes nothing.
 use Prim.Native.Nat.{ℕ}
 use mathlib.Core.List.{List, _∷_}
 use Rattle.ident.specs.Number.{Key}

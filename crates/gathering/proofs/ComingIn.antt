@@ -1,5 +1,4 @@
 -- Candidates that come in together, in the flat state: rows merged, one entry of the tally raised, places as they were.
--- Assumes nothing.
 use Prim.Native.Nat.{ℕ, _+_}
 use mathlib.Core.Path.{_≡_, refl, sym, ap, _∙_}
 use mathlib.Core.Bool.{false}

@@ -1,5 +1,4 @@
 -- The key of an item by its kind, where code has told the kind.
--- Assumes nothing.
 use Prim.Native.Nat.{ℕ}
 use mathlib.Core.Path.{_≡_}
 use mathlib.Core.Option.{none, some}

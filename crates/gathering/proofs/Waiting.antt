@@ -1,5 +1,4 @@
 -- Announcing behind those that wait, where nothing has to give way: each test can be made on the table as it was, beside them.
--- Assumes nothing.
 use Prim.Native.Nat.{ℕ, _+_, _≤_, _<_}
 use mathlib.Core.Path.{_≡_, refl, sym, ap, _∙_}
 use mathlib.Core.Logic.{inl, inr}

@@ -1,5 +1,4 @@
 -- Rows that wait in a region of their own, beside the store, and what comes of an announcement beside them.
--- Assumes nothing.
 use Prim.Native.Nat.{ℕ, _+_, _≤_, _<_}
 use mathlib.Core.Path.{_≡_}
 use mathlib.Core.Bool.{Bool, false, _||_}

@@ -1,6 +1,5 @@
 -- Where L announcements are held, and the store is written at the end only: those that come in wait beside it, and as many of the victims
 -- listed are to go for them. What is asked meanwhile is asked of the store as it was.
--- Assumes nothing.
 use Prim.Native.Nat.{ℕ, _+_, _≤_, _<_}
 use mathlib.Core.Path.{_≡_}
 use mathlib.Core.Logic.{_⊎_}

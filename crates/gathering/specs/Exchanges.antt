@@ -1,5 +1,4 @@
 -- Where L announcements are held: one that comes in waits beside the store, and the first of the victims goes for it.
--- Assumes nothing.
 use Prim.Native.Nat.{ℕ, _+_, _≤_, _<_}
 use mathlib.Core.Path.{_≡_}
 use mathlib.Core.Bool.{true, false}

@@ -1,5 +1,4 @@
 -- Candidates of one connection that wait beside the table, to come in together: announce_transactions where nothing has to give way.
--- Assumes nothing.
 use Prim.Native.Nat.{ℕ, _+_, _<_}
 use mathlib.Core.Path.{_≡_}
 use mathlib.Core.Bool.{Bool, false, _||_}

@@ -1,5 +1,4 @@
 -- An owner dropped at a key, as the code does it: it fails, then the parents are announced for the candidates left.
--- Assumes nothing.
 use Prim.Native.Nat.{ℕ, _<_}
 use mathlib.Core.Path.{_≡_, refl, sym, ap, subst, _∙_}
 use mathlib.Core.Bool.{Bool, true}

@@ -1,5 +1,4 @@
 -- An owner with nothing to announce gives its request back in place: in bytes.
--- Assumes nothing.
 use Prim.Native.Nat.{ℕ, _<_}
 use mathlib.Core.Path.{_≡_, refl, sym, ap, _∙_}
 use mathlib.Core.Logic.{inl, inr}

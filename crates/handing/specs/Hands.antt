@@ -1,5 +1,4 @@
 -- What an owner that leaves hands on: parents announced for the candidates left, their keys put in order; or its request, given back.
--- Assumes nothing.
 use Prim.Native.Nat.{ℕ, _≤_, _<_}
 use mathlib.Core.Path.{_≡_}
 use mathlib.Core.Logic.{_⊎_}

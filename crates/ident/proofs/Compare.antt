@@ -1,4 +1,4 @@
--- The order of two numbers, and of two numbers that are each made of a high part and a low part below K: it is the order of the high parts, and where those are equal that of the low. Assumes nothing.
+-- The order of two numbers, and of two numbers that are each made of a high part and a low part below K: it is the order of the high parts, and where those are equal that of the low.
 use mathlib.Core.Path.{_≡_, refl, sym, _∙_, ap}
 use Prim.Native.Nat.{ℕ, suc, _+_, _*_, _<_, _≤_}
 use mathlib.Core.List.{List, _∷_}

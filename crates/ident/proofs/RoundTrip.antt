@@ -1,5 +1,4 @@
 -- Bytes to a hash and back, from the two contracts alone.
--- Assumes nothing.
 use Prim.Native.Nat.{ℕ, _<_}
 use mathlib.Core.Path.{_≡_, sym, ap, _∙_}
 use mathlib.Core.List.{List}

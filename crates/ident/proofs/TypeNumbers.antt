@@ -1,5 +1,4 @@
 -- The kinds of items and their type numbers: one decides the other.
--- Assumes nothing.
 use mathlib.Core.Path.{_≡_, refl, sym, subst}
 use Prim.Native.Nat.{ℕ}
 use mathlib.Core.Bool.{Bool, true, false}

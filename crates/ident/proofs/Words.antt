@@ -1,5 +1,4 @@
 -- What the number of a hash says of its words: it is below `top`, and it decides them.
--- Assumes nothing.
 use mathlib.Core.Path.{_≡_, sym, _∙_, ap}
 use Prim.Native.Nat.{ℕ, zero, suc, _<_, _^_}
 use mathlib.Core.List.{List, [], _∷_, map}

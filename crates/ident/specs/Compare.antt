@@ -1,5 +1,4 @@
 -- The order of two numbers as the code answers it.
--- Assumes nothing.
 use Prim.Native.Nat.{ℕ}
 use lib.Dec.{ltb}
 use Rattle.ident.specs.declared.Kind.{Kind}

@@ -1,5 +1,4 @@
 -- A choice between two values.
--- Assumes nothing.
 use mathlib.Core.Bool.{Bool, true, false}
 
 infixr 10 if_then_else_

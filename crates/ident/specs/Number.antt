@@ -1,5 +1,4 @@
 -- Hashes, keys and items with the hash as a number (document 01, "What a state holds").
--- Assumes nothing.
 use Prim.Native.Nat.{ℕ, _+_, _^_}
 use mathlib.Core.Bool.{Bool, true, false, _||_}
 use mathlib.Core.Option.{Option, none, some}

@@ -1,5 +1,4 @@
 -- The numbers that the declared types stand for: of a hash, of a key, of an item.
--- Assumes nothing.
 use Prim.Native.Nat.{ℕ, _^_}
 use mathlib.Core.Option.{Option, none, some}
 use Rattle.words.specs.Words.{number}

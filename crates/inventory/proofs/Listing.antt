@@ -1,5 +1,4 @@
 -- The lists of keys, items and numbers that stand behind a line's other fields.
--- Assumes nothing.
 use Prim.Native.Nat.{ℕ, _+_, _*_, _≤_}
 use mathlib.Core.Path.{_≡_, sym, ap, _∙_}
 use mathlib.Core.List.{List}

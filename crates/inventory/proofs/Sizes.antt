@@ -1,5 +1,4 @@
 -- How many bytes an element of a list has at least, its commas counted.
--- Assumes nothing.
 use Prim.Native.Nat.{ℕ, suc, _+_, _^_, _≤_}
 use mathlib.Core.Path.{_≡_, refl}
 use mathlib.Core.List.{List, [], _∷_}

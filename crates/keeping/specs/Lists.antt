@@ -1,5 +1,4 @@
 -- How the lists that the program keeps between lines stand in bytes, beside the store.
--- Assumes nothing.
 use Prim.Native.Nat.{ℕ, _*_, _≤_}
 use mathlib.Core.Path.{_≡_}
 use mathlib.Core.List.{List}

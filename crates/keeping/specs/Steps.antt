@@ -1,5 +1,4 @@
 -- What the contract of a step says that may change the kept lists.
--- Assumes nothing.
 use Prim.Native.Nat.{ℕ, _≤_}
 use mathlib.Core.Path.{_≡_}
 use mathlib.Core.List.{List}

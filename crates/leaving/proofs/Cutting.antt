@@ -1,5 +1,4 @@
 -- The candidates of a connection cut under the keys of a part of the buffer, as the code does it.
--- Assumes nothing.
 use Prim.Native.Nat.{ℕ, _-_, _≤_, _<_}
 use mathlib.Core.Path.{_≡_, refl}
 use mathlib.Core.List.{List}

@@ -1,5 +1,4 @@
 -- Changes at two keys may be made in either order; so an owner with nothing to announce may wait to be cut with the other keys.
--- Assumes nothing.
 use Prim.Native.Nat.{ℕ, suc, _+_, _≤_, _<_}
 use mathlib.Core.Path.{_≡_, refl, sym, ap, subst, _∙_}
 use mathlib.Core.Logic.{inl, inr}

@@ -1,5 +1,4 @@
 -- disconnected: its start, its end, and its answer.
--- Assumes nothing.
 use Prim.Native.Nat.{ℕ, min, _+_, _*_, _≤_, _<_}
 use mathlib.Core.Path.{_≡_, refl, sym, ap, subst, _∙_}
 use mathlib.Core.Logic.{inl, inr}

@@ -1,6 +1,5 @@
 -- A connection that leaves comes to no key behind the one it is dropped at: parents are announced under Txid keys, which stand before
 -- every key that has parents. (It may come to a Txid key: the parents of an Enqueued package are announced for its owner too.)
--- Assumes nothing.
 use Prim.Native.Nat.{ℕ, suc, _+_, _≤_, _<_}
 use mathlib.Core.Path.{_≡_, refl, sym, ap, subst, _∙_}
 use mathlib.Core.Logic.{inl, inr}

@@ -1,5 +1,4 @@
 -- The keys under which a connection is a candidate are those of its rows.
--- Assumes nothing.
 use Prim.Native.Nat.{ℕ, min, _+_, _*_, _≤_, _<_}
 use mathlib.Core.Path.{_≡_, refl, sym, ap, _∙_}
 use mathlib.Core.Logic.{inl, inr}

@@ -1,5 +1,4 @@
 -- disconnected, part by part: what a loop over the keys of the connection keeps, from one owned key to the next.
--- Assumes nothing.
 use Prim.Native.Nat.{ℕ, suc, _≤_, _<_}
 use mathlib.Core.Path.{_≡_, refl, sym, ap, _∙_}
 use mathlib.Core.Logic.{inl, inr}

@@ -1,5 +1,4 @@
 -- disconnected in parts: the keys up to the next owned one are cut together, and this is the cut of a range of keys.
--- Assumes nothing.
 use Prim.Native.Nat.{ℕ, suc, _≤_, _<_}
 use mathlib.Core.Path.{_≡_, refl, sym, ap, _∙_}
 use mathlib.Core.Logic.{inl, inr}

@@ -1,5 +1,4 @@
 -- What the contracts of disconnected say: on the way, and at its end.
--- Assumes nothing.
 use Prim.Native.Nat.{ℕ, _+_, _-_, _*_, _≤_, _<_}
 use mathlib.Core.Path.{_≡_}
 use mathlib.Core.Logic.{_⊎_}

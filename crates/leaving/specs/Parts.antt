@@ -1,5 +1,4 @@
 -- The keys under which a connection is a candidate: in parts that are cut at once, and in the rows.
--- Assumes nothing.
 use Prim.Native.Nat.{ℕ, _+_, _*_, _≤_, _<_}
 use mathlib.Core.Path.{_≡_}
 use mathlib.Core.Bool.{Bool, true, false, _||_}

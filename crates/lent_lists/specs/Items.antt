@@ -1,5 +1,4 @@
 -- Items of an inventory in lent bytes, and the priorities beside them (document 01, "Wrappers' tracker part").
--- Assumes nothing.
 use Prim.Native.Nat.{ℕ, _%_, _/_, _^_}
 use mathlib.Core.List.{List, [], _∷_}
 use lib.Dec.{ltb}

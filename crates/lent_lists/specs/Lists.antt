@@ -1,5 +1,4 @@
 -- Lists in lent bytes: hashes given to a call, keys written to its answer buffer (document 01, "Buffer needs in entries").
--- Assumes nothing.
 use Prim.Native.Nat.{ℕ, _/_}
 use mathlib.Core.List.{List}
 use lib.ListN.{length, take, drop}

@@ -1,5 +1,4 @@
 -- Hashes digit by digit: one more hexadecimal digit, one fewer.
--- Assumes nothing.
 use Prim.Native.Nat.{ℕ, _+_, _*_, _/_, _%_, _^_, _<_, _≤_}
 use mathlib.Core.Path.{_≡_, refl, sym, _∙_}
 use mathlib.Core.Bool.{false, _&&_}

@@ -1,5 +1,4 @@
 -- Fields that begin with a letter: keys and items; and bools.
--- Assumes nothing.
 use Prim.Native.Nat.{ℕ, _+_, _-_, _≤_}
 use mathlib.Core.Path.{_≡_, refl, sym, ap, _∙_}
 use mathlib.Core.Bool.{true, false}

@@ -1,5 +1,4 @@
 -- Fields read and texts written: reading what was written gives it back, and what is accepted is the one text of its value.
--- Assumes nothing.
 use Prim.Native.Nat.{ℕ, _+_, _^_, _<_, _≤_}
 use mathlib.Core.Path.{_≡_, refl, sym, ap, _∙_}
 use mathlib.Core.Bool.{Bool, true, false}

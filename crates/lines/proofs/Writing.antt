@@ -1,5 +1,4 @@
 -- Text written into bytes, and text behind text.
--- Assumes nothing.
 use Prim.Native.Nat.{ℕ, suc, _+_, _/_, _%_, _^_, _<_, _≤_}
 use mathlib.Core.Path.{_≡_, refl, sym, ap, _∙_}
 use mathlib.Core.List.{List, [], _∷_, _++_}

@@ -1,5 +1,4 @@
 -- What is accepted (docs/EVENTS.md, "Lines and fields"): the values of fields, none for a field of another form.
--- Assumes nothing.
 use Prim.Native.Nat.{ℕ, _+_, _-_, _*_, _^_}
 use mathlib.Core.Bool.{Bool, true, false, _&&_}
 use mathlib.Core.List.{List, [], _∷_}

@@ -1,5 +1,4 @@
 -- What is written (docs/EVENTS.md, "Lines and fields"): values as bytes of text.
--- Assumes nothing.
 use Prim.Native.Nat.{ℕ, zero, suc, _+_, _/_, _%_}
 use mathlib.Core.Path.{_≡_}
 use mathlib.Core.Bool.{Bool, true, false}

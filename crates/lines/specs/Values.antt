@@ -1,5 +1,4 @@
 -- What the readers' answers say.
--- Assumes nothing.
 use Prim.Native.Nat.{ℕ}
 use mathlib.Core.Bool.{Bool}
 use mathlib.Core.Option.{Option, none, some}

@@ -1,5 +1,4 @@
 -- What announce, request_parent and announce_parents leave alone: owner, flag, package and parents of every request.
--- Assumes nothing.
 use Prim.Native.Nat.{ℕ, suc, _+_, _≤_, _<_}
 use mathlib.Core.Path.{_≡_, refl, sym, ap, _∙_}
 use mathlib.Core.Logic.{inl, inr}

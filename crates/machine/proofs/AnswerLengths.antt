@@ -1,5 +1,4 @@
 -- How long the answers are: bytes of keys and entries, and the lists of sweep, claim, Sending and announce_parents.
--- Assumes nothing.
 use Prim.Native.Nat.{ℕ, suc, _+_, _*_, _≤_, min}
 use mathlib.Core.Path.{_≡_, refl, ap, _∙_}
 use mathlib.Core.Logic.{inl, inr}

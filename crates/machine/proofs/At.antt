@@ -1,5 +1,4 @@
 -- What stands at a key after a change at that key or at another, and the keys that a change leaves.
--- Assumes nothing.
 use Prim.Native.Nat.{ℕ, suc, _+_, _≤_, _<_}
 use mathlib.Core.Path.{_≡_, refl, sym, ap, _∙_}
 use mathlib.Core.Logic.{inl, inr}

@@ -1,5 +1,4 @@
 -- What the calls over lists leave alone: batches of announcements every hold, failing calls every hold whose owner is not theirs.
--- Assumes nothing.
 use Prim.Native.Nat.{ℕ, _+_, _<_}
 use mathlib.Core.Path.{_≡_, refl, ap, _∙_}
 use mathlib.Core.Logic.{_⊎_, inl, inr}

@@ -1,5 +1,4 @@
 -- A change that takes nothing new keeps the bounds, and so does one that makes an owner.
--- Assumes nothing.
 use Prim.Native.Nat.{ℕ, _+_, _≤_, _<_}
 use mathlib.Core.Path.{_≡_, refl, sym, ap, _∙_}
 use mathlib.Core.Logic.{inl, inr}

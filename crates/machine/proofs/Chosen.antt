@@ -1,5 +1,4 @@
 -- How many entries a plan has: one a hash, each hash with a request, and at most one more than a phase stops at.
--- Assumes nothing.
 use Prim.Native.Nat.{ℕ, suc, _+_, _-_, _≤_, _<_, min}
 use mathlib.Core.Path.{_≡_, refl, ap}
 use mathlib.Core.Logic.{inl, inr}

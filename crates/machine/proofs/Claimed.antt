@@ -1,5 +1,4 @@
 -- What claim leaves alone: keys, and every part of every request but the owners of those that had none.
--- Assumes nothing.
 use Prim.Native.Nat.{ℕ, _+_, _≤_, _<_}
 use mathlib.Core.Path.{_≡_, refl, sym, ap, _∙_}
 use mathlib.Core.Logic.{_⊎_, inl, inr}

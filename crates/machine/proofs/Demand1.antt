@@ -1,5 +1,4 @@
 -- Demand 1: the refusal of every call is 0, or the number of the first of the table's causes that applies.
--- Assumes nothing.
 use Prim.Native.Nat.{ℕ, _≤_, _<_}
 use mathlib.Core.Path.{_≡_, refl, sym, ap, _∙_}
 use mathlib.Core.Logic.{_⊎_, inl, inr}

@@ -1,5 +1,4 @@
 -- Demand 3 holds of every list of calls: the bounds after it, and the wait for a sweep within it.
--- Assumes nothing.
 use Prim.Native.Nat.{ℕ}
 use mathlib.Core.Path.{_≡_}
 use mathlib.Core.Logic.{inl, inr}

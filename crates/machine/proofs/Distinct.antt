@@ -1,5 +1,4 @@
 -- Lists without repeats: one whose members all stand in another list is no longer than that one.
--- Assumes nothing.
 use Prim.Native.Nat.{ℕ, suc, _≤_}
 use mathlib.Core.Path.{_≡_, refl, sym, ap, _∙_}
 use mathlib.Core.Logic.{_⊎_, inl, inr}

@@ -1,5 +1,4 @@
 -- The edges of document 01 that are marked P hold: each side computes to the other.
--- Assumes nothing.
 use mathlib.Core.Path.{refl}
 use Rattle.ident.specs.Number.{top}
 use Rattle.words.specs.Words.{digits, bytesOf}

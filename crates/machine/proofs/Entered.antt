@@ -1,5 +1,4 @@
 -- A connection that is announced at a key came in, or nothing changed.
--- Assumes nothing.
 use Prim.Native.Nat.{_≤_}
 use mathlib.Core.Path.{_≡_, refl, sym}
 use mathlib.Core.Logic.{inl, inr}

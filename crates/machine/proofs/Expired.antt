@@ -1,5 +1,4 @@
 -- What failed and plan leave alone, key by key: failing clears its own key only, and plan clears only where the time is over.
--- Assumes nothing.
 use Prim.Native.Nat.{ℕ, suc, _+_, _≤_, _<_}
 use mathlib.Core.Path.{_≡_, refl, sym, ap, _∙_}
 use mathlib.Core.Logic.{inl, inr}

@@ -1,5 +1,4 @@
 -- request_parent, failed, unclaim, forget and announce_parents keep the bounds.
--- Assumes nothing.
 use Prim.Native.Nat.{ℕ, suc, _+_, _≤_, _<_}
 use mathlib.Core.Path.{_≡_, refl, sym, ap, _∙_}
 use mathlib.Core.Logic.{inl, inr}

@@ -1,5 +1,4 @@
 -- How many keys failed_package_claims and transaction_not_found list: at most 100 parents for each place that is given back.
--- Assumes nothing.
 use Prim.Native.Nat.{ℕ, suc, _+_, _*_, _≤_, _<_}
 use mathlib.Core.Path.{_≡_, refl, sym, ap, _∙_}
 use mathlib.Core.Logic.{inl, inr}

@@ -1,5 +1,4 @@
 -- Lists of keys: membership, keys that ascend by a measure of their place, the part of a list before a key.
--- Assumes nothing.
 use Prim.Native.Nat.{ℕ, zero, suc, _≤_, _<_}
 use mathlib.Core.Path.{_≡_, refl, sym, ap, _∙_}
 use mathlib.Core.Logic.{inl, inr}

@@ -1,6 +1,5 @@
 -- Successive batches of keys, each from the last key of the one before on, reach every key that stays. Sweeps are such batches,
 -- of 1,024 keys; the law asks only that each has room for `size` keys, so that it also serves batches whose sizes differ.
--- Assumes nothing.
 use Prim.Native.Nat.{ℕ, suc, _+_, _-_, _*_, _/_, _≤_, _<_}
 use mathlib.Core.Path.{_≡_, refl, sym, ap, _∙_}
 use mathlib.Core.Logic.{inl, inr}

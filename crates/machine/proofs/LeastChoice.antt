@@ -1,5 +1,4 @@
 -- What plan chooses for a hash is the least of the eligible candidates, by (unpreferred, priority, kind, arrival).
--- Assumes nothing.
 use Prim.Native.Nat.{ℕ, zero, suc, _+_, _≤_, _<_}
 use mathlib.Core.Path.{_≡_, refl, sym, ap, subst, _∙_}
 use mathlib.Core.Logic.{_⊎_, inl, inr}

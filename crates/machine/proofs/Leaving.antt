@@ -1,5 +1,4 @@
 -- How many keys disconnected lists: the connection's own, and the parents that its packages hand on, each once.
--- Assumes nothing.
 use Prim.Native.Nat.{ℕ, suc, _*_, _≤_, _<_, min}
 use mathlib.Core.Path.{_≡_, refl, sym, ap, _∙_}
 use mathlib.Core.Logic.{inl, inr}

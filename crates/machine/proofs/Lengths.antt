@@ -1,5 +1,4 @@
 -- Every answer fits the buffer need that document 01 names, and so the buffer of a call that is carried out.
--- Assumes nothing.
 use Prim.Native.Nat.{ℕ, _+_, _*_, _≤_, _<_, min}
 use mathlib.Core.Path.{_≡_, refl}
 use mathlib.Core.Bool.{true}

@@ -1,5 +1,4 @@
 -- What failing leaves alone: a request keeps owner, flag, package and parents, or loses all four where its owner fails.
--- Assumes nothing.
 use Prim.Native.Nat.{ℕ, _<_}
 use mathlib.Core.Path.{_≡_, refl, sym, ap, _∙_}
 use mathlib.Core.Logic.{_⊎_, inl, inr}

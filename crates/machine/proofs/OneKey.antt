@@ -1,6 +1,5 @@
 -- Calls that touch one key: unclaim, forget, claim_package and begin_package_resolution; and solicit_package_info, which takes the
 -- hold of one key and leaves all others alone.
--- Assumes nothing.
 use Prim.Native.Nat.{ℕ, _+_, _≤_, _<_}
 use mathlib.Core.Path.{_≡_, refl, ap, _∙_}
 use mathlib.Core.Bool.{true, not, _&&_}

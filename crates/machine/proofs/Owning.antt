@@ -1,5 +1,4 @@
 -- The state of the edge `delayed`, in which connection 7 owns n requests, is sound up to the most that a connection owns.
--- Assumes nothing.
 use Prim.Native.Nat.{ℕ, zero, suc, _+_, _≤_, _<_}
 use mathlib.Core.Path.{_≡_, refl}
 use mathlib.Core.Logic.{inl, inr}

@@ -1,5 +1,4 @@
 -- Package places: calls that loosen take none, and a request that fails hands on at most the parents of its place.
--- Assumes nothing.
 use Prim.Native.Nat.{ℕ, suc, _+_, _*_, _≤_, _<_}
 use mathlib.Core.Path.{_≡_, refl, ap}
 use mathlib.Core.Logic.{inl, inr}

@@ -1,5 +1,4 @@
 -- plan keeps the bounds, and its cursor is a key of 256 bits.
--- Assumes nothing.
 use Prim.Native.Nat.{ℕ, zero, suc, _<_}
 use mathlib.Core.Path.{_≡_, refl}
 use mathlib.Core.Bool.{Bool, true}

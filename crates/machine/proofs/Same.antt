@@ -1,5 +1,4 @@
 -- Tables that agree at every key, in what a walk looks at, give the same walk: what is listed of each request, in key order.
--- Assumes nothing.
 use Prim.Native.Nat.{ℕ, suc, _<_}
 use mathlib.Core.Path.{_≡_, refl, sym, ap, _∙_}
 use mathlib.Core.Logic.{inl, inr}

@@ -1,6 +1,5 @@
 -- The carried-out sweeps of a list of calls are successive batches: the known cursor is moved by sweep and opening alone, and
 -- what is held at a sweep is in order.
--- Assumes nothing.
 use Prim.Native.Nat.{ℕ, _≤_}
 use mathlib.Core.Path.{_≡_, refl, ap, _∙_}
 use mathlib.Core.Logic.{inl, inr}

@@ -1,5 +1,4 @@
 -- The laws of the table: what a change at one key does to order, counts, owners, and what it leaves alone.
--- Assumes nothing.
 use Prim.Native.Nat.{ℕ, zero, suc, _+_, _≤_, _<_}
 use mathlib.Core.Path.{_≡_, refl, sym, ap, _∙_}
 use mathlib.Core.Logic.{_⊎_, inl, inr}

@@ -1,5 +1,4 @@
 -- claim takes an entry if and only if its hash is unowned and it is what plan would choose, in every field; it changes owners alone.
--- Assumes nothing.
 use Prim.Native.Nat.{ℕ}
 use mathlib.Core.Path.{_≡_, refl, sym, ap, _∙_}
 use mathlib.Core.Bool.{Bool, true, false}

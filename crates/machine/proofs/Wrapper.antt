@@ -1,5 +1,4 @@
 -- The wrappers keep the bounds, and the poll gate's time is of 64 bits.
--- Assumes nothing.
 use Prim.Native.Nat.{ℕ, _+_, _≤_, _<_}
 use mathlib.Core.Bool.{Bool, true, false, not, _&&_}
 use mathlib.Core.List.{List, [], _∷_}

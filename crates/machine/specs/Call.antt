@@ -1,5 +1,4 @@
 -- The calls, what each names, and the refusals (document 01, "Refusals and replies", "Buffer needs in entries").
--- Assumes nothing.
 use Prim.Native.Nat.{ℕ, _+_, _*_, min}
 use mathlib.Core.Bool.{Bool, false, not, _&&_, _||_}
 use mathlib.Core.List.{List, [], _∷_}

@@ -1,5 +1,4 @@
 -- What plan's choice and claim are held to, in document 01's words and apart from the definitions that compute them.
--- Assumes nothing.
 use Prim.Native.Nat.{ℕ, _+_, _≤_, _<_}
 use mathlib.Core.Path.{_≡_}
 use mathlib.Core.Logic.{_⊎_}

@@ -1,5 +1,4 @@
 -- Demand 1: a call within the limits is carried out, any other is refused by number, and nothing is lost (document 01, "Refusals and replies").
--- Assumes nothing.
 use Prim.Native.Nat.{ℕ, _≤_, _<_}
 use mathlib.Core.Path.{_≡_}
 use mathlib.Core.Logic.{_⊎_}

@@ -1,5 +1,4 @@
 -- Demand 3: one claim about a whole list of calls (document 01, "Demand 3 is one claim about a whole list").
--- Assumes nothing.
 use Prim.Native.Nat.{ℕ, _+_, _-_, _/_, _≤_, _<_}
 use mathlib.Core.Path.{_≡_}
 use mathlib.Core.Bool.{Bool, true, false, _||_}

@@ -1,5 +1,4 @@
 -- The edges of document 01 that are marked P, and its worked lines: one record, proved as one theorem by computation.
--- Assumes nothing.
 use Prim.Native.Nat.{ℕ, zero, suc}
 use mathlib.Core.Path.{_≡_}
 use mathlib.Core.Bool.{Bool, true, false}

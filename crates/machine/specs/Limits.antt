@@ -1,5 +1,4 @@
 -- The limits of document 01, by name (the Rust's constant in parentheses), and the bytes that a store needs.
--- Assumes nothing.
 use Prim.Native.Nat.{ℕ, _+_, _-_, _*_, _^_}
 
 -- the greatest L, and the greatest Q

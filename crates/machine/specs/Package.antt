@@ -1,5 +1,4 @@
 -- The request machine: packages.
--- Assumes nothing.
 use Prim.Native.Nat.{ℕ, _+_, suc}
 use mathlib.Core.Bool.{Bool, true, false, not, _&&_, _||_}
 use mathlib.Core.List.{List, [], _∷_, _++_, map}

@@ -1,5 +1,4 @@
 -- The request machine: plan.
--- Assumes nothing.
 use Prim.Native.Nat.{ℕ, _+_, suc}
 use mathlib.Core.Bool.{Bool, true, false, not, _&&_}
 use mathlib.Core.List.{List, [], _∷_, _++_}

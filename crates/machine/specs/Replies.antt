@@ -1,5 +1,4 @@
 -- What a reply of 0 leaves (document 01, "Refusals and replies").
--- Assumes nothing.
 use Prim.Native.Nat.{ℕ}
 use mathlib.Core.Path.{_≡_}
 use Rattle.machine.specs.State.{State}

@@ -1,5 +1,4 @@
 -- Sound states (document 01, "Sound", with demand 3's bounds and the ranges that a byte image needs).
--- Assumes nothing.
 use Prim.Native.Nat.{ℕ, suc, _≤_, _<_}
 use mathlib.Core.Path.{_≡_}
 use mathlib.Core.Bool.{Bool, true, false}

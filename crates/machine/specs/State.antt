@@ -1,5 +1,4 @@
 -- What a state holds (document 01, "What a state holds").
--- Assumes nothing.
 use Prim.Native.Nat.{ℕ, min}
 use mathlib.Core.Bool.{Bool, true, false}
 use mathlib.Core.List.{List, []}

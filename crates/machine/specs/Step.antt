@@ -1,5 +1,4 @@
 -- What a call does: reply, answer buffer, next state.
--- Assumes nothing.
 use Prim.Native.Nat.{ℕ}
 use mathlib.Core.Bool.{Bool, true, false}
 use mathlib.Core.List.{List, [], _∷_, _++_}

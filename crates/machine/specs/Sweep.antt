@@ -1,5 +1,4 @@
 -- The request machine: the keys after a cursor, and sweep (known_batch).
--- Assumes nothing.
 use Prim.Native.Nat.{ℕ}
 use mathlib.Core.Bool.{Bool, true, false}
 use mathlib.Core.List.{List, [], _∷_, _++_}

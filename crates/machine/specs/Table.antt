@@ -1,5 +1,4 @@
 -- The ordered table of requests: what stands at a key, how it is changed there, and counts over it.
--- Assumes nothing.
 use Prim.Native.Nat.{ℕ, _+_}
 use mathlib.Core.Bool.{Bool, true, false, not, _&&_, _||_}
 use mathlib.Core.List.{List, [], _∷_, _++_, map}

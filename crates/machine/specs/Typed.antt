@@ -1,6 +1,5 @@
 -- The arguments of a call are numbers of their widths: connections, times and priorities of 64 bits, hashes of 256. Code is
 -- handed nothing else, so that this asks nothing of a caller.
--- Assumes nothing.
 use Prim.Native.Nat.{ℕ, _<_}
 use mathlib.Core.List.{List, [], _∷_}
 use mathlib.Core.Option.{Option, none, some}

@@ -1,6 +1,5 @@
 -- How a call other than opening gets its contract: from the sound test, from the tests in turn, and from the core call on the bytes of the
 -- need. Every call is an instance.
--- Assumes nothing.
 use Prim.Native.Nat.{ℕ, zero, suc, _*_}
 use mathlib.Core.Path.{_≡_, refl, sym, ap, subst, _∙_}
 use mathlib.Core.Bool.{Bool, true, false}

@@ -1,5 +1,4 @@
 -- What a public call has to show of its reply, buffer and bytes to have its contract.
--- Assumes nothing.
 use Prim.Native.Nat.{ℕ, suc}
 use mathlib.Core.Path.{_≡_, refl, sym, ap, subst, _∙_}
 use mathlib.Core.Bool.{Bool, true, false}

@@ -1,5 +1,4 @@
 -- What the header of a sound store says: L, Q and the announcements held; and what the sound test's answer does.
--- Assumes nothing.
 use Prim.Native.Nat.{ℕ, _*_, _≤_}
 use mathlib.Core.Path.{_≡_, sym, ap, _∙_}
 use mathlib.Core.Bool.{Bool, true, false}

@@ -1,5 +1,4 @@
 -- The sound test in front of a call, and what an owner of the bytes may rely on: one law of each for all calls.
--- Assumes nothing.
 use Prim.Native.Nat.{ℕ}
 use mathlib.Core.Path.{_≡_, refl}
 use mathlib.Core.Bool.{Bool, true, false, not}

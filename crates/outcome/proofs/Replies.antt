@@ -1,5 +1,4 @@
 -- Three more shapes of reply beside those of proofs/Carried: of a call of which the Rust returns nothing, of one that only reads, and of one that counts.
--- Assumes nothing.
 use Prim.Native.Nat.{ℕ}
 use mathlib.Core.Path.{_≡_, refl, sym, ap, subst}
 use mathlib.Core.Bool.{true}

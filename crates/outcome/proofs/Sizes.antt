@@ -1,5 +1,4 @@
 -- A call keeps L and Q, or opens the store for others that it has room for.
--- Assumes nothing.
 use Prim.Native.Nat.{ℕ, _≤_}
 use mathlib.Core.Path.{_≡_, refl}
 use mathlib.Core.Logic.{inl, inr}

@@ -1,5 +1,4 @@
 -- One public call: what it leaves of a sound store is what the machine's step says.
--- Assumes nothing.
 use Prim.Native.Nat.{ℕ, _≤_}
 use mathlib.Core.Path.{_≡_, refl, ap, _∙_}
 use mathlib.Core.Logic.{inl, inr}

@@ -1,5 +1,4 @@
 -- Candidates and keys of the declared types have their widths.
--- Assumes nothing.
 use Prim.Native.Nat.{_<_}
 use denote.Laws.{Is}
 use denote.Struct.Laws as LL

@@ -1,5 +1,4 @@
 -- What a core call is lent of a sound store: the bytes of its need.
--- Assumes nothing.
 use Prim.Native.Nat.{ℕ, _≤_}
 use mathlib.Core.Path.{_≡_}
 use mathlib.Core.List.{List}

@@ -1,5 +1,4 @@
 -- What a public call leaves: reply, answer buffer and store, one definition for all calls.
--- Assumes nothing.
 use Prim.Native.Nat.{ℕ}
 use mathlib.Core.Bool.{Bool, true, false}
 use mathlib.Core.Path.{_≡_}

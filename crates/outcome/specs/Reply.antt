@@ -1,5 +1,4 @@
 -- What the answers of the public calls say, in document 01's numbers and values.
--- Assumes nothing.
 use Prim.Native.Nat.{ℕ, _*_}
 use lib.ListN.{drop}
 use Rattle.machine.specs.Wrapper.{Sums}

@@ -1,5 +1,4 @@
 -- What a public call leaves of a sound store, by the machine's step.
--- Assumes nothing.
 use Prim.Native.Nat.{ℕ}
 use mathlib.Core.Path.{_≡_}
 use mathlib.Core.List.{List}

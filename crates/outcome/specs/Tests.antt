@@ -1,5 +1,4 @@
 -- The tests of document 01's table that calls share, each by itself: its number, or 0 if it has nothing against the call.
--- Assumes nothing.
 use Prim.Native.Nat.{ℕ, zero, suc}
 use mathlib.Core.Bool.{Bool, _&&_}
 use mathlib.Core.List.{List}

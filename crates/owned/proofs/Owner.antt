@@ -1,5 +1,4 @@
 -- What stands in every contract of this crate: what the checked call says, and that a sound store stays sound. One law for each form of reply.
--- Assumes nothing.
 use Prim.Native.Nat.{ℕ}
 use mathlib.Core.Path.{_≡_}
 use mathlib.Core.List.{List}

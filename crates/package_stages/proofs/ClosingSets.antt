@@ -1,5 +1,4 @@
 -- The places of a set of requests: marked dead, one hash after the other, and what is left when the dead are gone.
--- Assumes nothing.
 use Prim.Native.Nat.{ℕ, zero, suc, _≤_, _<_}
 use mathlib.Core.Path.{_≡_, refl, sym, ap, subst, _∙_}
 use mathlib.Core.Logic.{inl, inr}

@@ -1,5 +1,4 @@
 -- The elements of a list that pass a test, and the records of a region that pass it, moved to the front one after the other; the live places.
--- Assumes nothing.
 use Prim.Native.Nat.{ℕ, _+_, _≤_, _<_}
 use mathlib.Core.Path.{_≡_, refl, sym, ap, subst, _∙_}
 use mathlib.Core.Logic.{inl, inr}

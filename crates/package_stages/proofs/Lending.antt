@@ -1,5 +1,4 @@
 -- The region of the places, lent and come back.
--- Assumes nothing.
 use Prim.Native.Nat.{ℕ, _-_, _≤_}
 use mathlib.Core.Path.{_≡_, ap, _∙_}
 use mathlib.Core.List.{List, _++_, map}

@@ -1,5 +1,4 @@
 -- A change of flag, package or parents: the request's place comes, is replaced or goes, and nothing else in the bytes changes.
--- Assumes nothing.
 use Prim.Native.Nat.{ℕ, _<_}
 use mathlib.Core.Path.{_≡_, refl, sym, ap, subst, _∙_}
 use mathlib.Core.Bool.{Bool, true, false, _||_}

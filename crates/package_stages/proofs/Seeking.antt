@@ -1,5 +1,4 @@
 -- The place of a hash: where a search stops, and what the request at its Wtxid key has there.
--- Assumes nothing.
 use Prim.Native.Nat.{ℕ, zero, suc, _≤_, _<_}
 use mathlib.Core.Path.{_≡_, refl, sym, ap, _∙_}
 use mathlib.Core.Logic.{inl, inr}

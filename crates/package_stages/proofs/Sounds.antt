@@ -1,5 +1,4 @@
 -- Changes of flag, package and parents keep a state sound, so that one call can follow another.
--- Assumes nothing.
 use Prim.Native.Nat.{ℕ, _+_, _≤_, _<_}
 use mathlib.Core.Path.{_≡_, refl, ap}
 use mathlib.Core.Bool.{Bool, true, false, _&&_, _||_}

@@ -1,5 +1,4 @@
 -- Changes of one request, one after the other, are one change; so a solicitation is an owner, the flag, and each parent.
--- Assumes nothing.
 use Prim.Native.Nat.{ℕ, _≤_}
 use mathlib.Core.Path.{_≡_, refl, sym, ap, subst, _∙_}
 use mathlib.Core.Logic.{inl, inr}

@@ -1,5 +1,4 @@
 -- What the contracts say of one request: its owner and stage, its place, and how flag, package and parents change.
--- Assumes nothing.
 use Prim.Native.Nat.{ℕ, _+_, _≤_, _<_}
 use mathlib.Core.Path.{_≡_}
 use mathlib.Core.Logic.{_⊎_}

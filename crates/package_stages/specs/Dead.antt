@@ -1,5 +1,4 @@
 -- Places taken out in one pass: a place is dead where its stage is 0.
--- Assumes nothing.
 use Prim.Native.Nat.{ℕ}
 use mathlib.Core.Bool.{Bool, true, false, _&&_, _||_}
 use mathlib.Core.List.{List, map}

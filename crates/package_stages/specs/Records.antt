@@ -1,5 +1,4 @@
 -- What the contracts say of places as records: where they lie, what is read of them, how their lists grow.
--- Assumes nothing.
 use Prim.Native.Nat.{ℕ, _+_, _-_, _*_, _≤_, _<_}
 use mathlib.Core.Path.{_≡_}
 use mathlib.Core.List.{List, [], _∷_, _++_, map}

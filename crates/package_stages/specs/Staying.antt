@@ -1,5 +1,4 @@
 -- Records taken out of a region in one pass, whatever the records: those that pass a test q stay, in their order.
--- Assumes nothing.
 use Prim.Native.Nat.{ℕ, _+_, _≤_, _<_}
 use mathlib.Core.Path.{_≡_}
 use mathlib.Core.Bool.{Bool}

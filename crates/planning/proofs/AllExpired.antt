@@ -1,5 +1,4 @@
 -- Every owner that is due expires, one turn after the other, where the places are set apart.
--- Assumes nothing.
 use Prim.Native.Nat.{ℕ, suc, _+_, _-_, _≤_, _<_}
 use mathlib.Core.Path.{_≡_, refl, sym, ap, subst, _∙_}
 use mathlib.Core.Logic.{inl, inr}

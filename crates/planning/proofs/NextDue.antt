@@ -1,5 +1,4 @@
 -- The first owner that is due from a place on, found among the rows of the bytes, and expired.
--- Assumes nothing.
 use Prim.Native.Nat.{ℕ, suc, _+_, _≤_, _<_}
 use mathlib.Core.Path.{_≡_, refl, sym, ap, subst, _∙_}
 use mathlib.Core.Bool.{true, false}

@@ -1,5 +1,4 @@
 -- The owners that are due, walked in key order on the table that stands: expiring one neither adds nor removes a later one.
--- Assumes nothing.
 use Prim.Native.Nat.{ℕ, suc, _≤_, _<_}
 use mathlib.Core.Path.{_≡_, refl, sym, ap, subst, _∙_}
 use mathlib.Core.Logic.{_⊎_, inl, inr}

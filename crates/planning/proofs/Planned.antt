@@ -1,5 +1,4 @@
 -- A whole plan: the places set apart, expiry, two phases, the places put back.
--- Assumes nothing.
 use Prim.Native.Nat.{ℕ, min, _+_, _-_, _*_, _≤_, _<_}
 use mathlib.Core.Path.{_≡_, refl, sym, ap, subst, _∙_}
 use mathlib.Core.List.{List, _++_, map}

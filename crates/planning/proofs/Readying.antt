@@ -1,5 +1,4 @@
 -- The candidates beside each owner that is due made ready, one turn after the other; then all of these owners dropped.
--- Assumes nothing.
 use Prim.Native.Nat.{ℕ, suc, _+_, _-_, _≤_, _<_}
 use mathlib.Core.Path.{_≡_, refl, sym, ap, subst, _∙_}
 use mathlib.Core.Logic.{inl, inr}

@@ -1,5 +1,4 @@
 -- The second phase of a plan: from the first key to the answer.
--- Assumes nothing.
 use Prim.Native.Nat.{ℕ, min, _+_, _-_, _≤_, _<_}
 use mathlib.Core.Path.{_≡_, sym, ap, subst, _∙_}
 use mathlib.Core.Bool.{Bool}

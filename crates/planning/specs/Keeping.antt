@@ -1,5 +1,4 @@
 -- What the contracts of the first phase say: the parents noted of the places that are set apart, considered place by place.
--- Assumes nothing.
 use Prim.Native.Nat.{ℕ, _+_, _*_, _≤_, _<_}
 use mathlib.Core.Path.{_≡_}
 use mathlib.Core.List.{List, []}

@@ -1,5 +1,4 @@
 -- A reply fits its answer buffer, whatever the call: so many keys, or entries, are listed at the most.
--- Assumes nothing.
 use Prim.Native.Nat.{ℕ, _+_, _*_, _≤_}
 use mathlib.Core.Path.{_≡_, refl, sym, ap, subst, _∙_}
 use mathlib.Core.Bool.{Bool, true, false}

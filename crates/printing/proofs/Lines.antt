@@ -1,5 +1,4 @@
 -- The answer to a line, whatever it asks for.
--- Assumes nothing.
 use Prim.Native.Nat.{ℕ, _<_}
 use mathlib.Core.Path.{_≡_, refl, subst}
 use mathlib.Core.List.{List}

@@ -1,5 +1,4 @@
 -- Answers as text.
--- Assumes nothing.
 use Prim.Native.Nat.{ℕ, _+_, _≤_}
 use mathlib.Core.Path.{_≡_, ap, subst}
 use mathlib.Core.List.{List, [], _∷_, append-assoc}

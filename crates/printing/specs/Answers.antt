@@ -1,5 +1,4 @@
 -- What the step on one line says of the store, of the kept lists and of its answer.
--- Assumes nothing.
 use Prim.Native.Nat.{ℕ}
 use mathlib.Core.Path.{_≡_}
 use mathlib.Core.Bool.{Bool, not}

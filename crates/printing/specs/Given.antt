@@ -1,5 +1,4 @@
 -- What the contracts of the texts say, and of a call that is carried out with its reply as text.
--- Assumes nothing.
 use Prim.Native.Nat.{ℕ, _+_, _*_, _<_, _≤_}
 use mathlib.Core.Path.{_≡_}
 use mathlib.Core.List.{List, [], _∷_, _++_}

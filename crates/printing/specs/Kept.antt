@@ -1,5 +1,4 @@
 -- The lists that are kept between lines, what a line means beside them, and what it leaves of them (docs/EVENTS.md, "Answers").
--- Assumes nothing.
 use Prim.Native.Nat.{ℕ}
 use mathlib.Core.List.{List, []}
 use Rattle.machine.specs.State.{Entry}

@@ -1,5 +1,4 @@
 -- What is printed of a reply (docs/EVENTS.md, "Answers").
--- Assumes nothing.
 use Prim.Native.Nat.{ℕ}
 use mathlib.Core.List.{List, [], _∷_, _++_}
 use lib.ListN.{length}

@@ -1,5 +1,4 @@
 -- disconnected: what it needs, what it lists, and what it leaves.
--- Assumes nothing.
 use Prim.Native.Nat.{ℕ, min, _+_, _*_, _<_}
 use mathlib.Core.Path.{_≡_, refl, sym, ap, _∙_}
 use mathlib.Core.List.{List, [], _∷_, _++_, append-assoc}

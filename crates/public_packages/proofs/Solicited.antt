@@ -1,5 +1,4 @@
 -- solicit_package_info, the one call that takes a place: its tests 4 to 8, and what it leaves.
--- Assumes nothing.
 use Prim.Native.Nat.{ℕ}
 use mathlib.Core.Path.{_≡_, refl, sym, _∙_}
 use mathlib.Core.Bool.{Bool, true}

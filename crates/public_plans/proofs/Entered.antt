@@ -1,5 +1,4 @@
 -- Entries that a call wrote to its answer buffer, read back; and what the entries of lent bytes are: of their widths.
--- Assumes nothing.
 use Prim.Native.Nat.{ℕ, zero, suc, _+_, _*_, _/_, _%_, _^_, _≤_, _<_}
 use mathlib.Core.Path.{_≡_, refl, sym, ap, _∙_}
 use mathlib.Core.Bool.{Bool, true, false, not}

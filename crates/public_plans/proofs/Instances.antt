@@ -1,5 +1,4 @@
 -- The wrappers as instances of crates/outcome/proofs/Carried.
--- Assumes nothing.
 use Prim.Native.Nat.{ℕ, _+_, _*_}
 use mathlib.Core.Path.{refl}
 use mathlib.Core.Bool.{Bool}

@@ -1,5 +1,4 @@
 -- plan: what it needs, and what it leaves, of whatever answers as the machine plans.
--- Assumes nothing.
 use Prim.Native.Nat.{ℕ, min, _+_, _*_, _<_}
 use mathlib.Core.Path.{_≡_, refl, sym, ap, subst, _∙_}
 use mathlib.Core.Bool.{Bool, true}

@@ -1,5 +1,4 @@
 -- arrange: what it needs, and what it leaves.
--- Assumes nothing.
 use Prim.Native.Nat.{ℕ, suc, _*_, _<_}
 use mathlib.Core.Path.{_≡_, refl, ap, _∙_}
 use mathlib.Core.Bool.{true, _&&_}

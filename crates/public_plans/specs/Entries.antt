@@ -1,5 +1,4 @@
 -- What an answer says that lists entries, in document 01's values.
--- Assumes nothing.
 use Prim.Native.Nat.{ℕ}
 use Rattle.machine.specs.Call.{Buffer}
 use Rattle.machine.specs.Step.{Reply, Refused, Entries, Chosen}

@@ -1,5 +1,4 @@
 -- What sum does on a sound store: its figures are words of the header; the store stays.
--- Assumes nothing.
 use Prim.Native.Nat.{ℕ, _-_, _*_, _/_, _≤_}
 use mathlib.Core.Path.{_≡_, refl, _∙_}
 use mathlib.Core.List.{List}

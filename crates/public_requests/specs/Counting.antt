@@ -1,5 +1,4 @@
 -- What `counts` says of a connection.
--- Assumes nothing.
 use Prim.Native.Nat.{ℕ}
 use mathlib.Core.Path.{_≡_}
 use mathlib.Core.List.{List}

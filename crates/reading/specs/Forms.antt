@@ -1,5 +1,4 @@
 -- Forms: the fields of a line in their order, a letter each.
--- Assumes nothing.
 use Prim.Native.Nat.{ℕ}
 use mathlib.Core.Bool.{Bool, false, _||_}
 use mathlib.Core.List.{List, [], _∷_}

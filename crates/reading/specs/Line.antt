@@ -1,5 +1,4 @@
 -- What a line asks for, and its fields taken one after the other (docs/EVENTS.md, "Lines and fields").
--- Assumes nothing.
 use Prim.Native.Nat.{ℕ, zero, suc}
 use mathlib.Core.List.{List, [], _∷_, _++_}
 use mathlib.Core.Option.{Option, none, some}

@@ -1,5 +1,4 @@
 -- The lists of event lines, and what is made of them (docs/EVENTS.md, "Words").
--- Assumes nothing.
 use Prim.Native.Nat.{ℕ}
 use mathlib.Core.List.{List}
 use mathlib.Core.Option.{Option}

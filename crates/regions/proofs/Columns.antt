@@ -1,5 +1,4 @@
 -- What is read from the words of a region of rows or connections, and from the records that it holds.
--- Assumes nothing.
 use Prim.Native.Nat.{ℕ, zero, suc, _*_, _-_, _≤_, _<_}
 use mathlib.Core.Path.{_≡_, refl, sym, ap, _∙_}
 use mathlib.Core.List.{List, [], _∷_, map}

@@ -1,5 +1,4 @@
 -- Hashes, rows and entries of connections, read and written as the code does it.
--- Assumes nothing.
 use Prim.Native.Nat.{ℕ, _+_, _*_, _%_, _≤_, _<_}
 use mathlib.Core.Path.{_≡_, refl, _∙_}
 use mathlib.Core.List.{List, append-assoc}

@@ -1,5 +1,4 @@
 -- Searches, stated over the list of the records' keys as numbers.
--- Assumes nothing.
 use Prim.Native.Nat.{ℕ, _≤_, _<_}
 use mathlib.Core.Bool.{Bool, true, false}
 use mathlib.Core.Path.{_≡_}

@@ -1,5 +1,4 @@
 -- A region: records of k words each, then zeros up to its capacity. What inserting, removing, replacing and reading a record do to it.
--- Assumes nothing.
 use Prim.Native.Nat.{ℕ, suc, _+_, _-_, _*_, _<_}
 use mathlib.Core.Path.{_≡_}
 use mathlib.Core.List.{List, [], _∷_, _++_}

@@ -1,5 +1,4 @@
 -- Candidate rows and entries of connections as words.
--- Assumes nothing.
 use Prim.Native.Nat.{ℕ, _/_, _%_, _^_}
 use mathlib.Core.List.{List, [], _∷_, _++_}
 use lib.ListN.{getD}

@@ -1,5 +1,4 @@
 -- A candidate that adopts what another brings, in the records and in bytes.
--- Assumes nothing.
 use Prim.Native.Nat.{ℕ, suc, min, _+_, _*_, _/_, _%_, _<_}
 use mathlib.Core.Path.{_≡_, refl, sym, ap, _∙_}
 use mathlib.Core.Logic.{inl, inr}

@@ -1,5 +1,4 @@
 -- The candidates of a hash are those of its two keys.
--- Assumes nothing.
 use Prim.Native.Nat.{ℕ, _+_, _-_, _<_}
 use mathlib.Core.Path.{_≡_, refl, sym, ap, _∙_}
 use mathlib.Core.Logic.{inl, inr}

@@ -1,5 +1,4 @@
 -- Bytes that write a sound state: every index and sum is in range, rows and connections are in order.
--- Assumes nothing.
 use Prim.Native.Nat.{ℕ, _+_, _≤_, _<_}
 use mathlib.Core.Path.{_≡_}
 use mathlib.Core.Logic.{inl, inr}

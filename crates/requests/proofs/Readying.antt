@@ -1,5 +1,4 @@
 -- A change that shows in every row of one request in the same way: a ready time, the mark.
--- Assumes nothing.
 use Prim.Native.Nat.{ℕ, _+_, _/_, _%_, _<_}
 use mathlib.Core.Path.{_≡_, refl, sym, ap, _∙_}
 use mathlib.Core.Logic.{inl, inr}

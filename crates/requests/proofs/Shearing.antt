@@ -1,5 +1,4 @@
 -- Rows that go, the tally first: what the bytes show on the way, and a request that goes whole.
--- Assumes nothing.
 use Prim.Native.Nat.{ℕ, suc, _+_, _/_, _%_, _≤_, _<_}
 use mathlib.Core.Path.{_≡_, refl, sym, ap, subst, _∙_}
 use mathlib.Core.Logic.{inl, inr}

@@ -1,5 +1,4 @@
 -- One key more of a plan's scan, on bytes in which what the plan has selected owns its request.
--- Assumes nothing.
 use Prim.Native.Nat.{ℕ, _+_, _≤_, _<_}
 use mathlib.Core.Path.{_≡_, refl, sym, ap, subst, _∙_}
 use mathlib.Core.Logic.{inl, inr}

@@ -1,5 +1,4 @@
 -- A key of a plan considered, on bytes in which what the plan has selected owns its request.
--- Assumes nothing.
 use Prim.Native.Nat.{ℕ, _+_, _<_}
 use mathlib.Core.Path.{_≡_, refl, ap}
 use mathlib.Core.Logic.{inl, inr}

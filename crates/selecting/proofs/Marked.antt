@@ -1,6 +1,5 @@
 -- A plan's selections, marked by owning them: what a plan would choose beside its selections is what it would choose with none in
 -- the table in which the selected candidates own their requests.
--- Assumes nothing.
 use Prim.Native.Nat.{ℕ, suc, _+_, _≤_, _<_}
 use mathlib.Core.Path.{_≡_, refl, sym, ap, _∙_}
 use mathlib.Core.Logic.{inl, inr}

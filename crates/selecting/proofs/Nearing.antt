@@ -1,5 +1,4 @@
 -- A search that begins at a guess, and the rows of a key between two such searches.
--- Assumes nothing.
 use Prim.Native.Nat.{ℕ, _+_, _-_, _≤_, _<_}
 use mathlib.Core.Path.{_≡_}
 use mathlib.Core.List.{List}

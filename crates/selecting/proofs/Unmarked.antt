@@ -1,5 +1,4 @@
 -- The end of a plan's scan: a selection that is disowned again leaves the table as it was.
--- Assumes nothing.
 use Prim.Native.Nat.{ℕ, _≤_, _<_}
 use mathlib.Core.Path.{_≡_, refl, sym, ap, subst, _∙_}
 use mathlib.Core.Logic.{inl, inr}

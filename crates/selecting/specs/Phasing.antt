@@ -1,5 +1,4 @@
 -- What the contracts of a phase say: the keys of a list considered one after the other, from any earlier scan on.
--- Assumes nothing.
 use Prim.Native.Nat.{ℕ, _+_, _≤_}
 use mathlib.Core.Path.{_≡_}
 use mathlib.Core.Bool.{false}

@@ -1,5 +1,4 @@
 -- What `arrange` gives ascends by connection, so that a part of it is the connection's.
--- Assumes nothing.
 use Prim.Native.Nat.{ℕ, _≤_}
 use mathlib.Core.Path.{_≡_, refl, sym, ap, subst, _∙_}
 use mathlib.Core.Logic.{inl, inr}

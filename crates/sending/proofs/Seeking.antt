@@ -1,7 +1,6 @@
 -- The calls of `part`, as steps of a walk over any rest of the context.
 --     seeks         `seek`, to which a `&[Entry]` is passed, and kept
 --     takes         `no_less`
--- Assumes nothing.
 use mathlib.Core.Path.{_≡_, refl, ap}
 use Prim.Native.Nat.{ℕ, _+_, _<_, _^_}
 use mathlib.Core.Bool.{Bool}

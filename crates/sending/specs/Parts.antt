@@ -1,5 +1,4 @@
 -- What the contracts of Sending say of one connection's part of an arranged list.
--- Assumes nothing.
 use Prim.Native.Nat.{ℕ}
 use mathlib.Core.Path.{_≡_}
 use mathlib.Core.List.{List, map}

@@ -1,5 +1,4 @@
 -- What the contracts of Sending say of an entry as it is sent.
--- Assumes nothing.
 use Prim.Native.Nat.{ℕ, _*_}
 use mathlib.Core.Path.{_≡_}
 use mathlib.Core.Bool.{Bool, true, false}

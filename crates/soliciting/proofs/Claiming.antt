@@ -1,5 +1,4 @@
 -- claim_package: when it is refused, and what it does.
--- Assumes nothing.
 use Prim.Native.Nat.{ℕ, _≤_, _<_}
 use mathlib.Core.Path.{_≡_, refl, sym, ap, _∙_}
 use mathlib.Core.Bool.{Bool, true, false, _&&_}

@@ -1,5 +1,4 @@
 -- What a solicitation replies: whether the connection is a candidate once it has been announced.
--- Assumes nothing.
 use Prim.Native.Nat.{ℕ}
 use mathlib.Core.Path.{_≡_, refl, sym, ap, _∙_}
 use mathlib.Core.Logic.{inl, inr}

@@ -1,5 +1,4 @@
 -- The subject of a package call, a wtxid: its number is that of a hash.
--- Assumes nothing.
 use Prim.Native.Nat.{_<_}
 use denote.Laws.{Is}
 use denote.Struct.Laws as LL

@@ -1,5 +1,4 @@
 -- What the contracts of solicit_package_info say.
--- Assumes nothing.
 use Prim.Native.Nat.{ℕ, _<_}
 use mathlib.Core.Path.{_≡_}
 use mathlib.Core.Bool.{true}

@@ -1,5 +1,4 @@
 -- The entries of an answer, gathered in the sorted order of their priorities or connections, are the sorted entries.
--- Assumes nothing.
 use Prim.Native.Nat.{ℕ, zero, suc, _+_, _*_, _<_}
 use mathlib.Core.Path.{_≡_, refl, sym, ap, _∙_}
 use mathlib.Core.List.{List, [], _∷_, _++_, map, append-assoc}

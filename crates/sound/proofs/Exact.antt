@@ -1,5 +1,4 @@
 -- A place's words are those that the place read from them is written as, exactly if zeros stand behind its lists.
--- Assumes nothing.
 use Prim.Native.Nat.{ℕ, zero, suc, _+_, _-_, _*_, _≤_, _<_}
 use mathlib.Core.Path.{_≡_, refl, sym, ap, _∙_}
 use mathlib.Core.List.{List, [], _∷_, _++_, append-cancel-left}

@@ -1,5 +1,4 @@
 -- The entries are the rows' tally exactly if each has its rows' counts and each row's connection has an entry.
--- Assumes nothing.
 use Prim.Native.Nat.{ℕ, zero, suc, _+_, _-_, _≤_, _<_}
 use mathlib.Core.Path.{_≡_, refl, sym, ap, _∙_}
 use mathlib.Core.Logic.{_⊎_, inl, inr}

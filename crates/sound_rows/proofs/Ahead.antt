@@ -1,5 +1,4 @@
 -- Rows compared word by word, the least word first: the same as their keys compared.
--- Assumes nothing.
 use Prim.Native.Nat.{ℕ, _%_, _^_, _<_}
 use mathlib.Core.Path.{_≡_, sym, _∙_}
 use mathlib.Core.Logic.{_⊎_, inl, inr}

@@ -1,5 +1,4 @@
 -- Rows of one hash in two halves, taken off the front of both: what holds of all rows holds of them and of the rest.
--- Assumes nothing.
 use Prim.Native.Nat.{ℕ, zero, suc, _+_, _-_, _*_, _≤_, _<_}
 use mathlib.Core.Path.{_≡_, refl, sym, ap, _∙_}
 use mathlib.Core.Logic.{_⊎_, inl, inr}

@@ -1,5 +1,4 @@
 -- Rows whose keys do not fall: a half of Txid rows, then a half of Wtxid rows, and in each the hashes do not fall.
--- Assumes nothing.
 use Prim.Native.Nat.{ℕ, zero, suc, _+_, _-_, _*_, _%_, _≤_, _<_}
 use mathlib.Core.Path.{_≡_, refl, sym, ap, _∙_}
 use mathlib.Core.Bool.{Bool, true, false}

@@ -1,5 +1,4 @@
 -- What the test of the rows decides, in the words of FlatSound.
--- Assumes nothing.
 use Prim.Native.Nat.{ℕ, _/_, _%_, _≤_, _<_}
 use mathlib.Core.Path.{_≡_}
 use mathlib.Core.Bool.{Bool, _&&_, _||_}

@@ -1,5 +1,4 @@
 -- The tally's counts are those of the rows, and a list of connections whose counts are right is the tally.
--- Assumes nothing.
 use Prim.Native.Nat.{ℕ, zero, suc, _+_, _≤_, _<_}
 use mathlib.Core.Path.{_≡_, refl, sym, ap, _∙_}
 use mathlib.Core.Logic.{inl, inr}

@@ -1,5 +1,4 @@
 -- The tally in bytes: an entry found and changed, taken out, put in, or missing.
--- Assumes nothing.
 use Prim.Native.Nat.{ℕ, _+_, _-_, _<_}
 use mathlib.Core.Path.{_≡_, sym, ap, subst, _∙_}
 use mathlib.Core.List.{List}

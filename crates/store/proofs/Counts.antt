@@ -1,5 +1,4 @@
 -- What the machine counts over its requests is a count of rows, or the number of places.
--- Assumes nothing.
 use Prim.Native.Nat.{ℕ, _+_, _≤_}
 use mathlib.Core.Path.{_≡_, refl, sym, _∙_}
 use mathlib.Core.Logic.{inl, inr}

@@ -1,5 +1,4 @@
 -- The tally's entries by their places: what a search finds, and where one row more, one less or a new bit works.
--- Assumes nothing.
 use Prim.Native.Nat.{ℕ, zero, suc, _+_, _-_, _≤_, _<_}
 use mathlib.Core.Path.{_≡_, refl, sym, _∙_}
 use mathlib.Core.Logic.{inl, inr}

@@ -1,5 +1,4 @@
 -- The words of a flat state: its header and counts, each region as a part that is lent and comes back.
--- Assumes nothing.
 use Prim.Native.Nat.{ℕ, _+_, _-_, _*_, _≤_, _<_}
 use mathlib.Core.Path.{_≡_, refl, sym, ap, _∙_}
 use mathlib.Core.List.{List, [], _++_, append-assoc, append-nil}

@@ -1,5 +1,4 @@
 -- Rows that pass the tests are those of the requests that they show.
--- Assumes nothing.
 use Prim.Native.Nat.{ℕ, suc, _≤_}
 use mathlib.Core.Path.{_≡_, refl, sym, ap, _∙_}
 use mathlib.Core.Logic.{inl, inr}

@@ -1,5 +1,4 @@
 -- The number by which rows are searched is their key's place in the order of keys.
--- Assumes nothing.
 use Prim.Native.Nat.{ℕ, zero, suc, _+_, _*_, _^_, _≤_}
 use mathlib.Core.Path.{_≡_, refl, sym, _∙_}
 use native.Mathlib.Nat.{zero-add, add-comm}

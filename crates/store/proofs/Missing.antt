@@ -1,5 +1,4 @@
 -- A connection that a search does not find has no entry, so that one row less, or a new bit, changes nothing.
--- Assumes nothing.
 use Prim.Native.Nat.{ℕ, zero, suc, _≤_, _<_}
 use mathlib.Core.Path.{_≡_, refl, sym, _∙_}
 use mathlib.Core.Logic.{inl, inr}

@@ -1,5 +1,4 @@
 -- What a change of one request does to the places: one comes, goes, is replaced, or none changes.
--- Assumes nothing.
 use Prim.Native.Nat.{ℕ}
 use mathlib.Core.Path.{_≡_, refl, sym, ap, _∙_}
 use mathlib.Core.List.{List, [], _∷_, _++_}

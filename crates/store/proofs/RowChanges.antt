@@ -1,5 +1,4 @@
 -- What a change of one request does to its rows: an owner comes or goes, a mark, a ready time, an adopted candidate.
--- Assumes nothing.
 use Prim.Native.Nat.{ℕ, _+_, _-_}
 use mathlib.Core.Path.{_≡_, refl, sym, ap, _∙_}
 use mathlib.Core.Bool.{Bool, true, false}

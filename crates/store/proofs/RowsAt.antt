@@ -1,5 +1,4 @@
 -- A row put in, taken out or replaced at an index: the tally, and the machine's push and cut.
--- Assumes nothing.
 use Prim.Native.Nat.{ℕ, suc, _+_, _<_}
 use mathlib.Core.Path.{_≡_, refl, sym, ap, _∙_}
 use mathlib.Core.Logic.{inl, inr}

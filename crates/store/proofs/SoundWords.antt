@@ -1,5 +1,4 @@
 -- A store is sound exactly if the records that its words show are, and its words are those of these records.
--- Assumes nothing.
 use Prim.Native.Nat.{ℕ, _≤_}
 use mathlib.Core.Path.{_≡_, sym, ap, subst, _∙_}
 use mathlib.Core.List.{List}

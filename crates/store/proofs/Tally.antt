@@ -1,5 +1,4 @@
 -- The tally of rows: one row more, one row less, a row that comes to own or ceases to.
--- Assumes nothing.
 use Prim.Native.Nat.{ℕ, suc, _+_, _-_, _≤_, _<_}
 use mathlib.Core.Path.{_≡_, refl, sym}
 use mathlib.Core.Logic.{_⊎_, inl, inr}

@@ -1,5 +1,4 @@
 -- A sound state's records pass the tests.
--- Assumes nothing.
 use mathlib.Core.Path.{refl}
 use native.Mathlib.Omega.{arith}
 use Rattle.regions.specs.declared.Conn.{Conn}

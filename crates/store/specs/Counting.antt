@@ -1,6 +1,5 @@
 -- The tally of connections with one row less, and with a row that comes to own its request or ceases to.
 -- (`bump` of Flat is one row more.)
--- Assumes nothing.
 use Prim.Native.Nat.{ℕ, _+_, _-_}
 use mathlib.Core.List.{List, [], _∷_}
 use lib.Dec.{eqb}

@@ -1,5 +1,4 @@
 -- The state that lists of records show, whatever the records are: rows gathered into requests, each with its place.
--- Assumes nothing.
 use Prim.Native.Nat.{ℕ, zero, suc, _/_, _%_}
 use mathlib.Core.Bool.{Bool, true, false}
 use mathlib.Core.List.{List, [], _∷_, map}

@@ -1,5 +1,4 @@
 -- The one image of a state, as a list of words (docs/STORE.md), and what bytes write.
--- Assumes nothing.
 use Prim.Native.Nat.{ℕ, _+_, _*_, _≤_, _<_}
 use mathlib.Core.Path.{_≡_}
 use mathlib.Core.List.{List, [], _∷_, _++_}

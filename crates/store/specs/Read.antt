@@ -1,5 +1,4 @@
 -- The state that words show, whatever the words are.
--- Assumes nothing.
 use Prim.Native.Nat.{ℕ, zero, suc, _+_, _*_}
 use mathlib.Core.List.{List}
 use mathlib.Core.Option.{Option, none, some}

@@ -1,5 +1,4 @@
 -- What the functions over a store ask of its bytes, and what they promise of them.
--- Assumes nothing.
 use Prim.Native.Nat.{ℕ, _+_, _*_, _^_, _≤_, _<_}
 use mathlib.Core.Path.{_≡_}
 use mathlib.Core.Bool.{Bool, true, false}

@@ -1,5 +1,4 @@
 -- Rows from one index to another, each changed in the same way.
--- Assumes nothing.
 use Prim.Native.Nat.{ℕ, _+_, _%_}
 use mathlib.Core.List.{List, _++_, map}
 use lib.ListN.{take, drop}

@@ -1,5 +1,4 @@
 -- The poll gate, and the known cursor set, on bytes that write a sound state.
--- Assumes nothing.
 use Prim.Native.Nat.{ℕ}
 use mathlib.Core.Bool.{Bool}
 use mathlib.Core.List.{List}

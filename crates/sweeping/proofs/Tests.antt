@@ -1,5 +1,4 @@
 -- Whether two rows have the same key, and whether a row is the last of its key.
--- Assumes nothing.
 use Prim.Native.Nat.{ℕ, _≤_, _<_}
 use mathlib.Core.Path.{_≡_, sym, ap, _∙_}
 use mathlib.Core.Logic.{inl, inr}

@@ -1,5 +1,4 @@
 -- The walk that hands keys out, turn by turn.
--- Assumes nothing.
 use Prim.Native.Nat.{ℕ, min, _+_, _-_, _*_, _≤_, _<_}
 use mathlib.Core.Path.{_≡_, refl, sym, ap, subst, _∙_}
 use mathlib.Core.Bool.{Bool, true, false}

@@ -1,5 +1,4 @@
 -- What the contracts of calls on any part of the state say.
--- Assumes nothing.
 use Prim.Native.Nat.{ℕ}
 use mathlib.Core.Path.{_≡_}
 use mathlib.Core.Bool.{Bool}

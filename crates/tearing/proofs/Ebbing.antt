@@ -1,5 +1,4 @@
 -- An entry with one row less that stays in the tally: the entries that have a row are those of the tally with one row less.
--- Assumes nothing.
 use Prim.Native.Nat.{ℕ, zero, suc, _-_, _≤_, _<_}
 use mathlib.Core.Path.{_≡_, refl, sym, ap, subst, _∙_}
 use mathlib.Core.Logic.{inl, inr}

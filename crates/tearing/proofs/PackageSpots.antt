@@ -1,5 +1,4 @@
 -- The place of a hash beside that of another, and what it says of the request's package.
--- Assumes nothing.
 use Prim.Native.Nat.{ℕ, zero, suc, _-_, _%_, _≤_, _<_}
 use mathlib.Core.Path.{_≡_, refl, sym, ap, _∙_}
 use mathlib.Core.Bool.{Bool, true, false, not, _||_}

@@ -1,5 +1,4 @@
 -- The rows and the places of the table that teardown_package_claims leaves.
--- Assumes nothing.
 use Prim.Native.Nat.{ℕ, suc, _+_, _≤_}
 use mathlib.Core.Path.{_≡_, refl, sym, ap, _∙_}
 use mathlib.Core.Logic.{inl, inr}

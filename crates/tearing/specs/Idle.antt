@@ -1,5 +1,4 @@
 -- The tally while rows go: an entry whose last row goes stays, with no row, until all such entries are taken out together.
--- Assumes nothing.
 use Prim.Native.Nat.{ℕ, _+_, _-_, _≤_}
 use mathlib.Core.Path.{_≡_}
 use mathlib.Core.Bool.{Bool}

@@ -1,5 +1,4 @@
 -- teardown_package_claims: what it comes to in one pass over the table, over the rows and over the places.
--- Assumes nothing.
 use Prim.Native.Nat.{ℕ, _+_, _≤_, _<_}
 use mathlib.Core.Path.{_≡_}
 use mathlib.Core.Bool.{Bool}

@@ -1,5 +1,4 @@
 -- Demands 2 and 3 of a whole list of public calls (specs/Tracked), by induction over the list.
--- Assumes nothing.
 use Prim.Native.Nat.{ℕ}
 use mathlib.Core.Path.{_≡_, refl, subst, _∙_}
 use mathlib.Core.List.{List, [], _∷_}

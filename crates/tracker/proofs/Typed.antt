@@ -1,5 +1,4 @@
 -- The calls that the code can make have arguments of their widths, so that demands 2 and 3 (proofs/Demands) speak of every list of them.
--- Assumes nothing.
 use Prim.Native.Nat.{ℕ}
 use mathlib.Core.Path.{_≡_}
 use mathlib.Core.List.{List, [], _∷_}

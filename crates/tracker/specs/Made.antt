@@ -1,5 +1,4 @@
 -- The calls that the code can make: arguments of its types, and so of their widths.
--- Assumes nothing.
 use Prim.Native.Nat.{ℕ, _<_}
 use mathlib.Core.Bool.{Bool}
 use mathlib.Core.List.{List}

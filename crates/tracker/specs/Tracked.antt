@@ -1,5 +1,4 @@
 -- Demands 2 and 3 of a whole list of public calls on one store (document 01, "Demand 3 is one claim about a whole list").
--- Assumes nothing.
 use Prim.Native.Nat.{ℕ}
 use mathlib.Core.Path.{_≡_}
 use mathlib.Core.List.{List, [], _∷_}

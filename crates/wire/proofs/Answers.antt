@@ -1,5 +1,4 @@
 -- What the two calls answer, by the tests that they make.
--- Assumes nothing.
 use Prim.Native.Nat.{ℕ, suc, _+_, _*_, _≤_, _<_}
 use mathlib.Core.Path.{_≡_, sym, ap, subst, _∙_}
 use mathlib.Core.Logic.{inl, inr}

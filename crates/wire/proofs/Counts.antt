@@ -1,5 +1,4 @@
 -- The count in front of a payload: its bytes, and what a payload that begins with it holds.
--- Assumes nothing.
 use Prim.Native.Nat.{ℕ, _+_, _*_, _^_, _≤_, _<_}
 use mathlib.Core.Path.{_≡_, refl, _∙_}
 use mathlib.Core.Logic.{inl, inr}

@@ -1,5 +1,4 @@
 -- Both round trips: of the definitions, and of the calls by their contracts (document 02, request a).
--- Assumes nothing.
 use Prim.Native.Nat.{ℕ, _+_, _*_, _^_, _≤_, _<_}
 use mathlib.Core.Path.{_≡_, refl, sym, ap, _∙_}
 use mathlib.Core.Logic.{inl, inr}

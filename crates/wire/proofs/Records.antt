@@ -1,5 +1,4 @@
 -- One item: in the 36 bytes of a payload and in the 40 of a list. And items one behind the other.
--- Assumes nothing.
 use Prim.Native.Nat.{ℕ, zero, suc, _+_, _*_, _/_, _^_, _≤_, _<_}
 use mathlib.Core.Path.{_≡_, refl, ap, _∙_}
 use mathlib.Core.Logic.{inl, inr}

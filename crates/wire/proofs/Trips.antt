@@ -1,6 +1,5 @@
 -- The round trips of the two calls, by their contracts (document 02, request a): what a write left is read as the list that it was given, and what a read left is
 -- written as that payload. What a read left is also the list of items, as the calls that are given items read it.
--- Assumes nothing.
 use Prim.Native.Nat.{ℕ, _*_, _/_, _≤_}
 use mathlib.Core.Path.{_≡_, sym, ap, _∙_}
 use mathlib.Core.Logic.{_⊎_, inl, inr}

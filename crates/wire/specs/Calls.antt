@@ -1,5 +1,4 @@
 -- What the two calls on payloads do: reply and answer buffer. They take no store (document 02, request a).
--- Assumes nothing.
 use Prim.Native.Nat.{ℕ, _*_}
 use mathlib.Core.Path.{_≡_}
 use mathlib.Core.List.{List, [], _∷_, _++_}

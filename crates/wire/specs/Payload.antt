@@ -1,5 +1,4 @@
 -- Inventory payloads, as inv, getdata and notfound carry them: what one is, how it is read and how it is written (document 02, request a).
--- Assumes nothing.
 use Prim.Native.Nat.{ℕ, _+_, _*_, _^_}
 use mathlib.Core.Bool.{Bool, true, _&&_}
 use mathlib.Core.List.{List, [], _∷_, _++_}

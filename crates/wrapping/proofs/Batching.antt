@@ -1,5 +1,4 @@
 -- announce_transactions on the bytes, item by item: what stands after the first i of the items offered.
--- Assumes nothing.
 use Prim.Native.Nat.{ℕ, _+_, _*_, _≤_, _<_}
 use mathlib.Core.Path.{_≡_, refl, sym, ap, subst, _∙_}
 use mathlib.Core.Bool.{Bool, not, _&&_}

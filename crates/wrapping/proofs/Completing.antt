@@ -1,5 +1,4 @@
 -- What an answer leaves is sound; transaction_response_completed is one failing after another.
--- Assumes nothing.
 use Prim.Native.Nat.{ℕ, _<_}
 use mathlib.Core.Path.{_≡_}
 use mathlib.Core.Bool.{Bool}

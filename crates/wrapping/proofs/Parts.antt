@@ -1,5 +1,4 @@
 -- Parts of a batch: offers in a row, and what the machine makes of parts one after the other.
--- Assumes nothing.
 use Prim.Native.Nat.{ℕ, zero, suc, _+_, _-_, _≤_, _<_}
 use mathlib.Core.Path.{_≡_, refl, sym, ap, _∙_}
 use mathlib.Core.Bool.{Bool}

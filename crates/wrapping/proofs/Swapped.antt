@@ -1,5 +1,4 @@
 -- Offers announced where L is held, one after the other: those that come in wait, and as many victims go.
--- Assumes nothing.
 use Prim.Native.Nat.{ℕ, _+_, _≤_, _<_}
 use mathlib.Core.Path.{_≡_, refl, sym, ap, subst, _∙_}
 use mathlib.Core.Logic.{inl, inr}

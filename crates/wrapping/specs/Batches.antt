@@ -1,5 +1,4 @@
 -- announce_transactions in parts: offers that are collected beside the store and come in together.
--- Assumes nothing.
 use Prim.Native.Nat.{ℕ, _+_, _-_, _≤_, _<_}
 use mathlib.Core.Path.{_≡_}
 use mathlib.Core.List.{List}

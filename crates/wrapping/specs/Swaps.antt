@@ -1,5 +1,4 @@
 -- announce_transactions where L is held: offers that wait beside the store, each for a victim that goes.
--- Assumes nothing.
 use Prim.Native.Nat.{ℕ, _≤_}
 use mathlib.Core.Path.{_≡_}
 use mathlib.Core.List.{List}

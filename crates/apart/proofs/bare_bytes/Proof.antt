@@ -1,4 +1,4 @@
--- `apart::bare_bytes` meets its contract. Assumes nothing.
+-- `apart::bare_bytes` meets its contract.
 use native.Mathlib.Omega.{arith}
 use Rattle.requests.proofs.Keeping.{kept-shown}
 use borrow.Author.Needs.{needs}

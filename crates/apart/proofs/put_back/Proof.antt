@@ -1,4 +1,4 @@
--- `apart::put_back` meets its contract. Assumes nothing.
+-- `apart::put_back` meets its contract.
 use mathlib.Core.Path.{refl}
 use Rattle.apart.proofs.Parting.{places-shown, put-in, put-done}
 use borrow.Author.Needs.{needs}

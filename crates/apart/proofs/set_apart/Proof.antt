@@ -1,4 +1,4 @@
--- `apart::set_apart` meets its contract. Assumes nothing.
+-- `apart::set_apart` meets its contract.
 use mathlib.Core.Path.{refl, ap, _∙_}
 use native.Mathlib.Omega.{arith}
 use Rattle.store.proofs.Frame.{sizes}

@@ -1,4 +1,4 @@
--- `choosing::able` meets its contract. Assumes nothing.
+-- `choosing::able` meets its contract.
 use native.Mathlib.Omega.{arith}
 use Rattle.choosing.proofs.Scanned.{able-late, able-owned}
 use borrow.Author.Needs.{needs}

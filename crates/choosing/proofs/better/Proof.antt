@@ -1,4 +1,4 @@
--- `choosing::better` meets its contract. Assumes nothing.
+-- `choosing::better` meets its contract.
 use Rattle.choosing.proofs.Scanned.{better-first, better-found, better-row}
 use borrow.Author.Needs.{needs}
 use Rattle.choosing.proofs.better.Statement.{statement}

@@ -1,4 +1,4 @@
--- `choosing::choose_free` meets its contract. Assumes nothing.
+-- `choosing::choose_free` meets its contract.
 use Rattle.ident.specs.Words.{hashNum}
 use borrow.Author.Needs.{needs}
 use Rattle.choosing.proofs.choose_free.Statement.{statement}

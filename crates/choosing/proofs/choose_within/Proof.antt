@@ -1,4 +1,4 @@
--- `choosing::choose_within` meets its contract. Assumes nothing.
+-- `choosing::choose_within` meets its contract.
 use mathlib.Core.Path.{refl}
 use mathlib.Core.List.{[]}
 use Rattle.ident.specs.Number.{txid, wtxid}

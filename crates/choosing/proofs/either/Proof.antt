@@ -1,4 +1,4 @@
--- `choosing::either` meets its contract. Assumes nothing.
+-- `choosing::either` meets its contract.
 use Rattle.choosing.specs.Choosing.{picked}
 use Rattle.choosing.proofs.Scanned.{else-first, else-second}
 use borrow.Author.Needs.{needs}

@@ -1,4 +1,4 @@
--- `choosing::least_in` meets its contract. Assumes nothing.
+-- `choosing::least_in` meets its contract.
 use Prim.Native.Nat.{ℕ, _+_, _-_, _≤_}
 use mathlib.Core.Path.{_≡_, refl, sym, ap, _∙_}
 use mathlib.Core.List.{[]}

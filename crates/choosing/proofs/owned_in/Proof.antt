@@ -1,4 +1,4 @@
--- `choosing::owned_in` meets its contract. Assumes nothing.
+-- `choosing::owned_in` meets its contract.
 use Prim.Native.Nat.{_-_, _≤_}
 use mathlib.Core.Path.{_≡_, refl, sym, _∙_}
 use native.Mathlib.Omega.{arith}

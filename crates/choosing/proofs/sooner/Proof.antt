@@ -1,4 +1,4 @@
--- `choosing::sooner` meets its contract. Assumes nothing.
+-- `choosing::sooner` meets its contract.
 use Rattle.choosing.proofs.Scanned.{sooner-bits, sooner-prio}
 use Rattle.choosing.proofs.sooner.Statement.{statement}
 use Rattle.choosing.proofs.sooner.Tie as tie

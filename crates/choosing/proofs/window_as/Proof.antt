@@ -1,4 +1,4 @@
--- `choosing::window_as` meets its contract. Assumes nothing.
+-- `choosing::window_as` meets its contract.
 use borrow.Author.Needs.{needs}
 use Rattle.choosing.proofs.window_as.Statement.{statement}
 use Rattle.choosing.proofs.window_as.Tie as tie

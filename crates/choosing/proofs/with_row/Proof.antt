@@ -1,4 +1,4 @@
--- `choosing::with_row` meets its contract. Assumes nothing.
+-- `choosing::with_row` meets its contract.
 use mathlib.Core.List.{[]}
 use Rattle.machine.specs.Plan as machine
 use Rattle.choosing.specs.Choosing.{picked}

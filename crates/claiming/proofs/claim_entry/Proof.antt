@@ -1,4 +1,4 @@
--- `claiming::claim_entry` meets its contract. Assumes nothing.
+-- `claiming::claim_entry` meets its contract.
 use borrow.Author.Tests.{not-true, not-false}
 use Rattle.claiming.specs.Claiming.{entryOf}
 use Rattle.claiming.proofs.Below.{key-below}

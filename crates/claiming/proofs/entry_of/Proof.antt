@@ -1,4 +1,4 @@
--- `claiming::entry_of` meets its contract. Assumes nothing.
+-- `claiming::entry_of` meets its contract.
 use Rattle.claiming.proofs.Fields.{entry-read}
 use borrow.Author.Needs.{needs}
 use Rattle.claiming.proofs.entry_of.Statement.{statement}

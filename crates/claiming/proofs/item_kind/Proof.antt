@@ -1,4 +1,4 @@
--- `claiming::item_kind` meets its contract. Assumes nothing.
+-- `claiming::item_kind` meets its contract.
 use Rattle.claiming.proofs.Fields.{item-wtx, item-witness}
 use borrow.Author.Needs.{needs}
 use Rattle.claiming.proofs.item_kind.Statement.{statement}

@@ -1,4 +1,4 @@
--- `claiming::rank` meets its contract. Assumes nothing.
+-- `claiming::rank` meets its contract.
 use mathlib.Core.Path.{sym, ap}
 use Rattle.machine.specs.Claim.{kindRank}
 use borrow.Author.Needs.{needs}

@@ -1,4 +1,4 @@
--- `claiming::same_entry` meets its contract. Assumes nothing.
+-- `claiming::same_entry` meets its contract.
 use Rattle.claiming.specs.Claiming.{entryOf}
 use Rattle.claiming.proofs.Fields.{all-fields}
 use borrow.Author.Needs.{needs}

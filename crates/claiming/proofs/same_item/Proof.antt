@@ -1,4 +1,4 @@
--- `claiming::same_item` meets its contract. Assumes nothing.
+-- `claiming::same_item` meets its contract.
 use Rattle.claiming.proofs.Fields.{and-both, eqb-both}
 use borrow.Author.Needs.{needs}
 use Rattle.claiming.proofs.same_item.Statement.{statement}

@@ -1,4 +1,4 @@
--- `claiming::same_key` meets its contract. Assumes nothing.
+-- `claiming::same_key` meets its contract.
 use Rattle.claiming.proofs.Fields.{and-both}
 use borrow.Author.Needs.{needs}
 use Rattle.claiming.proofs.same_key.Statement.{statement}

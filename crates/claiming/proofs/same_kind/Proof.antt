@@ -1,4 +1,4 @@
--- `claiming::same_kind` meets its contract. Assumes nothing.
+-- `claiming::same_kind` meets its contract.
 use mathlib.Core.Path.{sym, ap, _∙_}
 use Rattle.ident.specs.declared.Kind.{Kind}
 use Rattle.machine.specs.Claim.{sameKind}

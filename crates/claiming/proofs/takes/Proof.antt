@@ -1,4 +1,4 @@
--- `claiming::takes` meets its contract. Assumes nothing.
+-- `claiming::takes` meets its contract.
 use Rattle.claiming.specs.Claiming.{entryOf}
 use Rattle.claiming.proofs.OneEntry.{same-taken, none-taken}
 use borrow.Author.Needs.{needs}

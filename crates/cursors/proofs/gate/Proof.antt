@@ -1,6 +1,5 @@
 -- `cursors::gate` meets its contract: a walk of its MIR, by hand, since a local of it is a struct that is lent. The record is read, lent to `poll_gate`, and written back.
 --     loads        the call of `load`.        polls        the record lent to `poll_gate`, and back.        stores        the call of `save`.        ends        the way out
--- Assumes nothing.
 use mathlib.Core.Path.{_≡_, refl, ap}
 use Prim.Native.Nat.{ℕ, _*_, _≤_, _<_, _^_}
 use mathlib.Core.Bool.{Bool}

@@ -1,5 +1,4 @@
 -- `cursors::key_in` meets its contract: a walk of its MIR, by hand, since its result is an enum that holds a struct that holds an array. Where the tag is not 0, a callee makes the key.
--- Assumes nothing.
 use mathlib.Core.Path.{_≡_, refl, sym, ap, subst}
 use Prim.Native.Nat.{ℕ, _<_, _^_}
 use mathlib.Core.List.{[], _∷_, List}

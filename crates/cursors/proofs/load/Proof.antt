@@ -1,7 +1,6 @@
 -- `cursors::load` meets its contract: a walk of its MIR, by hand, since its result holds an enum that holds a struct that holds an array. A covered
 -- function reads the header's words; its fields are copied out, each cursor is made a key by `key_in`, and the record is put together.
 --     reads        the call on the lent bytes.        turns        the two calls on the cursors.        closes        the record, and the way out
--- Assumes nothing.
 use mathlib.Core.Path.{_≡_, refl, ap, subst}
 use Prim.Native.Nat.{ℕ, _*_, _≤_}
 use mathlib.Core.List.{List, [], _∷_}

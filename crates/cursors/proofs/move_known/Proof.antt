@@ -1,7 +1,6 @@
 -- `cursors::move_known` meets its contract: a walk of its MIR, by hand, since a local of it is a struct that is lent. The record is read, lent to `set_known`, and written back.
 --     loads        the call of `load`.        turns        the cursor made a key.        sets        the record lent to
 --     `set_known`, and back.        stores        the call of `save`.        ends        the way out
--- Assumes nothing.
 use mathlib.Core.Path.{_≡_, refl, ap, subst, _∙_}
 use Prim.Native.Nat.{ℕ, _*_, _≤_}
 use mathlib.Core.List.{List, [], _∷_}

@@ -1,4 +1,4 @@
--- `cursors::move_ready` meets its contract. Assumes nothing.
+-- `cursors::move_ready` meets its contract.
 use borrow.Author.Needs.{needs}
 use Rattle.cursors.proofs.InState.{ready-moved}
 use Rattle.cursors.proofs.move_ready.Statement.{statement}

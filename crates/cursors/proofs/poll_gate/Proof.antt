@@ -2,7 +2,6 @@
 -- copied out, a callee makes the next one, it is stored over the old, and a second callee gives the result.
 -- A field that is an enum has a name in its type, and what lies behind a reference is a cell at the raw type: the cell is taken
 -- to the named type (`raw-at`) before the fields are used, and back (`at-raw`) before the borrow is closed.
--- Assumes nothing.
 use mathlib.Core.Path.{_≡_, refl, ap, subst}
 use Prim.Native.Nat.{ℕ, _≤_, _<_, _^_}
 use mathlib.Core.Bool.{Bool}

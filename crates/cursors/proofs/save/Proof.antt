@@ -1,7 +1,6 @@
 -- `cursors::save` meets its contract: a walk of its MIR, by hand, since its parameter holds an enum that holds a struct that holds an array. The fields are
 -- copied out, each cursor is made words by `stored_of`, and a covered function writes them, to which the bytes are lent again for the call.
 --     turns        the two calls on the cursors.        lends        the fields put together, and the slice lent.        writes        the call, and the way out
--- Assumes nothing.
 use mathlib.Core.Path.{_≡_, refl, sym, ap, subst}
 use Prim.Native.Nat.{ℕ, _*_, _≤_}
 use mathlib.Core.List.{List, [], _∷_}

@@ -1,7 +1,6 @@
 -- `cursors::set_ready` meets its contract: a walk of its MIR, by hand. The borrow is opened, a key or none is stored over a field, and the borrow is closed at the changed struct.
 -- A field that is an enum has a name in its type, and what lies behind a reference is a cell at the raw type: the cell is taken
 -- to the named type (`raw-at`) before the field is used, and back (`at-raw`) before the borrow is closed.
--- Assumes nothing.
 use mathlib.Core.Path.{refl}
 use Prim.Native.Nat.{ℕ}
 use mathlib.Core.List.{[], _∷_, List}

@@ -1,6 +1,5 @@
 -- `cursors::stored_of` meets its contract: a walk of its MIR, by hand, since its parameter is an enum that holds a struct that holds an
 -- array. It is matched on, `let .. else`: the walk goes by cases on it, and each arm calls a covered function.
--- Assumes nothing.
 use mathlib.Core.Path.{refl}
 use Prim.Native.Nat.{ℕ}
 use mathlib.Core.List.{[], _∷_, List}

@@ -1,5 +1,4 @@
 -- `exports::tracker_open` meets its contract.
--- Assumes nothing.
 use mathlib.Core.Path.{refl}
 use borrow.Author.Needs.{needs}
 use Rattle.exports.proofs.Statuses.{one-told}

@@ -1,5 +1,4 @@
 -- `exports::tracker_sum` meets its contract: the figures of the public call, or its refusal, which is not 0.
--- Assumes nothing.
 use borrow.Author.Needs.{needs}
 use Rattle.exports.proofs.Statuses.{sum-refused, sum-told, stays}
 use Rattle.exports.proofs.tracker_sum.Statement.{statement}

@@ -1,4 +1,4 @@
--- `ident::cmp_hash` meets its contract: the words are compared from the most significant one down. Assumes nothing.
+-- `ident::cmp_hash` meets its contract: the words are compared from the most significant one down.
 use borrow.Author.Needs.{needs}
 use mathlib.Core.Path.{_≡_, _∙_}
 use Rattle.ident.specs.declared.Order.{Order}

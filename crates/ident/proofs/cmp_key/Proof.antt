@@ -1,4 +1,4 @@
--- `ident::cmp_key` meets its contract. Assumes nothing.
+-- `ident::cmp_key` meets its contract.
 use borrow.Author.Needs.{needs}
 use mathlib.Core.Path.{_≡_, _∙_}
 use Prim.Native.Nat.{ℕ}

@@ -1,4 +1,4 @@
--- `ident::cmp_word` meets its contract. Assumes nothing.
+-- `ident::cmp_word` meets its contract.
 use mathlib.Core.Path.{sym}
 use Rattle.ident.proofs.Compare.{is-less, is-more, is-same-le}
 use Rattle.ident.proofs.cmp_word.Statement.{statement}

@@ -1,4 +1,4 @@
--- `ident::hash_at` meets its contract. Assumes nothing.
+-- `ident::hash_at` meets its contract.
 use borrow.Author.Needs.{needs}
 use Rattle.ident.proofs.WordByWord.{hash-read}
 use Rattle.ident.proofs.hash_at.Statement.{statement}

@@ -1,4 +1,4 @@
--- `ident::hash_from_bytes` meets its contract. Assumes nothing.
+-- `ident::hash_from_bytes` meets its contract.
 use borrow.Author.Needs.{needs}
 use mathlib.Core.Path.{_∙_, ap}
 use native.Mathlib.Omega.{arith}

@@ -1,4 +1,4 @@
--- `ident::hash_to_bytes` meets its contract. Assumes nothing.
+-- `ident::hash_to_bytes` meets its contract.
 use borrow.Author.Needs.{needs}
 use mathlib.Core.Path.{refl}
 use Rattle.ident.specs.Words.{hashNum}

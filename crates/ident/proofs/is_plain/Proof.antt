@@ -1,4 +1,4 @@
--- `ident::is_plain` meets its contract. Assumes nothing.
+-- `ident::is_plain` meets its contract.
 use borrow.Author.Needs.{needs}
 use mathlib.Core.Path.{sym, _∙_, ap}
 use Rattle.ident.specs.Number.{isPlain}

@@ -1,4 +1,4 @@
--- `ident::item_kind` meets its contract. Assumes nothing.
+-- `ident::item_kind` meets its contract.
 use mathlib.Core.Path.{sym, ap}
 use Rattle.ident.specs.Number.{itemKindOf}
 use Rattle.ident.proofs.TypeNumbers.{apart-kind}

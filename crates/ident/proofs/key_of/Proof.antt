@@ -1,6 +1,5 @@
 -- `ident::key_of` meets its contract: a walk of its MIR, by hand, since its result is an enum that holds a struct
 -- that holds an array. A callee's answer, an enum, is matched on: the walk goes by cases on it.
--- Assumes nothing.
 use mathlib.Core.Path.{_≡_, refl, ap, subst}
 use Prim.Native.Nat.{ℕ}
 use mathlib.Core.Option.{Option}

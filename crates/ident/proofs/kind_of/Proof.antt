@@ -1,4 +1,4 @@
--- `ident::kind_of` meets its contract. Assumes nothing.
+-- `ident::kind_of` meets its contract.
 use borrow.Author.Needs.{needs}
 use Rattle.ident.proofs.kind_of.Statement.{statement}
 use Rattle.ident.proofs.kind_of.Tie as tie

@@ -1,4 +1,4 @@
--- `ident::put_hash` meets its contract. Assumes nothing.
+-- `ident::put_hash` meets its contract.
 use borrow.Author.Needs.{needs}
 use Rattle.ident.proofs.Words.{hash-four}
 use Rattle.ident.proofs.WordByWord.{hash-put}

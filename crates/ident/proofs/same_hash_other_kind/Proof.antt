@@ -1,4 +1,4 @@
--- `ident::same_hash_other_kind` meets its contract. Assumes nothing.
+-- `ident::same_hash_other_kind` meets its contract.
 use borrow.Author.Needs.{needs}
 use mathlib.Core.Path.{ap}
 use Rattle.ident.specs.declared.Kind.{Kind}

@@ -1,4 +1,4 @@
--- `lent_lists::hash_in` meets its contract. Assumes nothing.
+-- `lent_lists::hash_in` meets its contract.
 use Prim.Native.Nat.{_*_}
 use mathlib.Core.Path.{_≡_, sym, _∙_}
 use native.Mathlib.Omega.{arith}

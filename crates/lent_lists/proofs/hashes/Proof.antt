@@ -1,4 +1,4 @@
--- `lent_lists::hashes` meets its contract. Assumes nothing.
+-- `lent_lists::hashes` meets its contract.
 use mathlib.Core.Path.{sym}
 use Rattle.lent_lists.proofs.Given.{length-hashes}
 use Rattle.lent_lists.proofs.hashes.Statement.{statement}

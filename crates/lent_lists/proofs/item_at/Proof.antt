@@ -1,4 +1,4 @@
--- `lent_lists::item_at` meets its contract. Assumes nothing.
+-- `lent_lists::item_at` meets its contract.
 use Prim.Native.Nat.{_+_, _*_}
 use mathlib.Core.Path.{_≡_}
 use native.Mathlib.Omega.{arith}

@@ -1,4 +1,4 @@
--- `lent_lists::items` meets its contract. Assumes nothing.
+-- `lent_lists::items` meets its contract.
 use mathlib.Core.Path.{sym}
 use Rattle.lent_lists.proofs.Inventory.{length-items}
 use Rattle.lent_lists.proofs.items.Statement.{statement}

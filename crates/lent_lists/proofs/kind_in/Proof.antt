@@ -1,4 +1,4 @@
--- `lent_lists::kind_in` meets its contract. Assumes nothing.
+-- `lent_lists::kind_in` meets its contract.
 use native.Mathlib.Omega.{arith}
 use borrow.Author.Needs.{needs}
 use Rattle.lent_lists.proofs.Inventory.{kind-below, kind-above}

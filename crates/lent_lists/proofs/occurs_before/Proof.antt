@@ -1,4 +1,4 @@
--- `lent_lists::occurs_before` meets its contract. Assumes nothing.
+-- `lent_lists::occurs_before` meets its contract.
 use Prim.Native.Nat.{ℕ, _-_, _≤_}
 use mathlib.Core.Path.{_≡_, refl, sym}
 use mathlib.Core.Bool.{Bool, false}

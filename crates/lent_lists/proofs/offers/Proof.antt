@@ -1,4 +1,4 @@
--- `lent_lists::offers` meets its contract. Assumes nothing.
+-- `lent_lists::offers` meets its contract.
 use mathlib.Core.Path.{_≡_, sym, _∙_}
 use native.Mathlib.Omega.{arith}
 use borrow.Author.Needs.{needs}

@@ -1,4 +1,4 @@
--- `lent_lists::put_key` meets its contract. Assumes nothing.
+-- `lent_lists::put_key` meets its contract.
 use Rattle.ident.specs.Words.{keyNum}
 use Rattle.lent_lists.proofs.Answer.{key-put}
 use borrow.Author.Needs.{needs}

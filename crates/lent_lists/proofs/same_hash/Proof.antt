@@ -1,4 +1,4 @@
--- `lent_lists::same_hash` meets its contract. Assumes nothing.
+-- `lent_lists::same_hash` meets its contract.
 use mathlib.Core.Path.{sym, ap, _∙_}
 use Rattle.ident.specs.Words.{hashNum}
 use Rattle.lent_lists.proofs.Given.{isEqual, equal-is}

@@ -1,5 +1,4 @@
 -- `outcome::need` meets its contract: the code says what `need` says.
--- Assumes nothing.
 use mathlib.Core.Path.{refl}
 use borrow.Author.Needs.{needs}
 use Rattle.machine.specs.Limits as limits

@@ -1,5 +1,4 @@
 -- `outcome::replied` meets its contract.
--- Assumes nothing.
 use Rattle.outcome.proofs.replied.Statement.{statement}
 use Rattle.outcome.proofs.replied.Tie as tie
 

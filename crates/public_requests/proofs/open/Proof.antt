@@ -1,5 +1,4 @@
 -- `public_requests::open` meets its contract: one law of proofs/Opening for each way out.
--- Assumes nothing.
 use mathlib.Core.Path.{sym, _∙_}
 use native.Mathlib.Omega.{arith}
 use lib.ListN.{drop, length-take}

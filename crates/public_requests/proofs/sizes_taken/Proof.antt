@@ -1,5 +1,4 @@
 -- `public_requests::sizes_taken` meets its contract: each test that fails is a part of `sizesTaken` that is false.
--- Assumes nothing.
 use native.Mathlib.Omega.{arith}
 use borrow.Author.Tests.{le-leb, lt-leb}
 use Rattle.machine.specs.Limits.{maxAnnouncements}

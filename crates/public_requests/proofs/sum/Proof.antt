@@ -1,5 +1,4 @@
 -- `public_requests::sum` meets its contract: the sound test, and `on_sound::sum`.
--- Assumes nothing.
 use mathlib.Core.Path.{refl}
 use borrow.Author.Needs.{needs}
 use Rattle.machine.specs.Call.{Sum, named}

@@ -1,5 +1,4 @@
 -- `requests::quad_hash` meets its contract: both numbers are the same four words.
--- Assumes nothing.
 use mathlib.Core.Path.{refl}
 use Rattle.words.specs.Words.{number}
 use Rattle.regions.specs.Rows.{quadNumber}

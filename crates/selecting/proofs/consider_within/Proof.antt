@@ -1,4 +1,4 @@
--- `selecting::consider_within` meets its contract. Assumes nothing.
+-- `selecting::consider_within` meets its contract.
 use mathlib.Core.Path.{refl}
 use borrow.Author.Needs.{needs}
 use Rattle.ident.specs.Words.{keyNum}

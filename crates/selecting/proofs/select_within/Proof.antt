@@ -1,4 +1,4 @@
--- `selecting::select_within` meets its contract. Assumes nothing.
+-- `selecting::select_within` meets its contract.
 use mathlib.Core.Path.{refl}
 use native.Mathlib.Omega.{arith}
 use borrow.Author.Needs.{needs}

@@ -1,4 +1,4 @@
--- `sending::falls_short` meets its contract. Assumes nothing.
+-- `sending::falls_short` meets its contract.
 use mathlib.Core.Path.{refl}
 use native.Mathlib.Nat.{add-zero}
 use Rattle.sending.proofs.Parting.{at-most}

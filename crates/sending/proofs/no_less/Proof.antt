@@ -1,4 +1,4 @@
--- `sending::no_less` meets its contract. Assumes nothing.
+-- `sending::no_less` meets its contract.
 use Rattle.sending.proofs.Parting.{greater-second, greater-first}
 use Rattle.sending.proofs.no_less.Statement.{statement}
 use Rattle.sending.proofs.no_less.Tie as tie

@@ -1,6 +1,5 @@
 -- `sending::part` meets its contract: a walk of its MIR, by hand. Two searches give the part's ends. The slice is Copy: what it owns is had twice, one copy is kept for the exit, and of the other
 -- the part is made, under a new name (`shs-part-same`).
--- Assumes nothing.
 use mathlib.Core.Path.{refl, sym, ap, subst, _∙_}
 use Prim.Native.Nat.{ℕ, _<_, _≤_, _*_, _+_, _-_, _^_}
 use native.Mathlib.Nat.{le-trans}

@@ -2,7 +2,6 @@
 -- search goes on.
 --     asks         the call of `falls_short`, as a step over any rest of the context
 --     turns        a turn from where the loop's test is reached: the search goes on above or below, or the loop is left and the rest of the body runs
--- Assumes nothing.
 use mathlib.Core.Path.{_≡_, refl, sym, ap, subst, _∙_}
 use Prim.Native.Nat.{ℕ, _+_, _-_, _/_, _<_, _≤_, _^_}
 use native.Mathlib.Omega.{arith}

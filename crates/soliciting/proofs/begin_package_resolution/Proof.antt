@@ -1,4 +1,4 @@
--- `soliciting::begin_package_resolution` meets its contract. Assumes nothing.
+-- `soliciting::begin_package_resolution` meets its contract.
 use borrow.Author.Needs.{needs}
 use borrow.Author.Tests.{not-true, not-false}
 use Rattle.ident.specs.Words.{hashNum}

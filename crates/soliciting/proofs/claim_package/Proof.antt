@@ -1,4 +1,4 @@
--- `soliciting::claim_package` meets its contract. Assumes nothing.
+-- `soliciting::claim_package` meets its contract.
 use mathlib.Core.Path.{sym, _∙_}
 use mathlib.Core.Logic.{⊎-elim}
 use native.Mathlib.Omega.{arith}

@@ -1,4 +1,4 @@
--- `soliciting::owned_at` meets its contract. Assumes nothing.
+-- `soliciting::owned_at` meets its contract.
 use mathlib.Core.Path.{subst}
 use mathlib.Core.Logic.{⊎-elim}
 use borrow.Author.Needs.{needs}

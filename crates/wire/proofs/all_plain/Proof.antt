@@ -1,4 +1,4 @@
--- `wire::all_plain` meets its contract. Assumes nothing.
+-- `wire::all_plain` meets its contract.
 use Prim.Native.Nat.{_-_, _≤_}
 use mathlib.Core.Path.{_≡_, refl}
 use lib.ListN.{drop}

@@ -1,4 +1,4 @@
--- `wire::count_bytes` meets its contract. Assumes nothing.
+-- `wire::count_bytes` meets its contract.
 use native.Mathlib.Omega.{arith}
 use mathlib.Core.Path.{sym}
 use Rattle.wire.proofs.Counts.{length-one, length-three}

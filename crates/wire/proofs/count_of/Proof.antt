@@ -1,4 +1,4 @@
--- `wire::count_of` meets its contract. Assumes nothing.
+-- `wire::count_of` meets its contract.
 use native.Mathlib.Omega.{arith}
 use Rattle.wire.proofs.Counts.{none-empty, begins-one, long-first, cut-count, low-count, begins-three}
 use borrow.Author.Needs.{needs}

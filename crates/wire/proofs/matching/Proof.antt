@@ -1,4 +1,4 @@
--- `wire::matching` meets its contract. Assumes nothing.
+-- `wire::matching` meets its contract.
 use Rattle.wire.proofs.Counts.{matches, too-many, unmatched}
 use native.Mathlib.Omega.{arith}
 use borrow.Author.Needs.{needs}

@@ -1,4 +1,4 @@
--- `wire::put_count` meets its contract. Assumes nothing.
+-- `wire::put_count` meets its contract.
 use native.Mathlib.Omega.{arith}
 use lib.ListN.{length-set}
 use Rattle.wire.proofs.Counts.{length-one, length-three}

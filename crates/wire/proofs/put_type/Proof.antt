@@ -1,4 +1,4 @@
--- `wire::put_type` meets its contract. Assumes nothing.
+-- `wire::put_type` meets its contract.
 use native.Mathlib.Omega.{arith}
 use lib.ListN.{length-set}
 use Rattle.wire.proofs.Filling.{stores-four}

@@ -1,4 +1,4 @@
--- `wire::read_item` meets its contract. Assumes nothing.
+-- `wire::read_item` meets its contract.
 use Rattle.wire.proofs.Filling.{item-read}
 use borrow.Author.Needs.{needs}
 use Rattle.wire.proofs.read_item.Statement.{statement}

@@ -1,4 +1,4 @@
--- `wire::read_items` meets its contract. Assumes nothing.
+-- `wire::read_items` meets its contract.
 use Prim.Native.Nat.{_-_, _≤_}
 use mathlib.Core.Path.{_≡_}
 use lib.ListN.{length, drop}

@@ -1,4 +1,4 @@
--- `wire::read_payload` meets its contract. Assumes nothing.
+-- `wire::read_payload` meets its contract.
 use native.Mathlib.Omega.{arith}
 use Rattle.wire.proofs.Answers.{counted, read-bad, read-short, read-done}
 use borrow.Author.Needs.{needs}

@@ -1,4 +1,4 @@
--- `wire::type_at` meets its contract. Assumes nothing.
+-- `wire::type_at` meets its contract.
 use native.Mathlib.Omega.{arith}
 use Rattle.wire.proofs.Filling.{four-digits}
 use borrow.Author.Needs.{needs}

@@ -1,4 +1,4 @@
--- `wire::write_item` meets its contract. Assumes nothing.
+-- `wire::write_item` meets its contract.
 use mathlib.Core.Path.{ap, _∙_}
 use Rattle.ident.specs.Number.{Item}
 use Rattle.words.specs.Words.{splice}

@@ -1,4 +1,4 @@
--- `wire::write_payload` meets its contract. Assumes nothing.
+-- `wire::write_payload` meets its contract.
 use native.Mathlib.Omega.{arith}
 use borrow.Author.Tests.{not-true, not-false}
 use Rattle.lent_lists.specs.Items.{itemsIn}

@@ -1,4 +1,4 @@
--- `wrapping::transaction_response_completed` meets its contract. Assumes nothing.
+-- `wrapping::transaction_response_completed` meets its contract.
 use native.Mathlib.Omega.{arith}
 use Rattle.ident.specs.Words.{keyNum}
 use Rattle.ident.proofs.Words.{key-four, hash-below}

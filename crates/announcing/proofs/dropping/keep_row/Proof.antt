@@ -1,4 +1,4 @@
--- `announcing::dropping::keep_row` meets its contract. Assumes nothing.
+-- `announcing::dropping::keep_row` meets its contract.
 use native.Mathlib.Omega.{arith}
 use Rattle.announcing.proofs.DroppingRows.{kept-there}
 use borrow.Author.Needs.{needs}

@@ -1,4 +1,4 @@
--- `announcing::parent::request_parent_at` meets its contract. Assumes nothing.
+-- `announcing::parent::request_parent_at` meets its contract.
 use Rattle.ident.specs.Words.{keyNum}
 use Rattle.requests.specs.Changes.{candidateOf}
 use Rattle.announcing.proofs.Adopting.{at-key, at-other, at-neither}

@@ -1,4 +1,4 @@
--- `announcing::parents::announce_parent` meets its contract. Assumes nothing.
+-- `announcing::parents::announce_parent` meets its contract.
 use native.Mathlib.Omega.{arith}
 use Rattle.ident.specs.Words.{hashNum}
 use Rattle.ident.proofs.Words.{hash-four, hash-below}

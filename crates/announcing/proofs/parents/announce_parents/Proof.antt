@@ -1,4 +1,4 @@
--- `announcing::parents::announce_parents` meets its contract. Assumes nothing.
+-- `announcing::parents::announce_parents` meets its contract.
 use Prim.Native.Nat.{ℕ, _-_, _<_}
 use mathlib.Core.Path.{_≡_, refl, sym, ap, _∙_}
 use mathlib.Core.Logic.{⊎-elim}

@@ -1,5 +1,4 @@
 -- `answering::answers::answer_line` meets its contract.
--- Assumes nothing.
 use mathlib.Core.Path.{refl, sym, ap, _∙_}
 use Rattle.asking.specs.Given.{askedLine}
 use Rattle.keeping.proofs.Stepping.{step-unread, step-keeps, step-is}

@@ -1,5 +1,4 @@
 -- `answering::answers::answer_open` meets its contract.
--- Assumes nothing.
 use mathlib.Core.Path.{refl, ap}
 use native.Mathlib.Omega.{arith}
 use Rattle.outcome.specs.Reply.{replyOf}

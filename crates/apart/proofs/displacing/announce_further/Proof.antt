@@ -1,4 +1,4 @@
--- `apart::displacing::announce_further` meets its contract. Assumes nothing.
+-- `apart::displacing::announce_further` meets its contract.
 use mathlib.Core.Path.{_∙_}
 use native.Mathlib.Omega.{arith}
 use Rattle.apart.proofs.NextParent.{restocked-supplies, swaps-waits, further-swapped, further-unlisted}

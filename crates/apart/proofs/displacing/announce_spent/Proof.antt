@@ -1,4 +1,4 @@
--- `apart::displacing::announce_spent` meets its contract. Assumes nothing.
+-- `apart::displacing::announce_spent` meets its contract.
 use native.Mathlib.Omega.{arith}
 use Rattle.ident.proofs.Words.{hash-four, hash-below}
 use Rattle.apart.proofs.Alongside.{let-kept}

@@ -1,4 +1,4 @@
--- `apart::displacing::announce_unaided` meets its contract. Assumes nothing.
+-- `apart::displacing::announce_unaided` meets its contract.
 use Rattle.ident.proofs.Words.{hash-four, hash-below}
 use Rattle.apart.proofs.NextParent.{unaided-shut, unaided-by}
 use borrow.Author.Needs.{needs}

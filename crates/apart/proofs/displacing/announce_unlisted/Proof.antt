@@ -1,4 +1,4 @@
--- `apart::displacing::announce_unlisted` meets its contract. Assumes nothing.
+-- `apart::displacing::announce_unlisted` meets its contract.
 use native.Mathlib.Omega.{arith}
 use Rattle.apart.proofs.Alongside.{beside-kept}
 use Rattle.apart.proofs.NextParent.{further-spent, further-next}

@@ -1,4 +1,4 @@
--- `apart::displacing::hopeless` meets its contract. Assumes nothing.
+-- `apart::displacing::hopeless` meets its contract.
 use borrow.Author.Tests.{not-false}
 use Rattle.machine.proofs.Tests.{never}
 use borrow.Author.Needs.{needs}

@@ -1,4 +1,4 @@
--- `apart::displacing::lacking` meets its contract. Assumes nothing.
+-- `apart::displacing::lacking` meets its contract.
 use mathlib.Core.Path.{sym, _∙_}
 use native.Mathlib.Omega.{arith}
 use borrow.Author.Tests.{leb-true}

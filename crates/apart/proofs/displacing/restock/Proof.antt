@@ -1,4 +1,4 @@
--- `apart::displacing::restock` meets its contract. Assumes nothing.
+-- `apart::displacing::restock` meets its contract.
 use mathlib.Core.Path.{_∙_}
 use borrow.Author.Tests.{not-false}
 use Rattle.apart.proofs.NextParent.{restocked-listed, restocked-none}

@@ -1,4 +1,4 @@
--- `apart::displacing::shut_out` meets its contract. Assumes nothing.
+-- `apart::displacing::shut_out` meets its contract.
 use Prim.Native.Nat.{_+_}
 use mathlib.Core.Path.{sym, _∙_}
 use native.Mathlib.Omega.{arith}

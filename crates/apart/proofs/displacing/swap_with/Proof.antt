@@ -1,4 +1,4 @@
--- `apart::displacing::swap_with` meets its contract. Assumes nothing.
+-- `apart::displacing::swap_with` meets its contract.
 use mathlib.Core.Path.{ap}
 use native.Mathlib.Omega.{arith}
 use Rattle.ident.proofs.Words.{hash-four, hash-below}

@@ -1,4 +1,4 @@
--- `apart::joining::announce_next` meets its contract. Assumes nothing.
+-- `apart::joining::announce_next` meets its contract.
 use native.Mathlib.Omega.{arith}
 use Rattle.ident.proofs.Words.{hash-four, hash-below}
 use Rattle.apart.proofs.Alongside.{next-waits, next-alone, let-kept, waits-same}

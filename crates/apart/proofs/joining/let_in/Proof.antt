@@ -1,4 +1,4 @@
--- `apart::joining::let_in` meets its contract. Assumes nothing.
+-- `apart::joining::let_in` meets its contract.
 use native.Mathlib.Omega.{arith}
 use Rattle.apart.proofs.Alongside.{came-kept, let-none, let-in}
 use borrow.Author.Needs.{needs}

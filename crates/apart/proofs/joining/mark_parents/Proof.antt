@@ -1,4 +1,4 @@
--- `apart::joining::mark_parents` meets its contract. Assumes nothing.
+-- `apart::joining::mark_parents` meets its contract.
 use Prim.Native.Nat.{_-_, _≤_}
 use mathlib.Core.Path.{_≡_, refl, _∙_}
 use native.Mathlib.Omega.{arith}

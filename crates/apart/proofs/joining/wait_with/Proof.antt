@@ -1,4 +1,4 @@
--- `apart::joining::wait_with` meets its contract. Assumes nothing.
+-- `apart::joining::wait_with` meets its contract.
 use mathlib.Core.Path.{refl}
 use native.Mathlib.Omega.{arith}
 use Rattle.ident.proofs.Words.{hash-four, hash-below}

@@ -1,4 +1,4 @@
--- `apart::lapsing::expire_one` meets its contract. Assumes nothing.
+-- `apart::lapsing::expire_one` meets its contract.
 use Prim.Native.Nat.{_<_}
 use mathlib.Core.Path.{refl}
 use native.Mathlib.Omega.{arith}

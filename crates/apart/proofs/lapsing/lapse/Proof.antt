@@ -1,4 +1,4 @@
--- `apart::lapsing::lapse` meets its contract. Assumes nothing.
+-- `apart::lapsing::lapse` meets its contract.
 use mathlib.Core.Path.{refl, sym, subst}
 use native.Mathlib.Omega.{arith}
 use borrow.Author.Tests.{eq-eqb, ne-eqb}

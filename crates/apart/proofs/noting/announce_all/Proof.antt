@@ -1,4 +1,4 @@
--- `apart::noting::announce_all` meets its contract. Assumes nothing.
+-- `apart::noting::announce_all` meets its contract.
 use native.Mathlib.Omega.{arith}
 use Rattle.words.specs.Words.{words}
 use Rattle.apart.proofs.InHalves.{unlisted-few, none-waits, half-supplies, supplies-waits, both-noted}

@@ -1,4 +1,4 @@
--- `apart::noting::announce_bits` meets its contract. Assumes nothing.
+-- `apart::noting::announce_bits` meets its contract.
 use Prim.Native.Nat.{ℕ, _+_, _-_, _*_, _^_, _≤_, _<_}
 use mathlib.Core.Path.{_≡_, refl, _∙_}
 use native.Mathlib.Omega.{arith}

@@ -1,4 +1,4 @@
--- `apart::noting::first_half` meets its contract. Assumes nothing.
+-- `apart::noting::first_half` meets its contract.
 use borrow.Author.Needs.{needs}
 use native.Mathlib.Omega.{arith}
 use Rattle.apart.proofs.Notes.{halved-less, halved-more}

@@ -1,4 +1,4 @@
--- `apart::noting::parent_of` meets its contract. Assumes nothing.
+-- `apart::noting::parent_of` meets its contract.
 use mathlib.Core.Path.{ap, _∙_}
 use Rattle.regions.specs.Rows.{quadNumber}
 use borrow.Author.Needs.{needs}

@@ -1,4 +1,4 @@
--- `apart::noting::parents_in` meets its contract. Assumes nothing.
+-- `apart::noting::parents_in` meets its contract.
 use native.Mathlib.Omega.{arith}
 use mathlib.Core.List.{[], _∷_}
 use Rattle.package_stages.proofs.Seeking.{head-parents}

@@ -1,4 +1,4 @@
--- `apart::noting::raised` meets its contract. Assumes nothing.
+-- `apart::noting::raised` meets its contract.
 use native.Mathlib.Omega.{arith}
 use borrow.Author.Needs.{needs}
 use Rattle.apart.proofs.noting.raised.Statement.{statement}

@@ -1,4 +1,4 @@
--- `apart::silent::drop_due` meets its contract. Assumes nothing.
+-- `apart::silent::drop_due` meets its contract.
 use Prim.Native.Nat.{_-_}
 use mathlib.Core.Path.{_∙_}
 use native.Mathlib.Omega.{arith}

@@ -1,4 +1,4 @@
--- `apart::silent::drop_row` meets its contract. Assumes nothing.
+-- `apart::silent::drop_row` meets its contract.
 use Rattle.apart.proofs.DroppingRows.{drop-goes, drop-stays}
 use borrow.Author.Needs.{needs}
 use Rattle.apart.proofs.silent.drop_row.Statement.{statement}

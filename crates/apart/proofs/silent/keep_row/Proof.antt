@@ -1,4 +1,4 @@
--- `apart::silent::keep_row` meets its contract. Assumes nothing.
+-- `apart::silent::keep_row` meets its contract.
 use native.Mathlib.Omega.{arith}
 use Rattle.apart.proofs.DroppingRows.{kept-there}
 use borrow.Author.Needs.{needs}

@@ -1,4 +1,4 @@
--- `apart::slots::copy_out` meets its contract. Assumes nothing.
+-- `apart::slots::copy_out` meets its contract.
 use mathlib.Core.Path.{refl}
 use Rattle.apart.proofs.Slotted.{copied-out}
 use borrow.Author.Needs.{needs}

@@ -1,4 +1,4 @@
--- `apart::slots::find` meets its contract. Assumes nothing.
+-- `apart::slots::find` meets its contract.
 use Rattle.ident.specs.Words.{keyNum}
 use Rattle.apart.proofs.Spotting.{spot-txid}
 use borrow.Author.Needs.{needs}

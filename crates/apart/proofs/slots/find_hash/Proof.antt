@@ -1,4 +1,4 @@
--- `apart::slots::find_hash` meets its contract. Assumes nothing.
+-- `apart::slots::find_hash` meets its contract.
 use mathlib.Core.Path.{sym, _∙_}
 use native.Mathlib.Omega.{arith}
 use borrow.Author.Tests.{ltb-true, ltb-false, not-true, not-false}

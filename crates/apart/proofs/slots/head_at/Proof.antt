@@ -1,4 +1,4 @@
--- `apart::slots::head_at` meets its contract. Assumes nothing.
+-- `apart::slots::head_at` meets its contract.
 use native.Mathlib.Omega.{arith}
 use Rattle.apart.proofs.Slotted.{head-first, head-later}
 use borrow.Author.Needs.{needs}

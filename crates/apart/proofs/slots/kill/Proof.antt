@@ -1,4 +1,4 @@
--- `apart::slots::kill` meets its contract. Assumes nothing.
+-- `apart::slots::kill` meets its contract.
 use native.Mathlib.Omega.{arith}
 use Rattle.apart.proofs.Slotted.{killed-first, killed-later}
 use borrow.Author.Needs.{needs}

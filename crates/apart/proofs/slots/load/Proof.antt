@@ -1,4 +1,4 @@
--- `apart::slots::load` meets its contract. Assumes nothing.
+-- `apart::slots::load` meets its contract.
 use native.Mathlib.Omega.{arith}
 use Rattle.apart.proofs.Slotted.{loaded-first, loaded-later}
 use borrow.Author.Needs.{needs}

@@ -1,4 +1,4 @@
--- `apart::slots::seek` meets its contract. Assumes nothing.
+-- `apart::slots::seek` meets its contract.
 use mathlib.Core.Path.{sym, _∙_}
 use native.Mathlib.Omega.{arith}
 use borrow.Author.Tests.{ltb-true, ltb-false, not-true, not-false}

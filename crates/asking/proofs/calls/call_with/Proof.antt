@@ -1,5 +1,4 @@
 -- `asking::calls::call_with` meets its contract.
--- Assumes nothing.
 use Prim.Native.Nat.{_+_}
 use mathlib.Core.Path.{refl}
 use Rattle.lines.specs.Fields.{rest}

@@ -1,5 +1,4 @@
 -- `asking::calls::hashes_call` meets its contract.
--- Assumes nothing.
 use Rattle.reading.specs.Lists.{listCall}
 use Rattle.asking.specs.Calls.{hashesAsk, hashesCall}
 use Rattle.reading.proofs.Filling.{fields-not, fields-are}

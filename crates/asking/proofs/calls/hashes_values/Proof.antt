@@ -1,5 +1,4 @@
 -- `asking::calls::hashes_values` meets its contract.
--- Assumes nothing.
 use Rattle.asking.specs.Calls.{hashesForm}
 use Rattle.reading.proofs.Filling.{formed}
 use borrow.Author.Needs.{needs}

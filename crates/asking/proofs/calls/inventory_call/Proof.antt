@@ -1,5 +1,4 @@
 -- `asking::calls::inventory_call` meets its contract.
--- Assumes nothing.
 use Rattle.reading.specs.Lists.{offersCall}
 use Rattle.asking.specs.Calls.{inventoryAsk, inventoryCall}
 use Rattle.reading.proofs.Filling.{fields-not, fields-are}

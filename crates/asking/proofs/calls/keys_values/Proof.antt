@@ -1,5 +1,4 @@
 -- `asking::calls::keys_values` meets its contract.
--- Assumes nothing.
 use Rattle.asking.specs.Calls.{keysForm}
 use Rattle.reading.proofs.Filling.{whole-formed}
 use borrow.Author.Needs.{needs}

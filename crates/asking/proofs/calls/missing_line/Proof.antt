@@ -1,5 +1,4 @@
 -- `asking::calls::missing_line` meets its contract.
--- Assumes nothing.
 use Rattle.reading.specs.Lists.{itemListCall}
 use Rattle.asking.specs.Calls.{missingAsk, missingLine}
 use Rattle.reading.proofs.Filling.{fields-not, fields-are}

@@ -1,5 +1,4 @@
 -- `asking::calls::opening` meets its contract.
--- Assumes nothing.
 use mathlib.Core.Path.{ap}
 use Rattle.reading.specs.Given.{numberAt}
 use Rattle.asking.proofs.Openings.{no-limit, no-places, more-fields, limit-above, places-above, opening-is}

@@ -1,5 +1,4 @@
 -- `asking::calls::part_line` meets its contract.
--- Assumes nothing.
 use Rattle.reading.specs.Line.{Part}
 use Rattle.reading.proofs.Filling.{line-not, line-is}
 use Rattle.asking.specs.Calls.{partLine}

@@ -1,5 +1,4 @@
 -- `asking::calls::summing` meets its contract.
--- Assumes nothing.
 use mathlib.Core.Path.{sym}
 use Rattle.reading.proofs.Taking.{ending-end, ending-more}
 use Rattle.asking.proofs.calls.summing.Statement.{statement}

@@ -1,5 +1,4 @@
 -- `asking::calls::take_line` meets its contract.
--- Assumes nothing.
 use Rattle.reading.specs.Line.{Take}
 use Rattle.reading.proofs.Filling.{line-not, line-is}
 use Rattle.asking.specs.Calls.{takeLine}

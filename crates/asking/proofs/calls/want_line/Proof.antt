@@ -1,5 +1,4 @@
 -- `asking::calls::want_line` meets its contract.
--- Assumes nothing.
 use Rattle.reading.specs.Lists.{keyListCall}
 use Rattle.asking.specs.Calls.{wantAsk, wantLine}
 use Rattle.reading.proofs.Filling.{fields-not, fields-are}

@@ -1,5 +1,4 @@
 -- `asking::vocabulary::hashes_word` meets its contract.
--- Assumes nothing.
 use Rattle.asking.specs.Words.{hashesWord}
 use borrow.Author.Needs.{needs}
 use Rattle.asking.proofs.vocabulary.hashes_word.Statement.{statement}

@@ -1,5 +1,4 @@
 -- `asking::vocabulary::keys_word` meets its contract.
--- Assumes nothing.
 use Rattle.asking.specs.Words.{keysWord}
 use borrow.Author.Needs.{needs}
 use Rattle.asking.proofs.vocabulary.keys_word.Statement.{statement}

@@ -1,5 +1,4 @@
 -- `asking::vocabulary::named` meets its contract.
--- Assumes nothing.
 use mathlib.Core.Path.{sym, _∙_}
 use borrow.Author.Needs.{needs}
 use Rattle.asking.proofs.vocabulary.named.Statement.{statement}

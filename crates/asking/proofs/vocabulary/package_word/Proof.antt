@@ -1,5 +1,4 @@
 -- `asking::vocabulary::package_word` meets its contract.
--- Assumes nothing.
 use Rattle.asking.specs.Words.{packageWord}
 use borrow.Author.Needs.{needs}
 use Rattle.asking.proofs.vocabulary.package_word.Statement.{statement}

@@ -1,5 +1,4 @@
 -- `asking::vocabulary::plan_word` meets its contract.
--- Assumes nothing.
 use Rattle.asking.specs.Words.{planWord}
 use borrow.Author.Needs.{needs}
 use Rattle.asking.proofs.vocabulary.plan_word.Statement.{statement}

@@ -1,5 +1,4 @@
 -- `asking::vocabulary::request_word` meets its contract.
--- Assumes nothing.
 use Rattle.asking.specs.Words.{requestWord}
 use borrow.Author.Needs.{needs}
 use Rattle.asking.proofs.vocabulary.request_word.Statement.{statement}

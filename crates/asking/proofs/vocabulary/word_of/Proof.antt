@@ -1,5 +1,4 @@
 -- `asking::vocabulary::word_of` meets its contract.
--- Assumes nothing.
 use Rattle.asking.specs.Words.{wordOf}
 use borrow.Author.Needs.{needs}
 use Rattle.asking.proofs.vocabulary.word_of.Statement.{statement}

@@ -1,5 +1,4 @@
 -- `calling::departures::answer_leaving` meets its contract.
--- Assumes nothing.
 use mathlib.Core.Path.{refl, ap}
 use native.Mathlib.Omega.{arith}
 use Rattle.machine.specs.Call.{Buffer, Disconnected}

@@ -1,5 +1,4 @@
 -- `calling::hashes::answer_hashes` meets its contract.
--- Assumes nothing.
 use mathlib.Core.Path.{refl, sym}
 use native.Mathlib.Omega.{arith}
 use lib.ListN.{length-take}

@@ -1,5 +1,4 @@
 -- `calling::hashes::carry_out` meets its contract.
--- Assumes nothing.
 use Prim.Native.Nat.{ℕ}
 use mathlib.Core.Path.{refl, ap, _∙_}
 use Rattle.ident.specs.Words.{hashNum}

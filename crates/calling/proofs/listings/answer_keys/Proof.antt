@@ -1,5 +1,4 @@
 -- `calling::listings::answer_keys` meets its contract.
--- Assumes nothing.
 use mathlib.Core.Path.{refl}
 use native.Mathlib.Omega.{arith}
 use Rattle.reading.specs.Given.{valuesOf}

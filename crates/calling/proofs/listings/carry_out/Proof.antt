@@ -1,5 +1,4 @@
 -- `calling::listings::carry_out` meets its contract.
--- Assumes nothing.
 use mathlib.Core.Path.{ap, _∙_}
 use Prim.Native.Nat.{ℕ}
 use Rattle.ident.specs.Number.{Key}

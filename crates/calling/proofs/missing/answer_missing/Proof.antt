@@ -1,5 +1,4 @@
 -- `calling::missing::answer_missing` meets its contract.
--- Assumes nothing.
 use mathlib.Core.Path.{refl, sym}
 use native.Mathlib.Omega.{arith}
 use lib.ListN.{length-take}

@@ -1,5 +1,4 @@
 -- `calling::missing::carry_out` meets its contract.
--- Assumes nothing.
 use mathlib.Core.Path.{refl, ap}
 use native.Mathlib.Omega.{arith}
 use Rattle.machine.specs.Call.{Buffer, TransactionNotFound}

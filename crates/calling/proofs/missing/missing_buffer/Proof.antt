@@ -1,5 +1,4 @@
 -- `calling::missing::missing_buffer` meets its contract.
--- Assumes nothing.
 use mathlib.Core.Path.{refl}
 use Rattle.asking.specs.Calls.{missingBuffer}
 use Rattle.calling.proofs.missing.missing_buffer.Statement.{statement}

@@ -1,5 +1,4 @@
 -- `calling::numbers::answer_number` meets its contract.
--- Assumes nothing.
 use mathlib.Core.Path.{refl}
 use Rattle.printing.proofs.Printing.{carried}
 use Rattle.calling.proofs.Unplanned.{number-unplanned, keeps-call}

@@ -1,5 +1,4 @@
 -- `calling::numbers::answer_sum` meets its contract.
--- Assumes nothing.
 use mathlib.Core.Path.{refl, ap}
 use Rattle.outcome.specs.Reply.{figuresOf}
 use Rattle.printing.proofs.Printing.{carried, reply-refused, reply-figures}

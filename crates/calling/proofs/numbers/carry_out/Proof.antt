@@ -1,5 +1,4 @@
 -- `calling::numbers::carry_out` meets its contract.
--- Assumes nothing.
 use mathlib.Core.Path.{refl, ap}
 use Rattle.ident.specs.Number.{Key}
 use Rattle.machine.specs.Call.{Announce, RequestParent, Failed, Unclaim, Forget, ForgetKnown, FailedPackageInfo, PackageInfoOwner}

@@ -1,5 +1,4 @@
 -- `calling::numbers::key_of` meets its contract.
--- Assumes nothing.
 use mathlib.Core.Path.{ap}
 use Prim.Native.Nat.{ℕ}
 use borrow.Author.Needs.{needs}

@@ -1,5 +1,4 @@
 -- `calling::numbers::response_completed` meets its contract.
--- Assumes nothing.
 use Prim.Native.Nat.{ℕ}
 use mathlib.Core.Path.{ap, _∙_}
 use Rattle.ident.specs.Words.{hashNum}

@@ -1,5 +1,4 @@
 -- `calling::offers::answer_offers` meets its contract.
--- Assumes nothing.
 use mathlib.Core.Path.{refl, sym}
 use native.Mathlib.Omega.{arith}
 use lib.ListN.{length-take}

@@ -1,5 +1,4 @@
 -- `calling::parents::failed_package_claims` meets its contract.
--- Assumes nothing.
 use mathlib.Core.Path.{refl, ap}
 use native.Mathlib.Omega.{arith}
 use Rattle.machine.specs.Call.{Buffer, FailedPackageClaims}

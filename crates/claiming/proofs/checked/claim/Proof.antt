@@ -1,6 +1,5 @@
 -- `claiming::checked::claim` meets its contract: a walk of its MIR, by hand, with a loop. A turn reads an entry, and hands it to `claim_next`, to which the store and the answer are lent again.
 --     turns        a turn from where the loop's test is reached: one more entry is claimed, or the loop is left and the rest of the body runs
--- Assumes nothing.
 use mathlib.Core.Path.{_≡_, refl}
 use Prim.Native.Nat.{ℕ, _+_, _-_, _<_, _≤_, _*_, _^_}
 use native.Mathlib.Numerals.{add-one-dec}

@@ -1,6 +1,5 @@
 -- `claiming::checked::entry_at` meets its contract: a walk of its MIR, by hand. The place of `list[i]` is i times 112 past the slice's pointer; the slice is looked into, element i is taken out,
 -- copied whole, and put back.
--- Assumes nothing.
 use mathlib.Core.Path.{refl, sym}
 use Prim.Native.Nat.{ℕ, _<_, _*_, _^_}
 use native.Mathlib.Omega.{arith}

@@ -1,4 +1,4 @@
--- `claiming::entries::claim_bytes` meets its contract. Assumes nothing.
+-- `claiming::entries::claim_bytes` meets its contract.
 use Prim.Native.Nat.{ℕ, _+_, _-_, _/_, _≤_}
 use mathlib.Core.Path.{_≡_, refl, sym, ap, subst, _∙_}
 use mathlib.Core.List.{List, _∷_}

@@ -1,4 +1,4 @@
--- `claiming::entries::claim_next` meets its contract. Assumes nothing.
+-- `claiming::entries::claim_next` meets its contract.
 use Rattle.claiming.specs.Claiming.{entryOf}
 use Rattle.claiming.proofs.Below.{key-below}
 use Rattle.claiming.proofs.OneEntry.{more-taken, more-left}

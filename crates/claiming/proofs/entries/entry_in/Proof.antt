@@ -1,4 +1,4 @@
--- `claiming::entries::entry_in` meets its contract. Assumes nothing.
+-- `claiming::entries::entry_in` meets its contract.
 use Rattle.claiming.proofs.Readings.{entry-read}
 use borrow.Author.Needs.{needs}
 use Rattle.claiming.proofs.entries.entry_in.Statement.{statement}

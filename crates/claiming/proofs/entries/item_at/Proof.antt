@@ -1,4 +1,4 @@
--- `claiming::entries::item_at` meets its contract. Assumes nothing.
+-- `claiming::entries::item_at` meets its contract.
 use Rattle.claiming.proofs.Readings.{item-read}
 use borrow.Author.Needs.{needs}
 use Rattle.claiming.proofs.entries.item_at.Statement.{statement}

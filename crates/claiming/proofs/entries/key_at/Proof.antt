@@ -1,4 +1,4 @@
--- `claiming::entries::key_at` meets its contract. Assumes nothing.
+-- `claiming::entries::key_at` meets its contract.
 use Rattle.claiming.proofs.Readings.{key-read}
 use borrow.Author.Needs.{needs}
 use Rattle.claiming.proofs.entries.key_at.Statement.{statement}

@@ -1,4 +1,4 @@
--- `claiming::entries::kind_of` meets its contract. Assumes nothing.
+-- `claiming::entries::kind_of` meets its contract.
 use Rattle.claiming.proofs.Readings.{kind-not-zero}
 use borrow.Author.Needs.{needs}
 use Rattle.claiming.proofs.entries.kind_of.Statement.{statement}

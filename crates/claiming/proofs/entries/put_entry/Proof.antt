@@ -1,4 +1,4 @@
--- `claiming::entries::put_entry` meets its contract. Assumes nothing.
+-- `claiming::entries::put_entry` meets its contract.
 use Rattle.claiming.specs.Claiming.{entryOf}
 use Rattle.claiming.proofs.Stored.{entry-put}
 use borrow.Author.Needs.{needs}

@@ -1,4 +1,4 @@
--- `claiming::entries::put_item` meets its contract. Assumes nothing.
+-- `claiming::entries::put_item` meets its contract.
 use Rattle.ident.specs.Words.{itemNum}
 use Rattle.claiming.proofs.Stored.{item-put}
 use borrow.Author.Needs.{needs}

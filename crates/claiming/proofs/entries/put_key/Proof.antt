@@ -1,4 +1,4 @@
--- `claiming::entries::put_key` meets its contract. Assumes nothing.
+-- `claiming::entries::put_key` meets its contract.
 use Rattle.ident.specs.Words.{keyNum}
 use Rattle.claiming.proofs.Stored.{key-put}
 use borrow.Author.Needs.{needs}

@@ -1,4 +1,4 @@
--- `claiming::entries::put_three` meets its contract. Assumes nothing.
+-- `claiming::entries::put_three` meets its contract.
 use Rattle.claiming.proofs.Stored.{three-put}
 use borrow.Author.Needs.{needs}
 use Rattle.claiming.proofs.entries.put_three.Statement.{statement}

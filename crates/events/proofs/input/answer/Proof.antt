@@ -1,5 +1,4 @@
 -- `events::input::answer` meets its contract: the text, and a line feed.
--- Assumes nothing.
 use native.Mathlib.Omega.{arith}
 use lib.ListN.{length-set, length-take}
 use Rattle.printing.proofs.Lines.{room-of}

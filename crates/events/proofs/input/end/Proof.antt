@@ -1,5 +1,4 @@
 -- `events::input::end` meets its contract: the last line, if there is one.
--- Assumes nothing.
 use native.Mathlib.Omega.{arith}
 use lib.ListN.{length-take}
 use Rattle.events.proofs.Bytewise.{ended-line, ended-empty}

@@ -1,5 +1,4 @@
 -- `events::input::list_buffer` meets its contract.
--- Assumes nothing.
 use Prim.Native.Nat.{ℕ}
 use lib.ListN.{length-replicate}
 use Rattle.events.proofs.input.list_buffer.Statement.{statement}

@@ -1,5 +1,4 @@
 -- `events::input::print` meets its contract: a line that is too long is no call.
--- Assumes nothing.
 use Rattle.events.proofs.Bytewise.{printed-long, printed-line}
 use borrow.Author.Needs.{needs}
 use Rattle.events.proofs.input.print.Statement.{statement}

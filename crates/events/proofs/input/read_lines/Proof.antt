@@ -1,5 +1,4 @@
 -- `events::input::read_lines` meets its contract. The loop's invariant: what the program keeps is some bytes, read from the start.
--- Assumes nothing.
 use Prim.Native.Nat.{_≤_}
 use mathlib.Core.Path.{_≡_, refl}
 use mathlib.Core.List.{[]}

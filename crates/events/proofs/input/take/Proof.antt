@@ -1,5 +1,4 @@
 -- `events::input::take` meets its contract: the byte is read.
--- Assumes nothing.
 use native.Mathlib.Omega.{arith}
 use mathlib.Core.Path.{refl}
 use lib.ListN.{length-take}

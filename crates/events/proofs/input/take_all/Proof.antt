@@ -1,5 +1,4 @@
 -- `events::input::take_all` meets its contract. The loop's invariant: what the program keeps is the first i bytes, read.
--- Assumes nothing.
 use Prim.Native.Nat.{_≤_, _-_}
 use mathlib.Core.Path.{_≡_, refl}
 use native.Mathlib.Omega.{arith}

@@ -1,5 +1,4 @@
 -- `exports::arrangements::tracker_arrange` meets its contract: the public call's, its reply said by the numbers handed out.
--- Assumes nothing.
 use borrow.Author.Needs.{needs}
 use Rattle.exports.proofs.Statuses.{hands-entries}
 use Rattle.exports.proofs.arrangements.tracker_arrange.Statement.{statement}

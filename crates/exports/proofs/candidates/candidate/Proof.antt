@@ -1,5 +1,4 @@
 -- `exports::candidates::candidate` meets its contract.
--- Assumes nothing.
 use borrow.Author.Needs.{needs}
 use Rattle.exports.proofs.candidates.candidate.Statement.{statement}
 use Rattle.exports.proofs.candidates.candidate.Tie as tie

@@ -1,5 +1,4 @@
 -- `exports::connections::tracker_counts` meets its contract: the public call's, its answer said by the numbers handed out.
--- Assumes nothing.
 use borrow.Author.Needs.{needs}
 use Rattle.exports.proofs.Counts.{hands-counts}
 use Rattle.exports.proofs.connections.tracker_counts.Statement.{statement}

@@ -1,5 +1,4 @@
 -- `exports::departures::tracker_disconnected` meets its contract: the public call's, its reply said by the numbers handed out.
--- Assumes nothing.
 use borrow.Author.Needs.{needs}
 use Rattle.exports.proofs.Statuses.{hands-departure}
 use Rattle.exports.proofs.departures.tracker_disconnected.Statement.{statement}

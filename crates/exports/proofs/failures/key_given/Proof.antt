@@ -1,5 +1,4 @@
 -- `exports::failures::key_given` meets its contract.
--- Assumes nothing.
 use borrow.Author.Needs.{needs}
 use Rattle.exports.proofs.failures.key_given.Statement.{statement}
 use Rattle.exports.proofs.failures.key_given.Tie as tie

@@ -1,5 +1,4 @@
 -- `exports::failures::kind_given` meets its contract.
--- Assumes nothing.
 use borrow.Author.Tests.{ne-eqb}
 use Rattle.exports.proofs.failures.kind_given.Statement.{statement}
 use Rattle.exports.proofs.failures.kind_given.Tie as tie

@@ -1,5 +1,4 @@
 -- `exports::payloads::tracker_read_payload` meets its contract: that of `wire::read_payload`, its answer said by the numbers handed out.
--- Assumes nothing.
 use borrow.Author.Needs.{needs}
 use Rattle.exports.proofs.Handing.{hands-items}
 use Rattle.exports.proofs.payloads.tracker_read_payload.Statement.{statement}

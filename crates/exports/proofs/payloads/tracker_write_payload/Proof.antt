@@ -1,5 +1,4 @@
 -- `exports::payloads::tracker_write_payload` meets its contract: that of `wire::write_payload`, its answer said by the numbers handed out.
--- Assumes nothing.
 use borrow.Author.Needs.{needs}
 use Rattle.lent_lists.specs.Items.{itemsIn}
 use Rattle.exports.proofs.Handing.{hands-bytes}

@@ -1,5 +1,4 @@
 -- `exports::plans::tracker_plan` meets its contract: the public call's, its reply said by the numbers handed out.
--- Assumes nothing.
 use borrow.Author.Needs.{needs}
 use Rattle.exports.proofs.Statuses.{hands-plan}
 use Rattle.exports.proofs.plans.tracker_plan.Statement.{statement}

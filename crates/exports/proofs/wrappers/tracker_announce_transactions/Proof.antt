@@ -1,5 +1,4 @@
 -- `exports::wrappers::tracker_announce_transactions` meets its contract: the public call's, its reply said by the status.
--- Assumes nothing.
 use mathlib.Core.Path.{refl}
 use borrow.Author.Needs.{needs}
 use Rattle.exports.proofs.Statuses.{one-told}

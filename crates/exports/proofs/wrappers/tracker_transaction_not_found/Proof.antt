@@ -1,5 +1,4 @@
 -- `exports::wrappers::tracker_transaction_not_found` meets its contract: the public call's, its reply said by the numbers handed out.
--- Assumes nothing.
 use mathlib.Core.Path.{refl}
 use borrow.Author.Needs.{needs}
 use Rattle.exports.proofs.Statuses.{hands-keys}

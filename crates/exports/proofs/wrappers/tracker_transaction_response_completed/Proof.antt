@@ -1,5 +1,4 @@
 -- `exports::wrappers::tracker_transaction_response_completed` meets its contract: the public call's, its reply said by the status.
--- Assumes nothing.
 use borrow.Author.Needs.{needs}
 use Rattle.exports.proofs.Statuses.{one-told}
 use Rattle.exports.proofs.Replies.{completes}

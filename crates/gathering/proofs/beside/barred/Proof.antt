@@ -1,4 +1,4 @@
--- `gathering::beside::barred` meets its contract. Assumes nothing.
+-- `gathering::beside::barred` meets its contract.
 use Rattle.ident.specs.Words.{keyNum}
 use Rattle.gathering.proofs.Faring.{barred-many, barred-known, barred-waits}
 use borrow.Author.Needs.{needs}

@@ -1,4 +1,4 @@
--- `gathering::beside::fares` meets its contract. Assumes nothing.
+-- `gathering::beside::fares` meets its contract.
 use native.Mathlib.Omega.{arith}
 use Rattle.ident.specs.Words.{keyNum}
 use Rattle.ident.proofs.Words.{key-four, hash-below}

@@ -1,4 +1,4 @@
--- `gathering::beside::full` meets its contract. Assumes nothing.
+-- `gathering::beside::full` meets its contract.
 use Prim.Native.Nat.{_+_}
 use mathlib.Core.Path.{ap, _∙_}
 use native.Mathlib.Omega.{arith}

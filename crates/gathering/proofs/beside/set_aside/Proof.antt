@@ -1,4 +1,4 @@
--- `gathering::beside::set_aside` meets its contract. Assumes nothing.
+-- `gathering::beside::set_aside` meets its contract.
 use Rattle.ident.specs.Words.{hashNum}
 use Rattle.gathering.proofs.Faring.{set-none, set-keyed}
 use Rattle.gathering.proofs.ItemKeys.{key-t, key-v, key-w, key-other}

@@ -1,4 +1,4 @@
--- `gathering::beside::set_aside_at` meets its contract. Assumes nothing.
+-- `gathering::beside::set_aside_at` meets its contract.
 use native.Mathlib.Omega.{arith}
 use Rattle.ident.proofs.Words.{key-four, hash-below}
 use Rattle.gathering.proofs.Faring.{set-not, set-in}

@@ -1,4 +1,4 @@
--- `gathering::beside::waiting_row` meets its contract. Assumes nothing.
+-- `gathering::beside::waiting_row` meets its contract.
 use mathlib.Core.Path.{_∙_}
 use Rattle.ident.specs.Words.{keyNum}
 use Rattle.machine.specs.Table.{at}

@@ -1,4 +1,4 @@
--- `gathering::coming::come_in` meets its contract. Assumes nothing.
+-- `gathering::coming::come_in` meets its contract.
 use Rattle.gathering.proofs.Arriving.{nobody-in, room-for, with-shown, arrived}
 use borrow.Author.Needs.{needs}
 use Rattle.gathering.proofs.coming.come_in.Statement.{statement}

@@ -1,4 +1,4 @@
--- `gathering::deferred::defer` meets its contract. Assumes nothing.
+-- `gathering::deferred::defer` meets its contract.
 use Rattle.ident.specs.Words.{hashNum}
 use Rattle.gathering.proofs.ItemKeys.{key-t, key-v, key-w, key-other}
 use Rattle.gathering.proofs.Deferrals.{deferred-none, deferred-keyed}

@@ -1,4 +1,4 @@
--- `gathering::deferred::defer_at` meets its contract. Assumes nothing.
+-- `gathering::deferred::defer_at` meets its contract.
 use native.Mathlib.Omega.{arith}
 use Rattle.ident.proofs.Words.{key-four, hash-below}
 use Rattle.gathering.proofs.Deferrals.{deferred-used, deferred-not, deferred-in}

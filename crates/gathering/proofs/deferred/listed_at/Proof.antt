@@ -1,4 +1,4 @@
--- `gathering::deferred::listed_at` meets its contract. Assumes nothing.
+-- `gathering::deferred::listed_at` meets its contract.
 use Prim.Native.Nat.{_-_, _≤_}
 use mathlib.Core.Path.{_≡_, sym, _∙_}
 use native.Mathlib.Omega.{arith}

@@ -1,4 +1,4 @@
--- `gathering::deferred::suits` meets its contract. Assumes nothing.
+-- `gathering::deferred::suits` meets its contract.
 use native.Mathlib.Omega.{arith}
 use borrow.Author.Tests.{not-false, ne-eqb}
 use Rattle.gathering.proofs.Deferrals.{suited-alone, suited-barred, suited-crowded, suited-in}

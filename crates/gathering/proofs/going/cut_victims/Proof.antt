@@ -1,4 +1,4 @@
--- `gathering::going::cut_victims` meets its contract. Assumes nothing.
+-- `gathering::going::cut_victims` meets its contract.
 use Prim.Native.Nat.{_-_, _≤_}
 use mathlib.Core.Path.{_≡_}
 use native.Mathlib.Omega.{arith}

@@ -1,4 +1,4 @@
--- `gathering::going::drop_row` meets its contract. Assumes nothing.
+-- `gathering::going::drop_row` meets its contract.
 use mathlib.Core.Path.{sym}
 use Rattle.announcing.specs.Falls.{goesBy}
 use Rattle.announcing.proofs.DroppingRows.{drop-goes, drop-stays}

@@ -1,4 +1,4 @@
--- `gathering::going::drop_victims` meets its contract. Assumes nothing.
+-- `gathering::going::drop_victims` meets its contract.
 use Prim.Native.Nat.{_-_}
 use mathlib.Core.Path.{_∙_}
 use native.Mathlib.Omega.{arith}

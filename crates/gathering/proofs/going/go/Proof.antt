@@ -1,4 +1,4 @@
--- `gathering::going::go` meets its contract. Assumes nothing.
+-- `gathering::going::go` meets its contract.
 use native.Mathlib.Omega.{arith}
 use borrow.Author.Needs.{needs}
 use Rattle.gathering.proofs.going.go.Statement.{statement}

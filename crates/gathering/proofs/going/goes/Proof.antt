@@ -1,4 +1,4 @@
--- `gathering::going::goes` meets its contract. Assumes nothing.
+-- `gathering::going::goes` meets its contract.
 use Rattle.gathering.proofs.Departing.{goes-by}
 use borrow.Author.Needs.{needs}
 use Rattle.gathering.proofs.going.goes.Statement.{statement}

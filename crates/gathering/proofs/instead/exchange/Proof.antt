@@ -1,4 +1,4 @@
--- `gathering::instead::exchange` meets its contract. Assumes nothing.
+-- `gathering::instead::exchange` meets its contract.
 use Rattle.ident.specs.Words.{hashNum}
 use Rattle.gathering.proofs.ItemKeys.{key-t, key-v, key-w, key-other}
 use Rattle.gathering.proofs.Exchanging.{exchanged-none, exchanged-keyed}

@@ -1,4 +1,4 @@
--- `gathering::instead::exchange_at` meets its contract. Assumes nothing.
+-- `gathering::instead::exchange_at` meets its contract.
 use native.Mathlib.Omega.{arith}
 use Rattle.ident.proofs.Words.{key-four, hash-below}
 use Rattle.requests.specs.Changes.{candidateOf}

@@ -1,4 +1,4 @@
--- `gathering::instead::suits` meets its contract. Assumes nothing.
+-- `gathering::instead::suits` meets its contract.
 use native.Mathlib.Omega.{arith}
 use borrow.Author.Tests.{not-false}
 use Rattle.gathering.proofs.Exchanging.{suits-alone, suits-barred, suits-in}

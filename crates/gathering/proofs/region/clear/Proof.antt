@@ -1,4 +1,4 @@
--- `gathering::region::clear` meets its contract. Assumes nothing.
+-- `gathering::region::clear` meets its contract.
 use native.Mathlib.Omega.{arith}
 use Rattle.words.specs.Words.{words}
 use Rattle.words.proofs.Words.{length-words}

@@ -1,4 +1,4 @@
--- `gathering::region::has_key` meets its contract. Assumes nothing.
+-- `gathering::region::has_key` meets its contract.
 use Rattle.gathering.proofs.Looking.{key-in}
 use borrow.Author.Needs.{needs}
 use Rattle.gathering.proofs.region.has_key.Statement.{statement}

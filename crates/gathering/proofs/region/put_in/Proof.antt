@@ -1,4 +1,4 @@
--- `gathering::region::put_in` meets its contract. Assumes nothing.
+-- `gathering::region::put_in` meets its contract.
 use Rattle.gathering.proofs.Looking.{row-put}
 use borrow.Author.Needs.{needs}
 use Rattle.gathering.proofs.region.put_in.Statement.{statement}

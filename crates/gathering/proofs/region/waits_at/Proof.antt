@@ -1,4 +1,4 @@
--- `gathering::region::waits_at` meets its contract. Assumes nothing.
+-- `gathering::region::waits_at` meets its contract.
 use mathlib.Core.Path.{ap, _∙_}
 use Rattle.ident.specs.Number.{place}
 use Rattle.ident.proofs.Words.{hash-four, hash-below}

@@ -1,4 +1,4 @@
--- `gathering::tallying::count_more` meets its contract. Assumes nothing.
+-- `gathering::tallying::count_more` meets its contract.
 use native.Mathlib.Omega.{arith}
 use Prim.Native.Nat.{_<_}
 use lib.ListN.{length}

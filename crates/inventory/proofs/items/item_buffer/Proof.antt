@@ -1,5 +1,4 @@
 -- `inventory::items::item_buffer` meets its contract.
--- Assumes nothing.
 use Prim.Native.Nat.{ℕ}
 use lib.ListN.{length-replicate}
 use Rattle.inventory.proofs.items.item_buffer.Statement.{statement}

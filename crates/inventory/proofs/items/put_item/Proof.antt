@@ -1,5 +1,4 @@
 -- `inventory::items::put_item` meets its contract.
--- Assumes nothing.
 use Prim.Native.Nat.{_<_}
 use native.Mathlib.Omega.{arith}
 use Rattle.ident.specs.Number.{typeOf}

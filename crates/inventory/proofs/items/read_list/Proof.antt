@@ -1,5 +1,4 @@
 -- `inventory::items::read_list` meets its contract.
--- Assumes nothing.
 use mathlib.Core.Path.{refl, ap}
 use native.Mathlib.Omega.{arith}
 use Rattle.lines.specs.Fields.{itemOf}

@@ -1,5 +1,4 @@
 -- `inventory::keys::key_buffer` meets its contract.
--- Assumes nothing.
 use Prim.Native.Nat.{ℕ}
 use lib.ListN.{length-replicate}
 use Rattle.inventory.proofs.keys.key_buffer.Statement.{statement}

@@ -1,5 +1,4 @@
 -- `inventory::keys::put_key` meets its contract.
--- Assumes nothing.
 use Prim.Native.Nat.{_<_}
 use mathlib.Core.Path.{ap, _∙_}
 use mathlib.Core.List.{List}

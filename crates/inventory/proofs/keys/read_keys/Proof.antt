@@ -1,5 +1,4 @@
 -- `inventory::keys::read_keys` meets its contract. The loop's invariant: the first i keys are read.
--- Assumes nothing.
 use Prim.Native.Nat.{_≤_, _-_}
 use mathlib.Core.Path.{_≡_, ap, _∙_}
 use native.Mathlib.Omega.{arith}

@@ -1,5 +1,4 @@
 -- `inventory::numbers::number_buffer` meets its contract.
--- Assumes nothing.
 use Prim.Native.Nat.{ℕ}
 use lib.ListN.{length-replicate}
 use Rattle.inventory.proofs.numbers.number_buffer.Statement.{statement}

@@ -1,5 +1,4 @@
 -- `inventory::offers::item_buffer` meets its contract.
--- Assumes nothing.
 use Prim.Native.Nat.{ℕ}
 use lib.ListN.{length-replicate}
 use Rattle.inventory.proofs.offers.item_buffer.Statement.{statement}

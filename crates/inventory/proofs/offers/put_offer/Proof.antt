@@ -1,5 +1,4 @@
 -- `inventory::offers::put_offer` meets its contract.
--- Assumes nothing.
 use native.Mathlib.Omega.{arith}
 use Rattle.inventory.proofs.Putting.{number-put}
 use borrow.Author.Needs.{needs}

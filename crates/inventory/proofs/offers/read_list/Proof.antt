@@ -1,5 +1,4 @@
 -- `inventory::offers::read_list` meets its contract.
--- Assumes nothing.
 use mathlib.Core.Path.{refl, ap}
 use native.Mathlib.Omega.{arith}
 use Rattle.reading.specs.Lists.{offerThen}

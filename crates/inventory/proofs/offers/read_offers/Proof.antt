@@ -1,5 +1,4 @@
 -- `inventory::offers::read_offers` meets its contract. The loop's invariant: the first i offers are read.
--- Assumes nothing.
 use Prim.Native.Nat.{_≤_, _-_}
 use mathlib.Core.Path.{_≡_, refl, ap, _∙_}
 use native.Mathlib.Omega.{arith}

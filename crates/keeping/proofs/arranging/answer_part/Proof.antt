@@ -1,5 +1,4 @@
 -- `keeping::arranging::answer_part` meets its contract.
--- Assumes nothing.
 use native.Mathlib.Omega.{arith}
 use Rattle.keeping.proofs.Stepping.{part-unsound, part-unnamed, part-named}
 use Rattle.keeping.proofs.Keeping.{order-of}

@@ -1,5 +1,4 @@
 -- `keeping::arranging::answer_send` meets its contract.
--- Assumes nothing.
 use mathlib.Core.Path.{refl, sym}
 use native.Mathlib.Omega.{arith}
 use lib.ListN.{length-take}

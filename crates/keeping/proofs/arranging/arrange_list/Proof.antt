@@ -1,5 +1,4 @@
 -- `keeping::arranging::arrange_list` meets its contract.
--- Assumes nothing.
 use mathlib.Core.Path.{ap}
 use mathlib.Core.List.{List}
 use Rattle.words.specs.Words.{words}

@@ -1,5 +1,4 @@
 -- `keeping::arranging::arrange_taken` meets its contract.
--- Assumes nothing.
 use mathlib.Core.Path.{refl, ap}
 use native.Mathlib.Omega.{arith}
 use Rattle.words.specs.Words.{words}

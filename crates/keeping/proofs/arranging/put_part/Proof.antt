@@ -1,5 +1,4 @@
 -- `keeping::arranging::put_part` meets its contract.
--- Assumes nothing.
 use mathlib.Core.Path.{refl}
 use Rattle.keeping.proofs.Stepping.{part-fits, printed-part}
 use borrow.Author.Needs.{needs}

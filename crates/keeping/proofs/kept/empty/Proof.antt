@@ -1,5 +1,4 @@
 -- `keeping::kept::empty` meets its contract.
--- Assumes nothing.
 use mathlib.Core.Path.{_∙_}
 use Rattle.keeping.proofs.Keeping.{emptied}
 use borrow.Author.Needs.{needs}

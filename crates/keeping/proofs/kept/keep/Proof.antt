@@ -1,5 +1,4 @@
 -- `keeping::kept::keep` meets its contract.
--- Assumes nothing.
 use Prim.Native.Nat.{ℕ}
 use mathlib.Core.Path.{refl, ap, _∙_}
 use lib.ListN.{take}

@@ -1,5 +1,4 @@
 -- `keeping::kept::keep_entries` meets its contract.
--- Assumes nothing.
 use mathlib.Core.Path.{ap}
 use native.Mathlib.Omega.{arith}
 use Rattle.outcome.specs.declared.Listing.{Listing}

@@ -1,5 +1,4 @@
 -- `keeping::kept::keep_selection` meets its contract.
--- Assumes nothing.
 use mathlib.Core.Path.{ap}
 use Rattle.public_plans.specs.declared.Selection.{Selection}
 use Rattle.public_plans.specs.Entries.{plannedOf}

@@ -1,5 +1,4 @@
 -- `keeping::plans::answer_plan` meets its contract.
--- Assumes nothing.
 use mathlib.Core.Path.{refl, ap}
 use mathlib.Core.Option.{none}
 use native.Mathlib.Omega.{arith}

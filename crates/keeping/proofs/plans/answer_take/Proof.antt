@@ -1,5 +1,4 @@
 -- `keeping::plans::answer_take` meets its contract.
--- Assumes nothing.
 use mathlib.Core.Path.{refl, ap}
 use native.Mathlib.Omega.{arith}
 use Rattle.machine.specs.Call.{Buffer, Claim}

@@ -1,5 +1,4 @@
 -- `keeping::plans::answer_want` meets its contract.
--- Assumes nothing.
 use mathlib.Core.Path.{refl, sym}
 use native.Mathlib.Omega.{arith}
 use lib.ListN.{length-take}

@@ -1,5 +1,4 @@
 -- `keeping::plans::claim_list` meets its contract.
--- Assumes nothing.
 use mathlib.Core.Path.{ap}
 use mathlib.Core.List.{List}
 use Rattle.machine.specs.State.{Entry}

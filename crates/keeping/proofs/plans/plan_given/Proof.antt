@@ -1,5 +1,4 @@
 -- `keeping::plans::plan_given` meets its contract.
--- Assumes nothing.
 use mathlib.Core.Path.{refl, ap}
 use mathlib.Core.Option.{some}
 use native.Mathlib.Omega.{arith}

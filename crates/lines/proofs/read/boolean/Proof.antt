@@ -1,5 +1,4 @@
 -- `lines::read::boolean` meets its contract.
--- Assumes nothing.
 use mathlib.Core.Path.{sym, _∙_}
 use borrow.Author.Tests.{eq-eqb, ne-eqb}
 use Rattle.lines.proofs.Letters.{bool-long, bool-one}

@@ -1,5 +1,4 @@
 -- `lines::read::digit` meets its contract: a law of proofs/Digits for each range of bytes.
--- Assumes nothing.
 use mathlib.Core.Path.{sym}
 use Rattle.lines.proofs.Digits.{digit-below, digit-figure, digit-between, digit-letter, digit-above}
 use borrow.Author.Needs.{needs}

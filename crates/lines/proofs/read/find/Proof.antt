@@ -1,5 +1,4 @@
 -- `lines::read::find` meets its contract. The loop's invariant: the first x from i on is the first from `from` on.
--- Assumes nothing.
 use borrow.Author.Needs.{needs}
 use Prim.Native.Nat.{_≤_, _+_, _-_}
 use mathlib.Core.Path.{_≡_}

@@ -1,5 +1,4 @@
 -- `lines::read::has_room` meets its contract.
--- Assumes nothing.
 use Rattle.lines.proofs.Scans.{no-digit, room}
 use borrow.Author.Needs.{needs}
 use Rattle.lines.proofs.read.has_room.Statement.{statement}

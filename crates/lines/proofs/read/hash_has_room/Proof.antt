@@ -1,5 +1,4 @@
 -- `lines::read::hash_has_room` meets its contract.
--- Assumes nothing.
 use native.Mathlib.Omega.{arith}
 use Rattle.lines.proofs.Scans.{no-digit}
 use Rattle.lines.proofs.Hashes.{room-is}

@@ -1,5 +1,4 @@
 -- `lines::read::item` meets its contract.
--- Assumes nothing.
 use borrow.Author.Needs.{needs}
 use mathlib.Core.Path.{sym, ap, _∙_}
 use Rattle.lines.specs.Values.{hashIn, itemKindIn}

@@ -1,5 +1,4 @@
 -- `lines::read::key` meets its contract.
--- Assumes nothing.
 use mathlib.Core.Path.{sym, ap, _∙_}
 use Rattle.ident.specs.Words.{maybeKind}
 use Rattle.lines.specs.Values.{hashIn}

@@ -1,5 +1,4 @@
 -- `lines::read::kind` meets its contract.
--- Assumes nothing.
 use borrow.Author.Tests.{eq-eqb, ne-eqb}
 use Rattle.lines.proofs.read.kind.Statement.{statement}
 use Rattle.lines.proofs.read.kind.Tie as tie

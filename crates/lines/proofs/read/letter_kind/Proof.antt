@@ -1,5 +1,4 @@
 -- `lines::read::letter_kind` meets its contract.
--- Assumes nothing.
 use borrow.Author.Tests.{eq-eqb, ne-eqb}
 use Rattle.lines.proofs.read.letter_kind.Statement.{statement}
 use Rattle.lines.proofs.read.letter_kind.Tie as tie

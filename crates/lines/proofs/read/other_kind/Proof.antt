@@ -1,5 +1,4 @@
 -- `lines::read::other_kind` meets its contract.
--- Assumes nothing.
 use mathlib.Core.Path.{sym, ap, _∙_}
 use borrow.Author.Tests.{not-true, not-false}
 use Rattle.lines.specs.Fields.{otherKind}

@@ -1,5 +1,4 @@
 -- `lines::read::same` meets its contract. The loop's invariant: the texts are one if what is left of them is.
--- Assumes nothing.
 use borrow.Author.Needs.{needs}
 use Prim.Native.Nat.{_≤_, _-_}
 use mathlib.Core.Path.{_≡_, sym, _∙_}

@@ -1,5 +1,4 @@
 -- `lines::read::with_digit` meets its contract.
--- Assumes nothing.
 use native.Mathlib.Omega.{arith}
 use Rattle.lines.proofs.Hashes.{room-w3, with-digit, digit-in}
 use borrow.Author.Needs.{needs}

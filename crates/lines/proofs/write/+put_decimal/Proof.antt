@@ -1,6 +1,5 @@
 use borrow.Author.Needs.{needs}
 -- The proof of the cycle of calls {put_decimal}. The measure is the number: without its last digit it is smaller.
--- Assumes nothing.
 use borrow.Author.Needs.{needs}
 use Prim.Native.Nat.{_≤_}
 use native.Mathlib.Omega.{arith}

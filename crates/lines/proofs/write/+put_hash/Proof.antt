@@ -5,7 +5,6 @@ use Rattle.regions.proofs.Order.{Small}
 use Rattle.lines.proofs.Writing.{hash-one, hash-end, hash-last}
 use Rattle.lines.proofs.Hashes.{digit-word}
 -- The proof of the cycle of calls {put_hash}. The measure is the hash's number: without its last digit it is smaller.
--- Assumes nothing.
 use borrow.Author.Needs.{needs}
 use native.Mathlib.Omega.{arith}
 use Rattle.regions.specs.Rows.{quadNumber}

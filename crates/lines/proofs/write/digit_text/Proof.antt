@@ -1,5 +1,4 @@
 -- `lines::write::digit_text` meets its contract.
--- Assumes nothing.
 use mathlib.Core.Path.{sym}
 use Rattle.lines.proofs.Digits.{text-figure, text-letter}
 use borrow.Author.Needs.{needs}

@@ -1,5 +1,4 @@
 -- `lines::write::is_digit` meets its contract.
--- Assumes nothing.
 use mathlib.Core.Path.{ap}
 use lib.Dec.{ltb}
 use Rattle.lines.proofs.Hashes.{not-digit-1, not-digit-2, not-digit-3, low-word}

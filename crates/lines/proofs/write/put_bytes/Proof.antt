@@ -1,5 +1,4 @@
 -- `lines::write::put_bytes` meets its contract. The loop's invariant: the first i bytes are written.
--- Assumes nothing.
 use borrow.Author.Needs.{needs}
 use Prim.Native.Nat.{_≤_, _+_, _-_}
 use mathlib.Core.Path.{_≡_}

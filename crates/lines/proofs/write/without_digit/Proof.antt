@@ -1,5 +1,4 @@
 -- `lines::write::without_digit` meets its contract.
--- Assumes nothing.
 use native.Mathlib.Omega.{arith}
 use Rattle.lines.proofs.Hashes.{without-digit, shift-in}
 use borrow.Author.Needs.{needs}

@@ -1,5 +1,4 @@
 -- `outcome::refusals::first` meets its contract.
--- Assumes nothing.
 use Rattle.outcome.proofs.Turns.{first-some}
 use Rattle.outcome.proofs.refusals.first.Statement.{statement}
 use Rattle.outcome.proofs.refusals.first.Tie as tie

@@ -1,5 +1,4 @@
 -- `outcome::refusals::in_turn` meets its contract: the tests, each in its place.
--- Assumes nothing.
 use borrow.Author.Needs.{needs}
 use Rattle.outcome.proofs.Turns.{sizes-named}
 use Rattle.outcome.proofs.refusals.in_turn.Statement.{statement}

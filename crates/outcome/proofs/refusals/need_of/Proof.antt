@@ -1,5 +1,4 @@
 -- `outcome::refusals::need_of` meets its contract: L and Q of the header are those of the state.
--- Assumes nothing.
 use mathlib.Core.Path.{_∙_}
 use native.Mathlib.Omega.{arith}
 use Rattle.outcome.proofs.Header.{head-inside, limit-word, places-word}

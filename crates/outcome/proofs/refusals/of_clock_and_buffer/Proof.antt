@@ -1,5 +1,4 @@
 -- `outcome::refusals::of_clock_and_buffer` meets its contract: the tests, each in its place.
--- Assumes nothing.
 use borrow.Author.Needs.{needs}
 use Rattle.outcome.proofs.Turns.{clock-sized}
 use Rattle.outcome.proofs.refusals.of_clock_and_buffer.Statement.{statement}

@@ -1,5 +1,4 @@
 -- `outcome::refusals::of_connection` meets its contract.
--- Assumes nothing.
 use mathlib.Core.Path.{_∙_}
 use Rattle.outcome.proofs.Turns.{connection-none, connection-some, connection-only}
 use Rattle.outcome.proofs.refusals.of_connection.Statement.{statement}

@@ -1,5 +1,4 @@
 -- `outcome::refusals::of_connection_and_clock` meets its contract: the tests, each in its place.
--- Assumes nothing.
 use borrow.Author.Needs.{needs}
 use Rattle.outcome.proofs.Turns.{both-named}
 use Rattle.outcome.proofs.refusals.of_connection_and_clock.Statement.{statement}

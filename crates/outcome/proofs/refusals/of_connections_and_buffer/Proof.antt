@@ -1,5 +1,4 @@
 -- `outcome::refusals::of_connections_and_buffer` meets its contract: the tests, each in its place.
--- Assumes nothing.
 use mathlib.Core.Path.{sym, _∙_}
 use borrow.Author.Needs.{needs}
 use Rattle.outcome.proofs.Turns.{connections-zero, connections-sized}

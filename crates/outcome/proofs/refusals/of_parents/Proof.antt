@@ -1,5 +1,4 @@
 -- `outcome::refusals::of_parents` meets its contract.
--- Assumes nothing.
 use native.Mathlib.Omega.{arith}
 use Rattle.outcome.proofs.Turns.{parents-many, parents-few}
 use Rattle.outcome.proofs.refusals.of_parents.Statement.{statement}

@@ -1,5 +1,4 @@
 -- `owned::arrangements::tracker_owned_arrange` meets its contract: that of the checked call, behind its sound test.
--- Assumes nothing.
 use borrow.Author.Needs.{needs}
 use Rattle.exports.proofs.Statuses.{hands-entries}
 use Rattle.owned.proofs.arrangements.tracker_owned_arrange.Statement.{statement}

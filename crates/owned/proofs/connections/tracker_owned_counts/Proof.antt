@@ -1,5 +1,4 @@
 -- `owned::connections::tracker_owned_counts` meets its contract: that of the checked call, behind its sound test.
--- Assumes nothing.
 use borrow.Author.Needs.{needs}
 use Rattle.exports.proofs.Counts.{hands-counts}
 use Rattle.owned.proofs.connections.tracker_owned_counts.Statement.{statement}

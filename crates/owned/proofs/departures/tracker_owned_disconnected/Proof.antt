@@ -1,5 +1,4 @@
 -- `owned::departures::tracker_owned_disconnected` meets its contract: that of the checked call, behind its sound test, and the store stays sound.
--- Assumes nothing.
 use native.Mathlib.Omega.{arith}
 use borrow.Author.Needs.{needs}
 use Rattle.tracker.specs.Made.{departs as makes}

@@ -1,5 +1,4 @@
 -- `owned::failures::tracker_owned_package_info_owner` meets its contract: that of the checked call, behind its sound test.
--- Assumes nothing.
 use mathlib.Core.Path.{ap}
 use borrow.Author.Needs.{needs}
 use Rattle.machine.specs.Call.{On, PackageInfoOwner}

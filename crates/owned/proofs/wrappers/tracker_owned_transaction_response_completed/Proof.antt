@@ -1,5 +1,4 @@
 -- `owned::wrappers::tracker_owned_transaction_response_completed` meets its contract: that of the checked call, behind its sound test, and the store stays sound.
--- Assumes nothing.
 use native.Mathlib.Omega.{arith}
 use borrow.Author.Needs.{needs}
 use Rattle.ident.proofs.Words.{hash-four, hash-below}

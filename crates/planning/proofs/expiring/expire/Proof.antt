@@ -1,4 +1,4 @@
--- `planning::expiring::expire` meets its contract. Assumes nothing.
+-- `planning::expiring::expire` meets its contract.
 use Prim.Native.Nat.{_<_}
 use mathlib.Core.Path.{refl}
 use native.Mathlib.Omega.{arith}

@@ -1,4 +1,4 @@
--- `planning::expiring::expire_silent` meets its contract. Assumes nothing.
+-- `planning::expiring::expire_silent` meets its contract.
 use Rattle.planning.proofs.Readying.{made-kept, made-silent}
 use borrow.Author.Needs.{needs}
 use Rattle.planning.proofs.expiring.expire_silent.Statement.{statement}

@@ -1,4 +1,4 @@
--- `planning::expiring::first_key` meets its contract. Assumes nothing.
+-- `planning::expiring::first_key` meets its contract.
 use mathlib.Core.Path.{refl}
 use Rattle.words.specs.Words.{number}
 use Rattle.planning.proofs.expiring.first_key.Statement.{statement}

@@ -1,4 +1,4 @@
--- `planning::expiring::next_due` meets its contract. Assumes nothing.
+-- `planning::expiring::next_due` meets its contract.
 use native.Mathlib.Omega.{arith}
 use Rattle.machine.specs.Table.{one}
 use Rattle.requests.proofs.Keeping.{kept-shown}

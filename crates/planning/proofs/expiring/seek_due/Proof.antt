@@ -1,4 +1,4 @@
--- `planning::expiring::seek_due` meets its contract. Assumes nothing.
+-- `planning::expiring::seek_due` meets its contract.
 use Prim.Native.Nat.{ℕ, _-_, _≤_}
 use mathlib.Core.Path.{_≡_, refl, sym, _∙_}
 use native.Mathlib.Omega.{arith}

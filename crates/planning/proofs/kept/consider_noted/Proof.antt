@@ -1,4 +1,4 @@
--- `planning::kept::consider_noted` meets its contract. Assumes nothing.
+-- `planning::kept::consider_noted` meets its contract.
 use mathlib.Core.Path.{refl, sym, subst}
 use Rattle.store.specs.Shown.{Kept}
 use Rattle.apart.proofs.Overdue.{front-lent}

@@ -1,4 +1,4 @@
--- `planning::kept::consider_place` meets its contract. Assumes nothing.
+-- `planning::kept::consider_place` meets its contract.
 use mathlib.Core.Path.{refl}
 use mathlib.Core.List.{[]}
 use native.Mathlib.Omega.{arith}

@@ -1,4 +1,4 @@
--- `planning::kept::keys_kept` meets its contract. Assumes nothing.
+-- `planning::kept::keys_kept` meets its contract.
 use Prim.Native.Nat.{_-_, _≤_}
 use mathlib.Core.Path.{_≡_, refl, _∙_}
 use native.Mathlib.Omega.{arith}

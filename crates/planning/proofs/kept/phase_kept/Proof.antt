@@ -1,4 +1,4 @@
--- `planning::kept::phase_kept` meets its contract. Assumes nothing.
+-- `planning::kept::phase_kept` meets its contract.
 use native.Mathlib.Omega.{arith}
 use mathlib.Core.Path.{ap}
 use Rattle.selecting.specs.declared.Scan.{Scan}

@@ -1,4 +1,4 @@
--- `planning::plan::begin` meets its contract. Assumes nothing.
+-- `planning::plan::begin` meets its contract.
 use native.Mathlib.Omega.{arith}
 use Rattle.apart.proofs.OneOwner.{all-room, front-kept}
 use Rattle.planning.proofs.Planned.{parted-few, blank-clean, expired-parted, begun}

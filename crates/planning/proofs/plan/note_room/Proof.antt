@@ -1,4 +1,4 @@
--- `planning::plan::note_room` meets its contract. Assumes nothing.
+-- `planning::plan::note_room` meets its contract.
 use mathlib.Core.Path.{refl}
 use lib.ListN.{getD-replicate}
 use Rattle.planning.proofs.plan.note_room.Statement.{statement}

@@ -1,4 +1,4 @@
--- `planning::plan::plan_given` meets its contract. Assumes nothing.
+-- `planning::plan::plan_given` meets its contract.
 use Prim.Native.Nat.{_<_}
 use mathlib.Core.Path.{refl}
 use mathlib.Core.Option.{some}

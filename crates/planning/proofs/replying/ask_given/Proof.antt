@@ -1,4 +1,4 @@
--- `planning::replying::ask_given` meets its contract. Assumes nothing.
+-- `planning::replying::ask_given` meets its contract.
 use mathlib.Core.Option.{some}
 use native.Mathlib.Omega.{arith}
 use Rattle.selecting.specs.Phasing.{givenKeys}

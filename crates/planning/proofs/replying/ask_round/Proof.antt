@@ -1,4 +1,4 @@
--- `planning::replying::ask_round` meets its contract. Assumes nothing.
+-- `planning::replying::ask_round` meets its contract.
 use mathlib.Core.Option.{none}
 use native.Mathlib.Omega.{arith}
 use Rattle.requests.proofs.Keeping.{kept-shown}

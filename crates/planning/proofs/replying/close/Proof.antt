@@ -1,4 +1,4 @@
--- `planning::replying::close` meets its contract. Assumes nothing.
+-- `planning::replying::close` meets its contract.
 use borrow.Author.Needs.{needs}
 use Rattle.planning.proofs.Whole.{rows-of, closed}
 use Rattle.planning.proofs.replying.close.Statement.{statement}

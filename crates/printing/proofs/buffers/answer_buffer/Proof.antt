@@ -1,5 +1,4 @@
 -- `printing::buffers::answer_buffer` meets its contract.
--- Assumes nothing.
 use mathlib.Core.Path.{refl}
 use Rattle.asking.specs.Calls.{answerBuffer}
 use Rattle.printing.proofs.buffers.answer_buffer.Statement.{statement}

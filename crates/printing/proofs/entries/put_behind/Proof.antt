@@ -1,5 +1,4 @@
 -- `printing::entries::put_behind` meets its contract. The loop's invariant: the first i entries are written.
--- Assumes nothing.
 use Prim.Native.Nat.{_+_, _*_, _-_, _≤_}
 use mathlib.Core.Path.{_≡_, refl}
 use native.Mathlib.Omega.{arith}

@@ -1,5 +1,4 @@
 -- `printing::entries::put_bool` meets its contract.
--- Assumes nothing.
 use Rattle.printing.proofs.EntryLists.{as-bool}
 use borrow.Author.Needs.{needs}
 use Rattle.printing.proofs.entries.put_bool.Statement.{statement}

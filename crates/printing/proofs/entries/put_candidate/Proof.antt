@@ -1,5 +1,4 @@
 -- `printing::entries::put_candidate` meets its contract.
--- Assumes nothing.
 use native.Mathlib.Omega.{arith}
 use Rattle.ident.specs.Words.{itemNum}
 use Rattle.requests.specs.Changes.{candidateOf}

@@ -1,5 +1,4 @@
 -- `printing::entries::put_entries` meets its contract.
--- Assumes nothing.
 use native.Mathlib.Nat.{pos-of-ne-zero}
 use native.Mathlib.Omega.{arith}
 use Rattle.claiming.specs.Claiming.{entryFrom}

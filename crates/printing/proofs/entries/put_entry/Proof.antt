@@ -1,5 +1,4 @@
 -- `printing::entries::put_entry` meets its contract.
--- Assumes nothing.
 use native.Mathlib.Omega.{arith}
 use Rattle.printing.proofs.EntryLists.{key-end, wrote-entry}
 use borrow.Author.Needs.{needs}

@@ -1,5 +1,4 @@
 -- `printing::entries::put_item` meets its contract.
--- Assumes nothing.
 use native.Mathlib.Omega.{arith}
 use Rattle.printing.proofs.EntryLists.{kind-end, wrote-item}
 use borrow.Author.Needs.{needs}

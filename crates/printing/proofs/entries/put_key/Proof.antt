@@ -1,5 +1,4 @@
 -- `printing::entries::put_key` meets its contract.
--- Assumes nothing.
 use Rattle.printing.proofs.EntryLists.{key-of-hash}
 use borrow.Author.Needs.{needs}
 use Rattle.printing.proofs.entries.put_key.Statement.{statement}

@@ -1,5 +1,4 @@
 -- `printing::entries::put_kind` meets its contract.
--- Assumes nothing.
 use mathlib.Core.Path.{refl}
 use native.Mathlib.Omega.{arith}
 use Rattle.printing.proofs.Printing.{decimal-end}

@@ -1,5 +1,4 @@
 -- `printing::entries::put_number` meets its contract.
--- Assumes nothing.
 use Rattle.printing.proofs.EntryLists.{wrote-number}
 use borrow.Author.Needs.{needs}
 use Rattle.printing.proofs.entries.put_number.Statement.{statement}

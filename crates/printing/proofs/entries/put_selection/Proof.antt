@@ -1,5 +1,4 @@
 -- `printing::entries::put_selection` meets its contract.
--- Assumes nothing.
 use native.Mathlib.Omega.{arith}
 use Rattle.printing.proofs.Printing.{decimal-end}
 use Rattle.printing.proofs.EntryLists.{selection-wrote}

@@ -1,5 +1,4 @@
 -- `printing::keys::kind_of` meets its contract.
--- Assumes nothing.
 use borrow.Author.Tests.{eq-eqb, ne-eqb}
 use Rattle.printing.proofs.keys.kind_of.Statement.{statement}
 use Rattle.printing.proofs.keys.kind_of.Tie as tie

@@ -1,5 +1,4 @@
 -- `printing::keys::listing` meets its contract.
--- Assumes nothing.
 use Rattle.printing.proofs.Printing.{listing-same, refused-printed, keys-printed}
 use Rattle.printing.proofs.Fitting.{listing-fits}
 use borrow.Author.Needs.{needs}

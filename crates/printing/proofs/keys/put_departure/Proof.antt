@@ -1,5 +1,4 @@
 -- `printing::keys::put_departure` meets its contract.
--- Assumes nothing.
 use native.Mathlib.Omega.{arith}
 use Rattle.printing.proofs.Printing.{decimal-end}
 use Rattle.printing.proofs.Behind.{departure-wrote}

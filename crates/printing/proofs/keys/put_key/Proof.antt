@@ -1,5 +1,4 @@
 -- `printing::keys::put_key` meets its contract.
--- Assumes nothing.
 use Rattle.printing.proofs.KeyLists.{wrote-key}
 use borrow.Author.Needs.{needs}
 use Rattle.printing.proofs.keys.put_key.Statement.{statement}

@@ -1,5 +1,4 @@
 -- `printing::keys::put_keys` meets its contract. The loop's invariant: the first i keys are written.
--- Assumes nothing.
 use borrow.Author.Needs.{needs}
 use Prim.Native.Nat.{_≤_, _*_, _-_}
 use mathlib.Core.Path.{_≡_, _∙_}

@@ -1,5 +1,4 @@
 -- `printing::keys::put_next` meets its contract.
--- Assumes nothing.
 use Rattle.printing.proofs.KeyLists.{keyAt, next-first, next-key}
 use borrow.Author.Needs.{needs}
 use Rattle.printing.proofs.keys.put_next.Statement.{statement}

@@ -1,5 +1,4 @@
 -- `printing::numbers::figures` meets its contract.
--- Assumes nothing.
 use native.Mathlib.Omega.{arith}
 use Rattle.printing.proofs.Printing.{decimal-end, printed-figures}
 use borrow.Author.Needs.{needs}

@@ -1,5 +1,4 @@
 -- `printing::numbers::number` meets its contract.
--- Assumes nothing.
 use mathlib.Core.Path.{ap}
 use Rattle.outcome.specs.Reply.{replyOf}
 use Rattle.printing.proofs.Printing.{refused-printed, number-printed}

@@ -1,5 +1,4 @@
 -- `printing::numbers::refusal` meets its contract.
--- Assumes nothing.
 use Rattle.printing.proofs.Printing.{printed-refusal}
 use borrow.Author.Needs.{needs}
 use Rattle.printing.proofs.numbers.refusal.Statement.{statement}

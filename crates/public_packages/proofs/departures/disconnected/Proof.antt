@@ -1,5 +1,4 @@
 -- `public_packages::departures::disconnected` meets its contract: the sound test, and `on_sound::departures::disconnected`.
--- Assumes nothing.
 use mathlib.Core.Path.{refl}
 use borrow.Author.Needs.{needs}
 use Rattle.machine.specs.Call.{Disconnected, named}

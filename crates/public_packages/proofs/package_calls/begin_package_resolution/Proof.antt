@@ -1,5 +1,4 @@
 -- `public_packages::package_calls::begin_package_resolution` meets its contract: the sound test, and `on_sound::package_calls::begin_package_resolution`.
--- Assumes nothing.
 use mathlib.Core.Path.{refl}
 use borrow.Author.Needs.{needs}
 use Rattle.machine.specs.Call.{BeginPackageResolution, named}

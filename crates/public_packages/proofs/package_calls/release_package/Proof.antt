@@ -1,5 +1,4 @@
 -- `public_packages::package_calls::release_package` meets its contract: the sound test, and `on_sound::package_calls::release_package`.
--- Assumes nothing.
 use mathlib.Core.Path.{refl}
 use borrow.Author.Needs.{needs}
 use Rattle.machine.specs.Call.{ReleasePackage, named}

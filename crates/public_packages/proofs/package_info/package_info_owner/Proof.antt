@@ -1,5 +1,4 @@
 -- `public_packages::package_info::package_info_owner` meets its contract: the sound test, and `on_sound::package_info::package_info_owner`.
--- Assumes nothing.
 use mathlib.Core.Path.{refl}
 use borrow.Author.Needs.{needs}
 use Rattle.machine.specs.Call.{PackageInfoOwner, named}

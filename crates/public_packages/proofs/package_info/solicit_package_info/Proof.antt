@@ -1,5 +1,4 @@
 -- `public_packages::package_info::solicit_package_info` meets its contract: the sound test, and `on_sound::package_info::solicit_package_info`.
--- Assumes nothing.
 use mathlib.Core.Path.{refl}
 use borrow.Author.Needs.{needs}
 use Rattle.machine.specs.Call.{SolicitPackageInfo, named}

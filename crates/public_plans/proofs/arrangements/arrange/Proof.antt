@@ -1,5 +1,4 @@
 -- `public_plans::arrangements::arrange` meets its contract: the sound test, and `on_sound::arrangements::arrange`.
--- Assumes nothing.
 use mathlib.Core.Path.{refl}
 use borrow.Author.Needs.{needs}
 use Rattle.machine.specs.Call.{Arrange, named}

@@ -1,5 +1,4 @@
 -- `public_plans::arrangements::falls_short` meets its contract: as that of `sending::falls_short`.
--- Assumes nothing.
 use mathlib.Core.Path.{refl}
 use native.Mathlib.Nat.{add-zero}
 use Rattle.sending.proofs.Parting.{at-most}

@@ -1,5 +1,4 @@
 -- `public_plans::arrangements::part` meets its contract: two searches, by proofs/Parting.
--- Assumes nothing.
 use native.Mathlib.Omega.{arith}
 use borrow.Author.Needs.{needs}
 use Rattle.public_plans.proofs.Parting.{in-order, out-of-order}

@@ -1,5 +1,4 @@
 -- `public_plans::arrangements::seek` meets its contract: a binary search among the connections.
--- Assumes nothing.
 use Prim.Native.Nat.{_+_, _-_, _/_, _<_}
 use mathlib.Core.Path.{sym, _∙_}
 use native.Mathlib.Omega.{arith}

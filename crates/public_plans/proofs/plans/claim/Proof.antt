@@ -1,5 +1,4 @@
 -- `public_plans::plans::claim` meets its contract: the sound test, and `on_sound::plans::claim`.
--- Assumes nothing.
 use mathlib.Core.Path.{refl}
 use borrow.Author.Needs.{needs}
 use Rattle.machine.specs.Call.{Claim, named}

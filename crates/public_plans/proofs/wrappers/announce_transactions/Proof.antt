@@ -1,5 +1,4 @@
 -- `public_plans::wrappers::announce_transactions` meets its contract: the sound test, and `on_sound::wrappers::announce_transactions`.
--- Assumes nothing.
 use mathlib.Core.Path.{refl}
 use borrow.Author.Needs.{needs}
 use Rattle.machine.specs.Call.{AnnounceTransactions, named}

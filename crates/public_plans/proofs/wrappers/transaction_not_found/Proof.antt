@@ -1,5 +1,4 @@
 -- `public_plans::wrappers::transaction_not_found` meets its contract: the sound test, and `on_sound::wrappers::transaction_not_found`.
--- Assumes nothing.
 use mathlib.Core.Path.{refl}
 use borrow.Author.Needs.{needs}
 use Rattle.machine.specs.Call.{TransactionNotFound, named}

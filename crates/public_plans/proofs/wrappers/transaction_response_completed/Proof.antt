@@ -1,5 +1,4 @@
 -- `public_plans::wrappers::transaction_response_completed` meets its contract: the sound test, and `on_sound::wrappers::transaction_response_completed`.
--- Assumes nothing.
 use mathlib.Core.Path.{refl}
 use borrow.Author.Needs.{needs}
 use Rattle.machine.specs.Call.{TransactionResponseCompleted, named}

@@ -1,5 +1,4 @@
 -- `public_requests::candidates::announce` meets its contract: the sound test, and `on_sound::candidates::announce`.
--- Assumes nothing.
 use mathlib.Core.Path.{refl}
 use borrow.Author.Needs.{needs}
 use Rattle.machine.specs.Call.{Announce, named}

@@ -1,5 +1,4 @@
 -- `public_requests::candidates::announce_parents` meets its contract: the sound test, and `on_sound::candidates::announce_parents`.
--- Assumes nothing.
 use mathlib.Core.Path.{refl}
 use borrow.Author.Needs.{needs}
 use Rattle.machine.specs.Call.{AnnounceParents, named}

@@ -1,5 +1,4 @@
 -- `public_requests::candidates::request_parent` meets its contract: the sound test, and `on_sound::candidates::request_parent`.
--- Assumes nothing.
 use mathlib.Core.Path.{refl}
 use borrow.Author.Needs.{needs}
 use Rattle.machine.specs.Call.{RequestParent, named}

@@ -1,5 +1,4 @@
 -- `public_requests::connections::counts` meets its contract: the sound test, and `on_sound::connections::counts`.
--- Assumes nothing.
 use borrow.Author.Needs.{needs}
 use borrow.Author.Tests.{not-true}
 use Rattle.outcome.proofs.Header.{not-sound}

@@ -1,5 +1,4 @@
 -- `public_requests::failures::failed` meets its contract: the sound test, and `on_sound::failures::failed`.
--- Assumes nothing.
 use mathlib.Core.Path.{refl}
 use borrow.Author.Needs.{needs}
 use Rattle.machine.specs.Call.{Failed, named}

@@ -1,5 +1,4 @@
 -- `public_requests::failures::failed_with_parents` meets its contract: the sound test, and `on_sound::failures::failed_with_parents`.
--- Assumes nothing.
 use mathlib.Core.Path.{refl}
 use borrow.Author.Needs.{needs}
 use Rattle.machine.specs.Call.{FailedWithParents, named}

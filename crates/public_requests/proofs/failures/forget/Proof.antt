@@ -1,5 +1,4 @@
 -- `public_requests::failures::forget` meets its contract: the sound test, and `on_sound::failures::forget`.
--- Assumes nothing.
 use mathlib.Core.Path.{refl}
 use borrow.Author.Needs.{needs}
 use Rattle.machine.specs.Call.{Forget, named}

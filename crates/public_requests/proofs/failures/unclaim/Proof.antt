@@ -1,5 +1,4 @@
 -- `public_requests::failures::unclaim` meets its contract: the sound test, and `on_sound::failures::unclaim`.
--- Assumes nothing.
 use mathlib.Core.Path.{refl}
 use borrow.Author.Needs.{needs}
 use Rattle.machine.specs.Call.{Unclaim, named}

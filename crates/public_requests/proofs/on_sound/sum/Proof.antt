@@ -1,5 +1,4 @@
 -- `public_requests::on_sound::sum` meets its contract: the laws of proofs/Summing, on a sound store.
--- Assumes nothing.
 use native.Mathlib.Omega.{arith}
 use borrow.Author.Needs.{needs}
 use Rattle.outcome.proofs.Header.{head-inside}

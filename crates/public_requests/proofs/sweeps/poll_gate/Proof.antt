@@ -1,5 +1,4 @@
 -- `public_requests::sweeps::poll_gate` meets its contract: the sound test, and `on_sound::sweeps::poll_gate`.
--- Assumes nothing.
 use mathlib.Core.Path.{refl}
 use borrow.Author.Needs.{needs}
 use Rattle.machine.specs.Call.{PollGate, named}

@@ -1,5 +1,4 @@
 -- `public_requests::sweeps::sweep` meets its contract: the sound test, and `on_sound::sweeps::sweep`.
--- Assumes nothing.
 use mathlib.Core.Path.{refl}
 use borrow.Author.Needs.{needs}
 use Rattle.machine.specs.Call.{Sweep, named}

@@ -1,5 +1,4 @@
 -- `reading::fields::bool_at` meets its contract.
--- Assumes nothing.
 use mathlib.Core.Path.{sym, ap, _∙_}
 use native.Mathlib.Omega.{arith}
 use Rattle.lines.specs.Fields.{boolOf}

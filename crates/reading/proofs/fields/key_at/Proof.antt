@@ -1,5 +1,4 @@
 -- `reading::fields::key_at` meets its contract.
--- Assumes nothing.
 use mathlib.Core.Path.{sym, ap, _∙_}
 use native.Mathlib.Omega.{arith}
 use Rattle.lines.specs.Fields.{keyOf}

@@ -1,5 +1,4 @@
 -- `reading::forms::bool_if` meets its contract.
--- Assumes nothing.
 use borrow.Author.Tests.{eq-eqb, ne-eqb}
 use Rattle.reading.proofs.forms.bool_if.Statement.{statement}
 use Rattle.reading.proofs.forms.bool_if.Tie as tie

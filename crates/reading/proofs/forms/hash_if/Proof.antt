@@ -1,5 +1,4 @@
 -- `reading::forms::hash_if` meets its contract.
--- Assumes nothing.
 use borrow.Author.Tests.{eq-eqb, ne-eqb}
 use Rattle.reading.proofs.forms.hash_if.Statement.{statement}
 use Rattle.reading.proofs.forms.hash_if.Tie as tie

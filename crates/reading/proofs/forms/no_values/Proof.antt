@@ -1,5 +1,4 @@
 -- `reading::forms::no_values` meets its contract.
--- Assumes nothing.
 use mathlib.Core.Path.{refl}
 use Rattle.words.specs.Words.{number}
 use Rattle.regions.specs.Rows.{quadNumber}

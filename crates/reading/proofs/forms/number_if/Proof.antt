@@ -1,5 +1,4 @@
 -- `reading::forms::number_if` meets its contract.
--- Assumes nothing.
 use borrow.Author.Tests.{eq-eqb, ne-eqb}
 use Rattle.reading.proofs.forms.number_if.Statement.{statement}
 use Rattle.reading.proofs.forms.number_if.Tie as tie

@@ -1,5 +1,4 @@
 -- `reading::forms::read_whole` meets its contract.
--- Assumes nothing.
 use Rattle.reading.proofs.Filling.{no-whole, longer, whole-is}
 use borrow.Author.Needs.{needs}
 use Rattle.reading.proofs.forms.read_whole.Statement.{statement}

@@ -1,5 +1,4 @@
 -- `reading::forms::take_field` meets its contract.
--- Assumes nothing.
 use mathlib.Core.Path.{sym, ap, _∙_}
 use Rattle.reading.specs.Given.{hashAt, keyAt, itemAt}
 use Rattle.reading.proofs.Filling.{no-key, key-is, no-item, item-is, no-hash, hash-is, plain-field}

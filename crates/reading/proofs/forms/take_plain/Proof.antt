@@ -1,5 +1,4 @@
 -- `reading::forms::take_plain` meets its contract.
--- Assumes nothing.
 use mathlib.Core.Path.{sym, ap, _∙_}
 use Rattle.reading.specs.Given.{numberAt, boolAt}
 use Rattle.reading.proofs.Filling.{no-bool, bool-is, no-number, number-is}

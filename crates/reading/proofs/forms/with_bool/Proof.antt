@@ -1,5 +1,4 @@
 -- `reading::forms::with_bool` meets its contract.
--- Assumes nothing.
 use borrow.Author.Needs.{needs}
 use Rattle.reading.proofs.forms.with_bool.Statement.{statement}
 use Rattle.reading.proofs.forms.with_bool.Tie as tie

@@ -1,5 +1,4 @@
 -- `reading::forms::with_hash` meets its contract.
--- Assumes nothing.
 use borrow.Author.Needs.{needs}
 use Rattle.reading.proofs.forms.with_hash.Statement.{statement}
 use Rattle.reading.proofs.forms.with_hash.Tie as tie

@@ -1,5 +1,4 @@
 -- `reading::forms::with_number` meets its contract.
--- Assumes nothing.
 use borrow.Author.Needs.{needs}
 use Rattle.reading.proofs.forms.with_number.Statement.{statement}
 use Rattle.reading.proofs.forms.with_number.Tie as tie

@@ -1,5 +1,4 @@
 -- `reading::hashes::hash_buffer` meets its contract.
--- Assumes nothing.
 use Prim.Native.Nat.{ℕ}
 use lib.ListN.{length-replicate}
 use Rattle.reading.proofs.hashes.hash_buffer.Statement.{statement}

@@ -1,5 +1,4 @@
 -- `reading::hashes::hash_of` meets its contract.
--- Assumes nothing.
 use mathlib.Core.Path.{refl}
 use Rattle.regions.specs.Rows.{quadNumber}
 use Rattle.reading.proofs.hashes.hash_of.Statement.{statement}

@@ -1,5 +1,4 @@
 -- `reading::hashes::put_hash` meets its contract.
--- Assumes nothing.
 use native.Mathlib.Omega.{arith}
 use Rattle.reading.proofs.Stored.{quad-below, hash-put}
 use borrow.Author.Needs.{needs}

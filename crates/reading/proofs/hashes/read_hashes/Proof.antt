@@ -1,5 +1,4 @@
 -- `reading::hashes::read_hashes` meets its contract. The loop's invariant: the first i hashes are read.
--- Assumes nothing.
 use Prim.Native.Nat.{_≤_, _-_}
 use mathlib.Core.Path.{_≡_, ap, _∙_}
 use native.Mathlib.Omega.{arith}

@@ -1,4 +1,4 @@
--- `selecting::giving::give_back` meets its contract. Assumes nothing.
+-- `selecting::giving::give_back` meets its contract.
 use Prim.Native.Nat.{ℕ, _+_, _-_, _≤_, _<_}
 use mathlib.Core.Path.{_≡_, refl, subst, _∙_}
 use mathlib.Core.List.{List}

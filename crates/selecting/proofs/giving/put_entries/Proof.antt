@@ -1,4 +1,4 @@
--- `selecting::giving::put_entries` meets its contract. Assumes nothing.
+-- `selecting::giving::put_entries` meets its contract.
 use Prim.Native.Nat.{ℕ, _+_, _-_, _≤_, _<_}
 use mathlib.Core.Path.{_≡_, refl, sym, ap, _∙_}
 use mathlib.Core.List.{List}

@@ -1,4 +1,4 @@
--- `selecting::near::begin_at` meets its contract. Assumes nothing.
+-- `selecting::near::begin_at` meets its contract.
 use Prim.Native.Nat.{_+_, _-_}
 use mathlib.Core.Path.{sym, _∙_}
 use native.Mathlib.Omega.{arith}

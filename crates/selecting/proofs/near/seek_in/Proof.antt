@@ -1,4 +1,4 @@
--- `selecting::near::seek_in` meets its contract. Assumes nothing.
+-- `selecting::near::seek_in` meets its contract.
 use Prim.Native.Nat.{_+_, _-_}
 use mathlib.Core.Path.{sym, _∙_}
 use native.Mathlib.Omega.{arith}

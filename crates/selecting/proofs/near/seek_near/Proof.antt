@@ -1,4 +1,4 @@
--- `selecting::near::seek_near` meets its contract. Assumes nothing.
+-- `selecting::near::seek_near` meets its contract.
 use native.Mathlib.Omega.{arith}
 use Prim.Native.Nat.{_≤_}
 use lib.ListN.{length}

@@ -1,4 +1,4 @@
--- `selecting::near::window_near` meets its contract. Assumes nothing.
+-- `selecting::near::window_near` meets its contract.
 use borrow.Author.Needs.{needs}
 use Rattle.requests.proofs.Keeping.{kept-shown}
 use Rattle.selecting.proofs.Nearing.{window-by}

@@ -1,4 +1,4 @@
--- `selecting::phase::key_in` meets its contract. Assumes nothing.
+-- `selecting::phase::key_in` meets its contract.
 use mathlib.Core.Path.{_∙_}
 use borrow.Author.Needs.{needs}
 use Rattle.selecting.proofs.Given.{key-given}

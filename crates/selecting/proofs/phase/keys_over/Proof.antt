@@ -1,4 +1,4 @@
--- `selecting::phase::keys_over` meets its contract. Assumes nothing.
+-- `selecting::phase::keys_over` meets its contract.
 use Prim.Native.Nat.{ℕ, _+_, _-_, _≤_, _<_}
 use mathlib.Core.Path.{_≡_, refl, sym, ap, _∙_}
 use mathlib.Core.List.{List, [], _∷_}

@@ -1,4 +1,4 @@
--- `sending::witness::for_witness` meets its contract. Assumes nothing.
+-- `sending::witness::for_witness` meets its contract.
 use mathlib.Core.Path.{sym, _∙_}
 use borrow.Author.Needs.{needs}
 use borrow.Author.Tests.{not-true, not-false}

@@ -1,4 +1,4 @@
--- `sending::witness::listed` meets its contract: none of the words passed is the connection. Assumes nothing.
+-- `sending::witness::listed` meets its contract: none of the words passed is the connection.
 use Prim.Native.Nat.{_-_, _/_, _≤_}
 use mathlib.Core.Path.{_≡_, refl}
 use native.Mathlib.Omega.{arith}

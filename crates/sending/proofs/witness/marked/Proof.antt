@@ -1,4 +1,4 @@
--- `sending::witness::marked` meets its contract. Assumes nothing.
+-- `sending::witness::marked` meets its contract.
 use Prim.Native.Nat.{ℕ}
 use mathlib.Core.Path.{ap, _∙_}
 use borrow.Author.Needs.{needs}

@@ -1,4 +1,4 @@
--- `sending::witness::put_turned` meets its contract. Assumes nothing.
+-- `sending::witness::put_turned` meets its contract.
 use Prim.Native.Nat.{_*_}
 use mathlib.Core.Path.{ap, _∙_}
 use borrow.Author.Needs.{needs}

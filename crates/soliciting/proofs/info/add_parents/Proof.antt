@@ -1,4 +1,4 @@
--- `soliciting::info::add_parents` meets its contract. Assumes nothing.
+-- `soliciting::info::add_parents` meets its contract.
 use Prim.Native.Nat.{ℕ, _-_, _<_}
 use mathlib.Core.Path.{_≡_, refl, sym, ap, _∙_}
 use mathlib.Core.Logic.{⊎-elim}

@@ -1,4 +1,4 @@
--- `soliciting::info::may_own` meets its contract. Assumes nothing.
+-- `soliciting::info::may_own` meets its contract.
 use mathlib.Core.Logic.{⊎-elim}
 use lib.Dec.{ltb}
 use borrow.Author.Needs.{needs}

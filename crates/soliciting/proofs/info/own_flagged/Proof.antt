@@ -1,4 +1,4 @@
--- `soliciting::info::own_flagged` meets its contract. Assumes nothing.
+-- `soliciting::info::own_flagged` meets its contract.
 use native.Mathlib.Omega.{arith}
 use borrow.Author.Needs.{needs}
 use Rattle.ident.specs.Words.{hashNum, keyNum}

@@ -1,4 +1,4 @@
--- `soliciting::info::solicit_package_info` meets its contract. Assumes nothing.
+-- `soliciting::info::solicit_package_info` meets its contract.
 use native.Mathlib.Omega.{arith}
 use borrow.Author.Needs.{needs}
 use borrow.Author.Tests.{not-true, not-false}

@@ -1,4 +1,4 @@
--- `soliciting::info::would_solicit` meets its contract. Assumes nothing.
+-- `soliciting::info::would_solicit` meets its contract.
 use mathlib.Core.Path.{sym, ap, _∙_}
 use borrow.Author.Needs.{needs}
 use borrow.Author.Tests.{not-true, not-false}

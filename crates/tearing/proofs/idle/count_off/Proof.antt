@@ -1,4 +1,4 @@
--- `tearing::idle::count_off` meets its contract. Assumes nothing.
+-- `tearing::idle::count_off` meets its contract.
 use native.Mathlib.Omega.{arith}
 use Prim.Native.Nat.{_<_}
 use lib.ListN.{length}

@@ -1,4 +1,4 @@
--- `tearing::idle::cut_conns` meets its contract. Assumes nothing.
+-- `tearing::idle::cut_conns` meets its contract.
 use native.Mathlib.Omega.{arith}
 use Rattle.tearing.proofs.Sifting.{Cutting, cutting-none, cutting-shown, cutting-conns, cutting-more, cutting-end}
 use Rattle.tearing.proofs.idle.cut_conns.Statement.{statement}

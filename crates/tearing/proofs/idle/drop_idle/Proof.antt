@@ -1,4 +1,4 @@
--- `tearing::idle::drop_idle` meets its contract. Assumes nothing.
+-- `tearing::idle::drop_idle` meets its contract.
 use native.Mathlib.Omega.{arith}
 use Prim.Native.Nat.{_-_}
 use mathlib.Core.Path.{_∙_}

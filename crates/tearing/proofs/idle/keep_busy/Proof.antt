@@ -1,4 +1,4 @@
--- `tearing::idle::keep_busy` meets its contract. Assumes nothing.
+-- `tearing::idle::keep_busy` meets its contract.
 use native.Mathlib.Omega.{arith}
 use Rattle.tearing.proofs.Sifting.{kept-idle, kept-busy}
 use borrow.Author.Needs.{needs}

@@ -1,4 +1,4 @@
--- `wrapping::missing::fail_info` meets its contract. Assumes nothing.
+-- `wrapping::missing::fail_info` meets its contract.
 use mathlib.Core.Path.{sym, _∙_}
 use borrow.Author.Tests.{not-true, not-false}
 use Rattle.ident.specs.Words.{keyNum}

@@ -1,4 +1,4 @@
--- `wrapping::missing::fail_listed` meets its contract. Assumes nothing.
+-- `wrapping::missing::fail_listed` meets its contract.
 use Rattle.ident.specs.Words.{keyNum}
 use Rattle.wrapping.proofs.Unfound.{key-listed, key-unlisted}
 use borrow.Author.Needs.{needs}

@@ -1,4 +1,4 @@
--- `wrapping::missing::not_found_each` meets its contract. Assumes nothing.
+-- `wrapping::missing::not_found_each` meets its contract.
 use Prim.Native.Nat.{_*_, _-_, _<_}
 use mathlib.Core.Path.{_≡_, sym}
 use native.Mathlib.Omega.{arith}

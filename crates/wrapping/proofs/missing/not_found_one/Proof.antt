@@ -1,4 +1,4 @@
--- `wrapping::missing::not_found_one` meets its contract. Assumes nothing.
+-- `wrapping::missing::not_found_one` meets its contract.
 use Rattle.ident.specs.Words.{hashNum}
 use Rattle.gathering.proofs.ItemKeys.{key-t, key-v, key-w}
 use Rattle.wrapping.proofs.Unfound.{one-room, one-keyed, one-info, one-other}

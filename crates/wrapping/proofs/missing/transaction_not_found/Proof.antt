@@ -1,4 +1,4 @@
--- `wrapping::missing::transaction_not_found` meets its contract. Assumes nothing.
+-- `wrapping::missing::transaction_not_found` meets its contract.
 use Prim.Native.Nat.{_*_, _<_}
 use mathlib.Core.Path.{_≡_, refl}
 use native.Mathlib.Omega.{arith}

@@ -1,4 +1,4 @@
--- `wrapping::offering::announce_for_victims` meets its contract. Assumes nothing.
+-- `wrapping::offering::announce_for_victims` meets its contract.
 use native.Mathlib.Omega.{arith}
 use Rattle.lent_lists.specs.Items.{offersIn}
 use Rattle.wrapping.proofs.Swapped.{swaps-gathers, swaps-in, went-none}

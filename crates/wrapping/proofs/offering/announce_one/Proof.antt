@@ -1,4 +1,4 @@
--- `wrapping::offering::announce_one` meets its contract. Assumes nothing.
+-- `wrapping::offering::announce_one` meets its contract.
 use Rattle.lent_lists.specs.Items.{offersIn}
 use Rattle.wrapping.proofs.Gathered.{one-announced}
 use borrow.Author.Needs.{needs}

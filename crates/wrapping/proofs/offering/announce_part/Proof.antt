@@ -1,4 +1,4 @@
--- `wrapping::offering::announce_part` meets its contract. Assumes nothing.
+-- `wrapping::offering::announce_part` meets its contract.
 use native.Mathlib.Omega.{arith}
 use borrow.Author.Tests.{not-false}
 use Rattle.machine.specs.Typed.{Each, OfferTyped}

@@ -1,4 +1,4 @@
--- `wrapping::offering::announce_some` meets its contract. Assumes nothing.
+-- `wrapping::offering::announce_some` meets its contract.
 use Prim.Native.Nat.{_+_}
 use native.Mathlib.Omega.{arith}
 use Rattle.machine.specs.Typed.{Each, OfferTyped}

@@ -1,4 +1,4 @@
--- `wrapping::offering::announce_transactions` meets its contract. Assumes nothing.
+-- `wrapping::offering::announce_transactions` meets its contract.
 use Prim.Native.Nat.{_-_}
 use native.Mathlib.Omega.{arith}
 use lib.ListN.{length}

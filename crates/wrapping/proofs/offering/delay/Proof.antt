@@ -1,4 +1,4 @@
--- `wrapping::offering::delay` meets its contract. Assumes nothing.
+-- `wrapping::offering::delay` meets its contract.
 use native.Mathlib.Omega.{arith}
 use Rattle.ident.specs.Words.{itemNum}
 use Rattle.wrapping.proofs.Batching.{delay-is}

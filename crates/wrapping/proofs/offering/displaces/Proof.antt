@@ -1,4 +1,4 @@
--- `wrapping::offering::displaces` meets its contract. Assumes nothing.
+-- `wrapping::offering::displaces` meets its contract.
 use native.Mathlib.Omega.{arith}
 use Rattle.machine.proofs.Tests.{never}
 use Rattle.words.specs.Words.{words}

@@ -1,4 +1,4 @@
--- `wrapping::offering::full` meets its contract. Assumes nothing.
+-- `wrapping::offering::full` meets its contract.
 use native.Mathlib.Omega.{arith}
 use borrow.Author.Tests.{leb-true}
 use Rattle.store.specs.Flat.{flatOf}

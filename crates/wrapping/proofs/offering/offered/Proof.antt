@@ -1,4 +1,4 @@
--- `wrapping::offering::offered` meets its contract. Assumes nothing.
+-- `wrapping::offering::offered` meets its contract.
 use mathlib.Core.Path.{ap}
 use native.Mathlib.Omega.{arith}
 use Prim.Native.Nat.{ℕ, _+_}

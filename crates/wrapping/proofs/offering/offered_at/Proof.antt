@@ -1,4 +1,4 @@
--- `wrapping::offering::offered_at` meets its contract. Assumes nothing.
+-- `wrapping::offering::offered_at` meets its contract.
 use mathlib.Core.Path.{ap, _∙_}
 use native.Mathlib.Omega.{arith}
 use Rattle.words.specs.Words.{words}

@@ -1,4 +1,4 @@
--- `wrapping::offering::overloaded` meets its contract. Assumes nothing.
+-- `wrapping::offering::overloaded` meets its contract.
 use mathlib.Core.Path.{ap}
 use lib.Dec.{leb}
 use Rattle.machine.specs.Limits.{maxInFlight}

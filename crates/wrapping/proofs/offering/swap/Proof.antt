@@ -1,4 +1,4 @@
--- `wrapping::offering::swap` meets its contract. Assumes nothing.
+-- `wrapping::offering::swap` meets its contract.
 use Prim.Native.Nat.{_-_, _<_}
 use mathlib.Core.Path.{_≡_, refl, _∙_}
 use native.Mathlib.Omega.{arith}

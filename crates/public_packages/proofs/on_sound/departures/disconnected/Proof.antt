@@ -1,5 +1,4 @@
 -- `public_packages::on_sound::departures::disconnected` meets its contract: an instance of proofs/Departed.
--- Assumes nothing.
 use mathlib.Core.Path.{_∙_}
 use native.Mathlib.Omega.{arith}
 use borrow.Author.Needs.{needs}

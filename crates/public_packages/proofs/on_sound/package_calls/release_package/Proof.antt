@@ -1,5 +1,4 @@
 -- `public_packages::on_sound::package_calls::release_package` meets its contract: an instance of crates/outcome/proofs/Carried.
--- Assumes nothing.
 use native.Mathlib.Omega.{arith}
 use borrow.Author.Needs.{needs}
 use Rattle.outcome.proofs.Turns.{some-connection, passed}

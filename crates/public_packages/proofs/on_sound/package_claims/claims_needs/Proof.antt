@@ -1,5 +1,4 @@
 -- `public_packages::on_sound::package_claims::claims_needs` meets its contract: Q of the header is that of the state.
--- Assumes nothing.
 use native.Mathlib.Omega.{arith}
 use Rattle.outcome.proofs.Header.{head-inside, places-word}
 use Rattle.public_packages.proofs.on_sound.package_claims.claims_needs.Statement.{statement}

@@ -1,5 +1,4 @@
 -- `public_packages::on_sound::package_claims::failed_package_claims` meets its contract: an instance of crates/outcome/proofs/Carried.
--- Assumes nothing.
 use native.Mathlib.Omega.{arith}
 use borrow.Author.Needs.{needs}
 use Rattle.machine.proofs.Fail.{Peer}

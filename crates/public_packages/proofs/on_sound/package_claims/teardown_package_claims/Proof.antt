@@ -1,5 +1,4 @@
 -- `public_packages::on_sound::package_claims::teardown_package_claims` meets its contract: an instance of crates/outcome/proofs/Replies.
--- Assumes nothing.
 use native.Mathlib.Omega.{arith}
 use borrow.Author.Needs.{needs}
 use Rattle.outcome.proofs.Carried.{refused}

@@ -1,5 +1,4 @@
 -- `public_packages::on_sound::package_info::of_place` meets its contract: the header's figures are those of the state.
--- Assumes nothing.
 use mathlib.Core.Path.{sym, _∙_}
 use native.Mathlib.Omega.{arith}
 use borrow.Author.Tests.{not-true, not-false}

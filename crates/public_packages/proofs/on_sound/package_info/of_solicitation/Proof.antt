@@ -1,5 +1,4 @@
 -- `public_packages::on_sound::package_info::of_solicitation` meets its contract: the tests, each in its place.
--- Assumes nothing.
 use mathlib.Core.Path.{sym, _∙_}
 use borrow.Author.Needs.{needs}
 use Rattle.outcome.proofs.Carried.{front-writes}

@@ -1,5 +1,4 @@
 -- `public_packages::on_sound::package_info::package_info_owner` meets its contract: an instance of proofs/Replies.
--- Assumes nothing.
 use native.Mathlib.Omega.{arith}
 use borrow.Author.Needs.{needs}
 use Rattle.outcome.proofs.Carried.{refused}

@@ -1,5 +1,4 @@
 -- `public_packages::on_sound::package_info::solicit_package_info` meets its contract: an instance of proofs/Solicited.
--- Assumes nothing.
 use native.Mathlib.Omega.{arith}
 use borrow.Author.Needs.{needs}
 use Rattle.lent_lists.specs.Lists.{hashesIn}

@@ -1,5 +1,4 @@
 -- `public_plans::on_sound::arrangements::arrange` meets its contract: an instance of proofs/Sent.
--- Assumes nothing.
 use native.Mathlib.Omega.{arith}
 use borrow.Author.Needs.{needs}
 use Rattle.words.specs.Words.{words}

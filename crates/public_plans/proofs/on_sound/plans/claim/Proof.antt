@@ -1,5 +1,4 @@
 -- `public_plans::on_sound::plans::claim` meets its contract: an instance of proofs/Taken.
--- Assumes nothing.
 use mathlib.Core.Path.{_∙_}
 use native.Mathlib.Omega.{arith}
 use borrow.Author.Needs.{needs}

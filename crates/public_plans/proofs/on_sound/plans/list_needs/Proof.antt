@@ -1,5 +1,4 @@
 -- `public_plans::on_sound::plans::list_needs` meets its contract: so many entries are in the bytes.
--- Assumes nothing.
 use native.Mathlib.Omega.{arith}
 use borrow.Author.Needs.{needs}
 use Rattle.public_plans.proofs.Entered.{length-entries}

@@ -1,5 +1,4 @@
 -- `public_plans::on_sound::plans::plan_given` meets its contract: an instance of proofs/Planned.
--- Assumes nothing.
 use mathlib.Core.Option.{some}
 use native.Mathlib.Omega.{arith}
 use borrow.Author.Needs.{needs}

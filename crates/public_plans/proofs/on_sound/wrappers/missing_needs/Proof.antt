@@ -1,5 +1,4 @@
 -- `public_plans::on_sound::wrappers::missing_needs` meets its contract: Q of the header is that of the state.
--- Assumes nothing.
 use native.Mathlib.Omega.{arith}
 use borrow.Author.Needs.{needs}
 use Rattle.lent_lists.proofs.Inventory.{length-items}

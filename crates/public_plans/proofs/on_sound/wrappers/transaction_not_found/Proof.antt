@@ -1,5 +1,4 @@
 -- `public_plans::on_sound::wrappers::transaction_not_found` meets its contract: an instance of crates/outcome/proofs/Carried.
--- Assumes nothing.
 use native.Mathlib.Omega.{arith}
 use borrow.Author.Needs.{needs}
 use Rattle.machine.proofs.Fail.{Peer}

@@ -1,5 +1,4 @@
 -- `public_requests::on_sound::candidates::announce_parents` meets its contract: an instance of crates/outcome/proofs/Carried.
--- Assumes nothing.
 use mathlib.Core.Path.{_∙_}
 use native.Mathlib.Omega.{arith}
 use borrow.Author.Needs.{needs}

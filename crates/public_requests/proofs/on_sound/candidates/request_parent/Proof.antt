@@ -1,5 +1,4 @@
 -- `public_requests::on_sound::candidates::request_parent` meets its contract: an instance of crates/outcome/proofs/Carried.
--- Assumes nothing.
 use native.Mathlib.Omega.{arith}
 use borrow.Author.Needs.{needs}
 use Rattle.outcome.proofs.Carried.{refused, yes-no-done}

@@ -1,5 +1,4 @@
 -- `public_requests::on_sound::connections::counts` meets its contract: the connection's figures, which the store keeps.
--- Assumes nothing.
 use native.Mathlib.Omega.{arith}
 use borrow.Author.Needs.{needs}
 use Rattle.public_requests.proofs.Counting.{counts-refused, counts-told}
