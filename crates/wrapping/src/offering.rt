@@ -21,7 +21,7 @@ ghost use Rattle.announcing.specs.Falls.{mostListed, listSpace, VictimsIn};
 ghost use Rattle.gathering.specs.Aside.{space, Empty};
 ghost use Rattle.claims.specs.Changes.{Becomes};
 ghost use Rattle.wrapping.specs.Batches.{between, announced, Offers, Collects, Announced};
-ghost use Rattle.wrapping.specs.Swaps.{Whole, Swaps, Went};
+ghost use Rattle.wrapping.specs.Swaps.{Whole, Swaps, Went, Settled};
 
 fn one(b: bool) -> u64
     ensures { λ r. ⌜ (r ≡ table.one b) × (r ≤ 1) ⌝ }
@@ -133,7 +133,8 @@ fn collect(
     priorities: &[u8],
     first: usize,
 ) -> Part
-    requires { ⌜ Kept (now s) × (8 * (rowSize * space) ≤ length (now new)) × Empty (words (now new)) × (a .clock + requestLifetime < word) × (first ≤ length (offersIn (now items) (now priorities))) ⌝ }
+    requires { ⌜ Kept (now s) × (8 * (rowSize * space) ≤ length (now new)) × Empty (words (now new)) × (a .clock + requestLifetime < word)
+        × (first ≤ length (offersIn (now items) (now priorities))) ⌝ }
     ensures { λ r. ⌜ Collects (now (s .entry)) (words (now (new .exit))) a (offersIn (now (items .entry)) (now (priorities .entry))) first (r .next) (r .waiting) ⌝ }
 {
     let count = lent_lists::offers(items, priorities);
@@ -201,7 +202,7 @@ fn full(s: &[u8]) -> bool
 // have to take the place of another at its hash.
 fn displaces(s: &[u8], a: Terms, items: &[u8], priorities: &[u8], first: usize) -> bool
     requires { ⌜ Kept (now s) × (first < length (offersIn (now items) (now priorities))) ⌝ }
-    ensures { λ r. ⌜ (r ≡ true → Whole (now (s .entry))) ⌝ }
+    ensures { λ r. ⌜ (r ≡ true → Whole (now (s .entry)) × (a .preferred ≡ true)) ⌝ }
 {
     let count = lent_lists::offers(items, priorities);
     if count - first < FEW {
@@ -235,9 +236,10 @@ fn at_most(n: usize) -> usize
     if n < MOST { n } else { MOST }
 }
 
-// Announces items from the first on: each that comes in waits in `new`, which is empty, and the next of the m victims listed in `top` goes.
+// Announces items from the first on, with the store left as it is: each that comes in waits in `new`, which is empty, and the next of the m
+// victims listed in `top` is to go.
 fn swap(
-    s: &mut [u8],
+    s: &[u8],
     new: &mut [u8],
     top: &[u8],
     m: usize,
@@ -248,15 +250,14 @@ fn swap(
 ) -> Part
     requires { ⌜ Kept (now s) × Whole (now s) × VictimsIn (now s) (words (now top)) m × (m ≤ mostListed) × (length (now top) ≡ 8 * (rowSize * listSpace))
         × (8 * (rowSize * space) ≤ length (now new)) × Empty (words (now new)) × (a .clock + requestLifetime < word) × (first ≤ length (offersIn (now items) (now priorities))) ⌝ }
-    ensures { λ r. ⌜ Swaps (now (s .entry)) (now (s .exit)) (words (now (new .exit))) (words (now (top .entry))) m a (offersIn (now (items .entry)) (now (priorities .entry))) first
-        (r .next) (r .waiting) ⌝ }
+    ensures { λ r. ⌜ Swaps (now (s .entry)) (words (now (new .exit))) (words (now (top .entry))) m a (offersIn (now (items .entry)) (now (priorities .entry))) first (r .next) (r .waiting) ⌝ }
 {
     let count = lent_lists::offers(items, priorities);
     let mut i = first;
     let mut d = 0;
     while i < count {
         let c = offered_at(a, items, priorities, i);
-        let more = gathering::instead::exchange(s, new, d, top, m, d, c);
+        let more = gathering::deferred::defer(s, new, d, top, m, c);
         if more == 2 {
             return Part {
                 next: i,
@@ -272,7 +273,30 @@ fn swap(
     }
 }
 
-// Announces some items from the first on, or none: the victims are found in one pass, and one more pass lets in those that have waited.
+// Announces items from the first on: those that come in wait, then the victims go, and one more pass lets in those that have waited.
+fn settle(
+    s: &mut [u8],
+    top: &[u8],
+    m: usize,
+    a: Terms,
+    items: &[u8],
+    priorities: &[u8],
+    first: usize,
+) -> Part
+    requires { ⌜ Kept (now s) × Whole (now s) × VictimsIn (now s) (words (now top)) m × (m ≤ mostListed) × (length (now top) ≡ 8 * (rowSize * listSpace))
+        × (a .clock + requestLifetime < word) × (first ≤ length (offersIn (now items) (now priorities))) ⌝ }
+    ensures { λ r. ⌜ Settled (now (s .entry)) (now (s .exit)) m a (offersIn (now (items .entry)) (now (priorities .entry))) first (r .next) (r .waiting) ⌝ }
+{
+    let mut new = region();
+    gathering::region::clear(&mut new);
+    let p = swap(s, &mut new, top, m, a, items, priorities, first);
+    gathering::going::go(s, top, m, p.waiting);
+    gathering::coming::come_in(s, a.connection, &new, p.waiting);
+    p
+}
+
+// Announces some items from the first on, or none: the victims are found in one pass. Where nobody is left who can be evicted the other
+// items change nothing.
 fn announce_for_victims(
     s: &mut [u8],
     a: Terms,
@@ -280,20 +304,21 @@ fn announce_for_victims(
     priorities: &[u8],
     first: usize,
 ) -> usize
-    requires { ⌜ Kept (now s) × Whole (now s) × (a .clock + requestLifetime < word) × (first < length (offersIn (now items) (now priorities))) ⌝ }
+    requires { ⌜ Kept (now s) × Whole (now s) × (a .preferred ≡ true) × (a .clock + requestLifetime < word) × (first < length (offersIn (now items) (now priorities))) ⌝ }
     ensures { λ r. ⌜ Went (now (s .entry)) (now (s .exit)) a (offersIn (now (items .entry)) (now (priorities .entry))) first r ⌝ }
 {
     let count = lent_lists::offers(items, priorities);
     let mut top = list();
     announcing::foremost::clear(&mut top);
-    let m = announcing::foremost::list_victims(s, &mut top, at_most(count - first));
+    let most = at_most(count - first);
+    let m = announcing::foremost::list_victims(s, &mut top, most);
     if m == 0 {
-        return first;
+        return count;
     }
-    let mut new = region();
-    gathering::region::clear(&mut new);
-    let p = swap(s, &mut new, &top, m, a, items, priorities, first);
-    gathering::coming::come_in(s, a.connection, &new, p.waiting);
+    let p = settle(s, &top, m, a, items, priorities, first);
+    if (p.waiting == m) & (m < most) {
+        return count;
+    }
     p.next
 }
 

@@ -23,13 +23,15 @@ returns : tie.Need-returns
 returns c = search needs
 
 announce-for-victims-requires : tie.Need-announce-for-victims-requires
-announce-for-victims-requires c κs = (
-  c .before .before .before .before .before .before .before .pre .0,
-  c .before .before .displaces .ensures (not-false (c .before .before .displaces .result)
-      (c .before .if1 .left)),
-  c .before .before .before .before .before .before .before .pre .2,
-  c .before .before .before .before .before .before .before .pre .3,
-)
+announce-for-victims-requires c κs =
+    let z = c .before .before .displaces .ensures (not-false (c .before .before .displaces .result) (c .before .if1 .left)) in (
+      c .before .before .before .before .before .before .before .pre .0,
+      z .0,
+      z .1,
+      c .before .before .before .before .before .before .before .pre .2,
+      c .before .before .before .before .before
+          .before .before .pre .3,
+    )
 
 same-length-2 : tie.Need-same-length-2
 same-length-2 c = search needs

@@ -1,5 +1,6 @@
 -- `wrapping::offering::displaces` meets its contract.
 use native.Mathlib.Omega.{arith}
+use borrow.Author.Tests.{not-false}
 use Rattle.machine.proofs.Tests.{never}
 use Rattle.words.specs.Words.{words}
 use Rattle.lent_lists.specs.Items.{itemsIn}
@@ -38,7 +39,11 @@ full-requires : tie.Need-full-requires
 full-requires c κs = search needs
 
 returns-4 : tie.Need-returns-4
-returns-4 c = search needs
+returns-4 c = λ e. (
+  c .full .ensures e,
+  not-false (c .before .before .before .before .before .before .before .before .before .before .before .before .args .a .preferred)
+      (c .before .before .before .before .before .if2 .left),
+)
 
 pub displaces-spec : {M : Type 1} → statement M
 displaces-spec =
