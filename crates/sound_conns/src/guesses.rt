@@ -57,18 +57,35 @@ fn one_back(i: usize) -> usize {
     if i == 0 { 0 } else { i - 1 }
 }
 
-// The last of a window's entries whose connection is not above x, or the one behind it, or the window's first.
-fn near(s: &[u8], n: usize, lo: usize, x: u64) -> usize
-    requires { ⌜ (8 * (connSize * n) ≤ length (now s)) × (lo ≤ n) ⌝ }
+// The last of m entries from `from` on whose connection is not above x, or the one behind it, or the first: halved.
+fn near_in(s: &[u8], n: usize, from: usize, m: usize, x: u64) -> usize
+    requires { ⌜ (8 * (connSize * n) ≤ length (now s)) × (from + m ≤ n) ⌝ }
 {
-    let mut base = lo;
-    let mut wide = windowed(n - lo);
+    let mut base = from;
+    let mut wide = m;
     while 1 < wide {
         let half = wide / 2;
         base += ahead(half, words::get(s, (base + half) * CONN), x);
         wide -= half;
     }
     base
+}
+
+// The same of the window from lo on. What is left is quartered: three loads do not wait for each other.
+fn near(s: &[u8], n: usize, lo: usize, x: u64) -> usize
+    requires { ⌜ (8 * (connSize * n) ≤ length (now s)) × (lo ≤ n) ⌝ }
+{
+    let mut base = lo;
+    let mut wide = windowed(n - lo);
+    while 3 < wide {
+        let part = wide / 4;
+        let a = ahead(part, words::get(s, (base + part) * CONN), x);
+        let b = ahead(part, words::get(s, (base + 2 * part) * CONN), x);
+        let c = ahead(part, words::get(s, (base + 3 * part) * CONN), x);
+        base += a + b + c;
+        wide -= 3 * part;
+    }
+    near_in(s, n, base, wide, x)
 }
 
 // Where x's entry is among n, or n: a search in the window from lo on, and one among all where that does not find it.
@@ -93,23 +110,15 @@ fn seek_entry(s: &[u8], n: usize, lo: usize, x: u64) -> usize
 
 // ---- the slots
 
-// A connection's two halves in one number.
-fn fold(x: u64) -> u64
-    ensures { λ r. ⌜ r < 2 ^ 33 ⌝ }
-{
-    x % WORD + x / WORD
-}
-
-// A connection as it is, or spread in one of two ways.
+// A connection as it is, or spread in one of two ways: a factor for each of its halves.
 fn spread(x: u64, way: u64) -> u64 {
-    let y = fold(x);
     if way == 0 {
-        return y;
+        return x;
     }
     if way == 1 {
-        return y * 0x1e37_79b1 / 0x10_0000;
+        return (x % WORD * 0x1e37_79b1 + x / WORD * 0x2c1b_3c6d) / 0x1000_0000;
     }
-    y * 0x2545_f491 / 0x10_0000
+    (x % WORD * 0x2545_f491 + x / WORD * 0x1b87_3593) / 0x1000_0000
 }
 
 fn low_bits(x: u64, mask: u64) -> usize
@@ -130,7 +139,12 @@ fn second_slot(x: u64, mask: u64) -> usize
     requires { ⌜ mask < 2 ^ 32 ⌝ }
     ensures { λ r. ⌜ r ≤ mask + 1 + mask / 4 ⌝ }
 {
-    mask as usize + 1 + low_bits(fold(x) * 0x3c6e_f35f / 0x40_0000, mask / 4)
+    mask as usize
+        + 1
+        + low_bits(
+            (x % WORD * 0x3c6e_f35f + x / WORD * 0x31cf_a6b9) / 0x1000_0000,
+            mask / 4,
+        )
 }
 
 fn wide(x: u16) -> usize
