@@ -23,9 +23,9 @@ def asks(root):
 
 
 def defined(root, name, file):
-    """Whether the machine's file defines the name."""
-    path = os.path.join(root, "crates/machine/specs", file + ".antt")
-    return os.path.exists(path) and bool(re.search(rf"^(?:unfoldable|abbrev) pub {re.escape(name)} ", read(root, path), re.M))
+    """Whether the machine's file defines the name, or that of the crate wire, whose calls take no store."""
+    paths = [os.path.join(root, "crates", crate, "specs", file + ".antt") for crate in ("machine", "wire")]
+    return any(os.path.exists(path) and re.search(rf"^(?:unfoldable|abbrev) pub {re.escape(name)} ", read(root, path), re.M) for path in paths)
 
 
 class Needs:
