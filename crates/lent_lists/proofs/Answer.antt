@@ -34,7 +34,7 @@ keys-more : (ks : List Key) (k : Key) → keysAnswer (ks ++ (k ∷ [])) ≡ keys
 unfolding keysAnswer
 keys-more ks k = keys-append ks (k ∷ []) ∙ ap (λ (x : List ℕ). keysAnswer ks ++ x) (append-nil (keyAnswer k))
 
-over-front : (x u : List ℕ) → written x u ≡ splice u 0 x
+pub over-front : (x u : List ℕ) → written x u ≡ splice u 0 x
 unfolding written splice
 over-front x u = rw (zero-add (length x))
 

@@ -36,7 +36,7 @@ pub length-items : (b : List ℕ) → length (itemsIn b) ≡ length b / itemByte
 unfolding itemsIn
 length-items b = length-recs itemBytes itemIn (length b / itemBytes) b
 
-drop-take : (m n : ℕ) (l : List ℕ) → drop m (take (m + n) l) ≡ take n (drop m l)
+pub drop-take : (m n : ℕ) (l : List ℕ) → drop m (take (m + n) l) ≡ take n (drop m l)
 drop-take zero n l = rw (zero-add n)
 drop-take (suc m) n [] = rw (suc-add, take-nil n)
 drop-take (suc m) n (x ∷ l) = rw suc-add (drop-take m n l)
@@ -90,7 +90,7 @@ paired-at (i ∷ l) (p ∷ ps) (suc k) d h = paired-at l ps k d (omega arith)
 abbrev pub Low : List ℕ → Type 0
 Low b = (i : ℕ) → getD b i 0 < 256
 
-low-drop : (k : ℕ) (b : List ℕ) → Low b → Low (drop k b)
+pub low-drop : (k : ℕ) (b : List ℕ) → Low b → Low (drop k b)
 low-drop k b p i = rw getD-drop (p (k + i))
 
 number-fits : (k : ℕ) (b : List ℕ) → k ≤ length b → Low b → number 256 (take k b) < 256 ^ k

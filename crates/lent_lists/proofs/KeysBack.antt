@@ -19,11 +19,11 @@ use Rattle.machine.specs.Typed.{Each, KeyTyped}
 use Rattle.machine.proofs.AnswerLengths.{length-keyAnswer}
 use Rattle.lent_lists.specs.Lists.{kindIn, keyIn, keysIn}
 
-word-back : (x : ℕ) → x < 256 ^ 8 → number 256 (bytesOf (x ∷ [])) ≡ x
+pub word-back : (x : ℕ) → x < 256 ^ 8 → number 256 (bytesOf (x ∷ [])) ≡ x
 unfolding bytesOf
 word-back x l = rw append-nil (number-digits 256 (lit< tt) 8 x l)
 
-hash-back : (h : ℕ) → h < top → number 256 (digits 256 32 h) ≡ h
+pub hash-back : (h : ℕ) → h < top → number 256 (digits 256 32 h) ≡ h
 unfolding top
 hash-back h l = number-digits 256 (lit< tt) 32 h l
 

@@ -16,13 +16,13 @@ use Rattle.words.proofs.Records.{length-recs}
 use Rattle.machine.specs.Step.{written}
 use Rattle.machine.proofs.Tests.{test}
 use Rattle.lent_lists.specs.Items.{itemBytes, itemIn}
-use Rattle.lent_lists.proofs.Inventory.{Low}
+use Rattle.lent_lists.proofs.Inventory.{Low, low-drop}
 use Rattle.wire.specs.declared.Found.{Found}
 use Rattle.wire.specs.Payload.{maxItems, wireBytes, compactSize, wiresOf, payloadOf, wireItem, itemsOf, allPlain}
 use Rattle.wire.specs.Calls.{badPayload, shortBuffer, Refused, Bytes, itemsAnswer, itemsListed, Reads, Writes}
 use Rattle.wire.specs.Steps.{Holds, Counted}
 use Rattle.wire.proofs.Filling.{write-both}
-use Rattle.wire.proofs.Records.{length-wires, answer-back, read-fits, read-plain, low-drop}
+use Rattle.wire.proofs.Records.{length-wires, answer-back, read-fits, read-plain}
 
 -- ---- other items of the three types, one item at a time
 

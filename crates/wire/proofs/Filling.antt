@@ -2,11 +2,11 @@
 use Prim.Native.Nat.{ℕ, _+_, _*_, _≤_, _<_, _%_, _/_}
 use mathlib.Core.Path.{_≡_, refl, sym, ap, _∙_}
 use mathlib.Core.List.{List, [], _∷_, _++_, append-assoc, append-nil}
-use native.Mathlib.Nat.{zero-add, add-zero}
+use native.Mathlib.Nat.{add-zero}
 use native.Mathlib.Numerals.{add-one, towards-suc}
 use native.Mathlib.Omega.{arith}
-use lib.ListN.{length, take, drop, getD, set, length-drop, take-append-drop}
-use lib.Seq.{take-suc, take-take, take-add, drop-at, drop-drop, length-take-le, take-all, sets-eq}
+use lib.ListN.{length, take, drop, getD, set, take-append-drop}
+use lib.Seq.{take-suc, take-take, drop-drop, length-take-le, take-all, sets-eq}
 use Rattle.ident.specs.declared.ItemKind.the-variants.{Transaction}
 use Rattle.ident.specs.Number.{Item, typeOf}
 use Rattle.ident.proofs.TypeNumbers.{type-kind}
@@ -16,6 +16,8 @@ use Rattle.words.proofs.Records.{recs-add, length-recs}
 use Rattle.words.proofs.Splice.{splice-more}
 use Rattle.machine.specs.Step.{written}
 use Rattle.lent_lists.specs.Items.{itemBytes}
+use Rattle.lent_lists.proofs.Inventory.{drop-take}
+use Rattle.lent_lists.proofs.Answer.{over-front}
 use Rattle.wire.specs.Payload.{wireBytes, compactSize, wireOf, wiresOf, wireItem, payloadOf}
 use Rattle.wire.specs.Calls.{itemAnswer, itemsAnswer}
 use Rattle.wire.proofs.Counts.{size-one, size-three}
@@ -23,17 +25,9 @@ use Rattle.wire.proofs.Records.{length-wire, length-wires, length-item,
 
 -- ---- behind what is written already
 
-over-front : (x u : List ℕ) → written x u ≡ splice u 0 x
-unfolding written splice
-over-front x u = rw (zero-add (length x))
-
 pub written-on : (x y u : List ℕ) (a : ℕ) → a ≡ length x → a + length y ≤ length u → splice (written x u) a y ≡ written (x ++ y) u
 written-on x y u a e h =
     ap (λ (s : List ℕ). splice s a y) (over-front x u) ∙ splice-more u 0 a x y (omega arith) h ∙ sym (over-front (x ++ y) u)
-
-pub written-none : (u : List ℕ) → u ≡ written [] u
-unfolding written
-written-none u = refl
 
 -- ---- four bytes of a type
 
@@ -72,9 +66,6 @@ stores-three (x ∷ y ∷ z ∷ s) n h l m = rw (size-three n l m)
 
 -- ---- an item of a payload, stored in a list
 
-drop-take : (b : List ℕ) → 4 ≤ length b → drop 4 (take (4 + 32) b) ≡ take 32 (drop 4 b)
-drop-take b l = rw (take-add 4 32 b) (drop-at (take 4 b) (take 32 (drop 4 b)) 4 (length-take-le 4 b l))
-
 pub item-read : (p : List ℕ) (a i : ℕ) {t h : ℕ} {u u₁ u₂ : List ℕ} → a + wireBytes ≤ length p → itemBytes * i + itemBytes ≤ length u
     → t ≡ number 256 (take 4 (drop a p)) → h ≡ number 256 (take 32 (drop (a + 4) p)) → Put u u₁ (i * 5) t → u₂ ≡ splice u₁ (i * 5 * 8 + 8) (digits 256 32 h)
     → u₂ ≡ splice u (itemBytes * i) (itemAnswer (wireItem (take wireBytes (drop a p))))
@@ -83,7 +74,7 @@ item-read p a i {t} {h} {u} m l e f g q =
     let b = drop a p in
     let x : t ≡ number 256 (take 4 (take wireBytes b)) = e ∙ ap (number 256) (sym (take-take 4 wireBytes b (omega arith))) in
     let z : h ≡ number 256 (drop 4 (take wireBytes b)) =
-    f ∙ ap (λ (s : List ℕ). number 256 (take 32 s)) (sym (drop-drop 4 a p)) ∙ ap (number 256) (sym (drop-take b (simp length-drop (omega arith)))) in
+    f ∙ ap (λ (s : List ℕ). number 256 (take 32 s)) (sym (drop-drop 4 a p)) ∙ ap (number 256) (sym (drop-take 4 32 b)) in
     let n : 8 * (i * 5) ≡ itemBytes * i = omega arith in
     let j = length-digits 256 8 t in
     let k = length-digits 256 32 h in

@@ -16,10 +16,10 @@ use Rattle.words.proofs.Digits.{length-digits, number-digits}
 use Rattle.words.proofs.Records.{length-recs}
 use Rattle.machine.specs.Typed.{Each}
 use Rattle.machine.proofs.Tests.{test, and-left, and-right}
-use Rattle.lent_lists.proofs.Inventory.{Low}
+use Rattle.lent_lists.proofs.Inventory.{Low, low-drop}
 use Rattle.wire.specs.Payload.{maxItems, wireBytes, compactSize, wireItem, wiresOf, payloadOf, itemsAfter, itemsOf, allPlain}
 use Rattle.wire.proofs.Counts.{size-one, size-three, items-one, items-three, none-long, none-cut, none-low, none-empty, after-some}
-use Rattle.wire.proofs.Records.{Fits, length-wires, wires-text, wires-back, read-plain, read-fits, digits-back, below, low-take, low-drop}
+use Rattle.wire.proofs.Records.{Fits, length-wires, wires-text, wires-back, read-plain, read-fits, digits-back, below, low-take}
 
 -- ---- what is written is read: "reading its output must yield the list it was given"
 

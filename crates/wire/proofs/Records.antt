@@ -3,11 +3,11 @@ use Prim.Native.Nat.{ℕ, zero, suc, _+_, _*_, _/_, _^_, _≤_, _<_}
 use mathlib.Core.Path.{_≡_, refl, ap, _∙_}
 use mathlib.Core.Logic.{inl, inr}
 use mathlib.Core.Bool.{true}
-use mathlib.Core.List.{List, [], _∷_, _++_, append-assoc, append-nil}
+use mathlib.Core.List.{List, [], _∷_, _++_, append-assoc}
 use native.Mathlib.Omega.{arith}
 use lib.Dec.{ltb, lit<}
 use lib.ListN.{length, take, drop, length-append, length-drop, take-append-drop}
-use lib.Seq.{take-at, drop-at, getD-drop, length-take-le}
+use lib.Seq.{take-at, drop-at, length-take-le}
 use borrow.Author.Tests.{lt-ltb, ltb-true}
 use Rattle.ident.specs.declared.ItemKind.{ItemKind}
 use Rattle.ident.specs.Number.{Item, top, typeOf, itemKindOf, isPlain}
@@ -18,7 +18,8 @@ use Rattle.machine.specs.Typed.{Each}
 use Rattle.machine.proofs.Tests.{test, and-left, and-right}
 use Rattle.machine.proofs.AnswerLengths.{length-bytesOf}
 use Rattle.lent_lists.specs.Items.{itemBytes, typeTop, itemKindIn, itemIn, itemsIn}
-use Rattle.lent_lists.proofs.Inventory.{Low, items-fit}
+use Rattle.lent_lists.proofs.Inventory.{Low, low-drop, items-fit}
+use Rattle.lent_lists.proofs.KeysBack.{word-back, hash-back}
 use Rattle.wire.specs.Payload.{wireBytes, wireOf, wiresOf, wireItem, allPlain}
 use Rattle.wire.specs.Calls.{itemAnswer, itemsAnswer}
 
@@ -53,9 +54,6 @@ low-take (suc k) [] p i = omega arith
 low-take (suc k) (x ∷ b) p zero = p 0
 low-take (suc k) (x ∷ b) p (suc i) = low-take k b (λ j. p (suc j)) i
 
-pub low-drop : (k : ℕ) (b : List ℕ) → Low b → Low (drop k b)
-low-drop k b p i = rw getD-drop (p (k + i))
-
 pub digits-back : (k : ℕ) (b : List ℕ) → length b ≡ k → Low b → digits 256 k (number 256 b) ≡ b
 digits-back k b e p = rw e at (digits-number 256 (lit< tt) b (λ i g. p i))
 
@@ -82,10 +80,6 @@ wire-fits b e p =
 type-back : (t : ℕ) → t < typeTop → number 256 (digits 256 4 t) ≡ t
 type-back t l = number-digits 256 (lit< tt) 4 t l
 
-hash-back : (h : ℕ) → h < top → number 256 (digits 256 32 h) ≡ h
-unfolding top
-hash-back h l = number-digits 256 (lit< tt) 32 h l
-
 -- an item that is written is read
 wire-back : (i : Item) → Fits i → isPlain (i .kind) ≡ true → wireItem (wireOf i) ≡ i
 unfolding wireItem
@@ -97,10 +91,6 @@ wire-back i f p =
     λ j. record { kind = (ap itemKindOf a ∙ kind-type (i .kind) p) j; hash = b j }
 
 -- ---- 40 bytes
-
-word-back : (x : ℕ) → x < 256 ^ 8 → number 256 (bytesOf (x ∷ [])) ≡ x
-unfolding bytesOf
-word-back x l = rw append-nil (number-digits 256 (lit< tt) 8 x l)
 
 kind-back : (k : ItemKind) → typeOf k < typeTop → isPlain k ≡ true → itemKindIn (typeOf k) ≡ k
 kind-back k l p = rw (lt-ltb (typeOf k) typeTop l) (kind-type k p)
