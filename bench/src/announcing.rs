@@ -1,7 +1,7 @@
 //! announce: the library's checked call beside the Rust's, on the same announcements in the same states.
 
 use std::hint::black_box;
-use std::time::{Duration, Instant};
+use std::time::Duration;
 
 use oracle::Machine;
 use oracle::calls::{Call, Candidate, Hash, Item, Reply};
@@ -137,11 +137,11 @@ impl Ready {
     fn run(&self) -> [Duration; 3] {
         let (mut machine, mut store) = (self.machine.clone(), self.image.clone());
         let reply = Reply::Number(u64::from(self.kept));
-        let start = Instant::now();
-        for call in &self.calls {
-            assert_eq!(machine.call(black_box(call)), reply);
-        }
-        let rust = start.elapsed();
+        let rust = time(1, || {
+            for call in &self.calls {
+                assert_eq!(machine.call(black_box(call)), reply);
+            }
+        });
         let (mut checked, mut sound) = (Duration::ZERO, Duration::ZERO);
         for candidate in &self.candidates {
             checked += time(1, || {

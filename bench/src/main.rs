@@ -1,11 +1,12 @@
 //! Times of the sound test, of announce and of the other calls. Prints the tables of docs/BENCHMARKS.md.
 //!
-//!     bench [--runs N] [--calls]     --calls: the table of the other calls alone
+//!     bench [--runs N] [--sound] [--calls]     --sound: the table of the sound test alone; --calls: that of the other calls
 
 #[cfg(feature = "source")]
 mod announcing;
 #[cfg(feature = "source")]
 mod calls;
+mod chosen;
 #[cfg(feature = "source")]
 mod linked;
 #[cfg(feature = "source")]
@@ -30,10 +31,14 @@ fn main() {
     let mut arguments = env::args().skip_while(|argument| argument != "--runs").skip(1);
     let runs = arguments.next().map_or(RUNS, |text| text.parse().expect("--runs wants a number"));
     println!("{}; medians of {runs} runs\n", machine());
-    let alone = env::args().any(|argument| argument == "--calls");
+    let asked = |option| env::args().any(|argument| argument == option);
+    let (sound, alone) = (asked("--sound"), asked("--calls"));
     if !alone {
         soundness::table(runs);
         println!();
+    }
+    if sound {
+        return;
     }
     #[cfg(feature = "source")]
     {

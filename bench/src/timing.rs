@@ -1,6 +1,6 @@
 //! How times are taken.
 
-use std::time::{Duration, Instant};
+use std::time::Duration;
 
 /// Runs before the first that counts.
 pub const WARM: usize = 3;
@@ -8,7 +8,6 @@ pub const WARM: usize = 3;
 const LEAST: Duration = Duration::from_millis(2);
 
 /// Processor time of this thread: what others on the machine take is not in it.
-#[cfg(feature = "source")]
 pub fn processor_time() -> Duration {
     #[repr(C)]
     struct Time {
@@ -25,13 +24,13 @@ pub fn processor_time() -> Duration {
     Duration::new(time.seconds as u64, time.nanoseconds as u32)
 }
 
-/// The time of one call, taken over so many.
+/// The processor time of one call, taken over so many.
 pub fn time(calls: u32, mut call: impl FnMut()) -> Duration {
-    let start = Instant::now();
+    let start = processor_time();
     for _ in 0..calls {
         call();
     }
-    start.elapsed() / calls
+    (processor_time() - start) / calls
 }
 
 /// How many calls last long enough to be timed.
