@@ -5,7 +5,7 @@ use oracle::random::Rng;
 use oracle::sound::opens;
 
 use crate::ask::{Answer, Ask, Given};
-use crate::calls::{ALL, Hands, Mistake, Spec};
+use crate::calls::{ALL, Hands, Mistake, PACKAGES, Spec};
 use crate::oracles;
 use crate::profiles::{Often, in_use};
 use crate::run::{run, small};
@@ -120,10 +120,13 @@ impl Done<'_> {
     }
 }
 
-/// Runs of a small profile, rightly carried out but for what `wrong` does. How many calls the library got and what was
-/// found.
-fn trial(seed: u64, library: &mut dyn FnMut(&mut [u8], &Ask) -> Answer) -> (u64, Result<(), String>) {
-    let (profiles, mut rng) = (in_use(Often::None), Rng::new(seed));
+/// A run of a small profile on a library that is right but for one thing. How many calls it got and what was found.
+fn trial(
+    often: Often,
+    seed: u64,
+    library: &mut dyn FnMut(&mut [u8], &Ask) -> Answer,
+) -> (u64, Result<(), String>) {
+    let (profiles, mut rng) = (in_use(often), Rng::new(seed));
     let (profile, sizes) = small(&profiles, &mut rng);
     let mut calls = 0;
     let mut counted = |store: &mut [u8], ask: &Ask| {
@@ -147,7 +150,7 @@ fn fault_found(name: &str, fault: Fault) -> Result<(), String> {
         let mut rng = Rng::new(seed);
         let from = rng.below(LATEST);
         let (mut calls, mut planted) = (0, 0);
-        let (ended, result) = trial(seed, &mut |store, ask| {
+        let (ended, result) = trial(Often::None, seed, &mut |store, ask| {
             let before = store.to_vec();
             let mut answer = oracles::call(store, ask);
             calls += 1;
@@ -178,8 +181,10 @@ fn fault_found(name: &str, fault: Fault) -> Result<(), String> {
 
 /// The call that is carried out in the place of one of the spec.
 fn mistake_found(spec: &Spec, name: &str, mistake: Mistake) -> Result<(), String> {
+    let of_packages = PACKAGES.iter().any(|one| one.name == spec.name);
+    let often = if of_packages { Often::Packages } else { Often::None };
     for seed in 0..MISTAKE_TRIALS {
-        let (_, result) = trial(seed, &mut |store, ask| match &ask.given {
+        let (_, result) = trial(often, seed, &mut |store, ask| match &ask.given {
             Given::On(call) if ask.spec.name == spec.name => {
                 let call = mistake(call).unwrap_or_else(|| call.clone());
                 oracles::call(store, &Ask { given: Given::On(call), ..ask.clone() })
@@ -196,7 +201,7 @@ fn mistake_found(spec: &Spec, name: &str, mistake: Mistake) -> Result<(), String
 /// No error is found where there is none, and each planted one is.
 pub fn all() -> Result<String, String> {
     for seed in 0..TRIALS {
-        let (_, result) = trial(seed, &mut |store, ask| oracles::call(store, ask));
+        let (_, result) = trial(Often::None, seed, &mut |store, ask| oracles::call(store, ask));
         result.map_err(|text| format!("seed {seed}, a difference where no error was planted: {text}"))?;
     }
     for (name, fault) in FAULTS {
