@@ -12,7 +12,7 @@ use regions::ROW;
 use store::head::HEAD;
 
 mod owner; // owner.rt: the owner of a place
-mod package; // package.rt: package places
+mod place; // place.rt: package places
 
 ghost use mathlib.Core.Path.{_≡_};
 ghost use Prim.Native.Nat.{_+_, _*_, _≤_};
@@ -23,8 +23,8 @@ ghost use Rattle.places.specs.Places.{placeSize};
 ghost use Rattle.machine.specs.Limits.{maxAnnouncements};
 ghost use Rattle.store.specs.Image.{headSize, SoundStore};
 ghost use Rattle.sound.specs.Whole.{PollPlain, CursorPlain, SizesPlain, HeadPlain, RecordsSound};
-use package::places_fit;
-use package::same_hash;
+use place::places_fit;
+use place::same_hash;
 
 // ---- the header
 
