@@ -58,7 +58,8 @@ loop-again c =
       omega arith,
       omega (arith, e),
       e ∙ c .before .before .before .before .loop .inv .2,
-      charged-turn (a .n) (words (a .s .now)) (c .before .before .before .before .loop .i) (omega arith) (c .before .read-conn .ensures .words-are) (a .lo) (c .before .before .before .before .loop .t) (omega arith) (omega arith) (c .charge .ensures)
+      charged-turn (a .n) (words (a .s .now)) (c .before .before .before .before .loop .i) (omega arith) (c .before .read-conn .ensures .words-are) (a .lo)
+          (c .before .before .before .before .loop .t) (omega arith) (omega arith) (c .charge .ensures)
           (c .before .before .before .before .loop .inv .3),
     )
 

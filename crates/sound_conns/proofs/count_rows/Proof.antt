@@ -13,7 +13,8 @@ use Rattle.sound_conns.proofs.count_rows.Statement.{statement}
 use Rattle.sound_conns.proofs.count_rows.Tie as tie
 
 abbrev Inv-loop : tie.InvT-loop
-Inv-loop rows n conns c lo t₀ guess mask way done last i₀ t i = (i ≤ n) × (length t ≡ length t₀) × Tallied (names c (words conns)) (recs rowSize readRow i (words rows)) (recs connSize readConn c (words conns)) done last lo t
+Inv-loop rows n conns c lo t₀ guess mask way done last i₀ t i = (i ≤ n) × (length t ≡ length t₀) × Tallied (names c (words conns)) (recs rowSize readRow i (words rows))
+    (recs connSize readConn c (words conns)) done last lo t
 
 abbrev μ-loop : tie.MeasureT-loop
 μ-loop rows n conns c lo t₀ guess mask way done last i₀ t i = n - i
@@ -42,7 +43,9 @@ returns c =
     let a = c .before .before .before .before .before .before .before .before .before .before .before .before .before .args in
     let e : c .before .before .before .take-row .result ≡ false = not-true _ (c .if1 .taken) in
     let b = c .before .before .before .take-row .ensures in (
-      λ o. tallied-stop (a .c) (words (a .conns .now)) (words (a .rows .now)) (a .done) (a .last) (a .lo) (c .before .before .before .before .before .before .before .before .loop .i) (c .before .before .before .before .before .before .before .before .loop .t) (c .before .before .before .before .before .before .read-row .result) (c .before .before .before .before .before .before .read-row .ensures .words-are)
+      λ o. tallied-stop (a .c) (words (a .conns .now)) (words (a .rows .now)) (a .done) (a .last) (a .lo) (c .before .before .before .before .before .before .before .before .loop .i)
+          (c .before .before .before .before .before .before .before .before .loop .t) (c .before .before .before .before .before .before .read-row .result)
+          (c .before .before .before .before .before .before .read-row .ensures .words-are)
           (c .before .before .before .before .before .before .before .before .loop .inv .2) (a .n) (omega arith) (rw (b .1) at o) (rw e at (b .0)),
       b .1 ∙ c .before .before .before .before .before .before .before .before .loop .inv .1,
     )
@@ -60,7 +63,9 @@ loop-again c =
     let b = c .before .before .before .take-row .ensures in (
       search needs,
       b .1 ∙ c .before .before .before .before .before .before .before .before .loop .inv .1,
-      tallied-turn (a .c) (words (a .conns .now)) (words (a .rows .now)) (a .done) (a .last) (a .lo) (c .before .before .before .before .before .before .before .before .loop .i) (c .before .before .before .before .before .before .before .before .loop .t) (c .before .before .before .before .before .before .read-row .result) (c .before .before .before .before .before .before .read-row .ensures .words-are)
+      tallied-turn (a .c) (words (a .conns .now)) (words (a .rows .now)) (a .done) (a .last) (a .lo) (c .before .before .before .before .before .before .before .before .loop .i)
+          (c .before .before .before .before .before .before .before .before .loop .t) (c .before .before .before .before .before .before .read-row .result)
+          (c .before .before .before .before .before .before .read-row .ensures .words-are)
           (c .before .before .before .before .before .before .before .before .loop .inv .2) _ (b .1) (rw e at (b .0)),
     )
 

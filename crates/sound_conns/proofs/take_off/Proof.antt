@@ -18,10 +18,18 @@ slice-read-v : tie.Need-slice-read-v
 slice-read-v c = search needs
 
 returns-3 : tie.Need-returns-3
-returns-3 c = (short-here (c .before .before .before .before .args .t .now) (c .before .before .before .before .args .lo) (c .before .before .before .before .args .k) (c .before .before .before .before .args .own) (omega arith) (omega arith) (λ e. omega (arith, e .0)), refl)
+returns-3 c = (
+  short-here (c .before .before .before .before .args .t .now) (c .before .before .before .before .args .lo) (c .before .before .before .before .args .k)
+      (c .before .before .before .before .args .own) (omega arith) (omega arith) (λ e. omega (arith, e .0)),
+  refl,
+)
 
 returns-4 : tie.Need-returns-4
-returns-4 c = (short-here (c .before .before .before .before .before .args .t .now) (c .before .before .before .before .before .args .lo) (c .before .before .before .before .before .args .k) (c .before .before .before .before .before .args .own) (omega arith) (omega arith) (λ e. omega (arith, e .1)), refl)
+returns-4 c = (
+  short-here (c .before .before .before .before .before .args .t .now) (c .before .before .before .before .before .args .lo)
+      (c .before .before .before .before .before .args .k) (c .before .before .before .before .before .args .own) (omega arith) (omega arith) (λ e. omega (arith, e .1)),
+  refl,
+)
 
 mul-t : tie.Need-mul-t
 mul-t c = search needs

@@ -15,8 +15,11 @@ inside-requires c κs = search needs
 
 returns : tie.Need-returns
 returns c =
-    let a = c .before .before .before .before .before .args in
-    (took-outside _ _ _ _ _ _ _ (failed (Inside (a .done) (a .last) (a .x)) (c .before .inside .result) (c .if1 .taken) (c .before .inside .ensures)) (c .before .before .before .before .before .pre .5), refl)
+    let a = c .before .before .before .before .before .args in (
+      took-outside _ _ _ _ _ _ _ (failed (Inside (a .done) (a .last) (a .x)) (c .before .inside .result) (c .if1 .taken) (c .before .inside .ensures))
+          (c .before .before .before .before .before .pre .5),
+      refl,
+    )
 
 find-entry-requires : tie.Need-find-entry-requires
 find-entry-requires c κs = search needs
@@ -37,8 +40,10 @@ returns-3 : tie.Need-returns-3
 returns-3 c =
     let a = c .before .before .before .before .before .before .before .before .before .before .before .args in
     let w = words (a .s .now) in (
-      taking (names (a .n) w) (a .done) (a .last) (a .lo) (a .x) (a .own) (a .t .now) (c .before .before .before .before .before .find-entry .result) (c .before .before .take-off .last .0) (omega (arith, length-names (a .n) w))
-          (c .before .before .before .before .before .find-entry .ensures .found (omega arith)) (c .before .before .take-off .result) (c .before .before .before .before .before .before .before .before .before .before .before .pre .1) (c .before .before .take-off .ensures .0),
+      taking (names (a .n) w) (a .done) (a .last) (a .lo) (a .x) (a .own) (a .t .now) (c .before .before .before .before .before .find-entry .result)
+          (c .before .before .take-off .last .0) (omega (arith, length-names (a .n) w))
+          (c .before .before .before .before .before .find-entry .ensures .found (omega arith)) (c .before .before .take-off .result)
+          (c .before .before .before .before .before .before .before .before .before .before .before .pre .1) (c .before .before .take-off .ensures .0),
       c .before .before .take-off .ensures .1,
     )
 

@@ -34,7 +34,8 @@ returns-3 : tie.Need-returns-3
 returns-3 c =
     let a = c .before .before .before .before .before .args in
     let ks = recs rowSize rowKey (a .n) (words (a .s .now)) in
-    let p = passed ((a .i ≤ a .n) × (0 < a .i → getD ks (a .i - 1) 0 < keyNumber (a .k))) (c .before .before .before .short-before .result) (c .before .before .if1 .left) (c .before .before .before .short-before .ensures) in
+    let p = passed ((a .i ≤ a .n) × (0 < a .i → getD ks (a .i - 1) 0 < keyNumber (a .k))) (c .before .before .before .short-before .result) (c .before .before .if1 .left)
+    (c .before .before .before .short-before .ensures) in
     let q = passed (a .i < a .n → keyNumber (a .k) ≤ getD ks (a .i) 0) (c .before .not-short .result) (c .if2 .left) (c .before .not-short .ensures) in
     tested-bound ks (a .n) (keyNumber (a .k) + one false) (a .i) (length-recs rowSize rowKey (a .n) (words (a .s .now))) (p .0) (λ h. omega (arith, p .1 h)) (λ h. omega (arith, q h))
 

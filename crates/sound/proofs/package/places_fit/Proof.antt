@@ -71,10 +71,12 @@ returns c =
     let h : placeSize * c .before .before .before .before .before .before .before .before .before .before .before .args .q ≤ length w =
     omega (arith, length-words (c .before .before .before .before .before .before .before .before .before .before .before .args .s .now)) in
     λ r z. let d : Decides (c .before .before .place-fits .result) (PlaceSound rs (placeAt w (c .before .before .before .before .before .before .before .before .loop .i))) =
-    rw (place-lent (c .before .before .before .before .before .before .before .before .before .before .before .args .s .now) (c .before .before .before .before .before .before .before .before .loop .i)
+    rw (place-lent (c .before .before .before .before .before .before .before .before .before .before .before .args .s .now)
+    (c .before .before .before .before .before .before .before .before .loop .i)
     (omega arith)) at (c .before .before .place-fits .ensures .0 r) in
     failed (PlaceSound rs (placeAt w (c .before .before .before .before .before .before .before .before .loop .i))) (c .before .before .place-fits .result) (c .if1 .taken) d
-    (place-of rs (c .before .before .before .before .before .before .before .before .before .before .before .args .q) w h z (c .before .before .before .before .before .before .before .before .loop .i) (omega arith))
+    (place-of rs (c .before .before .before .before .before .before .before .before .before .before .before .args .q) w h z
+    (c .before .before .before .before .before .before .before .before .loop .i) (omega arith))
 
 place-follows-requires : tie.Need-place-follows-requires Inv-loop μ-loop
 place-follows-requires c κs = search needs
@@ -105,14 +107,18 @@ loop-again c =
     omega (arith, length-words (c .before .before .before .before .before .before .before .before .before .before .before .before .before .args .s .now)) in (
       c .before .before .before .before .place-fits .ensures .1,
       search needs,
-      (λ r. let d : Decides (c .before .before .before .before .place-fits .result) (PlaceSound rs (placeAt w (c .before .before .before .before .before .before .before .before .before .before .loop .i))) =
+      (λ r. let d : Decides (c .before .before .before .before .place-fits .result) (PlaceSound rs (placeAt w
+          (c .before .before .before .before .before .before .before .before .before .before .loop .i))) =
           rw (place-lent (c .before .before .before .before .before .before .before .before .before .before .before .before .before .args .s .now)
-          (c .before .before .before .before .before .before .before .before .before .before .loop .i) (omega arith)) at (c .before .before .before .before .place-fits .ensures .0 r) in below-more (λ k. PlaceSound
-          rs (placeAt w k)) (c .before .before .before .before .before .before .before .before .before .before .loop .i) (c .before .before .before .before .before .before .before .before .before .before .loop .inv .2 r)
+          (c .before .before .before .before .before .before .before .before .before .before .loop .i) (omega arith)) at
+          (c .before .before .before .before .place-fits .ensures .0 r) in below-more (λ k. PlaceSound
+          rs (placeAt w k)) (c .before .before .before .before .before .before .before .before .before .before .loop .i)
+          (c .before .before .before .before .before .before .before .before .before .before .loop .inv .2 r)
           (passed (PlaceSound rs (placeAt w (c .before .before .before .before .before .before .before .before .before .before .loop .i))) (c .before .before .before .before .place-fits .result)
           (c .before .before .if1 .left) d)),
       below-more (λ k. PlaceFollows w k) (c .before .before .before .before .before .before .before .before .before .before .loop .i)
-          (c .before .before .before .before .before .before .before .before .before .before .loop .inv .3) (passed (PlaceFollows w (c .before .before .before .before .before .before .before .before .before .before .loop .i))
+          (c .before .before .before .before .before .before .before .before .before .before .loop .inv .3) (passed (PlaceFollows w
+          (c .before .before .before .before .before .before .before .before .before .before .loop .i))
           (c .before .place-follows .result) (c .if2 .left) (c .before .place-follows .ensures)),
     )
 
