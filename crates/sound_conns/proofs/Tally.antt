@@ -1,4 +1,5 @@
 -- Counters of the entries' rows.
+-- Assumes nothing.
 use Prim.Native.Nat.{ℕ, zero, suc, _+_, _-_, _*_, _/_, _%_, _≤_, _<_}
 use mathlib.Core.Path.{_≡_, refl, sym, ap, _∙_}
 use mathlib.Core.Logic.{_⊎_, inl, inr}
@@ -22,8 +23,8 @@ use Rattle.store.specs.FlatSound.{countRows, owns, ConnFits}
 use Rattle.store.proofs.Counts.{rows-append}
 use Rattle.store.proofs.Tally.{order}
 use Rattle.store.proofs.Certify.{own-bit}
-use Rattle.sound_conns.specs.Conns.{half, heldBy, ownedBy, Counts, Left, names, Rising, Named, Less, Enough, Lessened, Short}
-use Rattle.sound_conns.specs.Conns.{Lessening, Inside, Holds, NamedIn, Took, Lacks, Taking, Tallied, blank, Within, Window}
+use Rattle.sound_conns.specs.Conns.{half, heldBy, ownedBy, Counts, Left, names, Rising, Named, Less, Enough, Lessened}
+use Rattle.sound_conns.specs.Conns.{Short, Lessening, Inside, Holds, NamedIn, Took, Lacks, Taking, Tallied, blank, Within, Window}
 use Rattle.sound_rows.proofs.Decide.{Iff, test-decides, test-and, test-less}
 use Rattle.sound_conns.proofs.Entries.{length-names, name-entry}
 

@@ -57,35 +57,19 @@ fn one_back(i: usize) -> usize {
     if i == 0 { 0 } else { i - 1 }
 }
 
-// The last of m entries from `from` on whose connection is not above x, or the one behind it, or the first: halved.
-fn near_in(s: &[u8], n: usize, from: usize, m: usize, x: u64) -> usize
-    requires { ⌜ (8 * (connSize * n) ≤ length (now s)) × (from + m ≤ n) ⌝ }
+// The last of a window's entries whose connection is not above x, or the one behind it, or the window's first. (By halves: searches of
+// several rows overlap in the processor, and quarters, with three loads a step, were slower.)
+fn near(s: &[u8], n: usize, lo: usize, x: u64) -> usize
+    requires { ⌜ (8 * (connSize * n) ≤ length (now s)) × (lo ≤ n) ⌝ }
 {
-    let mut base = from;
-    let mut wide = m;
+    let mut base = lo;
+    let mut wide = windowed(n - lo);
     while 1 < wide {
         let half = wide / 2;
         base += ahead(half, words::get(s, (base + half) * CONN), x);
         wide -= half;
     }
     base
-}
-
-// The same of the window from lo on. What is left is quartered: three loads do not wait for each other.
-fn near(s: &[u8], n: usize, lo: usize, x: u64) -> usize
-    requires { ⌜ (8 * (connSize * n) ≤ length (now s)) × (lo ≤ n) ⌝ }
-{
-    let mut base = lo;
-    let mut wide = windowed(n - lo);
-    while 3 < wide {
-        let part = wide / 4;
-        let a = ahead(part, words::get(s, (base + part) * CONN), x);
-        let b = ahead(part, words::get(s, (base + 2 * part) * CONN), x);
-        let c = ahead(part, words::get(s, (base + 3 * part) * CONN), x);
-        base += a + b + c;
-        wide -= 3 * part;
-    }
-    near_in(s, n, base, wide, x)
 }
 
 // Where x's entry is among n, or n: a search in the window from lo on, and one among all where that does not find it.

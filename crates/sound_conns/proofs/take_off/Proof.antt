@@ -26,8 +26,8 @@ returns-3 c = (
 
 returns-4 : tie.Need-returns-4
 returns-4 c = (
-  short-here (c .before .before .before .before .before .args .t .now) (c .before .before .before .before .before .args .lo) (c .before .before .before .before .before .args .k)
-      (c .before .before .before .before .before .args .own) (omega arith) (omega arith) (λ e. omega (arith, e .1)),
+  short-here (c .before .before .before .before .before .args .t .now) (c .before .before .before .before .before .args .lo)
+      (c .before .before .before .before .before .args .k) (c .before .before .before .before .before .args .own) (omega arith) (omega arith) (λ e. omega (arith, e .1)),
   refl,
 )
 

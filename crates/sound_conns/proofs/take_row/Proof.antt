@@ -40,8 +40,8 @@ returns-3 : tie.Need-returns-3
 returns-3 c =
     let a = c .before .before .before .before .before .before .before .before .before .before .before .args in
     let w = words (a .s .now) in (
-      taking (names (a .n) w) (a .done) (a .last) (a .lo) (a .x) (a .own) (a .t .now) (c .before .before .before .before .before .find-entry .result) (c .before .before .take-off .last .0)
-          (omega (arith, length-names (a .n) w))
+      taking (names (a .n) w) (a .done) (a .last) (a .lo) (a .x) (a .own) (a .t .now) (c .before .before .before .before .before .find-entry .result)
+          (c .before .before .take-off .last .0) (omega (arith, length-names (a .n) w))
           (c .before .before .before .before .before .find-entry .ensures .found (omega arith)) (c .before .before .take-off .result)
           (c .before .before .before .before .before .before .before .before .before .before .before .pre .1) (c .before .before .take-off .ensures .0),
       c .before .before .take-off .ensures .1,

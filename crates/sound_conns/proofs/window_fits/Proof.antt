@@ -41,9 +41,8 @@ same-length-2 c = search needs
 returns : tie.Need-returns
 returns c =
     let e : c .before .before .before .count-rows .result ≡ false = not-true _ (c .if1 .taken) in
-    λ o. (rw e at (c .before .before .before .count-rows .ensures .0))
-    (window-as (sym (c .before .before .before .count-rows .ensures .1 ∙ c .before .before .before .before .before .before .before .before .before .before .before .before .charge-all
-    .ensures .1)) .to o)
+    λ o. (rw e at (c .before .before .before .count-rows .ensures .0)) (window-as (sym
+    (c .before .before .before .count-rows .ensures .1 ∙ c .before .before .before .before .before .before .before .before .before .before .before .before .charge-all .ensures .1)) .to o)
 
 used-up-requires : tie.Need-used-up-requires
 used-up-requires c κs = search needs
@@ -60,9 +59,9 @@ returns-2 c =
     let k = c .before .before .before .before .before .count-rows .ensures in
     let e : c .before .before .before .before .before .count-rows .result ≡ true = not-false _ (c .before .before .if1 .left) in
     let i = window-iff (recs rowSize readRow (a .n) (words (a .rows .now))) (a .c) (words (a .conns .now)) (a .done) (a .last) (a .lo) _ (rw e at (k .0)) in
-    decides-iff (c .used-up .result)
-    (window-as (k .1 ∙ c .before .before .before .before .before .before .before .before .before .before .before .before .before .before .charge-all .ensures .1))
-    (decides-iff (c .used-up .result) i (c .used-up .ensures))
+    decides-iff (c .used-up .result) (window-as
+    (k .1 ∙ c .before .before .before .before .before .before .before .before .before .before .before .before .before .before .charge-all .ensures .1)) (decides-iff
+    (c .used-up .result) i (c .used-up .ensures))
 
 pub window-fits-spec : {M : Type 1} → statement M
 window-fits-spec =

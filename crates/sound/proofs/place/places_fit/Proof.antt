@@ -11,8 +11,8 @@ use Rattle.sound_rows.specs.Rows.{RowsSound}
 use Rattle.sound.specs.Places.{PlaceSound, placeAt, PlaceFollows, slotCount}
 use Rattle.sound_rows.proofs.Decide.{passed, failed}
 use Rattle.sound.proofs.PlaceWalk.{places-made, place-of, follow-iff, below-more, place-lent}
-use Rattle.sound.proofs.place.places_fit.Statement.{statement}
-use Rattle.sound.proofs.place.places_fit.Tie as tie
+use Rattle.sound.proofs.package.places_fit.Statement.{statement}
+use Rattle.sound.proofs.package.places_fit.Tie as tie
 
 abbrev Inv-loop : tie.InvT-loop
 Inv-loop s q rows n slots₀ at₀ i₀ slots at i = (length slots ≡ slotCount) × (i ≤ q) × (RowsSound (recs rowSize readRow n (words rows)) → (k : ℕ) → k < i
@@ -107,18 +107,18 @@ loop-again c =
     omega (arith, length-words (c .before .before .before .before .before .before .before .before .before .before .before .before .before .args .s .now)) in (
       c .before .before .before .before .place-fits .ensures .1,
       search needs,
-      (λ r. let d : Decides (c .before .before .before .before .place-fits .result) (PlaceSound rs
-          (placeAt w (c .before .before .before .before .before .before .before .before .before .before .loop .i))) =
+      (λ r. let d : Decides (c .before .before .before .before .place-fits .result) (PlaceSound rs (placeAt w
+          (c .before .before .before .before .before .before .before .before .before .before .loop .i))) =
           rw (place-lent (c .before .before .before .before .before .before .before .before .before .before .before .before .before .args .s .now)
-          (c .before .before .before .before .before .before .before .before .before .before .loop .i) (omega arith)) at (c .before .before .before .before .place-fits .ensures .0 r) in
-          below-more (λ k. PlaceSound
+          (c .before .before .before .before .before .before .before .before .before .before .loop .i) (omega arith)) at
+          (c .before .before .before .before .place-fits .ensures .0 r) in below-more (λ k. PlaceSound
           rs (placeAt w k)) (c .before .before .before .before .before .before .before .before .before .before .loop .i)
           (c .before .before .before .before .before .before .before .before .before .before .loop .inv .2 r)
           (passed (PlaceSound rs (placeAt w (c .before .before .before .before .before .before .before .before .before .before .loop .i))) (c .before .before .before .before .place-fits .result)
           (c .before .before .if1 .left) d)),
       below-more (λ k. PlaceFollows w k) (c .before .before .before .before .before .before .before .before .before .before .loop .i)
-          (c .before .before .before .before .before .before .before .before .before .before .loop .inv .3)
-          (passed (PlaceFollows w (c .before .before .before .before .before .before .before .before .before .before .loop .i))
+          (c .before .before .before .before .before .before .before .before .before .before .loop .inv .3) (passed (PlaceFollows w
+          (c .before .before .before .before .before .before .before .before .before .before .loop .i))
           (c .before .place-follows .result) (c .if2 .left) (c .before .place-follows .ensures)),
     )
 

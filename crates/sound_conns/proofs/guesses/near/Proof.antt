@@ -31,47 +31,8 @@ get-requires c κs = search needs
 ahead-requires : tie.Need-ahead-requires Inv-loop μ-loop
 ahead-requires c κs = search needs
 
-mul-get-2 : tie.Need-mul-get-2 Inv-loop μ-loop
-mul-get-2 c = search needs
-
-add-get-2 : tie.Need-add-get-2 Inv-loop μ-loop
-add-get-2 c = search needs
-
-mul-get-3 : tie.Need-mul-get-3 Inv-loop μ-loop
-mul-get-3 c = search needs
-
-get-requires-2 : tie.Need-get-requires-2 Inv-loop μ-loop
-get-requires-2 c κs = search needs
-
-ahead-requires-2 : tie.Need-ahead-requires-2 Inv-loop μ-loop
-ahead-requires-2 c κs = search needs
-
-mul-get-4 : tie.Need-mul-get-4 Inv-loop μ-loop
-mul-get-4 c = search needs
-
-add-get-3 : tie.Need-add-get-3 Inv-loop μ-loop
-add-get-3 c = search needs
-
-mul-get-5 : tie.Need-mul-get-5 Inv-loop μ-loop
-mul-get-5 c = search needs
-
-get-requires-3 : tie.Need-get-requires-3 Inv-loop μ-loop
-get-requires-3 c κs = search needs
-
-ahead-requires-3 : tie.Need-ahead-requires-3 Inv-loop μ-loop
-ahead-requires-3 c κs = search needs
-
 add-base : tie.Need-add-base Inv-loop μ-loop
 add-base c = search needs
-
-add-base-2 : tie.Need-add-base-2 Inv-loop μ-loop
-add-base-2 c = search needs
-
-add-base-3 : tie.Need-add-base-3 Inv-loop μ-loop
-add-base-3 c = search needs
-
-mul-wide : tie.Need-mul-wide Inv-loop μ-loop
-mul-wide c = search needs
 
 sub-wide : tie.Need-sub-wide Inv-loop μ-loop
 sub-wide c = search needs
@@ -81,9 +42,6 @@ loop-less c = search needs
 
 loop-again : tie.Need-loop-again Inv-loop μ-loop
 loop-again c = search needs
-
-near-in-requires : tie.Need-near-in-requires Inv-loop μ-loop
-near-in-requires c κs = search needs
 
 returns : tie.Need-returns Inv-loop μ-loop
 returns c = search needs
@@ -101,22 +59,8 @@ near-spec =
     mul-get
     get-requires
     ahead-requires
-    mul-get-2
-    add-get-2
-    mul-get-3
-    get-requires-2
-    ahead-requires-2
-    mul-get-4
-    add-get-3
-    mul-get-5
-    get-requires-3
-    ahead-requires-3
     add-base
-    add-base-2
-    add-base-3
-    mul-wide
     sub-wide
     loop-less
     loop-again
-    near-in-requires
     returns)
