@@ -11,8 +11,8 @@ use Rattle.sound_rows.specs.Rows.{RowsSound}
 use Rattle.sound.specs.Places.{PlaceSound, placeAt, PlaceFollows, slotCount}
 use Rattle.sound_rows.proofs.Decide.{passed, failed}
 use Rattle.sound.proofs.PlaceWalk.{places-made, place-of, follow-iff, below-more, place-lent}
-use Rattle.sound.proofs.package.places_fit.Statement.{statement}
-use Rattle.sound.proofs.package.places_fit.Tie as tie
+use Rattle.sound.proofs.place.places_fit.Statement.{statement}
+use Rattle.sound.proofs.place.places_fit.Tie as tie
 
 abbrev Inv-loop : tie.InvT-loop
 Inv-loop s q rows n slots₀ at₀ i₀ slots at i = (length slots ≡ slotCount) × (i ≤ q) × (RowsSound (recs rowSize readRow n (words rows)) → (k : ℕ) → k < i
