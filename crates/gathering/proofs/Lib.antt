@@ -13,3 +13,4 @@ pub mod Exchanging
 pub mod Deferral
 pub mod Deferrals
 pub mod Departing
+pub mod OneByOne
