@@ -13,7 +13,6 @@ pub mod Alongside
 pub mod InHalves
 pub mod Overdue
 pub mod OneOwner
-pub mod DroppingRows
 pub mod DroppedTables
 pub mod Dropping
 pub mod Silence
