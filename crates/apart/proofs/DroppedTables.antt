@@ -19,16 +19,22 @@ use Rattle.machine.specs.State.{Candidate, Owner, Request, Table, State, onTabl
 use Rattle.machine.specs.Table.{keep, has, countIn}
 use Rattle.machine.specs.Announce.{without}
 use Rattle.machine.specs.Sound.{All, Sound}
-use Rattle.machine.proofs.Tests.{test, never}
-use Rattle.store.specs.Flat.{Flat, flatOf, bitsOf, witnessBit, deadlineFor, rowOf, rowsFor, rowsOf, placesFor, placesOf, tally}
+use Rattle.machine.proofs.Tests.{test, never, and-left}
+use Rattle.store.specs.Flat.{Flat, flatOf, ownBit, bitsOf, witnessBit, deadlineFor, rowOf, rowsFor, rowsOf, placesFor, placesOf, tally}
+use Rattle.store.specs.FlatSound.{owns}
 use Rattle.store.specs.Image.{Writes}
 use Rattle.store.proofs.Bits.{owns-row}
 use Rattle.store.proofs.Counts.{Distinct, DistinctIn, in-hasnt, distinct-in}
 use Rattle.requests.specs.Changes.{Shorn}
 use Rattle.requests.proofs.Keeping.{writes-by}
+use Rattle.announcing.specs.Drops.{keptRow}
+use Rattle.announcing.proofs.DroppingRows.{row-goes, row-stays}
 use Rattle.package_stages.specs.Changes.{ownerNum}
-use Rattle.apart.specs.Silent.{late, gone, droppedIn, droppedAll, Placeless, isDue, keptRow}
-use Rattle.apart.proofs.DroppingRows.{row-goes, row-stays}
+use Rattle.apart.specs.Silent.{late, gone, droppedIn, droppedAll, Placeless, isDue}
+
+-- a row that goes owns its request
+pub due-owns : (now : ℕ) (r : Row) {y : Bool} → y ≡ isDue now r → y ≡ true → 1 ≡ ownBit r
+due-owns now r q e = sym (eqb-true (ownBit r) 1 (and-left (owns r) (leb (r .deadline) now) (sym q ∙ e)))
 
 module _ (now : ℕ) where
   -- ---- one request
@@ -38,19 +44,19 @@ module _ (now : ℕ) where
   is-due q c w e = ap (λ (b : Bool). b && leb (deadlineFor (c .connection) (q .owner)) now) (owns-row q c) ∙
       ap (λ (x : Option Owner). ownerIs (c .connection) x && leb (deadlineFor (c .connection) x) now) e
 
-  stays : (q : Request) (c : Candidate) (w : Option Owner) → q .owner ≡ w → late now w ≡ false → keptRow now (rowOf q c) ≡ rowOf q c ∷ []
-  stays q c none e l = row-stays now (rowOf q c) (is-due q c none e)
+  stays : (q : Request) (c : Candidate) (w : Option Owner) → q .owner ≡ w → late now w ≡ false → keptRow (isDue now) (rowOf q c) ≡ rowOf q c ∷ []
+  stays q c none e l = row-stays (isDue now) (rowOf q c) (is-due q c none e)
   stays q c (some o) e l =
-      row-stays now (rowOf q c) (is-due q c (some o) e ∙ elim (test (eqb (o .connection) (c .connection))) [ inl z ↦ rw z l | inr z ↦ rw z refl ])
+      row-stays (isDue now) (rowOf q c) (is-due q c (some o) e ∙ elim (test (eqb (o .connection) (c .connection))) [ inl z ↦ rw z l | inr z ↦ rw z refl ])
 
-  all-stay : (q : Request) → late now (q .owner) ≡ false → (cs : List Candidate) → each (keptRow now) (map (rowOf q) cs) ≡ map (rowOf q) cs
+  all-stay : (q : Request) → late now (q .owner) ≡ false → (cs : List Candidate) → each (keptRow (isDue now)) (map (rowOf q) cs) ≡ map (rowOf q) cs
   unfolding each
   all-stay q l [] = refl
   all-stay q l (c ∷ cs) = rw (stays q c (q .owner) refl l, all-stay q l cs)
 
   module _ (q : Request) (o : Owner) (own : q .owner ≡ some o) (l : leb (o .deadline) now ≡ true) where
-    owner-row : (c : Candidate) → eqb (o .connection) (c .connection) ≡ true → keptRow now (rowOf q c) ≡ []
-    owner-row c z = row-goes now (rowOf q c) (is-due q c (some o) own ∙ rw z l)
+    owner-row : (c : Candidate) → eqb (o .connection) (c .connection) ≡ true → keptRow (isDue now) (rowOf q c) ≡ []
+    owner-row c z = row-goes (isDue now) (rowOf q c) (is-due q c (some o) own ∙ rw z l)
 
     -- a row, by what it says of the owner
     mk : Candidate → ℕ → Bool → Row
@@ -64,14 +70,14 @@ module _ (now : ℕ) where
         ap (λ (x : Option Owner). mk c (deadlineFor (c .connection) x) (ownerIs (c .connection) x)) own
         ∙ ap (λ (b : Bool). mk c (if b then o .deadline else 0) b) z
 
-    other-row : (c : Candidate) → eqb (o .connection) (c .connection) ≡ false → keptRow now (rowOf q c) ≡ rowOf (unowned q) c ∷ []
-    other-row c z = row-stays now (rowOf q c) (is-due q c (some o) own ∙ rw z refl) ∙ ap (λ (r : Row). r ∷ []) (same-row c z)
+    other-row : (c : Candidate) → eqb (o .connection) (c .connection) ≡ false → keptRow (isDue now) (rowOf q c) ≡ rowOf (unowned q) c ∷ []
+    other-row c z = row-stays (isDue now) (rowOf q c) (is-due q c (some o) own ∙ rw z refl) ∙ ap (λ (r : Row). r ∷ []) (same-row c z)
 
     turned : (m n : ℕ) (b : Bool) → eqb m n ≡ b → eqb n m ≡ b
     turned m n true z = eq-eqb n m (sym (eqb-true m n z))
     turned m n false z = ne-eqb n m (λ y. eqb-false m n z (sym y))
 
-    others : (cs : List Candidate) → has (o .connection) cs ≡ false → each (keptRow now) (map (rowOf q) cs) ≡ map (rowOf (unowned q)) cs
+    others : (cs : List Candidate) → has (o .connection) cs ≡ false → each (keptRow (isDue now)) (map (rowOf q) cs) ≡ map (rowOf (unowned q)) cs
     unfolding each has
     others [] h = refl
     others (c ∷ cs) h =
@@ -80,7 +86,7 @@ module _ (now : ℕ) where
           | inr z ↦ rw (other-row c (turned (c .connection) (o .connection) false z), others cs (rw z at h))
         ]
 
-    dropped-cands : (cs : List Candidate) → Distinct cs → each (keptRow now) (map (rowOf q) cs) ≡ map (rowOf (unowned q)) (without (o .connection) cs)
+    dropped-cands : (cs : List Candidate) → Distinct cs → each (keptRow (isDue now)) (map (rowOf q) cs) ≡ map (rowOf (unowned q)) (without (o .connection) cs)
     unfolding each without
     dropped-cands [] d = refl
     dropped-cands (c ∷ cs) d =
@@ -95,14 +101,14 @@ module _ (now : ℕ) where
         alone : eqb (c .connection) (o .connection) ≡ true → countIn (λ m. eqb m (o .connection)) cs ≡ 0
         alone z = let l = d (o .connection) in unfold countIn in omega (arith, rw z at l)
 
-    owner-goes : Distinct (q .candidates) → each (keptRow now) (rowsFor q) ≡ rowsFor (gone (o .connection) q)
+    owner-goes : Distinct (q .candidates) → each (keptRow (isDue now)) (rowsFor q) ≡ rowsFor (gone (o .connection) q)
     unfolding rowsFor rowOf
     owner-goes d = dropped-cands (q .candidates) d
 
-  rows-dropped : (q : Request) → DistinctIn q → each (keptRow now) (rowsFor q) ≡ rowsFor (droppedIn now q)
+  rows-dropped : (q : Request) → DistinctIn q → each (keptRow (isDue now)) (rowsFor q) ≡ rowsFor (droppedIn now q)
   rows-dropped q d = by-owner (q .owner) refl
     where
-      by-owner : (w : Option Owner) → q .owner ≡ w → each (keptRow now) (rowsFor q) ≡ rowsFor (droppedIn now q)
+      by-owner : (w : Option Owner) → q .owner ≡ w → each (keptRow (isDue now)) (rowsFor q) ≡ rowsFor (droppedIn now q)
       by-owner none e = unfold rowsFor in (all-stay q (ap (late now) e) (q .candidates) ∙
           sym (ap (λ (b : Bool). map (rowOf (if b then gone (ownerNum (q .owner)) q else q)) ((if b then gone (ownerNum (q .owner)) q else q) .candidates)) (ap (late now) e)))
       by-owner (some o) e =
@@ -120,17 +126,17 @@ module _ (now : ℕ) where
   keep-rows r [] t e = rw e
   keep-rows r (c ∷ cs) t e = refl
 
-  rows-left : (t : Table) → All DistinctIn t → rowsOf (droppedAll now t) ≡ each (keptRow now) (rowsOf t)
+  rows-left : (t : Table) → All DistinctIn t → rowsOf (droppedAll now t) ≡ each (keptRow (isDue now)) (rowsOf t)
   unfolding droppedAll
   rows-left [] d = unfold each in refl
   rows-left (q ∷ t) d =
       keep-rows (droppedIn now q) ((droppedIn now q) .candidates) (droppedAll now t) refl
       ∙ ap (λ (x : List Row). rowsFor (droppedIn now q) ++ x) (rows-left t (d .1))
-      ∙ ap (λ (x : List Row). x ++ each (keptRow now) (rowsOf t)) (sym (rows-dropped q (d .0)))
-      ∙ sym (first ∙ each-append (keptRow now) (rowsFor q) (rowsOf t))
+      ∙ ap (λ (x : List Row). x ++ each (keptRow (isDue now)) (rowsOf t)) (sym (rows-dropped q (d .0)))
+      ∙ sym (first ∙ each-append (keptRow (isDue now)) (rowsFor q) (rowsOf t))
     where
-      first : each (keptRow now) (rowsOf (q ∷ t)) ≡ each (keptRow now) (rowsFor q ++ rowsOf t)
-      first = ap (each (keptRow now)) (unfold each in refl)
+      first : each (keptRow (isDue now)) (rowsOf (q ∷ t)) ≡ each (keptRow (isDue now)) (rowsFor q ++ rowsOf t)
+      first = ap (each (keptRow (isDue now))) (unfold each in refl)
 
   -- ---- no places
 
@@ -156,7 +162,7 @@ module _ (now : ℕ) where
   placeless-dropped [] p = tt
   placeless-dropped (r ∷ t) p = placeless-keep (droppedIn now r) ((droppedIn now r) .candidates) (droppedAll now t) (still-none r (p .0)) (placeless-dropped t (p .1))
 
-  pub dropped-writes : {b : List ℕ} (st : State) → Sound st → Placeless (st .table) → Shorn b st (each (keptRow now) (rowsOf (st .table))) (each (keptRow now) (rowsOf (st .table)))
+  pub dropped-writes : {b : List ℕ} (st : State) → Sound st → Placeless (st .table) → Shorn b st (each (keptRow (isDue now)) (rowsOf (st .table))) (each (keptRow (isDue now)) (rowsOf (st .table)))
       → Writes b (onTable (droppedAll now (st .table)) st)
   dropped-writes st s p h =
       let e = rows-left (st .table) (distinct-in (st .table) (s .bounded .once)) in

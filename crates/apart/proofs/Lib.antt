@@ -16,7 +16,6 @@ pub mod NextParent
 pub mod InHalves
 pub mod Overdue
 pub mod OneOwner
-pub mod DroppingRows
 pub mod DroppedTables
 pub mod Dropping
 pub mod Silence

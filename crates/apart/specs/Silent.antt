@@ -1,15 +1,14 @@
 -- Owners whose time is over, where no request has a package: their rows go in one pass.
-use Prim.Native.Nat.{ℕ, _+_, _≤_}
+use Prim.Native.Nat.{ℕ}
 use mathlib.Core.Path.{_≡_}
 use mathlib.Core.Bool.{Bool, false, _&&_}
-use mathlib.Core.List.{List, [], _∷_, _++_}
+use mathlib.Core.List.{List, [], _∷_}
 use mathlib.Core.Option.{Option, none, some}
 use lib.Dec.{leb}
-use lib.ListN.{length, getD, set}
 use Rattle.ident.specs.If.{if_then_else_}
 use Rattle.ident.specs.Number.{Key, other}
 use Rattle.regions.specs.declared.Row.{Row}
-use Rattle.machine.specs.State.{Owner, Request, Table, State, withCandidates, unowned}
+use Rattle.machine.specs.State.{Owner, Request, Table, withCandidates, unowned}
 use Rattle.machine.specs.Table.{keep, change}
 use Rattle.machine.specs.Announce.{without}
 use Rattle.machine.specs.Fail.{failed}
@@ -18,8 +17,7 @@ use Rattle.machine.specs.Sound.{All}
 use Rattle.store.specs.Flat.{placesFor}
 use Rattle.store.specs.FlatSound.{owns}
 use Rattle.package_stages.specs.Changes.{ownerNum}
-use Rattle.requests.specs.Changes.{Shorn}
-use Rattle.handing.specs.Hands.{readied}
+use Rattle.leaving.specs.Cuts.{readied}
 
 -- ---- the machine: one after the other
 
@@ -63,18 +61,3 @@ Placeless t = All (λ r. placesFor r ≡ []) t
 -- the row says an owner whose time is over
 abbrev pub isDue : ℕ → Row → Bool
 isDue now r = owns r && leb (r .deadline) now
-
-unfoldable pub keptRow : ℕ → Row → List Row
-keptRow now r = if isDue now r then [] else r ∷ []
-
--- what stays of a row, put at m
-abbrev pub putAt : ℕ → List Row → List Row → List Row
-putAt m [] xs = xs
-putAt m (x ∷ l) xs = set xs m x
-
--- the i-th row, r, is put at m, or goes
-pub record RowKept (b b′ : List ℕ) (now m i m′ : ℕ) : Type 0 where
-  pub least : m ≤ m′
-  pub most : m′ ≤ m + 1
-  pub count : (st : State) (xs ls : List Row) (r : Row) → Shorn b st xs ls → getD xs i r ≡ r → m′ ≡ m + length (keptRow now r)
-  pub rows : (st : State) (xs x : List Row) (r : Row) (y : List Row) → Shorn b st xs (x ++ (r ∷ y)) → getD xs i r ≡ r → Shorn b′ st (putAt m (keptRow now r) xs) (x ++ (keptRow now r ++ y))

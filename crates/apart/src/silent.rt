@@ -2,13 +2,10 @@
 // and their tally (`Shorn`).
 ghost use mathlib.Core.Path.{_≡_};
 ghost use Prim.Native.Nat.{_≤_, _<_};
-ghost use lib.ListN.{getD, set};
-ghost use Rattle.regions.specs.declared.Row.{Row};
-ghost use Rattle.store.specs.Flat.{Flat};
-ghost use Rattle.store.specs.Image.{Shows};
-ghost use Rattle.store.specs.Shown.{rowsIn, withRows, Turns, Shown, Kept};
+ghost use Rattle.store.specs.Shown.{rowsIn, Shown, Kept};
 ghost use Rattle.requests.specs.Changes.{Makes};
-ghost use Rattle.apart.specs.Silent.{Placeless, droppedAll, isDue, RowKept};
+ghost use Rattle.announcing.specs.Drops.{RowKept};
+ghost use Rattle.apart.specs.Silent.{Placeless, droppedAll, isDue};
 
 // Whether the row says an owner whose time is over.
 pub fn is_due(r: regions::Row, clock: u64) -> bool
@@ -17,27 +14,17 @@ pub fn is_due(r: regions::Row, clock: u64) -> bool
     (r.bits / 8 % 2 == 1) & (r.deadline <= clock)
 }
 
-// Puts the i-th row, r, at m, which is not behind it.
-fn keep_row(s: &mut [u8], m: usize, i: usize, r: regions::Row)
-    requires { ⌜ Shown (now s) × (m ≤ i) × (i < rowsIn (now s)) × ((f : Flat) (d : Row) → Shows (now s) f → r ≡ getD (f .rows) i d) ⌝ }
-    ensures { λ _. ⌜ Turns (now (s .entry)) (now (s .exit)) (λ f. withRows (set (f .rows) m r) f) ⌝ }
-{
-    if m < i {
-        store::rows::set_row(s, m, r);
-    }
-}
-
 // The i-th row: put behind the m that stay, unless its owner's time is over. Answers how many stay.
 fn drop_row(s: &mut [u8], m: usize, i: usize, clock: u64) -> usize
     requires { ⌜ Shown (now s) × (m ≤ i) × (i < rowsIn (now s)) ⌝ }
-    ensures { λ r. ⌜ RowKept (now (s .entry)) (now (s .exit)) clock m i r ⌝ }
+    ensures { λ r. ⌜ RowKept (now (s .entry)) (now (s .exit)) (isDue clock) m i r ⌝ }
 {
     let r = store::rows::row_at(s, i);
     if is_due(r, clock) {
         store::counting::count_out(s, r.conn, 1);
         return m;
     }
-    keep_row(s, m, i, r);
+    announcing::dropping::keep_row(s, m, i, r);
     m + 1
 }
 

@@ -3,13 +3,14 @@ use Prim.Native.Nat.{_-_}
 use mathlib.Core.Path.{_∙_}
 use native.Mathlib.Omega.{arith}
 use Rattle.store.proofs.Frame.{sizes}
-use Rattle.apart.proofs.DroppingRows.{Dropping, dropping-none, dropping-rows, dropping-shown, dropping-more, dropping-end}
+use Rattle.announcing.proofs.DroppingRows.{Dropping, dropping-none, dropping-rows, dropping-shown, dropping-more, dropping-end}
+use Rattle.apart.specs.Silent.{isDue}
 use Rattle.apart.proofs.DroppedTables.{dropped-writes}
 use Rattle.apart.proofs.silent.drop_due.Statement.{statement}
 use Rattle.apart.proofs.silent.drop_due.Tie as tie
 
 abbrev Inv-loop : tie.InvT-loop
-Inv-loop s₀ clock n m₀ i₀ s m i = Dropping s₀ s clock i m
+Inv-loop s₀ clock n m₀ i₀ s m i = Dropping s₀ s (isDue clock) i m
 
 abbrev μ-loop : tie.MeasureT-loop
 μ-loop s₀ clock n m₀ i₀ s m i = n - i
@@ -18,7 +19,7 @@ rows-requires : tie.Need-rows-requires Inv-loop μ-loop
 rows-requires c κs = omega (arith, sizes (c .before .before .pre .writes))
 
 loop-holds : tie.Need-loop-holds Inv-loop μ-loop
-loop-holds c = dropping-none _ (c .before .before .before .args .clock)
+loop-holds c = dropping-none _ (isDue (c .before .before .before .args .clock))
 
 drop-row-requires : tie.Need-drop-row-requires Inv-loop μ-loop
 drop-row-requires c κs = (

@@ -1,5 +1,7 @@
 -- `apart::silent::drop_row` meets its contract.
-use Rattle.apart.proofs.DroppingRows.{drop-goes, drop-stays}
+use Rattle.announcing.proofs.DroppingRows.{drop-goes, drop-stays}
+use Rattle.apart.specs.Silent.{isDue}
+use Rattle.apart.proofs.DroppedTables.{due-owns}
 use borrow.Author.Needs.{needs}
 use Rattle.apart.proofs.silent.drop_row.Statement.{statement}
 use Rattle.apart.proofs.silent.drop_row.Tie as tie
@@ -17,9 +19,12 @@ same-length : tie.Need-same-length
 same-length c = search needs
 
 returns : tie.Need-returns
-returns c = drop-goes (c .before .before .before .before .before .before .before .before .before .args .clock) (c .before .before .before .before .before .before .before .before .before .args .m)
+returns c = drop-goes (isDue (c .before .before .before .before .before .before .before .before .before .args .clock))
+    (c .before .before .before .before .before .before .before .before .before .args .m)
     (c .before .before .before .before .before .before .before .before .before .args .i) (c .before .before .before .before .before .before .row-at .ensures)
-    (c .before .before .before .before .before .is-due .ensures) (c .before .before .before .before .if1 .taken) (c .before .before .count-out .ensures)
+    (c .before .before .before .before .before .is-due .ensures) (c .before .before .before .before .if1 .taken)
+    (due-owns (c .before .before .before .before .before .before .before .before .before .args .clock) (c .before .before .before .before .before .before .row-at .result)
+    (c .before .before .before .before .before .is-due .ensures) (c .before .before .before .before .if1 .taken)) (c .before .before .count-out .ensures)
 
 keep-row-requires : tie.Need-keep-row-requires
 keep-row-requires c κs = search needs
@@ -31,7 +36,7 @@ same-length-2 : tie.Need-same-length-2
 same-length-2 c = search needs
 
 returns-2 : tie.Need-returns-2
-returns-2 c = drop-stays (c .before .before .before .before .before .before .before .before .before .args .clock)
+returns-2 c = drop-stays (isDue (c .before .before .before .before .before .before .before .before .before .args .clock))
     (c .before .before .before .before .before .before .before .before .before .args .m) (c .before .before .before .before .before .before .before .before .before .args .i)
     (c .before .before .before .before .before .before .row-at .ensures) (c .before .before .before .before .before .is-due .ensures) (c .before .before .before .before .if1 .left)
     (c .before .before .keep-row .ensures)
