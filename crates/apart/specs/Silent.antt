@@ -17,7 +17,7 @@ use Rattle.machine.specs.Sound.{All}
 use Rattle.store.specs.Flat.{placesFor}
 use Rattle.store.specs.FlatSound.{owns}
 use Rattle.package_stages.specs.Changes.{ownerNum}
-use Rattle.leaving.specs.Cuts.{readied}
+use Rattle.handing.specs.Hands.{readied}
 
 -- ---- the machine: one after the other
 
