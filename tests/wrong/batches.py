@@ -1,9 +1,13 @@
 """batches.py EDIT..: edits of one crate, a line for each batch that may be checked at once. Of two edits of a batch each changes the body of one
 function and names a fact of that function's own proof, and the functions differ. A proof rests on its function's body and on contracts, and on no other body:
-so the refusal of each is its own. An edit of a contract, a constant or a definition, or one with no fact, is checked alone."""
+so the refusal of each is its own. An edit of a contract, a constant or a definition, or one with no fact, is checked alone; its line begins with `alone`, that
+of a batch with `bodies`.
+batches.py --others LOG COPY EDIT..: of a batch of bodies, the facts that were refused and are of none of its functions; there must be none."""
 import os
 import re
 import sys
+
+import facts
 
 FUNCTION = re.compile(r"\s*(?:pub )?(?:extern \"C\" )?fn (\w+)")
 CLAUSE = re.compile(r"\s*(?:requires|ensures|ghost)\b")
@@ -54,7 +58,18 @@ def alone(edit):
     return body if named and re.split("/|::", named[1] or named[2])[-1] == body[1] else None
 
 
+def others(log, copy, edits):
+    """The facts that were refused in a check of bodies and belong to other functions."""
+    functions = {alone(edit)[1] for edit in edits}
+    met = facts.errors(edits[0], log, copy)
+    return [name for name in met if not re.search(rf"(?:/|::)({'|'.join(functions)})(?:/Proof\b|:\d|\s)", name)]
+
+
 def main():
+    if sys.argv[1:2] == ["--others"]:
+        found = others(sys.argv[2], sys.argv[3], sys.argv[4:])
+        print("\n".join(found))
+        return bool(found)
     batches = []        # of functions and edits
     for edit in sys.argv[1:]:
         body = alone(edit)
@@ -64,9 +79,10 @@ def main():
             fitting[1].append(edit)
         else:
             batches.append(([body], [edit]))
-    for _, edits in batches:
-        print(" ".join(edits))
+    for functions, edits in batches:
+        print("alone" if None in functions else "bodies", *edits)
+    return 0
 
 
 if __name__ == "__main__":
-    main()
+    sys.exit(main())
