@@ -115,7 +115,7 @@ worked =
 -- ---- the edges
 
 pub record Edges : Type 0 where
-  pub worked-lines : replies 100000 worked (empty 1 1) ≡ Number 1 ∷ Number 1 ∷ Number 0 ∷ Chosen 1 (held7 ∷ []) ∷ Entries (held7 ∷ []) ∷ Number 1 ∷ Chosen 0 [] ∷ []
+  pub worked-lines : replies 100000 worked (empty 1 1) ≡ Number 1 ∷ Number 1 ∷ Number 0 ∷ Chosen 1 (held7 ∷ []) none ∷ Entries (held7 ∷ []) ∷ Number 1 ∷ Chosen 0 [] none ∷ []
   -- "Eight preferred at a hash, ninth preferred: 0."
   pub ninth-preferred : reply ninth (eight (w 3 77 true 0) (w 6 77 true 0)) ≡ Number 0
   pub all-stay : evicted (w 3 77 true 0) (w 6 77 true 0) ≡ (1 ∷ 2 ∷ 3 ∷ 4 ∷ 5 ∷ 6 ∷ 7 ∷ 8 ∷ []) ∷ []

@@ -6,6 +6,7 @@ pub mod Fail
 pub mod Package
 pub mod Leave
 pub mod Sweep
+pub mod Later
 pub mod Plan
 pub mod Claim
 pub mod Wrapper
