@@ -27,6 +27,7 @@ unfolding top digits bytesOf need at keep change keys countIn total has without 
     takesPlace openingRefusal askRefusal refusal perform carryOut keysAnswer entriesAnswer written stepIf
 edges = record {
   worked-lines = refl;
+  look-lines = refl;
   ninth-preferred = refl;
   all-stay = refl;
   one-unpreferred = refl;

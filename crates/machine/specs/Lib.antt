@@ -19,3 +19,4 @@ pub mod Replies
 pub mod Demand1
 pub mod Demand3
 pub mod Edges
+pub mod Looking
