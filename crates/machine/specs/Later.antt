@@ -1,5 +1,5 @@
 -- The request machine: when to look again (document 02, request c).
-use Prim.Native.Nat.{ℕ, min}
+use Prim.Native.Nat.{ℕ, zero, suc, min}
 use mathlib.Core.Bool.{Bool, false, _||_}
 use mathlib.Core.List.{List, [], _∷_, _++_, map}
 use mathlib.Core.Option.{Option, none, some}
@@ -57,3 +57,8 @@ times (r ∷ t) = timesIn (r .owner) (r .candidates) ++ times t
 -- "the least time later than now among" them
 abbrev pub nextLook : ℕ → Table → Option ℕ
 nextLook now t = leastLater now (times t)
+
+-- in a number that code hands on 0 stands for none: a time later than now is 1 or more
+abbrev pub timeOf : ℕ → Option ℕ
+timeOf zero = none
+timeOf (suc n) = some (suc n)
