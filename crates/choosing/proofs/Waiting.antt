@@ -61,8 +61,8 @@ module _ (now : ℕ) (rs : List Row) (to : ℕ) where
   unfolding anyReady leastLater
   waits-none i h = let z : to - i ≡ 0 = omega arith in rw z (record { ready = refl; least = refl })
 
-  pub waits-row : {r : Row} (d : Row) {j : ℕ} (i : ℕ) → j ≡ i + 1 → i < to → to ≤ length rs → r ≡ getD rs i d → {any : Bool} {w v : ℕ} {o : Option ℕ} → Waits now (part j to rs) any w → o ≡ later now (r .ready)
-      → timeOf v ≡ earlier o (timeOf w) → Waits now (part i to rs) (leb (r .ready) now || any) v
+  pub waits-row : {r : Row} (d : Row) {j : ℕ} (i : ℕ) → j ≡ i + 1 → i < to → to ≤ length rs → r ≡ getD rs i d → {any : Bool} {w v : ℕ} {o : Option ℕ}
+      → Waits now (part j to rs) any w → o ≡ later now (r .ready) → timeOf v ≡ earlier o (timeOf w) → Waits now (part i to rs) (leb (r .ready) now || any) v
   unfolding anyReady leastLater candidateAt
   waits-row {r} d i e m h f {any} k q g =
       rw (part-more rs i to d m h, ← f, ← e)

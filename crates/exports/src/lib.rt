@@ -7,7 +7,8 @@ ghost use Rattle.words.specs.Words.{Decides};
 ghost use Rattle.machine.specs.Call.{Open, On, Sum};
 ghost use Rattle.store.specs.Image.{SoundStore};
 ghost use Rattle.outcome.specs.Outcome.{Leaves};
-ghost use Rattle.exports.specs.Status.{numbered, figured, statusOf, handedOut, listingStatus, countOut, departureStatus, ownOut, parentsOut, plannedStatus, consideredOut, chosenOut, nextOut, Stays};
+ghost use Rattle.exports.specs.Status.{numbered, figured, statusOf, handedOut, listingStatus, countOut, departureStatus, ownOut, parentsOut, Stays};
+ghost use Rattle.exports.specs.Status.{plannedStatus, consideredOut, chosenOut, nextOut};
 
 pub mod arrangements;
 pub mod candidates;

@@ -138,7 +138,8 @@ module _ (now n : ℕ) (rs : List Row) where
   unfolding gather
   looks-start i v h l = rw (part-none rs i n h) l
 
-  pub looks-row : {r : Row} (d : Row) {j : ℕ} (i : ℕ) → j ≡ i + 1 → i < n → n ≤ length rs → r ≡ getD rs i d → (w : Look) → LooksAt now (gather (r ∷ part j n rs)) w → LooksAt now (gather (part i n rs)) w
+  pub looks-row : {r : Row} (d : Row) {j : ℕ} (i : ℕ) → j ≡ i + 1 → i < n → n ≤ length rs → r ≡ getD rs i d → (w : Look)
+      → LooksAt now (gather (r ∷ part j n rs)) w → LooksAt now (gather (part i n rs)) w
   looks-row d i e l h f w g = rw (part-more rs i n d l h, ← f, ← e) g
 
 -- ---- all rows of a state
@@ -148,9 +149,11 @@ unfolding times
 next-bare now [] = refl
 next-bare now (r ∷ t) = ap (_++_ (timesIn (r .owner) (r .candidates))) (next-bare now t)
 
-pub looked-all : (now : ℕ) (st : State) → Sound st → {n i : ℕ} → n ≡ length (rowsOf (st .table)) → i ≡ 0 → {o : Option ℕ} → o ≡ nextLook now (gather (part i n (rowsOf (st .table)))) → o ≡ nextLook now (st .table)
+pub looked-all : (now : ℕ) (st : State) → Sound st → {n i : ℕ} → n ≡ length (rowsOf (st .table)) → i ≡ 0 → {o : Option ℕ}
+    → o ≡ nextLook now (gather (part i n (rowsOf (st .table)))) → o ≡ nextLook now (st .table)
 looked-all now st s {n} {i} e z f =
     let t = st .table in
     let y : n - i ≡ length (rowsOf t) = omega (arith, e, z) in
     let whole : part i n (rowsOf t) ≡ rowsOf t = rw (y, z) (take-all (length (rowsOf t)) (rowsOf t) (omega arith)) in
-    f ∙ ap (λ (x : List Row). nextLook now (gather x)) whole ∙ ap (nextLook now) (gather-table 0 t (s .bounded .ordered) (s .bounded .lawful) (s .bounded .filled)) ∙ ap (leastLater now) (next-bare now t)
+    f ∙ ap (λ (x : List Row). nextLook now (gather x)) whole
+    ∙ ap (nextLook now) (gather-table 0 t (s .bounded .ordered) (s .bounded .lawful) (s .bounded .filled)) ∙ ap (leastLater now) (next-bare now t)

@@ -22,7 +22,8 @@ pub edges : Edges
 unfolding top digits bytesOf need at keep change keys countIn total has without victimsIn victims after greatestFrom greatest evicting announceAt announceKeyed adopt requestParentAt
     requestParentKeyed left failed unclaim forget but dedup parentsFrom announceParents solicit claimPackage sameList beginResolution listedAfter failedWithParents failedPackageInfo
     packageInfoOwner releasePackage claimKey someKeys failEach failedPackageClaims packageKeys leftIfOwned tearEach teardown guarded forgetKnown keysOf announceEach dropAt dropEach insertKey
-    sortKeys disconnected only round lastOf handed leastLater anyReady times chosenBy chosenAt able sooner better orElse leastIn leastAt choice consider phase due expire insertByPriority sortByPriority plan sameEntry
+    sortKeys disconnected only round lastOf handed
+    leastLater anyReady times chosenBy chosenAt able sooner better orElse leastIn leastAt choice consider phase due expire insertByPriority sortByPriority plan sameEntry
     takes claim elem forWitness insertByConnection sortByConnection arrange partOf offersFrom announceTransactions responseCompleted notFoundOne notFoundEach packagesIn notFound sum named anyLate
     takesPlace openingRefusal askRefusal refusal perform carryOut keysAnswer entriesAnswer written stepIf
 edges = record {

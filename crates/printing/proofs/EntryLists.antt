@@ -236,6 +236,7 @@ module _ {out₀ : List ℕ} (room : answerRoom ≤ length out₀) (u : List ℕ
       let d = decimal-end considered p in
       let l = time-length next in
       let x = entryTexts (entriesFrom u 0 n) in
-      let e : joined (decimal considered ∷ (x ++ (timeText next ∷ []))) ≡ decimal considered ++ (behind x ++ (44 ∷ timeText next)) =
-      joined-behind (decimal considered) (x ++ (timeText next ∷ [])) ∙ ap (_++_ (decimal considered)) (behind-append x (timeText next)) in
-      record { wrote = rw e (wrote-more p (wrote-more q w (omega (arith, q .next, p .next))) (omega (arith, q .next, p .next))); room = omega (arith, w .next) }
+      let e : joined (decimal considered ∷ (x ++ (timeText next ∷ []))) ≡ (decimal considered ++ behind x) ++ (44 ∷ timeText next) =
+      joined-behind (decimal considered) (x ++ (timeText next ∷ [])) ∙ ap (_++_ (decimal considered)) (behind-append x (timeText next))
+      ∙ sym (append-assoc (decimal considered) (behind x) (44 ∷ timeText next)) in
+      record { wrote = rw e (wrote-more (wrote-more p q (omega (arith, q .next))) w (omega (arith, w .next))); room = omega (arith, w .next) }

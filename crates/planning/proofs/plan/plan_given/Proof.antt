@@ -13,13 +13,13 @@ next-look-requires : tie.Need-next-look-requires
 next-look-requires c κs =
     let s = c .before .before .before .before .before .before .before .before .before .before .before in
     let late : s .args .clock < word = omega (arith, s .pre .1) in
-    plan-kept (some (givenKeys (c .before .before .before .before .before .before .before .before .before .before .before .args .given .now))) late (c .before .before .before .before .before .select-given .ensures) (s .pre .0)
+    plan-kept (some (givenKeys (s .args .given .now))) late (c .before .before .before .before .before .select-given .ensures) (s .pre .0)
 
 returns : tie.Need-returns
 returns c =
     let s = c .before .before .before .before .before .before .before .before .before .before .before .before in
     let late : s .args .clock < word = omega (arith, s .pre .1) in
-    plan-next (some (givenKeys (c .before .before .before .before .before .before .before .before .before .before .before .before .args .given .now))) late (c .before .before .before .before .before .before .select-given .ensures) (c .next-look .result) (c .next-look .ensures)
+    plan-next (some (givenKeys (s .args .given .now))) late (c .before .before .before .before .before .before .select-given .ensures) (c .next-look .result) (c .next-look .ensures)
 
 pub plan-given-spec : {M : Type 1} → statement M
 plan-given-spec =

@@ -23,10 +23,18 @@ put-behind-requires c κs = (
 )
 
 put-time-requires : tie.Need-put-time-requires
-put-time-requires c κs = ?
+put-time-requires c κs =
+    let s = c .before .before .before .before .before .before .before .before .before .before .before in
+    let d = c .before .before .before .before .before .before .before .put-decimal in
+    let b = c .before .before .before .put-behind in
+    omega (arith, b .ensures .0, decimal-end (s .args .considered) (d .ensures), b .kept, d .kept, s .pre .0, s .pre .1)
 
 returns : tie.Need-returns
-returns c = ?
+returns c =
+    let s = c .before .before .before .before .before .before .before .before .before .before .before .before .before .before in
+    let b = c .before .before .before .before .before .before .put-behind .ensures in
+    selection-wrote (s .pre .0) (s .args .answer .now) (s .args .considered) (s .args .n) (timeOf (s .args .next)) (s .pre .1)
+    (c .before .before .before .before .before .before .before .before .before .before .put-decimal .ensures) (b .1) (b .0) (c .before .before .put-time .ensures)
 
 pub put-selection-spec : {M : Type 1} → statement M
 put-selection-spec =

@@ -8,7 +8,7 @@ returns : tie.Need-returns
 returns c = wrote-none-time _ (c .before .before .before .before .before .if1 .taken) (c .before .before .put-bytes .ensures)
 
 returns-2 : tie.Need-returns-2
-returns-2 c = wrote-time _ (c .before .before .before .if1 .left) (c .before .before .put-number .ensures)
+returns-2 c = wrote-time _ (c .before .before .before .before .if1 .left) (c .before .before .put-number .ensures)
 
 pub put-time-spec : {M : Type 1} → statement M
 put-time-spec =
