@@ -113,6 +113,11 @@ class Step:
     def considered(self):
         return int(self.answer.split(",")[0])
 
+    def next(self):
+        """When to look again, the last field of a plan's answer."""
+        last = self.answer.split(",")[-1]
+        return None if last == "none" else int(last)
+
 
 def steps(lines, answers):
     """The steps of a run, from its lines and the pairs of answer and state."""
