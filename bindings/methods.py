@@ -213,9 +213,8 @@ def handed(name, function):
         found = HANDED.get(numbers)
     elif name in ("claim", "arrange") and len(numbers) == 1:
         found = "Entries<'_>", ENTRIES.format(numbers[0])
-    elif name.startswith("plan") and len(numbers) == 2 and "considered" in numbers:
-        other = next(number for number in numbers if number != "considered")
-        found = "Planned<'_>", "Planned { considered, entries: " + ENTRIES.format(other) + " }"
+    elif name.startswith("plan") and numbers == ("considered", "count", "next"):
+        found = "Planned<'_>", "Planned { considered, entries: " + ENTRIES.format("count") + ", next: (next != 0).then_some(next) }"
     else:
         found = ANSWERED.get(numbers)
     if not found:

@@ -77,12 +77,12 @@ impl Prepared {
                 }
                 Call::Plan { now, keys: None } => {
                     let call = if checked { abi::tracker_plan } else { owned::tracker_owned_plan };
-                    call(start, length, *now, room, room_length, &mut a, &mut b)
+                    call(start, length, *now, room, room_length, &mut a, &mut b, &mut c)
                 }
                 Call::Plan { now, keys: Some(_) } => {
                     let call =
                         if checked { abi::tracker_plan_given } else { owned::tracker_owned_plan_given };
-                    call(start, length, *now, list, list_length, room, room_length, &mut a, &mut b)
+                    call(start, length, *now, list, list_length, room, room_length, &mut a, &mut b, &mut c)
                 }
                 Call::Sweep => {
                     let call = if checked { abi::tracker_sweep } else { owned::tracker_owned_sweep };

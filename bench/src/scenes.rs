@@ -159,7 +159,7 @@ fn leaving(l: u64, owned: usize, places: usize) -> Scene {
 fn claiming(l: u64) -> Scene {
     let state = state(l, 16, requests(&mut Rng::new(29), l));
     let mut machine = Machine::load(&state).expect("a sound state");
-    let Reply::Planned(_, checked) = machine.call(&Call::Plan { now: NOW, keys: None }) else {
+    let Reply::Planned(_, checked, _) = machine.call(&Call::Plan { now: NOW, keys: None }) else {
         unreachable!("a plan is not refused")
     };
     scene(
@@ -232,7 +232,7 @@ fn planning(l: u64, ready: bool, owners: u64, parents: usize) -> Scene {
     }
     let call = Call::Plan { now: NOW, keys: None };
     let mut machine = Machine::load(&state).expect("a sound state");
-    let Reply::Planned(_, selected) = machine.call(&call) else { unreachable!("a plan is not refused") };
+    let Reply::Planned(_, selected, _) = machine.call(&call) else { unreachable!("a plan is not refused") };
     let what = if ready { "all ready" } else { "none ready" };
     let selected = selected.len();
     let name = format!("plan, {what}, {late} owners late, {parents} parents each: {selected} selected");

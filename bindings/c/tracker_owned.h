@@ -114,13 +114,14 @@ uint64_t tracker_owned_claim(uint8_t *store, size_t length, uint64_t now, const 
                              size_t answer_length, uint64_t *taken) TRACKER_MUST_USE;
 
 /* Plans over all keys after the ready cursor and round to it. What it selects stands in the answer in 112 bytes an entry: so many as
- * `count` says, of as many keys as `considered` says. */
+ * `count` says, of as many keys as `considered` says. `next` is the least time later than the clock at which a key that nobody owns may be
+ * ready or an owner be late, 0 if there is none. */
 uint64_t tracker_owned_plan(uint8_t *store, size_t length, uint64_t now, uint8_t *answer, size_t answer_length, uint64_t *considered,
-                            uint64_t *count) TRACKER_MUST_USE;
+                            uint64_t *count, uint64_t *next) TRACKER_MUST_USE;
 
 /* The same over the keys that are given in 40 bytes each; the ready cursor stays. */
 uint64_t tracker_owned_plan_given(uint8_t *store, size_t length, uint64_t now, const uint8_t *given, size_t given_length, uint8_t *answer,
-                                  size_t answer_length, uint64_t *considered, uint64_t *count) TRACKER_MUST_USE;
+                                  size_t answer_length, uint64_t *considered, uint64_t *count, uint64_t *next) TRACKER_MUST_USE;
 
 /* The next keys after the known cursor, which becomes the last of them. They stand in the answer: so many as `count` says. */
 uint64_t tracker_owned_sweep(uint8_t *store, size_t length, uint8_t *answer, size_t answer_length, uint64_t *count) TRACKER_MUST_USE;

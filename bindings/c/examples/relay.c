@@ -28,10 +28,10 @@ static void announce(uint64_t connection, uint32_t item_type, const uint8_t hash
     done(tracker_announce(store, sizeof store, connection, item_type, hash, 1000, preferred, priority, &kept));
 }
 
-/* Asks, at that time, whom the tracker selects. */
+/* Asks, at that time, whom the tracker selects. The program may sleep until the plan's next time, if nothing else happens before. */
 static void ask(uint64_t now) {
-    uint64_t considered, count, asked;
-    done(tracker_plan(store, sizeof store, now, planned, sizeof planned, &considered, &count));
+    uint64_t considered, count, next, asked;
+    done(tracker_plan(store, sizeof store, now, planned, sizeof planned, &considered, &count, &next));
     done(tracker_claim(store, sizeof store, now, planned, tracker_entries_need((size_t)count), taken, sizeof taken, &asked));
     for (uint64_t i = 0; i < asked; i++) {
         const uint8_t *entry = tracker_entry(taken, i);

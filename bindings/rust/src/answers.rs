@@ -176,6 +176,8 @@ pub struct Planned<'a> {
     pub considered: u64,
     /// Who is to be asked for what, by priority.
     pub entries: Entries<'a>,
+    /// When to look again: the least time later than the plan's at which a key that nobody owns may be ready or an owner be late.
+    pub next: Option<u64>,
 }
 
 /// The word at that place, counted in words.

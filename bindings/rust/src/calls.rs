@@ -367,28 +367,32 @@ pub fn claim(store: &mut [u8], now: u64, checked: &[u8], answer: &mut [u8]) -> R
 }
 
 /// Plans over all keys after the ready cursor and round to it. What it selects stands in the answer in 112
-/// bytes an entry: so many as `count` says, of as many keys as `considered` says.
+/// bytes an entry: so many as `count` says, of as many keys as `considered` says. `next` is the least time
+/// later than the clock at which a key that nobody owns may be ready or an owner be late, 0 if there is
+/// none.
 pub fn plan(store: &mut [u8], now: u64, answer: &mut [u8]) -> Result<Plan, Error> {
     let mut considered = 0;
     let mut count = 0;
+    let mut next = 0;
     // SAFETY: what is lent is lent for the call, and what it may write is lent to it alone.
     let status = unsafe {
         abi::tracker_plan(store.as_mut_ptr(), store.len(), now, answer.as_mut_ptr(), answer.len(),
-            &mut considered, &mut count)
+            &mut considered, &mut count, &mut next)
     };
-    done(status, Plan { considered, count: count as usize })
+    done(status, Plan { considered, count: count as usize, next: (next != 0).then_some(next) })
 }
 
 /// The same over the keys that are given in 40 bytes each; the ready cursor stays.
 pub fn plan_given(store: &mut [u8], now: u64, given: &[u8], answer: &mut [u8]) -> Result<Plan, Error> {
     let mut considered = 0;
     let mut count = 0;
+    let mut next = 0;
     // SAFETY: what is lent is lent for the call, and what it may write is lent to it alone.
     let status = unsafe {
         abi::tracker_plan_given(store.as_mut_ptr(), store.len(), now, given.as_ptr(), given.len(),
-            answer.as_mut_ptr(), answer.len(), &mut considered, &mut count)
+            answer.as_mut_ptr(), answer.len(), &mut considered, &mut count, &mut next)
     };
-    done(status, Plan { considered, count: count as usize })
+    done(status, Plan { considered, count: count as usize, next: (next != 0).then_some(next) })
 }
 
 /// The next keys after the known cursor, which becomes the last of them. They stand in the answer: so many

@@ -73,10 +73,10 @@ module _ {b : List ℕ} (st : State) (s : Sound st) (w : Writes b st) (k : Key) 
   abbrev t : Table
   t = st .table
 
-  here : part from to (rowsOf t) ≡ rowsFor (at k t)
+  pub here : part from to (rowsOf t) ≡ rowsFor (at k t)
   here = window-part k 0 t (s .bounded .ordered) (from-at st s k small num (sp .from-is st s w)) (to-at st s k small num (sp .to-is st s w))
 
-  l : Lawful (at k t)
+  pub l : Lawful (at k t)
   l = lawful-at k t (s .bounded .lawful)
 
   window-least : (p : Candidate → Bool) → leastRows p (part from to (rowsOf t)) ≡ leastIn p k ((at k t) .candidates)
@@ -134,13 +134,19 @@ module _ (now : ℕ) (st : State) (s : Sound st) (h : ℕ) (small : h < top) whe
   u = st .table
 
   -- an owner at a key of the hash
-  pub choice-owned : (k : Key) → k .hash ≡ h → {x : Bool} → x ≡ isSome ((at k u) .owner) → x ≡ true → {v : Option Entry} → v ≡ none → v ≡ freeChoice now u (txid h)
-  choice-owned k e {x} f d q = rw (ne-eqb (ownedAt h u) 0 (λ z. never (sym (ap isSome (unowned-at k u (rw e small) (s .bounded .ordered) (rw e (omega (arith, z))))) ∙ sym f ∙ d))) q
+  pub hash-owned : (k : Key) → k .hash ≡ h → {x : Bool} → x ≡ isSome ((at k u) .owner) → x ≡ true → eqb (ownedAt h u) 0 ≡ false
+  hash-owned k e {x} f d = ne-eqb (ownedAt h u) 0 (λ z. never (sym (ap isSome (unowned-at k u (rw e small) (s .bounded .ordered) (rw e (omega (arith, z))))) ∙ sym f ∙ d))
 
-  pub choice-free : {x y : Bool} → x ≡ isSome ((at (txid h) u) .owner) → y ≡ isSome ((at (wtxid h) u) .owner) → x ≡ false → y ≡ false → {v : Option Entry} → v ≡ choice now u [] (txid h)
-      → v ≡ freeChoice now u (txid h)
-  choice-free f g d e q = rw (eq-eqb (ownedAt h u) 0 (owners-none h 0 u (s .bounded .ordered) (λ k z. at-kind (k .kind) (k .hash) z))) q
-    where
-      at-kind : (k : Kind) (i : ℕ) → i ≡ h → (at (record { kind = k; hash = i }) u) .owner ≡ none
-      at-kind Txid i z = rw z (not-some ((at (txid h) u) .owner) (sym f ∙ d))
-      at-kind Wtxid i z = rw z (not-some ((at (wtxid h) u) .owner) (sym g ∙ e))
+  pub choice-owned : (k : Key) → k .hash ≡ h → {x : Bool} → x ≡ isSome ((at k u) .owner) → x ≡ true → {v : Option Entry} → v ≡ none → v ≡ freeChoice now u (txid h)
+  choice-owned k e f d q = rw (hash-owned k e f d) q
+
+  module _ {x y : Bool} (f : x ≡ isSome ((at (txid h) u) .owner)) (g : y ≡ isSome ((at (wtxid h) u) .owner)) (d : x ≡ false) (e : y ≡ false) where
+    pub hash-free : eqb (ownedAt h u) 0 ≡ true
+    hash-free = eq-eqb (ownedAt h u) 0 (owners-none h 0 u (s .bounded .ordered) (λ k z. at-kind (k .kind) (k .hash) z))
+      where
+        at-kind : (k : Kind) (i : ℕ) → i ≡ h → (at (record { kind = k; hash = i }) u) .owner ≡ none
+        at-kind Txid i z = rw z (not-some ((at (txid h) u) .owner) (sym f ∙ d))
+        at-kind Wtxid i z = rw z (not-some ((at (wtxid h) u) .owner) (sym g ∙ e))
+
+    pub choice-free : {v : Option Entry} → v ≡ choice now u [] (txid h) → v ≡ freeChoice now u (txid h)
+    choice-free q = rw hash-free q

@@ -3,6 +3,7 @@ use Prim.Native.Nat.{ℕ}
 use mathlib.Core.Path.{_≡_, refl}
 use mathlib.Core.Bool.{Bool}
 use mathlib.Core.List.{List}
+use mathlib.Core.Option.{Option}
 use native.Mathlib.Omega.{arith}
 use Rattle.ident.specs.Number.{Key}
 use Rattle.machine.specs.State.{State, Entry}
@@ -29,8 +30,8 @@ left-carried own parents n e = let z : _≡_ {A = ℕ} 0 1 = cc in omega arith
 entries-carried : (l : List Entry) → Carried (Entries l)
 entries-carried l n e = let z : _≡_ {A = ℕ} 0 1 = cc in omega arith
 
-chosen-carried : (k : ℕ) (l : List Entry) → Carried (Chosen k l)
-chosen-carried k l n e = let z : _≡_ {A = ℕ} 0 1 = cc in omega arith
+chosen-carried : (k : ℕ) (l : List Entry) (x : Option ℕ) → Carried (Chosen k l x)
+chosen-carried k l x n e = let z : _≡_ {A = ℕ} 0 1 = cc in omega arith
 
 summed-carried : (s : Sums) → Carried (Summed s)
 summed-carried s n e = let z : _≡_ {A = ℕ} 0 1 = cc in omega arith
@@ -46,7 +47,7 @@ performed (ClaimPackage n h c ws now) s = number-carried _
 performed (BeginPackageResolution n h c ws now) s = number-carried _
 performed (AnnounceParents n hs now b) s = keys-carried _
 performed (FailedPackageClaims n cs now b) s = keys-carried _
-performed (Plan now ks b) s = chosen-carried _ _
+performed (Plan now ks b) s = chosen-carried _ _ _
 performed (Claim now l b) s = entries-carried _
 performed (Sweep b) s = keys-carried _
 performed (Disconnected n now b) s = left-carried _ _

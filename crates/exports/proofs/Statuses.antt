@@ -27,7 +27,7 @@ use Rattle.outcome.specs.declared.Listing.the-variants.{Refused as NoKeys, List
 use Rattle.outcome.specs.declared.Departure.the-variants.{Refused as NotLeft, Left as LeftKeys}
 use Rattle.exports.proofs.Replies.{Carried, RepliesOne, replies}
 use Rattle.exports.specs.Status.{statusOf, handedOut, listingStatus, countOut, departureStatus, ownOut, parentsOut, numbered, figured, Stays}
-use Rattle.exports.specs.Status.{HandsOut, HandsKeys, HandsEntries, HandsDeparture, plannedStatus, consideredOut, chosenOut, HandsPlan}
+use Rattle.exports.specs.Status.{HandsOut, HandsKeys, HandsEntries, HandsDeparture, plannedStatus, consideredOut, chosenOut, nextOut, HandsPlan}
 
 -- ---- a refusal's number is not 0
 
@@ -68,7 +68,7 @@ statusIn (Number n) = 0
 statusIn (Keys ks) = 0
 statusIn (Left own parents) = 0
 statusIn (Entries l) = 0
-statusIn (Chosen n l) = 0
+statusIn (Chosen n l x) = 0
 statusIn (Summed s) = 0
 
 status-in : (a : Answer) → statusOf a ≡ statusIn (replyOf a)
@@ -131,8 +131,8 @@ hands-departure (LeftKeys own parents) was was′ l e = rw (e .0, e .1, e .2) (l
 
 -- ---- of a plan
 
-pub hands-plan : {c : Call} (p : Selection) (was was′ : ℕ) {b z : List ℕ} {u : Buffer} {r k n : ℕ} → LeavesWith c b z u (plannedOf p)
-    → (r ≡ plannedStatus p) × (k ≡ consideredOut p was) × (n ≡ chosenOut p was′) → HandsPlan c b z u r was k was′ n
-hands-plan {c} (NoPlan zero) was was′ l e = absurd (refused-zero c l)
-hands-plan (NoPlan (suc j)) was was′ l e = rw (e .0, e .1, e .2) (l, refl, refl)
-hands-plan (Plans k n) was was′ l e = rw (e .0, e .1, e .2) (l, tt, tt)
+pub hands-plan : {c : Call} (p : Selection) (was was′ was″ : ℕ) {b z : List ℕ} {u : Buffer} {r k n x : ℕ} → LeavesWith c b z u (plannedOf p)
+    → (r ≡ plannedStatus p) × (k ≡ consideredOut p was) × (n ≡ chosenOut p was′) × (x ≡ nextOut p was″) → HandsPlan c b z u r was k was′ n was″ x
+hands-plan {c} (NoPlan zero) was was′ was″ l e = absurd (refused-zero c l)
+hands-plan (NoPlan (suc j)) was was′ was″ l e = rw (e .0, e .1, e .2, e .3) (l, refl, refl, refl)
+hands-plan (Plans k n x) was was′ was″ l e = rw (e .0, e .1, e .2, e .3) (l, tt, tt, tt)

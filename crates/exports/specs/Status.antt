@@ -49,18 +49,22 @@ abbrev pub parentsOut : Departure → ℕ → ℕ
 parentsOut (NotLeft n) was = was
 parentsOut (LeftKeys own parents) was = parents
 
--- and of a plan: the count of keys considered, and that of the entries
+-- and of a plan: the count of keys considered, that of the entries, and when to look again, 0 standing for none
 abbrev pub plannedStatus : Selection → ℕ
 plannedStatus (NoPlan n) = n
-plannedStatus (Chosen k n) = 0
+plannedStatus (Chosen k n x) = 0
 
 abbrev pub consideredOut : Selection → ℕ → ℕ
 consideredOut (NoPlan n) was = was
-consideredOut (Chosen k n) was = k
+consideredOut (Chosen k n x) was = k
 
 abbrev pub chosenOut : Selection → ℕ → ℕ
 chosenOut (NoPlan n) was = was
-chosenOut (Chosen k n) was = n
+chosenOut (Chosen k n x) was = n
+
+abbrev pub nextOut : Selection → ℕ → ℕ
+nextOut (NoPlan n) was = was
+nextOut (Chosen k n x) was = x
 
 -- the reply of a status, and of what was handed out: r, if the call was carried out
 abbrev pub told : ℕ → Reply → Reply
@@ -87,9 +91,9 @@ entered k n u = told k (entriesListed n u)
 abbrev pub parted : ℕ → ℕ → ℕ → Buffer → Reply
 parted k own parents u = told k (leftListed own parents u)
 
--- two counts: so many keys were considered, and so many entries stand there
-abbrev pub planned : ℕ → ℕ → ℕ → Buffer → Reply
-planned k considered n u = told k (chosenListed considered n u)
+-- two counts and a time: so many keys were considered, so many entries stand there, and then is the next look
+abbrev pub planned : ℕ → ℕ → ℕ → ℕ → Buffer → Reply
+planned k considered n next u = told k (chosenListed considered n next u)
 
 -- a call that is refused hands nothing out: what stood there stays
 abbrev pub Stays : ℕ → ℕ → ℕ → Type 0
@@ -115,6 +119,6 @@ HandsEntries c b b′ u status was is = LeavesWith c b b′ u (entered status is
 abbrev pub HandsDeparture : Call → List ℕ → List ℕ → Buffer → ℕ → ℕ → ℕ → ℕ → ℕ → Type 0
 HandsDeparture c b b′ u status wasOwn own wasParents parents = LeavesWith c b b′ u (parted status own parents) × Stays status wasOwn own × Stays status wasParents parents
 
--- of a plan: the count of keys considered and that of the entries are handed out
-abbrev pub HandsPlan : Call → List ℕ → List ℕ → Buffer → ℕ → ℕ → ℕ → ℕ → ℕ → Type 0
-HandsPlan c b b′ u status wasK k wasN n = LeavesWith c b b′ u (planned status k n) × Stays status wasK k × Stays status wasN n
+-- of a plan: the count of keys considered, that of the entries and the time of the next look are handed out
+abbrev pub HandsPlan : Call → List ℕ → List ℕ → Buffer → ℕ → ℕ → ℕ → ℕ → ℕ → ℕ → ℕ → Type 0
+HandsPlan c b b′ u status wasK k wasN n wasX x = LeavesWith c b b′ u (planned status k n x) × Stays status wasK k × Stays status wasN n × Stays status wasX x

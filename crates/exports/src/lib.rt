@@ -7,7 +7,8 @@ ghost use Rattle.words.specs.Words.{Decides};
 ghost use Rattle.machine.specs.Call.{Open, On, Sum};
 ghost use Rattle.store.specs.Image.{SoundStore};
 ghost use Rattle.outcome.specs.Outcome.{Leaves};
-ghost use Rattle.exports.specs.Status.{numbered, figured, statusOf, handedOut, listingStatus, countOut, departureStatus, ownOut, parentsOut, plannedStatus, consideredOut, chosenOut, Stays};
+ghost use Rattle.exports.specs.Status.{numbered, figured, statusOf, handedOut, listingStatus, countOut, departureStatus, ownOut, parentsOut, Stays};
+ghost use Rattle.exports.specs.Status.{plannedStatus, consideredOut, chosenOut, nextOut};
 
 pub mod arrangements;
 pub mod candidates;
@@ -71,15 +72,22 @@ pub fn hand_departure(d: outcome::Departure, own: &mut u64, parents: &mut u64) -
     }
 }
 
-// The same of a plan: the counts of keys considered and of entries are handed out.
-pub fn hand_plan(p: public_plans::Selection, considered: &mut u64, count: &mut u64) -> u64
-    ensures { λ r. ⌜ (r ≡ plannedStatus p) × (now (considered .exit) ≡ consideredOut p (now (considered .entry))) × (now (count .exit) ≡ chosenOut p (now (count .entry))) ⌝ }
+// The same of a plan: the counts of keys considered and of entries are handed out, and when to look again.
+pub fn hand_plan(
+    p: public_plans::Selection,
+    considered: &mut u64,
+    count: &mut u64,
+    next: &mut u64,
+) -> u64
+    ensures { λ r. ⌜ (r ≡ plannedStatus p) × (now (considered .exit) ≡ consideredOut p (now (considered .entry))) × (now (count .exit) ≡ chosenOut p (now (count .entry)))
+        × (now (next .exit) ≡ nextOut p (now (next .entry))) ⌝ }
 {
     match p {
         public_plans::Selection::Refused(refusal) => refusal,
-        public_plans::Selection::Chosen(k, n) => {
+        public_plans::Selection::Chosen(k, n, x) => {
             *considered = k;
             *count = n;
+            *next = x;
             0
         }
     }

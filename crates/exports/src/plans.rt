@@ -25,7 +25,7 @@ pub extern "C" fn tracker_claim(
 }
 
 // Plans over all keys after the ready cursor and round to it. What it selects stands in the answer in 112 bytes an entry: so many as `count` says, of as many keys
-// as `considered` says.
+// as `considered` says. `next` is the least time later than the clock at which a key that nobody owns may be ready or an owner be late, 0 if there is none.
 #[no_mangle]
 pub extern "C" fn tracker_plan(
     s: &mut [u8],
@@ -33,12 +33,14 @@ pub extern "C" fn tracker_plan(
     answer: &mut [u8],
     considered: &mut u64,
     count: &mut u64,
+    next: &mut u64,
 ) -> u64
     ensures { λ r. ⌜ HandsPlan (On (Plan clock none (now (answer .entry))))
-        (now (s .entry)) (now (s .exit)) (now (answer .exit)) r (now (considered .entry)) (now (considered .exit)) (now (count .entry)) (now (count .exit)) ⌝ }
+        (now (s .entry)) (now (s .exit)) (now (answer .exit)) r (now (considered .entry)) (now (considered .exit)) (now (count .entry)) (now (count .exit))
+        (now (next .entry)) (now (next .exit)) ⌝ }
 {
     let p = public_plans::plans::plan(s, clock, answer);
-    hand_plan(p, considered, count)
+    hand_plan(p, considered, count, next)
 }
 
 // The same over the keys that are given in 40 bytes each; the ready cursor stays.
@@ -50,10 +52,12 @@ pub extern "C" fn tracker_plan_given(
     answer: &mut [u8],
     considered: &mut u64,
     count: &mut u64,
+    next: &mut u64,
 ) -> u64
     ensures { λ r. ⌜ HandsPlan (On (Plan clock (some (givenKeys (now (given .entry)))) (now (answer .entry))))
-        (now (s .entry)) (now (s .exit)) (now (answer .exit)) r (now (considered .entry)) (now (considered .exit)) (now (count .entry)) (now (count .exit)) ⌝ }
+        (now (s .entry)) (now (s .exit)) (now (answer .exit)) r (now (considered .entry)) (now (considered .exit)) (now (count .entry)) (now (count .exit))
+        (now (next .entry)) (now (next .exit)) ⌝ }
 {
     let p = public_plans::plans::plan_given(s, clock, given, answer);
-    hand_plan(p, considered, count)
+    hand_plan(p, considered, count, next)
 }

@@ -21,6 +21,7 @@ pub mod KeptAtZero
 pub mod Demand1
 pub mod Batches
 pub mod Edges
+pub mod Later
 pub mod Owning
 pub mod FairLists
 pub mod Fairness

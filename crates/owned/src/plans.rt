@@ -26,7 +26,7 @@ pub extern "C" fn tracker_owned_claim(
 }
 
 // Plans over all keys after the ready cursor and round to it. What it selects stands in the answer in 112 bytes an entry: so many as `count` says, of as many keys
-// as `considered` says.
+// as `considered` says. `next` is the least time later than the clock at which a key that nobody owns may be ready or an owner be late, 0 if there is none.
 #[no_mangle]
 pub extern "C" fn tracker_owned_plan(
     s: &mut [u8],
@@ -34,14 +34,16 @@ pub extern "C" fn tracker_owned_plan(
     answer: &mut [u8],
     considered: &mut u64,
     count: &mut u64,
+    next: &mut u64,
 ) -> u64
     requires { ⌜ SoundStore (now s) ⌝ }
     ensures { λ r. ⌜ HandsPlan (On (Plan clock none (now (answer .entry))))
-        (now (s .entry)) (now (s .exit)) (now (answer .exit)) r (now (considered .entry)) (now (considered .exit)) (now (count .entry)) (now (count .exit)) ⌝ }
+        (now (s .entry)) (now (s .exit)) (now (answer .exit)) r (now (considered .entry)) (now (considered .exit)) (now (count .entry)) (now (count .exit))
+        (now (next .entry)) (now (next .exit)) ⌝ }
     ensures sound { λ r. ⌜ SoundStore (now (s .exit)) ⌝ }
 {
     let p = public_plans::on_sound::plans::plan(s, clock, answer);
-    exports::hand_plan(p, considered, count)
+    exports::hand_plan(p, considered, count, next)
 }
 
 // The same over the keys that are given in 40 bytes each; the ready cursor stays.
@@ -53,12 +55,14 @@ pub extern "C" fn tracker_owned_plan_given(
     answer: &mut [u8],
     considered: &mut u64,
     count: &mut u64,
+    next: &mut u64,
 ) -> u64
     requires { ⌜ SoundStore (now s) ⌝ }
     ensures { λ r. ⌜ HandsPlan (On (Plan clock (some (givenKeys (now (given .entry)))) (now (answer .entry))))
-        (now (s .entry)) (now (s .exit)) (now (answer .exit)) r (now (considered .entry)) (now (considered .exit)) (now (count .entry)) (now (count .exit)) ⌝ }
+        (now (s .entry)) (now (s .exit)) (now (answer .exit)) r (now (considered .entry)) (now (considered .exit)) (now (count .entry)) (now (count .exit))
+        (now (next .entry)) (now (next .exit)) ⌝ }
     ensures sound { λ r. ⌜ SoundStore (now (s .exit)) ⌝ }
 {
     let p = public_plans::on_sound::plans::plan_given(s, clock, given, answer);
-    exports::hand_plan(p, considered, count)
+    exports::hand_plan(p, considered, count, next)
 }

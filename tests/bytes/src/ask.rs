@@ -115,8 +115,8 @@ impl Answer {
                 [answer.out[0], answer.out[1]] = [own, parents].map(|keys| keys.len() as u64);
                 answer.put_keys(own.iter().chain(parents));
             }
-            Reply::Planned(considered, entries) => {
-                [answer.out[0], answer.out[1]] = [*considered, entries.len() as u64];
+            Reply::Planned(considered, entries, next) => {
+                answer.out = [*considered, entries.len() as u64, next.unwrap_or(0)];
                 answer.put_entries(entries);
             }
             Reply::Entries(entries) => {

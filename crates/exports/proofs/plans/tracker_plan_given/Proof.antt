@@ -17,7 +17,9 @@ same-length-2 : tie.Need-same-length-2
 same-length-2 c = search needs
 
 returns : tie.Need-returns
-returns c = hands-plan (c .before .before .before .before .before .before .before .plan-given .result) _ _ (c .before .before .before .before .before .before .before .plan-given .ensures)
+returns c =
+    hands-plan (c .before .before .before .before .before .before .before .before .plan-given .result) _ _ _
+    (c .before .before .before .before .before .before .before .before .plan-given .ensures)
     (c .hand-plan .ensures)
 
 pub tracker-plan-given-spec : {M : Type 1} → statement M
