@@ -17,4 +17,5 @@ pub mod Choosing
 pub mod Replies
 pub mod Demand1
 pub mod Demand3
+pub mod Free
 pub mod Edges
