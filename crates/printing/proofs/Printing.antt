@@ -54,7 +54,8 @@ module _ {out out′ : List ℕ} {r : ℕ} where
   unfolding replyText
   reply-ok L Q e w = rw e (record { wrote = w; room = omega (arith, w .next) })
 
-  pub reply-figures : {y : Reply} {h f p : ℕ} → y ≡ Summed (record { held = h; free = f; permille = p }) → Printed out out′ (joined (decimal h ∷ decimal f ∷ decimal p ∷ [])) r
+  pub reply-figures : {y : Reply} {h f g p : ℕ} → y ≡ Summed (record { held = h; free = f; preferred = g; permille = p })
+      → Printed out out′ (joined (decimal h ∷ decimal f ∷ decimal g ∷ decimal p ∷ [])) r
       → Printed out out′ (replyText (On Sum) y) r
   unfolding replyText
   reply-figures e w = rw e w
