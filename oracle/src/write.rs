@@ -61,7 +61,7 @@ pub fn reply(reply: &Reply) -> String {
         Reply::Gone(own, parents) => counted(own.len() as u64, own.iter().chain(parents).copied().map(key)),
         Reply::Planned(count, entries) => counted(*count, entries.iter().map(entry)),
         Reply::Entries(entries) => list(entries.iter().map(entry).collect()),
-        Reply::Sum(held, free, permille) => format!("{held},{free},{permille}"),
+        Reply::Sum(held, free, preferred, permille) => format!("{held},{free},{preferred},{permille}"),
     }
 }
 

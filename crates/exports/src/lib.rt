@@ -107,12 +107,12 @@ pub extern "C" fn tracker_sum(
     s: &[u8],
     held: &mut u64,
     free: &mut u64,
-    preferred: &mut u64,
+    preferred_free: &mut u64,
     permille: &mut u64,
 ) -> u64
-    ensures { λ r. ⌜ Leaves (On Sum) (now (s .entry)) (now (s .entry)) (figured r (now (held .exit)) (now (free .exit)) (now (preferred .exit)) (now (permille .exit))) ⌝ }
+    ensures { λ r. ⌜ Leaves (On Sum) (now (s .entry)) (now (s .entry)) (figured r (now (held .exit)) (now (free .exit)) (now («preferred_free» .exit)) (now (permille .exit))) ⌝ }
     ensures kept { λ r. ⌜ Stays r (now (held .entry)) (now (held .exit)) × Stays r (now (free .entry)) (now (free .exit))
-        × Stays r (now (preferred .entry)) (now (preferred .exit)) × Stays r (now (permille .entry)) (now (permille .exit)) ⌝ }
+        × Stays r (now («preferred_free» .entry)) (now («preferred_free» .exit)) × Stays r (now (permille .entry)) (now (permille .exit)) ⌝ }
 {
     let f = public_requests::sum(s);
     match f {
@@ -120,7 +120,7 @@ pub extern "C" fn tracker_sum(
         outcome::Figures::Are(a, b, c, d) => {
             *held = a;
             *free = b;
-            *preferred = c;
+            *preferred_free = c;
             *permille = d;
             0
         }
