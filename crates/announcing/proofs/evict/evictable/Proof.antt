@@ -46,7 +46,8 @@ loop-again : tie.Need-loop-again Inv-loop μ-loop
 loop-again c =
     let r = c .before .before .row-at .result in
     let m = c .before .before .before .before .loop .m in
-    let q : c .if1 .m ≡ m + one (goes r) = ⊎-elim (λ x. goes-one r (c .before .stays .ensures) m (x .0 .taken) (x .1)) (λ x. stays-none r (c .before .stays .ensures) m (x .0 .left) (x .1)) (c .if1 .came) in (
+    let e = c .before .stays .ensures in
+    let q : c .if1 .m ≡ m + one (goes r) = ⊎-elim (λ x. goes-one r e m (x .0 .taken) (x .1)) (λ x. stays-none r e m (x .0 .left) (x .1)) (c .if1 .came) in (
       omega arith,
       omega (arith, q, one-most (goes r), c .before .before .before .before .loop .inv .1),
       λ f w.

@@ -52,27 +52,38 @@ slice-aggregate-put-bytes-3 c = search needs
 
 put-bytes-requires-3 : tie.Need-put-bytes-requires-3
 put-bytes-requires-3 c κs =
-    let start : tie.Start = c .before .before .before .before .before .before .before .before .before .before .before .before .before .before .before .before .before .before .before .before .before .before .before .before .before in
+    let w₅ = c .before .before .before .before in
+    let w₄ = w₅ .before .before .before .before in
+    let w₃ = w₄ .before .before .before .before .before in
+    let w₂ = w₃ .before .before .before .before in
+    let w₁ = w₂ .before .before .before .before .before in
+    let start : tie.Start = w₁ .before .before .before in
     omega (
       arith,
-      decimal-end (start .args .held) (c .before .before .before .before .before .before .before .before .before .before .before .before .before .before .before .before .before .before .before .before .before .before .put-decimal .ensures),
-      c .before .before .before .before .before .before .before .before .before .before .before .before .before .before .before .before .before .put-bytes .ensures .next,
-      decimal-end (start .args .free) (c .before .before .before .before .before .before .before .before .before .before .before .before .before .put-decimal2 .ensures),
-      c .before .before .before .before .before .before .before .before .put-bytes2 .ensures .next,
-      decimal-end (start .args .preferred) (c .before .before .before .before .put-decimal3 .ensures),
+      decimal-end (start .args .held) (w₁ .put-decimal .ensures),
+      w₂ .put-bytes .ensures .next,
+      decimal-end (start .args .free) (w₃ .put-decimal2 .ensures),
+      w₄ .put-bytes2 .ensures .next,
+      decimal-end (start .args .preferred) (w₅ .put-decimal3 .ensures),
     )
 
 put-decimal-requires-4 : tie.Need-put-decimal-requires-4
 put-decimal-requires-4 c κs =
-    let start : tie.Start = c .before .before .before .before .before .before .before .before .before .before .before .before .before .before .before .before .before .before .before .before .before .before .before .before .before .before .before .before .before in
+    let w₆ = c .before .before .before in
+    let w₅ = w₆ .before .before .before .before .before in
+    let w₄ = w₅ .before .before .before .before in
+    let w₃ = w₄ .before .before .before .before .before in
+    let w₂ = w₃ .before .before .before .before in
+    let w₁ = w₂ .before .before .before .before .before in
+    let start : tie.Start = w₁ .before .before .before in
     omega (
       arith,
-      decimal-end (start .args .held) (c .before .before .before .before .before .before .before .before .before .before .before .before .before .before .before .before .before .before .before .before .before .before .before .before .before .before .put-decimal .ensures),
-      c .before .before .before .before .before .before .before .before .before .before .before .before .before .before .before .before .before .before .before .before .before .put-bytes .ensures .next,
-      decimal-end (start .args .free) (c .before .before .before .before .before .before .before .before .before .before .before .before .before .before .before .before .before .put-decimal2 .ensures),
-      c .before .before .before .before .before .before .before .before .before .before .before .before .put-bytes2 .ensures .next,
-      decimal-end (start .args .preferred) (c .before .before .before .before .before .before .before .before .put-decimal3 .ensures),
-      c .before .before .before .put-bytes3 .ensures .next,
+      decimal-end (start .args .held) (w₁ .put-decimal .ensures),
+      w₂ .put-bytes .ensures .next,
+      decimal-end (start .args .free) (w₃ .put-decimal2 .ensures),
+      w₄ .put-bytes2 .ensures .next,
+      decimal-end (start .args .preferred) (w₅ .put-decimal3 .ensures),
+      w₆ .put-bytes3 .ensures .next,
     )
 
 same-length : tie.Need-same-length
@@ -80,15 +91,16 @@ same-length c = search needs
 
 returns : tie.Need-returns
 returns c =
-    let start : tie.Start = c .before .before .before .before .before .before .before .before .before .before .before .before .before .before .before .before .before .before .before .before .before .before .before .before .before .before .before .before .before .before .before .before in
-    printed-figures (start .pre) (start .args .held) (start .args .free) (start .args .preferred) (start .args .permille)
-    (c .before .before .before .before .before .before .before .before .before .before .before .before .before .before .before .before .before .before .before .before .before .before .before .before .before .before .before .before .before .put-decimal .ensures)
-    (c .before .before .before .before .before .before .before .before .before .before .before .before .before .before .before .before .before .before .before .before .before .before .before .before .put-bytes .ensures)
-    (c .before .before .before .before .before .before .before .before .before .before .before .before .before .before .before .before .before .before .before .before .put-decimal2 .ensures)
-    (c .before .before .before .before .before .before .before .before .before .before .before .before .before .before .before .put-bytes2 .ensures)
-    (c .before .before .before .before .before .before .before .before .before .before .before .put-decimal3 .ensures)
-    (c .before .before .before .before .before .before .put-bytes3 .ensures)
-    (c .before .before .put-decimal4 .ensures)
+    let w₇ = c .before .before in
+    let w₆ = w₇ .before .before .before .before in
+    let w₅ = w₆ .before .before .before .before .before in
+    let w₄ = w₅ .before .before .before .before in
+    let w₃ = w₄ .before .before .before .before .before in
+    let w₂ = w₃ .before .before .before .before in
+    let w₁ = w₂ .before .before .before .before .before in
+    let start : tie.Start = w₁ .before .before .before in
+    printed-figures (start .pre) (start .args .held) (start .args .free) (start .args .preferred) (start .args .permille) (w₁ .put-decimal .ensures) (w₂ .put-bytes .ensures)
+    (w₃ .put-decimal2 .ensures) (w₄ .put-bytes2 .ensures) (w₅ .put-decimal3 .ensures) (w₆ .put-bytes3 .ensures) (w₇ .put-decimal4 .ensures)
 
 pub figures-spec : {M : Type 1} → statement M
 figures-spec =
