@@ -21,7 +21,7 @@ returns c = (
     stays (c .before .f .given .0 .0) (c .before .before .before .before .before .args .held .now),
     stays (c .before .f .given .0 .0)
         (c .before .before .before .before .before .args .free .now),
-    stays (c .before .f .given .0 .0) (c .before .before .before .before .before .args .«preferred_free» .now),
+    stays (c .before .f .given .0 .0) (c .before .before .before .before .before .args .preferred-free .now),
     stays (c .before .f .given .0 .0) (c .before .before .before .before .before .args .permille .now),
   ),
 )
