@@ -25,7 +25,7 @@ HANDED = {
     ("considered", "count", "next"): ("Plan", "Plan { considered, count: count as usize, next: (next != 0).then_some(next) }"),
     ("own", "parents"): ("Left", "Left { own: own as usize, parents: parents as usize }"),
     ("owner",): ("Option<u64>", "(owner != 0).then_some(owner)"),
-    ("held", "room", "permille"): ("Figures", "Figures { held, free: room, permille }"),
+    ("held", "room", "preferred_room", "permille"): ("Figures", "Figures { held, free: room, preferred_free: preferred_room, permille }"),
     ("announced", "owned"): ("Counts", "Counts { announced, owned }"),
 }
 # Slices that are lists of hashes.

@@ -264,8 +264,10 @@ uint64_t tracker_open(uint8_t *store, size_t length, uint64_t l, uint64_t q) TRA
 /* Whether the bytes, as far as their need, write a sound state: what a call tests first. */
 bool tracker_sound(const uint8_t *store, size_t length) TRACKER_MUST_USE;
 
-/* How many announcements are held, how many more fit, and how full the tracker is in thousandths. Refused, it hands nothing out. */
-uint64_t tracker_sum(const uint8_t *store, size_t length, uint64_t *held, uint64_t *room, uint64_t *permille) TRACKER_MUST_USE;
+/* How many announcements are held, how many more fit of unpreferred newcomers and of preferred ones, and how full the tracker is in
+ * thousandths. Refused, it hands nothing out. */
+uint64_t tracker_sum(const uint8_t *store, size_t length, uint64_t *held, uint64_t *room, uint64_t *preferred_room,
+                     uint64_t *permille) TRACKER_MUST_USE;
 
 /* What a claim has taken, given in 112 bytes an entry, stands in the answer by ascending connection, then claim order: so many as `count`
  * says. A t item of a marked request turns v for a witness connection: those of the list, which has 8 bytes for each, least first. The

@@ -18,8 +18,10 @@ extern "C" {
 
 /* begin: written by bindings/generate out of crates/owned/src */
 
-/* How many announcements are held, how many more fit, and how full the tracker is in thousandths. The store is only read. */
-uint64_t tracker_owned_sum(const uint8_t *store, size_t length, uint64_t *held, uint64_t *room, uint64_t *permille) TRACKER_MUST_USE;
+/* How many announcements are held, how many more fit of unpreferred newcomers and of preferred ones, and how full the tracker is in
+ * thousandths. The store is only read. */
+uint64_t tracker_owned_sum(const uint8_t *store, size_t length, uint64_t *held, uint64_t *room, uint64_t *preferred_room,
+                           uint64_t *permille) TRACKER_MUST_USE;
 
 /* What a claim has taken, given in 112 bytes an entry, stands in the answer by ascending connection, then claim order: so many as `count`
  * says. A t item of a marked request turns v for a witness connection: those of the list, which has 8 bytes for each, least first. The

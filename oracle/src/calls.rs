@@ -222,8 +222,8 @@ pub enum Reply {
     /// The count of keys considered, the entries, and when to look again (document 02, request c).
     Planned(u64, Vec<Entry>, Option<u64>),
     Entries(Vec<Entry>),
-    /// Held, free, permille.
-    Sum(u64, u64, u64),
+    /// Held, free for unpreferred newcomers and for preferred ones, permille.
+    Sum(u64, u64, u64, u64),
 }
 
 /// The last clock that refusal 5 lets pass: 2^64 - 60,001.

@@ -198,8 +198,10 @@ impl Machine {
             }
             Call::Sweep => Reply::Keys(keys_out(&policy.known_batch())),
             Call::Sum => {
-                let held = policy.announcements as u64;
-                Reply::Sum(held, self.l - held, held * 1_000 / self.l)
+                // Both are the source's own books.
+                let (held, evictable) = (policy.announcements as u64, policy.evictable.len() as u64);
+                let free = self.l - held;
+                Reply::Sum(held, free, free + evictable, held * 1_000 / self.l)
             }
             Call::Arrange { taken, witness } => Reply::Entries(self.arranged(taken, witness)),
             Call::Part { arranged, connection } => Reply::Entries(

@@ -64,7 +64,7 @@ pub fn reply(reply: &Reply) -> String {
             counted(*count, entries.iter().map(entry).chain([next]))
         }
         Reply::Entries(entries) => list(entries.iter().map(entry).collect()),
-        Reply::Sum(held, free, permille) => format!("{held},{free},{permille}"),
+        Reply::Sum(held, free, preferred, permille) => format!("{held},{free},{preferred},{permille}"),
     }
 }
 

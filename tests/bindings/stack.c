@@ -12,7 +12,7 @@ enum { L = 1200, Q = 4, PAGE = 4096, IDS = 2048, RAN = 80 };
 
 struct side {
     uint8_t store[TRACKER_NEED(L, Q)], answer[TRACKER_PLAN_NEED];
-    uint64_t numbers[3];
+    uint64_t numbers[4];
 };
 static struct side sides[2];
 static uint8_t ids[IDS][32], items[8 * TRACKER_ITEM_BYTES], payload[1 + 8 * TRACKER_WIRE_BYTES], priorities[8 * 8], planned[TRACKER_PLAN_NEED], witnesses[16];
@@ -133,7 +133,7 @@ static void requests(void) {
     CALL(poll_gate, 3005, NUMBER);
     WAS(1, "poll_gate");
     CALL(sweep, ANSWER, NUMBER);
-    CALL(sum, NUMBER, &s->numbers[1], &s->numbers[2]);
+    CALL(sum, NUMBER, &s->numbers[1], &s->numbers[2], &s->numbers[3]);
     CALL(counts, 9, NUMBER, &s->numbers[1]);
     WAS(100, "counts");
 }
@@ -185,7 +185,7 @@ static void late(void) {
     package(18, 320, 0, 80001);
     package(18, 322, 1, 80001);
     package(19, 324, 2, 80001);
-    CALL(sum, NUMBER, &s->numbers[1], &s->numbers[2]);
+    CALL(sum, NUMBER, &s->numbers[1], &s->numbers[2], &s->numbers[3]);
     WAS(L, "sum");
     batch(29, 1700, 80001);
     ask_all(80002);

@@ -52,7 +52,7 @@ static void come(uint64_t now, uint64_t kind, const uint8_t hash[32]) {
 
 int main(void) {
     uint8_t a[32], b[32];
-    uint64_t own, parents, held, room, permille, announced, owned;
+    uint64_t own, parents, held, room, preferred_room, permille, announced, owned;
     memset(a, 0xaa, sizeof a);
     memset(b, 0xbb, sizeof b);
     done(tracker_open(store, sizeof store, L, Q));
@@ -76,7 +76,7 @@ int main(void) {
     }
     ask(62000);
     come(62500, TRACKER_WTXID, a);
-    done(tracker_sum(store, sizeof store, &held, &room, &permille));
+    done(tracker_sum(store, sizeof store, &held, &room, &preferred_room, &permille));
     printf("%" PRIu64 " announcements are held\n", held);
     return 0;
 }

@@ -15,13 +15,14 @@ unsafe extern "C" {
     pub fn tracker_open(store: *mut u8, length: usize, l: u64, q: u64) -> u64;
     /// Whether the bytes, as far as their need, write a sound state: what a call tests first.
     pub fn tracker_sound(store: *const u8, length: usize) -> bool;
-    /// How many announcements are held, how many more fit, and how full the tracker is in thousandths.
-    /// Refused, it hands nothing out.
+    /// How many announcements are held, how many more fit of unpreferred newcomers and of preferred ones,
+    /// and how full the tracker is in thousandths. Refused, it hands nothing out.
     pub fn tracker_sum(
         store: *const u8,
         length: usize,
         held: &mut u64,
         room: &mut u64,
+        preferred_room: &mut u64,
         permille: &mut u64,
     ) -> u64;
     /// What a claim has taken, given in 112 bytes an entry, stands in the answer by ascending connection,

@@ -10,8 +10,11 @@ pub(crate) const ENTRY_BYTES: usize = 112;
 pub struct Figures {
     /// How many announcements are held.
     pub held: u64,
-    /// How many more fit.
+    /// How many more fit: what an unpreferred newcomer finds free.
     pub free: u64,
+    /// What a preferred newcomer finds free: that, and the unpreferred candidates that do not own their
+    /// request, which give way to it. Neither figure speaks of the limits for a hash and for a connection.
+    pub preferred_free: u64,
     /// How full it is in thousandths, rounded down.
     pub permille: u64,
 }

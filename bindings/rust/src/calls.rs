@@ -25,17 +25,19 @@ pub fn sound(store: &[u8]) -> bool {
     }
 }
 
-/// How many announcements are held, how many more fit, and how full the tracker is in thousandths. Refused,
-/// it hands nothing out.
+/// How many announcements are held, how many more fit of unpreferred newcomers and of preferred ones, and
+/// how full the tracker is in thousandths. Refused, it hands nothing out.
 pub fn sum(store: &[u8]) -> Result<Figures, Error> {
     let mut held = 0;
     let mut room = 0;
+    let mut preferred_room = 0;
     let mut permille = 0;
     // SAFETY: what is lent is lent for the call, and what it may write is lent to it alone.
     let status = unsafe {
-        abi::tracker_sum(store.as_ptr(), store.len(), &mut held, &mut room, &mut permille)
+        abi::tracker_sum(store.as_ptr(), store.len(), &mut held, &mut room, &mut preferred_room,
+            &mut permille)
     };
-    done(status, Figures { held, free: room, permille })
+    done(status, Figures { held, free: room, preferred_free: preferred_room, permille })
 }
 
 /// What a claim has taken, given in 112 bytes an entry, stands in the answer by ascending connection, then

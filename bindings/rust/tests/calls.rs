@@ -122,8 +122,9 @@ impl Pair {
     }
 
     fn held(&mut self) -> u64 {
-        let Figures { held, free, permille } = self.both(|t| t.sum(), |s, _| bytes::sum(s));
+        let Figures { held, free, preferred_free, permille } = self.both(|t| t.sum(), |s, _| bytes::sum(s));
         assert_eq!((free, permille), (100 - held, 10 * held));
+        assert!((free..=100).contains(&preferred_free));
         held
     }
 

@@ -93,9 +93,9 @@ one-told {c₀} {c} h a {r} {b} {z} d₀ e q =
 -- ---- sum
 
 module _ (b : List ℕ) where
-  pub sum-refused : (n held free permille : ℕ) → Leaves (On Sum) b b (Refused n) → Leaves (On Sum) b b (figured n held free permille)
-  sum-refused zero held free permille d = absurd (refused-zero (On Sum) d)
-  sum-refused (suc n) held free permille d = d
+  pub sum-refused : (n held free preferred permille : ℕ) → Leaves (On Sum) b b (Refused n) → Leaves (On Sum) b b (figured n held free preferred permille)
+  sum-refused zero held free preferred permille d = absurd (refused-zero (On Sum) d)
+  sum-refused (suc n) held free preferred permille d = d
 
   -- the answer that was matched on
   pub sum-told : {f g : Figures} → Leaves (On Sum) b b (figuresOf f) → f ≡ g → Leaves (On Sum) b b (figuresOf g)

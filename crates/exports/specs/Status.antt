@@ -75,9 +75,9 @@ told (suc k) r = Refused (suc k)
 abbrev pub numbered : ℕ → ℕ → Reply
 numbered k n = told k (Number n)
 
--- the three figures of sum
-abbrev pub figured : ℕ → ℕ → ℕ → ℕ → Reply
-figured k held free permille = told k (Summed (record { held = held; free = free; permille = permille }))
+-- the four figures of sum
+abbrev pub figured : ℕ → ℕ → ℕ → ℕ → ℕ → Reply
+figured k held free preferred permille = told k (Summed (record { held = held; free = free; preferred = preferred; permille = permille }))
 
 -- a count: so many keys stand in the answer buffer
 abbrev pub counted : ℕ → ℕ → Buffer → Reply

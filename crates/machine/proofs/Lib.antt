@@ -20,6 +20,7 @@ pub mod Entered
 pub mod KeptAtZero
 pub mod Demand1
 pub mod Batches
+pub mod Free
 pub mod Edges
 pub mod Later
 pub mod Owning

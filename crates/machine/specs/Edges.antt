@@ -165,5 +165,5 @@ pub record Edges : Type 0 where
   -- "Inbound, txid delay, overload: ready = now + 6,000."
   pub delayed : figures (λ c. c .ready) (after (AnnounceTransactions 7 1000 false true (record { item = record { kind = Transaction; hash = 0 }; priority = 0 } ∷ []) ∷ []) (owning 100)) ≡
       (7000 ∷ []) ∷ map (λ (r : Request). 0 ∷ []) ((owning 100) .table)
-  -- "L = 3, held 2: `2,1,666`."
-  pub two-of-three : reply Sum (after (Announce (w 7 10 false 5) ∷ Announce (w 8 10 false 5) ∷ []) (empty 3 1)) ≡ Summed (record { held = 2; free = 1; permille = 666 })
+  -- "L = 3, held 2: `2,1,666`", which document 02 makes `2,1,3,666` "if both held ones are unpreferred and unowned"
+  pub two-of-three : reply Sum (after (Announce (w 7 10 false 5) ∷ Announce (w 8 10 false 5) ∷ []) (empty 3 1)) ≡ Summed (record { held = 2; free = 1; preferred = 3; permille = 666 })

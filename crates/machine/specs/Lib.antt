@@ -18,5 +18,6 @@ pub mod Choosing
 pub mod Replies
 pub mod Demand1
 pub mod Demand3
+pub mod Free
 pub mod Edges
 pub mod Looking

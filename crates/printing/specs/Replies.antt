@@ -60,4 +60,4 @@ replyText c (Keys ks) = listed (keyTexts ks)
 replyText c (Left own parents) = joined (decimal (length own) ∷ (keyTexts own ++ keyTexts parents))
 replyText c (Entries l) = listed (entryTexts l)
 replyText c (Chosen considered l next) = selectionText considered l next
-replyText c (Summed s) = joined (decimal (s .held) ∷ decimal (s .free) ∷ decimal (s .permille) ∷ [])
+replyText c (Summed s) = joined (decimal (s .held) ∷ decimal (s .free) ∷ decimal (s .preferred) ∷ decimal (s .permille) ∷ [])

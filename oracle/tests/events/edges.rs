@@ -12,7 +12,7 @@ fn ninth_preferred_gets_0() {
          ann,9,wa,0,1,0 => 0
          ann,9,ta,0,1,0 => 0
          ann,9,tb,0,0,0 => 1
-         sum => 9,91,90"
+         sum => 9,91,92,90"
     ));
 }
 
@@ -28,7 +28,7 @@ fn one_unpreferred_of_eight_goes() {
          ann,9,wa,0,1,0 => 1
          gone,3,0 => 0
          ann,10,wa,0,1,0 => 0
-         sum => 8,92,80"
+         sum => 8,92,92,80"
     ));
 }
 
@@ -186,7 +186,7 @@ fn five_thousand_of_one_connection() {
          par,7,t5,0,1,0 => 1
          drop,t5 => 1
          ann,7,tffff,0,1,0 => 1
-         sum => 5001,94999,50",
+         sum => 5001,94999,99998,50",
     );
 }
 
@@ -205,7 +205,7 @@ fn a_plan_selects_up_to_1025() {
     assert_eq!(plan.split(',').next(), Some("1025"), "the second phase considers one more");
     assert_eq!(entries, 1_025);
     // 1,100 parents are held; the ready cursor does not move where keys are given.
-    script.check("sum => 1101,18899,55");
+    script.check("sum => 1101,18899,18899,55");
     let plan = script.run("plan,60000");
     assert_eq!(plan.split(',').next(), Some("1024"));
     assert_eq!((plan.split(',').count() - 2) / 6, 1_024);
@@ -271,10 +271,64 @@ fn repeated_parents() {
 fn sums() {
     check(
         "open,3,1 => ok
-         sum => 0,3,0
+         sum => 0,3,3,0
          ann,1,ta,0,1,0 => 1
          ann,1,tb,0,1,0 => 1
-         sum => 2,1,666",
+         sum => 2,1,1,666",
+    );
+}
+
+/// Document 02: free "L − held for unpreferred newcomers, and that plus the unpreferred candidates not owning their
+/// own request for preferred ones".
+#[test]
+fn sums_with_two_free_figures() {
+    // "if both held ones are unpreferred and unowned"
+    check(
+        "open,3,1 => ok
+         ann,1,ta,0,0,5 => 1
+         ann,2,tb,0,0,5 => 1
+         sum => 2,1,3,666",
+    );
+    // a preferred one is no such candidate, nor is an unpreferred owner
+    check(
+        "open,3,1 => ok
+         ann,1,ta,0,0,5 => 1
+         ann,2,tb,0,1,5 => 1
+         sum => 2,1,2,666
+         plan,0 => 2,ta,1,ta,0,0,5,tb,2,tb,0,1,5
+         take,0 => ta,1,ta,0,0,5,tb,2,tb,0,1,5
+         sum => 2,1,1,666",
+    );
+    // an unpreferred candidate beside another owner of its request counts, under either kind
+    check(
+        "open,4,1 => ok
+         ann,1,ta,0,1,5 => 1
+         ann,2,ta,0,0,5 => 1
+         ann,3,wa,0,0,5 => 1
+         sum => 3,1,3,750
+         plan,0 => 2,ta,1,ta,0,1,5
+         take,0 => ta,1,ta,0,1,5
+         sum => 3,1,3,750
+         bad,ta,1,1 => 1
+         plan,1 => 2,ta,2,ta,1,0,5
+         take,1 => ta,2,ta,1,0,5
+         sum => 2,2,3,500",
+    );
+}
+
+#[test]
+fn a_full_tracker_takes_as_many_preferred_ones_as_it_says() {
+    check(
+        "open,2,1 => ok
+         ann,1,ta,0,0,5 => 1
+         ann,2,tb,0,0,5 => 1
+         sum => 2,0,2,1000
+         ann,3,tc,0,0,0 => 0
+         ann,3,tc,0,1,0 => 1
+         sum => 2,0,1,1000
+         ann,4,td,0,1,0 => 1
+         sum => 2,0,0,1000
+         ann,5,te,0,1,0 => 0",
     );
 }
 

@@ -30,7 +30,7 @@ fn before_an_opening() {
          sum => no,3
          open,1,1 => ok
          open,0,1 => no,2
-         sum => 0,1,0",
+         sum => 0,1,1,0",
     );
 }
 

@@ -158,7 +158,7 @@ fn a_w_item_not_found_leaves_parents_out() {
         "open,9,1 => ok
          sol,7,a,0,1,b => 1
          nfd,7,1,1,wa => wa
-         sum => 0,9,0
+         sum => 0,9,9,0
          sol,7,a,0,1,b => 1
          nfd,7,1,1,o7:a => wa,tb
          sol,7,c,0,1,d => 1

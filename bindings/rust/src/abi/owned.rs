@@ -6,13 +6,14 @@
 #[rustfmt::skip]
 unsafe extern "C" {
     // begin: written by bindings/generate out of crates/owned/src
-    /// How many announcements are held, how many more fit, and how full the tracker is in thousandths. The
-    /// store is only read.
+    /// How many announcements are held, how many more fit of unpreferred newcomers and of preferred ones,
+    /// and how full the tracker is in thousandths. The store is only read.
     pub fn tracker_owned_sum(
         store: *const u8,
         length: usize,
         held: &mut u64,
         room: &mut u64,
+        preferred_room: &mut u64,
         permille: &mut u64,
     ) -> u64;
     /// What a claim has taken, given in 112 bytes an entry, stands in the answer by ascending connection,

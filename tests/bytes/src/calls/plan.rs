@@ -249,7 +249,7 @@ fn link(given: &Given, lent: Lent) -> u64 {
     let Given::On(Call::Plan { now, .. }) = given else { unreachable!() };
     let (store, length) = (lent.store.as_mut_ptr(), lent.store.len());
     let (answer, room) = (lent.buffer.as_mut_ptr(), lent.buffer.len());
-    let [considered, count, next] = lent.out;
+    let [considered, count, next, ..] = lent.out;
     // SAFETY: store, buffer and counts are lent to this call alone.
     unsafe { abi::tracker_plan(store, length, *now, answer, room, considered, count, next) }
 }

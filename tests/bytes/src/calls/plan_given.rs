@@ -154,7 +154,7 @@ fn link(given: &Given, lent: Lent) -> u64 {
     list.extend(lent.rest);
     let (store, length) = (lent.store.as_mut_ptr(), lent.store.len());
     let (answer, room) = (lent.buffer.as_mut_ptr(), lent.buffer.len());
-    let [considered, count, next] = lent.out;
+    let [considered, count, next, ..] = lent.out;
     // SAFETY: store, buffer and counts are lent to this call alone; the list is only read.
     unsafe {
         abi::tracker_plan_given(
