@@ -1,11 +1,11 @@
 // plan and claim, for C and Rust. A call that is refused hands nothing out.
-use super::hand_count;
-use super::hand_plan;
+use crossing::hand_count;
+use crossing::hand_plan;
 ghost use mathlib.Core.Option.{none, some};
 ghost use Rattle.machine.specs.Call.{On, Plan, Claim};
 ghost use Rattle.claiming.specs.Claiming.{entriesIn};
 ghost use Rattle.selecting.specs.Phasing.{givenKeys};
-ghost use Rattle.exports.specs.Status.{HandsEntries, HandsPlan};
+ghost use Rattle.crossing.specs.Status.{HandsEntries, HandsPlan};
 
 // Takes, in order, each entry of the checked list, which is given in 112 bytes each, whose hash is unowned and that is still what plan would choose for it. Those
 // that are taken stand in the answer: so many as `taken` says.

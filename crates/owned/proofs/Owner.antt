@@ -14,10 +14,10 @@ use Rattle.public_plans.specs.declared.Selection.{Selection}
 use Rattle.tracker.specs.Made.{Made}
 use Rattle.tracker.proofs.Typed.{made-typed}
 use Rattle.outcome.proofs.Owned.{does-keeps-sound}
-use Rattle.exports.specs.Status.{statusOf, handedOut, listingStatus, countOut, departureStatus, ownOut, parentsOut, numbered, HandsOut}
-use Rattle.exports.specs.Status.{HandsKeys, HandsEntries, HandsDeparture, plannedStatus, consideredOut, chosenOut, nextOut, HandsPlan}
-use Rattle.exports.proofs.Replies.{RepliesOne}
-use Rattle.exports.proofs.Statuses.{hands-out, hands-keys, hands-entries, hands-departure, hands-plan, one-told}
+use Rattle.crossing.specs.Status.{statusOf, handedOut, listingStatus, countOut, departureStatus, ownOut, parentsOut, numbered, HandsOut}
+use Rattle.crossing.specs.Status.{HandsKeys, HandsEntries, HandsDeparture, plannedStatus, consideredOut, chosenOut, nextOut, HandsPlan}
+use Rattle.crossing.proofs.Replies.{RepliesOne}
+use Rattle.crossing.proofs.Statuses.{hands-out, hands-keys, hands-entries, hands-departure, hands-plan, one-told}
 
 -- c₀ is the call that was made of the sound store b, c what the export says of its arguments; z is left
 module _ {c₀ : Call} (m : Made c₀) {b : List ℕ} (w : SoundStore b) (p : Bytes b) {c : Call} {z : List ℕ} where

@@ -6,7 +6,7 @@
 ghost use Rattle.machine.specs.Call.{On, Sum};
 ghost use Rattle.store.specs.Image.{SoundStore};
 ghost use Rattle.outcome.specs.Outcome.{Leaves};
-ghost use Rattle.exports.specs.Status.{figured, Stays};
+ghost use Rattle.crossing.specs.Status.{figured, Stays};
 
 pub mod arrangements;
 pub mod candidates;

@@ -4,7 +4,7 @@ ghost use Rattle.machine.specs.Call.{On, Plan, Claim};
 ghost use Rattle.store.specs.Image.{SoundStore};
 ghost use Rattle.claiming.specs.Claiming.{entriesIn};
 ghost use Rattle.selecting.specs.Phasing.{givenKeys};
-ghost use Rattle.exports.specs.Status.{HandsEntries, HandsPlan};
+ghost use Rattle.crossing.specs.Status.{HandsEntries, HandsPlan};
 
 // Takes, in order, each entry of the checked list, which is given in 112 bytes each, whose hash is unowned and that is still what plan would choose for it. Those
 // that are taken stand in the answer: so many as `taken` says.
@@ -22,7 +22,7 @@ pub extern "C" fn tracker_owned_claim(
     ensures sound { λ r. ⌜ SoundStore (now (s .exit)) ⌝ }
 {
     let l = public_plans::on_sound::plans::claim(s, clock, checked, answer);
-    exports::hand_count(l, taken)
+    crossing::hand_count(l, taken)
 }
 
 // Plans over all keys after the ready cursor and round to it. What it selects stands in the answer in 112 bytes an entry: so many as `count` says, of as many keys
@@ -43,7 +43,7 @@ pub extern "C" fn tracker_owned_plan(
     ensures sound { λ r. ⌜ SoundStore (now (s .exit)) ⌝ }
 {
     let p = public_plans::on_sound::plans::plan(s, clock, answer);
-    exports::hand_plan(p, considered, count, next)
+    crossing::hand_plan(p, considered, count, next)
 }
 
 // The same over the keys that are given in 40 bytes each; the ready cursor stays.
@@ -64,5 +64,5 @@ pub extern "C" fn tracker_owned_plan_given(
     ensures sound { λ r. ⌜ SoundStore (now (s .exit)) ⌝ }
 {
     let p = public_plans::on_sound::plans::plan_given(s, clock, given, answer);
-    exports::hand_plan(p, considered, count, next)
+    crossing::hand_plan(p, considered, count, next)
 }

@@ -1,6 +1,6 @@
 -- `exports::tracker_sum` meets its contract: the figures of the public call, or its refusal, which is not 0.
 use borrow.Author.Needs.{needs}
-use Rattle.exports.proofs.Statuses.{sum-refused, sum-told, stays}
+use Rattle.crossing.proofs.Statuses.{sum-refused, sum-told, stays}
 use Rattle.exports.proofs.tracker_sum.Statement.{statement}
 use Rattle.exports.proofs.tracker_sum.Tie as tie
 

@@ -1,7 +1,7 @@
--- `exports::failures::key_given` meets its contract.
+-- `crossing::arguments::key_given` meets its contract.
 use borrow.Author.Needs.{needs}
-use Rattle.exports.proofs.failures.key_given.Statement.{statement}
-use Rattle.exports.proofs.failures.key_given.Tie as tie
+use Rattle.crossing.proofs.arguments.key_given.Statement.{statement}
+use Rattle.crossing.proofs.arguments.key_given.Tie as tie
 
 kind-given-requires : tie.Need-kind-given-requires
 kind-given-requires c κs = search needs

@@ -4,7 +4,7 @@ use mathlib.Core.List.{List}
 use Rattle.public_requests.specs.declared.Counts.{Counts}
 use Rattle.public_requests.specs.declared.Counts.the-variants.{Refused, Are}
 use Rattle.public_requests.specs.Counting.{CountsOf}
-use Rattle.exports.specs.Status.{Stays}
+use Rattle.crossing.specs.Status.{Stays}
 
 -- the status of an answer
 abbrev pub countsStatus : Counts → ℕ

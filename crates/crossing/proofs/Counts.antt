@@ -7,7 +7,7 @@ use Rattle.store.specs.Image.{SoundStore}
 use Rattle.public_requests.specs.declared.Counts.{Counts}
 use Rattle.public_requests.specs.declared.Counts.the-variants.{Refused, Are}
 use Rattle.public_requests.specs.Counting.{CountsOf}
-use Rattle.exports.specs.Counts.{countsStatus, announcedOut, ownedOut, HandsCounts}
+use Rattle.crossing.specs.Counts.{countsStatus, announcedOut, ownedOut, HandsCounts}
 
 -- ---- a refusal's number is not 0
 

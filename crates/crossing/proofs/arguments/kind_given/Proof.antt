@@ -1,7 +1,7 @@
--- `exports::failures::kind_given` meets its contract.
+-- `crossing::arguments::kind_given` meets its contract.
 use borrow.Author.Tests.{ne-eqb}
-use Rattle.exports.proofs.failures.kind_given.Statement.{statement}
-use Rattle.exports.proofs.failures.kind_given.Tie as tie
+use Rattle.crossing.proofs.arguments.kind_given.Statement.{statement}
+use Rattle.crossing.proofs.arguments.kind_given.Tie as tie
 
 returns : tie.Need-returns
 returns c = rw (c .if1 .taken)

@@ -10,7 +10,7 @@ use Rattle.wire.specs.declared.Answer.{Answer}
 use Rattle.wire.specs.declared.Answer.the-variants.{Refused as No, Count}
 use Rattle.wire.specs.Calls.{badPayload, shortBuffer, itemsReply, bytesReply, Reads, Writes}
 use Rattle.wire.proofs.Trips.{read-refused, write-refused}
-use Rattle.exports.specs.Payloads.{answerStatus, answerOut, HandsItems, HandsBytes}
+use Rattle.crossing.specs.Payloads.{answerStatus, answerOut, HandsItems, HandsBytes}
 
 -- a refusal's number is not 0
 never-zero : {X : Type 0} → ((0 ≡ badPayload) ⊎ (0 ≡ shortBuffer)) → X

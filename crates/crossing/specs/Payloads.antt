@@ -6,7 +6,7 @@ use Rattle.machine.specs.Call.{Buffer}
 use Rattle.wire.specs.declared.Answer.{Answer}
 use Rattle.wire.specs.declared.Answer.the-variants.{Refused as No, Count}
 use Rattle.wire.specs.Calls.{Reply, Refused, Bytes, itemsListed, Reads, Writes}
-use Rattle.exports.specs.Status.{Stays}
+use Rattle.crossing.specs.Status.{Stays}
 
 -- the status of an answer
 abbrev pub answerStatus : Answer → ℕ

@@ -11,7 +11,7 @@ use Rattle.words.proofs.Digits.{number-below}
 use Rattle.machine.specs.Limits.{word}
 use Rattle.machine.specs.Typed.{KeyTyped, CandidateTyped}
 use Rattle.store.specs.Image.{Bytes}
-use Rattle.exports.specs.Arguments.{candidateIn, keyGiven}
+use Rattle.crossing.specs.Arguments.{candidateIn, keyGiven}
 
 hash-small : (h : List ℕ) → length h ≡ hashBytes → Bytes h → number 256 h < top
 unfolding top

@@ -25,9 +25,9 @@ use Rattle.outcome.specs.declared.Departure.{Departure}
 use Rattle.outcome.specs.declared.Answer.the-variants.{Refused as No, Number as Yes}
 use Rattle.outcome.specs.declared.Listing.the-variants.{Refused as NoKeys, Listed}
 use Rattle.outcome.specs.declared.Departure.the-variants.{Refused as NotLeft, Left as LeftKeys}
-use Rattle.exports.proofs.Replies.{Carried, RepliesOne, replies}
-use Rattle.exports.specs.Status.{statusOf, handedOut, listingStatus, countOut, departureStatus, ownOut, parentsOut, numbered, figured, Stays}
-use Rattle.exports.specs.Status.{HandsOut, HandsKeys, HandsEntries, HandsDeparture, plannedStatus, consideredOut, chosenOut, nextOut, HandsPlan}
+use Rattle.crossing.proofs.Replies.{Carried, RepliesOne, replies}
+use Rattle.crossing.specs.Status.{statusOf, handedOut, listingStatus, countOut, departureStatus, ownOut, parentsOut, numbered, figured, Stays}
+use Rattle.crossing.specs.Status.{HandsOut, HandsKeys, HandsEntries, HandsDeparture, plannedStatus, consideredOut, chosenOut, nextOut, HandsPlan}
 
 -- ---- a refusal's number is not 0
 

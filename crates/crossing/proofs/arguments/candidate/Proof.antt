@@ -1,7 +1,7 @@
--- `exports::candidates::candidate` meets its contract.
+-- `crossing::arguments::candidate` meets its contract.
 use borrow.Author.Needs.{needs}
-use Rattle.exports.proofs.candidates.candidate.Statement.{statement}
-use Rattle.exports.proofs.candidates.candidate.Tie as tie
+use Rattle.crossing.proofs.arguments.candidate.Statement.{statement}
+use Rattle.crossing.proofs.arguments.candidate.Tie as tie
 
 item-kind-requires : tie.Need-item-kind-requires
 item-kind-requires c κs = search needs
