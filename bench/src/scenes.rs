@@ -239,6 +239,30 @@ fn planning(l: u64, ready: bool, owners: u64, parents: usize) -> Scene {
     scene(name, state, vec![call])
 }
 
+/// A silent crowd where L is held: an eighth of the requests have an owner that is late, as many of them as there may be places with 100 parents each.
+fn crowd_late(l: u64) -> Scene {
+    let rng = &mut Rng::new(43);
+    let owners = l / 8;
+    let places = owners.min(4_096);
+    let mut state = state(l, places, requests(rng, l));
+    let mut late = 0;
+    for request in state.requests.iter_mut().filter(|request| request.key.kind == Kind::Wtxid) {
+        if late == owners {
+            break;
+        }
+        let connection = 1 + late % CONNECTIONS;
+        request.candidates[0].connection = connection;
+        request.owner = Some(Owner { connection, deadline: NOW });
+        if late < places {
+            request.package_info = true;
+            request.parents = (0..100).map(|_| fresh(rng)).collect();
+        }
+        late += 1;
+    }
+    let name = format!("plan, all ready, {late} owners late, {places} with 100 parents each");
+    scene(name, state, vec![Call::Plan { now: NOW, keys: None }])
+}
+
 pub fn all(l: u64) -> Vec<Scene> {
     let mut scenes = plain(l);
     for held in [false, true] {
@@ -252,5 +276,6 @@ pub fn all(l: u64) -> Vec<Scene> {
         [(false, 0, 0), (true, 0, 0), (true, 12, 100), (true, late, 0), (true, late, 100)]
             .map(|(ready, owners, parents)| planning(l, ready, owners, parents)),
     );
+    scenes.push(crowd_late(l));
     scenes
 }

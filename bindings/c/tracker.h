@@ -119,7 +119,7 @@ static inline const char *tracker_status_text(uint64_t status) {
 #define TRACKER_POLL_MS UINT64_C(100)              /* between polls */
 #define TRACKER_LATEST_NOW (UINT64_MAX - TRACKER_LIFETIME_MS)
 #define TRACKER_FORMAT UINT64_C(1)                 /* of the store: its first word */
-#define TRACKER_STACK_BYTES (160 * 1024)
+#define TRACKER_STACK_BYTES (128 * 1024)
 
 /* ---- sizes in bytes. TRACKER_NEED(l, q) is for arrays; l is 1 to TRACKER_MAX_L, q 1 to TRACKER_MAX_Q. */
 #define TRACKER_NEED(l, q) ((size_t)8 * (24 + (size_t)12 * (l) + (size_t)824 * (q)))

@@ -35,9 +35,9 @@ use Rattle.gathering.specs.Exchanges.{Full, Underway, Instead, Swapped, Exchang
 use Rattle.gathering.proofs.Waiting.{barred-beside, held-beside, at-beside, pushes-more}
 use Rattle.gathering.proofs.Exchanging.{cut-pushes, victims-pushes}
 use Rattle.apart.specs.declared.displacing.Reserve.{Reserve}
-use Rattle.apart.specs.Noting.{parentIn, hashesAt}
+use Rattle.apart.specs.Noting.{parentIn, hashesAt, Spent}
 use Rattle.apart.specs.Waiting.{parentEntries, marks, waiting, Beside}
-use Rattle.apart.specs.Displacing.{Spent, unlisted, Stock, Supplied, Supplies, FurtherAt, SwapsWith}
+use Rattle.apart.specs.Displacing.{unlisted, Stock, Supplied, Supplies, FurtherAt, SwapsWith}
 use Rattle.apart.proofs.Marking.{Else, count-marks, push-marks, sound-marks, marks-more, entryOf, entries-small, entries-else}
 use Rattle.apart.proofs.Alongside.{hashes-then, entries-then}
 use Rattle.apart.proofs.Spent.{victims-marks}
