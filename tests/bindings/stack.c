@@ -92,7 +92,7 @@ static void agree(const char *name, uint64_t one, uint64_t two) {
 
 /* ---- by theme. Ids 0 to 99 are parents, 100 to 199 wtxids of packages, 200 and on transactions; a time is later than the one before. */
 static void ask_all(uint64_t now) {
-    CALL(plan, now, ANSWER, &s->numbers[1], NUMBER);
+    CALL(plan, now, ANSWER, &s->numbers[1], NUMBER, &s->numbers[2]);
     size_t bytes = tracker_entries_need((size_t)sides[0].numbers[0]);
     memcpy(planned, sides[0].answer, bytes);
     CALL(claim, now, planned, bytes, ANSWER, NUMBER);
@@ -129,7 +129,7 @@ static void requests(void) {
     CALL(forget, TRACKER_WTXID, ids[203]);
     CALL(forget_known, TRACKER_TXID, ids[204], 3003);
     CALL(transaction_response_completed, 7, ids[204], ids[205], 3004);
-    CALL(plan_given, 3005, planned, TRACKER_KEY_BYTES, ANSWER, &s->numbers[1], NUMBER);
+    CALL(plan_given, 3005, planned, TRACKER_KEY_BYTES, ANSWER, &s->numbers[1], NUMBER, &s->numbers[2]);
     CALL(poll_gate, 3005, NUMBER);
     WAS(1, "poll_gate");
     CALL(sweep, ANSWER, NUMBER);
