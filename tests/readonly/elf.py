@@ -17,7 +17,7 @@ class Section:
 
 
 class File:
-    """One ELF file: `relocatable`, `sections`, `symbols` (names)."""
+    """One ELF file: `relocatable`, `sections`, `symbols` (name, index of its section)."""
 
     def __init__(self, name, data):
         self.name = name
@@ -30,18 +30,17 @@ class File:
         rows = [struct.unpack_from("<IIQQQQII", data, at + size * i) for i in range(count)]
         held = [data[row[4]:row[4] + row[5]] if row[1] != 8 else b"" for row in rows]   # 8: no bytes in the file
         self.sections = [Section(text(held[names], row[0]), row[1], row[2], part, row[6], row[7]) for row, part in zip(rows, held)]
-        self.symbols, places = [], []
+        self.symbols = []
         for section in self.sections:
             if section.kind == SYMTAB:
                 for entry in range(0, len(section.data), 24):
                     word, _, _, place = struct.unpack_from("<IBBH", section.data, entry)
-                    self.symbols.append(text(self.sections[section.link].data, word))
-                    places.append(place)
+                    self.symbols.append((text(self.sections[section.link].data, word), place))
         for section in self.sections:
             if section.kind == RELA and section.info < count:
                 for entry in range(0, len(section.data), 24):
                     offset, about = struct.unpack_from("<QQ", section.data, entry)
-                    place = places[about >> 32] if about >> 32 < len(places) else 0
+                    place = self.symbols[about >> 32][1] if about >> 32 < len(self.symbols) else 0
                     self.sections[section.info].relocations.append((offset, place))
 
 

@@ -23,7 +23,7 @@ const unsigned char by_byte[256] = {['0'] = 0, 1, 2, 3, 4, 5, 6, 7, 8, 9, ['a'] 
 const char pairs[] = "000102030405060708090a0b0c0d0e0f";
 #elif PLANT == 8 // two to a byte
 const unsigned long nibbles = 0xfedcba9876543210;
-#elif PLANT == 9 // neither jumps
+#elif PLANT == 9 // data of no known kind
 const unsigned char mixed[] = {7, 3, 9, 1, 0, 4, 8, 2, 6, 5};
 #elif PLANT == 10 // in an instruction
 void write_four(unsigned *out)
