@@ -9,6 +9,7 @@ use borrow.Author.Tests.{ltb-true, ltb-false, leb-true, le-leb, lt-leb, lt-ltb, 
 use Rattle.machine.proofs.Tests.{test, and-left, and-right}
 use Rattle.lines.specs.Text.{digitText}
 use Rattle.lines.specs.Fields.{digitOf}
+use Rattle.lines.specs.Digits.{Digits}
 
 -- ---- the bytes of digits, and the bytes between and around them
 
@@ -66,3 +67,21 @@ text-figure d h = rw (lt-ltb d 10 h)
 pub text-letter : (d : ℕ) → 10 ≤ d → digitText d ≡ 97 - 10 + d
 unfolding digitText
 text-letter d h = rw (le-ltb d 10 h)
+
+-- ---- request f of document 02: all of it in one place
+
+text-high : (d : ℕ) → 10 ≤ d → d < 16 → digitText d ≡ 97 + (d - 10)
+text-high d l u = omega (arith, text-letter d l)
+
+pub digits : Digits
+digits = record {
+  figures = digit-figure;
+  letters = digit-letter;
+  below = digit-below;
+  between = digit-between;
+  above = digit-above;
+  low = text-figure;
+  high = text-high;
+  back = digit-text;
+  one = text-digit;
+}

@@ -1,9 +1,9 @@
--- `lines::write::digit_text` meets its contract.
+-- `lines::digits::text` meets its contract.
 use mathlib.Core.Path.{sym}
-use Rattle.lines.proofs.Digits.{text-figure, text-letter}
+use Rattle.lines.proofs.DigitBytes.{text-figure, text-letter}
 use borrow.Author.Needs.{needs}
-use Rattle.lines.proofs.write.digit_text.Statement.{statement}
-use Rattle.lines.proofs.write.digit_text.Tie as tie
+use Rattle.lines.proofs.digits.text.Statement.{statement}
+use Rattle.lines.proofs.digits.text.Tie as tie
 
 cast-result : tie.Need-cast-result
 cast-result c = search needs
@@ -26,7 +26,7 @@ add-result-2 c = search needs
 returns-2 : tie.Need-returns-2
 returns-2 c = sym (text-letter _ (c .if1 .left))
 
-pub digit-text-spec : {M : Type 1} → statement M
-digit-text-spec =
+pub text-spec : {M : Type 1} → statement M
+text-spec =
     tie.close
     (tie.spec cast-result add-result returns sub-result cast-result-2 add-result-2 returns-2)

@@ -1,9 +1,9 @@
--- `lines::read::digit` meets its contract: a law of proofs/Digits for each range of bytes.
+-- `lines::digits::value` meets its contract: a law of proofs/DigitBytes for each range of bytes.
 use mathlib.Core.Path.{sym}
-use Rattle.lines.proofs.Digits.{digit-below, digit-figure, digit-between, digit-letter, digit-above}
+use Rattle.lines.proofs.DigitBytes.{digit-below, digit-figure, digit-between, digit-letter, digit-above}
 use borrow.Author.Needs.{needs}
-use Rattle.lines.proofs.read.digit.Statement.{statement}
-use Rattle.lines.proofs.read.digit.Tie as tie
+use Rattle.lines.proofs.digits.value.Statement.{statement}
+use Rattle.lines.proofs.digits.value.Tie as tie
 
 returns : tie.Need-returns
 returns c = sym (digit-below _ (c .if1 .taken))
@@ -29,7 +29,7 @@ returns-4 c = sym (digit-letter _ (c .before .if3 .left) (c .if4 .taken))
 returns-5 : tie.Need-returns-5
 returns-5 c = sym (digit-above _ (c .if4 .left))
 
-pub digit-spec : {M : Type 1} → statement M
-digit-spec =
+pub value-spec : {M : Type 1} → statement M
+value-spec =
     tie.close
     (tie.spec returns cast-result returns-2 returns-3 cast-result-2 add-result returns-4 returns-5)
