@@ -117,7 +117,7 @@ impl Answer {
                 answer.put_keys(own.iter().chain(parents));
             }
             Reply::Planned(considered, entries, next) => {
-                answer.out = [*considered, entries.len() as u64, next.unwrap_or(0), 0];
+                [answer.out[0], answer.out[1], answer.out[2]] = [*considered, entries.len() as u64, next.unwrap_or(0)];
                 answer.put_entries(entries);
             }
             Reply::Entries(entries) => {
