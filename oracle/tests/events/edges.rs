@@ -295,7 +295,7 @@ fn sums_with_two_free_figures() {
          ann,1,ta,0,0,5 => 1
          ann,2,tb,0,1,5 => 1
          sum => 2,1,2,666
-         plan,0 => 2,ta,1,ta,0,0,5,tb,2,tb,0,1,5
+         plan,0 => 2,ta,1,ta,0,0,5,tb,2,tb,0,1,5,none
          take,0 => ta,1,ta,0,0,5,tb,2,tb,0,1,5
          sum => 2,1,1,666",
     );
@@ -306,11 +306,11 @@ fn sums_with_two_free_figures() {
          ann,2,ta,0,0,5 => 1
          ann,3,wa,0,0,5 => 1
          sum => 3,1,3,750
-         plan,0 => 2,ta,1,ta,0,1,5
+         plan,0 => 2,ta,1,ta,0,1,5,none
          take,0 => ta,1,ta,0,1,5
          sum => 3,1,3,750
          bad,ta,1,1 => 1
-         plan,1 => 2,ta,2,ta,1,0,5
+         plan,1 => 2,ta,2,ta,1,0,5,none
          take,1 => ta,2,ta,1,0,5
          sum => 2,2,3,500",
     );
