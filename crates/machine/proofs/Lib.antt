@@ -22,6 +22,7 @@ pub mod Demand1
 pub mod Batches
 pub mod Edges
 pub mod Owning
+pub mod Unowned
 pub mod FairLists
 pub mod Fairness
 pub mod Sweeps

@@ -251,7 +251,8 @@ owners-turn w i to h e = rw (in-turn w i to h, e) (cons (rowAt w i) (rowsIn w (i
 pub owners-none : (w : List ℕ) (i to : ℕ) → to ≤ i → countRows owns (rowsIn w i to) ≡ 0
 owners-none w i to h = rw (in-none w i to h) (unfold countRows in refl)
 
-pub group-decides : {most : ℕ} (a b : List Row) (m n : ℕ) → length a + length b ≤ most → Apart b a → Apart [] b → m ≡ countRows owns a → n ≡ countRows owns b → Decides (leb (m + n) 1) (GroupFits most a b)
+pub group-decides : {most : ℕ} (a b : List Row) (m n : ℕ) → length a + length b ≤ most → Apart b a → Apart [] b → m ≡ countRows owns a → n ≡ countRows owns b
+    → Decides (leb (m + n) 1) (GroupFits most a b)
 group-decides a b m n f p q e g = elim (test (leb (m + n) 1)) [
   | inl t ↦ rw t (record { few = f; once = apart-iff a b .to (p, q); single = omega (arith, leb-true (m + n) 1 t) })
   | inr t ↦ rw t (λ s. omega (arith, s .single, leb-false (m + n) 1 t))
