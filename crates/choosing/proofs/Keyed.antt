@@ -15,12 +15,13 @@ use Rattle.ident.specs.declared.Kind.the-variants.{Txid, Wtxid}
 use Rattle.ident.specs.Number.{top, Key, place, txid, wtxid}
 use Rattle.regions.specs.declared.Row.{Row}
 use Rattle.machine.specs.State.{Candidate, Owner, Request, Table, Entry, State, ownerIs, isSome, isNone}
-use Rattle.machine.specs.Table.{at, has, one, total, under, owners, ownerIn, ownedAt}
+use Rattle.machine.specs.Table.{at, has, ownedAt}
 use Rattle.machine.specs.Plan.{able, better, orElse, leastIn, leastAt, choice}
-use Rattle.machine.specs.Sound.{AllFit, OwnerFits, Lawful, Ordered, All, Sound}
+use Rattle.machine.specs.Sound.{AllFit, OwnerFits, Lawful, All, Sound}
 use Rattle.machine.proofs.Change.{unowned-at}
-use Rattle.machine.proofs.Table.{at-key, at-absent, lawful-at}
+use Rattle.machine.proofs.Table.{at-key, lawful-at}
 use Rattle.machine.proofs.Tests.{test, never, or-true}
+use Rattle.machine.proofs.Unowned.{owners-none}
 use Rattle.store.specs.Flat.{rowOf, rowsFor, rowsOf}
 use Rattle.store.specs.FlatSound.{owns}
 use Rattle.store.proofs.Bits.{key-row, owns-row, candidate-row}
@@ -102,28 +103,6 @@ pub of-both : (now : ℕ) (t : Table) (h : ℕ) {v x y : Option Entry} → v ≡
     (txid h)
 unfolding choice
 of-both now t h e f g = e ∙ rw (f, g) refl
-
-no-weight : (b : Bool) (o : Option Owner) → b ≡ false → ownerIn (λ n. b) o ≡ 0
-no-weight b none e = refl
-no-weight b (some o) e = ap one e
-
--- nobody owns the hash, if nobody does at a key with that hash
-owners-none : (h lo : ℕ) (t : Table) → Ordered lo t → ((k : Key) → k .hash ≡ h → (at k t) .owner ≡ none) → owners (under h) t ≡ 0
-unfolding total at
-owners-none h lo [] o f = refl
-owners-none h lo (r ∷ t) o f = omega (arith, first, owners-none h _ t (o .2) rest)
-  where
-    first : ownerIn (under h (r .key)) (r .owner) ≡ 0
-    first = elim (test (eqb (r .key .hash) h)) [
-      | inl e ↦ let z : r .owner ≡ none = rw (eq-eqb (place (r .key)) (place (r .key)) refl) at (f (r .key) (eqb-true (r .key .hash) h e)) in ap (ownerIn (under h (r .key))) z
-      | inr e ↦ no-weight (eqb (r .key .hash) h) (r .owner) e
-    ]
-
-    rest : (k : Key) → k .hash ≡ h → (at k t) .owner ≡ none
-    rest k e = elim (test (eqb (place k) (place (r .key)))) [
-      | inl d ↦ ap (λ (q : Request). q .owner) (at-absent k _ t (omega (arith, eqb-true (place k) (place (r .key)) d)) (o .2))
-      | inr d ↦ rw d at (f k e)
-    ]
 
 not-some : (o : Option Owner) → isSome o ≡ false → o ≡ none
 not-some none e = refl

@@ -96,9 +96,11 @@ module _ {b w v : List ℕ} {d : ℕ} {k : Key} {c : Candidate} {y : Row} where
       other = λ e. absurd (omega arith);
       elsewhere = λ _. subst (ListedAt v (d + 1) (k .hash)) n at;
       suited = λ st s g es a. record {
-        out =
-            λ _.
-            inr (leb-true ((limitsOf st) .alternates) (heldAt (k .hash) (st .table)) (sym (q st s g) ∙ l), none-greatest (victims (atHash (k .hash)) (st .table)) (sym (r st s g) ∙ none-found z e));
+        out = λ _. inr (
+          leb-true ((limitsOf st) .alternates) (heldAt (k .hash) (st .table))
+              (sym (q st s g) ∙ l),
+          none-greatest (victims (atHash (k .hash)) (st .table)) (sym (r st s g) ∙ none-found z e),
+        );
         free = λ e. absurd (omega arith);
         room = λ e. absurd (omega arith);
         apart = λ e. absurd (omega arith);

@@ -26,7 +26,7 @@ use Rattle.store.specs.Flat.{rowOf, rowsOf}
 use Rattle.store.specs.Gather.{keyAt, candidateAt}
 use Rattle.store.specs.Image.{Writes}
 use Rattle.store.specs.Shown.{Kept}
-use Rattle.requests.specs.Changes.{Makes, Tells}
+use Rattle.requests.specs.Changes.{Makes}
 use Rattle.announcing.specs.Enters.{Crowded, Goes}
 use Rattle.announcing.specs.Evicts.{entryAt}
 use Rattle.announcing.specs.Falls.{listSpace, Foremost}

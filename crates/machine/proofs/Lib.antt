@@ -24,6 +24,7 @@ pub mod Free
 pub mod Edges
 pub mod Later
 pub mod Owning
+pub mod Unowned
 pub mod FairLists
 pub mod Fairness
 pub mod Sweeps
