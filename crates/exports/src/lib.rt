@@ -1,4 +1,4 @@
-// The public calls for programs in C and Rust (bindings/c/tracker.h): `rt staticlib exports` writes the archive.
+// The public calls for programs in C and Rust (bindings/c/tracker.h): `bindings/build` writes the archive.
 //
 // A call returns a status, 0 if it was carried out and else the number of document 01's table, and hands the numbers of its reply
 // out. Each contract is the one of the public call (crates/tracker), its reply said by these numbers (crates/crossing).

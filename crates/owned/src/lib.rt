@@ -1,4 +1,4 @@
-// The calls of an owner of the store's bytes, for C and Rust: `rt staticlib owned` writes the archive.
+// The calls of an owner of the store's bytes, for C and Rust: `bindings/build` writes the archive.
 //
 // Each asks for a sound store and does not test it: what the checked call (crates/exports) does behind its sound test. It leaves a sound store, so that an
 // owner whose bytes nobody else writes, once opened or tested, may call on for ever. A caller that is proved shows `requires`; one in C or Rust must keep the
