@@ -13,7 +13,8 @@ use Rattle.machine.specs.Sweep.{only, round, lastOf, handed}
 use Rattle.machine.specs.Plan.{chosenBy, chosenAt, able, sooner, better, orElse, leastIn, leastAt, choice, consider, phase, due, expire, insertByPriority, sortByPriority, plan}
 use Rattle.machine.specs.Claim.{sameEntry, takes, claim, elem, forWitness, insertByConnection, sortByConnection, arrange, partOf}
 use Rattle.machine.specs.Wrapper.{offersFrom, announceTransactions, responseCompleted, notFoundOne, notFoundEach, packagesIn, notFound, sum}
-use Rattle.machine.specs.Call.{named, anyLate, takesPlace, openingRefusal, askRefusal, refusal}
+use Rattle.machine.specs.Owners.{ascending}
+use Rattle.machine.specs.Call.{named, anyLate, takesPlace, late, openingRefusal, askRefusal, refusal}
 use Rattle.machine.specs.Step.{perform, carryOut, keysAnswer, entriesAnswer, written, stepIf}
 use Rattle.machine.specs.Edges.{Edges}
 
@@ -23,7 +24,7 @@ unfolding top digits bytesOf need at keep change keys countIn total has without 
     packageInfoOwner releasePackage claimKey someKeys failEach failedPackageClaims packageKeys leftIfOwned tearEach teardown guarded forgetKnown keysOf announceEach dropAt dropEach insertKey
     sortKeys disconnected only round lastOf handed chosenBy chosenAt able sooner better orElse leastIn leastAt choice consider phase due expire insertByPriority sortByPriority plan sameEntry
     takes claim elem forWitness insertByConnection sortByConnection arrange partOf offersFrom announceTransactions responseCompleted notFoundOne notFoundEach packagesIn notFound sum named anyLate
-    takesPlace openingRefusal askRefusal refusal perform carryOut keysAnswer entriesAnswer written stepIf
+    takesPlace ascending late openingRefusal askRefusal refusal perform carryOut keysAnswer entriesAnswer written stepIf
 edges = record {
   worked-lines = refl;
   ninth-preferred = refl;

@@ -9,6 +9,7 @@ pub mod Sweep
 pub mod Plan
 pub mod Claim
 pub mod Wrapper
+pub mod Owners
 pub mod Call
 pub mod Step
 pub mod Sound

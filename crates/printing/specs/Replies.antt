@@ -1,11 +1,13 @@
 -- What is printed of a reply (docs/EVENTS.md, "Answers").
 use Prim.Native.Nat.{ℕ}
 use mathlib.Core.List.{List, [], _∷_, _++_}
+use mathlib.Core.Option.{Option, none, some}
 use lib.ListN.{length}
 use Rattle.ident.specs.Number.{Key}
 use Rattle.machine.specs.State.{Entry}
+use Rattle.machine.specs.Owners.{Holding}
 use Rattle.machine.specs.Call.{Call, Open, On}
-use Rattle.machine.specs.Step.{Reply, Refused, Number, Keys, Left, Entries, Chosen, Summed}
+use Rattle.machine.specs.Step.{Reply, Refused, Number, Keys, Left, Entries, Chosen, Summed, Owned}
 use Rattle.lines.specs.Text.{decimal, boolText, keyText, itemText}
 
 -- texts parted by commas
@@ -30,6 +32,19 @@ entryTexts (a ∷ l) =
     let c = a .candidate in
     keyText (a .key) ∷ decimal (c .connection) ∷ itemText (c .item) ∷ decimal (c .ready) ∷ boolText (c .preferred) ∷ decimal (c .priority) ∷ entryTexts l
 
+-- `none`
+abbrev pub noneText : List ℕ
+noneText = 110 ∷ 111 ∷ 110 ∷ 101 ∷ []
+
+-- "for each hash `none`, or key, connection, deadline"
+abbrev pub ownerText : Option Holding → List (List ℕ)
+ownerText none = noneText ∷ []
+ownerText (some a) = keyText (a .key) ∷ decimal (a .connection) ∷ decimal (a .deadline) ∷ []
+
+unfoldable pub ownerTexts : List (Option Holding) → List (List ℕ)
+ownerTexts [] = []
+ownerTexts (o ∷ l) = ownerText o ++ ownerTexts l
+
 -- "A refusal is `no,` and its number."
 abbrev pub refusalText : ℕ → List ℕ
 refusalText n = 110 ∷ 111 ∷ 44 ∷ decimal n
@@ -51,3 +66,4 @@ replyText c (Left own parents) = joined (decimal (length own) ∷ (keyTexts own 
 replyText c (Entries l) = listed (entryTexts l)
 replyText c (Chosen considered l) = joined (decimal considered ∷ entryTexts l)
 replyText c (Summed s) = joined (decimal (s .held) ∷ decimal (s .free) ∷ decimal (s .permille) ∷ [])
+replyText c (Owned passed l) = joined (decimal passed ∷ ownerTexts l)

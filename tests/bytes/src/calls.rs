@@ -66,6 +66,7 @@ listed! {
     plan_given,
     claim,
     arrange,
+    owners_of,
     sweep,
     poll_gate,
 }
@@ -84,6 +85,8 @@ pub enum Hands {
     /// The count of keys considered, and entries with theirs.
     Plan,
     Figures,
+    /// The count of keys passed, and the owner of each hash in the answer buffer.
+    Owners,
     /// The counts of a connection.
     Counts,
 }
