@@ -1,8 +1,8 @@
 // owners_of, for C and Rust (document 02, request e). A call that is refused hands nothing out.
-use super::hand_count;
+use crossing::hand_count;
 ghost use Rattle.machine.specs.Call.{On, OwnersOf};
 ghost use Rattle.lent_lists.specs.Lists.{hashesIn};
-ghost use Rattle.exports.specs.Status.{HandsOwners};
+ghost use Rattle.crossing.specs.Status.{HandsOwners};
 
 // Who owns each of up to 1,024 hashes, which are given in strictly ascending order, 32 bytes each: the kind (0 nobody, 1 Txid, 2 Wtxid), the connection and the deadline
 // stand in the answer, 8 bytes each, least first. So many held keys as `passed` says have a hash that is not above the greatest of them. The store is only read.

@@ -1,4 +1,4 @@
-pub mod Digits
+pub mod DigitBytes
 pub mod Numerals
 pub mod RoundTrips
 pub mod Writing

@@ -21,8 +21,11 @@ pub mod Entered
 pub mod KeptAtZero
 pub mod Demand1
 pub mod Batches
+pub mod Free
 pub mod Edges
+pub mod Later
 pub mod Owning
+pub mod Unowned
 pub mod FairLists
 pub mod Fairness
 pub mod Sweeps

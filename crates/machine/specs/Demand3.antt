@@ -54,7 +54,7 @@ keysIn (Number n) = []
 keysIn (Keys ks) = ks
 keysIn (Left own parents) = own ++ parents
 keysIn (Entries l) = []
-keysIn (Chosen n l) = []
+keysIn (Chosen n l x) = []
 keysIn (Summed s) = []
 keysIn (Owned n l) = []
 

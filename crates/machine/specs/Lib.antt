@@ -6,6 +6,7 @@ pub mod Fail
 pub mod Package
 pub mod Leave
 pub mod Sweep
+pub mod Later
 pub mod Plan
 pub mod Claim
 pub mod Wrapper
@@ -18,4 +19,6 @@ pub mod Choosing
 pub mod Replies
 pub mod Demand1
 pub mod Demand3
+pub mod Free
 pub mod Edges
+pub mod Looking

@@ -36,7 +36,7 @@ ascending [] = true
 ascending (h ∷ []) = true
 ascending (h ∷ (g ∷ hs)) = ltb h g && ascending (g ∷ hs)
 
--- "the greatestHash hash in the list"
+-- "the greatest hash in the list"
 unfoldable pub greatestHash : ℕ → List ℕ → ℕ
 greatestHash h [] = h
 greatestHash h (g ∷ hs) = greatestHash (max h g) hs
@@ -46,7 +46,7 @@ unfoldable pub keysUpTo : ℕ → List Key → ℕ
 keysUpTo h [] = 0
 keysUpTo h (k ∷ ks) = one (leb (k .hash) h) + keysUpTo h ks
 
--- "exactly the held keys whose hash is not above the greatestHash hash in the list, so 0 for an empty list"
+-- "exactly the held keys whose hash is not above the greatest hash in the list, so 0 for an empty list"
 unfoldable pub passed : List ℕ → Table → ℕ
 passed [] t = 0
 passed (h ∷ hs) t = keysUpTo (greatestHash h hs) (keys t)

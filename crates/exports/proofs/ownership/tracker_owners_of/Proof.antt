@@ -1,6 +1,6 @@
 -- `exports::ownership::tracker_owners_of` meets its contract: the public call's, its reply said by the number handed out.
 use borrow.Author.Needs.{needs}
-use Rattle.exports.proofs.Statuses.{hands-owners}
+use Rattle.crossing.proofs.Statuses.{hands-owners}
 use Rattle.exports.proofs.ownership.tracker_owners_of.Statement.{statement}
 use Rattle.exports.proofs.ownership.tracker_owners_of.Tie as tie
 

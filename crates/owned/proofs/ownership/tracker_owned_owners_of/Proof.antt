@@ -1,6 +1,6 @@
 -- `owned::ownership::tracker_owned_owners_of` meets its contract: that of the checked call, behind its sound test.
 use borrow.Author.Needs.{needs}
-use Rattle.exports.proofs.Statuses.{hands-owners}
+use Rattle.crossing.proofs.Statuses.{hands-owners}
 use Rattle.owned.proofs.ownership.tracker_owned_owners_of.Statement.{statement}
 use Rattle.owned.proofs.ownership.tracker_owned_owners_of.Tie as tie
 
