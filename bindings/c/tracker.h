@@ -61,7 +61,7 @@ extern "C" {
 #endif
 
 /* ---- what a call returns: 0, or the number of its refusal. tracker_open tests 2, then 1; the two calls on payloads, which take no store,
- * test 10, then 7; any other call tests 3 to 8 in turn, those that its arguments can meet. */
+ * test 10, then 7; any other call tests 3 to 6, 13, 7 and 8 in turn, those that its arguments can meet. */
 enum tracker_status {
     TRACKER_OK = 0,
     TRACKER_STORE_TOO_SHORT = 1,
@@ -72,7 +72,8 @@ enum tracker_status {
     TRACKER_TOO_MANY_PARENTS = 6,
     TRACKER_ANSWER_TOO_SHORT = 7,
     TRACKER_NO_PLACE = 8,
-    TRACKER_BAD_PAYLOAD = 10
+    TRACKER_BAD_PAYLOAD = 10,
+    TRACKER_WRONG_HASHES = 13
 };
 
 static inline const char *tracker_status_text(uint64_t status) {
@@ -87,6 +88,7 @@ static inline const char *tracker_status_text(uint64_t status) {
     case TRACKER_ANSWER_TOO_SHORT: return "the answer is shorter than its need";
     case TRACKER_NO_PLACE: return "all package places are held";
     case TRACKER_BAD_PAYLOAD: return "no inventory payload, or items that make none";
+    case TRACKER_WRONG_HASHES: return "more than 1,024 hashes, or not in strictly ascending order";
     default: return "no status of the tracker";
     }
 }
@@ -114,6 +116,7 @@ static inline const char *tracker_status_text(uint64_t status) {
 #define TRACKER_MAX_SWEPT UINT64_C(1024)           /* keys of a sweep */
 #define TRACKER_MAX_PLANNED UINT64_C(1025)         /* entries of a plan */
 #define TRACKER_MAX_ITEMS UINT64_C(50000)          /* of a payload */
+#define TRACKER_MAX_HASHES UINT64_C(1024)          /* of tracker_owners_of */
 #define TRACKER_LIFETIME_MS UINT64_C(60000)        /* from a claim to its deadline */
 #define TRACKER_DELAY_MS UINT64_C(2000)            /* each delay of tracker_announce_transactions */
 #define TRACKER_POLL_MS UINT64_C(100)              /* between polls */
@@ -127,6 +130,7 @@ static inline const char *tracker_status_text(uint64_t status) {
 #define TRACKER_KEY_BYTES 40
 #define TRACKER_ITEM_BYTES 40
 #define TRACKER_ENTRY_BYTES 112
+#define TRACKER_OWNER_BYTES 24
 #define TRACKER_WIRE_BYTES 36                      /* of an item in a payload */
 
 /* The answer of announce_parents, failed_with_parents and release_package: 101 keys. */
@@ -164,6 +168,11 @@ static inline size_t tracker_not_found_need(uint64_t q, size_t n) {
 /* Of tracker_claim and tracker_arrange. */
 static inline size_t tracker_entries_need(size_t n) {
     return n * TRACKER_ENTRY_BYTES;
+}
+
+/* Of tracker_owners_of. */
+static inline size_t tracker_owners_need(size_t n) {
+    return n * TRACKER_OWNER_BYTES;
 }
 
 /* Of tracker_read_payload, for a payload of so many bytes; of tracker_write_payload, for n items. */
@@ -251,6 +260,27 @@ static inline bool tracker_entry_preferred(const uint8_t *entry) {
 
 static inline uint64_t tracker_entry_priority(const uint8_t *entry) {
     return tracker_word(entry + 104);
+}
+
+/* The i-th owner of tracker_owners_of's answer: whether somebody owns the i-th hash, then the kind of the key, who and until when. */
+static inline const uint8_t *tracker_owner(const uint8_t *answer, uint64_t i) {
+    return answer + (size_t)i * TRACKER_OWNER_BYTES;
+}
+
+static inline bool tracker_owner_exists(const uint8_t *owner) {
+    return tracker_word(owner) != 0;
+}
+
+static inline uint64_t tracker_owner_kind(const uint8_t *owner) {
+    return tracker_word(owner) == 1 ? TRACKER_TXID : TRACKER_WTXID;
+}
+
+static inline uint64_t tracker_owner_connection(const uint8_t *owner) {
+    return tracker_word(owner + 8);
+}
+
+static inline uint64_t tracker_owner_deadline(const uint8_t *owner) {
+    return tracker_word(owner + 16);
 }
 
 /* ---- the calls. store and length: the bytes lent, at least the need; longer is taken, and bytes past the need stay. A slice's length is in

@@ -150,11 +150,13 @@ module _ (n : ℕ) (sound : Bool) (s : State) (a : Ask) where
       elim (test (not sound)) [
         | inl e₃ ↦
             refused-by 3 (rw e₃) (omega arith) (unsound-store refl (not-true sound e₃))
-            (none-below 0 (λ h. absurd (omega arith)) (λ h. absurd (omega arith)) (λ h. absurd (omega arith)) (λ h. absurd (omega arith)) (λ h. absurd (omega arith)) (λ h. absurd (omega arith)) (λ h. absurd (omega arith)))
+            (none-below 0 (λ h. absurd (omega arith)) (λ h. absurd (omega arith)) (λ h. absurd (omega arith)) (λ h. absurd (omega arith))
+            (λ h. absurd (omega arith)) (λ h. absurd (omega arith)) (λ h. absurd (omega arith)))
         | inr e₃ ↦ elim (test test-4) [
           | inl e₄ ↦
               refused-by 4 (rw (e₃, e₄)) (omega arith) (connection-0 refl ((any-zero (w .connections)) .holds e₄))
-              (none-below 1 (λ h. e₃) (λ h. absurd (omega arith)) (λ h. absurd (omega arith)) (λ h. absurd (omega arith)) (λ h. absurd (omega arith)) (λ h. absurd (omega arith)) (λ h. absurd (omega arith)))
+              (none-below 1 (λ h. e₃) (λ h. absurd (omega arith)) (λ h. absurd (omega arith)) (λ h. absurd (omega arith)) (λ h. absurd (omega arith))
+              (λ h. absurd (omega arith)) (λ h. absurd (omega arith)))
           | inr e₄ ↦ elim (test test-5) [
             | inl e₅ ↦
                 refused-by 5 (rw (e₃, e₄, e₅)) (omega arith) (late-clock refl ((any-late (w .clocks)) .holds e₅))

@@ -16,7 +16,8 @@ use Rattle.machine.specs.Package.{enqueuedBy, failedWithParents, release
 use Rattle.machine.specs.Leave.{disconnected}
 use Rattle.machine.specs.Call.{Ask, Announce, RequestParent, Failed, Unclaim, SolicitPackageInfo, ClaimPackage, BeginPackageResolution, AnnounceParents, FailedPackageClaims, Plan, Claim, Sweep}
 use Rattle.machine.specs.Call.{Disconnected, ReleasePackage, TeardownPackageClaims, Forget, ForgetKnown, FailedWithParents, FailedPackageInfo, PackageInfoOwner, AnnounceTransactions}
-use Rattle.machine.specs.Call.{TransactionResponseCompleted, TransactionNotFound, PollGate, Arrange, Sum, OwnersOf, keyBytes, entryBytes, Call, Open, On, named, openingRefusal, askRefusal, refusal}
+use Rattle.machine.specs.Call.{TransactionResponseCompleted, TransactionNotFound, PollGate, Arrange, Sum, OwnersOf, keyBytes, entryBytes}
+use Rattle.machine.specs.Call.{Call, Open, On, named, openingRefusal, askRefusal, refusal}
 use Rattle.machine.specs.Step.{perform, carryOut, written, bufferOf, stepIf, step, keysAnswer, entriesAnswer, answerBytes}
 use Rattle.machine.specs.Sound.{Bounded, Sound}
 use Rattle.machine.specs.Typed.{AskTyped, CallTyped}

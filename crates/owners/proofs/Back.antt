@@ -42,7 +42,8 @@ module _ (h x y z : ℕ) (lx : x < word) (ly : y < word) (lz : z < word) (v : Li
   unfolding holdingIn
   three-back =
       ap (holdingIn h) flat
-      ∙ (λ i. holdingFrom h (back x (digits 256 8 y ++ (digits 256 8 z ++ v)) lx i) (number 256 (take 8 (rest x (digits 256 8 y ++ (digits 256 8 z ++ v)) i))) (number 256 (take 8 (drop 8 (rest x (digits 256 8 y ++ (digits 256 8 z ++ v)) i)))))
+      ∙ (λ i. holdingFrom h (back x (digits 256 8 y ++ (digits 256 8 z ++ v)) lx i) (number 256 (take 8 (rest x (digits 256 8 y ++ (digits 256 8 z ++ v)) i)))
+      (number 256 (take 8 (drop 8 (rest x (digits 256 8 y ++ (digits 256 8 z ++ v)) i)))))
       ∙ (λ i. holdingFrom h x (back y (digits 256 8 z ++ v) ly i) (number 256 (take 8 (rest y (digits 256 8 z ++ v) i))))
       ∙ (λ i. holdingFrom h x y (back z v lz i))
 

@@ -129,7 +129,8 @@ module _ (st : State) (s : Sound st) {m n : ℕ} (long : n ≡ length (rowsOf (s
   halves = ap rowsOf (split lastKey t) ∙ each-append rowsFor (upTo lastKey t) (above lastKey t)
 
   low-keys : keysOver 0 m (rowsOf t) ≡ keys (upTo lastKey t)
-  low-keys = ap (λ (rs : List Row). keys (gather rs)) low ∙ keys-rows 0 (upTo lastKey t) (ordered-up lastKey 0 t o) (all-up Lawful lastKey t (s .bounded .lawful)) (all-up Filled lastKey t (s .bounded .filled))
+  low-keys = ap (λ (rs : List Row). keys (gather rs)) low ∙ keys-rows 0 (upTo lastKey t) (ordered-up lastKey 0 t o) (all-up Lawful lastKey t (s .bounded .lawful))
+      (all-up Filled lastKey t (s .bounded .filled))
 
   high-keys : keysOver m n (rowsOf t) ≡ keys (above lastKey t)
   high-keys = ap (λ (rs : List Row). keys (gather rs)) high ∙ keys-rows _ (above lastKey t) (above-ordered lastKey 0 t o) (all-above Lawful lastKey t (s .bounded .lawful))
@@ -142,7 +143,8 @@ module _ (st : State) (s : Sound st) {m n : ℕ} (long : n ≡ length (rowsOf (s
   unfolding holdingAt
   parted = record {
     txids = subst (Rises 0) (sym low) (rises-table Txid 0 (upTo lastKey t) (ordered-up lastKey 0 t o) (txids-up lastKey t (omega (arith, top-some))));
-    wtxids = subst (Rises 0) (sym high) (rises-table Wtxid 0 (above lastKey t) (ordered-from top (top + 0) (above lastKey t) (omega arith) after-last) (wtxids-from top (above lastKey t) (le-refl top) after-last));
+    wtxids = subst (Rises 0) (sym high) (rises-table Wtxid 0 (above lastKey t) (ordered-from top (top + 0) (above lastKey t) (omega arith) after-last)
+        (wtxids-from top (above lastKey t) (le-refl top) after-last));
     owner = λ h l. (λ i. orHolding (holdingOver h (low i)) (holdingOver h (high i))) ∙ sym (over-append h (rowsOf (upTo lastKey t)) (rowsOf (above lastKey t))) ∙ ap (holdingOver h) (sym halves)
         ∙ table-names h l 0 t o (s .bounded .lawful);
     keys-are = λ g. (λ i. keysUpTo g (low-keys i) + keysUpTo g (high-keys i)) ∙ up-tables g (upTo lastKey t) (above lastKey t) ∙ ap (λ (x : Table). keysUpTo g (keys x)) (sym (split lastKey t));

@@ -101,7 +101,8 @@ module _ (h : ℕ) where
   there k q t n = ap (λ (x : Request). holdingAs (k h) (x .owner)) (at-there (k h) q t n)
 
   -- a request of another hash is at neither key
-  elsewhere : (q : Request) (t : Table) → q .key .hash < top → h < top → (q .key .hash ≡ h → ⊥) → orHolding (heldAs txid h (q ∷ t)) (heldAs wtxid h (q ∷ t)) ≡ orHolding (heldAs txid h t) (heldAs wtxid h t)
+  elsewhere : (q : Request) (t : Table) → q .key .hash < top → h < top → (q .key .hash ≡ h → ⊥) → orHolding (heldAs txid h (q ∷ t)) (heldAs wtxid h (q ∷ t)) ≡ orHolding (heldAs txid h t)
+      (heldAs wtxid h t)
   elsewhere q t l m n = (λ i. orHolding (there txid q t (λ e. not-txid (q .key .kind) e) i) (there wtxid q t (λ e. not-wtxid (q .key .kind) e) i))
     where
       not-txid : (k : Kind) → 0 + h ≡ base k + q .key .hash → ⊥

@@ -5,24 +5,23 @@ use mathlib.Core.List.{List, [], _∷_, _++_, append-assoc, append-nil}
 use mathlib.Core.Option.{Option, none, some}
 use native.Mathlib.Numerals.{add-one}
 use native.Mathlib.Omega.{arith}
-use lib.Dec.{eqb}
-use lib.ListN.{length, take, drop, getD}
-use lib.Seq.{take-suc, take-all, drop-drop}
-use borrow.Author.Tests.{eq-eqb, ne-eqb}
-use Rattle.ident.specs.declared.Kind.{Kind}
-use Rattle.ident.specs.declared.Kind.the-variants.{Txid, Wtxid}
-use Rattle.ident.specs.Number.{Key, txid, wtxid}
+use lib.ListN.{length, take, drop, getD, length-append}
+use lib.Seq.{take-all, drop-drop}
+use borrow.Author.Tests.{ne-eqb}
+use Rattle.ident.specs.Number.{Key}
 use Rattle.words.specs.Words.{number, words}
 use Rattle.words.proofs.Words.{word-at}
 use Rattle.machine.specs.Owners.{Holding}
 use Rattle.machine.specs.Call.{Buffer, ownerBytes}
 use Rattle.owners.specs.Back.{holdingFrom, holdingIn, holdingsIn}
-use Rattle.lines.specs.Text.{decimal, decimalDigits, hashDigits, keyText, Wrote}
-use Rattle.lines.proofs.Writing.{wrote-more, wrote-none}
-use Rattle.printing.specs.Replies.{joined, noneText, ownerText, ownerTexts}
-use Rattle.printing.specs.Given.{answerRoom, mostOwners, ownerRoom, numberRoom, taggedKind, behind, Printed}
+use Rattle.machine.specs.Step.{Reply, Owned, answerBytes}
+use Rattle.machine.proofs.Owners.{length-holdingsAnswer}
+use Rattle.lines.specs.Text.{decimal, decimalDigits, keyText, Wrote}
+use Rattle.lines.proofs.Numerals.{length-numeral}
+use Rattle.lines.proofs.Writing.{wrote-more}
+use Rattle.printing.specs.Replies.{joined, noneText, ownerText, ownerTexts, replyText}
+use Rattle.printing.specs.Given.{answerRoom, mostOwners, ownerRoom, taggedKind, behind, OwnersFit, Printed, ReplyPrinted}
 use Rattle.printing.proofs.KeyLists.{key-length}
-use Rattle.printing.proofs.EntryLists.{number-end}
 use Rattle.printing.proofs.Printing.{decimal-end}
 use Rattle.printing.proofs.Behind.{joined-behind, behind-both}
 
@@ -43,3 +42,124 @@ words-are u i h l {t} {c} {d} et ec ed =
     ap (λ (z : List ℕ). number 256 (take 8 (drop 8 z))) (drop-drop (ownerBytes * i) 8 u) ∙ ap (λ (z : List ℕ). number 256 (take 8 z)) (drop-drop (ownerBytes * i + 8) 8 u)
     ∙ sym (ed ∙ word-at u (i * 3 + 2) (omega arith) ∙ ap (λ (n : ℕ). number 256 (take 8 (drop n u))) e₂) in
     (λ j. holdingFrom h (x j) (y j) (w j))
+
+no-tag : (h c d : ℕ) {t : ℕ} → t ≡ 0 → holdingFrom h t c d ≡ none
+no-tag h c d e = rw e
+
+-- what a tag that is not 0 tells
+abbrev pub told : ℕ → ℕ → ℕ → ℕ → Holding
+told h t c d = record { key = record { kind = taggedKind t; hash = h }; connection = c; deadline = d }
+
+a-tag : (t h c d : ℕ) → (t ≡ 0 → ⊥) → holdingFrom h t c d ≡ some (told h t c d)
+a-tag zero h c d n = absurd (n refl)
+a-tag (suc zero) h c d n = refl
+a-tag (suc (suc t)) h c d n = rw (ne-eqb (suc (suc t)) 1 (λ e. omega (arith, e)))
+
+-- its texts, each behind a comma
+texts-are : (a : Holding) → behind (ownerText (some a)) ≡ (((44 ∷ []) ++ keyText (a .key)) ++ (44 ∷ decimal (a .connection))) ++ (44 ∷ decimal (a .deadline))
+unfolding behind
+texts-are a = simp (append-assoc, append-nil)
+
+owner-length : (o : Option Holding) → length (behind (ownerText o)) ≤ ownerRoom
+unfolding behind
+owner-length none = omega arith
+owner-length (some a) =
+    let k = key-length (a .key) in
+    let c = length-numeral 10 decimalDigits (a .connection) in
+    let d = length-numeral 10 decimalDigits (a .deadline) in
+    rw (texts-are a) (simp length-append (omega arith))
+
+module _ (u : Buffer) (i h : ℕ) (l : ownerBytes * i + ownerBytes ≤ length u) {s : List ℕ} {at : ℕ} where
+  pub wrote-nobody : {s′ : List ℕ} {r t : ℕ} → t ≡ getD (words u) (i * 3) 0 → t ≡ 0 → Wrote s s′ at (44 ∷ noneText) r → Wrote s s′ at (behind (ownerText (holdingIn h (drop (ownerBytes * i) u)))) r
+  unfolding behind
+  wrote-nobody e z w = rw (words-are u i h l e refl refl ∙ no-tag h _ _ z) w
+
+  pub wrote-owner : {t c d : ℕ} → t ≡ getD (words u) (i * 3) 0 → c ≡ getD (words u) (i * 3 + 1) 0 → d ≡ getD (words u) (i * 3 + 2) 0 → (t ≡ 0 → ⊥) → at + ownerRoom ≤ length s
+      → {s₁ s₂ s₃ s₄ : List ℕ} {e₁ e₂ e₃ r : ℕ} → Wrote s s₁ at (44 ∷ []) e₁ → Wrote s₁ s₂ e₁ (keyText (record { kind = taggedKind t; hash = h })) e₂
+      → Wrote s₂ s₃ e₂ (44 ∷ decimal c) e₃ → Wrote s₃ s₄ e₃ (44 ∷ decimal d) r
+      → Wrote s s₄ at (behind (ownerText (holdingIn h (drop (ownerBytes * i) u)))) r
+  wrote-owner {t} {c} {d} et ec ed n room w₁ w₂ w₃ w₄ =
+      let k = key-length (told h t c d .key) in
+      let lc = length-numeral 10 decimalDigits c in
+      let ld = length-numeral 10 decimalDigits d in
+      let n₁ = w₁ .next in
+      let n₂ = w₂ .next in
+      let n₃ = w₃ .next in
+      rw (words-are u i h l et ec ed ∙ a-tag t h c d n, texts-are (told h t c d)) (wrote-more (wrote-more (wrote-more w₁ w₂ (omega arith)) w₃ (omega arith)) w₄ (omega arith))
+
+-- ---- owners one after the other
+
+texts-last : (l : List (Option Holding)) (o : Option Holding) → ownerTexts (l ++ (o ∷ [])) ≡ ownerTexts l ++ ownerText o
+unfolding ownerTexts
+texts-last [] o = append-nil (ownerText o)
+texts-last (p ∷ l) o = ap (_++_ (ownerText p)) (texts-last l o) ∙ sym (append-assoc (ownerText p) (ownerTexts l) (ownerText o))
+
+last-owner : (hs : List ℕ) (u : Buffer) (i : ℕ) → i < length hs
+    → take (suc i) (holdingsIn hs u) ≡ take i (holdingsIn hs u) ++ (holdingIn (getD hs i 0) (drop (ownerBytes * i) u) ∷ [])
+unfolding holdingsIn
+last-owner [] u i h = absurd (omega arith)
+last-owner (g ∷ hs) u zero h = refl
+last-owner (g ∷ hs) u (suc i) h =
+    let e : ownerBytes + ownerBytes * i ≡ ownerBytes * suc i = omega arith in
+    let v : drop (ownerBytes * i) (drop ownerBytes u) ≡ drop (ownerBytes * suc i) u = drop-drop ownerBytes (ownerBytes * i) u ∙ ap (λ (n : ℕ). drop n u) e in
+    ap (λ (l : List (Option Holding)). holdingIn g u ∷ l)
+    (last-owner hs (drop ownerBytes u) i (omega arith) ∙ ap (λ (x : Buffer). take i (holdingsIn hs (drop ownerBytes u)) ++ (holdingIn (getD hs i 0) x ∷ [])) v)
+
+length-owners : (hs : List ℕ) (u : Buffer) → length (holdingsIn hs u) ≡ length hs
+unfolding holdingsIn
+length-owners [] u = refl
+length-owners (h ∷ hs) u = ap suc (length-owners hs (drop ownerBytes u))
+
+-- the owners of the first i hashes are told
+abbrev pub toldText : ℕ → ℕ → List ℕ → Buffer → List ℕ
+toldText passed i hs u = decimal passed ++ behind (ownerTexts (take i (holdingsIn hs u)))
+
+pub record Telling (hs : List ℕ) (u out₀ out : Buffer) (passed to i : ℕ) : Type 0 where
+  pub most : i ≤ length hs
+  pub long : length out ≡ length out₀
+  pub ends : to ≤ decimalDigits + ownerRoom * i
+  pub wrote : Wrote out₀ out 0 (toldText passed i hs u) to
+
+module _ (hs : List ℕ) (u : Buffer) {out₀ : List ℕ} (passed : ℕ) where
+  pub telling-none : {out : List ℕ} {to : ℕ} → length out ≡ length out₀ → Wrote out₀ out 0 (decimal passed) to → Telling hs u out₀ out passed to 0
+  unfolding behind ownerTexts
+  telling-none l w = record { most = omega arith; long = l; ends = decimal-end passed w; wrote = rw (append-nil (decimal passed)) w }
+
+  pub telling-more : {out out′ : List ℕ} {to i h r : ℕ} → Telling hs u out₀ out passed to i → i < length hs → h ≡ getD hs i 0 → to + ownerRoom ≤ length out₀ → length out′ ≡ length out
+      → Wrote out out′ to (behind (ownerText (holdingIn h (drop (ownerBytes * i) u)))) r → Telling hs u out₀ out′ passed r (i + 1)
+  telling-more {out} {out′} {to} {i} {h} {r} t m e room l w =
+      let o = holdingIn h (drop (ownerBytes * i) u) in
+      let k = owner-length o in
+      let x : toldText passed (i + 1) hs u ≡ toldText passed i hs u ++ behind (ownerText o) =
+      ap (λ (n : ℕ). toldText passed n hs u) (add-one i)
+      ∙ ap (λ (q : List (Option Holding)). decimal passed ++ behind (ownerTexts q))
+      (last-owner hs u i m ∙ ap (λ (n : ℕ). take i (holdingsIn hs u) ++ (holdingIn n (drop (ownerBytes * i) u) ∷ [])) (sym e))
+      ∙ ap (λ (q : List (List ℕ)). decimal passed ++ behind q) (texts-last (take i (holdingsIn hs u)) o)
+      ∙ ap (_++_ (decimal passed)) (behind-both (ownerTexts (take i (holdingsIn hs u))) (ownerText o))
+      ∙ sym (append-assoc (decimal passed) (behind (ownerTexts (take i (holdingsIn hs u)))) (behind (ownerText o))) in
+      record {
+        most = omega arith;
+        long = l ∙ t .long;
+        ends = omega (arith, t .ends, w .next);
+        wrote = rw x (wrote-more (t .wrote) w (omega arith));
+      }
+
+  pub telling-all : {out : List ℕ} {to i : ℕ} → Telling hs u out₀ out passed to i → length hs ≤ i → length hs ≤ mostOwners → Printed out₀ out (joined (decimal passed ∷ ownerTexts (holdingsIn hs u))) to
+  telling-all {out} {to} {i} t m f =
+      let e : take i (holdingsIn hs u) ≡ holdingsIn hs u = take-all i (holdingsIn hs u) (omega (arith, length-owners hs u)) in
+      record {
+        wrote = rw (joined-behind (decimal passed) (ownerTexts (holdingsIn hs u))) (subst (λ (q : List (Option Holding)). Wrote out₀ out 0 (decimal passed ++ behind (ownerTexts q)) to) e (t .wrote));
+        room = omega (arith, t .ends, t .most);
+      }
+
+-- ---- the reply
+
+pub owners-fit : (hs : List ℕ) (u : Buffer) {y : Reply} {n : ℕ} → y ≡ Owned n (holdingsIn hs u) → OwnersFit y u → (length hs ≤ mostOwners) × (ownerBytes * length hs ≤ length u)
+owners-fit hs u e f =
+    let k : length (answerBytes (Owned _ (holdingsIn hs u))) ≡ ownerBytes * length hs = length-holdingsAnswer (holdingsIn hs u) ∙ ap (_*_ ownerBytes) (length-owners hs u) in
+    let g = ap (λ (z : Reply). length (answerBytes z)) e in
+    (omega (arith, f .long, f .fits, k, g), omega (arith, f .fits, k, g))
+
+pub owners-printed : {out out′ : List ℕ} {r : ℕ} {y : Reply} (n : ℕ) (l : List (Option Holding)) → y ≡ Owned n l → Printed out out′ (joined (decimal n ∷ ownerTexts l)) r → ReplyPrinted out out′ y r
+unfolding replyText
+owners-printed n l e p = record { text = λ a. rw e p }

@@ -60,7 +60,7 @@ numberText (On a) n = decimal n
 
 -- a time, or `none`
 abbrev pub timeText : Option ℕ → List ℕ
-timeText none = 110 ∷ 111 ∷ 110 ∷ 101 ∷ []
+timeText none = noneText
 timeText (some n) = decimal n
 
 -- a plan's: the keys considered, the entries, and when to look again

@@ -28,16 +28,28 @@ quad-less-requires : tie.Need-quad-less-requires Inv-loop μ-loop
 quad-less-requires c κs = search needs
 
 returns : tie.Need-returns Inv-loop μ-loop
-returns c = going-past (c .before .before .before .before .before .loop .inv) (c .before .before .before .before .loop-test .taken) (c .before .before .before .before .before .before .before .before .pre .2) (c .before .before .before .row-at .ensures) (omega (arith, hash-is (c .before .before .before .row-at .result), ltb-true (quadNumber (c .before .before .before .before .before .before .before .before .args .h)) (quadNumber (c .before .before .before .row-at .result .hash)) (sym (c .before .quad-less .ensures) ∙ c .if1 .taken)))
+returns c = going-past (c .before .before .before .before .before .loop .inv) (c .before .before .before .before .loop-test .taken)
+    (c .before .before .before .before .before .before .before .before .pre .2) (c .before .before .before .row-at .ensures)
+    (omega (
+      arith,
+      hash-is (c .before .before .before .row-at .result),
+      ltb-true (quadNumber (c .before .before .before .before .before .before .before .before .args .h))
+          (quadNumber (c .before .before .before .row-at .result .hash)) (sym (c .before .quad-less .ensures) ∙ c .if1 .taken),
+    ))
 
 with-row-requires : tie.Need-with-row-requires Inv-loop μ-loop
-with-row-requires c κs = ltb-false (quadNumber (c .before .before .before .before .before .before .before .before .args .h)) (quadNumber (c .before .before .before .row-at .result .hash)) (sym (c .before .quad-less .ensures) ∙ c .if1 .left)
+with-row-requires c κs = ltb-false (quadNumber (c .before .before .before .before .before .before .before .before .args .h)) (quadNumber (c .before .before .before .row-at .result .hash))
+    (sym (c .before .quad-less .ensures) ∙ c .if1 .left)
 
 add-i : tie.Need-add-i Inv-loop μ-loop
 add-i c = omega (arith, c .before .before .before .before .before .loop-test .taken)
 
 ended-requires : tie.Need-ended-requires Inv-loop μ-loop
-ended-requires c κs = (c .before .before .before .before .before .before .before .before .before .pre .0, omega (arith, c .before .before .before .before .before .loop-test .taken), c .before .before .before .before .before .before .before .before .before .pre .2)
+ended-requires c κs = (
+  c .before .before .before .before .before .before .before .before .before .pre .0,
+  omega (arith, c .before .before .before .before .before .loop-test .taken),
+  c .before .before .before .before .before .before .before .before .before .pre .2,
+)
 
 add-keys : tie.Need-add-keys Inv-loop μ-loop
 add-keys c = omega (arith, c .before .before .before .before .before .before .loop-test .taken, c .before .before .before .before .before .before .before .loop .inv .few, c .ended .ensures .0)
@@ -46,7 +58,15 @@ loop-less : tie.Need-loop-less Inv-loop μ-loop
 loop-less c = omega (arith, c .before .before .before .before .before .before .loop-test .taken)
 
 loop-again : tie.Need-loop-again Inv-loop μ-loop
-loop-again c = going-more (c .before .before .before .before .before .before .before .loop .inv) (c .before .before .before .before .before .before .loop-test .taken) (c .before .before .before .before .before .before .before .before .before .before .pre .2) (c .before .before .before .before .before .row-at .ensures) (omega (arith, hash-is (c .before .before .before .before .before .row-at .result), ltb-false (quadNumber (c .before .before .before .before .before .before .before .before .before .before .args .h)) (quadNumber (c .before .before .before .before .before .row-at .result .hash)) (sym (c .before .before .before .quad-less .ensures) ∙ c .before .before .if1 .left)))
+loop-again c = going-more (c .before .before .before .before .before .before .before .loop .inv) (c .before .before .before .before .before .before .loop-test .taken)
+    (c .before .before .before .before .before .before .before .before .before .before .pre .2) (c .before .before .before .before .before .row-at .ensures)
+    (omega (
+      arith,
+      hash-is (c .before .before .before .before .before .row-at .result),
+      ltb-false
+          (quadNumber (c .before .before .before .before .before .before .before .before .before .before .args .h)) (quadNumber (c .before .before .before .before .before .row-at .result .hash))
+          (sym (c .before .before .before .quad-less .ensures) ∙ c .before .before .if1 .left),
+    ))
     (c .before .with-row .ensures) (c .ended .ensures .0) (c .ended .ensures .1)
 
 returns-2 : tie.Need-returns-2 Inv-loop μ-loop

@@ -35,32 +35,98 @@ hash-quad-requires : tie.Need-hash-quad-requires Inv-loop μ-loop
 hash-quad-requires c κs = search needs
 
 along-requires : tie.Need-along-requires Inv-loop μ-loop
-along-requires c κs = (kept-shown (c .before .before .before .before .before .before .before .before .before .before .pre .0), c .before .before .before .loop .inv .first, c .before .before .before .before .before .first-wtxid .ensures .most)
+along-requires c κs = (
+  kept-shown (c .before .before .before .before .before .before .before .before .before .before .pre .0),
+  c .before .before .before .loop .inv .first,
+  c .before .before .before .before .before .first-wtxid .ensures .most,
+)
 
 along-requires-2 : tie.Need-along-requires-2 Inv-loop μ-loop
-along-requires-2 c κs = (kept-shown (c .before .before .before .before .before .before .before .before .before .before .before .pre .0), omega (arith, c .before .before .before .before .loop .inv .second, c .before .before .before .before .before .before .before .rows .ensures .word), omega (arith, c .before .before .before .before .before .before .before .rows .ensures .word))
+along-requires-2 c κs =
+    let w = c .before .before .before .before .before .before .before .rows .ensures .word in (
+      kept-shown (c .before .before .before .before .before .before .before .before .before .before .before .pre .0),
+      omega (arith, c .before .before .before .before .loop .inv .second, w),
+      omega
+          (arith, w),
+    )
 
 either-requires : tie.Need-either-requires Inv-loop μ-loop
 either-requires c κs = search needs
 
 put-owner-requires : tie.Need-put-owner-requires Inv-loop μ-loop
-put-owner-requires c κs = omega (arith, c .before .before .before .before .before .before .before .before .before .loop .inv .long, c .before .before .before .before .before .before .before .before .before .before .before .before .before .before .before .before .pre .2, c .before .before .before .before .before .before .before .before .loop-test .taken, c .before .before .before .before .before .before .before .before .before .before .hashes .ensures)
+put-owner-requires c κs = omega (
+  arith,
+  c .before .before .before .before .before .before .before .before .before .loop .inv .long,
+  c .before .before .before .before .before .before .before .before .before .before .before .before .before .before .before .before .pre .2,
+  c .before .before .before .before .before .before .before .before .loop-test .taken,
+  c .before .before .before .before .before .before .before .before .before .before .hashes .ensures,
+)
 
 add-passed : tie.Need-add-passed Inv-loop μ-loop
-add-passed c = let k = kept-shown (c .before .before .before .before .before .before .before .before .before .before .before .before .before .before .before .before .before .before .before .before .before .pre .0) in omega (arith, c .before .before .before .before .before .before .before .before .before .before .along .ensures .few, c .before .before .before .before .before .before .before .before .before .before .along .ensures .most, c .before .before .before .before .before .before .before .before .before .along2 .ensures .few, c .before .before .before .before .before .before .before .before .before .along2 .ensures .most, c .before .before .before .before .before .before .before .before .before .before .before .before .before .before .before .before .first-wtxid .ensures .most, c .before .before .before .before .before .before .before .before .before .before .before .before .before .before .before .before .before .rows .ensures .word, k .sizes .rows, k .sized .rows-few, k .sized .limit)
+add-passed c =
+    let k = kept-shown
+    (c .before .before .before .before .before .before .before .before .before .before .before .before .before .before .before .before .before .before .before .before .before .pre .0) in
+    let one = c .before .before .before .before .before .before .before .before .before .before .along .ensures in
+    let two = c .before .before .before .before .before .before .before .before .before .along2 .ensures in
+    let w = c .before .before .before .before .before .before .before .before .before .before .before .before .before .before .before .before .before .rows .ensures .word in
+    omega (
+      arith,
+      one .few,
+      one .most,
+      two .few,
+      two .most,
+      c .before .before .before .before .before .before .before .before .before .before .before .before .before .before .before .before .first-wtxid .ensures .most,
+      w,
+      k .sizes .rows,
+      k .sized .rows-few,
+      k .sized .limit,
+    )
 
 add-passed-2 : tie.Need-add-passed-2 Inv-loop μ-loop
-add-passed-2 c = let k = kept-shown (c .before .before .before .before .before .before .before .before .before .before .before .before .before .before .before .before .before .before .before .before .before .pre .0) in omega (arith, c .before .before .before .before .before .before .before .before .before .before .before .before .before .before .loop .inv .few, c .before .before .before .before .before .before .before .before .before .before .along .ensures .few, c .before .before .before .before .before .before .before .before .before .before .along .ensures .most, c .before .before .before .before .before .before .before .before .before .along2 .ensures .few, c .before .before .before .before .before .before .before .before .before .along2 .ensures .most, c .before .before .before .before .before .before .before .before .before .before .before .before .before .before .before .before .first-wtxid .ensures .most, c .before .before .before .before .before .before .before .before .before .before .before .before .before .before .before .before .before .rows .ensures .word, k .sizes .rows, k .sized .rows-few, k .sized .limit)
+add-passed-2 c =
+    let k = kept-shown
+    (c .before .before .before .before .before .before .before .before .before .before .before .before .before .before .before .before .before .before .before .before .before .pre .0) in
+    let one = c .before .before .before .before .before .before .before .before .before .before .along .ensures in
+    let two = c .before .before .before .before .before .before .before .before .before .along2 .ensures in
+    let w = c .before .before .before .before .before .before .before .before .before .before .before .before .before .before .before .before .before .rows .ensures .word in
+    omega (
+      arith,
+      c .before .before .before .before .before .before .before .before .before .before .before .before .before .before .loop .inv .few,
+      one .few,
+      one .most,
+      two .few,
+      two .most,
+      c .before .before .before .before .before .before .before .before .before .before .before .before .before .before .before .before .first-wtxid .ensures .most,
+      w,
+      k .sizes .rows,
+      k .sized .rows-few,
+      k .sized .limit,
+    )
 
 add-p : tie.Need-add-p Inv-loop μ-loop
-add-p c = omega (arith, c .before .before .before .before .before .before .before .before .before .before .before .before .before .loop-test .taken, c .before .before .before .before .before .before .before .before .before .before .before .before .before .before .before .hashes .ok)
+add-p c = omega (
+  arith,
+  c .before .before .before .before .before .before .before .before .before .before .before .before .before .loop-test .taken,
+  c .before .before .before .before .before .before .before .before .before .before .before .before .before .before .before .hashes .ok,
+)
 
 loop-less : tie.Need-loop-less Inv-loop μ-loop
 loop-less c = omega (arith, c .before .before .before .before .before .before .before .before .before .before .before .before .before .loop-test .taken)
 
 loop-again : tie.Need-loop-again Inv-loop μ-loop
-loop-again c = walking-more (c .before .before .before .before .before .before .before .before .before .before .before .before .before .before .loop .inv) (c .before .before .before .before .before .before .before .before .before .before .before .before .before .before .before .before .before .before .before .before .before .pre .1) (c .before .before .before .before .before .before .before .before .before .before .before .before .before .before .before .before .first-wtxid .ensures) (omega (arith, c .before .before .before .before .before .before .before .before .before .before .before .before .before .loop-test .taken, c .before .before .before .before .before .before .before .before .before .before .before .before .before .before .before .hashes .ensures)) (quad-is (c .before .before .before .before .before .before .before .before .before .before .before .hash-quad .ensures) (c .before .before .before .before .before .before .before .before .before .before .before .before .hash-in .ensures)) (quad-small (c .before .before .before .before .before .before .before .before .before .before .before .hash-quad .ensures))
-    (c .before .before .before .before .before .before .before .before .before .before .along .ensures) (rw (c .before .before .before .before .before .before .before .before .before .before .before .before .before .before .before .before .before .rows .ensures .word) at (c .before .before .before .before .before .before .before .before .before .along2 .ensures)) (c .before .before .before .before .before .either .ensures) (c .before .before .before .before .put-owner .ensures) (omega (arith, c .before .before .before .before .put-owner .kept)) (c .before .before .before .before .before .before .before .before .before .before .before .before .before .before .before .before .before .before .before .before .before .pre .2)
+loop-again c =
+    let given = c .before .before .before .before .before .before .before .before .before .before .before .before .before .before .before .before .before .before .before .before .before .pre in
+    let taken = c .before .before .before .before .before .before .before .before .before .before .before .before .before .loop-test .taken in
+    let quad = c .before .before .before .before .before .before .before .before .before .before .before .hash-quad .ensures in
+    let word = c .before .before .before .before .before .before .before .before .before .before .before .before .before .before .before .before .before .rows .ensures .word in
+    let second = rw word at (c .before .before .before .before .before .before .before .before .before .along2 .ensures) in
+    walking-more (c .before .before .before .before .before .before .before .before .before .before .before .before .before .before .loop .inv) (given .1)
+    (c .before .before .before .before .before .before .before .before .before .before .before .before .before .before .before .before .first-wtxid .ensures)
+    (omega (arith, taken, c .before .before .before .before .before .before .before .before .before .before .before .before .before .before .before .hashes .ensures))
+    (quad-is quad (c .before .before .before .before .before .before .before .before .before .before .before .before .hash-in .ensures)) (quad-small quad)
+    (c .before .before .before .before .before .before .before .before .before .before .along .ensures) second (c .before .before .before .before .before .either .ensures)
+    (c .before .before .before .before .put-owner .ensures)
+    (omega (arith, c .before .before .before .before .put-owner .kept)) (given .2)
 
 same-length : tie.Need-same-length Inv-loop μ-loop
 same-length c = c .before .loop .inv .long
@@ -71,4 +137,5 @@ returns c = walking-done (c .before .loop .inv) (c .before .before .before .befo
 pub owners-of-spec : {M : Type 1} → statement M
 owners-of-spec =
     tie.close
-    (tie.spec Inv-loop μ-loop rows-requires first-wtxid-requires hashes-requires loop-holds hash-in-requires hash-quad-requires along-requires along-requires-2 either-requires put-owner-requires add-passed add-passed-2 add-p loop-less loop-again same-length returns)
+    (tie.spec Inv-loop μ-loop rows-requires first-wtxid-requires hashes-requires loop-holds hash-in-requires hash-quad-requires along-requires along-requires-2 either-requires
+    put-owner-requires add-passed add-passed-2 add-p loop-less loop-again same-length returns)

@@ -45,8 +45,12 @@ quad-less-requires : tie.Need-quad-less-requires Inv-loop μ-loop
 quad-less-requires c κs = search needs
 
 returns : tie.Need-returns Inv-loop μ-loop
-returns c = breaks (hashesIn (c .before .before .before .before .before .before .before .before .before .before .args .hashes .now)) (c .before .before .before .before .before .before .before .loop .i) (omega (arith, c .before .before .before .before .before .before .loop-test .taken, c .before .before .before .before .before .before .before .before .hashes .ensures)) (c .before .before .before .before .before .before .before .loop .inv .1)
-    (c .before .quad-less .ensures ∙ (λ i. ltb (quad-is (c .before .before .before .before .hash-quad .ensures) (c .before .before .before .before .before .hash-in .ensures) i) (quad-is (c .before .before .hash-quad2 .ensures) (c .before .before .before .hash-in2 .ensures) i))) (not-true (c .before .quad-less .result) (c .if1 .taken))
+returns c = breaks (hashesIn (c .before .before .before .before .before .before .before .before .before .before .args .hashes .now))
+    (c .before .before .before .before .before .before .before .loop .i)
+    (omega (arith, c .before .before .before .before .before .before .loop-test .taken, c .before .before .before .before .before .before .before .before .hashes .ensures))
+    (c .before .before .before .before .before .before .before .loop .inv .1)
+    (c .before .quad-less .ensures ∙ (λ i. ltb (quad-is (c .before .before .before .before .hash-quad .ensures) (c .before .before .before .before .before .hash-in .ensures) i)
+    (quad-is (c .before .before .hash-quad2 .ensures) (c .before .before .before .hash-in2 .ensures) i))) (not-true (c .before .quad-less .result) (c .if1 .taken))
 
 add-i : tie.Need-add-i Inv-loop μ-loop
 add-i c = omega (arith, c .before .before .before .before .before .before .loop-test .taken)
@@ -57,14 +61,19 @@ loop-less c = omega (arith, c .before .before .before .before .before .before .l
 loop-again : tie.Need-loop-again Inv-loop μ-loop
 loop-again c = (
   omega (arith, c .before .before .before .before .before .before .loop-test .taken, c .before .before .before .before .before .before .before .before .hashes .ensures),
-  goes-on (hashesIn (c .before .before .before .before .before .before .before .before .before .before .args .hashes .now)) (c .before .before .before .before .before .before .before .loop .i) (omega (arith, c .before .before .before .before .before .before .loop-test .taken, c .before .before .before .before .before .before .before .before .hashes .ensures)) (c .before .before .before .before .before .before .before .loop .inv .1)
-      (c .before .quad-less .ensures ∙ (λ i. ltb (quad-is (c .before .before .before .before .hash-quad .ensures) (c .before .before .before .before .before .hash-in .ensures) i) (quad-is (c .before .before .hash-quad2 .ensures) (c .before .before .before .hash-in2 .ensures) i))) (not-false (c .before .quad-less .result) (c .if1 .left)),
+  goes-on (hashesIn (c .before .before .before .before .before .before .before .before .before .before .args .hashes .now)) (c .before .before .before .before .before .before .before .loop .i)
+      (omega (arith, c .before .before .before .before .before .before .loop-test .taken, c .before .before .before .before .before .before .before .before .hashes .ensures))
+      (c .before .before .before .before .before .before .before .loop .inv .1)
+      (c .before .quad-less .ensures ∙ (λ i. ltb (quad-is (c .before .before .before .before .hash-quad .ensures) (c .before .before .before .before .before .hash-in .ensures) i)
+      (quad-is (c .before .before .hash-quad2 .ensures) (c .before .before .before .hash-in2 .ensures) i))) (not-false (c .before .quad-less .result) (c .if1 .left)),
 )
 
 returns-2 : tie.Need-returns-2 Inv-loop μ-loop
-returns-2 c = sym (c .before .loop .inv .1 ∙ ended (hashesIn (c .before .before .before .before .args .hashes .now)) (c .before .loop .i) (omega (arith, c .loop-test .left, c .before .before .hashes .ensures)))
+returns-2 c = sym (c .before .loop .inv .1 ∙ ended (hashesIn (c .before .before .before .before .args .hashes .now)) (c .before .loop .i)
+    (omega (arith, c .loop-test .left, c .before .before .hashes .ensures)))
 
 pub ascends-spec : {M : Type 1} → statement M
 ascends-spec =
     tie.close
-    (tie.spec Inv-loop μ-loop hashes-requires loop-holds add-loop hash-in-requires hash-quad-requires add-hash-in hash-in-requires-2 hash-quad-requires-2 quad-less-requires returns add-i loop-less loop-again returns-2)
+    (tie.spec Inv-loop μ-loop hashes-requires loop-holds add-loop hash-in-requires hash-quad-requires add-hash-in hash-in-requires-2 hash-quad-requires-2
+    quad-less-requires returns add-i loop-less loop-again returns-2)

@@ -19,7 +19,8 @@ of-hashes-and-buffer-requires c κs = search needs
 returns : tie.Need-returns
 returns c =
     let hs = hashesIn (c .before .before .before .before .before .before .before .args .hashes .now) in
-    owners-refused hs _ (c .before .before .before .before .before .before .before .pre) (sized-hashes hs _ (c .before .of-hashes-and-buffer .ensures hs (c .before .before .before .wrong .ensures)) (c .before .before .needs .ensures)) (c .if1 .taken)
+    owners-refused hs _ (c .before .before .before .before .before .before .before .pre)
+    (sized-hashes hs _ (c .before .of-hashes-and-buffer .ensures hs (c .before .before .before .wrong .ensures)) (c .before .before .needs .ensures)) (c .if1 .taken)
 
 need-of-requires : tie.Need-need-of-requires
 need-of-requires c κs = search needs
@@ -30,7 +31,8 @@ slice-aggregate-owners-of c = search needs
 owners-of-requires : tie.Need-owners-of-requires
 owners-of-requires c κs =
     let hs = hashesIn (c .before .before .before .before .before .before .before .before .before .before .args .hashes .now) in
-    let p = passed-hashes (c .before .before .before .before .of-hashes-and-buffer .ensures hs (c .before .before .before .before .before .before .wrong .ensures)) (c .before .before .before .if1 .left) in
+    let p = passed-hashes (c .before .before .before .before .of-hashes-and-buffer .ensures hs (c .before .before .before .before .before .before .wrong .ensures))
+    (c .before .before .before .if1 .left) in
     (c .before .before .need-of .ensures .kept, right-order hs (p .right), omega (arith, p .room, c .before .before .before .before .before .needs .ensures))
 
 same-length : tie.Need-same-length
@@ -39,7 +41,10 @@ same-length c = search needs
 returns-2 : tie.Need-returns-2
 returns-2 c =
     let hs = hashesIn (c .before .before .before .before .before .before .before .before .before .before .before .before .before .args .hashes .now) in
-    owners-done hs _ (c .before .before .before .before .before .before .before .before .before .before .before .before .before .pre) (sized-hashes hs _ (c .before .before .before .before .before .before .before .of-hashes-and-buffer .ensures hs (c .before .before .before .before .before .before .before .before .before .wrong .ensures)) (c .before .before .before .before .before .before .before .before .needs .ensures)) (c .before .before .before .before .before .before .if1 .left) (c .before .before .before .before .before .need-of .ensures)
+    owners-done hs _ (c .before .before .before .before .before .before .before .before .before .before .before .before .before .pre)
+    (sized-hashes hs _ (c .before .before .before .before .before .before .before .of-hashes-and-buffer .ensures hs
+    (c .before .before .before .before .before .before .before .before .before .wrong .ensures)) (c .before .before .before .before .before .before .before .before .needs .ensures))
+    (c .before .before .before .before .before .before .if1 .left) (c .before .before .before .before .before .need-of .ensures)
     (λ i. omega (arith, c .before .before .before .before .before .before .before .before .before .before .before .before .shared-slice-known .given i)) (c .before .before .owners-of .ensures)
 
 pub owners-of-spec : {M : Type 1} → statement M
