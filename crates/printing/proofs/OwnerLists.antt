@@ -8,7 +8,7 @@ use native.Mathlib.Omega.{arith}
 use lib.ListN.{length, take, drop, getD, length-append}
 use lib.Seq.{take-all, drop-drop}
 use borrow.Author.Tests.{ne-eqb}
-use Rattle.ident.specs.Number.{Key}
+use Rattle.ident.specs.declared.Kind.{Kind}
 use Rattle.words.specs.Words.{number, words}
 use Rattle.words.proofs.Words.{word-at}
 use Rattle.machine.specs.Owners.{Holding}
@@ -18,7 +18,7 @@ use Rattle.machine.specs.Step.{Reply, Owned, answerBytes}
 use Rattle.machine.proofs.Owners.{length-holdingsAnswer}
 use Rattle.lines.specs.Text.{decimal, decimalDigits, keyText, Wrote}
 use Rattle.lines.proofs.Numerals.{length-numeral}
-use Rattle.lines.proofs.Writing.{wrote-more}
+use Rattle.lines.proofs.Writing.{wrote-more, wrote-none}
 use Rattle.printing.specs.Replies.{joined, noneText, ownerText, ownerTexts, replyText}
 use Rattle.printing.specs.Given.{answerRoom, mostOwners, ownerRoom, taggedKind, behind, OwnersFit, Printed, ReplyPrinted}
 use Rattle.printing.proofs.KeyLists.{key-length}
@@ -37,9 +37,9 @@ words-are u i h l {t} {c} {d} et ec ed =
     let e₂ : 8 * (i * 3 + 2) ≡ ownerBytes * i + 8 + 8 = omega arith in
     let x : number 256 (take 8 (drop (ownerBytes * i) u)) ≡ t = sym (et ∙ word-at u (i * 3) (omega arith) ∙ ap (λ (n : ℕ). number 256 (take 8 (drop n u))) e₀) in
     let y : number 256 (take 8 (drop 8 (drop (ownerBytes * i) u))) ≡ c =
-    ap (λ (z : List ℕ). number 256 (take 8 z)) (drop-drop (ownerBytes * i) 8 u) ∙ sym (ec ∙ word-at u (i * 3 + 1) (omega arith) ∙ ap (λ (n : ℕ). number 256 (take 8 (drop n u))) e₁) in
+    ap (λ (z : List ℕ). number 256 (take 8 z)) (drop-drop 8 (ownerBytes * i) u) ∙ sym (ec ∙ word-at u (i * 3 + 1) (omega arith) ∙ ap (λ (n : ℕ). number 256 (take 8 (drop n u))) e₁) in
     let w : number 256 (take 8 (drop 8 (drop 8 (drop (ownerBytes * i) u)))) ≡ d =
-    ap (λ (z : List ℕ). number 256 (take 8 (drop 8 z))) (drop-drop (ownerBytes * i) 8 u) ∙ ap (λ (z : List ℕ). number 256 (take 8 z)) (drop-drop (ownerBytes * i + 8) 8 u)
+    ap (λ (z : List ℕ). number 256 (take 8 (drop 8 z))) (drop-drop 8 (ownerBytes * i) u) ∙ ap (λ (z : List ℕ). number 256 (take 8 z)) (drop-drop 8 (ownerBytes * i + 8) u)
     ∙ sym (ed ∙ word-at u (i * 3 + 2) (omega arith) ∙ ap (λ (n : ℕ). number 256 (take 8 (drop n u))) e₂) in
     (λ j. holdingFrom h (x j) (y j) (w j))
 
@@ -60,9 +60,12 @@ texts-are : (a : Holding) → behind (ownerText (some a)) ≡ (((44 ∷ []) ++ k
 unfolding behind
 texts-are a = simp (append-assoc, append-nil)
 
-owner-length : (o : Option Holding) → length (behind (ownerText o)) ≤ ownerRoom
+none-is : behind (ownerText none) ≡ 44 ∷ noneText
 unfolding behind
-owner-length none = omega arith
+none-is = refl
+
+owner-length : (o : Option Holding) → length (behind (ownerText o)) ≤ ownerRoom
+owner-length none = omega (arith, ap length none-is)
 owner-length (some a) =
     let k = key-length (a .key) in
     let c = length-numeral 10 decimalDigits (a .connection) in
@@ -71,15 +74,15 @@ owner-length (some a) =
 
 module _ (u : Buffer) (i h : ℕ) (l : ownerBytes * i + ownerBytes ≤ length u) {s : List ℕ} {at : ℕ} where
   pub wrote-nobody : {s′ : List ℕ} {r t : ℕ} → t ≡ getD (words u) (i * 3) 0 → t ≡ 0 → Wrote s s′ at (44 ∷ noneText) r → Wrote s s′ at (behind (ownerText (holdingIn h (drop (ownerBytes * i) u)))) r
-  unfolding behind
-  wrote-nobody e z w = rw (words-are u i h l e refl refl ∙ no-tag h _ _ z) w
+  wrote-nobody e z w = rw (words-are u i h l e refl refl ∙ no-tag h _ _ z, none-is) w
 
   pub wrote-owner : {t c d : ℕ} → t ≡ getD (words u) (i * 3) 0 → c ≡ getD (words u) (i * 3 + 1) 0 → d ≡ getD (words u) (i * 3 + 2) 0 → (t ≡ 0 → ⊥) → at + ownerRoom ≤ length s
-      → {s₁ s₂ s₃ s₄ : List ℕ} {e₁ e₂ e₃ r : ℕ} → Wrote s s₁ at (44 ∷ []) e₁ → Wrote s₁ s₂ e₁ (keyText (record { kind = taggedKind t; hash = h })) e₂
+      → {k : Kind} → k ≡ taggedKind t → {s₁ s₂ s₃ s₄ : List ℕ} {e₁ e₂ e₃ r : ℕ} → Wrote s s₁ at (44 ∷ []) e₁ → Wrote s₁ s₂ e₁ (keyText (record { kind = k; hash = h })) e₂
       → Wrote s₂ s₃ e₂ (44 ∷ decimal c) e₃ → Wrote s₃ s₄ e₃ (44 ∷ decimal d) r
       → Wrote s s₄ at (behind (ownerText (holdingIn h (drop (ownerBytes * i) u)))) r
-  wrote-owner {t} {c} {d} et ec ed n room w₁ w₂ w₃ w₄ =
-      let k = key-length (told h t c d .key) in
+  wrote-owner {t} {c} {d} et ec ed n room {k} ek {s₁} {s₂} {s₃} {s₄} {e₁} {e₂} w₁ v w₃ w₄ =
+      let w₂ : Wrote s₁ s₂ e₁ (keyText (told h t c d .key)) e₂ = subst (λ (x : Kind). Wrote s₁ s₂ e₁ (keyText (record { kind = x; hash = h })) e₂) ek v in
+      let l₁ = key-length (told h t c d .key) in
       let lc = length-numeral 10 decimalDigits c in
       let ld = length-numeral 10 decimalDigits d in
       let n₁ = w₁ .next in
@@ -101,7 +104,7 @@ last-owner [] u i h = absurd (omega arith)
 last-owner (g ∷ hs) u zero h = refl
 last-owner (g ∷ hs) u (suc i) h =
     let e : ownerBytes + ownerBytes * i ≡ ownerBytes * suc i = omega arith in
-    let v : drop (ownerBytes * i) (drop ownerBytes u) ≡ drop (ownerBytes * suc i) u = drop-drop ownerBytes (ownerBytes * i) u ∙ ap (λ (n : ℕ). drop n u) e in
+    let v : drop (ownerBytes * i) (drop ownerBytes u) ≡ drop (ownerBytes * suc i) u = drop-drop (ownerBytes * i) ownerBytes u ∙ ap (λ (n : ℕ). drop n u) e in
     ap (λ (l : List (Option Holding)). holdingIn g u ∷ l)
     (last-owner hs (drop ownerBytes u) i (omega arith) ∙ ap (λ (x : Buffer). take i (holdingsIn hs (drop ownerBytes u)) ++ (holdingIn (getD hs i 0) x ∷ [])) v)
 
@@ -110,33 +113,29 @@ unfolding holdingsIn
 length-owners [] u = refl
 length-owners (h ∷ hs) u = ap suc (length-owners hs (drop ownerBytes u))
 
--- the owners of the first i hashes are told
-abbrev pub toldText : ℕ → ℕ → List ℕ → Buffer → List ℕ
-toldText passed i hs u = decimal passed ++ behind (ownerTexts (take i (holdingsIn hs u)))
-
-pub record Telling (hs : List ℕ) (u out₀ out : Buffer) (passed to i : ℕ) : Type 0 where
+-- the owners of the first i hashes are told, each text behind a comma, from `at` on
+pub record Telling (hs : List ℕ) (u out₀ out : Buffer) (at to i : ℕ) : Type 0 where
   pub most : i ≤ length hs
   pub long : length out ≡ length out₀
-  pub ends : to ≤ decimalDigits + ownerRoom * i
-  pub wrote : Wrote out₀ out 0 (toldText passed i hs u) to
+  pub ends : to ≤ at + ownerRoom * i
+  pub wrote : Wrote out₀ out at (behind (ownerTexts (take i (holdingsIn hs u)))) to
 
-module _ (hs : List ℕ) (u : Buffer) {out₀ : List ℕ} (passed : ℕ) where
-  pub telling-none : {out : List ℕ} {to : ℕ} → length out ≡ length out₀ → Wrote out₀ out 0 (decimal passed) to → Telling hs u out₀ out passed to 0
+module _ (hs : List ℕ) (u : Buffer) {out₀ : List ℕ} {at : ℕ} where
+  pub telling-none : Telling hs u out₀ out₀ at at 0
   unfolding behind ownerTexts
-  telling-none l w = record { most = omega arith; long = l; ends = decimal-end passed w; wrote = rw (append-nil (decimal passed)) w }
+  telling-none = record { most = omega arith; long = refl; ends = omega arith; wrote = record { bytes = (wrote-none out₀ at) .bytes; next = omega arith } }
 
-  pub telling-more : {out out′ : List ℕ} {to i h r : ℕ} → Telling hs u out₀ out passed to i → i < length hs → h ≡ getD hs i 0 → to + ownerRoom ≤ length out₀ → length out′ ≡ length out
-      → Wrote out out′ to (behind (ownerText (holdingIn h (drop (ownerBytes * i) u)))) r → Telling hs u out₀ out′ passed r (i + 1)
+  pub telling-more : {out out′ : List ℕ} {to i h r : ℕ} → Telling hs u out₀ out at to i → i < length hs → h ≡ getD hs i 0 → to + ownerRoom ≤ length out₀ → length out′ ≡ length out
+      → Wrote out out′ to (behind (ownerText (holdingIn h (drop (ownerBytes * i) u)))) r → Telling hs u out₀ out′ at r (i + 1)
   telling-more {out} {out′} {to} {i} {h} {r} t m e room l w =
       let o = holdingIn h (drop (ownerBytes * i) u) in
       let k = owner-length o in
-      let x : toldText passed (i + 1) hs u ≡ toldText passed i hs u ++ behind (ownerText o) =
-      ap (λ (n : ℕ). toldText passed n hs u) (add-one i)
-      ∙ ap (λ (q : List (Option Holding)). decimal passed ++ behind (ownerTexts q))
+      let x : behind (ownerTexts (take (i + 1) (holdingsIn hs u))) ≡ behind (ownerTexts (take i (holdingsIn hs u))) ++ behind (ownerText o) =
+      ap (λ (n : ℕ). behind (ownerTexts (take n (holdingsIn hs u)))) (add-one i)
+      ∙ ap (λ (q : List (Option Holding)). behind (ownerTexts q))
       (last-owner hs u i m ∙ ap (λ (n : ℕ). take i (holdingsIn hs u) ++ (holdingIn n (drop (ownerBytes * i) u) ∷ [])) (sym e))
-      ∙ ap (λ (q : List (List ℕ)). decimal passed ++ behind q) (texts-last (take i (holdingsIn hs u)) o)
-      ∙ ap (_++_ (decimal passed)) (behind-both (ownerTexts (take i (holdingsIn hs u))) (ownerText o))
-      ∙ sym (append-assoc (decimal passed) (behind (ownerTexts (take i (holdingsIn hs u)))) (behind (ownerText o))) in
+      ∙ ap behind (texts-last (take i (holdingsIn hs u)) o)
+      ∙ behind-both (ownerTexts (take i (holdingsIn hs u))) (ownerText o) in
       record {
         most = omega arith;
         long = l ∙ t .long;
@@ -144,19 +143,22 @@ module _ (hs : List ℕ) (u : Buffer) {out₀ : List ℕ} (passed : ℕ) where
         wrote = rw x (wrote-more (t .wrote) w (omega arith));
       }
 
-  pub telling-all : {out : List ℕ} {to i : ℕ} → Telling hs u out₀ out passed to i → length hs ≤ i → length hs ≤ mostOwners → Printed out₀ out (joined (decimal passed ∷ ownerTexts (holdingsIn hs u))) to
-  telling-all {out} {to} {i} t m f =
+  pub telling-all : {s out : List ℕ} {to i : ℕ} (passed : ℕ) → answerRoom ≤ length s → Wrote s out₀ 0 (decimal passed) at → Telling hs u out₀ out at to i → length hs ≤ i → length hs ≤ mostOwners
+      → Printed s out (joined (decimal passed ∷ ownerTexts (holdingsIn hs u))) to
+  telling-all {s} {out} {to} {i} passed room p t m f =
       let e : take i (holdingsIn hs u) ≡ holdingsIn hs u = take-all i (holdingsIn hs u) (omega (arith, length-owners hs u)) in
+      let q : Wrote out₀ out at (behind (ownerTexts (holdingsIn hs u))) to = subst (λ (l : List (Option Holding)). Wrote out₀ out at (behind (ownerTexts l)) to) e (t .wrote) in
+      let d = decimal-end passed p in
       record {
-        wrote = rw (joined-behind (decimal passed) (ownerTexts (holdingsIn hs u))) (subst (λ (q : List (Option Holding)). Wrote out₀ out 0 (decimal passed ++ behind (ownerTexts q)) to) e (t .wrote));
+        wrote = rw (joined-behind (decimal passed) (ownerTexts (holdingsIn hs u))) (wrote-more p q (omega (arith, q .next, t .ends, t .most)));
         room = omega (arith, t .ends, t .most);
       }
 
 -- ---- the reply
 
 pub owners-fit : (hs : List ℕ) (u : Buffer) {y : Reply} {n : ℕ} → y ≡ Owned n (holdingsIn hs u) → OwnersFit y u → (length hs ≤ mostOwners) × (ownerBytes * length hs ≤ length u)
-owners-fit hs u e f =
-    let k : length (answerBytes (Owned _ (holdingsIn hs u))) ≡ ownerBytes * length hs = length-holdingsAnswer (holdingsIn hs u) ∙ ap (_*_ ownerBytes) (length-owners hs u) in
+owners-fit hs u {y} {n} e f =
+    let k : length (answerBytes (Owned n (holdingsIn hs u))) ≡ ownerBytes * length hs = length-holdingsAnswer (holdingsIn hs u) ∙ ap (_*_ ownerBytes) (length-owners hs u) in
     let g = ap (λ (z : Reply). length (answerBytes z)) e in
     (omega (arith, f .long, f .fits, k, g), omega (arith, f .fits, k, g))
 
