@@ -251,10 +251,12 @@ impl Machine {
             let owner = request_out(key_in(key), requests.get(&key_in(key))?).owner?;
             Some(Holding { key, connection: owner.connection, deadline: owner.deadline })
         };
-        let owners = hashes.iter().map(|hash| held(Key::txid(*hash)).or_else(|| held(Key::wtxid(*hash)))).collect();
-        let passed = hashes.iter().max().map_or(0, |greatest| {
-            requests.keys().filter(|key| key_out(**key).hash <= *greatest).count()
-        });
+        let owners =
+            hashes.iter().map(|hash| held(Key::txid(*hash)).or_else(|| held(Key::wtxid(*hash)))).collect();
+        let passed = hashes
+            .iter()
+            .max()
+            .map_or(0, |greatest| requests.keys().filter(|key| key_out(**key).hash <= *greatest).count());
         Reply::Owners(passed as u64, owners)
     }
 

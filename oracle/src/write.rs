@@ -65,7 +65,9 @@ pub fn reply(reply: &Reply) -> String {
         }
         Reply::Entries(entries) => list(entries.iter().map(entry).collect()),
         Reply::Sum(held, free, preferred, permille) => format!("{held},{free},{preferred},{permille}"),
-        Reply::Owners(passed, owners) => counted(*passed, owners.iter().map(|owner| or_none(owner.map(holding)))),
+        Reply::Owners(passed, owners) => {
+            counted(*passed, owners.iter().map(|owner| or_none(owner.map(holding))))
+        }
     }
 }
 

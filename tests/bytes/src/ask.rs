@@ -119,7 +119,8 @@ impl Answer {
                 answer.put_keys(own.iter().chain(parents));
             }
             Reply::Planned(considered, entries, next) => {
-                [answer.out[0], answer.out[1], answer.out[2]] = [*considered, entries.len() as u64, next.unwrap_or(0)];
+                [answer.out[0], answer.out[1], answer.out[2]] =
+                    [*considered, entries.len() as u64, next.unwrap_or(0)];
                 answer.put_entries(entries);
             }
             Reply::Entries(entries) => {
@@ -190,7 +191,9 @@ fn key_bytes(key: Key) -> [u8; KEY] {
 
 /// 0 nobody, 1 Txid, 2 Wtxid; then connection and deadline.
 fn owner_bytes(owner: Option<Holding>) -> [u8; OWNER] {
-    let words = owner.map_or([0; 3], |owner| [1 + u64::from(owner.key.kind == Kind::Wtxid), owner.connection, owner.deadline]);
+    let words = owner.map_or([0; 3], |owner| {
+        [1 + u64::from(owner.key.kind == Kind::Wtxid), owner.connection, owner.deadline]
+    });
     std::array::from_fn(|i| words[i / 8].to_le_bytes()[i % 8])
 }
 

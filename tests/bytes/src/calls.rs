@@ -20,6 +20,9 @@ macro_rules! listed {
 
 pub use counts::{case as counts_case, counted};
 
+/// The call that tells the owners of many hashes.
+pub static OWNERS: &[&Spec] = &[&owners_of::SPEC];
+
 /// The calls that end a request or its owner's part in it, and those of packages.
 pub static PACKAGES: &[&Spec] = &[
     &failed::SPEC,
