@@ -1,3 +1,4 @@
+-- `owners::either` meets its contract.
 use Rattle.owners.proofs.Entries.{first-is, second-is}
 use Rattle.owners.proofs.either.Statement.{statement}
 use Rattle.owners.proofs.either.Tie as tie

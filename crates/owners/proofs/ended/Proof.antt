@@ -1,3 +1,4 @@
+-- `owners::ended` meets its contract.
 use mathlib.Core.Path.{sym, ap, _∙_}
 use lib.Dec.{lit≤}
 use borrow.Author.Needs.{needs}

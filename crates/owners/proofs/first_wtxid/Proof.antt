@@ -1,3 +1,4 @@
+-- `owners::first_wtxid` meets its contract.
 use Rattle.requests.proofs.Keeping.{kept-shown}
 use Rattle.owners.proofs.Halves.{parts}
 use Rattle.owners.proofs.first_wtxid.Statement.{statement}

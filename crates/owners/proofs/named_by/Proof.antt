@@ -1,3 +1,4 @@
+-- `owners::named_by` meets its contract.
 use borrow.Author.Needs.{needs}
 use Rattle.owners.proofs.Entries.{row-owns, row-idle}
 use Rattle.owners.proofs.named_by.Statement.{statement}

@@ -1,3 +1,4 @@
+-- `owners::owners_of` meets its contract.
 use Prim.Native.Nat.{_-_}
 use mathlib.Core.Path.{_≡_, refl, sym, ap, subst, _∙_}
 use native.Mathlib.Omega.{arith}
@@ -46,8 +47,7 @@ along-requires-2 c κs =
     let w = c .before .before .before .before .before .before .before .rows .ensures .word in (
       kept-shown (c .before .before .before .before .before .before .before .before .before .before .before .pre .0),
       omega (arith, c .before .before .before .before .loop .inv .second, w),
-      omega
-          (arith, w),
+      omega (arith, w),
     )
 
 either-requires : tie.Need-either-requires Inv-loop μ-loop

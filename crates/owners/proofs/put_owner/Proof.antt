@@ -1,3 +1,4 @@
+-- `owners::put_owner` meets its contract.
 use Prim.Native.Nat.{_*_}
 use mathlib.Core.Path.{_≡_}
 use native.Mathlib.Omega.{arith}

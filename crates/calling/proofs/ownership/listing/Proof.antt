@@ -20,12 +20,14 @@ put-owners-requires c κs =
 returns : tie.Need-returns
 returns c =
     let s = c .before .before .before .before .before .before .before .before .before .before in
-    refused-printed (ap (λ (x : Listing). ownersOf (hashesIn (s .args .hashes .now)) x (s .args .answer .now)) (c .before .before .before .before .before .a .given .1)) (c .before .before .refusal .ensures)
+    refused-printed (ap (λ (x : Listing). ownersOf (hashesIn (s .args .hashes .now)) x (s .args .answer .now)) (c .before .before .before .before .before .a .given .1))
+    (c .before .before .refusal .ensures)
 
 returns-2 : tie.Need-returns-2
 returns-2 c =
     let s = c .before .before .before .before .before .before .before .before .before .before in
-    owners-printed _ _ (ap (λ (x : Listing). ownersOf (hashesIn (s .args .hashes .now)) x (s .args .answer .now)) (c .before .before .before .before .before .a2 .given .1)) (c .before .before .put-owners .ensures)
+    owners-printed _ _ (ap (λ (x : Listing). ownersOf (hashesIn (s .args .hashes .now)) x (s .args .answer .now)) (c .before .before .before .before .before .a2 .given .1))
+    (c .before .before .put-owners .ensures)
 
 pub listing-spec : {M : Type 1} → statement M
 listing-spec =

@@ -18,7 +18,8 @@ returns : tie.Need-returns
 returns c =
     let s = c .before .before .before .before .before .before .before .before .before .before .before .before .before in
     carried _
-    (does-is (ap (λ (u : Buffer). OwnersOf (hashesIn (s .args .hashes .now)) u) (c .before .before .before .before .before .before .before .before .before .owners-buffer .ensures)) (c .before .before .before .before .before .before .owners-of .ensures)) refl
+    (does-is (ap (λ (u : Buffer). OwnersOf (hashesIn (s .args .hashes .now)) u) (c .before .before .before .before .before .before .before .before .before .owners-buffer .ensures))
+    (c .before .before .before .before .before .before .owners-of .ensures)) refl
     (c .before .before .listing .ensures .text _)
 
 pub owners-of-spec : {M : Type 1} → statement M

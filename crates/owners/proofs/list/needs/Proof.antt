@@ -1,3 +1,4 @@
+-- `owners::list::needs` meets its contract.
 use native.Mathlib.Omega.{arith}
 use borrow.Author.Needs.{needs}
 use Rattle.lent_lists.proofs.Given.{length-hashes}

@@ -10,32 +10,33 @@ use Rattle.printing.proofs.holdings.put_owner.Tie as tie
 returns : tie.Need-returns
 returns c =
     let s = c .before .before .before .before .before .before .before .before .before in
-    wrote-nobody (s .args .answer .now) (s .args .i) (quadNumber (s .args .h)) (s .pre .0) (c .before .before .before .before .before .before .get .ensures) (c .before .before .before .before .before .if1 .taken) (c .before .before .put-bytes .ensures)
+    wrote-nobody (s .args .answer .now) (s .args .i) (quadNumber (s .args .h)) (s .pre .0) (c .before .before .before .before .before .before .get .ensures)
+    (c .before .before .before .before .before .if1 .taken) (c .before .before .put-bytes .ensures)
 
 put-number-requires : tie.Need-put-number-requires
 put-number-requires c κs =
     let k = c .before .before .before .put-key in
     let b = c .before .before .before .before .before .before .before .put-bytes2 in
-    omega (arith, key-end _ (k .ensures), k .kept, b .ensures .next, b .kept, c .before .before .before .before .before .before .before .before .before .before .before .before .before .before .before .before .before .pre .1)
+    let p = c .before .before .before .before .before .before .before .before .before .before .before .before .before .before .before .before .before .pre in
+    omega (arith, key-end _ (k .ensures), k .kept, b .ensures .next, b .kept, p .1)
 
 put-number-requires-2 : tie.Need-put-number-requires-2
 put-number-requires-2 c κs =
     let n = c .before .before .before .put-number in
     let k = c .before .before .before .before .before .before .before .put-key in
     let b = c .before .before .before .before .before .before .before .before .before .before .before .put-bytes2 in
-    omega (arith, number-end _ (n .ensures), n .kept, key-end _ (k .ensures), k .kept, b .ensures .next, b .kept, c .before .before .before .before .before .before .before .before .before .before .before .before .before .before .before .before .before .before .before .before .before .pre .1)
+    let p = c .before .before .before .before .before .before .before .before .before .before .before .before .before .before .before .before .before .before .before .before .before .pre in
+    omega (arith, number-end _ (n .ensures), n .kept, key-end _ (k .ensures), k .kept, b .ensures .next, b .kept, p .1)
 
 returns-2 : tie.Need-returns-2
 returns-2 c =
-    let s = c .before .before .before .before .before .before .before .before .before .before .before .before .before .before .before .before .before .before .before .before .before .before .before .before in
+    let t = c .before .before .before .before .before .before .before .before .before .before .before .before .before .before .before .before .before in
+    let s = t .before .before .before .before .before .before .before in
     wrote-owner (s .args .answer .now) (s .args .i) (quadNumber (s .args .h)) (s .pre .0)
-    (c .before .before .before .before .before .before .before .before .before .before .before .before .before .before .before .before .before .before .before .before .before .get .ensures)
-    (c .before .before .before .before .before .before .before .before .before .before .before .before .before .before .before .before .before .before .before .get2 .ensures)
-    (c .before .before .before .before .before .before .before .before .before .before .before .before .before .before .before .before .before .before .get3 .ensures)
-    (c .before .before .before .before .before .before .before .before .before .before .before .before .before .before .before .before .before .before .before .before .if1 .left) (s .pre .1)
-    (c .before .before .before .before .before .before .before .before .before .before .before .before .before .before .before .before .before .kind-of .ensures)
+    (t .before .before .before .before .get .ensures) (t .before .before .get2 .ensures) (t .before .get3 .ensures) (t .before .before .before .if1 .left) (s .pre .1) (t .kind-of .ensures)
     (c .before .before .before .before .before .before .before .before .before .before .before .before .before .before .put-bytes2 .ensures)
-    (c .before .before .before .before .before .before .before .before .before .before .put-key .ensures) (c .before .before .before .before .before .before .put-number .ensures) (c .before .before .put-number2 .ensures)
+    (c .before .before .before .before .before .before .before .before .before .before .put-key .ensures)
+    (c .before .before .before .before .before .before .put-number .ensures) (c .before .before .put-number2 .ensures)
 
 pub put-owner-spec : {M : Type 1} → statement M
 put-owner-spec =

@@ -34,7 +34,9 @@ put-owner-requires c κs =
     (omega (arith, t, n, s .pre .2), omega (arith, t, n, v .ends, v .long, decimal-end _ (d .ensures), d .kept, s .pre .0, s .pre .1))
 
 add-i : tie.Need-add-i Inv-loop μ-loop
-add-i c = omega (arith, c .before .before .before .before .before .before .loop-test .taken, c .before .before .before .before .before .before .before .before .before .before .before .before .hashes .ok)
+add-i c =
+    let n = c .before .before .before .before .before .before .before .before .before .before .before .before .hashes in
+    omega (arith, c .before .before .before .before .before .before .loop-test .taken, n .ok)
 
 loop-less : tie.Need-loop-less Inv-loop μ-loop
 loop-less c = omega (arith, c .before .before .before .before .before .before .loop-test .taken)
