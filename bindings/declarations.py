@@ -21,6 +21,7 @@ HANDED = {
     ("count",): ("usize", "count as usize"),
     ("taken",): ("usize", "taken as usize"),
     ("written",): ("usize", "written as usize"),
+    ("passed",): ("u64", "passed"),
     ("first", "count"): ("Range<usize>", "first as usize..(first + count) as usize"),
     ("considered", "count", "next"): ("Plan", "Plan { considered, count: count as usize, next: (next != 0).then_some(next) }"),
     ("own", "parents"): ("Left", "Left { own: own as usize, parents: parents as usize }"),
@@ -29,7 +30,7 @@ HANDED = {
     ("announced", "owned"): ("Counts", "Counts { announced, owned }"),
 }
 # Slices that are lists of hashes.
-LISTS = ("parents", "wtxids", "combined")
+LISTS = ("parents", "wtxids", "combined", "hashes")
 
 
 def filled(text, width, first="", rest=""):

@@ -4,8 +4,8 @@ import textwrap
 from declarations import RUST_WIDTH, filled, listed, signature
 from exported import SLICES
 
-# Refusal 8 hangs on the state: no type tells it.
-REFUSED = ("solicit_package_info",)
+# Refusal 8 hangs on the state, 13 on the order of a list: no type tells them.
+REFUSED = ("solicit_package_info", "owners_of")
 
 # Parameters that are one value: what is taken, what is done first, what is given on for each.
 GROUPS = {
@@ -35,6 +35,7 @@ BOUNDED = {"parents": ("Parents<'_>", "parents.txids()")}
 LISTS = {
     "wtxids": "Wtxid",
     "combined": "[u8; 32]",
+    "hashes": "[u8; 32]",
     "items": "Item",
     "given": "Key",
     "keys": "Key",
@@ -54,6 +55,7 @@ NEEDS = {
     "plan": "self.sizes.plan_need()",
     "claim": "checked.len() * bytes::ENTRY_BYTES",
     "arrange": "taken.len() * bytes::ENTRY_BYTES",
+    "owners_of": "hashes.len() * bytes::OWNER_BYTES",
 }
 KEYS = "Keys::new(&self.answer, {} as usize)"
 ENTRIES = "Entries::new(&self.answer, {} as usize)"
@@ -69,6 +71,7 @@ HANDED = {
 ANSWERED = {
     ("count",): ("Keys<'_>", KEYS.format("count")),
     ("own", "parents"): ("Departed<'_>", "Departed::new(&self.answer, own as usize, parents as usize)"),
+    ("passed",): ("Owned<'_>", "Owned { passed, owners: Owners::new(&self.answer, hashes.len() / 32) }"),
 }
 # What a method says where the function's comment speaks of the answer's bytes.
 SAID = {
@@ -109,6 +112,8 @@ SAID = {
     "plan": "Which candidate is to be asked for what, by priority: at most 1,025 entries. Owners whose deadline has come fail first.",
     "sum": "How many announcements are held, how many more fit of unpreferred newcomers and of preferred ones, and how full the tracker is in thousandths.",
     "counts": "How many announcements the connection has, and how many requests it owns, deadlines over or not.",
+    "owners_of": "Who owns each of the hashes, deadlines over or not, and how many keys were passed. [`Error::WrongHashes`] if they are more than 1,024 or not"
+    " in strictly ascending order, byte 31 being the most significant.",
 }
 
 # Examples, which are run as tests.
@@ -138,6 +143,22 @@ EXAMPLES = {
         let planned: Vec<Entry> = tracker.plan(now).entries.collect();
         tracker.claim(now, &planned[..1]); // it is asked for one of the two
         assert_eq!(tracker.counts(peer), Counts { announced: 2, owned: 1 });
+        # Ok::<(), tracker::Error>(())
+        """,
+    "owners_of": """
+        use tracker::{Announcement, Connection, Entry, Error, Item, Now, Owner, Tracker, Wtxid};
+
+        let mut tracker = Tracker::new(100, 2)?;
+        let (now, peer) = (Now::new(0)?, Connection::new(7).expect("not 0"));
+        tracker.announce(&Announcement::new(peer, Item::WTx(Wtxid([2; 32]))));
+        let planned: Vec<Entry> = tracker.plan(now).entries.collect();
+        tracker.claim(now, &planned);
+
+        let mut answer = tracker.owners_of(&[[1; 32], [2; 32]])?;
+        assert_eq!(answer.passed, 1); // the one key that is held
+        assert_eq!(answer.owners.next(), Some(None));
+        assert_eq!(answer.owners.next(), Some(Some(Owner { wtxid: true, connection: peer, deadline: 60_000 })));
+        assert_eq!(tracker.owners_of(&[[2; 32], [1; 32]]).err(), Some(Error::WrongHashes));
         # Ok::<(), tracker::Error>(())
         """,
     "solicit_package_info": """

@@ -21,6 +21,7 @@ impl Prepared {
     pub fn new(call: &Call) -> Self {
         let (list, priorities) = match call {
             Call::SolicitPackageInfo { parents, .. } => (hashes(parents), Vec::new()),
+            Call::OwnersOf { hashes: asked } => (hashes(asked), Vec::new()),
             Call::Plan { keys: Some(keys), .. } => (keys.iter().flat_map(key).collect(), Vec::new()),
             Call::Claim { checked, .. } => (checked.iter().flat_map(entry).collect(), Vec::new()),
             Call::AnnounceTransactions { items, .. } => (
@@ -49,6 +50,10 @@ impl Prepared {
                 Call::Sum => {
                     let call = if checked { abi::tracker_sum } else { owned::tracker_owned_sum };
                     call(start, length, &mut a, &mut b, &mut c, &mut d)
+                }
+                Call::OwnersOf { .. } => {
+                    let call = if checked { abi::tracker_owners_of } else { owned::tracker_owned_owners_of };
+                    call(start, length, list, list_length, room, room_length, &mut a)
                 }
                 Call::Failed { key, connection, now } => {
                     let call = if checked { abi::tracker_failed } else { owned::tracker_owned_failed };

@@ -169,6 +169,21 @@ fn claiming(l: u64) -> Scene {
     )
 }
 
+/// So many hashes spread over the table, the greatest among them, so that every row is passed; a twentieth of the requests is owned.
+fn owning(l: u64, count: usize) -> Scene {
+    let rng = &mut Rng::new(47);
+    let mut state = state(l, 16, requests(rng, l));
+    for request in state.requests.iter_mut().step_by(20) {
+        let connection = request.candidates[0].connection;
+        own(request, connection);
+    }
+    let mut hashes: Vec<Hash> = state.requests.iter().map(|request| request.key.hash).collect();
+    hashes.sort_unstable();
+    let (greatest, count) = (hashes.len() - 1, count.min(hashes.len()));
+    let hashes = (1..=count).map(|i| hashes[greatest * i / count]).collect();
+    scene(format!("owners_of, {count} hashes"), state, vec![Call::OwnersOf { hashes }; CALLS])
+}
+
 /// Every third or so request of the table holds a package with two parents, half of them in the queue, and has a second candidate.
 fn tearing(l: u64) -> Scene {
     let rng = &mut Rng::new(31);
@@ -269,6 +284,7 @@ pub fn all(l: u64) -> Vec<Scene> {
         scenes.extend([1, 100, 1_000, 50_000].map(|count| announcing(l, count, held)));
     }
     scenes.extend([(0, 0), (100, 0), (100, 100)].map(|(owned, places)| leaving(l, owned, places)));
+    scenes.extend([1, 32, 1_024].map(|count| owning(l, count)));
     scenes.push(claiming(l));
     scenes.extend([tearing(l), missing(l)]);
     let late = (l / 4).min(1_000);

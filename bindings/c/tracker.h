@@ -61,7 +61,7 @@ extern "C" {
 #endif
 
 /* ---- what a call returns: 0, or the number of its refusal. tracker_open tests 2, then 1; the two calls on payloads, which take no store,
- * test 10, then 7; any other call tests 3 to 8 in turn, those that its arguments can meet. */
+ * test 10, then 7; any other call tests 3 to 6, 13, 7 and 8 in turn, those that its arguments can meet. */
 enum tracker_status {
     TRACKER_OK = 0,
     TRACKER_STORE_TOO_SHORT = 1,
@@ -72,7 +72,8 @@ enum tracker_status {
     TRACKER_TOO_MANY_PARENTS = 6,
     TRACKER_ANSWER_TOO_SHORT = 7,
     TRACKER_NO_PLACE = 8,
-    TRACKER_BAD_PAYLOAD = 10
+    TRACKER_BAD_PAYLOAD = 10,
+    TRACKER_WRONG_HASHES = 13
 };
 
 static inline const char *tracker_status_text(uint64_t status) {
@@ -87,6 +88,7 @@ static inline const char *tracker_status_text(uint64_t status) {
     case TRACKER_ANSWER_TOO_SHORT: return "the answer is shorter than its need";
     case TRACKER_NO_PLACE: return "all package places are held";
     case TRACKER_BAD_PAYLOAD: return "no inventory payload, or items that make none";
+    case TRACKER_WRONG_HASHES: return "more than 1,024 hashes, or not in strictly ascending order";
     default: return "no status of the tracker";
     }
 }
@@ -114,6 +116,7 @@ static inline const char *tracker_status_text(uint64_t status) {
 #define TRACKER_MAX_SWEPT UINT64_C(1024)           /* keys of a sweep */
 #define TRACKER_MAX_PLANNED UINT64_C(1025)         /* entries of a plan */
 #define TRACKER_MAX_ITEMS UINT64_C(50000)          /* of a payload */
+#define TRACKER_MAX_HASHES UINT64_C(1024)          /* of tracker_owners_of */
 #define TRACKER_LIFETIME_MS UINT64_C(60000)        /* from a claim to its deadline */
 #define TRACKER_DELAY_MS UINT64_C(2000)            /* each delay of tracker_announce_transactions */
 #define TRACKER_POLL_MS UINT64_C(100)              /* between polls */
@@ -127,6 +130,7 @@ static inline const char *tracker_status_text(uint64_t status) {
 #define TRACKER_KEY_BYTES 40
 #define TRACKER_ITEM_BYTES 40
 #define TRACKER_ENTRY_BYTES 112
+#define TRACKER_OWNER_BYTES 24
 #define TRACKER_WIRE_BYTES 36                      /* of an item in a payload */
 
 /* The answer of announce_parents, failed_with_parents and release_package: 101 keys. */
@@ -164,6 +168,11 @@ static inline size_t tracker_not_found_need(uint64_t q, size_t n) {
 /* Of tracker_claim and tracker_arrange. */
 static inline size_t tracker_entries_need(size_t n) {
     return n * TRACKER_ENTRY_BYTES;
+}
+
+/* Of tracker_owners_of. */
+static inline size_t tracker_owners_need(size_t n) {
+    return n * TRACKER_OWNER_BYTES;
 }
 
 /* Of tracker_read_payload, for a payload of so many bytes; of tracker_write_payload, for n items. */
@@ -253,6 +262,27 @@ static inline uint64_t tracker_entry_priority(const uint8_t *entry) {
     return tracker_word(entry + 104);
 }
 
+/* The i-th owner of tracker_owners_of's answer: whether somebody owns the i-th hash, then the kind of the key, who and until when. */
+static inline const uint8_t *tracker_owner(const uint8_t *answer, uint64_t i) {
+    return answer + (size_t)i * TRACKER_OWNER_BYTES;
+}
+
+static inline bool tracker_owner_exists(const uint8_t *owner) {
+    return tracker_word(owner) != 0;
+}
+
+static inline uint64_t tracker_owner_kind(const uint8_t *owner) {
+    return tracker_word(owner) == 1 ? TRACKER_TXID : TRACKER_WTXID;
+}
+
+static inline uint64_t tracker_owner_connection(const uint8_t *owner) {
+    return tracker_word(owner + 8);
+}
+
+static inline uint64_t tracker_owner_deadline(const uint8_t *owner) {
+    return tracker_word(owner + 16);
+}
+
 /* ---- the calls. store and length: the bytes lent, at least the need; longer is taken, and bytes past the need stay. A slice's length is in
  * bytes; what is left at a list's end and is shorter than an element is no element. A refused call hands nothing out. */
 
@@ -325,6 +355,12 @@ uint64_t tracker_failed_package_info(uint8_t *store, size_t length, uint64_t kin
 /* The connection that is asked for package info of the request at the key, and in time; 0, if there is none. */
 uint64_t tracker_package_info_owner(const uint8_t *store, size_t length, uint64_t kind, const uint8_t hash[32], uint64_t now,
                                     uint64_t *owner) TRACKER_MUST_USE;
+
+/* Who owns each of up to 1,024 hashes, which are given in strictly ascending order, 32 bytes each: the kind (0 nobody, 1 Txid, 2 Wtxid),
+ * the connection and the deadline stand in the answer, 8 bytes each, least first. So many held keys as `passed` says have a hash that is
+ * not above the greatest of them. The store is only read. */
+uint64_t tracker_owners_of(const uint8_t *store, size_t length, const uint8_t *hashes, size_t hashes_length, uint8_t *answer,
+                           size_t answer_length, uint64_t *passed) TRACKER_MUST_USE;
 
 /* The connection is asked for the package info of the transaction with that wtxid, whose parents are given in 32 bytes each. The reply is
  * 0 if the hash is owned, if the connection owns 100 requests, or if it is no candidate and is not kept as one. */

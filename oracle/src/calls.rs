@@ -209,6 +209,18 @@ pub enum Call {
         arranged: Vec<Entry>,
         connection: u64,
     },
+    /// Document 02, request e: no call of the Rust.
+    OwnersOf {
+        hashes: Vec<Hash>,
+    },
+}
+
+/// Who owns a hash: the key under which it is owned, the connection, the deadline.
+#[derive(Clone, Copy, Debug, Eq, PartialEq)]
+pub struct Holding {
+    pub key: Key,
+    pub connection: u64,
+    pub deadline: u64,
 }
 
 #[derive(Clone, Debug, Eq, PartialEq)]
@@ -224,11 +236,15 @@ pub enum Reply {
     Entries(Vec<Entry>),
     /// Held, free for unpreferred newcomers and for preferred ones, permille.
     Sum(u64, u64, u64, u64),
+    /// The count of keys passed, then for each hash its owner, if it has one.
+    Owners(u64, Vec<Option<Holding>>),
 }
 
 /// The last clock that refusal 5 lets pass: 2^64 - 60,001.
 pub const LAST_CLOCK: u64 = u64::MAX - 60_000;
 pub const MAX_PARENTS: usize = 100;
+/// Hashes whose owners are asked for together.
+pub const MAX_ASKED_HASHES: usize = 1_024;
 
 impl Call {
     /// Refusal 4: a connection that the caller names is 0. Entries of a checked, taken
@@ -260,7 +276,8 @@ impl Call {
             | Self::Forget { .. }
             | Self::ForgetKnown { .. }
             | Self::PackageInfoOwner { .. }
-            | Self::PollGate { .. } => false,
+            | Self::PollGate { .. }
+            | Self::OwnersOf { .. } => false,
         }
     }
 
@@ -293,7 +310,8 @@ impl Call {
             | Self::Sum
             | Self::Forget { .. }
             | Self::Arrange { .. }
-            | Self::Part { .. } => None,
+            | Self::Part { .. }
+            | Self::OwnersOf { .. } => None,
         }
     }
 
@@ -302,6 +320,16 @@ impl Call {
         match self {
             Self::SolicitPackageInfo { parents, .. } | Self::AnnounceParents { parents, .. } => parents.len(),
             _ => 0,
+        }
+    }
+
+    /// Hashes that are too many or not in strictly ascending order (refusal 13).
+    pub fn wrong_hashes(&self) -> bool {
+        match self {
+            Self::OwnersOf { hashes } => {
+                hashes.len() > MAX_ASKED_HASHES || hashes.windows(2).any(|pair| pair[0] >= pair[1])
+            }
+            _ => false,
         }
     }
 }

@@ -2,7 +2,7 @@
 
 use super::convert::*;
 use super::*;
-use crate::calls::{Call, Candidate, Entry, Key, LAST_CLOCK, MAX_PARENTS, Reply};
+use crate::calls::{Call, Candidate, Entry, Hash, Holding, Key, LAST_CLOCK, MAX_PARENTS, Reply};
 use crate::sound;
 use crate::standins;
 use crate::state::State;
@@ -62,7 +62,7 @@ impl Machine {
         Ok(Self { l: state.l, q: state.q, policy })
     }
 
-    /// Refusals 4, 5, 6 and 8 in turn.
+    /// Refusals 4, 5, 6, 13 and 8 in turn.
     fn refusal(&self, call: &Call) -> Option<u8> {
         if call.names_connection_0() {
             Some(4)
@@ -70,6 +70,8 @@ impl Machine {
             Some(5)
         } else if call.parents_given() > MAX_PARENTS {
             Some(6)
+        } else if call.wrong_hashes() {
+            Some(13)
         } else if self.lacks_place(call) {
             Some(8)
         } else {
@@ -203,6 +205,7 @@ impl Machine {
                 let free = self.l - held;
                 Reply::Sum(held, free, free + evictable, held * 1_000 / self.l)
             }
+            Call::OwnersOf { hashes } => self.owners_of(hashes),
             Call::Arrange { taken, witness } => Reply::Entries(self.arranged(taken, witness)),
             Call::Part { arranged, connection } => Reply::Entries(
                 arranged.iter().filter(|entry| entry.candidate.connection == *connection).copied().collect(),
@@ -239,6 +242,22 @@ impl Machine {
             entry.candidate = Candidate { item: item_out(item), ..entry.candidate };
         }
         entries
+    }
+
+    /// Looked up key by key in the source's map, and counted over all of it.
+    fn owners_of(&self, hashes: &[Hash]) -> Reply {
+        let requests = &self.policy.requests;
+        let held = |key: Key| {
+            let owner = request_out(key_in(key), requests.get(&key_in(key))?).owner?;
+            Some(Holding { key, connection: owner.connection, deadline: owner.deadline })
+        };
+        let owners =
+            hashes.iter().map(|hash| held(Key::txid(*hash)).or_else(|| held(Key::wtxid(*hash)))).collect();
+        let passed = hashes
+            .iter()
+            .max()
+            .map_or(0, |greatest| requests.keys().filter(|key| key_out(**key).hash <= *greatest).count());
+        Reply::Owners(passed as u64, owners)
     }
 
     fn wrapper(&mut self, call: &Call) -> Reply {

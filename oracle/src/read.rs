@@ -138,6 +138,7 @@ fn further_call(word: &[u8], fields: &mut Fields) -> Option<Call> {
             items: fields.list(Fields::item)?,
         },
         b"poll" => Call::PollGate { now: fields.number()? },
+        b"whose" => Call::OwnersOf { hashes: fields.list(Fields::hash)? },
         // A claim and an arrangement of lists that stand on the line.
         b"grab" => Call::Claim { now: fields.number()?, checked: fields.list(Fields::entry)? },
         b"ship" => {

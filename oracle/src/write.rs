@@ -1,6 +1,6 @@
 //! Answers and whole states as text.
 
-use crate::calls::{Candidate, Entry, Hash, Item, Key, Kind, Reply};
+use crate::calls::{Candidate, Entry, Hash, Holding, Item, Key, Kind, Reply};
 use crate::state::{Request, State};
 
 pub fn hash(hash: Hash) -> String {
@@ -65,7 +65,14 @@ pub fn reply(reply: &Reply) -> String {
         }
         Reply::Entries(entries) => list(entries.iter().map(entry).collect()),
         Reply::Sum(held, free, preferred, permille) => format!("{held},{free},{preferred},{permille}"),
+        Reply::Owners(passed, owners) => {
+            counted(*passed, owners.iter().map(|owner| or_none(owner.map(holding))))
+        }
     }
+}
+
+fn holding(owner: Holding) -> String {
+    format!("{},{},{}", key(owner.key), owner.connection, owner.deadline)
 }
 
 fn or_none(value: Option<String>) -> String {

@@ -67,6 +67,24 @@ static void entries(void) {
     check("entry: rest", tracker_entry_ready(taken) == 1000 && tracker_entry_preferred(taken) && tracker_entry_priority(taken) == UINT64_C(0x1122334455667788));
 }
 
+/* Who owns x and y, which are in ascending order: the claim above is y's. */
+static void owners(void) {
+    static uint8_t hashes[(TRACKER_MAX_HASHES + 1) * TRACKER_HASH_BYTES];
+    memcpy(hashes, y, 32);
+    memcpy(hashes + 32, x, 32);
+    check("owners", OK(owners_of, hashes, 64, ANSWER, &a) && a == 2);
+    const uint8_t *first = tracker_owner(answer, 0);
+    check("an owner", tracker_owner_exists(first) && tracker_owner_kind(first) == TRACKER_TXID && tracker_owner_connection(first) == 7);
+    check("its deadline", tracker_owner_deadline(first) == 1000 + TRACKER_LIFETIME_MS);
+    check("nobody", !tracker_owner_exists(tracker_owner(answer, 1)));
+    NEEDS(tracker_owners_need(2), owners_of, hashes, 64, answer, n, &a);
+    check("one hash twice", (memcpy(hashes + 32, y, 32), REFUSED(TRACKER_WRONG_HASHES, owners_of, hashes, 64, answer, 0, &a)));
+    for (uint64_t i = 0; i <= TRACKER_MAX_HASHES; i++)
+        tracker_put_word(hashes + 32 * i + 24, i);
+    check("so many hashes", OK(owners_of, hashes, sizeof hashes - 32, ANSWER, &a));
+    check("one hash more", REFUSED(TRACKER_WRONG_HASHES, owners_of, hashes, sizeof hashes, ANSWER, &a));
+}
+
 static void needs(void) {
     NEEDS(tracker_sweep_need(L), sweep, answer, n, &a);
     NEEDS(tracker_plan_need(L), plan, 1000, answer, n, &a, &b, &c);
@@ -111,8 +129,8 @@ static void statuses(void) {
     check("no connection", REFUSED(TRACKER_NO_CONNECTION, unclaim, TRACKER_TXID, x, 0));
     store[0] ^= 1;
     check("another format", REFUSED(TRACKER_NOT_SOUND, unclaim, TRACKER_TXID, x, 1));
-    for (uint64_t status = TRACKER_OK; status <= TRACKER_BAD_PAYLOAD; status++)
-        check("a text for each status", status == 9 || strcmp(tracker_status_text(status), tracker_status_text(9)) != 0);
+    for (uint64_t status = TRACKER_OK; status <= TRACKER_WRONG_HASHES; status++)
+        check("a text for each status", status == 9 || status == 11 || status == 12 || strcmp(tracker_status_text(status), tracker_status_text(9)) != 0);
 }
 
 /* A payload of 253 items, written and read; what is read is announced as it stands. */
@@ -140,6 +158,7 @@ int main(void) {
     sizes();
     keys();
     entries();
+    owners();
     needs();
     addresses();
     packages();

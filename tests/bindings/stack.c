@@ -136,6 +136,7 @@ static void requests(void) {
     CALL(sum, NUMBER, &s->numbers[1], &s->numbers[2], &s->numbers[3]);
     CALL(counts, 9, NUMBER, &s->numbers[1]);
     WAS(100, "counts");
+    CALL(owners_of, LIST(0, TRACKER_MAX_HASHES), ANSWER, NUMBER);
 }
 
 /* Solicits the transaction with its hundred parents, and brings its package as far as is said: 0 the flag, 1 Awaiting, 2 Enqueued. */

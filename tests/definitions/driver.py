@@ -24,7 +24,7 @@ SPECS = os.path.join(ROOT, "crates", "machine", "specs")
 EVENT_L, EVENT_Q = 100, 2
 LINE_BUFFER = 65_536
 SPARE = 3               # bytes of a buffer past its need, which must stay
-KEY, ENTRY = 40, 112    # bytes in a buffer
+KEY, ENTRY, OWNER = 40, 112, 24     # bytes in a buffer
 
 # word: constructor of Ask, and its arguments by the places of the line's fields; "b" is the answer buffer, "c" a candidate of all fields
 CALLS = {
@@ -37,6 +37,7 @@ CALLS = {
     "info": ("FailedPackageInfo", (0, 1, 2)), "who": ("PackageInfoOwner", (0, 1)), "inv": ("AnnounceTransactions", (0, 1, 2, 3, 4)),
     "done": ("TransactionResponseCompleted", (0, 1, 2, 3)), "nfd": ("TransactionNotFound", (0, 2, 1, "b")), "poll": ("PollGate", (0,)),
     "send": ("Arrange", (0, 1, "b")), "ship": ("Arrange", (0, 1, "b")), "sum": ("Sum", ()),
+    "whose": ("OwnersOf", (0, "b")),
 }
 
 
@@ -47,6 +48,8 @@ def needs(word, fields, state):
         return ENTRY * min(1025, limit)
     if word in ("take", "grab", "send", "ship"):
         return ENTRY * len(fields[1])
+    if word == "whose":
+        return OWNER * len(fields[0])
     if word == "swp":
         return KEY * min(1024, limit)
     if word == "gone":
@@ -189,6 +192,8 @@ class Driver:
             return ",".join(filter(None, [str(args[0]), text.entries(args[1]), str(args[2].value) if args[2] else "none"]))
         if name == "Summed":
             return f"{args[0].held},{args[0].free},{args[0].preferred},{args[0].permille}"
+        if name == "Owned":
+            return ",".join([str(args[0]), *map(text.holding, args[1])])
         raise AssertionError(f"a reply {name}")
 
 

@@ -13,6 +13,7 @@ FORMS = {
     "open": "NN", "ann": "NINBN", "par": "NINBN", "sol": "NHN*H", "bad": "KNN", "off": "KN", "clm": "NHHN*H", "beg": "NHHN*H", "rel": "NHN",
     "plan": "N", "want": "N*K", "take": "N", "swp": "", "gone": "NN", "sum": "", "kin": "NN*H", "lost": "NN*H", "tear": "N", "drop": "K",
     "known": "KN", "fail": "KNN", "info": "KNN", "who": "KN", "inv": "NNBB*P", "done": "NHHN", "nfd": "NN*I", "poll": "N", "send": "*N", "part": "N",
+    "whose": "*H",
 }
 EXTRA = {"dump": "", "grab": "N*E", "ship": "*N*E"}
 
@@ -149,6 +150,14 @@ class Text:
     def keys(self, keys):
         return ",".join(map(self.key, keys))
 
+    def holding(self, owner):
+        """An owner, or none."""
+        return "none" if owner is None else f"{self.key(owner.value.key)},{owner.value.connection},{owner.value.deadline}"
+
+    def holding_bytes(self, owner):
+        words = (0, 0, 0) if owner is None else (1 + (owner.value.key.kind is self.kinds["w"]), owner.value.connection, owner.value.deadline)
+        return b"".join(word.to_bytes(8, "little") for word in words)
+
     def entries(self, entries):
         return ",".join(f"{self.key(e.key)},{self.candidate(e.candidate)}" for e in entries)
 
@@ -188,9 +197,11 @@ class Text:
         return self.key_bytes(entry.key) + front + c.item.hash.to_bytes(32, "little") + back
 
     def answer_bytes(self, reply):
-        """What a reply puts into the answer buffer: a key is 5 words, an entry 14."""
+        """What a reply puts into the answer buffer: a key is 5 words, an entry 14, an owner 3."""
         if reply.NAME in ("Keys", "Left"):
             return b"".join(self.key_bytes(k) for keys in reply.args for k in keys)
         if reply.NAME in ("Entries", "Chosen"):
             return b"".join(map(self.entry_bytes, reply.args[reply.NAME == "Chosen"]))
+        if reply.NAME == "Owned":
+            return b"".join(map(self.holding_bytes, reply.args[1]))
         return b""

@@ -7,8 +7,8 @@ from states import Large, Loaded
 
 LARGE = 58      # lines of the profile `large` that go twice through its states
 EVENT_WORDS = ("open ann par sol bad off clm beg rel plan want take swp gone sum kin lost tear drop known fail info who inv done nfd poll "
-               "send part").split()
-EVEN = dict.fromkeys(EVENT_WORDS, 4) | {"open": 1, "ann": 30, "par": 8, "plan": 8, "take": 8, "sol": 8, "clm": 6, "beg": 6}
+               "send part whose").split()
+EVEN = dict.fromkeys((word for word in EVENT_WORDS if word != "whose"), 4) | {"open": 1, "ann": 30, "par": 8, "plan": 8, "take": 8, "sol": 8, "clm": 6, "beg": 6}
 
 
 @dataclass
@@ -55,6 +55,8 @@ PROFILES = {p.name: p for p in (
             weights=more(ann=6, sol=30, clm=16, beg=8, rel=5, lost=12, gone=6, known=8, nfd=12, plan=8, tear=2, who=6, fail=6), pace=80, tales=12),
     Profile("cursors", "many keys, sweeps and plans", hashes=tuple(range(1, 40)), connections=tuple(range(1, 8)), sizes=((100, 2), (60, 1)),
             weights=more(ann=60, swp=20, plan=20, take=14, drop=14), opening=300),
+    Profile("owners", "owners of many hashes", hashes=tuple(range(1, 30)), connections=tuple(range(1, 8)), sizes=((100, 2), (60, 1), (12, 2)),
+            weights=more(ann=60, plan=16, take=20, want=8, sol=12, whose=60, bad=6, drop=6), opening=200),
     Profile("clocks", "clocks near the end of their range", sizes=((6, 2), (10, 1)), late=True, odd=25),
     Profile("wide", "hashes, connections and priorities of all sizes", hashes=WIDE, combined=WIDE[-2:], connections=(1, 2, 2 ** 32, 2 ** 64 - 1),
             sizes=((6, 1), (30, 2), (100, 2)), odd=20),

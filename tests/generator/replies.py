@@ -6,7 +6,7 @@ REPLIES = {
     "take": "- list no,5", "swp": "- list", "gone": "count list no,4 no,5", "sum": "list", "kin": "- list no,4 no,5 no,6",
     "lost": "- list no,4 no,5", "tear": "0 count no,5", "drop": "1", "known": "1 no,5", "fail": "- list no,4 no,5", "info": "0 1 no,4 no,5",
     "who": "0 count no,5", "inv": "1 no,4 no,5", "done": "1 no,4 no,5", "nfd": "- list no,4 no,5", "poll": "0 1 no,5", "send": "- list no,4",
-    "part": "- list no,4",
+    "part": "- list no,4", "whose": "count list no,13",
 }
 FORMS = [f"{word} gives {form}" for word, forms in REPLIES.items() for form in forms.split()]
 

@@ -259,6 +259,15 @@ class Script:
     def part(self):
         return (self.connection(),)
 
+    def whose(self):
+        """Hashes in ascending order as a rule, now and then as many as are taken, or one more."""
+        hashes = sorted({int(self.hash_(), 16) for _ in range(self.random.randrange(9))})
+        if self.one_in(60):
+            hashes = list(range(self.pick((1024, 1025))))
+        if len(hashes) > 1 and self.one_in(10):
+            self.random.shuffle(hashes) if self.one_in(2) else hashes.append(hashes[-1])
+        return listed([format(x, "x") for x in hashes])
+
     # ---- lines that cannot be read
 
     def unreadable(self, line):

@@ -10,7 +10,7 @@ import oracle
 import profiles
 
 # profile: lines, each with seed "vectors"
-GENERATED = {"mixed": 1_200, "crowd": 900, "full": 1_000, "packages": 1_200, "cursors": 500, "clocks": 800, "wide": 600, "noise": 1_000}
+GENERATED = {"mixed": 1_200, "crowd": 900, "full": 1_000, "packages": 1_200, "cursors": 500, "owners": 600, "clocks": 800, "wide": 600, "noise": 1_000}
 
 
 def path(name):

@@ -4,6 +4,7 @@ use crate::{Announcement, Connection, Item, Key, abi};
 
 pub(crate) const KEY_BYTES: usize = 40;
 pub(crate) const ENTRY_BYTES: usize = 112;
+pub(crate) const OWNER_BYTES: usize = 24;
 
 /// How full a tracker is.
 #[derive(Clone, Copy, Debug, Default, Eq, PartialEq)]
@@ -181,6 +182,54 @@ pub struct Planned<'a> {
     pub entries: Entries<'a>,
     /// When to look again: the least time later than the plan's at which a key that nobody owns may be ready or an owner be late.
     pub next: Option<u64>,
+}
+
+/// Who owns a hash.
+#[derive(Clone, Copy, Debug, Eq, Hash, PartialEq)]
+pub struct Owner {
+    /// Whether the request that it owns is that of a wtxid; else it is that of a txid.
+    pub wtxid: bool,
+    /// Who is asked.
+    pub connection: Connection,
+    /// Until when.
+    pub deadline: u64,
+}
+
+/// The owners of an answer, in the order of the hashes: none where nobody owns the hash.
+#[derive(Clone, Debug)]
+pub struct Owners<'a>(&'a [u8]);
+
+impl<'a> Owners<'a> {
+    /// The owners of the first `count` hashes of the answer, or of as many as it has.
+    pub fn new(answer: &'a [u8], count: usize) -> Self {
+        Self(&answer[..count.min(answer.len() / OWNER_BYTES) * OWNER_BYTES])
+    }
+}
+
+impl Iterator for Owners<'_> {
+    type Item = Option<Owner>;
+
+    fn next(&mut self) -> Option<Option<Owner>> {
+        let (bytes, rest) = self.0.split_first_chunk::<OWNER_BYTES>()?;
+        self.0 = rest;
+        let owner = |connection| Owner { wtxid: word(bytes, 0) == 2, connection, deadline: word(bytes, 2) };
+        Some(if word(bytes, 0) == 0 { None } else { Connection::new(word(bytes, 1)).map(owner) })
+    }
+
+    fn size_hint(&self) -> (usize, Option<usize>) {
+        (self.0.len() / OWNER_BYTES, Some(self.0.len() / OWNER_BYTES))
+    }
+}
+
+impl ExactSizeIterator for Owners<'_> {}
+
+/// Who owns each of many hashes.
+#[derive(Clone, Debug)]
+pub struct Owned<'a> {
+    /// How many held keys have a hash that is not above the greatest of the list.
+    pub passed: u64,
+    /// Who owns each hash.
+    pub owners: Owners<'a>,
 }
 
 /// The word at that place, counted in words.

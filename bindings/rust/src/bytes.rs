@@ -1,7 +1,7 @@
 //! The checked calls on a store that the caller lends, whatever its bytes are; each tests them first.
 //!
 //! A store for L announcements and Q package places needs [`Sizes::need`](crate::Sizes::need) bytes. A call tests, in this
-//! order, what its arguments can meet of the refusals 3 to 8; `open` tests 2, then 1. The two calls on payloads take no store, and
+//! order, what its arguments can meet of the refusals 3 to 6, 13, 7 and 8; `open` tests 2, then 1. The two calls on payloads take no store, and
 //! test 10, then 7. A refused call changes nothing. A list of
 //! keys or entries stands in the answer, as many as the call says; bytes behind them stay.
 //!
@@ -18,7 +18,7 @@
 //! # Ok::<(), Error>(())
 //! ```
 
-use crate::answers::{self, Entries, Items, Keys};
+use crate::answers::{self, Entries, Items, Keys, Owners};
 pub use crate::calls::*;
 
 /// One announcement as C takes it. Item types 1 and 0x40000001 stand for the txid, 5 for the wtxid; any other has no key.
@@ -62,6 +62,8 @@ pub struct Plan {
 pub const KEY_BYTES: usize = answers::KEY_BYTES;
 /// Bytes of an entry in a list or an answer.
 pub const ENTRY_BYTES: usize = answers::ENTRY_BYTES;
+/// Bytes of an owner in the answer of `owners_of`.
+pub const OWNER_BYTES: usize = answers::OWNER_BYTES;
 /// Bytes of the answer that `announce_parents`, `failed_with_parents` and `release_package` need.
 pub const KEYS_NEED: usize = 101 * KEY_BYTES;
 /// Bytes of the answer that a sweep needs at most: it needs the smaller of 1,024 and L keys.
@@ -69,6 +71,8 @@ pub const SWEEP_NEED: usize = 1_024 * KEY_BYTES;
 /// Bytes of the answer that a plan needs at most: it needs the smaller of 1,025 and L entries.
 pub const PLAN_NEED: usize = 1_025 * ENTRY_BYTES;
 
+/// Hashes that `owners_of` takes at most.
+pub const MAX_HASHES: usize = 1_024;
 /// Items that a payload has at most.
 pub const MAX_ITEMS: usize = 50_000;
 /// Bytes of an item in a payload.
@@ -97,4 +101,9 @@ pub fn keys(answer: &[u8], count: usize) -> Keys<'_> {
 /// The first `count` entries of an answer.
 pub fn entries(answer: &[u8], count: usize) -> Entries<'_> {
     Entries::new(answer, count)
+}
+
+/// The owners of the first `count` hashes of an answer.
+pub fn owners(answer: &[u8], count: usize) -> Owners<'_> {
+    Owners::new(answer, count)
 }

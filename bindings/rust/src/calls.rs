@@ -220,6 +220,21 @@ pub fn package_info_owner(store: &[u8], key: &Key, now: u64) -> Result<Option<u6
     done(status, (owner != 0).then_some(owner))
 }
 
+/// Who owns each of up to 1,024 hashes, which are given in strictly ascending order, 32 bytes each: the kind
+/// (0 nobody, 1 Txid, 2 Wtxid), the connection and the deadline stand in the answer, 8 bytes each, least
+/// first. So many held keys as `passed` says have a hash that is not above the greatest of them. The store
+/// is only read.
+pub fn owners_of(store: &[u8], hashes: &[[u8; 32]], answer: &mut [u8]) -> Result<u64, Error> {
+    let hashes = hashes.as_flattened();
+    let mut passed = 0;
+    // SAFETY: what is lent is lent for the call, and what it may write is lent to it alone.
+    let status = unsafe {
+        abi::tracker_owners_of(store.as_ptr(), store.len(), hashes.as_ptr(), hashes.len(),
+            answer.as_mut_ptr(), answer.len(), &mut passed)
+    };
+    done(status, passed)
+}
+
 /// The connection is asked for the package info of the transaction with that wtxid, whose parents are given
 /// in 32 bytes each. The reply is 0 if the hash is owned, if the connection owns 100 requests, or if it is
 /// no candidate and is not kept as one.

@@ -24,11 +24,13 @@ pub enum Error {
     NoPlace = 8,
     /// The bytes are no inventory payload, or the items make none.
     BadPayload = 10,
+    /// Hashes are more than 1,024, or not in strictly ascending order.
+    WrongHashes = 13,
 }
 
 impl Error {
     /// Every refusal, by its number.
-    pub const ALL: [Self; 9] = [
+    pub const ALL: [Self; 10] = [
         Self::StoreTooShort,
         Self::SizesOutOfRange,
         Self::NotSound,
@@ -38,6 +40,7 @@ impl Error {
         Self::AnswerTooShort,
         Self::NoPlace,
         Self::BadPayload,
+        Self::WrongHashes,
     ];
 
     /// Its number in the table.
@@ -63,6 +66,7 @@ impl fmt::Display for Error {
             Self::AnswerTooShort => "the answer is shorter than its need",
             Self::NoPlace => "all package places are held",
             Self::BadPayload => "no inventory payload, or items that make none",
+            Self::WrongHashes => "more than 1,024 hashes, or not in strictly ascending order",
         })
     }
 }

@@ -63,7 +63,7 @@ mod sizes;
 mod store;
 mod values;
 
-pub use answers::{Counts, Departed, Entries, Entry, Figures, Items, Keys, Planned};
+pub use answers::{Counts, Departed, Entries, Entry, Figures, Items, Keys, Owned, Owner, Owners, Planned};
 pub use bounded::{Now, Parents};
 pub use error::Error;
 #[cfg(all(feature = "alloc", feature = "owned"))]

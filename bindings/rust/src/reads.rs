@@ -1,9 +1,10 @@
 //! The calls of a tracker that leave its store as it is.
 
 use crate::abi::owned as abi;
+use crate::error::done;
 use crate::lists::listed;
 use crate::owner::settled;
-use crate::{Connection, Counts, Entries, Entry, Figures, Key, Now, Store, Tracker, bytes};
+use crate::{Connection, Counts, Entries, Entry, Error, Figures, Key, Now, Owned, Owners, Store, Tracker, bytes};
 
 impl<S: Store> Tracker<S> {
     // begin: written by bindings/generate out of crates/owned/src
@@ -93,6 +94,39 @@ impl<S: Store> Tracker<S> {
                 &mut owner)
         };
         settled(status, Connection::new(owner))
+    }
+
+    /// Who owns each of the hashes, deadlines over or not, and how many keys were passed.
+    /// [`Error::WrongHashes`] if they are more than 1,024 or not in strictly ascending order, byte 31 being
+    /// the most significant.
+    ///
+    /// ```
+    /// use tracker::{Announcement, Connection, Entry, Error, Item, Now, Owner, Tracker, Wtxid};
+    ///
+    /// let mut tracker = Tracker::new(100, 2)?;
+    /// let (now, peer) = (Now::new(0)?, Connection::new(7).expect("not 0"));
+    /// tracker.announce(&Announcement::new(peer, Item::WTx(Wtxid([2; 32]))));
+    /// let planned: Vec<Entry> = tracker.plan(now).entries.collect();
+    /// tracker.claim(now, &planned);
+    ///
+    /// let mut answer = tracker.owners_of(&[[1; 32], [2; 32]])?;
+    /// assert_eq!(answer.passed, 1); // the one key that is held
+    /// assert_eq!(answer.owners.next(), Some(None));
+    /// assert_eq!(answer.owners.next(), Some(Some(Owner { wtxid: true, connection: peer, deadline: 60_000 })));
+    /// assert_eq!(tracker.owners_of(&[[2; 32], [1; 32]]).err(), Some(Error::WrongHashes));
+    /// # Ok::<(), tracker::Error>(())
+    /// ```
+    pub fn owners_of(&mut self, hashes: &[[u8; 32]]) -> Result<Owned<'_>, Error> {
+        self.room(hashes.len() * bytes::OWNER_BYTES);
+        let hashes = listed(hashes);
+        let mut passed = 0;
+        let store = self.store.bytes();
+        // SAFETY: the store is sound and nobody else can write it; what the call may write is lent to it alone.
+        let status = unsafe {
+            abi::tracker_owned_owners_of(store.as_ptr(), store.len(), hashes.as_ptr(), hashes.len(),
+                self.answer.as_mut_ptr(), self.answer.len(), &mut passed)
+        };
+        done(status, Owned { passed, owners: Owners::new(&self.answer, hashes.len() / 32) })
     }
 
     // end: written by bindings/generate

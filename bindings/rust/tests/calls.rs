@@ -4,8 +4,8 @@
 use std::fmt::Debug;
 
 use tracker::{
-    Announcement, Connection, Counts, Entry, Error, Figures, Item, Key, Now, Parents, Sizes, Tracker, Txid,
-    Wtxid, bytes,
+    Announcement, Connection, Counts, Entry, Error, Figures, Item, Key, Now, Owner, Owners, Parents, Sizes,
+    Tracker, Txid, Wtxid, bytes,
 };
 
 const A: Wtxid = Wtxid([0xa; 32]);
@@ -134,6 +134,15 @@ impl Pair {
             self.both(|t| t.counts(peer(connection)), |s, _| bytes::counts(s, connection));
         (announced, owned)
     }
+
+    /// Keys passed, and who owns each of the hashes.
+    fn owners(&mut self, hashes: &[[u8; 32]]) -> (u64, Vec<Option<Owner>>) {
+        let told = |passed, owners: Owners<'_>| (passed, owners.collect());
+        self.both(
+            |t| t.owners_of(hashes).map(|owned| told(owned.passed, owned.owners)).unwrap(),
+            |s, a| bytes::owners_of(s, hashes, a).map(|passed| told(passed, bytes::owners(a, hashes.len()))),
+        )
+    }
 }
 
 #[test]
@@ -197,6 +206,11 @@ fn asked_and_failed() {
     pair.both(|t| t.unclaim(Key::Txid(B), peer(7)), |s, _| bytes::unclaim(s, &Key::Txid(B), 7));
     assert_eq!(pair.row(0), [7, 5, 4, 0, 4]);
     assert_eq!([7, 8, 10].map(|connection| pair.counts(connection)), [(2, 1), (1, 0), (0, 0)]);
+    let owner = Owner { wtxid: true, connection: peer(7), deadline: 61_000 };
+    assert_eq!(pair.owners(&[A.0, B.0, C.0]), (2, vec![Some(owner), None, None]));
+    assert_eq!(pair.owners(&[A.0]), (1, vec![Some(owner)]));
+    assert_eq!(pair.owners(&[]), (0, vec![]));
+    assert_eq!(pair.tracker.owners_of(&[B.0, A.0]).err(), Some(Error::WrongHashes));
     for owned in [true, false] {
         let failed = pair.both(
             |t| t.failed(Key::Wtxid(A), peer(7), at(1_001)),

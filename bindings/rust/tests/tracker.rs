@@ -14,7 +14,7 @@ fn peer(number: u64) -> Connection {
 
 #[test]
 fn refusals_have_numbers_and_words() {
-    assert_eq!(Error::ALL.map(Error::number), [1, 2, 3, 4, 5, 6, 7, 8, 10]);
+    assert_eq!(Error::ALL.map(Error::number), [1, 2, 3, 4, 5, 6, 7, 8, 10, 13]);
     assert!(Error::ALL.iter().all(|error| Error::from_number(error.number()) == Some(*error)));
     assert_eq!((Error::from_number(0), Error::from_number(9)), (None, None));
     assert_eq!(Error::NoPlace.to_string(), "all package places are held");
@@ -40,6 +40,13 @@ fn refusals_are_the_librarys() {
     assert_eq!(bytes::sweep(&mut store, &mut answer[..399]), Err(Error::AnswerTooShort));
     assert_eq!(bytes::solicit_package_info(&mut store, 7, &[2; 32], &[], 0), Ok(true));
     assert_eq!(bytes::solicit_package_info(&mut store, 7, &[3; 32], &[], 0), Err(Error::NoPlace));
+    let mut hashes = vec![[0; 32]; bytes::MAX_HASHES + 1];
+    hashes.iter_mut().zip(0u16..).for_each(|(hash, i)| hash[30..].copy_from_slice(&i.to_le_bytes()));
+    let mut answer = vec![0; bytes::MAX_HASHES * bytes::OWNER_BYTES];
+    assert_eq!(bytes::owners_of(&store, &hashes, &mut []), Err(Error::WrongHashes));
+    assert_eq!(bytes::owners_of(&store, &hashes[1..], &mut answer[1..]), Err(Error::AnswerTooShort));
+    assert_eq!(bytes::owners_of(&store, &hashes[1..], &mut answer), Ok(2));
+    assert_eq!(bytes::owners_of(&store, &[hashes[1], hashes[1]], &mut answer), Err(Error::WrongHashes));
 }
 
 #[test]

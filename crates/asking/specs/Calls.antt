@@ -12,7 +12,7 @@ use Rattle.machine.specs.Call.{Buffer, Call, Open, On}
 use Rattle.machine.specs.Call.{Ask, Announce, RequestParent, Failed, Unclaim, Forget, ForgetKnown, TeardownPackageClaims, FailedPackageInfo, PackageInfoOwner}
 use Rattle.machine.specs.Call.{TransactionResponseCompleted, PollGate, Sum}
 use Rattle.machine.specs.Call.{Sweep, FailedWithParents, ReleasePackage, Disconnected, AnnounceTransactions}
-use Rattle.machine.specs.Call.{SolicitPackageInfo, ClaimPackage, BeginPackageResolution, AnnounceParents, FailedPackageClaims}
+use Rattle.machine.specs.Call.{SolicitPackageInfo, ClaimPackage, BeginPackageResolution, AnnounceParents, FailedPackageClaims, OwnersOf}
 use Rattle.machine.specs.Call.{Plan, TransactionNotFound}
 use Rattle.lines.specs.Fields.{numberOf, fields}
 use Rattle.asking.specs.declared.vocabulary.Word.{Word}
@@ -28,7 +28,7 @@ use Rattle.asking.specs.declared.vocabulary.KeysWord.{KeysWord}
 use Rattle.asking.specs.declared.vocabulary.KeysWord.the-variants.{Sweep as SweepWord, FailedWithParents as FailWord, ReleasePackage as ReleaseWord}
 use Rattle.asking.specs.declared.vocabulary.HashesWord.{HashesWord}
 use Rattle.asking.specs.declared.vocabulary.HashesWord.the-variants.{SolicitPackageInfo as SolicitWord, ClaimPackage as ClaimWord}
-use Rattle.asking.specs.declared.vocabulary.HashesWord.the-variants.{BeginPackageResolution as BeginWord, AnnounceParents as ParentsWord, FailedPackageClaims as LostWord}
+use Rattle.asking.specs.declared.vocabulary.HashesWord.the-variants.{BeginPackageResolution as BeginWord, AnnounceParents as ParentsWord, FailedPackageClaims as LostWord, OwnersOf as OwnersWord}
 use Rattle.reading.specs.Line.{Line, Asks, Take, Part, taking, ending}
 use Rattle.reading.specs.Forms.{Values, blank, keyIn, candidateIn, formThen}
 use Rattle.reading.specs.Forms.{keyField, itemField, hashField, combinedField, connectionField, nowField, readyField, priorityField, preferredField, sourceField}
@@ -59,6 +59,10 @@ answerBuffer = replicate 12000 0
 -- that of items that are not found: a key for each of the 21,845 that a line of 65,536 bytes can hold (a comma, a letter and a digit each), and 200 for parents
 unfoldable pub missingBuffer : Buffer
 missingBuffer = replicate 881800 0
+
+-- that of the owners of 1,024 hashes, 24 bytes each
+unfoldable pub ownersBuffer : Buffer
+ownersBuffer = replicate 24576 0
 
 -- ---- words with a form
 
@@ -133,6 +137,7 @@ hashesForm ClaimWord = connectionField ∷ hashField ∷ combinedField ∷ nowFi
 hashesForm BeginWord = connectionField ∷ hashField ∷ combinedField ∷ nowField ∷ []
 hashesForm ParentsWord = connectionField ∷ nowField ∷ []
 hashesForm LostWord = connectionField ∷ nowField ∷ []
+hashesForm OwnersWord = []
 
 abbrev pub hashesAsk : HashesWord → Values → List ℕ → Ask
 hashesAsk SolicitWord v hs = SolicitPackageInfo (v .connection) (v .hash) hs (v .now)
@@ -140,6 +145,7 @@ hashesAsk ClaimWord v hs = ClaimPackage (v .connection) (v .hash) (v .combined) 
 hashesAsk BeginWord v hs = BeginPackageResolution (v .connection) (v .hash) (v .combined) hs (v .now)
 hashesAsk ParentsWord v hs = AnnounceParents (v .connection) hs (v .now) answerBuffer
 hashesAsk LostWord v hs = FailedPackageClaims (v .connection) hs (v .now) answerBuffer
+hashesAsk OwnersWord v hs = OwnersOf hs ownersBuffer
 
 unfoldable pub hashesCall : HashesWord → List (List ℕ) → Option Line
 hashesCall w fs = formThen (hashesForm w) blank (λ v. listCall (hashesAsk w v)) fs

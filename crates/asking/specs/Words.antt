@@ -16,7 +16,7 @@ use Rattle.asking.specs.declared.vocabulary.KeysWord.{KeysWord}
 use Rattle.asking.specs.declared.vocabulary.KeysWord.the-variants.{Sweep as SweepWord, FailedWithParents as FailWord, ReleasePackage as ReleaseWord}
 use Rattle.asking.specs.declared.vocabulary.HashesWord.{HashesWord}
 use Rattle.asking.specs.declared.vocabulary.HashesWord.the-variants.{SolicitPackageInfo as SolicitWord, ClaimPackage as ClaimWord}
-use Rattle.asking.specs.declared.vocabulary.HashesWord.the-variants.{BeginPackageResolution as BeginWord, AnnounceParents as ParentsWord, FailedPackageClaims as LostWord}
+use Rattle.asking.specs.declared.vocabulary.HashesWord.the-variants.{BeginPackageResolution as BeginWord, AnnounceParents as ParentsWord, FailedPackageClaims as LostWord, OwnersOf as OwnersWord}
 
 -- `plan`, `want`, `take`, `nfd`, `send`, `part`
 abbrev pub planText : List ℕ
@@ -47,7 +47,7 @@ planWord f =
     else if sameText f partText then PartWord
     else NoWord
 
--- `sol`, `clm`, `beg`, `kin`, `lost`
+-- `sol`, `clm`, `beg`, `kin`, `lost`, `whose`
 abbrev pub solText : List ℕ
 solText = 115 ∷ 111 ∷ 108 ∷ []
 
@@ -63,6 +63,9 @@ kinText = 107 ∷ 105 ∷ 110 ∷ []
 abbrev pub lostText : List ℕ
 lostText = 108 ∷ 111 ∷ 115 ∷ 116 ∷ []
 
+abbrev pub whoseText : List ℕ
+whoseText = 119 ∷ 104 ∷ 111 ∷ 115 ∷ 101 ∷ []
+
 unfoldable pub hashesWord : List ℕ → Word
 hashesWord f =
     if sameText f solText then HashesOf SolicitWord
@@ -70,6 +73,7 @@ hashesWord f =
     else if sameText f begText then HashesOf BeginWord
     else if sameText f kinText then HashesOf ParentsWord
     else if sameText f lostText then HashesOf LostWord
+    else if sameText f whoseText then HashesOf OwnersWord
     else planWord f
 
 -- `swp`, `fail`, `rel`, `gone`, `inv`

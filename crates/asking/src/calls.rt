@@ -144,6 +144,7 @@ fn hashes_values(line: &[u8], e: usize, w: HashesWord) -> ValuesAt
         HashesWord::BeginPackageResolution => read_form(line, e, b"chmn"),
         HashesWord::AnnounceParents => read_form(line, e, b"cn"),
         HashesWord::FailedPackageClaims => read_form(line, e, b"cn"),
+        HashesWord::OwnersOf => read_form(line, e, b""),
     }
 }
 

@@ -52,6 +52,7 @@ pub enum HashesWord {
     BeginPackageResolution,
     AnnounceParents,
     FailedPackageClaims,
+    OwnersOf,
 }
 
 // The word w where the field is its text, and else the word that was found otherwise.
@@ -80,6 +81,7 @@ fn hashes_word(f: &[u8]) -> Word
     ensures { λ r. ⌜ r ≡ hashesWord (now (f .entry)) ⌝ }
 {
     let mut w = plan_word(f);
+    w = named(f, b"whose", Word::Hashes(HashesWord::OwnersOf), w);
     w = named(f, b"lost", Word::Hashes(HashesWord::FailedPackageClaims), w);
     w = named(f, b"kin", Word::Hashes(HashesWord::AnnounceParents), w);
     w = named(

@@ -59,6 +59,7 @@ hashes-unplanned hashes.ClaimPackage v hs s l = refl
 hashes-unplanned hashes.BeginPackageResolution v hs s l = refl
 hashes-unplanned hashes.AnnounceParents v hs s l = refl
 hashes-unplanned hashes.FailedPackageClaims v hs s l = refl
+hashes-unplanned hashes.OwnersOf v hs s l = refl
 
 pub sum-unplanned : Unplanned Sum
 unfolding perform

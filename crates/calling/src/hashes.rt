@@ -59,6 +59,7 @@ fn carry_out(store: &mut [u8], out: &mut [u8], w: HashesWord, v: Values, hashes:
         HashesWord::FailedPackageClaims => {
             crate::parents::failed_package_claims(store, out, n, hashes, clock)
         }
+        HashesWord::OwnersOf => crate::ownership::owners_of(store, out, hashes),
     }
 }
 

@@ -5,4 +5,5 @@ pub mod listings;
 pub mod missing;
 pub mod numbers;
 pub mod offers;
+pub mod ownership;
 pub mod parents;

@@ -56,7 +56,7 @@ fn put_item(u: &mut [u8], w: usize, connection: u64, item: ident::Item)
 }
 
 // Stores three words from the word w on.
-fn put_three(u: &mut [u8], w: usize, x: u64, y: u64, z: u64)
+pub fn put_three(u: &mut [u8], w: usize, x: u64, y: u64, z: u64)
     requires { ⌜ 8 * w + 24 ≤ length (now u) ⌝ }
     ensures { λ _. ⌜ now (u .exit) ≡ splice (now (u .entry)) (8 * w) (bytesOf (x ∷ y ∷ z ∷ [])) ⌝ }
 {

@@ -9,10 +9,11 @@ use Rattle.ident.specs.Number.{Key}
 use Rattle.machine.specs.State.{State, Entry}
 use Rattle.machine.specs.Plan.{plan}
 use Rattle.machine.specs.Wrapper.{Offer, Sums}
+use Rattle.machine.specs.Owners.{Holding}
 use Rattle.machine.specs.Call.{Ask, Announce, RequestParent, Failed, Unclaim, SolicitPackageInfo, ClaimPackage, BeginPackageResolution, AnnounceParents}
 use Rattle.machine.specs.Call.{FailedPackageClaims, Plan, Claim, Sweep, Disconnected, ReleasePackage, TeardownPackageClaims, Forget, ForgetKnown, FailedWithParents}
-use Rattle.machine.specs.Call.{FailedPackageInfo, PackageInfoOwner, AnnounceTransactions, TransactionResponseCompleted, TransactionNotFound, PollGate, Arrange, Sum, Call, Open, On}
-use Rattle.machine.specs.Step.{Reply, Refused, Number, Keys, Left, Entries, Chosen, Summed, perform, carryOut}
+use Rattle.machine.specs.Call.{FailedPackageInfo, PackageInfoOwner, AnnounceTransactions, TransactionResponseCompleted, TransactionNotFound, PollGate, Arrange, Sum, OwnersOf, Call, Open, On}
+use Rattle.machine.specs.Step.{Reply, Refused, Number, Keys, Left, Entries, Chosen, Summed, Owned, perform, carryOut}
 
 -- r is no refusal
 abbrev pub Carried : Reply → Type 0
@@ -35,6 +36,9 @@ chosen-carried k l x n e = let z : _≡_ {A = ℕ} 0 1 = cc in omega arith
 
 summed-carried : (s : Sums) → Carried (Summed s)
 summed-carried s n e = let z : _≡_ {A = ℕ} 0 1 = cc in omega arith
+
+owned-carried : (k : ℕ) (l : List (Option Holding)) → Carried (Owned k l)
+owned-carried k l n e = let z : _≡_ {A = ℕ} 0 1 = cc in omega arith
 
 performed : (a : Ask) (s : State) → Carried ((perform a s) .reply)
 unfolding perform
@@ -64,6 +68,7 @@ performed (TransactionNotFound n l now b) s = keys-carried _
 performed (PollGate now) s = number-carried _
 performed (Arrange ws l b) s = entries-carried _
 performed Sum s = summed-carried _
+performed (OwnersOf hs b) s = owned-carried _ _
 
 pub replies : (c : Call) (s : State) → Carried ((carryOut c s) .reply)
 unfolding carryOut

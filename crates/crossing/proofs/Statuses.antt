@@ -11,11 +11,12 @@ use Rattle.ident.specs.If.{if_then_else_}
 use Rattle.words.specs.Words.{words}
 use Rattle.machine.specs.State.{State}
 use Rattle.machine.specs.Call.{Buffer, Call, On, Sum, refusal}
-use Rattle.machine.specs.Step.{Reply, Refused, Number, Keys, Left, Entries, Chosen, Summed, perform, carryOut, stepIf}
+use Rattle.machine.specs.Step.{Reply, Refused, Number, Keys, Left, Entries, Chosen, Summed, Owned, perform, carryOut, stepIf}
 use Rattle.store.specs.Read.{stateOf}
 use Rattle.outcome.specs.Outcome.{outcomeIf, Does, Leaves, LeavesWith}
 use Rattle.outcome.specs.Reply.{replyOf, figuresOf, listingOf, departureOf}
 use Rattle.public_plans.specs.Entries.{entriesOf, plannedOf}
+use Rattle.public_plans.specs.Ownership.{ownersOf}
 use Rattle.public_plans.specs.declared.Selection.{Selection}
 use Rattle.public_plans.specs.declared.Selection.the-variants.{Refused as NoPlan, Chosen as Plans}
 use Rattle.outcome.specs.declared.Answer.{Answer}
@@ -27,7 +28,7 @@ use Rattle.outcome.specs.declared.Listing.the-variants.{Refused as NoKeys, List
 use Rattle.outcome.specs.declared.Departure.the-variants.{Refused as NotLeft, Left as LeftKeys}
 use Rattle.crossing.proofs.Replies.{Carried, RepliesOne, replies}
 use Rattle.crossing.specs.Status.{statusOf, handedOut, listingStatus, countOut, departureStatus, ownOut, parentsOut, numbered, figured, Stays}
-use Rattle.crossing.specs.Status.{HandsOut, HandsKeys, HandsEntries, HandsDeparture, plannedStatus, consideredOut, chosenOut, nextOut, HandsPlan}
+use Rattle.crossing.specs.Status.{HandsOut, HandsKeys, HandsEntries, HandsDeparture, plannedStatus, consideredOut, chosenOut, nextOut, HandsPlan, HandsOwners}
 
 -- ---- a refusal's number is not 0
 
@@ -70,6 +71,7 @@ statusIn (Left own parents) = 0
 statusIn (Entries l) = 0
 statusIn (Chosen n l x) = 0
 statusIn (Summed s) = 0
+statusIn (Owned n l) = 0
 
 status-in : (a : Answer) → statusOf a ≡ statusIn (replyOf a)
 status-in (No n) = refl
@@ -120,6 +122,14 @@ pub hands-entries : {c : Call} (l : Listing) (was : ℕ) {b z : List ℕ} {u : B
 hands-entries {c} (NoKeys zero) was d e = absurd (refused-zero c d)
 hands-entries (NoKeys (suc k)) was d e = rw (e .0, e .1) (d, refl)
 hands-entries (Listed k) was d e = rw (e .0, e .1) (d, tt)
+
+-- ---- answers that tell owners
+
+pub hands-owners : {c : Call} (hs : List ℕ) (l : Listing) (was : ℕ) {b z : List ℕ} {u : Buffer} {r n : ℕ} → LeavesWith c b z u (ownersOf hs l) → (r ≡ listingStatus l) × (n ≡ countOut l was)
+    → HandsOwners c hs b z u r was n
+hands-owners {c} hs (NoKeys zero) was d e = absurd (refused-zero c d)
+hands-owners hs (NoKeys (suc k)) was d e = rw (e .0, e .1) (d, refl)
+hands-owners hs (Listed k) was d e = rw (e .0, e .1) (d, tt)
 
 -- ---- of a connection that left
 

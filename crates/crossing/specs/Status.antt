@@ -14,6 +14,7 @@ use Rattle.outcome.specs.declared.Departure.the-variants.{Refused as NotLeft, L
 use Rattle.outcome.specs.Outcome.{Leaves, LeavesWith}
 use Rattle.outcome.specs.Reply.{keysListed, leftListed}
 use Rattle.public_plans.specs.Entries.{entriesListed, chosenListed}
+use Rattle.public_plans.specs.Ownership.{ownersListed}
 use Rattle.public_plans.specs.declared.Selection.{Selection}
 use Rattle.public_plans.specs.declared.Selection.the-variants.{Refused as NoPlan, Chosen}
 
@@ -95,6 +96,10 @@ parted k own parents u = told k (leftListed own parents u)
 abbrev pub planned : ℕ → ℕ → ℕ → ℕ → Buffer → Reply
 planned k considered n next u = told k (chosenListed considered n next u)
 
+-- a count: so many keys were passed, and the owners of the hashes stand there
+abbrev pub owning : List ℕ → ℕ → ℕ → Buffer → Reply
+owning hs k n u = told k (ownersListed hs n u)
+
 -- a call that is refused hands nothing out: what stood there stays
 abbrev pub Stays : ℕ → ℕ → ℕ → Type 0
 Stays zero was is = Unit {0}
@@ -114,6 +119,10 @@ HandsKeys c b b′ u status was is = LeavesWith c b b′ u (counted status is) �
 -- or entries
 abbrev pub HandsEntries : Call → List ℕ → List ℕ → Buffer → ℕ → ℕ → ℕ → Type 0
 HandsEntries c b b′ u status was is = LeavesWith c b b′ u (entered status is) × Stays status was is
+
+-- or the owners of the hashes hs: the count of keys passed is handed out
+abbrev pub HandsOwners : Call → List ℕ → List ℕ → List ℕ → Buffer → ℕ → ℕ → ℕ → Type 0
+HandsOwners c hs b b′ u status was is = LeavesWith c b b′ u (owning hs status is) × Stays status was is
 
 -- the same of a connection that left: the count of its own keys and that of its parents' are handed out
 abbrev pub HandsDeparture : Call → List ℕ → List ℕ → Buffer → ℕ → ℕ → ℕ → ℕ → ℕ → Type 0

@@ -1,5 +1,5 @@
 -- Demand 1: the refusal of every call is 0, or the number of the first of the table's causes that applies.
-use Prim.Native.Nat.{ℕ, _≤_, _<_}
+use Prim.Native.Nat.{ℕ, suc, _≤_, _<_}
 use mathlib.Core.Path.{_≡_, refl, sym, ap, _∙_}
 use mathlib.Core.Logic.{_⊎_, inl, inr}
 use mathlib.Core.Bool.{Bool, true, false, not, _&&_, _||_}
@@ -8,15 +8,16 @@ use native.Mathlib.Omega.{arith}
 use lib.Dec.{ltb, leb, eqb}
 use lib.ListN.{length}
 use borrow.Author.Tests.{ltb-true, ltb-false, leb-true, leb-false, eqb-true, eqb-false, eq-eqb, ne-eqb}
-use Rattle.machine.specs.Limits.{need, maxAnnouncements, maxPlaces, maxParents, latestClock}
+use Rattle.machine.specs.Limits.{need, maxAnnouncements, maxPlaces, maxParents, maxAskedHashes, latestClock}
 use Rattle.machine.specs.State.{State}
 use Rattle.machine.specs.Table.{placesHeld}
 use Rattle.machine.specs.Claim.{elem}
+use Rattle.machine.specs.Owners.{ascending}
 use Rattle.machine.specs.Call.{Ask, Role, AsSolicitation, AsSweep, AsOther, roleOf, placeTaken, Call, Open, On, Named}
-use Rattle.machine.specs.Call.{named, anyLate, takesPlace, sizesTaken, openingRefusal, askRefusal, refusal}
+use Rattle.machine.specs.Call.{named, anyLate, takesPlace, wrongHashes, late, sizesTaken, openingRefusal, askRefusal, refusal}
 use Rattle.machine.specs.Step.{stepIf}
 use Rattle.machine.specs.Demand1.{Any, WrongSizes, WouldSolicit, OpeningCause, short-store, wrong-sizes, AskCause, unsound-store, connection-0}
-use Rattle.machine.specs.Demand1.{late-clock, many-parents, short-buffer, no-place, Cause, Sooner, FirstCause, carried, refusedAs, Demand1}
+use Rattle.machine.specs.Demand1.{late-clock, many-parents, Ascending, WrongHashes, wrong-hashes, short-buffer, no-place, Cause, tested, turn, Sooner, FirstCause, carried, refusedAs, Demand1}
 use Rattle.machine.proofs.Tests.{test, never, and-left, and-right}
 
 -- ---- a test and what it decides
@@ -55,6 +56,19 @@ any-late : (l : List ℕ) → Decides (anyLate l) (Any (λ now. latestClock < no
 unfolding anyLate
 any-late [] = record { holds = λ e. never e; fails = λ e p. p }
 any-late (n ∷ l) = either-one (ltb latestClock n) (anyLate l) (less latestClock n) (any-late l)
+
+not-it : (b : Bool) {P : Type 0} → Decides b P → Decides (not b) (P → ⊥)
+not-it true p = record { holds = λ e. never e; fails = λ e n. n (p .holds refl) }
+not-it false p = record { holds = λ e. p .fails refl; fails = λ e. never (sym e) }
+
+rising : (l : List ℕ) → Decides (ascending l) (Ascending l)
+unfolding ascending
+rising [] = record { holds = λ e. tt; fails = λ e. never (sym e) }
+rising (h ∷ []) = record { holds = λ e. tt; fails = λ e. never (sym e) }
+rising (h ∷ (g ∷ l)) = both (ltb h g) (ascending (g ∷ l)) (less h g) (rising (g ∷ l))
+
+wrong : (l : List ℕ) → Decides (wrongHashes l) (WrongHashes l)
+wrong l = either-one (ltb maxAskedHashes (length l)) (not (ascending l)) (less maxAskedHashes (length l)) (not-it (ascending l) (rising l))
 
 solicits : (r : Role) (s : State) → Decides (placeTaken r s) (WouldSolicit r s)
 solicits (AsSolicitation n h hs now) s = record { holds = λ e. e; fails = λ e p. never (sym e ∙ p) }
@@ -104,55 +118,67 @@ module _ (n : ℕ) (sound : Bool) (s : State) (a : Ask) where
   decides-8 : Decides test-8 (WouldSolicit (roleOf a) s × (s .places ≤ placesHeld (s .table)))
   decides-8 = both (placeTaken (roleOf a) s) (leb (s .places) (placesHeld (s .table))) (solicits (roleOf a) s) (at-most (s .places) (placesHeld (s .table)))
 
-  -- a cause below r has been tested
-  none-below : (r : ℕ) → (3 < r → not sound ≡ false) → (4 < r → test-4 ≡ false) → (5 < r → test-5 ≡ false) → (6 < r → test-6 ≡ false) → (7 < r → test-7 ≡ false) → (8 < r → test-8 ≡ false)
-      → (i : ℕ) → i < r → AskCause sound s a i → ⊥
-  none-below r e₃ e₄ e₅ e₆ e₇ e₈ i h (unsound-store e p) = not-false sound (e₃ (omega arith)) p
-  none-below r e₃ e₄ e₅ e₆ e₇ e₈ i h (connection-0 e p) = (any-zero (w .connections)) .fails (e₄ (omega arith)) p
-  none-below r e₃ e₄ e₅ e₆ e₇ e₈ i h (late-clock e p) = (any-late (w .clocks)) .fails (e₅ (omega arith)) p
-  none-below r e₃ e₄ e₅ e₆ e₇ e₈ i h (many-parents e p) = (less maxParents (w .parents)) .fails (e₆ (omega arith)) p
-  none-below r e₃ e₄ e₅ e₆ e₇ e₈ i h (short-buffer e p) = (less (length (w .buffer)) (w .needs)) .fails (e₇ (omega arith)) p
-  none-below r e₃ e₄ e₅ e₆ e₇ e₈ i h (no-place e p q) = decides-8 .fails (e₈ (omega arith)) (p, q)
+  abbrev test-13 : Bool
+  test-13 = wrongHashes (w .hashes)
 
-  cause-small : (i : ℕ) → AskCause sound s a i → i < 9
-  cause-small i (unsound-store e p) = omega arith
-  cause-small i (connection-0 e p) = omega arith
-  cause-small i (late-clock e p) = omega arith
-  cause-small i (many-parents e p) = omega arith
-  cause-small i (short-buffer e p) = omega arith
-  cause-small i (no-place e p q) = omega arith
+  -- a cause whose turn comes before the p-th has been tested
+  none-below : (p : ℕ) → (0 < p → not sound ≡ false) → (1 < p → test-4 ≡ false) → (2 < p → test-5 ≡ false) → (3 < p → test-6 ≡ false) → (4 < p → test-13 ≡ false) → (5 < p → test-7 ≡ false)
+      → (6 < p → test-8 ≡ false) → (i : ℕ) → turn i tested < p → AskCause sound s a i → ⊥
+  none-below p e₃ e₄ e₅ e₆ e₁₃ e₇ e₈ i h (unsound-store e q) = not-false sound (e₃ (rw e at h)) q
+  none-below p e₃ e₄ e₅ e₆ e₁₃ e₇ e₈ i h (connection-0 e q) = (any-zero (w .connections)) .fails (e₄ (rw e at h)) q
+  none-below p e₃ e₄ e₅ e₆ e₁₃ e₇ e₈ i h (late-clock e q) = (any-late (w .clocks)) .fails (e₅ (rw e at h)) q
+  none-below p e₃ e₄ e₅ e₆ e₁₃ e₇ e₈ i h (many-parents e q) = (less maxParents (w .parents)) .fails (e₆ (rw e at h)) q
+  none-below p e₃ e₄ e₅ e₆ e₁₃ e₇ e₈ i h (wrong-hashes e q) = (wrong (w .hashes)) .fails (e₁₃ (rw e at h)) q
+  none-below p e₃ e₄ e₅ e₆ e₁₃ e₇ e₈ i h (short-buffer e q) = (less (length (w .buffer)) (w .needs)) .fails (e₇ (rw e at h)) q
+  none-below p e₃ e₄ e₅ e₆ e₁₃ e₇ e₈ i h (no-place e q v) = decides-8 .fails (e₈ (rw e at h)) (q, v)
 
-  refused-by : (r : ℕ) → refusal n sound (On a) s ≡ r → 0 < r → AskCause sound s a r → ((i : ℕ) → i < r → AskCause sound s a i → ⊥) → Verdict n sound s (On a)
+  cause-tested : (i : ℕ) → AskCause sound s a i → turn i tested < 7
+  cause-tested i (unsound-store e p) = rw e (omega arith)
+  cause-tested i (connection-0 e p) = rw e (omega arith)
+  cause-tested i (late-clock e p) = rw e (omega arith)
+  cause-tested i (many-parents e p) = rw e (omega arith)
+  cause-tested i (wrong-hashes e p) = rw e (omega arith)
+  cause-tested i (short-buffer e p) = rw e (omega arith)
+  cause-tested i (no-place e p q) = rw e (omega arith)
+
+  refused-by : (r : ℕ) → refusal n sound (On a) s ≡ r → 0 < r → AskCause sound s a r → ((i : ℕ) → turn i tested < turn r tested → AskCause sound s a i → ⊥) → Verdict n sound s (On a)
   refused-by r e h c k = inr (r, record { number = e; some-number = h; cause = record { applies = c; none-sooner = k } })
 
   in-turn : Verdict n sound s (On a)
-  unfolding refusal askRefusal takesPlace
+  unfolding refusal askRefusal takesPlace late
   in-turn =
       elim (test (not sound)) [
         | inl e₃ ↦
             refused-by 3 (rw e₃) (omega arith) (unsound-store refl (not-true sound e₃))
-            (none-below 3 (λ h. absurd (omega arith)) (λ h. absurd (omega arith)) (λ h. absurd (omega arith)) (λ h. absurd (omega arith)) (λ h. absurd (omega arith)) (λ h. absurd (omega arith)))
+            (none-below 0 (λ h. absurd (omega arith)) (λ h. absurd (omega arith)) (λ h. absurd (omega arith)) (λ h. absurd (omega arith))
+            (λ h. absurd (omega arith)) (λ h. absurd (omega arith)) (λ h. absurd (omega arith)))
         | inr e₃ ↦ elim (test test-4) [
           | inl e₄ ↦
               refused-by 4 (rw (e₃, e₄)) (omega arith) (connection-0 refl ((any-zero (w .connections)) .holds e₄))
-              (none-below 4 (λ h. e₃) (λ h. absurd (omega arith)) (λ h. absurd (omega arith)) (λ h. absurd (omega arith)) (λ h. absurd (omega arith)) (λ h. absurd (omega arith)))
+              (none-below 1 (λ h. e₃) (λ h. absurd (omega arith)) (λ h. absurd (omega arith)) (λ h. absurd (omega arith)) (λ h. absurd (omega arith))
+              (λ h. absurd (omega arith)) (λ h. absurd (omega arith)))
           | inr e₄ ↦ elim (test test-5) [
             | inl e₅ ↦
                 refused-by 5 (rw (e₃, e₄, e₅)) (omega arith) (late-clock refl ((any-late (w .clocks)) .holds e₅))
-                (none-below 5 (λ h. e₃) (λ h. e₄) (λ h. absurd (omega arith)) (λ h. absurd (omega arith)) (λ h. absurd (omega arith)) (λ h. absurd (omega arith)))
+                (none-below 2 (λ h. e₃) (λ h. e₄) (λ h. absurd (omega arith)) (λ h. absurd (omega arith)) (λ h. absurd (omega arith)) (λ h. absurd (omega arith)) (λ h. absurd (omega arith)))
             | inr e₅ ↦ elim (test test-6) [
               | inl e₆ ↦
                   refused-by 6 (rw (e₃, e₄, e₅, e₆)) (omega arith) (many-parents refl (ltb-true maxParents (w .parents) e₆))
-                  (none-below 6 (λ h. e₃) (λ h. e₄) (λ h. e₅) (λ h. absurd (omega arith)) (λ h. absurd (omega arith)) (λ h. absurd (omega arith)))
-              | inr e₆ ↦ elim (test test-7) [
-                | inl e₇ ↦
-                    refused-by 7 (rw (e₃, e₄, e₅, e₆, e₇)) (omega arith) (short-buffer refl (ltb-true (length (w .buffer)) (w .needs) e₇))
-                    (none-below 7 (λ h. e₃) (λ h. e₄) (λ h. e₅) (λ h. e₆) (λ h. absurd (omega arith)) (λ h. absurd (omega arith)))
-                | inr e₇ ↦ elim (test test-8) [
-                  | inl e₈ ↦
-                      refused-by 8 (rw (e₃, e₄, e₅, e₆, e₇, e₈)) (omega arith) (no-place refl (decides-8 .holds e₈ .0) (decides-8 .holds e₈ .1))
-                      (none-below 8 (λ h. e₃) (λ h. e₄) (λ h. e₅) (λ h. e₆) (λ h. e₇) (λ h. absurd (omega arith)))
-                  | inr e₈ ↦ inl (rw (e₃, e₄, e₅, e₆, e₇, e₈), λ i c. none-below 9 (λ h. e₃) (λ h. e₄) (λ h. e₅) (λ h. e₆) (λ h. e₇) (λ h. e₈) i (cause-small i c) c)
+                  (none-below 3 (λ h. e₃) (λ h. e₄) (λ h. e₅) (λ h. absurd (omega arith)) (λ h. absurd (omega arith)) (λ h. absurd (omega arith)) (λ h. absurd (omega arith)))
+              | inr e₆ ↦ elim (test test-13) [
+                | inl e₁₃ ↦
+                    refused-by 13 (rw (e₃, e₄, e₅, e₆, e₁₃)) (omega arith) (wrong-hashes refl ((wrong (w .hashes)) .holds e₁₃))
+                    (none-below 4 (λ h. e₃) (λ h. e₄) (λ h. e₅) (λ h. e₆) (λ h. absurd (omega arith)) (λ h. absurd (omega arith)) (λ h. absurd (omega arith)))
+                | inr e₁₃ ↦ elim (test test-7) [
+                  | inl e₇ ↦
+                      refused-by 7 (rw (e₃, e₄, e₅, e₆, e₁₃, e₇)) (omega arith) (short-buffer refl (ltb-true (length (w .buffer)) (w .needs) e₇))
+                      (none-below 5 (λ h. e₃) (λ h. e₄) (λ h. e₅) (λ h. e₆) (λ h. e₁₃) (λ h. absurd (omega arith)) (λ h. absurd (omega arith)))
+                  | inr e₇ ↦ elim (test test-8) [
+                    | inl e₈ ↦
+                        refused-by 8 (rw (e₃, e₄, e₅, e₆, e₁₃, e₇, e₈)) (omega arith) (no-place refl (decides-8 .holds e₈ .0) (decides-8 .holds e₈ .1))
+                        (none-below 6 (λ h. e₃) (λ h. e₄) (λ h. e₅) (λ h. e₆) (λ h. e₁₃) (λ h. e₇) (λ h. absurd (omega arith)))
+                    | inr e₈ ↦ inl (rw (e₃, e₄, e₅, e₆, e₁₃, e₇, e₈), λ i c. none-below 7 (λ h. e₃) (λ h. e₄) (λ h. e₅) (λ h. e₆) (λ h. e₁₃) (λ h. e₇) (λ h. e₈) i (cause-tested i c) c)
+                  ]
                 ]
               ]
             ]
@@ -206,14 +232,24 @@ verdict : (n : ℕ) (sound : Bool) (s : State) (c : Call) → Verdict n sound s 
 verdict n sound s (Open L Q) = opening n sound s L Q
 verdict n sound s (On a) = in-turn n sound s a
 
-sooner-one : (c : Call) (i j : ℕ) → (Sooner c i j → ⊥) → (Sooner c j i → ⊥) → i ≡ j
-sooner-one (Open L Q) i j p q = elim (order i j) [ inl h ↦ absurd (q h) | inr h ↦ elim h [ inl e ↦ e | inr g ↦ absurd (p g) ] ]
-sooner-one (On a) i j p q = elim (order i j) [ inl h ↦ absurd (p h) | inr h ↦ elim h [ inl e ↦ e | inr g ↦ absurd (q g) ] ]
+-- a number that stands in a list has a place of its own
+turn-one : (i j : ℕ) (l : List ℕ) → turn i l ≡ turn j l → turn i l < length l → i ≡ j
+turn-one i j [] e h = absurd (omega arith)
+turn-one i j (n ∷ l) e h =
+    elim (test (eqb i n)) [
+      | inl x ↦ elim (test (eqb j n)) [ inl y ↦ eqb-true i n x ∙ sym (eqb-true j n y) | inr y ↦ absurd (omega (arith, rw (x, y) at e)) ]
+      | inr x ↦ elim (test (eqb j n)) [ inl y ↦ absurd (omega (arith, rw (x, y) at e)) | inr y ↦ turn-one i j l (omega (arith, rw (x, y) at e)) (omega (arith, rw x at h)) ]
+    ]
+
+sooner-one : (n : ℕ) (sound : Bool) (s : State) (c : Call) (i j : ℕ) → Cause n sound s c i → (Sooner c i j → ⊥) → (Sooner c j i → ⊥) → i ≡ j
+sooner-one n sound s (Open L Q) i j c p q = elim (order i j) [ inl h ↦ absurd (q h) | inr h ↦ elim h [ inl e ↦ e | inr g ↦ absurd (p g) ] ]
+sooner-one n sound s (On a) i j c p q =
+    elim (order (turn i tested) (turn j tested)) [ inl h ↦ absurd (p h) | inr h ↦ elim h [ inl e ↦ turn-one i j tested e (cause-tested n sound s a i c) | inr g ↦ absurd (q g) ] ]
 
 module _ (n : ℕ) (sound : Bool) (c : Call) (s : State) where
   -- there is one first cause
   first-one : {i j : ℕ} → FirstCause n sound s c i → FirstCause n sound s c j → i ≡ j
-  first-one {i} {j} a b = sooner-one c i j (λ h. b .none-sooner i h (a .applies)) (λ h. a .none-sooner j h (b .applies))
+  first-one {i} {j} a b = sooner-one n sound s c i j (a .applies) (λ h. b .none-sooner i h (a .applies)) (λ h. a .none-sooner j h (b .applies))
 
   done : refusal n sound c s ≡ 0 → stepIf n sound c s ≡ carried c s
   unfolding stepIf

@@ -14,8 +14,9 @@ use Rattle.machine.specs.Later.{leastLater, anyReady, times}
 use Rattle.machine.specs.Plan.{chosenBy, chosenAt, able, sooner, better, orElse, leastIn, leastAt, choice, consider, phase, due, expire, insertByPriority, sortByPriority, plan}
 use Rattle.machine.specs.Claim.{sameEntry, takes, claim, elem, forWitness, insertByConnection, sortByConnection, arrange, partOf}
 use Rattle.machine.specs.Wrapper.{offersFrom, announceTransactions, responseCompleted, notFoundOne, notFoundEach, packagesIn, notFound, sum}
-use Rattle.machine.specs.Call.{named, anyLate, takesPlace, openingRefusal, askRefusal, refusal}
-use Rattle.machine.specs.Step.{perform, carryOut, keysAnswer, entriesAnswer, written, stepIf}
+use Rattle.machine.specs.Owners.{holdingAt, ascending, greatestHash, keysUpTo, passed}
+use Rattle.machine.specs.Call.{named, anyLate, takesPlace, late, openingRefusal, askRefusal, refusal}
+use Rattle.machine.specs.Step.{perform, carryOut, keysAnswer, entriesAnswer, holdingsAnswer, written, stepIf}
 use Rattle.machine.specs.Edges.{Edges}
 
 pub edges : Edges
@@ -25,10 +26,11 @@ unfolding top digits bytesOf need at keep change keys countIn total has without 
     sortKeys disconnected only round lastOf handed
     leastLater anyReady times chosenBy chosenAt able sooner better orElse leastIn leastAt choice consider phase due expire insertByPriority sortByPriority plan sameEntry
     takes claim elem forWitness insertByConnection sortByConnection arrange partOf offersFrom announceTransactions responseCompleted notFoundOne notFoundEach packagesIn notFound sum named anyLate
-    takesPlace openingRefusal askRefusal refusal perform carryOut keysAnswer entriesAnswer written stepIf
+    takesPlace holdingAt ascending greatestHash keysUpTo passed late openingRefusal askRefusal refusal perform carryOut keysAnswer entriesAnswer holdingsAnswer written stepIf
 edges = record {
   worked-lines = refl;
   look-lines = refl;
+  whose-lines = refl;
   ninth-preferred = refl;
   all-stay = refl;
   one-unpreferred = refl;

@@ -2,7 +2,7 @@
 use Prim.Native.Nat.{ℕ, suc, _+_, _≤_, _<_}
 use mathlib.Core.Path.{_≡_, refl}
 use mathlib.Core.Logic.{inl, inr}
-use mathlib.Core.Bool.{Bool, true, false, _&&_}
+use mathlib.Core.Bool.{Bool, true, false, not, _&&_}
 use mathlib.Core.List.{List, [], _∷_}
 use mathlib.Core.Option.{Option}
 use native.Mathlib.Omega.{arith}
@@ -19,7 +19,7 @@ use Rattle.machine.specs.Claim.{elem}
 use Rattle.machine.specs.Call.{Ask, Announce, RequestParent, Failed, Unclaim, SolicitPackageInfo, ClaimPackage, BeginPackageResolution, AnnounceParents}
 use Rattle.machine.specs.Call.{FailedPackageClaims, Plan, Claim, Sweep, Disconnected, ReleasePackage, TeardownPackageClaims, Forget, ForgetKnown}
 use Rattle.machine.specs.Call.{FailedWithParents, FailedPackageInfo, PackageInfoOwner, AnnounceTransactions, TransactionResponseCompleted}
-use Rattle.machine.specs.Call.{TransactionNotFound, PollGate, Arrange, Sum, Call, Open, On, named, anyLate, takesPlace, sizesTaken, openingRefusal, askRefusal, refusal}
+use Rattle.machine.specs.Call.{TransactionNotFound, PollGate, Arrange, Sum, OwnersOf, Call, Open, On, named, anyLate, takesPlace, late, sizesTaken, openingRefusal, askRefusal, refusal}
 use Rattle.machine.specs.Step.{perform, empty, carryOut, stepIf, step}
 use Rattle.machine.specs.Sound.{Hashes, CursorFits, PollFits, Bounded, Sound}
 use Rattle.machine.specs.Typed.{AskTyped, CallTyped}
@@ -72,6 +72,7 @@ pub record Carried (a : Ask) (s : State) : Type 0 where
   pub connections : elem 0 ((named a s) .connections) ≡ false
   pub clocks : anyLate ((named a s) .clocks) ≡ false
   pub parents : (named a s) .parents ≤ maxParents
+  pub late : late a s ≡ 0
   pub buffer : (named a s) .needs ≤ length ((named a s) .buffer)
   pub place : takesPlace a s ≡ true → placesHeld (s .table) < s .places
 
@@ -79,6 +80,9 @@ pub record Carried (a : Ask) (s : State) : Type 0 where
 passed : (b : Bool) (n x : ℕ) → (if b then suc n else x) ≡ 0 → (b ≡ false) × (x ≡ 0)
 passed true n x e = absurd (omega arith)
 passed false n x e = (refl, e)
+
+timely : (n x : ℕ) → (if not (eqb n 0) then n else x) ≡ 0 → (n ≡ 0) × (x ≡ 0)
+timely n x e = elim (test (eqb n 0)) [ inl d ↦ (eqb-true n 0 d, rw d at e) | inr d ↦ absurd (eqb-false n 0 d (rw d at e)) ]
 
 place-free : (a : Bool) (Q held : ℕ) → (a && leb Q held) ≡ false → a ≡ true → held < Q
 place-free true Q held d e = leb-false Q held d
@@ -90,12 +94,14 @@ carried a s e₀ =
     let e₁ = passed (elem 0 ((named a s) .connections)) 3 _ e₀ in
     let e₂ = passed (anyLate ((named a s) .clocks)) 4 _ (e₁ .1) in
     let e₃ = passed (ltb maxParents ((named a s) .parents)) 5 _ (e₂ .1) in
-    let e₄ = passed (ltb (length ((named a s) .buffer)) ((named a s) .needs)) 6 _ (e₃ .1) in
+    let e₁₃ = timely (late a s) _ (e₃ .1) in
+    let e₄ = passed (ltb (length ((named a s) .buffer)) ((named a s) .needs)) 6 _ (e₁₃ .1) in
     let e₅ = passed (takesPlace a s && leb (s .places) (placesHeld (s .table))) 7 _ (e₄ .1) in
     record {
       connections = e₁ .0;
       clocks = e₂ .0;
       parents = ltb-false maxParents ((named a s) .parents) (e₃ .0);
+      late = e₁₃ .0;
       buffer = ltb-false (length ((named a s) .buffer)) ((named a s) .needs) (e₄ .0);
       place = place-free (takesPlace a s) (s .places) (placesHeld (s .table)) (e₅ .0);
     }
@@ -155,6 +161,7 @@ sound-perform (TransactionNotFound n l now b) s w r g = sound-table g (bounded-n
 sound-perform (PollGate now) s w r g = sound-with g (g .bounded) (gate-poll now (s .nextPoll) (on-time now (r .clocks)) (g .poll)) (g .known) (g .ready)
 sound-perform (Arrange ws l b) s w r g = g
 sound-perform Sum s w r g = g
+sound-perform (OwnersOf hs b) s w r g = g
 
 -- ---- a call
 

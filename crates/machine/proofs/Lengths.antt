@@ -16,7 +16,8 @@ use Rattle.machine.specs.Package.{enqueuedBy, failedWithParents, release
 use Rattle.machine.specs.Leave.{disconnected}
 use Rattle.machine.specs.Call.{Ask, Announce, RequestParent, Failed, Unclaim, SolicitPackageInfo, ClaimPackage, BeginPackageResolution, AnnounceParents, FailedPackageClaims, Plan, Claim, Sweep}
 use Rattle.machine.specs.Call.{Disconnected, ReleasePackage, TeardownPackageClaims, Forget, ForgetKnown, FailedWithParents, FailedPackageInfo, PackageInfoOwner, AnnounceTransactions}
-use Rattle.machine.specs.Call.{TransactionResponseCompleted, TransactionNotFound, PollGate, Arrange, Sum, keyBytes, entryBytes, Call, Open, On, named, openingRefusal, askRefusal, refusal}
+use Rattle.machine.specs.Call.{TransactionResponseCompleted, TransactionNotFound, PollGate, Arrange, Sum, OwnersOf, keyBytes, entryBytes}
+use Rattle.machine.specs.Call.{Call, Open, On, named, openingRefusal, askRefusal, refusal}
 use Rattle.machine.specs.Step.{perform, carryOut, written, bufferOf, stepIf, step, keysAnswer, entriesAnswer, answerBytes}
 use Rattle.machine.specs.Sound.{Bounded, Sound}
 use Rattle.machine.specs.Typed.{AskTyped, CallTyped}
@@ -25,6 +26,7 @@ use Rattle.machine.proofs.Table.{lawful-at}
 use Rattle.machine.proofs.Kept.{Carried, carried, peer}
 use Rattle.machine.proofs.AnswerLengths.{length-keysAnswer, length-entriesAnswer, keys-held, length-handed, length-claim}
 use Rattle.machine.proofs.AnswerLengths.{length-arrange, length-announceParents, length-listedAfter, length-parentsFor}
+use Rattle.machine.proofs.Owners.{length-holdings}
 use Rattle.machine.proofs.Chosen.{length-plan}
 use Rattle.machine.proofs.Failing.{length-failedPackageClaims, length-notFound}
 use Rattle.machine.proofs.Leaving.{length-own, length-handed-on}
@@ -84,6 +86,7 @@ fits (TransactionNotFound n l now b) s w g r = keys-fit _ _ (omega (arith, lengt
 fits (PollGate now) s w g r = omega arith
 fits (Arrange ws l b) s w g r = entries-fit _ _ (omega (arith, length-arrange ws l (s .table)))
 fits Sum s w g r = omega arith
+fits (OwnersOf hs b) s w g r = omega (arith, length-holdings hs (s .table))
 
 pub answer-fits : (a : Ask) (s : State) → AskTyped a → Sound s → askRefusal true a s ≡ 0 → length (answerBytes ((perform a s) .reply)) ≤ (named a s) .needs
 answer-fits a s w g e = fits a s w g (carried a s e)

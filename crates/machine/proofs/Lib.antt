@@ -9,6 +9,7 @@ pub mod Loosened
 pub mod Places
 pub mod Failing
 pub mod Leaving
+pub mod Owners
 pub mod Lengths
 pub mod Expired
 pub mod Claimed

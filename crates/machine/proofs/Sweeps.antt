@@ -18,7 +18,7 @@ use Rattle.machine.specs.Plan.{plan}
 use Rattle.machine.specs.Sound.{Ordered}
 use Rattle.machine.specs.Call.{Ask, Announce, RequestParent, Failed, Unclaim, SolicitPackageInfo, ClaimPackage, BeginPackageResolution, AnnounceParents}
 use Rattle.machine.specs.Call.{FailedPackageClaims, Plan, Claim, Sweep, Disconnected, ReleasePackage, TeardownPackageClaims, Forget, ForgetKnown, FailedWithParents}
-use Rattle.machine.specs.Call.{FailedPackageInfo, PackageInfoOwner, AnnounceTransactions, TransactionResponseCompleted, TransactionNotFound, PollGate, Arrange, Sum, Call, Open, On}
+use Rattle.machine.specs.Call.{FailedPackageInfo, PackageInfoOwner, AnnounceTransactions, TransactionResponseCompleted, TransactionNotFound, PollGate, Arrange, Sum, OwnersOf, Call, Open, On}
 use Rattle.machine.specs.Step.{swept, perform, carryOut, stepIf, step}
 use Rattle.machine.specs.Demand3.{carriedOut, Swept, isSweep, sweeping, opening, keysIn, sweepsOf, NoOpening}
 use Rattle.machine.proofs.Tests.{test, never}
@@ -71,6 +71,7 @@ moved (TransactionNotFound n l now b) s = record { cursor = refl; out = refl }
 moved (PollGate now) s = record { cursor = refl; out = refl }
 moved (Arrange ws l b) s = record { cursor = refl; out = refl }
 moved Sum s = record { cursor = refl; out = refl }
+moved (OwnersOf hs b) s = record { cursor = refl; out = refl }
 
 pub cursor-stays : (a : Ask) (s : State) → isSweep a ≡ false → ((perform a s) .state) .knownCursor ≡ s .knownCursor
 cursor-stays a s e = (moved a s) .cursor ∙ rw e

@@ -3,16 +3,17 @@ use Prim.Native.Nat.{ℕ, _+_, _*_, min}
 use mathlib.Core.Bool.{Bool, false, not, _&&_, _||_}
 use mathlib.Core.List.{List, [], _∷_}
 use mathlib.Core.Option.{Option}
-use lib.Dec.{ltb, leb}
+use lib.Dec.{ltb, leb, eqb}
 use lib.ListN.{length}
 use Rattle.ident.specs.If.{if_then_else_}
 use Rattle.ident.specs.Number.{Key, Item}
-use Rattle.machine.specs.Limits.{need, maxAnnouncements, maxPlaces, maxPeerAnnouncements, maxKnownChecks, maxRequestChecks, maxParents, latestClock}
+use Rattle.machine.specs.Limits.{need, maxAnnouncements, maxPlaces, maxPeerAnnouncements, maxKnownChecks, maxRequestChecks, maxParents, maxAskedHashes, latestClock}
 use Rattle.machine.specs.State.{Candidate, State, limitsOf, Entry}
 use Rattle.machine.specs.Table.{placesHeld}
 use Rattle.machine.specs.Package.{solicit}
 use Rattle.machine.specs.Claim.{elem}
 use Rattle.machine.specs.Wrapper.{Offer}
+use Rattle.machine.specs.Owners.{ascending}
 
 -- an answer buffer: its bytes
 abbrev pub Buffer : Type 0
@@ -46,42 +47,47 @@ pub data Ask : Type 0 where
   PollGate : (now : ℕ) → Ask
   Arrange : (witnesses : List ℕ) (taken : List Entry) (b : Buffer) → Ask
   Sum : Ask
+  OwnersOf : (hashes : List ℕ) (b : Buffer) → Ask
 
 -- "In the list stand opening and every other call here that takes a store"
 pub data Call : Type 0 where
   Open : (L Q : ℕ) → Call
   On : Ask → Call
 
--- ---- what the refusals 4 to 7 look at
+-- ---- what the refusals 4 to 7 and 13 look at
 
 pub record Named : Type 0 where
   pub connections : List ℕ
   pub clocks : List ℕ
   pub parents : ℕ
+  pub hashes : List ℕ
   pub buffer : Buffer
   pub needs : ℕ
 
--- bytes of a key and of an entry in a buffer: 5 and 14 words
+-- bytes of a key, of an entry and of an owner in a buffer: 5, 14 and 3 words
 abbrev pub keyBytes : ℕ
 keyBytes = 40
 
 abbrev pub entryBytes : ℕ
 entryBytes = 112
 
+abbrev pub ownerBytes : ℕ
+ownerBytes = 24
+
 -- a call with no answer buffer
 abbrev pub plain : List ℕ → List ℕ → ℕ → Named
-plain ns ts p = record { connections = ns; clocks = ts; parents = p; buffer = []; needs = 0 }
+plain ns ts p = record { connections = ns; clocks = ts; parents = p; hashes = []; buffer = []; needs = 0 }
 
 -- one whose answer is a list of keys, or of entries: so many at the most
 abbrev pub keyed : List ℕ → List ℕ → ℕ → Buffer → ℕ → Named
-keyed ns ts p b n = record { connections = ns; clocks = ts; parents = p; buffer = b; needs = keyBytes * n }
+keyed ns ts p b n = record { connections = ns; clocks = ts; parents = p; hashes = []; buffer = b; needs = keyBytes * n }
 
 abbrev pub entered : List ℕ → List ℕ → Buffer → ℕ → Named
-entered ns ts b n = record { connections = ns; clocks = ts; parents = 0; buffer = b; needs = entryBytes * n }
+entered ns ts b n = record { connections = ns; clocks = ts; parents = 0; hashes = []; buffer = b; needs = entryBytes * n }
 
 -- "Buffer needs in entries: plan min(1,025, L); sweep min(1,024, L); claim the checked length; disconnected
 -- min(5,000, L) + 100 × Q; package claims 101 × Q; not-found its items + 100 × Q; arranging the taken length; any other key
--- list 101."
+-- list 101." Document 02, request e: "The buffer's need is the list's length in entries."
 unfoldable pub named : Ask → State → Named
 named (Announce c) s = plain (c .connection ∷ []) [] 0
 named (RequestParent c) s = plain (c .connection ∷ []) [] 0
@@ -109,6 +115,7 @@ named (TransactionNotFound n l now b) s = keyed (n ∷ []) (now ∷ []) 0 b (len
 named (PollGate now) s = plain [] (now ∷ []) 0
 named (Arrange ws l b) s = entered ws [] b (length l)
 named Sum s = plain [] [] 0
+named (OwnersOf hs b) s = record { connections = []; clocks = []; parents = 0; hashes = hs; buffer = b; needs = ownerBytes * length hs }
 
 unfoldable pub anyLate : List ℕ → Bool
 anyLate [] = false
@@ -148,6 +155,7 @@ roleOf (TransactionNotFound n l now b) = AsOther
 roleOf (PollGate now) = AsOther
 roleOf (Arrange ws l b) = AsOther
 roleOf Sum = AsOther
+roleOf (OwnersOf hs b) = AsOther
 
 -- "a solicitation that would reply 1"
 abbrev pub placeTaken : Role → State → Bool
@@ -167,6 +175,14 @@ sizesTaken L Q = (leb 1 L && leb L maxAnnouncements) && (leb 1 Q && leb Q maxPla
 unfoldable pub openingRefusal : ℕ → ℕ → ℕ → ℕ
 openingRefusal n L Q = if sizesTaken L Q then (if ltb n (need L Q) then 1 else 0) else 2
 
+-- What is tested right before the buffer: its number, or 0 if it has nothing against the call. "Hashes that are too many or not strictly ascending
+-- get 13, after the test of the store and before the buffer's" (document 02, request e).
+abbrev pub wrongHashes : List ℕ → Bool
+wrongHashes hs = ltb maxAskedHashes (length hs) || not (ascending hs)
+
+unfoldable pub late : Ask → State → ℕ
+late a s = if wrongHashes ((named a s) .hashes) then 13 else 0
+
 -- "Other calls test 3 to 8 in turn." sound: the store's bytes write a sound state, which is s.
 unfoldable pub askRefusal : Bool → Ask → State → ℕ
 askRefusal sound a s =
@@ -174,6 +190,7 @@ askRefusal sound a s =
     else if elem 0 ((named a s) .connections) then 4
     else if anyLate ((named a s) .clocks) then 5
     else if ltb maxParents ((named a s) .parents) then 6
+    else if not (eqb (late a s) 0) then late a s
     else if ltb (length ((named a s) .buffer)) ((named a s) .needs) then 7
     else if takesPlace a s && leb (s .places) (placesHeld (s .table)) then 8
     else 0

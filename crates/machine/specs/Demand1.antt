@@ -1,11 +1,13 @@
 -- Demand 1: a call within the limits is carried out, any other is refused by number, and nothing is lost (document 01, "Refusals and replies").
-use Prim.Native.Nat.{ℕ, _≤_, _<_}
+use Prim.Native.Nat.{ℕ, suc, _≤_, _<_}
 use mathlib.Core.Path.{_≡_}
 use mathlib.Core.Logic.{_⊎_}
 use mathlib.Core.Bool.{Bool, true, false}
 use mathlib.Core.List.{List, [], _∷_}
+use lib.Dec.{eqb}
 use lib.ListN.{length}
-use Rattle.machine.specs.Limits.{need, maxAnnouncements, maxPlaces, maxParents, latestClock}
+use Rattle.ident.specs.If.{if_then_else_}
+use Rattle.machine.specs.Limits.{need, maxAnnouncements, maxPlaces, maxParents, maxAskedHashes, latestClock}
 use Rattle.machine.specs.State.{State, limitsOf}
 use Rattle.machine.specs.Table.{placesHeld}
 use Rattle.machine.specs.Package.{solicit}
@@ -27,6 +29,16 @@ WouldSolicit (AsSolicitation n h hs now) s = (solicit (limitsOf s) n h hs now (s
 WouldSolicit AsSweep s = ⊥
 WouldSolicit AsOther s = ⊥
 
+-- "in strictly ascending order"
+abbrev pub Ascending : List ℕ → Type 0
+Ascending [] = Unit {0}
+Ascending (h ∷ []) = Unit {0}
+Ascending (h ∷ (g ∷ hs)) = (h < g) × Ascending (g ∷ hs)
+
+-- "Hashes that are too many or not strictly ascending" (document 02, request e)
+abbrev pub WrongHashes : List ℕ → Type 0
+WrongHashes hs = (maxAskedHashes < length hs) ⊎ (Ascending hs → ⊥)
+
 -- The table's causes, r their number: of an opening of a store of n bytes,
 pub data OpeningCause (n L Q r : ℕ) : Type 0 where
   -- "store shorter than the documented need for L and Q"
@@ -44,6 +56,8 @@ pub data AskCause (sound : Bool) (s : State) (a : Ask) (r : ℕ) : Type 0 where
   late-clock : r ≡ 5 → Any (λ now. latestClock < now) ((named a s) .clocks) → AskCause sound s a r
   -- "more than 100 parents given"
   many-parents : r ≡ 6 → maxParents < (named a s) .parents → AskCause sound s a r
+  -- "Hashes that are too many or not strictly ascending"
+  wrong-hashes : r ≡ 13 → WrongHashes ((named a s) .hashes) → AskCause sound s a r
   -- "answer buffer shorter than its need"
   short-buffer : r ≡ 7 → length ((named a s) .buffer) < (named a s) .needs → AskCause sound s a r
   -- "a solicitation that would reply 1, with all Q package places held"
@@ -53,10 +67,18 @@ abbrev pub Cause : ℕ → Bool → State → Call → ℕ → Type 0
 Cause n sound s (Open L Q) r = OpeningCause n L Q r
 Cause n sound s (On a) r = AskCause sound s a r
 
--- "Opening tests 2, then 1. Other calls test 3 to 8 in turn."
+-- "Opening tests 2, then 1. Other calls test 3 to 8 in turn." 13 "after the test of the store and before the buffer's"
+abbrev pub tested : List ℕ
+tested = 3 ∷ 4 ∷ 5 ∷ 6 ∷ 13 ∷ 7 ∷ 8 ∷ []
+
+-- the place of a number in such a list
+abbrev pub turn : ℕ → List ℕ → ℕ
+turn r [] = 0
+turn r (n ∷ l) = if eqb r n then 0 else suc (turn r l)
+
 abbrev pub Sooner : Call → ℕ → ℕ → Type 0
 Sooner (Open L Q) i j = j < i
-Sooner (On a) i j = i < j
+Sooner (On a) i j = turn i tested < turn j tested
 
 -- r is the number of the first cause that applies
 pub record FirstCause (n : ℕ) (sound : Bool) (s : State) (c : Call) (r : ℕ) : Type 0 where

@@ -12,7 +12,7 @@ use Rattle.machine.specs.State.{Request, State}
 use Rattle.machine.specs.Table.{keys, held, heldBy, heldAt, ownedBy, ownedAt}
 use Rattle.machine.specs.Sound.{All, OwnerFits, Sound}
 use Rattle.machine.specs.Call.{Ask, Role, AsSolicitation, AsSweep, AsOther, roleOf, Call, Open, On, refusal}
-use Rattle.machine.specs.Step.{Reply, Refused, Number, Keys, Left, Entries, Chosen, Summed, step}
+use Rattle.machine.specs.Step.{Reply, Refused, Number, Keys, Left, Entries, Chosen, Summed, Owned, step}
 use Rattle.machine.specs.Typed.{CallTyped, Each}
 
 -- ---- a list of calls on one store of n bytes: each gets the state that the last one left
@@ -56,6 +56,7 @@ keysIn (Left own parents) = own ++ parents
 keysIn (Entries l) = []
 keysIn (Chosen n l x) = []
 keysIn (Summed s) = []
+keysIn (Owned n l) = []
 
 abbrev pub sweptBy : ℕ → Call → State → Swept
 sweptBy n c s = record { held = keys (s .table); out = keysIn ((step n c s) .reply) }

@@ -1,4 +1,4 @@
--- The edges of document 01 that are marked P, its worked lines and those of document 02, request c: one record, proved as one theorem by computation.
+-- The edges of document 01 that are marked P, its worked lines and those of document 02, requests c and e: one record, proved as one theorem by computation.
 use Prim.Native.Nat.{ℕ, zero, suc}
 use mathlib.Core.Path.{_≡_}
 use mathlib.Core.Bool.{Bool, true, false}
@@ -11,8 +11,10 @@ use Rattle.ident.specs.Number.{Key, txid, wtxid}
 use Rattle.machine.specs.State.{Candidate, Request, Table, State, Entry}
 use Rattle.machine.specs.Table.{owners, any}
 use Rattle.machine.specs.Wrapper.{Offer, Sums}
-use Rattle.machine.specs.Call.{Buffer, Ask, Announce, Failed, SolicitPackageInfo, ClaimPackage, BeginPackageResolution, AnnounceParents, Plan, Claim, AnnounceTransactions, Sum, Call, Open, On}
-use Rattle.machine.specs.Step.{Reply, Number, Entries, Chosen, Summed, empty, perform, step}
+use Rattle.machine.specs.Call.{Buffer, Ask, Announce, Failed, SolicitPackageInfo, ClaimPackage, BeginPackageResolution, AnnounceParents, Plan, Claim, AnnounceTransactions, Sum}
+use Rattle.machine.specs.Call.{OwnersOf, Call, Open, On}
+use Rattle.machine.specs.Owners.{Holding}
+use Rattle.machine.specs.Step.{Reply, Refused, Number, Entries, Chosen, Summed, Owned, empty, perform, step}
 
 -- ---- how the edges are written
 
@@ -131,6 +133,22 @@ looking =
     ∷ On (Claim 30 (later8 ∷ []) room) ∷ On (Plan 40 none room) ∷ On (Announce (at 45 (w 9 10 false 1))) ∷ On (Plan 40 none room)
     ∷ On (Announce (at 70000 (w 6 10 false 9))) ∷ On (Plan 60030 none room) ∷ []
 
+-- the owners of hashes: t5 and w9 are owned, w5 is not
+abbrev pub five : Entry
+five = record { key = txid 5; candidate = t 1 5 false 0 }
+
+abbrev pub nine : Entry
+nine = record { key = wtxid 9; candidate = w 3 9 false 0 }
+
+abbrev pub asked : List Call
+asked =
+    Open 4 1 ∷ On (Announce (five .candidate)) ∷ On (Announce (w 2 5 false 0)) ∷ On (Announce (nine .candidate)) ∷ On (Plan 0 none room) ∷ On (Claim 0 (five ∷ nine ∷ []) room)
+    ∷ On (OwnersOf (5 ∷ 7 ∷ 9 ∷ []) room) ∷ On (OwnersOf (7 ∷ []) room) ∷ On (OwnersOf [] []) ∷ On (OwnersOf (7 ∷ 5 ∷ []) room) ∷ On (OwnersOf (5 ∷ 5 ∷ []) [])
+    ∷ On (OwnersOf (5 ∷ 7 ∷ []) []) ∷ []
+
+abbrev pub until60000 : Key → ℕ → Option Holding
+until60000 k n = some (record { key = k; connection = n; deadline = 60000 })
+
 -- ---- the edges
 
 pub record Edges : Type 0 where
@@ -140,6 +158,10 @@ pub record Edges : Type 0 where
   pub look-lines : replies 100000 looking (empty 1 1) ≡
       Number 1 ∷ Number 1 ∷ Chosen 1 [] (some 50) ∷ Number 1 ∷ Chosen 1 [] (some 30) ∷ Chosen 1 (later8 ∷ []) (some 50) ∷ Entries (later8 ∷ []) ∷ Chosen 1 [] (some 60030) ∷ Number 1
       ∷ Chosen 2 [] (some 45) ∷ Number 1 ∷ Chosen 2 (later9 ∷ []) none ∷ []
+  -- the keys up to the greatest hash are passed, both kinds; nobody owns 7; 13 where the order is wrong, with no buffer too, and 7 where it is right
+  pub whose-lines : replies 100000 asked (empty 1 1) ≡
+      Number 1 ∷ Number 1 ∷ Number 1 ∷ Number 1 ∷ Chosen 3 (five ∷ nine ∷ []) none ∷ Entries (five ∷ nine ∷ []) ∷ Owned 3 (until60000 (txid 5) 1 ∷ none ∷ until60000 (wtxid 9) 3 ∷ [])
+      ∷ Owned 2 (none ∷ []) ∷ Owned 0 [] ∷ Refused 13 ∷ Refused 13 ∷ Refused 7 ∷ []
   -- "Eight preferred at a hash, ninth preferred: 0."
   pub ninth-preferred : reply ninth (eight (w 3 77 true 0) (w 6 77 true 0)) ≡ Number 0
   pub all-stay : evicted (w 3 77 true 0) (w 6 77 true 0) ≡ (1 ∷ 2 ∷ 3 ∷ 4 ∷ 5 ∷ 6 ∷ 7 ∷ 8 ∷ []) ∷ []

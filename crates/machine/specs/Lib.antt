@@ -10,6 +10,7 @@ pub mod Later
 pub mod Plan
 pub mod Claim
 pub mod Wrapper
+pub mod Owners
 pub mod Call
 pub mod Step
 pub mod Sound

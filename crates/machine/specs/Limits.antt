@@ -26,6 +26,10 @@ maxKnownChecks = 1024
 abbrev pub maxRequestChecks : ℕ
 maxRequestChecks = 1024
 
+-- hashes whose owners are asked for together (document 02, request e)
+abbrev pub maxAskedHashes : ℕ
+maxAskedHashes = 1024
+
 -- wtxids of a package (MAX_GETPKGTXNS, not listed: 100 stands in), and parents of a request
 abbrev pub maxWtxids : ℕ
 maxWtxids = 100

@@ -1,5 +1,5 @@
 -- What a call does: reply, answer buffer, next state.
-use Prim.Native.Nat.{ℕ}
+use Prim.Native.Nat.{ℕ, suc}
 use mathlib.Core.Bool.{Bool, true, false}
 use mathlib.Core.List.{List, [], _∷_, _++_}
 use mathlib.Core.Option.{Option, none, some}
@@ -20,9 +20,10 @@ use Rattle.machine.specs.Sweep.{lastOf, handed}
 use Rattle.machine.specs.Plan.{Planned, plan}
 use Rattle.machine.specs.Claim.{Taken, claim, arrange}
 use Rattle.machine.specs.Wrapper.{announceTransactions, responseCompleted, notFound, dueAt, nextPollAfter, Sums, sum}
+use Rattle.machine.specs.Owners.{Holding, holdings, passed}
 use Rattle.machine.specs.Call.{Buffer, Ask, Announce, RequestParent, Failed, Unclaim, SolicitPackageInfo, ClaimPackage, BeginPackageResolution, AnnounceParents, FailedPackageClaims}
 use Rattle.machine.specs.Call.{Plan, Claim, Sweep, Disconnected, ReleasePackage, TeardownPackageClaims, Forget, ForgetKnown, FailedWithParents, FailedPackageInfo, PackageInfoOwner}
-use Rattle.machine.specs.Call.{AnnounceTransactions, TransactionResponseCompleted, TransactionNotFound, PollGate, Arrange, Sum, Call, Open, On, Named, named, refusal}
+use Rattle.machine.specs.Call.{AnnounceTransactions, TransactionResponseCompleted, TransactionNotFound, PollGate, Arrange, Sum, OwnersOf, Call, Open, On, Named, named, refusal}
 
 -- A reply, in document 01's numbers and values.
 pub data Reply : Type 0 where
@@ -33,6 +34,7 @@ pub data Reply : Type 0 where
   Entries : (l : List Entry) → Reply
   Chosen : (considered : ℕ) (l : List Entry) (next : Option ℕ) → Reply
   Summed : (s : Sums) → Reply
+  Owned : (passed : ℕ) (l : List (Option Holding)) → Reply
 
 pub record Result : Type 0 where
   pub reply : Reply
@@ -95,6 +97,7 @@ perform (TransactionNotFound n l now b) s = listed (notFound (limitsOf s) n now 
 perform (PollGate now) s = record { reply = Number (one (dueAt now (s .nextPoll))); state = withNextPoll (nextPollAfter now (s .nextPoll)) s }
 perform (Arrange ws l b) s = record { reply = Entries (arrange ws l (s .table)); state = s }
 perform Sum s = record { reply = Summed (sum s); state = s }
+perform (OwnersOf hs b) s = record { reply = Owned (passed hs (s .table)) (holdings hs (s .table)); state = s }
 
 -- "An opened store" is an empty tracker.
 abbrev pub empty : ℕ → ℕ → State
@@ -104,7 +107,7 @@ unfoldable pub carryOut : Call → State → Result
 carryOut (Open L Q) s = silent (empty L Q)
 carryOut (On a) s = perform a s
 
--- ---- answer buffers: a key is 5 words, an entry 14
+-- ---- answer buffers: a key is 5 words, an entry 14, an owner 3
 
 -- a hash is 32 bytes, "byte 31 the most significant"
 abbrev pub hashBytes : ℕ → List ℕ
@@ -133,6 +136,18 @@ unfoldable pub entriesAnswer : List Entry → List ℕ
 entriesAnswer [] = []
 entriesAnswer (a ∷ l) = entryAnswer a ++ entriesAnswer l
 
+-- 0 none, 1 Txid, 2 Wtxid; then connection and deadline. The hash is not repeated: answers stand in the order of the list.
+abbrev pub holdingWords : Option Holding → List ℕ
+holdingWords none = 0 ∷ 0 ∷ 0 ∷ []
+holdingWords (some a) = suc (kindNumber (a .key .kind)) ∷ a .connection ∷ a .deadline ∷ []
+
+abbrev pub holdingAnswer : Option Holding → List ℕ
+holdingAnswer o = bytesOf (holdingWords o)
+
+unfoldable pub holdingsAnswer : List (Option Holding) → List ℕ
+holdingsAnswer [] = []
+holdingsAnswer (o ∷ l) = holdingAnswer o ++ holdingsAnswer l
+
 -- the bytes that a reply puts into the buffer
 abbrev pub answerBytes : Reply → List ℕ
 answerBytes (Refused n) = []
@@ -142,6 +157,7 @@ answerBytes (Left own parents) = keysAnswer (own ++ parents)
 answerBytes (Entries l) = entriesAnswer l
 answerBytes (Chosen n l x) = entriesAnswer l
 answerBytes (Summed s) = []
+answerBytes (Owned n l) = holdingsAnswer l
 
 -- "bytes .. past the reply stay"
 unfoldable pub written : List ℕ → Buffer → Buffer

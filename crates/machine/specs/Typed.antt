@@ -10,7 +10,7 @@ use Rattle.machine.specs.Sound.{Hashes}
 use Rattle.machine.specs.Wrapper.{Offer}
 use Rattle.machine.specs.Call.{Ask, Announce, RequestParent, Failed, Unclaim, SolicitPackageInfo, ClaimPackage, BeginPackageResolution, AnnounceParents}
 use Rattle.machine.specs.Call.{FailedPackageClaims, Plan, Claim, Sweep, Disconnected, ReleasePackage, TeardownPackageClaims, Forget, ForgetKnown, FailedWithParents}
-use Rattle.machine.specs.Call.{FailedPackageInfo, PackageInfoOwner, AnnounceTransactions, TransactionResponseCompleted, TransactionNotFound, PollGate, Arrange, Sum, Call, Open, On}
+use Rattle.machine.specs.Call.{FailedPackageInfo, PackageInfoOwner, AnnounceTransactions, TransactionResponseCompleted, TransactionNotFound, PollGate, Arrange, Sum, OwnersOf, Call, Open, On}
 
 pub record CandidateTyped (c : Candidate) : Type 0 where
   pub connection : c .connection < word
@@ -64,6 +64,7 @@ AskTyped (TransactionNotFound n l now b) = (n < word) × Each (λ (i : Item). i 
 AskTyped (PollGate now) = now < word
 AskTyped (Arrange ws l b) = Each (λ (n : ℕ). n < word) ws × Each EntryTyped l
 AskTyped Sum = Unit {0}
+AskTyped (OwnersOf hs b) = Hashes hs
 
 abbrev pub CallTyped : Call → Type 0
 CallTyped (Open L Q) = (L < word) × (Q < word)

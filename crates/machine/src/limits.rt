@@ -18,6 +18,9 @@ pub const MAX_KNOWN_CHECKS: usize = 1_024;
 
 pub const MAX_REQUEST_CHECKS: usize = 1_024;
 
+// Hashes whose owners are asked for together (document 02, request e).
+pub const MAX_ASKED_HASHES: usize = 1_024;
+
 // Wtxids of a package, and parents of a request.
 pub const MAX_WTXIDS: usize = 100;
 

@@ -13,7 +13,8 @@ use Rattle.machine.specs.State.{State, Table, Answer, limitsOf, onTable}
 use Rattle.machine.specs.Table.{one}
 use Rattle.machine.specs.Fail.{Listed}
 use Rattle.machine.specs.Typed.{Each, KeyTyped}
-use Rattle.machine.specs.Call.{Buffer, Ask, On, keyBytes, named, takesPlace, askRefusal}
+use Rattle.machine.specs.Owners.{ascending}
+use Rattle.machine.specs.Call.{Buffer, Ask, On, keyBytes, named, takesPlace, late, askRefusal}
 use Rattle.machine.specs.Step.{Reply, Refused, Number, Keys, Result, answered, listed, perform, answerBytes, written}
 use Rattle.store.specs.Image.{Writes, SoundStore, Bytes, needOf}
 use Rattle.store.specs.Shown.{limitIn, placesIn}
@@ -40,7 +41,7 @@ asked-refused a {b} v q (suc m) e h = does-refused b _ a v m (sym e) refl q refl
 
 -- what the call names
 pub record Names (a : Ask) (ns ts : List ℕ) (parents : ℕ) (u : Buffer) (needs : State → ℕ) : Type 0 where
-  pub are : (s : State) → named a s ≡ record { connections = ns; clocks = ts; parents = parents; buffer = u; needs = needs s }
+  pub are : (s : State) → named a s ≡ record { connections = ns; clocks = ts; parents = parents; hashes = []; buffer = u; needs = needs s }
   pub placeless : (s : State) → takesPlace a s ≡ false
 
 -- neither parents nor an answer buffer
@@ -52,8 +53,13 @@ abbrev pub Keyed : Ask → List ℕ → List ℕ → ℕ → Buffer → (State �
 Keyed a ns ts parents u m = Names a ns ts parents u (λ s. keyBytes * m s)
 
 module _ {a : Ask} {ns ts : List ℕ} {parents : ℕ} {u : Buffer} {m : State → ℕ} (k : Names a ns ts parents u m) {b : List ℕ} (v : SoundStore b) where
+  -- it names no hashes
+  timely : late a (v .state) ≡ 0
+  unfolding late ascending
+  timely = rw (k .are (v .state))
+
   asked : askRefusal true a (v .state) ≡ inTurn ns ts parents (length u) (m (v .state))
-  asked = in-turn a (v .state) (k .placeless (v .state)) ∙ rw (k .are (v .state))
+  asked = in-turn a (v .state) timely (k .placeless (v .state)) ∙ rw (k .are (v .state))
 
   answer-buffer : u ≡ (named a (v .state)) .buffer
   answer-buffer = rw (k .are (v .state))

@@ -10,7 +10,7 @@ use Rattle.machine.specs.Limits.{need}
 use Rattle.machine.specs.State.{State}
 use Rattle.machine.specs.Call.{Ask, Announce, RequestParent, Failed, Unclaim, SolicitPackageInfo, ClaimPackage, BeginPackageResolution, AnnounceParents, FailedPackageClaims, Plan}
 use Rattle.machine.specs.Call.{Claim, Sweep, Disconnected, ReleasePackage, TeardownPackageClaims, Forget, ForgetKnown, FailedWithParents, FailedPackageInfo, PackageInfoOwner}
-use Rattle.machine.specs.Call.{AnnounceTransactions, TransactionResponseCompleted, TransactionNotFound, PollGate, Arrange, Sum, Call, Open, On, sizesTaken, openingRefusal, refusal}
+use Rattle.machine.specs.Call.{AnnounceTransactions, TransactionResponseCompleted, TransactionNotFound, PollGate, Arrange, Sum, OwnersOf, Call, Open, On, sizesTaken, openingRefusal, refusal}
 use Rattle.machine.specs.Plan.{plan}
 use Rattle.machine.specs.Step.{perform, carryOut, stepIf, step}
 use Rattle.machine.proofs.Tests.{test, by-test}
@@ -44,6 +44,7 @@ need-kept (TransactionNotFound n l now b) s = refl
 need-kept (PollGate now) s = refl
 need-kept (Arrange ws l b) s = refl
 need-kept Sum s = refl
+need-kept (OwnersOf hs b) s = refl
 
 -- an opening that is not refused has sizes that it takes, and room
 pub opening-fits : (n L Q : ℕ) → openingRefusal n L Q ≡ 0 → (sizesTaken L Q ≡ true) × (need L Q ≤ n)

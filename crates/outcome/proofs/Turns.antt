@@ -2,10 +2,10 @@
 use Prim.Native.Nat.{ℕ, zero, suc, _≤_, _<_}
 use mathlib.Core.Path.{_≡_, refl, sym, ap, _∙_}
 use mathlib.Core.Logic.{inl, inr}
-use mathlib.Core.Bool.{Bool, true, false, _&&_}
+use mathlib.Core.Bool.{Bool, true, false, not, _&&_}
 use mathlib.Core.List.{List, [], _∷_}
 use native.Mathlib.Omega.{arith}
-use lib.Dec.{ltb, leb}
+use lib.Dec.{ltb, leb, eqb}
 use lib.ListN.{length}
 use borrow.Author.Tests.{lt-ltb, le-ltb, lt-leb, le-leb, leb-false, ne-eqb, ltb-false}
 use Rattle.ident.specs.If.{if_then_else_}
@@ -13,9 +13,9 @@ use Rattle.machine.specs.Limits.{maxParents, latestClock}
 use Rattle.machine.specs.State.{State}
 use Rattle.machine.specs.Table.{placesHeld}
 use Rattle.machine.specs.Claim.{elem}
-use Rattle.machine.specs.Call.{Ask, Named, named, anyLate, takesPlace, askRefusal}
+use Rattle.machine.specs.Call.{Ask, Named, named, anyLate, takesPlace, wrongHashes, late, askRefusal}
 use Rattle.machine.proofs.Tests.{test}
-use Rattle.outcome.specs.Tests.{firstOf, ofConnections, ofClocks, ofParents, ofBuffer, ofPlace, inTurn}
+use Rattle.outcome.specs.Tests.{firstOf, ofConnections, ofClocks, ofParents, ofBuffer, ofPlace, inTurn, ofHashes, hashesInTurn}
 
 -- ---- what a test answers
 
@@ -63,6 +63,11 @@ place-held places held h = rw (le-leb places held h)
 pub place-free : (places held : ℕ) → held < places → 0 ≡ ofPlace true places held
 unfolding ofPlace
 place-free places held h = rw (lt-leb places held h)
+
+-- hashes and a buffer
+pub hashes-wrong : (hs : List ℕ) (long needs : ℕ) → true ≡ wrongHashes hs → 13 ≡ hashesInTurn hs long needs
+unfolding ofHashes
+hashes-wrong hs long needs e = rw (← e)
 
 -- ---- and what its 0 says
 
@@ -139,6 +144,11 @@ pub connections-sized : (ns : List ℕ) (long needs : ℕ) → false ≡ elem 0 
 unfolding ofConnections elem
 connections-sized ns long needs e = rw (← e)
 
+-- hashes and a buffer
+pub hashes-sized : (hs : List ℕ) (long needs : ℕ) → false ≡ wrongHashes hs → inTurn [] [] 0 long needs ≡ hashesInTurn hs long needs
+unfolding ofHashes
+hashes-sized hs long needs e = rw (← e, ← buffer-only long needs)
+
 -- a call that names nothing
 pub nothing-named : 0 ≡ inTurn [] [] 0 0 0
 unfolding ofConnections ofClocks ofParents ofBuffer elem anyLate
@@ -174,31 +184,54 @@ passed {ns} {ts} {parents} {long} {needs} q z =
       room = long-buffer long needs (sym (first-right (ofParents parents) (ofBuffer long needs) y));
     }
 
-turns : (a b c d e : Bool) → (if a then 4 else if b then 5 else if c then 6 else if d then 7 else if e then 8 else 0)
-    ≡ firstOf (firstOf (firstOf (if a then 4 else 0) (if b then 5 else 0)) (firstOf (if c then 6 else 0) (if d then 7 else 0))) (if e then 8 else 0)
-turns true b c d e = refl
-turns false true c d e = refl
-turns false false true d e = refl
-turns false false false true e = refl
-turns false false false false true = refl
-turns false false false false false = refl
+-- what a call may rely on that passed the test of its hashes
+pub record PassedHashes (hs : List ℕ) (long needs : ℕ) : Type 0 where
+  pub right : wrongHashes hs ≡ false
+  pub room : needs ≤ long
 
--- "Other calls test 3 to 8 in turn"
+pub passed-hashes : {hs : List ℕ} {long needs r : ℕ} → r ≡ hashesInTurn hs long needs → r ≡ 0 → PassedHashes hs long needs
+passed-hashes {hs} {long} {needs} q z = record {
+  right = right-hashes hs (first-left (ofHashes hs) (ofBuffer long needs) (sym q ∙ z));
+  room = long-buffer long needs (sym (first-right (ofHashes hs) (ofBuffer long needs) (sym q ∙ z)));
+}
+  where
+    right-hashes : (hs : List ℕ) → ofHashes hs ≡ 0 → wrongHashes hs ≡ false
+    right-hashes hs e = unfold ofHashes in elim (test (wrongHashes hs)) [ inl d ↦ absurd (omega (arith, rw d at e)) | inr d ↦ d ]
+
+turns : (a b c : Bool) (n : ℕ) (d e : Bool) → (if a then 4 else if b then 5 else if c then 6 else if not (eqb n 0) then n else if d then 7 else if e then 8 else 0)
+    ≡ firstOf (firstOf (firstOf (if a then 4 else 0) (if b then 5 else 0)) (firstOf (if c then 6 else 0) (firstOf n (if d then 7 else 0)))) (if e then 8 else 0)
+turns true b c n d e = refl
+turns false true c n d e = refl
+turns false false true n d e = refl
+turns false false false (suc n) d e = rw (ne-eqb (suc n) 0 (λ z. omega arith))
+turns false false false zero true e = refl
+turns false false false zero false true = refl
+turns false false false zero false false = refl
+
+-- "Other calls test 3 to 8 in turn", and 13 before 7
 module _ (a : Ask) (s : State) where
   abbrev w : Named
   w = named a s
 
-  pub whole-turn : askRefusal true a s ≡ firstOf (inTurn (w .connections) (w .clocks) (w .parents) (length (w .buffer)) (w .needs)) (ofPlace (takesPlace a s) (s .places) (placesHeld (s .table)))
+  pub whole-turn : askRefusal true a s
+      ≡ firstOf (firstOf (firstOf (ofConnections (w .connections)) (ofClocks (w .clocks))) (firstOf (ofParents (w .parents)) (firstOf (late a s) (ofBuffer (length (w .buffer)) (w .needs)))))
+      (ofPlace (takesPlace a s) (s .places) (placesHeld (s .table)))
   unfolding askRefusal ofConnections ofClocks ofParents ofBuffer ofPlace
   whole-turn =
       turns
       (elem 0 (w .connections))
       (anyLate (w .clocks))
       (ltb maxParents (w .parents))
+      (late a s)
       (ltb (length (w .buffer)) (w .needs))
       (takesPlace a s && leb (s .places) (placesHeld (s .table)))
 
-  -- of a call that takes no place
-  pub in-turn : takesPlace a s ≡ false → askRefusal true a s ≡ inTurn (w .connections) (w .clocks) (w .parents) (length (w .buffer)) (w .needs)
+  -- of a call that names no hashes
+  pub timely-turn : late a s ≡ 0 → askRefusal true a s
+      ≡ firstOf (inTurn (w .connections) (w .clocks) (w .parents) (length (w .buffer)) (w .needs)) (ofPlace (takesPlace a s) (s .places) (placesHeld (s .table)))
+  timely-turn e = whole-turn ∙ rw e
+
+  -- and takes no place
+  pub in-turn : late a s ≡ 0 → takesPlace a s ≡ false → askRefusal true a s ≡ inTurn (w .connections) (w .clocks) (w .parents) (length (w .buffer)) (w .needs)
   unfolding ofPlace
-  in-turn e = whole-turn ∙ rw e (first-none (inTurn (w .connections) (w .clocks) (w .parents) (length (w .buffer)) (w .needs)))
+  in-turn l e = timely-turn l ∙ rw e (first-none (inTurn (w .connections) (w .clocks) (w .parents) (length (w .buffer)) (w .needs)))

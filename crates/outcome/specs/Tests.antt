@@ -6,7 +6,7 @@ use lib.Dec.{ltb, leb}
 use Rattle.ident.specs.If.{if_then_else_}
 use Rattle.machine.specs.Limits.{maxParents}
 use Rattle.machine.specs.Claim.{elem}
-use Rattle.machine.specs.Call.{anyLate}
+use Rattle.machine.specs.Call.{anyLate, wrongHashes}
 
 -- "in turn": the first that refuses
 abbrev pub firstOf : ℕ → ℕ → ℕ
@@ -25,6 +25,10 @@ ofClocks ts = if anyLate ts then 5 else 0
 unfoldable pub ofParents : ℕ → ℕ
 ofParents n = if ltb maxParents n then 6 else 0
 
+-- "Hashes that are too many or not strictly ascending" (document 02, request e)
+unfoldable pub ofHashes : List ℕ → ℕ
+ofHashes hs = if wrongHashes hs then 13 else 0
+
 -- "answer buffer shorter than its need"
 unfoldable pub ofBuffer : ℕ → ℕ → ℕ
 ofBuffer long needs = if ltb long needs then 7 else 0
@@ -36,3 +40,7 @@ ofPlace takes places held = if takes && leb places held then 8 else 0
 -- tests 4 to 7 in turn, of what a call names: connections, clocks, so many parents, a buffer of so many bytes and its need
 abbrev pub inTurn : List ℕ → List ℕ → ℕ → ℕ → ℕ → ℕ
 inTurn ns ts parents long needs = firstOf (firstOf (ofConnections ns) (ofClocks ts)) (firstOf (ofParents parents) (ofBuffer long needs))
+
+-- tests 13 and 7 in turn, of a call that names hashes, a buffer of so many bytes and its need, and nothing else
+abbrev pub hashesInTurn : List ℕ → ℕ → ℕ → ℕ
+hashesInTurn hs long needs = firstOf (ofHashes hs) (ofBuffer long needs)

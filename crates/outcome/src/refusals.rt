@@ -9,7 +9,8 @@ ghost use mathlib.Core.List.{List, [], _∷_};
 ghost use Prim.Native.Nat.{ℕ};
 ghost use Rattle.machine.specs.Claim.{elem};
 ghost use Rattle.store.specs.Image.{SoundStore};
-ghost use Rattle.outcome.specs.Tests.{firstOf, ofParents, inTurn};
+ghost use Rattle.machine.specs.Call.{wrongHashes};
+ghost use Rattle.outcome.specs.Tests.{firstOf, ofParents, inTurn, hashesInTurn};
 ghost use Rattle.outcome.specs.Lent.{Lent};
 
 pub const SHORT_STORE: u64 = 1;
@@ -27,6 +28,8 @@ const MANY_PARENTS: u64 = 6;
 const SHORT_BUFFER: u64 = 7;
 
 pub const NO_PLACE: u64 = 8;
+
+const WRONG_HASHES: u64 = 13;
 
 // 2^64 − 60,001
 const LATEST_CLOCK: u64 = 18_446_744_073_709_491_615;
@@ -87,6 +90,16 @@ pub fn of_connections_and_buffer(zero: bool, length: usize, needs: usize) -> u64
 {
     if zero {
         return NO_CONNECTION;
+    }
+    of_buffer(length, needs)
+}
+
+// Of a call that names hashes, too many or not in order if `wrong` says so, and has an answer buffer.
+pub fn of_hashes_and_buffer(wrong: bool, length: usize, needs: usize) -> u64
+    ensures { λ r. ⌜ ((hs : List ℕ) → wrong ≡ wrongHashes hs → r ≡ hashesInTurn hs length needs) ⌝ }
+{
+    if wrong {
+        return WRONG_HASHES;
     }
     of_buffer(length, needs)
 }

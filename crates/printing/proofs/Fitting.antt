@@ -9,7 +9,7 @@ use lib.ListN.{length, drop, length-append}
 use Rattle.ident.specs.If.{if_then_else_}
 use Rattle.words.specs.Words.{words}
 use Rattle.machine.specs.State.{State}
-use Rattle.machine.specs.Call.{Buffer, keyBytes, Ask, On, named, askRefusal, refusal}
+use Rattle.machine.specs.Call.{Buffer, keyBytes, ownerBytes, Ask, On, named, askRefusal, refusal}
 use Rattle.machine.specs.Step.{Reply, Refused, Left, Result, answerBytes, written, perform, carryOut, stepIf}
 use Rattle.machine.proofs.AnswerLengths.{length-keysAnswer}
 use Rattle.store.specs.Image.{stored}
@@ -19,7 +19,7 @@ use Rattle.outcome.specs.declared.Listing.the-variants.{Listed}
 use Rattle.outcome.specs.Outcome.{Effect, outcomeIf, Does}
 use Rattle.outcome.specs.Reply.{listingOf}
 use Rattle.lent_lists.specs.Lists.{keysIn}
-use Rattle.printing.specs.Given.{mostKeys, KeysFit}
+use Rattle.printing.specs.Given.{mostKeys, mostOwners, KeysFit, OwnersFit}
 use Rattle.printing.proofs.KeyLists.{length-keys}
 
 -- what a call leaves, by whether it is carried out
@@ -54,6 +54,10 @@ module _ {a : Ask} {b : List ℕ} {e : Effect} (d : Does (On a) b e) where
   -- so that its keys are printed
   pub keys-fit : length (e .buffer) ≤ keyBytes * mostKeys → KeysFit (e .reply) (e .buffer)
   keys-fit h = record { long = h; fits = reply-fits }
+
+  -- and so that its owners are
+  pub owners-fits : length (e .buffer) ≤ ownerBytes * mostOwners → OwnersFit (e .reply) (e .buffer)
+  owners-fits h = record { long = h; fits = reply-fits }
 
   pub departure-fits : (m n : ℕ) (u v : Buffer) → e .reply ≡ Left (keysIn m u) (keysIn n v) → keyBytes * (m + n) ≤ length (e .buffer)
   departure-fits m n u v g = omega (

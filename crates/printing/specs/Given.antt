@@ -8,7 +8,7 @@ use Rattle.ident.specs.If.{if_then_else_}
 use Rattle.ident.specs.declared.Kind.{Kind}
 use Rattle.ident.specs.declared.Kind.the-variants.{Txid, Wtxid}
 use Rattle.machine.specs.State.{Candidate, Entry}
-use Rattle.machine.specs.Call.{Buffer, keyBytes, Ask, Call, On}
+use Rattle.machine.specs.Call.{Buffer, keyBytes, ownerBytes, Ask, Call, On}
 use Rattle.machine.specs.Step.{Reply, answerBytes}
 use Rattle.outcome.specs.Outcome.{Effect, Does}
 use Rattle.lines.specs.Text.{decimalDigits, decimal, hashDigits, boolText, keyText, itemText, Wrote}
@@ -31,6 +31,10 @@ mostKeys = 22045
 -- an answer buffer of 12,000 bytes has room for so many entries
 abbrev pub mostEntries : ℕ
 mostEntries = 107
+
+-- owners of hashes that a call of this program tells: those of 1,024
+abbrev pub mostOwners : ℕ
+mostOwners = 1024
 
 -- ---- keys
 
@@ -78,7 +82,22 @@ candidateRoom = 3 * numberRoom + (1 + itemRoom) + 2
 abbrev pub entryRoom : ℕ
 entryRoom = 1 + keyRoom + candidateRoom
 
+-- ---- owners
+
+-- the kind of a tag that is not 0
+abbrev pub taggedKind : ℕ → Kind
+taggedKind n = if eqb n 1 then Txid else Wtxid
+
+-- a key and two numbers, each behind a comma
+abbrev pub ownerRoom : ℕ
+ownerRoom = 1 + keyRoom + 2 * numberRoom
+
 -- ---- answers
+
+-- the owners of the reply y stand in the answer buffer u, which holds no more of them than are printed
+pub record OwnersFit (y : Reply) (u : Buffer) : Type 0 where
+  pub long : length u ≤ ownerBytes * mostOwners
+  pub fits : length (answerBytes y) ≤ length u
 
 -- the keys of the reply y stand in the answer buffer u, which holds no more of them than are printed
 pub record KeysFit (y : Reply) (u : Buffer) : Type 0 where

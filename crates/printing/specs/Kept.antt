@@ -3,7 +3,7 @@ use Prim.Native.Nat.{ℕ}
 use mathlib.Core.List.{List, []}
 use Rattle.machine.specs.State.{Entry}
 use Rattle.machine.specs.Call.{Claim, Arrange, Call, Open, On}
-use Rattle.machine.specs.Step.{Reply, Refused, Number, Keys, Left, Entries, Chosen, Summed}
+use Rattle.machine.specs.Step.{Reply, Refused, Number, Keys, Left, Entries, Chosen, Summed, Owned}
 use Rattle.reading.specs.Line.{Line, Asks, Take, Send, Part}
 use Rattle.asking.specs.Calls.{answerBuffer}
 
@@ -39,6 +39,7 @@ chosenOr l (Left own parents) = l
 chosenOr l (Entries m) = l
 chosenOr l (Chosen considered m next) = m
 chosenOr l (Summed s) = l
+chosenOr l (Owned passed m) = l
 
 -- the entries of a reply, if it lists entries; else what was kept
 abbrev pub entriesOr : List Entry → Reply → List Entry
@@ -49,6 +50,7 @@ entriesOr l (Left own parents) = l
 entriesOr l (Entries m) = m
 entriesOr l (Chosen considered m next) = l
 entriesOr l (Summed s) = l
+entriesOr l (Owned passed m) = l
 
 -- "An `ok` of an `open` empties the kept plan, take and arrangement; nothing else does."
 abbrev pub afterOpening : KeptLists → Reply → KeptLists
@@ -59,6 +61,7 @@ afterOpening k (Left own parents) = k
 afterOpening k (Entries m) = k
 afterOpening k (Chosen considered m next) = k
 afterOpening k (Summed s) = k
+afterOpening k (Owned passed m) = k
 
 -- "`take` does not use the plan up."
 abbrev pub keptAfter : Line → Reply → KeptLists → KeptLists

@@ -5,8 +5,9 @@ use mathlib.Core.Option.{Option, none, some}
 use lib.ListN.{length}
 use Rattle.ident.specs.Number.{Key}
 use Rattle.machine.specs.State.{Entry}
+use Rattle.machine.specs.Owners.{Holding}
 use Rattle.machine.specs.Call.{Call, Open, On}
-use Rattle.machine.specs.Step.{Reply, Refused, Number, Keys, Left, Entries, Chosen, Summed}
+use Rattle.machine.specs.Step.{Reply, Refused, Number, Keys, Left, Entries, Chosen, Summed, Owned}
 use Rattle.lines.specs.Text.{decimal, boolText, keyText, itemText}
 
 -- texts parted by commas
@@ -31,6 +32,19 @@ entryTexts (a ∷ l) =
     let c = a .candidate in
     keyText (a .key) ∷ decimal (c .connection) ∷ itemText (c .item) ∷ decimal (c .ready) ∷ boolText (c .preferred) ∷ decimal (c .priority) ∷ entryTexts l
 
+-- `none`
+abbrev pub noneText : List ℕ
+noneText = 110 ∷ 111 ∷ 110 ∷ 101 ∷ []
+
+-- "for each hash `none`, or key, connection, deadline"
+abbrev pub ownerText : Option Holding → List (List ℕ)
+ownerText none = noneText ∷ []
+ownerText (some a) = keyText (a .key) ∷ decimal (a .connection) ∷ decimal (a .deadline) ∷ []
+
+unfoldable pub ownerTexts : List (Option Holding) → List (List ℕ)
+ownerTexts [] = []
+ownerTexts (o ∷ l) = ownerText o ++ ownerTexts l
+
 -- "A refusal is `no,` and its number."
 abbrev pub refusalText : ℕ → List ℕ
 refusalText n = 110 ∷ 111 ∷ 44 ∷ decimal n
@@ -46,7 +60,7 @@ numberText (On a) n = decimal n
 
 -- a time, or `none`
 abbrev pub timeText : Option ℕ → List ℕ
-timeText none = 110 ∷ 111 ∷ 110 ∷ 101 ∷ []
+timeText none = noneText
 timeText (some n) = decimal n
 
 -- a plan's: the keys considered, the entries, and when to look again
@@ -61,3 +75,4 @@ replyText c (Left own parents) = joined (decimal (length own) ∷ (keyTexts own 
 replyText c (Entries l) = listed (entryTexts l)
 replyText c (Chosen considered l next) = selectionText considered l next
 replyText c (Summed s) = joined (decimal (s .held) ∷ decimal (s .free) ∷ decimal (s .preferred) ∷ decimal (s .permille) ∷ [])
+replyText c (Owned passed l) = joined (decimal passed ∷ ownerTexts l)

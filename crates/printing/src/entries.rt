@@ -49,7 +49,7 @@ fn put_item(out: &mut [u8], at: usize, i: ident::Item) -> usize
 }
 
 // Behind a comma.
-fn put_number(out: &mut [u8], at: usize, n: u64) -> usize
+pub fn put_number(out: &mut [u8], at: usize, n: u64) -> usize
     requires { ⌜ at + numberRoom ≤ length (now out) ⌝ }
     ensures { λ r. ⌜ Wrote (now (out .entry)) (now (out .exit)) at (44 ∷ decimal n) r ⌝ }
 {

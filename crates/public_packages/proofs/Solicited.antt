@@ -9,7 +9,8 @@ use Rattle.machine.specs.State.{State, limitsOf, onTable}
 use Rattle.machine.specs.Table.{one, placesHeld}
 use Rattle.machine.specs.Package.{solicit}
 use Rattle.machine.specs.Sound.{Sound}
-use Rattle.machine.specs.Call.{Ask, SolicitPackageInfo, On, named, takesPlace, askRefusal}
+use Rattle.machine.specs.Owners.{ascending}
+use Rattle.machine.specs.Call.{Ask, SolicitPackageInfo, On, named, takesPlace, late, askRefusal}
 use Rattle.machine.specs.Step.{Reply, Refused, Number, perform}
 use Rattle.store.specs.Image.{Writes, SoundStore, Bytes, needOf}
 use Rattle.announcing.specs.Answers.{Answered}
@@ -17,7 +18,7 @@ use Rattle.soliciting.specs.Solicits.{Room}
 use Rattle.outcome.specs.Outcome.{Leaves}
 use Rattle.outcome.specs.Tests.{firstOf, ofPlace, inTurn}
 use Rattle.outcome.specs.Lent.{Lent}
-use Rattle.outcome.proofs.Turns.{Passed, passed, first-left, first-right, free-place, whole-turn}
+use Rattle.outcome.proofs.Turns.{Passed, passed, first-left, first-right, free-place, timely-turn}
 use Rattle.outcome.proofs.Carried.{asked-refused, replies-done}
 
 -- bytes of the need that write a state: so does the store
@@ -43,8 +44,8 @@ module _ (n h clock : ℕ) (hs : List ℕ) where
   next s = onTable ((solicit (limitsOf s) n h hs clock (s .table)) .table) s
 
   pub solicit-turn : (s : State) → askRefusal true ask s ≡ firstOf named-turn (place-turn s)
-  unfolding named takesPlace
-  solicit-turn s = whole-turn ask s
+  unfolding named takesPlace late ascending
+  solicit-turn s = timely-turn ask s refl
 
   -- t is what they answer, of whatever state the bytes write
   module _ {b : List ℕ} {t : ℕ} (q : (w : SoundStore b) → t ≡ askRefusal true ask (w .state)) where

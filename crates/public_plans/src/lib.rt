@@ -2,6 +2,7 @@
 // (crates/outcome).
 pub mod arrangements;
 pub mod on_sound;
+pub mod ownership;
 pub mod plans;
 pub mod wrappers;
 

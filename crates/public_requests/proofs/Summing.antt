@@ -9,7 +9,8 @@ use Rattle.machine.specs.Limits.{maxAnnouncements}
 use Rattle.machine.specs.Table.{held}
 use Rattle.machine.specs.Wrapper.{evictable, sum}
 use Rattle.machine.specs.Claim.{elem}
-use Rattle.machine.specs.Call.{Sum, On, named, anyLate, takesPlace, askRefusal}
+use Rattle.machine.specs.Owners.{ascending}
+use Rattle.machine.specs.Call.{Sum, On, named, anyLate, takesPlace, late, askRefusal}
 use Rattle.machine.specs.Step.{Summed, perform, written}
 use Rattle.machine.proofs.Free.{evictable-few}
 use Rattle.store.specs.Image.{SoundStore, Bytes}
@@ -39,7 +40,7 @@ module _ (b : List ℕ) (w : SoundStore b) where
   -- ---- sum
 
   pub summed : Bytes b → Leaves (On Sum) b b (Summed (sum (w .state)))
-  unfolding askRefusal named anyLate takesPlace elem perform written
+  unfolding askRefusal named anyLate takesPlace late ascending elem perform written
   summed p = does-nothing b _ Sum w refl refl refl refl p refl
 
   pub sum-figures : (n l m : ℕ) {e : ℕ} {r : Figures} → Bytes b → n ≡ getD (words b) 3 0 → l ≡ getD (words b) 1 0 → Lent b e → Tells (take e b) (λ t. m ≡ evictable t)

@@ -73,27 +73,27 @@ over-none rs i to h = rw (part-none rs i to h)
 
 -- ---- the requests up to a key
 
-unfoldable upTo : Key → Table → Table
+unfoldable pub upTo : Key → Table → Table
 upTo k [] = []
 upTo k (r ∷ t) = if leb (place (r .key)) (place k) then r ∷ upTo k t else []
 
-split : (k : Key) (t : Table) → t ≡ upTo k t ++ above k t
+pub split : (k : Key) (t : Table) → t ≡ upTo k t ++ above k t
 unfolding upTo above
 split k [] = refl
 split k (r ∷ t) = elim (test (leb (place (r .key)) (place k))) [ inl e ↦ rw e (ap (λ (l : Table). r ∷ l) (split k t)) | inr e ↦ rw e ]
 
-ordered-up : (k : Key) (lo : ℕ) (t : Table) → Ordered lo t → Ordered lo (upTo k t)
+pub ordered-up : (k : Key) (lo : ℕ) (t : Table) → Ordered lo t → Ordered lo (upTo k t)
 unfolding upTo
 ordered-up k lo [] o = tt
 ordered-up k lo (r ∷ t) o = elim (test (leb (place (r .key)) (place k))) [ inl e ↦ rw e (o .0, o .1, ordered-up k _ t (o .2)) | inr e ↦ rw e tt ]
 
 module _ (P : Request → Type 0) (k : Key) where
-  all-up : (t : Table) → All P t → All P (upTo k t)
+  pub all-up : (t : Table) → All P t → All P (upTo k t)
   unfolding upTo
   all-up [] a = tt
   all-up (r ∷ t) a = elim (test (leb (place (r .key)) (place k))) [ inl e ↦ rw e (a .0, all-up t (a .1)) | inr e ↦ rw e tt ]
 
-  all-above : (t : Table) → All P t → All P (above k t)
+  pub all-above : (t : Table) → All P t → All P (above k t)
   unfolding above
   all-above [] a = tt
   all-above (r ∷ t) a = elim (test (leb (place (r .key)) (place k))) [ inl e ↦ rw e (all-above t (a .1)) | inr e ↦ rw e a ]
@@ -155,10 +155,10 @@ module _ (t : Table) (o : Ordered 0 t) (l : All Lawful t) (f : All Filled t) {n 
         let b = ap length (rows-at k 0 t o ∙ sym (append-assoc (rowsBelow k t) (rowsFor (at k t)) (rowsAbove k t))) ∙ length-append (rowsBelow k t ++ rowsFor (at k t)) (rowsAbove k t) in
         omega (arith, a, b, at-is)
 
-    lower : part 0 i (rowsOf t) ≡ rowsOf (upTo k t)
+    pub lower : part 0 i (rowsOf t) ≡ rowsOf (upTo k t)
     lower = let z : i - 0 ≡ i = omega arith in rw (z, halves) (take-at (rowsOf (upTo k t)) (rowsOf (above k t)) i seam)
 
-    upper : part i n (rowsOf t) ≡ rowsOf (above k t)
+    pub upper : part i n (rowsOf t) ≡ rowsOf (above k t)
     upper =
         let a = ap length halves ∙ length-append (rowsOf (upTo k t)) (rowsOf (above k t)) in
         let z : n - i ≡ length (rowsOf (above k t)) = omega (arith, a, seam, long) in

@@ -18,7 +18,7 @@ use Rattle.public_plans.proofs.Sent.{words-small}
 use Rattle.tracker.specs.Tracked.{Ran, Tracked}
 use Rattle.tracker.specs.Made.{Made, opens, sums, announces, requests-parent, announces-parents, fails, fails-with-parents, releases-package, claims}
 use Rattle.tracker.specs.Made.{departs, unclaims, forgets, forgets-known, fails-info, reads-owner, announces-transactions, completes, sweeps, gates}
-use Rattle.tracker.specs.Made.{solicits, claims-package, begins-resolution, fails-claims, tears-down, misses, plans, plans-given, arranges}
+use Rattle.tracker.specs.Made.{solicits, claims-package, begins-resolution, fails-claims, tears-down, misses, plans, plans-given, arranges, reads-owners}
 use Rattle.tracker.proofs.Demands.{tracked, tracked-open}
 
 pub made-typed : (c : Call) → Made c → CallTyped c
@@ -50,6 +50,7 @@ made-typed c (misses n clock b u g h p) = (g, items-fit b p, h)
 made-typed c (plans clock u g) = (g, tt)
 made-typed c (plans-given clock b u g p) = (g, given-typed b p)
 made-typed c (arranges v b u p q) = (words-small v p, whole-typed (entriesIn b) (entries-whole b q))
+made-typed c (reads-owners b u p) = hashes-fit b p
 
 each-typed : (cs : List Call) → Each Made cs → Each CallTyped cs
 each-typed [] m = tt

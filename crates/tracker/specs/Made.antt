@@ -11,7 +11,7 @@ use Rattle.machine.specs.Limits.{word}
 use Rattle.machine.specs.Call.{Buffer, Call, Open, On, Sum, Announce, RequestParent, AnnounceParents, Failed, FailedWithParents, ReleasePackage}
 use Rattle.machine.specs.Call.{Claim, Disconnected, Unclaim, Forget, ForgetKnown, FailedPackageInfo, PackageInfoOwner, AnnounceTransactions}
 use Rattle.machine.specs.Call.{TransactionResponseCompleted, Sweep, PollGate, SolicitPackageInfo, ClaimPackage, BeginPackageResolution}
-use Rattle.machine.specs.Call.{FailedPackageClaims, TeardownPackageClaims, TransactionNotFound, Plan, Arrange}
+use Rattle.machine.specs.Call.{FailedPackageClaims, TeardownPackageClaims, TransactionNotFound, Plan, Arrange, OwnersOf}
 use Rattle.store.specs.Image.{Bytes}
 use Rattle.lent_lists.specs.Lists.{hashesIn}
 use Rattle.lent_lists.specs.Items.{itemsIn, offersIn}
@@ -53,3 +53,4 @@ pub data Made : Call → Type 0 where
   plans : (clock : ℕ) (u : Buffer) → clock < word → Made (On (Plan clock none u))
   plans-given : (clock : ℕ) (b : List ℕ) (u : Buffer) → clock < word → Bytes b → Made (On (Plan clock (some (givenKeys b)) u))
   arranges : (v b : List ℕ) (u : Buffer) → Bytes v → Bytes b → Made (On (Arrange (words v) (entriesIn b) u))
+  reads-owners : (b : List ℕ) (u : Buffer) → Bytes b → Made (On (OwnersOf (hashesIn b) u))

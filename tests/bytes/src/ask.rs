@@ -2,7 +2,7 @@
 
 use std::fmt;
 
-use oracle::calls::{Call, Entry, Hash, Key, Kind, Reply};
+use oracle::calls::{Call, Entry, Hash, Holding, Key, Kind, Reply};
 
 use crate::calls::{Hands, Spec};
 
@@ -12,6 +12,8 @@ pub const KEY: usize = 40;
 /// priority.
 pub const ENTRY: usize = 112;
 pub const HASH_BYTES: usize = 32;
+/// Bytes of an owner in an answer buffer: how the hash is owned, connection, deadline.
+pub const OWNER: usize = 24;
 
 /// What the caller's numbers hold before a call.
 pub const UNTOUCHED: [u64; 4] =
@@ -117,12 +119,19 @@ impl Answer {
                 answer.put_keys(own.iter().chain(parents));
             }
             Reply::Planned(considered, entries, next) => {
-                [answer.out[0], answer.out[1], answer.out[2]] = [*considered, entries.len() as u64, next.unwrap_or(0)];
+                [answer.out[0], answer.out[1], answer.out[2]] =
+                    [*considered, entries.len() as u64, next.unwrap_or(0)];
                 answer.put_entries(entries);
             }
             Reply::Entries(entries) => {
                 answer.out[0] = entries.len() as u64;
                 answer.put_entries(entries);
+            }
+            Reply::Owners(passed, owners) => {
+                answer.out[0] = *passed;
+                for (owner, place) in owners.iter().zip(answer.buffer.chunks_exact_mut(OWNER)) {
+                    place.copy_from_slice(&owner_bytes(*owner));
+                }
             }
             other => unreachable!("no call of these replies {other:?}"),
         }
@@ -157,6 +166,7 @@ impl Answer {
             Hands::Departure => KEY * (first + second),
             Hands::Entries => ENTRY * first,
             Hands::Plan => ENTRY * second,
+            Hands::Owners => (ask.spec.need)(&ask.given, [0; 2]),
             Hands::Nothing | Hands::Number | Hands::Figures | Hands::Counts => 0,
         }
     }
@@ -177,6 +187,14 @@ fn key_bytes(key: Key) -> [u8; KEY] {
     bytes[0] = u8::from(key.kind == Kind::Wtxid);
     bytes[KEY - HASH_BYTES..].copy_from_slice(&key.hash.0);
     bytes
+}
+
+/// 0 nobody, 1 Txid, 2 Wtxid; then connection and deadline.
+fn owner_bytes(owner: Option<Holding>) -> [u8; OWNER] {
+    let words = owner.map_or([0; 3], |owner| {
+        [1 + u64::from(owner.key.kind == Kind::Wtxid), owner.connection, owner.deadline]
+    });
+    std::array::from_fn(|i| words[i / 8].to_le_bytes()[i % 8])
 }
 
 pub fn entry_bytes(entry: &Entry) -> [u8; ENTRY] {

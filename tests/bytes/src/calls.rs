@@ -20,6 +20,9 @@ macro_rules! listed {
 
 pub use counts::{case as counts_case, counted};
 
+/// The call that tells the owners of many hashes.
+pub static OWNERS: &[&Spec] = &[&owners_of::SPEC];
+
 /// The calls that end a request or its owner's part in it, and those of packages.
 pub static PACKAGES: &[&Spec] = &[
     &failed::SPEC,
@@ -66,6 +69,7 @@ listed! {
     plan_given,
     claim,
     arrange,
+    owners_of,
     sweep,
     poll_gate,
 }
@@ -84,6 +88,8 @@ pub enum Hands {
     /// The count of keys considered, entries with theirs, and when to look again.
     Plan,
     Figures,
+    /// The count of keys passed, and the owner of each hash in the answer buffer.
+    Owners,
     /// The counts of a connection.
     Counts,
 }

@@ -9,7 +9,7 @@ use oracle::random::Rng;
 use oracle::state::State;
 
 use crate::ask::{Ask, ENTRY, Given, HASH_BYTES};
-use crate::calls::{ALL, CLAIM, OPEN, PACKAGES, PLANS, Spec};
+use crate::calls::{ALL, CLAIM, OPEN, OWNERS, PACKAGES, PLANS, Spec};
 use crate::look::Held;
 use crate::profiles::{Often, Profile};
 use crate::reference::Reference;
@@ -256,6 +256,7 @@ impl<'a> Draw<'a> {
     fn spec(&mut self) -> &'static Spec {
         match self.profile.often {
             Often::Plans if self.rng.one_in(2) => self.rng.pick(&PLANS),
+            Often::Owners if !self.rng.one_in(4) => OWNERS[0],
             Often::Packages if !self.rng.one_in(3) => self.weighted(PACKAGES),
             _ => self.weighted(ALL),
         }

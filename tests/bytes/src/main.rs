@@ -1,9 +1,10 @@
 //! The library's calls against the Rust's tracker by bytes: answers, answer buffers and whole stores after every call.
 //!
-//!     bytes [CALLS [SEED [SECONDS]]] [--table] [--plans | --packages]
+//!     bytes [CALLS [SEED [SECONDS]]] [--table] [--plans | --packages | --owners]
 //!                                                 generated calls, as many as there is time for; the table has each call by
 //!                                                 replies, refusals and cases; with --plans every second call is a plan,
-//!                                                 with --packages four calls in five are package calls
+//!                                                 with --packages four calls in five are package calls,
+//!                                                 with --owners three in four tell the owners of hashes
 //!     bytes self-test                             the program on calls with planted errors
 
 mod ask;
@@ -47,21 +48,30 @@ fn options(given: &[String]) -> Result<(bool, Often), String> {
             ("--table", _) => table = true,
             ("--plans", Often::None) => often = Often::Plans,
             ("--packages", Often::None) => often = Often::Packages,
-            _ => return Err(format!("not {option:?}; there are --table and one of --plans and --packages")),
+            ("--owners", Often::None) => often = Often::Owners,
+            _ => {
+                return Err(format!(
+                    "not {option:?}; there are --table and one of --plans, --packages and --owners"
+                ));
+            }
         }
     }
     Ok((table, often))
 }
 
-/// What a run should have met and has not. One of package calls is held to those.
+/// What a run should have met and has not. One of package calls, or of questions for owners, is held to those.
 fn missing(tally: &Tally, often: Often) -> Vec<String> {
-    let packages = often == Often::Packages;
+    let held_to = match often {
+        Often::Packages => calls::PACKAGES,
+        Often::Owners => calls::OWNERS,
+        Often::None | Often::Plans => calls::ALL,
+    };
     let mut missing = Vec::new();
-    if tally.calls >= run::ROUND && !packages {
+    if tally.calls >= run::ROUND && matches!(often, Often::None | Often::Plans) {
         missing.append(&mut tally.missing());
     }
     if tally.calls >= LONG {
-        missing.append(&mut tally.missing_of_calls(if packages { calls::PACKAGES } else { calls::ALL }));
+        missing.append(&mut tally.missing_of_calls(held_to));
     }
     missing
 }

@@ -16,14 +16,16 @@ const CONNECTION_0: u64 = 4;
 const LATE_CLOCK: u64 = 5;
 const MANY_PARENTS: u64 = 6;
 const SHORT_BUFFER: u64 = 7;
+const WRONG_HASHES: u64 = 13;
 
-/// The refusals from 4 to 7 that apply to a call, in their order: the first is the answer. The Rust's machine knows when
+/// The refusals from 4 to 7, and 13 before 7, that apply to a call, in their order: the first is the answer. The Rust's machine knows when
 /// 8 is, which it comes to after these.
 pub fn refusals(ask: &Ask, call: &Call, sizes: [u64; 2]) -> Vec<u64> {
     let tests = [
         (CONNECTION_0, call.names_connection_0()),
         (LATE_CLOCK, call.clock().is_some_and(|now| now > LAST_CLOCK)),
         (MANY_PARENTS, call.parents_given() > MAX_PARENTS),
+        (WRONG_HASHES, call.wrong_hashes()),
         (SHORT_BUFFER, ask.buffer.len() < (ask.spec.need)(&ask.given, sizes)),
     ];
     tests.into_iter().filter(|(_, applies)| *applies).map(|(number, _)| number).collect()

@@ -55,6 +55,8 @@ pub enum Often {
     Plans,
     /// Two draws in three are among the package calls, the third among all: four calls in five are of them.
     Packages,
+    /// Three calls in four tell owners.
+    Owners,
 }
 
 #[derive(Clone, Copy)]
@@ -134,12 +136,12 @@ const PACKAGES: Profile = Profile {
 /// Calls of a run of package calls: they end more requests than others begin.
 const SHORT: u64 = 24;
 
-/// The profiles: as they stand, with plans, or those that package calls find enough in.
+/// The profiles: as they stand, with plans or questions for owners, or those that package calls find enough in.
 pub fn in_use(often: Often) -> Vec<Profile> {
     let all = PROFILES.iter();
     match often {
         Often::None => PROFILES.to_vec(),
-        Often::Plans => all.map(|profile| Profile { often, ..*profile }).collect(),
+        Often::Plans | Often::Owners => all.map(|profile| Profile { often, ..*profile }).collect(),
         Often::Packages => all.filter_map(Profile::with_package_calls).collect(),
     }
 }

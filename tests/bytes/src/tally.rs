@@ -60,7 +60,7 @@ impl Event {
 }
 
 /// Numbers of refusals.
-const REFUSALS: std::ops::RangeInclusive<u64> = 1..=8;
+const REFUSALS: [u64; 9] = [1, 2, 3, 4, 5, 6, 7, 8, 13];
 
 /// What the calls of one name came to.
 #[derive(Clone, Default)]
@@ -132,8 +132,7 @@ impl Tally {
         println!("{}", joined(&self.rows, |(name, row)| format!("{name} {}", row.calls())));
         let packages: u64 = PACKAGES.iter().map(|spec| self.row(spec).calls()).sum();
         println!("of the {} package calls: {packages}", PACKAGES.len());
-        let refused: Vec<u64> = REFUSALS.collect();
-        let refused = joined(&refused, |number| format!("{number}: {}", self.refused(*number)));
+        let refused = joined(&REFUSALS, |number| format!("{number}: {}", self.refused(*number)));
         println!("refused by number: {refused}; where a later one applies too: {}", self.several);
         for (event, text) in Event::ALL {
             println!("{text:56}{:10}", self.met(*event));
@@ -143,7 +142,7 @@ impl Tally {
     /// Each call by replies and refusals, then its cases.
     pub fn print_table(&self) {
         print!("{:31}{:>9}{:>9}{:>9}{:>9}{:>9}", "call", "calls", "carried", "0", "1", "more");
-        REFUSALS.for_each(|number| print!("{:>8}", format!("no,{number}")));
+        REFUSALS.iter().for_each(|number| print!("{:>8}", format!("no,{number}")));
         println!();
         for spec in ALL {
             let row = self.row(spec);
@@ -187,7 +186,7 @@ impl Tally {
     /// What a run of a round's calls should have met and has not.
     pub fn missing(&self) -> Vec<String> {
         let events = Event::ALL.iter().filter(|(event, _)| self.met(*event) == 0);
-        let refused = REFUSALS.filter(|number| self.refused(*number) == 0);
+        let refused = REFUSALS.iter().filter(|number| self.refused(**number) == 0);
         events
             .map(|(_, text)| (*text).to_owned())
             .chain(refused.map(|number| format!("refusal {number}")))

@@ -20,9 +20,12 @@ returns-4 c = formed hashesForm (c .before .before .enum-told4 .given .1) (c .re
 returns-5 : tie.Need-returns-5
 returns-5 c = formed hashesForm (c .before .before .enum-told5 .given .1) (c .read-form5 .ensures)
 
+returns-6 : tie.Need-returns-6
+returns-6 c = formed hashesForm (c .before .before .enum-told6 .given .1) (c .read-form6 .ensures)
+
 pub hashes-values-spec : {M : Type 1} → statement M
 hashes-values-spec =
     tie.close
     (tie.spec (λ c. search needs) (λ c. search needs) (λ c κs. search needs) (λ c. search needs) (λ c. search needs) (λ c κs. search needs)
     (λ c. search needs) (λ c. search needs) (λ c κs. search needs) (λ c. search needs) (λ c. search needs) (λ c κs. search needs) (λ c. search needs)
-    (λ c. search needs) (λ c κs. search needs) returns returns-2 returns-3 returns-4 returns-5)
+    (λ c. search needs) (λ c κs. search needs) (λ c. search needs) (λ c. search needs) (λ c κs. search needs) returns returns-2 returns-3 returns-4 returns-5 returns-6)

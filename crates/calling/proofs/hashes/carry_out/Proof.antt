@@ -57,6 +57,12 @@ enum-told-5 c = search needs
 failed-package-claims-requires : tie.Need-failed-package-claims-requires
 failed-package-claims-requires c κs = search needs
 
+enum-told-6 : tie.Need-enum-told-6
+enum-told-6 c = search needs
+
+owners-of-requires : tie.Need-owners-of-requires
+owners-of-requires c κs = search needs
+
 same-length : tie.Need-same-length
 same-length c = search needs
 
@@ -132,6 +138,20 @@ returns-5 c =
     (refl)
     (c .before .before .before .before .failed-package-claims .ensures)
 
+same-length-11 : tie.Need-same-length-11
+same-length-11 c = search needs
+
+same-length-12 : tie.Need-same-length-12
+same-length-12 c = search needs
+
+returns-6 : tie.Need-returns-6
+returns-6 c =
+    let v = c .before .before .before .before .before .before .before .before .before .before .before .before .before .before .args .v in
+    let hs = hashesIn (c .before .before .before .before .before .before .before .before .before .before .before .before .before .before .args .hashes .now) in
+    hashes-did (valuesOf v) hs (c .before .before .before .before .before .before .before .enum-told6 .given .1)
+    (refl)
+    (c .before .before .before .before .owners-of .ensures)
+
 pub carry-out-spec : {M : Type 1} → statement M
 carry-out-spec =
     tie.close
@@ -151,6 +171,8 @@ carry-out-spec =
     announce-parents-requires
     enum-told-5
     failed-package-claims-requires
+    enum-told-6
+    owners-of-requires
     same-length
     same-length-2
     returns
@@ -165,4 +187,7 @@ carry-out-spec =
     returns-4
     same-length-9
     same-length-10
-    returns-5)
+    returns-5
+    same-length-11
+    same-length-12
+    returns-6)
