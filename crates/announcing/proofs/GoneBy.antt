@@ -9,6 +9,7 @@ use lib.Dec.{eqb}
 use borrow.Author.Tests.{eq-eqb}
 use Rattle.ident.specs.If.{if_then_else_}
 use Rattle.ident.specs.Number.{top, Key, place}
+use Rattle.ident.proofs.Places.{place-same as place-inj}
 use Rattle.regions.specs.declared.Row.{Row}
 use Rattle.regions.specs.Regions.{each}
 use Rattle.regions.proofs.Regions.{each-append}
@@ -18,7 +19,6 @@ use Rattle.machine.specs.Announce.{after, cut}
 use Rattle.machine.specs.Sound.{Ordered, Sound}
 use Rattle.machine.specs.Typed.{Each}
 use Rattle.machine.proofs.Announce.{each-append as each-both, each-map}
-use Rattle.machine.proofs.Table.{place-inj}
 use Rattle.machine.proofs.Tests.{test, never}
 use Rattle.store.specs.Flat.{rowOf, rowsFor, rowsOf}
 use Rattle.store.specs.Gather.{keyAt, candidateAt}

@@ -2,7 +2,7 @@
 use Prim.Native.Nat.{ℕ}
 use mathlib.Core.Path.{_≡_, refl, sym, ap, _∙_}
 use mathlib.Core.Logic.{inl, inr}
-use mathlib.Core.Bool.{Bool, true, false, not, _&&_}
+use mathlib.Core.Bool.{Bool, true, false, not, _&&_, and-true}
 use mathlib.Core.List.{List, [], _∷_}
 use lib.Dec.{ltb, eqb}
 use Rattle.ident.specs.Number.{Key, place, other}
@@ -59,10 +59,6 @@ pub leaves-bare : (k : Key) (n now : ℕ) (t : Table) → leaves k n now (bare t
 leaves-bare k n now t =
     ap (change (other k) (left n now)) (change-bare k (left n now) (left n now) t (left-bare n now))
     ∙ change-bare (other k) (left n now) (left n now) (change k (left n now) t) (left-bare n now)
-
-and-true : (a : Bool) → (a && true) ≡ a
-and-true true = refl
-and-true false = refl
 
 -- without packages just the owner can fail
 pub releasable-bare : (n : ℕ) (k : Key) (t : Table) → releasable n (at k (bare t)) ≡ ownerIs n ((at k t) .owner)

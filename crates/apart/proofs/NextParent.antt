@@ -2,13 +2,13 @@
 use Prim.Native.Nat.{ℕ, _+_, _-_, _≤_, _<_}
 use mathlib.Core.Path.{_≡_, refl, sym, ap, subst, _∙_}
 use mathlib.Core.Bool.{Bool, true, false, not}
-use mathlib.Core.List.{List, [], _∷_}
+use mathlib.Core.List.{List, []}
 use mathlib.Core.Option.{Option, none, some}
 use native.Mathlib.Omega.{arith}
 use Rattle.ident.specs.If.{if_then_else_}
 use Rattle.ident.specs.Number.{top}
 use Rattle.machine.specs.Limits.{word}
-use Rattle.machine.specs.State.{Entry, Table, State, Answer, limitsOf, onTable}
+use Rattle.machine.specs.State.{Table, State, Answer, limitsOf, onTable}
 use Rattle.machine.specs.Table.{held}
 use Rattle.machine.specs.Announce.{greatest, victims, anywhere}
 use Rattle.machine.specs.Sound.{Sound}
@@ -20,6 +20,7 @@ use Rattle.announcing.specs.declared.evict.Victim.{Victim}
 use Rattle.announcing.specs.Answers.{Answered, oneParent}
 use Rattle.announcing.specs.Evicts.{entryAt, found}
 use Rattle.announcing.specs.Falls.{mostListed, listSpace, VictimsIn}
+use Rattle.announcing.proofs.Nobody.{none-greatest as nobody}
 use Rattle.apart.specs.declared.joining.Next.{Next}
 use Rattle.apart.specs.declared.displacing.Reserve.{Reserve}
 use Rattle.apart.specs.declared.displacing.Further.{Further}
@@ -31,11 +32,6 @@ use Rattle.apart.proofs.Spent.{spent-next, spent-left}
 use Rattle.apart.proofs.ForVictims.{supplied-spent, supplied-unlisted}
 
 -- ---- victims listed
-
-nobody : (l : List Entry) → greatest l ≡ none → l ≡ []
-unfolding greatest
-nobody [] e = refl
-nobody (a ∷ l) e = let z : _≡_ {A = ℕ} 0 1 = cc in absurd (omega arith)
 
 module _ {b v : List ℕ} {d : ℕ} {q : Reserve} where
   pub restocked-same : q .count ≤ listSpace → Restocked b v v d q q

@@ -11,6 +11,7 @@ use lib.ListN.{length, take, drop, getD, take-append-drop, length-append, length
 use lib.Seq.{length-take-le, take-suc, drop-cons}
 use borrow.Author.Tests.{lt-leb, le-leb, eqb-false}
 use Rattle.ident.specs.Number.{top, Key, txid, wtxid}
+use Rattle.ident.proofs.Places.{place-same as place-inj}
 use Rattle.regions.specs.declared.Row.{Row}
 use Rattle.regions.specs.Rows.{rowSize, rowWords, readRow}
 use Rattle.regions.specs.Regions.{Found}
@@ -22,7 +23,6 @@ use Rattle.machine.specs.Sound.{Ordered, Sound}
 use Rattle.machine.specs.Typed.{Each}
 use Rattle.machine.proofs.Announce.{each-append as each-both, each-map}
 use Rattle.machine.proofs.At.{at-other}
-use Rattle.machine.proofs.Table.{place-inj}
 use Rattle.machine.proofs.Tests.{test, or-left, or-right}
 use Rattle.store.specs.Flat.{rowsOf}
 use Rattle.store.specs.Gather.{keyAt, candidateAt}

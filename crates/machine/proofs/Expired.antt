@@ -10,6 +10,7 @@ use lib.Dec.{leb, eqb}
 use borrow.Author.Tests.{eqb-true, eqb-false, eq-eqb}
 use Rattle.ident.specs.If.{if_then_else_}
 use Rattle.ident.specs.Number.{Key, place, other, top}
+use Rattle.ident.proofs.Places.{place-same as place-inj}
 use Rattle.machine.specs.Limits.{Limits, word}
 use Rattle.machine.specs.State.{Owner, Request, Table, State, Answer, blank, ownerIs, enqueuedIn, isSome}
 use Rattle.machine.specs.Table.{at, change, one, total, ownerIn, under}
@@ -18,7 +19,7 @@ use Rattle.machine.specs.Plan.{Due, dueOf, due, expire, expired}
 use Rattle.machine.specs.Sound.{Ordered, Bounded, Sound}
 use Rattle.machine.specs.Typed.{Each}
 use Rattle.machine.proofs.Tests.{test, by-test, never, and-left}
-use Rattle.machine.proofs.Table.{place-inj, ordered-change, at-key, lawful-at, total-change}
+use Rattle.machine.proofs.Table.{ordered-change, at-key, lawful-at, total-change}
 use Rattle.machine.proofs.Announce.{each-append, each-map}
 use Rattle.machine.proofs.Fail.{few-for, bounded-failed}
 use Rattle.machine.proofs.Plan.{DueTyped, due-typed, bounded-due}
@@ -66,7 +67,7 @@ owned-once {m} {Q} {t} k s b e =
 
 -- ---- failed, key by key
 
-owner-not : (n : ℕ) (o : Option Owner) → isSome o ≡ false → ownerIs n o ≡ false
+pub owner-not : (n : ℕ) (o : Option Owner) → isSome o ≡ false → ownerIs n o ≡ false
 owner-not n none e = refl
 owner-not n (some o) e = never (sym e)
 

@@ -38,3 +38,4 @@ pub mod Leave
 pub mod Wrapper
 pub mod Kept
 pub mod Demand3
+pub mod First

@@ -70,7 +70,7 @@ left-candidates : (n now : ℕ) (r : Request) → (left n now r) .candidates ≡
 unfolding left
 left-candidates n now r = refl
 
-map-empty : (now : ℕ) (cs : List Candidate) → map (readyAt now) cs ≡ [] → cs ≡ []
+pub map-empty : (now : ℕ) (cs : List Candidate) → map (readyAt now) cs ≡ [] → cs ≡ []
 map-empty now [] e = refl
 map-empty now (c ∷ cs) e = absurd (omega (arith, ap length e))
 

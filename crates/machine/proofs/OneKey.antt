@@ -52,7 +52,7 @@ only-begin n h c ws now t = by-test (λ (a : Answer). Only (wtxid h) t (a .table
 pub at-changed : (k : Key) (f : Request → Request) (t : Table) → KeepsKey f → Ordered 0 t → 1 ≤ length ((f (at k t)) .candidates) → at k (change k f t) ≡ f (at k t)
 at-changed k f t ff o h = at-same k f 0 t ff o ∙ kept-some k (f (at k t)) ((f (at k t)) .candidates) h
 
-owner-held : (n : ℕ) (o : Option Owner) (cs : List Candidate) → OwnerFits o cs → ownerIs n o ≡ true → 1 ≤ length cs
+pub owner-held : (n : ℕ) (o : Option Owner) (cs : List Candidate) → OwnerFits o cs → ownerIs n o ≡ true → 1 ≤ length cs
 owner-held n none cs f e = never e
 owner-held n (some o) cs f e = has-some (o .connection) cs (f .0)
 

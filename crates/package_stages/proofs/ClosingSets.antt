@@ -15,6 +15,7 @@ use Rattle.regions.specs.declared.Quad.{Quad}
 use Rattle.regions.specs.Order.{Sorted, Bound}
 use Rattle.regions.specs.Regions.{each}
 use Rattle.regions.specs.Rows.{quadNumber, quadOf}
+use Rattle.regions.proofs.Order.{number-quad}
 use Rattle.places.specs.declared.Head.{Head}
 use Rattle.places.specs.Places.{Place, headOf, blank, withStage}
 use Rattle.machine.specs.State.{Package, Request, Table, State, onTable, isSome}
@@ -25,7 +26,6 @@ use Rattle.store.specs.FlatSound.{PlacesAscend}
 use Rattle.store.specs.Image.{Shows, Writes}
 use Rattle.store.specs.Shown.{Shown, Seek, withPlaces, Turns}
 use Rattle.store.proofs.Frame.{shown}
-use Rattle.store.proofs.Quads.{number-quad}
 use Rattle.store.proofs.RowBack.{rows-like}
 use Rattle.store.proofs.ToFlat.{flat-sound}
 use Rattle.store.proofs.Window.{places-sorted}

@@ -21,6 +21,7 @@ use Rattle.machine.proofs.Fail.{parents-none}
 use Rattle.machine.proofs.Kept.{sound-table}
 use Rattle.machine.proofs.Table.{ordered-change, count-change, owners-change, places-change, all-change, filled-change, lawful-at, at-key}
 use Rattle.machine.proofs.Tests.{by-test, never}
+use Rattle.machine.proofs.Places.{place-held as held-one}
 use Rattle.store.proofs.Placed.{Kept}
 use Rattle.package_stages.specs.Changes.{hasPlace, OwnedPlain, flagged, TakesParent, withParent, closed}
 use Rattle.package_stages.specs.Dead.{isWtxid, closedIf, closeAll}
@@ -75,11 +76,6 @@ repacked k o true (some p) hs hs′ e f = f
 repacked k o true none hs hs′ e f = f
 repacked k o false (some p) hs hs′ e f = f
 repacked k o false none hs hs′ e f = never e
-
-held-one : (i : Bool) (p : Option Package) → (i || isSome p) ≡ true → placeIn i p ≡ 1
-held-one i (some p) e = refl
-held-one true none e = refl
-held-one false none e = never e
 
 -- ---- each change, at the Wtxid key with hash h
 

@@ -8,19 +8,15 @@ use lib.Dec.{ltb, eqb}
 use lib.ListN.{length}
 use borrow.Author.Tests.{ltb-true, le-ltb, eqb-true, eq-eqb}
 use Rattle.ident.specs.Number.{Key, place}
-use Rattle.machine.specs.State.{Candidate, Request, Table, blank, ownedUntil}
+use Rattle.machine.specs.State.{Request, Table, blank, ownedUntil}
 use Rattle.machine.specs.Table.{at, keep, change}
 use Rattle.machine.specs.Package.{solicited}
 use Rattle.machine.specs.Sound.{Ordered}
 use Rattle.machine.proofs.At.{KeepsKey}
 use Rattle.machine.proofs.Table.{at-absent}
 use Rattle.machine.proofs.Tests.{test}
+use Rattle.machine.proofs.First.{keep-some}
 use Rattle.package_stages.specs.Changes.{flagged, withParent}
-
-pub keep-some : (r : Request) (cs : List Candidate) (t : Table) → 1 ≤ length cs → keep r cs t ≡ r ∷ t
-unfolding keep
-keep-some r [] t h = absurd (omega arith)
-keep-some r (c ∷ cs) t h = refl
 
 module _ (k : Key) (f g : Request → Request) (key : KeepsKey f) where
   -- at a request that stands first

@@ -44,7 +44,7 @@ row-word x (suc (suc (suc (suc (suc (suc (suc zero))))))) h = refl
 row-word x (suc (suc (suc (suc (suc (suc (suc (suc zero)))))))) h = refl
 row-word x (suc (suc (suc (suc (suc (suc (suc (suc (suc i))))))))) h = absurd (omega arith)
 
-row-back : (x : List ℕ) → length x ≡ rowSize → rowWords (readRow x) ≡ x
+pub row-back : (x : List ℕ) → length x ≡ rowSize → rowWords (readRow x) ≡ x
 unfolding rowWords
 row-back x l = ext-getD 0 (rowWords (readRow x)) x (sym l) (λ i h. row-word x i h)
 
@@ -72,7 +72,7 @@ conn-word x (suc zero) h = refl
 conn-word x (suc (suc zero)) h = refl
 conn-word x (suc (suc (suc i))) h = absurd (omega arith)
 
-conn-back : (x : List ℕ) → length x ≡ connSize → connWords (readConn x) ≡ x
+pub conn-back : (x : List ℕ) → length x ≡ connSize → connWords (readConn x) ≡ x
 unfolding connWords
 conn-back x l = ext-getD 0 (connWords (readConn x)) x (sym l) (λ i h. conn-word x i h)
 

@@ -19,7 +19,7 @@ use Rattle.machine.specs.Table.{at, has, one}
 use Rattle.machine.specs.Announce.{without, cut}
 use Rattle.machine.specs.Sound.{Sound, OwnerFits, Packed, Lawful, Ordered}
 use Rattle.machine.proofs.Change.{has-without}
-use Rattle.machine.proofs.Tests.{never}
+use Rattle.machine.proofs.Tests.{never, order}
 use Rattle.machine.proofs.Table.{lawful-at}
 use Rattle.store.specs.Flat.{flatOf, ownBit, rowOf, rowsOf, rowsFor, placeFor, placesFor, tally}
 use Rattle.store.specs.Counting.{unbump}
@@ -29,7 +29,6 @@ use Rattle.store.proofs.Bits.{own-row, conn-row}
 use Rattle.store.proofs.Frame.{shown, length-remove}
 use Rattle.store.proofs.RowsAt.{Among, ahead, behind, rows-among, cut-rows, cut-places, tally-remove}
 use Rattle.store.proofs.Split.{rowsBelow}
-use Rattle.store.proofs.Tally.{order}
 use Rattle.requests.proofs.Keeping.{sized-of, light-of, writes-by}
 
 -- ---- the row of a connection, found in the window of its key

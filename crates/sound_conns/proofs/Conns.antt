@@ -14,12 +14,12 @@ use Rattle.regions.specs.declared.Row.{Row}
 use Rattle.regions.specs.declared.Conn.{Conn}
 use Rattle.regions.specs.Rows.{rowSize, readRow, connSize, readConn}
 use Rattle.machine.specs.Typed.{Each}
-use Rattle.machine.proofs.Tests.{test, never, or-true}
+use Rattle.machine.proofs.Tests.{test, never, or-true, order}
 use Rattle.store.specs.Flat.{ownBit, bump, tally}
 use Rattle.store.specs.FlatSound.{RowFits, ConnFits}
 use Rattle.store.proofs.Tally as whole
-use Rattle.store.proofs.Tally.{order, bump-nil, bump-lt, bump-eq, bump-gt, bump-tallied}
-use Rattle.store.proofs.Certify.{Counted, listed, listed-at, certified, tally-counted}
+use Rattle.store.proofs.Tally.{bump-nil, bump-lt, bump-eq, bump-gt, bump-tallied}
+use Rattle.store.proofs.Certify.{Counted, listed, listed-at, certified, tally-counted, tally-listed}
 use Rattle.sound_conns.specs.Conns.{Rise, Entries, Counts, names, Named, Inside, Holds, NamedIn, Tallied, blank, Within, Window, LastOf, many, most, ConnsSound}
 use Rattle.sound_rows.proofs.Decide.{Iff, iff-self}
 use Rattle.sound_conns.proofs.Entries.{length-names, name-entry, entries-positive}
@@ -56,11 +56,6 @@ each-to f (a ∷ l) e = (f a (e .0), each-to f l (e .1))
 each-zip : {A : Type 0} {P Q R : A → Type 0} → ((a : A) → P a → Q a → R a) → (l : List A) → Each P l → Each Q l → Each R l
 each-zip f [] d e = tt
 each-zip f (a ∷ l) d e = (f a (d .0) (e .0), each-zip f l (d .1) (e .1))
-
-tally-listed : (rs : List Row) → Each (λ r. listed (r .conn) (tally rs) ≡ true) rs
-unfolding tally
-tally-listed [] = tt
-tally-listed (r ∷ rs) = (listed-here (r .conn) (ownBit r) (tally rs), each-to (λ q e. listed-keep (q .conn) (r .conn) (ownBit r) (tally rs) e) rs (tally-listed rs))
 
 -- ---- listed and named
 

@@ -16,11 +16,10 @@ use Rattle.regions.specs.declared.Conn.{Conn}
 use Rattle.regions.specs.Rows.{rowSize, readRow, connSize, readConn}
 use Rattle.machine.specs.Table.{one}
 use Rattle.machine.specs.Typed.{Each}
-use Rattle.machine.proofs.Tests.{test}
+use Rattle.machine.proofs.Tests.{test, order}
 use Rattle.store.specs.Flat.{ownBit}
 use Rattle.store.specs.FlatSound.{countRows, owns, ConnFits}
 use Rattle.store.proofs.Counts.{rows-append}
-use Rattle.store.proofs.Tally.{order}
 use Rattle.store.proofs.Certify.{own-bit}
 use Rattle.sound_conns.specs.Conns.{half, heldBy, ownedBy, Counts, Left, names, Rising, Named, Less, Enough, Lessened}
 use Rattle.sound_conns.specs.Conns.{Short, Lessening, Inside, Holds, NamedIn, Took, Lacks, Taking, Tallied, blank, Within, Window}

@@ -56,7 +56,7 @@ module _ (q r : Request) (c : Candidate) (e : q .key ≡ r .key) (m : q .fallbac
       let k₄ : one (q .fallback) ≡ one (r .fallback) = ap one m in
       row-is _ _ (ap (λ (k : Key). quadOf (k .hash)) e) refl refl refl (ap (deadlineFor (c .connection)) w) (omega arith)
 
-idle : (n : ℕ) (o : Option Owner) → ownerIs n o ≡ false → deadlineFor n o ≡ 0
+pub idle : (n : ℕ) (o : Option Owner) → ownerIs n o ≡ false → deadlineFor n o ≡ 0
 idle n none e = refl
 idle n (some o) e = rw e
 

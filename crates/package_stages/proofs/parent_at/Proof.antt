@@ -3,9 +3,9 @@ use mathlib.Core.Path.{sym, ap, _∙_}
 use mathlib.Core.List.{List}
 use lib.ListN.{getD}
 use Rattle.regions.specs.Rows.{quadNumber}
+use Rattle.regions.proofs.Order.{number-quad}
 use Rattle.places.specs.Places.{Place, blank}
 use Rattle.store.specs.Flat.{flatOf}
-use Rattle.store.proofs.Quads.{number-quad}
 use Rattle.requests.proofs.Keeping.{kept-shown}
 use Rattle.package_stages.proofs.Seeking.{its-place}
 use borrow.Author.Needs.{needs}

@@ -1,10 +1,11 @@
 use mathlib.Core.Path.{refl}
 use Rattle.ident.specs.Words.{keyNum}
 use Rattle.machine.specs.Table.{at}
+use Rattle.machine.proofs.Loosened.{map-empty as readied-gone}
 use Rattle.store.specs.Flat.{flatOf}
 use Rattle.requests.proofs.Keeping.{kept-shown, from-at, to-at}
 use Rattle.regions.specs.Rows.{withReady}
-use Rattle.requests.proofs.Readying.{window-made, readied, readied-rows, readied-places, readied-gone}
+use Rattle.requests.proofs.Readying.{window-made, readied, readied-rows, readied-places}
 use borrow.Author.Needs.{needs}
 use Rattle.requests.proofs.ready_all.Statement.{statement}
 use Rattle.requests.proofs.ready_all.Tie as tie

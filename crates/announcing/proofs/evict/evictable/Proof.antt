@@ -4,10 +4,10 @@ use mathlib.Core.Logic.{⊎-elim}
 use native.Mathlib.Omega.{arith}
 use lib.ListN.{take}
 use Rattle.machine.specs.Table.{one}
+use Rattle.machine.proofs.Owning.{one-most}
 use Rattle.store.specs.Flat.{Flat, flatOf}
 use Rattle.store.specs.FlatSound.{countRows}
 use Rattle.store.specs.Image.{Shows}
-use Rattle.store.proofs.Bits.{one-most}
 use Rattle.store.proofs.Frame.{sizes}
 use Rattle.requests.proofs.Keeping.{kept-shown}
 use Rattle.announcing.proofs.Counted.{goes, goes-one, stays-none, counted-turn, counted}

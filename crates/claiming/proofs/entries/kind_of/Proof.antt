@@ -1,8 +1,8 @@
 -- `claiming::entries::kind_of` meets its contract.
-use Rattle.claiming.proofs.Readings.{kind-not-zero}
 use borrow.Author.Needs.{needs}
 use Rattle.claiming.proofs.entries.kind_of.Statement.{statement}
 use Rattle.claiming.proofs.entries.kind_of.Tie as tie
+use Rattle.announcing.proofs.Scanning.{kind-not-zero}
 
 returns : tie.Need-returns
 returns c = search needs

@@ -6,10 +6,10 @@ use lib.ListN.{length, length-map}
 use borrow.Author.Tests.{ltb-true, ltb-false, not-true, not-false}
 use Rattle.ident.specs.Words.{hashNum}
 use Rattle.regions.specs.Rows.{quadNumber}
+use Rattle.regions.proofs.Order.{number-quad}
 use Rattle.places.specs.Places.{Place, blank}
 use Rattle.store.specs.Flat.{placesOf}
 use Rattle.store.proofs.Frame.{sizes}
-use Rattle.store.proofs.Quads.{number-quad}
 use Rattle.package_stages.specs.Dead.{deadIf}
 use Rattle.package_stages.proofs.ClosingSets.{marked-bound, marked-hash, marks-more, marks-same}
 use borrow.Author.Needs.{needs}

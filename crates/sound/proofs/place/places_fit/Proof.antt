@@ -1,4 +1,5 @@
 use borrow.Author.Needs.{needs}
+use borrow.Author.Count.{below-more}
 use native.Mathlib.Omega.{arith}
 use Prim.Native.Nat.{ℕ, _*_, _-_, _≤_, _<_}
 use mathlib.Core.Path.{_≡_}
@@ -10,7 +11,7 @@ use Rattle.places.specs.Places.{placeSize}
 use Rattle.sound_rows.specs.Rows.{RowsSound}
 use Rattle.sound.specs.Places.{PlaceSound, placeAt, PlaceFollows, slotCount}
 use Rattle.sound_rows.proofs.Decide.{passed, failed}
-use Rattle.sound.proofs.PlaceWalk.{places-made, place-of, follow-iff, below-more, place-lent}
+use Rattle.sound.proofs.PlaceWalk.{places-made, place-of, follow-iff, place-lent}
 use Rattle.sound.proofs.place.places_fit.Statement.{statement}
 use Rattle.sound.proofs.place.places_fit.Tie as tie
 
