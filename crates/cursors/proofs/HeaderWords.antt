@@ -6,7 +6,7 @@ use mathlib.Core.List.{List, [], _∷_}
 use mathlib.Core.Option.{some}
 use native.Mathlib.Omega.{arith}
 use lib.Dec.{T as Holds, eqb}
-use lib.ListN.{length, take, getD, set, length-set}
+use lib.ListN.{length, getD, set, length-set}
 use Rattle.ident.specs.declared.Kind.{Kind}
 use Rattle.ident.specs.declared.Kind.the-variants.{Txid, Wtxid}
 use Rattle.ident.specs.declared.Key.{Key}
@@ -58,10 +58,6 @@ poll-pair None = refl
 poll-pair (Is n) = refl
 
 -- ---- a word stored, and the words behind it
-
-first-set : (l : List ℕ) (v : ℕ) → 1 ≤ length l → set (take 1 l) 0 v ≡ v ∷ []
-first-set [] v h = absurd (omega arith)
-first-set (x ∷ l) v h = refl
 
 pub set-more : (w : List ℕ) (a v : ℕ) (x : List ℕ) {w₁ w₂ : List ℕ} → a + 1 + length x ≤ length w → w₁ ≡ set w a v → w₂ ≡ splice w₁ (a + 1) x → w₂ ≡ splice w a (v ∷ x)
 set-more w a v x h e g = g ∙ rw (e, set-one w a v (omega arith)) (splice-more w a (a + 1) (v ∷ []) x refl h)

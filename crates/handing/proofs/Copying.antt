@@ -43,6 +43,9 @@ pub record Copied (b : List ℕ) (from n : ℕ) (u₀ u : List ℕ) (i : ℕ) : 
   pub long : length u ≡ length u₀
   pub front : (f : Flat) → Shows b f → connsIn i u ≡ rowConns (take i (drop from (f .rows)))
 
+pub copied-none : (b : List ℕ) (from n : ℕ) (u : List ℕ) → Copied b from n u u 0
+copied-none b from n u = record { most = omega arith; long = refl; front = λ f h. refl }
+
 pub copied-more : {b : List ℕ} {from n : ℕ} {u₀ u u₁ : List ℕ} {i : ℕ} (r : Row) → Copied b from n u₀ u i → i < n → 8 * n ≤ length u₀ → length u₁ ≡ length u
     → ((f : Flat) → Shows b f → from + n ≤ length (f .rows)) → ((f : Flat) (d : Row) → Shows b f → r ≡ getD (f .rows) (from + i) d) → Put u u₁ i (r .conn) → Copied b from n u₀ u₁ (i + 1)
 copied-more {b} {from} {n} {u₀} {u} {u₁} {i} r c l room long inside is p = record {

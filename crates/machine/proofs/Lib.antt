@@ -19,7 +19,6 @@ pub mod OneKey
 pub mod Entered
 pub mod KeptAtZero
 pub mod Demand1
-pub mod Batches
 pub mod Free
 pub mod Edges
 pub mod Later

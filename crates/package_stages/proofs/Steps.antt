@@ -2,7 +2,7 @@
 use Prim.Native.Nat.{ℕ, _≤_}
 use mathlib.Core.Path.{_≡_, refl, sym, ap, subst, _∙_}
 use mathlib.Core.Logic.{inl, inr}
-use mathlib.Core.List.{List, [], _∷_, _++_}
+use mathlib.Core.List.{[], _∷_}
 use native.Mathlib.Omega.{arith}
 use lib.Dec.{ltb, eqb}
 use lib.ListN.{length}
@@ -16,7 +16,7 @@ use Rattle.machine.proofs.At.{KeepsKey}
 use Rattle.machine.proofs.Table.{at-absent}
 use Rattle.machine.proofs.Tests.{test}
 use Rattle.machine.proofs.First.{keep-some}
-use Rattle.package_stages.specs.Changes.{flagged, withParent}
+use Rattle.package_stages.specs.Changes.{flagged}
 
 module _ (k : Key) (f g : Request → Request) (key : KeepsKey f) where
   -- at a request that stands first
@@ -45,6 +45,3 @@ module _ (k : Key) (f g : Request → Request) (key : KeepsKey f) where
 module _ (k : Key) (t : Table) (o : Ordered 0 t) (h : 1 ≤ length ((at k t) .candidates)) (n d : ℕ) where
   pub solicit-flag : change k flagged (change k (ownedUntil n d) t) ≡ change k (solicited n d []) t
   solicit-flag = change-twice k (ownedUntil n d) flagged (λ r. refl) 0 t o h
-
-  pub solicit-parent : (hs : List ℕ) (p : ℕ) → change k (withParent p) (change k (solicited n d hs) t) ≡ change k (solicited n d (hs ++ (p ∷ []))) t
-  solicit-parent hs p = change-twice k (solicited n d hs) (withParent p) (λ r. refl) 0 t o h

@@ -152,9 +152,6 @@ module _ (w : List ℕ) (b : Below word w) (L Q n c q : ℕ) (eL : L ≡ getD w 
 
   -- ---- flat states that are sound
 
-  record-rows : n * rowSize ≡ rowSize * n
-  record-rows = omega arith
-
   rb : Below word R
   rb = below-take word (X - 24) (drop 24 w) (omega arith) (below-drop word 24 w b)
 

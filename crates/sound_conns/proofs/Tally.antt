@@ -46,9 +46,6 @@ lessened-here t lo k own h l e =
 pub short-here : (t : List ℕ) (lo k own : ℕ) → lo ≤ k → k - lo < length t → (Enough own (getD t (k - lo) 0) → ⊥) → Short t lo k own
 short-here t lo k own h l n = record { at = k - lo; within = l; is = omega arith; short = n }
 
-pub lessened-past : (t : List ℕ) (lo k own : ℕ) → ((j : ℕ) → j < length t → lo + j ≡ k → ⊥) → Lessened t t lo k own
-lessened-past t lo k own n = record { here = λ j m q. absurd (n j m q); other = λ j q. refl }
-
 -- ---- rows counted one by one
 
 -- one row more, at the end

@@ -39,11 +39,6 @@ unfolding countRows
 rows-all [] = refl
 rows-all (r ∷ rs) = omega (arith, rows-all rs)
 
-pub rows-most : (p : Row → Bool) (rs : List Row) → countRows p rs ≤ length rs
-unfolding countRows
-rows-most p [] = omega arith
-rows-most p (r ∷ rs) = elim (test (p r)) [ inl e ↦ rw e (omega (arith, rows-most p rs)) | inr e ↦ rw e (omega (arith, rows-most p rs)) ]
-
 -- ---- announcements
 
 count-in : (P : Key → ℕ → Bool) (q : Request) (cs : List Candidate) → countRows (λ r. P (keyAt r) (r .conn)) (map (rowOf q) cs) ≡ countIn (P (q .key)) cs

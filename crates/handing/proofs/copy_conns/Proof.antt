@@ -8,10 +8,9 @@ use Rattle.store.specs.Flat.{flatOf}
 use Rattle.store.proofs.Frame.{sizes}
 use Rattle.requests.proofs.Keeping.{kept-shown, from-at, to-at}
 use Rattle.requests.proofs.AtHash.{window-size}
-use Rattle.handing.proofs.Copying.{few-candidates, Copied, copied-more, copied-all}
+use Rattle.handing.proofs.Copying.{few-candidates, Copied, copied-more, copied-all, copied-none}
 use Rattle.handing.proofs.copy_conns.Statement.{statement}
 use Rattle.handing.proofs.copy_conns.Tie as tie
-use Rattle.failing.proofs.Copying.{copied-none}
 
 abbrev Inv-loop : tie.InvT-loop
 Inv-loop s conns₀ from n i₀ conns i = Copied s from n conns₀ conns i × (8 * n ≤ length conns₀)
