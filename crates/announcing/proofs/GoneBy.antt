@@ -131,7 +131,7 @@ strict-rows st s =
 
 -- ---- the first goes
 
-each-front : {A : Type 0} (P : A → Type 0) (a b : List A) → Each P (a ++ b) → Each P a × Each P b
+pub each-front : {A : Type 0} (P : A → Type 0) (a b : List A) → Each P (a ++ b) → Each P a × Each P b
 each-front P [] b p = (tt, p)
 each-front P (x ∷ a) b p = let z = each-front P a b (p .1) in ((p .0, z .0), z .1)
 

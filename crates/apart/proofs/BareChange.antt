@@ -2,7 +2,7 @@
 use Prim.Native.Nat.{ℕ}
 use mathlib.Core.Path.{_≡_, refl, sym, ap, _∙_}
 use mathlib.Core.Logic.{inl, inr}
-use mathlib.Core.Bool.{Bool, true, false, not, _&&_, and-true}
+use mathlib.Core.Bool.{Bool, true, false, not, _&&_, and-true, and-false}
 use mathlib.Core.List.{List, [], _∷_}
 use lib.Dec.{ltb, eqb}
 use Rattle.ident.specs.Number.{Key, place, other}
@@ -74,10 +74,6 @@ module _ (k : Key) (n now : ℕ) (t : Table) where
         | inl d ↦ rw (same, d) (λ i. record { reply = true; table = leaves-bare k n now t i })
         | inr d ↦ rw (same, d)
       ]
-
-  and-false : (a : Bool) → (a && false) ≡ false
-  and-false true = refl
-  and-false false = refl
 
   -- an Enqueued package does not fail
   pub enqueued-stays : enqueuedIn ((at k t) .«package») ≡ true → failed k n now t ≡ record { reply = false; table = t }

@@ -35,16 +35,12 @@ use Rattle.store.proofs.Counts.{in-hasnt}
 use Rattle.requests.proofs.AtHash.{at-hash}
 use Rattle.package_stages.specs.Changes.{ownerNum}
 use Rattle.failing.proofs.Fusing.{GivesNone, change-fuse, change-same}
+use Rattle.failing.proofs.Leaving.{without-ready}
 use Rattle.handing.specs.Hands.{readied}
 use Rattle.announcing.proofs.Swapping.{change-swap}
 use Rattle.apart.specs.Silent.{failEach, readiedBoth, readyEach, late, gone, droppedIn, droppedAll}
 
 -- ---- dropping one and readying, in either order
-
-without-ready : (n now : ℕ) (cs : List Candidate) → without n (map (readyAt now) cs) ≡ map (readyAt now) (without n cs)
-unfolding without
-without-ready n now [] = refl
-without-ready n now (c ∷ cs) = elim (test (eqb (c .connection) n)) [ inl e ↦ rw e | inr e ↦ rw (e, without-ready n now cs) ]
 
 gone-ready : (n now : ℕ) (r : Request) → gone n (readied now r) ≡ readied now (gone n r)
 gone-ready n now r = ap (λ (cs : List Candidate). withCandidates cs (unowned r)) (without-ready n now (r .candidates))

@@ -1,10 +1,11 @@
 -- The next parent, whatever is known of the victims: what is listed for it, how it is announced, and what is known then.
 use Prim.Native.Nat.{ℕ, _+_, _-_, _≤_, _<_}
-use mathlib.Core.Path.{_≡_, refl, sym, ap, subst, _∙_}
+use mathlib.Core.Path.{_≡_, sym, ap, subst, _∙_}
 use mathlib.Core.Bool.{Bool, true, false, not}
 use mathlib.Core.List.{List, []}
 use mathlib.Core.Option.{Option, none, some}
 use native.Mathlib.Omega.{arith}
+use borrow.Author.Tests.{not-true as off}
 use Rattle.ident.specs.If.{if_then_else_}
 use Rattle.ident.specs.Number.{top}
 use Rattle.machine.specs.Limits.{word}
@@ -61,10 +62,6 @@ module _ {b v : List ℕ} {d : ℕ} {q : Reserve} where
           (sym (h st s g) ∙ ap (λ (y : Bool). if y then some (entryAt (x .row)) else none) (off (x .some) e));
     };
   })
-    where
-      off : (y : Bool) → not y ≡ true → y ≡ false
-      off true e = never e
-      off false e = refl
 
   -- ---- of those that wait beside it
 

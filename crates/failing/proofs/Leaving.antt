@@ -2,9 +2,11 @@
 use Prim.Native.Nat.{ℕ, _<_}
 use mathlib.Core.Path.{_≡_, refl, sym, ap, subst, _∙_}
 use mathlib.Core.Bool.{Bool, true, false, not}
-use mathlib.Core.List.{List, [], map}
+use mathlib.Core.Logic.{inl, inr}
+use mathlib.Core.List.{List, [], _∷_, map}
 use mathlib.Core.Option.{Option, none, some}
 use native.Mathlib.Omega.{arith}
+use lib.Dec.{eqb}
 use borrow.Author.Tests.{eq-eqb}
 use Rattle.ident.specs.Number.{top, Key, other}
 use Rattle.machine.specs.Limits.{word}
@@ -13,7 +15,7 @@ use Rattle.machine.specs.Table.{at, change, has, one, under, ownerIn, ownedAt}
 use Rattle.machine.specs.Announce.{without, cut}
 use Rattle.machine.specs.Fail.{releasable, left, leaves, failed, unclaim}
 use Rattle.machine.specs.Sound.{Sound}
-use Rattle.machine.proofs.Tests.{never, and-left}
+use Rattle.machine.proofs.Tests.{test, never, and-left}
 use Rattle.machine.proofs.Table.{at-key, owners-change}
 use Rattle.machine.proofs.At.{at-other, other-place}
 use Rattle.machine.proofs.Change.{bounded-cut, bounded-change, unowned-at}
@@ -37,6 +39,11 @@ told P st s w p u v x = subst (λ (z : State). P (z .table)) (image-injective st
 -- every candidate is ready at v
 abbrev pub readied : ℕ → Request → Request
 readied v r = withCandidates (map (readyAt v) (r .candidates)) r
+
+pub without-ready : (n now : ℕ) (cs : List Candidate) → without n (map (readyAt now) cs) ≡ map (readyAt now) (without n cs)
+unfolding without
+without-ready n now [] = refl
+without-ready n now (c ∷ cs) = elim (test (eqb (c .connection) n)) [ inl e ↦ rw e | inr e ↦ rw (e, without-ready n now cs) ]
 
 readied-none : (v : ℕ) (r : Request) → r .candidates ≡ [] → (readied v r) .candidates ≡ []
 readied-none v r e = ap (map (readyAt v)) e

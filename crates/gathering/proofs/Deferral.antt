@@ -32,6 +32,7 @@ use Rattle.announcing.specs.Falls.{listSpace, fallen, cuts, Foremost}
 use Rattle.announcing.proofs.Entering.{fresh, cleared-sound}
 use Rattle.announcing.proofs.Giving.{first-greatest, first-goes, next-first}
 use Rattle.announcing.proofs.GoneTogether.{cuts-more, cuts-sound, cuts-left, cuts-fallen, cuts-held, cuts-count, victims-there}
+use Rattle.announcing.proofs.GoneBy.{each-front}
 use Rattle.gathering.specs.Waits.{pushes, Ready, waits, barredBeside}
 use Rattle.gathering.specs.Aside.{space, PutIn, Aside, RowIn}
 use Rattle.gathering.specs.Deferring.{Owing, leftBy, Suited, Owed}
@@ -40,10 +41,6 @@ use Rattle.gathering.proofs.Faring.{each-more, aside-more}
 use Rattle.gathering.proofs.Exchanging.{cut-pushes, aside-still, victims-pushes}
 
 -- ---- lists
-
-pub each-front : {A : Type 0} (P : A → Type 0) (a b : List A) → Each P (a ++ b) → Each P a × Each P b
-each-front P [] b p = (tt, p)
-each-front P (x ∷ a) b p = let z = each-front P a b (p .1) in ((p .0, z .0), z .1)
 
 -- one more waits
 waits-more : (h : ℕ) (es : List Entry) (a : Entry) → waits h es ≡ false → eqb (a .key .hash) h ≡ false → waits h (es ++ (a ∷ [])) ≡ false

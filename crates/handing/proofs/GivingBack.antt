@@ -2,7 +2,7 @@
 use Prim.Native.Nat.{ℕ, _<_}
 use mathlib.Core.Path.{_≡_, refl, sym, ap, _∙_}
 use mathlib.Core.Logic.{inl, inr}
-use mathlib.Core.Bool.{Bool, true, false, _||_}
+use mathlib.Core.Bool.{true, false, or-false}
 use mathlib.Core.List.{List, [], _∷_, map}
 use mathlib.Core.Option.{Option, none, some}
 use native.Mathlib.Omega.{arith}
@@ -132,10 +132,6 @@ only-one n (some o) [] f e l = absurd (omega arith)
 only-one n (some o) (c ∷ []) f e l =
     let a : c .connection ≡ o .connection = eqb-true (c .connection) (o .connection) (sym (or-false (eqb (c .connection) (o .connection))) ∙ f .0) in
     rw (eq-eqb (c .connection) n (a ∙ eqb-true (o .connection) n e))
-  where
-    or-false : (b : Bool) → (b || false) ≡ b
-    or-false true = refl
-    or-false false = refl
 only-one n (some o) (c ∷ d ∷ cs) f e l = absurd (omega arith)
 
 pub single-silent : (st : State) → Sound st → (n : ℕ) (k : Key) → length ((at k (st .table)) .candidates) ≡ 1 → ownerIs n ((at k (st .table)) .owner) ≡ true → Silent n (at k (st .table))

@@ -34,7 +34,7 @@ use Rattle.leaving.proofs.Newcomers.{fewer-eased}
 use Rattle.requests.proofs.AtHash.{at-hash}
 use Rattle.announcing.proofs.Swapping.{change-swap}
 use Rattle.failing.proofs.Fusing.{GivesNone, change-fuse, change-same}
-use Rattle.failing.proofs.Leaving.{owner-of as owned-of}
+use Rattle.failing.proofs.Leaving.{owner-of as owned-of, without-ready}
 
 -- a cut at another key
 pub cut-swap : (n : ℕ) (i k : Key) (g : Request → Request) (t : Table) → i .hash < top → k .hash < top → (place i ≡ place k → ⊥) → KeepsKey g → Ordered 0 t → All Filled t
@@ -59,11 +59,6 @@ each-swap n lo (i ∷ ks) k g t r s d gg o a =
 
 abbrev cutf : ℕ → Request → Request
 cutf n r = withCandidates (without n (r .candidates)) r
-
-without-ready : (n now : ℕ) (cs : List Candidate) → without n (map (readyAt now) cs) ≡ map (readyAt now) (without n cs)
-unfolding without
-without-ready n now [] = refl
-without-ready n now (c ∷ cs) = elim (test (eqb (c .connection) n)) [ inl e ↦ rw e | inr e ↦ rw (e, without-ready n now cs) ]
 
 ready-none : (now : ℕ) → GivesNone (readied now)
 ready-none now r e = ap (map (readyAt now)) e

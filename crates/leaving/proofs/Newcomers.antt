@@ -3,7 +3,7 @@
 use Prim.Native.Nat.{ℕ, suc, _+_, _≤_, _<_}
 use mathlib.Core.Path.{_≡_, refl, sym, ap, subst, _∙_}
 use mathlib.Core.Logic.{inl, inr}
-use mathlib.Core.Bool.{Bool, true, false, _&&_, _||_}
+use mathlib.Core.Bool.{Bool, true, false, _&&_, _||_, and-false as and-none}
 use mathlib.Core.List.{List, [], _∷_}
 use mathlib.Core.Option.{Option, none, some}
 use native.Mathlib.Omega.{arith}
@@ -160,10 +160,6 @@ no-parents n h t s o l =
   where
     differ : {X : Type 0} → Txid ≡ Wtxid → X
     differ e = never (ap (λ (k : Kind). elim k [ Txid ↦ false | Wtxid ↦ true ]) e)
-
-    and-none : (a : Bool) → (a && false) ≡ false
-    and-none true = refl
-    and-none false = refl
 
     go : (k : Kind) (w : Option Owner) (i : Bool) (p : Option Package) (hs : List ℕ) → k ≡ Txid → Packed k w i p hs → (if ownerIs n w && (i || isSome p) then hs else []) ≡ []
     go k w true (some p) hs e f = absurd f
