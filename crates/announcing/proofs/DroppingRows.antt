@@ -75,16 +75,16 @@ module _ {b : List ℕ} (p : Row → Bool) (m i : ℕ) {r₀ : Row} (row : (f : 
 
 -- ---- what stays of a row, put at m
 
-put-long : (m : ℕ) (l xs : List Row) → length (putAt m l xs) ≡ length xs
+pub put-long : (m : ℕ) (l xs : List Row) → length (putAt m l xs) ≡ length xs
 put-long m [] xs = refl
 put-long m (x ∷ l) xs = length-set xs m x
 
-put-front : (m : ℕ) (l xs : List Row) → length l ≤ 1 → m < length xs → take (m + length l) (putAt m l xs) ≡ take m xs ++ l
+pub put-front : (m : ℕ) (l xs : List Row) → length l ≤ 1 → m < length xs → take (m + length l) (putAt m l xs) ≡ take m xs ++ l
 put-front m [] xs h g = rw (add-zero m, append-nil (take m xs))
 put-front m (x ∷ []) xs h g = rw (add-one m) (take-suc-set xs m x g)
 put-front m (x ∷ y ∷ l) xs h g = absurd (omega arith)
 
-put-rest : (m i : ℕ) (l xs : List Row) → m ≤ i → drop (i + 1) (putAt m l xs) ≡ drop (i + 1) xs
+pub put-rest : (m i : ℕ) (l xs : List Row) → m ≤ i → drop (i + 1) (putAt m l xs) ≡ drop (i + 1) xs
 put-rest m i [] xs h = refl
 put-rest m i (x ∷ l) xs h = drop-set-lt (i + 1) xs m x (omega arith)
 

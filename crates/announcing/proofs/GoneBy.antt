@@ -9,6 +9,7 @@ use lib.Dec.{eqb}
 use borrow.Author.Tests.{eq-eqb}
 use Rattle.ident.specs.If.{if_then_else_}
 use Rattle.ident.specs.Number.{top, Key, place}
+use Rattle.ident.proofs.Places.{place-same as place-inj}
 use Rattle.regions.specs.declared.Row.{Row}
 use Rattle.regions.specs.Regions.{each}
 use Rattle.regions.proofs.Regions.{each-append}
@@ -18,7 +19,6 @@ use Rattle.machine.specs.Announce.{after, cut}
 use Rattle.machine.specs.Sound.{Ordered, Sound}
 use Rattle.machine.specs.Typed.{Each}
 use Rattle.machine.proofs.Announce.{each-append as each-both, each-map}
-use Rattle.machine.proofs.Table.{place-inj}
 use Rattle.machine.proofs.Tests.{test, never}
 use Rattle.store.specs.Flat.{rowOf, rowsFor, rowsOf}
 use Rattle.store.specs.Gather.{keyAt, candidateAt}
@@ -131,7 +131,7 @@ strict-rows st s =
 
 -- ---- the first goes
 
-each-front : {A : Type 0} (P : A → Type 0) (a b : List A) → Each P (a ++ b) → Each P a × Each P b
+pub each-front : {A : Type 0} (P : A → Type 0) (a b : List A) → Each P (a ++ b) → Each P a × Each P b
 each-front P [] b p = (tt, p)
 each-front P (x ∷ a) b p = let z = each-front P a b (p .1) in ((p .0, z .0), z .1)
 

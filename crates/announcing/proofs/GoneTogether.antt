@@ -5,14 +5,13 @@ use mathlib.Core.Bool.{Bool, true, false}
 use mathlib.Core.List.{List, [], _∷_, _++_, map, append-assoc}
 use native.Mathlib.Omega.{arith}
 use lib.ListN.{length}
-use Rattle.ident.specs.Number.{top, Key, place, txid, wtxid}
+use Rattle.ident.specs.Number.{top, Key, txid, wtxid}
 use Rattle.regions.specs.declared.Row.{Row}
-use Rattle.machine.specs.State.{Entry, Request, State, Table, onTable, withCandidates}
+use Rattle.machine.specs.State.{Entry, Request, State, Table, onTable}
 use Rattle.machine.specs.Table.{at, one, any, count, held}
-use Rattle.machine.specs.Announce.{without, victimsIn, victims, atHash, cut}
+use Rattle.machine.specs.Announce.{victimsIn, victims, atHash, cut}
 use Rattle.machine.specs.Sound.{Ordered, Sound}
 use Rattle.machine.specs.Typed.{Each}
-use Rattle.machine.proofs.At.{at-other}
 use Rattle.store.specs.Flat.{rowsOf, placesOf}
 use Rattle.store.specs.Gather.{keyAt}
 use Rattle.announcing.specs.Evicts.{entryAt}
@@ -77,12 +76,6 @@ cuts-places st s (v ∷ vs) ws f =
     cuts-places (then st s v (vs ++ ws) f) (then-sound st s v (vs ++ ws) f) vs ws (next-first st s v (vs ++ ws) f) ∙ places-less st s v (vs ++ ws) f
 
 -- ---- elsewhere
-
-pub cuts-at : (k : Key) (vs : List Row) (t : Table) → Each (λ (y : Row). place k ≡ place (keyAt y) → ⊥) vs → at k (cuts vs t) ≡ at k t
-unfolding cuts
-cuts-at k [] t n = refl
-cuts-at k (v ∷ vs) t n =
-    cuts-at k vs (cut (keyAt v) (v .conn) t) (n .1) ∙ at-other k (keyAt v) (λ r. withCandidates (without (v .conn) (r .candidates)) r) t (λ r. refl) (n .0)
 
 -- who can be evicted at a hash is told by its two requests
 pub victims-there : (h : ℕ) → h < top → (t u : Table) → Ordered 0 t → Ordered 0 u → at (txid h) u ≡ at (txid h) t → at (wtxid h) u ≡ at (wtxid h) t → victims (atHash h) u ≡ victims (atHash h) t

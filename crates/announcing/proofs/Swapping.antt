@@ -8,11 +8,12 @@ use lib.Dec.{eqb}
 use lib.ListN.{length}
 use borrow.Author.Tests.{eqb-true, eqb-false}
 use Rattle.ident.specs.Number.{top, Key, place}
+use Rattle.ident.proofs.Places.{place-same as place-inj}
 use Rattle.machine.specs.State.{Candidate, Request, Table}
 use Rattle.machine.specs.Table.{at, keep, change}
 use Rattle.machine.specs.Sound.{Ordered, All, Filled}
 use Rattle.machine.proofs.Tests.{test}
-use Rattle.machine.proofs.Table.{place-inj, ordered-change, filled-change}
+use Rattle.machine.proofs.Table.{ordered-change, filled-change}
 use Rattle.machine.proofs.At.{KeepsKey, kept, at-same, at-other}
 use Rattle.machine.proofs.Same.{walk, walk-same}
 

@@ -2,7 +2,7 @@
 use Prim.Native.Nat.{ℕ}
 use mathlib.Core.Path.{_≡_, refl, sym, ap, _∙_}
 use mathlib.Core.Logic.{inl, inr}
-use mathlib.Core.Bool.{Bool, true, false, not, _&&_}
+use mathlib.Core.Bool.{Bool, true, false, not, _&&_, and-true, and-false}
 use mathlib.Core.List.{List, [], _∷_}
 use lib.Dec.{ltb, eqb}
 use Rattle.ident.specs.Number.{Key, place, other}
@@ -60,10 +60,6 @@ leaves-bare k n now t =
     ap (change (other k) (left n now)) (change-bare k (left n now) (left n now) t (left-bare n now))
     ∙ change-bare (other k) (left n now) (left n now) (change k (left n now) t) (left-bare n now)
 
-and-true : (a : Bool) → (a && true) ≡ a
-and-true true = refl
-and-true false = refl
-
 -- without packages just the owner can fail
 pub releasable-bare : (n : ℕ) (k : Key) (t : Table) → releasable n (at k (bare t)) ≡ ownerIs n ((at k t) .owner)
 releasable-bare n k t = ap (releasable n) (at-bare k t) ∙ and-true (ownerIs n ((at k t) .owner))
@@ -78,10 +74,6 @@ module _ (k : Key) (n now : ℕ) (t : Table) where
         | inl d ↦ rw (same, d) (λ i. record { reply = true; table = leaves-bare k n now t i })
         | inr d ↦ rw (same, d)
       ]
-
-  and-false : (a : Bool) → (a && false) ≡ false
-  and-false true = refl
-  and-false false = refl
 
   -- an Enqueued package does not fail
   pub enqueued-stays : enqueuedIn ((at k t) .«package») ≡ true → failed k n now t ≡ record { reply = false; table = t }

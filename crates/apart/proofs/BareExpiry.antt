@@ -9,20 +9,21 @@ use borrow.Author.Tests.{eqb-true, eqb-false, eq-eqb, ne-eqb}
 use Rattle.ident.specs.declared.Kind.{Kind}
 use Rattle.ident.specs.declared.Kind.the-variants.{Wtxid}
 use Rattle.ident.specs.Number.{top, Key, place, wtxid}
+use Rattle.ident.proofs.Places.{place-same as place-inj}
 use Rattle.regions.specs.Regions.{each}
 use Rattle.places.specs.Places.{Place}
 use Rattle.machine.specs.Limits.{Limits, word}
 use Rattle.machine.specs.State.{Request, Table, Answer, blank, ownerIs, enqueuedIn, isSome}
 use Rattle.machine.specs.Table.{at}
-use Rattle.machine.specs.Fail.{failed, but, dedup, announceParents, parentsFor}
-use Rattle.machine.specs.Claim.{elem}
+use Rattle.machine.specs.Fail.{failed, dedup, announceParents, parentsFor}
 use Rattle.machine.specs.Sound.{NoRepeat, Lawful, Bounded}
 use Rattle.machine.specs.Typed.{Each}
 use Rattle.machine.proofs.Alone.{Hold, holdOf, noHold, alone-parents}
 use Rattle.machine.proofs.Expired.{failed-here, failed-elsewhere}
 use Rattle.machine.proofs.Fail.{few-for, bounded-failed, bounded-parents, owner-peer}
-use Rattle.machine.proofs.Table.{place-inj, at-key, lawful-at}
-use Rattle.machine.proofs.Tests.{test, or-left, or-right}
+use Rattle.machine.proofs.Table.{at-key, lawful-at}
+use Rattle.machine.proofs.Tests.{test}
+use Rattle.machine.proofs.Distinct.{but-absent as but-none}
 use Rattle.store.specs.Flat.{placesFor, placesOf}
 use Rattle.package_stages.specs.Changes.{hasPlace}
 use Rattle.package_stages.specs.Dead.{filter}
@@ -41,12 +42,6 @@ module _ (n : ℕ) (r : Request) where
 
   pub no-parents : hasPlace r ≡ false → parentsFor n r ≡ []
   no-parents e = elim (test (ownerIs n (r .owner))) [ inl o ↦ rw (o, e) | inr o ↦ rw o ]
-
--- distinct parents: the n-th is the n-th distinct one
-but-none : (h : ℕ) (hs : List ℕ) → elem h hs ≡ false → but h hs ≡ hs
-unfolding but elem
-but-none h [] e = refl
-but-none h (x ∷ hs) e = rw (or-left (eqb x h) (elem h hs) e, but-none h hs (or-right (eqb x h) (elem h hs) e))
 
 pub dedup-distinct : (hs : List ℕ) → NoRepeat hs → dedup hs ≡ hs
 unfolding dedup

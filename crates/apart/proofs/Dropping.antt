@@ -8,13 +8,14 @@ use mathlib.Core.Option.{Option, none, some}
 use native.Mathlib.Omega.{arith}
 use lib.Dec.{ltb, leb, eqb}
 use lib.ListN.{length}
-use borrow.Author.Tests.{eqb-true, eqb-false, eq-eqb, ne-eqb, le-ltb}
+use borrow.Author.Tests.{eqb-true, eqb-false, eq-eqb}
 use Rattle.ident.specs.declared.Kind.{Kind}
 use Rattle.ident.specs.declared.Kind.the-variants.{Txid, Wtxid}
 use Rattle.ident.specs.If.{if_then_else_}
 use Rattle.ident.specs.Number.{top, Key, place, other, txid, wtxid}
+use Rattle.ident.proofs.Places.{place-same as place-inj}
 use Rattle.machine.specs.Limits.{Limits, word}
-use Rattle.machine.specs.State.{Candidate, Owner, Package, Request, Table, Answer, done, withCandidates, unowned, readyAt, ownerIs, enqueuedIn, isSome}
+use Rattle.machine.specs.State.{Candidate, Owner, Package, Request, Table, Answer, done, withCandidates, unowned, readyAt, ownerIs, enqueuedIn}
 use Rattle.machine.specs.Table.{at, keep, change, has, countIn, count, byUnder}
 use Rattle.machine.specs.Announce.{without}
 use Rattle.machine.specs.Fail.{Listed, left, leaves, releasable, failed, dedup, parentsFrom, announceParents, parentsFor}
@@ -23,26 +24,23 @@ use Rattle.machine.specs.Sound.{Ordered, All, Filled, OwnerFits, Bounded}
 use Rattle.machine.specs.Typed.{Each}
 use Rattle.machine.proofs.Alone.{Hold, holdOf, noHold}
 use Rattle.machine.proofs.At.{KeepsKey, at-here, at-there, at-other, other-place}
-use Rattle.machine.proofs.Expired.{owned-once, failed-here, failed-elsewhere}
+use Rattle.machine.proofs.Expired.{owned-once, failed-here, failed-elsewhere, owner-not as none-owned}
 use Rattle.machine.proofs.Fail.{bounded-failed}
-use Rattle.machine.proofs.Loosened.{left-key}
-use Rattle.machine.proofs.Table.{place-inj, ordered-change, filled-change, lawful-at}
+use Rattle.machine.proofs.Loosened.{left-key, owner-some as some-owned}
+use Rattle.machine.proofs.Table.{ordered-change, filled-change, lawful-at}
 use Rattle.machine.proofs.Tests.{test, never}
-use Rattle.store.proofs.Counts.{in-has, in-hasnt}
+use Rattle.machine.proofs.First.{change-first, change-later, keep-some as keep-filled, without-absent as without-none}
+use Rattle.machine.proofs.Leaving.{count-has as in-has}
+use Rattle.store.proofs.Counts.{in-hasnt}
 use Rattle.requests.proofs.AtHash.{at-hash}
 use Rattle.package_stages.specs.Changes.{ownerNum}
 use Rattle.failing.proofs.Fusing.{GivesNone, change-fuse, change-same}
+use Rattle.failing.proofs.Leaving.{without-ready}
 use Rattle.handing.specs.Hands.{readied}
-use Rattle.cutting.proofs.AtOnce.{without-none}
 use Rattle.announcing.proofs.Swapping.{change-swap}
 use Rattle.apart.specs.Silent.{failEach, readiedBoth, readyEach, late, gone, droppedIn, droppedAll}
 
 -- ---- dropping one and readying, in either order
-
-without-ready : (n now : ℕ) (cs : List Candidate) → without n (map (readyAt now) cs) ≡ map (readyAt now) (without n cs)
-unfolding without
-without-ready n now [] = refl
-without-ready n now (c ∷ cs) = elim (test (eqb (c .connection) n)) [ inl e ↦ rw e | inr e ↦ rw (e, without-ready n now cs) ]
 
 gone-ready : (n now : ℕ) (r : Request) → gone n (readied now r) ≡ readied now (gone n r)
 gone-ready n now r = ap (λ (cs : List Candidate). withCandidates cs (unowned r)) (without-ready n now (r .candidates))
@@ -86,14 +84,6 @@ each-swap n now k (d ∷ ds) t s a o f =
     ∙ each-swap n now k ds (readiedBoth now (d .key) t) s (a .1) (ordered-both now (d .key) t (a .0) o) (filled-both now (d .key) t f)
 
 -- ---- one fails
-
-none-owned : (n : ℕ) (w : Option Owner) → isSome w ≡ false → ownerIs n w ≡ false
-none-owned n none e = refl
-none-owned n (some o) e = never (sym e)
-
-some-owned : (n : ℕ) (w : Option Owner) → ownerIs n w ≡ true → isSome w ≡ true
-some-owned n none e = never e
-some-owned n (some o) e = refl
 
 owner-has : (n : ℕ) (w : Option Owner) (cs : List Candidate) → ownerIs n w ≡ true → OwnerFits w cs → has n cs ≡ true
 owner-has n none cs e f = never e
@@ -231,14 +221,6 @@ packless-each now lo (d ∷ ds) t w b p r a o =
 
 -- ---- dropped one by one, or in one pass
 
-change-first : (k : Key) (f : Request → Request) (r : Request) (t : Table) → place k ≡ place (r .key) → change k f (r ∷ t) ≡ keep (f r) ((f r) .candidates) t
-unfolding change
-change-first k f r t e = rw (le-ltb (place k) (place (r .key)) (omega arith), eq-eqb (place k) (place (r .key)) e)
-
-change-later : (k : Key) (f : Request → Request) (r : Request) (t : Table) → place (r .key) < place k → change k f (r ∷ t) ≡ r ∷ change k f t
-unfolding change
-change-later k f r t h = rw (le-ltb (place k) (place (r .key)) (omega arith), ne-eqb (place k) (place (r .key)) (λ e. omega arith))
-
 behind : (lo : ℕ) (ds : List Due) (r : Request) (t : Table) → place (r .key) < lo → Rising lo ds → goneEach ds (r ∷ t) ≡ r ∷ goneEach ds t
 unfolding goneEach
 behind lo [] r t h a = refl
@@ -250,11 +232,6 @@ behind-keep : (lo : ℕ) (ds : List Due) (r : Request) (cs : List Candidate) (t 
 unfolding keep
 behind-keep lo ds r [] t h a = refl
 behind-keep lo ds r (c ∷ cs) t h a = behind lo ds r t h a
-
-keep-filled : (r : Request) (cs : List Candidate) (t : Table) → 1 ≤ length cs → keep r cs t ≡ r ∷ t
-unfolding keep
-keep-filled r [] t h = absurd (omega arith)
-keep-filled r (c ∷ cs) t h = refl
 
 rising-less : (hi lo : ℕ) (ds : List Due) → lo ≤ hi → Rising hi ds → Rising lo ds
 rising-less hi lo [] h r = tt

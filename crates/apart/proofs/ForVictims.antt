@@ -10,6 +10,7 @@ use lib.Dec.{ltb, leb, eqb}
 use lib.ListN.{length}
 use borrow.Author.Tests.{lt-leb, le-leb, eqb-true, eqb-false}
 use Rattle.ident.specs.Number.{top, Key, place, txid, wtxid, keyOf}
+use Rattle.ident.proofs.Places.{place-same as place-inj}
 use Rattle.machine.specs.Limits.{Limits, maxPeerAnnouncements, word}
 use Rattle.machine.specs.State.{Candidate, Entry, Request, Table, State, Answer, limitsOf, onTable, done, withCandidates, marked}
 use Rattle.machine.specs.Table.{at, has, any, by, under, byUnder, count, held, heldBy, heldAt, isCandidate}
@@ -20,7 +21,7 @@ use Rattle.machine.specs.Typed.{Each}
 use Rattle.machine.proofs.Announce.{bounded-announceAt}
 use Rattle.machine.proofs.Fail.{Peer}
 use Rattle.machine.proofs.Kept.{sound-table}
-use Rattle.machine.proofs.Table.{place-inj, ordered-change, filled-change}
+use Rattle.machine.proofs.Table.{ordered-change, filled-change}
 use Rattle.machine.proofs.Tests.{test, or-left, or-right, never}
 use Rattle.store.specs.Gather.{keyAt, candidateAt}
 use Rattle.store.specs.Image.{Writes}

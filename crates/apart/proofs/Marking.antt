@@ -10,6 +10,7 @@ use lib.Dec.{ltb, eqb}
 use lib.ListN.{length}
 use borrow.Author.Tests.{eqb-false}
 use Rattle.ident.specs.Number.{top, Key, place, txid}
+use Rattle.ident.proofs.Places.{place-same as place-inj}
 use Rattle.machine.specs.State.{Candidate, Entry, Table, State, onTable, withCandidates, marked}
 use Rattle.machine.specs.Table.{keep, change, countIn, count, total}
 use Rattle.machine.specs.Announce.{push}
@@ -17,7 +18,7 @@ use Rattle.machine.specs.Fail.{mark, parentOf}
 use Rattle.machine.specs.Sound.{Ordered, All, Filled, Sound}
 use Rattle.machine.specs.Typed.{Each}
 use Rattle.machine.proofs.Tests.{test, or-left, or-right}
-use Rattle.machine.proofs.Table.{place-inj, ordered-change, filled-change}
+use Rattle.machine.proofs.Table.{ordered-change, filled-change}
 use Rattle.machine.proofs.Fail.{bounded-mark}
 use Rattle.machine.proofs.Kept.{sound-table}
 use Rattle.gathering.specs.Waits.{Ready, waits}

@@ -1,14 +1,15 @@
 -- The next parent, whatever is known of the victims: what is listed for it, how it is announced, and what is known then.
 use Prim.Native.Nat.{ℕ, _+_, _-_, _≤_, _<_}
-use mathlib.Core.Path.{_≡_, refl, sym, ap, subst, _∙_}
+use mathlib.Core.Path.{_≡_, sym, ap, subst, _∙_}
 use mathlib.Core.Bool.{Bool, true, false, not}
-use mathlib.Core.List.{List, [], _∷_}
+use mathlib.Core.List.{List, []}
 use mathlib.Core.Option.{Option, none, some}
 use native.Mathlib.Omega.{arith}
+use borrow.Author.Tests.{not-true as off}
 use Rattle.ident.specs.If.{if_then_else_}
 use Rattle.ident.specs.Number.{top}
 use Rattle.machine.specs.Limits.{word}
-use Rattle.machine.specs.State.{Entry, Table, State, Answer, limitsOf, onTable}
+use Rattle.machine.specs.State.{Table, State, Answer, limitsOf, onTable}
 use Rattle.machine.specs.Table.{held}
 use Rattle.machine.specs.Announce.{greatest, victims, anywhere}
 use Rattle.machine.specs.Sound.{Sound}
@@ -20,6 +21,7 @@ use Rattle.announcing.specs.declared.evict.Victim.{Victim}
 use Rattle.announcing.specs.Answers.{Answered, oneParent}
 use Rattle.announcing.specs.Evicts.{entryAt, found}
 use Rattle.announcing.specs.Falls.{mostListed, listSpace, VictimsIn}
+use Rattle.announcing.proofs.Nobody.{none-greatest as nobody}
 use Rattle.apart.specs.declared.joining.Next.{Next}
 use Rattle.apart.specs.declared.displacing.Reserve.{Reserve}
 use Rattle.apart.specs.declared.displacing.Further.{Further}
@@ -31,11 +33,6 @@ use Rattle.apart.proofs.Spent.{spent-next, spent-left}
 use Rattle.apart.proofs.ForVictims.{supplied-spent, supplied-unlisted}
 
 -- ---- victims listed
-
-nobody : (l : List Entry) → greatest l ≡ none → l ≡ []
-unfolding greatest
-nobody [] e = refl
-nobody (a ∷ l) e = let z : _≡_ {A = ℕ} 0 1 = cc in absurd (omega arith)
 
 module _ {b v : List ℕ} {d : ℕ} {q : Reserve} where
   pub restocked-same : q .count ≤ listSpace → Restocked b v v d q q
@@ -65,10 +62,6 @@ module _ {b v : List ℕ} {d : ℕ} {q : Reserve} where
           (sym (h st s g) ∙ ap (λ (y : Bool). if y then some (entryAt (x .row)) else none) (off (x .some) e));
     };
   })
-    where
-      off : (y : Bool) → not y ≡ true → y ≡ false
-      off true e = never e
-      off false e = refl
 
   -- ---- of those that wait beside it
 

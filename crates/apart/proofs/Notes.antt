@@ -14,13 +14,13 @@ use Rattle.ident.specs.If.{if_then_else_}
 use Rattle.ident.specs.Number.{Key, txid}
 use Rattle.words.specs.Words.{words}
 use Rattle.regions.specs.Rows.{quadNumber}
+use Rattle.regions.proofs.Order.{number-quad}
 use Rattle.places.specs.Places.{Place, listMost, placeSize, parentsAt}
 use Rattle.places.proofs.Places.{parent-at}
 use Rattle.machine.specs.Limits.{Limits}
 use Rattle.machine.specs.State.{Table}
 use Rattle.machine.specs.Table.{one}
 use Rattle.machine.specs.Fail.{parentsFrom}
-use Rattle.store.proofs.Quads.{number-quad}
 use Rattle.announcing.specs.Answers.{oneParent}
 use Rattle.apart.specs.Apart.{SlotOf}
 use Rattle.apart.specs.Noting.{parentIn, hashesAt, picked, pickedIn, keptBits, halfMost, Halved}

@@ -50,6 +50,7 @@ use Rattle.apart.proofs.BarePlaces.{PlaceOf, place-whose, no-place, txi
 use Rattle.apart.proofs.BareExpiry.{parents-beside, no-parents, dedup-distinct, bounded-after, places-enqueued, places-unheld, places-without}
 use Rattle.apart.proofs.Notes.{slot-all}
 use Rattle.apart.proofs.SpentStill.{victims-bare}
+use Rattle.apart.proofs.Spotting.{ascend-above as ascend-least}
 
 -- ---- the front of a store, lent and come back
 
@@ -125,11 +126,6 @@ above-other h lo (p ∷ ps) l a =
     let e : eqb (p .hash) h ≡ false = ne-eqb (p .hash) h (λ z. omega (arith, a .0)) in
     let g = above-other h (suc (p .hash)) ps (omega (arith, a .0)) (a .1) in
     elim (test (live p)) [ inl z ↦ rw (z, e, g) | inr z ↦ rw (z, g) ]
-
-ascend-least : (lo : ℕ) (ps : List Place) (j : ℕ) (d : Place) → PlacesAscend lo ps → j < length ps → lo ≤ (getD ps j d) .hash
-ascend-least lo [] j d a l = absurd (omega arith)
-ascend-least lo (p ∷ ps) zero d a l = a .0
-ascend-least lo (p ∷ ps) (suc j) d a l = omega (arith, a .0, ascend-least (suc (p .hash)) ps j d (a .1) (omega arith))
 
 pub dies-filter : (lo : ℕ) (ps : List Place) (i : ℕ) (d : Place) → PlacesAscend lo ps → i < length ps
     → filter live (set ps i (withStage 0 (getD ps i d))) ≡ filter (otherThan ((getD ps i d) .hash)) (filter live ps)

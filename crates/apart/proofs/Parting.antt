@@ -6,7 +6,7 @@ use native.Mathlib.Omega.{arith}
 use mathlib.Core.Bool.{true}
 use lib.Dec.{ltb}
 use borrow.Author.Tests.{lt-ltb}
-use lib.ListN.{length, take, drop, set, replicate-append-replicate, length-append, length-take, length-drop, replicate, length-replicate, drop-of-length-le, take-append-drop}
+use lib.ListN.{length, take, drop, set, replicate-append-replicate, length-append, length-take, length-drop, replicate, length-replicate, take-append-drop}
 use lib.Seq.{take-at, drop-at, drop-drop, take-take, length-take-le}
 use Rattle.words.specs.Words.{words, splice}
 use Rattle.words.proofs.Parts.{words-lent, words-back, words-take, words-drop}
@@ -25,7 +25,7 @@ use Rattle.store.specs.FlatSound.{StageFits, PlaceFits}
 use Rattle.machine.specs.Typed.{Each}
 use Rattle.store.specs.Image.{headSize, headWords, wordsOf, Shows, Writes}
 use Rattle.store.specs.Shown.{limitIn, Kept, placesAt, heldPlacesAt, Shown, withPlaces, Turns}
-use Rattle.store.proofs.Frame.{rowPart, connPart, placePart, framed, framed-is, sizes, shown}
+use Rattle.store.proofs.Frame.{rowPart, connPart, placePart, framed, framed-is, sizes, shown, padded-nil as padded-none, cleared}
 use Rattle.store.proofs.HeadWords.{head-length}
 use Rattle.store.proofs.ToFlat.{flat-sound}
 use Rattle.requests.proofs.Keeping.{sized-of, light-of}
@@ -35,9 +35,6 @@ use Rattle.apart.specs.Apart.{slotBytes, bareBytes, Slots, Apart, SetApa
 use Rattle.apart.proofs.BareTable.{rows-bare, places-bare}
 
 -- ---- a region cut behind its first record
-
-padded-none : (n : ℕ) → padded n [] ≡ replicate n 0
-padded-none n = padded-fit n [] (omega arith) ∙ (let e : n - 0 ≡ n = omega arith in rw e)
 
 zeros-take : (a b : ℕ) → take a (replicate {A = ℕ} (a + b) 0) ≡ replicate a 0
 zeros-take a b = rw (← (replicate-append-replicate {A = ℕ} a b 0)) (take-at (replicate a 0) (replicate b 0) a (length-replicate {A = ℕ} a 0))
@@ -136,13 +133,6 @@ module _ (b : List ℕ) (e : ℕ) {m : ℕ} (em : m ≡ e * 8) (l : m ≤ length
 
   pub rest-words : words (drop m b) ≡ drop e (words b)
   rest-words = let q : m ≡ 8 * e = omega arith in ap (λ (n : ℕ). words (drop n b)) q ∙ words-drop b e (omega arith)
-
-cleared : (w : List ℕ) (d : ℕ) → length w ≡ d → splice w 0 (replicate d 0) ≡ replicate d 0
-unfolding splice
-cleared w d n =
-    let m : length (replicate {A = ℕ} d 0) ≡ d = length-replicate d 0 in
-    let z : drop (0 + length (replicate {A = ℕ} d 0)) w ≡ [] = drop-of-length-le w {i = 0 + length (replicate {A = ℕ} d 0)} (omega arith) in
-    rw z (append-nil (replicate d 0))
 
 -- the need for one place, and for more
 need-one : (L : ℕ) → need L 1 ≡ bareBytes L

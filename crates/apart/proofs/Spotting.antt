@@ -15,11 +15,11 @@ use Rattle.words.specs.Words.{words, recs}
 use Rattle.regions.specs.declared.Quad.{Quad}
 use Rattle.regions.specs.Order.{Sorted, Bound, Sought}
 use Rattle.regions.specs.Rows.{quadNumber, quadOf}
+use Rattle.regions.proofs.Order.{number-quad}
 use Rattle.places.specs.declared.Head.{Head}
 use Rattle.places.specs.Places.{Place, placeSize, placeKey, headOf, blank, HeadAt}
 use Rattle.machine.proofs.Tests.{test, never}
 use Rattle.store.specs.FlatSound.{PlacesAscend}
-use Rattle.store.proofs.Quads.{number-quad}
 use Rattle.store.proofs.Window.{places-sorted}
 use Rattle.package_stages.specs.Records.{placeHashes}
 use Rattle.package_stages.specs.Dead.{live}
@@ -86,7 +86,7 @@ module _ {b f : List ℕ} {m n x : ℕ} where
 
 -- ---- where it stops
 
-ascend-above : (lo : ℕ) (ps : List Place) (j : ℕ) (d : Place) → PlacesAscend lo ps → j < length ps → lo ≤ (getD ps j d) .hash
+pub ascend-above : (lo : ℕ) (ps : List Place) (j : ℕ) (d : Place) → PlacesAscend lo ps → j < length ps → lo ≤ (getD ps j d) .hash
 ascend-above lo [] j d a l = absurd (omega arith)
 ascend-above lo (p ∷ ps) zero d a l = a .0
 ascend-above lo (p ∷ ps) (suc j) d a l = omega (arith, a .0, ascend-above (suc (p .hash)) ps j d (a .1) (omega arith))

@@ -60,10 +60,6 @@ rows-owned q l = go (q .owner) refl (l .owner)
     go none e f = owned-none q (q .candidates) e
     go (some o) e f = owned-some q o (q .candidates) e (f .0)
 
-none-not : (o : Option Owner) → isSome o ≡ true → isNone o ≡ false
-none-not none e = never e
-none-not (some o) e = refl
-
 none-is : (o : Option Owner) → isSome o ≡ false → isNone o ≡ true
 none-is none e = refl
 none-is (some o) e = never (sym e)
@@ -88,10 +84,6 @@ module _ {b : List ℕ} (st : State) (s : Sound st) (w : Writes b st) (k : Key) 
   module _ {y : Bool} (e : y ≡ anyOwns (part from to (rowsOf t))) where
     pub window-owned : y ≡ isSome ((at k t) .owner)
     window-owned = e ∙ ap anyOwns here ∙ rows-owned (at k t) l
-
-    pub least-owned : (p : Candidate → Bool) {v : Option Entry} → y ≡ true → v ≡ none → v ≡ leastAt p k t
-    unfolding leastAt
-    least-owned p d q = rw (none-not ((at k t) .owner) (sym window-owned ∙ d)) q
 
     pub least-free : (p : Candidate → Bool) {v : Option Entry} → y ≡ false → v ≡ leastRows p (part from to (rowsOf t)) → v ≡ leastAt p k t
     unfolding leastAt

@@ -21,7 +21,7 @@ use Rattle.machine.proofs.AnswerLengths.{length-entryAnswer}
 use Rattle.machine.proofs.Claim.{takes-means, bounded-take}
 use Rattle.machine.proofs.Kept.{sound-table}
 use Rattle.machine.proofs.Tests.{test, by-test}
-use Rattle.store.proofs.Bits.{one-most}
+use Rattle.machine.proofs.Owning.{one-most}
 use Rattle.store.specs.Image.{Writes}
 use Rattle.store.specs.Shown.{Kept}
 use Rattle.announcing.specs.Answers.{Answered}

@@ -1,5 +1,5 @@
 -- Entries read from bytes.
-use Prim.Native.Nat.{ℕ, zero, suc, _+_, _-_, _*_, _%_, _<_}
+use Prim.Native.Nat.{ℕ, suc, _+_, _-_, _*_, _%_, _<_}
 use mathlib.Core.Path.{_≡_, refl, ap, _∙_}
 use mathlib.Core.Bool.{not}
 use mathlib.Core.List.{List, [], _∷_}
@@ -7,16 +7,11 @@ use native.Mathlib.Omega.{arith}
 use lib.Dec.{eqb}
 use lib.ListN.{getD, take, drop}
 use Rattle.ident.specs.declared.Kind.{Kind}
-use Rattle.ident.specs.declared.Kind.the-variants.{Wtxid}
 use Rattle.ident.specs.declared.ItemKind.{ItemKind}
 use Rattle.ident.specs.Number.{Key, Item, itemKindOf}
 use Rattle.words.specs.Words.{number, words}
 use Rattle.store.specs.Gather.{kindIs}
 use Rattle.claiming.specs.Claiming.{hashFrom, keyFrom, itemFrom, entryFrom, entriesFrom}
-
-pub kind-not-zero : (w : ℕ) → (w ≡ 0 → ⊥) → Wtxid ≡ kindIs w
-kind-not-zero zero n = absurd (n refl)
-kind-not-zero (suc w) n = refl
 
 hash-read : (b : List ℕ) (w : ℕ) {h : ℕ} → h ≡ number 256 (take 32 (drop (w * 8 + 8) b)) → h ≡ hashFrom b (w + 1)
 hash-read b w q = let e : w * 8 + 8 ≡ (w + 1) * 8 = omega arith in q ∙ ap (λ (a : ℕ). number 256 (take 32 (drop a b))) e

@@ -2,7 +2,6 @@
 use Prim.Native.Nat.{ℕ, _+_, _*_, _≤_}
 use mathlib.Core.Path.{_≡_, refl, sym, ap, _∙_}
 use mathlib.Core.List.{List, [], _∷_, _++_, append-assoc, append-nil}
-use native.Mathlib.Nat.{zero-add}
 use native.Mathlib.Omega.{arith}
 use lib.ListN.{length, length-append}
 use Rattle.ident.specs.Number.{Key, Item, typeOf}
@@ -16,6 +15,7 @@ use Rattle.machine.specs.Call.{keyBytes, entryBytes}
 use Rattle.machine.specs.Step.{kindNumber, keyAnswer, entryAnswer, entriesAnswer, written}
 use Rattle.machine.proofs.AnswerLengths.{length-keyAnswer, length-entryAnswer, length-entriesAnswer}
 use Rattle.claiming.specs.Claiming.{itemAnswer}
+use Rattle.lent_lists.proofs.Answer.{over-front}
 
 -- x written over u from a on, and y behind it
 behind : (u : List ℕ) {u₁ u₂ : List ℕ} (a b : ℕ) (x y : List ℕ) → u₁ ≡ splice u a x → u₂ ≡ splice u₁ b y → b ≡ a + length x → b + length y ≤ length u → u₂ ≡ splice u a (x ++ y)
@@ -87,10 +87,6 @@ entries-more : (l : List Entry) (a : Entry) → entriesAnswer (l ++ (a ∷ [])) 
 unfolding entriesAnswer
 entries-more [] a = append-nil (entryAnswer a)
 entries-more (b ∷ l) a = ap (λ (x : List ℕ). entryAnswer b ++ x) (entries-more l a) ∙ sym (append-assoc (entryAnswer b) (entriesAnswer l) (entryAnswer a))
-
-pub over-front : (x u : List ℕ) → written x u ≡ splice u 0 x
-unfolding written splice
-over-front x u = rw (zero-add (length x))
 
 pub written-more : (l : List Entry) (a : Entry) (u : List ℕ) → entryBytes * length l + entryBytes ≤ length u
     → splice (written (entriesAnswer l) u) (entryBytes * length l) (entryAnswer a) ≡ written (entriesAnswer (l ++ (a ∷ []))) u

@@ -14,10 +14,11 @@ use Rattle.machine.specs.Table.{at}
 use Rattle.machine.specs.Call.{keyBytes}
 use Rattle.machine.specs.Fail.{announceParents, parentsFor, forget}
 use Rattle.machine.specs.Leave.{alive, guarded, ownerParents, forgetKnown}
-use Rattle.machine.specs.Sound.{Lawful, Bounded, Sound}
+use Rattle.machine.specs.Sound.{Lawful, Sound}
 use Rattle.machine.proofs.Table.{lawful-at}
-use Rattle.machine.proofs.Fail.{bounded-parents, few-for, owner-peer}
+use Rattle.machine.proofs.Fail.{owner-peer}
 use Rattle.machine.proofs.Kept.{sound-table}
+use Rattle.machine.proofs.Leave.{bounded-ownerParents as bounded-handed}
 use Rattle.store.specs.Image.{Writes}
 use Rattle.store.specs.Shown.{Kept}
 use Rattle.requests.specs.Changes.{Makes, Tells}
@@ -90,10 +91,6 @@ module _ {b : List ℕ} (k : Key) (v : ℕ) {r : Read} (x : Tells b (λ t. Reque
       (l .table st s w)
 
 -- ---- the whole
-
-bounded-handed : {m : Limits} {Q : ℕ} {t : Table} (v : ℕ) (o : Option Owner) (r : Request) → v < word → r .owner ≡ o → Lawful r → Bounded m Q t → Bounded m Q (ownerParents m v o r t)
-bounded-handed v none r w e l b = b
-bounded-handed v (some o) r w e l b = bounded-parents (o .connection) v _ (owner-peer (o .connection) r l (rw e (eq-eqb (o .connection) (o .connection) refl))) w (few-for (o .connection) r l) b
 
 module _ {b : List ℕ} (k : Key) (v : ℕ) where
   pub known-kept : Tells b (λ t. true ≡ guarded v (at k t)) → Becomes b b (λ m t. forgetKnown m k v t)

@@ -2,7 +2,7 @@
 use Prim.Native.Nat.{ℕ, _+_, _-_, _*_, _≤_, _<_}
 use mathlib.Core.Path.{_≡_, refl, sym, ap, subst, _∙_}
 use mathlib.Core.Logic.{inl, inr}
-use mathlib.Core.Bool.{Bool, true, false}
+use mathlib.Core.Bool.{true, false}
 use mathlib.Core.List.{List, [], _∷_, _++_, map, map-append, append-assoc, append-nil}
 use mathlib.Core.Option.{Option, none, some}
 use native.Mathlib.Nat.{add-zero}
@@ -14,10 +14,10 @@ use lib.Seq.{take-at, drop-at, take-all, drop-drop, take-suc}
 use borrow.Author.Tests.{eq-eqb, ne-eqb}
 use Rattle.ident.specs.Number.{Key, wtxid}
 use Rattle.machine.specs.Limits.{Limits, word, maxParents, maxPlaces}
-use Rattle.machine.specs.State.{Owner, Table, State, onTable, limitsOf, ownerIs}
+use Rattle.machine.specs.State.{Table, State, onTable, limitsOf, ownerIs}
 use Rattle.machine.specs.Table.{at, placeIn, placesHeld}
 use Rattle.machine.specs.Call.{keyBytes}
-use Rattle.machine.specs.Step.{keyAnswer, keysAnswer, written}
+use Rattle.machine.specs.Step.{keysAnswer, written}
 use Rattle.machine.specs.Fail.{Listed, nothing, failed, parentsFor}
 use Rattle.machine.specs.Package.{listedAfter, failedWithParents, someKeys, failEach, failedPackageClaims}
 use Rattle.machine.specs.Sound.{Bounded, Sound}
@@ -27,18 +27,16 @@ use Rattle.machine.proofs.Fail.{Peer}
 use Rattle.machine.proofs.Package.{bounded-failedWithParents}
 use Rattle.machine.proofs.Table.{lawful-at, places-change}
 use Rattle.machine.proofs.AnswerLengths.{length-keysAnswer, length-listedAfter, length-parentsFor}
-use Rattle.machine.proofs.Failing.{HoldsPlace}
+use Rattle.machine.proofs.Failing.{HoldsPlace, holds-loosened as holds-on}
 use Rattle.machine.proofs.Loosened.{Loosened, loosened-same, loosened-then, loosened-failedWithParents}
-use Rattle.machine.proofs.Alone.{Hold}
 use Rattle.machine.proofs.Places.{failing-one, failing-held}
-use Rattle.machine.proofs.Tests.{never}
 use Rattle.machine.proofs.Kept.{sound-table}
 use Rattle.store.specs.Image.{Writes}
 use Rattle.store.specs.Shown.{Kept}
 use Rattle.requests.specs.Changes.{Tells}
 use Rattle.package_stages.specs.declared.Request.{Request as Read}
 use Rattle.package_stages.specs.Changes.{closed, RequestOf}
-use Rattle.lent_lists.proofs.Answer.{written-none}
+use Rattle.lent_lists.proofs.Answer.{written-none, keys-append as keys-both}
 use Rattle.announcing.specs.Answers.{KeysListed}
 use Rattle.failing.proofs.Leaving.{told}
 use Rattle.failing.proofs.Releasing.{owner-is}
@@ -147,11 +145,6 @@ claims-more m n v os i t l =
 
 -- ---- what is written
 
-keys-both : (ks js : List Key) → keysAnswer (ks ++ js) ≡ keysAnswer ks ++ keysAnswer js
-unfolding keysAnswer
-keys-both [] js = refl
-keys-both (k ∷ ks) js = ap (λ (x : List ℕ). keyAnswer k ++ x) (keys-both ks js) ∙ sym (append-assoc (keyAnswer k) (keysAnswer ks) (keysAnswer js))
-
 over-both : (x y u : List ℕ) (n : ℕ) → length x ≡ n → take n (written x u) ++ written y (drop n (written x u)) ≡ written (x ++ y) u
 unfolding written
 over-both x y u n l =
@@ -165,15 +158,6 @@ written-then ks js u c e =
     over-both (keysAnswer ks) (keysAnswer js) u (keyBytes * c) l ∙ ap (λ (z : List ℕ). written z u) (sym (keys-both ks js))
 
 -- ---- room: a key that is still owned has its place
-
-holds-on : {p : Option Owner → Bool} {n : ℕ} {t t′ : Table} → Loosened p t t′ → (k : Key) → HoldsPlace n t k → HoldsPlace n t′ k
-holds-on {p} {n} {t} {t′} l k h = record {
-  small = h .small;
-  place = λ q. elim (l .hold k (h .small)) [
-    | inl e ↦ ap (λ (x : Hold). placeIn (x .info) (x .«package»)) e ∙ h .place (ap (λ (x : Hold). ownerIs n (x .owner)) (sym e) ∙ q)
-    | inr e ↦ never (ap (λ (x : Hold). ownerIs n (x .owner)) (sym (e .1)) ∙ q)
-  ];
-}
 
 place-counts : {m : Limits} {Q : ℕ} {t : Table} (k : Key) → Bounded m Q t → placeIn ((at k t) .info) ((at k t) .«package») ≤ placesHeld t
 place-counts {m} {Q} {t} k b = omega (arith, places-change k closed t (b .ordered))

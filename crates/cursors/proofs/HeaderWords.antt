@@ -1,20 +1,21 @@
 -- Next poll and cursors in the words of the header: read, and written.
-use Prim.Native.Nat.{ℕ, zero, suc, _+_, _-_, _≤_, _<_}
-use mathlib.Core.Path.{_≡_, refl, sym, ap, _∙_}
+use Prim.Native.Nat.{ℕ, zero, suc, _+_, _≤_, _<_}
+use mathlib.Core.Path.{_≡_, refl, ap, _∙_}
 use mathlib.Core.Bool.{not}
 use mathlib.Core.List.{List, [], _∷_}
 use mathlib.Core.Option.{some}
 use native.Mathlib.Omega.{arith}
 use lib.Dec.{T as Holds, eqb}
-use lib.ListN.{length, take, drop, getD, set, length-set, length-drop}
+use lib.ListN.{length, getD, set, length-set}
 use Rattle.ident.specs.declared.Kind.{Kind}
 use Rattle.ident.specs.declared.Kind.the-variants.{Txid, Wtxid}
 use Rattle.ident.specs.declared.Key.{Key}
 use Rattle.ident.specs.Words.{keyNum}
 use Rattle.words.specs.Words.{splice}
-use Rattle.words.proofs.Splice.{set-splice, splice-more}
+use Rattle.words.proofs.Splice.{splice-more}
 use Rattle.regions.specs.declared.Key.{Key as RowKey}
 use Rattle.regions.specs.Rows.{quadWords}
+use Rattle.regions.proofs.Gap.{set-one}
 use Rattle.requests.specs.Changes.{KeyWords}
 use Rattle.store.specs.Flat.{kindBit}
 use Rattle.store.specs.Image.{cursorTag, pollWords}
@@ -57,16 +58,6 @@ poll-pair None = refl
 poll-pair (Is n) = refl
 
 -- ---- a word stored, and the words behind it
-
-first-set : (l : List ℕ) (v : ℕ) → 1 ≤ length l → set (take 1 l) 0 v ≡ v ∷ []
-first-set [] v h = absurd (omega arith)
-first-set (x ∷ l) v h = refl
-
-pub set-one : (w : List ℕ) (a v : ℕ) → a < length w → set w a v ≡ splice w a (v ∷ [])
-set-one w a v h =
-    let e : a + 0 ≡ a = omega arith in
-    let d : length (drop a w) ≡ length w - a = length-drop a w in
-    ap (λ (n : ℕ). set w n v) (sym e) ∙ set-splice w a 1 0 v (omega arith) (omega arith) ∙ ap (splice w a) (first-set (drop a w) v (omega arith))
 
 pub set-more : (w : List ℕ) (a v : ℕ) (x : List ℕ) {w₁ w₂ : List ℕ} → a + 1 + length x ≤ length w → w₁ ≡ set w a v → w₂ ≡ splice w₁ (a + 1) x → w₂ ≡ splice w a (v ∷ x)
 set-more w a v x h e g = g ∙ rw (e, set-one w a v (omega arith)) (splice-more w a (a + 1) (v ∷ []) x refl h)

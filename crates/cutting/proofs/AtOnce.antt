@@ -5,19 +5,17 @@ use mathlib.Core.Logic.{inl, inr}
 use mathlib.Core.Bool.{Bool, true, false, not, _&&_}
 use mathlib.Core.List.{List, [], _∷_}
 use native.Mathlib.Omega.{arith}
-use lib.Dec.{eqb}
-use lib.ListN.{length}
-use borrow.Author.Tests.{le-ltb, ne-eqb, eq-eqb}
 use Rattle.ident.specs.If.{if_then_else_}
 use Rattle.ident.specs.Number.{Key, place}
 use Rattle.machine.specs.State.{Candidate, Request, Table, withCandidates, ownerIs}
-use Rattle.machine.specs.Table.{at, keep, change, has}
+use Rattle.machine.specs.Table.{at, keep, has}
 use Rattle.machine.specs.Announce.{without, cut}
 use Rattle.machine.specs.Leave.{keysOf}
 use Rattle.machine.specs.Sound.{Ordered, All, Filled}
 use Rattle.machine.specs.Typed.{Each}
-use Rattle.machine.proofs.Tests.{test, or-left, or-right}
+use Rattle.machine.proofs.Tests.{test}
 use Rattle.machine.proofs.At.{at-here, at-there}
+use Rattle.machine.proofs.First.{change-first as change-here, change-later as change-there, keep-some, without-absent as without-none}
 use Rattle.package_stages.specs.Dead.{filter}
 use Rattle.cutting.specs.Cuts.{cutAt, cutEach, cuts, leftIn, quitAll}
 
@@ -29,14 +27,6 @@ From lo ks = Each (λ k. lo ≤ place k) ks
 from-weaken : (lo hi : ℕ) (ks : List Key) → lo ≤ hi → From hi ks → From lo ks
 from-weaken lo hi [] h f = tt
 from-weaken lo hi (k ∷ ks) h f = (omega (arith, f .0), from-weaken lo hi ks h (f .1))
-
-change-there : (k : Key) (f : Request → Request) (r : Request) (t : Table) → place (r .key) < place k → change k f (r ∷ t) ≡ r ∷ change k f t
-unfolding change
-change-there k f r t l = rw (le-ltb (place k) (place (r .key)) (omega arith), ne-eqb (place k) (place (r .key)) (λ e. omega arith))
-
-change-here : (k : Key) (f : Request → Request) (r : Request) (t : Table) → place k ≡ place (r .key) → change k f (r ∷ t) ≡ keep (f r) ((f r) .candidates) t
-unfolding change
-change-here k f r t e = rw (le-ltb (place k) (place (r .key)) (omega arith), eq-eqb (place k) (place (r .key)) e)
 
 pub cut-there : (n : ℕ) (k : Key) (r : Request) (t : Table) → place (r .key) < place k → cutAt n k (r ∷ t) ≡ r ∷ cutAt n k t
 unfolding cutAt
@@ -68,16 +58,6 @@ keys-from n p lo (r ∷ t) o =
     ]
 
 -- ---- one request
-
-pub without-none : (n : ℕ) (cs : List Candidate) → has n cs ≡ false → without n cs ≡ cs
-unfolding has without
-without-none n [] h = refl
-without-none n (c ∷ cs) h = rw (or-left (eqb (c .connection) n) (has n cs) h, without-none n cs (or-right (eqb (c .connection) n) (has n cs) h))
-
-keep-some : (r : Request) (cs : List Candidate) (t : Table) → 1 ≤ length cs → keep r cs t ≡ r ∷ t
-unfolding keep
-keep-some r [] t h = absurd (omega arith)
-keep-some r (c ∷ cs) t h = refl
 
 -- nothing is cut there
 same : (n : ℕ) (p : Key → Bool) (r : Request) (t : Table) → Filled r → leftIn n p r ≡ r .candidates → keep (withCandidates (leftIn n p r) r) (leftIn n p r) t ≡ r ∷ t

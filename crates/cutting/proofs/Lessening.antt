@@ -14,11 +14,12 @@ use Rattle.regions.specs.declared.Row.{Row}
 use Rattle.regions.specs.declared.Conn.{Conn}
 use Rattle.regions.specs.Order.{Sorted, Bound}
 use Rattle.regions.specs.Regions.{removeAt}
-use Rattle.machine.proofs.Tests.{test}
+use Rattle.machine.proofs.Tests.{test, order}
 use Rattle.store.specs.Flat.{Flat, ownBit, bump, tally}
 use Rattle.store.specs.Image.{Shows}
 use Rattle.store.specs.Shown.{connNames, withConns}
-use Rattle.store.proofs.Tally.{order, bump-nil, bump-lt, bump-eq, bump-gt, bump-swap, bump-tallied, Tallied, tally-tallied}
+use Rattle.store.proofs.Tally.{bump-nil, bump-lt, bump-eq, bump-gt, bump-swap, bump-tallied, Tallied, tally-tallied}
+use Rattle.store.proofs.Missing.{name-at}
 use Rattle.package_stages.specs.Dead.{filter}
 use Rattle.cutting.specs.Cuts.{lesser, lessen}
 
@@ -119,11 +120,6 @@ module _ (x d : ℕ) where
   unfolding lessen
   lessen-gone [] n = refl
   lessen-gone (c ∷ cs) n = rw (ne-eqb x (c .conn) (λ z. n 0 (omega arith) (sym z)), lessen-gone cs (λ j l. n (suc j) (omega arith)))
-
-name-at : (cs : List Conn) (i : ℕ) (d : Conn) → i < length cs → getD (connNames cs) i 0 ≡ (getD cs i d) .conn
-name-at [] i d h = absurd (omega arith)
-name-at (c ∷ cs) zero d h = refl
-name-at (c ∷ cs) (suc i) d h = name-at cs i d (omega arith)
 
 abbrev With : List ℕ → Flat → List Conn → Type 0
 With b f cs = Shows b (withConns cs f)

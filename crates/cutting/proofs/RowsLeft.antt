@@ -2,9 +2,8 @@
 use Prim.Native.Nat.{ℕ, _≤_}
 use mathlib.Core.Path.{_≡_, refl, sym, ap, _∙_}
 use mathlib.Core.Logic.{inl, inr}
-use mathlib.Core.Bool.{Bool, true, false, not, _&&_}
+use mathlib.Core.Bool.{Bool, true, false, not, _&&_, and-false, and-comm as and-swap}
 use mathlib.Core.List.{List, [], _∷_, _++_, map}
-use mathlib.Core.Option.{Option, none, some}
 use native.Mathlib.Omega.{arith}
 use lib.Dec.{eqb}
 use lib.ListN.{length}
@@ -12,29 +11,20 @@ use borrow.Author.Tests.{eqb-true}
 use Rattle.ident.specs.Number.{Key}
 use Rattle.regions.specs.declared.Row.{Row}
 use Rattle.regions.specs.Regions.{each}
-use Rattle.machine.specs.State.{Candidate, Package, Request, Table, withCandidates, ownerIs}
+use Rattle.machine.specs.State.{Candidate, Request, Table, withCandidates, ownerIs}
 use Rattle.machine.specs.Table.{keep, has, countIn}
 use Rattle.machine.specs.Announce.{without}
 use Rattle.machine.specs.Sound.{Lawful, All, Filled}
 use Rattle.machine.proofs.Tests.{test, or-left, or-right}
-use Rattle.store.specs.Flat.{rowOf, rowsFor, rowsOf, placeFor, placesFor, placesOf}
+use Rattle.store.specs.Flat.{rowOf, rowsFor, rowsOf, placesFor, placesOf}
 use Rattle.store.proofs.Bits.{key-row, owns-row, conn-row}
 use Rattle.store.proofs.Counts.{Distinct, DistinctIn, in-hasnt}
 use Rattle.store.proofs.RowBack.{rows-like}
+use Rattle.store.proofs.RowsAt.{places-with}
 use Rattle.requests.proofs.Cutting.{place-stays}
 use Rattle.package_stages.specs.Dead.{filter}
 use Rattle.package_stages.proofs.Compacting.{filter-append}
 use Rattle.cutting.specs.Cuts.{leftIn, quitAll, remains}
-
-and-swap : (a b : Bool) → (a && b) ≡ (b && a)
-and-swap true true = refl
-and-swap true false = refl
-and-swap false true = refl
-and-swap false false = refl
-
-and-false : (a : Bool) → (a && false) ≡ false
-and-false true = refl
-and-false false = refl
 
 -- ---- one request
 
@@ -93,15 +83,6 @@ rows-left n p (r ∷ t) d =
     ∙ sym (filter-append (remains n p) (map (rowOf r) (r .candidates)) (rowsOf t))
 
 -- ---- its places
-
-places-with : (r : Request) (cs : List Candidate) → placesFor (withCandidates cs r) ≡ placesFor r
-unfolding placesFor
-places-with r cs = go (r .info) (r .«package»)
-  where
-    go : (i : Bool) (p : Option Package) → placeFor (withCandidates cs r) i p ≡ placeFor r i p
-    go i (some p) = refl
-    go true none = refl
-    go false none = refl
 
 places-keep : (r : Request) (cs : List Candidate) (t : Table) → (cs ≡ [] → placesFor r ≡ []) → placesOf (keep (withCandidates cs r) cs t) ≡ placesFor r ++ placesOf t
 unfolding keep each

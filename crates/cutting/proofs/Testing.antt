@@ -1,11 +1,11 @@
 -- The test of one row, and that the rows that go are those of one connection, none of which owns its request.
 use Prim.Native.Nat.{ℕ, _/_, _%_}
-use mathlib.Core.Path.{_≡_, refl, sym}
+use mathlib.Core.Path.{_≡_}
 use mathlib.Core.Logic.{inl, inr}
 use mathlib.Core.Bool.{Bool, true, false, not, _&&_}
 use native.Mathlib.Omega.{arith}
 use lib.Dec.{eqb}
-use borrow.Author.Tests.{eqb-true, eqb-false, eq-eqb, ne-eqb}
+use borrow.Author.Tests.{eqb-true, eqb-false, eq-eqb, ne-eqb, not-false as gone}
 use Rattle.ident.specs.Number.{Key, place}
 use Rattle.regions.specs.declared.Row.{Row}
 use Rattle.regions.specs.declared.Key.{Key as RowKey}
@@ -34,10 +34,6 @@ module _ (r : Row) (n : ℕ) (from to : RowKey) where
 
 went : (n : ℕ) (from to : RowKey) (r : Row) → stays n from to r ≡ false → rowIn n from to r ≡ true
 went n from to r = gone (rowIn n from to r)
-  where
-    gone : (b : Bool) → not b ≡ false → b ≡ true
-    gone true e = refl
-    gone false e = sym e
 
 pub idle : (n : ℕ) (from to : RowKey) → Idle (stays n from to) n
 idle n from to = record {

@@ -1,23 +1,20 @@
 -- Owner, flag, package and parents of a request go: the place first, then the owner.
-use Prim.Native.Nat.{ℕ, _≤_, _<_}
+use Prim.Native.Nat.{ℕ, _<_}
 use mathlib.Core.Path.{_≡_, refl, sym, ap, subst, _∙_}
 use mathlib.Core.Bool.{Bool, true, false}
 use mathlib.Core.List.{List, []}
 use mathlib.Core.Option.{Option, none, some}
 use native.Mathlib.Omega.{arith}
-use lib.ListN.{length}
 use Rattle.ident.specs.declared.Kind.{Kind}
 use Rattle.ident.specs.declared.Kind.the-variants.{Txid, Wtxid}
 use Rattle.ident.specs.Number.{top, Key}
-use Rattle.machine.specs.State.{Candidate, Owner, Package, Request, Table, State, onTable, unowned, ownerIs}
+use Rattle.machine.specs.State.{Owner, Package, Request, Table, State, onTable, unowned, ownerIs}
 use Rattle.machine.specs.Table.{at, change}
-use Rattle.machine.specs.Sound.{OwnerFits, Packed, Sound}
-use Rattle.machine.proofs.Tests.{never}
+use Rattle.machine.specs.Sound.{Packed, Sound}
 use Rattle.machine.proofs.Table.{at-key, lawful-at}
 use Rattle.machine.proofs.Change.{Shrinks, bounded-change}
 use Rattle.machine.proofs.Fail.{parents-none}
-use Rattle.machine.proofs.Alone.{has-some}
-use Rattle.machine.proofs.OneKey.{at-changed}
+use Rattle.machine.proofs.OneKey.{at-changed, owner-held}
 use Rattle.machine.proofs.Kept.{sound-table}
 use Rattle.store.specs.Image.{Writes}
 use Rattle.store.specs.Shown.{Kept}
@@ -35,22 +32,6 @@ shrinks-closed = record {
     lawful = λ h. record { candidates = h .candidates; owner = h .owner; packed = refl; parents = parents-none; mark = h .mark };
   };
 }
-
-pub shrinks-unowned : Shrinks unowned
-shrinks-unowned = record {
-  key = λ r. refl;
-  at-each = λ r. record {
-    fewer = λ p. omega arith;
-    less = λ p. omega arith;
-    place = omega arith;
-    lawful = λ h. record { candidates = h .candidates; owner = tt; packed = refl; parents = parents-none; mark = h .mark };
-  };
-}
-
--- an owner is a candidate
-pub owner-held : (n : ℕ) (o : Option Owner) (cs : List Candidate) → OwnerFits o cs → ownerIs n o ≡ true → 1 ≤ length cs
-owner-held n none cs f e = never e
-owner-held n (some o) cs f e = has-some (o .connection) cs (f .0)
 
 -- ---- "only on Wtxid keys"
 

@@ -17,12 +17,12 @@ use Rattle.machine.proofs.Table.{lawful-at}
 use Rattle.machine.proofs.At.{kept, at-same}
 use Rattle.machine.proofs.Change.{bounded-change}
 use Rattle.machine.proofs.Kept.{sound-table}
+use Rattle.machine.proofs.Fail.{shrinks-unowned}
 use Rattle.store.specs.Image.{Writes}
 use Rattle.store.specs.Shown.{Kept}
 use Rattle.requests.specs.Changes.{Makes}
 use Rattle.package_stages.specs.Changes.{ownerNum}
 use Rattle.failing.proofs.Fusing.{change-fuse, change-none}
-use Rattle.failing.proofs.Clearing.{shrinks-unowned}
 use Rattle.failing.proofs.Releasing.{positive}
 
 -- ---- the owner

@@ -1,12 +1,12 @@
 -- One change after another at the same key is one change; a change matters only by what it makes of the request that is there.
-use Prim.Native.Nat.{ℕ, suc, _≤_, _<_}
+use Prim.Native.Nat.{ℕ, suc, _<_}
 use mathlib.Core.Path.{_≡_, refl, sym, ap, _∙_}
 use mathlib.Core.Logic.{inl, inr}
 use mathlib.Core.List.{List, [], _∷_}
 use native.Mathlib.Omega.{arith}
 use lib.Dec.{ltb, eqb}
 use lib.ListN.{length}
-use borrow.Author.Tests.{ltb-true, lt-ltb, le-ltb, eqb-true, eq-eqb}
+use borrow.Author.Tests.{ltb-true, lt-ltb, eqb-true}
 use Rattle.ident.specs.Number.{Key, place}
 use Rattle.machine.specs.State.{Candidate, Request, Table, blank}
 use Rattle.machine.specs.Table.{at, keep, change}
@@ -14,6 +14,7 @@ use Rattle.machine.specs.Sound.{Ordered, All, Filled}
 use Rattle.machine.proofs.Tests.{test}
 use Rattle.machine.proofs.Table.{at-absent}
 use Rattle.machine.proofs.At.{KeepsKey}
+use Rattle.machine.proofs.First.{change-first, keep-some}
 
 -- a change that gives no candidate to a request without one
 abbrev pub GivesNone : (Request → Request) → Type 0
@@ -29,11 +30,6 @@ change-before : (k : Key) (g : Request → Request) (lo : ℕ) (t : Table) → G
 unfolding change
 change-before k g lo [] z h o = keep-none (g (blank k)) ((g (blank k)) .candidates) [] (z (blank k) refl)
 change-before k g lo (r ∷ t) z h o = rw (lt-ltb (place k) (place (r .key)) (omega (arith, o .0))) (keep-none (g (blank k)) ((g (blank k)) .candidates) (r ∷ t) (z (blank k) refl))
-
--- at the first key
-change-first : (k : Key) (g : Request → Request) (r : Request) (t : Table) → place k ≡ place (r .key) → change k g (r ∷ t) ≡ keep (g r) ((g r) .candidates) t
-unfolding change
-change-first k g r t e = rw (le-ltb (place k) (place (r .key)) (omega arith), eq-eqb (place k) (place (r .key)) e)
 
 fuse-keep : (k : Key) (g : Request → Request) (r : Request) (cs : List Candidate) (lo : ℕ) (t : Table) → GivesNone g → r .candidates ≡ cs → place k ≡ place (r .key) → place k < lo → Ordered lo t
     → change k g (keep r cs t) ≡ keep (g r) ((g r) .candidates) t
@@ -66,11 +62,6 @@ change-same k f g lo (r ∷ t) o q =
     ]
 
 -- a change that leaves the request as it is
-keep-some : (r : Request) (cs : List Candidate) (t : Table) → 1 ≤ length cs → keep r cs t ≡ r ∷ t
-unfolding keep
-keep-some r [] t h = absurd (omega arith)
-keep-some r (c ∷ cs) t h = refl
-
 pub change-none : (k : Key) (f : Request → Request) (lo : ℕ) (t : Table) → Ordered lo t → All Filled t → f (at k t) ≡ at k t → change k f t ≡ t
 unfolding change at
 change-none k f lo [] o a q = keep-none (f (blank k)) ((f (blank k)) .candidates) [] (ap (λ (x : Request). x .candidates) q)

@@ -2,6 +2,7 @@
 use Prim.Native.Nat.{ℕ, _<_}
 use mathlib.Core.Path.{_≡_, refl, sym, ap, subst, _∙_}
 use mathlib.Core.Bool.{Bool, true, false, not}
+use mathlib.Core.Logic.{inl, inr}
 use mathlib.Core.List.{List, [], _∷_, map}
 use mathlib.Core.Option.{Option, none, some}
 use native.Mathlib.Omega.{arith}
@@ -14,18 +15,18 @@ use Rattle.machine.specs.Table.{at, change, has, one, under, ownerIn, ownedAt}
 use Rattle.machine.specs.Announce.{without, cut}
 use Rattle.machine.specs.Fail.{releasable, left, leaves, failed, unclaim}
 use Rattle.machine.specs.Sound.{Sound}
-use Rattle.machine.proofs.Tests.{never, or-left, or-right, and-left}
+use Rattle.machine.proofs.Tests.{test, never, and-left}
 use Rattle.machine.proofs.Table.{at-key, owners-change}
 use Rattle.machine.proofs.At.{at-other, other-place}
 use Rattle.machine.proofs.Change.{bounded-cut, bounded-change, unowned-at}
-use Rattle.machine.proofs.Fail.{shrinks-left}
+use Rattle.machine.proofs.Fail.{shrinks-left, shrinks-unowned}
 use Rattle.machine.proofs.Kept.{sound-table}
+use Rattle.machine.proofs.First.{without-absent}
 use Rattle.store.specs.Image.{image, Writes}
 use Rattle.store.specs.Shown.{Kept}
 use Rattle.store.proofs.FlatRead.{image-injective}
 use Rattle.requests.specs.Changes.{Makes, Tells}
 use Rattle.announcing.specs.Answers.{Answered}
-use Rattle.failing.proofs.Clearing.{shrinks-unowned}
 use Rattle.failing.proofs.Fusing.{change-fuse, change-same, change-none}
 
 -- what holds of one sound state that bytes write holds of all
@@ -35,14 +36,14 @@ told P st s w p u v x = subst (λ (z : State). P (z .table)) (image-injective st
 
 -- ---- one request
 
-without-absent : (n : ℕ) (cs : List Candidate) → has n cs ≡ false → without n cs ≡ cs
-unfolding has without
-without-absent n [] h = refl
-without-absent n (c ∷ cs) h = rw (or-left (eqb (c .connection) n) (has n cs) h, without-absent n cs (or-right (eqb (c .connection) n) (has n cs) h))
-
 -- every candidate is ready at v
 abbrev pub readied : ℕ → Request → Request
 readied v r = withCandidates (map (readyAt v) (r .candidates)) r
+
+pub without-ready : (n now : ℕ) (cs : List Candidate) → without n (map (readyAt now) cs) ≡ map (readyAt now) (without n cs)
+unfolding without
+without-ready n now [] = refl
+without-ready n now (c ∷ cs) = elim (test (eqb (c .connection) n)) [ inl e ↦ rw e | inr e ↦ rw (e, without-ready n now cs) ]
 
 readied-none : (v : ℕ) (r : Request) → r .candidates ≡ [] → (readied v r) .candidates ≡ []
 readied-none v r e = ap (map (readyAt v)) e

@@ -11,6 +11,7 @@ use lib.ListN.{length, take, drop, getD, take-append-drop, length-append, length
 use lib.Seq.{length-take-le, take-suc, drop-cons}
 use borrow.Author.Tests.{lt-leb, le-leb, eqb-false}
 use Rattle.ident.specs.Number.{top, Key, txid, wtxid}
+use Rattle.ident.proofs.Places.{place-same as place-inj}
 use Rattle.regions.specs.declared.Row.{Row}
 use Rattle.regions.specs.Rows.{rowSize, rowWords, readRow}
 use Rattle.regions.specs.Regions.{Found}
@@ -22,7 +23,6 @@ use Rattle.machine.specs.Sound.{Ordered, Sound}
 use Rattle.machine.specs.Typed.{Each}
 use Rattle.machine.proofs.Announce.{each-append as each-both, each-map}
 use Rattle.machine.proofs.At.{at-other}
-use Rattle.machine.proofs.Table.{place-inj}
 use Rattle.machine.proofs.Tests.{test, or-left, or-right}
 use Rattle.store.specs.Flat.{rowsOf}
 use Rattle.store.specs.Gather.{keyAt, candidateAt}
@@ -32,6 +32,7 @@ use Rattle.announcing.specs.Falls.{listSpace, fallen, cuts, Foremost}
 use Rattle.announcing.proofs.Entering.{fresh, cleared-sound}
 use Rattle.announcing.proofs.Giving.{first-greatest, first-goes, next-first}
 use Rattle.announcing.proofs.GoneTogether.{cuts-more, cuts-sound, cuts-left, cuts-fallen, cuts-held, cuts-count, victims-there}
+use Rattle.announcing.proofs.GoneBy.{each-front}
 use Rattle.gathering.specs.Waits.{pushes, Ready, waits, barredBeside}
 use Rattle.gathering.specs.Aside.{space, PutIn, Aside, RowIn}
 use Rattle.gathering.specs.Deferring.{Owing, leftBy, Suited, Owed}
@@ -40,10 +41,6 @@ use Rattle.gathering.proofs.Faring.{each-more, aside-more}
 use Rattle.gathering.proofs.Exchanging.{cut-pushes, aside-still, victims-pushes}
 
 -- ---- lists
-
-pub each-front : {A : Type 0} (P : A → Type 0) (a b : List A) → Each P (a ++ b) → Each P a × Each P b
-each-front P [] b p = (tt, p)
-each-front P (x ∷ a) b p = let z = each-front P a b (p .1) in ((p .0, z .0), z .1)
 
 -- one more waits
 waits-more : (h : ℕ) (es : List Entry) (a : Entry) → waits h es ≡ false → eqb (a .key .hash) h ≡ false → waits h (es ++ (a ∷ [])) ≡ false

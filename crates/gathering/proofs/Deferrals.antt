@@ -26,10 +26,11 @@ use Rattle.announcing.specs.Evicts.{found}
 use Rattle.announcing.specs.Falls.{listSpace}
 use Rattle.announcing.proofs.Nobody.{none-greatest}
 use Rattle.announcing.proofs.Scanning.{none-found}
+use Rattle.announcing.proofs.GoneBy.{each-front}
 use Rattle.gathering.specs.Waits.{waits}
 use Rattle.gathering.specs.Aside.{space, PutIn, BarredIn, WaitsAt, RowIn}
 use Rattle.gathering.specs.Deferring.{ListedAt, Suited, SuitedIn, Deferred}
-use Rattle.gathering.proofs.Deferral.{each-front, owed-not, out-same, owed-in}
+use Rattle.gathering.proofs.Deferral.{owed-not, out-same, owed-in}
 
 -- ---- the rows listed, one after the other
 

@@ -10,6 +10,7 @@ use lib.ListN.{length, drop, getD}
 use lib.Seq.{drop-cons}
 use borrow.Author.Tests.{lt-leb, le-leb, leb-false, eqb-false}
 use Rattle.ident.specs.Number.{top, Key, place}
+use Rattle.ident.proofs.Places.{place-same as place-inj}
 use Rattle.regions.specs.declared.Row.{Row}
 use Rattle.regions.specs.Rows.{rowSize, rowWords, readRow, quadNumber}
 use Rattle.regions.specs.Regions.{Found}
@@ -20,7 +21,7 @@ use Rattle.machine.specs.Announce.{without, push, cut, victims, greatest, anywh
 use Rattle.machine.specs.Sound.{Ordered, All, Filled, Sound}
 use Rattle.machine.specs.Typed.{Each}
 use Rattle.machine.proofs.At.{at-other}
-use Rattle.machine.proofs.Table.{place-inj, ordered-change, filled-change}
+use Rattle.machine.proofs.Table.{ordered-change, filled-change}
 use Rattle.machine.proofs.Tests.{or-left, or-right}
 use Rattle.store.specs.Flat.{rowOf, rowsOf}
 use Rattle.store.specs.Gather.{keyAt, candidateAt}

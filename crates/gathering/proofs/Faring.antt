@@ -2,7 +2,7 @@
 use Prim.Native.Nat.{ℕ, _+_, _-_, _≤_, _<_}
 use mathlib.Core.Path.{_≡_, refl, sym, ap, subst, _∙_}
 use mathlib.Core.Logic.{inl, inr}
-use mathlib.Core.Bool.{Bool, true, false, _||_}
+use mathlib.Core.Bool.{Bool, true, false, _||_, or-false as or-none}
 use mathlib.Core.List.{List, [], _∷_, _++_}
 use mathlib.Core.Option.{Option, none, some}
 use native.Mathlib.Omega.{arith}
@@ -43,10 +43,6 @@ module _ (es : List Entry) (k : Key) (n : ℕ) (t : Table) {m : ℕ} (e : length
       i ∙ sym (or-none (waits (k .hash) es))
       ∙ ap (λ (b : Bool). waits (k .hash) es || b) (sym (lt-leb maxPeerAnnouncements (heldBy n t + length es) (omega arith)))
       ∙ ap (λ (b : Bool). (b || waits (k .hash) es) || leb maxPeerAnnouncements (heldBy n t + length es)) (sym h ∙ q)
-    where
-      or-none : (b : Bool) → (b || false) ≡ b
-      or-none true = refl
-      or-none false = refl
 
 -- ---- how it fares
 

@@ -2,7 +2,7 @@
 use Prim.Native.Nat.{ℕ, zero, suc, _+_, _≤_, _<_}
 use mathlib.Core.Path.{_≡_, refl, sym, ap, _∙_}
 use mathlib.Core.Logic.{inl, inr}
-use mathlib.Core.Bool.{Bool, true, false, _||_}
+use mathlib.Core.Bool.{Bool, true, false, _||_, or-false as or-none}
 use mathlib.Core.List.{List, [], _∷_, _++_}
 use native.Mathlib.Nat.{le-refl}
 use native.Mathlib.Omega.{arith}
@@ -189,7 +189,3 @@ waits-is n h t es s o a =
     let x = place (txid h) in
     let y = place (wtxid h) in
     rw (numbered-gathered n t o x es [] a, numbered-gathered n t o y es [] a, or-none (named x es), or-none (named y es)) (named-both n h es s a)
-  where
-    or-none : (b : Bool) → (b || false) ≡ b
-    or-none true = refl
-    or-none false = refl

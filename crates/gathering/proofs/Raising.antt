@@ -13,6 +13,7 @@ use Rattle.store.specs.Flat.{Flat, bump}
 use Rattle.store.specs.Image.{Shows}
 use Rattle.store.specs.Shown.{connNames, withConns}
 use Rattle.store.proofs.Tally.{fresh, more, bump-nil, bump-lt, bump-eq, bump-gt}
+use Rattle.store.proofs.Missing.{name-at}
 use Rattle.gathering.specs.Merges.{raise}
 
 -- an entry with d rows more
@@ -57,11 +58,6 @@ module _ (x : ℕ) where
       raise-past (suc d) c cs (b 0 (omega arith)) ∙ ap (λ (l : List Conn). c ∷ l) (raise-new d cs i (λ j l. b (suc j) (omega arith)) (omega arith) (λ l. e (omega arith)))
 
 -- ---- where a search says
-
-name-at : (cs : List Conn) (i : ℕ) (d : Conn) → i < length cs → getD (connNames cs) i 0 ≡ (getD cs i d) .conn
-name-at [] i d h = absurd (omega arith)
-name-at (c ∷ cs) zero d h = refl
-name-at (c ∷ cs) (suc i) d h = name-at cs i d (omega arith)
 
 abbrev With : List ℕ → Flat → List Conn → Type 0
 With b f cs = Shows b (withConns cs f)

@@ -2,7 +2,7 @@
 use Prim.Native.Nat.{ℕ, _+_, _≤_, _<_}
 use mathlib.Core.Path.{_≡_, refl, sym, ap, _∙_}
 use mathlib.Core.Logic.{inl, inr}
-use mathlib.Core.Bool.{Bool, true, false, _||_}
+use mathlib.Core.Bool.{Bool, true, false, _||_, false≢true as false-true, or-false as or-none}
 use mathlib.Core.List.{List, [], _∷_, _++_}
 use native.Mathlib.Omega.{arith}
 use lib.Dec.{ltb, leb, eqb}
@@ -85,9 +85,6 @@ among-none n h (e ∷ es) w = rw (or-left (eqb (e .key .hash) h) (waits h es) w)
 among-some : (n h : ℕ) (es : List Entry) → Each (Ready n) es → waits h es ≡ true → 1 ≤ among (byUnder n h) es
 unfolding among waits
 among-some n h [] a w = let z : _≡_ {A = Bool} false true = w in absurd (false-true z)
-  where
-    false-true : _≡_ {A = Bool} false true → ⊥
-    false-true e = let z : _≡_ {A = ℕ} 0 1 = ap one e in omega arith
 among-some n h (e ∷ es) a w =
     elim (test (eqb (e .key .hash) h)) [
       | inl d ↦ rw (d, eq-eqb (e .candidate .connection) n (a .0 .mine)) (omega arith)
@@ -106,10 +103,6 @@ module _ (n : ℕ) (es : List Entry) (t : Table) (a : Each (Ready n) es) (o : Or
         | inl w ↦ lt-ltb 0 (count (byUnder n h) (pushes es t)) (omega (arith, count-pushes (byUnder n h) n es t a o, among-some n h es a w)) ∙ sym (or-true (isCandidate n h t) (waits h es) w)
         | inr w ↦ ap (ltb 0) (unchanged h w) ∙ sym (ap (λ (b : Bool). isCandidate n h t || b) w ∙ or-none (isCandidate n h t))
       ]
-    where
-      or-none : (b : Bool) → (b || false) ≡ b
-      or-none true = refl
-      or-none false = refl
 
   by-beside : heldBy n (pushes es t) ≡ heldBy n t + length es
   by-beside = omega (arith, count-pushes (by n) n es t a o, among-by n es a)

@@ -6,21 +6,19 @@ use native.Mathlib.Numerals.{add-one}
 use native.Mathlib.Omega.{arith}
 use lib.ListN.{length, take, drop, getD, take-append-drop}
 use lib.Seq.{take-suc, take-all, length-take-le, getD-take}
-use Rattle.ident.specs.If.{if_then_else_}
-use Rattle.ident.specs.Number.{Key, txid}
+use Rattle.ident.specs.Number.{Key}
 use Rattle.words.specs.Words.{words}
 use Rattle.words.proofs.Words.{length-words}
 use Rattle.machine.specs.Limits.{Limits, word}
 use Rattle.machine.specs.State.{State, Table, limitsOf, onTable}
-use Rattle.machine.specs.Announce.{requestParentAt}
-use Rattle.machine.specs.Fail.{dedup, parentOf, mark, parentsFrom, announceParents}
-use Rattle.machine.specs.Sound.{Hashes, Sound, Bounded}
+use Rattle.machine.specs.Fail.{announceParents}
+use Rattle.machine.specs.Sound.{Sound, Bounded}
 use Rattle.machine.specs.Typed.{Each, KeyTyped}
 use Rattle.machine.specs.Step.{keysAnswer, written}
-use Rattle.machine.proofs.Tests.{by-test}
 use Rattle.machine.proofs.Announce.{each-append}
-use Rattle.machine.proofs.Fail.{Peer, FewHashes, bounded-parents, parents-dedup}
+use Rattle.machine.proofs.Fail.{Peer, FewHashes, bounded-parents}
 use Rattle.machine.proofs.Kept.{sound-table}
+use Rattle.machine.proofs.Plan.{parents-keys as typed-parents}
 use Rattle.store.specs.Image.{image, Writes}
 use Rattle.store.specs.Shown.{Kept}
 use Rattle.store.proofs.FlatRead.{image-injective}
@@ -37,18 +35,6 @@ unfolding image
 same-state a st s g w y = image-injective a st s g (sym (w .words-are) ∙ y .words-are)
 
 -- ---- the keys are keys
-
-typed-from : (m : Limits) (n now i : ℕ) (hs : List ℕ) (t : Table) → Hashes hs → Each KeyTyped ((parentsFrom m n now i hs t) .keys)
-unfolding parentsFrom
-typed-from m n now i [] t a = tt
-typed-from m n now i (h ∷ hs) t a =
-    let r = requestParentAt m (txid h) (parentOf n now h i) t in
-    let t′ = if r .reply then mark (txid h) (r .table) else r .table in
-    by-test (Each KeyTyped) (r .reply) (λ e. (a .0, typed-from m n now (suc i) hs t′ (a .1))) (λ e. typed-from m n now (suc i) hs t′ (a .1))
-
-pub typed-parents : (m : Limits) (n now : ℕ) (hs : List ℕ) (t : Table) → FewHashes hs → Each KeyTyped ((announceParents m n now hs t) .keys)
-unfolding announceParents
-typed-parents m n now hs t f = typed-from m n now 0 (dedup hs) t ((parents-dedup hs f) .hashes)
 
 pub typed-for : (m : Limits) (now : ℕ) (hs ns : List ℕ) (t : Table) → FewHashes hs → Each KeyTyped ((announceFor m now hs ns t) .keys)
 unfolding announceFor

@@ -22,6 +22,7 @@ use Rattle.store.specs.Shown.{rowConns}
 use Rattle.store.proofs.Bits.{conn-row}
 use Rattle.store.proofs.Split.{rowsBelow, rowsAbove, rows-at}
 use Rattle.requests.proofs.AtHash.{held-at}
+use Rattle.requests.proofs.Cutting.{conns-append as map-append}
 use Rattle.handing.specs.Hands.{connsOf, connsIn}
 
 -- eight at the most
@@ -44,10 +45,6 @@ pub record Copied (b : List ℕ) (from n : ℕ) (u₀ u : List ℕ) (i : ℕ) : 
 
 pub copied-none : (b : List ℕ) (from n : ℕ) (u : List ℕ) → Copied b from n u u 0
 copied-none b from n u = record { most = omega arith; long = refl; front = λ f h. refl }
-
-map-append : (a c : List Row) → rowConns (a ++ c) ≡ rowConns a ++ rowConns c
-map-append [] c = refl
-map-append (x ∷ a) c = rw (map-append a c)
 
 pub copied-more : {b : List ℕ} {from n : ℕ} {u₀ u u₁ : List ℕ} {i : ℕ} (r : Row) → Copied b from n u₀ u i → i < n → 8 * n ≤ length u₀ → length u₁ ≡ length u
     → ((f : Flat) → Shows b f → from + n ≤ length (f .rows)) → ((f : Flat) (d : Row) → Shows b f → r ≡ getD (f .rows) (from + i) d) → Put u u₁ i (r .conn) → Copied b from n u₀ u₁ (i + 1)

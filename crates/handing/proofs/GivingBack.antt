@@ -2,7 +2,7 @@
 use Prim.Native.Nat.{ℕ, _<_}
 use mathlib.Core.Path.{_≡_, refl, sym, ap, _∙_}
 use mathlib.Core.Logic.{inl, inr}
-use mathlib.Core.Bool.{Bool, true, false, _||_}
+use mathlib.Core.Bool.{true, false, or-false}
 use mathlib.Core.List.{List, [], _∷_, map}
 use mathlib.Core.Option.{Option, none, some}
 use native.Mathlib.Omega.{arith}
@@ -13,40 +13,25 @@ use Rattle.ident.specs.Number.{top, Key, other}
 use Rattle.words.specs.Words.{recs}
 use Rattle.machine.specs.Limits.{Limits, word}
 use Rattle.machine.specs.State.{Candidate, Owner, Request, Table, State, onTable, unowned, readyAt, ownerIs}
-use Rattle.machine.specs.Table.{at, change, has, countIn}
+use Rattle.machine.specs.Table.{at, change, has}
 use Rattle.machine.specs.Announce.{without}
 use Rattle.machine.specs.Fail.{releasable, left, unclaim}
-use Rattle.machine.specs.Sound.{AllFit, OwnerFits, Sound, Bounded}
+use Rattle.machine.specs.Sound.{OwnerFits, Sound, Bounded}
 use Rattle.machine.proofs.Tests.{never, and-left}
 use Rattle.machine.proofs.Table.{lawful-at}
 use Rattle.machine.proofs.At.{at-other, other-place}
 use Rattle.machine.proofs.Change.{Shrinks, bounded-change}
-use Rattle.machine.proofs.Fail.{shrinks-left}
+use Rattle.machine.proofs.Fail.{shrinks-left, has-map as has-ready, countIn-map as count-ready, fit-map as fit-ready, shrinks-unowned}
 use Rattle.machine.proofs.Kept.{sound-table}
 use Rattle.store.specs.Image.{Writes}
 use Rattle.store.specs.Shown.{Kept}
 use Rattle.requests.specs.Changes.{Makes, Tells}
 use Rattle.failing.specs.Changes.{firstHashes}
 use Rattle.failing.proofs.Leaving.{told, owner-of, free-other}
-use Rattle.failing.proofs.Clearing.{shrinks-unowned}
 use Rattle.handing.specs.Hands.{readied, eased}
 use Rattle.handing.specs.Hands.{Silent, Waits}
 
 -- ---- a ready time more
-
-pub has-ready : (n now : ℕ) (cs : List Candidate) → has n (map (readyAt now) cs) ≡ has n cs
-unfolding has
-has-ready n now [] = refl
-has-ready n now (c ∷ cs) = rw (has-ready n now cs)
-
-count-ready : (p : ℕ → Bool) (now : ℕ) (cs : List Candidate) → countIn p (map (readyAt now) cs) ≡ countIn p cs
-unfolding countIn
-count-ready p now [] = refl
-count-ready p now (c ∷ cs) = rw (count-ready p now cs)
-
-fit-ready : (now : ℕ) (k : Key) (cs : List Candidate) → now < word → AllFit k cs → AllFit k (map (readyAt now) cs)
-fit-ready now k [] w h = tt
-fit-ready now k (c ∷ cs) w h = (record { item = h .0 .item; positive = h .0 .positive; connection = h .0 .connection; ready = w; priority = h .0 .priority }, fit-ready now k cs w (h .1))
 
 owner-ready : (now : ℕ) (o : Option Owner) (cs : List Candidate) → OwnerFits o cs → OwnerFits o (map (readyAt now) cs)
 owner-ready now none cs h = tt
@@ -147,10 +132,6 @@ only-one n (some o) [] f e l = absurd (omega arith)
 only-one n (some o) (c ∷ []) f e l =
     let a : c .connection ≡ o .connection = eqb-true (c .connection) (o .connection) (sym (or-false (eqb (c .connection) (o .connection))) ∙ f .0) in
     rw (eq-eqb (c .connection) n (a ∙ eqb-true (o .connection) n e))
-  where
-    or-false : (b : Bool) → (b || false) ≡ b
-    or-false true = refl
-    or-false false = refl
 only-one n (some o) (c ∷ d ∷ cs) f e l = absurd (omega arith)
 
 pub single-silent : (st : State) → Sound st → (n : ℕ) (k : Key) → length ((at k (st .table)) .candidates) ≡ 1 → ownerIs n ((at k (st .table)) .owner) ≡ true → Silent n (at k (st .table))

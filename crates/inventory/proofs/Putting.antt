@@ -2,11 +2,11 @@
 use Prim.Native.Nat.{ℕ, _+_, _*_, _≤_, _<_, _^_}
 use mathlib.Core.Path.{_≡_, ap, _∙_}
 use mathlib.Core.Bool.{true}
-use mathlib.Core.List.{List, [], _∷_, _++_, append-nil}
+use mathlib.Core.List.{List, [], _∷_, _++_}
 use native.Mathlib.Nat.{lt-of-lt-of-le}
 use native.Mathlib.Omega.{arith}
 use lib.Dec.{lit≤}
-use lib.ListN.{length, take, drop, getD, length-append}
+use lib.ListN.{length, take, length-append}
 use lib.Seq.{take-at, drop-at}
 use borrow.Author.Tests.{lt-ltb}
 use Rattle.ident.specs.declared.ItemKind.{ItemKind}
@@ -17,23 +17,16 @@ use Rattle.words.specs.Words.{number, digits, recs, splice}
 use Rattle.words.proofs.Digits.{length-digits, number-digits}
 use Rattle.words.proofs.Splice.{splice-more}
 use Rattle.machine.specs.Call.{keyBytes}
-use Rattle.machine.specs.Step.{keyAnswer, keysAnswer, written}
+use Rattle.machine.specs.Step.{keyAnswer}
 use Rattle.machine.proofs.AnswerLengths.{length-keyAnswer}
-use Rattle.lent_lists.specs.Lists.{keyIn, keysIn}
+use Rattle.lent_lists.specs.Lists.{keyIn}
 use Rattle.lent_lists.specs.Items.{itemBytes, typeTop, itemIn}
-use Rattle.lent_lists.proofs.KeysBack.{keys-back}
+use Rattle.lent_lists.proofs.KeysBack.{key-back}
 use Rattle.reading.specs.Given.{Stored}
 use Rattle.reading.proofs.Stored.{record-put}
 use Rattle.inventory.specs.Given.{itemsOf, ItemPut, numberBytes, numbersOf}
 
 -- ---- a key
-
--- a key's bytes hold it
-key-back : (k : Key) → k .hash < top → keyIn (keyAnswer k) ≡ k
-unfolding keysIn recs written keysAnswer
-key-back k h =
-    let n : length (keyAnswer k) ≡ keyBytes = length-keyAnswer k in
-    ap (λ (ks : List Key). getD ks 0 k) (rw (append-nil, take-at (keyAnswer k) (drop (length (keyAnswer k)) []) keyBytes n) at (keys-back (k ∷ []) [] (h, tt)))
 
 pub key-put : (b : List ℕ) (i : ℕ) (k : Key) {b′ : List ℕ} → keyBytes * i + keyBytes ≤ length b → k .hash < top → b′ ≡ splice b (keyBytes * i) (keyAnswer k) → Stored keyBytes keyIn b b′ i k
 key-put b i k r h p = record { is = rw p (record-put keyBytes keyIn i b (keyAnswer k) (omega arith) (length-keyAnswer k) ∙ ap (λ (z : Key). recs keyBytes keyIn i b ++ (z ∷ [])) (key-back k h)) }

@@ -7,6 +7,7 @@ use native.Mathlib.Omega.{arith}
 use lib.ListN.{length, getD}
 use borrow.Author.Tests.{ne-eqb}
 use Rattle.ident.specs.Number.{top, Key, place, other}
+use Rattle.ident.proofs.Places.{place-same as place-inj}
 use Rattle.machine.specs.State.{State, Table}
 use Rattle.machine.specs.Table.{at, has}
 use Rattle.machine.specs.Leave.{keysOf}
@@ -15,7 +16,6 @@ use Rattle.machine.specs.Typed.{Each}
 use Rattle.machine.proofs.Announce.{each-map}
 use Rattle.machine.proofs.Tests.{by-test}
 use Rattle.machine.proofs.At.{at-here, at-there}
-use Rattle.machine.proofs.Table.{place-inj}
 use Rattle.merging.specs.Merges.{Rising}
 use Rattle.leaving.specs.Parts.{listed}
 use Rattle.leaving.proofs.Parts.{InPart, rising-all}

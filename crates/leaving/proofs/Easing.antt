@@ -18,9 +18,11 @@ use Rattle.machine.specs.Fail.{Listed, nothing, left, leaves, releasable, faile
 use Rattle.machine.specs.Leave.{isEmpty, announceEach, dropAt, dropEach}
 use Rattle.machine.specs.Sound.{Ordered, All, Filled}
 use Rattle.machine.specs.Typed.{Each}
-use Rattle.machine.proofs.Tests.{test, by-test, and-left}
+use Rattle.machine.proofs.Tests.{test}
 use Rattle.machine.proofs.Table.{ordered-change, filled-change}
 use Rattle.machine.proofs.At.{KeepsKey, kept, at-same, at-other, other-place}
+use Rattle.machine.proofs.Loosened.{left-key}
+use Rattle.machine.proofs.Leaving.{count-has as in-has}
 use Rattle.merging.specs.Merges.{Rising}
 use Rattle.cutting.specs.Cuts.{cutAt, cutEach}
 use Rattle.handing.specs.Hands.{readied, eased}
@@ -29,10 +31,10 @@ use Rattle.handing.specs.Hands.{Silent}
 use Rattle.leaving.proofs.Segments.{ordered-cut, filled-cut, ordered-each, filled-each, drop-part}
 use Rattle.leaving.proofs.Parts.{each-else}
 use Rattle.leaving.proofs.Newcomers.{fewer-eased}
-use Rattle.store.proofs.Counts.{in-has}
 use Rattle.requests.proofs.AtHash.{at-hash}
 use Rattle.announcing.proofs.Swapping.{change-swap}
 use Rattle.failing.proofs.Fusing.{GivesNone, change-fuse, change-same}
+use Rattle.failing.proofs.Leaving.{owner-of as owned-of, without-ready}
 
 -- a cut at another key
 pub cut-swap : (n : ℕ) (i k : Key) (g : Request → Request) (t : Table) → i .hash < top → k .hash < top → (place i ≡ place k → ⊥) → KeepsKey g → Ordered 0 t → All Filled t
@@ -58,21 +60,12 @@ each-swap n lo (i ∷ ks) k g t r s d gg o a =
 abbrev cutf : ℕ → Request → Request
 cutf n r = withCandidates (without n (r .candidates)) r
 
-without-ready : (n now : ℕ) (cs : List Candidate) → without n (map (readyAt now) cs) ≡ map (readyAt now) (without n cs)
-unfolding without
-without-ready n now [] = refl
-without-ready n now (c ∷ cs) = elim (test (eqb (c .connection) n)) [ inl e ↦ rw e | inr e ↦ rw (e, without-ready n now cs) ]
-
 ready-none : (now : ℕ) → GivesNone (readied now)
 ready-none now r e = ap (map (readyAt now)) e
 
 cut-none : (n : ℕ) → GivesNone (cutf n)
 unfolding without
 cut-none n r e = ap (without n) e
-
-left-key : (n now : ℕ) → KeepsKey (left n now)
-unfolding left
-left-key n now r = by-test (λ (q : Request). q .key ≡ r .key) (ownerIs n (r .owner)) (λ e. refl) (λ e. refl)
 
 left-owned : (n now : ℕ) (r : Request) → ownerIs n (r .owner) ≡ true → cutf n (readied now (unowned r)) ≡ left n now r
 unfolding left
@@ -167,9 +160,6 @@ drop-next m n now k js t x e = ap (λ (a : Listed). after a) e
   where
     after : Listed → Listed
     after a = record { keys = a .keys ++ (dropEach m n now js (a .table)) .keys; table = (dropEach m n now js (a .table)) .table }
-
-owned-of : (n : ℕ) (r : Request) → releasable n r ≡ true → ownerIs n (r .owner) ≡ true
-owned-of n r e = and-left (ownerIs n (r .owner)) _ e
 
 -- an owned key that has nothing to announce and no Enqueued package waits with the others: it forces no pass of its own
 pub drop-eased : (m : Limits) (n now lo : ℕ) (ks : List Key) (k : Key) (js : List Key) (t : Table) → Rising lo ks → Unowned n t ks → listed k ks ≡ false → k .hash < top

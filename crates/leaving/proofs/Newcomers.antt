@@ -3,7 +3,7 @@
 use Prim.Native.Nat.{ℕ, suc, _+_, _≤_, _<_}
 use mathlib.Core.Path.{_≡_, refl, sym, ap, subst, _∙_}
 use mathlib.Core.Logic.{inl, inr}
-use mathlib.Core.Bool.{Bool, true, false, _&&_, _||_}
+use mathlib.Core.Bool.{Bool, true, false, _&&_, _||_, and-false as and-none}
 use mathlib.Core.List.{List, [], _∷_}
 use mathlib.Core.Option.{Option, none, some}
 use native.Mathlib.Omega.{arith}
@@ -16,7 +16,7 @@ use Rattle.ident.specs.Number.{Key, place, other, top, txid, wtxid}
 use Rattle.machine.specs.Limits.{Limits, maxPeerAnnouncements, word}
 use Rattle.machine.specs.State.{Candidate, Owner, Package, Request, Table, Entry, Answer, marked, unowned, ownerIs, isSome}
 use Rattle.machine.specs.Table.{at, change, has, held, heldBy, heldAt, isCandidate}
-use Rattle.machine.specs.Announce.{without, cut, victims, greatest, greatestFrom, evicting, atHash, anywhere, announceAt, adopt, requestParentAt}
+use Rattle.machine.specs.Announce.{without, cut, victims, greatest, greatestFrom, evicting, atHash, anywhere, announceAt, requestParentAt}
 use Rattle.machine.specs.Fail.{Listed, left, releasable, failed, dedup, parentOf, parentsFrom, announceParents, parentsFor}
 use Rattle.machine.specs.Leave.{isEmpty, announceEach, dropAt}
 use Rattle.machine.specs.Sound.{Hashes, AllFit, Packed, Ordered, All, Lawful, Bounded}
@@ -24,11 +24,10 @@ use Rattle.machine.specs.Typed.{Each}
 use Rattle.machine.proofs.Tests.{test, by-test, never}
 use Rattle.machine.proofs.Table.{ordered-change, at-key, lawful-at}
 use Rattle.machine.proofs.Announce.{Victim, victims-all, greatest-of}
-use Rattle.machine.proofs.Fail.{Peer, FewHashes, parents-dedup, bounded-parentAt, bounded-mark, bounded-parents, bounded-failed, few-for}
+use Rattle.machine.proofs.Fail.{Peer, FewHashes, parents-dedup, bounded-parentAt, bounded-mark, bounded-parents, bounded-failed, few-for, has-map as has-ready, has-adopt}
 use Rattle.machine.proofs.At.{KeepsKey, kept, at-other}
 use Rattle.machine.proofs.Alone.{at-either}
 use Rattle.handing.specs.Hands.{readied, eased}
-use Rattle.handing.proofs.GivingBack.{has-ready}
 
 -- from the place lo on, n is a candidate under no key where it was none
 pub record Fewer (n lo : ℕ) (t t′ : Table) : Type 0 where
@@ -71,11 +70,6 @@ has-less n x (c ∷ cs) h =
       | inl e ↦ rw e
       | inr e ↦ rw e (elim (test (eqb (c .connection) x)) [ inl d ↦ rw d at h | inr d ↦ has-less n x cs (rw e at (rw d at h)) ])
     ]
-
-has-adopt : (n : ℕ) (b : Bool) (c : Candidate) (cs : List Candidate) → has n (adopt b c cs) ≡ has n cs
-unfolding has adopt
-has-adopt n b c [] = refl
-has-adopt n b c (d ∷ cs) = elim (test (eqb (d .connection) (c .connection))) [ inl e ↦ rw e | inr e ↦ rw (e, has-adopt n b c cs) ]
 
 module _ (n lo : ℕ) where
   pub fewer-cut : (k : Key) (x : ℕ) (t : Table) → k .hash < top → Ordered 0 t → Fewer n lo t (cut k x t)
@@ -166,10 +160,6 @@ no-parents n h t s o l =
   where
     differ : {X : Type 0} → Txid ≡ Wtxid → X
     differ e = never (ap (λ (k : Kind). elim k [ Txid ↦ false | Wtxid ↦ true ]) e)
-
-    and-none : (a : Bool) → (a && false) ≡ false
-    and-none true = refl
-    and-none false = refl
 
     go : (k : Kind) (w : Option Owner) (i : Bool) (p : Option Package) (hs : List ℕ) → k ≡ Txid → Packed k w i p hs → (if ownerIs n w && (i || isSome p) then hs else []) ≡ []
     go k w true (some p) hs e f = absurd f

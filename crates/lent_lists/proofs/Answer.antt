@@ -1,10 +1,10 @@
 -- Keys written to an answer buffer, one behind the other: in bytes.
-use Prim.Native.Nat.{ℕ, zero, suc, _+_, _*_, _/_, _≤_, _<_}
+use Prim.Native.Nat.{ℕ, _+_, _*_, _≤_}
 use mathlib.Core.Path.{_≡_, refl, sym, ap, _∙_}
 use mathlib.Core.List.{List, [], _∷_, _++_, append-assoc, append-nil}
 use native.Mathlib.Nat.{zero-add}
 use native.Mathlib.Omega.{arith}
-use lib.ListN.{length, getD}
+use lib.ListN.{length}
 use Rattle.ident.specs.Number.{Key}
 use Rattle.words.specs.Words.{digits, bytesOf, splice, Put}
 use Rattle.words.proofs.Digits.{length-digits}
@@ -53,29 +53,3 @@ written-more ks k u h =
 pub written-none : (u : List ℕ) → u ≡ written (keysAnswer []) u
 unfolding written keysAnswer
 written-none u = refl
-
--- ---- every byte of an answer is below 256
-
-abbrev Low : List ℕ → Type 0
-Low x = (i : ℕ) → getD x i 0 < 256
-
-low-digits : (k v : ℕ) → Low (digits 256 k v)
-unfolding digits
-low-digits zero v i = omega arith
-low-digits (suc k) v zero = omega arith
-low-digits (suc k) v (suc i) = low-digits k (v / 256) i
-
-low-append : (x y : List ℕ) → Low x → Low y → Low (x ++ y)
-low-append [] y p q i = q i
-low-append (a ∷ x) y p q zero = p 0
-low-append (a ∷ x) y p q (suc i) = low-append x y (λ j. p (suc j)) q i
-
-low-key : (k : Key) → Low (keyAnswer k)
-unfolding bytesOf
-low-key k = low-append (bytesOf (kindNumber (k .kind) ∷ [])) (digits 256 32 (k .hash))
-    (low-append (digits 256 8 (kindNumber (k .kind))) [] (low-digits 8 (kindNumber (k .kind))) (λ j. omega arith)) (low-digits 32 (k .hash))
-
-pub keys-low : (ks : List Key) (i : ℕ) → getD (keysAnswer ks) i 0 < 256
-unfolding keysAnswer
-keys-low [] i = omega arith
-keys-low (k ∷ ks) i = low-append (keyAnswer k) (keysAnswer ks) (low-key k) (keys-low ks) i

@@ -27,7 +27,7 @@ pub hash-back : (h : ℕ) → h < top → number 256 (digits 256 32 h) ≡ h
 unfolding top
 hash-back h l = number-digits 256 (lit< tt) 32 h l
 
-key-back : (k : Key) → k .hash < top → keyIn (keyAnswer k) ≡ k
+pub key-back : (k : Key) → k .hash < top → keyIn (keyAnswer k) ≡ k
 unfolding keyIn
 key-back k l = as-kind (k .kind) (k .hash) l
   where

@@ -2,14 +2,14 @@
 use Prim.Native.Nat.{ℕ, _+_, _-_, _/_, _%_, _≤_, _<_}
 use mathlib.Core.Path.{_≡_, refl, sym, ap, subst, _∙_}
 use mathlib.Core.Logic.{inl, inr}
-use mathlib.Core.Bool.{Bool, true, false, not}
+use mathlib.Core.Bool.{Bool, true, false}
 use mathlib.Core.List.{List, [], _∷_, _++_, map}
 use mathlib.Core.Option.{Option, none, some}
 use native.Mathlib.Omega.{arith}
 use lib.Dec.{eqb}
 use lib.ListN.{length, getD}
 use lib.Seq.{take-all}
-use borrow.Author.Tests.{eq-eqb, ne-eqb, eqb-true}
+use borrow.Author.Tests.{eq-eqb, ne-eqb, eqb-true, not-true, not-false}
 use Rattle.ident.specs.If.{if_then_else_}
 use Rattle.ident.specs.Number.{place}
 use Rattle.regions.specs.declared.Row.{Row}
@@ -107,14 +107,6 @@ looks-same now r q (h ∷ t) e f l =
       | inl d ↦ rw d (rw (ap (eqb (place (keyAt r))) (sym (eqb-true (place (keyAt q)) (place (h .key)) d)) ∙ e) (f (ownerAt q (h .owner)) (candidateAt q ∷ h .candidates) t (rw d at l)))
       | inr d ↦ rw d (rw e (f (ownerAt q none) (candidateAt q ∷ []) (h ∷ t) (rw d at l)))
     ]
-
-not-true : (b : Bool) → not b ≡ true → b ≡ false
-not-true true e = sym e
-not-true false e = refl
-
-not-false : (b : Bool) → not b ≡ false → b ≡ true
-not-false true e = refl
-not-false false e = sym e
 
 module _ (now : ℕ) (r : Row) (v w : Look) where
   -- a key of its own

@@ -12,6 +12,7 @@ use borrow.Author.Tests.{eqb-true, eqb-false}
 use Rattle.ident.specs.declared.Kind.{Kind}
 use Rattle.ident.specs.If.{if_then_else_}
 use Rattle.ident.specs.Number.{Key, place, other, top, txid}
+use Rattle.ident.proofs.Places.{place-same as place-inj}
 use Rattle.machine.specs.Limits.{Limits, maxPeerAnnouncements, word}
 use Rattle.machine.specs.State.{Candidate, Owner, Package, Request, Table, Entry, Answer, marked, ownerIs, isSome}
 use Rattle.machine.specs.Table.{at, change, has, held, heldBy, heldAt, isCandidate}
@@ -20,10 +21,10 @@ use Rattle.machine.specs.Fail.{dedup, parentOf, mark, parentsFrom, annou
 use Rattle.machine.specs.Sound.{Hashes, Packed, OwnerFits, Ordered, All, Lawful, Bounded}
 use Rattle.machine.specs.Typed.{Each}
 use Rattle.machine.proofs.Tests.{test, by-test, never}
-use Rattle.machine.proofs.Table.{place-inj, ordered-change, at-key, lawful-at}
-use Rattle.machine.proofs.Change.{bounded-at, owner-without}
+use Rattle.machine.proofs.Table.{ordered-change, lawful-at}
+use Rattle.machine.proofs.Change.{owner-without}
 use Rattle.machine.proofs.Announce.{Victim, victims-all, greatest-of}
-use Rattle.machine.proofs.Fail.{Peer, FewHashes, parents-dedup, bounded-parentAt}
+use Rattle.machine.proofs.Fail.{Peer, FewHashes, parents-dedup, bounded-parentAt, bounded-mark}
 use Rattle.machine.proofs.At.{KeepsKey, kept, at-same, at-other}
 
 -- ---- what a request holds
@@ -133,7 +134,7 @@ alone-announceAt m k c t s o l =
 
 -- ---- request_parent and the mark
 
-adopt-empty : (b : Bool) (c : Candidate) (cs : List Candidate) → adopt b c cs ≡ [] → cs ≡ []
+pub adopt-empty : (b : Bool) (c : Candidate) (cs : List Candidate) → adopt b c cs ≡ [] → cs ≡ []
 unfolding adopt
 adopt-empty b c [] e = refl
 adopt-empty b c (d ∷ cs) e = elim (test (eqb (d .connection) (c .connection))) [ inl q ↦ absurd (omega (arith, ap length (rw q at e))) | inr q ↦ absurd (omega (arith, ap length (rw q at e))) ]
@@ -159,14 +160,6 @@ alone-mark k t s o l = alone-change k marked t s (λ r. refl) o refl (λ e. empt
 -- one parent: requested, and marked if kept
 abbrev parented : Limits → ℕ → ℕ → ℕ → ℕ → Table → Table
 parented m n now i h t = let a = requestParentAt m (txid h) (parentOf n now h i) t in if a .reply then mark (txid h) (a .table) else a .table
-
-bounded-mark : {m : Limits} {Q : ℕ} {t : Table} (h : ℕ) → h < top → Bounded m Q t → Bounded m Q (mark (txid h) t)
-bounded-mark {m} {Q} {t} h s b = bounded-at (txid h) marked s (λ r. refl) (record {
-  fewer = λ p. omega arith;
-  less = λ p. omega arith;
-  place = omega arith;
-  lawful = λ l. record { candidates = l .candidates; owner = l .owner; packed = l .packed; parents = l .parents; mark = ap (λ (k : Key). k .kind) (at-key (txid h) 0 t s (b .ordered)) };
-}) b
 
 bounded-parented : {m : Limits} {Q : ℕ} {t : Table} (n now i h : ℕ) → Peer n → now < word → i < word → h < top → Bounded m Q t → Bounded m Q (parented m n now i h t)
 bounded-parented {m} {Q} {t} n now i h p w v s b =

@@ -11,8 +11,8 @@ use lib.ListN.{length, length-append, length-take, length-map}
 use borrow.Author.Tests.{ltb-true, ltb-false, le-leb, lt-leb}
 use Rattle.ident.specs.If.{if_then_else_}
 use Rattle.ident.specs.Number.{Key, place, txid}
-use Rattle.words.specs.Words.{digits, bytesOf}
 use Rattle.words.proofs.Digits.{length-digits}
+use Rattle.words.proofs.Words.{length-bytes as length-bytesOf}
 use Rattle.machine.specs.Limits.{Limits, maxKnownChecks, maxParents, requestLifetime}
 use Rattle.machine.specs.State.{Candidate, Request, Table, Entry, Answer, ownerIs, isSome, ownedUntil}
 use Rattle.machine.specs.Table.{change, keys, countIn, total, held}
@@ -29,11 +29,6 @@ use Rattle.machine.proofs.Tests.{test, by-test}
 use Rattle.machine.proofs.Fail.{length-dedup}
 
 -- ---- bytes
-
-pub length-bytesOf : (ws : List ℕ) → length (bytesOf ws) ≡ 8 * length ws
-unfolding bytesOf
-length-bytesOf [] = refl
-length-bytesOf (w ∷ ws) = omega (arith, length-append (digits 256 8 w) (bytesOf ws), length-digits 256 8 w, length-bytesOf ws)
 
 pub length-keyAnswer : (k : Key) → length (keyAnswer k) ≡ keyBytes
 length-keyAnswer k = simp (length-append, length-bytesOf, length-digits)
@@ -56,7 +51,7 @@ length-entriesAnswer (a ∷ l) = omega (arith, length-append (entryAnswer a) (en
 
 -- ---- keys of a table, and sweep
 
-length-countIn : (cs : List Candidate) → countIn (λ n. true) cs ≡ length cs
+pub length-countIn : (cs : List Candidate) → countIn (λ n. true) cs ≡ length cs
 unfolding countIn
 length-countIn [] = refl
 length-countIn (c ∷ cs) = omega (arith, length-countIn cs)

@@ -13,8 +13,6 @@ use Rattle.ident.specs.declared.Kind.the-variants.{Txid, Wtxid}
 use Rattle.ident.specs.Number.{base, swap, top, Key, place, other}
 use Rattle.machine.specs.State.{Candidate, Request, Table, blank}
 use Rattle.machine.specs.Table.{at, keep, change, keys}
-use Rattle.machine.specs.Leave.{insertKey}
-use Rattle.machine.specs.Sweep.{only}
 use Rattle.machine.specs.Sound.{Ordered}
 use Rattle.machine.proofs.Tests.{test, by-test}
 use Rattle.machine.proofs.Table.{ordered-change, at-absent}
@@ -114,47 +112,9 @@ unfolding keep keys
 keys-keep r [] t h = absurd (omega arith)
 keys-keep r (c ∷ cs) t h = refl
 
-keys-drop : (r : Request) (cs : List Candidate) (t : Table) → cs ≡ [] → keys (keep r cs t) ≡ keys t
-unfolding keep
-keys-drop r [] t e = refl
-keys-drop r (c ∷ cs) t e = absurd (omega (arith, ap length e))
-
--- where f leaves a candidate, k is a key, in its place
-pub keys-insert : (k : Key) (f : Request → Request) (lo : ℕ) (t : Table) → KeepsKey f → Ordered lo t → 1 ≤ length ((f (at k t)) .candidates) → keys (change k f t) ≡ insertKey k (keys t)
-unfolding change at keys insertKey
-keys-insert k f lo [] ff o q = keys-keep (f (blank k)) _ [] q ∙ ap (λ (j : Key). j ∷ []) (ff (blank k))
-keys-insert k f lo (r ∷ t) ff o q =
-    elim (test (ltb (place k) (place (r .key)))) [
-      | inl e ↦ rw e (keys-keep (f (blank k)) _ (r ∷ t) (rw (at-absent k (place (r .key)) (r ∷ t) (ltb-true _ _ e) (omega arith, o .1, o .2)) at q) ∙ ap (λ (j : Key). j ∷ keys (r ∷ t)) (ff (blank k)))
-      | inr e ↦ rw e (elim (test (eqb (place k) (place (r .key)))) [
-        | inl d ↦ rw d (keys-keep (f r) _ t (rw d at q) ∙ ap (λ (j : Key). j ∷ keys t) (ff r))
-        | inr d ↦ rw d (ap (λ (l : List Key). r .key ∷ l) (keys-insert k f _ t ff (o .2) (rw d at q)))
-      ])
-    ]
-
 -- a place is another one than k's
 abbrev pub apart : Key → ℕ → Bool
 apart k p = not (eqb p (place k))
-
-only-above : (k : Key) (lo : ℕ) (t : Table) → place k < lo → Ordered lo t → only (apart k) (keys t) ≡ keys t
-unfolding only keys
-only-above k lo [] h o = refl
-only-above k lo (r ∷ t) h o = rw (ne-eqb (place (r .key)) (place k) (λ e. omega (arith, o .0))) (ap (λ (l : List Key). r .key ∷ l) (only-above k _ t (omega (arith, o .0)) (o .2)))
-
--- where f leaves none, k is no key
-pub keys-remove : (k : Key) (f : Request → Request) (lo : ℕ) (t : Table) → Ordered lo t → (f (at k t)) .candidates ≡ [] → keys (change k f t) ≡ only (apart k) (keys t)
-unfolding change at keys only
-keys-remove k f lo [] o q = keys-drop (f (blank k)) _ [] q
-keys-remove k f lo (r ∷ t) o q =
-    elim (test (ltb (place k) (place (r .key)))) [
-      | inl e ↦ rw e (keys-drop (f (blank k)) _ (r ∷ t) (rw (at-absent k (place (r .key)) (r ∷ t) (ltb-true _ _ e) (omega arith, o .1, o .2)) at q) ∙
-          sym (only-above k (place (r .key)) (r ∷ t) (ltb-true _ _ e) (omega arith, o .1, o .2)))
-      | inr e ↦ rw e (elim (test (eqb (place k) (place (r .key)))) [
-        | inl d ↦ rw (d, eq-eqb (place (r .key)) (place k) (sym (eqb-true _ _ d)))
-            (keys-drop (f r) _ t (rw d at q) ∙ sym (only-above k _ t (omega (arith, eqb-true (place k) (place (r .key)) d)) (o .2)))
-        | inr d ↦ rw (d, ne-eqb (place (r .key)) (place k) (λ c. eqb-false _ _ d (sym c))) (ap (λ (l : List Key). r .key ∷ l) (keys-remove k f _ t (o .2) (rw d at q)))
-      ])
-    ]
 
 -- a request that is there stays there, as long as f leaves it a candidate
 pub keys-stay : (k : Key) (f : Request → Request) (lo : ℕ) (t : Table) → KeepsKey f → Ordered lo t → 1 ≤ length ((at k t) .candidates) → 1 ≤ length ((f (at k t)) .candidates)

@@ -10,6 +10,7 @@ use lib.Dec.{leb, eqb}
 use lib.ListN.{length, length-append, length-map}
 use borrow.Author.Tests.{leb-false, eqb-true}
 use Rattle.ident.specs.Number.{Key, place, top, txid, wtxid}
+use Rattle.ident.proofs.Places.{place-same as place-inj}
 use Rattle.machine.specs.Limits.{maxRequestChecks, word}
 use Rattle.machine.specs.State.{Candidate, Table, Entry, State, limitsOf, isNone}
 use Rattle.machine.specs.Table.{at, keys, held, ownedAt}
@@ -18,7 +19,6 @@ use Rattle.machine.specs.Claim.{elem}
 use Rattle.machine.specs.Sound.{NoRepeat, Ordered, All, Filled, Bounded, Sound}
 use Rattle.machine.specs.Typed.{Each, KeyTyped, KeysTyped}
 use Rattle.machine.proofs.Tests.{test, by-test, never}
-use Rattle.machine.proofs.Table.{place-inj}
 use Rattle.machine.proofs.Plan.{bounded-expired, keys-typed, round-typed, expired-keys}
 use Rattle.machine.proofs.Distinct.{Within, elem-head, elem-tail, elem-snoc, distinct-snoc, within-shorter}
 use Rattle.machine.proofs.AnswerLengths.{keys-held, length-sortByPriority}

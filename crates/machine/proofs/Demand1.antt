@@ -7,7 +7,7 @@ use mathlib.Core.List.{List, [], _∷_}
 use native.Mathlib.Omega.{arith}
 use lib.Dec.{ltb, leb, eqb}
 use lib.ListN.{length}
-use borrow.Author.Tests.{ltb-true, ltb-false, leb-true, leb-false, eqb-true, eqb-false, eq-eqb, ne-eqb}
+use borrow.Author.Tests.{ltb-true, ltb-false, leb-true, leb-false, eqb-true, eqb-false, eq-eqb, ne-eqb, not-true}
 use Rattle.machine.specs.Limits.{need, maxAnnouncements, maxPlaces, maxParents, maxAskedHashes, latestClock}
 use Rattle.machine.specs.State.{State}
 use Rattle.machine.specs.Table.{placesHeld}
@@ -18,16 +18,9 @@ use Rattle.machine.specs.Call.{named, anyLate, takesPlace, wrongHashes, 
 use Rattle.machine.specs.Step.{stepIf}
 use Rattle.machine.specs.Demand1.{Any, WrongSizes, WouldSolicit, OpeningCause, short-store, wrong-sizes, AskCause, unsound-store, connection-0}
 use Rattle.machine.specs.Demand1.{late-clock, many-parents, Ascending, WrongHashes, wrong-hashes, short-buffer, no-place, Cause, tested, turn, Sooner, FirstCause, carried, refusedAs, Demand1}
-use Rattle.machine.proofs.Tests.{test, never, and-left, and-right}
+use Rattle.machine.proofs.Tests.{test, never, and-left, and-right, order}
 
 -- ---- a test and what it decides
-
-order : (i j : ℕ) → (i < j) ⊎ ((i ≡ j) ⊎ (j < i))
-order i j =
-    elim (test (ltb i j)) [
-      | inl e ↦ inl (ltb-true i j e)
-      | inr e ↦ inr (elim (test (eqb i j)) [ inl d ↦ inl (eqb-true i j d) | inr d ↦ inr (omega (arith, ltb-false i j e, eqb-false i j d)) ])
-    ]
 
 record Decides (b : Bool) (P : Type 0) : Type 0 where
   holds : b ≡ true → P
@@ -87,10 +80,6 @@ abbrev Verdict : ℕ → Bool → State → Call → Type 0
 Verdict n sound s c = ((refusal n sound c s ≡ 0) × ((r : ℕ) → Cause n sound s c r → ⊥)) ⊎ ((r : ℕ) × Refuses n sound s c r)
 
 -- ---- calls on a sound store: 3 to 8 in turn
-
-not-true : (b : Bool) → not b ≡ true → b ≡ false
-not-true true e = sym e
-not-true false e = refl
 
 not-false : (b : Bool) → not b ≡ false → b ≡ false → ⊥
 not-false b e d = let z : _≡_ {A = Bool} true false = sym (ap not d) ∙ e in let y : _≡_ {A = ℕ} 0 1 = cc in omega arith

@@ -75,7 +75,7 @@ elem-but x h (y ∷ l) e =
     ]
 
 -- taking out what does not stand there takes out nothing
-but-absent : (h : ℕ) (l : List ℕ) → elem h l ≡ false → but h l ≡ l
+pub but-absent : (h : ℕ) (l : List ℕ) → elem h l ≡ false → but h l ≡ l
 unfolding elem but
 but-absent h [] e = refl
 but-absent h (y ∷ l) e = rw (or-left (eqb y h) (elem h l) e) (ap (λ (m : List ℕ). y ∷ m) (but-absent h l (or-right (eqb y h) (elem h l) e)))

@@ -27,12 +27,12 @@ use Rattle.machine.proofs.Announce.{item-fits, fits-typed, bounded-anno
 
 -- ---- the changes that shrink
 
-countIn-map : (p : ℕ → Bool) (now : ℕ) (cs : List Candidate) → countIn p (map (readyAt now) cs) ≡ countIn p cs
+pub countIn-map : (p : ℕ → Bool) (now : ℕ) (cs : List Candidate) → countIn p (map (readyAt now) cs) ≡ countIn p cs
 unfolding countIn
 countIn-map p now [] = refl
 countIn-map p now (c ∷ cs) = rw (countIn-map p now cs)
 
-has-map : (n now : ℕ) (cs : List Candidate) → has n (map (readyAt now) cs) ≡ has n cs
+pub has-map : (n now : ℕ) (cs : List Candidate) → has n (map (readyAt now) cs) ≡ has n cs
 unfolding has
 has-map n now [] = refl
 has-map n now (c ∷ cs) = rw (has-map n now cs)
@@ -42,7 +42,7 @@ unfolding countIn adopt
 countIn-adopt p b c [] = refl
 countIn-adopt p b c (d ∷ cs) = elim (test (eqb (d .connection) (c .connection))) [ inl e ↦ rw e | inr e ↦ rw (e, countIn-adopt p b c cs) ]
 
-has-adopt : (n : ℕ) (b : Bool) (c : Candidate) (cs : List Candidate) → has n (adopt b c cs) ≡ has n cs
+pub has-adopt : (n : ℕ) (b : Bool) (c : Candidate) (cs : List Candidate) → has n (adopt b c cs) ≡ has n cs
 unfolding has adopt
 has-adopt n b c [] = refl
 has-adopt n b c (d ∷ cs) = elim (test (eqb (d .connection) (c .connection))) [ inl e ↦ rw e | inr e ↦ rw (e, has-adopt n b c cs) ]
@@ -70,7 +70,7 @@ fit-adopt b c k (d ∷ cs) f h =
       | inr e ↦ rw e (h .0, fit-adopt b c k cs f (h .1))
     ]
 
-fit-map : (now : ℕ) (k : Key) (cs : List Candidate) → now < word → AllFit k cs → AllFit k (map (readyAt now) cs)
+pub fit-map : (now : ℕ) (k : Key) (cs : List Candidate) → now < word → AllFit k cs → AllFit k (map (readyAt now) cs)
 fit-map now k [] w h = tt
 fit-map now k (c ∷ cs) w h = (record { item = h .0 .item; positive = h .0 .positive; connection = h .0 .connection; ready = w; priority = h .0 .priority }, fit-map now k cs w (h .1))
 
@@ -91,7 +91,7 @@ shrinks-adopt b c r f = record {
   };
 }
 
-shrinks-unowned : Shrinks unowned
+pub shrinks-unowned : Shrinks unowned
 shrinks-unowned = record {
   key = λ r. refl;
   at-each = λ r. record {

@@ -36,7 +36,7 @@ pub record HoldsPlace (n : ℕ) (t : Table) (k : Key) : Type 0 where
   pub small : k .hash < top
   pub place : ownerIs n ((at k t) .owner) ≡ true → placeIn ((at k t) .info) ((at k t) .«package») ≡ 1
 
-holds-loosened : {p : Option Owner → Bool} {n : ℕ} {t t′ : Table} → Loosened p t t′ → (k : Key) → HoldsPlace n t k → HoldsPlace n t′ k
+pub holds-loosened : {p : Option Owner → Bool} {n : ℕ} {t t′ : Table} → Loosened p t t′ → (k : Key) → HoldsPlace n t k → HoldsPlace n t′ k
 holds-loosened {p} {n} {t} {t′} l k h = record {
   small = h .small;
   place = λ q. elim (l .hold k (h .small)) [

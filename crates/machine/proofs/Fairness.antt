@@ -3,7 +3,7 @@
 use Prim.Native.Nat.{ℕ, suc, _+_, _-_, _*_, _/_, _≤_, _<_}
 use mathlib.Core.Path.{_≡_, refl, sym, ap, _∙_}
 use mathlib.Core.Logic.{inl, inr}
-use mathlib.Core.Bool.{Bool, true, false, _||_}
+use mathlib.Core.Bool.{Bool, true, false, or-false}
 use mathlib.Core.List.{List, [], _∷_, _++_, map}
 use mathlib.Core.Option.{Option, none, some}
 use native.Mathlib.Omega.{arith}
@@ -128,10 +128,6 @@ below-up k a [] h o u = tt
 below-up k a (x ∷ l) h o u = (rw (turn-up k (place x) (omega arith)) (u .0), below-up k _ l (omega arith) (o .1) (u .1))
 
 -- ---- one round
-
-or-false : (b : Bool) → (b || false) ≡ b
-or-false true = refl
-or-false false = refl
 
 -- a round holds the keys that the list holds
 mem-round : (k : Key) (c : Option Key) (l : List Key) → mem k (round c l) ≡ mem k l

@@ -92,7 +92,7 @@ module _ (t : Table) where
 
 -- ---- teardown_package_claims: none cleared, none there
 
-packed-owned : (r : Request) → Lawful r → isSome (r .«package») ≡ true → isSome (r .owner) ≡ true
+pub packed-owned : (r : Request) → Lawful r → isSome (r .«package») ≡ true → isSome (r .owner) ≡ true
 packed-owned r l e = go (r .info) (r .«package») (l .packed) e
   where
     go : (i : Bool) (p : Option Package) → Packed (r .key .kind) (r .owner) i p (r .parents) → isSome p ≡ true → isSome (r .owner) ≡ true

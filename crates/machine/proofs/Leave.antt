@@ -19,7 +19,7 @@ use Rattle.machine.proofs.Fail.{FewHashes, bounded-failed, bounded-forg
 
 -- ---- forget_known
 
-bounded-ownerParents : {m : Limits} {Q : ℕ} {t : Table} (now : ℕ) (o : Option Owner) (r : Request) → now < word → r .owner ≡ o → Lawful r → Bounded m Q t → Bounded m Q (ownerParents m now o r t)
+pub bounded-ownerParents : {m : Limits} {Q : ℕ} {t : Table} (now : ℕ) (o : Option Owner) (r : Request) → now < word → r .owner ≡ o → Lawful r → Bounded m Q t → Bounded m Q (ownerParents m now o r t)
 bounded-ownerParents now none r w e l b = b
 bounded-ownerParents now (some o) r w e l b = bounded-parents (o .connection) now _ (owner-peer (o .connection) r l (rw e (eq-eqb (o .connection) (o .connection) refl))) w
     (few-for (o .connection) r l) b

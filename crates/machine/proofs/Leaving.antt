@@ -34,7 +34,7 @@ use Rattle.machine.proofs.Places.{parents-place}
 
 -- ---- the connection's own keys
 
-count-has : (n : ℕ) (cs : List Candidate) → has n cs ≡ true → 1 ≤ countIn (λ m. eqb m n) cs
+pub count-has : (n : ℕ) (cs : List Candidate) → has n cs ≡ true → 1 ≤ countIn (λ m. eqb m n) cs
 unfolding has countIn
 count-has n [] h = never h
 count-has n (c ∷ cs) h = elim (test (eqb (c .connection) n)) [ inl e ↦ rw e (omega arith) | inr e ↦ rw e (omega (arith, count-has n cs (rw e at h))) ]

@@ -20,7 +20,6 @@ pub mod OneKey
 pub mod Entered
 pub mod KeptAtZero
 pub mod Demand1
-pub mod Batches
 pub mod Free
 pub mod Edges
 pub mod Later
@@ -39,3 +38,4 @@ pub mod Leave
 pub mod Wrapper
 pub mod Kept
 pub mod Demand3
+pub mod First

@@ -8,7 +8,7 @@ use mathlib.Core.Option.{Option, none, some}
 use native.Mathlib.Omega.{arith}
 use lib.ListN.{length}
 use Rattle.ident.specs.If.{if_then_else_}
-use Rattle.ident.specs.Number.{Key, place, other, top}
+use Rattle.ident.specs.Number.{Key, other, top}
 use Rattle.machine.specs.Limits.{Limits, word}
 use Rattle.machine.specs.State.{Candidate, Owner, Request, Table, Answer, readyAt, ownerIs, isSome}
 use Rattle.machine.specs.Table.{at, change}
@@ -20,7 +20,7 @@ use Rattle.machine.proofs.Tests.{by-test, never}
 use Rattle.machine.proofs.Table.{lawful-at}
 use Rattle.machine.proofs.Change.{bounded-change, owner-without}
 use Rattle.machine.proofs.Fail.{Peer, few-for, shrinks-left, bounded-failed}
-use Rattle.machine.proofs.At.{KeepsKey, kept, at-both-else}
+use Rattle.machine.proofs.At.{KeepsKey, kept}
 use Rattle.machine.proofs.Alone.{Hold, holdOf, noHold, none-hold, owner-empty, hold-kept, at-either, Alone, alone-parents}
 
 -- ---- requests that keep what they hold or, where their owner passes a test, hold nothing
@@ -70,7 +70,7 @@ left-candidates : (n now : ℕ) (r : Request) → (left n now r) .candidates ≡
 unfolding left
 left-candidates n now r = refl
 
-map-empty : (now : ℕ) (cs : List Candidate) → map (readyAt now) cs ≡ [] → cs ≡ []
+pub map-empty : (now : ℕ) (cs : List Candidate) → map (readyAt now) cs ≡ [] → cs ≡ []
 map-empty now [] e = refl
 map-empty now (c ∷ cs) e = absurd (omega (arith, ap length e))
 
@@ -112,11 +112,6 @@ module _ {m : Limits} {Q : ℕ} {t : Table} (k : Key) (n now : ℕ) (s : k .hash
   pub loosened-failed : Loosened (ownerIs n) t ((failed k n now t) .table)
   unfolding failed
   loosened-failed = by-test (λ (a : Answer). Loosened (ownerIs n) t (a .table)) (releasable n (at k t)) (λ e. loosened-leaves) (λ e. loosened-same)
-
--- requests of other hashes stay as they are
-pub failed-else : (j k : Key) (n now : ℕ) (t : Table) → (place j ≡ place k → ⊥) → (place j ≡ place (other k) → ⊥) → at j ((failed k n now t) .table) ≡ at j t
-unfolding failed
-failed-else j k n now t a b = by-test (λ (x : Answer). at j (x .table) ≡ at j t) (releasable n (at k t)) (λ e. at-both-else j k (left n now) t (left-key n now) a b) (λ e. refl)
 
 -- ---- failing, with parents
 

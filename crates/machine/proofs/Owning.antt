@@ -16,7 +16,7 @@ use Rattle.machine.proofs.Tests.{test, and-left}
 
 -- ---- counts: each request has one candidate, its owner
 
-one-most : (b : Bool) → one b ≤ 1
+pub one-most : (b : Bool) → one b ≤ 1
 one-most true = omega arith
 one-most false = omega arith
 

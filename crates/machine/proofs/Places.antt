@@ -74,7 +74,7 @@ places-leaves {m} {Q} {t} k n now s w b e =
     )
 
 -- parents stand beside a place only
-place-held : (i : Bool) (p : Option Package) → (i || isSome p) ≡ true → placeIn i p ≡ 1
+pub place-held : (i : Bool) (p : Option Package) → (i || isSome p) ≡ true → placeIn i p ≡ 1
 place-held true none e = refl
 place-held false none e = never e
 place-held true (some p) e = refl

@@ -69,7 +69,7 @@ unfolding round
 round-typed none ks a = a
 round-typed (some c) ks a = each-append KeyTyped (only (λ n. ltb (place c) n) ks) _ (only-typed _ ks a) (only-typed _ ks a)
 
-take-typed : (n : ℕ) (ks : List Key) → Each KeyTyped ks → Each KeyTyped (take n ks)
+pub take-typed : (n : ℕ) (ks : List Key) → Each KeyTyped ks → Each KeyTyped (take n ks)
 take-typed zero ks a = tt
 take-typed (suc n) [] a = tt
 take-typed (suc n) (k ∷ ks) a = (a .0, take-typed n ks (a .1))
@@ -93,7 +93,7 @@ phase-cursor now t [] s a c = c
 phase-cursor now t (k ∷ ks) s a c = by-test (λ (s : Scan). CursorFits (s .last)) (leb maxRequestChecks (length ((consider now t k s) .chosen))) (λ e. a .0)
     (λ e. phase-cursor now t ks (consider now t k s) (a .1) (a .0))
 
-parentsFrom-keys : (m : Limits) (n now i : ℕ) (hs : List ℕ) (t : Table) → Hashes hs → Each KeyTyped ((parentsFrom m n now i hs t) .keys)
+pub parentsFrom-keys : (m : Limits) (n now i : ℕ) (hs : List ℕ) (t : Table) → Hashes hs → Each KeyTyped ((parentsFrom m n now i hs t) .keys)
 unfolding parentsFrom
 parentsFrom-keys m n now i [] t a = tt
 parentsFrom-keys m n now i (h ∷ hs) t a =
@@ -101,7 +101,7 @@ parentsFrom-keys m n now i (h ∷ hs) t a =
     let more = parentsFrom-keys m n now (suc i) hs (if x .reply then mark (txid h) (x .table) else x .table) (a .1) in
     by-test (Each KeyTyped) (x .reply) (λ e. (a .0, more)) (λ e. more)
 
-parents-keys : (m : Limits) (n now : ℕ) (hs : List ℕ) (t : Table) → FewHashes hs → Each KeyTyped ((announceParents m n now hs t) .keys)
+pub parents-keys : (m : Limits) (n now : ℕ) (hs : List ℕ) (t : Table) → FewHashes hs → Each KeyTyped ((announceParents m n now hs t) .keys)
 unfolding announceParents
 parents-keys m n now hs t a = parentsFrom-keys m n now 0 (dedup hs) t ((parents-dedup hs a) .hashes)
 

@@ -12,9 +12,8 @@ use Rattle.machine.specs.State.{Request, Table, blank}
 use Rattle.machine.specs.Table.{at}
 use Rattle.machine.specs.Sound.{Ordered}
 use Rattle.machine.proofs.Tests.{test}
-use Rattle.machine.proofs.Table.{at-absent, at-key}
+use Rattle.machine.proofs.Table.{at-absent}
 use Rattle.machine.proofs.At.{at-here, at-there}
-use Rattle.machine.proofs.Alone.{Hold, holdOf, noHold, Alone}
 
 -- from the last request to the first
 unfoldable pub walk : {A : Type 0} → (Request → A → A) → A → Table → A
@@ -94,10 +93,3 @@ module _ {A : Type 0} (c : Request → A → A) (z : A) (nought : (k : Key) (a :
       ]) in
       let first : c r (walk c z (after k t)) ≡ c (at k t) (walk c z (after k t)) = ap (λ (q : Request). c q (walk c z (after k t))) (sym (at-here k r t′ refl)) ∙ e k (o′ .1) (walk c z (after k t)) in
       ap (c r) rest ∙ (first ∙ sym (walk-from k lo t o (λ j s h a. sym (e j s a) ∙ (ap (λ (q : Request). c q a) (at-absent j (place k) (r ∷ t′) h (omega arith, o′ .1, o′ .2)) ∙ nought j a))))
-
--- what is listed of key, owner, flag, package and parents stays where all holds are left alone
-pub walk-alone : {A : Type 0} {t t′ : Table} (c : Key → Hold → A → A) (z : A) → ((k : Key) (a : A) → c k noHold a ≡ a) → Ordered 0 t → Ordered 0 t′ → Alone t t′
-    → walk (λ r. c (r .key) (holdOf r)) z t′ ≡ walk (λ r. c (r .key) (holdOf r)) z t
-walk-alone {A} {t} {t′} c z n o o′ e =
-    walk-same (λ r. c (r .key) (holdOf r)) z n 0 0 t′ t o′ o
-    (λ j s a. ap (λ (x : Hold). c ((at j t′) .key) x a) (e .hold j s) ∙ ap (λ (k : Key). c k (holdOf (at j t)) a) (at-key j 0 t′ s o′ ∙ sym (at-key j 0 t s o)))

@@ -9,23 +9,13 @@ use native.Mathlib.Omega.{arith}
 use lib.Dec.{ltb, leb, eqb}
 use lib.ListN.{length}
 use borrow.Author.Tests.{ltb-true, ltb-false, eqb-true, eqb-false, lt-ltb, le-ltb, eq-eqb, ne-eqb}
-use Rattle.ident.specs.declared.Kind.{Kind}
-use Rattle.ident.specs.declared.Kind.the-variants.{Txid, Wtxid}
 use Rattle.ident.specs.If.{if_then_else_}
-use Rattle.ident.specs.Number.{base, top, Key, place, other}
+use Rattle.ident.specs.Number.{top, Key, place, other}
+use Rattle.ident.proofs.Places.{place-same as place-inj}
 use Rattle.machine.specs.State.{Candidate, Owner, Request, Table, blank}
 use Rattle.machine.specs.Table.{at, keep, change, one, countIn, total, count, ownerIn, owners, placeIn, placesHeld, has, any, by, under, byUnder}
 use Rattle.machine.specs.Sound.{Ordered, All, Filled, ParentsFit, Lawful}
 use Rattle.machine.proofs.Tests.{test, by-test, never}
-
-place-inj′ : (x y : Kind) (a b : ℕ) → a < top → b < top → base x + a ≡ base y + b → _≡_ {A = Key} (record { kind = x; hash = a }) (record { kind = y; hash = b })
-place-inj′ Txid Txid a b p q e = let d : a ≡ b = omega arith in rw d
-place-inj′ Wtxid Wtxid a b p q e = let d : a ≡ b = omega arith in rw d
-place-inj′ Txid Wtxid a b p q e = absurd (omega arith)
-place-inj′ Wtxid Txid a b p q e = absurd (omega arith)
-
-pub place-inj : (j k : Key) → j .hash < top → k .hash < top → place j ≡ place k → j ≡ k
-place-inj j k p q e = place-inj′ (j .kind) (k .kind) (j .hash) (k .hash) p q e
 
 -- ---- order
 

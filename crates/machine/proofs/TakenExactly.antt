@@ -73,15 +73,15 @@ same-entry a b e =
 
 -- ---- an entry is the same as itself
 
-kind-itself : (x : Kind) → sameKind x x ≡ true
+pub kind-itself : (x : Kind) → sameKind x x ≡ true
 kind-itself Txid = refl
 kind-itself Wtxid = refl
 
-bool-itself : (x : Bool) → sameBool x x ≡ true
+pub bool-itself : (x : Bool) → sameBool x x ≡ true
 bool-itself true = refl
 bool-itself false = refl
 
-itself : (n : ℕ) → eqb n n ≡ true
+pub itself : (n : ℕ) → eqb n n ≡ true
 itself n = eq-eqb n n refl
 
 pub entry-itself : (a : Entry) → sameEntry a a ≡ true

@@ -1,7 +1,11 @@
 -- Cases on a test.
+use Prim.Native.Nat.{ℕ, _<_}
 use mathlib.Core.Path.{_≡_, refl, sym}
 use mathlib.Core.Logic.{_⊎_, inl, inr}
 use mathlib.Core.Bool.{Bool, true, false, not, _&&_, _||_, false≢true}
+use native.Mathlib.Omega.{arith}
+use lib.Dec.{ltb, eqb}
+use borrow.Author.Tests.{ltb-true, ltb-false, eqb-true, eqb-false}
 use Rattle.ident.specs.If.{if_then_else_}
 
 -- a test is true or false
@@ -38,3 +42,11 @@ or-right false b e = e
 pub or-true : (a b : Bool) → b ≡ true → (a || b) ≡ true
 or-true true b e = refl
 or-true false b e = e
+
+-- below, equal or above
+pub order : (i j : ℕ) → (i < j) ⊎ ((i ≡ j) ⊎ (j < i))
+order i j =
+    elim (test (ltb i j)) [
+      | inl e ↦ inl (ltb-true i j e)
+      | inr e ↦ inr (elim (test (eqb i j)) [ inl d ↦ inl (eqb-true i j d) | inr d ↦ inr (omega (arith, ltb-false i j e, eqb-false i j d)) ])
+    ]

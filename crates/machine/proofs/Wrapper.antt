@@ -1,6 +1,6 @@
 -- The wrappers keep the bounds, and the poll gate's time is of 64 bits.
-use Prim.Native.Nat.{ℕ, _+_, _≤_, _<_}
-use mathlib.Core.Bool.{Bool, true, false, not, _&&_}
+use Prim.Native.Nat.{ℕ, _+_, _<_}
+use mathlib.Core.Bool.{Bool, not, _&&_}
 use mathlib.Core.List.{List, [], _∷_}
 use mathlib.Core.Option.{Option, none, some}
 use native.Mathlib.Omega.{arith}
@@ -8,7 +8,7 @@ use lib.Dec.{leb}
 use Rattle.ident.specs.Number.{top, Key, Item, keyOf, txid, wtxid}
 use Rattle.machine.specs.Limits.{Limits, maxInFlight, requestLifetime, msgAncPkgInfo, word}
 use Rattle.machine.specs.State.{Table}
-use Rattle.machine.specs.Table.{at, one, ownedBy}
+use Rattle.machine.specs.Table.{at, ownedBy}
 use Rattle.machine.specs.Fail.{Listed}
 use Rattle.machine.specs.Wrapper.{Offer, isWTx, offered, offersFrom, announceTransactions, responseCompleted, failKeyed}
 use Rattle.machine.specs.Wrapper.{isType, notFoundOne, notFoundEach, packagesIn, notFound, dueAt, nextPollAfter}
@@ -19,12 +19,9 @@ use Rattle.machine.proofs.Table.{lawful-at}
 use Rattle.machine.proofs.Announce.{item-fits, bounded-announce}
 use Rattle.machine.proofs.Fail.{Peer, bounded-failed, few-for}
 use Rattle.machine.proofs.Package.{bounded-failedPackageInfo, bounded-listed, bounded-failedPackageClaims}
+use Rattle.machine.proofs.Owning.{one-most}
 
 -- ---- announce_transactions
-
-one-most : (b : Bool) → one b ≤ 1
-one-most true = omega arith
-one-most false = omega arith
 
 pub offered-typed : (n now : ℕ) (p v f : Bool) (o : Offer) → Peer n → now + requestLifetime < word → OfferTyped o → CandidateTyped (offered n now p v f o)
 offered-typed n now p v f o a w h = record {
@@ -34,7 +31,7 @@ offered-typed n now p v f o a w h = record {
   priority = h .priority;
 }
 
-bounded-offers : {m : Limits} {Q : ℕ} {t : Table} (n now : ℕ) (p v f : Bool) (os : List Offer) → Peer n → now + requestLifetime < word → Each OfferTyped os → Bounded m Q t
+pub bounded-offers : {m : Limits} {Q : ℕ} {t : Table} (n now : ℕ) (p v f : Bool) (os : List Offer) → Peer n → now + requestLifetime < word → Each OfferTyped os → Bounded m Q t
     → Bounded m Q (offersFrom m n now p v f os t)
 unfolding offersFrom
 bounded-offers n now p v f [] a w h b = b

@@ -1,28 +1,26 @@
 -- The keys that calls list: of 256 bits.
-use Prim.Native.Nat.{ℕ, zero, suc, _≤_, _<_}
+use Prim.Native.Nat.{ℕ, _≤_, _<_}
 use mathlib.Core.List.{List, [], _∷_, map}
 use mathlib.Core.Option.{Option, none, some}
-use Rattle.ident.specs.If.{if_then_else_}
-use lib.ListN.{length, take}
-use Rattle.ident.specs.Number.{Key, Item, txid, wtxid, keyOf, top}
+use lib.ListN.{length}
+use Rattle.ident.specs.Number.{Key, Item, wtxid, keyOf, top}
 use Rattle.machine.specs.Limits.{Limits, maxParents, maxKnownChecks, msgAncPkgInfo, word}
 use Rattle.machine.specs.State.{Table, State, Answer, limitsOf}
 use Rattle.machine.specs.Table.{at, keys}
-use Rattle.machine.specs.Sound.{Hashes, CursorFits, Bounded, Sound}
+use Rattle.machine.specs.Sound.{CursorFits, Bounded, Sound}
 use Rattle.machine.specs.Typed.{Each, KeyTyped}
-use Rattle.machine.specs.Announce.{requestParentAt}
-use Rattle.machine.specs.Fail.{Listed, dedup, parentOf, mark, parentsFrom, announceParents, failed}
+use Rattle.machine.specs.Fail.{Listed, announceParents, failed}
 use Rattle.machine.specs.Package.{listedAfter, failedWithParents, enqueuedBy, releasePackage, claimKey, someKeys, failEach, failedPackageClaims}
 use Rattle.machine.specs.Sweep.{round, handed}
 use Rattle.machine.specs.Wrapper.{failKeyed, isType, notFoundOne, notFoundEach, packagesIn, notFound}
 use Rattle.machine.proofs.Tests.{by-test}
 use Rattle.machine.proofs.Table.{lawful-at}
 use Rattle.machine.proofs.Announce.{each-append, each-map, item-fits}
-use Rattle.machine.proofs.Fail.{Peer, FewHashes, parents-dedup, few-for}
+use Rattle.machine.proofs.Fail.{Peer, FewHashes, few-for}
 use Rattle.machine.proofs.Package.{bounded-failedWithParents}
 use Rattle.machine.proofs.Failing.{HoldsPlace, holds-claims}
 use Rattle.machine.proofs.Wrapper.{bounded-notFoundOne, bounded-notFoundEach}
-use Rattle.machine.proofs.Plan.{round-typed, keys-typed}
+use Rattle.machine.proofs.Plan.{round-typed, keys-typed, parents-keys as hashes-typed, take-typed}
 use Rattle.store.specs.Image.{Bytes}
 use Rattle.lent_lists.specs.Lists.{hashesIn}
 use Rattle.lent_lists.proofs.Given.{hashes-fit}
@@ -30,28 +28,11 @@ use Rattle.sweeping.specs.Batches.{nextBatch}
 
 -- ---- the keys that sweep hands out are those of the table
 
-take-typed : (n : ℕ) (ks : List Key) → Each KeyTyped ks → Each KeyTyped (take n ks)
-take-typed zero ks a = tt
-take-typed (suc n) [] a = tt
-take-typed (suc n) (k ∷ ks) a = (a .0, take-typed n ks (a .1))
-
 pub sweep-typed : (s : State) → Sound s → Each KeyTyped (nextBatch s)
 unfolding handed
 sweep-typed s g = take-typed maxKnownChecks (round (s .knownCursor) (keys (s .table))) (round-typed (s .knownCursor) (keys (s .table)) (keys-typed 0 (s .table) (g .bounded .ordered)))
 
 -- ---- the keys that announce_parents lists are of the hashes given
-
-listed-typed : (m : Limits) (n clock i : ℕ) (hs : List ℕ) (t : Table) → Hashes hs → Each KeyTyped ((parentsFrom m n clock i hs t) .keys)
-unfolding parentsFrom
-listed-typed m n clock i [] t a = tt
-listed-typed m n clock i (h ∷ hs) t a =
-    let x = requestParentAt m (txid h) (parentOf n clock h i) t in
-    let l = listed-typed m n clock (suc i) hs (if x .reply then mark (txid h) (x .table) else x .table) (a .1) in
-    by-test (Each KeyTyped) (x .reply) (λ e. (a .0, l)) (λ e. l)
-
-hashes-typed : (m : Limits) (n clock : ℕ) (hs : List ℕ) (t : Table) → FewHashes hs → Each KeyTyped ((announceParents m n clock hs t) .keys)
-unfolding announceParents
-hashes-typed m n clock hs t f = listed-typed m n clock 0 (dedup hs) t (parents-dedup hs f .hashes)
 
 pub parents-typed : (m : Limits) (n clock : ℕ) (b : List ℕ) (t : Table) → Bytes b → length (hashesIn b) ≤ maxParents → Each KeyTyped ((announceParents m n clock (hashesIn b) t) .keys)
 parents-typed m n clock b t p f = hashes-typed m n clock (hashesIn b) t (record { hashes = hashes-fit b p; few = f })

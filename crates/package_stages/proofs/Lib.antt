@@ -4,6 +4,5 @@ pub mod Owners
 pub mod Placing
 pub mod Filling
 pub mod Compacting
-pub mod ClosingSets
 pub mod Sounds
 pub mod Steps

@@ -17,13 +17,12 @@ use Rattle.machine.specs.State.{Candidate, Owner, Request, State, ownerIs}
 use Rattle.machine.specs.Table.{at, has, one}
 use Rattle.machine.specs.Sound.{Sound, OwnerFits}
 use Rattle.machine.proofs.Table.{lawful-at}
-use Rattle.machine.proofs.Tests.{test}
+use Rattle.machine.proofs.Tests.{test, order}
 use Rattle.store.specs.Flat.{Flat, deadlineFor, ownBit, rowOf, rowsFor, rowsOf}
 use Rattle.store.specs.Image.{Shows}
 use Rattle.store.proofs.Bits.{own-row, conn-row}
 use Rattle.store.proofs.RowsAt.{among}
 use Rattle.store.proofs.Split.{rowsBelow, rowsAbove, rows-at}
-use Rattle.store.proofs.Tally.{order}
 use Rattle.package_stages.specs.Changes.{ownerNum, deadlineNum, OwnerRow, NoOwnerRow}
 
 pub record OwnerIs (o : Option Owner) (n v : ℕ) : Type 0 where

@@ -17,6 +17,7 @@ use Rattle.ident.specs.Number.{top, Key, wtxid}
 use Rattle.regions.specs.declared.Quad.{Quad}
 use Rattle.regions.specs.Order.{Bound}
 use Rattle.regions.specs.Rows.{quadNumber, quadOf}
+use Rattle.regions.proofs.Order.{number-quad}
 use Rattle.places.specs.declared.Head.{Head}
 use Rattle.places.specs.Places.{Place, listMost, headOf}
 use Rattle.machine.specs.State.{Owner, Package, Request, State, isSome}
@@ -30,7 +31,6 @@ use Rattle.store.specs.Image.{Writes}
 use Rattle.store.specs.Shown.{Seek}
 use Rattle.store.proofs.Bounds.{bound-same}
 use Rattle.store.proofs.Missing.{each-at}
-use Rattle.store.proofs.Quads.{number-quad}
 use Rattle.store.proofs.Split.{placesBelow, placesAbove, places-at}
 use Rattle.store.proofs.ToFlat.{flat-sound}
 use Rattle.store.proofs.Window.{places-sorted, places-from, place-found, place-missing}

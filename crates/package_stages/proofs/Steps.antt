@@ -2,25 +2,21 @@
 use Prim.Native.Nat.{ℕ, _≤_}
 use mathlib.Core.Path.{_≡_, refl, sym, ap, subst, _∙_}
 use mathlib.Core.Logic.{inl, inr}
-use mathlib.Core.List.{List, [], _∷_, _++_}
+use mathlib.Core.List.{[], _∷_}
 use native.Mathlib.Omega.{arith}
 use lib.Dec.{ltb, eqb}
 use lib.ListN.{length}
 use borrow.Author.Tests.{ltb-true, le-ltb, eqb-true, eq-eqb}
 use Rattle.ident.specs.Number.{Key, place}
-use Rattle.machine.specs.State.{Candidate, Request, Table, blank, ownedUntil}
+use Rattle.machine.specs.State.{Request, Table, blank, ownedUntil}
 use Rattle.machine.specs.Table.{at, keep, change}
 use Rattle.machine.specs.Package.{solicited}
 use Rattle.machine.specs.Sound.{Ordered}
 use Rattle.machine.proofs.At.{KeepsKey}
 use Rattle.machine.proofs.Table.{at-absent}
 use Rattle.machine.proofs.Tests.{test}
-use Rattle.package_stages.specs.Changes.{flagged, withParent}
-
-pub keep-some : (r : Request) (cs : List Candidate) (t : Table) → 1 ≤ length cs → keep r cs t ≡ r ∷ t
-unfolding keep
-keep-some r [] t h = absurd (omega arith)
-keep-some r (c ∷ cs) t h = refl
+use Rattle.machine.proofs.First.{keep-some}
+use Rattle.package_stages.specs.Changes.{flagged}
 
 module _ (k : Key) (f g : Request → Request) (key : KeepsKey f) where
   -- at a request that stands first
@@ -49,6 +45,3 @@ module _ (k : Key) (f g : Request → Request) (key : KeepsKey f) where
 module _ (k : Key) (t : Table) (o : Ordered 0 t) (h : 1 ≤ length ((at k t) .candidates)) (n d : ℕ) where
   pub solicit-flag : change k flagged (change k (ownedUntil n d) t) ≡ change k (solicited n d []) t
   solicit-flag = change-twice k (ownedUntil n d) flagged (λ r. refl) 0 t o h
-
-  pub solicit-parent : (hs : List ℕ) (p : ℕ) → change k (withParent p) (change k (solicited n d hs) t) ≡ change k (solicited n d (hs ++ (p ∷ []))) t
-  solicit-parent hs p = change-twice k (solicited n d hs) (withParent p) (λ r. refl) 0 t o h

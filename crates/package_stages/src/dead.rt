@@ -1,32 +1,11 @@
 // Places taken out in one pass: those whose stage is 0 go, the others keep their order.
-//
-// The places of a set of requests are closed by `mark_dead` of each and then one `drop_dead`. Between these the bytes write no sound
-// state, but a sound state with some places marked (`Marks`).
 use crate::flat;
-use places::DEAD;
 ghost use Prim.Native.Nat.{_+_, _*_, _≤_, _<_};
 ghost use lib.ListN.{length};
-ghost use Rattle.ident.specs.Words.{hashNum};
 ghost use Rattle.words.specs.Words.{words};
 ghost use Rattle.places.specs.Places.{placeSize};
 ghost use Rattle.store.specs.Shown.{Shown, withPlaces, Turns};
-ghost use Rattle.package_stages.specs.Dead.{filter, live, Moved, KeptLive, Compacted, MarksMore};
-
-// Marks the place of the Wtxid key with hash h dead, if there is one.
-pub fn mark_dead(s: &mut [u8], h: ident::Hash)
-    requires { ⌜ Shown (now s) ⌝ }
-    ensures { λ _. ⌜ MarksMore (now (s .entry)) (now (s .exit)) (hashNum h) ⌝ }
-{
-    let q = requests::hash_quad(h);
-    let i = flat::seek_place(s, q);
-    if i < store::head::held_places(s) {
-        let p = store::package_places::place_at(s, i);
-        let x = p.hash;
-        if !regions::quad_less(q, x) {
-            store::package_places::set_stage(s, i, DEAD);
-        }
-    }
-}
+ghost use Rattle.package_stages.specs.Dead.{filter, live, Moved, KeptLive, Compacted};
 
 // Puts the place at `from` at `to`, which is not behind it.
 fn move_place(s: &mut [u8], to: usize, from: usize)

@@ -20,6 +20,7 @@ use Rattle.machine.proofs.Chosen.{sparse-phase, sparse-held, length-phase}
 use Rattle.machine.proofs.Plan.{bounded-expired, keys-typed, round-typed}
 use Rattle.machine.proofs.Kept.{sound-table}
 use Rattle.machine.proofs.Tests.{never}
+use Rattle.machine.proofs.AnswerLengths.{length-sortByPriority as sort-count}
 use Rattle.store.specs.Flat.{flatOf, rowsOf}
 use Rattle.store.specs.Image.{Writes, Bytes}
 use Rattle.store.specs.Shown.{limitIn, Kept}
@@ -34,7 +35,6 @@ use Rattle.selecting.specs.Phasing.{Phased}
 use Rattle.selecting.specs.Ordering.{SortedRows}
 use Rattle.planning.specs.Replying.{Fresh, Closed, Begun, asks, Asks, AsksOf}
 use Rattle.selecting.proofs.GivingBack.{some-entry}
-use Rattle.selecting.proofs.InOrder.{sort-count}
 use Rattle.selecting.proofs.SameRows.{marked-rows, numbered-as}
 
 -- ---- before the first key

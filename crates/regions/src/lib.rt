@@ -10,21 +10,15 @@ ghost use mathlib.Core.List.{[], _∷_};
 ghost use lib.ListN.{length, take, drop};
 ghost use lib.Dec.{ltb};
 ghost use Rattle.words.specs.Words.{words, recs, splice, up, down};
-ghost use Rattle.regions.specs.Regions.{shut, Inserted, Removed, Replaced, Truncated, Copied, Changed, Found};
+ghost use Rattle.regions.specs.Regions.{shut, Inserted, Removed, Replaced, Truncated, Copied, Found};
 ghost use Rattle.regions.specs.Order.{Sought, First, one};
-ghost use Rattle.regions.specs.Rows.{rowSize, readyAt, deadlineAt, bitsAt, connSize, quadWords, readQuad, quadNumber, rowWords, readRow};
-ghost use Rattle.regions.specs.Rows.{keyNumber, keyOf, rowKey, rowConn, withReady, withDeadline, withBits, connWords, readConn, connKey};
+ghost use Rattle.regions.specs.Rows.{rowSize, connSize, quadWords, readQuad, quadNumber, rowWords, readRow};
+ghost use Rattle.regions.specs.Rows.{keyNumber, keyOf, rowKey, rowConn, connWords, readConn, connKey};
 
 pub mod ranges;
 
-// Words of a row, and where in it some of them lie.
+// Words of a row.
 pub const ROW: usize = 9;
-
-const READY: usize = 5;
-
-const DEADLINE: usize = 7;
-
-const BITS: usize = 8;
 
 // Words of a connection's entry.
 pub const CONN: usize = 3;
@@ -213,30 +207,6 @@ pub fn copy_row(s: &mut [u8], to: usize, from: usize)
     ensures { λ _. ⌜ Copied rowSize rowWords (words (now (s .entry))) (words (now (s .exit))) to from ⌝ }
 {
     copy_down(s, to * ROW, from * ROW, ROW);
-}
-
-// Stores the i-th row's ready time.
-pub fn set_ready(s: &mut [u8], i: usize, v: u64)
-    requires { ⌜ 8 * (rowSize * (i + 1)) ≤ length (now s) ⌝ }
-    ensures { λ _. ⌜ Changed rowSize rowWords (words (now (s .entry))) (words (now (s .exit))) i readyAt (v ∷ []) (withReady v) ⌝ }
-{
-    words::put(s, i * ROW + READY, v);
-}
-
-// Stores the i-th row's deadline.
-pub fn set_deadline(s: &mut [u8], i: usize, v: u64)
-    requires { ⌜ 8 * (rowSize * (i + 1)) ≤ length (now s) ⌝ }
-    ensures { λ _. ⌜ Changed rowSize rowWords (words (now (s .entry))) (words (now (s .exit))) i deadlineAt (v ∷ []) (withDeadline v) ⌝ }
-{
-    words::put(s, i * ROW + DEADLINE, v);
-}
-
-// Stores the i-th row's bits.
-pub fn set_bits(s: &mut [u8], i: usize, v: u64)
-    requires { ⌜ 8 * (rowSize * (i + 1)) ≤ length (now s) ⌝ }
-    ensures { λ _. ⌜ Changed rowSize rowWords (words (now (s .entry))) (words (now (s .exit))) i bitsAt (v ∷ []) (withBits v) ⌝ }
-{
-    words::put(s, i * ROW + BITS, v);
 }
 
 // ---- connections

@@ -1,29 +1,26 @@
 -- A candidate that adopts what another brings, in the records and in bytes.
 use Prim.Native.Nat.{ℕ, suc, min, _+_, _*_, _/_, _%_, _<_}
 use mathlib.Core.Path.{_≡_, refl, sym, ap, _∙_}
-use mathlib.Core.Logic.{inl, inr}
 use mathlib.Core.Bool.{Bool, true, false}
-use mathlib.Core.List.{List, [], _∷_}
-use mathlib.Core.Option.{Option, none, some}
+use mathlib.Core.List.{List, []}
 use native.Mathlib.Omega.{arith}
-use lib.Dec.{eqb}
 use lib.ListN.{length, take, drop, getD, set}
 use lib.Seq.{set-split}
 use Rattle.ident.specs.Number.{Key}
 use Rattle.regions.specs.declared.Row.{Row}
-use Rattle.machine.specs.State.{Candidate, Package, Request, State, onTable, withCandidates, adopting, ownerIs}
+use Rattle.machine.specs.State.{Candidate, Request, State, onTable, withCandidates, adopting, ownerIs}
 use Rattle.machine.specs.Table.{at, one}
 use Rattle.machine.specs.Announce.{adopt, adopted}
 use Rattle.machine.specs.Sound.{Sound}
 use Rattle.machine.proofs.Table.{lawful-at}
-use Rattle.machine.proofs.Tests.{test}
-use Rattle.store.specs.Flat.{flatOf, kindBit, deadlineFor, ownBit, rowOf, rowsOf, placeFor, placesFor, tally}
+use Rattle.machine.proofs.Alone.{adopt-empty as adopt-some}
+use Rattle.store.specs.Flat.{flatOf, kindBit, deadlineFor, ownBit, rowOf, rowsOf, placesFor, tally}
 use Rattle.store.specs.Image.{Shows, Writes}
 use Rattle.store.specs.Shown.{withRows}
 use Rattle.store.proofs.Bits.{bits-kind, bits-witness, bits-own, bits-mark, own-row}
 use Rattle.store.proofs.PlacesAt.{places-unchanged}
 use Rattle.store.proofs.RowChanges.{rows-adopted}
-use Rattle.store.proofs.RowsAt.{Among, ahead, split-at}
+use Rattle.store.proofs.RowsAt.{Among, ahead, split-at, places-with}
 use Rattle.store.proofs.Split.{places-none}
 use Rattle.store.proofs.Tally.{tally-same}
 use Rattle.requests.specs.Changes.{witnessAs}
@@ -69,27 +66,6 @@ module _ (q : Request) (c d : Candidate) where
 
 tally-set-same : (rs : List Row) (i : ℕ) (d x : Row) → i < length rs → (getD rs i d) .conn ≡ x .conn → ownBit (getD rs i d) ≡ ownBit x → tally (set rs i x) ≡ tally rs
 tally-set-same rs i d x l e f = ap tally (set-split rs i x l) ∙ tally-same (take i rs) (getD rs i d) x (drop (suc i) rs) e f ∙ ap tally (sym (split-at rs i d l))
-
-adopt-some : (same : Bool) (c : Candidate) (cs : List Candidate) → adopt same c cs ≡ [] → cs ≡ []
-unfolding adopt
-adopt-some same c [] e = refl
-adopt-some same c (d ∷ ds) e = elim (test (eqb (d .connection) (c .connection))) [
-  | inl a ↦ let y : adopting same c d ∷ ds ≡ [] = rw a at e in
-      let z : _≡_ {A = ℕ} 0 1 = cc in
-      absurd (omega arith)
-  | inr a ↦ let y : d ∷ adopt same c ds ≡ [] = rw a at e in
-      let z : _≡_ {A = ℕ} 0 1 = cc in
-      absurd (omega arith)
-]
-
-places-with : (r : Request) (cs : List Candidate) → placesFor (withCandidates cs r) ≡ placesFor r
-unfolding placesFor
-places-with r cs = go (r .info) (r .«package»)
-  where
-    go : (i : Bool) (p : Option Package) → placeFor (withCandidates cs r) i p ≡ placeFor r i p
-    go i (some p) = refl
-    go true none = refl
-    go false none = refl
 
 module _ (st : State) (s : Sound st) (k : Key) (c : Candidate) (same : Bool) (f : Among (c .connection) ((at k (st .table)) .candidates)) where
   pub adopt-made : {i : ℕ} {x : Row} {b : List ℕ} → i ≡ length (ahead k (c .connection) 0 (st .table) (s .bounded .ordered) f) → x ≡ rowOf (at k (st .table)) (adopting same c (f .one))

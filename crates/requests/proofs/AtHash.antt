@@ -2,8 +2,8 @@
 use Prim.Native.Nat.{ℕ, _+_, _-_, _<_}
 use mathlib.Core.Path.{_≡_, refl, sym, ap, _∙_}
 use mathlib.Core.Logic.{inl, inr}
-use mathlib.Core.Bool.{Bool, true, false, _&&_}
-use mathlib.Core.List.{List, [], _∷_, _++_, map}
+use mathlib.Core.Bool.{Bool, true, false, _&&_, and-true}
+use mathlib.Core.List.{[], _∷_, _++_, map}
 use native.Mathlib.Omega.{arith}
 use lib.Dec.{eqb}
 use lib.ListN.{length, length-append, length-map}
@@ -11,12 +11,13 @@ use borrow.Author.Tests.{eqb-true, eqb-false, eq-eqb, ne-eqb}
 use Rattle.ident.specs.declared.Kind.{Kind}
 use Rattle.ident.specs.declared.Kind.the-variants.{Txid, Wtxid}
 use Rattle.ident.specs.Number.{top, Key, place, base, txid, wtxid}
-use Rattle.machine.specs.State.{Candidate, Request, Table}
+use Rattle.machine.specs.State.{Request, Table}
 use Rattle.machine.specs.Table.{at, count, countIn, total, under, heldAt}
 use Rattle.machine.specs.Sound.{Ordered}
 use Rattle.machine.proofs.Table.{at-absent}
 use Rattle.machine.proofs.Tests.{test}
-use Rattle.store.proofs.Counts.{in-same, and-true}
+use Rattle.machine.proofs.AnswerLengths.{length-countIn as all-in}
+use Rattle.store.proofs.Counts.{in-same, in-none as none-in}
 use Rattle.store.specs.Flat.{rowOf, rowsFor}
 use Rattle.store.proofs.Split.{rowsBelow}
 
@@ -27,11 +28,6 @@ hashed h p k m = eqb (k .hash) h && p m
 -- the candidates at a key that pass the test
 abbrev pub keyed : (ℕ → Bool) → Key → Table → ℕ
 keyed p k t = countIn p ((at k t) .candidates)
-
-none-in : (cs : List Candidate) → countIn (λ m. false) cs ≡ 0
-unfolding countIn
-none-in [] = refl
-none-in (c ∷ cs) = omega (arith, none-in cs)
 
 module _ (p : ℕ → Bool) (k : Key) (r : Request) (t : Table) where
   keyed-here : place k ≡ place (r .key) → keyed p k (r ∷ t) ≡ countIn p (r .candidates)
@@ -92,11 +88,6 @@ module _ (h : ℕ) (small : h < top) (p : ℕ → Bool) where
           omega (arith, count-step r t, weighs r z, a, b, f, g, i)
 
 -- ---- all of them
-
-all-in : (cs : List Candidate) → countIn (λ m. true) cs ≡ length cs
-unfolding countIn
-all-in [] = refl
-all-in (c ∷ cs) = omega (arith, all-in cs)
 
 under-hashed : (h : ℕ) (t : Table) → count (under h) t ≡ count (hashed h (λ m. true)) t
 unfolding total

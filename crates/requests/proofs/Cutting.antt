@@ -2,7 +2,7 @@
 use Prim.Native.Nat.{ℕ, zero, suc, _+_, _-_, _<_}
 use mathlib.Core.Path.{_≡_, refl, sym, ap, subst, _∙_}
 use mathlib.Core.Logic.{inl, inr}
-use mathlib.Core.Bool.{Bool, true, false, _||_}
+use mathlib.Core.Bool.{Bool, true, false}
 use mathlib.Core.List.{List, [], _∷_, _++_, map, append-assoc}
 use mathlib.Core.Option.{Option, none, some}
 use native.Mathlib.Omega.{arith}
@@ -19,7 +19,7 @@ use Rattle.machine.specs.Table.{at, has, one}
 use Rattle.machine.specs.Announce.{without, cut}
 use Rattle.machine.specs.Sound.{Sound, OwnerFits, Packed, Lawful, Ordered}
 use Rattle.machine.proofs.Change.{has-without}
-use Rattle.machine.proofs.Tests.{never}
+use Rattle.machine.proofs.Tests.{never, order, or-left as left, or-right as right}
 use Rattle.machine.proofs.Table.{lawful-at}
 use Rattle.store.specs.Flat.{flatOf, ownBit, rowOf, rowsOf, rowsFor, placeFor, placesFor, tally}
 use Rattle.store.specs.Counting.{unbump}
@@ -29,7 +29,6 @@ use Rattle.store.proofs.Bits.{own-row, conn-row}
 use Rattle.store.proofs.Frame.{shown, length-remove}
 use Rattle.store.proofs.RowsAt.{Among, ahead, behind, rows-among, cut-rows, cut-places, tally-remove}
 use Rattle.store.proofs.Split.{rowsBelow}
-use Rattle.store.proofs.Tally.{order}
 use Rattle.requests.proofs.Keeping.{sized-of, light-of, writes-by}
 
 -- ---- the row of a connection, found in the window of its key
@@ -62,15 +61,7 @@ pub hasnt-at : (q : Request) (n : ℕ) (cs : List Candidate) → has n cs ≡ fa
 unfolding has
 hasnt-at q n [] h j l z = omega arith
 hasnt-at q n (c ∷ cs) h zero l z = eqb-false (c .connection) n (left (eqb (c .connection) n) (has n cs) h) (sym (conn-row q c) ∙ z)
-  where
-    left : (a b : Bool) → (a || b) ≡ false → a ≡ false
-    left false b e = refl
-    left true b e = never (sym e)
 hasnt-at q n (c ∷ cs) h (suc j) l z = hasnt-at q n cs (right (eqb (c .connection) n) (has n cs) h) j (omega arith) z
-  where
-    right : (a b : Bool) → (a || b) ≡ false → b ≡ false
-    right false b e = e
-    right true b e = never (sym e)
 
 module _ (k : Key) (n lo : ℕ) (t : Table) (o : Ordered lo t) (f : Among n ((at k t) .candidates)) where
   abbrev r : Request

@@ -9,16 +9,17 @@ use Rattle.ident.specs.declared.Key.{Key}
 use Rattle.ident.specs.Number.{base}
 use Rattle.ident.specs.Words.{hashNum}
 use Rattle.ident.specs.declared.Kind.{Kind}
-use Rattle.ident.specs.declared.Kind.the-variants.{Txid, Wtxid}
 use Rattle.ident.proofs.Words.{Four, hash-below}
 use Rattle.words.specs.Words.{number}
 use Rattle.regions.specs.declared.Quad.{Quad}
 use Rattle.regions.specs.declared.Key.{Key as RowKey}
 use Rattle.regions.specs.Rows.{quadNumber, quadOf, quadWords}
+use Rattle.regions.proofs.Order.{number-quad}
 use Rattle.store.specs.Flat.{kindBit}
 use Rattle.store.specs.Gather.{kindIs}
 use Rattle.store.proofs.Keys.{key-number}
-use Rattle.store.proofs.Quads.{quad-number, number-quad}
+use Rattle.store.proofs.Quads.{quad-number}
+use Rattle.store.proofs.Bits.{kind-back as kind-is}
 use Rattle.requests.specs.Changes.{Words, KeyWords}
 
 abbrev quadIn : List ℕ → Quad
@@ -40,10 +41,6 @@ quad-of h f =
       words-are = sym (quad-number (quadIn (h .words)) (record { w0 = f .fits 0; w1 = f .fits 1; w2 = f .fits 2; w3 = f .fits 3 })) ∙ ap quadOf q;
       small = hash-below h f;
     }
-
-kind-is : (k : Kind) → kindIs (kindBit k) ≡ k
-kind-is Txid = refl
-kind-is Wtxid = refl
 
 pub key-words-of : (k : Key) (r : RowKey) → Words (k .hash) (r .hash) → r .kind ≡ kindBit (k .kind) → r .kind ≤ 1 → KeyWords k r
 key-words-of k r w e l = record {

@@ -15,6 +15,7 @@ use Rattle.machine.specs.State.{State, Table, onTable}
 use Rattle.machine.specs.Table.{at}
 use Rattle.machine.specs.Typed.{Each}
 use Rattle.machine.specs.Sound.{Sound}
+use Rattle.machine.proofs.Tests.{order}
 use Rattle.store.specs.Flat.{headOf, flatOf, rowsOf, rowsFor, tally, placesOf}
 use Rattle.store.specs.FlatSound.{ConnFits}
 use Rattle.store.specs.Image.{Shows, Writes}
@@ -24,7 +25,7 @@ use Rattle.store.proofs.Entries.{names-sorted, tally-length}
 use Rattle.store.proofs.Frame.{shown}
 use Rattle.store.proofs.RowsFit.{each-by}
 use Rattle.store.proofs.Split.{rowsBelow}
-use Rattle.store.proofs.Tally.{order, tally-tallied}
+use Rattle.store.proofs.Tally.{tally-tallied}
 use Rattle.store.proofs.ToFlat.{flat-sound}
 use Rattle.store.proofs.Window.{rows-sorted, rows-from, rows-to}
 

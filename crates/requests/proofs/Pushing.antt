@@ -3,7 +3,6 @@ use Prim.Native.Nat.{ℕ, _+_, _*_, _≤_, _<_}
 use mathlib.Core.Path.{_≡_, refl, sym, ap, _∙_}
 use mathlib.Core.Bool.{false}
 use mathlib.Core.List.{List, [], _∷_, _++_, map, append-nil}
-use mathlib.Core.Option.{Option, none, some}
 use native.Mathlib.Omega.{arith}
 use lib.ListN.{length, length-append}
 use lib.Seq.{getD-at}
@@ -13,12 +12,12 @@ use Rattle.regions.specs.declared.Quad.{Quad}
 use Rattle.regions.specs.declared.Row.{Row}
 use Rattle.regions.specs.Rows.{quadOf}
 use Rattle.regions.specs.Regions.{insertAt}
-use Rattle.machine.specs.State.{Candidate, Owner, Request, Table, State, onTable, ownerIs}
+use Rattle.machine.specs.State.{Candidate, Request, Table, State, onTable, ownerIs}
 use Rattle.machine.specs.Table.{at, one}
 use Rattle.machine.specs.Announce.{push}
 use Rattle.machine.specs.Sound.{Sound, Filled, All}
 use Rattle.machine.proofs.Table.{all-at, at-key}
-use Rattle.store.specs.Flat.{flatOf, kindBit, witnessBit, deadlineFor, ownBit, rowOf, rowsOf, rowsFor, bump, tally}
+use Rattle.store.specs.Flat.{flatOf, kindBit, witnessBit, ownBit, rowOf, rowsOf, rowsFor, bump, tally}
 use Rattle.store.specs.Image.{Shows, Writes}
 use Rattle.store.specs.Shown.{connsIn, limitIn, Shown, withRows, withConns}
 use Rattle.store.proofs.Bits.{own-row, mark-row, conn-row}
@@ -26,6 +25,7 @@ use Rattle.store.proofs.Entries.{tally-length}
 use Rattle.store.proofs.Frame.{sizes, shown, length-insert}
 use Rattle.store.proofs.RowsAt.{tally-insert, push-rows, push-places}
 use Rattle.store.proofs.Split.{rowsBelow, rowsAbove, rows-at}
+use Rattle.store.proofs.RowChanges.{idle}
 use Rattle.requests.specs.Changes.{markIn}
 use Rattle.requests.proofs.Keeping.{sized-of, light-of, writes-by}
 
@@ -34,10 +34,6 @@ use Rattle.requests.proofs.Keeping.{sized-of, light-of, writes-by}
 row-as : {h h′ : Quad} {d d′ b b′ : ℕ} (n r p : ℕ) → h ≡ h′ → d ≡ d′ → b ≡ b′ → _≡_ {A = Row} (record { hash = h; conn = n; ready = r; prio = p; deadline = d; bits = b })
     (record { hash = h′; conn = n; ready = r; prio = p; deadline = d′; bits = b′ })
 row-as n r p e f g = cc
-
-idle : (n : ℕ) (o : Option Owner) → ownerIs n o ≡ false → deadlineFor n o ≡ 0
-idle n none e = refl
-idle n (some o) e = rw e
 
 pub row-new : (q : Request) (c : Candidate) {h : Quad} {k w p m : ℕ} → h ≡ quadOf (q .key .hash) → k ≡ kindBit (q .key .kind) → w ≡ witnessBit (c .item .kind) → p ≡ one (c .preferred)
     → ownerIs (c .connection) (q .owner) ≡ false → m ≡ one (q .fallback)

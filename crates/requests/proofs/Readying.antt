@@ -83,10 +83,6 @@ readied-places v r = go (r .info) (r .«package»)
     go true none = refl
     go false none = refl
 
-pub readied-gone : (v : ℕ) (cs : List Candidate) → map (readyAt v) cs ≡ [] → cs ≡ []
-readied-gone v [] e = refl
-readied-gone v (c ∷ cs) e = let z : _≡_ {A = ℕ} 0 1 = cc in absurd (omega arith)
-
 -- ---- the mark
 
 few-row : (r : Request) (c : Candidate) → (rowOf r c) .bits < 32

@@ -19,7 +19,7 @@ use Rattle.machine.specs.Table.{at, change}
 use Rattle.machine.specs.Fail.{forget}
 use Rattle.machine.specs.Sound.{Sound, Packed, Lawful}
 use Rattle.machine.specs.Typed.{Each}
-use Rattle.machine.proofs.Tests.{never}
+use Rattle.machine.proofs.Tests.{never, order}
 use Rattle.machine.proofs.Table.{lawful-at}
 use Rattle.store.specs.Flat.{Flat, flatOf, ownBit, bump, tally, rowsFor, rowsOf, placeFor, placesFor, placesOf}
 use Rattle.store.specs.Counting.{unbump}
@@ -28,7 +28,7 @@ use Rattle.store.specs.Shown.{half, rowsIn, Light, Shown, Kept, Tallies, withRo
 use Rattle.store.proofs.Entries.{tally-length}
 use Rattle.store.proofs.Frame.{shown, sizes, length-remove-range}
 use Rattle.store.proofs.Split.{rowsBelow, rowsAbove, placesBelow, placesAbove, rows-at, places-at, rows-change, places-change}
-use Rattle.store.proofs.Tally.{order, bump-nil, bump-lt, bump-eq, bump-gt, tally-less}
+use Rattle.store.proofs.Tally.{bump-nil, bump-lt, bump-eq, bump-gt, tally-less}
 use Rattle.requests.specs.Changes.{Makes, Shorn}
 use Rattle.requests.proofs.Keeping.{sized-of, conns-in-order, writes-by}
 

@@ -18,11 +18,11 @@ use Rattle.machine.specs.Plan as machine
 use Rattle.machine.specs.Plan.{add}
 use Rattle.machine.specs.Sound.{Sound}
 use Rattle.machine.proofs.Tests.{test}
+use Rattle.machine.proofs.Owning.{one-most}
 use Rattle.store.specs.Flat.{flatOf, rowsOf}
 use Rattle.store.specs.Image.{Writes}
 use Rattle.store.specs.Shown.{rowsIn, Kept}
 use Rattle.store.proofs.Frame.{sizes}
-use Rattle.store.proofs.Bits.{one-most}
 use Rattle.requests.specs.declared.Window.{Window}
 use Rattle.announcing.specs.Evicts.{entryAt}
 use Rattle.cursors.specs.declared.Stored.{Stored}

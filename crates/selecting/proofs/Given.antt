@@ -5,8 +5,8 @@ use mathlib.Core.List.{List, [], _∷_}
 use native.Mathlib.Omega.{arith}
 use lib.Dec.{eqb}
 use borrow.Author.Tests.{ne-eqb}
-use lib.ListN.{length, getD, take, drop, length-take, length-drop, drop-of-length-le}
-use lib.Seq.{take-add, take-take, drop-drop, drop-at, drop-cons, length-take-le, getD-take, getD-drop}
+use lib.ListN.{length, getD, take, drop, length-drop, drop-of-length-le}
+use lib.Seq.{take-take, drop-drop, drop-cons, length-take-le, getD-take, getD-drop}
 use Rattle.ident.specs.If.{if_then_else_}
 use Rattle.ident.specs.declared.Kind.the-variants.{Txid, Wtxid}
 use Rattle.ident.specs.Number.{top}
@@ -14,6 +14,7 @@ use Rattle.words.specs.Words.{number, words, recs}
 use Rattle.words.proofs.Digits.{number-below}
 use Rattle.words.proofs.Records.{length-recs, recs-at}
 use Rattle.words.proofs.Words.{word-at}
+use Rattle.words.proofs.Moves.{mid as after-front}
 use Rattle.machine.specs.Call.{keyBytes}
 use Rattle.machine.specs.Typed.{Each, KeyTyped}
 use Rattle.store.specs.Gather.{kindIs}
@@ -24,9 +25,6 @@ use Rattle.claiming.specs.Claiming.{hashFrom, keyFrom}
 kind-test : (n : ℕ) → kindIs n ≡ (if eqb n 0 then Txid else Wtxid)
 kind-test zero = refl
 kind-test (suc n) = rw (ne-eqb (suc n) 0 (λ e. absurd (omega arith))) refl
-
-after-front : (m n : ℕ) (l : List ℕ) → m ≤ length l → drop m (take (m + n) l) ≡ take n (drop m l)
-after-front m n l h = ap (drop m) (take-add m n l) ∙ drop-at (take m l) (take n (drop m l)) m (length-take m l ∙ omega arith)
 
 -- the key of 40 bytes
 pub key-given : (b : List ℕ) (i : ℕ) → keyBytes * i + keyBytes ≤ length b → keyFrom b (i * 5) ≡ keyIn (take keyBytes (drop (keyBytes * i) b))

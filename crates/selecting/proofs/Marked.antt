@@ -12,13 +12,14 @@ use lib.ListN.{length}
 use borrow.Author.Tests.{ltb-true, eq-eqb}
 use Rattle.ident.specs.If.{if_then_else_}
 use Rattle.ident.specs.Number.{Key, place, top, txid, wtxid}
+use Rattle.ident.proofs.Places.{place-same as place-inj}
 use Rattle.machine.specs.Limits.{maxInFlight}
 use Rattle.machine.specs.State.{Candidate, Owner, Request, Table, Entry, blank, ownedUntil, isNone}
 use Rattle.machine.specs.Table.{at, keep, change, one, total, ownerIn, owners, by, under, ownedBy, ownedAt}
 use Rattle.machine.specs.Plan.{chosenBy, chosenAt, able, orElse, leastIn, leastAt, choice}
 use Rattle.machine.specs.Sound.{Ordered}
 use Rattle.machine.proofs.Tests.{test}
-use Rattle.machine.proofs.Table.{at-absent, at-key, place-inj, ordered-change}
+use Rattle.machine.proofs.Table.{at-absent, at-key, ordered-change}
 use Rattle.machine.proofs.At.{at-other}
 use Rattle.selecting.specs.Selecting.{marking, markAll, Free, AllFree}
 

@@ -7,16 +7,13 @@ use mathlib.Core.Option.{Option, none, some}
 use native.Mathlib.Omega.{arith}
 use lib.Dec.{eqb}
 use lib.ListN.{set}
-use borrow.Author.Tests.{eq-eqb}
-use Rattle.ident.specs.declared.Kind.{Kind}
-use Rattle.ident.specs.declared.Kind.the-variants.{Txid, Wtxid}
 use Rattle.ident.specs.Number.{top, Key, txid, wtxid}
 use Rattle.regions.specs.declared.Row.{Row}
 use Rattle.machine.specs.Limits.{requestLifetime, latestClock}
 use Rattle.machine.specs.State.{Candidate, Entry, Table, State, onTable, ownedUntil, isNone}
 use Rattle.machine.specs.Table.{at, has, change, ownedAt}
 use Rattle.machine.specs.Plan.{able, sooner, better, orElse, leastIn, leastAt, choice}
-use Rattle.machine.specs.Claim.{kindRank, sameKind, sameBool, sameEntry, isChoice, takes}
+use Rattle.machine.specs.Claim.{isChoice, takes}
 use Rattle.machine.specs.Sound.{Sound}
 use Rattle.machine.proofs.Alone.{has-some}
 use Rattle.machine.proofs.Change.{unowned-at}
@@ -24,6 +21,7 @@ use Rattle.machine.proofs.Claim.{Takes, takes-means, bounded-take}
 use Rattle.machine.proofs.Kept.{sound-table}
 use Rattle.machine.proofs.Table.{lawful-at}
 use Rattle.machine.proofs.Tests.{by-test}
+use Rattle.machine.proofs.TakenExactly.{entry-itself as same-self}
 use Rattle.store.specs.Gather.{keyAt, candidateAt}
 use Rattle.store.specs.Image.{Writes}
 use Rattle.requests.specs.declared.Window.{Window}
@@ -65,33 +63,6 @@ under-free now h t = by-test (Under h) (eqb (ownedAt h t) 0)
     (λ e. under-else h (leastAt (able now t []) (txid h) t) (leastAt (able now t []) (wtxid h) t) (under-at (able now t []) (txid h) t) (under-at (able now t []) (wtxid h) t)) (λ e. tt)
 
 -- ---- it is the choice in every field
-
-kind-self : (k : Kind) → sameKind k k ≡ true
-kind-self Txid = refl
-kind-self Wtxid = refl
-
-bool-self : (b : Bool) → sameBool b b ≡ true
-bool-self true = refl
-bool-self false = refl
-
-self : (n : ℕ) → eqb n n ≡ true
-self n = eq-eqb n n refl
-
-same-self : (a : Entry) → sameEntry a a ≡ true
-unfolding sameEntry
-same-self a =
-    let c = a .candidate in
-    rw (
-      kind-self (a .key .kind),
-      bool-self (c .preferred),
-      self (a .key .hash),
-      self (c .connection),
-      self (kindRank (c .item .kind)),
-      self (c .item .hash),
-      self (c .ready),
-      self
-          (c .priority),
-    ) refl
 
 module _ (now h : ℕ) (t : Table) (a : Entry) (e : some a ≡ freeChoice now t (txid h)) where
   pub hash-is : a .key .hash ≡ h

@@ -20,6 +20,7 @@ use Rattle.store.specs.Image.{Shows}
 use Rattle.store.specs.Shown.{rowsIn}
 use Rattle.store.proofs.Frame.{sizes}
 use Rattle.announcing.specs.Evicts.{entryAt, part}
+use Rattle.announcing.proofs.Ranking.{map-take}
 use Rattle.cursors.specs.declared.Stored.{Stored}
 use Rattle.cursors.specs.InWords.{readyAt, storedAt, storedKey}
 use Rattle.cursors.proofs.InState.{ready-read}
@@ -54,11 +55,6 @@ keys-same (r ∷ rs) (q ∷ qs) e =
     let l = last-same r q rs qs k t in
     let n = keys-same rs qs t in
     keys-step r rs ∙ (λ i. if l i then k i ∷ n i else n i) ∙ sym (keys-step q qs)
-
-map-take : (n : ℕ) (l : List Row) → map entryAt (take n l) ≡ take n (map entryAt l)
-map-take zero l = refl
-map-take (suc n) [] = refl
-map-take (suc n) (r ∷ l) = ap (λ (x : List Entry). entryAt r ∷ x) (map-take n l)
 
 map-drop : (n : ℕ) (l : List Row) → map entryAt (drop n l) ≡ drop n (map entryAt l)
 map-drop zero l = refl

@@ -16,13 +16,13 @@ use Rattle.machine.specs.Table.{at, keep, change, one}
 use Rattle.machine.specs.Sound.{Ordered}
 use Rattle.machine.proofs.Table.{at-absent}
 use Rattle.machine.proofs.Tests.{test}
+use Rattle.machine.proofs.First.{keep-some as keep-one}
 use Rattle.store.specs.Flat.{witnessBit, rowOf, rowsFor, rowsOf}
 use Rattle.store.specs.Gather.{itemKindAs, candidateAt}
 use Rattle.store.proofs.Bits.{bits-witness, bits-preferred, key-row}
 use Rattle.announcing.specs.Evicts.{entryAt}
 use Rattle.selecting.specs.Selecting.{marking, markAll, Free, AllFree, Numbered}
 use Rattle.selecting.proofs.Marked.{ordered-marking}
-use Rattle.selecting.proofs.Unmarked.{keep-one}
 
 -- ---- one row
 

@@ -11,11 +11,12 @@ use lib.ListN.{length}
 use borrow.Author.Tests.{ltb-true}
 use Rattle.ident.specs.declared.Kind.{Kind}
 use Rattle.ident.specs.Number.{top, Key, place}
-use Rattle.machine.specs.State.{Candidate, Owner, Package, Request, Table, Entry, blank, ownedUntil, unowned, isSome}
-use Rattle.machine.specs.Table.{at, keep, change}
+use Rattle.machine.specs.State.{Owner, Package, Request, Table, Entry, blank, ownedUntil, unowned, isSome}
+use Rattle.machine.specs.Table.{at, change}
 use Rattle.machine.specs.Sound.{Packed, Lawful, Ordered}
 use Rattle.machine.proofs.Table.{at-absent}
 use Rattle.machine.proofs.Tests.{test, never}
+use Rattle.machine.proofs.First.{keep-some as keep-one}
 use Rattle.selecting.specs.Selecting.{marking, Free}
 
 -- a request without owner has neither flag, package nor parents
@@ -46,11 +47,6 @@ again n d q b = λ i. record {
   parents = sym (b .parents) i;
   fallback = q .fallback;
 }
-
-pub keep-one : (q : Request) (cs : List Candidate) (t : Table) → 1 ≤ length cs → keep q cs t ≡ q ∷ t
-unfolding keep
-keep-one q [] t h = absurd (omega arith)
-keep-one q (c ∷ cs) t h = refl
 
 unmark : (k : Key) (n d lo : ℕ) (t : Table) → Ordered lo t → Bare (at k t) → 1 ≤ length ((at k t) .candidates) → change k unowned (change k (ownedUntil n d) t) ≡ t
 unfolding change at

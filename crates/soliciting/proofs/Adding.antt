@@ -23,13 +23,14 @@ use Rattle.machine.proofs.Fail.{FewHashes, parents-dedup}
 use Rattle.machine.proofs.OneKey.{at-changed}
 use Rattle.machine.proofs.Table.{at-absent, lawful-at}
 use Rattle.machine.proofs.Tests.{test, never}
+use Rattle.machine.proofs.First.{keep-some}
 use Rattle.store.specs.Image.{Writes}
 use Rattle.store.specs.Shown.{Kept}
 use Rattle.requests.specs.Changes.{Makes}
 use Rattle.package_stages.specs.Changes.{TakesParent, withParent}
 use Rattle.package_stages.proofs.Seeking.{holding}
 use Rattle.package_stages.proofs.Sounds.{repacked, sound-beside}
-use Rattle.package_stages.proofs.Steps.{keep-some, change-twice}
+use Rattle.package_stages.proofs.Steps.{change-twice}
 use Rattle.announcing.proofs.Listing.{hashes-take}
 use Rattle.announcing.proofs.Repeats.{dedup-new, dedup-met}
 use Rattle.soliciting.specs.Solicits.{Keeps, Opened, given}

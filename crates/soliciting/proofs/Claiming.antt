@@ -1,7 +1,7 @@
 -- claim_package: when it is refused, and what it does.
 use Prim.Native.Nat.{ℕ, _≤_, _<_}
 use mathlib.Core.Path.{_≡_, refl, sym, ap, _∙_}
-use mathlib.Core.Bool.{Bool, true, false, _&&_}
+use mathlib.Core.Bool.{Bool, true, false, _&&_, and-false, and-comm as and-swap}
 use mathlib.Core.List.{List}
 use mathlib.Core.Option.{Option, none, some}
 use native.Mathlib.Omega.{arith}
@@ -19,15 +19,7 @@ use Rattle.store.specs.Image.{Writes}
 use Rattle.requests.specs.Changes.{Makes, Tells}
 use Rattle.package_stages.specs.Changes.{stageOf, FlagOnly}
 use Rattle.announcing.specs.Answers.{Answered}
-use Rattle.soliciting.proofs.Owned.{and-false, flag-is}
-
-and-swap : (a b : Bool) → (a && b) ≡ (b && a)
-and-swap true b = sym (and-true b)
-  where
-    and-true : (x : Bool) → (x && true) ≡ x
-    and-true true = refl
-    and-true false = refl
-and-swap false b = sym (and-false b)
+use Rattle.soliciting.proofs.Owned.{flag-is}
 
 none-is : {A : Type 0} (o : Option A) → isNone o ≡ true → o ≡ none
 none-is none e = refl

@@ -1,7 +1,7 @@
 -- The owner and the stage of a request, as the code reads them.
 use Prim.Native.Nat.{ℕ, _+_}
 use mathlib.Core.Path.{_≡_, refl, sym, ap, _∙_}
-use mathlib.Core.Bool.{Bool, true, false, not, _&&_}
+use mathlib.Core.Bool.{Bool, true, false, not, _&&_, and-false}
 use mathlib.Core.Option.{Option, none, some}
 use native.Mathlib.Omega.{arith}
 use lib.Dec.{ltb, eqb}
@@ -12,10 +12,6 @@ use Rattle.machine.specs.Table.{one}
 use Rattle.machine.specs.Package.{liveOwner}
 use Rattle.package_stages.specs.declared.Request.{Request}
 use Rattle.package_stages.specs.Changes.{ownerNum, deadlineNum, stageOf, RequestOf}
-
-pub and-false : (b : Bool) → (b && false) ≡ false
-and-false true = refl
-and-false false = refl
 
 -- ---- an owner whose deadline is still to come
 

@@ -1,7 +1,7 @@
 -- Two lists of hashes compared, one pair after the other.
 use Prim.Native.Nat.{ℕ, zero, suc, _+_, _<_}
 use mathlib.Core.Path.{_≡_, refl, sym, ap, _∙_}
-use mathlib.Core.Bool.{Bool, true, false, _&&_}
+use mathlib.Core.Bool.{Bool, true, false, _&&_, and-false}
 use mathlib.Core.List.{List, [], _∷_}
 use native.Mathlib.Numerals.{add-one}
 use native.Mathlib.Omega.{arith}
@@ -10,7 +10,6 @@ use lib.ListN.{length, getD, drop}
 use borrow.Author.Tests.{eqb-true}
 use Rattle.machine.specs.Package.{sameList}
 use Rattle.machine.proofs.Tests.{never, and-left, and-right}
-use Rattle.soliciting.proofs.Owned.{and-false}
 
 pub same-equal : (a b : List ℕ) → sameList a b ≡ true → a ≡ b
 unfolding sameList

@@ -9,4 +9,3 @@ pub mod SlotHalves
 pub mod Reading
 pub mod ReadingSlots
 pub mod Gathering
-pub mod Answers

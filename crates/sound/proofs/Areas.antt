@@ -1,15 +1,16 @@
 -- A region's words are those that its records are written as, with zeros behind them.
-use Prim.Native.Nat.{ℕ, zero, suc, _+_, _-_, _*_, _≤_, _<_}
-use mathlib.Core.Path.{_≡_, refl, sym, ap, _∙_}
+use Prim.Native.Nat.{ℕ, _+_, _-_, _*_, _≤_}
+use mathlib.Core.Path.{_≡_, sym, ap, _∙_}
 use mathlib.Core.List.{List, [], _∷_, _++_, append-cancel-left}
 use native.Mathlib.Omega.{arith}
-use lib.ListN.{length, take, drop, getD, replicate, length-take, length-drop, take-append-drop}
+use lib.ListN.{length, take, drop, replicate, length-take, length-drop, take-append-drop}
 use lib.Seq.{slice, take-all, take-take, take-at, drop-at, length-take-le}
 use Rattle.words.specs.Words.{recs}
 use Rattle.words.proofs.Records.{recs-front}
 use Rattle.regions.specs.Regions.{each, padded}
 use Rattle.regions.specs.Rows.{rowSize, readRow, rowWords, connSize, readConn, connWords}
 use Rattle.regions.proofs.Regions.{length-padded, padded-fit}
+use Rattle.regions.proofs.Columns.{row-back as row-nine, conn-back as conn-three}
 use Rattle.machine.specs.Limits.{word}
 use Rattle.sound_rows.proofs.Decide.{Iff}
 use Rattle.sound_rows.proofs.Ranges.{Below}
@@ -27,32 +28,6 @@ area-iff r w n e h =
     }
 
 -- ---- rows and connections are their words
-
-row-nine : (u : List ℕ) → length u ≡ rowSize → rowWords (readRow u) ≡ u
-unfolding rowWords readRow
-row-nine u e = lib.Seq.ext-getD 0 _ u (sym e) at
-  where
-    at : (j : ℕ) → j < 9 → getD (rowWords (readRow u)) j 0 ≡ getD u j 0
-    at zero h = refl
-    at (suc zero) h = refl
-    at (suc (suc zero)) h = refl
-    at (suc (suc (suc zero))) h = refl
-    at (suc (suc (suc (suc zero)))) h = refl
-    at (suc (suc (suc (suc (suc zero))))) h = refl
-    at (suc (suc (suc (suc (suc (suc zero)))))) h = refl
-    at (suc (suc (suc (suc (suc (suc (suc zero))))))) h = refl
-    at (suc (suc (suc (suc (suc (suc (suc (suc zero)))))))) h = refl
-    at (suc (suc (suc (suc (suc (suc (suc (suc (suc j))))))))) h = absurd (omega arith)
-
-conn-three : (u : List ℕ) → length u ≡ connSize → connWords (readConn u) ≡ u
-unfolding connWords readConn
-conn-three u e = lib.Seq.ext-getD 0 _ u (sym e) at
-  where
-    at : (j : ℕ) → j < 3 → getD (connWords (readConn u)) j 0 ≡ getD u j 0
-    at zero h = refl
-    at (suc zero) h = refl
-    at (suc (suc zero)) h = refl
-    at (suc (suc (suc j))) h = absurd (omega arith)
 
 pub rows-exact : (n : ℕ) (r : List ℕ) → rowSize * n ≤ length r → Below word r → take (rowSize * n) r ≡ each rowWords (recs rowSize readRow n r)
 rows-exact n r h b = sym (each-back rowSize rowWords readRow (λ u e _. row-nine u e) n r h b)

@@ -7,6 +7,7 @@ use lib.ListN.{length, take, drop, getD, replicate, length-take, length-drop, le
 use lib.Seq.{slice, take-add, take-take, take-all, drop-drop, take-at, drop-at, length-take-le, getD-drop}
 use Rattle.words.specs.Words.{recs}
 use Rattle.words.proofs.Records.{length-recs}
+use Rattle.words.proofs.Moves.{mid as drop-take}
 use Rattle.regions.specs.Regions.{each, padded}
 use Rattle.regions.specs.Rows.{quadWords, readQuad}
 use Rattle.regions.proofs.Regions.{length-padded, padded-fit}
@@ -43,9 +44,6 @@ unfolding hashWords readHash
 hash-words u e b = rw (quad-number (readQuad u) (quad-ranges u b)) (four u e)
 
 -- ---- a list of hashes with zeros behind it
-
-pub drop-take : (a m : ℕ) (v : List ℕ) → a ≤ length v → drop a (take (a + m) v) ≡ take m (drop a v)
-drop-take a m v h = rw (take-add a m v) (drop-at (take a v) (take m (drop a v)) a (length-take-le a v h))
 
 module _ (v : List ℕ) (a c m : ℕ) (h : 4 * c ≤ m) (l : a + m ≤ length v) (b : Below word v) where
   len : length (drop a v) ≡ length v - a

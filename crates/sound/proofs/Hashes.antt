@@ -13,12 +13,11 @@ use Rattle.words.specs.Words.{number, recs}
 use Rattle.regions.specs.declared.Quad.{Quad}
 use Rattle.regions.specs.Rows.{readQuad, quadNumber}
 use Rattle.machine.specs.Claim.{elem}
-use Rattle.machine.specs.Sound.{NoRepeat}
 use Rattle.store.specs.FlatSound.{QuadFits}
 use Rattle.store.specs.Read.{readHash}
 use Rattle.store.proofs.Quads.{quad-number}
 use Rattle.sound.specs.Places.{hashesIn}
-use Rattle.sound_rows.proofs.Decide.{Iff, rest-turn, rest-none}
+use Rattle.sound_rows.proofs.Decide.{rest-turn, rest-none}
 
 -- ---- two hashes
 
@@ -59,18 +58,6 @@ module _ (w : List ℕ) (a : ℕ) where
     pub elem-past : (x : ℕ) → (quadNumber q ≡ x → ⊥) → elem x (hashesIn w a k n) ≡ elem x (hashesIn w a (k + 1) n)
     unfolding elem
     elem-past x g = rw (hashes-turn k n h, ne-eqb _ x (λ z. g (hash-read k e ∙ z)))
-
-    repeat-next : {X : Type 0} → Iff X (NoRepeat (hashesIn w a k n)) → Iff X ((elem (quadNumber q) (hashesIn w a (k + 1) n) ≡ false) × NoRepeat (hashesIn w a (k + 1) n))
-    repeat-next v = rw (hash-read k e) (rw (hashes-turn k n h) at v)
-
-    pub repeat-turn : {X : Type 0} → Iff X (NoRepeat (hashesIn w a k n)) → elem (quadNumber q) (hashesIn w a (k + 1) n) ≡ false → Iff X (NoRepeat (hashesIn w a (k + 1) n))
-    repeat-turn v z = record { to = λ x. repeat-next v .to x .1; from = λ d. repeat-next v .from (z, d) }
-
-    pub repeat-stop : {X : Type 0} → Iff X (NoRepeat (hashesIn w a k n)) → (elem (quadNumber q) (hashesIn w a (k + 1) n) ≡ false → ⊥) → X → ⊥
-    repeat-stop v z x = z (repeat-next v .to x .0)
-
-  pub repeat-end : {X : Type 0} (k n : ℕ) → n ≤ k → Iff X (NoRepeat (hashesIn w a k n)) → X
-  repeat-end k n h v = v .from (rw (hashes-none k n h) tt)
 
   pub elem-end : (x k n : ℕ) → n ≤ k → elem x (hashesIn w a k n) ≡ false
   unfolding elem

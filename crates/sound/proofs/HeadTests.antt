@@ -10,6 +10,7 @@ use lib.Seq.{slice, drop-cons, drop-drop, getD-drop}
 use borrow.Author.Tests.{eqb-true, eqb-false, ne-eqb, lt-leb}
 use mathlib.Core.Logic.{_⊎_, inl, inr}
 use Rattle.words.specs.Words.{Decides}
+use Rattle.words.proofs.Moves.{mid as drop-take}
 use Rattle.regions.specs.declared.Quad.{Quad}
 use Rattle.regions.specs.Rows.{readQuad, quadNumber}
 use Rattle.machine.specs.Limits.{word}
@@ -25,7 +26,6 @@ use Rattle.store.proofs.Quads.{quad-number}
 use Rattle.sound.specs.Whole.{PollPlain, CursorPlain}
 use Rattle.sound_rows.proofs.Decide.{Iff, decides-iff}
 use Rattle.sound_rows.proofs.Ranges.{Below, below-drop, quad-ranges}
-use Rattle.sound.proofs.Exact.{drop-take}
 use Rattle.sound.proofs.Hashes.{same-quad, zero-number}
 
 -- ---- tests of the code

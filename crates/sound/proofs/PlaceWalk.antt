@@ -5,10 +5,10 @@ use mathlib.Core.Logic.{_⊎_, inl, inr}
 use mathlib.Core.Bool.{Bool, true, false}
 use mathlib.Core.List.{List, [], _∷_, _++_}
 use native.Mathlib.Omega.{arith}
-use lib.Dec.{ltb, eqb}
-use lib.ListN.{length, take, drop, getD, replicate, length-append, length-replicate, length-drop}
+use lib.Dec.{ltb}
+use lib.ListN.{length, take, drop, getD, replicate, length-drop}
 use lib.Seq.{take-add, take-at, drop-at, drop-drop, getD-take, length-take-le}
-use borrow.Author.Tests.{ltb-true, ltb-false, eqb-true, eqb-false}
+use borrow.Author.Tests.{ltb-true, ltb-false}
 use Rattle.words.specs.Words.{recs, words, Decides}
 use Rattle.words.proofs.Parts.{words-lent}
 use Rattle.words.proofs.Records.{length-recs, recs-at}
@@ -16,8 +16,8 @@ use Rattle.regions.specs.declared.Row.{Row}
 use Rattle.regions.specs.declared.Quad.{Quad}
 use Rattle.regions.specs.Regions.{each}
 use Rattle.regions.specs.Rows.{readQuad, quadNumber}
-use Rattle.regions.proofs.Regions.{length-padded}
-use Rattle.places.specs.Places.{Place, placeSize, placeKey, placeWords, hashWords, listWords, listMost, keptSize, blank}
+use Rattle.places.specs.Places.{Place, placeSize, placeKey, placeWords, listMost, keptSize, blank}
+use Rattle.places.proofs.Places.{length-place}
 use Rattle.machine.specs.Typed.{Each}
 use Rattle.machine.proofs.Tests.{test}
 use Rattle.store.specs.FlatSound.{PlaceFits, PlacesAscend}
@@ -46,10 +46,6 @@ module _ {A : Type 0} (P : A → Type 0) (k : ℕ) (f : List ℕ → A) (n : ℕ
       at (a ∷ l) e (suc i) d h = at l (e .1) i d (omega arith)
 
 -- ---- the words of all places
-
-pub length-place : (p : Place) → length (placeWords p) ≡ placeSize
-unfolding placeWords hashWords listWords
-length-place p = simp (length-append, length-padded, length-replicate)
 
 abbrev Exact : List ℕ → Type 0
 Exact u = u ≡ placeWords (readPlace u)
@@ -121,12 +117,6 @@ module _ (rs : List Row) (n : ℕ) (w : List ℕ) (h : placeSize * n ≤ length 
   }
 
 -- ---- turns of the loop
-
-pub below-more : (P : ℕ → Type 0) (i : ℕ) → ((k : ℕ) → k < i → P k) → P i → (k : ℕ) → k < i + 1 → P k
-below-more P i f p k h = elim (test (eqb k i)) [
-  | inl e ↦ rw (eqb-true k i e) p
-  | inr e ↦ f k (omega (arith, eqb-false k i e))
-]
 
 quad-take : (u : List ℕ) → readQuad (take placeSize u) ≡ readQuad u
 quad-take u = rw (getD-take placeSize u 0 0 (omega arith), getD-take placeSize u 1 0 (omega arith), getD-take placeSize u 2 0 (omega arith), getD-take placeSize u 3 0 (omega arith))

@@ -15,6 +15,7 @@ use Rattle.regions.specs.Regions.{each, padded}
 use Rattle.regions.specs.Rows.{rowSize, readRow, rowWords, connSize, readConn, connWords, readQuad, quadNumber}
 use Rattle.regions.proofs.Regions.{length-padded, length-each}
 use Rattle.places.specs.Places.{placeSize, placeWords}
+use Rattle.places.proofs.Places.{length-place}
 use Rattle.machine.specs.Limits.{word, need, maxAnnouncements}
 use Rattle.machine.specs.Sound.{PollFits, CursorFits}
 use Rattle.store.specs.Flat.{Flat, flatOf}
@@ -34,7 +35,6 @@ use Rattle.sound_rows.proofs.Decide.{Iff}
 use Rattle.sound_rows.proofs.Ranges.{Below, below-take, below-drop, quad-ranges}
 use Rattle.sound.proofs.HeadTests.{HeadIs, head-iff}
 use Rattle.sound.proofs.Areas.{area-iff, rows-exact, conns-exact, recs-lent}
-use Rattle.sound.proofs.PlaceWalk.{length-place}
 
 append-iff : (a b c d : List ℕ) → length a ≡ length c → Iff (a ++ b ≡ c ++ d) ((a ≡ c) × (b ≡ d))
 append-iff a b c d e = record {
@@ -151,9 +151,6 @@ module _ (w : List ℕ) (b : Below word w) (L Q n c q : ℕ) (eL : L ≡ getD w 
       }
 
   -- ---- flat states that are sound
-
-  record-rows : n * rowSize ≡ rowSize * n
-  record-rows = omega arith
 
   rb : Below word R
   rb = below-take word (X - 24) (drop 24 w) (omega arith) (below-drop word 24 w b)

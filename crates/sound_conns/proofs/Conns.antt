@@ -1,53 +1,31 @@
 -- The entries are the rows' tally exactly if each has its rows' counts and each row's connection has an entry.
 use Prim.Native.Nat.{ℕ, zero, suc, _+_, _-_, _≤_, _<_}
-use mathlib.Core.Path.{_≡_, refl, sym, ap, _∙_}
+use mathlib.Core.Path.{_≡_, sym, ap, _∙_}
 use mathlib.Core.Logic.{_⊎_, inl, inr}
-use mathlib.Core.Bool.{Bool, true, false, _||_}
+use mathlib.Core.Bool.{true}
 use mathlib.Core.List.{List, [], _∷_}
 use native.Mathlib.Omega.{arith}
 use lib.Dec.{ltb, eqb}
 use lib.ListN.{length, getD}
-use borrow.Author.Tests.{ltb-true, ltb-false, eqb-true, eq-eqb}
+use borrow.Author.Tests.{ltb-true, ltb-false, eqb-true}
 use Rattle.words.specs.Words.{recs}
 use Rattle.words.proofs.Records.{length-recs}
 use Rattle.regions.specs.declared.Row.{Row}
 use Rattle.regions.specs.declared.Conn.{Conn}
 use Rattle.regions.specs.Rows.{rowSize, readRow, connSize, readConn}
 use Rattle.machine.specs.Typed.{Each}
-use Rattle.machine.proofs.Tests.{test, never, or-true}
-use Rattle.store.specs.Flat.{ownBit, bump, tally}
+use Rattle.machine.proofs.Tests.{test, never}
+use Rattle.store.specs.Flat.{ownBit, tally}
 use Rattle.store.specs.FlatSound.{RowFits, ConnFits}
 use Rattle.store.proofs.Tally as whole
-use Rattle.store.proofs.Tally.{order, bump-nil, bump-lt, bump-eq, bump-gt, bump-tallied}
-use Rattle.store.proofs.Certify.{Counted, listed, listed-at, certified, tally-counted}
+use Rattle.store.proofs.Tally.{bump-tallied}
+use Rattle.store.proofs.Certify.{Counted, listed, listed-at, certified, tally-counted, tally-listed}
 use Rattle.sound_conns.specs.Conns.{Rise, Entries, Counts, names, Named, Inside, Holds, NamedIn, Tallied, blank, Within, Window, LastOf, many, most, ConnsSound}
 use Rattle.sound_rows.proofs.Decide.{Iff, iff-self}
 use Rattle.sound_conns.proofs.Entries.{length-names, name-entry, entries-positive}
 use Rattle.sound_conns.proofs.Tally.{spent-iff}
 
 -- ---- the tally lists each row's connection
-
-listed-here : (n o : ℕ) (cs : List Conn) → listed n (bump n o cs) ≡ true
-unfolding listed
-listed-here n o [] = rw (bump-nil, eq-eqb n n refl)
-listed-here n o (c ∷ cs) = elim (order n (c .conn)) [
-  | inl b ↦ rw (bump-lt n o c cs b, eq-eqb n n refl)
-  | inr (inl b) ↦ rw (bump-eq n o c cs b, eq-eqb n (c .conn) b)
-  | inr (inr b) ↦ rw (bump-gt n o c cs b) (or-true (eqb n (c .conn)) _ (listed-here n o cs))
-]
-
-or-keep : (a b d : Bool) → (b ≡ true → d ≡ true) → (a || b) ≡ true → (a || d) ≡ true
-or-keep true b d f e = refl
-or-keep false b d f e = f e
-
-listed-keep : (x n o : ℕ) (cs : List Conn) → listed x cs ≡ true → listed x (bump n o cs) ≡ true
-unfolding listed
-listed-keep x n o [] e = never e
-listed-keep x n o (c ∷ cs) e = elim (order n (c .conn)) [
-  | inl b ↦ rw (bump-lt n o c cs b) (or-true (eqb x n) _ e)
-  | inr (inl b) ↦ rw (bump-eq n o c cs b) e
-  | inr (inr b) ↦ rw (bump-gt n o c cs b) (or-keep (eqb x (c .conn)) (listed x cs) _ (listed-keep x n o cs) e)
-]
 
 each-to : {A : Type 0} {P Q : A → Type 0} → ((a : A) → P a → Q a) → (l : List A) → Each P l → Each Q l
 each-to f [] e = tt
@@ -56,11 +34,6 @@ each-to f (a ∷ l) e = (f a (e .0), each-to f l (e .1))
 each-zip : {A : Type 0} {P Q R : A → Type 0} → ((a : A) → P a → Q a → R a) → (l : List A) → Each P l → Each Q l → Each R l
 each-zip f [] d e = tt
 each-zip f (a ∷ l) d e = (f a (d .0) (e .0), each-zip f l (d .1) (e .1))
-
-tally-listed : (rs : List Row) → Each (λ r. listed (r .conn) (tally rs) ≡ true) rs
-unfolding tally
-tally-listed [] = tt
-tally-listed (r ∷ rs) = (listed-here (r .conn) (ownBit r) (tally rs), each-to (λ q e. listed-keep (q .conn) (r .conn) (ownBit r) (tally rs) e) rs (tally-listed rs))
 
 -- ---- listed and named
 

@@ -17,9 +17,8 @@ use Rattle.regions.specs.Order.{Sorted, Bound, Sought}
 use Rattle.regions.specs.Rows.{connSize, readConn, connKey}
 use Rattle.machine.specs.Limits.{word}
 use Rattle.machine.specs.Typed.{Each}
-use Rattle.machine.proofs.Tests.{test}
+use Rattle.machine.proofs.Tests.{test, order}
 use Rattle.store.specs.FlatSound.{ConnFits}
-use Rattle.store.proofs.Tally.{order}
 use Rattle.sound_conns.specs.Conns.{Rise, Entries, EntryStep, names, Rising, Named, Place, LastOf, blank, many, most}
 use Rattle.sound_rows.proofs.Decide.{Iff, Chain}
 use Rattle.sound_rows.proofs.Ranges.{Below}

@@ -16,11 +16,10 @@ use Rattle.regions.specs.declared.Conn.{Conn}
 use Rattle.regions.specs.Rows.{rowSize, readRow, connSize, readConn}
 use Rattle.machine.specs.Table.{one}
 use Rattle.machine.specs.Typed.{Each}
-use Rattle.machine.proofs.Tests.{test}
+use Rattle.machine.proofs.Tests.{test, order}
 use Rattle.store.specs.Flat.{ownBit}
 use Rattle.store.specs.FlatSound.{countRows, owns, ConnFits}
 use Rattle.store.proofs.Counts.{rows-append}
-use Rattle.store.proofs.Tally.{order}
 use Rattle.store.proofs.Certify.{own-bit}
 use Rattle.sound_conns.specs.Conns.{half, heldBy, ownedBy, Counts, Left, names, Rising, Named, Less, Enough, Lessened}
 use Rattle.sound_conns.specs.Conns.{Short, Lessening, Inside, Holds, NamedIn, Took, Lacks, Taking, Tallied, blank, Within, Window}
@@ -46,9 +45,6 @@ lessened-here t lo k own h l e =
 
 pub short-here : (t : List ℕ) (lo k own : ℕ) → lo ≤ k → k - lo < length t → (Enough own (getD t (k - lo) 0) → ⊥) → Short t lo k own
 short-here t lo k own h l n = record { at = k - lo; within = l; is = omega arith; short = n }
-
-pub lessened-past : (t : List ℕ) (lo k own : ℕ) → ((j : ℕ) → j < length t → lo + j ≡ k → ⊥) → Lessened t t lo k own
-lessened-past t lo k own n = record { here = λ j m q. absurd (n j m q); other = λ j q. refl }
 
 -- ---- rows counted one by one
 

@@ -2,7 +2,7 @@
 use Prim.Native.Nat.{ℕ, zero, suc, _+_, _-_, _*_, _≤_, _<_}
 use mathlib.Core.Path.{_≡_, refl, sym, ap, _∙_}
 use mathlib.Core.Logic.{_⊎_, inl, inr}
-use mathlib.Core.Bool.{Bool, true, false, _&&_}
+use mathlib.Core.Bool.{Bool, true, false, _&&_, and-true}
 use mathlib.Core.List.{List, [], _∷_, _++_}
 use native.Mathlib.Omega.{arith}
 use lib.Dec.{ltb, leb, eqb}
@@ -19,7 +19,7 @@ use Rattle.machine.specs.Typed.{Each}
 use Rattle.machine.proofs.Tests.{test}
 use Rattle.store.specs.Flat.{ownBit}
 use Rattle.store.specs.FlatSound.{countRows, hashAt, owns}
-use Rattle.store.proofs.Counts.{rows-append, rows-all, rows-same, and-true}
+use Rattle.store.proofs.Counts.{rows-append, rows-all, rows-same}
 use Rattle.store.proofs.Certify.{own-bit}
 use Rattle.sound_rows.specs.Groups.{GroupsSound, rowAt, rowsIn, Least, Run, rowsBy, Apart, GroupFits}
 use Rattle.sound_rows.proofs.Decide.{Iff, iff-self, rest-all, rest-turn, rest-none}

@@ -16,16 +16,13 @@ use Rattle.ident.specs.Number.{Key, Item, keyOf}
 use Rattle.machine.specs.State.{Candidate, Owner, Request, ownerIs}
 use Rattle.machine.specs.Table.{one}
 use Rattle.machine.proofs.Tests.{test}
+use Rattle.machine.proofs.Owning.{one-most}
 use Rattle.store.specs.Flat.{kindBit, witnessBit, bitsOf, rowOf, ownBit}
 use Rattle.store.specs.Gather.{kindIs, keyAt, itemKindAs, candidateAt, ownerAt}
 use Rattle.store.specs.FlatSound.{owns, markBit}
-use Rattle.store.proofs.Quads.{number-quad}
+use Rattle.regions.proofs.Order.{number-quad}
 
 -- ---- each bit is 0 or 1
-
-pub one-most : (b : Bool) → one b ≤ 1
-one-most true = omega arith
-one-most false = omega arith
 
 kind-most : (k : Kind) → kindBit k ≤ 1
 kind-most Txid = omega arith
@@ -82,7 +79,7 @@ module _ (k : Kind) (i : ItemKind) (x y z : Bool) where
 
 -- ---- a row, read
 
-kind-back : (k : Kind) → kindIs (kindBit k) ≡ k
+pub kind-back : (k : Kind) → kindIs (kindBit k) ≡ k
 kind-back Txid = refl
 kind-back Wtxid = refl
 

@@ -8,7 +8,7 @@ use native.Mathlib.Omega.{arith}
 use lib.ListN.{length, getD, length-append, List·getD-append}
 use lib.Seq.{getD-append-add}
 use Rattle.regions.specs.Order.{Sorted, Bound}
-use Rattle.store.proofs.Tally.{order}
+use Rattle.machine.proofs.Tests.{order}
 
 -- numbers that do not fall, from lo on
 abbrev pub Ascend : ℕ → List ℕ → Type 0

@@ -1,10 +1,10 @@
 -- Words of 64 bits and their bytes decide each other.
-use Prim.Native.Nat.{ℕ, zero, suc, _+_, _*_, _/_, _%_, _<_}
+use Prim.Native.Nat.{ℕ, zero, suc, _+_, _/_, _%_, _<_}
 use mathlib.Core.Path.{_≡_, refl, ap, _∙_}
 use mathlib.Core.List.{List, [], _∷_, _++_}
 use native.Mathlib.Omega.{arith}
 use lib.Dec.{lit<}
-use lib.ListN.{length, take, drop, getD, length-append}
+use lib.ListN.{take, drop, getD}
 use lib.Seq.{getD-drop}
 use Rattle.words.specs.Words.{digits, recs, words, bytesOf}
 use Rattle.words.proofs.Digits.{length-digits, number-digits}
@@ -43,11 +43,6 @@ pub bytes-of : (ws : List ℕ) → Bytes (bytesOf ws)
 unfolding bytesOf
 bytes-of [] = λ i. omega arith
 bytes-of (w ∷ ws) = bytes-append (digits 256 8 w) (bytesOf ws) (bytes-digits 8 w) (bytes-of ws)
-
-pub length-bytes : (ws : List ℕ) → length (bytesOf ws) ≡ 8 * length ws
-unfolding bytesOf
-length-bytes [] = refl
-length-bytes (w ∷ ws) = omega (arith, length-append (digits 256 8 w) (bytesOf ws), length-digits 256 8 w, length-bytes ws)
 
 one-word : (w : ℕ) → w < word → words (digits 256 8 w) ≡ w ∷ []
 unfolding words recs digits

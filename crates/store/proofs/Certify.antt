@@ -2,7 +2,7 @@
 use Prim.Native.Nat.{ℕ, zero, suc, _+_, _≤_, _<_}
 use mathlib.Core.Path.{_≡_, refl, sym, ap, _∙_}
 use mathlib.Core.Logic.{inl, inr}
-use mathlib.Core.Bool.{Bool, true, false, _&&_, _||_}
+use mathlib.Core.Bool.{Bool, true, false, _&&_, _||_, and-true}
 use mathlib.Core.List.{List, [], _∷_}
 use native.Mathlib.Omega.{arith}
 use lib.Dec.{eqb}
@@ -11,13 +11,13 @@ use borrow.Author.Tests.{eqb-true, eqb-false, eq-eqb, ne-eqb}
 use Rattle.ident.specs.If.{if_then_else_}
 use Rattle.machine.specs.Table.{one}
 use Rattle.machine.specs.Typed.{Each}
-use Rattle.machine.proofs.Tests.{test, never}
+use Rattle.machine.proofs.Tests.{test, never, order}
 use Rattle.regions.specs.declared.Row.{Row}
 use Rattle.regions.specs.declared.Conn.{Conn}
 use Rattle.store.specs.Flat.{ownBit, bump, tally}
 use Rattle.store.specs.FlatSound.{countRows, owns}
-use Rattle.store.proofs.Tally.{order, fresh, more, bump-nil, bump-lt, bump-eq, bump-gt, Tallied, tally-tallied}
-use Rattle.store.proofs.Counts.{rows-same, and-true, eqb-sym}
+use Rattle.store.proofs.Tally.{fresh, more, bump-nil, bump-lt, bump-eq, bump-gt, Tallied, tally-tallied}
+use Rattle.store.proofs.Counts.{rows-same, eqb-sym}
 
 -- how many rows a connection has, and how many of them own their request
 abbrev pub heldRows : ℕ → List Row → ℕ

@@ -2,7 +2,7 @@
 use Prim.Native.Nat.{ℕ, _+_, _≤_}
 use mathlib.Core.Path.{_≡_, refl, sym, _∙_}
 use mathlib.Core.Logic.{inl, inr}
-use mathlib.Core.Bool.{Bool, true, false, _&&_}
+use mathlib.Core.Bool.{Bool, true, false, _&&_, and-false}
 use mathlib.Core.List.{List, [], _∷_, _++_, map}
 use mathlib.Core.Option.{Option, none, some}
 use native.Mathlib.Omega.{arith}
@@ -15,7 +15,8 @@ use Rattle.regions.specs.Regions.{each}
 use Rattle.machine.specs.State.{Candidate, Owner, Package, Request, Table, ownerIs}
 use Rattle.machine.specs.Table.{countIn, total, count, ownerIn, owners, placeIn, placesHeld, has, any, by, under, byUnder}
 use Rattle.machine.specs.Sound.{OwnerFits, Lawful, All}
-use Rattle.machine.proofs.Tests.{test, never}
+use Rattle.machine.proofs.Tests.{test}
+use Rattle.machine.proofs.Leaving.{count-has as in-has}
 use Rattle.store.specs.Flat.{rowOf, rowsFor, rowsOf, placeFor, placesFor, placesOf}
 use Rattle.store.specs.Gather.{keyAt}
 use Rattle.store.specs.FlatSound.{countRows, hashAt, owns, ownsKey}
@@ -37,11 +38,6 @@ pub rows-all : (rs : List Row) → countRows (λ r. true) rs ≡ length rs
 unfolding countRows
 rows-all [] = refl
 rows-all (r ∷ rs) = omega (arith, rows-all rs)
-
-pub rows-most : (p : Row → Bool) (rs : List Row) → countRows p rs ≤ length rs
-unfolding countRows
-rows-most p [] = omega arith
-rows-most p (r ∷ rs) = elim (test (p r)) [ inl e ↦ rw e (omega (arith, rows-most p rs)) | inr e ↦ rw e (omega (arith, rows-most p rs)) ]
 
 -- ---- announcements
 
@@ -83,29 +79,16 @@ unfolding countIn
 in-same p q [] h = refl
 in-same p q (c ∷ cs) h = rw (h (c .connection), in-same p q cs h)
 
-in-none : (cs : List Candidate) → countIn (λ m. false) cs ≡ 0
+pub in-none : (cs : List Candidate) → countIn (λ m. false) cs ≡ 0
 unfolding countIn
 in-none [] = refl
 in-none (c ∷ cs) = omega (arith, in-none cs)
-
-pub in-has : (n : ℕ) (cs : List Candidate) → has n cs ≡ true → 1 ≤ countIn (λ m. eqb m n) cs
-unfolding has countIn
-in-has n [] h = never h
-in-has n (c ∷ cs) h = elim (test (eqb (c .connection) n)) [ inl e ↦ rw e (omega arith) | inr e ↦ rw e (omega (arith, in-has n cs (rw e at h))) ]
 
 pub in-hasnt : (n : ℕ) (cs : List Candidate) → countIn (λ m. eqb m n) cs ≡ 0 → has n cs ≡ false
 unfolding has countIn
 in-hasnt n [] h = refl
 in-hasnt n (c ∷ cs) h = elim (test (eqb (c .connection) n))
     [ inl e ↦ absurd (omega (arith, rw e at h)) | inr e ↦ let z : countIn (λ m. eqb m n) cs ≡ 0 = omega (arith, rw e at h) in rw e (in-hasnt n cs z) ]
-
-pub and-true : (b : Bool) → (b && true) ≡ b
-and-true true = refl
-and-true false = refl
-
-and-false : (b : Bool) → (b && false) ≡ false
-and-false true = refl
-and-false false = refl
 
 pub eqb-sym : (m n : ℕ) → eqb m n ≡ eqb n m
 eqb-sym m n = elim (test (eqb n m)) [

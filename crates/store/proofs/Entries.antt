@@ -13,9 +13,10 @@ use Rattle.regions.specs.declared.Conn.{Conn}
 use Rattle.regions.specs.Regions.{insertAt, removeAt}
 use Rattle.regions.specs.Order.{Sorted, Bound}
 use Rattle.store.specs.Flat.{ownBit, bump, tally}
-use Rattle.store.proofs.Tally.{order, fresh, more, bump-nil, bump-lt, bump-eq, bump-gt, Tallied, fewer, unbump, reowned, retally}
+use Rattle.store.proofs.Tally.{fresh, more, bump-nil, bump-lt, bump-eq, bump-gt, Tallied, fewer, unbump, reowned, retally}
 use Rattle.store.proofs.Certify.{valueOf}
 use Rattle.store.proofs.Bounds.{Ascend, ascend-weaken, ascend-sorted}
+use Rattle.machine.proofs.Tests.{order}
 
 -- the connections, in order
 abbrev pub names : List Conn → List ℕ

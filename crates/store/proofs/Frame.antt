@@ -208,14 +208,14 @@ length-remove-range l from to h g = simp (length-append, length-take, length-dro
 
 -- ---- an empty store
 
-cleared : (w : List ℕ) (d : ℕ) → length w ≡ d → splice w 0 (replicate d 0) ≡ replicate d 0
+pub cleared : (w : List ℕ) (d : ℕ) → length w ≡ d → splice w 0 (replicate d 0) ≡ replicate d 0
 unfolding splice
 cleared w d n =
     let m : length (replicate {A = ℕ} d 0) ≡ d = length-replicate d 0 in
     let z : drop (0 + length (replicate {A = ℕ} d 0)) w ≡ [] = drop-of-length-le w {i = 0 + length (replicate {A = ℕ} d 0)} (omega arith) in
     rw z (append-nil (replicate d 0))
 
-padded-nil : (n : ℕ) → padded n [] ≡ replicate n 0
+pub padded-nil : (n : ℕ) → padded n [] ≡ replicate n 0
 padded-nil n = padded-fit n [] (omega arith) ∙ (let e : n - 0 ≡ n = omega arith in rw e)
 
 parted : (l q d : ℕ) → d ≡ 24 + (12 * l + 824 * q) → replicate {A = ℕ} d 0 ≡ replicate 24 0 ++ (replicate (rowSize * l) 0 ++ (replicate (connSize * l) 0 ++ replicate (placeSize * q) 0))

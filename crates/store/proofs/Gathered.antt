@@ -11,6 +11,7 @@ use lib.ListN.{length}
 use borrow.Author.Tests.{eqb-true, eqb-false, eq-eqb, ne-eqb}
 use Rattle.ident.specs.declared.Kind.{Kind}
 use Rattle.ident.specs.Number.{Key, place}
+use Rattle.ident.proofs.Places.{place-same as place-inj}
 use Rattle.regions.specs.declared.Row.{Row}
 use Rattle.regions.specs.Regions.{each}
 use Rattle.machine.specs.State.{Candidate, Owner, Package, Request, Table, ownerIs}
@@ -18,7 +19,6 @@ use Rattle.machine.specs.Table.{countIn, total, ownerIn, has, byUnder, under}
 use Rattle.machine.specs.Sound.{OwnerFits, Packed, Lawful, Filled, Ordered, All}
 use Rattle.machine.specs.Typed.{Each}
 use Rattle.machine.proofs.Tests.{test, never}
-use Rattle.machine.proofs.Table.{place-inj}
 use Rattle.store.specs.Flat.{rowOf, rowsFor, rowsOf}
 use Rattle.store.specs.Gather.{keyAt, single, joined, join, gather}
 use Rattle.store.specs.FlatSound.{countRows, hashAt, owns, markBit, RowFits, Ascending, MarkedAs, SameMarks}

@@ -9,10 +9,10 @@ use Rattle.ident.specs.declared.Kind.the-variants.{Txid, Wtxid}
 use Rattle.ident.specs.Number.{Key}
 use Rattle.regions.specs.declared.Quad.{Quad}
 use Rattle.regions.specs.Rows.{quadNumber, quadOf}
+use Rattle.regions.proofs.Order.{number-quad}
 use Rattle.store.specs.Flat.{Head}
 use Rattle.store.specs.Image.{headSize, format, cursorTag, pollWords, cursorWords, headWords}
 use Rattle.store.specs.Read.{pollIs, cursorIs, headIn}
-use Rattle.store.proofs.Quads.{number-quad}
 
 -- ---- the words of the parts that can be none
 

@@ -10,9 +10,9 @@ use borrow.Author.Tests.{ne-eqb}
 use Rattle.regions.specs.declared.Conn.{Conn}
 use Rattle.regions.specs.Order.{Sorted, Bound}
 use Rattle.machine.specs.Typed.{Each}
+use Rattle.machine.proofs.Tests.{order}
 use Rattle.store.specs.Counting.{unbump, retally}
 use Rattle.store.specs.Shown.{connNames}
-use Rattle.store.proofs.Tally.{order}
 
 abbrev Gone : ℕ → List Conn → Type 0
 Gone x cs = (j : ℕ) → j < length cs → getD (connNames cs) j 0 ≡ x → ⊥
@@ -27,7 +27,7 @@ unfolding retally
 retally-gone x o p [] n = refl
 retally-gone x o p (c ∷ cs) n = rw (ne-eqb x (c .conn) (λ z. n 0 (omega arith) (sym z)), retally-gone x o p cs (λ j l. n (suc j) (omega arith)))
 
-name-at : (cs : List Conn) (i : ℕ) (d : Conn) → i < length cs → getD (connNames cs) i 0 ≡ (getD cs i d) .conn
+pub name-at : (cs : List Conn) (i : ℕ) (d : Conn) → i < length cs → getD (connNames cs) i 0 ≡ (getD cs i d) .conn
 name-at [] i d h = absurd (omega arith)
 name-at (c ∷ cs) zero d h = refl
 name-at (c ∷ cs) (suc i) d h = name-at cs i d (omega arith)

@@ -11,6 +11,7 @@ use borrow.Author.Tests.{eq-eqb, ne-eqb}
 use Rattle.ident.specs.declared.Kind.{Kind}
 use Rattle.ident.specs.declared.Kind.the-variants.{Wtxid}
 use Rattle.ident.specs.Number.{Key, place, wtxid}
+use Rattle.ident.proofs.Places.{place-same as place-inj}
 use Rattle.regions.specs.declared.Row.{Row}
 use Rattle.regions.specs.Regions.{each}
 use Rattle.places.specs.Places.{Place}
@@ -18,12 +19,10 @@ use Rattle.machine.specs.State.{Owner, Package, Request, Table, isSome}
 use Rattle.machine.specs.Table.{total, ownerIn, owners}
 use Rattle.machine.specs.Sound.{Packed, Lawful, Filled, Ordered, All}
 use Rattle.machine.specs.Typed.{Each}
-use Rattle.machine.proofs.Tests.{by-test}
-use Rattle.machine.proofs.Table.{place-inj}
+use Rattle.machine.proofs.Tests.{by-test, order}
 use Rattle.store.specs.Flat.{rowOf, rowsFor, rowsOf, placeFor, placesFor, placesOf}
 use Rattle.store.specs.Gather.{packageAt, placed, dress}
 use Rattle.store.specs.FlatSound.{countRows, StageFits, ownsKey, PlaceFits, PlacesAscend}
-use Rattle.store.proofs.Tally.{order}
 use Rattle.store.proofs.Counts.{atWtxid}
 use Rattle.store.proofs.Dress.{spotOf}
 use Rattle.store.proofs.RowBack.{rows-like}

@@ -15,11 +15,11 @@ use Rattle.machine.specs.Table.{one, total, ownerIn, owners}
 use Rattle.machine.specs.Sound.{PackageFits, Packed, Lawful, Ordered, All}
 use Rattle.machine.specs.Typed.{Each}
 use Rattle.machine.proofs.Tests.{never}
+use Rattle.machine.proofs.Announce.{each-append as each-both}
 use Rattle.store.specs.Flat.{placeFor, placesFor, placesOf}
 use Rattle.store.specs.FlatSound.{countRows, StageFits, ownsKey, PlaceFits, PlacesAscend}
 use Rattle.store.proofs.Counts.{atWtxid}
 use Rattle.store.proofs.Dress.{inPackage}
-use Rattle.store.proofs.RowsFit.{each-both}
 
 -- ---- one place
 

@@ -19,9 +19,6 @@ up a x n p q = omega arith
 down : (x n : ℕ) → x < word * n → x / word < n
 down x n h = omega arith
 
-pub number-quad : (h : ℕ) → quadNumber (quadOf h) ≡ h
-number-quad h = order.number-quad h
-
 pub quad-number : (q : Quad) → QuadFits q → quadOf (quadNumber q) ≡ q
 quad-number q f = order.quad-number q (record { w0 = f .w0; w1 = f .w1; w2 = f .w2; w3 = f .w3 })
 

@@ -39,7 +39,7 @@ each-of P f (a ∷ l) = (f a, each-of P f l)
 
 -- ---- rows and connections
 
-length-row : (r : Row) → length (rowWords r) ≡ rowSize
+pub length-row : (r : Row) → length (rowWords r) ≡ rowSize
 unfolding rowWords
 length-row r = refl
 

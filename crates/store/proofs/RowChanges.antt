@@ -19,7 +19,7 @@ use Rattle.machine.specs.Sound.{Ordered}
 use Rattle.machine.proofs.Tests.{or-left, or-right}
 use Rattle.regions.specs.Rows.{quadOf}
 use Rattle.store.specs.Flat.{kindBit, deadlineFor, rowOf, rowsFor, rowsOf}
-use Rattle.store.proofs.Split.{rowsBelow, rowsAbove, rows-at, rows-change}
+use Rattle.store.proofs.Split.{rowsBelow, rowsAbove, rows-change}
 use Rattle.store.proofs.Counts.{Distinct, in-hasnt, eqb-sym}
 use Rattle.store.proofs.RowBack.{row-same, rows-like}
 use Rattle.store.proofs.RowsAt.{rows-append, Among, ahead, behind, rows-among}
@@ -56,7 +56,7 @@ module _ (q r : Request) (c : Candidate) (e : q .key ≡ r .key) (m : q .fallbac
       let k₄ : one (q .fallback) ≡ one (r .fallback) = ap one m in
       row-is _ _ (ap (λ (k : Key). quadOf (k .hash)) e) refl refl refl (ap (deadlineFor (c .connection)) w) (omega arith)
 
-idle : (n : ℕ) (o : Option Owner) → ownerIs n o ≡ false → deadlineFor n o ≡ 0
+pub idle : (n : ℕ) (o : Option Owner) → ownerIs n o ≡ false → deadlineFor n o ≡ 0
 idle n none e = refl
 idle n (some o) e = rw e
 
@@ -161,12 +161,3 @@ rows-adopted same c k lo t o f =
     (rows-like q r (f .front) refl refl refl)
     (row-same q r (adopting same c (f .one)) refl refl refl refl)
     (rows-like q r (f .back) refl refl refl)
-
--- a change of flag, package or parents alone
-pub rows-unchanged : (k : Key) (lo : ℕ) (t : Table) → Ordered lo t → (g : Request → Request) → (g (at k t)) .key ≡ (at k t) .key → (g (at k t)) .candidates ≡ (at k t) .candidates
-    → (g (at k t)) .fallback ≡ (at k t) .fallback → (g (at k t)) .owner ≡ (at k t) .owner → rowsOf (change k g t) ≡ rowsOf t
-unfolding rowsFor
-rows-unchanged k lo t o g ek ec em ew =
-    rows-change k lo t o g
-    ∙ ap (λ (l : List Row). rowsBelow k t ++ (l ++ rowsAbove k t)) (ap (map (rowOf (g (at k t)))) ec ∙ rows-like (g (at k t)) (at k t) ((at k t) .candidates) ek em ew)
-    ∙ sym (rows-at k lo t o)

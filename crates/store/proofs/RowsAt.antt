@@ -69,7 +69,7 @@ snoc-some : {A X : Type 0} (cs : List A) (c : A) → cs ++ (c ∷ []) ≡ [] →
 snoc-some cs c e = absurd (omega (arith, length-append cs (c ∷ []), ap length e))
 
 -- places depend on key, flag, package and parents
-places-with : (r : Request) (cs : List Candidate) → placesFor (withCandidates cs r) ≡ placesFor r
+pub places-with : (r : Request) (cs : List Candidate) → placesFor (withCandidates cs r) ≡ placesFor r
 unfolding placesFor
 places-with r cs = go (r .info) (r .«package»)
   where

@@ -21,6 +21,7 @@ use Rattle.machine.specs.Table.{one}
 use Rattle.machine.specs.Sound.{Fits, AllFit, OwnerFits, Marked, Lawful, Ordered, All}
 use Rattle.machine.specs.Typed.{Each}
 use Rattle.machine.proofs.Tests.{test}
+use Rattle.machine.proofs.Announce.{each-append as each-both}
 use Rattle.store.specs.Flat.{kindBit, witnessBit, deadlineFor, rowOf, rowsFor, rowsOf}
 use Rattle.store.specs.Gather.{keyAt}
 use Rattle.store.specs.FlatSound.{RowFits, Ascending, MarkedAs, SameMarks}
@@ -70,10 +71,6 @@ row-fits r c h l f = record {
 }
 
 -- ---- all of them
-
-pub each-both : {A : Type 0} (P : A → Type 0) (a b : List A) → Each P a → Each P b → Each P (a ++ b)
-each-both P [] b p q = q
-each-both P (x ∷ a) b p q = (p .0, each-both P a b (p .1) q)
 
 pub each-by : {A : Type 0} {P Q : A → Type 0} (l : List A) → ((a : A) → P a → Q a) → Each P l → Each Q l
 each-by [] f p = tt

@@ -6,7 +6,7 @@ use native.Mathlib.Omega.{arith}
 use lib.ListN.{length, take, drop, length-append, length-drop, take-append-drop}
 use lib.Seq.{take-at, drop-at}
 use Rattle.words.specs.Words.{words, bytesOf}
-use Rattle.words.proofs.Words.{bytes-words}
+use Rattle.words.proofs.Words.{bytes-words, length-bytes}
 use Rattle.words.proofs.Parts.{words-append}
 use Rattle.machine.specs.Limits.{need}
 use Rattle.machine.specs.State.{State}
@@ -17,7 +17,7 @@ use Rattle.store.specs.Read.{stateOf}
 use Rattle.store.proofs.ToFlat.{flat-sound}
 use Rattle.store.proofs.WordsFit.{words-fit}
 use Rattle.store.proofs.FlatRead.{length-image, image-state}
-use Rattle.store.proofs.BytesBack.{bytes-append, bytes-take, bytes-drop, bytes-of, length-bytes, words-bytes}
+use Rattle.store.proofs.BytesBack.{bytes-append, bytes-take, bytes-drop, bytes-of, words-bytes}
 
 whole-words : (L Q : ℕ) → need L Q % 8 ≡ 0
 unfolding need

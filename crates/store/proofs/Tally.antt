@@ -1,26 +1,17 @@
 -- The tally of rows: one row more, one row less, a row that comes to own or ceases to.
 use Prim.Native.Nat.{ℕ, suc, _+_, _-_, _≤_, _<_}
 use mathlib.Core.Path.{_≡_, refl, sym}
-use mathlib.Core.Logic.{_⊎_, inl, inr}
+use mathlib.Core.Logic.{inl, inr}
 use mathlib.Core.List.{List, [], _∷_, _++_}
 use native.Mathlib.Nat.{add-comm}
 use native.Mathlib.Omega.{arith}
-use lib.Dec.{ltb, eqb}
-use borrow.Author.Tests.{ltb-true, ltb-false, eqb-true, eqb-false, lt-ltb, le-ltb, eq-eqb, ne-eqb}
+use borrow.Author.Tests.{lt-ltb, le-ltb, eq-eqb, ne-eqb}
 use Rattle.ident.specs.If.{if_then_else_}
-use Rattle.machine.proofs.Tests.{test}
+use Rattle.machine.proofs.Tests.{order}
 use Rattle.regions.specs.declared.Row.{Row}
 use Rattle.regions.specs.declared.Conn.{Conn}
 use Rattle.store.specs.Flat.{ownBit, bump, tally}
 unfoldable pub use Rattle.store.specs.Counting.{fewer, unbump, reowned, retally}
-
--- below, equal or above
-pub order : (a b : ℕ) → (a < b) ⊎ ((a ≡ b) ⊎ (b < a))
-order a b =
-    elim (test (ltb a b)) [
-      | inl e ↦ inl (ltb-true a b e)
-      | inr e ↦ elim (test (eqb a b)) [ inl d ↦ inr (inl (eqb-true a b d)) | inr d ↦ inr (inr (omega (arith, ltb-false, eqb-false a b d))) ]
-    ]
 
 abbrev pub fresh : ℕ → ℕ → Conn
 fresh n o = record { conn = n; held = 1; owned = o }

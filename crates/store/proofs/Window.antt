@@ -24,7 +24,7 @@ use Rattle.store.specs.FlatSound.{Ascending, PlacesAscend}
 use Rattle.store.proofs.Bits.{key-row}
 use Rattle.store.proofs.Keys.{row-number}
 use Rattle.store.proofs.Split.{below, above, above-ordered, below-under, rowsBelow, rowsAbove, placesBelow, placesAbove, rows-at, places-at}
-use Rattle.store.proofs.Bounds.{Ascend, ascend-weaken, ascend-sorted, sorted-ascend, Upto, upto-weaken, upto-append, bound-append}
+use Rattle.store.proofs.Bounds.{Ascend, ascend-weaken, ascend-sorted, Upto, upto-weaken, upto-append, bound-append}
 use Rattle.store.proofs.Dress.{Has, nothing, its, has-place}
 use Rattle.store.proofs.RowsFit.{rows-ascend}
 use Rattle.store.proofs.PlacesFit.{places-ascend}
@@ -45,14 +45,6 @@ keys-ascend lo (r ∷ rs) a = rw (row-number r) (a .0, keys-ascend _ rs (a .1))
 
 pub rows-sorted : (lo : ℕ) (rs : List Row) → Ascending lo rs → Sorted (rowKeys rs)
 rows-sorted lo rs a = ascend-sorted lo (rowKeys rs) (keys-ascend lo rs a)
-
--- what a test of neighbours shows
-pub sorted-rows : (rs : List Row) → Sorted (rowKeys rs) → Ascending 0 rs
-sorted-rows rs s = go 0 rs (sorted-ascend 0 (rowKeys rs) (λ h. omega arith) s)
-  where
-    go : (lo : ℕ) (rs : List Row) → Ascend lo (rowKeys rs) → Ascending lo rs
-    go lo [] a = tt
-    go lo (r ∷ rs) a = rw (← (row-number r)) (a .0, go _ rs (a .1))
 
 upto-in : (x : ℕ) (r : Request) (cs : List Candidate) → place (r .key) < x → Upto x (rowKeys (map (rowOf r) cs))
 upto-in x r [] h = tt

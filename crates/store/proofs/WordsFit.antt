@@ -18,11 +18,12 @@ use Rattle.places.specs.Places.{Place, listMost, placeSize, keptSize, hashWords
 use Rattle.machine.specs.Limits.{word}
 use Rattle.machine.specs.Sound.{Hashes, PackageFits, PollFits, CursorFits}
 use Rattle.machine.specs.Typed.{Each}
+use Rattle.machine.proofs.Tests.{order}
 use Rattle.store.specs.Flat.{ownBit, bump, tally, Flat}
 use Rattle.store.specs.FlatSound.{QuadFits, RowFits, packageOf, StageFits, PlaceFits, ConnFits, FlatSound}
 use Rattle.store.specs.Image.{format, pollWords, cursorTag, cursorWords, headWords, wordsOf}
 use Rattle.store.proofs.Quads.{quad-fits}
-use Rattle.store.proofs.Tally.{order, bump-nil, bump-lt, bump-eq, bump-gt}
+use Rattle.store.proofs.Tally.{bump-nil, bump-lt, bump-eq, bump-gt}
 use Rattle.store.proofs.Entries.{tally-length}
 use Rattle.store.proofs.Frame.{rowPart, connPart, placePart}
 

@@ -7,7 +7,6 @@ use mathlib.Core.List.{List, [], _∷_}
 use mathlib.Core.Option.{Option, none, some}
 use native.Mathlib.Omega.{arith}
 use lib.Dec.{ltb, eqb}
-use lib.ListN.{length}
 use borrow.Author.Tests.{ltb-true, eq-eqb}
 use Rattle.ident.specs.declared.Kind.{Kind}
 use Rattle.ident.specs.If.{if_then_else_}
@@ -20,6 +19,8 @@ use Rattle.machine.specs.Sound.{Ordered, All, Filled, Lawful}
 use Rattle.machine.specs.Typed.{Each}
 use Rattle.machine.proofs.Tests.{test, never}
 use Rattle.machine.proofs.Table.{at-absent}
+use Rattle.machine.proofs.First.{keep-some as keep-filled}
+use Rattle.machine.proofs.KeptAtZero.{packed-owned as owned}
 use Rattle.package_stages.proofs.Seeking.{holding}
 use Rattle.tearing.specs.Torn.{quit, tornIn, tornAll}
 
@@ -28,9 +29,6 @@ use Rattle.tearing.specs.Torn.{quit, tornIn, tornAll}
 packed-place : (i : Bool) (p : Option Package) → isSome p ≡ true → (i || isSome p) ≡ true
 packed-place true p e = refl
 packed-place false p e = e
-
-pub owned : (q : Request) → Lawful q → isSome (q .«package») ≡ true → isSome (q .owner) ≡ true
-owned q l e = holding q l (packed-place (q .info) (q .«package») e) .owner
 
 pub wtxid-key : (q : Request) → Lawful q → isSome (q .«package») ≡ true → q .key ≡ wtxid (q .key .hash)
 wtxid-key q l e = ap (λ (j : Kind). record { kind = j; hash = q .key .hash }) (holding q l (packed-place (q .info) (q .«package») e) .kind)
@@ -73,11 +71,6 @@ pub keys-keep : (r : Request) (cs : List Candidate) (t : Table) → r .«package
 unfolding keep packageKeys
 keys-keep r [] t e = refl
 keys-keep r (c ∷ cs) t e = rw e
-
-keep-filled : (r : Request) (cs : List Candidate) (t : Table) → 1 ≤ length cs → keep r cs t ≡ r ∷ t
-unfolding keep
-keep-filled r [] t h = absurd (omega arith)
-keep-filled r (c ∷ cs) t h = refl
 
 pub cons-some : {X : Type 0} {k : Key} {ks : List Key} → k ∷ ks ≡ [] → X
 cons-some e = let z : _≡_ {A = ℕ} 1 0 = ap (λ (l : List Key). one-if l) e in absurd (omega arith)

@@ -8,8 +8,8 @@ use native.Mathlib.Nat.{add-zero}
 use native.Mathlib.Numerals.{add-one}
 use native.Mathlib.Omega.{arith}
 use lib.Dec.{eqb}
-use lib.ListN.{length, take, drop, getD, set, length-set, length-append, length-drop, drop-of-length-le}
-use lib.Seq.{length-take-le, take-all, take-suc, drop-drop, drop-cons, getD-drop, take-suc-set, drop-set-lt, set-getD}
+use lib.ListN.{length, take, drop, getD, set, length-append, length-drop, drop-of-length-le}
+use lib.Seq.{length-take-le, take-all, take-suc, drop-drop, drop-cons, getD-drop}
 use borrow.Author.Tests.{eqb-true, eq-eqb, ne-eqb}
 use Rattle.ident.specs.Number.{top}
 use Rattle.regions.specs.declared.Conn.{Conn}
@@ -36,8 +36,10 @@ use Rattle.requests.proofs.Keeping.{sized-of, light-of}
 use Rattle.requests.proofs.Shearing.{shorn-shown}
 use Rattle.package_stages.specs.Dead.{filter}
 use Rattle.tearing.specs.Idle.{busy, ebbed}
-use Rattle.tearing.specs.Torn.{packagedRow, Ebbs, tornRow, tornRows, tornEntries, putAt, RowTorn, RowsTorn}
+use Rattle.tearing.specs.Torn.{packagedRow, Ebbs, tornRow, tornRows, tornEntries, RowTorn, RowsTorn}
 use Rattle.tearing.proofs.Ebbing.{Rising, rising-sorted, tallied-rising, tallied-busy, ebbed-rising, ebbed-long, ebbed-light, ebbed-busy}
+use Rattle.announcing.proofs.DroppingRows.{put-long, put-front, put-rest}
+use Rattle.announcing.specs.Drops.{putAt}
 
 -- ---- one row
 
@@ -90,10 +92,6 @@ left-tally now t x r y cs up e = elim (test (packagedRow t r)) [
   ]
   | inr p ↦ ap (filter busy) (entries-stay now t r p cs) ∙ e ∙ ap (λ (l : List Row). tally (x ++ (l ++ y))) (sym (row-stays now t r p))
 ]
-
--- a row put where it is
-pub kept-there : {b : List ℕ} {m i : ℕ} {r : Row} → m ≡ i → ((f : Flat) (d : Row) → Shows b f → r ≡ getD (f .rows) i d) → Turns b b (λ f. withRows (set (f .rows) m r) f)
-kept-there {b} {m} {i} {r} e row f h = subst (λ (rs : List Row). Shows b (withRows rs f)) (sym (ap (λ (j : ℕ). set (f .rows) j r) e ∙ ap (set (f .rows) i) (row f r h) ∙ set-getD (f .rows) i r)) h
 
 -- as the code tests it
 abbrev Reads : List ℕ → ℕ → Row → Type 0
@@ -161,21 +159,6 @@ pub torn-few : (now : ℕ) (t : Table) (rs : List Row) → length (each (tornRow
 unfolding each
 torn-few now t [] = omega arith
 torn-few now t (r ∷ rs) = omega (arith, length-append (tornRow now t r) (each (tornRow now t) rs), row-short now t r, torn-few now t rs)
-
--- ---- what stays of a row, put at m
-
-put-long : (m : ℕ) (l xs : List Row) → length (putAt m l xs) ≡ length xs
-put-long m [] xs = refl
-put-long m (x ∷ l) xs = length-set xs m x
-
-put-front : (m : ℕ) (l xs : List Row) → length l ≤ 1 → m < length xs → take (m + length l) (putAt m l xs) ≡ take m xs ++ l
-put-front m [] xs h g = rw (add-zero m, append-nil (take m xs))
-put-front m (x ∷ []) xs h g = rw (add-one m) (take-suc-set xs m x g)
-put-front m (x ∷ y ∷ l) xs h g = absurd (omega arith)
-
-put-rest : (m i : ℕ) (l xs : List Row) → m ≤ i → drop (i + 1) (putAt m l xs) ≡ drop (i + 1) xs
-put-rest m i [] xs h = refl
-put-rest m i (x ∷ l) xs h = drop-set-lt (i + 1) xs m x (omega arith)
 
 -- ---- the loop: of the first i rows, what stays stands at the front, m of them
 

@@ -24,6 +24,7 @@ use Rattle.machine.specs.Package.{packageKeys}
 use Rattle.machine.specs.Sound.{Ordered, All, Lawful}
 use Rattle.machine.proofs.Tests.{test, never}
 use Rattle.machine.proofs.At.{at-here, at-there}
+use Rattle.machine.proofs.KeptAtZero.{packed-owned as owned}
 use Rattle.store.specs.Flat.{bitsOf, witnessBit, deadlineFor, rowOf, rowsFor, rowsOf, placeFor, placesFor, placesOf}
 use Rattle.store.specs.FlatSound.{owns}
 use Rattle.store.specs.Gather.{keyAt}
@@ -34,7 +35,6 @@ use Rattle.package_stages.specs.Changes.{ownerNum}
 use Rattle.package_stages.specs.Dead.{filter, live}
 use Rattle.package_stages.proofs.Compacting.{filter-append}
 use Rattle.tearing.specs.Torn.{quit, tornIn, tornAll, packagedRow, tornRow, tornRows, isPackage, tornPlace}
-use Rattle.tearing.proofs.Tearing.{owned}
 
 -- ---- a request that a table has at its key
 

@@ -8,12 +8,12 @@ use mathlib.Core.Option.{Option, none, some}
 use native.Mathlib.Omega.{arith}
 use lib.Dec.{eqb}
 use lib.ListN.{length}
-use borrow.Author.Tests.{eq-eqb, ne-eqb, le-ltb}
+use borrow.Author.Tests.{eq-eqb}
 use Rattle.ident.specs.If.{if_then_else_}
 use Rattle.ident.specs.Number.{top, Key, place, other}
 use Rattle.machine.specs.Limits.{Limits, word}
 use Rattle.machine.specs.State.{Owner, Request, Table, ownerIs, isSome}
-use Rattle.machine.specs.Table.{at, keep, change}
+use Rattle.machine.specs.Table.{at, change}
 use Rattle.machine.specs.Fail.{left}
 use Rattle.machine.specs.Package.{packageKeys, leftIfOwned, Torn, tearOne, tearEach, teardown}
 use Rattle.machine.specs.Sound.{Ordered, All, Lawful, Bounded}
@@ -21,22 +21,16 @@ use Rattle.machine.specs.Typed.{Each}
 use Rattle.machine.proofs.Tests.{test, never}
 use Rattle.machine.proofs.Table.{lawful-at, ordered-change, filled-change}
 use Rattle.machine.proofs.At.{at-here, at-there, at-other, other-place}
-use Rattle.machine.proofs.Expired.{owned-once}
+use Rattle.machine.proofs.Expired.{owned-once, owner-not}
 use Rattle.machine.proofs.Package.{shrinks-leftIfOwned, bounded-tearOne}
+use Rattle.machine.proofs.First.{change-first as change-here, change-later as change-there}
+use Rattle.machine.proofs.KeptAtZero.{packed-owned as owned}
 use Rattle.package_stages.specs.Changes.{ownerNum}
 use Rattle.failing.proofs.Fusing.{change-same, change-none}
 use Rattle.tearing.specs.Torn.{quit, tornAll}
-use Rattle.tearing.proofs.Tearing.{owned, quit-bare, torn-step, keys-keep, cons-some, torn-none, keys-from}
+use Rattle.tearing.proofs.Tearing.{quit-bare, torn-step, keys-keep, cons-some, torn-none, keys-from}
 
 -- ---- the first package
-
-change-here : (k : Key) (f : Request → Request) (r : Request) (t : Table) → place k ≡ place (r .key) → change k f (r ∷ t) ≡ keep (f r) ((f r) .candidates) t
-unfolding change
-change-here k f r t e = rw (le-ltb (place k) (place (r .key)) (omega arith), eq-eqb (place k) (place (r .key)) e)
-
-change-there : (k : Key) (f : Request → Request) (r : Request) (t : Table) → place (r .key) < place k → change k f (r ∷ t) ≡ r ∷ change k f t
-unfolding change
-change-there k f r t l = rw (le-ltb (place k) (place (r .key)) (omega arith), ne-eqb (place k) (place (r .key)) (λ e. omega arith))
 
 record First (k : Key) (ks : List Key) (v : ℕ) (t : Table) : Type 0 where
   packed : isSome ((at k t) .«package») ≡ true
@@ -89,10 +83,6 @@ left-own n v r e q = rw e (ap (λ (x : ℕ). left x v r) (sym q))
 left-free : (n v : ℕ) (r : Request) → ownerIs n (r .owner) ≡ false → leftIfOwned n v r ≡ r
 unfolding leftIfOwned
 left-free n v r e = rw e
-
-owner-not : (n : ℕ) (o : Option Owner) → isSome o ≡ false → ownerIs n o ≡ false
-owner-not n none e = refl
-owner-not n (some o) e = never (sym e)
 
 module _ {m : Limits} {Q : ℕ} {t : Table} (k : Key) (v : ℕ) (small : k .hash < top) (late : v < word) (b : Bounded m Q t) (packed : isSome ((at k t) .«package») ≡ true) where
   pub tear-one : tearOne ((at k t) .owner) k v t ≡ change k (quit v) t

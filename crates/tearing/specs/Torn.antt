@@ -27,6 +27,7 @@ use Rattle.requests.specs.Changes.{Shorn}
 use Rattle.package_stages.specs.Changes.{ownerNum}
 use Rattle.package_stages.specs.Dead.{filter, live}
 use Rattle.tearing.specs.Idle.{ebbed}
+use Rattle.announcing.specs.Drops.{putAt}
 
 -- the owner of a request leaves it
 abbrev pub quit : ℕ → Request → Request
@@ -66,11 +67,6 @@ unfoldable pub tornEntries : Table → Row → List Conn → List Conn
 tornEntries t r cs =
     if packagedRow t r then (if owns r then ebbed (r .conn) 1 cs else cs)
     else cs
-
--- what stays of a row, put at m
-abbrev pub putAt : ℕ → List Row → List Row → List Row
-putAt m [] xs = xs
-putAt m (x ∷ l) xs = set xs m x
 
 -- the i-th row, r, is put at m, or goes
 pub record RowTorn (b b′ : List ℕ) (now m i m′ : ℕ) : Type 0 where

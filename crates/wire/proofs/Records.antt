@@ -14,9 +14,9 @@ use Rattle.ident.specs.Number.{Item, top, typeOf, itemKindOf, isPlain}
 use Rattle.ident.proofs.TypeNumbers.{kind-plain, type-kind, kind-type}
 use Rattle.words.specs.Words.{number, digits, recs, bytesOf}
 use Rattle.words.proofs.Digits.{length-digits, number-digits, digits-number, number-below}
+use Rattle.words.proofs.Words.{length-bytes as length-bytesOf}
 use Rattle.machine.specs.Typed.{Each}
 use Rattle.machine.proofs.Tests.{test, and-left, and-right}
-use Rattle.machine.proofs.AnswerLengths.{length-bytesOf}
 use Rattle.lent_lists.specs.Items.{itemBytes, typeTop, itemKindIn, itemIn, itemsIn}
 use Rattle.lent_lists.proofs.Inventory.{Low, low-drop, items-fit}
 use Rattle.lent_lists.proofs.KeysBack.{word-back, hash-back}

@@ -82,7 +82,7 @@ module _ (d : ℕ) (w : List ℕ) where
 
 -- ---- a move within a part
 
-mid : (a m : ℕ) (w : List ℕ) → a ≤ length w → drop a (take (a + m) w) ≡ take m (drop a w)
+pub mid : (a m : ℕ) (w : List ℕ) → a ≤ length w → drop a (take (a + m) w) ≡ take m (drop a w)
 mid a m w h = rw (take-add a m w) (drop-at (take a w) (take m (drop a w)) a (length-take-le a w h))
 
 -- what is moved up within a part, is moved up within the whole

@@ -2,7 +2,7 @@
 use Prim.Native.Nat.{ℕ, zero, suc, _+_, _-_, _*_, _≤_, _<_}
 use mathlib.Core.Path.{_≡_, refl, sym, ap, _∙_}
 use mathlib.Core.List.{List, _∷_, _++_}
-use native.Mathlib.Nat.{le-trans, mul-le-mul-left, mul-add, mul-zero, zero-add, suc-add}
+use native.Mathlib.Nat.{mul-le-mul-left, mul-zero, zero-add, suc-add}
 use native.Mathlib.Numerals.{add-one-le}
 use native.Mathlib.Omega.{arith}
 use lib.ListN.{length, take, drop, getD, set, length-set, length-take, length-drop, take-append-drop}
@@ -75,45 +75,6 @@ module _ {A : Type 0} (k : ℕ) (f : List ℕ → A) where
   drop-recs i n s h =
       let e : n ≡ i + (n - i) = omega arith in
       ap (λ (m : ℕ). drop i (recs k f m s)) e ∙ ap (drop i) (recs-add i (n - i) s) ∙ drop-at (recs k f i s) (recs k f (n - i) (drop (k * i) s)) i (length-recs i s)
-
-  -- i records, and then others
-  recs-join : (i m : ℕ) (s y : List ℕ) → k * i ≤ length s → recs k f (i + m) (take (k * i) s ++ y) ≡ recs k f i s ++ recs k f m y
-  recs-join i m s y h =
-      let l : length (take (k * i) s) ≡ k * i = length-take-le (k * i) s h in
-      recs-add i m (take (k * i) s ++ y)
-      ∙ rw (recs-front i (take (k * i) s) y (omega arith), recs-take i s h, drop-at (take (k * i) s) y (k * i) l)
-
-  -- the records from i to n, by themselves, whatever follows them
-  recs-middle : (i n : ℕ) (s z : List ℕ) → i ≤ n → k * n ≤ length s
-      → recs k f (n - i) (drop (k * i) (take (k * n) s) ++ z) ≡ drop i (recs k f n s)
-  recs-middle i n s z h l =
-      let e : n ≡ i + (n - i) = omega arith in
-      let e′ : k * n ≡ k * i + k * (n - i) = ap (λ (m : ℕ). k * m) e ∙ mul-add k i (n - i) in
-      let l₁ : length (take (k * n) s) ≡ k * n = length-take-le (k * n) s l in
-      let l₂ : k * (n - i) ≤ length (drop (k * i) (take (k * n) s)) = simp length-drop (omega arith) in
-      recs-front (n - i) (drop (k * i) (take (k * n) s)) z l₂
-      ∙ sym (drop-recs i n (take (k * n) s) h)
-      ∙ ap (drop i) (recs-take n s l)
-
-  -- one record put in at i
-  pub recs-insert : (i n : ℕ) (s x z : List ℕ) → i ≤ n → k * n ≤ length s → length x ≡ k
-      → recs k f (n + 1) (take (k * i) s ++ (x ++ (drop (k * i) (take (k * n) s) ++ z))) ≡ take i (recs k f n s) ++ (f x ∷ drop i (recs k f n s))
-  unfolding recs
-  recs-insert i n s x z h l e =
-      let y : List ℕ = drop (k * i) (take (k * n) s) ++ z in
-      let g : n + 1 ≡ i + suc (n - i) = omega arith in
-      let b : k * i ≤ length s = le-trans (mul-le-mul-left k h) l in
-      rw (g, recs-join i (suc (n - i)) s (x ++ y) b, take-recs i n s h, take-at x y k e, drop-at x y k e, recs-middle i n s z h l)
-
-  -- the record at i taken out
-  pub recs-remove : (i n : ℕ) (s z : List ℕ) → i < n → k * n ≤ length s
-      → recs k f (n - 1) (take (k * i) s ++ (drop (k * (i + 1)) (take (k * n) s) ++ z)) ≡ take i (recs k f n s) ++ drop (i + 1) (recs k f n s)
-  recs-remove i n s z h l =
-      let g : n - 1 ≡ i + (n - (i + 1)) = omega arith in
-      let h₁ : i ≤ n = omega arith in
-      let h₂ : i + 1 ≤ n = omega arith in
-      let b : k * i ≤ length s = le-trans (mul-le-mul-left k h₁) l in
-      rw (g, recs-join i (n - (i + 1)) s (drop (k * (i + 1)) (take (k * n) s) ++ z) b, take-recs i n s h₁, recs-middle (i + 1) n s z h₂ l)
 
   -- one element of one record replaced
   pub recs-set-in : (n : ℕ) (s : List ℕ) (i j v : ℕ) → i < n → k * n ≤ length s → j < k

@@ -1,7 +1,7 @@
 -- Keys listed behind other keys: a call that lists keys after another one has.
 use Prim.Native.Nat.{ℕ, _+_, _-_, _*_}
-use mathlib.Core.Path.{_≡_, refl, sym, ap, _∙_}
-use mathlib.Core.List.{List, [], _∷_, _++_, append-assoc}
+use mathlib.Core.Path.{_≡_, sym, ap, _∙_}
+use mathlib.Core.List.{List, [], _++_}
 use native.Mathlib.Omega.{arith}
 use lib.ListN.{length, take, drop, length-append, length-drop, drop-of-length-le}
 use lib.Seq.{take-all}
@@ -9,17 +9,13 @@ use Rattle.ident.specs.Number.{Key}
 use Rattle.machine.specs.Limits.{Limits}
 use Rattle.machine.specs.State.{State, Table, limitsOf, onTable}
 use Rattle.machine.specs.Call.{keyBytes}
-use Rattle.machine.specs.Step.{keyAnswer, keysAnswer, written}
+use Rattle.machine.specs.Step.{keysAnswer, written}
 use Rattle.machine.specs.Fail.{Listed}
 use Rattle.machine.specs.Sound.{Sound}
 use Rattle.machine.proofs.AnswerLengths.{length-keysAnswer}
 use Rattle.announcing.specs.Answers.{KeysListed}
 use Rattle.failing.proofs.Handing.{behind-front}
-
-keys-append : (ks js : List Key) → keysAnswer (ks ++ js) ≡ keysAnswer ks ++ keysAnswer js
-unfolding keysAnswer
-keys-append [] js = refl
-keys-append (k ∷ ks) js = ap (λ (x : List ℕ). keyAnswer k ++ x) (keys-append ks js) ∙ sym (append-assoc (keyAnswer k) (keysAnswer ks) (keysAnswer js))
+use Rattle.lent_lists.proofs.Answer.{keys-append}
 
 -- the buffer u holds ks; what is lent of it behind them comes back as v
 module _ (u₀ u : List ℕ) (ks : List Key) (a y : ℕ) (e : u ≡ written (keysAnswer ks) u₀) (from : a ≡ keyBytes * length ks) (end : y ≡ length u) where

@@ -19,6 +19,7 @@ use Rattle.machine.specs.Typed.{Each, OfferTyped}
 use Rattle.machine.proofs.Fail.{Peer}
 use Rattle.machine.proofs.Kept.{sound-table}
 use Rattle.machine.proofs.Tests.{test}
+use Rattle.machine.proofs.Wrapper.{bounded-offers}
 use Rattle.store.specs.Image.{Writes}
 use Rattle.store.specs.Shown.{Kept}
 use Rattle.store.proofs.Counts.{held-rows}
@@ -30,7 +31,7 @@ use Rattle.gathering.specs.Aside.{space, Empty, SetAside, Gathers, ComeIn}
 use Rattle.wrapping.specs.declared.offering.Terms.{Terms}
 use Rattle.claims.specs.Changes.{Becomes}
 use Rattle.wrapping.specs.Batches.{between, announced, Offers, Collected, Collects}
-use Rattle.wrapping.proofs.Parts.{between-none, announced-join, announced-one, each-between, offers-none, bounded-offers}
+use Rattle.wrapping.proofs.Parts.{between-none, announced-join, announced-one, each-between, offers-none}
 
 -- an offer to read lists with
 pub anOffer : Offer

@@ -6,15 +6,11 @@ use mathlib.Core.List.{List, [], _∷_, _++_}
 use native.Mathlib.Omega.{arith}
 use lib.ListN.{length, take, drop, getD}
 use lib.Seq.{take-add, drop-drop, drop-cons}
-use Rattle.machine.specs.Limits.{Limits, requestLifetime, word}
+use Rattle.machine.specs.Limits.{Limits}
 use Rattle.machine.specs.State.{Table}
 use Rattle.machine.specs.Announce.{announce}
 use Rattle.machine.specs.Wrapper.{Offer, offered, offersFrom}
-use Rattle.machine.specs.Sound.{Bounded}
 use Rattle.machine.specs.Typed.{Each, OfferTyped}
-use Rattle.machine.proofs.Announce.{bounded-announce}
-use Rattle.machine.proofs.Fail.{Peer}
-use Rattle.machine.proofs.Wrapper.{offered-typed}
 use Rattle.wrapping.specs.declared.offering.Terms.{Terms}
 use Rattle.wrapping.specs.Batches.{between, announced}
 
@@ -63,12 +59,6 @@ pub offers-append : (m : Limits) (n now : ℕ) (p v f : Bool) (xs ys : List Offe
 unfolding offersFrom
 offers-append m n now p v f [] ys t = refl
 offers-append m n now p v f (x ∷ xs) ys t = offers-append m n now p v f xs ys ((announce m (offered n now p v f x) t) .table)
-
-pub bounded-offers : {m : Limits} {Q : ℕ} {t : Table} (n now : ℕ) (p v f : Bool) (os : List Offer) → Peer n → now + requestLifetime < word → Each OfferTyped os
-    → Bounded m Q t → Bounded m Q (offersFrom m n now p v f os t)
-unfolding offersFrom
-bounded-offers n now p v f [] a w h b = b
-bounded-offers n now p v f (o ∷ os) a w h b = bounded-offers n now p v f os a w (h .1) (bounded-announce (offered n now p v f o) (a .positive) (offered-typed n now p v f o a w (h .0)) b)
 
 module _ (a : Terms) (m : Limits) (os : List Offer) (t : Table) where
   abbrev From : List Offer → Table → Table

@@ -26,18 +26,7 @@ mul-result-3 c = let z = kept-shown (c .before .before .pre) in omega (arith, z 
 add-result-3 : tie.Need-add-result-3
 add-result-3 c = let z = kept-shown (c .before .before .pre) in omega (arith, z .sizes .long, z .sized .limit, c .limit .ensures .word, z .sizes .limit)
 
-returns : tie.Need-returns
-returns c = search needs
-
 pub bare-bytes-spec : {M : Type 1} → statement M
 bare-bytes-spec =
     tie.close
-    (tie.spec
-    limit-requires
-    mul-result
-    add-result
-    mul-result-2
-    add-result-2
-    mul-result-3
-    add-result-3
-    returns)
+    (tie.spec limit-requires mul-result add-result mul-result-2 add-result-2 mul-result-3 add-result-3 (λ c. search needs))

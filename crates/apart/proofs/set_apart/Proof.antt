@@ -8,33 +8,12 @@ use borrow.Author.Needs.{needs}
 use Rattle.apart.proofs.set_apart.Statement.{statement}
 use Rattle.apart.proofs.set_apart.Tie as tie
 
-sub-x : tie.Need-sub-x
-sub-x c = search needs
-
-sub-copy-slot : tie.Need-sub-copy-slot
-sub-copy-slot c = search needs
-
-part-copy-slot-start : tie.Need-part-copy-slot-start
-part-copy-slot-start c = search needs
-
 part-copy-slot-end : tie.Need-part-copy-slot-end
 part-copy-slot-end c = let l = room-enough (c .before .before .before .pre .0) (c .before .before .before .pre .1) in omega (arith, l)
-
-copy-slot-requires : tie.Need-copy-slot-requires
-copy-slot-requires c κs = search needs
-
-sub-clear : tie.Need-sub-clear
-sub-clear c = search needs
-
-part-clear-start : tie.Need-part-clear-start
-part-clear-start c = search needs
 
 part-clear-end : tie.Need-part-clear-end
 part-clear-end c = let l = room-enough (c .before .before .before .before .before .before .before .before .pre .0) (c .before .before .before .before .before .before .before .before .pre
     .1) in omega (arith, l)
-
-clear-requires : tie.Need-clear-requires
-clear-requires c κs = search needs
 
 put-requires : tie.Need-put-requires
 put-requires c κs = let l = room-enough (c .before .before .before .before .before .before .before .before .before .before .before .before .before .pre .0) (c .before .before .before
@@ -43,12 +22,6 @@ put-requires c κs = let l = room-enough (c .before .before .before .before .bef
 put-requires-2 : tie.Need-put-requires-2
 put-requires-2 c κs = let l = room-enough (c .before .before .before .before .before .before .before .before .before .before .before .before .before .before .before .before .before .pre .0)
     (c .before .before .before .before .before .before .before .before .before .before .before .before .before .before .before .before .before .pre .1) in search needs
-
-same-length : tie.Need-same-length
-same-length c = search needs
-
-same-length-2 : tie.Need-same-length-2
-same-length-2 c = search needs
 
 returns : tie.Need-returns
 returns c = λ st s o. set-out (c .before .before .before .before .before .before .before .before .before .before .before .before .before .before .before .before .before .before .before
@@ -60,18 +33,5 @@ returns c = λ st s o. set-out (c .before .before .before .before .before .befor
 pub set-apart-spec : {M : Type 1} → statement M
 set-apart-spec =
     tie.close
-    (tie.spec
-    sub-x
-    sub-copy-slot
-    part-copy-slot-start
-    part-copy-slot-end
-    copy-slot-requires
-    sub-clear
-    part-clear-start
-    part-clear-end
-    clear-requires
-    put-requires
-    put-requires-2
-    same-length
-    same-length-2
-    returns)
+    (tie.spec (λ c. search needs) (λ c. search needs) (λ c. search needs) part-copy-slot-end (λ c κs. search needs) (λ c. search needs) (λ c. search needs) part-clear-end
+    (λ c κs. search needs) put-requires put-requires-2 (λ c. search needs) (λ c. search needs) returns)

@@ -8,12 +8,9 @@ use Rattle.choosing.proofs.able.Tie as tie
 returns : tie.Need-returns
 returns c = λ st s w. able-late (c .before .before .before .args .clock) (st .table) (c .before .before .before .args .r) (c .if1 .taken)
 
-figures-requires : tie.Need-figures-requires
-figures-requires c κs = search needs
-
 returns-2 : tie.Need-returns-2
 returns-2 c = λ st s w. able-owned (c .before .before .before .before .before .args .clock) (st .table) (c .before .before .before .before .before .args .r)
     (λ l. absurd (omega (arith, c .before .before .if1 .left))) (c .before .figures .ensures st s w .owned)
 
 pub able-spec : {M : Type 1} → statement M
-able-spec = tie.close (tie.spec returns figures-requires returns-2)
+able-spec = tie.close (tie.spec returns (λ c κs. search needs) returns-2)

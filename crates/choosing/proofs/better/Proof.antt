@@ -4,9 +4,6 @@ use borrow.Author.Needs.{needs}
 use Rattle.choosing.proofs.better.Statement.{statement}
 use Rattle.choosing.proofs.better.Tie as tie
 
-sooner-requires : tie.Need-sooner-requires
-sooner-requires c κs = search needs
-
 returns : tie.Need-returns
 returns c = record {
   is = better-found (c .before .before .before .before .args .r) (c .before .before .before .before .args .best .row) (c .before .before .before .before .args .best .some)
@@ -28,4 +25,4 @@ returns-3 c = record {
 }
 
 pub better-spec : {M : Type 1} → statement M
-better-spec = tie.close (tie.spec sooner-requires returns returns-2 returns-3)
+better-spec = tie.close (tie.spec (λ c κs. search needs) returns returns-2 returns-3)

@@ -5,9 +5,6 @@ use borrow.Author.Needs.{needs}
 use Rattle.choosing.proofs.either.Statement.{statement}
 use Rattle.choosing.proofs.either.Tie as tie
 
-better-requires : tie.Need-better-requires
-better-requires c κs = search needs
-
 returns : tie.Need-returns
 returns c = record {
   is = else-first (c .before .before .before .args .a .row) (c .before .before .before .args .a .some) (picked (c .before .before .before .args .b)) (c .before .before .if1 .taken)
@@ -22,4 +19,4 @@ returns-2 c = record {
 }
 
 pub either-spec : {M : Type 1} → statement M
-either-spec = tie.close (tie.spec better-requires returns returns-2)
+either-spec = tie.close (tie.spec (λ c κs. search needs) returns returns-2)

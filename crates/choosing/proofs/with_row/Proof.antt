@@ -7,12 +7,6 @@ use borrow.Author.Needs.{needs}
 use Rattle.choosing.proofs.with_row.Statement.{statement}
 use Rattle.choosing.proofs.with_row.Tie as tie
 
-able-requires : tie.Need-able-requires
-able-requires c κs = search needs
-
-better-requires : tie.Need-better-requires
-better-requires c κs = search needs
-
 returns : tie.Need-returns
 returns c = record {
   is = λ st s w. row-able (machine.able (c .before .before .before .before .args .clock) (st .table) []) (c .before .before .before .before .args .r) (c .before .before .able .ensures st s w)
@@ -28,4 +22,4 @@ returns-2 c = record {
 }
 
 pub with-row-spec : {M : Type 1} → statement M
-with-row-spec = tie.close (tie.spec able-requires better-requires returns returns-2)
+with-row-spec = tie.close (tie.spec (λ c κs. search needs) (λ c κs. search needs) returns returns-2)

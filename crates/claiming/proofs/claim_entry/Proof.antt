@@ -7,23 +7,8 @@ use borrow.Author.Needs.{needs}
 use Rattle.claiming.proofs.claim_entry.Statement.{statement}
 use Rattle.claiming.proofs.claim_entry.Tie as tie
 
-takes-requires : tie.Need-takes-requires
-takes-requires c κs = search needs
-
-same-length : tie.Need-same-length
-same-length c = search needs
-
 returns : tie.Need-returns
 returns c = entry-left (c .before .before .before .before .args .clock) (entryOf (c .before .before .before .before .args .e)) (c .before .takes .ensures) (not-true _ (c .if1 .taken))
-
-add-own : tie.Need-add-own
-add-own c = search needs
-
-own-requires : tie.Need-own-requires
-own-requires c κs = search needs
-
-same-length-2 : tie.Need-same-length-2
-same-length-2 c = search needs
 
 returns-2 : tie.Need-returns-2
 returns-2 c = entry-taken (c .before .before .before .before .before .before .before .before .before .args .clock)
@@ -34,4 +19,4 @@ returns-2 c = entry-taken (c .before .before .before .before .before .before .be
 pub claim-entry-spec : {M : Type 1} → statement M
 claim-entry-spec =
     tie.close
-    (tie.spec takes-requires same-length returns add-own own-requires same-length-2 returns-2)
+    (tie.spec (λ c κs. search needs) (λ c. search needs) returns (λ c. search needs) (λ c κs. search needs) (λ c. search needs) returns-2)

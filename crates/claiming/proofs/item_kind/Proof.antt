@@ -7,11 +7,8 @@ use Rattle.claiming.proofs.item_kind.Tie as tie
 returns : tie.Need-returns
 returns c = item-wtx (c .before .args .kind) (c .before .args .witness) (c .if1 .taken)
 
-returns-2 : tie.Need-returns-2
-returns-2 c = search needs
-
 returns-3 : tie.Need-returns-3
 returns-3 c = item-witness (c .before .before .args .kind) (c .before .before .args .witness) (c .before .if1 .left) (c .if2 .left)
 
 pub item-kind-spec : {M : Type 1} → statement M
-item-kind-spec = tie.close (tie.spec returns returns-2 returns-3)
+item-kind-spec = tie.close (tie.spec returns (λ c. search needs) returns-3)

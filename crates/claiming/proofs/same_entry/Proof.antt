@@ -5,15 +5,6 @@ use borrow.Author.Needs.{needs}
 use Rattle.claiming.proofs.same_entry.Statement.{statement}
 use Rattle.claiming.proofs.same_entry.Tie as tie
 
-same-bool-requires : tie.Need-same-bool-requires
-same-bool-requires c κs = search needs
-
-same-item-requires : tie.Need-same-item-requires
-same-item-requires c κs = search needs
-
-same-key-requires : tie.Need-same-key-requires
-same-key-requires c κs = search needs
-
 returns : tie.Need-returns
 returns c = all-fields (entryOf (c .before .before .before .before .before .before .before .before .before .before .before .before .before .args .a))
     (entryOf (c .before .before .before .before .before .before .before .before .before .before .before .before .before .args .b)) (c .before .before .same-key .ensures)
@@ -21,4 +12,4 @@ returns c = all-fields (entryOf (c .before .before .before .before .before .befo
 
 pub same-entry-spec : {M : Type 1} → statement M
 same-entry-spec =
-    tie.close (tie.spec same-bool-requires same-item-requires same-key-requires returns)
+    tie.close (tie.spec (λ c κs. search needs) (λ c κs. search needs) (λ c κs. search needs) returns)

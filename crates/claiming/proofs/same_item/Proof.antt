@@ -4,17 +4,8 @@ use borrow.Author.Needs.{needs}
 use Rattle.claiming.proofs.same_item.Statement.{statement}
 use Rattle.claiming.proofs.same_item.Tie as tie
 
-rank-requires : tie.Need-rank-requires
-rank-requires c κs = search needs
-
-rank-requires-2 : tie.Need-rank-requires-2
-rank-requires-2 c κs = search needs
-
-same-hash-requires : tie.Need-same-hash-requires
-same-hash-requires c κs = search needs
-
 returns : tie.Need-returns
 returns c = and-both (eqb-both (c .before .before .rank .ensures) (c .before .rank2 .ensures)) (c .same-hash .ensures)
 
 pub same-item-spec : {M : Type 1} → statement M
-same-item-spec = tie.close (tie.spec rank-requires rank-requires-2 same-hash-requires returns)
+same-item-spec = tie.close (tie.spec (λ c κs. search needs) (λ c κs. search needs) (λ c κs. search needs) returns)

@@ -4,14 +4,8 @@ use borrow.Author.Needs.{needs}
 use Rattle.claiming.proofs.same_key.Statement.{statement}
 use Rattle.claiming.proofs.same_key.Tie as tie
 
-same-kind-requires : tie.Need-same-kind-requires
-same-kind-requires c κs = search needs
-
-same-hash-requires : tie.Need-same-hash-requires
-same-hash-requires c κs = search needs
-
 returns : tie.Need-returns
 returns c = and-both (c .before .same-kind .ensures) (c .same-hash .ensures)
 
 pub same-key-spec : {M : Type 1} → statement M
-same-key-spec = tie.close (tie.spec same-kind-requires same-hash-requires returns)
+same-key-spec = tie.close (tie.spec (λ c κs. search needs) (λ c κs. search needs) returns)

@@ -5,15 +5,6 @@ use borrow.Author.Needs.{needs}
 use Rattle.claiming.proofs.takes.Statement.{statement}
 use Rattle.claiming.proofs.takes.Tie as tie
 
-choose-free-requires : tie.Need-choose-free-requires
-choose-free-requires c κs = search needs
-
-entry-of-requires : tie.Need-entry-of-requires
-entry-of-requires c κs = search needs
-
-same-entry-requires : tie.Need-same-entry-requires
-same-entry-requires c κs = search needs
-
 returns : tie.Need-returns
 returns c = λ st s w. same-taken (c .before .before .before .before .before .before .before .before .args .clock)
     (entryOf (c .before .before .before .before .before .before .before .before .args .e)) (st .table) (c .before .before .before .before .choose-free .result .some)
@@ -27,4 +18,4 @@ returns-2 c = λ st s w. none-taken (c .before .before .before .before .before .
 pub takes-spec : {M : Type 1} → statement M
 takes-spec =
     tie.close
-    (tie.spec choose-free-requires entry-of-requires same-entry-requires returns returns-2)
+    (tie.spec (λ c κs. search needs) (λ c κs. search needs) (λ c κs. search needs) returns returns-2)

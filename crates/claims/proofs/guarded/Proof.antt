@@ -6,9 +6,6 @@ use borrow.Author.Needs.{needs}
 use Rattle.claims.proofs.guarded.Statement.{statement}
 use Rattle.claims.proofs.guarded.Tie as tie
 
-request-at-requires : tie.Need-request-at-requires
-request-at-requires c κs = search needs
-
 returns : tie.Need-returns
 returns c = λ st s w. guarded-enqueued (c .before .before .request-at .ensures .is st s w) (c .before .before .before .before .args .clock) (c .if1 .taken)
 
@@ -21,4 +18,4 @@ returns-3 c = λ st s w. ap not (eq-eqb _ 0 (c .if2 .left)) ∙ guarded-not (c .
     (c .before .before .before .before .before .before .args .clock) (c .before .before .if1 .left) (c .if2 .left)
 
 pub guarded-spec : {M : Type 1} → statement M
-guarded-spec = tie.close (tie.spec request-at-requires returns returns-2 returns-3)
+guarded-spec = tie.close (tie.spec (λ c κs. search needs) returns returns-2 returns-3)

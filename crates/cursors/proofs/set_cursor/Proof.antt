@@ -7,18 +7,6 @@ use borrow.Author.Needs.{needs}
 use Rattle.cursors.proofs.set_cursor.Statement.{statement}
 use Rattle.cursors.proofs.set_cursor.Tie as tie
 
-put-requires : tie.Need-put-requires
-put-requires c κs = search needs
-
-add-write-quad : tie.Need-add-write-quad
-add-write-quad c = search needs
-
-write-quad-requires : tie.Need-write-quad-requires
-write-quad-requires c κs = search needs
-
-same-length : tie.Need-same-length
-same-length c = search needs
-
 returns : tie.Need-returns
 returns c =
     set-more (words (c .before .before .before .before .before .before .before .before .before .before .args .s .now))
@@ -34,4 +22,4 @@ returns c =
 
 pub set-cursor-spec : {M : Type 1} → statement M
 set-cursor-spec =
-    tie.close (tie.spec put-requires add-write-quad write-quad-requires same-length returns)
+    tie.close (tie.spec (λ c κs. search needs) (λ c. search needs) (λ c κs. search needs) (λ c. search needs) returns)

@@ -7,24 +7,6 @@ use borrow.Author.Needs.{needs}
 use Rattle.cursors.proofs.set_next_poll.Statement.{statement}
 use Rattle.cursors.proofs.set_next_poll.Tie as tie
 
-tag-of-requires : tie.Need-tag-of-requires
-tag-of-requires c κs = search needs
-
-time-in-requires : tie.Need-time-in-requires
-time-in-requires c κs = search needs
-
-put-requires : tie.Need-put-requires
-put-requires c κs = search needs
-
-add-put : tie.Need-add-put
-add-put c = search needs
-
-put-requires-2 : tie.Need-put-requires-2
-put-requires-2 c κs = search needs
-
-same-length : tie.Need-same-length
-same-length c = search needs
-
 returns : tie.Need-returns
 returns c = poll-written (c .before .before .before .before .before .before .before .before .before .before .before .args .m)
     (words (c .before .before .before .before .before .before .before .before .before .before .before .args .s .now)) pollAt
@@ -39,11 +21,4 @@ returns c = poll-written (c .before .before .before .before .before .before .bef
 pub set-next-poll-spec : {M : Type 1} → statement M
 set-next-poll-spec =
     tie.close
-    (tie.spec
-    tag-of-requires
-    time-in-requires
-    put-requires
-    add-put
-    put-requires-2
-    same-length
-    returns)
+    (tie.spec (λ c κs. search needs) (λ c κs. search needs) (λ c κs. search needs) (λ c. search needs) (λ c κs. search needs) (λ c. search needs) returns)

@@ -5,14 +5,8 @@ use borrow.Author.Needs.{needs}
 use Rattle.cursors.proofs.stored_key.Statement.{statement}
 use Rattle.cursors.proofs.stored_key.Tie as tie
 
-kind-in-requires : tie.Need-kind-in-requires
-kind-in-requires c κs = search needs
-
-quad-hash-requires : tie.Need-quad-hash-requires
-quad-hash-requires c κs = search needs
-
 returns : tie.Need-returns
 returns c l = sym (c .before .kind-in .ensures l _) ∙ ap (λ (h : ℕ). cursorIs (c .before .before .before .args .c .tag) h) (c .quad-hash .ensures)
 
 pub stored-key-spec : {M : Type 1} → statement M
-stored-key-spec = tie.close (tie.spec kind-in-requires quad-hash-requires returns)
+stored-key-spec = tie.close (tie.spec (λ c κs. search needs) (λ c κs. search needs) returns)

@@ -4,11 +4,8 @@ use borrow.Author.Needs.{needs}
 use Rattle.cursors.proofs.time_of.Statement.{statement}
 use Rattle.cursors.proofs.time_of.Tie as tie
 
-returns : tie.Need-returns
-returns c = search needs
-
 returns-2 : tie.Need-returns-2
 returns-2 c = sym (poll-is _ _ (c .if1 .left))
 
 pub time-of-spec : {M : Type 1} → statement M
-time-of-spec = tie.close (tie.spec returns returns-2)
+time-of-spec = tie.close (tie.spec (λ c. search needs) returns-2)

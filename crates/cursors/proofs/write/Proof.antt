@@ -7,18 +7,6 @@ use borrow.Author.Needs.{needs}
 use Rattle.cursors.proofs.write.Statement.{statement}
 use Rattle.cursors.proofs.write.Tie as tie
 
-set-next-poll-requires : tie.Need-set-next-poll-requires
-set-next-poll-requires c κs = search needs
-
-set-cursor-requires : tie.Need-set-cursor-requires
-set-cursor-requires c κs = search needs
-
-set-cursor-requires-2 : tie.Need-set-cursor-requires-2
-set-cursor-requires-2 c κs = search needs
-
-same-length : tie.Need-same-length
-same-length c = search needs
-
 returns : tie.Need-returns
 returns c = c .before .before .set-cursor2 .ensures ∙
     ap (λ (w : List ℕ). splice w readyAt (storedWords (c .before .before .before .before .before .before .before .before .before .before .before .before .before .before .before .args .f .ready)))
@@ -29,4 +17,4 @@ returns c = c .before .before .set-cursor2 .ensures ∙
 pub write-spec : {M : Type 1} → statement M
 write-spec =
     tie.close
-    (tie.spec set-next-poll-requires set-cursor-requires set-cursor-requires-2 same-length returns)
+    (tie.spec (λ c κs. search needs) (λ c κs. search needs) (λ c κs. search needs) (λ c. search needs) returns)

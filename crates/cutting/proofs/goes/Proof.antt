@@ -3,9 +3,6 @@ use borrow.Author.Needs.{needs}
 use Rattle.cutting.proofs.goes.Statement.{statement}
 use Rattle.cutting.proofs.goes.Tie as tie
 
-inside-requires : tie.Need-inside-requires
-inside-requires c κs = search needs
-
 returns : tie.Need-returns
 returns c = its-own (c .before .before .before .before .before .before .before .before .before .args .r) (c .before .before .before .before .before .before .before .before .before .args .p .conn)
     (c .before .before .before .before .before .before .before .before .before .args .p .from) (c .before .before .before .before .before .before .before .before .before .args .p .to)
@@ -16,4 +13,4 @@ returns-2 c = anothers (c .before .before .before .args .r) (c .before .before .
     (c .before .before .before .args .p .to) (c .if1 .left)
 
 pub goes-spec : {M : Type 1} → statement M
-goes-spec = tie.close (tie.spec inside-requires returns returns-2)
+goes-spec = tie.close (tie.spec (λ c κs. search needs) returns returns-2)

@@ -7,12 +7,6 @@ use borrow.Author.Needs.{needs}
 use Rattle.failing.proofs.failed.Statement.{statement}
 use Rattle.failing.proofs.failed.Tie as tie
 
-releasable-requires : tie.Need-releasable-requires
-releasable-requires c κs = search needs
-
-same-length : tie.Need-same-length
-same-length c = search needs
-
 returns : tie.Need-returns
 returns c = failed-refused (keyNum (c .before .before .before .before .args .k)) (c .before .before .before .before .args .n) (c .before .before .before .before .args .clock)
     (λ st s w. sym (c .before .releasable .ensures st s w) ∙ not-true (c .before .releasable .result) (c .if1 .taken))
@@ -24,13 +18,10 @@ leave-both-requires c κs = (
       (st .table)) (sym (c .before .before .releasable .ensures st s w) ∙ not-false (c .before .before .releasable .result) (c .before .if1 .left)),
 )
 
-same-length-2 : tie.Need-same-length-2
-same-length-2 c = search needs
-
 returns-2 : tie.Need-returns-2
 returns-2 c = failed-done (keyNum (c .before .before .before .before .before .before .before .before .args .k)) (c .before .before .before .before .before .before .before .before .args .n)
     (c .before .before .before .before .before .before .before .before .args .clock) (λ st s w. sym (c .before .before .before .before .before .releasable .ensures st s w) ∙
     not-false (c .before .before .before .before .before .releasable .result) (c .before .before .before .before .if1 .left)) (c .before .before .leave-both .ensures)
 
 pub failed-spec : {M : Type 1} → statement M
-failed-spec = tie.close (tie.spec releasable-requires same-length returns leave-both-requires same-length-2 returns-2)
+failed-spec = tie.close (tie.spec (λ c κs. search needs) (λ c. search needs) returns leave-both-requires (λ c. search needs) returns-2)

@@ -6,21 +6,9 @@ use borrow.Author.Needs.{needs}
 use Rattle.failing.proofs.failed_package_info.Statement.{statement}
 use Rattle.failing.proofs.failed_package_info.Tie as tie
 
-info-owned-requires : tie.Need-info-owned-requires
-info-owned-requires c κs = search needs
-
-same-length : tie.Need-same-length
-same-length c = search needs
-
 returns : tie.Need-returns
 returns c = info-refused (keyNum (c .before .before .before .before .args .k)) (c .before .before .before .before .args .n) (c .before .before .before .before .args .clock)
     (λ st s w. sym (c .before .info-owned .ensures st s w) ∙ not-true (c .before .info-owned .result) (c .if1 .taken))
-
-failed-requires : tie.Need-failed-requires
-failed-requires c κs = search needs
-
-same-length-2 : tie.Need-same-length-2
-same-length-2 c = search needs
 
 returns-2 : tie.Need-returns-2
 returns-2 c = info-answered (keyNum (c .before .before .before .before .before .before .before .before .args .k)) (c .before .before .before .before .before .before .before .before .args .n)
@@ -30,4 +18,4 @@ returns-2 c = info-answered (keyNum (c .before .before .before .before .before .
 pub failed-package-info-spec : {M : Type 1} → statement M
 failed-package-info-spec =
     tie.close
-    (tie.spec info-owned-requires same-length returns failed-requires same-length-2 returns-2)
+    (tie.spec (λ c κs. search needs) (λ c. search needs) returns (λ c κs. search needs) (λ c. search needs) returns-2)

@@ -5,16 +5,10 @@ use borrow.Author.Needs.{needs}
 use Rattle.failing.proofs.forget.Statement.{statement}
 use Rattle.failing.proofs.forget.Tie as tie
 
-release-requires : tie.Need-release-requires
-release-requires c κs = search needs
-
 drop-all-requires : tie.Need-drop-all-requires
 drop-all-requires c κs = released (keyNum (c .before .before .before .before .before .before .args .k)) (hash-below (c .before .before .before .before .before .before .args .k .hash)
     (key-four (c .before .before .before .before .before .before .args .k) (c .before .before .before .before .before .before .good .1 .0)))
     (c .before .before .before .before .before .before .pre) (c .before .before .before .release .ensures)
-
-same-length : tie.Need-same-length
-same-length c = search needs
 
 returns : tie.Need-returns
 returns c = λ st s w u. forgotten st s (keyNum (c .before .before .before .before .before .before .before .before .before .args .k))
@@ -23,4 +17,4 @@ returns c = λ st s w u. forgotten st s (keyNum (c .before .before .before .befo
     (c .before .before .before .before .before .before .release .ensures st s w tt) (c .before .before .drop-all .ensures)
 
 pub forget-spec : {M : Type 1} → statement M
-forget-spec = tie.close (tie.spec release-requires drop-all-requires same-length returns)
+forget-spec = tie.close (tie.spec (λ c κs. search needs) drop-all-requires (λ c. search needs) returns)

@@ -5,9 +5,6 @@ use borrow.Author.Needs.{needs}
 use Rattle.failing.proofs.leave.Statement.{statement}
 use Rattle.failing.proofs.leave.Tie as tie
 
-withdraw-requires : tie.Need-withdraw-requires
-withdraw-requires c κs = search needs
-
 ready-all-requires : tie.Need-ready-all-requires
 ready-all-requires c κs =
     let kept = c .before .before .before .before .before .before .pre .0 in
@@ -16,9 +13,6 @@ ready-all-requires c κs =
     (key-four (c .before .before .before .before .before .before .args .k) (c .before .before .before .before .before .before .good .1 .0)))
     (c .before .before .before .before .before .before .args .n) (c .before .before .before .before .before .before .args .clock) free
     (c .before .before .before .withdraw .ensures (kept .state) (kept .sound) (kept .writes) free)
-
-same-length : tie.Need-same-length
-same-length c = search needs
 
 returns : tie.Need-returns
 returns c = λ st s w u.
@@ -30,4 +24,4 @@ returns c = λ st s w u.
     (c .before .before .before .before .before .before .withdraw .ensures st s w free) (c .before .before .ready-all .ensures)
 
 pub leave-spec : {M : Type 1} → statement M
-leave-spec = tie.close (tie.spec withdraw-requires ready-all-requires same-length returns)
+leave-spec = tie.close (tie.spec (λ c κs. search needs) ready-all-requires (λ c. search needs) returns)

@@ -8,12 +8,6 @@ use borrow.Author.Needs.{needs}
 use Rattle.failing.proofs.leave_both.Statement.{statement}
 use Rattle.failing.proofs.leave_both.Tie as tie
 
-same-hash-other-kind-requires : tie.Need-same-hash-other-kind-requires
-same-hash-other-kind-requires c κs = search needs
-
-clear-requires : tie.Need-clear-requires
-clear-requires c κs = search needs
-
 leave-requires : tie.Need-leave-requires
 leave-requires c κs = first-leave (keyNum (c .before .before .before .before .before .before .before .args .k))
     (hash-below (c .before .before .before .before .before .before .before .args .k .hash) (key-four (c .before .before .before .before .before .before .before .args .k)
@@ -33,9 +27,6 @@ leave-requires-2 c κs =
     (c .before .before .before .before .before .before .before .before .before .before .before .pre .0) v
     (c .before .before .before .before .before .before .before .before .before .same-hash-other-kind .ensures) (c .before .before .before .leave .ensures)
 
-same-length : tie.Need-same-length
-same-length c = search needs
-
 returns : tie.Need-returns
 returns c =
     let v : c .before .before .before .before .before .before .before .before .before .before .before .before .before .before .args .clock < word =
@@ -53,4 +44,4 @@ returns c =
 pub leave-both-spec : {M : Type 1} → statement M
 leave-both-spec =
     tie.close
-    (tie.spec same-hash-other-kind-requires clear-requires leave-requires leave-requires-2 same-length returns)
+    (tie.spec (λ c κs. search needs) (λ c κs. search needs) leave-requires leave-requires-2 (λ c. search needs) returns)

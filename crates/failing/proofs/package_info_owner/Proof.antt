@@ -5,9 +5,6 @@ use borrow.Author.Needs.{needs}
 use Rattle.failing.proofs.package_info_owner.Statement.{statement}
 use Rattle.failing.proofs.package_info_owner.Tie as tie
 
-request-at-requires : tie.Need-request-at-requires
-request-at-requires c κs = search needs
-
 returns : tie.Need-returns
 returns c = λ st s w. owner-told (keyNum (c .before .before .before .before .args .k)) (c .before .before .before .before .args .clock) (st .table)
     (asked-nobody (lawful-at (keyNum (c .before .before .before .before .args .k)) (st .table) (s .bounded .lawful)) (c .before .before .request-at .ensures .is st s w)
@@ -24,4 +21,4 @@ returns-3 c = λ st s w. owner-told (keyNum (c .before .before .before .before .
     (c .before .before .before .before .request-at .ensures .is st s w) (c .before .before .before .before .before .before .args .clock) (c .before .before .if1 .left) (c .if2 .left))
 
 pub package-info-owner-spec : {M : Type 1} → statement M
-package-info-owner-spec = tie.close (tie.spec request-at-requires returns returns-2 returns-3)
+package-info-owner-spec = tie.close (tie.spec (λ c κs. search needs) returns returns-2 returns-3)

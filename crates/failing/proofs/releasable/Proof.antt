@@ -8,9 +8,6 @@ use Rattle.failing.proofs.releasable.Tie as tie
 returns : tie.Need-returns
 returns c = λ st s w. never-zero st s (keyNum (c .before .before .args .k)) (c .before .before .args .n) (c .if1 .taken)
 
-request-at-requires : tie.Need-request-at-requires
-request-at-requires c κs = search needs
-
 returns-2 : tie.Need-returns-2
 returns-2 c = λ st s w. owned-staged (c .before .before .before .request-at .ensures .is st s w) (c .before .before .before .before .before .before .args .n)
     (omega (arith, c .before .before .before .before .if1 .left)) (c .before .if2 .taken)
@@ -20,4 +17,4 @@ returns-3 c = λ st s w. not-owned (c .before .before .request-at .ensures .is s
     (c .if2 .left)
 
 pub releasable-spec : {M : Type 1} → statement M
-releasable-spec = tie.close (tie.spec returns request-at-requires returns-2 returns-3)
+releasable-spec = tie.close (tie.spec returns (λ c κs. search needs) returns-2 returns-3)

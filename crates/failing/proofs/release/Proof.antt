@@ -5,21 +5,9 @@ use borrow.Author.Needs.{needs}
 use Rattle.failing.proofs.release.Statement.{statement}
 use Rattle.failing.proofs.release.Tie as tie
 
-request-at-requires : tie.Need-request-at-requires
-request-at-requires c κs = search needs
-
-clear-requires : tie.Need-clear-requires
-clear-requires c κs = search needs
-
-same-length : tie.Need-same-length
-same-length c = search needs
-
 returns : tie.Need-returns
 returns c = λ st s w u. c .before .before .clear .ensures st s w (owner-named ((at (keyNum (c .before .before .before .before .before .before .before .before .before .args .k))
     (st .table)) .owner) (c .before .before .before .before .before .before .request-at .ensures .is st s w .owner) (c .before .before .before .before .if1 .taken))
-
-same-length-2 : tie.Need-same-length-2
-same-length-2 c = search needs
 
 returns-2 : tie.Need-returns-2
 returns-2 c = λ st s w u. nothing-released st s (keyNum (c .before .before .before .before .before .args .k)) (c .before .before .request-at .ensures .is st s w .owner) (c .if1 .left) w
@@ -27,4 +15,4 @@ returns-2 c = λ st s w u. nothing-released st s (keyNum (c .before .before .bef
 pub release-spec : {M : Type 1} → statement M
 release-spec =
     tie.close
-    (tie.spec request-at-requires clear-requires same-length returns same-length-2 returns-2)
+    (tie.spec (λ c κs. search needs) (λ c κs. search needs) (λ c. search needs) returns (λ c. search needs) returns-2)

@@ -5,23 +5,11 @@ use borrow.Author.Needs.{needs}
 use Rattle.failing.proofs.unclaim.Statement.{statement}
 use Rattle.failing.proofs.unclaim.Tie as tie
 
-releasable-requires : tie.Need-releasable-requires
-releasable-requires c κs = search needs
-
-clear-requires : tie.Need-clear-requires
-clear-requires c κs = search needs
-
-same-length : tie.Need-same-length
-same-length c = search needs
-
 returns : tie.Need-returns
 returns c = λ st s w u.
     let e = sym (c .before .before .before .before .before .releasable .ensures st s w) ∙ c .before .before .before .before .if1 .taken in
     unclaimed st s (keyNum (c .before .before .before .before .before .before .before .before .args .k)) (c .before .before .before .before .before .before .before .before .args .n) e w
     (c .before .before .clear .ensures)
-
-same-length-2 : tie.Need-same-length-2
-same-length-2 c = search needs
 
 returns-2 : tie.Need-returns-2
 returns-2 c = λ st s w u. unclaim-refused st (keyNum (c .before .before .before .before .args .k)) (c .before .before .before .before .args .n)
@@ -30,4 +18,4 @@ returns-2 c = λ st s w u. unclaim-refused st (keyNum (c .before .before .before
 pub unclaim-spec : {M : Type 1} → statement M
 unclaim-spec =
     tie.close
-    (tie.spec releasable-requires clear-requires same-length returns same-length-2 returns-2)
+    (tie.spec (λ c κs. search needs) (λ c κs. search needs) (λ c. search needs) returns (λ c. search needs) returns-2)

@@ -8,7 +8,7 @@ use Rattle.store.specs.Flat.{flatOf}
 use Rattle.store.proofs.Frame.{sizes}
 use Rattle.requests.proofs.Keeping.{kept-shown, from-at, to-at}
 use Rattle.requests.proofs.AtHash.{window-size}
-use Rattle.handing.proofs.Copying.{few-candidates, Copied, copied-none, copied-more, copied-all}
+use Rattle.handing.proofs.Copying.{few-candidates, Copied, copied-more, copied-all, copied-none}
 use Rattle.handing.proofs.copy_conns.Statement.{statement}
 use Rattle.handing.proofs.copy_conns.Tie as tie
 

@@ -4,15 +4,9 @@ use borrow.Author.Needs.{needs}
 use Rattle.handing.proofs.has_key.Statement.{statement}
 use Rattle.handing.proofs.has_key.Tie as tie
 
-key-less-requires : tie.Need-key-less-requires
-key-less-requires c κs = search needs
-
-key-less-requires-2 : tie.Need-key-less-requires-2
-key-less-requires-2 c κs = search needs
-
 returns : tie.Need-returns
 returns c = λ e. neither-first (keyNumber (rowKeyOf (c .before .before .before .before .args .r))) (keyNumber (c .before .before .before .before .args .k))
     (rw (c .before .key-less .ensures, c .key-less2 .ensures) at e)
 
 pub has-key-spec : {M : Type 1} → statement M
-has-key-spec = tie.close (tie.spec key-less-requires key-less-requires-2 returns)
+has-key-spec = tie.close (tie.spec (λ c κs. search needs) (λ c κs. search needs) returns)

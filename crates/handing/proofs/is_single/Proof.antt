@@ -7,15 +7,6 @@ use borrow.Author.Needs.{needs}
 use Rattle.handing.proofs.is_single.Statement.{statement}
 use Rattle.handing.proofs.is_single.Tie as tie
 
-key-words-requires : tie.Need-key-words-requires
-key-words-requires c κs = search needs
-
-window-of-requires : tie.Need-window-of-requires
-window-of-requires c κs = search needs
-
-sub-result : tie.Need-sub-result
-sub-result c = search needs
-
 returns : tie.Need-returns
 returns c = λ e st s w.
     let k = keyNum (c .before .before .before .before .args .k) in
@@ -25,4 +16,4 @@ returns c = λ e st s w.
     sym (window-size k (st .table) from to) ∙ eqb-true _ 1 e
 
 pub is-single-spec : {M : Type 1} → statement M
-is-single-spec = tie.close (tie.spec key-words-requires window-of-requires sub-result returns)
+is-single-spec = tie.close (tie.spec (λ c κs. search needs) (λ c κs. search needs) (λ c. search needs) returns)

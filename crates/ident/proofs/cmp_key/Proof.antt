@@ -10,21 +10,6 @@ use Rattle.ident.proofs.Places.{by-place}
 use Rattle.ident.proofs.cmp_key.Statement.{statement}
 use Rattle.ident.proofs.cmp_key.Tie as tie
 
-cmp-hash-requires : tie.Need-cmp-hash-requires
-cmp-hash-requires c κs = search needs
-
-kind-rank-requires : tie.Need-kind-rank-requires
-kind-rank-requires c κs = search needs
-
-kind-rank-requires-2 : tie.Need-kind-rank-requires-2
-kind-rank-requires-2 c κs = search needs
-
-cmp-word-requires : tie.Need-cmp-word-requires
-cmp-word-requires c κs = search needs
-
-then-requires : tie.Need-then-requires
-then-requires c κs = search needs
-
 -- what the calls gave, put together
 chain : (lo o r p : Order) (i j i′ j′ : ℕ) → lo ≡ p → i ≡ i′ → j ≡ j′ → o ≡ orderOf i j → r ≡ thenOf o lo → r ≡ thenOf (orderOf i′ j′) p
 chain lo o r p i j i′ j′ e₀ e₁ e₂ e₃ e₄ = cc
@@ -39,4 +24,4 @@ returns c =
     by-place (keyNum a) (keyNum b) (hash-below (a .hash) (key-four a (start .good .0))) (hash-below (b .hash) (key-four b (start .good .1 .0)))
 
 pub cmp-key-spec : {M : Type 1} → statement M
-cmp-key-spec = tie.close (tie.spec cmp-hash-requires kind-rank-requires kind-rank-requires-2 cmp-word-requires then-requires returns)
+cmp-key-spec = tie.close (tie.spec (λ c κs. search needs) (λ c κs. search needs) (λ c κs. search needs) (λ c κs. search needs) (λ c κs. search needs) returns)

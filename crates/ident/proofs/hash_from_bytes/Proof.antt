@@ -8,12 +8,9 @@ use Rattle.ident.specs.Words.{hashBytes}
 use Rattle.ident.proofs.hash_from_bytes.Statement.{statement}
 use Rattle.ident.proofs.hash_from_bytes.Tie as tie
 
-hash-at-requires : tie.Need-hash-at-requires
-hash-at-requires c κs = search needs
-
 returns : tie.Need-returns
 returns c =
     c .hash-at .ensures ∙ ap (number 256) (take-all hashBytes (c .before .before .args .b .now) (omega arith))
 
 pub hash-from-bytes-spec : {M : Type 1} → statement M
-hash-from-bytes-spec = tie.close (tie.spec hash-at-requires returns)
+hash-from-bytes-spec = tie.close (tie.spec (λ c κs. search needs) returns)

@@ -7,16 +7,10 @@ use Rattle.ident.proofs.WordByWord.{written}
 use Rattle.ident.proofs.hash_to_bytes.Statement.{statement}
 use Rattle.ident.proofs.hash_to_bytes.Tie as tie
 
-slice-aggregate-put-hash : tie.Need-slice-aggregate-put-hash
-slice-aggregate-put-hash c = search needs
-
-put-hash-requires : tie.Need-put-hash-requires
-put-hash-requires c κs = search needs
-
 returns : tie.Need-returns
 returns c =
     let h = c .before .before .before .args .h in
     written _ (hashNum h) refl (hash-below h (hash-four h (c .before .before .before .good .0))) (c .before .put-hash .ensures)
 
 pub hash-to-bytes-spec : {M : Type 1} → statement M
-hash-to-bytes-spec = tie.close (tie.spec slice-aggregate-put-hash put-hash-requires returns)
+hash-to-bytes-spec = tie.close (tie.spec (λ c. search needs) (λ c κs. search needs) returns)

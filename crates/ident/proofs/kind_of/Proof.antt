@@ -3,18 +3,6 @@ use borrow.Author.Needs.{needs}
 use Rattle.ident.proofs.kind_of.Statement.{statement}
 use Rattle.ident.proofs.kind_of.Tie as tie
 
-enum-told : tie.Need-enum-told
-enum-told c = search needs
-
-enum-told-2 : tie.Need-enum-told-2
-enum-told-2 c = search needs
-
-enum-told-3 : tie.Need-enum-told-3
-enum-told-3 c = search needs
-
-enum-told-4 : tie.Need-enum-told-4
-enum-told-4 c = search needs
-
 returns : tie.Need-returns
 returns c = simp (c .enum-told .given .1)
 
@@ -28,4 +16,4 @@ returns-4 : tie.Need-returns-4
 returns-4 c = search needs
 
 pub kind-of-spec : {M : Type 1} → statement M
-kind-of-spec = tie.close (tie.spec enum-told enum-told-2 enum-told-3 enum-told-4 returns returns-2 returns-3 returns-4)
+kind-of-spec = tie.close (tie.spec (λ c. search needs) (λ c. search needs) (λ c. search needs) (λ c. search needs) returns returns-2 returns-3 returns-4)

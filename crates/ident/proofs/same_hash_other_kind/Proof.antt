@@ -6,11 +6,8 @@ use Rattle.ident.specs.Words.{hashNum}
 use Rattle.ident.proofs.same_hash_other_kind.Statement.{statement}
 use Rattle.ident.proofs.same_hash_other_kind.Tie as tie
 
-swapped-requires : tie.Need-swapped-requires
-swapped-requires c κs = search needs
-
 returns : tie.Need-returns
 returns c = ap (λ (k : Kind). record { kind = k; hash = hashNum (c .before .before .args .k .hash) }) (c .before .swapped .ensures)
 
 pub same-hash-other-kind-spec : {M : Type 1} → statement M
-same-hash-other-kind-spec = tie.close (tie.spec swapped-requires returns)
+same-hash-other-kind-spec = tie.close (tie.spec (λ c κs. search needs) returns)

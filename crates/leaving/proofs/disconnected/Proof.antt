@@ -6,21 +6,12 @@ use borrow.Author.Needs.{needs}
 use Rattle.leaving.proofs.disconnected.Statement.{statement}
 use Rattle.leaving.proofs.disconnected.Tie as tie
 
-own-keys-requires : tie.Need-own-keys-requires
-own-keys-requires c κs = search needs
-
 drop-keys-requires : tie.Need-drop-keys-requires
 drop-keys-requires c κs = let late : c .before .before .before .before .before .before .before .before .before .args .clock < word =
     omega (arith, c .before .before .before .before .before .before .before .before .before .good .1 .1 .0) in
     parted-asks (c .before .before .before .before .before .before .before .before .before .args .n) (c .before .before .before .before .before .before .before .before .before .args .clock) late
     (c .before .before .before .before .before .before .before .before .before .pre .0) (c .before .before .before .before .before .before .before .before .before .pre .1)
     (c .before .before .before .before .before .before .before .before .before .pre .2) (c .before .before .before .before .own-keys .ensures)
-
-same-length : tie.Need-same-length
-same-length c = search needs
-
-same-length-2 : tie.Need-same-length-2
-same-length-2 c = search needs
 
 returns : tie.Need-returns
 returns c = let late : c .before .before .before .before .before .before .before .before .before .before .before .before .before .before .args .clock < word =
@@ -32,4 +23,4 @@ returns c = let late : c .before .before .before .before .before .before .before
 
 pub disconnected-spec : {M : Type 1} → statement M
 disconnected-spec =
-    tie.close (tie.spec own-keys-requires drop-keys-requires same-length same-length-2 returns)
+    tie.close (tie.spec (λ c κs. search needs) drop-keys-requires (λ c. search needs) (λ c. search needs) returns)

@@ -3,17 +3,11 @@ use borrow.Author.Needs.{needs}
 use Rattle.leaving.proofs.put_own.Statement.{statement}
 use Rattle.leaving.proofs.put_own.Tie as tie
 
-key-of-requires : tie.Need-key-of-requires
-key-of-requires c κs = search needs
-
 put-key-requires : tie.Need-put-key-requires
 put-key-requires c κs = c .before .before .before .before .before .pre (c .before .before .if1 .taken)
 
 add-result : tie.Need-add-result
 add-result c = search (needs, c .before .before .before .before .before .before .before .before .pre (c .before .before .before .before .before .if1 .taken))
-
-same-length : tie.Need-same-length
-same-length c = search needs
 
 returns : tie.Need-returns
 returns c = put-its (c .before .before .before .before .before .before .before .before .args .n) (c .before .before .before .before .before .before .before .before .args .r)
@@ -25,4 +19,4 @@ returns-2 c = put-not (c .before .before .before .args .n) (c .before .before .b
 
 pub put-own-spec : {M : Type 1} → statement M
 put-own-spec =
-    tie.close (tie.spec key-of-requires put-key-requires add-result same-length returns returns-2)
+    tie.close (tie.spec (λ c κs. search needs) put-key-requires add-result (λ c. search needs) returns returns-2)

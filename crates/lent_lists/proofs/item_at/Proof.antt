@@ -14,9 +14,6 @@ mul-get c = omega (arith, length-items (c .before .args .b .now), c .before .pre
 get-requires : tie.Need-get-requires
 get-requires c κs = omega (arith, length-items (c .before .args .b .now), c .before .pre)
 
-kind-in-requires : tie.Need-kind-in-requires
-kind-in-requires c κs = search needs
-
 mul-hash-at : tie.Need-mul-hash-at
 mul-hash-at c = omega (arith, length-items (c .before .before .before .args .b .now), c .before .before .before .pre)
 
@@ -34,4 +31,4 @@ returns c =
     (c .before .kind-in .ensures) (rw f at (c .hash-at .ensures))
 
 pub item-at-spec : {M : Type 1} → statement M
-item-at-spec = tie.close (tie.spec mul-get get-requires kind-in-requires mul-hash-at add-hash-at hash-at-requires returns)
+item-at-spec = tie.close (tie.spec mul-get get-requires (λ c κs. search needs) mul-hash-at add-hash-at hash-at-requires returns)

@@ -9,9 +9,6 @@ use Rattle.lent_lists.proofs.Inventory.{shorter-items, shorter-prioriti
 use Rattle.lent_lists.proofs.offers.Statement.{statement}
 use Rattle.lent_lists.proofs.offers.Tie as tie
 
-items-requires : tie.Need-items-requires
-items-requires c κs = search needs
-
 returns : tie.Need-returns
 returns c = c .before .items .ensures ∙ sym (shorter-items (itemsIn (c .before .before .before .before .args .b .now)) (words (c .before .before .before .before .args .priorities .now))
     (omega (arith, length-words (c .before .before .before .before .args .priorities .now), c .before .items .ensures)))
@@ -21,4 +18,4 @@ returns-2 c = sym (length-words (c .before .before .before .before .args .priori
     (words (c .before .before .before .before .args .priorities .now)) (omega (arith, length-words (c .before .before .before .before .args .priorities .now), c .before .items .ensures)))
 
 pub offers-spec : {M : Type 1} → statement M
-offers-spec = tie.close (tie.spec items-requires returns returns-2)
+offers-spec = tie.close (tie.spec (λ c κs. search needs) returns returns-2)

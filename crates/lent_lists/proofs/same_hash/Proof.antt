@@ -6,18 +6,6 @@ use borrow.Author.Needs.{needs}
 use Rattle.lent_lists.proofs.same_hash.Statement.{statement}
 use Rattle.lent_lists.proofs.same_hash.Tie as tie
 
-cmp-hash-requires : tie.Need-cmp-hash-requires
-cmp-hash-requires c κs = search needs
-
-enum-told : tie.Need-enum-told
-enum-told c = search needs
-
-enum-told-2 : tie.Need-enum-told-2
-enum-told-2 c = search needs
-
-enum-told-3 : tie.Need-enum-told-3
-enum-told-3 c = search needs
-
 returns : tie.Need-returns
 returns c = ap isEqual (sym (c .enum-told .given .1)) ∙ equal-is (hashNum (c .before .before .before .args .a)) (hashNum (c .before .before .before .args .b)) _ (c .before .before .cmp-hash .ensures)
 
@@ -32,4 +20,4 @@ returns-3 c = ap isEqual (sym (c .enum-told3 .given .1)) ∙ equal-is (hashNum (
 pub same-hash-spec : {M : Type 1} → statement M
 same-hash-spec =
     tie.close
-    (tie.spec cmp-hash-requires enum-told enum-told-2 enum-told-3 returns returns-2 returns-3)
+    (tie.spec (λ c κs. search needs) (λ c. search needs) (λ c. search needs) (λ c. search needs) returns returns-2 returns-3)

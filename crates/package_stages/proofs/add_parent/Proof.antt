@@ -4,11 +4,11 @@ use lib.ListN.{length}
 use Rattle.ident.specs.Number.{wtxid}
 use Rattle.ident.specs.Words.{hashNum}
 use Rattle.regions.specs.Rows.{quadNumber}
+use Rattle.regions.proofs.Order.{number-quad}
 use Rattle.places.specs.Places.{Place, blank}
 use Rattle.machine.specs.Table.{at}
 use Rattle.machine.proofs.Tests.{never}
 use Rattle.store.specs.Flat.{flatOf}
-use Rattle.store.proofs.Quads.{number-quad}
 use Rattle.requests.proofs.Keeping.{kept-shown}
 use Rattle.package_stages.proofs.Seeking.{its-place}
 use Rattle.package_stages.proofs.Placing.{parent-added}

@@ -8,12 +8,12 @@ use Rattle.ident.specs.Number.{wtxid}
 use Rattle.ident.specs.Words.{hashNum}
 use Rattle.lent_lists.specs.Lists.{hashesIn}
 use Rattle.regions.specs.Rows.{quadNumber}
+use Rattle.regions.proofs.Order.{number-quad}
 use Rattle.places.specs.Places.{Place, blank, withStage, withCombined, withWtxids}
 use Rattle.machine.specs.Table.{at}
 use Rattle.machine.proofs.Tests.{never}
 use Rattle.store.specs.Flat.{flatOf, placesOf}
 use Rattle.store.proofs.Frame.{sizes}
-use Rattle.store.proofs.Quads.{number-quad}
 use Rattle.requests.proofs.Keeping.{kept-shown}
 use Rattle.package_stages.specs.Changes.{wtxidsOf}
 use Rattle.package_stages.proofs.Seeking.{its-place, head-stage}

@@ -7,14 +7,8 @@ use borrow.Author.Needs.{needs}
 use Rattle.package_stages.proofs.close.Statement.{statement}
 use Rattle.package_stages.proofs.close.Tie as tie
 
-seek-requires : tie.Need-seek-requires
-seek-requires c κs = search needs
-
 close-place-requires : tie.Need-close-place-requires
 close-place-requires c κs = (kept-shown (c .before .before .before .before .before .pre), c .before .before .seek .ensures .inside (c .before .if1 .taken))
-
-same-length : tie.Need-same-length
-same-length c = search needs
 
 returns : tie.Need-returns
 returns c = λ st s w u.
@@ -22,9 +16,6 @@ returns c = λ st s w u.
     let p = c .before .before .before .before .before .seek .ensures .is st s w in
     place-closed st s h (c .before .before .before .before .before .seek .ensures .small) (p .bound) (sym (p .held-is) ∙ c .before .before .before .before .if1 .taken)
     (c .before .before .close-place .ensures (flatOf st) w)
-
-same-length-2 : tie.Need-same-length-2
-same-length-2 c = search needs
 
 returns-2 : tie.Need-returns-2
 returns-2 c = λ st s w u.
@@ -35,4 +26,4 @@ returns-2 c = λ st s w u.
 pub close-spec : {M : Type 1} → statement M
 close-spec =
     tie.close
-    (tie.spec seek-requires close-place-requires same-length returns same-length-2 returns-2)
+    (tie.spec (λ c κs. search needs) close-place-requires (λ c. search needs) returns (λ c. search needs) returns-2)

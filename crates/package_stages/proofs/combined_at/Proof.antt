@@ -10,13 +10,10 @@ use Rattle.package_stages.proofs.combined_at.Tie as tie
 place-at-requires : tie.Need-place-at-requires
 place-at-requires c κs = (kept-shown (c .before .pre .0), c .before .pre .1)
 
-quad-hash-requires : tie.Need-quad-hash-requires
-quad-hash-requires c κs = search needs
-
 returns : tie.Need-returns
 returns c = λ h small st s w p.
     let d = blank 0 0 in
     c .quad-hash .ensures ∙ head-combined _ (c .before .before .place-at .ensures (flatOf st) d w) ∙ ap (λ (x : Place). x .combined) (its-place st s h small (p .bound) (sym (p .held-is)) d)
 
 pub combined-at-spec : {M : Type 1} → statement M
-combined-at-spec = tie.close (tie.spec place-at-requires quad-hash-requires returns)
+combined-at-spec = tie.close (tie.spec place-at-requires (λ c κs. search needs) returns)

@@ -11,14 +11,8 @@ use borrow.Author.Needs.{needs}
 use Rattle.package_stages.proofs.enqueue.Statement.{statement}
 use Rattle.package_stages.proofs.enqueue.Tie as tie
 
-seek-requires : tie.Need-seek-requires
-seek-requires c κs = search needs
-
 set-stage-requires : tie.Need-set-stage-requires
 set-stage-requires c κs = (kept-shown (c .before .before .before .before .before .pre), c .before .before .seek .ensures .inside (c .before .if1 .taken))
-
-same-length : tie.Need-same-length
-same-length c = search needs
 
 returns : tie.Need-returns
 returns c = λ x st s w e.
@@ -26,9 +20,6 @@ returns c = λ x st s w e.
     let p = c .before .before .before .before .before .seek .ensures .is st s w in
     stage-set st s h (c .before .before .before .before .before .seek .ensures .small) (p .bound) x e (sym (p .held-is) ∙ c .before .before .before .before .if1 .taken) (blank 0 0)
     (c .before .before .set-stage .ensures (blank 0 0) (flatOf st) w)
-
-same-length-2 : tie.Need-same-length-2
-same-length-2 c = search needs
 
 returns-2 : tie.Need-returns-2
 returns-2 c = λ x st s w e.
@@ -38,4 +29,4 @@ returns-2 c = λ x st s w e.
 pub enqueue-spec : {M : Type 1} → statement M
 enqueue-spec =
     tie.close
-    (tie.spec seek-requires set-stage-requires same-length returns same-length-2 returns-2)
+    (tie.spec (λ c κs. search needs) set-stage-requires (λ c. search needs) returns (λ c. search needs) returns-2)

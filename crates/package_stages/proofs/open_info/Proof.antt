@@ -1,25 +1,16 @@
 use mathlib.Core.Path.{_≡_, ap, _∙_}
 use Rattle.ident.specs.Words.{hashNum}
 use Rattle.regions.specs.Rows.{quadNumber}
+use Rattle.regions.proofs.Order.{number-quad}
 use Rattle.store.specs.Flat.{flatOf}
-use Rattle.store.proofs.Quads.{number-quad}
 use Rattle.requests.proofs.Keeping.{kept-shown}
 use Rattle.package_stages.proofs.Placing.{opened}
 use borrow.Author.Needs.{needs}
 use Rattle.package_stages.proofs.open_info.Statement.{statement}
 use Rattle.package_stages.proofs.open_info.Tie as tie
 
-seek-requires : tie.Need-seek-requires
-seek-requires c κs = search needs
-
-hash-quad-requires : tie.Need-hash-quad-requires
-hash-quad-requires c κs = search needs
-
 open-place-requires : tie.Need-open-place-requires
 open-place-requires c κs = (kept-shown (c .before .before .before .before .before .pre .0), c .before .before .seek .ensures .most, c .before .before .before .before .before .pre .1)
-
-same-length : tie.Need-same-length
-same-length c = search needs
 
 returns : tie.Need-returns
 returns c = λ st s w o.
@@ -30,4 +21,4 @@ returns c = λ st s w o.
 
 pub open-info-spec : {M : Type 1} → statement M
 open-info-spec =
-    tie.close (tie.spec seek-requires hash-quad-requires open-place-requires same-length returns)
+    tie.close (tie.spec (λ c κs. search needs) (λ c κs. search needs) open-place-requires (λ c. search needs) returns)

@@ -5,11 +5,11 @@ use lib.Dec.{ltb}
 use lib.ListN.{length}
 use Rattle.ident.specs.Words.{hashNum}
 use Rattle.regions.specs.Rows.{quadNumber}
+use Rattle.regions.proofs.Order.{number-quad}
 use Rattle.places.specs.Places.{blank}
 use Rattle.machine.proofs.Tests.{never}
 use Rattle.store.specs.Flat.{flatOf, placesOf}
 use Rattle.store.proofs.Frame.{sizes}
-use Rattle.store.proofs.Quads.{number-quad}
 use Rattle.requests.proofs.Keeping.{kept-shown}
 use Rattle.package_stages.proofs.Seeking.{head-hash, sought-at, tested, missing}
 use borrow.Author.Needs.{needs}

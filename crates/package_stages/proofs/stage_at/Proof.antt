@@ -11,15 +11,6 @@ use borrow.Author.Needs.{needs}
 use Rattle.package_stages.proofs.stage_at.Statement.{statement}
 use Rattle.package_stages.proofs.stage_at.Tie as tie
 
-enum-told : tie.Need-enum-told
-enum-told c = search needs
-
-enum-told-2 : tie.Need-enum-told-2
-enum-told-2 c = search needs
-
-seek-requires : tie.Need-seek-requires
-seek-requires c κs = search needs
-
 place-at-requires : tie.Need-place-at-requires
 place-at-requires c κs = (kept-shown (c .before .before .before .before .before .before .pre), c .before .seek .ensures .inside (c .if1 .taken))
 
@@ -44,4 +35,4 @@ returns-3 c = λ st s w.
 pub stage-at-spec : {M : Type 1} → statement M
 stage-at-spec =
     tie.close
-    (tie.spec enum-told enum-told-2 seek-requires place-at-requires returns returns-2 returns-3)
+    (tie.spec (λ c. search needs) (λ c. search needs) (λ c κs. search needs) place-at-requires returns returns-2 returns-3)

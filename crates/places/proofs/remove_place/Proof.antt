@@ -8,18 +8,6 @@ use borrow.Author.Needs.{needs}
 use Rattle.places.proofs.remove_place.Statement.{statement}
 use Rattle.places.proofs.remove_place.Tie as tie
 
-mul-take-out : tie.Need-mul-take-out
-mul-take-out c = search needs
-
-mul-take-out-2 : tie.Need-mul-take-out-2
-mul-take-out-2 c = search needs
-
-take-out-requires : tie.Need-take-out-requires
-take-out-requires c κs = search needs
-
-same-length : tie.Need-same-length
-same-length c = search needs
-
 returns : tie.Need-returns
 returns c =
     let start = c .before .before .before .before .before in
@@ -28,4 +16,4 @@ returns c =
 
 pub remove-place-spec : {M : Type 1} → statement M
 remove-place-spec =
-    tie.close (tie.spec mul-take-out mul-take-out-2 take-out-requires same-length returns)
+    tie.close (tie.spec (λ c. search needs) (λ c. search needs) (λ c κs. search needs) (λ c. search needs) returns)

@@ -9,18 +9,6 @@ use borrow.Author.Needs.{needs}
 use Rattle.places.proofs.set_combined.Statement.{statement}
 use Rattle.places.proofs.set_combined.Tie as tie
 
-mul-write-quad : tie.Need-mul-write-quad
-mul-write-quad c = search needs
-
-add-write-quad : tie.Need-add-write-quad
-add-write-quad c = search needs
-
-write-quad-requires : tie.Need-write-quad-requires
-write-quad-requires c κs = search needs
-
-same-length : tie.Need-same-length
-same-length c = search needs
-
 returns : tie.Need-returns
 returns c =
     let start = c .before .before .before .before .before in
@@ -29,4 +17,4 @@ returns c =
 
 pub set-combined-spec : {M : Type 1} → statement M
 set-combined-spec =
-    tie.close (tie.spec mul-write-quad add-write-quad write-quad-requires same-length returns)
+    tie.close (tie.spec (λ c. search needs) (λ c. search needs) (λ c κs. search needs) (λ c. search needs) returns)

@@ -8,18 +8,6 @@ use borrow.Author.Needs.{needs}
 use Rattle.places.proofs.set_stage.Statement.{statement}
 use Rattle.places.proofs.set_stage.Tie as tie
 
-mul-put : tie.Need-mul-put
-mul-put c = search needs
-
-add-put : tie.Need-add-put
-add-put c = search needs
-
-put-requires : tie.Need-put-requires
-put-requires c κs = search needs
-
-same-length : tie.Need-same-length
-same-length c = search needs
-
 returns : tie.Need-returns
 returns c =
     let start = c .before .before .before .before .before in
@@ -27,4 +15,4 @@ returns c =
     (withStage (start .args .v)) (omega arith) (stage-set (start .args .v)) (c .before .before .put .ensures .word)
 
 pub set-stage-spec : {M : Type 1} → statement M
-set-stage-spec = tie.close (tie.spec mul-put add-put put-requires same-length returns)
+set-stage-spec = tie.close (tie.spec (λ c. search needs) (λ c. search needs) (λ c κs. search needs) (λ c. search needs) returns)

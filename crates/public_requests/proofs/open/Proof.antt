@@ -8,9 +8,6 @@ use Rattle.public_requests.proofs.Opening.{bytes-front, bad-sizes, shor
 use Rattle.public_requests.proofs.open.Statement.{statement}
 use Rattle.public_requests.proofs.open.Tie as tie
 
-sizes-taken-requires : tie.Need-sizes-taken-requires
-sizes-taken-requires c κs = search needs
-
 returns : tie.Need-returns
 returns c = bad-sizes _ _ _ (sym (c .before .sizes-taken .ensures) ∙ not-true _ (c .if1 .taken))
 
@@ -23,9 +20,6 @@ need-requires c κs = (
 
 returns-2 : tie.Need-returns-2
 returns-2 c = short-store _ _ _ (sym (c .before .before .before .sizes-taken .ensures) ∙ not-false _ (c .before .before .if1 .left)) (omega (arith, c .before .need .ensures))
-
-slice-relend-prefix-fill : tie.Need-slice-relend-prefix-fill
-slice-relend-prefix-fill c = search needs
 
 slice-aggregate-fill : tie.Need-slice-aggregate-fill
 slice-aggregate-fill c = simp length-take (omega arith)
@@ -40,9 +34,6 @@ fill-requires c κs = (
   simp length-take (omega (arith, c .before .before .need .ensures)),
 )
 
-same-length : tie.Need-same-length
-same-length c = search needs
-
 returns-3 : tie.Need-returns-3
 returns-3 c =
     rw (c .before .before .before .before .before .need .ensures)
@@ -55,13 +46,4 @@ returns-3 c =
 pub open-spec : {M : Type 1} → statement M
 open-spec =
     tie.close
-    (tie.spec
-    sizes-taken-requires
-    returns
-    need-requires
-    returns-2
-    slice-relend-prefix-fill
-    slice-aggregate-fill
-    fill-requires
-    same-length
-    returns-3)
+    (tie.spec (λ c κs. search needs) returns need-requires returns-2 (λ c. search needs) slice-aggregate-fill fill-requires (λ c. search needs) returns-3)

@@ -6,9 +6,6 @@ use Rattle.outcome.proofs.Owned.{test-refuses, test-passes}
 use Rattle.public_requests.proofs.sum.Statement.{statement}
 use Rattle.public_requests.proofs.sum.Tie as tie
 
-sound-requires : tie.Need-sound-requires
-sound-requires c κs = search needs
-
 returns : tie.Need-returns
 unfolding named
 returns c = test-refuses (c .before .sound .result) (c .before .sound .ensures) (c .if1 .taken) Sum refl
@@ -16,8 +13,5 @@ returns c = test-refuses (c .before .sound .result) (c .before .sound .ensures) 
 sum-requires : tie.Need-sum-requires
 sum-requires c κs = test-passes (c .before .sound .result) (c .before .sound .ensures) (c .if1 .left)
 
-returns-2 : tie.Need-returns-2
-returns-2 c = search needs
-
 pub sum-spec : {M : Type 1} → statement M
-sum-spec = tie.close (tie.spec sound-requires returns sum-requires returns-2)
+sum-spec = tie.close (tie.spec (λ c κs. search needs) returns sum-requires (λ c. search needs))

@@ -5,12 +5,6 @@ use borrow.Author.Needs.{needs}
 use Rattle.regions.proofs.falls_short.Statement.{statement}
 use Rattle.regions.proofs.falls_short.Tie as tie
 
-key-less-requires : tie.Need-key-less-requires
-key-less-requires c κs = search needs
-
-key-less-requires-2 : tie.Need-key-less-requires-2
-key-less-requires-2 c κs = search needs
-
 returns : tie.Need-returns
 returns c =
     let a = c .before .before .args in
@@ -20,4 +14,4 @@ returns-2 : tie.Need-returns-2
 returns-2 c = rw (c .before .if1 .left, add-zero) (c .key-less2 .ensures)
 
 pub falls-short-spec : {M : Type 1} → statement M
-falls-short-spec = tie.close (tie.spec key-less-requires key-less-requires-2 returns returns-2)
+falls-short-spec = tie.close (tie.spec (λ c κs. search needs) (λ c κs. search needs) returns returns-2)

@@ -8,21 +8,6 @@ use borrow.Author.Needs.{needs}
 use Rattle.regions.proofs.insert_conn.Statement.{statement}
 use Rattle.regions.proofs.insert_conn.Tie as tie
 
-mul-move-up : tie.Need-mul-move-up
-mul-move-up c = search needs
-
-mul-move-up-2 : tie.Need-mul-move-up-2
-mul-move-up-2 c = search needs
-
-move-up-requires : tie.Need-move-up-requires
-move-up-requires c κs = search needs
-
-write-conn-requires : tie.Need-write-conn-requires
-write-conn-requires c κs = search needs
-
-same-length : tie.Need-same-length
-same-length c = search needs
-
 returns : tie.Need-returns
 unfolding connWords
 returns c =
@@ -33,4 +18,4 @@ returns c =
 pub insert-conn-spec : {M : Type 1} → statement M
 insert-conn-spec =
     tie.close
-    (tie.spec mul-move-up mul-move-up-2 move-up-requires write-conn-requires same-length returns)
+    (tie.spec (λ c. search needs) (λ c. search needs) (λ c κs. search needs) (λ c κs. search needs) (λ c. search needs) returns)

@@ -9,13 +9,10 @@ returns c =
     let start = c .before .before .before .before .before in
     by-kind (start .args .a) (start .args .b) (omega arith) (omega arith) (c .before .before .if1 .taken)
 
-quad-less-requires : tie.Need-quad-less-requires
-quad-less-requires c κs = search needs
-
 returns-2 : tie.Need-returns-2
 returns-2 c =
     let start = c .before .before .before .before .before .before in
     by-hash (start .args .a) (start .args .b) (omega arith) (c .quad-less .ensures)
 
 pub key-less-spec : {M : Type 1} → statement M
-key-less-spec = tie.close (tie.spec returns quad-less-requires returns-2)
+key-less-spec = tie.close (tie.spec returns (λ c κs. search needs) returns-2)

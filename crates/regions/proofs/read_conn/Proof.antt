@@ -9,24 +9,6 @@ use borrow.Author.Needs.{needs}
 use Rattle.regions.proofs.read_conn.Statement.{statement}
 use Rattle.regions.proofs.read_conn.Tie as tie
 
-mul-a : tie.Need-mul-a
-mul-a c = search needs
-
-get-requires : tie.Need-get-requires
-get-requires c κs = search needs
-
-add-get : tie.Need-add-get
-add-get c = search needs
-
-get-requires-2 : tie.Need-get-requires-2
-get-requires-2 c κs = search needs
-
-add-get-2 : tie.Need-add-get-2
-add-get-2 c = search needs
-
-get-requires-3 : tie.Need-get-requires-3
-get-requires-3 c κs = search needs
-
 returns : tie.Need-returns
 unfolding connWords readConn
 returns c =
@@ -36,4 +18,4 @@ returns c =
 
 pub read-conn-spec : {M : Type 1} → statement M
 read-conn-spec =
-    tie.close (tie.spec mul-a get-requires add-get get-requires-2 add-get-2 get-requires-3 returns)
+    tie.close (tie.spec (λ c. search needs) (λ c κs. search needs) (λ c. search needs) (λ c κs. search needs) (λ c. search needs) (λ c κs. search needs) returns)

@@ -8,18 +8,6 @@ use borrow.Author.Needs.{needs}
 use Rattle.regions.proofs.remove_conn.Statement.{statement}
 use Rattle.regions.proofs.remove_conn.Tie as tie
 
-mul-take-out : tie.Need-mul-take-out
-mul-take-out c = search needs
-
-mul-take-out-2 : tie.Need-mul-take-out-2
-mul-take-out-2 c = search needs
-
-take-out-requires : tie.Need-take-out-requires
-take-out-requires c κs = search needs
-
-same-length : tie.Need-same-length
-same-length c = search needs
-
 returns : tie.Need-returns
 unfolding connWords
 returns c =
@@ -29,4 +17,4 @@ returns c =
 
 pub remove-conn-spec : {M : Type 1} → statement M
 remove-conn-spec =
-    tie.close (tie.spec mul-take-out mul-take-out-2 take-out-requires same-length returns)
+    tie.close (tie.spec (λ c. search needs) (λ c. search needs) (λ c κs. search needs) (λ c. search needs) returns)

@@ -6,15 +6,6 @@ use borrow.Author.Needs.{needs}
 use Rattle.requests.proofs.candidates_at.Statement.{statement}
 use Rattle.requests.proofs.candidates_at.Tie as tie
 
-candidates-of-requires : tie.Need-candidates-of-requires
-candidates-of-requires c κs = search needs
-
-candidates-of-requires-2 : tie.Need-candidates-of-requires-2
-candidates-of-requires-2 c κs = search needs
-
-add-result : tie.Need-add-result
-add-result c = search needs
-
 returns : tie.Need-returns
 returns c = λ st s w.
     let h = c .before .before .before .args .h in
@@ -23,4 +14,4 @@ returns c = λ st s w.
 
 pub candidates-at-spec : {M : Type 1} → statement M
 candidates-at-spec =
-    tie.close (tie.spec candidates-of-requires candidates-of-requires-2 add-result returns)
+    tie.close (tie.spec (λ c κs. search needs) (λ c κs. search needs) (λ c. search needs) returns)

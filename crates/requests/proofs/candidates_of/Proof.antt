@@ -6,15 +6,6 @@ use borrow.Author.Needs.{needs}
 use Rattle.requests.proofs.candidates_of.Statement.{statement}
 use Rattle.requests.proofs.candidates_of.Tie as tie
 
-key-words-requires : tie.Need-key-words-requires
-key-words-requires c κs = search needs
-
-window-of-requires : tie.Need-window-of-requires
-window-of-requires c κs = search needs
-
-sub-result : tie.Need-sub-result
-sub-result c = search needs
-
 returns : tie.Need-returns
 returns c =
     let shown = kept-shown (c .before .before .before .before .pre) in (
@@ -27,4 +18,4 @@ returns c =
     )
 
 pub candidates-of-spec : {M : Type 1} → statement M
-candidates-of-spec = tie.close (tie.spec key-words-requires window-of-requires sub-result returns)
+candidates-of-spec = tie.close (tie.spec (λ c κs. search needs) (λ c κs. search needs) (λ c. search needs) returns)

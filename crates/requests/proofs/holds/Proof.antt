@@ -6,12 +6,6 @@ use borrow.Author.Needs.{needs}
 use Rattle.requests.proofs.holds.Statement.{statement}
 use Rattle.requests.proofs.holds.Tie as tie
 
-key-words-requires : tie.Need-key-words-requires
-key-words-requires c κs = search needs
-
-spot-of-requires : tie.Need-spot-of-requires
-spot-of-requires c κs = search needs
-
 returns : tie.Need-returns
 returns c = λ st s w.
     let k = keyNum (c .before .before .before .before .args .k) in
@@ -21,4 +15,4 @@ returns c = λ st s w.
     (to-at st s k (key .small) (key .number) (spot .spans .to-is st s w)) (spot .met .first (flatOf st) w)
 
 pub holds-spec : {M : Type 1} → statement M
-holds-spec = tie.close (tie.spec key-words-requires spot-of-requires returns)
+holds-spec = tie.close (tie.spec (λ c κs. search needs) (λ c κs. search needs) returns)

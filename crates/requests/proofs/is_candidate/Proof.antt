@@ -5,12 +5,6 @@ use borrow.Author.Needs.{needs}
 use Rattle.requests.proofs.is_candidate.Statement.{statement}
 use Rattle.requests.proofs.is_candidate.Tie as tie
 
-holds-requires : tie.Need-holds-requires
-holds-requires c κs = search needs
-
-holds-requires-2 : tie.Need-holds-requires-2
-holds-requires-2 c κs = search needs
-
 returns : tie.Need-returns
 returns c = λ st s w.
     let h = c .before .before .before .args .h in
@@ -24,4 +18,4 @@ returns-2 c = λ st s w.
     (c .before .before .holds .ensures st s w) (c .before .if1 .left) (c .holds2 .ensures st s w)
 
 pub is-candidate-spec : {M : Type 1} → statement M
-is-candidate-spec = tie.close (tie.spec holds-requires holds-requires-2 returns returns-2)
+is-candidate-spec = tie.close (tie.spec (λ c κs. search needs) (λ c κs. search needs) returns returns-2)

@@ -10,17 +10,8 @@ use borrow.Author.Needs.{needs}
 use Rattle.requests.proofs.mark.Statement.{statement}
 use Rattle.requests.proofs.mark.Tie as tie
 
-key-words-requires : tie.Need-key-words-requires
-key-words-requires c κs = search needs
-
-window-of-requires : tie.Need-window-of-requires
-window-of-requires c κs = search needs
-
 mark-rows-requires : tie.Need-mark-rows-requires
 mark-rows-requires c κs = (kept-shown (c .before .before .before .before .before .pre), c .before .window-of .ensures .order, c .before .window-of .ensures .most)
-
-same-length : tie.Need-same-length
-same-length c = search needs
 
 returns : tie.Need-returns
 returns c = λ st s w u.
@@ -34,4 +25,4 @@ returns c = λ st s w u.
 pub mark-spec : {M : Type 1} → statement M
 mark-spec =
     tie.close
-    (tie.spec key-words-requires window-of-requires mark-rows-requires same-length returns)
+    (tie.spec (λ c κs. search needs) (λ c κs. search needs) mark-rows-requires (λ c. search needs) returns)

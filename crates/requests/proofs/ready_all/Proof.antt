@@ -1,25 +1,17 @@
 use mathlib.Core.Path.{refl}
 use Rattle.ident.specs.Words.{keyNum}
 use Rattle.machine.specs.Table.{at}
+use Rattle.machine.proofs.Loosened.{map-empty as readied-gone}
 use Rattle.store.specs.Flat.{flatOf}
 use Rattle.requests.proofs.Keeping.{kept-shown, from-at, to-at}
 use Rattle.regions.specs.Rows.{withReady}
-use Rattle.requests.proofs.Readying.{window-made, readied, readied-rows, readied-places, readied-gone}
+use Rattle.requests.proofs.Readying.{window-made, readied, readied-rows, readied-places}
 use borrow.Author.Needs.{needs}
 use Rattle.requests.proofs.ready_all.Statement.{statement}
 use Rattle.requests.proofs.ready_all.Tie as tie
 
-key-words-requires : tie.Need-key-words-requires
-key-words-requires c κs = search needs
-
-window-of-requires : tie.Need-window-of-requires
-window-of-requires c κs = search needs
-
 ready-rows-requires : tie.Need-ready-rows-requires
 ready-rows-requires c κs = (kept-shown (c .before .before .before .before .before .pre), c .before .window-of .ensures .order, c .before .window-of .ensures .most)
-
-same-length : tie.Need-same-length
-same-length c = search needs
 
 returns : tie.Need-returns
 returns c = λ st s w u.
@@ -34,4 +26,4 @@ returns c = λ st s w u.
 pub ready-all-spec : {M : Type 1} → statement M
 ready-all-spec =
     tie.close
-    (tie.spec key-words-requires window-of-requires ready-rows-requires same-length returns)
+    (tie.spec (λ c κs. search needs) (λ c κs. search needs) ready-rows-requires (λ c. search needs) returns)

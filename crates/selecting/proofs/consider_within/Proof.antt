@@ -6,21 +6,6 @@ use Rattle.selecting.proofs.Advancing.{considers}
 use Rattle.selecting.proofs.consider_within.Statement.{statement}
 use Rattle.selecting.proofs.consider_within.Tie as tie
 
-select-within-requires : tie.Need-select-within-requires
-select-within-requires c κs = search needs
-
-key-stored-requires : tie.Need-key-stored-requires
-key-stored-requires c κs = search needs
-
-add-t14 : tie.Need-add-t14
-add-t14 c = search needs
-
-same-length : tie.Need-same-length
-same-length c = search needs
-
-same-length-2 : tie.Need-same-length-2
-same-length-2 c = search needs
-
 returns : tie.Need-returns
 returns c = considers (keyNum (c .before .before .before .before .before .before .before .before .before .before .before .args .k))
     (c .before .before .before .before .before .before .before .before .before .before .before .args .v) _ _
@@ -32,4 +17,4 @@ returns c = considers (keyNum (c .before .before .before .before .before .before
 pub consider-within-spec : {M : Type 1} → statement M
 consider-within-spec =
     tie.close
-    (tie.spec select-within-requires key-stored-requires add-t14 same-length same-length-2 returns)
+    (tie.spec (λ c κs. search needs) (λ c κs. search needs) (λ c. search needs) (λ c. search needs) (λ c. search needs) returns)

@@ -9,12 +9,6 @@ use Rattle.soliciting.proofs.Owned.{both-tests, first-test, stage-read,
 use Rattle.soliciting.proofs.owned_at.Statement.{statement}
 use Rattle.soliciting.proofs.owned_at.Tie as tie
 
-wtxid-key-requires : tie.Need-wtxid-key-requires
-wtxid-key-requires c κs = search needs
-
-request-at-requires : tie.Need-request-at-requires
-request-at-requires c κs = search needs
-
 returns : tie.Need-returns
 returns c = λ st s w.
     let start : tie.Start = c .before .before .before .before .before .before .before in
@@ -31,4 +25,4 @@ returns-2 c = λ st s w.
     not-live f (start .args .n) (start .args .clock) (start .args .stage) (⊎-elim (λ x. both-tests (x .0 .taken) (x .2)) (λ x. first-test _ (x .0 .left) (x .1)) (c .before .if1 .came)) (c .if2 .left)
 
 pub owned-at-spec : {M : Type 1} → statement M
-owned-at-spec = tie.close (tie.spec wtxid-key-requires request-at-requires returns returns-2)
+owned-at-spec = tie.close (tie.spec (λ c κs. search needs) (λ c κs. search needs) returns returns-2)

@@ -9,33 +9,12 @@ use Rattle.sound.proofs.PlaceTests.{hash-is}
 use Rattle.sound.proofs.head_fits.Statement.{statement}
 use Rattle.sound.proofs.head_fits.Tie as tie
 
-sizes-fit-requires : tie.Need-sizes-fit-requires
-sizes-fit-requires c κs = search needs
-
 returns : tie.Need-returns
 returns c = λ h. failed (SizesPlain (words (c .before .before .before .args .s .now))) (c .before .sizes-fit .result) (c .if1 .taken) (c .before .sizes-fit .ensures) (h .sizes)
-
-get-requires : tie.Need-get-requires
-get-requires c κs = search needs
-
-get-requires-2 : tie.Need-get-requires-2
-get-requires-2 c κs = search needs
-
-poll-fits-requires : tie.Need-poll-fits-requires
-poll-fits-requires c κs = search needs
 
 returns-2 : tie.Need-returns-2
 returns-2 c = λ h. failed (PollPlain (c .before .before .before .get .result) (c .before .before .get2 .result)) (c .before .poll-fits .result) (c .if2 .taken) (c .before .poll-fits .ensures)
     (rw (c .before .before .before .get .ensures, c .before .before .get2 .ensures) (h .poll))
-
-get-requires-3 : tie.Need-get-requires-3
-get-requires-3 c κs = search needs
-
-read-quad-requires : tie.Need-read-quad-requires
-read-quad-requires c κs = search needs
-
-cursor-fits-requires : tie.Need-cursor-fits-requires
-cursor-fits-requires c κs = search needs
 
 returns-3 : tie.Need-returns-3
 returns-3 c = λ h. failed (CursorPlain (c .before .before .before .get3 .result) (quadNumber (c .before .before .read-quad .result)))
@@ -43,15 +22,6 @@ returns-3 c = λ h. failed (CursorPlain (c .before .before .before .get3 .result
       c .before .before .before .get3 .ensures,
       hash-is (drop 9 (words (c .before .before .before .before .before .before .before .before .before .before .before .args .s .now))) (c .before .before .read-quad .ensures),
     ) (h .known))
-
-get-requires-4 : tie.Need-get-requires-4
-get-requires-4 c κs = search needs
-
-read-quad-requires-2 : tie.Need-read-quad-requires-2
-read-quad-requires-2 c κs = search needs
-
-cursor-fits-requires-2 : tie.Need-cursor-fits-requires-2
-cursor-fits-requires-2 c κs = search needs
 
 returns-4 : tie.Need-returns-4
 returns-4 c = λ h. failed (CursorPlain (c .before .before .before .get4 .result) (quadNumber (c .before .before .read-quad2 .result)))
@@ -61,9 +31,6 @@ returns-4 c = λ h. failed (CursorPlain (c .before .before .before .get4 .result
           (words (c .before .before .before .before .before .before .before .before .before .before .before .before .before .before .before .args .s .now))) (c .before .before .read-quad2 .ensures),
     )
     (h .ready))
-
-is-zero-requires : tie.Need-is-zero-requires
-is-zero-requires c κs = search needs
 
 returns-5 : tie.Need-returns-5
 returns-5 c =
@@ -107,20 +74,5 @@ returns-5 c =
 pub head-fits-spec : {M : Type 1} → statement M
 head-fits-spec =
     tie.close
-    (tie.spec
-    sizes-fit-requires
-    returns
-    get-requires
-    get-requires-2
-    poll-fits-requires
-    returns-2
-    get-requires-3
-    read-quad-requires
-    cursor-fits-requires
-    returns-3
-    get-requires-4
-    read-quad-requires-2
-    cursor-fits-requires-2
-    returns-4
-    is-zero-requires
-    returns-5)
+    (tie.spec (λ c κs. search needs) returns (λ c κs. search needs) (λ c κs. search needs) (λ c κs. search needs) returns-2 (λ c κs. search needs) (λ c κs. search needs)
+    (λ c κs. search needs) returns-3 (λ c κs. search needs) (λ c κs. search needs) (λ c κs. search needs) returns-4 (λ c κs. search needs) returns-5)

@@ -17,9 +17,6 @@ use Rattle.sound_rows.proofs.Decide.{decides-iff, passed, failed}
 use Rattle.sound.proofs.records_fit.Statement.{statement}
 use Rattle.sound.proofs.records_fit.Tie as tie
 
-rows-fit-requires : tie.Need-rows-fit-requires
-rows-fit-requires c κs = search needs
-
 returns : tie.Need-returns
 returns c =
     let r = words (c .before .before .before .before .before .args .rows .now) in
@@ -28,9 +25,6 @@ returns c =
     let rs = recs rowSize readRow (c .before .before .before .before .before .args .n) r in
     λ s. failed (RowsSound rs) (c .before .rows-fit .result) (c .if1 .taken) (c .before .rows-fit .ensures) (s .rows)
 
-groups-fit-requires : tie.Need-groups-fit-requires
-groups-fit-requires c κs = search needs
-
 returns-2 : tie.Need-returns-2
 returns-2 c =
     let r = words (c .before .before .before .before .before .before .before .args .rows .now) in
@@ -38,9 +32,6 @@ returns-2 c =
     let p = words (c .before .before .before .before .before .before .before .args .places .now) in
     let rs = recs rowSize readRow (c .before .before .before .before .before .before .before .args .n) r in
     λ s. failed (GroupsSound maxAlternates rs) (c .before .groups-fit .result) (c .if2 .taken) (c .before .groups-fit .ensures (s .rows)) (s .groups)
-
-conns-fit-requires : tie.Need-conns-fit-requires
-conns-fit-requires c κs = search needs
 
 returns-3 : tie.Need-returns-3
 returns-3 c =
@@ -51,9 +42,6 @@ returns-3 c =
     λ s. failed (ConnsSound rs (recs connSize readConn (c .before .before .before .before .before .before .before .before .before .args .c) c′)) (c .before .conns-fit .result) (c .if3 .taken)
     (c .before .conns-fit .ensures (s .rows)) (s .conns)
 
-places-fit-requires : tie.Need-places-fit-requires
-places-fit-requires c κs = search needs
-
 returns-4 : tie.Need-returns-4
 returns-4 c =
     let r = words (c .before .before .before .before .before .before .before .before .before .before .before .args .rows .now) in
@@ -63,12 +51,6 @@ returns-4 c =
     λ s. failed (PlacesSound rs (c .before .before .before .before .before .before .before .before .before .before .before .args .p) p) (c .before .places-fit .result) (c .if4 .taken)
     (c .before .places-fit .ensures (s .rows)) (s .places)
 
-mul-is-zero : tie.Need-mul-is-zero
-mul-is-zero c = search needs
-
-is-zero-requires : tie.Need-is-zero-requires
-is-zero-requires c κs = search needs
-
 returns-5 : tie.Need-returns-5
 returns-5 c = λ s. failed (slice (c .before .before .before .before .before .before .before .before .before .before .before .before .before .args .n * rowSize)
     (length (c .before .before .before .before .before .before .before .before .before .before .before .before .before .args .rows .now) / 8)
@@ -76,12 +58,6 @@ returns-5 c = λ s. failed (slice (c .before .before .before .before .before .be
     replicate (length (c .before .before .before .before .before .before .before .before .before .before .before .before .before .args .rows .now) / 8 -
     c .before .before .before .before .before .before .before .before .before .before .before .before .before .args .n * rowSize) 0) (c .before .is-zero .result) (c .if5 .taken)
     (c .before .is-zero .ensures) (rw (length-words (c .before .before .before .before .before .before .before .before .before .before .before .before .before .args .rows .now)) at (s .rows-zero))
-
-mul-is-zero-2 : tie.Need-mul-is-zero-2
-mul-is-zero-2 c = search needs
-
-is-zero-requires-2 : tie.Need-is-zero-requires-2
-is-zero-requires-2 c κs = search needs
 
 returns-6 : tie.Need-returns-6
 returns-6 c = λ s. failed (slice (c .before .before .before .before .before .before .before .before .before .before .before .before .before .before .before .args .c * connSize)
@@ -91,12 +67,6 @@ returns-6 c = λ s. failed (slice (c .before .before .before .before .before .be
     / 8 - c .before .before .before .before .before .before .before .before .before .before .before .before .before .before .before .args .c * connSize) 0)
     (c .before .is-zero2 .result) (c .if6 .taken) (c .before .is-zero2 .ensures)
     (rw (length-words (c .before .before .before .before .before .before .before .before .before .before .before .before .before .before .before .args .conns .now)) at (s .conns-zero))
-
-mul-is-zero-3 : tie.Need-mul-is-zero-3
-mul-is-zero-3 c = search needs
-
-is-zero-requires-3 : tie.Need-is-zero-requires-3
-is-zero-requires-3 c κs = search needs
 
 returns-7 : tie.Need-returns-7
 returns-7 c =
@@ -150,21 +120,5 @@ returns-7 c =
 pub records-fit-spec : {M : Type 1} → statement M
 records-fit-spec =
     tie.close
-    (tie.spec
-    rows-fit-requires
-    returns
-    groups-fit-requires
-    returns-2
-    conns-fit-requires
-    returns-3
-    places-fit-requires
-    returns-4
-    mul-is-zero
-    is-zero-requires
-    returns-5
-    mul-is-zero-2
-    is-zero-requires-2
-    returns-6
-    mul-is-zero-3
-    is-zero-requires-3
-    returns-7)
+    (tie.spec (λ c κs. search needs) returns (λ c κs. search needs) returns-2 (λ c κs. search needs) returns-3 (λ c κs. search needs) returns-4 (λ c. search needs) (λ c κs. search needs)
+    returns-5 (λ c. search needs) (λ c κs. search needs) returns-6 (λ c. search needs) (λ c κs. search needs) returns-7)

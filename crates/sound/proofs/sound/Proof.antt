@@ -12,29 +12,17 @@ use Rattle.sound.proofs.StoreTests.{refuse-short, refuse-head, refuse-l
 use Rattle.sound.proofs.sound.Statement.{statement}
 use Rattle.sound.proofs.sound.Tie as tie
 
-mul-if1 : tie.Need-mul-if1
-mul-if1 c = search needs
-
 returns : tie.Need-returns
 returns c =
     let b = c .before .before .args .s .now in
     let p = below-words b (below-bytes b (c .before .shared-slice-known .given)) in
     refuse-short b p (omega arith)
 
-head-fits-requires : tie.Need-head-fits-requires
-head-fits-requires c κs = search needs
-
 returns-2 : tie.Need-returns-2
 returns-2 c =
     let b = c .before .before .before .before .args .s .now in
     let p = below-words b (below-bytes b (c .before .before .before .shared-slice-known .given)) in
     refuse-head b p (failed (HeadPlain (words b)) (c .before .head-fits .result) (c .if2 .taken) (c .before .head-fits .ensures))
-
-get-requires : tie.Need-get-requires
-get-requires c κs = search needs
-
-get-requires-2 : tie.Need-get-requires-2
-get-requires-2 c κs = search needs
 
 mul-x : tie.Need-mul-x
 mul-x c =
@@ -84,51 +72,6 @@ returns-3 c =
     let p = below-words b (below-bytes b (c .before .before .before .before .before .before .shared-slice-known .given)) in
     refuse-long b p (c .before .before .get .result) (c .before .get2 .result) (c .before .before .get .ensures) (c .before .get2 .ensures) (omega arith)
 
-get-requires-3 : tie.Need-get-requires-3
-get-requires-3 c κs = search needs
-
-get-requires-4 : tie.Need-get-requires-4
-get-requires-4 c κs = search needs
-
-get-requires-5 : tie.Need-get-requires-5
-get-requires-5 c κs = search needs
-
-mul-a : tie.Need-mul-a
-mul-a c = search needs
-
-mul-b : tie.Need-mul-b
-mul-b c = search needs
-
-mul-e : tie.Need-mul-e
-mul-e c = search needs
-
-sub-records-fit : tie.Need-sub-records-fit
-sub-records-fit c = search needs
-
-part-records-fit-start : tie.Need-part-records-fit-start
-part-records-fit-start c = search needs
-
-part-records-fit-end : tie.Need-part-records-fit-end
-part-records-fit-end c = search needs
-
-sub-records-fit-2 : tie.Need-sub-records-fit-2
-sub-records-fit-2 c = search needs
-
-part-records-fit-start-2 : tie.Need-part-records-fit-start-2
-part-records-fit-start-2 c = search needs
-
-part-records-fit-end-2 : tie.Need-part-records-fit-end-2
-part-records-fit-end-2 c = search needs
-
-sub-records-fit-3 : tie.Need-sub-records-fit-3
-sub-records-fit-3 c = search needs
-
-part-records-fit-start-3 : tie.Need-part-records-fit-start-3
-part-records-fit-start-3 c = search needs
-
-part-records-fit-end-3 : tie.Need-part-records-fit-end-3
-part-records-fit-end-3 c = search needs
-
 records-fit-requires : tie.Need-records-fit-requires
 records-fit-requires c κs =
     let h = passed (HeadPlain (words (c .before .before .before .before .before .before .before .before .before .before .before .before .before .args .s .now)))
@@ -173,35 +116,6 @@ returns-4 c =
 pub sound-spec : {M : Type 1} → statement M
 sound-spec =
     tie.close
-    (tie.spec
-    mul-if1
-    returns
-    head-fits-requires
-    returns-2
-    get-requires
-    get-requires-2
-    mul-x
-    add-x
-    mul-y
-    add-y
-    mul-z
-    add-z
-    mul-if3
-    returns-3
-    get-requires-3
-    get-requires-4
-    get-requires-5
-    mul-a
-    mul-b
-    mul-e
-    sub-records-fit
-    part-records-fit-start
-    part-records-fit-end
-    sub-records-fit-2
-    part-records-fit-start-2
-    part-records-fit-end-2
-    sub-records-fit-3
-    part-records-fit-start-3
-    part-records-fit-end-3
-    records-fit-requires
-    returns-4)
+    (tie.spec (λ c. search needs) returns (λ c κs. search needs) returns-2 (λ c κs. search needs) (λ c κs. search needs) mul-x add-x mul-y add-y mul-z add-z mul-if3 returns-3
+    (λ c κs. search needs) (λ c κs. search needs) (λ c κs. search needs) (λ c. search needs) (λ c. search needs) (λ c. search needs) (λ c. search needs) (λ c. search needs)
+    (λ c. search needs) (λ c. search needs) (λ c. search needs) (λ c. search needs) (λ c. search needs) (λ c. search needs) (λ c. search needs) records-fit-requires returns-4)

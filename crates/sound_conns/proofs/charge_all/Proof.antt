@@ -22,34 +22,13 @@ abbrev μ-loop : tie.MeasureT-loop
 loop-holds : tie.Need-loop-holds Inv-loop μ-loop
 loop-holds c = (omega arith, omega arith, refl, λ j h l. absurd (omega arith))
 
-sub-j : tie.Need-sub-j Inv-loop μ-loop
-sub-j c = search needs
-
-same-length : tie.Need-same-length Inv-loop μ-loop
-same-length c = search needs
-
 returns : tie.Need-returns Inv-loop μ-loop
 returns c = (λ j h l. c .before .before .loop .inv .3 j (omega arith) l, search needs)
-
-read-conn-requires : tie.Need-read-conn-requires Inv-loop μ-loop
-read-conn-requires c κs = search needs
 
 charge-requires : tie.Need-charge-requires Inv-loop μ-loop
 charge-requires c κs =
     let a = c .before .before .before .before .before .before .args in
     conn-fits (a .n) (words (a .s .now)) (c .before .before .before .loop .i) (omega arith) (c .read-conn .ensures .words-are) (c .before .before .before .before .before .before .pre .1)
-
-mul-t : tie.Need-mul-t Inv-loop μ-loop
-mul-t c = search needs
-
-slice-write-t : tie.Need-slice-write-t Inv-loop μ-loop
-slice-write-t c = search needs
-
-add-i : tie.Need-add-i Inv-loop μ-loop
-add-i c = search needs
-
-loop-less : tie.Need-loop-less Inv-loop μ-loop
-loop-less c = search needs
 
 loop-again : tie.Need-loop-again Inv-loop μ-loop
 loop-again c =
@@ -63,9 +42,6 @@ loop-again c =
           (c .before .before .before .before .loop .inv .3),
     )
 
-same-length-2 : tie.Need-same-length-2 Inv-loop μ-loop
-same-length-2 c = search needs
-
 returns-2 : tie.Need-returns-2 Inv-loop μ-loop
 returns-2 c =
     let a = c .before .before .before .before .args in
@@ -74,19 +50,5 @@ returns-2 c =
 pub charge-all-spec : {M : Type 1} → statement M
 charge-all-spec =
     tie.close
-    (tie.spec
-    Inv-loop
-    μ-loop
-    loop-holds
-    sub-j
-    same-length
-    returns
-    read-conn-requires
-    charge-requires
-    mul-t
-    slice-write-t
-    add-i
-    loop-less
-    loop-again
-    same-length-2
-    returns-2)
+    (tie.spec Inv-loop μ-loop loop-holds (λ c. search needs) (λ c. search needs) returns (λ c κs. search needs) charge-requires (λ c. search needs) (λ c. search needs) (λ c. search needs)
+    (λ c. search needs) loop-again (λ c. search needs) returns-2)

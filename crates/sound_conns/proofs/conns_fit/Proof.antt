@@ -17,9 +17,6 @@ Inv-loop rows n conns c lo₀ done₀ lo done = Walked (recs rowSize readRow n (
 abbrev μ-loop : tie.MeasureT-loop
 μ-loop rows n conns c lo₀ done₀ lo done = c - lo
 
-entries-fit-requires : tie.Need-entries-fit-requires Inv-loop μ-loop
-entries-fit-requires c κs = search needs
-
 returns : tie.Need-returns Inv-loop μ-loop
 returns c =
     let a = c .before .before .before .before .args in
@@ -83,12 +80,6 @@ returns-3 c =
     (c .before .before .before .before .loop .lo) many) (c .before .many-fit .result) (c .if3 .taken) (c .before .many-fit .ensures)
     (sound-window rs (a .c) v (c .before .before .before .before .loop .done) (c .before .before .last-of .result) (c .before .before .before .before .loop .lo) many z)
 
-add-lo : tie.Need-add-lo Inv-loop μ-loop
-add-lo c = search needs
-
-loop-less : tie.Need-loop-less Inv-loop μ-loop
-loop-less c = search needs
-
 loop-again : tie.Need-loop-again Inv-loop μ-loop
 loop-again c =
     let a = c .before .before .before .before .before .before .before .before .before .before .args in
@@ -108,18 +99,5 @@ returns-4 c =
 pub conns-fit-spec : {M : Type 1} → statement M
 conns-fit-spec =
     tie.close
-    (tie.spec
-    Inv-loop
-    μ-loop
-    entries-fit-requires
-    returns
-    few-fit-requires
-    returns-2
-    loop-holds
-    last-of-requires
-    many-fit-requires
-    returns-3
-    add-lo
-    loop-less
-    loop-again
-    returns-4)
+    (tie.spec Inv-loop μ-loop (λ c κs. search needs) returns few-fit-requires returns-2 loop-holds last-of-requires many-fit-requires returns-3 (λ c. search needs) (λ c. search needs)
+    loop-again returns-4)

@@ -24,19 +24,10 @@ loop-holds c =
     let a = c .before .before .before .before .args in
     (omega arith, refl, tallied-none (a .c) (words (a .conns .now)) (words (a .rows .now)) (a .done) (a .last) (a .lo) (a .t .now) (c .before .before .before .before .pre .3))
 
-read-row-requires : tie.Need-read-row-requires Inv-loop μ-loop
-read-row-requires c κs = search needs
-
-cast-own : tie.Need-cast-own Inv-loop μ-loop
-cast-own c = search needs
-
 take-row-requires : tie.Need-take-row-requires Inv-loop μ-loop
 take-row-requires c κs =
     let p = c .before .before .before .before .before .before .before .before .before .pre in
     (p .1, p .2, p .4, p .5, p .6, λ j h l. p .7 j (omega (arith, c .before .before .before .before .loop .inv .1)) l, omega arith)
-
-same-length : tie.Need-same-length Inv-loop μ-loop
-same-length c = search needs
 
 returns : tie.Need-returns Inv-loop μ-loop
 returns c =
@@ -49,12 +40,6 @@ returns c =
           (c .before .before .before .before .before .before .before .before .loop .inv .2) (a .n) (omega arith) (rw (b .1) at o) (rw e at (b .0)),
       b .1 ∙ c .before .before .before .before .before .before .before .before .loop .inv .1,
     )
-
-add-i : tie.Need-add-i Inv-loop μ-loop
-add-i c = search needs
-
-loop-less : tie.Need-loop-less Inv-loop μ-loop
-loop-less c = search needs
 
 loop-again : tie.Need-loop-again Inv-loop μ-loop
 loop-again c =
@@ -69,9 +54,6 @@ loop-again c =
           (c .before .before .before .before .before .before .before .before .loop .inv .2) _ (b .1) (rw e at (b .0)),
     )
 
-same-length-2 : tie.Need-same-length-2 Inv-loop μ-loop
-same-length-2 c = search needs
-
 returns-2 : tie.Need-returns-2 Inv-loop μ-loop
 returns-2 c =
     let e : c .before .loop .i ≡ c .before .before .before .before .before .before .args .n = omega arith in
@@ -80,17 +62,5 @@ returns-2 c =
 pub count-rows-spec : {M : Type 1} → statement M
 count-rows-spec =
     tie.close
-    (tie.spec
-    Inv-loop
-    μ-loop
-    loop-holds
-    read-row-requires
-    cast-own
-    take-row-requires
-    same-length
-    returns
-    add-i
-    loop-less
-    loop-again
-    same-length-2
-    returns-2)
+    (tie.spec Inv-loop μ-loop loop-holds (λ c κs. search needs) (λ c. search needs) take-row-requires (λ c. search needs) returns (λ c. search needs) (λ c. search needs) loop-again
+    (λ c. search needs) returns-2)

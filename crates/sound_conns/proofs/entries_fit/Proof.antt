@@ -18,12 +18,6 @@ abbrev μ-loop : tie.MeasureT-loop
 loop-holds : tie.Need-loop-holds Inv-loop μ-loop
 loop-holds c = (omega arith, walk-start EntryStep connSize readConn (c .before .args .n) (words (c .before .args .s .now)) blank)
 
-read-conn-requires : tie.Need-read-conn-requires Inv-loop μ-loop
-read-conn-requires c κs = search needs
-
-entry-fits-requires : tie.Need-entry-fits-requires Inv-loop μ-loop
-entry-fits-requires c κs = search needs
-
 returns : tie.Need-returns Inv-loop μ-loop
 returns c =
     let w = words (c .before .before .before .before .before .before .args .s .now) in
@@ -31,12 +25,6 @@ returns c =
     (c .before .before .before .before .loop .i) (omega arith) (c .before .before .before .before .loop .inv .1) (c .before .before .read-conn .ensures .words-are)
     (failed (EntryStep (c .before .before .before .before .loop .p) (c .before .before .read-conn .result)) (c .before .entry-fits .result) (c .if1 .taken) (c .before .entry-fits .ensures))
     (entries-iff (recs connSize readConn (c .before .before .before .before .before .before .args .n) w) .from z)
-
-add-i : tie.Need-add-i Inv-loop μ-loop
-add-i c = search needs
-
-loop-less : tie.Need-loop-less Inv-loop μ-loop
-loop-less c = search needs
 
 loop-again : tie.Need-loop-again Inv-loop μ-loop
 loop-again c = (
@@ -56,14 +44,4 @@ returns-2 c =
 pub entries-fit-spec : {M : Type 1} → statement M
 entries-fit-spec =
     tie.close
-    (tie.spec
-    Inv-loop
-    μ-loop
-    loop-holds
-    read-conn-requires
-    entry-fits-requires
-    returns
-    add-i
-    loop-less
-    loop-again
-    returns-2)
+    (tie.spec Inv-loop μ-loop loop-holds (λ c κs. search needs) (λ c κs. search needs) returns (λ c. search needs) (λ c. search needs) loop-again returns-2)

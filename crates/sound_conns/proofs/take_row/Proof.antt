@@ -10,9 +10,6 @@ use Rattle.sound_conns.proofs.Tally.{took-outside, taking}
 use Rattle.sound_conns.proofs.take_row.Statement.{statement}
 use Rattle.sound_conns.proofs.take_row.Tie as tie
 
-inside-requires : tie.Need-inside-requires
-inside-requires c κs = search needs
-
 returns : tie.Need-returns
 returns c =
     let a = c .before .before .before .before .before .args in (
@@ -21,20 +18,11 @@ returns c =
       refl,
     )
 
-find-entry-requires : tie.Need-find-entry-requires
-find-entry-requires c κs = search needs
-
 returns-2 : tie.Need-returns-2
 returns-2 c =
     let a = c .before .before .before .before .before .before .before .args in
     let i = passed (Inside (a .done) (a .last) (a .x)) (c .before .before .before .inside .result) (c .before .before .if1 .left) (c .before .before .before .inside .ensures) in
     (inl (i, c .before .find-entry .ensures .absent (omega arith) (c .before .before .before .before .before .before .before .pre .1)), refl)
-
-take-off-requires : tie.Need-take-off-requires
-take-off-requires c κs = search needs
-
-same-length : tie.Need-same-length
-same-length c = search needs
 
 returns-3 : tie.Need-returns-3
 returns-3 c =
@@ -50,4 +38,4 @@ returns-3 c =
 pub take-row-spec : {M : Type 1} → statement M
 take-row-spec =
     tie.close
-    (tie.spec inside-requires returns find-entry-requires returns-2 take-off-requires same-length returns-3)
+    (tie.spec (λ c κs. search needs) returns (λ c κs. search needs) returns-2 (λ c κs. search needs) (λ c. search needs) returns-3)

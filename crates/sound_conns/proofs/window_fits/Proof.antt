@@ -11,12 +11,6 @@ use Rattle.sound_conns.proofs.Conns.{window-as, below-as, window-iff}
 use Rattle.sound_conns.proofs.window_fits.Statement.{statement}
 use Rattle.sound_conns.proofs.window_fits.Tie as tie
 
-charge-all-requires : tie.Need-charge-all-requires
-charge-all-requires c κs = search needs
-
-fill-guesses-requires : tie.Need-fill-guesses-requires
-fill-guesses-requires c κs = search needs
-
 count-rows-requires : tie.Need-count-rows-requires
 count-rows-requires c κs =
     let a = c .before .before .before .before .before .before .before .before .before .before .before .before .before .before .args in
@@ -32,26 +26,11 @@ count-rows-requires c κs =
       λ j h l. p .6 j (below-as (k .1) h) l,
     )
 
-same-length : tie.Need-same-length
-same-length c = search needs
-
-same-length-2 : tie.Need-same-length-2
-same-length-2 c = search needs
-
 returns : tie.Need-returns
 returns c =
     let e : c .before .before .before .count-rows .result ≡ false = not-true _ (c .if1 .taken) in
     λ o. (rw e at (c .before .before .before .count-rows .ensures .0)) (window-as (sym
     (c .before .before .before .count-rows .ensures .1 ∙ c .before .before .before .before .before .before .before .before .before .before .before .before .charge-all .ensures .1)) .to o)
-
-used-up-requires : tie.Need-used-up-requires
-used-up-requires c κs = search needs
-
-same-length-3 : tie.Need-same-length-3
-same-length-3 c = search needs
-
-same-length-4 : tie.Need-same-length-4
-same-length-4 c = search needs
 
 returns-2 : tie.Need-returns-2
 returns-2 c =
@@ -66,14 +45,5 @@ returns-2 c =
 pub window-fits-spec : {M : Type 1} → statement M
 window-fits-spec =
     tie.close
-    (tie.spec
-    charge-all-requires
-    fill-guesses-requires
-    count-rows-requires
-    same-length
-    same-length-2
-    returns
-    used-up-requires
-    same-length-3
-    same-length-4
+    (tie.spec (λ c κs. search needs) (λ c κs. search needs) count-rows-requires (λ c. search needs) (λ c. search needs) returns (λ c κs. search needs) (λ c. search needs) (λ c. search needs)
     returns-2)

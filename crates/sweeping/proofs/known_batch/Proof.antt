@@ -8,12 +8,6 @@ use Rattle.sweeping.proofs.known_batch.Tie as tie
 rows-requires : tie.Need-rows-requires
 rows-requires c κs = let z = kept-shown (c .before .before .pre .0) .sizes in omega arith
 
-after-known-requires : tie.Need-after-known-requires
-after-known-requires c κs = search needs
-
-nothing-requires : tie.Need-nothing-requires
-nothing-requires c κs = search needs
-
 keys-in-requires : tie.Need-keys-in-requires
 keys-in-requires c κs =
     let k = kept-shown (c .before .before .before .before .before .before .pre .0) in
@@ -37,9 +31,6 @@ keys-in-requires-2 c κs =
       omega (arith, c .before .before .before .before .before .before .before .before .before .before .pre .1, c .before .before .before .keys-in .kept .1 .1 .1 .1 .0),
     )
 
-same-length : tie.Need-same-length
-same-length c = search needs
-
 returns : tie.Need-returns
 returns c = batched (c .before .before .before .before .before .before .before .before .before .before .rows .ensures .word)
     (c .before .before .before .before .before .before .before .before .before .after-known .ensures) (c .before .before .before .before .before .before .before .before .nothing .ensures .0)
@@ -49,11 +40,4 @@ returns c = batched (c .before .before .before .before .before .before .before .
 pub known-batch-spec : {M : Type 1} → statement M
 known-batch-spec =
     tie.close
-    (tie.spec
-    rows-requires
-    after-known-requires
-    nothing-requires
-    keys-in-requires
-    keys-in-requires-2
-    same-length
-    returns)
+    (tie.spec rows-requires (λ c κs. search needs) (λ c κs. search needs) keys-in-requires keys-in-requires-2 (λ c. search needs) returns)

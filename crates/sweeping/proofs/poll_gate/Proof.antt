@@ -8,11 +8,8 @@ use Rattle.sweeping.proofs.poll_gate.Tie as tie
 gate-requires : tie.Need-gate-requires
 gate-requires c κs = let z = kept-shown (c .before .before .pre .0) .sizes in (omega arith, c .before .before .pre .1)
 
-same-length : tie.Need-same-length
-same-length c = search needs
-
 returns : tie.Need-returns
 returns c = gate-kept _ (c .before .before .gate .ensures)
 
 pub poll-gate-spec : {M : Type 1} → statement M
-poll-gate-spec = tie.close (tie.spec gate-requires same-length returns)
+poll-gate-spec = tie.close (tie.spec gate-requires (λ c. search needs) returns)

@@ -5,21 +5,12 @@ use Rattle.sweeping.proofs.Polling.{sweep-kept}
 use Rattle.sweeping.proofs.sweep.Statement.{statement}
 use Rattle.sweeping.proofs.sweep.Tie as tie
 
-known-batch-requires : tie.Need-known-batch-requires
-known-batch-requires c κs = search needs
-
 move-known-requires : tie.Need-move-known-requires
 move-known-requires c κs = let z = kept-shown (c .before .before .before .before .before .before .before .before .before .pre .0) .sizes in omega arith
-
-same-length : tie.Need-same-length
-same-length c = search needs
-
-same-length-2 : tie.Need-same-length-2
-same-length-2 c = search needs
 
 returns : tie.Need-returns
 returns c = sweep-kept (c .before .before .before .before .before .before .before .known-batch .ensures) (c .before .before .move-known .ensures)
 
 pub sweep-spec : {M : Type 1} → statement M
 sweep-spec =
-    tie.close (tie.spec known-batch-requires move-known-requires same-length same-length-2 returns)
+    tie.close (tie.spec (λ c κs. search needs) move-known-requires (λ c. search needs) (λ c. search needs) returns)

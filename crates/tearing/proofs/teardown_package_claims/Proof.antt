@@ -7,15 +7,9 @@ use borrow.Author.Needs.{needs}
 use Rattle.tearing.proofs.teardown_package_claims.Statement.{statement}
 use Rattle.tearing.proofs.teardown_package_claims.Tie as tie
 
-tear-rows-requires : tie.Need-tear-rows-requires
-tear-rows-requires c κs = search needs
-
 tear-places-requires : tie.Need-tear-places-requires
 tear-places-requires c κs = let k = c .before .before .before .before .before .before .pre in
     torn-shown (c .before .before .before .before .before .before .args .clock) (k .state) (k .sound) (c .before .before .before .tear-rows .ensures (k .state) (k .sound) (k .writes))
-
-same-length : tie.Need-same-length
-same-length c = search needs
 
 returns : tie.Need-returns
 returns c =
@@ -26,4 +20,4 @@ returns c =
 
 pub teardown-package-claims-spec : {M : Type 1} → statement M
 teardown-package-claims-spec =
-    tie.close (tie.spec tear-rows-requires tear-places-requires same-length returns)
+    tie.close (tie.spec (λ c κs. search needs) tear-places-requires (λ c. search needs) returns)

@@ -18,29 +18,17 @@ Inv-loop items n i₀ i = (i ≤ n) × (allPlain (itemsIn items) ≡ allPlain (d
 abbrev μ-loop : tie.MeasureT-loop
 μ-loop items n i₀ i = n - i
 
-items-requires : tie.Need-items-requires Inv-loop μ-loop
-items-requires c κs = search needs
-
 loop-holds : tie.Need-loop-holds Inv-loop μ-loop
 loop-holds c = (omega arith, refl)
 
 item-at-requires : tie.Need-item-at-requires Inv-loop μ-loop
 item-at-requires c κs = omega (arith, c .before .before .items .ensures)
 
-is-plain-requires : tie.Need-is-plain-requires Inv-loop μ-loop
-is-plain-requires c κs = search needs
-
 returns : tie.Need-returns Inv-loop μ-loop
 returns c =
     let start : tie.Start Inv-loop μ-loop = c .before .before .before .before .before .before .before in
     plain-broken (itemsIn (start .args .items .now)) (c .before .before .before .before .loop .i) (omega (arith, c .before .before .before .before .before .items .ensures))
     (c .before .before .before .before .loop .inv .1) (c .before .before .item-at .ensures) (c .before .is-plain .ensures) (not-true _ (c .if1 .taken))
-
-add-i : tie.Need-add-i Inv-loop μ-loop
-add-i c = search needs
-
-loop-less : tie.Need-loop-less Inv-loop μ-loop
-loop-less c = search needs
 
 loop-again : tie.Need-loop-again Inv-loop μ-loop
 loop-again c =
@@ -57,15 +45,4 @@ returns-2 c = plain-all (itemsIn (c .before .before .before .before .args .items
 pub all-plain-spec : {M : Type 1} → statement M
 all-plain-spec =
     tie.close
-    (tie.spec
-    Inv-loop
-    μ-loop
-    items-requires
-    loop-holds
-    item-at-requires
-    is-plain-requires
-    returns
-    add-i
-    loop-less
-    loop-again
-    returns-2)
+    (tie.spec Inv-loop μ-loop (λ c κs. search needs) loop-holds item-at-requires (λ c κs. search needs) returns (λ c. search needs) (λ c. search needs) loop-again returns-2)

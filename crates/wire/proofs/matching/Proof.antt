@@ -8,12 +8,6 @@ use Rattle.wire.proofs.matching.Tie as tie
 returns : tie.Need-returns
 returns c = too-many (c .before .pre) (c .if1 .taken)
 
-mul-if2 : tie.Need-mul-if2
-mul-if2 c = search needs
-
-add-if2 : tie.Need-add-if2
-add-if2 c = search needs
-
 returns-2 : tie.Need-returns-2
 returns-2 c = unmatched (c .before .before .pre) (c .if2 .taken)
 
@@ -21,4 +15,4 @@ returns-3 : tie.Need-returns-3
 returns-3 c = matches (c .before .before .pre) (omega arith) (c .if2 .left)
 
 pub matching-spec : {M : Type 1} → statement M
-matching-spec = tie.close (tie.spec returns mul-if2 add-if2 returns-2 returns-3)
+matching-spec = tie.close (tie.spec returns (λ c. search needs) (λ c. search needs) returns-2 returns-3)

@@ -7,38 +7,20 @@ use borrow.Author.Needs.{needs}
 use Rattle.wire.proofs.put_count.Statement.{statement}
 use Rattle.wire.proofs.put_count.Tie as tie
 
-cast-s : tie.Need-cast-s
-cast-s c = search needs
-
 slice-write-s : tie.Need-slice-write-s
 slice-write-s c = omega (arith, length-one (c .before .args .n) (omega arith))
-
-same-length : tie.Need-same-length
-same-length c = search needs
 
 returns : tie.Need-returns
 returns c = stores-one (c .before .args .s .now) (c .before .args .n) (omega (arith, length-one (c .before .args .n) (omega arith))) (omega arith)
 
-cast-s-2 : tie.Need-cast-s-2
-cast-s-2 c = search needs
-
 slice-write-s-2 : tie.Need-slice-write-s-2
 slice-write-s-2 c = omega (arith, length-three (c .before .args .n) (omega arith) (omega arith))
-
-cast-s-3 : tie.Need-cast-s-3
-cast-s-3 c = search needs
 
 slice-write-s-3 : tie.Need-slice-write-s-3
 slice-write-s-3 c = simp length-set (omega (arith, length-three (c .before .args .n) (omega arith) (omega arith)))
 
-cast-s-4 : tie.Need-cast-s-4
-cast-s-4 c = search needs
-
 slice-write-s-4 : tie.Need-slice-write-s-4
 slice-write-s-4 c = simp length-set (omega (arith, length-three (c .before .args .n) (omega arith) (omega arith)))
-
-same-length-2 : tie.Need-same-length-2
-same-length-2 c = search needs
 
 returns-2 : tie.Need-returns-2
 returns-2 c = stores-three (c .before .args .s .now) (c .before .args .n) (omega (arith, length-three (c .before .args .n) (omega arith) (omega arith))) (omega arith) (omega arith)
@@ -46,16 +28,5 @@ returns-2 c = stores-three (c .before .args .s .now) (c .before .args .n) (omega
 pub put-count-spec : {M : Type 1} → statement M
 put-count-spec =
     tie.close
-    (tie.spec
-    cast-s
-    slice-write-s
-    same-length
-    returns
-    cast-s-2
-    slice-write-s-2
-    cast-s-3
-    slice-write-s-3
-    cast-s-4
-    slice-write-s-4
-    same-length-2
-    returns-2)
+    (tie.spec (λ c. search needs) slice-write-s (λ c. search needs) returns (λ c. search needs) slice-write-s-2 (λ c. search needs) slice-write-s-3 (λ c. search needs) slice-write-s-4
+    (λ c. search needs) returns-2)

@@ -21,20 +21,8 @@ abbrev μ-loop : tie.MeasureT-loop
 loop-holds : tie.Need-loop-holds Inv-loop μ-loop
 loop-holds c = (omega arith, omega arith, read-none _ _)
 
-mul-read-item : tie.Need-mul-read-item Inv-loop μ-loop
-mul-read-item c = search needs
-
-add-read-item : tie.Need-add-read-item Inv-loop μ-loop
-add-read-item c = search needs
-
 read-item-requires : tie.Need-read-item-requires Inv-loop μ-loop
 read-item-requires c κs = (omega arith, omega arith)
-
-add-i : tie.Need-add-i Inv-loop μ-loop
-add-i c = search needs
-
-loop-less : tie.Need-loop-less Inv-loop μ-loop
-loop-less c = search needs
 
 loop-again : tie.Need-loop-again Inv-loop μ-loop
 loop-again c =
@@ -45,24 +33,10 @@ loop-again c =
           (c .before .before .before .before .before .loop .inv .2) (c .before .before .read-item .ensures),
     )
 
-same-length : tie.Need-same-length Inv-loop μ-loop
-same-length c = search needs
-
 returns : tie.Need-returns Inv-loop μ-loop
 returns c = let e : c .before .loop .i ≡ c .before .before .before .before .args .n = omega arith in rw e at (c .before .loop .inv .2)
 
 pub read-items-spec : {M : Type 1} → statement M
 read-items-spec =
     tie.close
-    (tie.spec
-    Inv-loop
-    μ-loop
-    loop-holds
-    mul-read-item
-    add-read-item
-    read-item-requires
-    add-i
-    loop-less
-    loop-again
-    same-length
-    returns)
+    (tie.spec Inv-loop μ-loop loop-holds (λ c. search needs) (λ c. search needs) read-item-requires (λ c. search needs) (λ c. search needs) loop-again (λ c. search needs) returns)

@@ -5,15 +5,6 @@ use borrow.Author.Needs.{needs}
 use Rattle.wire.proofs.read_payload.Statement.{statement}
 use Rattle.wire.proofs.read_payload.Tie as tie
 
-count-of-requires : tie.Need-count-of-requires
-count-of-requires c κs = search needs
-
-enum-told : tie.Need-enum-told
-enum-told c = search needs
-
-enum-known-found : tie.Need-enum-known-found
-enum-known-found c = search needs
-
 mul-if1 : tie.Need-mul-if1
 mul-if1 c = let h = counted (c .before .before .before .before .before .before .args .p .now) (c .before .before .before .count-of .ensures) (c .before .found .given .1) in omega arith
 
@@ -34,9 +25,6 @@ returns-2 c =
     let start : tie.Start = c .before .before .before .before .before in
     read-bad (start .args .p .now) (start .args .answer .now) (counted (start .args .p .now) (c .before .before .count-of .ensures) (c .enum-told .given .1))
 
-same-length : tie.Need-same-length
-same-length c = search needs
-
 returns-3 : tie.Need-returns-3
 returns-3 c =
     let start : tie.Start = c .before .before .before .before .before .before .before .before .before .before .before in
@@ -48,13 +36,4 @@ returns-3 c =
 pub read-payload-spec : {M : Type 1} → statement M
 read-payload-spec =
     tie.close
-    (tie.spec
-    count-of-requires
-    enum-told
-    enum-known-found
-    mul-if1
-    returns
-    read-items-requires
-    returns-2
-    same-length
-    returns-3)
+    (tie.spec (λ c κs. search needs) (λ c. search needs) (λ c. search needs) mul-if1 returns read-items-requires returns-2 (λ c. search needs) returns-3)

@@ -9,24 +9,6 @@ use borrow.Author.Needs.{needs}
 use Rattle.wire.proofs.write_item.Statement.{statement}
 use Rattle.wire.proofs.write_item.Tie as tie
 
-item-at-requires : tie.Need-item-at-requires
-item-at-requires c κs = search needs
-
-item-type-requires : tie.Need-item-type-requires
-item-type-requires c κs = search needs
-
-put-type-requires : tie.Need-put-type-requires
-put-type-requires c κs = search needs
-
-add-put-hash : tie.Need-add-put-hash
-add-put-hash c = search needs
-
-put-hash-requires : tie.Need-put-hash-requires
-put-hash-requires c κs = search needs
-
-same-length : tie.Need-same-length
-same-length c = search needs
-
 returns : tie.Need-returns
 returns c =
     let start : tie.Start = c .before .before .before .before .before .before .before .before .before .before .before .before .before in
@@ -38,11 +20,4 @@ returns c =
 pub write-item-spec : {M : Type 1} → statement M
 write-item-spec =
     tie.close
-    (tie.spec
-    item-at-requires
-    item-type-requires
-    put-type-requires
-    add-put-hash
-    put-hash-requires
-    same-length
-    returns)
+    (tie.spec (λ c κs. search needs) (λ c κs. search needs) (λ c κs. search needs) (λ c. search needs) (λ c κs. search needs) (λ c. search needs) returns)

@@ -20,20 +20,8 @@ abbrev μ-loop : tie.MeasureT-loop
 loop-holds : tie.Need-loop-holds Inv-loop μ-loop
 loop-holds c = (omega arith, omega arith, write-none (itemsIn (c .before .before .args .items .now)) (c .before .before .args .s .now) (c .before .before .args .at))
 
-mul-write-item : tie.Need-mul-write-item Inv-loop μ-loop
-mul-write-item c = search needs
-
-add-write-item : tie.Need-add-write-item Inv-loop μ-loop
-add-write-item c = search needs
-
 write-item-requires : tie.Need-write-item-requires Inv-loop μ-loop
 write-item-requires c κs = (omega (arith, c .before .before .before .before .before .pre), omega (arith, c .before .before .before .before .before .pre))
-
-add-i : tie.Need-add-i Inv-loop μ-loop
-add-i c = search needs
-
-loop-less : tie.Need-loop-less Inv-loop μ-loop
-loop-less c = search needs
 
 loop-again : tie.Need-loop-again Inv-loop μ-loop
 loop-again c =
@@ -44,9 +32,6 @@ loop-again c =
           (omega (arith, start .pre)) (omega (arith, start .pre)) (c .before .before .before .before .before .loop .inv .2) (c .before .before .write-item .ensures),
     )
 
-same-length : tie.Need-same-length Inv-loop μ-loop
-same-length c = search needs
-
 returns : tie.Need-returns Inv-loop μ-loop
 returns c =
     let start : tie.Start Inv-loop μ-loop = c .before .before .before .before in
@@ -55,15 +40,4 @@ returns c =
 pub write-items-spec : {M : Type 1} → statement M
 write-items-spec =
     tie.close
-    (tie.spec
-    Inv-loop
-    μ-loop
-    loop-holds
-    mul-write-item
-    add-write-item
-    write-item-requires
-    add-i
-    loop-less
-    loop-again
-    same-length
-    returns)
+    (tie.spec Inv-loop μ-loop loop-holds (λ c. search needs) (λ c. search needs) write-item-requires (λ c. search needs) (λ c. search needs) loop-again (λ c. search needs) returns)

@@ -8,25 +8,13 @@ use borrow.Author.Needs.{needs}
 use Rattle.wire.proofs.write_payload.Statement.{statement}
 use Rattle.wire.proofs.write_payload.Tie as tie
 
-items-requires : tie.Need-items-requires
-items-requires c κs = search needs
-
 returns : tie.Need-returns
 returns c = write-many (itemsIn (c .before .before .before .before .args .items .now)) (c .before .before .before .before .args .answer .now) (c .before .items .ensures) (c .if1 .taken)
-
-all-plain-requires : tie.Need-all-plain-requires
-all-plain-requires c κs = search needs
 
 returns-2 : tie.Need-returns-2
 returns-2 c =
     let start : tie.Start = c .before .before .before .before .before .before in
     write-other (itemsIn (start .args .items .now)) (start .args .answer .now) (c .before .all-plain .ensures) (not-true _ (c .if2 .taken))
-
-count-bytes-requires : tie.Need-count-bytes-requires
-count-bytes-requires c κs = search needs
-
-mul-need : tie.Need-mul-need
-mul-need c = search needs
 
 add-need : tie.Need-add-need
 add-need c = omega (arith, few-bytes (c .before .before .before .before .items .result) (omega arith), c .count-bytes .ensures)
@@ -36,15 +24,6 @@ returns-3 c =
     let start : tie.Start = c .before .before .before .before .before .before .before .before in
     write-short (itemsIn (start .args .items .now)) (start .args .answer .now) (c .before .before .before .before .before .items .ensures) (omega arith)
     (c .before .before .before .all-plain .ensures) (not-false _ (c .before .before .if2 .left)) (c .before .count-bytes .ensures) (c .if3 .taken)
-
-put-count-requires : tie.Need-put-count-requires
-put-count-requires c κs = search needs
-
-write-items-requires : tie.Need-write-items-requires
-write-items-requires c κs = search needs
-
-same-length : tie.Need-same-length
-same-length c = search needs
 
 returns-4 : tie.Need-returns-4
 returns-4 c =
@@ -59,16 +38,5 @@ returns-4 c =
 pub write-payload-spec : {M : Type 1} → statement M
 write-payload-spec =
     tie.close
-    (tie.spec
-    items-requires
-    returns
-    all-plain-requires
-    returns-2
-    count-bytes-requires
-    mul-need
-    add-need
-    returns-3
-    put-count-requires
-    write-items-requires
-    same-length
-    returns-4)
+    (tie.spec (λ c κs. search needs) returns (λ c κs. search needs) returns-2 (λ c κs. search needs) (λ c. search needs) add-need returns-3 (λ c κs. search needs) (λ c κs. search needs)
+    (λ c. search needs) returns-4)

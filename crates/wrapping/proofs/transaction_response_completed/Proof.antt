@@ -7,24 +7,12 @@ use borrow.Author.Needs.{needs}
 use Rattle.wrapping.proofs.transaction_response_completed.Statement.{statement}
 use Rattle.wrapping.proofs.transaction_response_completed.Tie as tie
 
-txid-key-requires : tie.Need-txid-key-requires
-txid-key-requires c κs = search needs
-
-failed-requires : tie.Need-failed-requires
-failed-requires c κs = search needs
-
-wtxid-key-requires : tie.Need-wtxid-key-requires
-wtxid-key-requires c κs = search needs
-
 failed-requires-2 : tie.Need-failed-requires-2
 failed-requires-2 c κs =
     let start : tie.Start = c .before .before .before .before .before .before .before .before in
     let k = c .before .before .before .before .before .txid-key .result in
     after-kept (keyNum k) (hash-below (k .hash) (key-four k (c .before .before .before .before .before .txid-key .ok))) (start .args .n) (start .args .clock) (omega arith)
     (c .before .before .before .before .failed .ensures) (start .pre)
-
-same-length : tie.Need-same-length
-same-length c = search needs
 
 returns : tie.Need-returns
 returns c =
@@ -37,10 +25,4 @@ returns c =
 pub transaction-response-completed-spec : {M : Type 1} → statement M
 transaction-response-completed-spec =
     tie.close
-    (tie.spec
-    txid-key-requires
-    failed-requires
-    wtxid-key-requires
-    failed-requires-2
-    same-length
-    returns)
+    (tie.spec (λ c κs. search needs) (λ c κs. search needs) (λ c κs. search needs) failed-requires-2 (λ c. search needs) returns)

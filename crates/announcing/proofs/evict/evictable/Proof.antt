@@ -4,10 +4,10 @@ use mathlib.Core.Logic.{⊎-elim}
 use native.Mathlib.Omega.{arith}
 use lib.ListN.{take}
 use Rattle.machine.specs.Table.{one}
+use Rattle.machine.proofs.Owning.{one-most}
 use Rattle.store.specs.Flat.{Flat, flatOf}
 use Rattle.store.specs.FlatSound.{countRows}
 use Rattle.store.specs.Image.{Shows}
-use Rattle.store.proofs.Bits.{one-most}
 use Rattle.store.proofs.Frame.{sizes}
 use Rattle.requests.proofs.Keeping.{kept-shown}
 use Rattle.announcing.proofs.Counted.{goes, goes-one, stays-none, counted-turn, counted}
@@ -30,18 +30,6 @@ loop-holds c = (omega arith, omega arith, λ f w. unfold countRows in refl)
 row-at-requires : tie.Need-row-at-requires Inv-loop μ-loop
 row-at-requires c κs = (kept-shown (c .before .before .before .before .pre), omega (arith, c .before .before .rows .ensures .word, c .loop-test))
 
-stays-requires : tie.Need-stays-requires Inv-loop μ-loop
-stays-requires c κs = search needs
-
-add-m : tie.Need-add-m Inv-loop μ-loop
-add-m c = omega arith
-
-add-i : tie.Need-add-i Inv-loop μ-loop
-add-i c = omega arith
-
-loop-less : tie.Need-loop-less Inv-loop μ-loop
-loop-less c = omega arith
-
 loop-again : tie.Need-loop-again Inv-loop μ-loop
 loop-again c =
     let r = c .before .before .row-at .result in
@@ -62,15 +50,4 @@ returns c = λ st s w. counted (st .table) (c .before .loop .i) (omega (arith, c
 pub evictable-spec : {M : Type 1} → statement M
 evictable-spec =
     tie.close
-    (tie.spec
-    Inv-loop
-    μ-loop
-    rows-requires
-    loop-holds
-    row-at-requires
-    stays-requires
-    add-m
-    add-i
-    loop-less
-    loop-again
-    returns)
+    (tie.spec Inv-loop μ-loop rows-requires loop-holds row-at-requires (λ c κs. search needs) (λ c. omega arith) (λ c. omega arith) (λ c. omega arith) loop-again returns)

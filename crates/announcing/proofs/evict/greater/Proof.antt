@@ -4,14 +4,8 @@ use borrow.Author.Needs.{needs}
 use Rattle.announcing.proofs.evict.greater.Statement.{statement}
 use Rattle.announcing.proofs.evict.greater.Tie as tie
 
-passed-requires : tie.Need-passed-requires
-passed-requires c κs = search needs
-
 returns : tie.Need-returns
 returns c = row-passes (c .before .before .args .r) (c .before .before .args .best .row) (c .before .before .args .best .some) (c .before .passed .ensures) (c .if1 .taken)
-
-after-requires : tie.Need-after-requires
-after-requires c κs = search needs
 
 returns-2 : tie.Need-returns-2
 returns-2 c = row-less (c .before .before .before .before .before .before .args .r) (row-free (c .before .before .before .before .before .before .args .r)
@@ -32,4 +26,4 @@ returns-4 c = first-row (c .before .before .before .args .r) (row-free (c .befor
 
 pub greater-spec : {M : Type 1} → statement M
 greater-spec =
-    tie.close (tie.spec passed-requires returns after-requires returns-2 returns-3 returns-4)
+    tie.close (tie.spec (λ c κs. search needs) returns (λ c κs. search needs) returns-2 returns-3 returns-4)

@@ -22,15 +22,6 @@ loop-holds c = (c .before .pre .1, λ f w. refl)
 row-at-requires : tie.Need-row-at-requires Inv-loop μ-loop
 row-at-requires c κs = (c .before .before .before .pre .0, omega arith)
 
-greater-requires : tie.Need-greater-requires Inv-loop μ-loop
-greater-requires c κs = search needs
-
-add-i : tie.Need-add-i Inv-loop μ-loop
-add-i c = omega arith
-
-loop-less : tie.Need-loop-less Inv-loop μ-loop
-loop-less c = omega arith
-
 loop-again : tie.Need-loop-again Inv-loop μ-loop
 loop-again c = (
   omega arith,
@@ -47,13 +38,4 @@ returns c = λ f w. sym (over-none (f .rows) (found (c .before .loop .v)) (c .be
 pub greatest-in-spec : {M : Type 1} → statement M
 greatest-in-spec =
     tie.close
-    (tie.spec
-    Inv-loop
-    μ-loop
-    loop-holds
-    row-at-requires
-    greater-requires
-    add-i
-    loop-less
-    loop-again
-    returns)
+    (tie.spec Inv-loop μ-loop loop-holds row-at-requires (λ c κs. search needs) (λ c. omega arith) (λ c. omega arith) loop-again returns)

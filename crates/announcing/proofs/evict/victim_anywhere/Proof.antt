@@ -11,9 +11,6 @@ use Rattle.announcing.proofs.evict.victim_anywhere.Tie as tie
 rows-requires : tie.Need-rows-requires
 rows-requires c κs = let z = kept-shown (c .before .pre) .sizes in omega arith
 
-nobody-requires : tie.Need-nobody-requires
-nobody-requires c κs = search needs
-
 greatest-in-requires : tie.Need-greatest-in-requires
 greatest-in-requires c κs = (kept-shown (c .before .before .before .pre), omega arith, omega (arith, c .before .rows .ensures .word))
 
@@ -23,4 +20,4 @@ returns c = λ st s w. c .greatest-in .ensures (flatOf st) w ∙ found-anywhere 
 
 pub victim-anywhere-spec : {M : Type 1} → statement M
 victim-anywhere-spec =
-    tie.close (tie.spec rows-requires nobody-requires greatest-in-requires returns)
+    tie.close (tie.spec rows-requires (λ c κs. search needs) greatest-in-requires returns)

@@ -8,21 +8,6 @@ use borrow.Author.Needs.{needs}
 use Rattle.announcing.proofs.evict.victim_at.Statement.{statement}
 use Rattle.announcing.proofs.evict.victim_at.Tie as tie
 
-key-words-requires : tie.Need-key-words-requires
-key-words-requires c κs = search needs
-
-key-words-requires-2 : tie.Need-key-words-requires-2
-key-words-requires-2 c κs = search needs
-
-window-of-requires : tie.Need-window-of-requires
-window-of-requires c κs = search needs
-
-window-of-requires-2 : tie.Need-window-of-requires-2
-window-of-requires-2 c κs = search needs
-
-nobody-requires : tie.Need-nobody-requires
-nobody-requires c κs = search needs
-
 greatest-in-requires : tie.Need-greatest-in-requires
 greatest-in-requires c κs = (kept-shown (c .before .before .before .before .before .before .pre), c .before .before .window-of .ensures .order, c .before .before .window-of .ensures .most)
 
@@ -43,12 +28,4 @@ returns c = λ st s w.
 pub victim-at-spec : {M : Type 1} → statement M
 victim-at-spec =
     tie.close
-    (tie.spec
-    key-words-requires
-    key-words-requires-2
-    window-of-requires
-    window-of-requires-2
-    nobody-requires
-    greatest-in-requires
-    greatest-in-requires-2
-    returns)
+    (tie.spec (λ c κs. search needs) (λ c κs. search needs) (λ c κs. search needs) (λ c κs. search needs) (λ c κs. search needs) greatest-in-requires greatest-in-requires-2 returns)

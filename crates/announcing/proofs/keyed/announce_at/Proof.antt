@@ -7,12 +7,6 @@ use borrow.Author.Needs.{needs}
 use Rattle.announcing.proofs.keyed.announce_at.Statement.{statement}
 use Rattle.announcing.proofs.keyed.announce_at.Tie as tie
 
-decide-requires : tie.Need-decide-requires
-decide-requires c κs = search needs
-
-same-length : tie.Need-same-length
-same-length c = search needs
-
 returns : tie.Need-returns
 returns c = answered-refusing (keyNum (c .before .before .before .before .before .args .k)) (candidateOf (c .before .before .before .before .before .args .c)) (c .before .before .decide .result)
     (c .before .before .decide .ensures) (not-true (c .before .before .decide .result .enters) (c .if1 .taken))
@@ -32,18 +26,12 @@ push-requires c κs =
     let e = not-false (c .before .before .before .before .before .decide .result .enters) (c .before .before .before .if1 .left) in
     (kept, room-in (kept .state) (kept .writes) ((c .before .before .before .before .before .decide .ensures (kept .state) (kept .sound) (kept .writes)) .room e (c .before .if2 .left)))
 
-same-length-2 : tie.Need-same-length-2
-same-length-2 c = search needs
-
 returns-2 : tie.Need-returns-2
 returns-2 c = answered-evicting (keyNum (c .before .before .before .before .before .before .before .before .before .before .before .before .args .k))
     (candidateOf (c .before .before .before .before .before .before .before .before .before .before .before .before .args .c))
     (c .before .before .before .before .before .before .before .before .before .decide .result) (c .before .before .before .before .before .before .before .before .before .decide .ensures)
     (not-false (c .before .before .before .before .before .before .before .before .before .decide .result .enters) (c .before .before .before .before .before .before .before .if1 .left))
     (c .before .before .before .before .before .if2 .taken) (c .before .before .replace .ensures)
-
-same-length-3 : tie.Need-same-length-3
-same-length-3 c = search needs
 
 returns-3 : tie.Need-returns-3
 returns-3 c = answered-room (keyNum (c .before .before .before .before .before .before .before .before .before .before .before .args .k)) (candidateOf
@@ -56,13 +44,4 @@ returns-3 c = answered-room (keyNum (c .before .before .before .before .before .
 pub announce-at-spec : {M : Type 1} → statement M
 announce-at-spec =
     tie.close
-    (tie.spec
-    decide-requires
-    same-length
-    returns
-    replace-requires
-    push-requires
-    same-length-2
-    returns-2
-    same-length-3
-    returns-3)
+    (tie.spec (λ c κs. search needs) (λ c. search needs) returns replace-requires push-requires (λ c. search needs) returns-2 (λ c. search needs) returns-3)

@@ -7,9 +7,6 @@ use borrow.Author.Needs.{needs}
 use Rattle.announcing.proofs.keyed.crowded.Statement.{statement}
 use Rattle.announcing.proofs.keyed.crowded.Tie as tie
 
-candidates-at-requires : tie.Need-candidates-at-requires
-candidates-at-requires c κs = search needs
-
 alternates-requires : tie.Need-alternates-requires
 alternates-requires c κs = let z = kept-shown (c .before .before .pre) .sizes in omega arith
 
@@ -17,4 +14,4 @@ returns : tie.Need-returns
 returns c = λ st s w. rw (c .alternates .ensures st s w) (ap (leb ((limitsOf st) .alternates)) (c .before .candidates-at .ensures st s w))
 
 pub crowded-spec : {M : Type 1} → statement M
-crowded-spec = tie.close (tie.spec candidates-at-requires alternates-requires returns)
+crowded-spec = tie.close (tie.spec (λ c κs. search needs) alternates-requires returns)

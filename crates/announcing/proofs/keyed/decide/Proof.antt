@@ -9,12 +9,6 @@ use borrow.Author.Needs.{needs}
 use Rattle.announcing.proofs.keyed.decide.Statement.{statement}
 use Rattle.announcing.proofs.keyed.decide.Tie as tie
 
-barred-requires : tie.Need-barred-requires
-barred-requires c κs = search needs
-
-refused-requires : tie.Need-refused-requires
-refused-requires c κs = search needs
-
 returns : tie.Need-returns
 returns c = λ st s w.
     let m = limitsOf st in
@@ -22,15 +16,6 @@ returns c = λ st s w.
     let x = candidateOf (c .before .before .before .before .before .args .c) in
     let t = st .table in
     refusing m k x t (when-barred m k x t (sym (c .before .before .barred .ensures st s w) ∙ c .before .if1 .taken)) (c .refused .result) (c .refused .ensures)
-
-crowded-requires : tie.Need-crowded-requires
-crowded-requires c κs = search needs
-
-victim-at-requires : tie.Need-victim-at-requires
-victim-at-requires c κs = search needs
-
-in-place-of-requires : tie.Need-in-place-of-requires
-in-place-of-requires c κs = search needs
 
 returns-2 : tie.Need-returns-2
 returns-2 c = λ st s w.
@@ -42,9 +27,6 @@ returns-2 c = λ st s w.
     replacing m k x t (atHash (k .hash)) (s .bounded .ordered) b (when-crowded m k x t b (sym (c .before .before .before .before .crowded .ensures st s w) ∙ c .before .before .before .if2 .taken)
     (c .before .before .if3 .taken)) (c .before .victim-at .result) (c .before .victim-at .ensures st s w) (c .in-place-of .result) (c .in-place-of .ensures .0) (c .in-place-of .ensures .1)
 
-refused-requires-2 : tie.Need-refused-requires-2
-refused-requires-2 c κs = search needs
-
 returns-3 : tie.Need-returns-3
 returns-3 c = λ st s w.
     let m = limitsOf st in
@@ -53,15 +35,6 @@ returns-3 c = λ st s w.
     let t = st .table in
     refusing m k x t (when-crowded-out m k x t (sym (c .before .before .before .before .before .barred .ensures st s w) ∙ c .before .before .before .before .if1 .left)
     (sym (c .before .before .before .crowded .ensures st s w) ∙ c .before .before .if2 .taken) (c .before .if3 .left)) (c .refused2 .result) (c .refused2 .ensures)
-
-full-requires : tie.Need-full-requires
-full-requires c κs = search needs
-
-victim-anywhere-requires : tie.Need-victim-anywhere-requires
-victim-anywhere-requires c κs = search needs
-
-in-place-of-requires-2 : tie.Need-in-place-of-requires-2
-in-place-of-requires-2 c κs = search needs
 
 returns-4 : tie.Need-returns-4
 returns-4 c = λ st s w.
@@ -75,9 +48,6 @@ returns-4 c = λ st s w.
     (sym (c .before .before .before .before .full .ensures st s w) ∙ c .before .before .before .if4 .taken) (c .before .before .if5 .taken)) (c .before .victim-anywhere .result)
     (c .before .victim-anywhere .ensures st s w) (c .in-place-of2 .result) (c .in-place-of2 .ensures .0) (c .in-place-of2 .ensures .1)
 
-refused-requires-3 : tie.Need-refused-requires-3
-refused-requires-3 c κs = search needs
-
 returns-5 : tie.Need-returns-5
 returns-5 c = λ st s w.
     let m = limitsOf st in
@@ -87,9 +57,6 @@ returns-5 c = λ st s w.
     refusing m k x t (when-full-out m k x t (sym (c .before .before .before .before .before .before .before .barred .ensures st s w) ∙ c .before .before .before .before .before .before .if1 .left)
     (sym (c .before .before .before .before .before .crowded .ensures st s w) ∙ c .before .before .before .before .if2 .left)
     (sym (c .before .before .before .full .ensures st s w) ∙ c .before .before .if4 .taken) (c .before .if5 .left)) (c .refused3 .result) (c .refused3 .ensures)
-
-nobody-requires : tie.Need-nobody-requires
-nobody-requires c κs = search needs
 
 returns-6 : tie.Need-returns-6
 returns-6 c = λ st s w.
@@ -104,21 +71,5 @@ returns-6 c = λ st s w.
 pub decide-spec : {M : Type 1} → statement M
 decide-spec =
     tie.close
-    (tie.spec
-    barred-requires
-    refused-requires
-    returns
-    crowded-requires
-    victim-at-requires
-    in-place-of-requires
-    returns-2
-    refused-requires-2
-    returns-3
-    full-requires
-    victim-anywhere-requires
-    in-place-of-requires-2
-    returns-4
-    refused-requires-3
-    returns-5
-    nobody-requires
-    returns-6)
+    (tie.spec (λ c κs. search needs) (λ c κs. search needs) returns (λ c κs. search needs) (λ c κs. search needs) (λ c κs. search needs) returns-2 (λ c κs. search needs) returns-3
+    (λ c κs. search needs) (λ c κs. search needs) (λ c κs. search needs) returns-4 (λ c κs. search needs) returns-5 (λ c κs. search needs) returns-6)

@@ -5,12 +5,6 @@ use borrow.Author.Needs.{needs}
 use Rattle.announcing.proofs.keyed.replace.Statement.{statement}
 use Rattle.announcing.proofs.keyed.replace.Tie as tie
 
-key-of-requires : tie.Need-key-of-requires
-key-of-requires c κs = search needs
-
-cut-requires : tie.Need-cut-requires
-cut-requires c κs = search needs
-
 push-requires : tie.Need-push-requires
 push-requires c κs =
     let kept = c .before .before .before .before .before .before .before .pre .0 in
@@ -20,9 +14,6 @@ push-requires c κs =
     let w = cut-writes st s (c .before .before .before .before .before .before .before .args .r) g
     (c .before .before .before .before .key-of .ensures) (c .before .before .before .cut .ensures) (kept .writes) in
     (cleared-kept st s (c .before .before .before .before .before .before .before .args .r) g w, cleared-room st s (c .before .before .before .before .before .before .before .args .r) g w)
-
-same-length : tie.Need-same-length
-same-length c = search needs
 
 returns : tie.Need-returns
 returns c = λ st s w u.
@@ -39,4 +30,4 @@ returns c = λ st s w u.
     (c .before .before .before .before .before .before .before .before .before .before .pre .2 st s w)))
 
 pub replace-spec : {M : Type 1} → statement M
-replace-spec = tie.close (tie.spec key-of-requires cut-requires push-requires same-length returns)
+replace-spec = tie.close (tie.spec (λ c κs. search needs) (λ c κs. search needs) push-requires (λ c. search needs) returns)

@@ -6,32 +6,11 @@ use borrow.Author.Needs.{needs}
 use Rattle.announcing.proofs.parent.request_parent_at.Statement.{statement}
 use Rattle.announcing.proofs.parent.request_parent_at.Tie as tie
 
-holds-requires : tie.Need-holds-requires
-holds-requires c κs = search needs
-
-adopt-requires : tie.Need-adopt-requires
-adopt-requires c κs = search needs
-
-same-length : tie.Need-same-length
-same-length c = search needs
-
 returns : tie.Need-returns
 returns c =
     let start : tie.Start = c .before .before .before .before .before .before .before .before in
     at-key _ _ (keyNum (start .args .k)) (candidateOf (start .args .c)) (c .before .before .before .before .before .holds .ensures) (c .before .before .before .before .if1 .taken)
     (c .before .before .adopt .ensures)
-
-same-hash-other-kind-requires : tie.Need-same-hash-other-kind-requires
-same-hash-other-kind-requires c κs = search needs
-
-holds-requires-2 : tie.Need-holds-requires-2
-holds-requires-2 c κs = search needs
-
-adopt-requires-2 : tie.Need-adopt-requires-2
-adopt-requires-2 c κs = search needs
-
-same-length-2 : tie.Need-same-length-2
-same-length-2 c = search needs
 
 returns-2 : tie.Need-returns-2
 returns-2 c =
@@ -39,12 +18,6 @@ returns-2 c =
     at-other _ _ (keyNum (start .args .k)) (candidateOf (start .args .c)) _ (c .before .before .before .before .before .before .before .same-hash-other-kind .ensures)
     (c .before .before .before .before .before .before .before .before .before .holds .ensures) (c .before .before .before .before .before .before .before .before .if1 .left)
     (c .before .before .before .before .before .holds2 .ensures) (c .before .before .before .before .if2 .taken) (c .before .before .adopt2 .ensures)
-
-announce-at-requires : tie.Need-announce-at-requires
-announce-at-requires c κs = search needs
-
-same-length-3 : tie.Need-same-length-3
-same-length-3 c = search needs
 
 returns-3 : tie.Need-returns-3
 returns-3 c =
@@ -56,16 +29,5 @@ returns-3 c =
 pub request-parent-at-spec : {M : Type 1} → statement M
 request-parent-at-spec =
     tie.close
-    (tie.spec
-    holds-requires
-    adopt-requires
-    same-length
-    returns
-    same-hash-other-kind-requires
-    holds-requires-2
-    adopt-requires-2
-    same-length-2
-    returns-2
-    announce-at-requires
-    same-length-3
-    returns-3)
+    (tie.spec (λ c κs. search needs) (λ c κs. search needs) (λ c. search needs) returns (λ c κs. search needs) (λ c κs. search needs) (λ c κs. search needs) (λ c. search needs) returns-2
+    (λ c κs. search needs) (λ c. search needs) returns-3)

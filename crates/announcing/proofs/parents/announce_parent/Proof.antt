@@ -7,12 +7,6 @@ use borrow.Author.Needs.{needs}
 use Rattle.announcing.proofs.parents.announce_parent.Statement.{statement}
 use Rattle.announcing.proofs.parents.announce_parent.Tie as tie
 
-txid-key-requires : tie.Need-txid-key-requires
-txid-key-requires c κs = search needs
-
-request-parent-at-requires : tie.Need-request-parent-at-requires
-request-parent-at-requires c κs = search needs
-
 mark-requires : tie.Need-mark-requires
 mark-requires c κs =
     let start : tie.Start = c .before .before .before .before .before .before .before .before in
@@ -21,9 +15,6 @@ mark-requires c κs =
     (omega arith) (hash-below h (hash-four h (start .good .1 .1 .1 .0))) _ (c .before .before .before .before .before .before .txid-key .ensures)
     (c .before .before .before .before .request-parent-at .ensures) (start .pre .0)
 
-same-length : tie.Need-same-length
-same-length c = search needs
-
 returns : tie.Need-returns
 returns c =
     let start : tie.Start = c .before .before .before .before .before .before .before .before .before .before .before in
@@ -31,9 +22,6 @@ returns c =
     parent-marked (start .args .n) (start .args .clock) (hashNum h) (start .args .priority) (record { positive = start .pre .1; small = omega arith }) (omega arith)
     (omega arith) (hash-below h (hash-four h (start .good .1 .1 .1 .0))) _ (c .before .before .before .before .before .before .before .before .before .txid-key .ensures)
     (c .before .before .before .before .before .before .before .request-parent-at .ensures) (c .before .before .before .before .if1 .taken) (c .before .before .mark .ensures)
-
-same-length-2 : tie.Need-same-length-2
-same-length-2 c = search needs
 
 returns-2 : tie.Need-returns-2
 returns-2 c =
@@ -45,11 +33,4 @@ returns-2 c =
 pub announce-parent-spec : {M : Type 1} → statement M
 announce-parent-spec =
     tie.close
-    (tie.spec
-    txid-key-requires
-    request-parent-at-requires
-    mark-requires
-    same-length
-    returns
-    same-length-2
-    returns-2)
+    (tie.spec (λ c κs. search needs) (λ c κs. search needs) mark-requires (λ c. search needs) returns (λ c. search needs) returns-2)

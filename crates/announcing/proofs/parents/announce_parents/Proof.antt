@@ -34,9 +34,6 @@ absent {r} l t e q = ap (λ (z : ℕ). elem z l) q ∙ sym e ∙ not-true r t
 keyed : {k : Key} {h : ℕ} (a : ℕ) (u : List ℕ) {u₁ : List ℕ} → k ≡ txid h → u₁ ≡ splice u a (keyAnswer k) → u₁ ≡ splice u a (keyAnswer (txid h))
 keyed a u q e = e ∙ ap (λ (j : Key). splice u a (keyAnswer j)) q
 
-hashes-requires : tie.Need-hashes-requires Inv-loop μ-loop
-hashes-requires c κs = search needs
-
 loop-holds : tie.Need-loop-holds Inv-loop μ-loop
 loop-holds c = turned-start _ _ _ _ _
 
@@ -58,9 +55,6 @@ announce-parent-requires c κs =
           }) (start .pre .0),
       start .pre .1,
     )
-
-txid-key-requires : tie.Need-txid-key-requires Inv-loop μ-loop
-txid-key-requires c κs = search needs
 
 put-key-requires : tie.Need-put-key-requires Inv-loop μ-loop
 put-key-requires c κs =
@@ -136,21 +130,5 @@ returns c = turned-done (c .before .loop .inv) (omega (arith, c .before .loop .i
 pub announce-parents-spec : {M : Type 1} → statement M
 announce-parents-spec =
     tie.close
-    (tie.spec
-    Inv-loop
-    μ-loop
-    hashes-requires
-    loop-holds
-    occurs-before-requires
-    hash-in-requires
-    announce-parent-requires
-    txid-key-requires
-    put-key-requires
-    add-kept
-    add-priority
-    add-i
-    loop-less
-    loop-again
-    same-length
-    same-length-2
-    returns)
+    (tie.spec Inv-loop μ-loop (λ c κs. search needs) loop-holds occurs-before-requires hash-in-requires announce-parent-requires (λ c κs. search needs) put-key-requires add-kept add-priority
+    add-i loop-less loop-again same-length same-length-2 returns)

@@ -6,12 +6,6 @@ use borrow.Author.Needs.{needs}
 use Rattle.apart.proofs.displacing.announce_further.Statement.{statement}
 use Rattle.apart.proofs.displacing.announce_further.Tie as tie
 
-sub-restock : tie.Need-sub-restock
-sub-restock c = search needs
-
-restock-requires : tie.Need-restock-requires
-restock-requires c κs = search needs
-
 swap-with-requires : tie.Need-swap-with-requires
 swap-with-requires c κs = (
   restocked-supplies (c .before .before .before .before .before .restock .ensures) (c .before .before .before .before .before .before .before .before .before .before .before .before .pre .0),
@@ -37,18 +31,6 @@ add-t26 c = omega (
   c .before .before .before .before .before .before .before .before .before .before .before .before .restock .ensures .few,
 )
 
-add-t26-2 : tie.Need-add-t26-2
-add-t26-2 c = search needs
-
-same-length : tie.Need-same-length
-same-length c = search needs
-
-same-length-2 : tie.Need-same-length-2
-same-length-2 c = search needs
-
-same-length-3 : tie.Need-same-length-3
-same-length-3 c = search needs
-
 returns : tie.Need-returns
 returns c = further-swapped (c .before .before .before .before .before .before .before .before .before .before .before .before .restock .ensures)
     (c .before .before .before .before .before .before .swap-with .ensures) (c .before .if1 .taken)
@@ -71,20 +53,13 @@ announce-unlisted-requires c κs = (
   search needs,
 )
 
-same-length-4 : tie.Need-same-length-4
-same-length-4 c = search needs
-
-same-length-5 : tie.Need-same-length-5
-same-length-5 c = search needs
-
-same-length-6 : tie.Need-same-length-6
-same-length-6 c = search needs
-
 returns-2 : tie.Need-returns-2
 returns-2 c = further-unlisted (c .before .before .before .before .before .before .before .before .before .before .before .before .before .before .before .before .before .before .restock
     .ensures) (c .before .before .before .before .before .before .before .before .before .before .before .before .swap-with .ensures)
     (c .before .before .before .before .before .before .before .if1 .left) (c .before .before .before .before .announce-unlisted .ensures)
 
 pub announce-further-spec : {M : Type 1} → statement M
-announce-further-spec = tie.close (tie.spec sub-restock restock-requires swap-with-requires add-t26 add-t26-2 same-length same-length-2 same-length-3 returns announce-unlisted-requires
-    same-length-4 same-length-5 same-length-6 returns-2)
+announce-further-spec =
+    tie.close
+    (tie.spec (λ c. search needs) (λ c κs. search needs) swap-with-requires add-t26 (λ c. search needs) (λ c. search needs) (λ c. search needs) (λ c. search needs) returns
+    announce-unlisted-requires (λ c. search needs) (λ c. search needs) (λ c. search needs) returns-2)

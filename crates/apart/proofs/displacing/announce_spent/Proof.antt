@@ -7,12 +7,6 @@ use borrow.Author.Needs.{needs}
 use Rattle.apart.proofs.displacing.announce_spent.Statement.{statement}
 use Rattle.apart.proofs.displacing.announce_spent.Tie as tie
 
-let-in-requires : tie.Need-let-in-requires
-let-in-requires c κs = search needs
-
-parent-of-requires : tie.Need-parent-of-requires
-parent-of-requires c κs = search needs
-
 announce-unaided-requires : tie.Need-announce-unaided-requires
 announce-unaided-requires c κs = (
   let-kept (c .before .before .before .before .before .before .let-in .ensures)
@@ -20,12 +14,6 @@ announce-unaided-requires c κs = (
   c .before .before .before .before .before .before .before .before .before
       .before .before .before .pre .1,
 )
-
-same-length : tie.Need-same-length
-same-length c = search needs
-
-same-length-2 : tie.Need-same-length-2
-same-length-2 c = search needs
 
 returns : tie.Need-returns
 returns c = spent-alone (record {
@@ -38,4 +26,4 @@ returns c = spent-alone (record {
     (c .before .before .announce-unaided .ensures)
 
 pub announce-spent-spec : {M : Type 1} → statement M
-announce-spent-spec = tie.close (tie.spec let-in-requires parent-of-requires announce-unaided-requires same-length same-length-2 returns)
+announce-spent-spec = tie.close (tie.spec (λ c κs. search needs) (λ c κs. search needs) announce-unaided-requires (λ c. search needs) (λ c. search needs) returns)

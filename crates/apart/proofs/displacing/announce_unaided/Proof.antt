@@ -5,24 +5,12 @@ use borrow.Author.Needs.{needs}
 use Rattle.apart.proofs.displacing.announce_unaided.Statement.{statement}
 use Rattle.apart.proofs.displacing.announce_unaided.Tie as tie
 
-shut-out-requires : tie.Need-shut-out-requires
-shut-out-requires c κs = search needs
-
-same-length : tie.Need-same-length
-same-length c = search needs
-
 returns : tie.Need-returns
 returns c = unaided-shut (c .before .shut-out .ensures) (c .if1 .taken) (hash-below (c .before .before .before .before .args .h) (hash-four (c .before .before .before .before .args .h)
     (c .before .before .before .before .good .1 .1 .1 .0)))
-
-announce-parent-requires : tie.Need-announce-parent-requires
-announce-parent-requires c κs = search needs
-
-same-length-2 : tie.Need-same-length-2
-same-length-2 c = search needs
 
 returns-2 : tie.Need-returns-2
 returns-2 c = unaided-by (c .before .before .announce-parent .ensures)
 
 pub announce-unaided-spec : {M : Type 1} → statement M
-announce-unaided-spec = tie.close (tie.spec shut-out-requires same-length returns announce-parent-requires same-length-2 returns-2)
+announce-unaided-spec = tie.close (tie.spec (λ c κs. search needs) (λ c. search needs) returns (λ c κs. search needs) (λ c. search needs) returns-2)

@@ -8,11 +8,8 @@ use Rattle.apart.proofs.displacing.hopeless.Tie as tie
 returns : tie.Need-returns
 returns c = λ e. never e
 
-full-requires : tie.Need-full-requires
-full-requires c κs = search needs
-
 returns-2 : tie.Need-returns-2
 returns-2 c = λ _. not-false (c .before .before .before .args .spent) (c .before .if1 .left)
 
 pub hopeless-spec : {M : Type 1} → statement M
-hopeless-spec = tie.close (tie.spec returns full-requires returns-2)
+hopeless-spec = tie.close (tie.spec returns (λ c κs. search needs) returns-2)

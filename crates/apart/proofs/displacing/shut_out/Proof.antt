@@ -9,14 +9,8 @@ use borrow.Author.Needs.{needs}
 use Rattle.apart.proofs.displacing.shut_out.Statement.{statement}
 use Rattle.apart.proofs.displacing.shut_out.Tie as tie
 
-is-candidate-requires : tie.Need-is-candidate-requires
-is-candidate-requires c κs = search needs
-
 returns : tie.Need-returns
 returns c = record { new = λ e. never e; full = λ e. never e }
-
-full-requires : tie.Need-full-requires
-full-requires c κs = search needs
 
 returns-2 : tie.Need-returns-2
 returns-2 c = record {
@@ -25,4 +19,4 @@ returns-2 c = record {
 }
 
 pub shut-out-spec : {M : Type 1} → statement M
-shut-out-spec = tie.close (tie.spec is-candidate-requires returns full-requires returns-2)
+shut-out-spec = tie.close (tie.spec (λ c κs. search needs) returns (λ c κs. search needs) returns-2)

@@ -11,12 +11,6 @@ use Rattle.apart.proofs.displacing.swap_with.Tie as tie
 returns : tie.Need-returns
 returns c = swaps-none (omega (arith, c .if1 .taken))
 
-parent-of-requires : tie.Need-parent-of-requires
-parent-of-requires c κs = search needs
-
-offered-requires : tie.Need-offered-requires
-offered-requires c κs = search needs
-
 exchange-requires : tie.Need-exchange-requires
 exchange-requires c κs = (
   supplies-underway (omega (arith, c .before .before .before .before .if1 .left)) (c .before .before .before .before .before .before .before .before .before .before .pre .0) (ap (λ
@@ -26,12 +20,6 @@ exchange-requires c κs = (
   omega (arith, c .before .before .before .before .before .before .before .before .before .before .pre .2, c .before .before .before .before .before .before .before .before .before .before .pre .3),
   c .before .before .before .before .before .before .before .before .before .before .pre .4,
 )
-
-same-length : tie.Need-same-length
-same-length c = search needs
-
-same-length-2 : tie.Need-same-length-2
-same-length-2 c = search needs
 
 returns-2 : tie.Need-returns-2
 returns-2 c = swaps-with (record {
@@ -46,4 +34,4 @@ returns-2 c = swaps-with (record {
     (c .before .before .before .before .exchange .ensures)
 
 pub swap-with-spec : {M : Type 1} → statement M
-swap-with-spec = tie.close (tie.spec returns parent-of-requires offered-requires exchange-requires same-length same-length-2 returns-2)
+swap-with-spec = tie.close (tie.spec returns (λ c κs. search needs) (λ c κs. search needs) exchange-requires (λ c. search needs) (λ c. search needs) returns-2)

@@ -6,18 +6,6 @@ use borrow.Author.Needs.{needs}
 use Rattle.apart.proofs.joining.announce_next.Statement.{statement}
 use Rattle.apart.proofs.joining.announce_next.Tie as tie
 
-wait-with-requires : tie.Need-wait-with-requires
-wait-with-requires c κs = search needs
-
-add-t16 : tie.Need-add-t16
-add-t16 c = search needs
-
-same-length : tie.Need-same-length
-same-length c = search needs
-
-same-length-2 : tie.Need-same-length-2
-same-length-2 c = search needs
-
 returns : tie.Need-returns
 returns c = next-waits (c .before .before .before .before .before .before .before .before .before .pre .2) (c .if1 .taken) (c .before .before .before .wait-with .ensures)
 
@@ -31,9 +19,6 @@ let-in-requires c κs = (
   search needs,
 )
 
-parent-of-requires : tie.Need-parent-of-requires
-parent-of-requires c κs = search needs
-
 announce-parent-requires : tie.Need-announce-parent-requires
 announce-parent-requires c κs = (
   let-kept (c .before .before .before .before .before .before .let-in .ensures) (waits-same
@@ -42,12 +27,6 @@ announce-parent-requires c κs = (
       (c .before .before .before .before .before .before .before .before .before .before .before .before .before .before .before .before .before .before .pre .0)),
   c .before .before .before .before .before .before .before .before .before .before .before .before .before .before .before .before .before .before .pre .1,
 )
-
-same-length-3 : tie.Need-same-length-3
-same-length-3 c = search needs
-
-same-length-4 : tie.Need-same-length-4
-same-length-4 c = search needs
 
 returns-2 : tie.Need-returns-2
 returns-2 c =
@@ -69,15 +48,5 @@ returns-2 c =
 pub announce-next-spec : {M : Type 1} → statement M
 announce-next-spec =
     tie.close
-    (tie.spec
-    wait-with-requires
-    add-t16
-    same-length
-    same-length-2
-    returns
-    let-in-requires
-    parent-of-requires
-    announce-parent-requires
-    same-length-3
-    same-length-4
-    returns-2)
+    (tie.spec (λ c κs. search needs) (λ c. search needs) (λ c. search needs) (λ c. search needs) returns let-in-requires (λ c κs. search needs) announce-parent-requires (λ c. search needs)
+    (λ c. search needs) returns-2)

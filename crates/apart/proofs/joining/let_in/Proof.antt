@@ -8,12 +8,6 @@ use Rattle.apart.proofs.joining.let_in.Tie as tie
 returns : tie.Need-returns
 returns c = let-none (c .if1 .taken)
 
-come-in-requires : tie.Need-come-in-requires
-come-in-requires c κs = search needs
-
-sub-mark-parents : tie.Need-sub-mark-parents
-sub-mark-parents c = search needs
-
 mark-parents-requires : tie.Need-mark-parents-requires
 mark-parents-requires c κs = (
   came-kept (c .before .before .before .before .before .before .before .before .before .before .pre .0 .beside) (c .before .before .before .come-in .ensures),
@@ -21,15 +15,6 @@ mark-parents-requires c κs = (
   c .before .before .before .before .before .before .before .before .before .before .pre .2,
   c .before .before .before .before .before .before .before .before .before .before .pre .3,
 )
-
-clear-requires : tie.Need-clear-requires
-clear-requires c κs = search needs
-
-same-length : tie.Need-same-length
-same-length c = search needs
-
-same-length-2 : tie.Need-same-length-2
-same-length-2 c = search needs
 
 returns-2 : tie.Need-returns-2
 returns-2 c = let-in (c .before .before .before .before .before .before .before .before .before .before .before .before .before .before .before .before .before .pre .1)
@@ -39,4 +24,4 @@ returns-2 c = let-in (c .before .before .before .before .before .before .before 
 pub let-in-spec : {M : Type 1} → statement M
 let-in-spec =
     tie.close
-    (tie.spec returns come-in-requires sub-mark-parents mark-parents-requires clear-requires same-length same-length-2 returns-2)
+    (tie.spec returns (λ c κs. search needs) (λ c. search needs) mark-parents-requires (λ c κs. search needs) (λ c. search needs) (λ c. search needs) returns-2)

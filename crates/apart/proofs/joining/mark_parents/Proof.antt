@@ -22,9 +22,6 @@ loop-holds c = ((omega arith, c .before .before .pre .1), refl, marking-starts _
 parent-of-requires : tie.Need-parent-of-requires Inv-loop μ-loop
 parent-of-requires c κs = (omega (arith, c .loop-test .taken, c .before .before .before .before .pre .2), c .before .before .before .before .pre .3)
 
-txid-key-requires : tie.Need-txid-key-requires Inv-loop μ-loop
-txid-key-requires c κs = search needs
-
 mark-requires : tie.Need-mark-requires Inv-loop μ-loop
 mark-requires c κs = marking-kept (c .before .before .before .before .loop .inv .2) (c .before .before .before .before .before .before .before .pre .0)
 
@@ -53,15 +50,4 @@ returns c = marking-ends (c .before .loop .inv .2) (omega (arith, c .before .loo
 pub mark-parents-spec : {M : Type 1} → statement M
 mark-parents-spec =
     tie.close
-    (tie.spec
-    Inv-loop
-    μ-loop
-    loop-holds
-    parent-of-requires
-    txid-key-requires
-    mark-requires
-    add-j
-    loop-less
-    loop-again
-    same-length
-    returns)
+    (tie.spec Inv-loop μ-loop loop-holds parent-of-requires (λ c κs. search needs) mark-requires add-j loop-less loop-again same-length returns)

@@ -11,18 +11,6 @@ use Rattle.apart.proofs.joining.wait_with.Tie as tie
 returns : tie.Need-returns
 returns c = record { joins = λ e. never e; alone = λ _. refl }
 
-parent-of-requires : tie.Need-parent-of-requires
-parent-of-requires c κs = search needs
-
-offered-requires : tie.Need-offered-requires
-offered-requires c κs = search needs
-
-set-aside-requires : tie.Need-set-aside-requires
-set-aside-requires c κs = search needs
-
-same-length : tie.Need-same-length
-same-length c = search needs
-
 returns-2 : tie.Need-returns-2
 returns-2 c =
     waits-with (record { positive = c .before .before .before .before .before .before .before .before .before .before .pre .1; small = omega arith })
@@ -34,4 +22,4 @@ returns-2 c =
 pub wait-with-spec : {M : Type 1} → statement M
 wait-with-spec =
     tie.close
-    (tie.spec returns parent-of-requires offered-requires set-aside-requires same-length returns-2)
+    (tie.spec returns (λ c κs. search needs) (λ c κs. search needs) (λ c κs. search needs) (λ c. search needs) returns-2)

@@ -10,26 +10,8 @@ use borrow.Author.Needs.{needs}
 use Rattle.apart.proofs.lapsing.expire_one.Statement.{statement}
 use Rattle.apart.proofs.lapsing.expire_one.Tie as tie
 
-find-requires : tie.Need-find-requires
-find-requires c κs = search needs
-
-sub-failed : tie.Need-sub-failed
-sub-failed c = search needs
-
-part-failed-start : tie.Need-part-failed-start
-part-failed-start c = search needs
-
-part-failed-end : tie.Need-part-failed-end
-part-failed-end c = search needs
-
 failed-requires : tie.Need-failed-requires
 failed-requires c κs = lent-kept (c .before .before .before .before .before .before .before .before .before .before .pre .0 .apart)
-
-same-length : tie.Need-same-length
-same-length c = search needs
-
-same-length-2 : tie.Need-same-length-2
-same-length-2 c = search needs
 
 returns : tie.Need-returns
 returns c = λ st ps o n own. let late : c .before .before .before .before .before .before .before .before .before .before .before .before .before .args .clock < word = omega arith in
@@ -77,18 +59,6 @@ slice-write-high c = let y = found-inside (c .before .before .before .before .be
     (c .before .before .before .before .before .before .before .before .before .find .ensures) (omega (arith, c .before .before .before .before .before .before .before .if1 .left)) in omega
     (arith, y, c .before .before .before .before .before .before .before .before .before .before .before .before .before .before .before .before .pre .3)
 
-same-length-3 : tie.Need-same-length-3
-same-length-3 c = search needs
-
-same-length-4 : tie.Need-same-length-4
-same-length-4 c = search needs
-
-same-length-5 : tie.Need-same-length-5
-same-length-5 c = search needs
-
-same-length-6 : tie.Need-same-length-6
-same-length-6 c = search needs
-
 returns-2 : tie.Need-returns-2
 returns-2 c = λ st ps o n own. let h = c .before .before .before .before .before .before .before .before .before .find .ensures .held (st .places) ps n (o .slots) (o .ascend) (omega (
   arith,
@@ -111,22 +81,5 @@ returns-2 c = λ st ps o n own. let h = c .before .before .before .before .befor
 pub expire-one-spec : {M : Type 1} → statement M
 expire-one-spec =
     tie.close
-    (tie.spec
-    find-requires
-    sub-failed
-    part-failed-start
-    part-failed-end
-    failed-requires
-    same-length
-    same-length-2
-    returns
-    expire-place-requires
-    mul-low
-    slice-write-low
-    mul-high
-    slice-write-high
-    same-length-3
-    same-length-4
-    same-length-5
-    same-length-6
-    returns-2)
+    (tie.spec (λ c κs. search needs) (λ c. search needs) (λ c. search needs) (λ c. search needs) failed-requires (λ c. search needs) (λ c. search needs) returns expire-place-requires mul-low
+    slice-write-low mul-high slice-write-high (λ c. search needs) (λ c. search needs) (λ c. search needs) (λ c. search needs) returns-2)

@@ -11,33 +11,12 @@ use borrow.Author.Needs.{needs}
 use Rattle.apart.proofs.lapsing.expire_place.Statement.{statement}
 use Rattle.apart.proofs.lapsing.expire_place.Tie as tie
 
-slot-room-requires : tie.Need-slot-room-requires
-slot-room-requires c κs = search needs
-
-slice-aggregate-load : tie.Need-slice-aggregate-load
-slice-aggregate-load c = search needs
-
-load-requires : tie.Need-load-requires
-load-requires c κs = search needs
-
 lapse-requires : tie.Need-lapse-requires
 lapse-requires c κs = (
   place-room (c .before .before .before .before .before .before .before .before .before .before .pre .0 .apart)
       (c .before .before .before .before .before .before .before .before .before .before .pre .0 .held .inside),
   front-kept (c .before .before .before .before .before .before .before .before .before .before .pre .0 .apart),
 )
-
-sub-announce-all : tie.Need-sub-announce-all
-sub-announce-all c = search needs
-
-part-announce-all-start : tie.Need-part-announce-all-start
-part-announce-all-start c = search needs
-
-part-announce-all-end : tie.Need-part-announce-all-end
-part-announce-all-end c = search needs
-
-slice-aggregate-announce-all : tie.Need-slice-aggregate-announce-all
-slice-aggregate-announce-all c = search needs
 
 announce-all-requires : tie.Need-announce-all-requires
 announce-all-requires c κs = let x = c .before .before .before .before .before .before .before .before .before .before .before .before .before .before .before .before .before .pre .0 in let
@@ -56,12 +35,6 @@ announce-all-requires c κs = let x = c .before .before .before .before .before 
           (c .before .before .before .before .before .before .before .before .before .before .before .before .before .before .before .before .before .pre .1),
     )
 
-same-length : tie.Need-same-length
-same-length c = search needs
-
-same-length-2 : tie.Need-same-length-2
-same-length-2 c = search needs
-
 returns : tie.Need-returns
 returns c = λ st ps o h z own. let late : c .before .before .before .before .before .before .before .before .before .before .before .before .before .before .before .before .before .before
     .before .before .args .clock < word = omega arith in place-expired o h z (c .before .before .before .before .before .before .before .before .before .before .before .before .before .before
@@ -76,16 +49,5 @@ returns c = λ st ps o h z own. let late : c .before .before .before .before .be
 pub expire-place-spec : {M : Type 1} → statement M
 expire-place-spec =
     tie.close
-    (tie.spec
-    slot-room-requires
-    slice-aggregate-load
-    load-requires
-    lapse-requires
-    sub-announce-all
-    part-announce-all-start
-    part-announce-all-end
-    slice-aggregate-announce-all
-    announce-all-requires
-    same-length
-    same-length-2
-    returns)
+    (tie.spec (λ c κs. search needs) (λ c. search needs) (λ c κs. search needs) lapse-requires (λ c. search needs) (λ c. search needs) (λ c. search needs) (λ c. search needs)
+    announce-all-requires (λ c. search needs) (λ c. search needs) returns)

@@ -6,9 +6,6 @@ use borrow.Author.Needs.{needs}
 use Rattle.apart.proofs.noting.parents_in.Statement.{statement}
 use Rattle.apart.proofs.noting.parents_in.Tie as tie
 
-read-head-requires : tie.Need-read-head-requires
-read-head-requires c κs = search needs
-
 returns : tie.Need-returns
 returns c = record { most = omega (arith, c .if1 .taken); is = λ p h l. head-parents p (c .before .read-head .ensures .region 1 (p ∷ []) p (omega arith) h) }
 
@@ -16,4 +13,4 @@ returns-2 : tie.Need-returns-2
 returns-2 c = record { most = omega arith; is = λ p h l. let e = head-parents p (c .before .read-head .ensures .region 1 (p ∷ []) p (omega arith) h) in omega (arith, c .if1 .left) }
 
 pub parents-in-spec : {M : Type 1} → statement M
-parents-in-spec = tie.close (tie.spec read-head-requires returns returns-2)
+parents-in-spec = tie.close (tie.spec (λ c κs. search needs) returns returns-2)

@@ -62,15 +62,4 @@ returns c = λ st s w p. dropped-writes (c .before .before .before .before .befo
 pub drop-due-spec : {M : Type 1} → statement M
 drop-due-spec =
     tie.close
-    (tie.spec
-    Inv-loop
-    μ-loop
-    rows-requires
-    loop-holds
-    drop-row-requires
-    add-i
-    loop-less
-    loop-again
-    drop-rows-requires
-    same-length
-    returns)
+    (tie.spec Inv-loop μ-loop rows-requires loop-holds drop-row-requires add-i loop-less loop-again drop-rows-requires same-length returns)

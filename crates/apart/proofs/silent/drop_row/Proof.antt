@@ -6,18 +6,6 @@ use borrow.Author.Needs.{needs}
 use Rattle.apart.proofs.silent.drop_row.Statement.{statement}
 use Rattle.apart.proofs.silent.drop_row.Tie as tie
 
-row-at-requires : tie.Need-row-at-requires
-row-at-requires c κs = search needs
-
-is-due-requires : tie.Need-is-due-requires
-is-due-requires c κs = search needs
-
-count-out-requires : tie.Need-count-out-requires
-count-out-requires c κs = search needs
-
-same-length : tie.Need-same-length
-same-length c = search needs
-
 returns : tie.Need-returns
 returns c = drop-goes (isDue (c .before .before .before .before .before .before .before .before .before .args .clock))
     (c .before .before .before .before .before .before .before .before .before .args .m)
@@ -25,15 +13,6 @@ returns c = drop-goes (isDue (c .before .before .before .before .before .before 
     (c .before .before .before .before .before .is-due .ensures) (c .before .before .before .before .if1 .taken)
     (due-owns (c .before .before .before .before .before .before .before .before .before .args .clock) (c .before .before .before .before .before .before .row-at .result)
     (c .before .before .before .before .before .is-due .ensures) (c .before .before .before .before .if1 .taken)) (c .before .before .count-out .ensures)
-
-keep-row-requires : tie.Need-keep-row-requires
-keep-row-requires c κs = search needs
-
-add-result : tie.Need-add-result
-add-result c = search needs
-
-same-length-2 : tie.Need-same-length-2
-same-length-2 c = search needs
 
 returns-2 : tie.Need-returns-2
 returns-2 c = drop-stays (isDue (c .before .before .before .before .before .before .before .before .before .args .clock))
@@ -44,4 +23,4 @@ returns-2 c = drop-stays (isDue (c .before .before .before .before .before .befo
 pub drop-row-spec : {M : Type 1} → statement M
 drop-row-spec =
     tie.close
-    (tie.spec row-at-requires is-due-requires count-out-requires same-length returns keep-row-requires add-result same-length-2 returns-2)
+    (tie.spec (λ c κs. search needs) (λ c κs. search needs) (λ c κs. search needs) (λ c. search needs) returns (λ c κs. search needs) (λ c. search needs) (λ c. search needs) returns-2)

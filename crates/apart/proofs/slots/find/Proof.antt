@@ -5,15 +5,6 @@ use borrow.Author.Needs.{needs}
 use Rattle.apart.proofs.slots.find.Statement.{statement}
 use Rattle.apart.proofs.slots.find.Tie as tie
 
-enum-told : tie.Need-enum-told
-enum-told c = search needs
-
-enum-told-2 : tie.Need-enum-told-2
-enum-told-2 c = search needs
-
-find-hash-requires : tie.Need-find-hash-requires
-find-hash-requires c κs = search needs
-
 returns : tie.Need-returns
 returns c = spot-txid (keyNum (c .before .before .before .before .before .args .k)) (c .enum-told .given .1)
 
@@ -21,4 +12,4 @@ returns-2 : tie.Need-returns-2
 returns-2 c = rw (c .before .enum-told2 .given .1) (c .find-hash .ensures)
 
 pub find-spec : {M : Type 1} → statement M
-find-spec = tie.close (tie.spec enum-told enum-told-2 find-hash-requires returns returns-2)
+find-spec = tie.close (tie.spec (λ c. search needs) (λ c. search needs) (λ c κs. search needs) returns returns-2)

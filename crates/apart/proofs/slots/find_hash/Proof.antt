@@ -9,18 +9,6 @@ use borrow.Author.Needs.{needs}
 use Rattle.apart.proofs.slots.find_hash.Statement.{statement}
 use Rattle.apart.proofs.slots.find_hash.Tie as tie
 
-hash-quad-requires : tie.Need-hash-quad-requires
-hash-quad-requires c κs = search needs
-
-seek-requires : tie.Need-seek-requires
-seek-requires c κs = search needs
-
-head-at-requires : tie.Need-head-at-requires
-head-at-requires c κs = search needs
-
-quad-less-requires : tie.Need-quad-less-requires
-quad-less-requires c κs = search needs
-
 returns : tie.Need-returns
 returns c = spot-found (hashNum (c .before .before .before .before .before .before .before .before .before .args .h)) (c .before .before .before .before .before .before .hash-quad .ensures
     .words-are) (c .before .before .before .before .before .seek .ensures) (c .before .before .before .before .if1 .taken) (c .before .before .before .head-at .ensures) (ltb-false
@@ -39,11 +27,4 @@ returns-3 c = spot-over (hashNum (c .before .before .before .before .before .arg
 pub find-hash-spec : {M : Type 1} → statement M
 find-hash-spec =
     tie.close
-    (tie.spec
-    hash-quad-requires
-    seek-requires
-    head-at-requires
-    quad-less-requires
-    returns
-    returns-2
-    returns-3)
+    (tie.spec (λ c κs. search needs) (λ c κs. search needs) (λ c κs. search needs) (λ c κs. search needs) returns returns-2 returns-3)

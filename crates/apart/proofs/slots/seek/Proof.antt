@@ -11,34 +11,10 @@ use Rattle.apart.proofs.slots.seek.Tie as tie
 returns : tie.Need-returns
 returns c = sought-none (omega (arith, c .if1 .taken))
 
-read-head-requires : tie.Need-read-head-requires
-read-head-requires c κs = search needs
-
-quad-less-requires : tie.Need-quad-less-requires
-quad-less-requires c κs = search needs
-
 returns-2 : tie.Need-returns-2
 returns-2 c = sought-first (omega (arith, c .before .before .before .before .if1 .left)) (c .before .before .before .read-head .ensures) (ltb-false (quadNumber (c .before .before .before
     .read-head .result .hash)) (quadNumber (c .before .before .before .before .before .before .before .args .h)) (sym (c .before .quad-less .ensures) ∙ not-true (c .before .quad-less
     .result) (c .if2 .taken)))
-
-sub-seek-place : tie.Need-sub-seek-place
-sub-seek-place c = search needs
-
-part-seek-place-start : tie.Need-part-seek-place-start
-part-seek-place-start c = search needs
-
-part-seek-place-end : tie.Need-part-seek-place-end
-part-seek-place-end c = search needs
-
-sub-seek-place-2 : tie.Need-sub-seek-place-2
-sub-seek-place-2 c = search needs
-
-seek-place-requires : tie.Need-seek-place-requires
-seek-place-requires c κs = search needs
-
-add-result : tie.Need-add-result
-add-result c = search needs
 
 returns-3 : tie.Need-returns-3
 returns-3 c = sought-later (omega (arith, c .before .before .before .before .before .before .if1 .left)) (c .before .before .before .before .before .read-head .ensures) (ltb-true
@@ -48,15 +24,5 @@ returns-3 c = sought-later (omega (arith, c .before .before .before .before .bef
 pub seek-spec : {M : Type 1} → statement M
 seek-spec =
     tie.close
-    (tie.spec
-    returns
-    read-head-requires
-    quad-less-requires
-    returns-2
-    sub-seek-place
-    part-seek-place-start
-    part-seek-place-end
-    sub-seek-place-2
-    seek-place-requires
-    add-result
-    returns-3)
+    (tie.spec returns (λ c κs. search needs) (λ c κs. search needs) returns-2 (λ c. search needs) (λ c. search needs) (λ c. search needs) (λ c. search needs) (λ c κs. search needs)
+    (λ c. search needs) returns-3)

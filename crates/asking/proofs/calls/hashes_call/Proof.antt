@@ -6,15 +6,6 @@ use borrow.Author.Needs.{needs}
 use Rattle.asking.proofs.calls.hashes_call.Statement.{statement}
 use Rattle.asking.proofs.calls.hashes_call.Tie as tie
 
-hashes-values-requires : tie.Need-hashes-values-requires
-hashes-values-requires c κs = search needs
-
-enum-known-v : tie.Need-enum-known-v
-enum-known-v c = search needs
-
-enum-told : tie.Need-enum-told
-enum-told c = search needs
-
 returns : tie.Need-returns
 unfolding hashesCall
 returns c = fields-not (c .before .before .hashes-values .ensures) (λ v. listCall (hashesAsk (c .before .before .before .before .args .w) v)) (c .enum-told .given .1)
@@ -25,4 +16,4 @@ returns-2 c = fields-are (c .before .before .before .hashes-values .ensures) (λ
 
 pub hashes-call-spec : {M : Type 1} → statement M
 hashes-call-spec =
-    tie.close (tie.spec hashes-values-requires enum-known-v enum-told returns returns-2)
+    tie.close (tie.spec (λ c κs. search needs) (λ c. search needs) (λ c. search needs) returns returns-2)

@@ -7,15 +7,6 @@ use borrow.Author.Needs.{needs}
 use Rattle.asking.proofs.calls.keys_call.Statement.{statement}
 use Rattle.asking.proofs.calls.keys_call.Tie as tie
 
-keys-values-requires : tie.Need-keys-values-requires
-keys-values-requires c κs = search needs
-
-enum-known-v : tie.Need-enum-known-v
-enum-known-v c = search needs
-
-enum-told : tie.Need-enum-told
-enum-told c = search needs
-
 returns : tie.Need-returns
 unfolding keysCall
 returns c = line-not (c .before .before .keys-values .ensures) (λ v. Asks (On (keysAsk (c .before .before .before .before .args .w) v))) (c .enum-told .given .1)
@@ -25,4 +16,4 @@ unfolding keysCall
 returns-2 c = line-is (c .before .before .before .keys-values .ensures) (λ v. Asks (On (keysAsk (c .before .before .before .before .before .args .w) v))) (c .before .v .given .1)
 
 pub keys-call-spec : {M : Type 1} → statement M
-keys-call-spec = tie.close (tie.spec keys-values-requires enum-known-v enum-told returns returns-2)
+keys-call-spec = tie.close (tie.spec (λ c κs. search needs) (λ c. search needs) (λ c. search needs) returns returns-2)

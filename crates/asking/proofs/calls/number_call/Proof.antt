@@ -7,15 +7,6 @@ use borrow.Author.Needs.{needs}
 use Rattle.asking.proofs.calls.number_call.Statement.{statement}
 use Rattle.asking.proofs.calls.number_call.Tie as tie
 
-number-values-requires : tie.Need-number-values-requires
-number-values-requires c κs = search needs
-
-enum-known-v : tie.Need-enum-known-v
-enum-known-v c = search needs
-
-enum-told : tie.Need-enum-told
-enum-told c = search needs
-
 returns : tie.Need-returns
 unfolding numberCall
 returns c = line-not (c .before .before .number-values .ensures) (λ v. Asks (On (numberAsk (c .before .before .before .before .args .w) v))) (c .enum-told .given .1)
@@ -25,4 +16,4 @@ unfolding numberCall
 returns-2 c = line-is (c .before .before .before .number-values .ensures) (λ v. Asks (On (numberAsk (c .before .before .before .before .before .args .w) v))) (c .before .v .given .1)
 
 pub number-call-spec : {M : Type 1} → statement M
-number-call-spec = tie.close (tie.spec number-values-requires enum-known-v enum-told returns returns-2)
+number-call-spec = tie.close (tie.spec (λ c κs. search needs) (λ c. search needs) (λ c. search needs) returns returns-2)

@@ -11,27 +11,6 @@ use borrow.Author.Needs.{needs}
 use Rattle.calling.proofs.hashes.answer_hashes.Statement.{statement}
 use Rattle.calling.proofs.hashes.answer_hashes.Tie as tie
 
-hash-buffer-requires : tie.Need-hash-buffer-requires
-hash-buffer-requires c κs = search needs
-
-slice-aggregate-read-list : tie.Need-slice-aggregate-read-list
-slice-aggregate-read-list c = search needs
-
-read-list-requires : tie.Need-read-list-requires
-read-list-requires c κs = search needs
-
-enum-known-n : tie.Need-enum-known-n
-enum-known-n c = search needs
-
-enum-told : tie.Need-enum-told
-enum-told c = search needs
-
-unreadable-requires : tie.Need-unreadable-requires
-unreadable-requires c κs = search needs
-
-same-length : tie.Need-same-length
-same-length c = search needs
-
 returns : tie.Need-returns
 returns c = keeps-unread (no-hashes (c .before .before .before .before .before .before .before .read-list .ensures) (c .before .before .before .before .enum-told .given .1)
     (hashesAsk (c .before .before .before .before .before .before .before .before .before .before .before .before .before .args .w)
@@ -49,15 +28,6 @@ slice-aggregate-carry-out c = let h = hashes-held (c .before .before .before .be
       c .before .before .before .before .before .before .before .read-list .kept,
     ))
 
-carry-out-requires : tie.Need-carry-out-requires
-carry-out-requires c κs = search needs
-
-same-length-2 : tie.Need-same-length-2
-same-length-2 c = search needs
-
-same-length-3 : tie.Need-same-length-3
-same-length-3 c = search needs
-
 returns-2 : tie.Need-returns-2
 returns-2 c =
     let h = hashes-held (c .before .before .before .before .before .before .before .before .before .before .before .before .read-list .ensures)
@@ -71,18 +41,5 @@ returns-2 c =
 pub answer-hashes-spec : {M : Type 1} → statement M
 answer-hashes-spec =
     tie.close
-    (tie.spec
-    hash-buffer-requires
-    slice-aggregate-read-list
-    read-list-requires
-    enum-known-n
-    enum-told
-    unreadable-requires
-    same-length
-    returns
-    array-share-prefix-hashes
-    slice-aggregate-carry-out
-    carry-out-requires
-    same-length-2
-    same-length-3
-    returns-2)
+    (tie.spec (λ c κs. search needs) (λ c. search needs) (λ c κs. search needs) (λ c. search needs) (λ c. search needs) (λ c κs. search needs) (λ c. search needs) returns
+    array-share-prefix-hashes slice-aggregate-carry-out (λ c κs. search needs) (λ c. search needs) (λ c. search needs) returns-2)

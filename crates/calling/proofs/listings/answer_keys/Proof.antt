@@ -9,28 +9,10 @@ use borrow.Author.Needs.{needs}
 use Rattle.calling.proofs.listings.answer_keys.Statement.{statement}
 use Rattle.calling.proofs.listings.answer_keys.Tie as tie
 
-answer-buffer-requires : tie.Need-answer-buffer-requires
-answer-buffer-requires c κs = search needs
-
-slice-aggregate-carry-out : tie.Need-slice-aggregate-carry-out
-slice-aggregate-carry-out c = search needs
-
-carry-out-requires : tie.Need-carry-out-requires
-carry-out-requires c κs = search needs
-
-slice-aggregate-listing : tie.Need-slice-aggregate-listing
-slice-aggregate-listing c = search needs
-
 listing-requires : tie.Need-listing-requires
 listing-requires c κs =
     let d = c .before .before .before .before .before .carry-out in
     (c .before .before .before .before .before .before .before .before .before .before .before .pre, keys-fit (d .ensures) (omega (arith, d .kept)))
-
-same-length : tie.Need-same-length
-same-length c = search needs
-
-same-length-2 : tie.Need-same-length-2
-same-length-2 c = search needs
 
 returns : tie.Need-returns
 returns c =
@@ -42,12 +24,4 @@ returns c =
 pub answer-keys-spec : {M : Type 1} → statement M
 answer-keys-spec =
     tie.close
-    (tie.spec
-    answer-buffer-requires
-    slice-aggregate-carry-out
-    carry-out-requires
-    slice-aggregate-listing
-    listing-requires
-    same-length
-    same-length-2
-    returns)
+    (tie.spec (λ c κs. search needs) (λ c. search needs) (λ c κs. search needs) (λ c. search needs) listing-requires (λ c. search needs) (λ c. search needs) returns)

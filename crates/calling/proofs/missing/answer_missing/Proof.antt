@@ -11,27 +11,6 @@ use borrow.Author.Needs.{needs}
 use Rattle.calling.proofs.missing.answer_missing.Statement.{statement}
 use Rattle.calling.proofs.missing.answer_missing.Tie as tie
 
-item-buffer-requires : tie.Need-item-buffer-requires
-item-buffer-requires c κs = search needs
-
-slice-aggregate-read-list : tie.Need-slice-aggregate-read-list
-slice-aggregate-read-list c = search needs
-
-read-list-requires : tie.Need-read-list-requires
-read-list-requires c κs = search needs
-
-enum-known-n : tie.Need-enum-known-n
-enum-known-n c = search needs
-
-enum-told : tie.Need-enum-told
-enum-told c = search needs
-
-unreadable-requires : tie.Need-unreadable-requires
-unreadable-requires c κs = search needs
-
-same-length : tie.Need-same-length
-same-length c = search needs
-
 returns : tie.Need-returns
 returns c = keeps-unread (no-items (c .before .before .before .before .before .before .before .read-list .ensures) (c .before .before .before .before .enum-told .given .1)
     (missingAsk (valuesOf (c .before .before .before .before .before .before .before .before .before .before .before .before .before .args .v)))) refl (c .before .before .unreadable .ensures)
@@ -51,15 +30,6 @@ slice-aggregate-carry-out c = let h = items-held (c .before .before .before .bef
       c .before .before .before .before .before .before .before .read-list .kept,
     ))
 
-carry-out-requires : tie.Need-carry-out-requires
-carry-out-requires c κs = search needs
-
-same-length-2 : tie.Need-same-length-2
-same-length-2 c = search needs
-
-same-length-3 : tie.Need-same-length-3
-same-length-3 c = search needs
-
 returns-2 : tie.Need-returns-2
 returns-2 c = let h = items-held (c .before .before .before .before .before .before .before .before .before .before .before .before .read-list .ensures)
     (c .before .before .before .before .before .before .before .before .before .n .given .1) in keeps-call (sym (h .is
@@ -70,19 +40,5 @@ returns-2 c = let h = items-held (c .before .before .before .before .before .bef
 pub answer-missing-spec : {M : Type 1} → statement M
 answer-missing-spec =
     tie.close
-    (tie.spec
-    item-buffer-requires
-    slice-aggregate-read-list
-    read-list-requires
-    enum-known-n
-    enum-told
-    unreadable-requires
-    same-length
-    returns
-    mul-m
-    array-share-prefix-items
-    slice-aggregate-carry-out
-    carry-out-requires
-    same-length-2
-    same-length-3
-    returns-2)
+    (tie.spec (λ c κs. search needs) (λ c. search needs) (λ c κs. search needs) (λ c. search needs) (λ c. search needs) (λ c κs. search needs) (λ c. search needs) returns mul-m
+    array-share-prefix-items slice-aggregate-carry-out (λ c κs. search needs) (λ c. search needs) (λ c. search needs) returns-2)

@@ -7,18 +7,6 @@ use borrow.Author.Needs.{needs}
 use Rattle.calling.proofs.numbers.answer_number.Statement.{statement}
 use Rattle.calling.proofs.numbers.answer_number.Tie as tie
 
-carry-out-requires : tie.Need-carry-out-requires
-carry-out-requires c κs = search needs
-
-number-requires : tie.Need-number-requires
-number-requires c κs = search needs
-
-same-length : tie.Need-same-length
-same-length c = search needs
-
-same-length-2 : tie.Need-same-length-2
-same-length-2 c = search needs
-
 returns : tie.Need-returns
 returns c = keeps-call refl (number-unplanned (c .before .before .before .before .before .before .before .before .before .before .args .w)
     (valuesOf (c .before .before .before .before .before .before .before .before .before .before .args .v)))
@@ -26,4 +14,4 @@ returns c = keeps-call refl (number-unplanned (c .before .before .before .before
 
 pub answer-number-spec : {M : Type 1} → statement M
 answer-number-spec =
-    tie.close (tie.spec carry-out-requires number-requires same-length same-length-2 returns)
+    tie.close (tie.spec (λ c κs. search needs) (λ c κs. search needs) (λ c. search needs) (λ c. search needs) returns)

@@ -7,30 +7,9 @@ use borrow.Author.Needs.{needs}
 use Rattle.calling.proofs.numbers.answer_sum.Statement.{statement}
 use Rattle.calling.proofs.numbers.answer_sum.Tie as tie
 
-sum-requires : tie.Need-sum-requires
-sum-requires c κs = search needs
-
-enum-known-a : tie.Need-enum-known-a
-enum-known-a c = search needs
-
-refusal-requires : tie.Need-refusal-requires
-refusal-requires c κs = search needs
-
-enum-known-a-2 : tie.Need-enum-known-a-2
-enum-known-a-2 c = search needs
-
-figures-requires : tie.Need-figures-requires
-figures-requires c κs = search needs
-
-same-length : tie.Need-same-length
-same-length c = search needs
-
 returns : tie.Need-returns
 returns c = keeps-call refl sum-unplanned (carried _ (c .before .before .before .before .before .before .before .sum .ensures) refl
     (reply-refused _ (ap figuresOf (c .before .before .before .before .before .a .given .1)) (c .before .before .refusal .ensures)))
-
-same-length-2 : tie.Need-same-length-2
-same-length-2 c = search needs
 
 returns-2 : tie.Need-returns-2
 returns-2 c = keeps-call refl sum-unplanned (carried _ (c .before .before .before .before .before .before .before .sum .ensures) refl
@@ -39,13 +18,4 @@ returns-2 c = keeps-call refl sum-unplanned (carried _ (c .before .before .befor
 pub answer-sum-spec : {M : Type 1} → statement M
 answer-sum-spec =
     tie.close
-    (tie.spec
-    sum-requires
-    enum-known-a
-    refusal-requires
-    enum-known-a-2
-    figures-requires
-    same-length
-    returns
-    same-length-2
-    returns-2)
+    (tie.spec (λ c κs. search needs) (λ c. search needs) (λ c κs. search needs) (λ c. search needs) (λ c κs. search needs) (λ c. search needs) returns (λ c. search needs) returns-2)

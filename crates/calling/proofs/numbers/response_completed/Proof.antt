@@ -9,18 +9,6 @@ use borrow.Author.Needs.{needs}
 use Rattle.calling.proofs.numbers.response_completed.Statement.{statement}
 use Rattle.calling.proofs.numbers.response_completed.Tie as tie
 
-hash-of-requires : tie.Need-hash-of-requires
-hash-of-requires c κs = search needs
-
-hash-of-requires-2 : tie.Need-hash-of-requires-2
-hash-of-requires-2 c κs = search needs
-
-transaction-response-completed-requires : tie.Need-transaction-response-completed-requires
-transaction-response-completed-requires c κs = search needs
-
-same-length : tie.Need-same-length
-same-length c = search needs
-
 returns : tie.Need-returns
 returns c =
     let v = c .before .before .before .before .before .before .before .args .v in
@@ -33,9 +21,4 @@ returns c =
 pub response-completed-spec : {M : Type 1} → statement M
 response-completed-spec =
     tie.close
-    (tie.spec
-    hash-of-requires
-    hash-of-requires-2
-    transaction-response-completed-requires
-    same-length
-    returns)
+    (tie.spec (λ c κs. search needs) (λ c κs. search needs) (λ c κs. search needs) (λ c. search needs) returns)

@@ -12,33 +12,6 @@ use borrow.Author.Needs.{needs}
 use Rattle.calling.proofs.offers.answer_offers.Statement.{statement}
 use Rattle.calling.proofs.offers.answer_offers.Tie as tie
 
-item-buffer-requires : tie.Need-item-buffer-requires
-item-buffer-requires c κs = search needs
-
-priority-buffer-requires : tie.Need-priority-buffer-requires
-priority-buffer-requires c κs = search needs
-
-slice-aggregate-read-list : tie.Need-slice-aggregate-read-list
-slice-aggregate-read-list c = search needs
-
-slice-aggregate-read-list-2 : tie.Need-slice-aggregate-read-list-2
-slice-aggregate-read-list-2 c = search needs
-
-read-list-requires : tie.Need-read-list-requires
-read-list-requires c κs = search needs
-
-enum-known-n : tie.Need-enum-known-n
-enum-known-n c = search needs
-
-enum-told : tie.Need-enum-told
-enum-told c = search needs
-
-unreadable-requires : tie.Need-unreadable-requires
-unreadable-requires c κs = search needs
-
-same-length : tie.Need-same-length
-same-length c = search needs
-
 returns : tie.Need-returns
 returns c = keeps-unread (no-offers (c .before .before .before .before .before .before .before .before .read-list .ensures) (c .before .before .before .before .enum-told .given .1)
     (inventoryAsk (valuesOf (c .before .before .before .before .before .before .before .before .before .before .before .before .before .before .before .before .args .v)))) refl
@@ -75,18 +48,6 @@ slice-aggregate-announce-transactions-2 c = let h =
       c .before .before .before .before .before .before .before .before .read-list .kept,
     ))
 
-announce-transactions-requires : tie.Need-announce-transactions-requires
-announce-transactions-requires c κs = search needs
-
-number-requires : tie.Need-number-requires
-number-requires c κs = search needs
-
-same-length-2 : tie.Need-same-length-2
-same-length-2 c = search needs
-
-same-length-3 : tie.Need-same-length-3
-same-length-3 c = search needs
-
 returns-2 : tie.Need-returns-2
 returns-2 c =
     let h = offers-held (c .before .before .before .before .before .before .before .before .before .before .before .before .before .before .before .read-list .ensures)
@@ -99,25 +60,6 @@ returns-2 c =
 pub answer-offers-spec : {M : Type 1} → statement M
 answer-offers-spec =
     tie.close
-    (tie.spec
-    item-buffer-requires
-    priority-buffer-requires
-    slice-aggregate-read-list
-    slice-aggregate-read-list-2
-    read-list-requires
-    enum-known-n
-    enum-told
-    unreadable-requires
-    same-length
-    returns
-    mul-k
-    mul-m
-    array-share-prefix-items
-    slice-aggregate-announce-transactions
-    array-share-prefix-priorities
-    slice-aggregate-announce-transactions-2
-    announce-transactions-requires
-    number-requires
-    same-length-2
-    same-length-3
-    returns-2)
+    (tie.spec (λ c κs. search needs) (λ c κs. search needs) (λ c. search needs) (λ c. search needs) (λ c κs. search needs) (λ c. search needs) (λ c. search needs) (λ c κs. search needs)
+    (λ c. search needs) returns mul-k mul-m array-share-prefix-items slice-aggregate-announce-transactions array-share-prefix-priorities slice-aggregate-announce-transactions-2
+    (λ c κs. search needs) (λ c κs. search needs) (λ c. search needs) (λ c. search needs) returns-2)

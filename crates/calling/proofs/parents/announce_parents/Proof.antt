@@ -9,28 +9,10 @@ use borrow.Author.Needs.{needs}
 use Rattle.calling.proofs.parents.announce_parents.Statement.{statement}
 use Rattle.calling.proofs.parents.announce_parents.Tie as tie
 
-answer-buffer-requires : tie.Need-answer-buffer-requires
-answer-buffer-requires c κs = search needs
-
-slice-aggregate-announce-parents : tie.Need-slice-aggregate-announce-parents
-slice-aggregate-announce-parents c = search needs
-
-announce-parents-requires : tie.Need-announce-parents-requires
-announce-parents-requires c κs = search needs
-
-slice-aggregate-listing : tie.Need-slice-aggregate-listing
-slice-aggregate-listing c = search needs
-
 listing-requires : tie.Need-listing-requires
 listing-requires c κs =
     let d = c .before .before .before .before .before .announce-parents in
     (c .before .before .before .before .before .before .before .before .before .before .before .before .pre, keys-fit (d .ensures) (omega (arith, d .kept)))
-
-same-length : tie.Need-same-length
-same-length c = search needs
-
-same-length-2 : tie.Need-same-length-2
-same-length-2 c = search needs
 
 returns : tie.Need-returns
 returns c =
@@ -44,12 +26,4 @@ returns c =
 pub announce-parents-spec : {M : Type 1} → statement M
 announce-parents-spec =
     tie.close
-    (tie.spec
-    answer-buffer-requires
-    slice-aggregate-announce-parents
-    announce-parents-requires
-    slice-aggregate-listing
-    listing-requires
-    same-length
-    same-length-2
-    returns)
+    (tie.spec (λ c κs. search needs) (λ c. search needs) (λ c κs. search needs) (λ c. search needs) listing-requires (λ c. search needs) (λ c. search needs) returns)

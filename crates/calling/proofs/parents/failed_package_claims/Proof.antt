@@ -9,28 +9,10 @@ use borrow.Author.Needs.{needs}
 use Rattle.calling.proofs.parents.failed_package_claims.Statement.{statement}
 use Rattle.calling.proofs.parents.failed_package_claims.Tie as tie
 
-answer-buffer-requires : tie.Need-answer-buffer-requires
-answer-buffer-requires c κs = search needs
-
-slice-aggregate-failed-package-claims : tie.Need-slice-aggregate-failed-package-claims
-slice-aggregate-failed-package-claims c = search needs
-
-failed-package-claims-requires : tie.Need-failed-package-claims-requires
-failed-package-claims-requires c κs = search needs
-
-slice-aggregate-listing : tie.Need-slice-aggregate-listing
-slice-aggregate-listing c = search needs
-
 listing-requires : tie.Need-listing-requires
 listing-requires c κs =
     let d = c .before .before .before .before .before .failed-package-claims in
     (c .before .before .before .before .before .before .before .before .before .before .before .before .pre, keys-fit (d .ensures) (omega (arith, d .kept)))
-
-same-length : tie.Need-same-length
-same-length c = search needs
-
-same-length-2 : tie.Need-same-length-2
-same-length-2 c = search needs
 
 returns : tie.Need-returns
 returns c =
@@ -44,12 +26,4 @@ returns c =
 pub failed-package-claims-spec : {M : Type 1} → statement M
 failed-package-claims-spec =
     tie.close
-    (tie.spec
-    answer-buffer-requires
-    slice-aggregate-failed-package-claims
-    failed-package-claims-requires
-    slice-aggregate-listing
-    listing-requires
-    same-length
-    same-length-2
-    returns)
+    (tie.spec (λ c κs. search needs) (λ c. search needs) (λ c κs. search needs) (λ c. search needs) listing-requires (λ c. search needs) (λ c. search needs) returns)

@@ -19,20 +19,8 @@ abbrev μ-loop : tie.MeasureT-loop
 loop-holds : tie.Need-loop-holds Inv-loop μ-loop
 loop-holds c = (c .before .pre .1, omega arith, λ f w. waits-none (c .before .args .clock) (f .rows) (c .before .args .to) (c .before .args .to) (omega arith))
 
-sub-i : tie.Need-sub-i Inv-loop μ-loop
-sub-i c = omega arith
-
 row-at-requires : tie.Need-row-at-requires Inv-loop μ-loop
 row-at-requires c κs = (c .before .before .before .pre .0, omega (arith, c .before .before .before .pre .2))
-
-later-requires : tie.Need-later-requires Inv-loop μ-loop
-later-requires c κs = search needs
-
-earlier-requires : tie.Need-earlier-requires Inv-loop μ-loop
-earlier-requires c κs = search needs
-
-loop-less : tie.Need-loop-less Inv-loop μ-loop
-loop-less c = omega arith
 
 loop-again : tie.Need-loop-again Inv-loop μ-loop
 loop-again c = (
@@ -55,4 +43,4 @@ returns-2 c = λ f w. waits-till (f .rows) (c .before .before .before .before .a
 pub wait-in-spec : {M : Type 1} → statement M
 wait-in-spec =
     tie.close
-    (tie.spec Inv-loop μ-loop loop-holds sub-i row-at-requires later-requires earlier-requires loop-less loop-again returns returns-2)
+    (tie.spec Inv-loop μ-loop loop-holds (λ c. omega arith) row-at-requires (λ c κs. search needs) (λ c κs. search needs) (λ c. omega arith) loop-again returns returns-2)

@@ -8,9 +8,6 @@ use borrow.Author.Needs.{needs}
 use Rattle.claims.proofs.waiting.combined_of.Statement.{statement}
 use Rattle.claims.proofs.waiting.combined_of.Tie as tie
 
-seek-requires : tie.Need-seek-requires
-seek-requires c κs = search needs
-
 combined-at-requires : tie.Need-combined-at-requires
 combined-at-requires c κs = (c .before .before .before .pre, c .before .seek .ensures .inside (c .if1 .taken))
 
@@ -24,4 +21,4 @@ returns-2 : tie.Need-returns-2
 returns-2 c = λ st s w a. never (sym (c .if1 .left) ∙ c .before .seek .ensures .is st s w .held-is ∙ awaiting-place (at (wtxid (hashNum (c .before .before .before .args .h))) (st .table)) a)
 
 pub combined-of-spec : {M : Type 1} → statement M
-combined-of-spec = tie.close (tie.spec seek-requires combined-at-requires returns returns-2)
+combined-of-spec = tie.close (tie.spec (λ c κs. search needs) combined-at-requires returns returns-2)

@@ -4,12 +4,6 @@ use borrow.Author.Needs.{needs}
 use Rattle.claims.proofs.waiting.entries.Statement.{statement}
 use Rattle.claims.proofs.waiting.entries.Tie as tie
 
-items-requires : tie.Need-items-requires
-items-requires c κs = search needs
-
-hashes-requires : tie.Need-hashes-requires
-hashes-requires c κs = search needs
-
 returns : tie.Need-returns
 returns c = c .items .ensures ∙ entries-items (c .before .before .before .args .items) (c .before .before .before .args .given .now) (c .before .if1 .taken)
 
@@ -17,4 +11,4 @@ returns-2 : tie.Need-returns-2
 returns-2 c = c .hashes .ensures ∙ entries-hashes (c .before .before .before .args .items) (c .before .before .before .args .given .now) (c .before .if1 .left)
 
 pub entries-spec : {M : Type 1} → statement M
-entries-spec = tie.close (tie.spec items-requires hashes-requires returns returns-2)
+entries-spec = tie.close (tie.spec (λ c κs. search needs) (λ c κs. search needs) returns returns-2)

@@ -8,9 +8,6 @@ use Rattle.claims.proofs.waiting.entry_at.Tie as tie
 item-at-requires : tie.Need-item-at-requires
 item-at-requires c κs = omega (arith, c .before .before .pre, entries-items (c .before .before .args .items) (c .before .before .args .given .now) (c .if1 .taken))
 
-is-package-requires : tie.Need-is-package-requires
-is-package-requires c κs = search needs
-
 hash-in-requires : tie.Need-hash-in-requires
 hash-in-requires c κs = omega (arith, c .before .before .pre, entries-hashes (c .before .before .args .items) (c .before .before .args .given .now) (c .if1 .left))
 
@@ -25,4 +22,4 @@ returns-2 c = entry-hash (c .before .before .before .args .items) (c .before .be
 
 pub entry-at-spec : {M : Type 1} → statement M
 entry-at-spec =
-    tie.close (tie.spec item-at-requires is-package-requires hash-in-requires returns returns-2)
+    tie.close (tie.spec item-at-requires (λ c κs. search needs) hash-in-requires returns returns-2)

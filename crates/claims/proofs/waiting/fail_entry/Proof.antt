@@ -19,12 +19,6 @@ fail-latest-requires c κs = (
   c .before .before .before .before .before .before .before .before .pre .5,
 )
 
-same-length : tie.Need-same-length
-same-length c = search needs
-
-same-length-2 : tie.Need-same-length-2
-same-length-2 c = search needs
-
 returns : tie.Need-returns
 returns c = same-claim (c .before .before .before .before .before .before .before .before .before .before .before .before .before .args .n)
     (c .before .before .before .before .before .before .before .before .before .before .before .before .before .args .clock)
@@ -40,4 +34,4 @@ returns-2 c = no-claim (c .before .before .before .before .before .args .n) (c .
 
 pub fail-entry-spec : {M : Type 1} → statement M
 fail-entry-spec =
-    tie.close (tie.spec fail-latest-requires same-length same-length-2 returns returns-2)
+    tie.close (tie.spec fail-latest-requires (λ c. search needs) (λ c. search needs) returns returns-2)

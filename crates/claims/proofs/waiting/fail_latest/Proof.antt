@@ -12,9 +12,6 @@ use borrow.Author.Needs.{needs}
 use Rattle.claims.proofs.waiting.fail_latest.Statement.{statement}
 use Rattle.claims.proofs.waiting.fail_latest.Tie as tie
 
-latest-requires : tie.Need-latest-requires
-latest-requires c κs = search needs
-
 fail-claim-requires : tie.Need-fail-claim-requires
 fail-claim-requires c κs = (
   c .before .before .before .before .before .before .before .before .before .pre .0,
@@ -25,12 +22,6 @@ fail-claim-requires c κs = (
       (c .before .before .before .before .latest .result .hash))) (c .before .before .before .if1 .taken)),
   c .before .before .before .before .before .before .before .before .before .pre .5,
 )
-
-same-length : tie.Need-same-length
-same-length c = search needs
-
-same-length-2 : tie.Need-same-length-2
-same-length-2 c = search needs
 
 returns : tie.Need-returns
 returns c = same-on (λ m t. failedWithParents m (wtxid (hashNum (c .before .before .before .before .before .before .before .before .before .latest .result .hash)))
@@ -63,4 +54,4 @@ returns-2 c = nothing-on _ (c .before .before .before .before .before .before .a
 pub fail-latest-spec : {M : Type 1} → statement M
 fail-latest-spec =
     tie.close
-    (tie.spec latest-requires fail-claim-requires same-length same-length-2 returns returns-2)
+    (tie.spec (λ c κs. search needs) fail-claim-requires (λ c. search needs) (λ c. search needs) returns returns-2)

@@ -46,18 +46,6 @@ slice-aggregate-write-all c = simp (length-take, length-set)
       c .before .before .before .before .before .before .before .print .kept,
     ))
 
-write-all-requires : tie.Need-write-all-requires
-write-all-requires c κs = search needs
-
-same-length : tie.Need-same-length
-same-length c = search needs
-
-same-length-2 : tie.Need-same-length-2
-same-length-2 c = search needs
-
-same-length-3 : tie.Need-same-length-3
-same-length-3 c = search needs
-
 returns : tie.Need-returns
 returns c = fed (c .before .before .before .before .before .before .before .before .print .ensures)
     (omega (
@@ -71,14 +59,5 @@ returns c = fed (c .before .before .before .before .before .before .before .befo
 pub answer-spec : {M : Type 1} → statement M
 answer-spec =
     tie.close
-    (tie.spec
-    print-requires
-    slice-write-out
-    add-end
-    slice-reshare-prefix-write-all
-    slice-aggregate-write-all
-    write-all-requires
-    same-length
-    same-length-2
-    same-length-3
-    returns)
+    (tie.spec print-requires slice-write-out add-end slice-reshare-prefix-write-all slice-aggregate-write-all (λ c κs. search needs) (λ c. search needs) (λ c. search needs)
+    (λ c. search needs) returns)

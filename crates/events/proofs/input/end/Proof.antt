@@ -17,15 +17,6 @@ answer-requires c κs = (
   simp length-take (omega (arith, c .before .before .before .before .before .before .before .before .before .pre .3)),
 )
 
-same-length : tie.Need-same-length
-same-length c = search needs
-
-same-length-2 : tie.Need-same-length-2
-same-length-2 c = search needs
-
-same-length-3 : tie.Need-same-length-3
-same-length-3 c = search needs
-
 returns : tie.Need-returns
 returns c p g = ended-line g (c .before .before .before .before .before .before .before .before .before .before .before .if1 .taken)
     (c .before .before .before .before .before .before .answer .ensures)
@@ -36,11 +27,4 @@ returns-2 c p g = ended-empty g (omega (arith, c .if1 .left))
 pub end-spec : {M : Type 1} → statement M
 end-spec =
     tie.close
-    (tie.spec
-    slice-aggregate-answer
-    answer-requires
-    same-length
-    same-length-2
-    same-length-3
-    returns
-    returns-2)
+    (tie.spec slice-aggregate-answer answer-requires (λ c. search needs) (λ c. search needs) (λ c. search needs) returns returns-2)

@@ -7,9 +7,6 @@ use Rattle.events.proofs.input.print.Tie as tie
 unreadable-requires : tie.Need-unreadable-requires
 unreadable-requires c κs = c .before .before .before .before .before .before .pre .1
 
-same-length : tie.Need-same-length
-same-length c = search needs
-
 returns : tie.Need-returns
 returns c = printed-long (c .before .before .before .before .before .before .before .before .before .args .line .now)
     (c .before .before .before .before .before .before .before .before .before .pre .0) (c .before .before .before .before .if1 .taken) (c .before .before .unreadable .ensures)
@@ -21,15 +18,6 @@ answer-line-requires c κs = (
   c .before .before .before .before .before .before .before .before .pre .2,
 )
 
-same-length-2 : tie.Need-same-length-2
-same-length-2 c = search needs
-
-same-length-3 : tie.Need-same-length-3
-same-length-3 c = search needs
-
-same-length-4 : tie.Need-same-length-4
-same-length-4 c = search needs
-
 returns-2 : tie.Need-returns-2
 returns-2 c = printed-line (c .before .before .before .before .before .before .before .before .before .before .before .before .before .before .before .args .line .now)
     (c .before .before .before .before .before .before .before .before .before .before .if1 .left) (c .before .before .before .before .before .before .answer-line .ensures)
@@ -37,12 +25,4 @@ returns-2 c = printed-line (c .before .before .before .before .before .before .b
 pub print-spec : {M : Type 1} → statement M
 print-spec =
     tie.close
-    (tie.spec
-    unreadable-requires
-    same-length
-    returns
-    answer-line-requires
-    same-length-2
-    same-length-3
-    same-length-4
-    returns-2)
+    (tie.spec unreadable-requires (λ c. search needs) returns answer-line-requires (λ c. search needs) (λ c. search needs) (λ c. search needs) returns-2)

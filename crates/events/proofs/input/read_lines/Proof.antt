@@ -85,9 +85,6 @@ returns c = let t = c .before .before .before .before .before .before .before .b
   took-more t (c .before .before .before .before .before .before .before .before .before .before .before .read-some .ensures .1 (t .all .next) (t .all .held)),
 )
 
-sub-turns : tie.Need-sub-turns Inv-loop μ-loop
-sub-turns c = search needs
-
 loop-less : tie.Need-loop-less Inv-loop μ-loop
 loop-less c = omega (arith, c .before .before .before .before .before .before .before .before .before .before .before .before .before .before .before .before .loop-test .taken)
 
@@ -137,21 +134,5 @@ returns-2 c = ((c .before .loop .inv .4, c .before .loop .inv .5), c .before .lo
 pub read-lines-spec : {M : Type 1} → statement M
 read-lines-spec =
     tie.close
-    (tie.spec
-    Inv-loop
-    μ-loop
-    loop-holds
-    read-some-requires
-    same-length
-    same-length-2
-    same-length-3
-    same-length-4
-    returns
-    sub-turns
-    loop-less
-    loop-again
-    same-length-5
-    same-length-6
-    same-length-7
-    same-length-8
-    returns-2)
+    (tie.spec Inv-loop μ-loop loop-holds read-some-requires same-length same-length-2 same-length-3 same-length-4 returns (λ c. search needs) loop-less loop-again same-length-5 same-length-6
+    same-length-7 same-length-8 returns-2)

@@ -21,18 +21,6 @@ answer-requires c κs = (
   simp length-take (omega (arith, c .before .before .before .before .before .before .before .before .before .pre .3)),
 )
 
-same-length : tie.Need-same-length
-same-length c = search needs
-
-same-length-2 : tie.Need-same-length-2
-same-length-2 c = search needs
-
-same-length-3 : tie.Need-same-length-3
-same-length-3 c = search needs
-
-same-length-4 : tie.Need-same-length-4
-same-length-4 c = search needs
-
 returns : tie.Need-returns
 returns c = (
   (c .before .before .before .before .before .before .answer .ensures .order, omega arith),
@@ -52,9 +40,6 @@ slice-write-line c = omega (arith, c .before .before .before .before .before .be
 add-t19 : tie.Need-add-t19
 add-t19 c = omega (arith, c .before .before .before .before .before .before .pre .3)
 
-same-length-5 : tie.Need-same-length-5
-same-length-5 c = search needs
-
 returns-3 : tie.Need-returns-3
 returns-3 c = (
   (c .before .before .before .before .before .before .pre .0, omega (arith, c .if2 .left, c .before .before .before .before .before .before .pre .3)),
@@ -65,17 +50,5 @@ returns-3 c = (
 pub take-spec : {M : Type 1} → statement M
 take-spec =
     tie.close
-    (tie.spec
-    slice-reshare-prefix-answer
-    slice-aggregate-answer
-    answer-requires
-    same-length
-    same-length-2
-    same-length-3
-    same-length-4
-    returns
-    returns-2
-    slice-write-line
-    add-t19
-    same-length-5
-    returns-3)
+    (tie.spec slice-reshare-prefix-answer slice-aggregate-answer answer-requires (λ c. search needs) (λ c. search needs) (λ c. search needs) (λ c. search needs) returns returns-2
+    slice-write-line add-t19 (λ c. search needs) returns-3)

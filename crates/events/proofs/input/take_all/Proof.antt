@@ -33,9 +33,6 @@ take-requires c κs = (
   c .before .before .before .before .before .before .loop .inv .5,
 )
 
-add-i : tie.Need-add-i Inv-loop μ-loop
-add-i c = search needs
-
 loop-less : tie.Need-loop-less Inv-loop μ-loop
 loop-less c = omega (arith, c .before .before .before .before .before .before .before .before .before .before .before .before .before .before .loop-test .taken)
 
@@ -88,17 +85,4 @@ returns c = ((c .before .loop .inv .4, c .before .loop .inv .5), λ p g. took-wh
 pub take-all-spec : {M : Type 1} → statement M
 take-all-spec =
     tie.close
-    (tie.spec
-    Inv-loop
-    μ-loop
-    loop-holds
-    shared-slice-read-take
-    take-requires
-    add-i
-    loop-less
-    loop-again
-    same-length
-    same-length-2
-    same-length-3
-    same-length-4
-    returns)
+    (tie.spec Inv-loop μ-loop loop-holds shared-slice-read-take take-requires (λ c. search needs) loop-less loop-again same-length same-length-2 same-length-3 same-length-4 returns)

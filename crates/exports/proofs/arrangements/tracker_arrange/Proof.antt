@@ -4,17 +4,8 @@ use Rattle.crossing.proofs.Statuses.{hands-entries}
 use Rattle.exports.proofs.arrangements.tracker_arrange.Statement.{statement}
 use Rattle.exports.proofs.arrangements.tracker_arrange.Tie as tie
 
-arrange-requires : tie.Need-arrange-requires
-arrange-requires c κs = search needs
-
-hand-count-requires : tie.Need-hand-count-requires
-hand-count-requires c κs = search needs
-
-same-length : tie.Need-same-length
-same-length c = search needs
-
 returns : tie.Need-returns
 returns c = hands-entries (c .before .before .before .before .arrange .result) _ (c .before .before .before .before .arrange .ensures) (c .hand-count .ensures)
 
 pub tracker-arrange-spec : {M : Type 1} → statement M
-tracker-arrange-spec = tie.close (tie.spec arrange-requires hand-count-requires same-length returns)
+tracker-arrange-spec = tie.close (tie.spec (λ c κs. search needs) (λ c κs. search needs) (λ c. search needs) returns)

@@ -6,22 +6,10 @@ use Rattle.crossing.proofs.Statuses.{hands-out}
 use Rattle.exports.proofs.candidates.tracker_announce.Statement.{statement}
 use Rattle.exports.proofs.candidates.tracker_announce.Tie as tie
 
-candidate-requires : tie.Need-candidate-requires
-candidate-requires c κs = search needs
-
-announce-requires : tie.Need-announce-requires
-announce-requires c κs = search needs
-
-hand-out-requires : tie.Need-hand-out-requires
-hand-out-requires c κs = search needs
-
-same-length : tie.Need-same-length
-same-length c = search needs
-
 returns : tie.Need-returns
 returns c =
     hands-out (c .before .before .before .before .announce .result) _ (c .before .before .before .before .announce .ensures) (c .hand-out .ensures)
     (ap (λ x. On (Announce x)) (c .before .before .before .before .before .before .candidate .ensures))
 
 pub tracker-announce-spec : {M : Type 1} → statement M
-tracker-announce-spec = tie.close (tie.spec candidate-requires announce-requires hand-out-requires same-length returns)
+tracker-announce-spec = tie.close (tie.spec (λ c κs. search needs) (λ c κs. search needs) (λ c κs. search needs) (λ c. search needs) returns)

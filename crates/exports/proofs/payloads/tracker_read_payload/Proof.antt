@@ -4,15 +4,6 @@ use Rattle.crossing.proofs.Handing.{hands-items}
 use Rattle.exports.proofs.payloads.tracker_read_payload.Statement.{statement}
 use Rattle.exports.proofs.payloads.tracker_read_payload.Tie as tie
 
-read-payload-requires : tie.Need-read-payload-requires
-read-payload-requires c κs = search needs
-
-hand-answer-requires : tie.Need-hand-answer-requires
-hand-answer-requires c κs = search needs
-
-same-length : tie.Need-same-length
-same-length c = search needs
-
 returns : tie.Need-returns
 returns c =
     let start : tie.Start = c .before .before .before .before .before .before .before .before in
@@ -20,4 +11,4 @@ returns c =
     (c .before .before .before .before .read-payload .ensures) (c .hand-answer .ensures)
 
 pub tracker-read-payload-spec : {M : Type 1} → statement M
-tracker-read-payload-spec = tie.close (tie.spec read-payload-requires hand-answer-requires same-length returns)
+tracker-read-payload-spec = tie.close (tie.spec (λ c κs. search needs) (λ c κs. search needs) (λ c. search needs) returns)

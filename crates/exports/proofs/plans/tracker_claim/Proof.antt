@@ -4,20 +4,8 @@ use Rattle.crossing.proofs.Statuses.{hands-entries}
 use Rattle.exports.proofs.plans.tracker_claim.Statement.{statement}
 use Rattle.exports.proofs.plans.tracker_claim.Tie as tie
 
-claim-requires : tie.Need-claim-requires
-claim-requires c κs = search needs
-
-hand-count-requires : tie.Need-hand-count-requires
-hand-count-requires c κs = search needs
-
-same-length : tie.Need-same-length
-same-length c = search needs
-
-same-length-2 : tie.Need-same-length-2
-same-length-2 c = search needs
-
 returns : tie.Need-returns
 returns c = hands-entries (c .before .before .before .before .before .before .claim .result) _ (c .before .before .before .before .before .before .claim .ensures) (c .hand-count .ensures)
 
 pub tracker-claim-spec : {M : Type 1} → statement M
-tracker-claim-spec = tie.close (tie.spec claim-requires hand-count-requires same-length same-length-2 returns)
+tracker-claim-spec = tie.close (tie.spec (λ c κs. search needs) (λ c κs. search needs) (λ c. search needs) (λ c. search needs) returns)

@@ -5,25 +5,13 @@ use borrow.Author.Needs.{needs}
 use Rattle.gathering.proofs.beside.barred.Statement.{statement}
 use Rattle.gathering.proofs.beside.barred.Tie as tie
 
-figures-requires : tie.Need-figures-requires
-figures-requires c κs = search needs
-
-sub-if1 : tie.Need-sub-if1
-sub-if1 c = search needs
-
 returns : tie.Need-returns
 returns c = λ st s w es a. barred-many es (keyNum (c .before .before .before .before .before .args .k)) (c .before .before .before .before .before .args .n) (st .table) (a .count)
     (c .before .before .figures .ensures st s w .held) (c .before .before .before .before .before .pre .2) (c .if1 .taken)
 
-is-candidate-requires : tie.Need-is-candidate-requires
-is-candidate-requires c κs = search needs
-
 returns-2 : tie.Need-returns-2
 returns-2 c = λ st s w es a. barred-known es (keyNum (c .before .before .before .before .before .before .before .before .args .k))
     (c .before .before .before .before .before .before .before .before .args .n) (st .table) (a .count) (c .before .is-candidate .ensures st s w) (c .if2 .taken)
-
-waits-at-requires : tie.Need-waits-at-requires
-waits-at-requires c κs = search needs
 
 returns-3 : tie.Need-returns-3
 returns-3 c = λ st s w es a. barred-waits es (keyNum (c .before .before .before .before .before .before .before .before .before .args .k))
@@ -34,11 +22,4 @@ returns-3 c = λ st s w es a. barred-waits es (keyNum (c .before .before .before
 pub barred-spec : {M : Type 1} → statement M
 barred-spec =
     tie.close
-    (tie.spec
-    figures-requires
-    sub-if1
-    returns
-    is-candidate-requires
-    returns-2
-    waits-at-requires
-    returns-3)
+    (tie.spec (λ c κs. search needs) (λ c. search needs) returns (λ c κs. search needs) returns-2 (λ c κs. search needs) returns-3)

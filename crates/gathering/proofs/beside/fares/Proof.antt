@@ -12,9 +12,6 @@ use Rattle.gathering.proofs.beside.fares.Tie as tie
 returns : tie.Need-returns
 returns c = record { most = omega arith; spare = λ e. absurd (omega arith); fares = λ st s w es a. fares-alone (limitsOf st) (st .table) es _ _ }
 
-full-requires : tie.Need-full-requires
-full-requires c κs = search needs
-
 returns-2 : tie.Need-returns-2
 returns-2 c = record { most = omega arith; spare = λ e. absurd (omega arith); fares = λ st s w es a. fares-alone (limitsOf st) (st .table) es _ _ }
 
@@ -29,9 +26,6 @@ returns-3 c =
           (c .before .before .before .before .before .before .args .c)) small a (c .before .before .full .ensures st s w) (c .before .if2 .taken) (c .if3 .left);
     }
 
-barred-requires : tie.Need-barred-requires
-barred-requires c κs = search needs
-
 returns-4 : tie.Need-returns-4
 returns-4 c =
     let k = c .before .before .before .before .before .before .before .args .k in
@@ -42,9 +36,6 @@ returns-4 c =
       fares = λ st s w es a. fares-barred st s (keyNum k) (candidateOf
           (c .before .before .before .before .before .before .before .args .c)) small a (c .before .barred .ensures st s w es a) (c .if4 .taken);
     }
-
-crowded-requires : tie.Need-crowded-requires
-crowded-requires c κs = search needs
 
 returns-5 : tie.Need-returns-5
 returns-5 c = record { most = omega arith; spare = λ e. absurd (omega arith); fares = λ st s w es a. fares-alone (limitsOf st) (st .table) es _ _ }
@@ -75,14 +66,4 @@ returns-7 c =
 pub fares-spec : {M : Type 1} → statement M
 fares-spec =
     tie.close
-    (tie.spec
-    returns
-    full-requires
-    returns-2
-    returns-3
-    barred-requires
-    returns-4
-    crowded-requires
-    returns-5
-    returns-6
-    returns-7)
+    (tie.spec returns (λ c κs. search needs) returns-2 returns-3 (λ c κs. search needs) returns-4 (λ c κs. search needs) returns-5 returns-6 returns-7)

@@ -6,23 +6,11 @@ use borrow.Author.Needs.{needs}
 use Rattle.gathering.proofs.beside.set_aside_at.Statement.{statement}
 use Rattle.gathering.proofs.beside.set_aside_at.Tie as tie
 
-fares-requires : tie.Need-fares-requires
-fares-requires c κs = search needs
-
-same-length : tie.Need-same-length
-same-length c = search needs
-
 returns : tie.Need-returns
 returns c = set-not (c .before .fares .ensures) (c .if1 .taken)
 
-waiting-row-requires : tie.Need-waiting-row-requires
-waiting-row-requires c κs = search needs
-
 put-in-requires : tie.Need-put-in-requires
 put-in-requires c κs = omega (arith, c .before .before .before .fares .ensures .spare (c .before .before .if1 .left), c .before .before .before .before .before .before .before .pre .1)
-
-same-length-2 : tie.Need-same-length-2
-same-length-2 c = search needs
 
 returns-2 : tie.Need-returns-2
 returns-2 c =
@@ -34,11 +22,4 @@ returns-2 c =
 pub set-aside-at-spec : {M : Type 1} → statement M
 set-aside-at-spec =
     tie.close
-    (tie.spec
-    fares-requires
-    same-length
-    returns
-    waiting-row-requires
-    put-in-requires
-    same-length-2
-    returns-2)
+    (tie.spec (λ c κs. search needs) (λ c. search needs) returns (λ c κs. search needs) put-in-requires (λ c. search needs) returns-2)

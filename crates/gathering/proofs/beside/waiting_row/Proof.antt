@@ -9,17 +9,8 @@ use borrow.Author.Needs.{needs}
 use Rattle.gathering.proofs.beside.waiting_row.Statement.{statement}
 use Rattle.gathering.proofs.beside.waiting_row.Tie as tie
 
-key-words-requires : tie.Need-key-words-requires
-key-words-requires c κs = search needs
-
-window-of-requires : tie.Need-window-of-requires
-window-of-requires c κs = search needs
-
 mark-in-requires : tie.Need-mark-in-requires
 mark-in-requires c κs = (kept-shown (c .before .before .before .pre), c .window-of .ensures .most)
-
-new-row-requires : tie.Need-new-row-requires
-new-row-requires c κs = search needs
 
 returns : tie.Need-returns
 returns c = λ st s w o.
@@ -33,4 +24,4 @@ returns c = λ st s w o.
 pub waiting-row-spec : {M : Type 1} → statement M
 waiting-row-spec =
     tie.close
-    (tie.spec key-words-requires window-of-requires mark-in-requires new-row-requires returns)
+    (tie.spec (λ c κs. search needs) (λ c κs. search needs) mark-in-requires (λ c κs. search needs) returns)

@@ -14,12 +14,9 @@ count-more-requires : tie.Need-count-more-requires
 count-more-requires c κs = with-shown (c .before .before .before .before .before .before .before .before .pre .0) (c .before .before .before .add-rows .ensures)
     (c .before .before .before .before .before .if1 .left)
 
-same-length : tie.Need-same-length
-same-length c = search needs
-
 returns-2 : tie.Need-returns-2
 returns-2 c = arrived (c .before .before .before .before .before .before .add-rows .ensures) (c .before .before .count-more .ensures)
 
 pub come-in-spec : {M : Type 1} → statement M
 come-in-spec =
-    tie.close (tie.spec returns add-rows-requires count-more-requires same-length returns-2)
+    tie.close (tie.spec returns add-rows-requires count-more-requires (λ c. search needs) returns-2)

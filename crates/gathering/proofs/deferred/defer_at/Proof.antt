@@ -22,16 +22,10 @@ suits-requires c κs = (
   c .before .before .before .before .before .before .pre .2,
 )
 
-same-length : tie.Need-same-length
-same-length c = search needs
-
 returns-2 : tie.Need-returns-2
 returns-2 c = deferred-not (hash-below (c .before .before .before .before .before .before .before .before .args .k .hash) (key-four
     (c .before .before .before .before .before .before .before .before .args .k) (c .before .before .before .before .before .before .before .before .good .1 .1 .1 .1 .1 .0))) (omega
     (arith, c .before .before .before .before .if1 .left)) (c .before .suits .ensures) (c .if2 .taken)
-
-waiting-row-requires : tie.Need-waiting-row-requires
-waiting-row-requires c κs = search needs
 
 put-in-requires : tie.Need-put-in-requires
 put-in-requires c κs = omega (
@@ -40,9 +34,6 @@ put-in-requires c κs = omega (
       (c .before .before .if2 .left),
   c .before .before .before .before .before .before .before .before .before .before .pre .1,
 )
-
-same-length-2 : tie.Need-same-length-2
-same-length-2 c = search needs
 
 returns-3 : tie.Need-returns-3
 returns-3 c = deferred-in (hash-below (c .before .before .before .before .before .before .before .before .before .before .before .before .before .args .k .hash) (key-four
@@ -55,13 +46,4 @@ returns-3 c = deferred-in (hash-below (c .before .before .before .before .before
 pub defer-at-spec : {M : Type 1} → statement M
 defer-at-spec =
     tie.close
-    (tie.spec
-    returns
-    read-row-requires
-    suits-requires
-    same-length
-    returns-2
-    waiting-row-requires
-    put-in-requires
-    same-length-2
-    returns-3)
+    (tie.spec returns read-row-requires suits-requires (λ c. search needs) returns-2 (λ c κs. search needs) put-in-requires (λ c. search needs) returns-3)

@@ -22,12 +22,6 @@ loop-holds c = (omega arith, passed-none)
 read-row-requires : tie.Need-read-row-requires Inv-loop μ-loop
 read-row-requires c κs = omega (arith, c .before .before .before .pre .0, c .before .before .before .pre .1, c .loop-test .taken)
 
-quad-hash-requires : tie.Need-quad-hash-requires Inv-loop μ-loop
-quad-hash-requires c κs = search needs
-
-same-hash-requires : tie.Need-same-hash-requires Inv-loop μ-loop
-same-hash-requires c κs = search needs
-
 returns : tie.Need-returns Inv-loop μ-loop
 returns c = λ e. never (sym e)
 
@@ -50,15 +44,4 @@ returns-2 c = passed-all (c .before .loop .inv .1) (omega (arith, c .before .loo
 pub listed-at-spec : {M : Type 1} → statement M
 listed-at-spec =
     tie.close
-    (tie.spec
-    Inv-loop
-    μ-loop
-    loop-holds
-    read-row-requires
-    quad-hash-requires
-    same-hash-requires
-    returns
-    add-i
-    loop-less
-    loop-again
-    returns-2)
+    (tie.spec Inv-loop μ-loop loop-holds read-row-requires (λ c κs. search needs) (λ c κs. search needs) returns add-i loop-less loop-again returns-2)

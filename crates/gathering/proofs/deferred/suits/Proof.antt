@@ -21,18 +21,9 @@ listed-at-requires c κs = (omega (arith, c .before .before .before .before .bef
 returns-3 : tie.Need-returns-3
 returns-3 c = suited-alone
 
-barred-requires : tie.Need-barred-requires
-barred-requires c κs = search needs
-
 returns-4 : tie.Need-returns-4
 returns-4 c = suited-barred (not-false (c .before .before .before .before .before .before .before .before .before .before .before .args .c .preferred)
     (c .before .before .before .before .before .if2 .left)) (c .before .before .before .listed-at .ensures) (c .before .before .if3 .left) (c .before .barred .ensures) (c .if4 .taken)
-
-crowded-requires : tie.Need-crowded-requires
-crowded-requires c κs = search needs
-
-victim-at-requires : tie.Need-victim-at-requires
-victim-at-requires c κs = search needs
 
 returns-5 : tie.Need-returns-5
 returns-5 c = suited-alone
@@ -45,12 +36,6 @@ returns-6 c = suited-crowded (not-false (c .before .before .before .before .befo
 
 returns-7 : tie.Need-returns-7
 returns-7 c = suited-alone
-
-quad-hash-requires : tie.Need-quad-hash-requires
-quad-hash-requires c κs = search needs
-
-waits-at-requires : tie.Need-waits-at-requires
-waits-at-requires c κs = search needs
 
 returns-8 : tie.Need-returns-8
 returns-8 c = suited-alone
@@ -70,20 +55,5 @@ returns-9 c = suited-in (not-false (c .before .before .before .before .before .b
 pub suits-spec : {M : Type 1} → statement M
 suits-spec =
     tie.close
-    (tie.spec
-    returns
-    returns-2
-    add-listed-at
-    listed-at-requires
-    returns-3
-    barred-requires
-    returns-4
-    crowded-requires
-    victim-at-requires
-    returns-5
-    returns-6
-    returns-7
-    quad-hash-requires
-    waits-at-requires
-    returns-8
-    returns-9)
+    (tie.spec returns returns-2 add-listed-at listed-at-requires returns-3 (λ c κs. search needs) returns-4 (λ c κs. search needs) (λ c κs. search needs) returns-5 returns-6 returns-7
+    (λ c κs. search needs) (λ c κs. search needs) returns-8 returns-9)

@@ -20,9 +20,6 @@ loop-holds c = (omega arith, parting-none)
 read-row-requires : tie.Need-read-row-requires Inv-loop μ-loop
 read-row-requires c κs = omega (arith, c .before .before .before .before .pre .2, c .before .before .before .before .pre .3, c .before .before .before .before .pre .4, c .loop-test .taken)
 
-key-of-requires : tie.Need-key-of-requires Inv-loop μ-loop
-key-of-requires c κs = search needs
-
 cut-requires : tie.Need-cut-requires Inv-loop μ-loop
 cut-requires c κs = parting-kept (c .before .before .before .before .loop .inv .1) (c .before .before .before .before .before .before .before .pre .0)
     (c .before .before .before .before .before .before .before .pre .1)
@@ -52,15 +49,4 @@ returns c =
 pub cut-victims-spec : {M : Type 1} → statement M
 cut-victims-spec =
     tie.close
-    (tie.spec
-    Inv-loop
-    μ-loop
-    loop-holds
-    read-row-requires
-    key-of-requires
-    cut-requires
-    add-i
-    loop-less
-    loop-again
-    same-length
-    returns)
+    (tie.spec Inv-loop μ-loop loop-holds read-row-requires (λ c κs. search needs) cut-requires add-i loop-less loop-again same-length returns)

@@ -7,18 +7,6 @@ use borrow.Author.Needs.{needs}
 use Rattle.gathering.proofs.going.drop_row.Statement.{statement}
 use Rattle.gathering.proofs.going.drop_row.Tie as tie
 
-row-at-requires : tie.Need-row-at-requires
-row-at-requires c κs = search needs
-
-goes-requires : tie.Need-goes-requires
-goes-requires c κs = search needs
-
-count-out-requires : tie.Need-count-out-requires
-count-out-requires c κs = search needs
-
-same-length : tie.Need-same-length
-same-length c = search needs
-
 returns : tie.Need-returns
 returns c = drop-goes (goesBy (c .before .before .before .before .before .before .before .before .before .args .v))
     (c .before .before .before .before .before .before .before .before .before .args .m) (c .before .before .before .before .before .before .before .before .before .args .i)
@@ -26,15 +14,6 @@ returns c = drop-goes (goesBy (c .before .before .before .before .before .before
     (c .before .before .before .before .before .before .before .before .before .args .v) (c .before .before .before .before .before .before .row-at .result)
     (c .before .before .before .before .before .goes .ensures) (c .before .before .before .before .if1 .taken))
     (c .before .before .count-out .ensures)
-
-keep-row-requires : tie.Need-keep-row-requires
-keep-row-requires c κs = search needs
-
-add-result : tie.Need-add-result
-add-result c = search needs
-
-same-length-2 : tie.Need-same-length-2
-same-length-2 c = search needs
 
 returns-2 : tie.Need-returns-2
 returns-2 c = drop-stays (goesBy (c .before .before .before .before .before .before .before .before .before .args .v))
@@ -45,4 +24,4 @@ returns-2 c = drop-stays (goesBy (c .before .before .before .before .before .bef
 pub drop-row-spec : {M : Type 1} → statement M
 drop-row-spec =
     tie.close
-    (tie.spec row-at-requires goes-requires count-out-requires same-length returns keep-row-requires add-result same-length-2 returns-2)
+    (tie.spec (λ c κs. search needs) (λ c κs. search needs) (λ c κs. search needs) (λ c. search needs) returns (λ c κs. search needs) (λ c. search needs) (λ c. search needs) returns-2)

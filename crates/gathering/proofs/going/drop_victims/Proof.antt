@@ -70,17 +70,4 @@ returns c = gone-at-once (c .before .before .before .before .before .before .bef
 pub drop-victims-spec : {M : Type 1} → statement M
 drop-victims-spec =
     tie.close
-    (tie.spec
-    Inv-loop
-    μ-loop
-    sub-read-row
-    read-row-requires
-    rows-requires
-    loop-holds
-    drop-row-requires
-    add-i
-    loop-less
-    loop-again
-    drop-rows-requires
-    same-length
-    returns)
+    (tie.spec Inv-loop μ-loop sub-read-row read-row-requires rows-requires loop-holds drop-row-requires add-i loop-less loop-again drop-rows-requires same-length returns)

@@ -4,12 +4,6 @@ use borrow.Author.Needs.{needs}
 use Rattle.gathering.proofs.going.go.Statement.{statement}
 use Rattle.gathering.proofs.going.go.Tie as tie
 
-cut-victims-requires : tie.Need-cut-victims-requires
-cut-victims-requires c κs = search needs
-
-same-length : tie.Need-same-length
-same-length c = search needs
-
 returns : tie.Need-returns
 returns c = c .before .before .cut-victims .ensures
 
@@ -23,19 +17,10 @@ drop-victims-requires c κs = (
   c .before .before .before .before .pre .4,
 )
 
-same-length-2 : tie.Need-same-length-2
-same-length-2 c = search needs
-
 returns-2 : tie.Need-returns-2
 returns-2 c = c .before .before .drop-victims .ensures
 
 pub go-spec : {M : Type 1} → statement M
 go-spec =
     tie.close
-    (tie.spec
-    cut-victims-requires
-    same-length
-    returns
-    drop-victims-requires
-    same-length-2
-    returns-2)
+    (tie.spec (λ c κs. search needs) (λ c. search needs) returns drop-victims-requires (λ c. search needs) returns-2)

@@ -10,26 +10,8 @@ use Rattle.gathering.proofs.instead.exchange_at.Tie as tie
 returns : tie.Need-returns
 returns c = exchanged-used
 
-read-row-requires : tie.Need-read-row-requires
-read-row-requires c κs = search needs
-
-suits-requires : tie.Need-suits-requires
-suits-requires c κs = search needs
-
-same-length : tie.Need-same-length
-same-length c = search needs
-
-same-length-2 : tie.Need-same-length-2
-same-length-2 c = search needs
-
 returns-2 : tie.Need-returns-2
 returns-2 c = exchanged-not (c .before .suits .ensures) (c .if2 .taken)
-
-key-of-requires : tie.Need-key-of-requires
-key-of-requires c κs = search needs
-
-cut-requires : tie.Need-cut-requires
-cut-requires c κs = search needs
 
 waiting-row-requires : tie.Need-waiting-row-requires
 waiting-row-requires c κs = after-kept (candidateOf (c .before .before .before .before .before .before .before .before .before .before .before .before .before .before .before .args .c))
@@ -47,12 +29,6 @@ put-in-requires c κs =
       c .before .before .before .before .before .before .before .before .before .before .before .before .before .before .before .before .before .pre .1,
     )
 
-same-length-3 : tie.Need-same-length-3
-same-length-3 c = search needs
-
-same-length-4 : tie.Need-same-length-4
-same-length-4 c = search needs
-
 returns-3 : tie.Need-returns-3
 returns-3 c =
     let k = c .before .before .before .before .before .before .before .before .before .before .before .before .before .before .before .before .before .before .before .before .args .k in
@@ -68,17 +44,5 @@ returns-3 c =
 pub exchange-at-spec : {M : Type 1} → statement M
 exchange-at-spec =
     tie.close
-    (tie.spec
-    returns
-    read-row-requires
-    suits-requires
-    same-length
-    same-length-2
-    returns-2
-    key-of-requires
-    cut-requires
-    waiting-row-requires
-    put-in-requires
-    same-length-3
-    same-length-4
-    returns-3)
+    (tie.spec returns (λ c κs. search needs) (λ c κs. search needs) (λ c. search needs) (λ c. search needs) returns-2 (λ c κs. search needs) (λ c κs. search needs) waiting-row-requires
+    put-in-requires (λ c. search needs) (λ c. search needs) returns-3)

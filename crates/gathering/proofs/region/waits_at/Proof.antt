@@ -7,24 +7,6 @@ use borrow.Author.Needs.{needs}
 use Rattle.gathering.proofs.region.waits_at.Statement.{statement}
 use Rattle.gathering.proofs.region.waits_at.Tie as tie
 
-txid-key-requires : tie.Need-txid-key-requires
-txid-key-requires c κs = search needs
-
-key-words-requires : tie.Need-key-words-requires
-key-words-requires c κs = search needs
-
-wtxid-key-requires : tie.Need-wtxid-key-requires
-wtxid-key-requires c κs = search needs
-
-key-words-requires-2 : tie.Need-key-words-requires-2
-key-words-requires-2 c κs = search needs
-
-has-key-requires : tie.Need-has-key-requires
-has-key-requires c κs = search needs
-
-has-key-requires-2 : tie.Need-has-key-requires-2
-has-key-requires-2 c κs = search needs
-
 returns : tie.Need-returns
 returns c =
     let h = c .before .before .before .before .before .before .before .args .h in
@@ -42,12 +24,4 @@ returns-2 c =
 pub waits-at-spec : {M : Type 1} → statement M
 waits-at-spec =
     tie.close
-    (tie.spec
-    txid-key-requires
-    key-words-requires
-    wtxid-key-requires
-    key-words-requires-2
-    has-key-requires
-    has-key-requires-2
-    returns
-    returns-2)
+    (tie.spec (λ c κs. search needs) (λ c κs. search needs) (λ c κs. search needs) (λ c κs. search needs) (λ c κs. search needs) (λ c κs. search needs) returns returns-2)

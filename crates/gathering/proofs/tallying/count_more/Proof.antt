@@ -10,12 +10,6 @@ use borrow.Author.Needs.{needs}
 use Rattle.gathering.proofs.tallying.count_more.Statement.{statement}
 use Rattle.gathering.proofs.tallying.count_more.Tie as tie
 
-seek-conn-requires : tie.Need-seek-conn-requires
-seek-conn-requires c κs = search needs
-
-is-entry-requires : tie.Need-is-entry-requires
-is-entry-requires c κs = search needs
-
 conn-at-requires : tie.Need-conn-at-requires
 conn-at-requires c κs = (c .before .before .before .before .before .before .before .pre .0, c .before .before .is-entry .ensures .inside (c .before .if1 .taken))
 
@@ -34,12 +28,6 @@ set-conn-requires c κs = (
   c .before .before .before .before .before .is-entry .ensures .inside (c .before .before .before .before .if1 .taken),
 )
 
-add-conn-requires : tie.Need-add-conn-requires
-add-conn-requires c κs = search needs
-
-same-length : tie.Need-same-length
-same-length c = search needs
-
 returns : tie.Need-returns
 returns c = λ f so h.
     let d = fresh 0 0 in
@@ -50,9 +38,6 @@ returns c = λ f so h.
     let e = c .before .before .before .before .before .before .before .before .is-entry .ensures .is f d h (c .before .before .before .before .before .before .before .if1 .taken) in
     let k = c .before .before .before .before .before .conn-at .ensures f d h in
     raised-found f bd d l e _ k (c .before .before .before .before .before .before .before .before .before .before .before .before .before .args .d) (c .before .before .set-conn .ensures f h)
-
-same-length-2 : tie.Need-same-length-2
-same-length-2 c = search needs
 
 returns-2 : tie.Need-returns-2
 returns-2 c = λ f so h.
@@ -65,14 +50,4 @@ returns-2 c = λ f so h.
 pub count-more-spec : {M : Type 1} → statement M
 count-more-spec =
     tie.close
-    (tie.spec
-    seek-conn-requires
-    is-entry-requires
-    conn-at-requires
-    add-t15
-    set-conn-requires
-    add-conn-requires
-    same-length
-    returns
-    same-length-2
-    returns-2)
+    (tie.spec (λ c κs. search needs) (λ c κs. search needs) conn-at-requires add-t15 set-conn-requires (λ c κs. search needs) (λ c. search needs) returns (λ c. search needs) returns-2)

@@ -14,15 +14,6 @@ use borrow.Author.Needs.{needs}
 use Rattle.inventory.proofs.keys.put_key.Statement.{statement}
 use Rattle.inventory.proofs.keys.put_key.Tie as tie
 
-hash-of-requires : tie.Need-hash-of-requires
-hash-of-requires c κs = search needs
-
-put-key-requires : tie.Need-put-key-requires
-put-key-requires c κs = search needs
-
-same-length : tie.Need-same-length
-same-length c = search needs
-
 returns : tie.Need-returns
 returns c =
     let q = c .before .before .before .before .before .before .args .q in
@@ -32,4 +23,4 @@ returns c =
     (rw (c .before .before .before .before .hash-of .ensures) at (c .before .before .put-key .ensures))
 
 pub put-key-spec : {M : Type 1} → statement M
-put-key-spec = tie.close (tie.spec hash-of-requires put-key-requires same-length returns)
+put-key-spec = tie.close (tie.spec (λ c κs. search needs) (λ c κs. search needs) (λ c. search needs) returns)

@@ -5,18 +5,6 @@ use borrow.Author.Needs.{needs}
 use Rattle.inventory.proofs.offers.put_offer.Statement.{statement}
 use Rattle.inventory.proofs.offers.put_offer.Tie as tie
 
-put-item-requires : tie.Need-put-item-requires
-put-item-requires c κs = search needs
-
-put-requires : tie.Need-put-requires
-put-requires c κs = search needs
-
-same-length : tie.Need-same-length
-same-length c = search needs
-
-same-length-2 : tie.Need-same-length-2
-same-length-2 c = search needs
-
 returns : tie.Need-returns
 returns c =
     record {
@@ -28,4 +16,4 @@ returns c =
 
 pub put-offer-spec : {M : Type 1} → statement M
 put-offer-spec =
-    tie.close (tie.spec put-item-requires put-requires same-length same-length-2 returns)
+    tie.close (tie.spec (λ c κs. search needs) (λ c κs. search needs) (λ c. search needs) (λ c. search needs) returns)

@@ -8,26 +8,8 @@ use borrow.Author.Needs.{needs}
 use Rattle.keeping.proofs.arranging.answer_send.Statement.{statement}
 use Rattle.keeping.proofs.arranging.answer_send.Tie as tie
 
-number-buffer-requires : tie.Need-number-buffer-requires
-number-buffer-requires c κs = search needs
-
-slice-aggregate-read-list : tie.Need-slice-aggregate-read-list
-slice-aggregate-read-list c = search needs
-
 read-list-requires : tie.Need-read-list-requires
 read-list-requires c κs = (c .before .before .before .before .before .before .pre .2, omega (arith, c .before .number-buffer .ensures))
-
-enum-known-n : tie.Need-enum-known-n
-enum-known-n c = search needs
-
-enum-told : tie.Need-enum-told
-enum-told c = search needs
-
-unreadable-requires : tie.Need-unreadable-requires
-unreadable-requires c κs = search needs
-
-same-length : tie.Need-same-length
-same-length c = search needs
 
 returns : tie.Need-returns
 returns c = step-unread (c .before .before .before .before .before .before .before .before .before .before .before .before .before .before .pre .0) (no-numbers
@@ -48,15 +30,6 @@ slice-aggregate-arrange-taken c = let h = numbers-held (c .before .before .befor
       c .before .before .before .before .before .before .before .read-list .kept,
     ))
 
-arrange-taken-requires : tie.Need-arrange-taken-requires
-arrange-taken-requires c κs = search needs
-
-same-length-2 : tie.Need-same-length-2
-same-length-2 c = search needs
-
-same-length-3 : tie.Need-same-length-3
-same-length-3 c = search needs
-
 returns-2 : tie.Need-returns-2
 returns-2 c = let h = numbers-held (c .before .before .before .before .before .before .before .before .before .before .before .before .read-list .ensures)
     (c .before .before .before .before .before .before .before .before .before .n .given .1) in step-is (sym (h .is)) (c .before .before .before .before .arrange-taken .ensures)
@@ -64,19 +37,5 @@ returns-2 c = let h = numbers-held (c .before .before .before .before .before .b
 pub answer-send-spec : {M : Type 1} → statement M
 answer-send-spec =
     tie.close
-    (tie.spec
-    number-buffer-requires
-    slice-aggregate-read-list
-    read-list-requires
-    enum-known-n
-    enum-told
-    unreadable-requires
-    same-length
-    returns
-    mul-m
-    array-share-prefix-witnesses
-    slice-aggregate-arrange-taken
-    arrange-taken-requires
-    same-length-2
-    same-length-3
-    returns-2)
+    (tie.spec (λ c κs. search needs) (λ c. search needs) read-list-requires (λ c. search needs) (λ c. search needs) (λ c κs. search needs) (λ c. search needs) returns mul-m
+    array-share-prefix-witnesses slice-aggregate-arrange-taken (λ c κs. search needs) (λ c. search needs) (λ c. search needs) returns-2)

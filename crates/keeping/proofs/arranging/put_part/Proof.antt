@@ -5,27 +5,9 @@ use borrow.Author.Needs.{needs}
 use Rattle.keeping.proofs.arranging.put_part.Statement.{statement}
 use Rattle.keeping.proofs.arranging.put_part.Tie as tie
 
-list-end-requires : tie.Need-list-end-requires
-list-end-requires c κs = search needs
-
-sub-entries : tie.Need-sub-entries
-sub-entries c = search needs
-
-part-entries-start : tie.Need-part-entries-start
-part-entries-start c = search needs
-
-part-entries-end : tie.Need-part-entries-end
-part-entries-end c = search needs
-
-part-requires : tie.Need-part-requires
-part-requires c κs = search needs
-
 put-entries-requires : tie.Need-put-entries-requires
 put-entries-requires c κs = let f = part-fits (c .before .before .before .before .before .before .args .connection) (c .before .before .before .before .before .before .pre .0)
     (c .before .before .before .list-end .ensures) refl (c .before .part .ensures) in (c .before .before .before .before .before .before .pre .2, f .0, f .1)
-
-same-length : tie.Need-same-length
-same-length c = search needs
 
 returns : tie.Need-returns
 returns c = printed-part (c .before .before .before .before .before .before .before .before .before .args .connection)
@@ -35,12 +17,4 @@ returns c = printed-part (c .before .before .before .before .before .before .bef
 pub put-part-spec : {M : Type 1} → statement M
 put-part-spec =
     tie.close
-    (tie.spec
-    list-end-requires
-    sub-entries
-    part-entries-start
-    part-entries-end
-    part-requires
-    put-entries-requires
-    same-length
-    returns)
+    (tie.spec (λ c κs. search needs) (λ c. search needs) (λ c. search needs) (λ c. search needs) (λ c κs. search needs) put-entries-requires (λ c. search needs) returns)

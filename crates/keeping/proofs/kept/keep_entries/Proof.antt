@@ -9,15 +9,6 @@ use borrow.Author.Needs.{needs}
 use Rattle.keeping.proofs.kept.keep_entries.Statement.{statement}
 use Rattle.keeping.proofs.kept.keep_entries.Tie as tie
 
-enum-known-a : tie.Need-enum-known-a
-enum-known-a c = search needs
-
-refusal-requires : tie.Need-refusal-requires
-refusal-requires c κs = search needs
-
-enum-known-a-2 : tie.Need-enum-known-a-2
-enum-known-a-2 c = search needs
-
 keep-requires : tie.Need-keep-requires
 keep-requires c κs = let f = entries-fit (c .before .before .a2 .given .1) (c .before .before .before .before .before .before .before .pre .2) in
     (c .before .before .before .before .before .before .before .pre .0 .long, f .0, f .1)
@@ -27,19 +18,10 @@ put-entries-requires c κs = let f = entries-fit (c .before .before .before .bef
     (c .before .before .before .before .before .before .before .before .before .before .before .pre .2) in
     (c .before .before .before .before .before .before .before .before .before .before .before .pre .1, f .0, omega (arith, f .1))
 
-same-length : tie.Need-same-length
-same-length c = search needs
-
 returns : tie.Need-returns
 returns c = entries-refused (c .before .before .before .before .before .before .before .before .before .before .pre .0)
     (ap (λ (x : Listing). entriesOf x (c .before .before .before .before .before .before .before .before .before .before .args .answer .now))
     (c .before .before .before .before .before .a .given .1)) (c .before .before .refusal .ensures)
-
-same-length-2 : tie.Need-same-length-2
-same-length-2 c = search needs
-
-same-length-3 : tie.Need-same-length-3
-same-length-3 c = search needs
 
 returns-2 : tie.Need-returns-2
 returns-2 c = entries-kept (listIn (c .before .before .before .before .before .before .before .before .before .before .before .before .before .before .args .list .now))
@@ -50,14 +32,4 @@ returns-2 c = entries-kept (listIn (c .before .before .before .before .before .b
 pub keep-entries-spec : {M : Type 1} → statement M
 keep-entries-spec =
     tie.close
-    (tie.spec
-    enum-known-a
-    refusal-requires
-    enum-known-a-2
-    keep-requires
-    put-entries-requires
-    same-length
-    returns
-    same-length-2
-    same-length-3
-    returns-2)
+    (tie.spec (λ c. search needs) (λ c κs. search needs) (λ c. search needs) keep-requires put-entries-requires (λ c. search needs) returns (λ c. search needs) (λ c. search needs) returns-2)

@@ -8,15 +8,6 @@ use borrow.Author.Needs.{needs}
 use Rattle.keeping.proofs.kept.keep_selection.Statement.{statement}
 use Rattle.keeping.proofs.kept.keep_selection.Tie as tie
 
-enum-known-a : tie.Need-enum-known-a
-enum-known-a c = search needs
-
-refusal-requires : tie.Need-refusal-requires
-refusal-requires c κs = search needs
-
-enum-known-a-2 : tie.Need-enum-known-a-2
-enum-known-a-2 c = search needs
-
 keep-requires : tie.Need-keep-requires
 keep-requires c κs = let f = selection-fits (c .before .before .a2 .given .1) (c .before .before .before .before .before .before .before .pre .2) in
     (c .before .before .before .before .before .before .before .pre .0 .long, f .0, f .1)
@@ -26,19 +17,10 @@ put-selection-requires c κs = let f = selection-fits (c .before .before .before
     (c .before .before .before .before .before .before .before .before .before .before .before .pre .2) in
     (c .before .before .before .before .before .before .before .before .before .before .before .pre .1, f .0, f .1)
 
-same-length : tie.Need-same-length
-same-length c = search needs
-
 returns : tie.Need-returns
 returns c = selection-refused (c .before .before .before .before .before .before .before .before .before .before .pre .0)
     (ap (λ (x : Selection). plannedOf x (c .before .before .before .before .before .before .before .before .before .before .args .answer .now))
     (c .before .before .before .before .before .a .given .1)) (c .before .before .refusal .ensures)
-
-same-length-2 : tie.Need-same-length-2
-same-length-2 c = search needs
-
-same-length-3 : tie.Need-same-length-3
-same-length-3 c = search needs
 
 returns-2 : tie.Need-returns-2
 returns-2 c = selection-kept (listIn (c .before .before .before .before .before .before .before .before .before .before .before .before .before .before .args .list .now))
@@ -49,14 +31,5 @@ returns-2 c = selection-kept (listIn (c .before .before .before .before .before 
 pub keep-selection-spec : {M : Type 1} → statement M
 keep-selection-spec =
     tie.close
-    (tie.spec
-    enum-known-a
-    refusal-requires
-    enum-known-a-2
-    keep-requires
-    put-selection-requires
-    same-length
-    returns
-    same-length-2
-    same-length-3
+    (tie.spec (λ c. search needs) (λ c κs. search needs) (λ c. search needs) keep-requires put-selection-requires (λ c. search needs) returns (λ c. search needs) (λ c. search needs)
     returns-2)

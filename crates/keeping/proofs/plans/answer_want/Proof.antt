@@ -10,26 +10,8 @@ use borrow.Author.Needs.{needs}
 use Rattle.keeping.proofs.plans.answer_want.Statement.{statement}
 use Rattle.keeping.proofs.plans.answer_want.Tie as tie
 
-key-buffer-requires : tie.Need-key-buffer-requires
-key-buffer-requires c κs = search needs
-
-slice-aggregate-read-list : tie.Need-slice-aggregate-read-list
-slice-aggregate-read-list c = search needs
-
 read-list-requires : tie.Need-read-list-requires
 read-list-requires c κs = (c .before .before .before .before .before .before .pre .2, omega (arith, c .before .key-buffer .ensures))
-
-enum-known-n : tie.Need-enum-known-n
-enum-known-n c = search needs
-
-enum-told : tie.Need-enum-told
-enum-told c = search needs
-
-unreadable-requires : tie.Need-unreadable-requires
-unreadable-requires c κs = search needs
-
-same-length : tie.Need-same-length
-same-length c = search needs
 
 returns : tie.Need-returns
 returns c = step-unread (c .before .before .before .before .before .before .before .before .before .before .before .before .before .before .pre .0)
@@ -51,18 +33,6 @@ slice-aggregate-plan-given c = let h = keys-held (c .before .before .before .bef
       c .before .before .before .before .before .before .before .before .read-list .kept,
     ))
 
-plan-given-requires : tie.Need-plan-given-requires
-plan-given-requires c κs = search needs
-
-same-length-2 : tie.Need-same-length-2
-same-length-2 c = search needs
-
-same-length-3 : tie.Need-same-length-3
-same-length-3 c = search needs
-
-same-length-4 : tie.Need-same-length-4
-same-length-4 c = search needs
-
 returns-2 : tie.Need-returns-2
 returns-2 c = let h = keys-held (c .before .before .before .before .before .before .before .before .before .before .before .before .before .before .before .read-list .ensures)
     (c .before .before .before .before .before .before .before .before .before .before .before .before .n .given .1) in step-is (sym (h .is (wantAsk (valuesOf
@@ -72,20 +42,5 @@ returns-2 c = let h = keys-held (c .before .before .before .before .before .befo
 pub answer-want-spec : {M : Type 1} → statement M
 answer-want-spec =
     tie.close
-    (tie.spec
-    key-buffer-requires
-    slice-aggregate-read-list
-    read-list-requires
-    enum-known-n
-    enum-told
-    unreadable-requires
-    same-length
-    returns
-    mul-m
-    array-share-prefix-keys
-    slice-aggregate-plan-given
-    plan-given-requires
-    same-length-2
-    same-length-3
-    same-length-4
-    returns-2)
+    (tie.spec (λ c κs. search needs) (λ c. search needs) read-list-requires (λ c. search needs) (λ c. search needs) (λ c κs. search needs) (λ c. search needs) returns mul-m
+    array-share-prefix-keys slice-aggregate-plan-given (λ c κs. search needs) (λ c. search needs) (λ c. search needs) (λ c. search needs) returns-2)

@@ -9,27 +9,6 @@ use borrow.Author.Needs.{needs}
 use Rattle.keeping.proofs.plans.claim_list.Statement.{statement}
 use Rattle.keeping.proofs.plans.claim_list.Tie as tie
 
-list-end-requires : tie.Need-list-end-requires
-list-end-requires c κs = search needs
-
-sub-claim : tie.Need-sub-claim
-sub-claim c = search needs
-
-part-claim-start : tie.Need-part-claim-start
-part-claim-start c = search needs
-
-part-claim-end : tie.Need-part-claim-end
-part-claim-end c = search needs
-
-claim-requires : tie.Need-claim-requires
-claim-requires c κs = search needs
-
-same-length : tie.Need-same-length
-same-length c = search needs
-
-same-length-2 : tie.Need-same-length-2
-same-length-2 c = search needs
-
 returns : tie.Need-returns
 returns c = does-is (ap (λ (x : List Entry). Claim (c .before .before .before .before .before .before .before .before .before .before .before .before .args .clock) x
     (c .before .before .before .before .before .before .before .before .before .before .before .before .args .answer .now))
@@ -39,12 +18,4 @@ returns c = does-is (ap (λ (x : List Entry). Claim (c .before .before .before .
 pub claim-list-spec : {M : Type 1} → statement M
 claim-list-spec =
     tie.close
-    (tie.spec
-    list-end-requires
-    sub-claim
-    part-claim-start
-    part-claim-end
-    claim-requires
-    same-length
-    same-length-2
-    returns)
+    (tie.spec (λ c κs. search needs) (λ c. search needs) (λ c. search needs) (λ c. search needs) (λ c κs. search needs) (λ c. search needs) (λ c. search needs) returns)

@@ -9,14 +9,8 @@ use Rattle.lines.proofs.read.boolean.Tie as tie
 returns : tie.Need-returns
 returns c = bool-long _ (c .if1 .taken)
 
-shared-slice-read-if2 : tie.Need-shared-slice-read-if2
-shared-slice-read-if2 c = search needs
-
 returns-2 : tie.Need-returns-2
 returns-2 c = sym (bool-one _ (c .before .before .if1 .left) ∙ rw (eq-eqb _ _ (c .if2 .taken)))
-
-shared-slice-read-if3 : tie.Need-shared-slice-read-if3
-shared-slice-read-if3 c = search needs
 
 returns-3 : tie.Need-returns-3
 returns-3 c = sym (bool-one _ (c .before .before .before .before .if1 .left) ∙ rw (ne-eqb _ _ (c .before .before .if2 .left), eq-eqb _ _ (c .if3 .taken)))
@@ -27,4 +21,4 @@ returns-4 c = sym (bool-one _ (c .before .before .before .before .if1 .left) ∙
 pub boolean-spec : {M : Type 1} → statement M
 boolean-spec =
     tie.close
-    (tie.spec returns shared-slice-read-if2 returns-2 shared-slice-read-if3 returns-3 returns-4)
+    (tie.spec returns (λ c. search needs) returns-2 (λ c. search needs) returns-3 returns-4)

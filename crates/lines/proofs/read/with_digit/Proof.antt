@@ -5,20 +5,8 @@ use borrow.Author.Needs.{needs}
 use Rattle.lines.proofs.read.with_digit.Statement.{statement}
 use Rattle.lines.proofs.read.with_digit.Tie as tie
 
-mul-t4 : tie.Need-mul-t4
-mul-t4 c = search needs
-
-add-t5 : tie.Need-add-t5
-add-t5 c = search needs
-
-mul-t7 : tie.Need-mul-t7
-mul-t7 c = search needs
-
 add-t9 : tie.Need-add-t9
 add-t9 c = record { fits = digit-in (c .before .before .before .args .q .w1) (c .before .before .before .args .q .w0) (omega arith) }
-
-mul-t11 : tie.Need-mul-t11
-mul-t11 c = search needs
 
 add-t13 : tie.Need-add-t13
 add-t13 c = record { fits = digit-in (c .before .before .before .before .before .args .q .w2) (c .before .before .before .before .before .args .q .w1) (omega arith) }
@@ -42,4 +30,4 @@ returns c = with-digit (c .before .before .before .before .before .before .befor
 
 pub with-digit-spec : {M : Type 1} → statement M
 with-digit-spec =
-    tie.close (tie.spec mul-t4 add-t5 mul-t7 add-t9 mul-t11 add-t13 mul-t14 add-t16 returns)
+    tie.close (tie.spec (λ c. search needs) (λ c. search needs) (λ c. search needs) add-t9 (λ c. search needs) add-t13 mul-t14 add-t16 returns)

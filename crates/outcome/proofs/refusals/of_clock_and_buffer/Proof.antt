@@ -4,17 +4,8 @@ use Rattle.outcome.proofs.Turns.{clock-sized}
 use Rattle.outcome.proofs.refusals.of_clock_and_buffer.Statement.{statement}
 use Rattle.outcome.proofs.refusals.of_clock_and_buffer.Tie as tie
 
-of-clock-requires : tie.Need-of-clock-requires
-of-clock-requires c κs = search needs
-
-of-buffer-requires : tie.Need-of-buffer-requires
-of-buffer-requires c κs = search needs
-
-first-requires : tie.Need-first-requires
-first-requires c κs = search needs
-
 returns : tie.Need-returns
 returns c = cc (clock-sized (c .before .before .before .args .clock) (c .before .before .before .args .length) (c .before .before .before .args .needs))
 
 pub of-clock-and-buffer-spec : {M : Type 1} → statement M
-of-clock-and-buffer-spec = tie.close (tie.spec of-clock-requires of-buffer-requires first-requires returns)
+of-clock-and-buffer-spec = tie.close (tie.spec (λ c κs. search needs) (λ c κs. search needs) (λ c κs. search needs) returns)

@@ -4,18 +4,9 @@ use Rattle.outcome.proofs.Turns.{both-named}
 use Rattle.outcome.proofs.refusals.of_connection_and_clock.Statement.{statement}
 use Rattle.outcome.proofs.refusals.of_connection_and_clock.Tie as tie
 
-of-connection-requires : tie.Need-of-connection-requires
-of-connection-requires c κs = search needs
-
-of-clock-requires : tie.Need-of-clock-requires
-of-clock-requires c κs = search needs
-
-first-requires : tie.Need-first-requires
-first-requires c κs = search needs
-
 returns : tie.Need-returns
 returns c = cc (both-named (c .before .before .before .args .connection) (c .before .before .before .args .clock))
 
 pub of-connection-and-clock-spec : {M : Type 1} → statement M
 of-connection-and-clock-spec =
-    tie.close (tie.spec of-connection-requires of-clock-requires first-requires returns)
+    tie.close (tie.spec (λ c κs. search needs) (λ c κs. search needs) (λ c κs. search needs) returns)

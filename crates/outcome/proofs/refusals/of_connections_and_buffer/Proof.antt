@@ -8,11 +8,8 @@ use Rattle.outcome.proofs.refusals.of_connections_and_buffer.Tie as tie
 returns : tie.Need-returns
 returns c = λ ns e. connections-zero ns _ _ (sym (c .if1 .taken) ∙ e)
 
-of-buffer-requires : tie.Need-of-buffer-requires
-of-buffer-requires c κs = search needs
-
 returns-2 : tie.Need-returns-2
 returns-2 c = λ ns e. c .of-buffer .ensures ∙ connections-sized ns _ _ (sym (c .before .if1 .left) ∙ e)
 
 pub of-connections-and-buffer-spec : {M : Type 1} → statement M
-of-connections-and-buffer-spec = tie.close (tie.spec returns of-buffer-requires returns-2)
+of-connections-and-buffer-spec = tie.close (tie.spec returns (λ c κs. search needs) returns-2)

@@ -8,18 +8,6 @@ use Rattle.owned.proofs.Owner.{owner-number}
 use Rattle.owned.proofs.candidates.tracker_owned_request_parent.Statement.{statement}
 use Rattle.owned.proofs.candidates.tracker_owned_request_parent.Tie as tie
 
-candidate-requires : tie.Need-candidate-requires
-candidate-requires c κs = search needs
-
-request-parent-requires : tie.Need-request-parent-requires
-request-parent-requires c κs = search needs
-
-hand-out-requires : tie.Need-hand-out-requires
-hand-out-requires c κs = search needs
-
-same-length : tie.Need-same-length
-same-length c = search needs
-
 returns : tie.Need-returns
 returns c =
     let m = (makes (c .before .before .before .before .before .before .candidate .result) (c .before .before .before .before .before .before .candidate .ok)) in
@@ -28,4 +16,4 @@ returns c =
     (c .before .before .before .before .request-parent .ensures) (c .hand-out .ensures) (ap (λ x. On (RequestParent x)) (c .before .before .before .before .before .before .candidate .ensures))
 
 pub tracker-owned-request-parent-spec : {M : Type 1} → statement M
-tracker-owned-request-parent-spec = tie.close (tie.spec candidate-requires request-parent-requires hand-out-requires same-length returns)
+tracker-owned-request-parent-spec = tie.close (tie.spec (λ c κs. search needs) (λ c κs. search needs) (λ c κs. search needs) (λ c. search needs) returns)

@@ -6,18 +6,6 @@ use Rattle.owned.proofs.Owner.{owner-departure}
 use Rattle.owned.proofs.departures.tracker_owned_disconnected.Statement.{statement}
 use Rattle.owned.proofs.departures.tracker_owned_disconnected.Tie as tie
 
-disconnected-requires : tie.Need-disconnected-requires
-disconnected-requires c κs = search needs
-
-hand-departure-requires : tie.Need-hand-departure-requires
-hand-departure-requires c κs = search needs
-
-same-length : tie.Need-same-length
-same-length c = search needs
-
-same-length-2 : tie.Need-same-length-2
-same-length-2 c = search needs
-
 returns : tie.Need-returns
 returns c =
     let m = makes (c .before .before .before .before .before .before .before .before .before .before .before .before .args .connection)
@@ -29,4 +17,4 @@ returns c =
     (c .hand-departure .ensures)
 
 pub tracker-owned-disconnected-spec : {M : Type 1} → statement M
-tracker-owned-disconnected-spec = tie.close (tie.spec disconnected-requires hand-departure-requires same-length same-length-2 returns)
+tracker-owned-disconnected-spec = tie.close (tie.spec (λ c κs. search needs) (λ c κs. search needs) (λ c. search needs) (λ c. search needs) returns)

@@ -8,18 +8,6 @@ use Rattle.owned.proofs.Owner.{owner-number}
 use Rattle.owned.proofs.failures.tracker_owned_failed.Statement.{statement}
 use Rattle.owned.proofs.failures.tracker_owned_failed.Tie as tie
 
-key-given-requires : tie.Need-key-given-requires
-key-given-requires c κs = search needs
-
-failed-requires : tie.Need-failed-requires
-failed-requires c κs = search needs
-
-hand-out-requires : tie.Need-hand-out-requires
-hand-out-requires c κs = search needs
-
-same-length : tie.Need-same-length
-same-length c = search needs
-
 returns : tie.Need-returns
 returns c =
     let m = (makes (c .before .before .before .before .before .before .key-given .result) (c .before .before .before .before .before .before .before .before .args .connection)
@@ -31,4 +19,4 @@ returns c =
     (c .before .before .before .before .before .before .before .before .args .clock))) (c .before .before .before .before .before .before .key-given .ensures))
 
 pub tracker-owned-failed-spec : {M : Type 1} → statement M
-tracker-owned-failed-spec = tie.close (tie.spec key-given-requires failed-requires hand-out-requires same-length returns)
+tracker-owned-failed-spec = tie.close (tie.spec (λ c κs. search needs) (λ c κs. search needs) (λ c κs. search needs) (λ c. search needs) returns)

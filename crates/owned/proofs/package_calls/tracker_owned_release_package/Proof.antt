@@ -7,21 +7,6 @@ use Rattle.owned.proofs.Owner.{owner-keys}
 use Rattle.owned.proofs.package_calls.tracker_owned_release_package.Statement.{statement}
 use Rattle.owned.proofs.package_calls.tracker_owned_release_package.Tie as tie
 
-hash-from-bytes-requires : tie.Need-hash-from-bytes-requires
-hash-from-bytes-requires c κs = search needs
-
-release-package-requires : tie.Need-release-package-requires
-release-package-requires c κs = search needs
-
-hand-count-requires : tie.Need-hand-count-requires
-hand-count-requires c κs = search needs
-
-same-length : tie.Need-same-length
-same-length c = search needs
-
-same-length-2 : tie.Need-same-length-2
-same-length-2 c = search needs
-
 returns : tie.Need-returns
 returns c =
     let m = (makes (c .before .before .before .before .before .before .before .before .before .before .before .before .args .connection) _
@@ -34,4 +19,4 @@ returns c =
     (rw (c .before .before .before .before .before .before .before .before .before .hash-from-bytes .ensures))
 
 pub tracker-owned-release-package-spec : {M : Type 1} → statement M
-tracker-owned-release-package-spec = tie.close (tie.spec hash-from-bytes-requires release-package-requires hand-count-requires same-length same-length-2 returns)
+tracker-owned-release-package-spec = tie.close (tie.spec (λ c κs. search needs) (λ c κs. search needs) (λ c κs. search needs) (λ c. search needs) (λ c. search needs) returns)

@@ -7,18 +7,6 @@ use Rattle.owned.proofs.Owner.{owner-keys}
 use Rattle.owned.proofs.package_claims.tracker_owned_failed_package_claims.Statement.{statement}
 use Rattle.owned.proofs.package_claims.tracker_owned_failed_package_claims.Tie as tie
 
-failed-package-claims-requires : tie.Need-failed-package-claims-requires
-failed-package-claims-requires c κs = search needs
-
-hand-count-requires : tie.Need-hand-count-requires
-hand-count-requires c κs = search needs
-
-same-length : tie.Need-same-length
-same-length c = search needs
-
-same-length-2 : tie.Need-same-length-2
-same-length-2 c = search needs
-
 returns : tie.Need-returns
 returns c =
     let a = c .before .before .before .before .before .before .before .before .before .before .before .before .args in
@@ -30,4 +18,4 @@ returns c =
     (c .hand-count .ensures) refl
 
 pub tracker-owned-failed-package-claims-spec : {M : Type 1} → statement M
-tracker-owned-failed-package-claims-spec = tie.close (tie.spec failed-package-claims-requires hand-count-requires same-length same-length-2 returns)
+tracker-owned-failed-package-claims-spec = tie.close (tie.spec (λ c κs. search needs) (λ c κs. search needs) (λ c. search needs) (λ c. search needs) returns)

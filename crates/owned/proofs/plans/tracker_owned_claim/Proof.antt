@@ -6,18 +6,6 @@ use Rattle.owned.proofs.Owner.{owner-entries}
 use Rattle.owned.proofs.plans.tracker_owned_claim.Statement.{statement}
 use Rattle.owned.proofs.plans.tracker_owned_claim.Tie as tie
 
-claim-requires : tie.Need-claim-requires
-claim-requires c κs = search needs
-
-hand-count-requires : tie.Need-hand-count-requires
-hand-count-requires c κs = search needs
-
-same-length : tie.Need-same-length
-same-length c = search needs
-
-same-length-2 : tie.Need-same-length-2
-same-length-2 c = search needs
-
 returns : tie.Need-returns
 returns c =
     let m = makes (c .before .before .before .before .before .before .before .before .before .before .before .before .args .clock)
@@ -29,4 +17,4 @@ returns c =
     (c .before .before .before .before .before .before .claim .result) _ (c .before .before .before .before .before .before .claim .ensures) (c .hand-count .ensures)
 
 pub tracker-owned-claim-spec : {M : Type 1} → statement M
-tracker-owned-claim-spec = tie.close (tie.spec claim-requires hand-count-requires same-length same-length-2 returns)
+tracker-owned-claim-spec = tie.close (tie.spec (λ c κs. search needs) (λ c κs. search needs) (λ c. search needs) (λ c. search needs) returns)

@@ -6,18 +6,6 @@ use Rattle.owned.proofs.Owner.{owner-plan}
 use Rattle.owned.proofs.plans.tracker_owned_plan_given.Statement.{statement}
 use Rattle.owned.proofs.plans.tracker_owned_plan_given.Tie as tie
 
-plan-given-requires : tie.Need-plan-given-requires
-plan-given-requires c κs = search needs
-
-hand-plan-requires : tie.Need-hand-plan-requires
-hand-plan-requires c κs = search needs
-
-same-length : tie.Need-same-length
-same-length c = search needs
-
-same-length-2 : tie.Need-same-length-2
-same-length-2 c = search needs
-
 returns : tie.Need-returns
 returns c =
     let m = makes (c .before .before .before .before .before .before .before .before .before .before .before .before .before .before .args .clock)
@@ -30,4 +18,4 @@ returns c =
     (c .hand-plan .ensures)
 
 pub tracker-owned-plan-given-spec : {M : Type 1} → statement M
-tracker-owned-plan-given-spec = tie.close (tie.spec plan-given-requires hand-plan-requires same-length same-length-2 returns)
+tracker-owned-plan-given-spec = tie.close (tie.spec (λ c κs. search needs) (λ c κs. search needs) (λ c. search needs) (λ c. search needs) returns)

@@ -7,15 +7,6 @@ use Rattle.owned.proofs.Owner.{owner-number}
 use Rattle.owned.proofs.sweeps.tracker_owned_poll_gate.Statement.{statement}
 use Rattle.owned.proofs.sweeps.tracker_owned_poll_gate.Tie as tie
 
-poll-gate-requires : tie.Need-poll-gate-requires
-poll-gate-requires c κs = search needs
-
-hand-out-requires : tie.Need-hand-out-requires
-hand-out-requires c κs = search needs
-
-same-length : tie.Need-same-length
-same-length c = search needs
-
 returns : tie.Need-returns
 returns c =
     let m = (makes (c .before .before .before .before .before .before .before .args .clock) (omega arith)) in
@@ -23,4 +14,4 @@ returns c =
     (c .before .before .before .before .poll-gate .result) _ (c .before .before .before .before .poll-gate .ensures) (c .hand-out .ensures) refl
 
 pub tracker-owned-poll-gate-spec : {M : Type 1} → statement M
-tracker-owned-poll-gate-spec = tie.close (tie.spec poll-gate-requires hand-out-requires same-length returns)
+tracker-owned-poll-gate-spec = tie.close (tie.spec (λ c κs. search needs) (λ c κs. search needs) (λ c. search needs) returns)

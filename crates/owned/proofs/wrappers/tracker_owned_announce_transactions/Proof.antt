@@ -8,15 +8,6 @@ use Rattle.owned.proofs.Owner.{owner-one}
 use Rattle.owned.proofs.wrappers.tracker_owned_announce_transactions.Statement.{statement}
 use Rattle.owned.proofs.wrappers.tracker_owned_announce_transactions.Tie as tie
 
-announce-transactions-requires : tie.Need-announce-transactions-requires
-announce-transactions-requires c κs = search needs
-
-status-requires : tie.Need-status-requires
-status-requires c κs = search needs
-
-same-length : tie.Need-same-length
-same-length c = search needs
-
 returns : tie.Need-returns
 returns c =
     let m = makes (c .before .before .before .before .before .before .before .before .args .connection) (c .before .before .before .before .before .before .before .before .args .clock)
@@ -29,4 +20,4 @@ returns c =
     (c .before .before .before .announce-transactions .result) (c .before .before .before .announce-transactions .ensures) (c .status .ensures) refl
 
 pub tracker-owned-announce-transactions-spec : {M : Type 1} → statement M
-tracker-owned-announce-transactions-spec = tie.close (tie.spec announce-transactions-requires status-requires same-length returns)
+tracker-owned-announce-transactions-spec = tie.close (tie.spec (λ c κs. search needs) (λ c κs. search needs) (λ c. search needs) returns)

@@ -8,21 +8,6 @@ use Rattle.owned.proofs.Owner.{owner-one}
 use Rattle.owned.proofs.wrappers.tracker_owned_transaction_response_completed.Statement.{statement}
 use Rattle.owned.proofs.wrappers.tracker_owned_transaction_response_completed.Tie as tie
 
-hash-from-bytes-requires : tie.Need-hash-from-bytes-requires
-hash-from-bytes-requires c κs = search needs
-
-hash-from-bytes-requires-2 : tie.Need-hash-from-bytes-requires-2
-hash-from-bytes-requires-2 c κs = search needs
-
-transaction-response-completed-requires : tie.Need-transaction-response-completed-requires
-transaction-response-completed-requires c κs = search needs
-
-status-requires : tie.Need-status-requires
-status-requires c κs = search needs
-
-same-length : tie.Need-same-length
-same-length c = search needs
-
 returns : tie.Need-returns
 returns c =
     let m = makes (c .before .before .before .before .before .before .before .before .args .connection) _ _ (c .before .before .before .before .before .before .before .before .args .clock)
@@ -35,4 +20,4 @@ returns c =
 
 pub tracker-owned-transaction-response-completed-spec : {M : Type 1} → statement M
 tracker-owned-transaction-response-completed-spec =
-    tie.close (tie.spec hash-from-bytes-requires hash-from-bytes-requires-2 transaction-response-completed-requires status-requires same-length returns)
+    tie.close (tie.spec (λ c κs. search needs) (λ c κs. search needs) (λ c κs. search needs) (λ c κs. search needs) (λ c. search needs) returns)

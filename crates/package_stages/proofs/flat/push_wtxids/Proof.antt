@@ -7,8 +7,8 @@ use lib.ListN.{length, take}
 use lib.Seq.{take-all}
 use Rattle.lent_lists.specs.Lists.{hashesIn}
 use Rattle.regions.specs.Rows.{quadNumber}
+use Rattle.regions.proofs.Order.{number-quad}
 use Rattle.places.specs.Places.{blank}
-use Rattle.store.proofs.Quads.{number-quad}
 use Rattle.package_stages.specs.Records.{ListedIn}
 use Rattle.package_stages.proofs.Filling.{Filled, filled-none, listed-shown, listed-inside, filled-more}
 use Rattle.package_stages.proofs.flat.push_wtxids.Statement.{statement}

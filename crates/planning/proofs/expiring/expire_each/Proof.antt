@@ -21,9 +21,6 @@ Inv-loop s₀ m first₀ c low₀ high₀ clock k₀ after₀ spent₀ s first l
 abbrev μ-loop : tie.MeasureT-loop
 μ-loop s₀ m first₀ c low₀ high₀ clock k₀ after₀ spent₀ s first low high k after spent = top + top + 1 - (place (keyNum k) + one after)
 
-first-key-requires : tie.Need-first-key-requires Inv-loop μ-loop
-first-key-requires c κs = search needs
-
 loop-holds : tie.Need-loop-holds Inv-loop μ-loop
 loop-holds c = (
   refl,
@@ -33,12 +30,6 @@ loop-holds c = (
   omega (arith, c .first-key .ensures),
   way-starts (c .before .before .before .before .before .args .clock) _ (omega (arith, c .first-key .ensures)) (c .before .before .before .before .before .pre .1),
 )
-
-sub-next-due : tie.Need-sub-next-due Inv-loop μ-loop
-sub-next-due c = search needs
-
-part-next-due-start : tie.Need-part-next-due-start Inv-loop μ-loop
-part-next-due-start c = search needs
 
 part-next-due-end : tie.Need-part-next-due-end Inv-loop μ-loop
 part-next-due-end c = let x = front-within ((way-parted (c .before .before .before .before .before .before .before .pre .0) (c .before .loop .inv .5)) .apart) in omega (arith, x)
@@ -122,20 +113,5 @@ loop-again c = let g = (lent-next (c .before .before .before .before .before .be
 pub expire-each-spec : {M : Type 1} → statement M
 expire-each-spec =
     tie.close
-    (tie.spec
-    Inv-loop
-    μ-loop
-    first-key-requires
-    loop-holds
-    sub-next-due
-    part-next-due-start
-    part-next-due-end
-    next-due-requires
-    same-length
-    same-length-2
-    same-length-3
-    same-length-4
-    returns
-    expire-one-requires
-    loop-less
-    loop-again)
+    (tie.spec Inv-loop μ-loop (λ c κs. search needs) loop-holds (λ c. search needs) (λ c. search needs) part-next-due-end next-due-requires same-length same-length-2 same-length-3
+    same-length-4 returns expire-one-requires loop-less loop-again)

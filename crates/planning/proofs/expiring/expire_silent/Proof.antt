@@ -4,17 +4,11 @@ use borrow.Author.Needs.{needs}
 use Rattle.planning.proofs.expiring.expire_silent.Statement.{statement}
 use Rattle.planning.proofs.expiring.expire_silent.Tie as tie
 
-ready-due-requires : tie.Need-ready-due-requires
-ready-due-requires c κs = search needs
-
 drop-due-requires : tie.Need-drop-due-requires
 drop-due-requires c κs = made-kept (c .before .before .before .ready-due .ensures) (c .before .before .before .before .before .before .pre)
-
-same-length : tie.Need-same-length
-same-length c = search needs
 
 returns : tie.Need-returns
 returns c = made-silent (c .before .before .before .before .before .before .ready-due .ensures) (c .before .before .drop-due .ensures)
 
 pub expire-silent-spec : {M : Type 1} → statement M
-expire-silent-spec = tie.close (tie.spec ready-due-requires drop-due-requires same-length returns)
+expire-silent-spec = tie.close (tie.spec (λ c κs. search needs) drop-due-requires (λ c. search needs) returns)

@@ -7,14 +7,8 @@ use borrow.Author.Needs.{needs}
 use Rattle.planning.proofs.expiring.next_due.Statement.{statement}
 use Rattle.planning.proofs.expiring.next_due.Tie as tie
 
-key-words-requires : tie.Need-key-words-requires
-key-words-requires c κs = search needs
-
 seek-row-requires : tie.Need-seek-row-requires
 seek-row-requires c κs = kept-shown (c .before .before .pre)
-
-seek-due-requires : tie.Need-seek-due-requires
-seek-due-requires c κs = search needs
 
 rows-requires : tie.Need-rows-requires
 rows-requires c κs = let z = kept-shown (c .before .before .before .before .pre) .sizes .long in omega (arith, z)
@@ -26,9 +20,6 @@ returns c = next-ends (c .before .before .before .before .before .before .args .
 row-at-requires : tie.Need-row-at-requires
 row-at-requires c κs = (kept-shown (c .before .before .before .before .before .before .pre), omega (arith, c .if1 .left, c .before .rows .ensures))
 
-key-of-requires : tie.Need-key-of-requires
-key-of-requires c κs = search needs
-
 returns-2 : tie.Need-returns-2
 returns-2 c = next-goes (c .before .before .before .before .before .before .before .before .args .clock) (one (c .before .before .before .before .before .before .before .before .args
     .after)) (c .before .before .before .before .before .before .key-words .ensures) (c .before .before .before .before .before .seek-row .ensures) (c .before .before .before .before
@@ -38,12 +29,4 @@ returns-2 c = next-goes (c .before .before .before .before .before .before .befo
 pub next-due-spec : {M : Type 1} → statement M
 next-due-spec =
     tie.close
-    (tie.spec
-    key-words-requires
-    seek-row-requires
-    seek-due-requires
-    rows-requires
-    returns
-    row-at-requires
-    key-of-requires
-    returns-2)
+    (tie.spec (λ c κs. search needs) seek-row-requires (λ c κs. search needs) rows-requires returns row-at-requires (λ c κs. search needs) returns-2)

@@ -20,9 +20,6 @@ Inv-loop s₀ clock k₀ after₀ s k after = (length s ≡ length s₀) × (pla
 abbrev μ-loop : tie.MeasureT-loop
 μ-loop s₀ clock k₀ after₀ s k after = top + top + 1 - (place (keyNum k) + one after)
 
-first-key-requires : tie.Need-first-key-requires Inv-loop μ-loop
-first-key-requires c κs = search needs
-
 loop-holds : tie.Need-loop-holds Inv-loop μ-loop
 loop-holds c = (refl, omega (arith, c .first-key .ensures), ready-starts _ (c .before .before .args .clock) _ (omega (arith, c .first-key .ensures)))
 
@@ -39,9 +36,6 @@ returns c =
 
 ready-all-requires : tie.Need-ready-all-requires Inv-loop μ-loop
 ready-all-requires c κs = ready-kept (c .before .before .before .before .before .before .loop .inv .2) (c .before .before .before .before .before .before .before .before .before .pre)
-
-same-hash-other-kind-requires : tie.Need-same-hash-other-kind-requires Inv-loop μ-loop
-same-hash-other-kind-requires c κs = search needs
 
 ready-all-requires-2 : tie.Need-ready-all-requires-2 Inv-loop μ-loop
 ready-all-requires-2 c κs =
@@ -76,16 +70,4 @@ loop-again c =
 pub ready-due-spec : {M : Type 1} → statement M
 ready-due-spec =
     tie.close
-    (tie.spec
-    Inv-loop
-    μ-loop
-    first-key-requires
-    loop-holds
-    next-due-requires
-    same-length
-    returns
-    ready-all-requires
-    same-hash-other-kind-requires
-    ready-all-requires-2
-    loop-less
-    loop-again)
+    (tie.spec Inv-loop μ-loop (λ c κs. search needs) loop-holds next-due-requires same-length returns ready-all-requires (λ c κs. search needs) ready-all-requires-2 loop-less loop-again)

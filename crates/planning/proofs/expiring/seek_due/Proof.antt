@@ -27,9 +27,6 @@ loop-holds c = ((omega arith, omega (arith, c .before .before .pre .1, c .rows .
 row-at-requires : tie.Need-row-at-requires Inv-loop μ-loop
 row-at-requires c κs = (kept-shown (c .before .before .before .before .pre .0), omega (arith, c .loop-test .taken, c .before .before .rows .ensures))
 
-is-due-requires : tie.Need-is-due-requires Inv-loop μ-loop
-is-due-requires c κs = search needs
-
 returns : tie.Need-returns Inv-loop μ-loop
 returns c = record {
   least = c .before .before .before .before .loop .inv .0 .0;
@@ -71,15 +68,4 @@ returns-2 c = record {
 pub seek-due-spec : {M : Type 1} → statement M
 seek-due-spec =
     tie.close
-    (tie.spec
-    Inv-loop
-    μ-loop
-    rows-requires
-    loop-holds
-    row-at-requires
-    is-due-requires
-    returns
-    add-i
-    loop-less
-    loop-again
-    returns-2)
+    (tie.spec Inv-loop μ-loop rows-requires loop-holds row-at-requires (λ c κs. search needs) returns add-i loop-less loop-again returns-2)

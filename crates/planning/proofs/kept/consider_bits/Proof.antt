@@ -49,9 +49,6 @@ parent-of-requires c κs = (
       .before .before .before .pre .5,
 )
 
-txid-key-requires : tie.Need-txid-key-requires Inv-loop μ-loop
-txid-key-requires c κs = search needs
-
 consider-requires : tie.Need-consider-requires Inv-loop μ-loop
 consider-requires c κs = let x = c .before .before .before .before .before .before .before .loop .inv .3 in (
   x .kept,
@@ -147,21 +144,5 @@ returns-2 c = scans-as (c .before .loop .inv .3) (λ st. []) _ (omega (arith, c 
 pub consider-bits-spec : {M : Type 1} → statement M
 consider-bits-spec =
     tie.close
-    (tie.spec
-    Inv-loop
-    μ-loop
-    loop-holds
-    same-length
-    same-length-2
-    returns
-    add-j
-    parent-of-requires
-    txid-key-requires
-    consider-requires
-    loop-less
-    loop-again
-    loop-less-2
-    loop-again-2
-    same-length-3
-    same-length-4
-    returns-2)
+    (tie.spec Inv-loop μ-loop loop-holds same-length same-length-2 returns add-j parent-of-requires (λ c κs. search needs) consider-requires loop-less loop-again loop-less-2 loop-again-2
+    same-length-3 same-length-4 returns-2)

@@ -11,33 +11,6 @@ returns : tie.Need-returns
 returns c = let z = both-zero (c .before .before .before .before .args .low) (c .before .before .before .before .args .high) (c .if1 .taken) in place-clear (z .0) (z .1) (c .before .before
     .before .before .pre .1) (c .before .before .before .before .pre .4)
 
-slot-room-requires : tie.Need-slot-room-requires
-slot-room-requires c κs = search needs
-
-slice-aggregate-load : tie.Need-slice-aggregate-load
-slice-aggregate-load c = search needs
-
-load-requires : tie.Need-load-requires
-load-requires c κs = search needs
-
-slice-aggregate-parents-in : tie.Need-slice-aggregate-parents-in
-slice-aggregate-parents-in c = search needs
-
-parents-in-requires : tie.Need-parents-in-requires
-parents-in-requires c κs = search needs
-
-sub-consider-place : tie.Need-sub-consider-place
-sub-consider-place c = search needs
-
-part-consider-place-start : tie.Need-part-consider-place-start
-part-consider-place-start c = search needs
-
-part-consider-place-end : tie.Need-part-consider-place-end
-part-consider-place-end c = search needs
-
-slice-aggregate-consider-place : tie.Need-slice-aggregate-consider-place
-slice-aggregate-consider-place c = search needs
-
 consider-place-requires : tie.Need-consider-place-requires
 consider-place-requires c κs = (
   subst Kept (sym (front-lent (c .before .before .before .before .before .before .before .before .before .before .before .before .before .before .args .s .now)
@@ -54,12 +27,6 @@ consider-place-requires c κs = (
       .before .before .before .before .before .before .before .before .pre .5,
 )
 
-same-length : tie.Need-same-length
-same-length c = search needs
-
-same-length-2 : tie.Need-same-length-2
-same-length-2 c = search needs
-
 returns-2 : tie.Need-returns-2
 returns-2 c = place-scanned _ _ _ (c .before .before .before .before .before .before .before .before .before .before .before .load .ensures) (c .before .before .before .before .before
     .before .before .before .parents-in .ensures) (c .before .before .before .before .before .before .before .before .before .before .before .before .before .before .before .before .before
@@ -68,18 +35,5 @@ returns-2 c = place-scanned _ _ _ (c .before .before .before .before .before .be
 pub consider-noted-spec : {M : Type 1} → statement M
 consider-noted-spec =
     tie.close
-    (tie.spec
-    returns
-    slot-room-requires
-    slice-aggregate-load
-    load-requires
-    slice-aggregate-parents-in
-    parents-in-requires
-    sub-consider-place
-    part-consider-place-start
-    part-consider-place-end
-    slice-aggregate-consider-place
-    consider-place-requires
-    same-length
-    same-length-2
-    returns-2)
+    (tie.spec returns (λ c κs. search needs) (λ c. search needs) (λ c κs. search needs) (λ c. search needs) (λ c κs. search needs) (λ c. search needs) (λ c. search needs) (λ c. search needs)
+    (λ c. search needs) consider-place-requires (λ c. search needs) (λ c. search needs) returns-2)

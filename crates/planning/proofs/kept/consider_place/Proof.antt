@@ -11,12 +11,6 @@ use borrow.Author.Needs.{needs}
 use Rattle.planning.proofs.kept.consider_place.Statement.{statement}
 use Rattle.planning.proofs.kept.consider_place.Tie as tie
 
-first-half-requires : tie.Need-first-half-requires
-first-half-requires c κs = search needs
-
-consider-bits-requires : tie.Need-consider-bits-requires
-consider-bits-requires c κs = search needs
-
 consider-bits-requires-2 : tie.Need-consider-bits-requires-2
 consider-bits-requires-2 c κs = let x = c .before .before .before .before .before .before .consider-bits .ensures in let h = c .before .before .before .before .before .before .before
     .before .before .first-half .ensures in (
@@ -43,12 +37,6 @@ consider-bits-requires-2 c κs = let x = c .before .before .before .before .befo
       ),
     )
 
-same-length : tie.Need-same-length
-same-length c = search needs
-
-same-length-2 : tie.Need-same-length-2
-same-length-2 c = search needs
-
 returns : tie.Need-returns
 returns c = let h = c .before .before .before .before .before .before .before .before .before .before .before .before .before .before .first-half .ensures in scans-as (scans-for (λ st.
     pickedIn (hashesAt (words (c .before .before .before .before .before .before .before .before .before .before .before .before .before .before .before .before .before .before .args .slot
@@ -68,10 +56,4 @@ returns c = let h = c .before .before .before .before .before .before .before .b
 pub consider-place-spec : {M : Type 1} → statement M
 consider-place-spec =
     tie.close
-    (tie.spec
-    first-half-requires
-    consider-bits-requires
-    consider-bits-requires-2
-    same-length
-    same-length-2
-    returns)
+    (tie.spec (λ c κs. search needs) (λ c κs. search needs) consider-bits-requires-2 (λ c. search needs) (λ c. search needs) returns)

@@ -111,21 +111,5 @@ returns-2 c = kept-done (c .before .loop .inv .3) (omega (arith, c .before .loop
 pub keys-kept-spec : {M : Type 1} → statement M
 keys-kept-spec =
     tie.close
-    (tie.spec
-    Inv-loop
-    μ-loop
-    loop-holds
-    same-length
-    same-length-2
-    returns
-    mul-consider-noted
-    shared-slice-read-consider-noted
-    mul-consider-noted-2
-    shared-slice-read-consider-noted-2
-    consider-noted-requires
-    add-i
-    loop-less
-    loop-again
-    same-length-3
-    same-length-4
-    returns-2)
+    (tie.spec Inv-loop μ-loop loop-holds same-length same-length-2 returns mul-consider-noted shared-slice-read-consider-noted mul-consider-noted-2 shared-slice-read-consider-noted-2
+    consider-noted-requires add-i loop-less loop-again same-length-3 same-length-4 returns-2)

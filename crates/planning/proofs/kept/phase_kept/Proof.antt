@@ -8,9 +8,6 @@ use borrow.Author.Needs.{needs}
 use Rattle.planning.proofs.kept.phase_kept.Statement.{statement}
 use Rattle.planning.proofs.kept.phase_kept.Tie as tie
 
-opened-requires : tie.Need-opened-requires
-opened-requires c κs = search needs
-
 keys-kept-requires : tie.Need-keys-kept-requires
 keys-kept-requires c κs = (
   c .before .before .before .before .before .before .before .before .pre .0,
@@ -26,15 +23,9 @@ keys-kept-requires c κs = (
       .before .before .before .before .before .pre .6,
 )
 
-same-length : tie.Need-same-length
-same-length c = search needs
-
-same-length-2 : tie.Need-same-length-2
-same-length-2 c = search needs
-
 returns : tie.Need-returns
 returns c = kept-phased (c .before .before .before .before .before .before .before .opened .ensures) (c .before .before .before .before .keys-kept .ensures)
 
 pub phase-kept-spec : {M : Type 1} → statement M
 phase-kept-spec =
-    tie.close (tie.spec opened-requires keys-kept-requires same-length same-length-2 returns)
+    tie.close (tie.spec (λ c κs. search needs) keys-kept-requires (λ c. search needs) (λ c. search needs) returns)

@@ -6,33 +6,12 @@ use borrow.Author.Needs.{needs}
 use Rattle.planning.proofs.plan.begin.Statement.{statement}
 use Rattle.planning.proofs.plan.begin.Tie as tie
 
-note-room-requires : tie.Need-note-room-requires
-note-room-requires c κs = search needs
-
-note-room-requires-2 : tie.Need-note-room-requires-2
-note-room-requires-2 c κs = search needs
-
-slice-aggregate-expire : tie.Need-slice-aggregate-expire
-slice-aggregate-expire c = search needs
-
-slice-aggregate-expire-2 : tie.Need-slice-aggregate-expire-2
-slice-aggregate-expire-2 c = search needs
-
 expire-requires : tie.Need-expire-requires
 expire-requires c κs = (
   c .before .before .before .before .before .before .before .before .before .pre .0,
   blank-clean (c .before .before .before .before .before .note-room .ensures) (c
       .before .before .before .before .note-room2 .ensures) (parted-few (c .before .before .before .before .before .before .before .before .before .pre .0)),
 )
-
-fresh-requires : tie.Need-fresh-requires
-fresh-requires c κs = search needs
-
-slice-aggregate-phase-kept : tie.Need-slice-aggregate-phase-kept
-slice-aggregate-phase-kept c = search needs
-
-slice-aggregate-phase-kept-2 : tie.Need-slice-aggregate-phase-kept-2
-slice-aggregate-phase-kept-2 c = search needs
 
 phase-kept-requires : tie.Need-phase-kept-requires
 phase-kept-requires c κs = let x = expired-parted (c .before .before .before .before .before .before .before .before .before .before .before .before .expire .ensures) (c .before .before
@@ -70,15 +49,6 @@ phase-kept-requires c κs = let x = expired-parted (c .before .before .before .b
       ),
     )
 
-same-length : tie.Need-same-length
-same-length c = search needs
-
-same-length-2 : tie.Need-same-length-2
-same-length-2 c = search needs
-
-same-length-3 : tie.Need-same-length-3
-same-length-3 c = search needs
-
 returns : tie.Need-returns
 returns c = begun (parted-few (c .before .before .before .before .before .before .before .before .before .before .before .before .before .before .before .before .before .before .before
     .before .before .before .before .before .before .before .before .pre .0)) (c .before .before .before .before .before .before .before .before .before .before .before .before .before
@@ -88,17 +58,5 @@ returns c = begun (parted-few (c .before .before .before .before .before .before
 pub begin-spec : {M : Type 1} → statement M
 begin-spec =
     tie.close
-    (tie.spec
-    note-room-requires
-    note-room-requires-2
-    slice-aggregate-expire
-    slice-aggregate-expire-2
-    expire-requires
-    fresh-requires
-    slice-aggregate-phase-kept
-    slice-aggregate-phase-kept-2
-    phase-kept-requires
-    same-length
-    same-length-2
-    same-length-3
-    returns)
+    (tie.spec (λ c κs. search needs) (λ c κs. search needs) (λ c. search needs) (λ c. search needs) expire-requires (λ c κs. search needs) (λ c. search needs) (λ c. search needs)
+    phase-kept-requires (λ c. search needs) (λ c. search needs) (λ c. search needs) returns)

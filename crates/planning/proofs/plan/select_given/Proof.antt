@@ -15,27 +15,6 @@ use Rattle.planning.proofs.plan.select_given.Tie as tie
 held-places-requires : tie.Need-held-places-requires
 held-places-requires c κs = let z = kept-shown (c .before .before .before .before .pre .0) .sizes .long in omega (arith, z)
 
-bare-bytes-requires : tie.Need-bare-bytes-requires
-bare-bytes-requires c κs = search needs
-
-slot-room-requires : tie.Need-slot-room-requires
-slot-room-requires c κs = search needs
-
-slice-aggregate-set-apart : tie.Need-slice-aggregate-set-apart
-slice-aggregate-set-apart c = search needs
-
-set-apart-requires : tie.Need-set-apart-requires
-set-apart-requires c κs = search needs
-
-numbers-requires : tie.Need-numbers-requires
-numbers-requires c κs = search needs
-
-slice-aggregate-begin : tie.Need-slice-aggregate-begin
-slice-aggregate-begin c = search needs
-
-slice-aggregate-begin-2 : tie.Need-slice-aggregate-begin-2
-slice-aggregate-begin-2 c = search needs
-
 begin-requires : tie.Need-begin-requires
 begin-requires c κs = (
   set-parted (c .before .before .before .before .before .before .before .before .before .before .before .before .before .before .before .before .before .before .pre .0)
@@ -46,20 +25,11 @@ begin-requires c κs = (
   omega (arith, c .before .before .before .numbers .ensures),
 )
 
-sub-ask-given : tie.Need-sub-ask-given
-sub-ask-given c = search needs
-
-part-ask-given-start : tie.Need-part-ask-given-start
-part-ask-given-start c = search needs
-
 part-ask-given-end : tie.Need-part-ask-given-end
 part-ask-given-end c = let y = front-within ((set-parted (c .before .before .before .before .before .before .before .before .before .before .before .before .before .before .before .before
     .before .before .before .before .before .before .before .pre .0) (c .before .before .before .before .before .before .before .before .before .before .before .before .set-apart .ensures)
     (c .before .before .before .before .before .before .before .before .before .before .before .before .before .before .before .before .before .before .held-places .ensures .word)) .apart)
     in omega (arith, y, c .before .before .before .before .begin .kept .0)
-
-slice-aggregate-ask-given : tie.Need-slice-aggregate-ask-given
-slice-aggregate-ask-given c = search needs
 
 ask-given-requires : tie.Need-ask-given-requires
 ask-given-requires c κs = let late : c .before .before .before .before .before .before .before .before .before .before .before .before .before .before .before .before .before .before
@@ -92,9 +62,6 @@ ask-given-requires c κs = let late : c .before .before .before .before .before 
       c .before .before .before .before .before .before .before .begin .ensures .near,
     )
 
-slice-aggregate-put-back : tie.Need-slice-aggregate-put-back
-slice-aggregate-put-back c = search needs
-
 put-back-requires : tie.Need-put-back-requires
 put-back-requires c κs = let late : c .before .before .before .before .before .before .before .before .before .before .before .before .before .before .before .before .before .before .before
     .before .before .before .before .before .before .before .before .before .before .before .before .before .before .before .args .clock < word = omega (
@@ -121,12 +88,6 @@ put-back-requires c κs = let late : c .before .before .before .before .before .
     )) (c .before .before .before .before .before .before .before
     .ask-given .kept .0) refl (search needs) (c .before .before .before .before .before .before .before .before .before .before .before .before .before .before .before .begin .kept .1 .1
     .0) (c .before .before .before .before .before .before .before .ask-given .ensures)
-
-same-length : tie.Need-same-length
-same-length c = search needs
-
-same-length-2 : tie.Need-same-length-2
-same-length-2 c = search needs
 
 returns : tie.Need-returns
 returns c = let late : c .before .before .before .before .before .before .before .before .before .before .before .before .before .before .before .before .before .before .before .before
@@ -158,23 +119,6 @@ returns c = let late : c .before .before .before .before .before .before .before
 pub select-given-spec : {M : Type 1} → statement M
 select-given-spec =
     tie.close
-    (tie.spec
-    held-places-requires
-    bare-bytes-requires
-    slot-room-requires
-    slice-aggregate-set-apart
-    set-apart-requires
-    numbers-requires
-    slice-aggregate-begin
-    slice-aggregate-begin-2
-    begin-requires
-    sub-ask-given
-    part-ask-given-start
-    part-ask-given-end
-    slice-aggregate-ask-given
-    ask-given-requires
-    slice-aggregate-put-back
-    put-back-requires
-    same-length
-    same-length-2
-    returns)
+    (tie.spec held-places-requires (λ c κs. search needs) (λ c κs. search needs) (λ c. search needs) (λ c κs. search needs) (λ c κs. search needs) (λ c. search needs) (λ c. search needs)
+    begin-requires (λ c. search needs) (λ c. search needs) part-ask-given-end (λ c. search needs) ask-given-requires (λ c. search needs) put-back-requires (λ c. search needs)
+    (λ c. search needs) returns)

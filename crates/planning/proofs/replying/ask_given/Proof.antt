@@ -44,15 +44,6 @@ finish-requires c κs = let x = c .before .before .before .before .before .befor
       ),
     )
 
-same-length : tie.Need-same-length
-same-length c = search needs
-
-same-length-2 : tie.Need-same-length-2
-same-length-2 c = search needs
-
-same-length-3 : tie.Need-same-length-3
-same-length-3 c = search needs
-
 returns : tie.Need-returns
 returns c = planned (some (givenKeys (c .before .before .before .before .before .before .before .before .before .before .before .before .before .before .before .before .before .before
     .before .args .given .now))) (c .before .before .before .before .before .before .before .before .before .before .before .before .phase-given .ensures) (c .before .before .before .before
@@ -62,4 +53,4 @@ returns c = planned (some (givenKeys (c .before .before .before .before .before 
 pub ask-given-spec : {M : Type 1} → statement M
 ask-given-spec =
     tie.close
-    (tie.spec phase-given-requires finish-requires same-length same-length-2 same-length-3 returns)
+    (tie.spec phase-given-requires finish-requires (λ c. search needs) (λ c. search needs) (λ c. search needs) returns)

@@ -55,15 +55,6 @@ move-ready-requires c κs = let z = kept-shown (begun-kept (c .before .before .b
       c .before .before .before .before .before .before .finish .kept .0,
     )
 
-same-length : tie.Need-same-length
-same-length c = search needs
-
-same-length-2 : tie.Need-same-length-2
-same-length-2 c = search needs
-
-same-length-3 : tie.Need-same-length-3
-same-length-3 c = search needs
-
 returns : tie.Need-returns
 returns c = planned none (c .before .before .before .before .before .before .before .before .before .before .before .before .before .before .before .before .before .phase-round .ensures) (c
     .before .before .before .before .before .before .before .before .before .before .before .before .before .before .before .before .before .before .before .before .before .before .before
@@ -72,11 +63,4 @@ returns c = planned none (c .before .before .before .before .before .before .bef
 pub ask-round-spec : {M : Type 1} → statement M
 ask-round-spec =
     tie.close
-    (tie.spec
-    phase-round-requires
-    finish-requires
-    move-ready-requires
-    same-length
-    same-length-2
-    same-length-3
-    returns)
+    (tie.spec phase-round-requires finish-requires move-ready-requires (λ c. search needs) (λ c. search needs) (λ c. search needs) returns)

@@ -29,24 +29,6 @@ put-entries-requires c κs =
           .before .before .before .before .pre .3,
     )
 
-give-back-requires : tie.Need-give-back-requires
-give-back-requires c κs = search needs
-
-same-length : tie.Need-same-length
-same-length c = search needs
-
-same-length-2 : tie.Need-same-length-2
-same-length-2 c = search needs
-
-same-length-3 : tie.Need-same-length-3
-same-length-3 c = search needs
-
-same-length-4 : tie.Need-same-length-4
-same-length-4 c = search needs
-
-same-length-5 : tie.Need-same-length-5
-same-length-5 c = search needs
-
 returns : tie.Need-returns
 returns c = closed (c .before .before .before .before .before .before .before .before .before .before .before .before .before .before .before .before .before .before .before .before .before
     .before .before .before .before .before .before .args .out .now) (c .before .before .before .before .before .before .before .before .before .before .before .before .before .before
@@ -55,13 +37,4 @@ returns c = closed (c .before .before .before .before .before .before .before .b
 pub close-spec : {M : Type 1} → statement M
 close-spec =
     tie.close
-    (tie.spec
-    by-priority-requires
-    put-entries-requires
-    give-back-requires
-    same-length
-    same-length-2
-    same-length-3
-    same-length-4
-    same-length-5
-    returns)
+    (tie.spec by-priority-requires put-entries-requires (λ c κs. search needs) (λ c. search needs) (λ c. search needs) (λ c. search needs) (λ c. search needs) (λ c. search needs) returns)

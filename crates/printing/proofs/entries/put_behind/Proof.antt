@@ -22,23 +22,8 @@ loop-holds : tie.Need-loop-holds Inv-loop μ-loop
 loop-holds c =
     (omega arith, refl, omega arith, no-entries (c .before .before .args .out .now) (c .before .before .args .at) (c .before .before .args .answer .now) (c .before .before .args .first) refl)
 
-slice-aggregate-put-bytes : tie.Need-slice-aggregate-put-bytes Inv-loop μ-loop
-slice-aggregate-put-bytes c = search needs
-
-put-bytes-requires : tie.Need-put-bytes-requires Inv-loop μ-loop
-put-bytes-requires c κs = omega arith
-
-add-put-entry : tie.Need-add-put-entry Inv-loop μ-loop
-add-put-entry c = search needs
-
 put-entry-requires : tie.Need-put-entry-requires Inv-loop μ-loop
 put-entry-requires c κs = (omega arith, omega (arith, c .before .before .before .put-bytes .ensures .next))
-
-add-i : tie.Need-add-i Inv-loop μ-loop
-add-i c = search needs
-
-loop-less : tie.Need-loop-less Inv-loop μ-loop
-loop-less c = search needs
 
 loop-again : tie.Need-loop-again Inv-loop μ-loop
 loop-again c =
@@ -59,16 +44,5 @@ returns c = let e : c .before .loop .i ≡ c .before .before .before .before .ar
 pub put-behind-spec : {M : Type 1} → statement M
 put-behind-spec =
     tie.close
-    (tie.spec
-    Inv-loop
-    μ-loop
-    loop-holds
-    slice-aggregate-put-bytes
-    put-bytes-requires
-    add-put-entry
-    put-entry-requires
-    add-i
-    loop-less
-    loop-again
-    same-length
+    (tie.spec Inv-loop μ-loop loop-holds (λ c. search needs) (λ c κs. omega arith) (λ c. search needs) put-entry-requires (λ c. search needs) (λ c. search needs) loop-again same-length
     returns)

@@ -7,12 +7,6 @@ use borrow.Author.Needs.{needs}
 use Rattle.printing.proofs.entries.put_candidate.Statement.{statement}
 use Rattle.printing.proofs.entries.put_candidate.Tie as tie
 
-put-number-requires : tie.Need-put-number-requires
-put-number-requires c κs = search needs
-
-slice-aggregate-put-bytes : tie.Need-slice-aggregate-put-bytes
-slice-aggregate-put-bytes c = search needs
-
 put-bytes-requires : tie.Need-put-bytes-requires
 put-bytes-requires c κs = omega (arith, number-end _ (c .before .before .before .before .put-number .ensures), c .before .before .before .before .put-number .kept)
 
@@ -73,9 +67,6 @@ put-number-requires-3 c κs =
       c .before .before .before .put-bool .kept,
     )
 
-same-length : tie.Need-same-length
-same-length c = search needs
-
 returns : tie.Need-returns
 returns c =
     wrote-candidate (candidateOf (c .before .before .before .before .before .before .before .before .before .before .before .before .before .before .before .before .before .before
@@ -90,13 +81,4 @@ returns c =
 pub put-candidate-spec : {M : Type 1} → statement M
 put-candidate-spec =
     tie.close
-    (tie.spec
-    put-number-requires
-    slice-aggregate-put-bytes
-    put-bytes-requires
-    put-item-requires
-    put-number-requires-2
-    put-bool-requires
-    put-number-requires-3
-    same-length
-    returns)
+    (tie.spec (λ c κs. search needs) (λ c. search needs) put-bytes-requires put-item-requires put-number-requires-2 put-bool-requires put-number-requires-3 (λ c. search needs) returns)

@@ -7,27 +7,9 @@ use borrow.Author.Needs.{needs}
 use Rattle.printing.proofs.entries.put_entries.Statement.{statement}
 use Rattle.printing.proofs.entries.put_entries.Tie as tie
 
-slice-aggregate-put-bytes : tie.Need-slice-aggregate-put-bytes
-slice-aggregate-put-bytes c = search needs
-
-put-bytes-requires : tie.Need-put-bytes-requires
-put-bytes-requires c κs = search needs
-
-same-length : tie.Need-same-length
-same-length c = search needs
-
 returns : tie.Need-returns
 returns c = none-listed (c .before .before .before .before .before .before .before .before .pre .0) (c .before .before .before .before .before .before .before .before .args .answer .now)
     (c .before .before .before .before .before .before .before .before .args .first) (c .before .before .before .before .before .if1 .taken) (c .before .before .put-bytes .ensures)
-
-put-entry-requires : tie.Need-put-entry-requires
-put-entry-requires c κs = search needs
-
-add-put-behind : tie.Need-add-put-behind
-add-put-behind c = search needs
-
-sub-put-behind : tie.Need-sub-put-behind
-sub-put-behind c = search needs
 
 put-behind-requires : tie.Need-put-behind-requires
 put-behind-requires c κs =
@@ -44,9 +26,6 @@ put-behind-requires c κs =
       ),
     )
 
-same-length-2 : tie.Need-same-length-2
-same-length-2 c = search needs
-
 returns-2 : tie.Need-returns-2
 returns-2 c = all-listed (c .before .before .before .before .before .before .before .before .before .before .before .pre .0)
     (c .before .before .before .before .before .before .before .before .before .before .before .args .answer .now)
@@ -58,14 +37,5 @@ returns-2 c = all-listed (c .before .before .before .before .before .before .bef
 pub put-entries-spec : {M : Type 1} → statement M
 put-entries-spec =
     tie.close
-    (tie.spec
-    slice-aggregate-put-bytes
-    put-bytes-requires
-    same-length
-    returns
-    put-entry-requires
-    add-put-behind
-    sub-put-behind
-    put-behind-requires
-    same-length-2
+    (tie.spec (λ c. search needs) (λ c κs. search needs) (λ c. search needs) returns (λ c κs. search needs) (λ c. search needs) (λ c. search needs) put-behind-requires (λ c. search needs)
     returns-2)

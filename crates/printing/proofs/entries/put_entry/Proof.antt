@@ -5,12 +5,6 @@ use borrow.Author.Needs.{needs}
 use Rattle.printing.proofs.entries.put_entry.Statement.{statement}
 use Rattle.printing.proofs.entries.put_entry.Tie as tie
 
-entry-in-requires : tie.Need-entry-in-requires
-entry-in-requires c κs = search needs
-
-put-key-requires : tie.Need-put-key-requires
-put-key-requires c κs = search needs
-
 put-candidate-requires : tie.Need-put-candidate-requires
 put-candidate-requires c κs = omega (
   arith,
@@ -18,9 +12,6 @@ put-candidate-requires c κs = omega (
   c .before .before .before .put-key .kept,
   c .before .before .before .before .before .before .before .before .before .before .pre .1,
 )
-
-same-length : tie.Need-same-length
-same-length c = search needs
 
 returns : tie.Need-returns
 returns c = wrote-entry (c .before .before .before .before .before .before .before .before .before .before .entry-in .ensures)
@@ -30,4 +21,4 @@ returns c = wrote-entry (c .before .before .before .before .before .before .befo
 pub put-entry-spec : {M : Type 1} → statement M
 put-entry-spec =
     tie.close
-    (tie.spec entry-in-requires put-key-requires put-candidate-requires same-length returns)
+    (tie.spec (λ c κs. search needs) (λ c κs. search needs) put-candidate-requires (λ c. search needs) returns)

@@ -5,21 +5,12 @@ use borrow.Author.Needs.{needs}
 use Rattle.printing.proofs.entries.put_item.Statement.{statement}
 use Rattle.printing.proofs.entries.put_item.Tie as tie
 
-put-kind-requires : tie.Need-put-kind-requires
-put-kind-requires c κs = search needs
-
-hash-quad-requires : tie.Need-hash-quad-requires
-hash-quad-requires c κs = search needs
-
 put-hash-requires : tie.Need-put-hash-requires
 put-hash-requires c κs = omega (
   arith,
   kind-end (c .before .before .before .before .before .before .before .before .args .i .kind) (c .before .before .before .before .put-kind .ensures),
   c .before .before .before .before .put-kind .kept,
 )
-
-same-length : tie.Need-same-length
-same-length c = search needs
 
 returns : tie.Need-returns
 returns c = wrote-item (c .before .before .before .before .before .before .before .before .before .before .before .args .i .kind)
@@ -28,4 +19,4 @@ returns c = wrote-item (c .before .before .before .before .before .before .befor
 
 pub put-item-spec : {M : Type 1} → statement M
 put-item-spec =
-    tie.close (tie.spec put-kind-requires hash-quad-requires put-hash-requires same-length returns)
+    tie.close (tie.spec (λ c κs. search needs) (λ c κs. search needs) put-hash-requires (λ c. search needs) returns)

@@ -4,17 +4,8 @@ use borrow.Author.Needs.{needs}
 use Rattle.printing.proofs.entries.put_key.Statement.{statement}
 use Rattle.printing.proofs.entries.put_key.Tie as tie
 
-hash-quad-requires : tie.Need-hash-quad-requires
-hash-quad-requires c κs = search needs
-
-put-key-requires : tie.Need-put-key-requires
-put-key-requires c κs = search needs
-
-same-length : tie.Need-same-length
-same-length c = search needs
-
 returns : tie.Need-returns
 returns c = key-of-hash (c .before .before .before .before .before .before .before .args .k .kind) (c .before .before .before .hash-quad .ensures) (c .before .before .put-key .ensures)
 
 pub put-key-spec : {M : Type 1} → statement M
-put-key-spec = tie.close (tie.spec hash-quad-requires put-key-requires same-length returns)
+put-key-spec = tie.close (tie.spec (λ c κs. search needs) (λ c κs. search needs) (λ c. search needs) returns)

@@ -7,9 +7,6 @@ use borrow.Author.Needs.{needs}
 use Rattle.printing.proofs.entries.put_selection.Statement.{statement}
 use Rattle.printing.proofs.entries.put_selection.Tie as tie
 
-put-decimal-requires : tie.Need-put-decimal-requires
-put-decimal-requires c κs = search needs
-
 put-behind-requires : tie.Need-put-behind-requires
 put-behind-requires c κs = (
   omega (arith, c .before .before .before .before .before .before .before .pre .2),
@@ -38,4 +35,4 @@ returns c =
 
 pub put-selection-spec : {M : Type 1} → statement M
 put-selection-spec =
-    tie.close (tie.spec put-decimal-requires put-behind-requires put-time-requires (λ c. search needs) returns)
+    tie.close (tie.spec (λ c κs. search needs) put-behind-requires put-time-requires (λ c. search needs) returns)

@@ -5,27 +5,12 @@ use borrow.Author.Needs.{needs}
 use Rattle.printing.proofs.keys.listing.Statement.{statement}
 use Rattle.printing.proofs.keys.listing.Tie as tie
 
-enum-known-a : tie.Need-enum-known-a
-enum-known-a c = search needs
-
-refusal-requires : tie.Need-refusal-requires
-refusal-requires c κs = search needs
-
-enum-known-a-2 : tie.Need-enum-known-a-2
-enum-known-a-2 c = search needs
-
 put-keys-requires : tie.Need-put-keys-requires
 put-keys-requires c κs = let f = listing-fits (c .before .before .a2 .given .1) (c .before .before .before .before .before .before .pre .1) in
     (c .before .before .before .before .before .before .pre .0, f .0, f .1)
 
-same-length : tie.Need-same-length
-same-length c = search needs
-
 returns : tie.Need-returns
 returns c = refused-printed (listing-same _ (c .before .before .before .before .before .a .given .1)) (c .before .before .refusal .ensures)
-
-same-length-2 : tie.Need-same-length-2
-same-length-2 c = search needs
 
 returns-2 : tie.Need-returns-2
 returns-2 c = keys-printed _ (listing-same _ (c .before .before .before .before .before .a2 .given .1)) (c .before .before .put-keys .ensures)
@@ -33,12 +18,4 @@ returns-2 c = keys-printed _ (listing-same _ (c .before .before .before .before 
 pub listing-spec : {M : Type 1} → statement M
 listing-spec =
     tie.close
-    (tie.spec
-    enum-known-a
-    refusal-requires
-    enum-known-a-2
-    put-keys-requires
-    same-length
-    returns
-    same-length-2
-    returns-2)
+    (tie.spec (λ c. search needs) (λ c κs. search needs) (λ c. search needs) put-keys-requires (λ c. search needs) returns (λ c. search needs) returns-2)

@@ -21,20 +21,8 @@ abbrev μ-loop : tie.MeasureT-loop
 loop-holds : tie.Need-loop-holds Inv-loop μ-loop
 loop-holds c = (omega arith, refl, omega arith, none-behind (c .before .before .args .out .now) (c .before .before .args .at) (c .before .before .args .answer .now) refl)
 
-slice-aggregate-put-bytes : tie.Need-slice-aggregate-put-bytes Inv-loop μ-loop
-slice-aggregate-put-bytes c = search needs
-
-put-bytes-requires : tie.Need-put-bytes-requires Inv-loop μ-loop
-put-bytes-requires c κs = omega arith
-
 put-key-requires : tie.Need-put-key-requires Inv-loop μ-loop
 put-key-requires c κs = (omega arith, omega (arith, c .before .before .before .put-bytes .ensures .next))
-
-add-i : tie.Need-add-i Inv-loop μ-loop
-add-i c = search needs
-
-loop-less : tie.Need-loop-less Inv-loop μ-loop
-loop-less c = search needs
 
 loop-again : tie.Need-loop-again Inv-loop μ-loop
 loop-again c =
@@ -54,15 +42,4 @@ returns c = let e : c .before .loop .i ≡ c .before .before .before .before .ar
 pub put-behind-spec : {M : Type 1} → statement M
 put-behind-spec =
     tie.close
-    (tie.spec
-    Inv-loop
-    μ-loop
-    loop-holds
-    slice-aggregate-put-bytes
-    put-bytes-requires
-    put-key-requires
-    add-i
-    loop-less
-    loop-again
-    same-length
-    returns)
+    (tie.spec Inv-loop μ-loop loop-holds (λ c. search needs) (λ c κs. omega arith) put-key-requires (λ c. search needs) (λ c. search needs) loop-again same-length returns)

@@ -6,15 +6,9 @@ use borrow.Author.Needs.{needs}
 use Rattle.printing.proofs.keys.put_departure.Statement.{statement}
 use Rattle.printing.proofs.keys.put_departure.Tie as tie
 
-put-decimal-requires : tie.Need-put-decimal-requires
-put-decimal-requires c κs = search needs
-
 put-behind-requires : tie.Need-put-behind-requires
 put-behind-requires c κs = let d = decimal-end (c .before .before .before .before .before .before .before .args .own) (c .before .before .before .put-decimal .ensures) in
     (omega (arith, d, c .before .before .before .put-decimal .kept), c .before .before .before .before .before .before .before .pre .2)
-
-same-length : tie.Need-same-length
-same-length c = search needs
 
 returns : tie.Need-returns
 returns c = departure-wrote (c .before .before .before .before .before .before .before .before .before .before .pre .0)
@@ -25,4 +19,4 @@ returns c = departure-wrote (c .before .before .before .before .before .before .
 
 pub put-departure-spec : {M : Type 1} → statement M
 put-departure-spec =
-    tie.close (tie.spec put-decimal-requires put-behind-requires same-length returns)
+    tie.close (tie.spec (λ c κs. search needs) put-behind-requires (λ c. search needs) returns)

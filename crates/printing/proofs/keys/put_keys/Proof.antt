@@ -18,15 +18,6 @@ Inv-loop out₀ answer n at₀ i₀ out at i = (i ≤ n) × (length out ≡ leng
 abbrev μ-loop : tie.MeasureT-loop
 μ-loop out₀ answer n at₀ i₀ out at i = n - i
 
-slice-aggregate-put-bytes : tie.Need-slice-aggregate-put-bytes Inv-loop μ-loop
-slice-aggregate-put-bytes c = search needs
-
-put-bytes-requires : tie.Need-put-bytes-requires Inv-loop μ-loop
-put-bytes-requires c κs = search needs
-
-same-length : tie.Need-same-length Inv-loop μ-loop
-same-length c = search needs
-
 returns : tie.Need-returns Inv-loop μ-loop
 returns c = none-wrote (c .before .before .before .before .before .before .before .before .pre .0) (c .before .before .before .before .before .before .before .before .args .answer .now)
     (c .before .before .before .before .before .if1 .taken) (c .before .before .put-bytes .ensures)
@@ -36,12 +27,6 @@ loop-holds c = (omega arith, omega arith, omega arith, start-wrote (c .before .b
 
 put-next-requires : tie.Need-put-next-requires Inv-loop μ-loop
 put-next-requires c κs = (omega arith, omega arith)
-
-add-i : tie.Need-add-i Inv-loop μ-loop
-add-i c = search needs
-
-loop-less : tie.Need-loop-less Inv-loop μ-loop
-loop-less c = search needs
 
 loop-again : tie.Need-loop-again Inv-loop μ-loop
 loop-again c =
@@ -61,17 +46,5 @@ returns-2 c = all-wrote (c .before .before .before .before .before .pre .0) (c .
 pub put-keys-spec : {M : Type 1} → statement M
 put-keys-spec =
     tie.close
-    (tie.spec
-    Inv-loop
-    μ-loop
-    slice-aggregate-put-bytes
-    put-bytes-requires
-    same-length
-    returns
-    loop-holds
-    put-next-requires
-    add-i
-    loop-less
-    loop-again
-    same-length-2
-    returns-2)
+    (tie.spec Inv-loop μ-loop (λ c. search needs) (λ c κs. search needs) (λ c. search needs) returns loop-holds put-next-requires (λ c. search needs) (λ c. search needs) loop-again
+    same-length-2 returns-2)

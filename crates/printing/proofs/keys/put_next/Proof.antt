@@ -4,26 +4,8 @@ use borrow.Author.Needs.{needs}
 use Rattle.printing.proofs.keys.put_next.Statement.{statement}
 use Rattle.printing.proofs.keys.put_next.Tie as tie
 
-put-key-requires : tie.Need-put-key-requires
-put-key-requires c κs = search needs
-
-same-length : tie.Need-same-length
-same-length c = search needs
-
 returns : tie.Need-returns
 returns c = next-first (c .before .before .before .before .if1 .taken) (c .before .before .put-key .ensures)
-
-slice-aggregate-put-bytes : tie.Need-slice-aggregate-put-bytes
-slice-aggregate-put-bytes c = search needs
-
-put-bytes-requires : tie.Need-put-bytes-requires
-put-bytes-requires c κs = search needs
-
-put-key-requires-2 : tie.Need-put-key-requires-2
-put-key-requires-2 c κs = search needs
-
-same-length-2 : tie.Need-same-length-2
-same-length-2 c = search needs
 
 returns-2 : tie.Need-returns-2
 returns-2 c = next-key (keyAt (c .before .before .before .before .before .before .before .before .before .before .before .before .args .answer .now)
@@ -35,12 +17,4 @@ returns-2 c = next-key (keyAt (c .before .before .before .before .before .before
 pub put-next-spec : {M : Type 1} → statement M
 put-next-spec =
     tie.close
-    (tie.spec
-    put-key-requires
-    same-length
-    returns
-    slice-aggregate-put-bytes
-    put-bytes-requires
-    put-key-requires-2
-    same-length-2
-    returns-2)
+    (tie.spec (λ c κs. search needs) (λ c. search needs) returns (λ c. search needs) (λ c κs. search needs) (λ c κs. search needs) (λ c. search needs) returns-2)

@@ -5,12 +5,6 @@ use borrow.Author.Needs.{needs}
 use Rattle.printing.proofs.numbers.figures.Statement.{statement}
 use Rattle.printing.proofs.numbers.figures.Tie as tie
 
-put-decimal-requires : tie.Need-put-decimal-requires
-put-decimal-requires c κs = search needs
-
-slice-aggregate-put-bytes : tie.Need-slice-aggregate-put-bytes
-slice-aggregate-put-bytes c = search needs
-
 put-bytes-requires : tie.Need-put-bytes-requires
 put-bytes-requires c κs = omega (arith, decimal-end (c .before .before .before .before .before .before .before .args .held) (c .before .before .before .before .put-decimal .ensures))
 
@@ -21,9 +15,6 @@ put-decimal-requires-2 c κs = omega (
       (c .before .before .before .before .before .before .before .before .put-decimal .ensures),
   c .before .before .before .put-bytes .ensures .next,
 )
-
-slice-aggregate-put-bytes-2 : tie.Need-slice-aggregate-put-bytes-2
-slice-aggregate-put-bytes-2 c = search needs
 
 put-bytes-requires-2 : tie.Need-put-bytes-requires-2
 put-bytes-requires-2 c κs =
@@ -46,9 +37,6 @@ put-decimal-requires-3 c κs = omega (
       (c .before .before .before .before .before .before .before .before .put-decimal2 .ensures),
   c .before .before .before .put-bytes2 .ensures .next,
 )
-
-slice-aggregate-put-bytes-3 : tie.Need-slice-aggregate-put-bytes-3
-slice-aggregate-put-bytes-3 c = search needs
 
 put-bytes-requires-3 : tie.Need-put-bytes-requires-3
 put-bytes-requires-3 c κs =
@@ -86,9 +74,6 @@ put-decimal-requires-4 c κs =
       w₆ .put-bytes3 .ensures .next,
     )
 
-same-length : tie.Need-same-length
-same-length c = search needs
-
 returns : tie.Need-returns
 returns c =
     let w₇ = c .before .before in
@@ -105,16 +90,5 @@ returns c =
 pub figures-spec : {M : Type 1} → statement M
 figures-spec =
     tie.close
-    (tie.spec
-    put-decimal-requires
-    slice-aggregate-put-bytes
-    put-bytes-requires
-    put-decimal-requires-2
-    slice-aggregate-put-bytes-2
-    put-bytes-requires-2
-    put-decimal-requires-3
-    slice-aggregate-put-bytes-3
-    put-bytes-requires-3
-    put-decimal-requires-4
-    same-length
-    returns)
+    (tie.spec (λ c κs. search needs) (λ c. search needs) put-bytes-requires put-decimal-requires-2 (λ c. search needs) put-bytes-requires-2 put-decimal-requires-3 (λ c. search needs)
+    put-bytes-requires-3 put-decimal-requires-4 (λ c. search needs) returns)

@@ -6,12 +6,6 @@ use Rattle.outcome.proofs.Owned.{test-refuses, test-passes}
 use Rattle.public_packages.proofs.package_claims.teardown_package_claims.Statement.{statement}
 use Rattle.public_packages.proofs.package_claims.teardown_package_claims.Tie as tie
 
-sound-requires : tie.Need-sound-requires
-sound-requires c κs = search needs
-
-same-length : tie.Need-same-length
-same-length c = search needs
-
 returns : tie.Need-returns
 unfolding named
 returns c = test-refuses (c .before .sound .result) (c .before .sound .ensures) (c .if1 .taken) (TeardownPackageClaims _) refl
@@ -19,11 +13,5 @@ returns c = test-refuses (c .before .sound .result) (c .before .sound .ensures) 
 teardown-package-claims-requires : tie.Need-teardown-package-claims-requires
 teardown-package-claims-requires c κs = test-passes (c .before .before .sound .result) (c .before .before .sound .ensures) (c .before .if1 .left)
 
-same-length-2 : tie.Need-same-length-2
-same-length-2 c = search needs
-
-returns-2 : tie.Need-returns-2
-returns-2 c = search needs
-
 pub teardown-package-claims-spec : {M : Type 1} → statement M
-teardown-package-claims-spec = tie.close (tie.spec sound-requires same-length returns teardown-package-claims-requires same-length-2 returns-2)
+teardown-package-claims-spec = tie.close (tie.spec (λ c κs. search needs) (λ c. search needs) returns teardown-package-claims-requires (λ c. search needs) (λ c. search needs))

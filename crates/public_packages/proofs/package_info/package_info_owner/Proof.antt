@@ -6,9 +6,6 @@ use Rattle.outcome.proofs.Owned.{test-refuses, test-passes}
 use Rattle.public_packages.proofs.package_info.package_info_owner.Statement.{statement}
 use Rattle.public_packages.proofs.package_info.package_info_owner.Tie as tie
 
-sound-requires : tie.Need-sound-requires
-sound-requires c κs = search needs
-
 returns : tie.Need-returns
 unfolding named
 returns c = test-refuses (c .before .sound .result) (c .before .sound .ensures) (c .if1 .taken) (PackageInfoOwner _ _) refl
@@ -16,8 +13,5 @@ returns c = test-refuses (c .before .sound .result) (c .before .sound .ensures) 
 package-info-owner-requires : tie.Need-package-info-owner-requires
 package-info-owner-requires c κs = test-passes (c .before .sound .result) (c .before .sound .ensures) (c .if1 .left)
 
-returns-2 : tie.Need-returns-2
-returns-2 c = search needs
-
 pub package-info-owner-spec : {M : Type 1} → statement M
-package-info-owner-spec = tie.close (tie.spec sound-requires returns package-info-owner-requires returns-2)
+package-info-owner-spec = tie.close (tie.spec (λ c κs. search needs) returns package-info-owner-requires (λ c. search needs))

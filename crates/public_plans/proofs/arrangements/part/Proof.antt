@@ -5,12 +5,6 @@ use Rattle.public_plans.proofs.Parting.{in-order, out-of-order}
 use Rattle.public_plans.proofs.arrangements.part.Statement.{statement}
 use Rattle.public_plans.proofs.arrangements.part.Tie as tie
 
-seek-requires : tie.Need-seek-requires
-seek-requires c κs = search needs
-
-seek-requires-2 : tie.Need-seek-requires-2
-seek-requires-2 c κs = search needs
-
 returns : tie.Need-returns
 returns c = out-of-order _ _ (c .before .before .seek .ensures) (c .before .seek2 .ensures) (omega arith)
 
@@ -18,4 +12,4 @@ returns-2 : tie.Need-returns-2
 returns-2 c = in-order _ _ (c .before .before .seek .ensures) (c .before .seek2 .ensures) (omega arith)
 
 pub part-spec : {M : Type 1} → statement M
-part-spec = tie.close (tie.spec seek-requires seek-requires-2 returns returns-2)
+part-spec = tie.close (tie.spec (λ c κs. search needs) (λ c κs. search needs) returns returns-2)

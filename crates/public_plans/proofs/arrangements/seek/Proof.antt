@@ -20,16 +20,10 @@ Inv-loop list connection after lo₀ hi₀ lo hi = Searching (connectionsIn (ent
 abbrev μ-loop : tie.MeasureT-loop
 μ-loop list connection after lo₀ hi₀ lo hi = hi - lo
 
-entries-requires : tie.Need-entries-requires Inv-loop μ-loop
-entries-requires c κs = search needs
-
 loop-holds : tie.Need-loop-holds Inv-loop μ-loop
 loop-holds c =
     let b = c .before .before .args .list .now in
     rw (c .entries .ensures ∙ sym (length-entries b)) (search-start (connectionsIn (entriesIn b)) (length (entriesIn b)) _ (length-connections (entriesIn b)))
-
-sub-mid : tie.Need-sub-mid Inv-loop μ-loop
-sub-mid c = search needs
 
 add-mid : tie.Need-add-mid Inv-loop μ-loop
 add-mid c = omega (arith, c .before .loop .inv .hi-le, length-entries (c .before .before .before .before .args .list .now))
@@ -43,14 +37,8 @@ add-get c = omega (arith, c .before .loop .inv .hi-le, length-entries (c .before
 get-requires : tie.Need-get-requires Inv-loop μ-loop
 get-requires c κs = omega (arith, c .before .loop .inv .hi-le, length-entries (c .before .before .before .before .args .list .now))
 
-falls-short-requires : tie.Need-falls-short-requires Inv-loop μ-loop
-falls-short-requires c κs = search needs
-
 add-lo : tie.Need-add-lo Inv-loop μ-loop
 add-lo c = omega (arith, c .before .before .before .before .loop .inv .hi-le, length-entries (c .before .before .before .before .before .before .before .args .list .now))
-
-loop-less : tie.Need-loop-less Inv-loop μ-loop
-loop-less c = search needs
 
 loop-again : tie.Need-loop-again Inv-loop μ-loop
 loop-again c =
@@ -59,9 +47,6 @@ loop-again c =
     let m = c .before .before .before .before .loop .lo + (c .before .before .before .before .loop .hi - c .before .before .before .before .loop .lo) / 2 in
     let i : m < length (entriesIn b) = omega (arith, v .hi-le) in
     search-up v m (omega arith) (omega arith) (rw (← connection-at b m i (c .before .before .get .ensures)) (ltb-true _ _ (sym (c .before .falls-short .ensures) ∙ c .if1 .taken)))
-
-loop-less-2 : tie.Need-loop-less-2 Inv-loop μ-loop
-loop-less-2 c = search needs
 
 loop-again-2 : tie.Need-loop-again-2 Inv-loop μ-loop
 loop-again-2 c =
@@ -76,4 +61,5 @@ returns c = search-end (c .before .loop .inv) (c .loop-test .left)
 
 pub seek-spec : {M : Type 1} → statement M
 seek-spec =
-    tie.close (tie.spec Inv-loop μ-loop entries-requires loop-holds sub-mid add-mid mul-get add-get get-requires falls-short-requires add-lo loop-less loop-again loop-less-2 loop-again-2 returns)
+    tie.close (tie.spec Inv-loop μ-loop (λ c κs. search needs) loop-holds (λ c. search needs) add-mid mul-get add-get get-requires (λ c κs. search needs) add-lo (λ c. search needs) loop-again
+    (λ c. search needs) loop-again-2 returns)

@@ -6,12 +6,6 @@ use Rattle.outcome.proofs.Owned.{test-refuses, test-passes}
 use Rattle.public_plans.proofs.plans.plan_given.Statement.{statement}
 use Rattle.public_plans.proofs.plans.plan_given.Tie as tie
 
-sound-requires : tie.Need-sound-requires
-sound-requires c κs = search needs
-
-same-length : tie.Need-same-length
-same-length c = search needs
-
 returns : tie.Need-returns
 unfolding named
 returns c = test-refuses (c .before .sound .result) (c .before .sound .ensures) (c .if1 .taken) (Plan _ _ _) refl
@@ -19,14 +13,5 @@ returns c = test-refuses (c .before .sound .result) (c .before .sound .ensures) 
 plan-given-requires : tie.Need-plan-given-requires
 plan-given-requires c κs = test-passes (c .before .before .before .sound .result) (c .before .before .before .sound .ensures) (c .before .before .if1 .left)
 
-same-length-2 : tie.Need-same-length-2
-same-length-2 c = search needs
-
-same-length-3 : tie.Need-same-length-3
-same-length-3 c = search needs
-
-returns-2 : tie.Need-returns-2
-returns-2 c = search needs
-
 pub plan-given-spec : {M : Type 1} → statement M
-plan-given-spec = tie.close (tie.spec sound-requires same-length returns plan-given-requires same-length-2 same-length-3 returns-2)
+plan-given-spec = tie.close (tie.spec (λ c κs. search needs) (λ c. search needs) returns plan-given-requires (λ c. search needs) (λ c. search needs) (λ c. search needs))

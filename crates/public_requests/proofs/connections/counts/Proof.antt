@@ -7,17 +7,11 @@ use Rattle.public_requests.proofs.Counting.{counts-unsound}
 use Rattle.public_requests.proofs.connections.counts.Statement.{statement}
 use Rattle.public_requests.proofs.connections.counts.Tie as tie
 
-sound-requires : tie.Need-sound-requires
-sound-requires c κs = search needs
-
 returns : tie.Need-returns
 returns c = counts-unsound _ (not-sound _ (c .before .sound .result) (not-true (c .before .sound .result) (c .if1 .taken)) (c .before .sound .ensures))
 
 counts-requires : tie.Need-counts-requires
 counts-requires c κs = test-passes (c .before .sound .result) (c .before .sound .ensures) (c .if1 .left)
 
-returns-2 : tie.Need-returns-2
-returns-2 c = search needs
-
 pub counts-spec : {M : Type 1} → statement M
-counts-spec = tie.close (tie.spec sound-requires returns counts-requires returns-2)
+counts-spec = tie.close (tie.spec (λ c κs. search needs) returns counts-requires (λ c. search needs))

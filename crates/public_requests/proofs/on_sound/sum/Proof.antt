@@ -12,15 +12,6 @@ get-requires c κs = omega (arith, head-inside (c .before .args .s .now) (c .bef
 get-requires-2 : tie.Need-get-requires-2
 get-requires-2 c κs = omega (arith, head-inside (c .before .before .args .s .now) (c .before .before .pre))
 
-need-of-requires : tie.Need-need-of-requires
-need-of-requires c κs = search needs
-
-slice-aggregate-evictable : tie.Need-slice-aggregate-evictable
-slice-aggregate-evictable c = search needs
-
-evictable-requires : tie.Need-evictable-requires
-evictable-requires c κs = search needs
-
 figures-of-requires : tie.Need-figures-of-requires
 figures-of-requires c κs =
     let start : tie.Start = c .before .before .before .before .before .before in
@@ -37,4 +28,4 @@ returns c =
 pub sum-spec : {M : Type 1} → statement M
 sum-spec =
     tie.close
-    (tie.spec get-requires get-requires-2 need-of-requires slice-aggregate-evictable evictable-requires figures-of-requires returns)
+    (tie.spec get-requires get-requires-2 (λ c κs. search needs) (λ c. search needs) (λ c κs. search needs) figures-of-requires returns)

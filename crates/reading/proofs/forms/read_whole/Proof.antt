@@ -4,15 +4,6 @@ use borrow.Author.Needs.{needs}
 use Rattle.reading.proofs.forms.read_whole.Statement.{statement}
 use Rattle.reading.proofs.forms.read_whole.Tie as tie
 
-read-form-requires : tie.Need-read-form-requires
-read-form-requires c κs = search needs
-
-enum-known-v : tie.Need-enum-known-v
-enum-known-v c = search needs
-
-enum-told : tie.Need-enum-told
-enum-told c = search needs
-
 returns : tie.Need-returns
 returns c = no-whole (c .before .before .read-form .ensures) (c .enum-told .given .1)
 
@@ -23,4 +14,4 @@ returns-3 : tie.Need-returns-3
 returns-3 c = whole-is (c .before .before .before .before .read-form .ensures) (c .before .before .v .given .1) (c .if1 .left)
 
 pub read-whole-spec : {M : Type 1} → statement M
-read-whole-spec = tie.close (tie.spec read-form-requires enum-known-v enum-told returns returns-2 returns-3)
+read-whole-spec = tie.close (tie.spec (λ c κs. search needs) (λ c. search needs) (λ c. search needs) returns returns-2 returns-3)

@@ -3,14 +3,8 @@ use borrow.Author.Needs.{needs}
 use Rattle.reading.proofs.forms.with_hash.Statement.{statement}
 use Rattle.reading.proofs.forms.with_hash.Tie as tie
 
-hash-if-requires : tie.Need-hash-if-requires
-hash-if-requires c κs = search needs
-
-hash-if-requires-2 : tie.Need-hash-if-requires-2
-hash-if-requires-2 c κs = search needs
-
 returns : tie.Need-returns
 returns c = rw (← c .before .hash-if .ensures, ← c .hash-if2 .ensures)
 
 pub with-hash-spec : {M : Type 1} → statement M
-with-hash-spec = tie.close (tie.spec hash-if-requires hash-if-requires-2 returns)
+with-hash-spec = tie.close (tie.spec (λ c κs. search needs) (λ c κs. search needs) returns)

@@ -5,18 +5,6 @@ use borrow.Author.Needs.{needs}
 use Rattle.reading.proofs.hashes.put_hash.Statement.{statement}
 use Rattle.reading.proofs.hashes.put_hash.Tie as tie
 
-mul-put-hash : tie.Need-mul-put-hash
-mul-put-hash c = search needs
-
-hash-of-requires : tie.Need-hash-of-requires
-hash-of-requires c κs = search needs
-
-put-hash-requires : tie.Need-put-hash-requires
-put-hash-requires c κs = search needs
-
-same-length : tie.Need-same-length
-same-length c = search needs
-
 returns : tie.Need-returns
 returns c =
     let q = c .before .before .before .before .before .before .args .q in
@@ -26,4 +14,4 @@ returns c =
 
 pub put-hash-spec : {M : Type 1} → statement M
 put-hash-spec =
-    tie.close (tie.spec mul-put-hash hash-of-requires put-hash-requires same-length returns)
+    tie.close (tie.spec (λ c. search needs) (λ c κs. search needs) (λ c κs. search needs) (λ c. search needs) returns)

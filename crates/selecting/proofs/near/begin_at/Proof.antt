@@ -19,15 +19,6 @@ returns c = behind-none _ _ _
 returns-2 : tie.Need-returns-2
 returns-2 c = behind-none _ _ _
 
-sub-key-at : tie.Need-sub-key-at
-sub-key-at c = search needs
-
-key-at-requires : tie.Need-key-at-requires
-key-at-requires c κs = search needs
-
-falls-short-requires : tie.Need-falls-short-requires
-falls-short-requires c κs = search needs
-
 returns-3 : tie.Need-returns-3
 returns-3 c =
     let a = c .before .before .before .before .before .before .args in
@@ -40,4 +31,4 @@ returns-4 : tie.Need-returns-4
 returns-4 c = behind-none _ _ _
 
 pub begin-at-spec : {M : Type 1} → statement M
-begin-at-spec = tie.close (tie.spec returns returns-2 sub-key-at key-at-requires falls-short-requires returns-3 returns-4)
+begin-at-spec = tie.close (tie.spec returns returns-2 (λ c. search needs) (λ c κs. search needs) (λ c κs. search needs) returns-3 returns-4)

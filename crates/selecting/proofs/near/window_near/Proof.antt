@@ -5,9 +5,6 @@ use Rattle.selecting.proofs.Nearing.{window-by}
 use Rattle.selecting.proofs.near.window_near.Statement.{statement}
 use Rattle.selecting.proofs.near.window_near.Tie as tie
 
-key-words-requires : tie.Need-key-words-requires
-key-words-requires c κs = search needs
-
 seek-near-requires : tie.Need-seek-near-requires
 seek-near-requires c κs = kept-shown (c .before .before .pre)
 
@@ -18,4 +15,4 @@ returns : tie.Need-returns
 returns c = window-by (c .before .before .before .before .pre) (c .before .before .key-words .ensures) (c .before .seek-near .ensures) (c .seek-near2 .ensures)
 
 pub window-near-spec : {M : Type 1} → statement M
-window-near-spec = tie.close (tie.spec key-words-requires seek-near-requires seek-near-requires-2 returns)
+window-near-spec = tie.close (tie.spec (λ c κs. search needs) seek-near-requires seek-near-requires-2 returns)

@@ -5,14 +5,8 @@ use Rattle.selecting.proofs.Given.{key-given}
 use Rattle.selecting.proofs.phase.key_in.Statement.{statement}
 use Rattle.selecting.proofs.phase.key_in.Tie as tie
 
-mul-key-at : tie.Need-mul-key-at
-mul-key-at c = search needs
-
-key-at-requires : tie.Need-key-at-requires
-key-at-requires c κs = search needs
-
 returns : tie.Need-returns
 returns c = c .key-at .ensures ∙ key-given (c .before .before .args .b .now) (c .before .before .args .i) (c .before .before .pre)
 
 pub key-in-spec : {M : Type 1} → statement M
-key-in-spec = tie.close (tie.spec mul-key-at key-at-requires returns)
+key-in-spec = tie.close (tie.spec (λ c. search needs) (λ c κs. search needs) returns)

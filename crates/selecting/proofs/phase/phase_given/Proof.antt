@@ -7,9 +7,6 @@ use Rattle.selecting.proofs.Walked.{opened-roomy, phased}
 use Rattle.selecting.proofs.phase.phase_given.Statement.{statement}
 use Rattle.selecting.proofs.phase.phase_given.Tie as tie
 
-opened-requires : tie.Need-opened-requires
-opened-requires c κs = search needs
-
 keys-given-requires : tie.Need-keys-given-requires
 keys-given-requires c κs =
     let e = c .before .before .opened .ensures in (
@@ -22,15 +19,9 @@ keys-given-requires c κs =
           (arith, ap (λ (u : Scan). u .considered) e, c .before .before .before .before .before .before .pre .4),
     )
 
-same-length : tie.Need-same-length
-same-length c = search needs
-
-same-length-2 : tie.Need-same-length-2
-same-length-2 c = search needs
-
 returns : tie.Need-returns
 returns c = phased (c .before .before .before .before .before .before .before .opened .ensures) (c .before .before .before .before .keys-given .ensures)
 
 pub phase-given-spec : {M : Type 1} → statement M
 phase-given-spec =
-    tie.close (tie.spec opened-requires keys-given-requires same-length same-length-2 returns)
+    tie.close (tie.spec (λ c κs. search needs) keys-given-requires (λ c. search needs) (λ c. search needs) returns)

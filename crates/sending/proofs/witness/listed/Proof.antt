@@ -19,21 +19,12 @@ abbrev μ-loop : tie.MeasureT-loop
 loop-holds : tie.Need-loop-holds Inv-loop μ-loop
 loop-holds c = (omega arith, refl)
 
-get-requires : tie.Need-get-requires Inv-loop μ-loop
-get-requires c κs = omega arith
-
 returns : tie.Need-returns Inv-loop μ-loop
 returns c =
     let a = c .before .before .before .before .before .args in
     let l = length-words (a .list .now) in
     let z = c .before .before .before .loop in
     elem-found (a .connection) (words (a .list .now)) (z .i) (z .inv .1) (omega (arith, l, c .before .before .loop-test .taken)) (c .before .get .ensures) (c .if1 .taken)
-
-add-i : tie.Need-add-i Inv-loop μ-loop
-add-i c = omega arith
-
-loop-less : tie.Need-loop-less Inv-loop μ-loop
-loop-less c = omega arith
 
 loop-again : tie.Need-loop-again Inv-loop μ-loop
 loop-again c =
@@ -51,4 +42,4 @@ returns-2 c =
 pub listed-spec : {M : Type 1} → statement M
 listed-spec =
     tie.close
-    (tie.spec Inv-loop μ-loop loop-holds get-requires returns add-i loop-less loop-again returns-2)
+    (tie.spec Inv-loop μ-loop loop-holds (λ c κs. omega arith) returns (λ c. omega arith) (λ c. omega arith) loop-again returns-2)

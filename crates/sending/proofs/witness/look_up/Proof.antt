@@ -10,11 +10,5 @@ use Rattle.sending.proofs.witness.look_up.Tie as tie
 returns : tie.Need-returns
 returns c = (c .if1 .taken, c .before .before .before .pre ∙ ap (λ (n : ℕ). elem n (words (c .before .before .before .args .list .now))) (c .if1 .taken))
 
-listed-requires : tie.Need-listed-requires
-listed-requires c κs = search needs
-
-returns-2 : tie.Need-returns-2
-returns-2 c = search needs
-
 pub look-up-spec : {M : Type 1} → statement M
-look-up-spec = tie.close (tie.spec returns listed-requires returns-2)
+look-up-spec = tie.close (tie.spec returns (λ c κs. search needs) (λ c. search needs))

@@ -13,12 +13,6 @@ use Rattle.claiming.specs.Claiming.{entryOf, noEntry}
 use Rattle.sending.proofs.witness.marked.Statement.{statement}
 use Rattle.sending.proofs.witness.marked.Tie as tie
 
-key-words-requires : tie.Need-key-words-requires
-key-words-requires c κs = search needs
-
-window-of-requires : tie.Need-window-of-requires
-window-of-requires c κs = search needs
-
 mark-in-requires : tie.Need-mark-in-requires
 mark-in-requires c κs = (kept-shown (c .before .before .before .pre), c .window-of .ensures .most)
 
@@ -33,4 +27,4 @@ returns c = λ st s w.
     ap (λ (x : ℕ). eqb x 1) (c .mark-in .ensures .is (flatOf st) d w ∙ mark-of st s k d from to) ∙ bit-one ((at k (st .table)) .fallback)
 
 pub marked-spec : {M : Type 1} → statement M
-marked-spec = tie.close (tie.spec key-words-requires window-of-requires mark-in-requires returns)
+marked-spec = tie.close (tie.spec (λ c κs. search needs) (λ c κs. search needs) mark-in-requires returns)

@@ -10,18 +10,6 @@ use Rattle.machine.specs.Step.{entryAnswer}
 use Rattle.sending.proofs.witness.put_turned.Statement.{statement}
 use Rattle.sending.proofs.witness.put_turned.Tie as tie
 
-entry-in-requires : tie.Need-entry-in-requires
-entry-in-requires c κs = search needs
-
-for-witness-requires : tie.Need-for-witness-requires
-for-witness-requires c κs = search needs
-
-put-entry-requires : tie.Need-put-entry-requires
-put-entry-requires c κs = search needs
-
-same-length : tie.Need-same-length
-same-length c = search needs
-
 returns : tie.Need-returns
 returns c =
     let start : tie.Start = c .before .before .before .before .before .before .before .before .before .before .before .before in
@@ -36,4 +24,4 @@ returns c =
 pub put-turned-spec : {M : Type 1} → statement M
 put-turned-spec =
     tie.close
-    (tie.spec entry-in-requires for-witness-requires put-entry-requires same-length returns)
+    (tie.spec (λ c κs. search needs) (λ c κs. search needs) (λ c κs. search needs) (λ c. search needs) returns)

@@ -5,12 +5,6 @@ use Rattle.sound.proofs.Owned.{past-decides}
 use Rattle.sound.proofs.owner.not_short.Statement.{statement}
 use Rattle.sound.proofs.owner.not_short.Tie as tie
 
-key-at-requires : tie.Need-key-at-requires
-key-at-requires c κs = search needs
-
-key-less-requires : tie.Need-key-less-requires
-key-less-requires c κs = search needs
-
 returns : tie.Need-returns
 returns c =
     let a = c .before .before .before .before .args in
@@ -20,4 +14,4 @@ returns-2 : tie.Need-returns-2
 returns-2 c = λ h. absurd (omega arith)
 
 pub not-short-spec : {M : Type 1} → statement M
-not-short-spec = tie.close (tie.spec key-at-requires key-less-requires returns returns-2)
+not-short-spec = tie.close (tie.spec (λ c κs. search needs) (λ c κs. search needs) returns returns-2)

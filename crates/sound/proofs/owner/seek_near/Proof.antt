@@ -12,24 +12,6 @@ use Rattle.sound.proofs.Owned.{tested-bound}
 use Rattle.sound.proofs.owner.seek_near.Statement.{statement}
 use Rattle.sound.proofs.owner.seek_near.Tie as tie
 
-short-before-requires : tie.Need-short-before-requires
-short-before-requires c κs = search needs
-
-seek-row-requires : tie.Need-seek-row-requires
-seek-row-requires c κs = search needs
-
-returns : tie.Need-returns
-returns c = search needs
-
-not-short-requires : tie.Need-not-short-requires
-not-short-requires c κs = search needs
-
-seek-row-requires-2 : tie.Need-seek-row-requires-2
-seek-row-requires-2 c κs = search needs
-
-returns-2 : tie.Need-returns-2
-returns-2 c = search needs
-
 returns-3 : tie.Need-returns-3
 returns-3 c =
     let a = c .before .before .before .before .before .args in
@@ -40,4 +22,4 @@ returns-3 c =
     tested-bound ks (a .n) (keyNumber (a .k) + one false) (a .i) (length-recs rowSize rowKey (a .n) (words (a .s .now))) (p .0) (λ h. omega (arith, p .1 h)) (λ h. omega (arith, q h))
 
 pub seek-near-spec : {M : Type 1} → statement M
-seek-near-spec = tie.close (tie.spec short-before-requires seek-row-requires returns not-short-requires seek-row-requires-2 returns-2 returns-3)
+seek-near-spec = tie.close (tie.spec (λ c κs. search needs) (λ c κs. search needs) (λ c. search needs) (λ c κs. search needs) (λ c κs. search needs) (λ c. search needs) returns-3)

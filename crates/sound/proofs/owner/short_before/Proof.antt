@@ -11,19 +11,10 @@ returns c = λ z. absurd (omega (arith, z .0))
 returns-2 : tie.Need-returns-2
 returns-2 c = (omega arith, λ h. absurd (omega arith))
 
-sub-key-at : tie.Need-sub-key-at
-sub-key-at c = search needs
-
-key-at-requires : tie.Need-key-at-requires
-key-at-requires c κs = search needs
-
-key-less-requires : tie.Need-key-less-requires
-key-less-requires c κs = search needs
-
 returns-3 : tie.Need-returns-3
 returns-3 c =
     let a = c .before .before .before .before .before .args in
     short-decides (words (a .s .now)) (a .n) (a .k) (a .i) (omega arith) (omega arith) (c .before .key-at .ensures) (c .key-less .ensures)
 
 pub short-before-spec : {M : Type 1} → statement M
-short-before-spec = tie.close (tie.spec returns returns-2 sub-key-at key-at-requires key-less-requires returns-3)
+short-before-spec = tie.close (tie.spec returns returns-2 (λ c. search needs) (λ c κs. search needs) (λ c κs. search needs) returns-3)

@@ -21,24 +21,6 @@ loop-holds c =
     let a = c .before .before .args in
     (omega arith, repeat-none (words (a .s .now)) (a .a) (a .n), c .before .before .pre .1, λ x e. absurd (none-met (words (a .s .now)) (a .a) (a .n) x e))
 
-sub-read-quad : tie.Need-sub-read-quad Inv-loop μ-loop
-sub-read-quad c = search needs
-
-mul-read-quad : tie.Need-mul-read-quad Inv-loop μ-loop
-mul-read-quad c = search needs
-
-add-read-quad : tie.Need-add-read-quad Inv-loop μ-loop
-add-read-quad c = search needs
-
-read-quad-requires : tie.Need-read-quad-requires Inv-loop μ-loop
-read-quad-requires c κs = search needs
-
-slot-requires : tie.Need-slot-requires Inv-loop μ-loop
-slot-requires c κs = search needs
-
-mul-has-marked : tie.Need-mul-has-marked Inv-loop μ-loop
-mul-has-marked c = search needs
-
 slice-read-has-marked : tie.Need-slice-read-has-marked Inv-loop μ-loop
 slice-read-has-marked c = omega (arith, c .before .before .before .before .loop .inv .2)
 
@@ -46,9 +28,6 @@ has-marked-requires : tie.Need-has-marked-requires Inv-loop μ-loop
 has-marked-requires c κs =
     let l = c .before .before .before .before .loop in
     (l .inv .0, search needs, λ z. unmarked (c .before .before .before .before .before .before .before .args .mark) (l .slots) _ _ (l .inv .3) (c .before .slot .ensures .0) z)
-
-same-length : tie.Need-same-length Inv-loop μ-loop
-same-length c = search needs
 
 returns : tie.Need-returns Inv-loop μ-loop
 returns c =
@@ -58,17 +37,8 @@ returns c =
       l .inv .2,
     )
 
-mul-slots : tie.Need-mul-slots Inv-loop μ-loop
-mul-slots c = search needs
-
 slice-write-slots : tie.Need-slice-write-slots Inv-loop μ-loop
 slice-write-slots c = omega (arith, c .before .before .before .before .before .before .loop .inv .2)
-
-sub-k : tie.Need-sub-k Inv-loop μ-loop
-sub-k c = search needs
-
-loop-less : tie.Need-loop-less Inv-loop μ-loop
-loop-less c = search needs
 
 loop-again : tie.Need-loop-again Inv-loop μ-loop
 loop-again c =
@@ -81,9 +51,6 @@ loop-again c =
       marked-turn (words (a .s .now)) (a .a) (a .n) (l .k) (omega arith) (l .inv .0) q (a .mark) (l .slots) (c .before .before .before .slot .ensures .0) (omega (arith, l .inv .2)) (l .inv .3),
     )
 
-same-length-2 : tie.Need-same-length-2 Inv-loop μ-loop
-same-length-2 c = search needs
-
 returns-2 : tie.Need-returns-2 Inv-loop μ-loop
 returns-2 c =
     let e : c .before .loop .k ≡ 0 = omega arith in
@@ -92,24 +59,5 @@ returns-2 c =
 pub distinct-spec : {M : Type 1} → statement M
 distinct-spec =
     tie.close
-    (tie.spec
-    Inv-loop
-    μ-loop
-    loop-holds
-    sub-read-quad
-    mul-read-quad
-    add-read-quad
-    read-quad-requires
-    slot-requires
-    mul-has-marked
-    slice-read-has-marked
-    has-marked-requires
-    same-length
-    returns
-    mul-slots
-    slice-write-slots
-    sub-k
-    loop-less
-    loop-again
-    same-length-2
-    returns-2)
+    (tie.spec Inv-loop μ-loop loop-holds (λ c. search needs) (λ c. search needs) (λ c. search needs) (λ c κs. search needs) (λ c κs. search needs) (λ c. search needs) slice-read-has-marked
+    has-marked-requires (λ c. search needs) returns (λ c. search needs) slice-write-slots (λ c. search needs) (λ c. search needs) loop-again (λ c. search needs) returns-2)

@@ -19,28 +19,10 @@ abbrev μ-loop : tie.MeasureT-loop
 loop-holds : tie.Need-loop-holds Inv-loop μ-loop
 loop-holds c = (omega arith, search needs, refl)
 
-mul-read-quad : tie.Need-mul-read-quad Inv-loop μ-loop
-mul-read-quad c = search needs
-
-add-read-quad : tie.Need-add-read-quad Inv-loop μ-loop
-add-read-quad c = search needs
-
-read-quad-requires : tie.Need-read-quad-requires Inv-loop μ-loop
-read-quad-requires c κs = search needs
-
-same-hash-requires : tie.Need-same-hash-requires Inv-loop μ-loop
-same-hash-requires c κs = search needs
-
 returns : tie.Need-returns Inv-loop μ-loop
 returns c = sym (c .before .before .before .before .loop .inv .2 ∙ elem-here (words (c .before .before .before .before .before .before .args .s .now))
     (c .before .before .before .before .before .before .args .a) (c .before .before .before .before .loop .k) (c .before .before .before .before .before .before .args .to) (omega arith)
     (c .before .before .read-quad .ensures) (quadNumber (c .before .before .before .before .before .before .args .h)) (rw (c .if1 .taken) at (c .before .same-hash .ensures)))
-
-add-k : tie.Need-add-k Inv-loop μ-loop
-add-k c = search needs
-
-loop-less : tie.Need-loop-less Inv-loop μ-loop
-loop-less c = search needs
 
 loop-again : tie.Need-loop-again Inv-loop μ-loop
 loop-again c = (
@@ -58,16 +40,5 @@ returns-2 c = sym (c .before .loop .inv .2 ∙ elem-end (words (c .before .befor
 pub has-hash-spec : {M : Type 1} → statement M
 has-hash-spec =
     tie.close
-    (tie.spec
-    Inv-loop
-    μ-loop
-    loop-holds
-    mul-read-quad
-    add-read-quad
-    read-quad-requires
-    same-hash-requires
-    returns
-    add-k
-    loop-less
-    loop-again
+    (tie.spec Inv-loop μ-loop loop-holds (λ c. search needs) (λ c. search needs) (λ c κs. search needs) (λ c κs. search needs) returns (λ c. search needs) (λ c. search needs) loop-again
     returns-2)

@@ -7,11 +7,5 @@ use Rattle.sound.proofs.place.has_marked.Tie as tie
 returns : tie.Need-returns
 returns c = sym (c .before .before .pre .2 (not-true _ (c .if1 .taken)))
 
-has-hash-requires : tie.Need-has-hash-requires
-has-hash-requires c κs = search needs
-
-returns-2 : tie.Need-returns-2
-returns-2 c = search needs
-
 pub has-marked-spec : {M : Type 1} → statement M
-has-marked-spec = tie.close (tie.spec returns has-hash-requires returns-2)
+has-marked-spec = tie.close (tie.spec returns (λ c κs. search needs) (λ c. search needs))

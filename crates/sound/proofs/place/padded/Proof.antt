@@ -11,34 +11,13 @@ use Rattle.sound_rows.proofs.Decide.{decides-iff, passed, failed}
 use Rattle.sound.proofs.place.padded.Statement.{statement}
 use Rattle.sound.proofs.place.padded.Tie as tie
 
-mul-is-zero : tie.Need-mul-is-zero
-mul-is-zero c = search needs
-
-add-is-zero : tie.Need-add-is-zero
-add-is-zero c = search needs
-
-is-zero-requires : tie.Need-is-zero-requires
-is-zero-requires c κs = search needs
-
 returns : tie.Need-returns
 returns c = λ p. failed (slice (wtxidsAt + c .before .before .before .args .m * 4) parentsAt (words (c .before .before .before .args .p .now)) ≡
     replicate (parentsAt - (wtxidsAt + c .before .before .before .args .m * 4)) 0) (c .before .is-zero .result) (c .if1 .taken) (c .before .is-zero .ensures) (p .wtxids)
 
-mul-is-zero-2 : tie.Need-mul-is-zero-2
-mul-is-zero-2 c = search needs
-
-add-is-zero-2 : tie.Need-add-is-zero-2
-add-is-zero-2 c = search needs
-
-is-zero-requires-2 : tie.Need-is-zero-requires-2
-is-zero-requires-2 c κs = search needs
-
 returns-2 : tie.Need-returns-2
 returns-2 c = λ p. failed (slice (parentsAt + c .before .before .before .before .before .args .n * 4) keptAt (words (c .before .before .before .before .before .args .p .now)) ≡
     replicate (keptAt - (parentsAt + c .before .before .before .before .before .args .n * 4)) 0) (c .before .is-zero2 .result) (c .if2 .taken) (c .before .is-zero2 .ensures) (p .parents)
-
-is-zero-requires-3 : tie.Need-is-zero-requires-3
-is-zero-requires-3 c κs = search needs
 
 returns-3 : tie.Need-returns-3
 returns-3 c =
@@ -53,14 +32,4 @@ returns-3 c =
 pub padded-spec : {M : Type 1} → statement M
 padded-spec =
     tie.close
-    (tie.spec
-    mul-is-zero
-    add-is-zero
-    is-zero-requires
-    returns
-    mul-is-zero-2
-    add-is-zero-2
-    is-zero-requires-2
-    returns-2
-    is-zero-requires-3
-    returns-3)
+    (tie.spec (λ c. search needs) (λ c. search needs) (λ c κs. search needs) returns (λ c. search needs) (λ c. search needs) (λ c κs. search needs) returns-2 (λ c κs. search needs) returns-3)

@@ -17,18 +17,6 @@ use Rattle.sound.proofs.PlaceTests.{refuse-stage, refuse-parents, refus
 use Rattle.sound.proofs.place.place_fits.Statement.{statement}
 use Rattle.sound.proofs.place.place_fits.Tie as tie
 
-get-requires : tie.Need-get-requires
-get-requires c κs = search needs
-
-read-quad-requires : tie.Need-read-quad-requires
-read-quad-requires c κs = search needs
-
-get-requires-2 : tie.Need-get-requires-2
-get-requires-2 c κs = search needs
-
-stage-fits-requires : tie.Need-stage-fits-requires
-stage-fits-requires c κs = search needs
-
 returns : tie.Need-returns
 returns c =
     let v = words (c .before .before .before .before .before .before .before .before .args .p .now) in
@@ -42,9 +30,6 @@ returns c =
           (c .before .stage-fits .result) (c .if1 .taken) (c .before .stage-fits .ensures))),
       c .before .before .before .before .before .before .before .before .pre .2,
     )
-
-get-requires-3 : tie.Need-get-requires-3
-get-requires-3 c κs = search needs
 
 returns-2 : tie.Need-returns-2
 returns-2 c =
@@ -81,12 +66,6 @@ returns-3 c =
       c .before .before .before .before .before .before .before .before .before .before .before .before .pre .2,
     )
 
-distinct-requires : tie.Need-distinct-requires
-distinct-requires c κs = search needs
-
-same-length : tie.Need-same-length
-same-length c = search needs
-
 returns-4 : tie.Need-returns-4
 returns-4 c =
     let v = words (c .before .before .before .before .before .before .before .before .before .before .before .before .before .before .before .before .before .args .p .now) in
@@ -102,15 +81,6 @@ returns-4 c =
           (c .before .before .before .distinct .ensures .0))),
       c .before .before .before .distinct .ensures .1,
     )
-
-read-quad-requires-2 : tie.Need-read-quad-requires-2
-read-quad-requires-2 c κs = search needs
-
-is-owned-requires : tie.Need-is-owned-requires
-is-owned-requires c κs = search needs
-
-same-length-2 : tie.Need-same-length-2
-same-length-2 c = search needs
 
 returns-5 : tie.Need-returns-5
 returns-5 c =
@@ -146,20 +116,5 @@ returns-5 c =
 pub place-fits-spec : {M : Type 1} → statement M
 place-fits-spec =
     tie.close
-    (tie.spec
-    get-requires
-    read-quad-requires
-    get-requires-2
-    stage-fits-requires
-    returns
-    get-requires-3
-    returns-2
-    padded-requires
-    returns-3
-    distinct-requires
-    same-length
-    returns-4
-    read-quad-requires-2
-    is-owned-requires
-    same-length-2
-    returns-5)
+    (tie.spec (λ c κs. search needs) (λ c κs. search needs) (λ c κs. search needs) (λ c κs. search needs) returns (λ c κs. search needs) returns-2 padded-requires returns-3
+    (λ c κs. search needs) (λ c. search needs) returns-4 (λ c κs. search needs) (λ c κs. search needs) (λ c. search needs) returns-5)

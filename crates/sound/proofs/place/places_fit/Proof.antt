@@ -1,4 +1,5 @@
 use borrow.Author.Needs.{needs}
+use borrow.Author.Count.{below-more}
 use native.Mathlib.Omega.{arith}
 use Prim.Native.Nat.{ℕ, _*_, _-_, _≤_, _<_}
 use mathlib.Core.Path.{_≡_}
@@ -10,7 +11,7 @@ use Rattle.places.specs.Places.{placeSize}
 use Rattle.sound_rows.specs.Rows.{RowsSound}
 use Rattle.sound.specs.Places.{PlaceSound, placeAt, PlaceFollows, slotCount}
 use Rattle.sound_rows.proofs.Decide.{passed, failed}
-use Rattle.sound.proofs.PlaceWalk.{places-made, place-of, follow-iff, below-more, place-lent}
+use Rattle.sound.proofs.PlaceWalk.{places-made, place-of, follow-iff, place-lent}
 use Rattle.sound.proofs.place.places_fit.Statement.{statement}
 use Rattle.sound.proofs.place.places_fit.Tie as tie
 
@@ -23,42 +24,6 @@ abbrev μ-loop : tie.MeasureT-loop
 
 loop-holds : tie.Need-loop-holds Inv-loop μ-loop
 loop-holds c = (length-replicate {A = ℕ} slotCount 0, omega arith, (λ r k h. absurd (omega arith)), λ k h. absurd (omega arith))
-
-mul-a : tie.Need-mul-a Inv-loop μ-loop
-mul-a c = search needs
-
-mul-x : tie.Need-mul-x Inv-loop μ-loop
-mul-x c = search needs
-
-add-y : tie.Need-add-y Inv-loop μ-loop
-add-y c = search needs
-
-mul-y : tie.Need-mul-y Inv-loop μ-loop
-mul-y c = search needs
-
-read-quad-requires : tie.Need-read-quad-requires Inv-loop μ-loop
-read-quad-requires c κs = search needs
-
-walk-to-requires : tie.Need-walk-to-requires Inv-loop μ-loop
-walk-to-requires c κs = search needs
-
-sub-place-fits : tie.Need-sub-place-fits Inv-loop μ-loop
-sub-place-fits c = search needs
-
-part-place-fits-start : tie.Need-part-place-fits-start Inv-loop μ-loop
-part-place-fits-start c = search needs
-
-part-place-fits-end : tie.Need-part-place-fits-end Inv-loop μ-loop
-part-place-fits-end c = search needs
-
-slice-aggregate-place-fits : tie.Need-slice-aggregate-place-fits Inv-loop μ-loop
-slice-aggregate-place-fits c = search needs
-
-add-place-fits : tie.Need-add-place-fits Inv-loop μ-loop
-add-place-fits c = search needs
-
-cast-place-fits : tie.Need-cast-place-fits Inv-loop μ-loop
-cast-place-fits c = search needs
 
 place-fits-requires : tie.Need-place-fits-requires Inv-loop μ-loop
 place-fits-requires c κs = (omega arith, search needs, c .before .before .before .before .before .loop .inv .0)
@@ -78,9 +43,6 @@ returns c =
     (place-of rs (c .before .before .before .before .before .before .before .before .before .before .before .args .q) w h z
     (c .before .before .before .before .before .before .before .before .loop .i) (omega arith))
 
-place-follows-requires : tie.Need-place-follows-requires Inv-loop μ-loop
-place-follows-requires c κs = search needs
-
 returns-2 : tie.Need-returns-2 Inv-loop μ-loop
 returns-2 c =
     let w = words (c .before .before .before .before .before .before .before .before .before .before .before .before .before .args .s .now) in
@@ -91,12 +53,6 @@ returns-2 c =
     λ r z. failed (PlaceFollows w (c .before .before .before .before .before .before .before .before .before .before .loop .i)) (c .before .place-follows .result) (c .if2 .taken)
     (c .before .place-follows .ensures) (follow-iff (c .before .before .before .before .before .before .before .before .before .before .before .before .before .args .q) w .from (z .ascend)
     (c .before .before .before .before .before .before .before .before .before .before .loop .i) (omega arith))
-
-add-i : tie.Need-add-i Inv-loop μ-loop
-add-i c = search needs
-
-loop-less : tie.Need-loop-less Inv-loop μ-loop
-loop-less c = search needs
 
 loop-again : tie.Need-loop-again Inv-loop μ-loop
 loop-again c =
@@ -133,27 +89,6 @@ returns-3 c =
 pub places-fit-spec : {M : Type 1} → statement M
 places-fit-spec =
     tie.close
-    (tie.spec
-    Inv-loop
-    μ-loop
-    loop-holds
-    mul-a
-    mul-x
-    add-y
-    mul-y
-    read-quad-requires
-    walk-to-requires
-    sub-place-fits
-    part-place-fits-start
-    part-place-fits-end
-    slice-aggregate-place-fits
-    add-place-fits
-    cast-place-fits
-    place-fits-requires
-    returns
-    place-follows-requires
-    returns-2
-    add-i
-    loop-less
-    loop-again
-    returns-3)
+    (tie.spec Inv-loop μ-loop loop-holds (λ c. search needs) (λ c. search needs) (λ c. search needs) (λ c. search needs) (λ c κs. search needs) (λ c κs. search needs) (λ c. search needs)
+    (λ c. search needs) (λ c. search needs) (λ c. search needs) (λ c. search needs) (λ c. search needs) place-fits-requires returns (λ c κs. search needs) returns-2 (λ c. search needs)
+    (λ c. search needs) loop-again returns-3)

@@ -8,15 +8,6 @@ use Rattle.store.proofs.Quads.{quad-number}
 use Rattle.sound.proofs.place.slot.Statement.{statement}
 use Rattle.sound.proofs.place.slot.Tie as tie
 
-fold-requires : tie.Need-fold-requires
-fold-requires c κs = search needs
-
-add-b : tie.Need-add-b
-add-b c = omega arith
-
-mul-result : tie.Need-mul-result
-mul-result c = omega arith
-
 returns : tie.Need-returns
 returns c =
     let f : c .fold .result ≡ foldOf (quadOf (quadNumber (c .before .args .h))) = c .fold .ensures ∙
@@ -24,4 +15,4 @@ returns c =
     (ap (λ (x : ℕ). (x % 4294967296 + x / 4294967296) * 506952113 / 1048576 % slotCount) f, omega arith)
 
 pub slot-spec : {M : Type 1} → statement M
-slot-spec = tie.close (tie.spec fold-requires add-b mul-result returns)
+slot-spec = tie.close (tie.spec (λ c κs. search needs) (λ c. omega arith) (λ c. omega arith) returns)

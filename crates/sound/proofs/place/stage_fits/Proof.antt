@@ -11,9 +11,6 @@ returns : tie.Need-returns
 returns c = λ p. elim (stage-cases (c .before .before .args .stage) (quadNumber (c .before .before .args .combined)) (c .before .before .args .n) p)
     [ inl f ↦ omega (arith, f .stage, f .wtxids) | inr f ↦ omega (arith, f .some, f .most, f .some-wtxid) ]
 
-same-hash-requires : tie.Need-same-hash-requires
-same-hash-requires c κs = search needs
-
 returns-2 : tie.Need-returns-2
 returns-2 c = flag-decides (c .before .before .before .args .stage) (quadNumber (c .before .before .before .args .combined)) (c .before .before .before .args .n) (c .same-hash .result)
     (omega arith) (omega arith) (rw zero-number at (c .same-hash .ensures))
@@ -37,4 +34,4 @@ returns-6 c = packed-decides (c .before .before .before .before .args .stage) (q
 pub stage-fits-spec : {M : Type 1} → statement M
 stage-fits-spec =
     tie.close
-    (tie.spec returns same-hash-requires returns-2 returns-3 returns-4 returns-5 returns-6)
+    (tie.spec returns (λ c κs. search needs) returns-2 returns-3 returns-4 returns-5 returns-6)

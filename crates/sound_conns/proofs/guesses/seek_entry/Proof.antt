@@ -6,29 +6,11 @@ use Rattle.sound_conns.proofs.Entries.{length-names, place-found, place
 use Rattle.sound_conns.proofs.guesses.seek_entry.Statement.{statement}
 use Rattle.sound_conns.proofs.guesses.seek_entry.Tie as tie
 
-near-requires : tie.Need-near-requires
-near-requires c κs = search needs
-
-is-entry-requires : tie.Need-is-entry-requires
-is-entry-requires c κs = search needs
-
 returns : tie.Need-returns
 returns c = place-found _ _ _ _ (rw (c .if1 .taken) at (c .before .is-entry .ensures))
 
-one-back-requires : tie.Need-one-back-requires
-one-back-requires c κs = search needs
-
-is-entry-requires-2 : tie.Need-is-entry-requires-2
-is-entry-requires-2 c κs = search needs
-
 returns-2 : tie.Need-returns-2
 returns-2 c = place-found _ _ _ _ (rw (c .if2 .taken) at (c .before .is-entry2 .ensures))
-
-seek-conn-requires : tie.Need-seek-conn-requires
-seek-conn-requires c κs = search needs
-
-is-entry-requires-3 : tie.Need-is-entry-requires-3
-is-entry-requires-3 c κs = search needs
 
 returns-3 : tie.Need-returns-3
 returns-3 c = place-found _ _ _ _ (rw (c .if3 .taken) at (c .before .is-entry3 .ensures))
@@ -42,14 +24,4 @@ returns-4 c =
 pub seek-entry-spec : {M : Type 1} → statement M
 seek-entry-spec =
     tie.close
-    (tie.spec
-    near-requires
-    is-entry-requires
-    returns
-    one-back-requires
-    is-entry-requires-2
-    returns-2
-    seek-conn-requires
-    is-entry-requires-3
-    returns-3
-    returns-4)
+    (tie.spec (λ c κs. search needs) (λ c κs. search needs) returns (λ c κs. search needs) (λ c κs. search needs) returns-2 (λ c κs. search needs) (λ c κs. search needs) returns-3 returns-4)

@@ -8,21 +8,6 @@ use Rattle.sound_rows.proofs.Ahead.{ahead-follows}
 use Rattle.sound_rows.proofs.candidate.follows.Statement.{statement}
 use Rattle.sound_rows.proofs.candidate.follows.Tie as tie
 
-ahead-requires : tie.Need-ahead-requires
-ahead-requires c κs = search needs
-
-ahead-requires-2 : tie.Need-ahead-requires-2
-ahead-requires-2 c κs = search needs
-
-ahead-requires-3 : tie.Need-ahead-requires-3
-ahead-requires-3 c κs = search needs
-
-ahead-requires-4 : tie.Need-ahead-requires-4
-ahead-requires-4 c κs = search needs
-
-ahead-requires-5 : tie.Need-ahead-requires-5
-ahead-requires-5 c κs = search needs
-
 returns : tie.Need-returns
 returns c =
     let p = c .before .before .before .before .before .before .before .before .before .before .before .args .p in
@@ -39,10 +24,4 @@ returns c =
 pub follows-spec : {M : Type 1} → statement M
 follows-spec =
     tie.close
-    (tie.spec
-    ahead-requires
-    ahead-requires-2
-    ahead-requires-3
-    ahead-requires-4
-    ahead-requires-5
-    returns)
+    (tie.spec (λ c κs. search needs) (λ c κs. search needs) (λ c κs. search needs) (λ c κs. search needs) (λ c κs. search needs) returns)

@@ -22,17 +22,8 @@ returns c =
     let e : c .before .before .args .n ≡ 0 = omega arith in
     rw e (rows-none (words (c .before .before .args .s .now)))
 
-read-row-requires : tie.Need-read-row-requires Inv-loop μ-loop
-read-row-requires c κs = search needs
-
 loop-holds : tie.Need-loop-holds Inv-loop μ-loop
 loop-holds c = (omega arith, walk-start RowStep rowSize readRow (c .before .before .before .args .n) (words (c .before .before .before .args .s .now)) (c .read-row .result))
-
-read-row-requires-2 : tie.Need-read-row-requires-2 Inv-loop μ-loop
-read-row-requires-2 c κs = search needs
-
-row-fits-requires : tie.Need-row-fits-requires Inv-loop μ-loop
-row-fits-requires c κs = search needs
 
 returns-2 : tie.Need-returns-2 Inv-loop μ-loop
 returns-2 c =
@@ -43,9 +34,6 @@ returns-2 c =
     (rows-iff (c .before .before .before .before .before .before .before .before .args .s .now) (c .before .before .before .before .before .before .before .before .args .n) (omega arith)
     (below-bytes (c .before .before .before .before .before .before .before .before .args .s .now) (c .before .before .before .before .before .before .before .shared-slice-known .given))
     (c .before .before .before .before .before .read-row .ensures .words-are) .from z)
-
-follows-requires : tie.Need-follows-requires Inv-loop μ-loop
-follows-requires c κs = search needs
 
 returns-3 : tie.Need-returns-3 Inv-loop μ-loop
 returns-3 c =
@@ -60,12 +48,6 @@ returns-3 c =
     (below-bytes (c .before .before .before .before .before .before .before .before .before .before .args .s .now)
     (c .before .before .before .before .before .before .before .before .before .shared-slice-known .given))
     (c .before .before .before .before .before .before .before .read-row .ensures .words-are) .from z)
-
-add-i : tie.Need-add-i Inv-loop μ-loop
-add-i c = search needs
-
-loop-less : tie.Need-loop-less Inv-loop μ-loop
-loop-less c = search needs
 
 loop-again : tie.Need-loop-again Inv-loop μ-loop
 loop-again c =
@@ -90,18 +72,5 @@ returns-4 c =
 pub rows-fit-spec : {M : Type 1} → statement M
 rows-fit-spec =
     tie.close
-    (tie.spec
-    Inv-loop
-    μ-loop
-    returns
-    read-row-requires
-    loop-holds
-    read-row-requires-2
-    row-fits-requires
-    returns-2
-    follows-requires
-    returns-3
-    add-i
-    loop-less
-    loop-again
-    returns-4)
+    (tie.spec Inv-loop μ-loop returns (λ c κs. search needs) loop-holds (λ c κs. search needs) (λ c κs. search needs) returns-2 (λ c κs. search needs) returns-3 (λ c. search needs)
+    (λ c. search needs) loop-again returns-4)

@@ -17,24 +17,12 @@ abbrev μ-loop : tie.MeasureT-loop
 loop-holds : tie.Need-loop-holds Inv-loop μ-loop
 loop-holds c = (omega arith, search needs, iff-self)
 
-read-row-requires : tie.Need-read-row-requires Inv-loop μ-loop
-read-row-requires c κs = search needs
-
-add-find-conn-in : tie.Need-add-find-conn-in Inv-loop μ-loop
-add-find-conn-in c = search needs
-
-find-conn-in-requires : tie.Need-find-conn-in-requires Inv-loop μ-loop
-find-conn-in-requires c κs = search needs
-
 returns : tie.Need-returns Inv-loop μ-loop
 returns c = apart-later (words (c .before .before .before .before .before .before .args .s .now)) (rowsIn (words (c .before .before .before .before .before .before .args .s .now))
     (c .before .before .before .before .before .before .args .j) (c .before .before .before .before .before .before .args .b)) (c .before .before .before .before .loop .k)
     (c .before .before .before .before .before .before .args .a) (omega arith) (c .before .before .read-row .ensures .words-are) (c .before .before .before .before .loop .inv .2)
     (first-some (words (c .before .before .before .before .before .before .args .s .now)) (c .before .before .read-row .result .conn) (c .before .before .before .before .loop .k + 1)
     (c .before .before .before .before .before .before .args .a) (c .before .find-conn-in .result) (c .before .find-conn-in .ensures) (omega arith))
-
-find-conn-in-requires-2 : tie.Need-find-conn-in-requires-2 Inv-loop μ-loop
-find-conn-in-requires-2 c κs = search needs
 
 returns-2 : tie.Need-returns-2 Inv-loop μ-loop
 returns-2 c = apart-others (words (c .before .before .before .before .before .before .before .before .args .s .now))
@@ -44,12 +32,6 @@ returns-2 c = apart-others (words (c .before .before .before .before .before .be
     (c .before .before .before .before .before .before .loop .inv .2) (first-some (words (c .before .before .before .before .before .before .before .before .args .s .now))
     (c .before .before .before .before .read-row .result .conn) (c .before .before .before .before .before .before .before .before .args .j)
     (c .before .before .before .before .before .before .before .before .args .b) (c .before .find-conn-in2 .result) (c .before .find-conn-in2 .ensures) (omega arith))
-
-add-k : tie.Need-add-k Inv-loop μ-loop
-add-k c = search needs
-
-loop-less : tie.Need-loop-less Inv-loop μ-loop
-loop-less c = search needs
 
 loop-again : tie.Need-loop-again Inv-loop μ-loop
 loop-again c = (
@@ -74,17 +56,5 @@ returns-3 c = apart-end (words (c .before .before .before .args .s .now)) (rowsI
 pub apart-spec : {M : Type 1} → statement M
 apart-spec =
     tie.close
-    (tie.spec
-    Inv-loop
-    μ-loop
-    loop-holds
-    read-row-requires
-    add-find-conn-in
-    find-conn-in-requires
-    returns
-    find-conn-in-requires-2
-    returns-2
-    add-k
-    loop-less
-    loop-again
-    returns-3)
+    (tie.spec Inv-loop μ-loop loop-holds (λ c κs. search needs) (λ c. search needs) (λ c κs. search needs) returns (λ c κs. search needs) returns-2 (λ c. search needs) (λ c. search needs)
+    loop-again returns-3)

@@ -8,20 +8,8 @@ use Rattle.sound_rows.proofs.Groups.{in-none}
 use Rattle.sound_rows.proofs.group.conns_once.Statement.{statement}
 use Rattle.sound_rows.proofs.group.conns_once.Tie as tie
 
-marked-once-requires : tie.Need-marked-once-requires
-marked-once-requires c κs = search needs
-
-same-length : tie.Need-same-length
-same-length c = search needs
-
 returns : tie.Need-returns
 returns c = (c .before .before .before .marked-once .ensures .0 (c .if1 .taken), c .before .before .before .marked-once .ensures .1)
-
-apart-requires : tie.Need-apart-requires
-apart-requires c κs = search needs
-
-same-length-2 : tie.Need-same-length-2
-same-length-2 c = search needs
 
 returns-2 : tie.Need-returns-2
 returns-2 c =
@@ -30,12 +18,6 @@ returns-2 c =
       (λ o. failed (Apart (rowsIn w (x .j) (x .b)) (rowsIn w (x .i) (x .a))) (c .before .apart .result) (c .if2 .taken) (c .before .apart .ensures) (o .0)),
       c .before .before .before .before .before .marked-once .ensures .1,
     )
-
-apart-requires-2 : tie.Need-apart-requires-2
-apart-requires-2 c κs = search needs
-
-same-length-3 : tie.Need-same-length-3
-same-length-3 c = search needs
 
 returns-3 : tie.Need-returns-3
 returns-3 c =
@@ -50,13 +32,4 @@ returns-3 c =
 pub conns-once-spec : {M : Type 1} → statement M
 conns-once-spec =
     tie.close
-    (tie.spec
-    marked-once-requires
-    same-length
-    returns
-    apart-requires
-    same-length-2
-    returns-2
-    apart-requires-2
-    same-length-3
-    returns-3)
+    (tie.spec (λ c κs. search needs) (λ c. search needs) returns (λ c κs. search needs) (λ c. search needs) returns-2 (λ c κs. search needs) (λ c. search needs) returns-3)

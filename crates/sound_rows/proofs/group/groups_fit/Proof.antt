@@ -21,9 +21,6 @@ Inv-loop s n most m slots₀ i₀ j₀ slots i j = (length slots ≡ connSlots) 
 abbrev μ-loop : tie.MeasureT-loop
 μ-loop s n most m slots₀ i₀ j₀ slots i j = (m + n) - (i + j)
 
-seek-row-requires : tie.Need-seek-row-requires Inv-loop μ-loop
-seek-row-requires c κs = search needs
-
 loop-holds : tie.Need-loop-holds Inv-loop μ-loop
 loop-holds c = (
   length-replicate {A = ℕ} connSlots 0,
@@ -32,33 +29,6 @@ loop-holds c = (
   omega (arith, c .seek-row .ensures .most),
   λ s. halves (words (c .before .before .args .s .now)) (c .seek-row .result) (c .before .before .args .n) (c .seek-row .ensures .most),
 )
-
-add-loop : tie.Need-add-loop Inv-loop μ-loop
-add-loop c = search needs
-
-add-loop-2 : tie.Need-add-loop-2 Inv-loop μ-loop
-add-loop-2 c = search needs
-
-least-hash-requires : tie.Need-least-hash-requires Inv-loop μ-loop
-least-hash-requires c κs = search needs
-
-run-end-requires : tie.Need-run-end-requires Inv-loop μ-loop
-run-end-requires c κs = search needs
-
-run-end-requires-2 : tie.Need-run-end-requires-2 Inv-loop μ-loop
-run-end-requires-2 c κs = search needs
-
-slice-aggregate-group-fits : tie.Need-slice-aggregate-group-fits Inv-loop μ-loop
-slice-aggregate-group-fits c = search needs
-
-add-group-fits : tie.Need-add-group-fits Inv-loop μ-loop
-add-group-fits c = search needs
-
-add-group-fits-2 : tie.Need-add-group-fits-2 Inv-loop μ-loop
-add-group-fits-2 c = search needs
-
-group-fits-requires : tie.Need-group-fits-requires Inv-loop μ-loop
-group-fits-requires c κs = search needs
 
 returns : tie.Need-returns Inv-loop μ-loop
 returns c =
@@ -120,21 +90,5 @@ returns-2 c =
 pub groups-fit-spec : {M : Type 1} → statement M
 groups-fit-spec =
     tie.close
-    (tie.spec
-    Inv-loop
-    μ-loop
-    seek-row-requires
-    loop-holds
-    add-loop
-    add-loop-2
-    least-hash-requires
-    run-end-requires
-    run-end-requires-2
-    slice-aggregate-group-fits
-    add-group-fits
-    add-group-fits-2
-    group-fits-requires
-    returns
-    loop-less
-    loop-again
-    returns-2)
+    (tie.spec Inv-loop μ-loop (λ c κs. search needs) loop-holds (λ c. search needs) (λ c. search needs) (λ c κs. search needs) (λ c κs. search needs) (λ c κs. search needs)
+    (λ c. search needs) (λ c. search needs) (λ c. search needs) (λ c κs. search needs) returns loop-less loop-again returns-2)

@@ -6,11 +6,8 @@ use Rattle.store.specs.FlatSound.{hashAt}
 use Rattle.sound_rows.proofs.group.hash_at.Statement.{statement}
 use Rattle.sound_rows.proofs.group.hash_at.Tie as tie
 
-read-row-requires : tie.Need-read-row-requires
-read-row-requires c κs = search needs
-
 returns : tie.Need-returns
 returns c = ap (λ (r : Row). hashAt r) (c .before .read-row .ensures .words-are)
 
 pub hash-at-spec : {M : Type 1} → statement M
-hash-at-spec = tie.close (tie.spec read-row-requires returns)
+hash-at-spec = tie.close (tie.spec (λ c κs. search needs) returns)

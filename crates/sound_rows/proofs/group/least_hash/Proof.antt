@@ -8,26 +8,11 @@ use borrow.Author.Tests.{ltb-true, ltb-false}
 use Rattle.sound_rows.proofs.group.least_hash.Statement.{statement}
 use Rattle.sound_rows.proofs.group.least_hash.Tie as tie
 
-hash-at-requires : tie.Need-hash-at-requires
-hash-at-requires c κs = search needs
-
 returns : tie.Need-returns
 returns c = record { left = λ h. absurd (omega arith); right = λ h. omega (arith, c .hash-at .ensures); some = inr (omega arith, sym (c .hash-at .ensures)) }
 
-hash-at-requires-2 : tie.Need-hash-at-requires-2
-hash-at-requires-2 c κs = search needs
-
 returns-2 : tie.Need-returns-2
 returns-2 c = record { left = λ h. omega (arith, c .hash-at2 .ensures); right = λ h. absurd (omega arith); some = inl (omega arith, sym (c .hash-at2 .ensures)) }
-
-hash-at-requires-3 : tie.Need-hash-at-requires-3
-hash-at-requires-3 c κs = search needs
-
-hash-at-requires-4 : tie.Need-hash-at-requires-4
-hash-at-requires-4 c κs = search needs
-
-quad-less-requires : tie.Need-quad-less-requires
-quad-less-requires c κs = search needs
 
 returns-3 : tie.Need-returns-3
 returns-3 c =
@@ -51,13 +36,4 @@ returns-4 c =
 pub least-hash-spec : {M : Type 1} → statement M
 least-hash-spec =
     tie.close
-    (tie.spec
-    hash-at-requires
-    returns
-    hash-at-requires-2
-    returns-2
-    hash-at-requires-3
-    hash-at-requires-4
-    quad-less-requires
-    returns-3
-    returns-4)
+    (tie.spec (λ c κs. search needs) returns (λ c κs. search needs) returns-2 (λ c κs. search needs) (λ c κs. search needs) (λ c κs. search needs) returns-3 returns-4)

@@ -20,35 +20,14 @@ loop-holds c =
     let a = c .before .before .args in
     (c .before .before .pre .0, omega arith, c .before .before .pre .2, marks-none (words (a .s .now)) (a .to) (a .mark) (a .slots .now))
 
-sub-read-row : tie.Need-sub-read-row Inv-loop μ-loop
-sub-read-row c = search needs
-
-read-row-requires : tie.Need-read-row-requires Inv-loop μ-loop
-read-row-requires c κs = search needs
-
-mul-if1 : tie.Need-mul-if1 Inv-loop μ-loop
-mul-if1 c = search needs
-
 slice-read-if1 : tie.Need-slice-read-if1 Inv-loop μ-loop
 slice-read-if1 c = omega (arith, c .before .before .before .before .loop .inv .2)
-
-same-length : tie.Need-same-length Inv-loop μ-loop
-same-length c = search needs
 
 returns : tie.Need-returns Inv-loop μ-loop
 returns c = (tt, c .before .before .before .before .before .loop .inv .2)
 
-mul-slots : tie.Need-mul-slots Inv-loop μ-loop
-mul-slots c = search needs
-
 slice-write-slots : tie.Need-slice-write-slots Inv-loop μ-loop
 slice-write-slots c = omega (arith, c .before .before .before .before .before .loop .inv .2)
-
-sub-k : tie.Need-sub-k Inv-loop μ-loop
-sub-k c = search needs
-
-loop-less : tie.Need-loop-less Inv-loop μ-loop
-loop-less c = search needs
 
 loop-again : tie.Need-loop-again Inv-loop μ-loop
 loop-again c =
@@ -61,9 +40,6 @@ loop-again c =
           (c .before .before .before .read-row .ensures .words-are) refl (omega (arith, l .inv .2)) (c .if1 .left) (l .inv .3),
     )
 
-same-length-2 : tie.Need-same-length-2 Inv-loop μ-loop
-same-length-2 c = search needs
-
 returns-2 : tie.Need-returns-2 Inv-loop μ-loop
 returns-2 c =
     let e : c .before .loop .k ≡ c .before .before .before .before .args .from = omega arith in
@@ -72,20 +48,5 @@ returns-2 c =
 pub mark-conns-spec : {M : Type 1} → statement M
 mark-conns-spec =
     tie.close
-    (tie.spec
-    Inv-loop
-    μ-loop
-    loop-holds
-    sub-read-row
-    read-row-requires
-    mul-if1
-    slice-read-if1
-    same-length
-    returns
-    mul-slots
-    slice-write-slots
-    sub-k
-    loop-less
-    loop-again
-    same-length-2
-    returns-2)
+    (tie.spec Inv-loop μ-loop loop-holds (λ c. search needs) (λ c κs. search needs) (λ c. search needs) slice-read-if1 (λ c. search needs) returns (λ c. search needs) slice-write-slots
+    (λ c. search needs) (λ c. search needs) loop-again (λ c. search needs) returns-2)

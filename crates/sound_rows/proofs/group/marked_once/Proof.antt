@@ -10,20 +10,8 @@ use Rattle.sound_rows.proofs.ConnMarks.{marked-nil}
 use Rattle.sound_rows.proofs.group.marked_once.Statement.{statement}
 use Rattle.sound_rows.proofs.group.marked_once.Tie as tie
 
-mark-conns-requires : tie.Need-mark-conns-requires
-mark-conns-requires c κs = search needs
-
-same-length : tie.Need-same-length
-same-length c = search needs
-
 returns : tie.Need-returns
 returns c = ((λ e. never e), c .before .before .before .mark-conns .ensures .1)
-
-mark-conns-requires-2 : tie.Need-mark-conns-requires-2
-mark-conns-requires-2 c κs = search needs
-
-same-length-2 : tie.Need-same-length-2
-same-length-2 c = search needs
 
 returns-2 : tie.Need-returns-2
 returns-2 c =
@@ -35,10 +23,4 @@ returns-2 c =
 pub marked-once-spec : {M : Type 1} → statement M
 marked-once-spec =
     tie.close
-    (tie.spec
-    mark-conns-requires
-    same-length
-    returns
-    mark-conns-requires-2
-    same-length-2
-    returns-2)
+    (tie.spec (λ c κs. search needs) (λ c. search needs) returns (λ c κs. search needs) (λ c. search needs) returns-2)

@@ -20,12 +20,6 @@ abbrev μ-loop : tie.MeasureT-loop
 loop-holds : tie.Need-loop-holds Inv-loop μ-loop
 loop-holds c = (omega arith, search needs, λ k a b. absurd (omega arith))
 
-hash-at-requires : tie.Need-hash-at-requires Inv-loop μ-loop
-hash-at-requires c κs = search needs
-
-quad-less-requires : tie.Need-quad-less-requires Inv-loop μ-loop
-quad-less-requires c κs = search needs
-
 returns : tie.Need-returns Inv-loop μ-loop
 returns c =
     let l : quadNumber (c .before .before .before .before .before .before .args .h) < quadNumber (c .before .before .hash-at .result) =
@@ -36,12 +30,6 @@ returns c =
       upto = c .before .before .before .before .loop .inv .2;
       past = λ _. omega (arith, c .before .before .hash-at .ensures);
     }
-
-add-i : tie.Need-add-i Inv-loop μ-loop
-add-i c = search needs
-
-loop-less : tie.Need-loop-less Inv-loop μ-loop
-loop-less c = search needs
 
 loop-again : tie.Need-loop-again Inv-loop μ-loop
 loop-again c =
@@ -60,14 +48,4 @@ returns-2 c = record { least = c .before .loop .inv .0; most = c .before .loop .
 pub run-end-spec : {M : Type 1} → statement M
 run-end-spec =
     tie.close
-    (tie.spec
-    Inv-loop
-    μ-loop
-    loop-holds
-    hash-at-requires
-    quad-less-requires
-    returns
-    add-i
-    loop-less
-    loop-again
-    returns-2)
+    (tie.spec Inv-loop μ-loop loop-holds (λ c κs. search needs) (λ c κs. search needs) returns (λ c. search needs) (λ c. search needs) loop-again returns-2)

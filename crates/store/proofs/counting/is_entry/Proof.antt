@@ -7,12 +7,6 @@ use borrow.Author.Needs.{needs}
 use Rattle.store.proofs.counting.is_entry.Statement.{statement}
 use Rattle.store.proofs.counting.is_entry.Tie as tie
 
-conns-requires : tie.Need-conns-requires
-conns-requires c κs = search needs
-
-conn-at-requires : tie.Need-conn-at-requires
-conn-at-requires c κs = search needs
-
 returns : tie.Need-returns
 returns c = record {
   inside = λ _. omega (arith, c .before .before .before .conns .ensures);
@@ -28,4 +22,4 @@ returns-2 c = record {
 }
 
 pub is-entry-spec : {M : Type 1} → statement M
-is-entry-spec = tie.close (tie.spec conns-requires conn-at-requires returns returns-2)
+is-entry-spec = tie.close (tie.spec (λ c κs. search needs) (λ c κs. search needs) returns returns-2)

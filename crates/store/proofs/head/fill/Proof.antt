@@ -10,9 +10,6 @@ use borrow.Author.Needs.{needs}
 use Rattle.store.proofs.head.fill.Statement.{statement}
 use Rattle.store.proofs.head.fill.Tie as tie
 
-clear-requires : tie.Need-clear-requires
-clear-requires c κs = search needs
-
 put-requires : tie.Need-put-requires
 unfolding need
 put-requires c κs = omega (arith, c .before .before .before .before .before .before .pre .2)
@@ -24,9 +21,6 @@ put-requires-2 c κs = omega (arith, c .before .before .before .before .before .
 put-requires-3 : tie.Need-put-requires-3
 unfolding need
 put-requires-3 c κs = omega (arith, c .before .before .before .before .before .before .before .before .before .before .before .before .before .before .pre .2)
-
-same-length : tie.Need-same-length
-same-length c = search needs
 
 returns : tie.Need-returns
 unfolding need
@@ -47,4 +41,4 @@ returns c =
 pub fill-spec : {M : Type 1} → statement M
 fill-spec =
     tie.close
-    (tie.spec clear-requires put-requires put-requires-2 put-requires-3 same-length returns)
+    (tie.spec (λ c κs. search needs) put-requires put-requires-2 put-requires-3 (λ c. search needs) returns)

@@ -4,11 +4,8 @@ use borrow.Author.Needs.{needs}
 use Rattle.store.proofs.head.rows.Statement.{statement}
 use Rattle.store.proofs.head.rows.Tie as tie
 
-get-requires : tie.Need-get-requires
-get-requires c κs = search needs
-
 returns : tie.Need-returns
 returns c = record { word = c .get .ensures; field = λ f h. c .get .ensures ∙ (sizes h) .rows }
 
 pub rows-spec : {M : Type 1} → statement M
-rows-spec = tie.close (tie.spec get-requires returns)
+rows-spec = tie.close (tie.spec (λ c κs. search needs) returns)

@@ -8,9 +8,6 @@ use Rattle.sweeping.proofs.batch.after_cursor.Tie as tie
 returns : tie.Need-returns
 returns c = after-none (c .before .before .before .args .c) (c .if1 .taken)
 
-cursor-kind-requires : tie.Need-cursor-kind-requires
-cursor-kind-requires c κs = search needs
-
 seek-row-requires : tie.Need-seek-row-requires
 seek-row-requires c κs = kept-shown (c .before .before .before .before .before .pre)
 
@@ -19,4 +16,4 @@ returns-2 c = after-some (c .before .before .before .before .before .before .arg
     (c .before .cursor-kind .ensures .1 (omega arith)) (c .seek-row .ensures)
 
 pub after-cursor-spec : {M : Type 1} → statement M
-after-cursor-spec = tie.close (tie.spec returns cursor-kind-requires seek-row-requires returns-2)
+after-cursor-spec = tie.close (tie.spec returns (λ c κs. search needs) seek-row-requires returns-2)

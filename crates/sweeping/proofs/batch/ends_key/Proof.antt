@@ -8,12 +8,6 @@ use Rattle.sweeping.proofs.batch.ends_key.Tie as tie
 returns : tie.Need-returns
 returns c = λ f w. ends-at (c .before .before .args .r) (f .rows) (c .before .before .args .j) (c .before .before .args .to) (c .if1 .taken)
 
-row-at-requires : tie.Need-row-at-requires
-row-at-requires c κs = search needs
-
-same-key-requires : tie.Need-same-key-requires
-same-key-requires c κs = search needs
-
 returns-2 : tie.Need-returns-2
 returns-2 c = λ f w.
     let z = sizes w in
@@ -21,4 +15,4 @@ returns-2 c = λ f w.
     (omega arith) (omega (arith, c .before .before .before .before .pre .2)) (c .before .row-at .ensures f (c .before .row-at .result) w) (c .same-key .ensures)
 
 pub ends-key-spec : {M : Type 1} → statement M
-ends-key-spec = tie.close (tie.spec returns row-at-requires same-key-requires returns-2)
+ends-key-spec = tie.close (tie.spec returns (λ c κs. search needs) (λ c κs. search needs) returns-2)

@@ -3,21 +3,6 @@ use Rattle.sweeping.proofs.Walking.{put-at}
 use Rattle.sweeping.proofs.batch.hand.Statement.{statement}
 use Rattle.sweeping.proofs.batch.hand.Tie as tie
 
-key-of-requires : tie.Need-key-of-requires
-key-of-requires c κs = search needs
-
-put-key-requires : tie.Need-put-key-requires
-put-key-requires c κs = search needs
-
-key-stored-requires : tie.Need-key-stored-requires
-key-stored-requires c κs = search needs
-
-add-t10 : tie.Need-add-t10
-add-t10 c = search needs
-
-same-length : tie.Need-same-length
-same-length c = search needs
-
 returns : tie.Need-returns
 returns c = put-at (c .before .before .before .before .before .before .before .args .r) (c .before .before .before .before .before .key-of .ensures) (c .before .before .before .put-key .ensures)
     (c .key-stored .ensures)
@@ -25,4 +10,4 @@ returns c = put-at (c .before .before .before .before .before .before .before .a
 pub hand-spec : {M : Type 1} → statement M
 hand-spec =
     tie.close
-    (tie.spec key-of-requires put-key-requires key-stored-requires add-t10 same-length returns)
+    (tie.spec (λ c κs. search needs) (λ c κs. search needs) (λ c κs. search needs) (λ c. search needs) (λ c. search needs) returns)

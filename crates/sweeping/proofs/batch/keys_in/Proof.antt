@@ -22,18 +22,12 @@ returns c = walking-full (c .before .before .before .loop .inv) (c .if1 .taken)
 row-at-requires : tie.Need-row-at-requires Inv-loop μ-loop
 row-at-requires c κs = (c .before .before .before .before .before .before .pre .0, omega (arith, c .before .before .before .before .before .before .pre .2))
 
-add-i : tie.Need-add-i Inv-loop μ-loop
-add-i c = omega arith
-
 ends-key-requires : tie.Need-ends-key-requires Inv-loop μ-loop
 ends-key-requires c κs = (c .before .before .before .before .before .before .before .pre .0, omega arith, c .before .before .before .before .before .before .before .pre .2)
 
 hand-requires : tie.Need-hand-requires Inv-loop μ-loop
 hand-requires c κs = walking-room (c .before .before .before .before .before .before .before .loop .inv) (omega arith) (c .before .before .before .before .if1 .left)
     (c .before .before .before .before .before .before .before .before .before .before .pre .4) (c .before .before .before .before .before .before .before .before .before .before .pre .5)
-
-loop-less : tie.Need-loop-less Inv-loop μ-loop
-loop-less c = omega arith
 
 loop-again : tie.Need-loop-again Inv-loop μ-loop
 loop-again c = walking-more (c .before .before .before .before .before .before .before .before .before .before .loop .inv) (omega arith)
@@ -42,9 +36,6 @@ loop-again c = walking-more (c .before .before .before .before .before .before .
     (walking-room (c .before .before .before .before .before .before .before .before .before .before .loop .inv) (omega arith)
     (c .before .before .before .before .before .before .before .if1 .left) (c .before .before .before .before .before .before .before .before .before .before .before .before .before .pre .4)
     (c .before .before .before .before .before .before .before .before .before .before .before .before .before .pre .5)) (c .before .before .hand .ensures)
-
-loop-less-2 : tie.Need-loop-less-2 Inv-loop μ-loop
-loop-less-2 c = omega arith
 
 loop-again-2 : tie.Need-loop-again-2 Inv-loop μ-loop
 loop-again-2 c = walking-skip (c .before .before .before .before .before .before .loop .inv) (omega arith) (c .before .before .before .before .before .before .before .before .before .pre .2)
@@ -59,19 +50,5 @@ returns-2 c = walking-done (c .before .loop .inv) (omega arith)
 pub keys-in-spec : {M : Type 1} → statement M
 keys-in-spec =
     tie.close
-    (tie.spec
-    Inv-loop
-    μ-loop
-    loop-holds
-    same-length
-    returns
-    row-at-requires
-    add-i
-    ends-key-requires
-    hand-requires
-    loop-less
-    loop-again
-    loop-less-2
-    loop-again-2
-    same-length-2
-    returns-2)
+    (tie.spec Inv-loop μ-loop loop-holds same-length returns row-at-requires (λ c. omega arith) ends-key-requires hand-requires (λ c. omega arith) loop-again (λ c. omega arith) loop-again-2
+    same-length-2 returns-2)

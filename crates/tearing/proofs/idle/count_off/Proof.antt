@@ -9,29 +9,14 @@ use borrow.Author.Needs.{needs}
 use Rattle.tearing.proofs.idle.count_off.Statement.{statement}
 use Rattle.tearing.proofs.idle.count_off.Tie as tie
 
-seek-conn-requires : tie.Need-seek-conn-requires
-seek-conn-requires c κs = search needs
-
-is-entry-requires : tie.Need-is-entry-requires
-is-entry-requires c κs = search needs
-
 conn-at-requires : tie.Need-conn-at-requires
 conn-at-requires c κs = (c .before .before .before .before .before .before .before .pre, c .before .before .is-entry .ensures .inside (c .before .if1 .taken))
-
-less-requires : tie.Need-less-requires
-less-requires c κs = search needs
-
-less-requires-2 : tie.Need-less-requires-2
-less-requires-2 c κs = search needs
 
 set-conn-requires : tie.Need-set-conn-requires
 set-conn-requires c κs = (
   c .before .before .before .before .before .before .before .before .before .before .before .pre,
   c .before .before .before .before .before .before .is-entry .ensures .inside (c .before .before .before .before .before .if1 .taken),
 )
-
-same-length : tie.Need-same-length
-same-length c = search needs
 
 returns : tie.Need-returns
 returns c = λ f so h.
@@ -47,9 +32,6 @@ returns c = λ f so h.
     (c .before .before .before .before .before .before .conn-at .ensures f d h)
     (rw (c .before .before .before .before .before .less .ensures, c .before .before .before .before .less2 .ensures) at (c .before .before .set-conn .ensures f h))
 
-same-length-2 : tie.Need-same-length-2
-same-length-2 c = search needs
-
 returns-2 : tie.Need-returns-2
 returns-2 c = λ f so h.
     let d = fresh 0 0 in
@@ -57,4 +39,7 @@ returns-2 c = λ f so h.
     (λ l z. c .before .is-entry .ensures .not f d h (c .if1 .left) l z) so h
 
 pub count-off-spec : {M : Type 1} → statement M
-count-off-spec = tie.close (tie.spec seek-conn-requires is-entry-requires conn-at-requires less-requires less-requires-2 set-conn-requires same-length returns same-length-2 returns-2)
+count-off-spec =
+    tie.close
+    (tie.spec (λ c κs. search needs) (λ c κs. search needs) conn-at-requires (λ c κs. search needs) (λ c κs. search needs) set-conn-requires (λ c. search needs) returns (λ c. search needs)
+    returns-2)

@@ -8,15 +8,9 @@ use borrow.Author.Needs.{needs}
 use Rattle.tearing.proofs.packaged.comes_before.Statement.{statement}
 use Rattle.tearing.proofs.packaged.comes_before.Tie as tie
 
-place-at-requires : tie.Need-place-at-requires
-place-at-requires c κs = search needs
-
-quad-less-requires : tie.Need-quad-less-requires
-quad-less-requires c κs = search needs
-
 returns : tie.Need-returns
 returns c = λ f d w. c .quad-less .ensures ∙ ap (λ (x : ℕ). ltb x (quadNumber (c .before .before .before .before .args .q)))
     (head-hash (getD (f .places) (c .before .before .before .before .args .i) d) (c .before .before .place-at .ensures f d w))
 
 pub comes-before-spec : {M : Type 1} → statement M
-comes-before-spec = tie.close (tie.spec place-at-requires quad-less-requires returns)
+comes-before-spec = tie.close (tie.spec (λ c κs. search needs) (λ c κs. search needs) returns)

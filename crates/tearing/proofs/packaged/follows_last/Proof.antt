@@ -7,17 +7,8 @@ use borrow.Author.Needs.{needs}
 use Rattle.tearing.proofs.packaged.follows_last.Statement.{statement}
 use Rattle.tearing.proofs.packaged.follows_last.Tie as tie
 
-returns : tie.Need-returns
-returns c = search needs
-
-sub-comes-before : tie.Need-sub-comes-before
-sub-comes-before c = search needs
-
-comes-before-requires : tie.Need-comes-before-requires
-comes-before-requires c κs = search needs
-
 returns-2 : tie.Need-returns-2
 returns-2 c = λ e f d w l. ltb-true ((getD (f .places) (c .before .before .before .args .i - 1) d) .hash) (quadNumber (c .before .before .before .args .q)) (sym (c .comes-before .ensures f d w) ∙ e)
 
 pub follows-last-spec : {M : Type 1} → statement M
-follows-last-spec = tie.close (tie.spec returns sub-comes-before comes-before-requires returns-2)
+follows-last-spec = tie.close (tie.spec (λ c. search needs) (λ c. search needs) (λ c κs. search needs) returns-2)

@@ -7,12 +7,6 @@ use borrow.Author.Needs.{needs}
 use Rattle.wrapping.proofs.missing.fail_info.Statement.{statement}
 use Rattle.wrapping.proofs.missing.fail_info.Tie as tie
 
-info-owned-requires : tie.Need-info-owned-requires
-info-owned-requires c κs = search needs
-
-same-length : tie.Need-same-length
-same-length c = search needs
-
 returns : tie.Need-returns
 returns c = info-unlisted (keyNum (c .before .before .before .before .before .args .k)) (c .before .before .before .before .before .args .n)
     (c .before .before .before .before .before .args .clock) _ (λ st s w. sym (c .before .info-owned .ensures st s w) ∙ not-true (c .before .info-owned .result) (c .if1 .taken))
@@ -27,12 +21,6 @@ failed-with-parents-requires c κs = (
       (c .before .before .before .before .before .before .before .pre .0) (c .before .before .before .before .before .before .before .pre .2),
 )
 
-same-length-2 : tie.Need-same-length-2
-same-length-2 c = search needs
-
-same-length-3 : tie.Need-same-length-3
-same-length-3 c = search needs
-
 returns-2 : tie.Need-returns-2
 returns-2 c = info-listed (keyNum (c .before .before .before .before .before .before .before .before .before .before .before .before .args .k))
     (c .before .before .before .before .before .before .before .before .before .before .before .before .args .n)
@@ -44,11 +32,4 @@ returns-2 c = info-listed (keyNum (c .before .before .before .before .before .be
 pub fail-info-spec : {M : Type 1} → statement M
 fail-info-spec =
     tie.close
-    (tie.spec
-    info-owned-requires
-    same-length
-    returns
-    failed-with-parents-requires
-    same-length-2
-    same-length-3
-    returns-2)
+    (tie.spec (λ c κs. search needs) (λ c. search needs) returns failed-with-parents-requires (λ c. search needs) (λ c. search needs) returns-2)

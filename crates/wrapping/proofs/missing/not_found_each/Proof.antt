@@ -19,9 +19,6 @@ Inv-loop s₀ n items clock out₀ count y kept₀ i₀ s out kept i = Turned n 
 abbrev μ-loop : tie.MeasureT-loop
 μ-loop s₀ n items clock out₀ count y kept₀ i₀ s out kept i = length (itemsIn items) - i
 
-items-requires : tie.Need-items-requires Inv-loop μ-loop
-items-requires c κs = search needs
-
 loop-holds : tie.Need-loop-holds Inv-loop μ-loop
 loop-holds c = turned-start _ _ _ _ _
 
@@ -140,21 +137,5 @@ returns c = turned-done (c .before .loop .inv) (omega (arith, c .before .loop .i
 pub not-found-each-spec : {M : Type 1} → statement M
 not-found-each-spec =
     tie.close
-    (tie.spec
-    Inv-loop
-    μ-loop
-    items-requires
-    loop-holds
-    item-at-requires
-    mul-a
-    sub-not-found-one
-    part-not-found-one-start
-    part-not-found-one-end
-    not-found-one-requires
-    add-kept
-    add-i
-    loop-less
-    loop-again
-    same-length
-    same-length-2
-    returns)
+    (tie.spec Inv-loop μ-loop (λ c κs. search needs) loop-holds item-at-requires mul-a sub-not-found-one part-not-found-one-start part-not-found-one-end not-found-one-requires add-kept add-i
+    loop-less loop-again same-length same-length-2 returns)

@@ -6,24 +6,12 @@ use borrow.Author.Needs.{needs}
 use Rattle.wrapping.proofs.missing.not_found_one.Statement.{statement}
 use Rattle.wrapping.proofs.missing.not_found_one.Tie as tie
 
-enum-told : tie.Need-enum-told
-enum-told c = search needs
-
-txid-key-requires : tie.Need-txid-key-requires
-txid-key-requires c κs = search needs
-
 fail-listed-requires : tie.Need-fail-listed-requires
 fail-listed-requires c κs = (
   c .before .before .before .before .before .before .before .before .pre .0,
   one-room (c .before .before .before .before .before .before .before .before .args .out .now)
       (c .before .before .before .before .before .before .before .before .pre .0) (c .before .before .before .before .before .before .before .before .pre .2),
 )
-
-same-length : tie.Need-same-length
-same-length c = search needs
-
-same-length-2 : tie.Need-same-length-2
-same-length-2 c = search needs
 
 returns : tie.Need-returns
 returns c = one-keyed (c .before .before .before .before .before .before .before .before .before .before .before .before .before .args .n)
@@ -34,24 +22,12 @@ returns c = one-keyed (c .before .before .before .before .before .before .before
     (c .before .before .before .before .before .before .before .before .enum-told .given .1) (c .before .before .before .before .before .before .txid-key .ensures))
     (c .before .before .before .before .fail-listed .ensures)
 
-enum-told-2 : tie.Need-enum-told-2
-enum-told-2 c = search needs
-
-txid-key-requires-2 : tie.Need-txid-key-requires-2
-txid-key-requires-2 c κs = search needs
-
 fail-listed-requires-2 : tie.Need-fail-listed-requires-2
 fail-listed-requires-2 c κs = (
   c .before .before .before .before .before .before .before .before .pre .0,
   one-room (c .before .before .before .before .before .before .before .before .args .out .now)
       (c .before .before .before .before .before .before .before .before .pre .0) (c .before .before .before .before .before .before .before .before .pre .2),
 )
-
-same-length-3 : tie.Need-same-length-3
-same-length-3 c = search needs
-
-same-length-4 : tie.Need-same-length-4
-same-length-4 c = search needs
 
 returns-2 : tie.Need-returns-2
 returns-2 c = one-keyed (c .before .before .before .before .before .before .before .before .before .before .before .before .before .args .n)
@@ -62,24 +38,12 @@ returns-2 c = one-keyed (c .before .before .before .before .before .before .befo
     (c .before .before .before .before .before .before .before .before .enum-told2 .given .1) (c .before .before .before .before .before .before .txid-key2 .ensures))
     (c .before .before .before .before .fail-listed2 .ensures)
 
-enum-told-3 : tie.Need-enum-told-3
-enum-told-3 c = search needs
-
-wtxid-key-requires : tie.Need-wtxid-key-requires
-wtxid-key-requires c κs = search needs
-
 fail-listed-requires-3 : tie.Need-fail-listed-requires-3
 fail-listed-requires-3 c κs = (
   c .before .before .before .before .before .before .before .before .pre .0,
   one-room (c .before .before .before .before .before .before .before .before .args .out .now)
       (c .before .before .before .before .before .before .before .before .pre .0) (c .before .before .before .before .before .before .before .before .pre .2),
 )
-
-same-length-5 : tie.Need-same-length-5
-same-length-5 c = search needs
-
-same-length-6 : tie.Need-same-length-6
-same-length-6 c = search needs
 
 returns-3 : tie.Need-returns-3
 returns-3 c = one-keyed (c .before .before .before .before .before .before .before .before .before .before .before .before .before .args .n)
@@ -89,21 +53,6 @@ returns-3 c = one-keyed (c .before .before .before .before .before .before .befo
     (key-w (hashNum (c .before .before .before .before .before .before .before .before .before .before .before .before .before .args .item .hash))
     (c .before .before .before .before .before .before .before .before .enum-told3 .given .1) (c .before .before .before .before .before .before .wtxid-key .ensures))
     (c .before .before .before .before .fail-listed3 .ensures)
-
-enum-known-kind : tie.Need-enum-known-kind
-enum-known-kind c = search needs
-
-wtxid-key-requires-2 : tie.Need-wtxid-key-requires-2
-wtxid-key-requires-2 c κs = search needs
-
-fail-info-requires : tie.Need-fail-info-requires
-fail-info-requires c κs = search needs
-
-same-length-7 : tie.Need-same-length-7
-same-length-7 c = search needs
-
-same-length-8 : tie.Need-same-length-8
-same-length-8 c = search needs
 
 returns-4 : tie.Need-returns-4
 returns-4 c = one-info (c .before .before .before .before .before .before .before .before .before .before .before .before .before .before .before .args .n)
@@ -119,29 +68,6 @@ returns-5 c = one-other (c .before .before .before .before .before .before .befo
 pub not-found-one-spec : {M : Type 1} → statement M
 not-found-one-spec =
     tie.close
-    (tie.spec
-    enum-told
-    txid-key-requires
-    fail-listed-requires
-    same-length
-    same-length-2
-    returns
-    enum-told-2
-    txid-key-requires-2
-    fail-listed-requires-2
-    same-length-3
-    same-length-4
-    returns-2
-    enum-told-3
-    wtxid-key-requires
-    fail-listed-requires-3
-    same-length-5
-    same-length-6
-    returns-3
-    enum-known-kind
-    wtxid-key-requires-2
-    fail-info-requires
-    same-length-7
-    same-length-8
-    returns-4
-    returns-5)
+    (tie.spec (λ c. search needs) (λ c κs. search needs) fail-listed-requires (λ c. search needs) (λ c. search needs) returns (λ c. search needs) (λ c κs. search needs)
+    fail-listed-requires-2 (λ c. search needs) (λ c. search needs) returns-2 (λ c. search needs) (λ c κs. search needs) fail-listed-requires-3 (λ c. search needs) (λ c. search needs)
+    returns-3 (λ c. search needs) (λ c κs. search needs) (λ c κs. search needs) (λ c. search needs) (λ c. search needs) returns-4 returns-5)

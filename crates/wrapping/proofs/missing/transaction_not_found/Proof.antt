@@ -12,9 +12,6 @@ use borrow.Author.Needs.{needs}
 use Rattle.wrapping.proofs.missing.transaction_not_found.Statement.{statement}
 use Rattle.wrapping.proofs.missing.transaction_not_found.Tie as tie
 
-not-found-each-requires : tie.Need-not-found-each-requires
-not-found-each-requires c κs = search needs
-
 mul-a : tie.Need-mul-a
 mul-a c =
     let start : tie.Start = c .before .before .before .before .before .before .before .before .before .before in
@@ -51,9 +48,6 @@ part-packages-not-found-start c =
     let long = c .before .before .before .before .before .not-found-each .kept .1 .1 .1 .1 .0 in
     omega (arith, items-within l v long peer late hashed (start .pre .0) (start .pre .2), long)
 
-part-packages-not-found-end : tie.Need-part-packages-not-found-end
-part-packages-not-found-end c = search needs
-
 packages-not-found-requires : tie.Need-packages-not-found-requires
 packages-not-found-requires c κs =
     let start : tie.Start = c .before .before .before .before .before .before .before .before .before .before .before .before in
@@ -83,12 +77,6 @@ add-result c =
     keyBytes * c .before .before .before .before .before .before .before .before .before .before .before .not-found-each .result = omega arith in
     omega (arith, packages-within l v long peer late hashed (start .pre .0) (start .pre .2) from refl (c .before .before .before .before .packages-not-found .ensures))
 
-same-length : tie.Need-same-length
-same-length c = search needs
-
-same-length-2 : tie.Need-same-length-2
-same-length-2 c = search needs
-
 returns : tie.Need-returns
 returns c =
     let start : tie.Start = c .before .before .before .before .before .before .before .before .before .before .before .before .before .before .before .before .before in
@@ -107,14 +95,5 @@ returns c =
 pub transaction-not-found-spec : {M : Type 1} → statement M
 transaction-not-found-spec =
     tie.close
-    (tie.spec
-    not-found-each-requires
-    mul-a
-    sub-packages-not-found
-    part-packages-not-found-start
-    part-packages-not-found-end
-    packages-not-found-requires
-    add-result
-    same-length
-    same-length-2
-    returns)
+    (tie.spec (λ c κs. search needs) mul-a sub-packages-not-found part-packages-not-found-start (λ c. search needs) packages-not-found-requires add-result (λ c. search needs)
+    (λ c. search needs) returns)

@@ -5,15 +5,6 @@ use borrow.Author.Needs.{needs}
 use Rattle.wrapping.proofs.offering.announce_one.Statement.{statement}
 use Rattle.wrapping.proofs.offering.announce_one.Tie as tie
 
-offered-at-requires : tie.Need-offered-at-requires
-offered-at-requires c κs = search needs
-
-announce-requires : tie.Need-announce-requires
-announce-requires c κs = search needs
-
-same-length : tie.Need-same-length
-same-length c = search needs
-
 returns : tie.Need-returns
 returns c = one-announced (c .before .before .before .before .before .before .before .before .args .a)
     (offersIn (c .before .before .before .before .before .before .before .before .args .items .now) (c .before .before .before .before .before .before .before .before .args .priorities .now))
@@ -21,4 +12,4 @@ returns c = one-announced (c .before .before .before .before .before .before .be
     (c .before .before .before .before .offered-at .ensures) (c .before .before .announce .ensures)
 
 pub announce-one-spec : {M : Type 1} → statement M
-announce-one-spec = tie.close (tie.spec offered-at-requires announce-requires same-length returns)
+announce-one-spec = tie.close (tie.spec (λ c κs. search needs) (λ c κs. search needs) (λ c. search needs) returns)

@@ -10,18 +10,6 @@ use borrow.Author.Needs.{needs}
 use Rattle.wrapping.proofs.offering.announce_part.Statement.{statement}
 use Rattle.wrapping.proofs.offering.announce_part.Tie as tie
 
-displaces-requires : tie.Need-displaces-requires
-displaces-requires c κs = search needs
-
-announce-some-requires : tie.Need-announce-some-requires
-announce-some-requires c κs = search needs
-
-same-length : tie.Need-same-length
-same-length c = search needs
-
-returns : tie.Need-returns
-returns c = search needs
-
 announce-for-victims-requires : tie.Need-announce-for-victims-requires
 announce-for-victims-requires c κs =
     let z = c .before .before .displaces .ensures (not-false (c .before .before .displaces .result) (c .before .if1 .left)) in (
@@ -32,12 +20,6 @@ announce-for-victims-requires c κs =
       c .before .before .before .before .before
           .before .before .pre .3,
     )
-
-same-length-2 : tie.Need-same-length-2
-same-length-2 c = search needs
-
-returns-2 : tie.Need-returns-2
-returns-2 c = search needs
 
 announce-some-requires-2 : tie.Need-announce-some-requires-2
 announce-some-requires-2 c κs =
@@ -59,9 +41,6 @@ announce-some-requires-2 c κs =
       c .before .before .before .before .before .before .before .before .before .before .before .before .pre .3,
     )
 
-same-length-3 : tie.Need-same-length-3
-same-length-3 c = search needs
-
 returns-3 : tie.Need-returns-3
 returns-3 c =
     let os = offersIn (c .before .before .before .before .before .before .before .before .before .before .before .before .before .before .before .args .items .now)
@@ -82,14 +61,5 @@ returns-3 c =
 pub announce-part-spec : {M : Type 1} → statement M
 announce-part-spec =
     tie.close
-    (tie.spec
-    displaces-requires
-    announce-some-requires
-    same-length
-    returns
-    announce-for-victims-requires
-    same-length-2
-    returns-2
-    announce-some-requires-2
-    same-length-3
-    returns-3)
+    (tie.spec (λ c κs. search needs) (λ c κs. search needs) (λ c. search needs) (λ c. search needs) announce-for-victims-requires (λ c. search needs) (λ c. search needs)
+    announce-some-requires-2 (λ c. search needs) returns-3)

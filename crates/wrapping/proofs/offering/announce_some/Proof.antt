@@ -10,42 +10,6 @@ use borrow.Author.Needs.{needs}
 use Rattle.wrapping.proofs.offering.announce_some.Statement.{statement}
 use Rattle.wrapping.proofs.offering.announce_some.Tie as tie
 
-offers-requires : tie.Need-offers-requires
-offers-requires c κs = search needs
-
-sub-if1 : tie.Need-sub-if1
-sub-if1 c = search needs
-
-announce-one-requires : tie.Need-announce-one-requires
-announce-one-requires c κs = search needs
-
-add-result : tie.Need-add-result
-add-result c = search needs
-
-same-length : tie.Need-same-length
-same-length c = search needs
-
-returns : tie.Need-returns
-returns c = search needs
-
-region-requires : tie.Need-region-requires
-region-requires c κs = search needs
-
-slice-aggregate-clear : tie.Need-slice-aggregate-clear
-slice-aggregate-clear c = search needs
-
-clear-requires : tie.Need-clear-requires
-clear-requires c κs = search needs
-
-slice-aggregate-collect : tie.Need-slice-aggregate-collect
-slice-aggregate-collect c = search needs
-
-collect-requires : tie.Need-collect-requires
-collect-requires c κs = search needs
-
-slice-aggregate-come-in : tie.Need-slice-aggregate-come-in
-slice-aggregate-come-in c = search needs
-
 come-in-requires : tie.Need-come-in-requires
 come-in-requires c κs = (
   collects-gathers (c .before .before .before .collect .ensures)
@@ -84,12 +48,6 @@ announce-one-requires-2 c κs =
       c .before .before .before .before .before .before .before .before .before .before .before .before .before .before .before .before .before .before .before .before .pre .2,
       omega (arith, c .before .if2 .taken, c .before .before .before .before .before .before .before .before .before .before .before .before .before .before .before .before .offers .ensures),
     )
-
-add-result-2 : tie.Need-add-result-2
-add-result-2 c = search needs
-
-same-length-2 : tie.Need-same-length-2
-same-length-2 c = search needs
 
 returns-2 : tie.Need-returns-2
 returns-2 c =
@@ -134,9 +92,6 @@ returns-2 c =
           (c .before .before .before .before .before .before .before .before .before .before .before .collect .ensures .from) (omega arith) (c .before .before .announce-one2 .ensures);
     }
 
-same-length-3 : tie.Need-same-length-3
-same-length-3 c = search needs
-
 returns-3 : tie.Need-returns-3
 returns-3 c =
     record {
@@ -153,23 +108,6 @@ returns-3 c =
 pub announce-some-spec : {M : Type 1} → statement M
 announce-some-spec =
     tie.close
-    (tie.spec
-    offers-requires
-    sub-if1
-    announce-one-requires
-    add-result
-    same-length
-    returns
-    region-requires
-    slice-aggregate-clear
-    clear-requires
-    slice-aggregate-collect
-    collect-requires
-    slice-aggregate-come-in
-    come-in-requires
-    announce-one-requires-2
-    add-result-2
-    same-length-2
-    returns-2
-    same-length-3
-    returns-3)
+    (tie.spec (λ c κs. search needs) (λ c. search needs) (λ c κs. search needs) (λ c. search needs) (λ c. search needs) (λ c. search needs) (λ c κs. search needs) (λ c. search needs)
+    (λ c κs. search needs) (λ c. search needs) (λ c κs. search needs) (λ c. search needs) come-in-requires announce-one-requires-2 (λ c. search needs) (λ c. search needs) returns-2
+    (λ c. search needs) returns-3)

@@ -17,12 +17,6 @@ Inv-loop s₀ n clock preferred source items priorities late count a i₀ s i = 
 abbrev μ-loop : tie.MeasureT-loop
 μ-loop s₀ n clock preferred source items priorities late count a i₀ s i = length (offersIn items priorities) - i
 
-overloaded-requires : tie.Need-overloaded-requires Inv-loop μ-loop
-overloaded-requires c κs = search needs
-
-offers-requires : tie.Need-offers-requires Inv-loop μ-loop
-offers-requires c κs = search needs
-
 loop-holds : tie.Need-loop-holds Inv-loop μ-loop
 loop-holds c = batched-start _ _ _ _ _ _
 
@@ -68,14 +62,4 @@ returns c = batched-done (c .before .loop .inv) (omega (arith, c .before .loop .
 pub announce-transactions-spec : {M : Type 1} → statement M
 announce-transactions-spec =
     tie.close
-    (tie.spec
-    Inv-loop
-    μ-loop
-    overloaded-requires
-    offers-requires
-    loop-holds
-    announce-part-requires
-    loop-less
-    loop-again
-    same-length
-    returns)
+    (tie.spec Inv-loop μ-loop (λ c κs. search needs) (λ c κs. search needs) loop-holds announce-part-requires loop-less loop-again same-length returns)

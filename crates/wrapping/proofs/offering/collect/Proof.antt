@@ -17,9 +17,6 @@ Inv-loop s new₀ a items priorities first count i₀ m₀ new i m = Collects s 
 abbrev μ-loop : tie.MeasureT-loop
 μ-loop s new₀ a items priorities first count i₀ m₀ new i m = length (offersIn items priorities) - i
 
-offers-requires : tie.Need-offers-requires Inv-loop μ-loop
-offers-requires c κs = search needs
-
 loop-holds : tie.Need-loop-holds Inv-loop μ-loop
 loop-holds c = (
   collects-start (c .before .before .before .before .before .args .a) (offersIn (c .before .before .before .before .before .args .items .now)
@@ -78,18 +75,4 @@ returns-2 c = c .before .loop .inv .0
 pub collect-spec : {M : Type 1} → statement M
 collect-spec =
     tie.close
-    (tie.spec
-    Inv-loop
-    μ-loop
-    offers-requires
-    loop-holds
-    offered-at-requires
-    set-aside-requires
-    same-length
-    returns
-    add-m
-    add-i
-    loop-less
-    loop-again
-    same-length-2
-    returns-2)
+    (tie.spec Inv-loop μ-loop (λ c κs. search needs) loop-holds offered-at-requires set-aside-requires same-length returns add-m add-i loop-less loop-again same-length-2 returns-2)

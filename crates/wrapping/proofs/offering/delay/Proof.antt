@@ -6,27 +6,6 @@ use borrow.Author.Needs.{needs}
 use Rattle.wrapping.proofs.offering.delay.Statement.{statement}
 use Rattle.wrapping.proofs.offering.delay.Tie as tie
 
-is-wtx-requires : tie.Need-is-wtx-requires
-is-wtx-requires c κs = search needs
-
-one-requires : tie.Need-one-requires
-one-requires c κs = search needs
-
-one-requires-2 : tie.Need-one-requires-2
-one-requires-2 c κs = search needs
-
-add-n : tie.Need-add-n
-add-n c = omega arith
-
-one-requires-3 : tie.Need-one-requires-3
-one-requires-3 c κs = search needs
-
-add-n-2 : tie.Need-add-n-2
-add-n-2 c = omega arith
-
-mul-result : tie.Need-mul-result
-mul-result c = omega arith
-
 returns : tie.Need-returns
 returns c = (
   delay-is (c .before .before .before .before .args .preferred) (c .before .before .before .before .args .source) (c .before .before .before .before .args .overloaded) (itemNum
@@ -37,12 +16,4 @@ returns c = (
 pub delay-spec : {M : Type 1} → statement M
 delay-spec =
     tie.close
-    (tie.spec
-    is-wtx-requires
-    one-requires
-    one-requires-2
-    add-n
-    one-requires-3
-    add-n-2
-    mul-result
-    returns)
+    (tie.spec (λ c κs. search needs) (λ c κs. search needs) (λ c κs. search needs) (λ c. omega arith) (λ c κs. search needs) (λ c. omega arith) (λ c. omega arith) returns)

@@ -9,12 +9,6 @@ use borrow.Author.Needs.{needs}
 use Rattle.wrapping.proofs.offering.displaces.Statement.{statement}
 use Rattle.wrapping.proofs.offering.displaces.Tie as tie
 
-offers-requires : tie.Need-offers-requires
-offers-requires c κs = search needs
-
-sub-if1 : tie.Need-sub-if1
-sub-if1 c = search needs
-
 returns : tie.Need-returns
 returns c = λ e. never e
 
@@ -29,14 +23,8 @@ item-at-requires c κs = omega (
       (c .before .before .before .before .before .before .before .args .items .now)) (words (c .before .before .before .before .before .before .before .args .priorities .now)),
 )
 
-crowded-requires : tie.Need-crowded-requires
-crowded-requires c κs = search needs
-
 returns-3 : tie.Need-returns-3
 returns-3 c = λ e. never e
-
-full-requires : tie.Need-full-requires
-full-requires c κs = search needs
 
 returns-4 : tie.Need-returns-4
 returns-4 c = λ e. (
@@ -48,13 +36,4 @@ returns-4 c = λ e. (
 pub displaces-spec : {M : Type 1} → statement M
 displaces-spec =
     tie.close
-    (tie.spec
-    offers-requires
-    sub-if1
-    returns
-    returns-2
-    item-at-requires
-    crowded-requires
-    returns-3
-    full-requires
-    returns-4)
+    (tie.spec (λ c κs. search needs) (λ c. search needs) returns returns-2 item-at-requires (λ c κs. search needs) returns-3 (λ c κs. search needs) returns-4)

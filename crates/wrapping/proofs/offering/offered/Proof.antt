@@ -7,12 +7,6 @@ use borrow.Author.Needs.{needs}
 use Rattle.wrapping.proofs.offering.offered.Statement.{statement}
 use Rattle.wrapping.proofs.offering.offered.Tie as tie
 
-delay-requires : tie.Need-delay-requires
-delay-requires c κs = search needs
-
-add-ready : tie.Need-add-ready
-add-ready c = omega arith
-
 returns : tie.Need-returns
 returns c = ap (λ (d : ℕ). record {
   connection = c .before .args .n;
@@ -23,4 +17,4 @@ returns c = ap (λ (d : ℕ). record {
 }) (c .delay .ensures .0)
 
 pub offered-spec : {M : Type 1} → statement M
-offered-spec = tie.close (tie.spec delay-requires add-ready returns)
+offered-spec = tie.close (tie.spec (λ c κs. search needs) (λ c. omega arith) returns)

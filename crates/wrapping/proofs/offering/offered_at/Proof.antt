@@ -23,9 +23,6 @@ get-requires c κs = omega (
   length-words (c .before .before .before .args .priorities .now),
 )
 
-offered-requires : tie.Need-offered-requires
-offered-requires c κs = search needs
-
 returns : tie.Need-returns
 returns c = λ d.
     let a = c .before .before .before .before .before .args .a in
@@ -34,4 +31,4 @@ returns c = λ d.
     (c .before .before .before .before .before .args .i) (c .before .before .before .before .before .pre .1) (c .before .before .item-at .ensures) (c .before .get .ensures) d)
 
 pub offered-at-spec : {M : Type 1} → statement M
-offered-at-spec = tie.close (tie.spec item-at-requires get-requires offered-requires returns)
+offered-at-spec = tie.close (tie.spec item-at-requires get-requires (λ c κs. search needs) returns)

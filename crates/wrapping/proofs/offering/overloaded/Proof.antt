@@ -6,11 +6,8 @@ use borrow.Author.Needs.{needs}
 use Rattle.wrapping.proofs.offering.overloaded.Statement.{statement}
 use Rattle.wrapping.proofs.offering.overloaded.Tie as tie
 
-figures-requires : tie.Need-figures-requires
-figures-requires c κs = search needs
-
 returns : tie.Need-returns
 returns c = λ st s w. ap (leb maxInFlight) (c .before .figures .ensures st s w .owned)
 
 pub overloaded-spec : {M : Type 1} → statement M
-overloaded-spec = tie.close (tie.spec figures-requires returns)
+overloaded-spec = tie.close (tie.spec (λ c κs. search needs) returns)

@@ -5,18 +5,6 @@ use borrow.Author.Needs.{needs}
 use Rattle.wrapping.proofs.offering.settle.Statement.{statement}
 use Rattle.wrapping.proofs.offering.settle.Tie as tie
 
-region-requires : tie.Need-region-requires
-region-requires c κs = search needs
-
-slice-aggregate-clear : tie.Need-slice-aggregate-clear
-slice-aggregate-clear c = search needs
-
-clear-requires : tie.Need-clear-requires
-clear-requires c κs = search needs
-
-slice-aggregate-swap : tie.Need-slice-aggregate-swap
-slice-aggregate-swap c = search needs
-
 swap-requires : tie.Need-swap-requires
 swap-requires c κs = (
   c .before .before .before .before .before .before .before .before .before .before .pre .0,
@@ -42,9 +30,6 @@ go-requires c κs = (
       .before .before .before .before .before .pre .4,
 )
 
-slice-aggregate-come-in : tie.Need-slice-aggregate-come-in
-slice-aggregate-come-in c = search needs
-
 come-in-requires : tie.Need-come-in-requires
 come-in-requires c κs = (
   swaps-gathers (c .before .before .before .before .before .before .before .swap .ensures) (c .before .before .before .before .go .ensures)
@@ -58,9 +43,6 @@ come-in-requires c κs = (
   ),
 )
 
-same-length : tie.Need-same-length
-same-length c = search needs
-
 returns : tie.Need-returns
 returns c = swaps-settled (c .before .before .before .before .before .before .before .before .before .before .swap .ensures)
     (c .before .before .before .before .before .before .before .go .ensures) (c .before .before .come-in .ensures)
@@ -68,14 +50,4 @@ returns c = swaps-settled (c .before .before .before .before .before .before .be
 pub settle-spec : {M : Type 1} → statement M
 settle-spec =
     tie.close
-    (tie.spec
-    region-requires
-    slice-aggregate-clear
-    clear-requires
-    slice-aggregate-swap
-    swap-requires
-    go-requires
-    slice-aggregate-come-in
-    come-in-requires
-    same-length
-    returns)
+    (tie.spec (λ c κs. search needs) (λ c. search needs) (λ c κs. search needs) (λ c. search needs) swap-requires go-requires (λ c. search needs) come-in-requires (λ c. search needs) returns)

@@ -17,9 +17,6 @@ Inv-loop s new₀ top m a items priorities first count i₀ d₀ new i d = Swaps
 abbrev μ-loop : tie.MeasureT-loop
 μ-loop s new₀ top m a items priorities first count i₀ d₀ new i d = length (offersIn items priorities) - i
 
-offers-requires : tie.Need-offers-requires Inv-loop μ-loop
-offers-requires c κs = search needs
-
 loop-holds : tie.Need-loop-holds Inv-loop μ-loop
 loop-holds c = (
   swaps-start (c .before .before .before .before .before .before .args .a) (offersIn (c .before .before .before .before .before .before .args .items .now)
@@ -81,18 +78,4 @@ returns-2 c = c .before .loop .inv .0
 pub swap-spec : {M : Type 1} → statement M
 swap-spec =
     tie.close
-    (tie.spec
-    Inv-loop
-    μ-loop
-    offers-requires
-    loop-holds
-    offered-at-requires
-    defer-requires
-    same-length
-    returns
-    add-d
-    add-i
-    loop-less
-    loop-again
-    same-length-2
-    returns-2)
+    (tie.spec Inv-loop μ-loop (λ c κs. search needs) loop-holds offered-at-requires defer-requires same-length returns add-d add-i loop-less loop-again same-length-2 returns-2)

@@ -8,28 +8,10 @@ use Rattle.public_packages.proofs.Departed.{departs, departs-done}
 use Rattle.public_packages.proofs.on_sound.departures.disconnected.Statement.{statement}
 use Rattle.public_packages.proofs.on_sound.departures.disconnected.Tie as tie
 
-departure-needs-requires : tie.Need-departure-needs-requires
-departure-needs-requires c κs = search needs
-
-in-turn-requires : tie.Need-in-turn-requires
-in-turn-requires c κs = search needs
-
-same-length : tie.Need-same-length
-same-length c = search needs
-
 returns : tie.Need-returns
 returns c =
     refused (departs _ _ _) (c .before .before .before .before .before .before .pre)
     (c .before .in-turn .ensures ∙ rw (c .before .before .departure-needs .ensures (c .before .before .before .before .before .before .pre))) (c .if1 .taken)
-
-need-of-requires : tie.Need-need-of-requires
-need-of-requires c κs = search needs
-
-slice-relend-prefix-disconnected : tie.Need-slice-relend-prefix-disconnected
-slice-relend-prefix-disconnected c = search needs
-
-slice-aggregate-disconnected : tie.Need-slice-aggregate-disconnected
-slice-aggregate-disconnected c = search needs
 
 disconnected-requires : tie.Need-disconnected-requires
 disconnected-requires c κs =
@@ -37,12 +19,6 @@ disconnected-requires c κs =
     let p = passed (c .before .before .before .before .before .in-turn .ensures) (c .before .before .before .before .if1 .left) in
     let e = c .before .before .need-of .ensures in
     (e .kept, some-connection _ (p .connections), omega (arith, p .room, c .before .before .before .before .before .before .departure-needs .ensures w, front-limit w e, front-places w e))
-
-same-length-2 : tie.Need-same-length-2
-same-length-2 c = search needs
-
-same-length-3 : tie.Need-same-length-3
-same-length-3 c = search needs
 
 returns-2 : tie.Need-returns-2
 returns-2 c =
@@ -55,5 +31,5 @@ returns-2 c =
 
 pub disconnected-spec : {M : Type 1} → statement M
 disconnected-spec =
-    tie.close (tie.spec departure-needs-requires in-turn-requires same-length returns need-of-requires slice-relend-prefix-disconnected slice-aggregate-disconnected disconnected-requires
-    same-length-2 same-length-3 returns-2)
+    tie.close (tie.spec (λ c κs. search needs) (λ c κs. search needs) (λ c. search needs) returns (λ c κs. search needs) (λ c. search needs) (λ c. search needs) disconnected-requires
+    (λ c. search needs) (λ c. search needs) returns-2)

@@ -6,29 +6,8 @@ use Rattle.public_packages.proofs.Instances.{begins-resolution}
 use Rattle.public_packages.proofs.on_sound.package_calls.begin_package_resolution.Statement.{statement}
 use Rattle.public_packages.proofs.on_sound.package_calls.begin_package_resolution.Tie as tie
 
-of-connection-and-clock-requires : tie.Need-of-connection-and-clock-requires
-of-connection-and-clock-requires c κs = search needs
-
 returns : tie.Need-returns
 returns c = refused ((begins-resolution _ _ _ _ _) .names) (c .before .before .before .before .pre) (c .before .of-connection-and-clock .ensures) (c .if1 .taken)
-
-need-of-requires : tie.Need-need-of-requires
-need-of-requires c κs = search needs
-
-slice-relend-prefix-begin-package-resolution : tie.Need-slice-relend-prefix-begin-package-resolution
-slice-relend-prefix-begin-package-resolution c = search needs
-
-slice-aggregate-begin-package-resolution : tie.Need-slice-aggregate-begin-package-resolution
-slice-aggregate-begin-package-resolution c = search needs
-
-begin-package-resolution-requires : tie.Need-begin-package-resolution-requires
-begin-package-resolution-requires c κs = search needs
-
-replied-requires : tie.Need-replied-requires
-replied-requires c κs = search needs
-
-same-length : tie.Need-same-length
-same-length c = search needs
 
 returns-2 : tie.Need-returns-2
 returns-2 c =
@@ -39,5 +18,4 @@ returns-2 c =
 
 pub begin-package-resolution-spec : {M : Type 1} → statement M
 begin-package-resolution-spec =
-    tie.close (tie.spec of-connection-and-clock-requires returns need-of-requires slice-relend-prefix-begin-package-resolution slice-aggregate-begin-package-resolution
-    begin-package-resolution-requires replied-requires same-length returns-2)
+    tie.close (tie.spec (λ c κs. search needs) returns (λ c κs. search needs) (λ c. search needs) (λ c. search needs) (λ c κs. search needs) (λ c κs. search needs) (λ c. search needs) returns-2)

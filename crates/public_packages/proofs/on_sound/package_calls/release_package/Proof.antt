@@ -9,31 +9,13 @@ use Rattle.outcome.proofs.ListedKeys.{released-typed}
 use Rattle.public_packages.proofs.on_sound.package_calls.release_package.Statement.{statement}
 use Rattle.public_packages.proofs.on_sound.package_calls.release_package.Tie as tie
 
-in-turn-requires : tie.Need-in-turn-requires
-in-turn-requires c κs = search needs
-
 returns : tie.Need-returns
 returns c = refused ((releases-package _ _ _ _) .names) (c .before .before .before .before .pre) (c .before .in-turn .ensures) (c .if1 .taken)
-
-need-of-requires : tie.Need-need-of-requires
-need-of-requires c κs = search needs
-
-slice-relend-prefix-release-package : tie.Need-slice-relend-prefix-release-package
-slice-relend-prefix-release-package c = search needs
-
-slice-aggregate-release-package : tie.Need-slice-aggregate-release-package
-slice-aggregate-release-package c = search needs
 
 release-package-requires : tie.Need-release-package-requires
 release-package-requires c κs =
     let p = passed (c .before .before .before .before .before .in-turn .ensures) (c .before .before .before .before .if1 .left) in
     (c .before .before .need-of .ensures .kept, some-connection _ (p .connections), omega (arith, p .room))
-
-same-length : tie.Need-same-length
-same-length c = search needs
-
-same-length-2 : tie.Need-same-length-2
-same-length-2 c = search needs
 
 returns-2 : tie.Need-returns-2
 returns-2 c =
@@ -48,4 +30,4 @@ returns-2 c =
 
 pub release-package-spec : {M : Type 1} → statement M
 release-package-spec =
-    tie.close (tie.spec in-turn-requires returns need-of-requires slice-relend-prefix-release-package slice-aggregate-release-package release-package-requires same-length same-length-2 returns-2)
+    tie.close (tie.spec (λ c κs. search needs) returns (λ c κs. search needs) (λ c. search needs) (λ c. search needs) release-package-requires (λ c. search needs) (λ c. search needs) returns-2)

@@ -9,28 +9,10 @@ use Rattle.public_packages.proofs.Instances.{fails-claims}
 use Rattle.public_packages.proofs.on_sound.package_claims.failed_package_claims.Statement.{statement}
 use Rattle.public_packages.proofs.on_sound.package_claims.failed_package_claims.Tie as tie
 
-claims-needs-requires : tie.Need-claims-needs-requires
-claims-needs-requires c κs = search needs
-
-in-turn-requires : tie.Need-in-turn-requires
-in-turn-requires c κs = search needs
-
-same-length : tie.Need-same-length
-same-length c = search needs
-
 returns : tie.Need-returns
 returns c =
     refused ((fails-claims _ _ _ _) .names) (c .before .before .before .before .before .before .before .pre)
     (sized _ _ _ _ (c .before .in-turn .ensures) (c .before .before .claims-needs .ensures (c .before .before .before .before .before .before .before .pre))) (c .if1 .taken)
-
-need-of-requires : tie.Need-need-of-requires
-need-of-requires c κs = search needs
-
-slice-relend-prefix-failed-package-claims : tie.Need-slice-relend-prefix-failed-package-claims
-slice-relend-prefix-failed-package-claims c = search needs
-
-slice-aggregate-failed-package-claims : tie.Need-slice-aggregate-failed-package-claims
-slice-aggregate-failed-package-claims c = search needs
 
 failed-package-claims-requires : tie.Need-failed-package-claims-requires
 failed-package-claims-requires c κs =
@@ -38,12 +20,6 @@ failed-package-claims-requires c κs =
     let p = passed (c .before .before .before .before .before .in-turn .ensures) (c .before .before .before .before .if1 .left) in
     let e = c .before .before .need-of .ensures in
     (e .kept, some-connection _ (p .connections), omega (arith, p .room, c .before .before .before .before .before .before .claims-needs .ensures w, front-places w e))
-
-same-length-2 : tie.Need-same-length-2
-same-length-2 c = search needs
-
-same-length-3 : tie.Need-same-length-3
-same-length-3 c = search needs
 
 returns-2 : tie.Need-returns-2
 returns-2 c =
@@ -61,15 +37,5 @@ returns-2 c =
 pub failed-package-claims-spec : {M : Type 1} → statement M
 failed-package-claims-spec =
     tie.close
-    (tie.spec
-    claims-needs-requires
-    in-turn-requires
-    same-length
-    returns
-    need-of-requires
-    slice-relend-prefix-failed-package-claims
-    slice-aggregate-failed-package-claims
-    failed-package-claims-requires
-    same-length-2
-    same-length-3
-    returns-2)
+    (tie.spec (λ c κs. search needs) (λ c κs. search needs) (λ c. search needs) returns (λ c κs. search needs) (λ c. search needs) (λ c. search needs) failed-package-claims-requires
+    (λ c. search needs) (λ c. search needs) returns-2)

@@ -7,26 +7,8 @@ use Rattle.public_packages.proofs.Instances.{tears-down}
 use Rattle.public_packages.proofs.on_sound.package_claims.teardown_package_claims.Statement.{statement}
 use Rattle.public_packages.proofs.on_sound.package_claims.teardown_package_claims.Tie as tie
 
-of-clock-requires : tie.Need-of-clock-requires
-of-clock-requires c κs = search needs
-
 returns : tie.Need-returns
 returns c = refused ((tears-down _) .names) (c .before .before .before .pre) (c .before .of-clock .ensures) (c .if1 .taken)
-
-need-of-requires : tie.Need-need-of-requires
-need-of-requires c κs = search needs
-
-slice-relend-prefix-teardown-package-claims : tie.Need-slice-relend-prefix-teardown-package-claims
-slice-relend-prefix-teardown-package-claims c = search needs
-
-slice-aggregate-teardown-package-claims : tie.Need-slice-aggregate-teardown-package-claims
-slice-aggregate-teardown-package-claims c = search needs
-
-teardown-package-claims-requires : tie.Need-teardown-package-claims-requires
-teardown-package-claims-requires c κs = search needs
-
-same-length : tie.Need-same-length
-same-length c = search needs
 
 returns-2 : tie.Need-returns-2
 returns-2 c =
@@ -38,12 +20,4 @@ returns-2 c =
 pub teardown-package-claims-spec : {M : Type 1} → statement M
 teardown-package-claims-spec =
     tie.close
-    (tie.spec
-    of-clock-requires
-    returns
-    need-of-requires
-    slice-relend-prefix-teardown-package-claims
-    slice-aggregate-teardown-package-claims
-    teardown-package-claims-requires
-    same-length
-    returns-2)
+    (tie.spec (λ c κs. search needs) returns (λ c κs. search needs) (λ c. search needs) (λ c. search needs) (λ c κs. search needs) (λ c. search needs) returns-2)

@@ -6,29 +6,8 @@ use Rattle.public_packages.proofs.Instances.{fails-info}
 use Rattle.public_packages.proofs.on_sound.package_info.failed_package_info.Statement.{statement}
 use Rattle.public_packages.proofs.on_sound.package_info.failed_package_info.Tie as tie
 
-of-connection-and-clock-requires : tie.Need-of-connection-and-clock-requires
-of-connection-and-clock-requires c κs = search needs
-
 returns : tie.Need-returns
 returns c = refused ((fails-info _ _ _) .names) (c .before .before .before .pre) (c .before .of-connection-and-clock .ensures) (c .if1 .taken)
-
-need-of-requires : tie.Need-need-of-requires
-need-of-requires c κs = search needs
-
-slice-relend-prefix-failed-package-info : tie.Need-slice-relend-prefix-failed-package-info
-slice-relend-prefix-failed-package-info c = search needs
-
-slice-aggregate-failed-package-info : tie.Need-slice-aggregate-failed-package-info
-slice-aggregate-failed-package-info c = search needs
-
-failed-package-info-requires : tie.Need-failed-package-info-requires
-failed-package-info-requires c κs = search needs
-
-replied-requires : tie.Need-replied-requires
-replied-requires c κs = search needs
-
-same-length : tie.Need-same-length
-same-length c = search needs
 
 returns-2 : tie.Need-returns-2
 returns-2 c =
@@ -39,5 +18,4 @@ returns-2 c =
 
 pub failed-package-info-spec : {M : Type 1} → statement M
 failed-package-info-spec =
-    tie.close (tie.spec of-connection-and-clock-requires returns need-of-requires slice-relend-prefix-failed-package-info slice-aggregate-failed-package-info failed-package-info-requires
-    replied-requires same-length returns-2)
+    tie.close (tie.spec (λ c κs. search needs) returns (λ c κs. search needs) (λ c. search needs) (λ c. search needs) (λ c κs. search needs) (λ c κs. search needs) (λ c. search needs) returns-2)

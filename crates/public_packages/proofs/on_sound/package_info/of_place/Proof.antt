@@ -10,9 +10,6 @@ use Rattle.outcome.proofs.Turns.{place-untaken, place-free, place-held}
 use Rattle.public_packages.proofs.on_sound.package_info.of_place.Statement.{statement}
 use Rattle.public_packages.proofs.on_sound.package_info.of_place.Tie as tie
 
-would-solicit-requires : tie.Need-would-solicit-requires
-would-solicit-requires c κs = search needs
-
 returns : tie.Need-returns
 returns c hs st g x =
     let e = sym (not-true _ (c .if1 .taken)) ∙ c .before .would-solicit .ensures hs st g x in
@@ -35,4 +32,4 @@ returns-3 c hs st g x =
     rw (← e) (place-held (st .places) _ (omega (arith, c .before .before .held-places .ensures .field (flatOf st) x, c .before .places .ensures .field (flatOf st) x, places-rows (st .table))))
 
 pub of-place-spec : {M : Type 1} → statement M
-of-place-spec = tie.close (tie.spec would-solicit-requires returns held-places-requires places-requires returns-2 returns-3)
+of-place-spec = tie.close (tie.spec (λ c κs. search needs) returns held-places-requires places-requires returns-2 returns-3)

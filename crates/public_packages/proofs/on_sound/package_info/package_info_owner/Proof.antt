@@ -7,20 +7,8 @@ use Rattle.public_packages.proofs.Instances.{reads-owner}
 use Rattle.public_packages.proofs.on_sound.package_info.package_info_owner.Statement.{statement}
 use Rattle.public_packages.proofs.on_sound.package_info.package_info_owner.Tie as tie
 
-of-clock-requires : tie.Need-of-clock-requires
-of-clock-requires c κs = search needs
-
 returns : tie.Need-returns
 returns c = refused ((reads-owner _ _) .names) (c .before .before .before .pre) (c .before .of-clock .ensures) (c .if1 .taken)
-
-need-of-requires : tie.Need-need-of-requires
-need-of-requires c κs = search needs
-
-slice-aggregate-package-info-owner : tie.Need-slice-aggregate-package-info-owner
-slice-aggregate-package-info-owner c = search needs
-
-package-info-owner-requires : tie.Need-package-info-owner-requires
-package-info-owner-requires c κs = search needs
 
 returns-2 : tie.Need-returns-2
 returns-2 c =
@@ -28,4 +16,4 @@ returns-2 c =
     (c .before .before .need-of .ensures) (λ i. omega (arith, c .before .before .before .before .before .shared-slice-known .given i)) (c .package-info-owner .ensures)
 
 pub package-info-owner-spec : {M : Type 1} → statement M
-package-info-owner-spec = tie.close (tie.spec of-clock-requires returns need-of-requires slice-aggregate-package-info-owner package-info-owner-requires returns-2)
+package-info-owner-spec = tie.close (tie.spec (λ c κs. search needs) returns (λ c κs. search needs) (λ c. search needs) (λ c κs. search needs) returns-2)

@@ -7,29 +7,11 @@ use Rattle.public_packages.proofs.Solicited.{solicit-refused, solicit-p
 use Rattle.public_packages.proofs.on_sound.package_info.solicit_package_info.Statement.{statement}
 use Rattle.public_packages.proofs.on_sound.package_info.solicit_package_info.Tie as tie
 
-hashes-requires : tie.Need-hashes-requires
-hashes-requires c κs = search needs
-
-of-solicitation-requires : tie.Need-of-solicitation-requires
-of-solicitation-requires c κs = search needs
-
-same-length : tie.Need-same-length
-same-length c = search needs
-
 returns : tie.Need-returns
 returns c =
     solicit-refused _ _ _ _
     (λ w. c .before .of-solicitation .ensures w (hashesIn (c .before .before .before .before .before .before .args .parents .now)) (c .before .before .before .hashes .ensures))
     (c .before .before .before .before .before .before .pre) (c .if1 .taken)
-
-need-of-requires : tie.Need-need-of-requires
-need-of-requires c κs = search needs
-
-slice-relend-prefix-solicit-package-info : tie.Need-slice-relend-prefix-solicit-package-info
-slice-relend-prefix-solicit-package-info c = search needs
-
-slice-aggregate-solicit-package-info : tie.Need-slice-aggregate-solicit-package-info
-slice-aggregate-solicit-package-info c = search needs
 
 solicit-package-info-requires : tie.Need-solicit-package-info-requires
 solicit-package-info-requires c κs =
@@ -45,12 +27,6 @@ solicit-package-info-requires c κs =
           (c .before .before .before .before .before .before .hashes .ensures)) (c .before .before .before .if1 .left) (c .before .need-of .ensures),
     )
 
-replied-requires : tie.Need-replied-requires
-replied-requires c κs = search needs
-
-same-length-2 : tie.Need-same-length-2
-same-length-2 c = search needs
-
 returns-2 : tie.Need-returns-2
 returns-2 c =
     solicit-done _ _ _ _ (λ w. c .before .before .before .before .before .before .before .before .of-solicitation .ensures w
@@ -62,5 +38,5 @@ returns-2 c =
 
 pub solicit-package-info-spec : {M : Type 1} → statement M
 solicit-package-info-spec =
-    tie.close (tie.spec hashes-requires of-solicitation-requires same-length returns need-of-requires slice-relend-prefix-solicit-package-info slice-aggregate-solicit-package-info
-    solicit-package-info-requires replied-requires same-length-2 returns-2)
+    tie.close (tie.spec (λ c κs. search needs) (λ c κs. search needs) (λ c. search needs) returns (λ c κs. search needs) (λ c. search needs) (λ c. search needs) solicit-package-info-requires
+    (λ c κs. search needs) (λ c. search needs) returns-2)

@@ -9,26 +9,11 @@ use Rattle.public_plans.proofs.Sent.{arranges, arranges-done}
 use Rattle.public_plans.proofs.on_sound.arrangements.arrange.Statement.{statement}
 use Rattle.public_plans.proofs.on_sound.arrangements.arrange.Tie as tie
 
-listed-requires : tie.Need-listed-requires
-listed-requires c κs = search needs
-
-list-needs-requires : tie.Need-list-needs-requires
-list-needs-requires c κs = search needs
-
-of-connections-and-buffer-requires : tie.Need-of-connections-and-buffer-requires
-of-connections-and-buffer-requires c κs = search needs
-
 returns : tie.Need-returns
 returns c =
     let ws = words (c .before .before .before .before .before .before .before .before .args .witnesses .now) in
     let q = sized ws _ _ _ (c .before .of-connections-and-buffer .ensures ws (c .before .before .before .listed .ensures)) (c .before .before .list-needs .ensures) in
     refused (arranges _ _ _) (c .before .before .before .before .before .before .before .before .pre) q (c .if1 .taken)
-
-need-of-requires : tie.Need-need-of-requires
-need-of-requires c κs = search needs
-
-slice-aggregate-arrange : tie.Need-slice-aggregate-arrange
-slice-aggregate-arrange c = search needs
 
 arrange-requires : tie.Need-arrange-requires
 arrange-requires c κs =
@@ -37,9 +22,6 @@ arrange-requires c κs =
     let p = passed (c .before .before .before .before .of-connections-and-buffer .ensures ws (c .before .before .before .before .before .before .listed .ensures))
     (c .before .before .before .if1 .left) in
     (c .before .before .need-of .ensures .kept, omega (arith, p .room, c .before .before .before .before .before .list-needs .ensures, length-entries (a .taken .now)))
-
-same-length : tie.Need-same-length
-same-length c = search needs
 
 returns-2 : tie.Need-returns-2
 returns-2 c =
@@ -55,4 +37,6 @@ returns-2 c =
     (λ i. omega (arith, c .before .before .before .before .before .before .before .before .before .before .before .before .before .shared-slice-known .given i)) (g .count) (g .entries)
 
 pub arrange-spec : {M : Type 1} → statement M
-arrange-spec = tie.close (tie.spec listed-requires list-needs-requires of-connections-and-buffer-requires returns need-of-requires slice-aggregate-arrange arrange-requires same-length returns-2)
+arrange-spec =
+    tie.close
+    (tie.spec (λ c κs. search needs) (λ c κs. search needs) (λ c κs. search needs) returns (λ c κs. search needs) (λ c. search needs) arrange-requires (λ c. search needs) returns-2)

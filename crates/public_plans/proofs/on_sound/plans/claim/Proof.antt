@@ -9,23 +9,8 @@ use Rattle.public_plans.proofs.Taken.{claims, claims-done}
 use Rattle.public_plans.proofs.on_sound.plans.claim.Statement.{statement}
 use Rattle.public_plans.proofs.on_sound.plans.claim.Tie as tie
 
-list-needs-requires : tie.Need-list-needs-requires
-list-needs-requires c κs = search needs
-
-of-clock-and-buffer-requires : tie.Need-of-clock-and-buffer-requires
-of-clock-and-buffer-requires c κs = search needs
-
 returns : tie.Need-returns
 returns c = refused (claims _ _ _) (c .before .before .before .before .before .before .pre) (c .before .of-clock-and-buffer .ensures ∙ rw (c .before .before .list-needs .ensures)) (c .if1 .taken)
-
-need-of-requires : tie.Need-need-of-requires
-need-of-requires c κs = search needs
-
-slice-relend-prefix-claim-bytes : tie.Need-slice-relend-prefix-claim-bytes
-slice-relend-prefix-claim-bytes c = search needs
-
-slice-aggregate-claim-bytes : tie.Need-slice-aggregate-claim-bytes
-slice-aggregate-claim-bytes c = search needs
 
 claim-bytes-requires : tie.Need-claim-bytes-requires
 claim-bytes-requires c κs =
@@ -41,12 +26,6 @@ claim-bytes-requires c κs =
       ),
     )
 
-same-length : tie.Need-same-length
-same-length c = search needs
-
-same-length-2 : tie.Need-same-length-2
-same-length-2 c = search needs
-
 returns-2 : tie.Need-returns-2
 returns-2 c =
     let whole = entries-whole (c .before .before .before .before .before .before .before .before .before .before .before .before .before .before .before .args .checked .now)
@@ -59,5 +38,5 @@ returns-2 c =
 
 pub claim-spec : {M : Type 1} → statement M
 claim-spec =
-    tie.close (tie.spec list-needs-requires of-clock-and-buffer-requires returns need-of-requires slice-relend-prefix-claim-bytes slice-aggregate-claim-bytes claim-bytes-requires
-    same-length same-length-2 returns-2)
+    tie.close (tie.spec (λ c κs. search needs) (λ c κs. search needs) returns (λ c κs. search needs) (λ c. search needs) (λ c. search needs) claim-bytes-requires (λ c. search needs)
+    (λ c. search needs) returns-2)

@@ -5,14 +5,8 @@ use Rattle.public_plans.proofs.Entered.{length-entries}
 use Rattle.public_plans.proofs.on_sound.plans.list_needs.Statement.{statement}
 use Rattle.public_plans.proofs.on_sound.plans.list_needs.Tie as tie
 
-entries-requires : tie.Need-entries-requires
-entries-requires c κs = search needs
-
-mul-result : tie.Need-mul-result
-mul-result c = search needs
-
 returns : tie.Need-returns
 returns c = omega (arith, c .entries .ensures, length-entries (c .before .before .args .list .now))
 
 pub list-needs-spec : {M : Type 1} → statement M
-list-needs-spec = tie.close (tie.spec entries-requires mul-result returns)
+list-needs-spec = tie.close (tie.spec (λ c κs. search needs) (λ c. search needs) returns)

@@ -8,28 +8,10 @@ use Rattle.public_plans.proofs.Planned.{plans, plans-done}
 use Rattle.public_plans.proofs.on_sound.plans.plan.Statement.{statement}
 use Rattle.public_plans.proofs.on_sound.plans.plan.Tie as tie
 
-plan-needs-requires : tie.Need-plan-needs-requires
-plan-needs-requires c κs = search needs
-
-of-clock-and-buffer-requires : tie.Need-of-clock-and-buffer-requires
-of-clock-and-buffer-requires c κs = search needs
-
-same-length : tie.Need-same-length
-same-length c = search needs
-
 returns : tie.Need-returns
 returns c =
     refused (plans _ _ _) (c .before .before .before .before .before .before .pre)
     (sized _ _ _ _ (c .before .of-clock-and-buffer .ensures) (c .before .before .plan-needs .ensures (c .before .before .before .before .before .before .pre))) (c .if1 .taken)
-
-need-of-requires : tie.Need-need-of-requires
-need-of-requires c κs = search needs
-
-slice-relend-prefix-plan-round : tie.Need-slice-relend-prefix-plan-round
-slice-relend-prefix-plan-round c = search needs
-
-slice-aggregate-plan-round : tie.Need-slice-aggregate-plan-round
-slice-aggregate-plan-round c = search needs
 
 plan-round-requires : tie.Need-plan-round-requires
 plan-round-requires c κs =
@@ -37,12 +19,6 @@ plan-round-requires c κs =
     let p = passed (c .before .before .before .before .before .of-clock-and-buffer .ensures) (c .before .before .before .before .if1 .left) in
     let e = c .before .before .need-of .ensures in
     (e .kept, early-clock _ (p .clocks), omega (arith, p .room, c .before .before .before .before .before .before .plan-needs .ensures w, front-limit w e))
-
-same-length-2 : tie.Need-same-length-2
-same-length-2 c = search needs
-
-same-length-3 : tie.Need-same-length-3
-same-length-3 c = search needs
 
 returns-2 : tie.Need-returns-2
 returns-2 c =
@@ -57,15 +33,5 @@ returns-2 c =
 pub plan-spec : {M : Type 1} → statement M
 plan-spec =
     tie.close
-    (tie.spec
-    plan-needs-requires
-    of-clock-and-buffer-requires
-    same-length
-    returns
-    need-of-requires
-    slice-relend-prefix-plan-round
-    slice-aggregate-plan-round
-    plan-round-requires
-    same-length-2
-    same-length-3
-    returns-2)
+    (tie.spec (λ c κs. search needs) (λ c κs. search needs) (λ c. search needs) returns (λ c κs. search needs) (λ c. search needs) (λ c. search needs) plan-round-requires (λ c. search needs)
+    (λ c. search needs) returns-2)

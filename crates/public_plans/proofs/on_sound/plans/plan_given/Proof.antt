@@ -10,28 +10,10 @@ use Rattle.public_plans.proofs.Planned.{plans, plans-done}
 use Rattle.public_plans.proofs.on_sound.plans.plan_given.Statement.{statement}
 use Rattle.public_plans.proofs.on_sound.plans.plan_given.Tie as tie
 
-plan-needs-requires : tie.Need-plan-needs-requires
-plan-needs-requires c κs = search needs
-
-of-clock-and-buffer-requires : tie.Need-of-clock-and-buffer-requires
-of-clock-and-buffer-requires c κs = search needs
-
-same-length : tie.Need-same-length
-same-length c = search needs
-
 returns : tie.Need-returns
 returns c =
     refused (plans _ _ _) (c .before .before .before .before .before .before .before .pre)
     (sized _ _ _ _ (c .before .of-clock-and-buffer .ensures) (c .before .before .plan-needs .ensures (c .before .before .before .before .before .before .before .pre))) (c .if1 .taken)
-
-need-of-requires : tie.Need-need-of-requires
-need-of-requires c κs = search needs
-
-slice-relend-prefix-plan-given : tie.Need-slice-relend-prefix-plan-given
-slice-relend-prefix-plan-given c = search needs
-
-slice-aggregate-plan-given : tie.Need-slice-aggregate-plan-given
-slice-aggregate-plan-given c = search needs
 
 plan-given-requires : tie.Need-plan-given-requires
 plan-given-requires c κs =
@@ -39,12 +21,6 @@ plan-given-requires c κs =
     let p = passed (c .before .before .before .before .before .of-clock-and-buffer .ensures) (c .before .before .before .before .if1 .left) in
     let e = c .before .before .need-of .ensures in
     (e .kept, early-clock _ (p .clocks), omega (arith, p .room, c .before .before .before .before .before .before .plan-needs .ensures w, front-limit w e))
-
-same-length-2 : tie.Need-same-length-2
-same-length-2 c = search needs
-
-same-length-3 : tie.Need-same-length-3
-same-length-3 c = search needs
 
 returns-2 : tie.Need-returns-2
 returns-2 c =
@@ -61,15 +37,5 @@ returns-2 c =
 pub plan-given-spec : {M : Type 1} → statement M
 plan-given-spec =
     tie.close
-    (tie.spec
-    plan-needs-requires
-    of-clock-and-buffer-requires
-    same-length
-    returns
-    need-of-requires
-    slice-relend-prefix-plan-given
-    slice-aggregate-plan-given
-    plan-given-requires
-    same-length-2
-    same-length-3
-    returns-2)
+    (tie.spec (λ c κs. search needs) (λ c κs. search needs) (λ c. search needs) returns (λ c κs. search needs) (λ c. search needs) (λ c. search needs) plan-given-requires (λ c. search needs)
+    (λ c. search needs) returns-2)

@@ -9,28 +9,13 @@ use Rattle.public_plans.proofs.Instances.{announces-transactions}
 use Rattle.public_plans.proofs.on_sound.wrappers.announce_transactions.Statement.{statement}
 use Rattle.public_plans.proofs.on_sound.wrappers.announce_transactions.Tie as tie
 
-of-connection-and-clock-requires : tie.Need-of-connection-and-clock-requires
-of-connection-and-clock-requires c κs = search needs
-
 returns : tie.Need-returns
 returns c = refused ((announces-transactions _ _ _ _ _) .names) (c .before .before .before .before .before .pre) (c .before .of-connection-and-clock .ensures) (c .if1 .taken)
-
-need-of-requires : tie.Need-need-of-requires
-need-of-requires c κs = search needs
-
-slice-relend-prefix-announce-transactions : tie.Need-slice-relend-prefix-announce-transactions
-slice-relend-prefix-announce-transactions c = search needs
-
-slice-aggregate-announce-transactions : tie.Need-slice-aggregate-announce-transactions
-slice-aggregate-announce-transactions c = search needs
 
 announce-transactions-requires : tie.Need-announce-transactions-requires
 announce-transactions-requires c κs =
     let p = passed (c .before .before .before .before .of-connection-and-clock .ensures) (c .before .before .before .if1 .left) in
     (c .before .need-of .ensures .kept, some-connection _ (p .connections), omega (arith, early-clock _ (p .clocks)))
-
-same-length : tie.Need-same-length
-same-length c = search needs
 
 returns-2 : tie.Need-returns-2
 returns-2 c =
@@ -40,5 +25,4 @@ returns-2 c =
 
 pub announce-transactions-spec : {M : Type 1} → statement M
 announce-transactions-spec =
-    tie.close (tie.spec of-connection-and-clock-requires returns need-of-requires slice-relend-prefix-announce-transactions slice-aggregate-announce-transactions
-    announce-transactions-requires same-length returns-2)
+    tie.close (tie.spec (λ c κs. search needs) returns (λ c κs. search needs) (λ c. search needs) (λ c. search needs) announce-transactions-requires (λ c. search needs) returns-2)

@@ -9,9 +9,6 @@ use Rattle.public_plans.proofs.on_sound.wrappers.missing_needs.Tie as t
 places-requires : tie.Need-places-requires
 places-requires c κs = head-inside (c .before .before .args .s .now) (c .before .before .pre)
 
-items-requires : tie.Need-items-requires
-items-requires c κs = search needs
-
 mul-result : tie.Need-mul-result
 mul-result c =
     let w = (c .before .before .before .before .pre) in
@@ -33,4 +30,4 @@ returns : tie.Need-returns
 returns c w = omega (arith, c .before .places .ensures .word, places-word (c .before .before .before .before .args .s .now) w, c .items .ensures)
 
 pub missing-needs-spec : {M : Type 1} → statement M
-missing-needs-spec = tie.close (tie.spec places-requires items-requires mul-result add-result mul-result-2 returns)
+missing-needs-spec = tie.close (tie.spec places-requires (λ c κs. search needs) mul-result add-result mul-result-2 returns)

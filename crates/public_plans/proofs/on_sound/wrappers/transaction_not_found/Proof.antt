@@ -10,28 +10,10 @@ use Rattle.public_plans.proofs.Instances.{misses}
 use Rattle.public_plans.proofs.on_sound.wrappers.transaction_not_found.Statement.{statement}
 use Rattle.public_plans.proofs.on_sound.wrappers.transaction_not_found.Tie as tie
 
-missing-needs-requires : tie.Need-missing-needs-requires
-missing-needs-requires c κs = search needs
-
-in-turn-requires : tie.Need-in-turn-requires
-in-turn-requires c κs = search needs
-
-same-length : tie.Need-same-length
-same-length c = search needs
-
 returns : tie.Need-returns
 returns c =
     refused ((misses _ _ _ _) .names) (c .before .before .before .before .before .before .before .pre)
     (sized _ _ _ _ (c .before .in-turn .ensures) (c .before .before .missing-needs .ensures (c .before .before .before .before .before .before .before .pre))) (c .if1 .taken)
-
-need-of-requires : tie.Need-need-of-requires
-need-of-requires c κs = search needs
-
-slice-relend-prefix-transaction-not-found : tie.Need-slice-relend-prefix-transaction-not-found
-slice-relend-prefix-transaction-not-found c = search needs
-
-slice-aggregate-transaction-not-found : tie.Need-slice-aggregate-transaction-not-found
-slice-aggregate-transaction-not-found c = search needs
 
 transaction-not-found-requires : tie.Need-transaction-not-found-requires
 transaction-not-found-requires c κs =
@@ -39,12 +21,6 @@ transaction-not-found-requires c κs =
     let p = passed (c .before .before .before .before .before .in-turn .ensures) (c .before .before .before .before .if1 .left) in
     let e = c .before .before .need-of .ensures in
     (e .kept, some-connection _ (p .connections), omega (arith, p .room, c .before .before .before .before .before .before .missing-needs .ensures w, front-places w e))
-
-same-length-2 : tie.Need-same-length-2
-same-length-2 c = search needs
-
-same-length-3 : tie.Need-same-length-3
-same-length-3 c = search needs
 
 returns-2 : tie.Need-returns-2
 returns-2 c =
@@ -64,15 +40,5 @@ returns-2 c =
 pub transaction-not-found-spec : {M : Type 1} → statement M
 transaction-not-found-spec =
     tie.close
-    (tie.spec
-    missing-needs-requires
-    in-turn-requires
-    same-length
-    returns
-    need-of-requires
-    slice-relend-prefix-transaction-not-found
-    slice-aggregate-transaction-not-found
-    transaction-not-found-requires
-    same-length-2
-    same-length-3
-    returns-2)
+    (tie.spec (λ c κs. search needs) (λ c κs. search needs) (λ c. search needs) returns (λ c κs. search needs) (λ c. search needs) (λ c. search needs) transaction-not-found-requires
+    (λ c. search needs) (λ c. search needs) returns-2)

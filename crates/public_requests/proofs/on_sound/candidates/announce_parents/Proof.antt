@@ -9,24 +9,9 @@ use Rattle.outcome.proofs.ListedKeys.{parents-typed}
 use Rattle.public_requests.proofs.on_sound.candidates.announce_parents.Statement.{statement}
 use Rattle.public_requests.proofs.on_sound.candidates.announce_parents.Tie as tie
 
-hashes-requires : tie.Need-hashes-requires
-hashes-requires c κs = search needs
-
-in-turn-requires : tie.Need-in-turn-requires
-in-turn-requires c κs = search needs
-
 returns : tie.Need-returns
 returns c =
     refused ((announces-parents _ _ _ _) .names) (c .before .before .before .before .before .before .pre) (c .before .in-turn .ensures ∙ rw (c .before .before .hashes .ensures)) (c .if1 .taken)
-
-need-of-requires : tie.Need-need-of-requires
-need-of-requires c κs = search needs
-
-slice-relend-prefix-announce-parents : tie.Need-slice-relend-prefix-announce-parents
-slice-relend-prefix-announce-parents c = search needs
-
-slice-aggregate-announce-parents : tie.Need-slice-aggregate-announce-parents
-slice-aggregate-announce-parents c = search needs
 
 announce-parents-requires : tie.Need-announce-parents-requires
 announce-parents-requires c κs =
@@ -37,12 +22,6 @@ announce-parents-requires c κs =
       omega
           (arith, p .few, p .room, c .before .before .before .before .before .before .hashes .ensures),
     )
-
-same-length : tie.Need-same-length
-same-length c = search needs
-
-same-length-2 : tie.Need-same-length-2
-same-length-2 c = search needs
 
 returns-2 : tie.Need-returns-2
 returns-2 c =
@@ -59,5 +38,5 @@ returns-2 c =
 
 pub announce-parents-spec : {M : Type 1} → statement M
 announce-parents-spec =
-    tie.close (tie.spec hashes-requires in-turn-requires returns need-of-requires slice-relend-prefix-announce-parents slice-aggregate-announce-parents announce-parents-requires same-length
-    same-length-2 returns-2)
+    tie.close (tie.spec (λ c κs. search needs) (λ c κs. search needs) returns (λ c κs. search needs) (λ c. search needs) (λ c. search needs) announce-parents-requires (λ c. search needs)
+    (λ c. search needs) returns-2)

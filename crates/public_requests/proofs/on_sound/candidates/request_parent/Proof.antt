@@ -6,29 +6,8 @@ use Rattle.public_requests.proofs.Instances.{requests-parent}
 use Rattle.public_requests.proofs.on_sound.candidates.request_parent.Statement.{statement}
 use Rattle.public_requests.proofs.on_sound.candidates.request_parent.Tie as tie
 
-of-connection-requires : tie.Need-of-connection-requires
-of-connection-requires c κs = search needs
-
 returns : tie.Need-returns
 returns c = refused ((requests-parent _) .names) (c .before .before .before .pre) (c .before .of-connection .ensures) (c .if1 .taken)
-
-need-of-requires : tie.Need-need-of-requires
-need-of-requires c κs = search needs
-
-slice-relend-prefix-request-parent : tie.Need-slice-relend-prefix-request-parent
-slice-relend-prefix-request-parent c = search needs
-
-slice-aggregate-request-parent : tie.Need-slice-aggregate-request-parent
-slice-aggregate-request-parent c = search needs
-
-request-parent-requires : tie.Need-request-parent-requires
-request-parent-requires c κs = search needs
-
-replied-requires : tie.Need-replied-requires
-replied-requires c κs = search needs
-
-same-length : tie.Need-same-length
-same-length c = search needs
 
 returns-2 : tie.Need-returns-2
 returns-2 c =
@@ -38,5 +17,4 @@ returns-2 c =
 
 pub request-parent-spec : {M : Type 1} → statement M
 request-parent-spec =
-    tie.close (tie.spec of-connection-requires returns need-of-requires slice-relend-prefix-request-parent slice-aggregate-request-parent request-parent-requires replied-requires
-    same-length returns-2)
+    tie.close (tie.spec (λ c κs. search needs) returns (λ c κs. search needs) (λ c. search needs) (λ c. search needs) (λ c κs. search needs) (λ c κs. search needs) (λ c. search needs) returns-2)

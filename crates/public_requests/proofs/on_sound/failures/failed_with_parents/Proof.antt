@@ -9,31 +9,13 @@ use Rattle.outcome.proofs.Widths.{key-typed}
 use Rattle.public_requests.proofs.on_sound.failures.failed_with_parents.Statement.{statement}
 use Rattle.public_requests.proofs.on_sound.failures.failed_with_parents.Tie as tie
 
-in-turn-requires : tie.Need-in-turn-requires
-in-turn-requires c κs = search needs
-
 returns : tie.Need-returns
 returns c = refused ((fails-with-parents _ _ _ _) .names) (c .before .before .before .before .pre) (c .before .in-turn .ensures) (c .if1 .taken)
-
-need-of-requires : tie.Need-need-of-requires
-need-of-requires c κs = search needs
-
-slice-relend-prefix-failed-with-parents : tie.Need-slice-relend-prefix-failed-with-parents
-slice-relend-prefix-failed-with-parents c = search needs
-
-slice-aggregate-failed-with-parents : tie.Need-slice-aggregate-failed-with-parents
-slice-aggregate-failed-with-parents c = search needs
 
 failed-with-parents-requires : tie.Need-failed-with-parents-requires
 failed-with-parents-requires c κs =
     let p = passed (c .before .before .before .before .before .in-turn .ensures) (c .before .before .before .before .if1 .left) in
     (c .before .before .need-of .ensures .kept, some-connection _ (p .connections), omega (arith, p .room))
-
-same-length : tie.Need-same-length
-same-length c = search needs
-
-same-length-2 : tie.Need-same-length-2
-same-length-2 c = search needs
 
 returns-2 : tie.Need-returns-2
 returns-2 c =
@@ -48,5 +30,4 @@ returns-2 c =
 
 pub failed-with-parents-spec : {M : Type 1} → statement M
 failed-with-parents-spec =
-    tie.close (tie.spec in-turn-requires returns need-of-requires slice-relend-prefix-failed-with-parents slice-aggregate-failed-with-parents failed-with-parents-requires same-length
-    same-length-2 returns-2)
+    tie.close (tie.spec (λ c κs. search needs) returns (λ c κs. search needs) (λ c. search needs) (λ c. search needs) failed-with-parents-requires (λ c. search needs) (λ c. search needs) returns-2)

@@ -9,25 +9,10 @@ use Rattle.outcome.proofs.Replies.{silent-answer}
 use Rattle.public_requests.proofs.on_sound.failures.forget.Statement.{statement}
 use Rattle.public_requests.proofs.on_sound.failures.forget.Tie as tie
 
-need-of-requires : tie.Need-need-of-requires
-need-of-requires c κs = search needs
-
-slice-relend-prefix-forget : tie.Need-slice-relend-prefix-forget
-slice-relend-prefix-forget c = search needs
-
-slice-aggregate-forget : tie.Need-slice-aggregate-forget
-slice-aggregate-forget c = search needs
-
-forget-requires : tie.Need-forget-requires
-forget-requires c κs = search needs
-
-same-length : tie.Need-same-length
-same-length c = search needs
-
 returns : tie.Need-returns
 returns c =
     yes-no-done (forgets _) (c .before .before .before .before .before .before .before .pre) nothing-named refl (c .before .before .before .before .need-of .ensures)
     (λ i. omega (arith, c .slice-known2 .given i)) (silent-answer (c .before .before .forget .ensures)) refl
 
 pub forget-spec : {M : Type 1} → statement M
-forget-spec = tie.close (tie.spec need-of-requires slice-relend-prefix-forget slice-aggregate-forget forget-requires same-length returns)
+forget-spec = tie.close (tie.spec (λ c κs. search needs) (λ c. search needs) (λ c. search needs) (λ c κs. search needs) (λ c. search needs) returns)

@@ -7,29 +7,11 @@ use Rattle.public_requests.proofs.Instances.{gates}
 use Rattle.public_requests.proofs.on_sound.sweeps.poll_gate.Statement.{statement}
 use Rattle.public_requests.proofs.on_sound.sweeps.poll_gate.Tie as tie
 
-of-clock-requires : tie.Need-of-clock-requires
-of-clock-requires c κs = search needs
-
 returns : tie.Need-returns
 returns c = refused ((gates _) .names) (c .before .before .before .pre) (c .before .of-clock .ensures) (c .if1 .taken)
 
-need-of-requires : tie.Need-need-of-requires
-need-of-requires c κs = search needs
-
-slice-relend-prefix-poll-gate : tie.Need-slice-relend-prefix-poll-gate
-slice-relend-prefix-poll-gate c = search needs
-
-slice-aggregate-poll-gate : tie.Need-slice-aggregate-poll-gate
-slice-aggregate-poll-gate c = search needs
-
 poll-gate-requires : tie.Need-poll-gate-requires
 poll-gate-requires c κs = (c .before .need-of .ensures .kept, early-clock _ (passed (c .before .before .before .before .of-clock .ensures) (c .before .before .before .if1 .left) .clocks))
-
-replied-requires : tie.Need-replied-requires
-replied-requires c κs = search needs
-
-same-length : tie.Need-same-length
-same-length c = search needs
 
 returns-2 : tie.Need-returns-2
 returns-2 c =
@@ -38,4 +20,6 @@ returns-2 c =
     (c .before .before .before .before .before .need-of .ensures) (λ i. omega (arith, c .before .slice-known2 .given i)) (c .before .before .before .poll-gate .ensures) (c .replied .ensures)
 
 pub poll-gate-spec : {M : Type 1} → statement M
-poll-gate-spec = tie.close (tie.spec of-clock-requires returns need-of-requires slice-relend-prefix-poll-gate slice-aggregate-poll-gate poll-gate-requires replied-requires same-length returns-2)
+poll-gate-spec =
+    tie.close
+    (tie.spec (λ c κs. search needs) returns (λ c κs. search needs) (λ c. search needs) (λ c. search needs) poll-gate-requires (λ c κs. search needs) (λ c. search needs) returns-2)

@@ -9,28 +9,10 @@ use Rattle.outcome.proofs.ListedKeys.{sweep-typed}
 use Rattle.public_requests.proofs.on_sound.sweeps.sweep.Statement.{statement}
 use Rattle.public_requests.proofs.on_sound.sweeps.sweep.Tie as tie
 
-sweep-needs-requires : tie.Need-sweep-needs-requires
-sweep-needs-requires c κs = search needs
-
-of-buffer-requires : tie.Need-of-buffer-requires
-of-buffer-requires c κs = search needs
-
-same-length : tie.Need-same-length
-same-length c = search needs
-
 returns : tie.Need-returns
 returns c =
     refused ((sweeps _) .names) (c .before .before .before .before .before .before .pre)
     (c .before .of-buffer .ensures ∙ rw (c .before .before .sweep-needs .ensures (c .before .before .before .before .before .before .pre))) (c .if1 .taken)
-
-need-of-requires : tie.Need-need-of-requires
-need-of-requires c κs = search needs
-
-slice-relend-prefix-sweep : tie.Need-slice-relend-prefix-sweep
-slice-relend-prefix-sweep c = search needs
-
-slice-aggregate-sweep : tie.Need-slice-aggregate-sweep
-slice-aggregate-sweep c = search needs
 
 sweep-requires : tie.Need-sweep-requires
 sweep-requires c κs = (
@@ -43,12 +25,6 @@ sweep-requires c κs = (
         (c .before .before .before .before .before .before .before .before .before .before .pre) (c .before .before .need-of .ensures),
   ),
 )
-
-same-length-2 : tie.Need-same-length-2
-same-length-2 c = search needs
-
-same-length-3 : tie.Need-same-length-3
-same-length-3 c = search needs
 
 returns-2 : tie.Need-returns-2
 returns-2 c =
@@ -63,5 +39,5 @@ returns-2 c =
 
 pub sweep-spec : {M : Type 1} → statement M
 sweep-spec =
-    tie.close (tie.spec sweep-needs-requires of-buffer-requires same-length returns need-of-requires slice-relend-prefix-sweep slice-aggregate-sweep sweep-requires same-length-2
-    same-length-3 returns-2)
+    tie.close (tie.spec (λ c κs. search needs) (λ c κs. search needs) (λ c. search needs) returns (λ c κs. search needs) (λ c. search needs) (λ c. search needs) sweep-requires (λ c. search needs)
+    (λ c. search needs) returns-2)
