@@ -16,7 +16,7 @@ use Rattle.machine.specs.Owners.{Holding, holdingAt, holdings, greatestH
 use Rattle.machine.specs.Call.{ownerBytes}
 use Rattle.machine.specs.Step.{holdingWords, holdingAnswer, holdingsAnswer}
 use Rattle.machine.proofs.Tests.{test}
-use Rattle.machine.proofs.AnswerLengths.{length-bytesOf}
+use Rattle.words.proofs.Words.{length-bytes}
 
 -- ---- "Each answer equals that for a list of its hash by itself."
 
@@ -28,8 +28,8 @@ alone t (g ∷ before) h after = ap (λ (l : List (Option Holding)). holdingAt t
 -- ---- lengths
 
 pub length-holdingAnswer : (o : Option Holding) → length (holdingAnswer o) ≡ ownerBytes
-length-holdingAnswer none = length-bytesOf (0 ∷ 0 ∷ 0 ∷ [])
-length-holdingAnswer (some a) = length-bytesOf (holdingWords (some a))
+length-holdingAnswer none = length-bytes (0 ∷ 0 ∷ 0 ∷ [])
+length-holdingAnswer (some a) = length-bytes (holdingWords (some a))
 
 pub length-holdingsAnswer : (l : List (Option Holding)) → length (holdingsAnswer l) ≡ ownerBytes * length l
 unfolding holdingsAnswer
