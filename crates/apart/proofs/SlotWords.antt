@@ -45,8 +45,13 @@ module _ (x : Slot) where
 head-fore : (w : List ℕ) → readHead (take keptAt w) ≡ readHead w
 unfolding readHead
 head-fore w =
-    rw (quad-in w keptAt 0 (lit≤ tt), quad-in w keptAt combinedAt (lit≤ tt), getD-take keptAt w stageAt 0 (lit< tt), getD-take keptAt w wtxidCountAt 0 (lit< tt),
-    getD-take keptAt w parentCountAt 0 (lit< tt))
+    rw (
+      quad-in w keptAt 0 (lit≤ tt),
+      quad-in w keptAt combinedAt (lit≤ tt),
+      getD-take keptAt w stageAt 0 (lit< tt),
+      getD-take keptAt w wtxidCountAt 0 (lit< tt),
+      getD-take keptAt w parentCountAt 0 (lit< tt),
+    )
 
 pub slot-head : (x : Slot) → readHead (slotWords x) ≡ headOf (x .place)
 slot-head x = sym (head-fore (slotWords x)) ∙ ap readHead (slot-fore x) ∙ head-fore (placeWords (x .place)) ∙ head-back (x .place)

@@ -96,7 +96,7 @@ noted-next : (xs : List Slot) (i : ℕ) (d : Slot) → i < length xs → noted (
 unfolding noted
 noted-next [] i d h = absurd (omega arith)
 noted-next (x ∷ xs) zero d h = refl
-noted-next (x ∷ xs) (suc i) d h = noted-next xs i d (omega arith)
+noted-next (x ∷ xs) (suc i) d h = let e : suc i + 1 ≡ suc (i + 1) = omega arith in rw e (noted-next xs i d (omega arith))
 
 noted-over : (e : ℕ) (xs : List Slot) → ClearFrom e xs → noted (drop e xs) ≡ []
 noted-over zero xs c = noted-none xs c

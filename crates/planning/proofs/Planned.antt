@@ -22,7 +22,7 @@ use Rattle.store.specs.Shown.{limitIn, heldPlacesIn, Kept}
 use Rattle.store.proofs.Frame.{sizes}
 use Rattle.requests.specs.Changes.{Tells}
 use Rattle.apart.specs.Bare.{bare, bareState}
-use Rattle.apart.specs.Apart.{atRest, resting, plain, Slots, Forgotten, Apart, Parted, Rested, SetApart, PutBack}
+use Rattle.apart.specs.Apart.{atRest, resting, plain, Room, Slots, Forgotten, Apart, Parted, Rested, SetApart, PutBack}
 use Rattle.apart.specs.Lapsing.{noted}
 use Rattle.apart.proofs.SlotWords.{plain-long}
 use Rattle.apart.proofs.Forgetting.{forgotten-apart, forgotten-behind}
@@ -48,6 +48,9 @@ pub expired-parted : {b b₁ f f₁ : List ℕ} {m c now e : ℕ} → ExpiresAll
 expired-parted {now = now} x p =
     let g = x .goes (p .state) (p .places) (p .apart) (p .count) in
     record { state = onTable ((machine.expired now (p .state)) .table) (p .state); places = g .places; apart = g .apart; count = g .count }
+
+pub room-same : {b b′ f : List ℕ} {m n : ℕ} → Room b f m n → length b′ ≡ length b → Room b′ f m n
+room-same r e = record { first = r .first; front = omega (arith, r .front); rest = omega (arith, r .rest) }
 
 pub begun : {b b₁ b₂ b₃ f f₁ f₃ : List ℕ} {m c now e : ℕ} {p p₂ : List ℕ} {v w : Scan} → c ≤ maxPlaces → ExpiresAll b b₁ f f₁ m c now e → Fresh v → KeptPhased b₁ b₂ f₁ m e p p₂ now v w
     → Forgotten b₂ b₃ f₁ f₃ m e → length b₃ ≡ length b₁ → length f₃ ≡ length f₁ → Begins b b₃ f f₃ m c p₂ now w

@@ -7,9 +7,14 @@ use borrow.Author.Needs.{needs}
 use Rattle.planning.proofs.kept.consider_noted.Statement.{statement}
 use Rattle.planning.proofs.kept.consider_noted.Tie as tie
 
+note-at-requires : tie.Need-note-at-requires
+note-at-requires c κs = search needs
+
+same-length : tie.Need-same-length
+same-length c = search needs
+
 returns : tie.Need-returns
-returns c = let z = both-zero (c .before .before .before .before .args .low) (c .before .before .before .before .args .high) (c .if1 .taken) in place-clear (z .0) (z .1) (c .before .before
-    .before .before .pre .1) (c .before .before .before .before .pre .4)
+returns c = let z = both-zero (c .before .note-at .result .low) (c .before .note-at .result .high) (c .if1 .taken) in place-clear (c .before .note-at .ensures) (z .0) (z .1) (c .before .before .before .before .before .before .pre .1) (c .before .before .before .before .before .before .pre .4)
 
 slot-room-requires : tie.Need-slot-room-requires
 slot-room-requires c κs = search needs
@@ -40,35 +45,30 @@ slice-aggregate-consider-place c = search needs
 
 consider-place-requires : tie.Need-consider-place-requires
 consider-place-requires c κs = (
-  subst Kept (sym (front-lent (c .before .before .before .before .before .before .before .before .before .before .before .before .before .before .args .s .now)
-      (c .before .before .before .before .before .before .before .before .before .before .before .before .before .before .args .m))) (c .before .before .before .before .before .before .before
-      .before .before .before .before .before .before .before .pre .1),
-  c .before .before .before .before .before .before .before .before .before .before .before .before .before .before .pre
-      .2,
-  c .before .before .before .before .before .before .before .before .before .before .before .before .before .before .pre .3,
-  c .before .before .before .before .before .before .before
-      .before .before .before .before .before .before .before .pre .4,
+  subst Kept (sym (front-lent (c .before .before .before .before .before .before .before .before .before .before .before .before .before .before .before .before .args .s .now) (c .before .before .before .before .before .before .before .before .before .before .before .before .before .before .before .before .args .m))) (c .before .before .before .before .before .before .before .before .before .before .before .before .before .before .before .before .pre .1),
+  c .before .before .before .before .before .before .before .before .before .before .before .before .before .before .before .before .pre .2,
+  c .before .before .before .before .before .before .before .before .before .before .before .before .before .before .before .before .pre .3,
+  c .before .before .before .before .before .before .before .before .before .before .before .before .before .before .before .before .pre .4,
   c .before .before .before .parents-in .ensures .most,
   search needs,
-  c .before .before .before .before .before .before
-      .before .before .before .before .before .before .before .before .pre .5,
+  c .before .before .before .before .before .before .before .before .before .before .before .before .before .before .before .before .pre .5,
 )
-
-same-length : tie.Need-same-length
-same-length c = search needs
 
 same-length-2 : tie.Need-same-length-2
 same-length-2 c = search needs
 
+same-length-3 : tie.Need-same-length-3
+same-length-3 c = search needs
+
 returns-2 : tie.Need-returns-2
-returns-2 c = place-scanned _ _ _ (c .before .before .before .before .before .before .before .before .before .before .before .load .ensures) (c .before .before .before .before .before
-    .before .before .before .parents-in .ensures) (c .before .before .before .before .before .before .before .before .before .before .before .before .before .before .before .before .before
-    .before .before .pre .0 .front) (c .before .before .before .before .consider-place .kept .0) refl (c .before .before .before .before .consider-place .ensures)
+returns-2 c = place-scanned (c .before .before .before .before .before .before .before .before .before .before .before .before .before .before .before .before .note-at .ensures) _ _ _ (c .before .before .before .before .before .before .before .before .before .before .before .load .ensures) (c .before .before .before .before .before .before .before .before .parents-in .ensures) (c .before .before .before .before .before .before .before .before .before .before .before .before .before .before .before .before .before .before .before .before .before .pre .0 .front) (c .before .before .before .before .consider-place .kept .0) refl (c .before .before .before .before .consider-place .ensures)
 
 pub consider-noted-spec : {M : Type 1} → statement M
 consider-noted-spec =
     tie.close
     (tie.spec
+    note-at-requires
+    same-length
     returns
     slot-room-requires
     slice-aggregate-load
@@ -80,6 +80,6 @@ consider-noted-spec =
     part-consider-place-end
     slice-aggregate-consider-place
     consider-place-requires
-    same-length
     same-length-2
+    same-length-3
     returns-2)

@@ -12,19 +12,7 @@ opened-requires : tie.Need-opened-requires
 opened-requires c κs = search needs
 
 keys-kept-requires : tie.Need-keys-kept-requires
-keys-kept-requires c κs = (
-  c .before .before .before .before .before .before .before .before .pre .0,
-  c .before .before .before .before .before .before .before .before .pre .1,
-  c .before
-      .before .before .before .before .before .before .before .pre .2,
-  c .before .before .before .before .before .before .before .before .pre .3,
-  opened-roomy (c .before .before .before
-      .before .before .before .before .before .args .v) (c .before .before .opened .ensures) (c .before .before .before .before .before .before .before .before .pre .4),
-  (let e = ap (λ (u :
-      Scan). u .considered) (c .before .before .opened .ensures) in omega (arith, e, c .before .before .before .before .before .before .before .before .pre .5)),
-  c .before .before .before
-      .before .before .before .before .before .pre .6,
-)
+keys-kept-requires c κs = (c .before .before .before .before .before .before .pre .0, c .before .before .before .before .before .before .pre .1, c .before .before .before .before .before .before .pre .2, c .before .before .before .before .before .before .pre .3, opened-roomy (c .before .before .before .before .before .before .args .v) (c .before .before .opened .ensures) (c .before .before .before .before .before .before .pre .4), (let e = ap (λ (u : Scan). u .considered) (c .before .before .opened .ensures) in omega (arith, e, c .before .before .before .before .before .before .pre .5)))
 
 same-length : tie.Need-same-length
 same-length c = search needs
@@ -37,4 +25,10 @@ returns c = kept-phased (c .before .before .before .before .before .before .befo
 
 pub phase-kept-spec : {M : Type 1} → statement M
 phase-kept-spec =
-    tie.close (tie.spec opened-requires keys-kept-requires same-length same-length-2 returns)
+    tie.close
+    (tie.spec
+    opened-requires
+    keys-kept-requires
+    same-length
+    same-length-2
+    returns)
