@@ -1,5 +1,5 @@
 -- The notes of the first places cleared, one after the other.
-use Prim.Native.Nat.{ℕ, zero, suc, _+_, _-_, _*_, _≤_, _<_}
+use Prim.Native.Nat.{ℕ, zero, suc, _+_, _-_, _≤_, _<_}
 use mathlib.Core.Path.{_≡_, refl, sym, ap, subst, _∙_}
 use mathlib.Core.List.{List, [], _∷_, _++_}
 use native.Mathlib.Omega.{arith}
@@ -13,7 +13,7 @@ use Rattle.store.specs.FlatSound.{PlacesAscend}
 use Rattle.store.specs.Image.{Writes}
 use Rattle.package_stages.specs.Dead.{filter, live}
 use Rattle.apart.specs.Bare.{bareState}
-use Rattle.apart.specs.Apart.{slotBytes, Slot, withNotes, atRest, resting, plain, Slots, Room, Altered, Clear, ClearFrom, Forgotten, Apart}
+use Rattle.apart.specs.Apart.{Slot, withNotes, atRest, resting, plain, Slots, Room, Altered, Clear, ClearFrom, Forgotten, Apart}
 use Rattle.apart.specs.Lapsing.{nowhere}
 use Rattle.apart.proofs.SlotWords.{plain-rest}
 use Rattle.apart.proofs.Overdue.{slots-rest}

@@ -235,7 +235,8 @@ module _ {b f : List ℕ} {m : ℕ} {st : State} {xs : List Slot} (o : Apart b f
     }
 
     pub lapse-fails : {v : List ℕ} {reply : Bool} {b₁ b₂ f₂ : List ℕ} → eqb (r .stage) 3 ≡ false → m ≤ length b → length v ≡ length (take (m - 0) (drop 0 b))
-        → Answered (take (m - 0) (drop 0 b)) v reply (λ l x. failed k n now x) → b₁ ≡ take 0 b ++ (v ++ drop (m - 0) (drop 0 b)) → Altered b₁ b₂ f f₂ m (r .at) dying → LapsedTo b₂ f₂ m st xs r k n now
+        → Answered (take (m - 0) (drop 0 b)) v reply (λ l x. failed k n now x) → b₁ ≡ take 0 b ++ (v ++ drop (m - 0) (drop 0 b)) → Altered b₁ b₂ f f₂ m (r .at) dying → LapsedTo b₂ f₂ m st xs r k
+        n now
     lapse-fails {v} {b₁ = b₁} {b₂} {f₂} e l nv ans e₁ kill = record {
       writes =
           let a = ans .table (bareState st) (sound-bare (o .sound)) (subst (λ (z : List ℕ). Writes z (bareState st)) (sym (front-lent b m)) (o .writes)) in
@@ -267,7 +268,8 @@ module _ {b f : List ℕ} {m : ℕ} {st : State} {xs : List Slot} (o : Apart b f
         lives-still : filter live (plain (lapsed r xs)) ≡ placesOf ((expireAt (limitsOf st) now k n t) .table)
         lives-still = elim (test (eqb (r .stage) 3)) [
           | inl e ↦ rw e (o .lives ∙ sym (places-enqueued k n now small late (o .sound .bounded) own (enqueued-is ∙ e)))
-          | inr e ↦ rw e (ap (filter live) (plain-set xs (r .at) (dying q) ∙ ap (λ (y : Place). set ps (r .at) (withStage 0 y)) (sym p-is)) ∙ dies-filter 0 ps (r .at) (blank 0 0) (o .ascend) (h .inside) ∙ rw (h .hash (blank 0 0), o .lives)
+          | inr e ↦ rw e (ap (filter live) (plain-set xs (r .at) (dying q) ∙ ap (λ (y : Place). set ps (r .at) (withStage 0 y)) (sym p-is)) ∙ dies-filter 0 ps (r .at) (blank 0 0) (o .ascend) (h
+              .inside) ∙ rw (h .hash (blank 0 0), o .lives)
               (sym (places-without k n now small late (o .sound .bounded) own (enqueued-is ∙ e) (h .kind))))
         ]
 
@@ -303,7 +305,8 @@ module _ {b f : List ℕ} {m : ℕ} {st : State} {xs : List Slot} (o : Apart b f
               ascend = lapsed-as r xs (PlacesAscend 0) (o .ascend) (dies-ascend 0 ps (r .at) (blank 0 0) (o .ascend));
               short = lapsed-as r xs (Each (λ y. length (y .parents) ≤ listMost)) (o .short) (dies-short ps (r .at) (blank 0 0) (o .short));
             };
-            keys = ap (λ (y : Place). pickedIn (y .parents) (x .low) (x .high)) (sym p-is) ∙ told .keys (bareState after) (sound-bare lapsed-sound) (g .writes) ∙ ap (λ (y : Listed). y .keys) bare-is;
+            keys = ap (λ (y : Place). pickedIn (y .parents) (x .low) (x .high)) (sym p-is) ∙ told .keys (bareState after) (sound-bare lapsed-sound) (g .writes) ∙ ap (λ (y : Listed). y .keys)
+                bare-is;
             none-left = λ e. sym (victims-bare ((expireAt (limitsOf st) now k n t) .table)) ∙ ap (λ (y : Listed). victims anywhere (y .table)) (sym bare-is)
                 ∙ told .none-left (bareState after) (sound-bare lapsed-sound) (g .writes) e;
           }

@@ -15,7 +15,8 @@ use Rattle.regions.specs.Rows.{readQuad, quadNumber, quadOf}
 use Rattle.regions.proofs.Gap.{set-one}
 use Rattle.regions.proofs.Regions.{length-padded, holds-at, column}
 use Rattle.places.specs.declared.Head.{Head}
-use Rattle.places.specs.Places.{Place, listMost, listSize, placeSize, parentsAt, stageAt, combinedAt, wtxidCountAt, parentCountAt, keptSize, hashWords, listWords, placeWords, placeKey, headOf, readHead, HeadAt}
+use Rattle.places.specs.Places.{Place, listMost, placeSize, parentsAt, stageAt, combinedAt, wtxidCountAt}
+use Rattle.places.specs.Places.{parentCountAt, keptSize, hashWords, listWords, placeWords, placeKey, headOf, readHead, HeadAt}
 use Rattle.places.proofs.Places.{length-place, length-list, head-words, around-parents, length-front, head-back, parent-at}
 use Rattle.places.proofs.Segments.{quad-in, splice-back, splice-again}
 use Rattle.store.proofs.Quads.{number-quad}

@@ -33,8 +33,10 @@ put-requires-2 : tie.Need-put-requires-2
 put-requires-2 c κs = search needs
 
 drop-dead-requires : tie.Need-drop-dead-requires
-drop-dead-requires c κs = let p = c .before .before .before .before .before .before .before .before .before .before .before .before .before .before .before .pre in places-shown (p .places) (p .apart)
-    refl (p .count) (put-in (p .places) (p .apart) refl (p .count) (c .before .before .before .before .before .before .before .before .before .before .before .copy-slot .ensures) refl (search needs) (c
+drop-dead-requires c κs = let p = c .before .before .before .before .before .before .before .before .before .before .before .before .before .before .before .pre in places-shown (p .places) (p
+    .apart)
+    refl (p .count) (put-in (p .places) (p .apart) refl (p .count) (c .before .before .before .before .before .before .before .before .before .before .before .copy-slot .ensures) refl (search
+    needs) (c
     .before .before .before .before .before .before .before .put .ensures .word) (c .before .before .before .put2 .ensures .word))
 
 same-length : tie.Need-same-length

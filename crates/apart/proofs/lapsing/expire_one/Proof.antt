@@ -37,8 +37,12 @@ returns c = record {
   most = λ l. l;
   goes = λ st xs o n own.
       let late : c .before .before .before .before .before .before .before .before .before .before .before .args .clock < word = omega arith in
-      expired-without o (keyNum (c .before .before .before .before .before .before .before .before .before .before .before .args .k)) (c .before .before .before .before .before .before .before .before .before .before .before .args .n) (c .before .before .before .before .before .before .before .before .before .before .before .args .clock) late (hash-below (c .before .before .before .before .before .before .before .before .before .before .before .args .k .hash) (key-four (c .before .before .before .before .before .before .before .before .before .before .before .args .k) (c .before .before .before .before .before .before .before .before .before .before .before .good .1 .1 .1 .1 .0))) own
-      (c .before .before .before .before .before .before .find .ensures .none (st .places) xs n (o .slots) (o .ascend) (omega (arith, c .before .before .before .before .if1 .taken))) (c .before .before .failed .kept .0) (c .before .before .failed .ensures) (search needs) refl (c .before .before .before .before .before .before .before .before .before .before .before .pre .2);
+      expired-without o (keyNum (c .before .before .before .before .before .before .before .before .before .before .before .args .k)) (c .before .before .before .before .before .before .before
+      .before .before .before .before .args .n) (c .before .before .before .before .before .before .before .before .before .before .before .args .clock) late (hash-below (c .before .before
+      .before .before .before .before .before .before .before .before .before .args .k .hash) (key-four (c .before .before .before .before .before .before .before .before .before .before
+      .before .args .k) (c .before .before .before .before .before .before .before .before .before .before .before .good .1 .1 .1 .1 .0))) own
+      (c .before .before .before .before .before .before .find .ensures .none (st .places) xs n (o .slots) (o .ascend) (omega (arith, c .before .before .before .before .if1 .taken))) (c .before
+      .before .failed .kept .0) (c .before .before .failed .ensures) (search needs) refl (c .before .before .before .before .before .before .before .before .before .before .before .pre .2);
 }
 
 expire-place-requires : tie.Need-expire-place-requires
@@ -55,11 +59,21 @@ expire-place-requires c κs = let x = c .before .before .before .before .before 
 )
 
 set-note-requires : tie.Need-set-note-requires
-set-note-requires c κs = let x = c .before .before .before .before .before .before .before .before .before .before .before .before .before .before .before .before .pre .0 in room-within (found-inside x (c .before .before .before .before .before .before .before .before .before .before .before .find .ensures) (omega (arith, c .before .before .before .before .before .before .before .before .before .if1 .left))) (all-room (x .apart) (omega (arith, x .count)))
+set-note-requires c κs = let x = c .before .before .before .before .before .before .before .before .before .before .before .before .before .before .before .before .pre .0 in room-within
+    (found-inside x (c .before .before .before .before .before .before .before .before .before .before .before .find .ensures) (omega (
+      arith,
+      c .before .before .before .before .before .before
+          .before .before .before .if1 .left,
+    ))) (all-room (x .apart) (omega (arith, x .count)))
     (c .before .before .before .before .before .before .expire-place .kept .0) (c .before .before .before .before .before .before .expire-place .kept .1 .1 .0)
 
 add-t33 : tie.Need-add-t33
-add-t33 c = let y = found-few (c .before .before .before .before .before .before .before .before .before .before .before .before .before .before .before .before .before .before .before .before .before .pre .0) (c .before .before .before .before .before .before .before .before .before .before .before .before .before .before .before .before .find .ensures) (omega (arith, c .before .before .before .before .before .before .before .before .before .before .before .before .before .before .if1 .left)) in omega (arith, y)
+add-t33 c = let y = found-few (c .before .before .before .before .before .before .before .before .before .before .before .before .before .before .before .before .before .before .before .before
+    .before .pre .0) (c .before .before .before .before .before .before .before .before .before .before .before .before .before .before .before .before .find .ensures) (omega (
+      arith,
+      c .before
+          .before .before .before .before .before .before .before .before .before .before .before .before .before .if1 .left,
+    )) in omega (arith, y)
 
 same-length-3 : tie.Need-same-length-3
 same-length-3 c = search needs
@@ -69,10 +83,21 @@ same-length-4 c = search needs
 
 returns-2 : tie.Need-returns-2
 returns-2 c = record {
-  most = λ l. let y = found-inside (c .before .before .before .before .before .before .before .before .before .before .before .before .before .before .before .before .before .before .before .before .before .pre .0) (c .before .before .before .before .before .before .before .before .before .before .before .before .before .before .before .before .find .ensures) (omega (arith, c .before .before .before .before .before .before .before .before .before .before .before .before .before .before .if1 .left)) in omega (arith, y);
+  most = λ l. let y = found-inside (c .before .before .before .before .before .before .before .before .before .before .before .before .before .before .before .before .before .before .before
+      .before .before .pre .0) (c .before .before .before .before .before .before .before .before .before .before .before .before .before .before .before .before .find .ensures) (omega (
+        arith,
+        c
+            .before .before .before .before .before .before .before .before .before .before .before .before .before .before .if1 .left,
+      )) in omega (arith, y);
   goes = λ st xs o n own.
-      let h = c .before .before .before .before .before .before .before .before .before .before .before .before .before .before .before .before .find .ensures .held (st .places) xs n (o .slots) (o .ascend) (omega (arith, c .before .before .before .before .before .before .before .before .before .before .before .before .before .before .if1 .left)) in
-      expired-with o h (c .before .before .before .before .before .before .before .before .before .before .before .expire-place .ensures st xs o h (omega (arith, c .before .before .before .before .before .before .before .before .before .before .before .before .before .before .if1 .left)) own) (c .before .before .before .before .set-note .ensures) (c .before .before .before .before .set-note .kept .0) (c .before .before .before .before .set-note .kept .1 .1 .0);
+      let h = c .before .before .before .before .before .before .before .before .before .before .before .before .before .before .before .before .find .ensures .held (st .places) xs n (o .slots)
+      (o .ascend) (omega (arith, c .before .before .before .before .before .before .before .before .before .before .before .before .before .before .if1 .left)) in
+      expired-with o h (c .before .before .before .before .before .before .before .before .before .before .before .expire-place .ensures st xs o h (omega (
+        arith,
+        c .before .before .before
+            .before .before .before .before .before .before .before .before .before .before .before .if1 .left,
+      )) own) (c .before .before .before .before .set-note .ensures) (c .before .before
+      .before .before .set-note .kept .0) (c .before .before .before .before .set-note .kept .1 .1 .0);
 }
 
 pub expire-one-spec : {M : Type 1} → statement M

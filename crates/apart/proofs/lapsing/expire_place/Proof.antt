@@ -71,7 +71,12 @@ returns c = λ st xs o h z own. let late : c .before .before .before .before .be
     .before .before .before .before .before .args .k .hash) (key-four (c .before .before .before .before .before .before .before .before .before .before .before .before .before .before .before
     .before .before .before .before .before .args .k) (c .before .before .before .before .before .before .before .before .before .before .before .before .before .before .before .before .before
     .before .before .before .good .1 .1 .1 .1 .0))) own (c .before .before .before .before .before .before .before .before .before .lapse .ensures st xs o h
-    z) _ (c .before .before .before .before .before .before .before .before .before .before .before .before .before .load .ensures (st .places) xs nowhere (omega (arith, h .inside, plain-long xs)) (o .slots))
+    z) _ (c .before .before .before .before .before .before .before .before .before .before .before .before .before .load .ensures (st .places) xs nowhere (omega (
+      arith,
+      h .inside,
+      plain-long
+          xs,
+    )) (o .slots))
     (search needs) (c .before .before .announce-all .kept .0) (c .before .before .announce-all .ensures) (search needs) (search needs) refl
 
 pub expire-place-spec : {M : Type 1} → statement M

@@ -17,7 +17,8 @@ loop-holds : tie.Need-loop-holds Inv-loop μ-loop
 loop-holds c = (omega arith, refl, refl, forgetting-starts)
 
 set-note-requires : tie.Need-set-note-requires Inv-loop μ-loop
-set-note-requires c κs = room-within (c .before .before .loop-test .taken) (c .before .before .before .before .before .before .pre) (c .before .before .before .loop .inv .1) (c .before .before .before .loop .inv .2)
+set-note-requires c κs = room-within (c .before .before .loop-test .taken) (c .before .before .before .before .before .before .pre) (c .before .before .before .loop .inv .1) (c .before .before
+    .before .loop .inv .2)
 
 add-i : tie.Need-add-i Inv-loop μ-loop
 add-i c = omega (arith, c .before .before .before .before .before .before .before .loop-test .taken)
@@ -26,7 +27,14 @@ loop-less : tie.Need-loop-less Inv-loop μ-loop
 loop-less c = omega (arith, c .before .before .before .before .before .before .before .loop-test .taken)
 
 loop-again : tie.Need-loop-again Inv-loop μ-loop
-loop-again c = (omega (arith, c .before .before .before .before .before .before .before .loop-test .taken), c .before .before .before .before .set-note .kept .0 ∙ c .before .before .before .before .before .before .before .before .loop .inv .1, c .before .before .before .before .set-note .kept .1 .1 .0 ∙ c .before .before .before .before .before .before .before .before .loop .inv .2, forgetting-goes (c .before .before .before .before .before .before .before .before .loop .inv .3) (c .before .before .before .before .set-note .ensures))
+loop-again c = (
+  omega (arith, c .before .before .before .before .before .before .before .loop-test .taken),
+  c .before .before .before .before .set-note .kept .0 ∙ c .before .before .before
+      .before .before .before .before .before .loop .inv .1,
+  c .before .before .before .before .set-note .kept .1 .1 .0 ∙ c .before .before .before .before .before .before .before .before .loop
+      .inv .2,
+  forgetting-goes (c .before .before .before .before .before .before .before .before .loop .inv .3) (c .before .before .before .before .set-note .ensures),
+)
 
 same-length : tie.Need-same-length Inv-loop μ-loop
 same-length c = c .before .loop .inv .1

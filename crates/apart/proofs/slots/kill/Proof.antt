@@ -32,21 +32,23 @@ same-length : tie.Need-same-length
 same-length c = search needs
 
 returns : tie.Need-returns
-returns c = altered-first (c .before .before .before .before .before .before .before .args .m) (c .before .before .before .before .before .before .before .args .i) stageAt (0 ∷ []) dying (lit≤ tt) slot-dies (omega (
-  arith,
-  c .before
-      .before .before .before .if1 .taken,
-)) (c .before .before .set-stage .ensures .words-are)
+returns c = altered-first (c .before .before .before .before .before .before .before .args .m) (c .before .before .before .before .before .before .before .args .i) stageAt (0 ∷ []) dying (lit≤
+    tt) slot-dies (omega (
+      arith,
+      c .before
+          .before .before .before .if1 .taken,
+    )) (c .before .before .set-stage .ensures .words-are)
 
 same-length-2 : tie.Need-same-length-2
 same-length-2 c = search needs
 
 returns-2 : tie.Need-returns-2
-returns-2 c = altered-later (c .before .before .before .before .before .before .before .args .m) (c .before .before .before .before .before .before .before .args .i) stageAt (0 ∷ []) dying (lit≤ tt) slot-dies _ (omega (
-  arith,
-  c
-      .before .before .before .before .if1 .left,
-)) (c .before .before .before .before .before .before .before .pre .front) (c .before .before .set-stage2 .kept .0) (c .before .before
+returns-2 c = altered-later (c .before .before .before .before .before .before .before .args .m) (c .before .before .before .before .before .before .before .args .i) stageAt (0 ∷ []) dying (lit≤
+    tt) slot-dies _ (omega (
+      arith,
+      c
+          .before .before .before .before .if1 .left,
+    )) (c .before .before .before .before .before .before .before .pre .front) (c .before .before .set-stage2 .kept .0) (c .before .before
     .set-stage2 .ensures .words-are)
 
 pub kill-spec : {M : Type 1} → statement M

@@ -27,7 +27,8 @@ read-note-requires-2 : tie.Need-read-note-requires-2
 read-note-requires-2 c κs = search needs
 
 returns-2 : tie.Need-returns-2
-returns-2 c = note-later (c .before .before .before .before .before .args .m) (c .before .before .before .before .before .args .i) (omega (arith, c .before .before .if1 .left)) (c .read-note2 .ensures)
+returns-2 c = note-later (c .before .before .before .before .before .args .m) (c .before .before .before .before .before .args .i) (omega (arith, c .before .before .if1 .left)) (c .read-note2
+    .ensures)
 
 pub note-at-spec : {M : Type 1} → statement M
 note-at-spec =

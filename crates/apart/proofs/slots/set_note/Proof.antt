@@ -31,13 +31,20 @@ same-length : tie.Need-same-length
 same-length c = search needs
 
 returns : tie.Need-returns
-returns c = altered-first (c .before .before .before .before .before .before .before .args .m) (c .before .before .before .before .before .before .before .args .i) keptAt (c .before .before .before .before .before .before .before .args .x .low ∷ c .before .before .before .before .before .before .before .args .x .high ∷ []) (withNotes (c .before .before .before .before .before .before .before .args .x .low) (c .before .before .before .before .before .before .before .args .x .high)) (lit≤ tt) (slot-noted (c .before .before .before .before .before .before .before .args .x .low) (c .before .before .before .before .before .before .before .args .x .high)) (omega (arith, c .before .before .before .before .if1 .taken)) (c .before .before .write-note .ensures)
+returns c = altered-first (c .before .before .before .before .before .before .before .args .m) (c .before .before .before .before .before .before .before .args .i) keptAt (c .before .before
+    .before .before .before .before .before .args .x .low ∷ c .before .before .before .before .before .before .before .args .x .high ∷ []) (withNotes (c .before .before .before .before .before
+    .before .before .args .x .low) (c .before .before .before .before .before .before .before .args .x .high)) (lit≤ tt) (slot-noted (c .before .before .before .before .before .before .before
+    .args .x .low) (c .before .before .before .before .before .before .before .args .x .high)) (omega (arith, c .before .before .before .before .if1 .taken)) (c .before .before .write-note .ensures)
 
 same-length-2 : tie.Need-same-length-2
 same-length-2 c = search needs
 
 returns-2 : tie.Need-returns-2
-returns-2 c = altered-later (c .before .before .before .before .before .before .before .args .m) (c .before .before .before .before .before .before .before .args .i) keptAt (c .before .before .before .before .before .before .before .args .x .low ∷ c .before .before .before .before .before .before .before .args .x .high ∷ []) (withNotes (c .before .before .before .before .before .before .before .args .x .low) (c .before .before .before .before .before .before .before .args .x .high)) (lit≤ tt) (slot-noted (c .before .before .before .before .before .before .before .args .x .low) (c .before .before .before .before .before .before .before .args .x .high)) _ (omega (arith, c .before .before .before .before .if1 .left)) (c .before .before .before .before .before .before .before .pre .front) (c .before .before .write-note2 .kept .0) (c .before .before .write-note2 .ensures)
+returns-2 c = altered-later (c .before .before .before .before .before .before .before .args .m) (c .before .before .before .before .before .before .before .args .i) keptAt (c .before .before
+    .before .before .before .before .before .args .x .low ∷ c .before .before .before .before .before .before .before .args .x .high ∷ []) (withNotes (c .before .before .before .before .before
+    .before .before .args .x .low) (c .before .before .before .before .before .before .before .args .x .high)) (lit≤ tt) (slot-noted (c .before .before .before .before .before .before .before
+    .args .x .low) (c .before .before .before .before .before .before .before .args .x .high)) _ (omega (arith, c .before .before .before .before .if1 .left)) (c .before .before .before .before
+    .before .before .before .pre .front) (c .before .before .write-note2 .kept .0) (c .before .before .write-note2 .ensures)
 
 pub set-note-spec : {M : Type 1} → statement M
 set-note-spec =

@@ -26,7 +26,14 @@ same-length : tie.Need-same-length
 same-length c = search needs
 
 returns : tie.Need-returns
-returns c = two-put (words (c .before .before .before .before .before .before .before .before .before .args .region .now)) (c .before .before .before .before .before .before .before .before .before .args .i) (c .before .before .before .before .before .before .before .before .before .args .x .low) (c .before .before .before .before .before .before .before .before .before .args .x .high) (omega (arith, length-words (c .before .before .before .before .before .before .before .before .before .args .region .now), c .before .before .before .before .before .before .before .before .before .pre)) (c .before .before .before .before .before .before .put .ensures .word) (c .before .before .put2 .ensures .word)
+returns c = two-put (words (c .before .before .before .before .before .before .before .before .before .args .region .now)) (c .before .before .before .before .before .before .before .before
+    .before .args .i) (c .before .before .before .before .before .before .before .before .before .args .x .low) (c .before .before .before .before .before .before .before .before .before .args
+    .x .high) (omega (
+      arith,
+      length-words (c .before .before .before .before .before .before .before .before .before .args .region .now),
+      c .before .before .before .before .before .before
+          .before .before .before .pre,
+    )) (c .before .before .before .before .before .before .put .ensures .word) (c .before .before .put2 .ensures .word)
 
 pub write-note-spec : {M : Type 1} → statement M
 write-note-spec =

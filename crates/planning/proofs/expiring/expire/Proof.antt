@@ -25,7 +25,8 @@ same-length : tie.Need-same-length
 same-length c = search needs
 
 returns : tie.Need-returns
-returns c = let late : c .before .before .before .before .before .before .before .args .clock < word = omega arith in all-silent late (c .before .before .before .before .if1 .taken) (c .before .before .expire-silent .kept .0) (c .before .before .expire-silent .ensures) (search needs) refl
+returns c = let late : c .before .before .before .before .before .before .before .args .clock < word = omega arith in all-silent late (c .before .before .before .before .if1 .taken) (c .before
+    .before .expire-silent .kept .0) (c .before .before .expire-silent .ensures) (search needs) refl
 
 expire-each-requires : tie.Need-expire-each-requires
 expire-each-requires c κs = c .before .before .before .before .before .pre

@@ -46,23 +46,39 @@ same-length-2 : tie.Need-same-length-2 Inv-loop μ-loop
 same-length-2 c = c .before .before .before .before .before .loop .inv .1
 
 returns : tie.Need-returns Inv-loop μ-loop
-returns c = way-ends (c .before .before .before .before .before .loop .inv .3) (c .before .before .before .before .before .loop .inv .4) ((lent-next (c .before .before .before .before .before .loop .s) (c .before .before .before .before .before .before .before .before .before .args .m) (c .before .before .next-due .ensures)) .ends (not-true (c .before .before .next-due .result .more) (c .if1 .taken)))
+returns c = way-ends (c .before .before .before .before .before .loop .inv .3) (c .before .before .before .before .before .loop .inv .4) ((lent-next (c .before .before .before .before .before
+    .loop .s) (c .before .before .before .before .before .before .before .before .before .args .m) (c .before .before .next-due .ensures)) .ends (not-true (c .before .before .next-due .result
+    .more) (c .if1 .taken)))
 
 expire-one-requires : tie.Need-expire-one-requires Inv-loop μ-loop
-expire-one-requires c κs = let g = (lent-next (c .before .before .before .before .before .before .before .before .loop .s) (c .before .before .before .before .before .before .before .before .before .before .before .before .args .m) (c .before .before .before .before .before .next-due .ensures)) .goes (not-false (c .before .before .before .before .before .next-due .result .more) (c .before .before .before .if1 .left)) in (
-  way-parted (c .before .before .before .before .before .before .before .before .before .before .before .before .pre) (c .before .before .before .before .before .before .before .before .loop .inv .4),
-  g .positive,
-  way-spent (c .before .before .before .before .before .before .before .before .before .before .before .before .pre) (c .before .before .before .before .before .before .before .before .loop .inv .4),
-)
+expire-one-requires c κs = let g = (lent-next (c .before .before .before .before .before .before .before .before .loop .s) (c .before .before .before .before .before .before .before .before
+    .before .before .before .before .args .m) (c .before .before .before .before .before .next-due .ensures)) .goes (not-false (c .before .before .before .before .before .next-due .result .more)
+    (c .before .before .before .if1 .left)) in (
+      way-parted (c .before .before .before .before .before .before .before .before .before .before .before .before .pre) (c .before .before .before .before .before .before .before .before .loop
+          .inv .4),
+      g .positive,
+      way-spent (c .before .before .before .before .before .before .before .before .before .before .before .before .pre) (c .before .before .before .before .before .before .before .before .loop .inv
+          .4),
+    )
 
 loop-less : tie.Need-loop-less Inv-loop μ-loop
-loop-less c = let g = (lent-next (c .before .before .before .before .before .before .before .before .before .before .before .before .before .loop .s) (c .before .before .before .before .before .before .before .before .before .before .before .before .before .before .before .before .before .args .m) (c .before .before .before .before .before .before .before .before .before .before .next-due .ensures)) .goes (not-false (c .before .before .before .before .before .before .before .before .before .before .next-due .result .more) (c .before .before .before .before .before .before .before .before .if1 .left)) in
+loop-less c = let g = (lent-next (c .before .before .before .before .before .before .before .before .before .before .before .before .before .loop .s) (c .before .before .before .before .before
+    .before .before .before .before .before .before .before .before .before .before .before .before .args .m) (c .before .before .before .before .before .before .before .before .before .before
+    .next-due .ensures)) .goes (not-false (c .before .before .before .before .before .before .before .before .before .before .next-due .result .more) (c .before .before .before .before .before
+    .before .before .before .if1 .left)) in
     let p = place-small (keyNum (c .before .before .before .before .before .before .before .before .before .before .next-due .result .key)) (g .small) in
     omega (arith, g .from, p)
 
 loop-again : tie.Need-loop-again Inv-loop μ-loop
-loop-again c = let g = (lent-next (c .before .before .before .before .before .before .before .before .before .before .before .before .before .loop .s) (c .before .before .before .before .before .before .before .before .before .before .before .before .before .before .before .before .before .args .m) (c .before .before .before .before .before .before .before .before .before .before .next-due .ensures)) .goes (not-false (c .before .before .before .before .before .before .before .before .before .before .next-due .result .more) (c .before .before .before .before .before .before .before .before .if1 .left)) in
-    let v : c .before .before .before .before .before .before .before .before .before .before .before .before .before .before .before .before .before .args .clock < word = omega (arith, c .before .before .before .before .before .before .before .before .before .before .before .before .before .before .before .before .before .good .1 .1 .1 .1 .0) in (
+loop-again c = let g = (lent-next (c .before .before .before .before .before .before .before .before .before .before .before .before .before .loop .s) (c .before .before .before .before .before
+    .before .before .before .before .before .before .before .before .before .before .before .before .args .m) (c .before .before .before .before .before .before .before .before .before .before
+    .next-due .ensures)) .goes (not-false (c .before .before .before .before .before .before .before .before .before .before .next-due .result .more) (c .before .before .before .before .before
+    .before .before .before .if1 .left)) in
+    let v : c .before .before .before .before .before .before .before .before .before .before .before .before .before .before .before .before .before .args .clock < word = omega (
+      arith,
+      c
+          .before .before .before .before .before .before .before .before .before .before .before .before .before .before .before .before .before .good .1 .1 .1 .1 .0,
+    ) in (
       c .before .before .before .before .expire-one .kept .0 ∙ c .before .before .before .before .before .before .before .before .before .before .before .before .before .loop .inv .0,
       c .before .before .before .before .expire-one .kept .1 .1 .0 ∙ c .before .before .before .before .before .before .before .before .before .before .before .before .before .loop .inv .1,
       place-small (keyNum (c .before .before .before .before .before .before .before .before .before .before .next-due .result .key)) (g .small),

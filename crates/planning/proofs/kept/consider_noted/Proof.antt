@@ -14,7 +14,8 @@ same-length : tie.Need-same-length
 same-length c = search needs
 
 returns : tie.Need-returns
-returns c = let z = both-zero (c .before .note-at .result .low) (c .before .note-at .result .high) (c .if1 .taken) in place-clear (c .before .note-at .ensures) (z .0) (z .1) (c .before .before .before .before .before .before .pre .1) (c .before .before .before .before .before .before .pre .4)
+returns c = let z = both-zero (c .before .note-at .result .low) (c .before .note-at .result .high) (c .if1 .taken) in place-clear (c .before .note-at .ensures) (z .0) (z .1) (c .before .before
+    .before .before .before .before .pre .1) (c .before .before .before .before .before .before .pre .4)
 
 slot-room-requires : tie.Need-slot-room-requires
 slot-room-requires c κs = search needs
@@ -45,7 +46,9 @@ slice-aggregate-consider-place c = search needs
 
 consider-place-requires : tie.Need-consider-place-requires
 consider-place-requires c κs = (
-  subst Kept (sym (front-lent (c .before .before .before .before .before .before .before .before .before .before .before .before .before .before .before .before .args .s .now) (c .before .before .before .before .before .before .before .before .before .before .before .before .before .before .before .before .args .m))) (c .before .before .before .before .before .before .before .before .before .before .before .before .before .before .before .before .pre .1),
+  subst Kept (sym (front-lent (c .before .before .before .before .before .before .before .before .before .before .before .before .before .before .before .before .args .s .now) (c .before .before
+      .before .before .before .before .before .before .before .before .before .before .before .before .before .before .args .m))) (c .before .before .before .before .before .before .before
+      .before .before .before .before .before .before .before .before .before .pre .1),
   c .before .before .before .before .before .before .before .before .before .before .before .before .before .before .before .before .pre .2,
   c .before .before .before .before .before .before .before .before .before .before .before .before .before .before .before .before .pre .3,
   c .before .before .before .before .before .before .before .before .before .before .before .before .before .before .before .before .pre .4,
@@ -61,7 +64,10 @@ same-length-3 : tie.Need-same-length-3
 same-length-3 c = search needs
 
 returns-2 : tie.Need-returns-2
-returns-2 c = place-scanned (c .before .before .before .before .before .before .before .before .before .before .before .before .before .before .before .before .note-at .ensures) _ _ _ (c .before .before .before .before .before .before .before .before .before .before .before .load .ensures) (c .before .before .before .before .before .before .before .before .parents-in .ensures) (c .before .before .before .before .before .before .before .before .before .before .before .before .before .before .before .before .before .before .before .before .before .pre .0 .front) (c .before .before .before .before .consider-place .kept .0) refl (c .before .before .before .before .consider-place .ensures)
+returns-2 c = place-scanned (c .before .before .before .before .before .before .before .before .before .before .before .before .before .before .before .before .note-at .ensures) _ _ _ (c .before
+    .before .before .before .before .before .before .before .before .before .before .load .ensures) (c .before .before .before .before .before .before .before .before .parents-in .ensures) (c
+    .before .before .before .before .before .before .before .before .before .before .before .before .before .before .before .before .before .before .before .before .before .pre .0 .front) (c
+    .before .before .before .before .consider-place .kept .0) refl (c .before .before .before .before .consider-place .ensures)
 
 pub consider-noted-spec : {M : Type 1} → statement M
 consider-noted-spec =

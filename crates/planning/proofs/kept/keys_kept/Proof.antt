@@ -5,7 +5,6 @@ use native.Mathlib.Omega.{arith}
 use lib.ListN.{length}
 use Rattle.planning.specs.Keeping.{KeptScans}
 use Rattle.planning.proofs.Keepings.{kept-starts, kept-full, kept-goes, kept-done}
-use borrow.Author.Needs.{needs}
 use Rattle.planning.proofs.kept.keys_kept.Statement.{statement}
 use Rattle.planning.proofs.kept.keys_kept.Tie as tie
 
@@ -32,7 +31,13 @@ consider-noted-requires c κs = let x = c .before .before .before .before .loop 
   record {
     first = c .before .before .before .before .before .before .before .before .pre .0 .first;
     front = omega (arith, c .before .before .before .before .before .before .before .before .pre .0 .front, c .before .before .before .before .loop .inv .1);
-    rest = omega (arith, c .before .before .before .before .before .before .before .before .pre .0 .rest, c .before .before .before .before .loop .inv .1, c .before .before .before .loop-test .taken);
+    rest = omega (
+      arith,
+      c .before .before .before .before .before .before .before .before .pre .0 .rest,
+      c .before .before .before .before .loop .inv .1,
+      c .before .before .before .loop-test
+          .taken,
+    );
   },
   x .kept,
   c .before .before .before .before .before .before .before .before .pre .2,
@@ -52,7 +57,8 @@ loop-again c = (
   omega (arith, c .before .before .before .before .before .before .before .before .loop-test .taken),
   c .before .before .before .before .consider-noted .kept .0 ∙ c .before .before .before .before .before .before .before .before .before .loop .inv .1,
   c .before .before .before .before .consider-noted .kept .1 .1 .1 .1 .1 .0 ∙ c .before .before .before .before .before .before .before .before .before .loop .inv .2,
-  kept-goes (c .before .before .before .before .before .before .before .before .before .loop .inv .3) (c .before .before .before .before .before .before .before .before .loop-test .taken) (c .before .before .before .before .consider-noted .ensures),
+  kept-goes (c .before .before .before .before .before .before .before .before .before .loop .inv .3) (c .before .before .before .before .before .before .before .before .loop-test .taken) (c
+      .before .before .before .before .consider-noted .ensures),
 )
 
 same-length-3 : tie.Need-same-length-3 Inv-loop μ-loop

@@ -12,7 +12,21 @@ opened-requires : tie.Need-opened-requires
 opened-requires c κs = search needs
 
 keys-kept-requires : tie.Need-keys-kept-requires
-keys-kept-requires c κs = (c .before .before .before .before .before .before .pre .0, c .before .before .before .before .before .before .pre .1, c .before .before .before .before .before .before .pre .2, c .before .before .before .before .before .before .pre .3, opened-roomy (c .before .before .before .before .before .before .args .v) (c .before .before .opened .ensures) (c .before .before .before .before .before .before .pre .4), (let e = ap (λ (u : Scan). u .considered) (c .before .before .opened .ensures) in omega (arith, e, c .before .before .before .before .before .before .pre .5)))
+keys-kept-requires c κs = (
+  c .before .before .before .before .before .before .pre .0,
+  c .before .before .before .before .before .before .pre .1,
+  c .before .before .before .before .before .before
+      .pre .2,
+  c .before .before .before .before .before .before .pre .3,
+  opened-roomy (c .before .before .before .before .before .before .args .v) (c .before .before .opened .ensures) (c .before
+      .before .before .before .before .before .pre .4),
+  (let e = ap (λ (u : Scan). u .considered) (c .before .before .opened .ensures) in omega (
+    arith,
+    e,
+    c .before .before .before .before .before
+        .before .pre .5,
+  )),
+)
 
 same-length : tie.Need-same-length
 same-length c = search needs
