@@ -4,6 +4,7 @@ pub mod BareAnnounce
 pub mod BareChoice
 pub mod BarePlaces
 pub mod BareExpiry
+pub mod SlotWords
 pub mod Slotted
 pub mod Spotting
 pub mod Parting
@@ -20,3 +21,4 @@ pub mod OneOwner
 pub mod DroppedTables
 pub mod Dropping
 pub mod Silence
+pub mod Forgetting

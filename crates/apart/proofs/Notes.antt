@@ -14,16 +14,16 @@ use Rattle.ident.specs.If.{if_then_else_}
 use Rattle.ident.specs.Number.{Key, txid}
 use Rattle.words.specs.Words.{words}
 use Rattle.regions.specs.Rows.{quadNumber}
-use Rattle.regions.proofs.Order.{number-quad}
-use Rattle.places.specs.Places.{Place, listMost, placeSize, parentsAt}
-use Rattle.places.proofs.Places.{parent-at}
+use Rattle.places.specs.Places.{listMost, placeSize, parentsAt}
 use Rattle.machine.specs.Limits.{Limits}
 use Rattle.machine.specs.State.{Table}
 use Rattle.machine.specs.Table.{one}
 use Rattle.machine.specs.Fail.{parentsFrom}
+use Rattle.store.proofs.Quads.{number-quad}
 use Rattle.announcing.specs.Answers.{oneParent}
-use Rattle.apart.specs.Apart.{SlotOf}
+use Rattle.apart.specs.Apart.{Slot, SlotOf}
 use Rattle.apart.specs.Noting.{parentIn, hashesAt, picked, pickedIn, keptBits, halfMost, Halved}
+use Rattle.apart.proofs.SlotWords.{slot-parent}
 use Rattle.apart.proofs.Slotted.{slot-words}
 
 -- ---- what the machine makes of them
@@ -99,17 +99,19 @@ hashes-parts w j (suc a) b =
     rw (f, e) (ap (λ (l : List ℕ). parentIn w j ∷ l) (hashes-parts w (suc j) a b))
 
 -- those of a place's words are its parents
-pub slot-hashes : (z : List ℕ) (p : Place) → SlotOf z p → length (p .parents) ≤ listMost → (j n : ℕ) → j + n ≤ length (p .parents) → hashesAt (words z) j n ≡ take n (drop j (p .parents))
+pub slot-hashes : (z : List ℕ) (x : Slot) → SlotOf z x → length (x .place .parents) ≤ listMost → (j n : ℕ) → j + n ≤ length (x .place .parents)
+    → hashesAt (words z) j n ≡ take n (drop j (x .place .parents))
 unfolding hashesAt
-slot-hashes z p h l j zero g = refl
-slot-hashes z p h l j (suc n) g =
+slot-hashes z x h l j zero g = refl
+slot-hashes z x h l j (suc n) g =
+    let hs : List ℕ = x .place .parents in
     let e : placeSize * 0 + (parentsAt + 4 * j) ≡ parentsAt + 4 * j = omega arith in
-    let x : parentIn (words z) j ≡ getD (p .parents) j 0 =
-    rw (e, slot-words z p h) (ap quadNumber (parent-at p j 0 (omega arith) (omega arith)) ∙ number-quad (getD (p .parents) j 0)) in
-    rw (x, slot-hashes z p h l (suc j) n (omega arith), drop-cons (p .parents) j 0 (omega arith))
+    let y : parentIn (words z) j ≡ getD hs j 0 =
+    rw (e, slot-words z x h) (ap quadNumber (slot-parent x j 0 (omega arith) (omega arith)) ∙ number-quad (getD hs j 0)) in
+    rw (y, slot-hashes z x h l (suc j) n (omega arith), drop-cons hs j 0 (omega arith))
 
-pub slot-all : (z : List ℕ) (p : Place) → SlotOf z p → length (p .parents) ≤ listMost → hashesAt (words z) 0 (length (p .parents)) ≡ p .parents
-slot-all z p h l = slot-hashes z p h l 0 (length (p .parents)) (omega arith) ∙ take-all (length (p .parents)) (p .parents) (omega arith)
+pub slot-all : (z : List ℕ) (x : Slot) → SlotOf z x → length (x .place .parents) ≤ listMost → hashesAt (words z) 0 (length (x .place .parents)) ≡ x .place .parents
+slot-all z x h l = slot-hashes z x h l 0 (length (x .place .parents)) (omega arith) ∙ take-all (length (x .place .parents)) (x .place .parents) (omega arith)
 
 -- ---- halves
 

@@ -16,7 +16,7 @@ use Rattle.ident.specs.If.{if_then_else_}
 use Rattle.ident.specs.Number.{top, Key, wtxid}
 use Rattle.words.specs.Words.{words}
 use Rattle.regions.specs.Regions.{Holds}
-use Rattle.places.specs.Places.{Place, listMost, placeSize, placeWords, blank, withStage}
+use Rattle.places.specs.Places.{Place, listMost, placeSize, blank, withStage}
 use Rattle.machine.specs.Limits.{word}
 use Rattle.machine.specs.State.{Package, Request, Table, State, Answer, limitsOf, onTable, ownerIs, enqueuedIn, isSome}
 use Rattle.machine.specs.Table.{at, one}
@@ -40,14 +40,15 @@ use Rattle.announcing.specs.Answers.{Answered}
 use Rattle.apart.specs.declared.noting.Bits.{Bits}
 use Rattle.apart.specs.declared.slots.Spot.{Spot}
 use Rattle.apart.specs.Bare.{bare, bareState, bareListed, bareAnswer, otherThan}
-use Rattle.apart.specs.Apart.{slotBytes, Slots, SlotOf, Loaded, Killed, SpotHeld, SpotNone, Apart}
+use Rattle.apart.specs.Apart.{Slot, slotWords, dying, plain, Slots, SlotOf, Altered, SpotHeld, Apart}
 use Rattle.apart.specs.Noting.{hashesAt, pickedIn, Noted}
-use Rattle.apart.specs.Lapsing.{lapsed, LapsedTo, Lapses, expireAt, PlaceExpired}
+use Rattle.apart.specs.Lapsing.{nowhere, lapsed, LapsedTo, expireAt, PlaceExpired}
 use Rattle.apart.proofs.BareTable.{sound-bare}
 use Rattle.apart.proofs.BareChange.{failed-bare, enqueued-stays}
 use Rattle.apart.proofs.BareAnnounce.{parentsFrom-bare}
 use Rattle.apart.proofs.BarePlaces.{PlaceOf, place-whose, no-place, txid-free}
 use Rattle.apart.proofs.BareExpiry.{parents-beside, no-parents, dedup-distinct, bounded-after, places-enqueued, places-unheld, places-without}
+use Rattle.apart.proofs.SlotWords.{plain-at, plain-long, plain-set}
 use Rattle.apart.proofs.Notes.{slot-all}
 use Rattle.apart.proofs.SpentStill.{victims-bare}
 use Rattle.apart.proofs.Spotting.{ascend-above as ascend-least}
@@ -70,12 +71,12 @@ module _ (b v : List ℕ) (m : ℕ) (l : m ≤ length b) (n : length v ≡ lengt
   pub rest-stays : drop m again ≡ drop m b
   rest-stays = drop-at v (drop (m - 0) b) m long ∙ (let e : m - 0 ≡ m = omega arith in ap (λ (i : ℕ). drop i b) e)
 
-pub slots-rest : {b b′ f : List ℕ} {m Q : ℕ} {ps : List Place} → drop m b′ ≡ drop m b → Slots b f m Q ps → Slots b′ f m Q ps
-slots-rest {Q = Q} {ps = ps} e s = record {
+pub slots-rest : {b b′ f : List ℕ} {m Q : ℕ} {xs : List Slot} → drop m b′ ≡ drop m b → Slots b f m Q xs → Slots b′ f m Q xs
+slots-rest {Q = Q} {xs = xs} e s = record {
   some = s .some;
   few = s .few;
   first = s .first;
-  rest = subst (λ (z : List ℕ). Holds placeSize placeWords (Q - 1) (drop 1 ps) (words z)) (sym e)
+  rest = subst (λ (z : List ℕ). Holds placeSize slotWords (Q - 1) (drop 1 xs) (words z)) (sym e)
       (s .rest);
 }
 
@@ -170,12 +171,32 @@ none-packaged false none e = refl
 wtxid-key : (k : Key) (h : ℕ) → k .kind ≡ Wtxid → h ≡ k .hash → wtxid h ≡ k
 wtxid-key k h e z = (λ i. record { kind = sym e i; hash = z i })
 
-module _ {b f : List ℕ} {m : ℕ} {st : State} {ps : List Place} (o : Apart b f m st ps) {k : Key} {r : Spot} (h : SpotHeld ps k r) (some-stage : 0 < r .stage) where
+-- the places once one has died
+module _ (r : Spot) (xs : List Slot) where
+  place-here : getD (plain xs) (r .at) (blank 0 0) ≡ (getD xs (r .at) nowhere) .place
+  place-here = plain-at xs (r .at) (blank 0 0)
+
+  pub lapsed-as : (P : List Place → Type 0) → P (plain xs) → P (set (plain xs) (r .at) (withStage 0 (getD (plain xs) (r .at) (blank 0 0)))) → P (plain (lapsed r xs))
+  lapsed-as P u w = elim (test (eqb (r .stage) 3)) [
+    | inl e ↦ rw e u
+    | inr e ↦ rw e (subst P (ap (λ (q : Place). set (plain xs) (r .at) (withStage 0 q)) place-here ∙ sym (plain-set xs (r .at) (dying (getD xs (r .at) nowhere)))) w)
+  ]
+
+module _ {b f : List ℕ} {m : ℕ} {st : State} {xs : List Slot} (o : Apart b f m st xs) {k : Key} {r : Spot} (h : SpotHeld (plain xs) k r) (some-stage : 0 < r .stage) where
   abbrev t : Table
   t = st .table
 
+  abbrev ps : List Place
+  ps = plain xs
+
   abbrev p : Place
   p = getD ps (r .at) (blank 0 0)
+
+  abbrev q : Slot
+  q = getD xs (r .at) nowhere
+
+  p-is : p ≡ q .place
+  p-is = place-here r xs
 
   found : Among live (filter live ps) p (blank 0 0)
   found = filter-has live ps (r .at) (blank 0 0) (h .inside) (lt-ltb 0 (p .stage) (omega (arith, h .stage (blank 0 0))))
@@ -203,22 +224,23 @@ module _ {b f : List ℕ} {m : ℕ} {st : State} {ps : List Place} (o : Apart b 
   -- ---- it lapses
 
   module _ (n now : ℕ) where
-    pub lapse-stays : eqb (r .stage) 3 ≡ true → LapsedTo b f m st ps r k n now
+    pub lapse-stays : eqb (r .stage) 3 ≡ true → LapsedTo b f m st xs r k n now
     lapse-stays e = record {
       writes = subst (λ (x : Table). Writes (take m b) (bareState (onTable x st))) (sym (ap (λ (a : Answer). a .table) (enqueued-stays k n now t (enqueued-is ∙ e)))) (o .writes);
-      slots = subst (λ (x : Bool). Slots b f m (st .places) (if x then ps else set ps (r .at) (withStage 0 p))) (sym e) (o .slots);
+      slots = subst (λ (x : Bool). Slots b f m (st .places) (if x then xs else set xs (r .at) (dying q))) (sym e) (o .slots);
     }
 
     pub lapse-fails : {v : List ℕ} {reply : Bool} {b₁ b₂ f₂ : List ℕ} → eqb (r .stage) 3 ≡ false → m ≤ length b → length v ≡ length (take (m - 0) (drop 0 b))
-        → Answered (take (m - 0) (drop 0 b)) v reply (λ l x. failed k n now x) → b₁ ≡ take 0 b ++ (v ++ drop (m - 0) (drop 0 b)) → Killed b₁ b₂ f f₂ m (r .at) → LapsedTo b₂ f₂ m st ps r k n now
+        → Answered (take (m - 0) (drop 0 b)) v reply (λ l x. failed k n now x) → b₁ ≡ take 0 b ++ (v ++ drop (m - 0) (drop 0 b)) → Altered b₁ b₂ f f₂ m (r .at) dying → LapsedTo b₂ f₂ m st xs r k
+        n now
     lapse-fails {v} {b₁ = b₁} {b₂} {f₂} e l nv ans e₁ kill = record {
       writes =
           let a = ans .table (bareState st) (sound-bare (o .sound)) (subst (λ (z : List ℕ). Writes z (bareState st)) (sym (front-lent b m)) (o .writes)) in
           let z : take m b₂ ≡ v = kill .front ∙ ap (take m) e₁ ∙ front-is b v m l nv in
           subst (λ (y : List ℕ). Writes y (bareState (onTable ((failed k n now t) .table) st))) (sym z)
           (subst (λ (x : Answer). Writes v (onTable (x .table) (bareState st))) (failed-bare k n now t (enqueued-is ∙ e)) a);
-      slots = subst (λ (x : Bool). Slots b₂ f₂ m (st .places) (if x then ps else set ps (r .at) (withStage 0 p))) (sym e)
-          (kill .slots (st .places) ps (blank 0 0) (h .inside) (slots-rest (ap (drop m) e₁ ∙ rest-stays b v m l nv) (o .slots)));
+      slots = subst (λ (x : Bool). Slots b₂ f₂ m (st .places) (if x then xs else set xs (r .at) (dying q))) (sym e)
+          (kill .slots (st .places) xs nowhere (omega (arith, h .inside, plain-long xs)) (slots-rest (ap (drop m) e₁ ∙ rest-stays b v m l nv) (o .slots)));
     }
 
     module _ (late : now < word) (small : k .hash < top) where
@@ -239,18 +261,21 @@ module _ {b f : List ℕ} {m : ℕ} {st : State} {ps : List Place} (o : Apart b 
             ap (λ (hs : List ℕ). parentsFrom (limitsOf st) n now 0 (dedup hs) x) (parents-beside n (at k t) own held)
             ∙ ap (λ (hs : List ℕ). parentsFrom (limitsOf st) n now 0 hs x) (dedup-distinct ((at k t) .parents) (lawful .parents .distinct) ∙ parents-are)
 
-        lives-still : filter live (lapsed r ps) ≡ placesOf ((expireAt (limitsOf st) now k n t) .table)
+        lives-still : filter live (plain (lapsed r xs)) ≡ placesOf ((expireAt (limitsOf st) now k n t) .table)
         lives-still = elim (test (eqb (r .stage) 3)) [
           | inl e ↦ rw e (o .lives ∙ sym (places-enqueued k n now small late (o .sound .bounded) own (enqueued-is ∙ e)))
-          | inr e ↦ rw e (dies-filter 0 ps (r .at) (blank 0 0) (o .ascend) (h .inside) ∙ rw (h .hash (blank 0 0), o .lives)
+          | inr e ↦ rw e (ap (filter live) (plain-set xs (r .at) (dying q) ∙ ap (λ (y : Place). set ps (r .at) (withStage 0 y)) (sym p-is)) ∙ dies-filter 0 ps (r .at) (blank 0 0) (o .ascend) (h
+              .inside) ∙ rw (h .hash (blank 0 0), o .lives)
               (sym (places-without k n now small late (o .sound .bounded) own (enqueued-is ∙ e) (h .kind))))
         ]
 
-        module _ {b₂ f₂ : List ℕ} (g : LapsedTo b₂ f₂ m st ps r k n now) (z : List ℕ) {v : List ℕ} {x : Bits} (loaded : SlotOf z p) (l : m ≤ length b₂) (nv : length v ≡ length (take (m - 0)
+        module _ {b₂ f₂ : List ℕ} (g : LapsedTo b₂ f₂ m st xs r k n now) (z : List ℕ) {v : List ℕ} {x : Bits} (loaded : SlotOf z q) (l : m ≤ length b₂) (nv : length v ≡ length (take (m - 0)
             (drop 0 b₂)))
             (a : Noted (take (m - 0) (drop 0 b₂)) v n now (hashesAt (words z) 0 (r .parents)) x) where
           hashes : hashesAt (words z) 0 (r .parents) ≡ p .parents
-          hashes = ap (hashesAt (words z) 0) (h .parents (blank 0 0)) ∙ slot-all z p loaded short
+          hashes =
+              ap (hashesAt (words z) 0) (h .parents (blank 0 0) ∙ ap (λ (y : Place). length (y .parents)) p-is)
+              ∙ slot-all z q loaded (subst (λ (y : Place). length (y .parents) ≤ listMost) p-is short) ∙ sym (ap (λ (y : Place). y .parents) p-is)
 
           told : Noted (take m b₂) v n now (p .parents) x
           told = rw (front-lent b₂ m, hashes) at a
@@ -261,7 +286,7 @@ module _ {b f : List ℕ} {m : ℕ} {st : State} {ps : List Place} (o : Apart b 
           bare-is : parentsFrom (limitsOf st) n now 0 (p .parents) (bare (after .table)) ≡ bareListed (expireAt (limitsOf st) now k n t)
           bare-is = parentsFrom-bare (limitsOf st) n now 0 (p .parents) (after .table) ∙ ap bareListed (sym (announced (after .table)))
 
-          pub place-expired : {b₃ : List ℕ} → length b₃ ≡ length b → length f₂ ≡ length f → b₃ ≡ take 0 b₂ ++ (v ++ drop (m - 0) (drop 0 b₂)) → PlaceExpired b₃ f₂ m st ps r k n now x
+          pub place-expired : {b₃ : List ℕ} → length b₃ ≡ length b → length f₂ ≡ length f → b₃ ≡ take 0 b₂ ++ (v ++ drop (m - 0) (drop 0 b₂)) → PlaceExpired b₃ f₂ m st xs r k n now x
           place-expired {b₃} n₃ nf e₃ = record {
             apart = record {
               sound = sound-table (o .sound) (bounded-after k n now small late (o .sound .bounded) own);
@@ -273,13 +298,11 @@ module _ {b f : List ℕ} {m : ℕ} {st : State} {ps : List Place} (o : Apart b 
                   (subst (λ (y : Listed). Writes v (onTable (y .table) (bareState st))) bare-is (told .table (bareState after) (sound-bare lapsed-sound) (g .writes)));
               slots = slots-rest (ap (drop m) e₃ ∙ rest-stays b₂ v m l nv) (g .slots);
               lives = lives-still;
-              ascend = lapsed-as (PlacesAscend 0) (o .ascend) (dies-ascend 0 ps (r .at) (blank 0 0) (o .ascend));
-              short = lapsed-as (Each (λ y. length (y .parents) ≤ listMost)) (o .short) (dies-short ps (r .at) (blank 0 0) (o .short));
+              ascend = lapsed-as r xs (PlacesAscend 0) (o .ascend) (dies-ascend 0 ps (r .at) (blank 0 0) (o .ascend));
+              short = lapsed-as r xs (Each (λ y. length (y .parents) ≤ listMost)) (o .short) (dies-short ps (r .at) (blank 0 0) (o .short));
             };
-            keys = told .keys (bareState after) (sound-bare lapsed-sound) (g .writes) ∙ ap (λ (y : Listed). y .keys) bare-is;
+            keys = ap (λ (y : Place). pickedIn (y .parents) (x .low) (x .high)) (sym p-is) ∙ told .keys (bareState after) (sound-bare lapsed-sound) (g .writes) ∙ ap (λ (y : Listed). y .keys)
+                bare-is;
             none-left = λ e. sym (victims-bare ((expireAt (limitsOf st) now k n t) .table)) ∙ ap (λ (y : Listed). victims anywhere (y .table)) (sym bare-is)
                 ∙ told .none-left (bareState after) (sound-bare lapsed-sound) (g .writes) e;
           }
-            where
-              lapsed-as : (P : List Place → Type 0) → P ps → P (set ps (r .at) (withStage 0 p)) → P (lapsed r ps)
-              lapsed-as P u w = elim (test (eqb (r .stage) 3)) [ inl e ↦ rw e u | inr e ↦ rw e w ]

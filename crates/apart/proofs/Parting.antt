@@ -6,7 +6,7 @@ use native.Mathlib.Omega.{arith}
 use mathlib.Core.Bool.{true}
 use lib.Dec.{ltb}
 use borrow.Author.Tests.{lt-ltb}
-use lib.ListN.{length, take, drop, set, replicate-append-replicate, length-append, length-take, length-drop, replicate, length-replicate, take-append-drop}
+use lib.ListN.{length, take, drop, set, replicate-append-replicate, length-append, length-take, length-drop, replicate, length-replicate, drop-of-length-le, take-append-drop, length-map}
 use lib.Seq.{take-at, drop-at, drop-drop, take-take, length-take-le}
 use Rattle.words.specs.Words.{words, splice}
 use Rattle.words.proofs.Parts.{words-lent, words-back, words-take, words-drop}
@@ -21,20 +21,24 @@ use Rattle.machine.specs.Limits.{need}
 use Rattle.machine.specs.State.{Table, State}
 use Rattle.machine.specs.Sound.{Sound}
 use Rattle.store.specs.Flat.{Head, Flat, headOf, flatOf, rowsOf, placesOf, tally}
-use Rattle.store.specs.FlatSound.{StageFits, PlaceFits}
+use Rattle.store.specs.FlatSound.{PlacesAscend, StageFits, PlaceFits}
 use Rattle.machine.specs.Typed.{Each}
 use Rattle.store.specs.Image.{headSize, headWords, wordsOf, Shows, Writes}
 use Rattle.store.specs.Shown.{limitIn, Kept, placesAt, heldPlacesAt, Shown, withPlaces, Turns}
-use Rattle.store.proofs.Frame.{rowPart, connPart, placePart, framed, framed-is, sizes, shown, padded-nil as padded-none, cleared}
+use Rattle.store.proofs.Frame.{rowPart, connPart, placePart, framed, framed-is, sizes, shown}
 use Rattle.store.proofs.HeadWords.{head-length}
 use Rattle.store.proofs.ToFlat.{flat-sound}
 use Rattle.requests.proofs.Keeping.{sized-of, light-of}
 use Rattle.package_stages.specs.Dead.{filter, live}
 use Rattle.apart.specs.Bare.{bare, bareState}
-use Rattle.apart.specs.Apart.{slotBytes, bareBytes, Slots, Apart, SetApart, Parted, PutBack}
+use Rattle.apart.specs.Apart.{slotBytes, bareBytes, slotWords, atRest, resting, plain, Apart}
 use Rattle.apart.proofs.BareTable.{rows-bare, places-bare}
+use Rattle.apart.proofs.SlotWords.{rest-each, plain-rest}
 
 -- ---- a region cut behind its first record
+
+padded-none : (n : ℕ) → padded n [] ≡ replicate n 0
+padded-none n = padded-fit n [] (omega arith) ∙ (let e : n - 0 ≡ n = omega arith in rw e)
 
 zeros-take : (a b : ℕ) → take a (replicate {A = ℕ} (a + b) 0) ≡ replicate a 0
 zeros-take a b = rw (← (replicate-append-replicate {A = ℕ} a b 0)) (take-at (replicate a 0) (replicate b 0) a (length-replicate {A = ℕ} a 0))
@@ -75,6 +79,17 @@ module _ (Q : ℕ) (some : 1 ≤ Q) where
 
   pub cut-joined : (ps : List Place) → length ps ≤ Q → placePart 1 (take 1 ps) ++ placePart (Q - 1) (drop 1 ps) ≡ placePart Q ps
   cut-joined ps few = rw (← (cut-first ps few), ← (cut-rest ps few)) (take-append-drop placeSize (placePart Q ps))
+
+-- places of which nothing is noted are as they are at rest
+rest-first : (ps : List Place) → placePart 1 (take 1 ps) ≡ padded (placeSize * 1) (each slotWords (take 1 (resting ps)))
+unfolding each
+rest-first [] = refl
+rest-first (p ∷ ps) = ap (padded (placeSize * 1)) (sym (rest-each (p ∷ [])))
+
+rest-others : (Q : ℕ) (ps : List Place) → placePart Q (drop 1 ps) ≡ padded (placeSize * Q) (each slotWords (drop 1 (resting ps)))
+unfolding each
+rest-others Q [] = refl
+rest-others Q (p ∷ ps) = ap (padded (placeSize * Q)) (sym (rest-each ps))
 
 -- ---- the header with other numbers of places
 
@@ -134,6 +149,13 @@ module _ (b : List ℕ) (e : ℕ) {m : ℕ} (em : m ≡ e * 8) (l : m ≤ length
   pub rest-words : words (drop m b) ≡ drop e (words b)
   rest-words = let q : m ≡ 8 * e = omega arith in ap (λ (n : ℕ). words (drop n b)) q ∙ words-drop b e (omega arith)
 
+cleared : (w : List ℕ) (d : ℕ) → length w ≡ d → splice w 0 (replicate d 0) ≡ replicate d 0
+unfolding splice
+cleared w d n =
+    let m : length (replicate {A = ℕ} d 0) ≡ d = length-replicate d 0 in
+    let z : drop (0 + length (replicate {A = ℕ} d 0)) w ≡ [] = drop-of-length-le w {i = 0 + length (replicate {A = ℕ} d 0)} (omega arith) in
+    rw z (append-nil (replicate d 0))
+
 -- the need for one place, and for more
 need-one : (L : ℕ) → need L 1 ≡ bareBytes L
 unfolding need
@@ -187,7 +209,7 @@ module _ (b : List ℕ) (st : State) (s : Sound st) (o : Writes b st) {x m : ℕ
   pub set-out : {f : List ℕ} (v : List ℕ) {b₁ w₂ b₃ : List ℕ} → f ≡ take (m - x) (drop x b) → length v ≡ length (take (m - x) (drop x b)) → words v ≡ splice (words (take (m - x) (drop x
       b))) 0 (replicate placeSize 0)
       → b₁ ≡ take x b ++ (v ++ drop (m - x) (drop x b)) → length b₃ ≡ length b → w₂ ≡ set (words b₁) placesAt 1 → words b₃ ≡ set w₂ heldPlacesAt 0
-      → Apart b₃ f m st (placesOf (st .table))
+      → Apart b₃ f m st (resting (placesOf (st .table)))
   set-out {f} v {b₁} {w₂} {b₃} ef nv ev e₁ n₃ e₂ e₃ = record {
     sound = s;
     size = em;
@@ -196,16 +218,20 @@ module _ (b : List ℕ) (st : State) (s : Sound st) (o : Writes b st) {x m : ℕ
     writes = record { long = bare-long; words-are = front-words b₃ e me (omega (arith, long)) ∙ ap (take e) after ∙ take-front ∙ sym (bare-words st) };
     slots = record {
       some = s .some-place;
-      few = few;
+      few = omega (arith, few, length-map (placesOf (st .table)) atRest);
       first = ap words ef ∙ part-words b a e ax me (omega arith) (omega (arith, long)) ∙ ap (take (e - a)) from ∙ ap (λ (n : ℕ). take n P) size ∙ cut-first (st .places) (s .some-place)
-          (placesOf (st .table)) few;
-      rest = rest-words b₃ e me (omega (arith, long)) ∙ ap (drop e) after ∙ drop-front ∙ cut-rest (st .places) (s .some-place) (placesOf (st .table)) few;
+          (placesOf (st .table)) few ∙ rest-first (placesOf (st .table));
+      rest = rest-words b₃ e me (omega (arith, long)) ∙ ap (drop e) after ∙ drop-front ∙ cut-rest (st .places) (s .some-place) (placesOf (st .table)) few
+          ∙ rest-others (st .places - 1) (placesOf (st .table));
     };
-    lives = all-live (rowsOf (st .table)) (placesOf (st .table)) ((flat-sound st s) .places-fit);
-    ascend = (flat-sound st s) .places-ascend;
-    short = all-short (rowsOf (st .table)) (placesOf (st .table)) ((flat-sound st s) .places-fit);
+    lives = ap (filter live) as-were ∙ all-live (rowsOf (st .table)) (placesOf (st .table)) ((flat-sound st s) .places-fit);
+    ascend = subst (PlacesAscend 0) (sym as-were) ((flat-sound st s) .places-ascend);
+    short = subst (Each (λ p. length (p .parents) ≤ listMost)) (sym as-were) (all-short (rowsOf (st .table)) (placesOf (st .table)) ((flat-sound st s) .places-fit));
   }
     where
+      as-were : plain (resting (placesOf (st .table))) ≡ placesOf (st .table)
+      as-were = plain-rest (placesOf (st .table))
+
       e : ℕ
       e = a + placeSize
 
@@ -244,7 +270,7 @@ module _ (b : List ℕ) (st : State) (s : Sound st) (o : Writes b st) {x m : ℕ
 
 -- ---- put back
 
-module _ {b f : List ℕ} {x m n : ℕ} {st : State} {ps : List Place} (o : Apart b f m st ps) (ex : x ≡ m - slotBytes) (en : n ≡ length ps) where
+module _ {b f : List ℕ} {x m n : ℕ} {st : State} (ps : List Place) (o : Apart b f m st (resting ps)) (ex : x ≡ m - slotBytes) (en : n ≡ length ps) where
   abbrev size : ℕ
   size = frontSize (st .limit)
 
@@ -262,6 +288,9 @@ module _ {b f : List ℕ} {x m n : ℕ} {st : State} {ps : List Place} (o : Apar
 
   in-front : take size (words b) ≡ front st 1 0
   in-front = sym (take-take size (size + placeSize) (words b) (omega arith)) ∙ ap (take size) as-bare ∙ take-at (front st 1 0) (replicate placeSize 0) size (front-long st 1 0)
+
+  few-here : length ps ≤ st .places
+  few-here = omega (arith, o .slots .few, length-map ps atRest)
 
   room-is : (length b - m) / slotBytes + 1 ≡ st .places
   room-is = omega (arith, o .long, o .sound .some-place)
@@ -282,16 +311,16 @@ module _ {b f : List ℕ} {x m n : ℕ} {st : State} {ps : List Place} (o : Apar
       first-words : words b₁ ≡ front st 1 0 ++ placePart (st .places) ps
       first-words =
           ap words (e₁ ∙ ap (λ (z : List ℕ). take x b ++ (z ++ drop (m - x) (drop x b))) ev) ∙ back-words b size (size + placeSize) at-front at-rest (omega arith) fits f part-long
-          ∙ rw (in-front, o .slots .first, ← (rest-words b (size + placeSize) at-rest fits), o .slots .rest)
-          (ap (λ (w : List ℕ). front st 1 0 ++ w) (cut-joined (st .places) (o .slots .some) ps (o .slots .few)))
+          ∙ rw (in-front, o .slots .first ∙ sym (rest-first ps), ← (rest-words b (size + placeSize) at-rest fits), o .slots .rest ∙ sym (rest-others (st .places - 1) ps))
+          (ap (λ (w : List ℕ). front st 1 0 ++ w) (cut-joined (st .places) (o .slots .some) ps few-here))
 
   pub places-shown : {b₃ : List ℕ} → Shows b₃ (withPlaces ps (flatOf st)) → Shown b₃
   places-shown h =
       let z = sized-of st (o .sound) in
-      shown h (record { limit = z .limit; places = z .places; rows-few = z .rows-few; conns-few = z .conns-few; places-few = o .slots .few }) (light-of st (o .sound))
+      shown h (record { limit = z .limit; places = z .places; rows-few = z .rows-few; conns-few = z .conns-few; places-few = few-here }) (light-of st (o .sound))
 
   pub put-done : {b₃ b₄ : List ℕ} → Shows b₃ (withPlaces ps (flatOf st)) → Turns b₃ b₄ (λ f. withPlaces (filter live (f .places)) f) → Writes b₄ st
-  put-done {b₄ = b₄} h t = subst (λ (qs : List Place). Shows b₄ (withPlaces qs (flatOf st))) (o .lives) (t (withPlaces ps (flatOf st)) h)
+  put-done {b₄ = b₄} h t = subst (λ (qs : List Place). Shows b₄ (withPlaces qs (flatOf st))) (ap (filter live) (sym (plain-rest ps)) ∙ o .lives) (t (withPlaces ps (flatOf st)) h)
 
 -- there is a place to set apart
 pub room-enough : {b : List ℕ} {m : ℕ} → Kept b → m ≡ bareBytes (limitIn b) → m ≤ length b

@@ -10,7 +10,7 @@ use Rattle.ident.specs.declared.Kind.{Kind}
 use Rattle.ident.specs.declared.Kind.the-variants.{Txid, Wtxid}
 use Rattle.ident.specs.Number.{top, Key, other, wtxid}
 use Rattle.regions.specs.Regions.{each}
-use Rattle.places.specs.Places.{Place, blank}
+use Rattle.places.specs.Places.{blank}
 use Rattle.machine.specs.Limits.{word}
 use Rattle.machine.specs.State.{Owner, Package, Request, Table, State, limitsOf, onTable, isSome}
 use Rattle.machine.specs.State as machine
@@ -30,7 +30,7 @@ use Rattle.package_stages.proofs.Seeking.{place-free}
 use Rattle.requests.specs.Changes.{Makes}
 use Rattle.handing.specs.Hands.{readied}
 use Rattle.apart.specs.Bare.{bare, bareState}
-use Rattle.apart.specs.Apart.{Apart}
+use Rattle.apart.specs.Apart.{Slot, plain, Apart}
 use Rattle.apart.specs.Silent.{readiedBoth, readyEach, silenced, Placeless}
 use Rattle.apart.proofs.BareTable.{sound-bare}
 use Rattle.apart.proofs.BarePlaces.{all-from-at, no-place, txid-free}
@@ -111,17 +111,17 @@ placeless-each now (d ∷ ds) t k o a =
 
 -- ---- all of them, where there are no places
 
-no-places : (ps : List Place) → length ps ≡ 0 → filter live ps ≡ []
+no-places : (xs : List Slot) → length xs ≡ 0 → filter live (plain xs) ≡ []
 unfolding filter
 no-places [] e = refl
-no-places (p ∷ ps) e = absurd (omega arith)
+no-places (x ∷ xs) e = absurd (omega arith)
 
-module _ {b f : List ℕ} {m : ℕ} {st : State} {ps : List Place} (o : Apart b f m st ps) (few : length ps ≡ 0) {now : ℕ} (w : now < word) where
+module _ {b f : List ℕ} {m : ℕ} {st : State} {xs : List Slot} (o : Apart b f m st xs) (few : length xs ≡ 0) {now : ℕ} (w : now < word) where
   abbrev t : Table
   t = st .table
 
   empty : placesOf t ≡ []
-  empty = sym (o .lives) ∙ no-places ps few
+  empty = sym (o .lives) ∙ no-places xs few
 
   free : (j : Key) → j .hash < top → hasPlace (at j t) ≡ false
   free j s = by-kind (j .kind) refl
@@ -151,8 +151,8 @@ module _ {b f : List ℕ} {m : ℕ} {st : State} {ps : List Place} (o : Apart b 
   same-after = bare-same (silenced now t) (after .bounded .ordered) none-after (after .bounded .lawful)
 
   pub silent-apart : {v b′ : List ℕ} → length v ≡ length (take (m - 0) (drop 0 b)) → Makes (take (m - 0) (drop 0 b)) v Placeless (silenced now) → length b′ ≡ length b
-      → b′ ≡ take 0 b ++ (v ++ drop (m - 0) (drop 0 b)) → Apart b′ f m (onTable ((expired now st) .table) st) ps
-  silent-apart {v} {b′} nv makes nb e = subst (λ (x : Listed). Apart b′ f m (onTable (x .table) st) ps) (sym silent-is) (record {
+      → b′ ≡ take 0 b ++ (v ++ drop (m - 0) (drop 0 b)) → Apart b′ f m (onTable ((expired now st) .table) st) xs
+  silent-apart {v} {b′} nv makes nb e = subst (λ (x : Listed). Apart b′ f m (onTable (x .table) st) xs) (sym silent-is) (record {
     sound = after;
     size = o .size;
     long = nb ∙ o .long;
@@ -163,7 +163,7 @@ module _ {b f : List ℕ} {m : ℕ} {st : State} {ps : List Place} (o : Apart b 
         subst (λ (y : List ℕ). Writes y (bareState (onTable (silenced now t) st))) (sym (ap (take m) e ∙ front-is b v m (front-within o) nv))
         (subst (λ (x : Table). Writes v (onTable x (bareState st))) (ap (silenced now) same ∙ sym same-after) a);
     slots = slots-rest (ap (drop m) e ∙ rest-stays b v m (front-within o) nv) (o .slots);
-    lives = no-places ps few ∙ sym (none-held (silenced now t) (placeless (silenced now t) (after .bounded .ordered) none-after));
+    lives = no-places xs few ∙ sym (none-held (silenced now t) (placeless (silenced now t) (after .bounded .ordered) none-after));
     ascend = o .ascend;
     short = o .short;
   })

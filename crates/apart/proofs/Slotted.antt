@@ -1,25 +1,20 @@
 -- The places that are set apart: one read, searched, killed, in the array or behind the store.
 use Prim.Native.Nat.{ℕ, zero, suc, _+_, _-_, _*_, _≤_, _<_}
 use mathlib.Core.Path.{_≡_, refl, sym, ap, subst, _∙_}
-use mathlib.Core.Logic.{inl, inr}
-use mathlib.Core.Bool.{Bool, true, false}
 use mathlib.Core.List.{List, [], _∷_, _++_, append-nil}
 use native.Mathlib.Omega.{arith}
-use lib.ListN.{length, take, drop, getD, set, length-append, length-drop, length-map, length-set, replicate}
+use lib.Dec.{lit<, lit≤}
+use lib.ListN.{length, take, drop, getD, set, length-drop, length-set}
 use lib.Seq.{take-all, take-at, drop-at, getD-drop, drop-set-add, drop-set-lt, take-set-le, length-take-le}
-use Rattle.words.specs.Words.{words, recs}
+use Rattle.words.specs.Words.{words, splice}
 use Rattle.words.proofs.Parts.{words-lent}
-use Rattle.regions.specs.Regions.{each, Holds, Changed}
-use Rattle.regions.specs.Order.{Sorted, Bound, Sought}
-use Rattle.regions.specs.Rows.{quadNumber}
-use Rattle.regions.proofs.Regions.{length-padded, padded-fit, holds-at}
+use Rattle.regions.specs.Regions.{each, Holds}
+use Rattle.regions.proofs.Regions.{padded-fit, changed}
 use Rattle.places.specs.declared.Head.{Head}
-use Rattle.places.specs.Places.{Place, placeSize, placeWords, placeKey, stageAt, headOf, blank, withStage, HeadAt}
-use Rattle.places.proofs.Places.{length-place}
-use Rattle.package_stages.specs.Records.{placeHashes}
-use Rattle.package_stages.proofs.Lending.{place-sought}
-use Rattle.package_stages.proofs.Seeking.{head-hash}
-use Rattle.apart.specs.Apart.{slotBytes, Slots, Room, SlotOf, Loaded, HeadIn, SoughtIn, Killed}
+use Rattle.places.specs.Places.{placeSize, headOf, HeadAt}
+use Rattle.apart.specs.declared.slots.Note.{Note}
+use Rattle.apart.specs.Apart.{slotBytes, Slot, slotWords, noteOf, Slots, SlotOf, Loaded, HeadIn, NoteAt, NoteIn, Altered}
+use Rattle.apart.proofs.SlotWords.{length-slot, region-room, region-slot, region-head}
 
 -- ---- lists
 
@@ -39,15 +34,15 @@ rest-lent b m = take-all (length b - m) (drop m b) (omega (arith, length-drop m 
 
 -- ---- one place
 
-pub one-holds : (p : Place) {w : List ℕ} → w ≡ placeWords p → Holds placeSize placeWords 1 (p ∷ []) w
+pub one-holds : (x : Slot) {w : List ℕ} → w ≡ slotWords x → Holds placeSize slotWords 1 (x ∷ []) w
 unfolding each
-one-holds p e =
-    let l : length (placeWords p ++ []) ≡ placeSize = ap length (append-nil (placeWords p)) ∙ length-place p in
-    let z : placeSize - length (placeWords p ++ []) ≡ 0 = omega arith in
-    e ∙ sym (padded-fit placeSize (placeWords p ++ []) (omega arith) ∙ rw (z, append-nil, append-nil))
+one-holds x e =
+    let l : length (slotWords x ++ []) ≡ placeSize = ap length (append-nil (slotWords x)) ∙ length-slot x in
+    let z : placeSize - length (slotWords x ++ []) ≡ 0 = omega arith in
+    e ∙ sym (padded-fit placeSize (slotWords x ++ []) (omega arith) ∙ rw (z, append-nil, append-nil))
 
-pub slot-words : (z : List ℕ) (p : Place) → SlotOf z p → words z ≡ placeWords p
-slot-words z p h = h ∙ sym (one-holds p refl)
+pub slot-words : (z : List ℕ) (x : Slot) → SlotOf z x → words z ≡ slotWords x
+slot-words z x h = h ∙ sym (one-holds x refl)
 
 pub copied-out : (r : List ℕ) (i : ℕ) {x y : ℕ} {z : List ℕ} → x ≡ i * slotBytes → y ≡ x + slotBytes → slotBytes * (i + 1) ≤ length r → z ≡ take (y - x) (drop x r)
     → words z ≡ take placeSize (drop (placeSize * i) (words r))
@@ -57,57 +52,64 @@ copied-out r i {x} {y} {z} ex ey l e =
     let c : placeSize * i + placeSize - placeSize * i ≡ placeSize = omega arith in
     ap words e ∙ rw (b, a, words-lent r (placeSize * i) (placeSize * i + placeSize) (omega arith) (omega arith), c)
 
-module _ {b f : List ℕ} {m Q : ℕ} {ps : List Place} (s : Slots b f m Q ps) where
-  pub first-slot : (d : Place) → 0 < length ps → SlotOf f (getD ps 0 d)
-  first-slot d h = subst (λ (l : List Place). Holds placeSize placeWords 1 l (words f)) (first-one ps d h) (s .first)
+module _ {b f : List ℕ} {m Q : ℕ} {xs : List Slot} (s : Slots b f m Q xs) where
+  pub first-slot : (d : Slot) → 0 < length xs → SlotOf f (getD xs 0 d)
+  first-slot d h = subst (λ (l : List Slot). Holds placeSize slotWords 1 l (words f)) (first-one xs d h) (s .first)
 
-  rest-words : length (words (drop m b)) ≡ placeSize * (Q - 1)
-  rest-words = ap length (s .rest) ∙ length-padded (placeSize * (Q - 1)) (each placeWords (drop 1 ps))
+  rest-few : length (drop 1 xs) ≤ Q - 1
+  rest-few = omega (arith, s .few, length-drop 1 xs)
 
-  pub later-slot : (i : ℕ) (d : Place) → 0 < i → i < length ps → (z : List ℕ) → words z ≡ take placeSize (drop (placeSize * (i - 1)) (words (drop m b))) → SlotOf z (getD ps i d)
+  pub later-slot : (i : ℕ) (d : Slot) → 0 < i → i < length xs → (z : List ℕ) → words z ≡ take placeSize (drop (placeSize * (i - 1)) (words (drop m b))) → SlotOf z (getD xs i d)
   later-slot i d h l z e =
-      one-holds (getD ps i d) (e ∙ holds-at placeSize placeWords length-place (words (drop m b)) (i - 1) (omega (arith, rest-words, s .few)) (Q - 1) (drop 1 ps) d (later-long ps i h l) (s .rest)
-      ∙ ap placeWords (later-one ps i d h))
+      one-holds (getD xs i d) (e ∙ region-slot (Q - 1) (drop 1 xs) rest-few (s .rest) (i - 1) d (later-long xs i h l) ∙ ap slotWords (later-one xs i d h))
 
-  -- ---- its head
+  -- ---- its head, its notes
 
-  pub first-head : (d : Place) → 0 < length ps → {r : Head} → HeadAt (words f) 0 r → r ≡ headOf (getD ps 0 d)
-  first-head d h x = x .region 1 (getD ps 0 d ∷ []) d (omega arith) (first-slot d h)
+  pub first-head : (d : Slot) → 0 < length xs → {r : Head} → HeadAt (words f) 0 r → r ≡ headOf ((getD xs 0 d) .place)
+  first-head d h x = region-head 1 (getD xs 0 d ∷ []) (lit≤ tt) (first-slot d h) 0 d (lit< tt) x
 
-  pub later-head : (i : ℕ) (d : Place) → 0 < i → i < length ps → {r : Head} → HeadAt (words (drop m b)) (i - 1) r → r ≡ headOf (getD ps i d)
-  later-head i d h l x = x .region (Q - 1) (drop 1 ps) d (later-long ps i h l) (s .rest) ∙ ap headOf (later-one ps i d h)
+  pub later-head : (i : ℕ) (d : Slot) → 0 < i → i < length xs → {r : Head} → HeadAt (words (drop m b)) (i - 1) r → r ≡ headOf ((getD xs i d) .place)
+  later-head i d h l x = region-head (Q - 1) (drop 1 xs) rest-few (s .rest) (i - 1) d (later-long xs i h l) x ∙ ap (λ (y : Slot). headOf (y .place)) (later-one xs i d h)
 
-  -- ---- it dies
+  pub first-note : (d : Slot) → 0 < length xs → {r : Note} → NoteAt (words f) 0 r → r ≡ noteOf (getD xs 0 d)
+  first-note d h x = x .region 1 (getD xs 0 d ∷ []) d (lit≤ tt) (lit< tt) (first-slot d h)
 
-  pub first-dies : (d : Place) → 0 < length ps → {f′ : List ℕ} → Changed placeSize placeWords (words f) (words f′) 0 stageAt (0 ∷ []) (withStage 0) → Slots b f′ m Q (set ps 0 (withStage 0
-      (getD ps 0 d)))
-  first-dies d h {f′} x =
-      let n = length-set ps 0 (withStage 0 (getD ps 0 d)) in
-      record {
-        some = s .some;
-        few = omega (arith, s .few);
-        first = subst (λ (l : List Place). Holds placeSize placeWords 1 l (words f′)) (sym (first-one (set ps 0 (withStage 0 (getD ps 0 d))) d (omega arith) ∙ go ps h)) (x .region 1 (getD
-            ps 0 d ∷ []) d (omega arith) (first-slot d h));
-        rest = subst (λ (l : List Place). Holds placeSize placeWords (Q - 1) l (words (drop m b))) (sym (drop-set-lt 1 ps 0 (withStage 0 (getD ps 0 d)) (omega arith))) (s .rest);
-      }
-    where
-      go : (l : List Place) → 0 < length l → getD (set l 0 (withStage 0 (getD l 0 d))) 0 d ∷ [] ≡ withStage 0 (getD l 0 d) ∷ []
-      go [] h = absurd (omega arith)
-      go (p ∷ l) h = refl
+  pub later-note : (i : ℕ) (d : Slot) → 0 < i → i < length xs → {r : Note} → NoteAt (words (drop m b)) (i - 1) r → r ≡ noteOf (getD xs i d)
+  later-note i d h l x = x .region (Q - 1) (drop 1 xs) d rest-few (later-long xs i h l) (s .rest) ∙ ap noteOf (later-one xs i d h)
 
-  pub later-dies : (i : ℕ) (d : Place) → 0 < i → i < length ps → {b′ : List ℕ} → Changed placeSize placeWords (words (drop m b)) (words (drop m b′)) (i - 1) stageAt (0 ∷ []) (withStage 0)
-      → Slots b′ f m Q (set ps i (withStage 0 (getD ps i d)))
-  later-dies i d h l {b′} x =
-      let y = withStage 0 (getD ps i d) in
-      let n = length-set ps i y in
-      let e : drop 1 (set ps i y) ≡ set (drop 1 ps) (i - 1) (withStage 0 (getD (drop 1 ps) (i - 1) d)) =
-      ap (λ (j : ℕ). drop 1 (set ps j y)) (omega arith) ∙ drop-set-add 1 ps (i - 1) y ∙ ap (λ (p : Place). set (drop 1 ps) (i - 1) (withStage 0 p)) (sym (later-one ps i d h)) in
-      record {
-        some = s .some;
-        few = omega (arith, s .few);
-        first = subst (λ (q : List Place). Holds placeSize placeWords 1 q (words f)) (sym (take-set-le 1 ps i y h)) (s .first);
-        rest = subst (λ (q : List Place). Holds placeSize placeWords (Q - 1) q (words (drop m b′))) (sym e) (x .region (Q - 1) (drop 1 ps) d (later-long ps i h l) (s .rest));
-      }
+  -- ---- some of its words are replaced
+
+  module _ (j : ℕ) (y : List ℕ) (g : Slot → Slot) (fits : j + length y ≤ placeSize) (law : (x : Slot) → splice (slotWords x) j y ≡ slotWords (g x)) where
+    pub first-alters : (d : Slot) → 0 < length xs → {f′ : List ℕ} → words f′ ≡ splice (words f) (placeSize * 0 + j) y → Slots b f′ m Q (set xs 0 (g (getD xs 0 d)))
+    first-alters d h {f′} e =
+        let n = length-set xs 0 (g (getD xs 0 d)) in
+        let x = changed placeSize slotWords length-slot (words f) 0 (region-room 1 (getD xs 0 d ∷ []) (lit≤ tt) (first-slot d h) 0 d (lit< tt)) j y g fits law e in
+        record {
+          some = s .some;
+          few = omega (arith, s .few);
+          first = subst (λ (l : List Slot). Holds placeSize slotWords 1 l (words f′)) (sym (first-one (set xs 0 (g (getD xs 0 d))) d (omega arith) ∙ go xs h)) (x .region 1 (getD xs 0 d ∷ [])
+              d (lit< tt) (first-slot d h));
+          rest = subst (λ (l : List Slot). Holds placeSize slotWords (Q - 1) l (words (drop m b))) (sym (drop-set-lt 1 xs 0 (g (getD xs 0 d)) (omega arith))) (s .rest);
+        }
+      where
+        go : (l : List Slot) → 0 < length l → getD (set l 0 (g (getD l 0 d))) 0 d ∷ [] ≡ g (getD l 0 d) ∷ []
+        go [] h = absurd (omega arith)
+        go (p ∷ l) h = refl
+
+    pub later-alters : (i : ℕ) (d : Slot) → 0 < i → i < length xs → {b′ : List ℕ} → words (drop m b′) ≡ splice (words (drop m b)) (placeSize * (i - 1) + j) y
+        → Slots b′ f m Q (set xs i (g (getD xs i d)))
+    later-alters i d h l {b′} e =
+        let z = g (getD xs i d) in
+        let n = length-set xs i z in
+        let x = changed placeSize slotWords length-slot (words (drop m b)) (i - 1) (region-room (Q - 1) (drop 1 xs) rest-few (s .rest) (i - 1) d (later-long xs i h l)) j y g fits law e in
+        let c : drop 1 (set xs i z) ≡ set (drop 1 xs) (i - 1) (g (getD (drop 1 xs) (i - 1) d)) =
+        ap (λ (j : ℕ). drop 1 (set xs j z)) (omega arith) ∙ drop-set-add 1 xs (i - 1) z ∙ ap (λ (p : Slot). set (drop 1 xs) (i - 1) (g p)) (sym (later-one xs i d h)) in
+        record {
+          some = s .some;
+          few = omega (arith, s .few);
+          first = subst (λ (q : List Slot). Holds placeSize slotWords 1 q (words f)) (sym (take-set-le 1 xs i z h)) (s .first);
+          rest = subst (λ (q : List Slot). Holds placeSize slotWords (Q - 1) q (words (drop m b′))) (sym c) (x .region (Q - 1) (drop 1 xs) d (later-long xs i h l) (s .rest));
+        }
 
 -- the part behind m, lent and come back
 module _ (b w : List ℕ) (m : ℕ) (l : m ≤ length b) (n : length w ≡ length (take (length b - m) (drop m b))) where
@@ -130,33 +132,42 @@ module _ (b w : List ℕ) (m : ℕ) (l : m ≤ length b) (n : length w ≡ lengt
 
 module _ {b f : List ℕ} (m i : ℕ) where
   pub loaded-first : {z : List ℕ} → i ≡ 0 → z ≡ f → Loaded b f m i z
-  loaded-first {z} e q Q ps d l s =
-      let h : 0 < length ps = omega arith in
-      subst (λ (j : ℕ). SlotOf z (getD ps j d)) (sym e) (subst (λ (y : List ℕ). SlotOf y (getD ps 0 d)) (sym q) (first-slot s d h))
+  loaded-first {z} e q Q xs d l s =
+      let h : 0 < length xs = omega arith in
+      subst (λ (j : ℕ). SlotOf z (getD xs j d)) (sym e) (subst (λ (y : List ℕ). SlotOf y (getD xs 0 d)) (sym q) (first-slot s d h))
 
   pub loaded-later : (z : List ℕ) → 0 < i → words z ≡ take placeSize (drop (placeSize * (i - 1)) (words (take (length b - m) (drop m b)))) → Loaded b f m i z
-  loaded-later z h e Q ps d l s = later-slot s i d h l z (rw (rest-lent b m) at e)
+  loaded-later z h e Q xs d l s = later-slot s i d h l z (rw (rest-lent b m) at e)
 
   pub head-first : {r : Head} → i ≡ 0 → HeadAt (words f) 0 r → HeadIn b f m i r
-  head-first {r} e x Q ps d l s =
-      let h : 0 < length ps = omega arith in
-      subst (λ (j : ℕ). r ≡ headOf (getD ps j d)) (sym e) (first-head s d h x)
+  head-first {r} e x Q xs d l s =
+      let h : 0 < length xs = omega arith in
+      subst (λ (j : ℕ). r ≡ headOf ((getD xs j d) .place)) (sym e) (first-head s d h x)
 
   pub head-later : {r : Head} → 0 < i → HeadAt (words (take (length b - m) (drop m b))) (i - 1) r → HeadIn b f m i r
-  head-later h x Q ps d l s = later-head s i d h l (rw (rest-lent b m) at x)
+  head-later h x Q xs d l s = later-head s i d h l (rw (rest-lent b m) at x)
 
-  pub killed-first : {f′ : List ℕ} → i ≡ 0 → Changed placeSize placeWords (words f) (words f′) 0 stageAt (0 ∷ []) (withStage 0) → Killed b b f f′ m i
-  killed-first {f′} e x = record {
-    front = refl;
-    slots = λ Q ps d l s.
-        let h : 0 < length ps = omega arith in
-        subst (λ (j : ℕ). Slots b f′ m Q (set ps j (withStage 0 (getD ps j d)))) (sym e) (first-dies s d h x);
-  }
+  pub note-first : {r : Note} → i ≡ 0 → NoteAt (words f) 0 r → NoteIn b f m i r
+  note-first {r} e x Q xs d l s =
+      let h : 0 < length xs = omega arith in
+      subst (λ (j : ℕ). r ≡ noteOf (getD xs j d)) (sym e) (first-note s d h x)
 
-  pub killed-later : (w : List ℕ) → 0 < i → m ≤ length b → length w ≡ length (take (length b - m) (drop m b))
-      → Changed placeSize placeWords (words (take (length b - m) (drop m b))) (words w) (i - 1) stageAt (0 ∷ []) (withStage 0)
-      → Killed b (take m b ++ (w ++ drop (length b - m) (drop m b))) f f m i
-  killed-later w h k n x = record {
-    front = front-stays b w m k n;
-    slots = λ Q ps d l s. later-dies s i d h l (rw (rest-is b w m k n) (rw (rest-lent b m) at x));
-  }
+  pub note-later : {r : Note} → 0 < i → NoteAt (words (take (length b - m) (drop m b))) (i - 1) r → NoteIn b f m i r
+  note-later h x Q xs d l s = later-note s i d h l (rw (rest-lent b m) at x)
+
+  module _ (j : ℕ) (y : List ℕ) (g : Slot → Slot) (fits : j + length y ≤ placeSize) (law : (x : Slot) → splice (slotWords x) j y ≡ slotWords (g x)) where
+    pub altered-first : {f′ : List ℕ} → i ≡ 0 → words f′ ≡ splice (words f) (placeSize * 0 + j) y → Altered b b f f′ m i g
+    altered-first {f′} e x = record {
+      front = refl;
+      slots = λ Q xs d l s.
+          let h : 0 < length xs = omega arith in
+          subst (λ (k : ℕ). Slots b f′ m Q (set xs k (g (getD xs k d)))) (sym e) (first-alters s j y g fits law d h x);
+    }
+
+    pub altered-later : (w : List ℕ) → 0 < i → m ≤ length b → length w ≡ length (take (length b - m) (drop m b))
+        → words w ≡ splice (words (take (length b - m) (drop m b))) (placeSize * (i - 1) + j) y
+        → Altered b (take m b ++ (w ++ drop (length b - m) (drop m b))) f f m i g
+    altered-later w h k n x = record {
+      front = front-stays b w m k n;
+      slots = λ Q xs d l s. later-alters s j y g fits law i d h l (rw (rest-is b w m k n) (rw (rest-lent b m) at x));
+    }

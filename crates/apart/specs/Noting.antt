@@ -8,7 +8,7 @@ use lib.ListN.{length, take, drop, getD}
 use Rattle.ident.specs.If.{if_then_else_}
 use Rattle.ident.specs.Number.{Key, txid}
 use Rattle.regions.specs.Rows.{quadNumber, readQuad}
-use Rattle.places.specs.Places.{Place, listMost, placeSize, parentsAt}
+use Rattle.places.specs.Places.{listMost, placeSize, parentsAt}
 use Rattle.machine.specs.Limits.{Limits}
 use Rattle.machine.specs.State.{Table, State, limitsOf, onTable}
 use Rattle.machine.specs.Table.{one}
@@ -19,7 +19,7 @@ use Rattle.store.specs.Image.{Writes}
 use Rattle.requests.specs.Changes.{Tells}
 use Rattle.announcing.specs.Answers.{oneParent}
 use Rattle.apart.specs.declared.noting.Bits.{Bits}
-use Rattle.apart.specs.Apart.{SlotOf}
+use Rattle.apart.specs.Apart.{Slot, SlotOf}
 
 -- ---- parents of a place, read from its words
 
@@ -34,7 +34,7 @@ hashesAt w j (suc n) = parentIn w j ∷ hashesAt w (suc j) n
 -- how many a place has
 pub record ParentsIn (z : List ℕ) (r : ℕ) : Type 0 where
   pub most : r ≤ listMost
-  pub is : (p : Place) → SlotOf z p → length (p .parents) ≤ listMost → r ≡ length (p .parents)
+  pub is : (x : Slot) → SlotOf z x → length (x .place .parents) ≤ listMost → r ≡ length (x .place .parents)
 
 -- ---- bits
 

@@ -51,33 +51,42 @@ fn expire_place(
     noting::announce_all(&mut s[0..m], &slot, p.parents, n, clock, spent)
 }
 
+// What is known while owners expire: how many places at most have notes, and whether nobody can be evicted.
+pub struct Progress {
+    pub noted: usize,
+    pub spent: bool,
+}
+
 // The owner n of the request at k, whose time is over, expires: it fails, unless its package is Enqueued, and its parents are announced
-// for it. Those kept are noted in low and high at the number of its place, of which there are c. spent: nobody can be evicted; answers
-// whether that is so afterwards.
+// for it. Those kept are noted at its place, of which there are c.
 pub fn expire_one(
     s: &mut [u8],
     m: usize,
     first: &mut [u8],
     c: usize,
-    low: &mut [u64],
-    high: &mut [u64],
     k: ident::Key,
     n: u64,
     clock: u64,
-    spent: bool,
-) -> bool
-    requires { ⌜ Parted (now s) (now first) m c × (1 ≤ n) × (c ≤ length (now low)) × (c ≤ length (now high)) × Exhausted (take m (now s)) spent ⌝ }
-    ensures { λ r. ⌜ Expires (now (s .entry)) (now (s .exit)) (now (first .entry)) (now (first .exit)) m c (now (low .entry)) (now (low .exit)) (now (high .entry))
-        (now (high .exit)) (keyNum k) n clock r ⌝ }
+    q: Progress,
+) -> Progress
+    requires { ⌜ Parted (now s) (now first) m c × (1 ≤ n) × Exhausted (take m (now s)) (q .spent) ⌝ }
+    ensures { λ r. ⌜ Expires (now (s .entry)) (now (s .exit)) (now (first .entry)) (now (first .exit)) m c (keyNum k) n clock q r ⌝ }
 {
     let p = slots::find(s, m, first, c, k);
     if p.stage == 0 {
         failing::failed(&mut s[0..m], k, n, clock);
-        return spent;
+        return q;
     }
+    let spent = q.spent;
     let r = expire_place(s, m, first, p, k, n, clock, spent);
     let i = p.at;
-    low[i] = r.low;
-    high[i] = r.high;
-    r.spent
+    let x = slots::Note {
+        low: r.low,
+        high: r.high,
+    };
+    slots::set_note(s, m, first, i, x);
+    Progress {
+        noted: i + 1,
+        spent: r.spent,
+    }
 }

@@ -2,7 +2,7 @@
 //
 // A store is header, rows, connections, places. `set_apart` takes the first place out into an array beside the store and says in the
 // header that there is room for one place and none is held: the bytes as far as that place then write a sound state without packages,
-// and the other places lie untouched behind them. `put_back` undoes it, without the places that died meanwhile.
+// and the other places lie behind them. `put_back` undoes it, without the places that died meanwhile, when nothing is noted of a place any more.
 use places::PLACE;
 use regions::CONN;
 use regions::ROW;
@@ -10,7 +10,7 @@ ghost use mathlib.Core.Path.{_≡_};
 ghost use Prim.Native.Nat.{_*_, _≤_};
 ghost use lib.ListN.{length};
 ghost use Rattle.store.specs.Shown.{limitIn, Kept};
-ghost use Rattle.apart.specs.Apart.{slotBytes, bareBytes, SetApart, Parted, PutBack};
+ghost use Rattle.apart.specs.Apart.{slotBytes, bareBytes, SetApart, Rested, PutBack};
 
 pub mod displacing;
 pub mod joining;
@@ -52,7 +52,7 @@ pub fn set_apart(s: &mut [u8], m: usize, first: &mut [u8])
 
 // Puts the n places back, and takes the dead ones out.
 pub fn put_back(s: &mut [u8], m: usize, first: &[u8], n: usize)
-    requires { ⌜ Parted (now s) (now first) m n ⌝ }
+    requires { ⌜ Rested (now s) (now first) m n ⌝ }
     ensures { λ _. ⌜ PutBack (now (s .entry)) (now (s .exit)) (now (first .entry)) m n ⌝ }
 {
     let q = (s.len() - m) / SLOT + 1;

@@ -1,14 +1,17 @@
-// The places that are set apart, by number: the first in an array, the others from the byte m of the store on.
+// The places that are set apart, by number: the first in an array, the others from the byte m of the store on. Which parents of a place were
+// kept is noted in it, in two words that are zero at rest.
 use places::DEAD;
+use places::PLACE;
 ghost use mathlib.Core.Path.{_≡_};
 ghost use Prim.Native.Nat.{_+_, _*_, _≤_, _<_};
 ghost use lib.ListN.{length, take, drop};
 ghost use Rattle.ident.specs.Number.{wtxid};
 ghost use Rattle.ident.specs.Words.{hashNum, keyNum};
-ghost use Rattle.words.specs.Words.{words};
+ghost use Rattle.words.specs.Words.{words, splice};
 ghost use Rattle.places.specs.Places.{placeSize};
 ghost use Rattle.regions.specs.Rows.{quadNumber};
-ghost use Rattle.apart.specs.Apart.{slotBytes, Room, Loaded, HeadIn, SoughtIn, Killed, SpotIn};
+ghost use mathlib.Core.List.{[], _∷_};
+ghost use Rattle.apart.specs.Apart.{slotBytes, keptAt, withNotes, dying, Room, Loaded, HeadIn, SoughtIn, Altered, NoteAt, NoteIn, Forgotten, SpotIn};
 
 // A place of a key: its number, its stage, how many parents it has. Stage 0: there is none, or it is dead.
 pub struct Spot {
@@ -16,6 +19,15 @@ pub struct Spot {
     pub stage: u64,
     pub parents: usize,
 }
+
+// Which parents of a place were kept: those of the first half and the others, the first the least bit.
+pub struct Note {
+    pub low: u64,
+    pub high: u64,
+}
+
+// Where the notes of a place stand in it.
+const KEPT: usize = 811;
 
 // Copies the i-th place of a region.
 fn copy_out(region: &[u8], i: usize, slot: &mut [u8])
@@ -55,13 +67,71 @@ pub fn head_at(s: &[u8], m: usize, first: &[u8], i: usize) -> places::Head
 // The i-th place dies.
 pub fn kill(s: &mut [u8], m: usize, first: &mut [u8], i: usize)
     requires { ⌜ Room (now s) (now first) m (i + 1) ⌝ }
-    ensures { λ _. ⌜ Killed (now (s .entry)) (now (s .exit)) (now (first .entry)) (now (first .exit)) m i ⌝ }
+    ensures { λ _. ⌜ Altered (now (s .entry)) (now (s .exit)) (now (first .entry)) (now (first .exit)) m i dying ⌝ }
 {
     if i == 0 {
         places::set_stage(first, 0, DEAD);
     } else {
         let y = s.len();
         places::set_stage(&mut s[m..y], i - 1, DEAD);
+    }
+}
+
+// Stores the notes of the i-th place of a region.
+fn write_note(region: &mut [u8], i: usize, x: Note)
+    requires { ⌜ 8 * (placeSize * (i + 1)) ≤ length (now region) ⌝ }
+    ensures { λ _. ⌜ words (now (region .exit)) ≡ splice (words (now (region .entry))) (placeSize * i + keptAt) (x .low ∷ x .high ∷ []) ⌝ }
+{
+    let a = i * PLACE + KEPT;
+    words::put(region, a, x.low);
+    words::put(region, a + 1, x.high);
+}
+
+// Notes x of the i-th place.
+pub fn set_note(s: &mut [u8], m: usize, first: &mut [u8], i: usize, x: Note)
+    requires { ⌜ Room (now s) (now first) m (i + 1) ⌝ }
+    ensures { λ _. ⌜ Altered (now (s .entry)) (now (s .exit)) (now (first .entry)) (now (first .exit)) m i (withNotes (x .low) (x .high)) ⌝ }
+{
+    if i == 0 {
+        write_note(first, 0, x);
+    } else {
+        let y = s.len();
+        write_note(&mut s[m..y], i - 1, x);
+    }
+}
+
+// The notes of the i-th place of a region.
+fn read_note(region: &[u8], i: usize) -> Note
+    requires { ⌜ 8 * (placeSize * (i + 1)) ≤ length (now region) ⌝ }
+    ensures { λ r. ⌜ NoteAt (words (now (region .entry))) i r ⌝ }
+{
+    let a = i * PLACE + KEPT;
+    let low = words::get(region, a);
+    let high = words::get(region, a + 1);
+    Note { low, high }
+}
+
+// What is noted of the i-th place.
+pub fn note_at(s: &[u8], m: usize, first: &[u8], i: usize) -> Note
+    requires { ⌜ Room (now s) (now first) m (i + 1) ⌝ }
+    ensures { λ r. ⌜ NoteIn (now (s .entry)) (now (first .entry)) m i r ⌝ }
+{
+    if i == 0 {
+        return read_note(first, 0);
+    }
+    let y = s.len();
+    read_note(&s[m..y], i - 1)
+}
+
+// The notes of the first n places are cleared.
+pub fn forget(s: &mut [u8], m: usize, first: &mut [u8], n: usize)
+    requires { ⌜ Room (now s) (now first) m n ⌝ }
+    ensures { λ _. ⌜ Forgotten (now (s .entry)) (now (s .exit)) (now (first .entry)) (now (first .exit)) m n ⌝ }
+{
+    let mut i = 0;
+    while i < n {
+        set_note(s, m, first, i, Note { low: 0, high: 0 });
+        i += 1;
     }
 }
 

@@ -25,7 +25,7 @@ use Rattle.gathering.specs.Waits.{pushes, Ready, Idle, waits, barredBesi
 
 -- as many rows can wait
 abbrev pub space : ℕ
-space = 128
+space = 512
 
 -- ---- a region of m rows in order
 

@@ -20,7 +20,7 @@ ghost use Rattle.requests.specs.Changes.{candidateOf};
 ghost use Rattle.gathering.specs.Aside.{space, BarredIn, FaresIn, RowIn, SetAside};
 
 // As many rows can wait.
-pub const SPACE: usize = 128;
+pub const SPACE: usize = 512;
 
 // With the m that wait L announcements are held.
 pub fn full(s: &[u8], m: usize) -> bool

@@ -1,5 +1,5 @@
 -- Every owner that is due expires, one turn after the other, where the places are set apart.
-use Prim.Native.Nat.{ℕ, suc, _+_, _-_, _≤_, _<_}
+use Prim.Native.Nat.{ℕ, zero, suc, _+_, _-_, _≤_, _<_}
 use mathlib.Core.Path.{_≡_, refl, sym, ap, subst, _∙_}
 use mathlib.Core.Logic.{inl, inr}
 use mathlib.Core.Bool.{Bool, true, false}
@@ -22,14 +22,16 @@ use Rattle.store.specs.Shown.{Kept}
 use Rattle.requests.specs.Changes.{Tells}
 use Rattle.package_stages.specs.Records.{placeHashes}
 use Rattle.apart.specs.Bare.{bare, bareState}
-use Rattle.apart.specs.Apart.{Apart, Parted}
+use Rattle.apart.specs.declared.lapsing.Progress.{Progress}
+use Rattle.apart.specs.Apart.{Slot, resting, plain, Clear, ClearFrom, Apart, Parted, Rested}
 use Rattle.apart.specs.Noting.{Spent, Exhausted}
-use Rattle.apart.specs.Lapsing.{family, noted, Clear, Expires}
+use Rattle.apart.specs.Lapsing.{noted, ClearAt, Expires}
+use Rattle.apart.proofs.SlotWords.{plain-long, plain-rest}
 use Rattle.apart.proofs.BareTable.{sound-bare}
 use Rattle.apart.proofs.OneOwner.{noted-none}
 use Rattle.apart.proofs.SpentStill.{victims-bare}
 use Rattle.failing.proofs.Leaving.{told}
-use Rattle.planning.specs.Expiring.{expireOne, dueFrom, DueNext, NextDue, Clean, ExpiredAll, ExpiresAll}
+use Rattle.planning.specs.Expiring.{expireOne, dueFrom, DueNext, NextDue, ExpiredAll, ExpiresAll}
 use Rattle.apart.proofs.Overdue.{front-lent}
 use Rattle.planning.specs.declared.expiring.Turn.{Turn}
 use Rattle.planning.proofs.BareDue.{due-from-bare}
@@ -60,91 +62,96 @@ due-owns now x lo (r ∷ t) d ds o l e =
     ]
 
 -- the owners before the place x of the state st, with the places ps, are expired
-pub record OnTheWay (now : ℕ) (st : State) (ps : List Place) (b f : List ℕ) (m x : ℕ) (low high : List ℕ) (spent : Bool) : Type 0 where
+pub record OnTheWay (now : ℕ) (st : State) (ps : List Place) (b f : List ℕ) (m x : ℕ) (q : Progress) : Type 0 where
   pub table : Table
-  pub places : List Place
+  pub places : List Slot
   pub apart : Apart b f m (onTable table st) places
-  pub family-same : family places ≡ family ps
-  pub hashes-same : placeHashes places ≡ placeHashes ps
-  pub going : Expiring (limitsOf st) now (expired now st) x table (noted (family ps) low high)
-  pub later : (j : ℕ) → j < length ps → x ≤ place (wtxid (getD (placeHashes ps) j 0)) → Clear low high j
-  pub none-left : spent ≡ true → Spent table
+  pub hashes-same : placeHashes (plain places) ≡ placeHashes ps
+  pub going : Expiring (limitsOf st) now (expired now st) x table (noted places)
+  pub later : ClearAt x places
+  pub few : ClearFrom (q .noted) places
+  pub none-left : q .spent ≡ true → Spent table
 
-abbrev pub AllOnTheWay : List ℕ → List ℕ → List ℕ → List ℕ → ℕ → ℕ → ℕ → ℕ → List ℕ → List ℕ → Bool → Type 0
-AllOnTheWay b₀ b f₀ f m c now x low high spent = (st : State) (ps : List Place) → Apart b₀ f₀ m st ps → c ≡ length ps → OnTheWay now st ps b f m x low high spent
+abbrev pub AllOnTheWay : List ℕ → List ℕ → List ℕ → List ℕ → ℕ → ℕ → ℕ → ℕ → Progress → Type 0
+AllOnTheWay b₀ b f₀ f m c now x q = (st : State) (ps : List Place) → Apart b₀ f₀ m st (resting ps) → c ≡ length ps → OnTheWay now st ps b f m x q
 
-pub same-long : (ps qs : List Place) → family qs ≡ family ps → length qs ≡ length ps
-same-long ps qs e = sym (length-map qs (λ (p : Place). p .parents)) ∙ ap length e ∙ length-map ps (λ (p : Place). p .parents)
+same-long : (ps : List Place) (xs : List Slot) → placeHashes (plain xs) ≡ placeHashes ps → length ps ≡ length xs
+same-long ps xs e = sym (length-map ps (λ (p : Place). p .hash)) ∙ ap length (sym e) ∙ length-map (plain xs) (λ (p : Place). p .hash) ∙ plain-long xs
 
-pub way-starts : {b f : List ℕ} {m c : ℕ} {low high : List ℕ} (now x : ℕ) → x ≡ 0 → Clean low high c → AllOnTheWay b b f f m c now x low high false
-way-starts {low = low} {high} now x e z st ps o n =
-    let none = noted-none (family ps) low high (λ j h. z .clear j (omega (arith, length-map ps (λ (p : Place). p .parents)))) in
+-- nothing is noted at rest
+rest-clear : (ps : List Place) (j : ℕ) (d : Slot) → j < length (resting ps) → Clear (getD (resting ps) j d)
+rest-clear [] j d h = absurd (omega arith)
+rest-clear (p ∷ ps) zero d h = record { low-bits = refl; high-bits = refl }
+rest-clear (p ∷ ps) (suc j) d h = rest-clear ps j d (omega arith)
+
+pub way-starts : {b f : List ℕ} {m c : ℕ} (now x : ℕ) → x ≡ 0 → (q : Progress) → q .spent ≡ false → AllOnTheWay b b f f m c now x q
+way-starts now x e q z st ps o n =
+    let none = noted-none (resting ps) (λ j d g h. rest-clear ps j d h) in
     record {
       table = st .table;
-      places = ps;
+      places = resting ps;
       apart = o;
-      family-same = refl;
-      hashes-same = refl;
+      hashes-same = ap placeHashes (plain-rest ps);
       going = subst (λ (ks : List Key). Expiring (limitsOf st) now (expired now st) x (st .table) ks) (sym none)
           (subst (λ (i : ℕ). Expiring (limitsOf st) now (expired now st) i (st .table) []) (sym e) (expiring-start (limitsOf st) now (st .table) (o .sound .bounded .ordered)));
-      later = λ j h l. z .clear j (omega arith);
-      none-left = λ i. never i;
+      later = λ j d h l. rest-clear ps j d h;
+      few = λ j d g h. rest-clear ps j d h;
+      none-left = λ i. never (sym z ∙ i);
     }
 
-pub way-parted : {b₀ b f₀ f : List ℕ} {m c now x : ℕ} {low high : List ℕ} {spent : Bool} → Parted b₀ f₀ m c → AllOnTheWay b₀ b f₀ f m c now x low high spent → Parted b f m c
+pub way-parted : {b₀ b f₀ f : List ℕ} {m c now x : ℕ} {q : Progress} → Rested b₀ f₀ m c → AllOnTheWay b₀ b f₀ f m c now x q → Parted b f m c
 way-parted p a =
     let g = a (p .state) (p .places) (p .apart) (p .count) in
-    record { state = onTable (g .table) (p .state); places = g .places; apart = g .apart; count = p .count ∙ sym (same-long (p .places) (g .places) (g .family-same)) }
+    record { state = onTable (g .table) (p .state); places = g .places; apart = g .apart; count = p .count ∙ same-long (p .places) (g .places) (g .hashes-same) }
 
 -- nobody can be evicted in the store as it is
-pub way-spent : {b₀ b f₀ f : List ℕ} {m c now x : ℕ} {low high : List ℕ} {spent : Bool} → Parted b₀ f₀ m c → AllOnTheWay b₀ b f₀ f m c now x low high spent → Exhausted (take m b) spent
+pub way-spent : {b₀ b f₀ f : List ℕ} {m c now x : ℕ} {q : Progress} → Rested b₀ f₀ m c → AllOnTheWay b₀ b f₀ f m c now x q → Exhausted (take m b) (q .spent)
 way-spent p a i =
     let g = a (p .state) (p .places) (p .apart) (p .count) in
     told Spent (bareState (onTable (g .table) (p .state))) (sound-bare (g .apart .sound)) (g .apart .writes) (victims-bare (g .table) ∙ g .none-left i)
 
-pub way-goes : {b₀ b b′ f₀ f f′ : List ℕ} {m c now x : ℕ} {low low′ high high′ : List ℕ} {k : Key} {n : ℕ} {spent spent′ : Bool} → now < word → AllOnTheWay b₀ b f₀ f m c now x low high spent
-    → DueNext (take m b) now x k n → Expires b b′ f f′ m c low low′ high high′ k n now spent′ → AllOnTheWay b₀ b′ f₀ f′ m c now (place k + 1) low′ high′ spent′
-way-goes {b′ = b′} {f′ = f′} {m} {c} {now} {x} {low} {low′} {high} {high′} {k} {n} w a next one st ps o count =
+pub way-goes : {b₀ b b′ f₀ f f′ : List ℕ} {m c now x : ℕ} {k : Key} {n : ℕ} {q q′ : Progress} → now < word → AllOnTheWay b₀ b f₀ f m c now x q
+    → DueNext (take m b) now x k n → Expires b b′ f f′ m c k n now q q′ → AllOnTheWay b₀ b′ f₀ f′ m c now (place k + 1) q′
+way-goes {b′ = b′} {f′ = f′} {m} {c} {now} {x} {k} {n} w a next one st ps o count =
     let g = a st ps o count in
     let t = g .table in
     let s = g .apart .sound in
     let e : dueFrom now x t ≡ record { key = k; connection = n } ∷ dueFrom now (suc (place k)) (bare t) = sym (due-from-bare now x t) ∙ next .first (bareState (onTable t st)) (sound-bare s)
     (g .apart .writes) in
-    let y = one (onTable t st) (g .places) (g .apart) (count ∙ sym (same-long ps (g .places) (g .family-same)))
+    let y = one .goes (onTable t st) (g .places) (g .apart) (count ∙ same-long ps (g .places) (g .hashes-same))
     (due-owns now x 0 t (record { key = k; connection = n }) _ (s .bounded .ordered) (s .bounded .lawful) e) in
-    let long = same-long ps (g .places) (g .family-same) in
     let t₁ = (expireOne (limitsOf st) now k n t) .table in
     let ks₁ = (expireOne (limitsOf st) now k n t) .keys in
-    let here : (j : ℕ) → j < length (g .places) → place k ≤ place (wtxid (getD (placeHashes (g .places)) j 0)) → Clear low high j = λ j h l. g .later j (omega arith) (let z = ap (λ (hs :
-    List ℕ). place (wtxid (getD hs j 0))) (g .hashes-same) in omega (arith, next .from)) in
+    let here : ClearAt (place k) (g .places) = λ j d h l. g .later j d h (omega (arith, next .from)) in
     let more = expiring-more (g .going) (record { key = k; connection = n }) _ w (s .bounded) e in
-    let keys-are = ap (λ (hss : List (List ℕ)). noted hss low′ high′) (sym (g .family-same)) ∙ y .keys here ∙ ap (λ (hss : List (List ℕ)). noted hss low high ++ ks₁) (g .family-same) in
     record {
       table = t₁;
       places = y .places;
       apart = y .apart;
-      family-same = y .family-same ∙ g .family-same;
       hashes-same = y .hashes-same ∙ g .hashes-same;
-      going = subst (λ (ks : List Key). Expiring (limitsOf st) now (expired now st) (place k + 1) t₁ ks) (sym keys-are) (subst (λ (i : ℕ). Expiring (limitsOf st) now (expired now st) i t₁
-          (noted (family ps) low high ++ ks₁)) (sym (add-one (place k))) more);
-      later = λ j h l.
-          let z = ap (λ (hs : List ℕ). place (wtxid (getD hs j 0))) (g .hashes-same) in
-          y .later j (omega arith) (omega arith) (g .later j h (omega (arith, next .from)));
+      going = subst (λ (ks : List Key). Expiring (limitsOf st) now (expired now st) (place k + 1) t₁ ks) (sym (y .keys here)) (subst (λ (i : ℕ). Expiring (limitsOf st) now (expired now st) i t₁
+          (noted (g .places) ++ ks₁)) (sym (add-one (place k))) more);
+      later = λ j d h l. y .later here j d h (omega arith);
+      few = y .few here (g .few);
       none-left = y .none-left;
     }
 
-pub way-ends : {b₀ b f₀ f : List ℕ} {m c now x : ℕ} {low high : List ℕ} {spent : Bool} → AllOnTheWay b₀ b f₀ f m c now x low high spent → Tells (take m b) (λ t. dueFrom now x t ≡ [])
-    → ExpiresAll b₀ b f₀ f m c low high now
-way-ends {b = b} {f = f} {m} {now = now} {x} {low = low} {high = high} a d st ps o n =
-    let g = a st ps o n in
-    let t = g .table in
-    let e = expiring-end (g .going) (sym (due-from-bare now x t) ∙ d (bareState (onTable t st)) (sound-bare (g .apart .sound)) (g .apart .writes)) in
-    record {
-      places = g .places;
-      apart = subst (λ (y : Table). Apart b f m (onTable y st) (g .places)) (e .1) (g .apart);
-      family-same = g .family-same;
-      keys = e .0;
-    }
+pub way-ends : {b₀ b f₀ f : List ℕ} {m c now x : ℕ} {q : Progress} → q .noted ≤ c → AllOnTheWay b₀ b f₀ f m c now x q → Tells (take m b) (λ t. dueFrom now x t ≡ [])
+    → ExpiresAll b₀ b f₀ f m c now (q .noted)
+way-ends {b = b} {f = f} {m} {now = now} {x} {q} l a d = record {
+  most = l;
+  goes = λ st ps o n.
+      let g = a st ps o n in
+      let t = g .table in
+      let e = expiring-end (g .going) (sym (due-from-bare now x t) ∙ d (bareState (onTable t st)) (sound-bare (g .apart .sound)) (g .apart .writes)) in
+      record {
+        places = g .places;
+        apart = subst (λ (y : Table). Apart b f m (onTable y st) (g .places)) (e .1) (g .apart);
+        count = n ∙ same-long ps (g .places) (g .hashes-same);
+        few = g .few;
+        keys = e .0;
+      };
+}
 
 -- what is found in the front that is lent is found in the front
 pub lent-next : (b : List ℕ) (m : ℕ) {now x : ℕ} {w : Turn} → NextDue (take (m - 0) (drop 0 b)) now x w → NextDue (take m b) now x w

@@ -16,15 +16,16 @@ use Rattle.machine.specs.Sound.{CursorFits, Sound}
 use Rattle.machine.specs.Step.{entriesAnswer, written}
 use Rattle.machine.specs.Sweep.{round}
 use Rattle.machine.proofs.Plan.{bounded-expired, expired-keys, plan-cursor}
-use Rattle.machine.proofs.AnswerLengths.{length-sortByPriority as sort-count}
 use Rattle.store.specs.Flat.{placesOf}
 use Rattle.store.specs.Image.{Writes}
 use Rattle.store.specs.Shown.{limitIn, heldPlacesIn, Kept}
 use Rattle.store.proofs.Frame.{sizes}
 use Rattle.requests.specs.Changes.{Tells}
 use Rattle.apart.specs.Bare.{bare, bareState}
-use Rattle.apart.specs.Apart.{Slots, Apart, Parted, SetApart, PutBack}
-use Rattle.apart.specs.Lapsing.{family, noted, Clear}
+use Rattle.apart.specs.Apart.{atRest, resting, plain, Room, Slots, Forgotten, Apart, Parted, Rested, SetApart, PutBack}
+use Rattle.apart.specs.Lapsing.{noted}
+use Rattle.apart.proofs.SlotWords.{plain-long}
+use Rattle.apart.proofs.Forgetting.{forgotten-apart, forgotten-behind}
 use Rattle.apart.proofs.BareTable.{sound-bare, keys-bare}
 use Rattle.apart.proofs.BareChoice.{phase-bare}
 use Rattle.apart.proofs.Overdue.{front-lent, front-is, rest-stays, slots-rest}
@@ -32,58 +33,48 @@ use Rattle.apart.proofs.OneOwner.{front-within}
 use Rattle.selecting.specs.declared.Scan.{Scan}
 use Rattle.planning.specs.declared.replying.Reply.{Reply}
 use Rattle.selecting.specs.Selecting.{Scanning}
-use Rattle.planning.specs.Expiring.{Clean, ExpiresAll}
+use Rattle.planning.specs.Expiring.{ExpiresAll}
 use Rattle.planning.specs.Keeping.{KeptPhased}
-use Rattle.planning.specs.Replying.{Fresh, Selects, Plans, asks, Asks, AsksOf, Begun, mostKept, BegunTo, Begins, Blank, SelectsOf, PlansOf}
-use Rattle.planning.proofs.AllExpired.{same-long}
+use Rattle.planning.specs.Replying.{Fresh, Selects, Plans, asks, Asks, AsksOf, Begun, mostKept, BegunTo, Begins, SelectsOf, PlansOf}
+use Rattle.selecting.proofs.InOrder.{sort-count}
 use Rattle.planning.proofs.Whole.{fresh-scan}
 
 -- ---- expiry and the first phase
 
-pub parted-few : {b f : List ℕ} {m c : ℕ} → Parted b f m c → c ≤ maxPlaces
-parted-few p = omega (arith, p .count, p .apart .slots .few, p .apart .sound .most-places)
+pub rested-few : {b f : List ℕ} {m c : ℕ} → Rested b f m c → c ≤ maxPlaces
+rested-few p = omega (arith, p .count, length-map (p .places) atRest, p .apart .slots .few, p .apart .sound .most-places)
 
-pub blank-clean : {low high : List ℕ} {c : ℕ} → Blank low → Blank high → c ≤ maxPlaces → Clean low high c
-blank-clean x y h = record {
-  low-long = omega (arith, x .long);
-  high-long = omega (arith, y .long);
-  clear = λ j l. record { low-bits = x .zero j (omega arith); high-bits = y .zero j (omega arith) };
-}
-
-pub expired-parted : {b b₁ f f₁ : List ℕ} {m c now : ℕ} {low high : List ℕ} → ExpiresAll b b₁ f f₁ m c low high now → Parted b f m c → Parted b₁ f₁ m c
+pub expired-parted : {b b₁ f f₁ : List ℕ} {m c now e : ℕ} → ExpiresAll b b₁ f f₁ m c now e → Rested b f m c → Parted b₁ f₁ m c
 expired-parted {now = now} x p =
-    let g = x (p .state) (p .places) (p .apart) (p .count) in
-    record {
-      state = onTable ((machine.expired now (p .state)) .table) (p .state);
-      places = g .places;
-      apart = g .apart;
-      count = p .count ∙ sym (same-long (p .places) (g .places) (g
-          .family-same));
-    }
+    let g = x .goes (p .state) (p .places) (p .apart) (p .count) in
+    record { state = onTable ((machine.expired now (p .state)) .table) (p .state); places = g .places; apart = g .apart; count = g .count }
 
-pub begun : {b b₁ b₂ f f₁ : List ℕ} {m c now : ℕ} {low high p p₂ : List ℕ} {v w : Scan} → c ≤ maxPlaces → ExpiresAll b b₁ f f₁ m c low high now → Fresh v → KeptPhased b₁ b₂ f₁ m c low high
-    p p₂ now v w
-    → Begins b b₂ f f₁ m c p₂ now w
-begun {b₁ = b₁} {b₂} {f₁ = f₁} {m} {c} {now} {low} {high} {p} {p₂} {v} {w} few x fr y = record {
-  near = omega (arith, y .near, fr .considered);
+pub room-same : {b b′ f : List ℕ} {m n : ℕ} → Room b f m n → length b′ ≡ length b → Room b′ f m n
+room-same r e = record { first = r .first; front = omega (arith, r .front); rest = omega (arith, r .rest) }
+
+pub begun : {b b₁ b₂ b₃ f f₁ f₃ : List ℕ} {m c now e : ℕ} {p p₂ : List ℕ} {v w : Scan} → c ≤ maxPlaces → ExpiresAll b b₁ f f₁ m c now e → Fresh v → KeptPhased b₁ b₂ f₁ m e p p₂ now v w
+    → Forgotten b₂ b₃ f₁ f₃ m e → length b₃ ≡ length b₁ → length f₃ ≡ length f₁ → Begins b b₃ f f₃ m c p₂ now w
+begun {b₁ = b₁} {b₂} {b₃} {f₁ = f₁} {f₃} {m} {c} {now} {e} {p} {p₂} {v} {w} few x fr y z nb nf = record {
+  near = omega (arith, y .near, fr .considered, x .most);
   goes = λ st ps o n.
-      let g = x st ps o n in
+      let g = x .goes st ps o n in
       let st₁ = onTable ((machine.expired now st) .table) st in
-      let count = n ∙ sym (same-long ps (g .places) (g .family-same)) in
-      let q = y .goes (st .places) (g .places) count (g .apart .slots) (g .apart .short) in
+      let l : e ≤ length (g .places) = omega (arith, x .most, g .count) in
+      let q = y .goes (st .places) (g .places) l (g .few) (g .apart .slots) (g .apart .short) in
       let a = fresh-scan {p = p} now (bareState st₁) v fr (sound-bare (g .apart .sound)) (g .apart .writes) in
-      let ks = ap (λ (hss : List (List ℕ)). noted hss low high) (g .family-same) ∙ g .keys in
       record {
-        before = b₁;
-        places = g .places;
-        apart = g .apart;
-        count = count;
-        rest = y .rest;
-        stands = subst (λ (k : List Key). Scanning now (bareState st₁) (machine.phase now (bare (st₁ .table)) k machine.start) (take m b₂) p₂ w) ks (q .goes (bareState st₁) machine.start a);
+        before = take m b₁ ++ drop m b₃;
+        places = plain (g .places);
+        apart = forgotten-apart (g .apart) l (g .few) (y .rest) z nb nf;
+        count = g .count ∙ sym (plain-long (g .places));
+        rest = sym (forgotten-behind b₁ b₃ m (omega (arith, g .apart .long)));
+        stands = subst (λ (k : List Key). Scanning now (bareState st₁) (machine.phase now (bare (st₁ .table)) k machine.start) (take m b₃) p₂ w) (g .keys)
+            (subst (λ (u : List ℕ). Scanning now (bareState st₁) (machine.phase now (bare (st₁ .table)) (noted (g .places)) machine.start) u p₂ w) (sym (z .front))
+            (q .goes (bareState st₁) machine.start a));
       };
 }
 
-pub set-parted : {b₀ b₁ f₁ : List ℕ} {m c : ℕ} → Kept b₀ → SetApart b₀ b₁ f₁ m → c ≡ heldPlacesIn b₀ → Parted b₁ f₁ m c
+pub set-parted : {b₀ b₁ f₁ : List ℕ} {m c : ℕ} → Kept b₀ → SetApart b₀ b₁ f₁ m → c ≡ heldPlacesIn b₀ → Rested b₁ f₁ m c
 set-parted k s e = record { state = k .state; places = placesOf (k .state .table); apart = s (k .state) (k .sound) (k .writes); count = e ∙ (sizes (k .writes)) .held-places }
 
 -- ---- the whole
@@ -148,7 +139,7 @@ module _ {b₀ b₁ b₂ f₁ f₂ p₂ : List ℕ} {m c now : ℕ} (asked : Opt
       answer : Asks now asked (bareState st₁) first x u u′ r
       answer = ask (bareState st₁) first scanning
 
-      pub apart-after : Apart b₃ f₂ m (withReadyCursor cursor st₁) (start .places)
+      pub apart-after : Apart b₃ f₂ m (withReadyCursor cursor st₁) (resting (start .places))
       apart-after =
           let g = start .apart in
           let a = set st s o in
@@ -165,7 +156,7 @@ module _ {b₀ b₁ b₂ f₁ f₂ p₂ : List ℕ} {m c now : ℕ} (asked : Opt
             short = g .short;
           }
 
-      pub parted-after : Parted b₃ f₂ m c
+      pub parted-after : Rested b₃ f₂ m c
       parted-after = record { state = withReadyCursor cursor st₁; places = start .places; apart = apart-after; count = start .count }
 
       pub plan-is : {b₄ : List ℕ} → PutBack b₃ b₄ f₂ m c → Selects now asked st b₄ u u′ r

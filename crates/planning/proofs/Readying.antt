@@ -6,9 +6,8 @@ use mathlib.Core.List.{List, [], _∷_, _++_, map}
 use native.Mathlib.Numerals.{add-one}
 use native.Mathlib.Omega.{arith}
 use lib.Dec.{ltb, eqb}
-use lib.ListN.{length, take, drop}
+use lib.ListN.{length, take, drop, length-map}
 use Rattle.ident.specs.Number.{top, Key, place, other}
-use Rattle.places.specs.Places.{Place}
 use Rattle.machine.specs.Limits.{Limits, word}
 use Rattle.machine.specs.State.{Candidate, Request, Table, State, limitsOf, onTable, readyAt}
 use Rattle.machine.specs.Table.{keep, change}
@@ -24,8 +23,7 @@ use Rattle.store.specs.Shown.{Kept}
 use Rattle.requests.specs.Changes.{Makes, Tells}
 use Rattle.handing.specs.Hands.{readied}
 use Rattle.handing.proofs.GivingBack.{shrinks-ready}
-use Rattle.apart.specs.Apart.{Apart}
-use Rattle.apart.specs.Lapsing.{family, noted}
+use Rattle.apart.specs.Apart.{atRest, resting, Apart}
 use Rattle.apart.specs.Silent.{readiedBoth, readyEach, droppedAll, silenced, Placeless}
 use Rattle.apart.proofs.Dropping.{Keyed, due-keyed}
 use Rattle.apart.proofs.OneOwner.{noted-none}
@@ -141,21 +139,18 @@ made-silent {now = now} x m st s g p =
     m (onTable (readyEach now (due now t) t) st) (x .sound st s) (x .table st s g tt) (placeless-each now (due now t) t (due-keyed now 0 t (s .bounded .ordered)) (s .bounded .ordered) p)
 
 -- no places: nothing is noted
-pub all-silent : {b b′ f v : List ℕ} {m c now : ℕ} {low high : List ℕ} → now < word → c ≡ 0 → length v ≡ length (take (m - 0) (drop 0 b)) → Makes (take (m - 0) (drop 0 b)) v Placeless (silenced now)
-    → length b′ ≡ length b → b′ ≡ take 0 b ++ (v ++ drop (m - 0) (drop 0 b)) → ExpiresAll b b′ f f m c low high now
-all-silent {low = low} {high} w z nv makes nb e st ps o n = record {
-  places = ps;
-  apart = silent-apart o few w nv makes nb e;
-  family-same = refl;
-  keys = nothing (family ps) (family-none ps few) ∙ sym (ap (λ (x : Listed). x .keys) (silent-is o few w));
+pub all-silent : {b b′ f v : List ℕ} {m c now : ℕ} → now < word → c ≡ 0 → length v ≡ length (take (m - 0) (drop 0 b)) → Makes (take (m - 0) (drop 0 b)) v Placeless (silenced now)
+    → length b′ ≡ length b → b′ ≡ take 0 b ++ (v ++ drop (m - 0) (drop 0 b)) → ExpiresAll b b′ f f m c now 0
+all-silent w z nv makes nb e = record {
+  most = omega arith;
+  goes = λ st ps o n.
+      let long : length (resting ps) ≡ length ps = length-map ps atRest in
+      let none : length (resting ps) ≡ 0 = omega arith in
+      record {
+        places = resting ps;
+        apart = silent-apart o none w nv makes nb e;
+        count = n ∙ sym long;
+        few = λ j d g h. absurd (omega arith);
+        keys = noted-none (resting ps) (λ j d g h. absurd (omega arith)) ∙ sym (ap (λ (x : Listed). x .keys) (silent-is o none w));
+      };
 }
-  where
-    few : length ps ≡ 0
-    few = sym n ∙ z
-
-    family-none : (l : List Place) → length l ≡ 0 → length (family l) ≡ 0
-    family-none [] h = refl
-    family-none (p ∷ l) h = absurd (omega arith)
-
-    nothing : (hss : List (List ℕ)) → length hss ≡ 0 → noted hss low high ≡ []
-    nothing hss h = noted-none hss low high (λ j l. absurd (omega arith))

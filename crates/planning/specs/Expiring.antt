@@ -21,8 +21,8 @@ use Rattle.store.specs.Image.{Shows, Writes}
 use Rattle.store.specs.Shown.{rowsIn}
 use Rattle.requests.specs.Changes.{Makes, Tells}
 use Rattle.places.specs.Places.{Place}
-use Rattle.apart.specs.Apart.{Apart}
-use Rattle.apart.specs.Lapsing.{family, noted, Clear}
+use Rattle.apart.specs.Apart.{Slot, resting, ClearFrom, Apart}
+use Rattle.apart.specs.Lapsing.{noted}
 use Rattle.apart.specs.Silent.{readyEach, isDue}
 use Rattle.planning.specs.declared.expiring.Turn.{Turn}
 
@@ -75,18 +75,14 @@ pub record MadeReady (b b′ : List ℕ) (now : ℕ) : Type 0 where
 
 -- ---- all that are due, where the places are set apart
 
--- nothing is noted yet
-pub record Clean (low high : List ℕ) (c : ℕ) : Type 0 where
-  pub low-long : c ≤ length low
-  pub high-long : c ≤ length high
-  pub clear : (j : ℕ) → j < c → Clear low high j
-
--- every owner that is due has expired; the parents kept are noted
-pub record ExpiredAll (b′ f′ : List ℕ) (m : ℕ) (st : State) (ps : List Place) (low′ high′ : List ℕ) (now : ℕ) : Type 0 where
-  pub places : List Place
+-- every owner that is due has expired; the parents kept are noted, of the first e of c places at most
+pub record ExpiredAll (b′ f′ : List ℕ) (m c : ℕ) (st : State) (now e : ℕ) : Type 0 where
+  pub places : List Slot
   pub apart : Apart b′ f′ m (onTable ((expired now st) .table) st) places
-  pub family-same : family places ≡ family ps
-  pub keys : noted (family ps) low′ high′ ≡ (expired now st) .keys
+  pub count : c ≡ length places
+  pub few : ClearFrom e places
+  pub keys : noted places ≡ (expired now st) .keys
 
-abbrev pub ExpiresAll : List ℕ → List ℕ → List ℕ → List ℕ → ℕ → ℕ → List ℕ → List ℕ → ℕ → Type 0
-ExpiresAll b b′ f f′ m c low′ high′ now = (st : State) (ps : List Place) → Apart b f m st ps → c ≡ length ps → ExpiredAll b′ f′ m st ps low′ high′ now
+pub record ExpiresAll (b b′ f f′ : List ℕ) (m c now e : ℕ) : Type 0 where
+  pub most : e ≤ c
+  pub goes : (st : State) (ps : List Place) → Apart b f m st (resting ps) → c ≡ length ps → ExpiredAll b′ f′ m c st now e

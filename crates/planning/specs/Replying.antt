@@ -3,7 +3,7 @@ use Prim.Native.Nat.{ℕ, _*_, _≤_, _<_}
 use mathlib.Core.Path.{_≡_}
 use mathlib.Core.List.{List, []}
 use mathlib.Core.Option.{Option, none}
-use lib.ListN.{length, take, drop, getD}
+use lib.ListN.{length, take, drop}
 use Rattle.ident.specs.Number.{Key}
 use Rattle.places.specs.Places.{Place, listMost}
 use Rattle.machine.specs.Limits.{maxPlaces}
@@ -15,7 +15,7 @@ use Rattle.machine.specs.Typed.{Each, KeyTyped}
 use Rattle.machine.specs.Step.{entriesAnswer, written}
 use Rattle.store.specs.Image.{Writes}
 use Rattle.apart.specs.Bare.{bare, bareState}
-use Rattle.apart.specs.Apart.{Apart}
+use Rattle.apart.specs.Apart.{resting, Apart}
 use Rattle.cursors.specs.InWords.{Stands}
 use Rattle.selecting.specs.declared.Scan.{Scan}
 use Rattle.planning.specs.declared.replying.Reply.{Reply}
@@ -80,7 +80,7 @@ mostKept = listMost * maxPlaces
 pub record BegunTo (b′ f′ : List ℕ) (m c : ℕ) (st : State) (p′ : List ℕ) (now : ℕ) (w : Scan) : Type 0 where
   pub before : List ℕ
   pub places : List Place
-  pub apart : Apart before f′ m (onTable ((machine.expired now st) .table) st) places
+  pub apart : Apart before f′ m (onTable ((machine.expired now st) .table) st) (resting places)
   pub count : c ≡ length places
   pub rest : drop m b′ ≡ drop m before
   pub stands : Scanning now (bareState (onTable ((machine.expired now st) .table) st)) (machine.phase now (bare ((machine.expired now st) .table)) ((machine.expired now st) .keys)
@@ -88,12 +88,7 @@ pub record BegunTo (b′ f′ : List ℕ) (m c : ℕ) (st : State) (p′ : List 
 
 pub record Begins (b b′ f f′ : List ℕ) (m c : ℕ) (p′ : List ℕ) (now : ℕ) (w : Scan) : Type 0 where
   pub near : w .considered ≤ mostKept
-  pub goes : (st : State) (ps : List Place) → Apart b f m st ps → c ≡ length ps → BegunTo b′ f′ m c st p′ now w
-
--- room for notes, all of them zero
-pub record Blank (r : List ℕ) : Type 0 where
-  pub long : length r ≡ maxPlaces
-  pub zero : (j : ℕ) → j < maxPlaces → getD r j 0 ≡ 0
+  pub goes : (st : State) (ps : List Place) → Apart b f m st (resting ps) → c ≡ length ps → BegunTo b′ f′ m c st p′ now w
 
 -- ---- a plan, of every sound state that b write
 

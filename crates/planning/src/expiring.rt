@@ -6,9 +6,9 @@ ghost use Rattle.ident.specs.Words.{keyNum};
 ghost use Rattle.machine.specs.Table.{one};
 ghost use Rattle.store.specs.Shown.{rowsIn, Kept};
 ghost use Rattle.requests.specs.Changes.{Makes};
-ghost use Rattle.apart.specs.Apart.{Parted};
+ghost use Rattle.apart.specs.Apart.{Rested};
 ghost use Rattle.apart.specs.Silent.{Placeless, silenced};
-ghost use Rattle.planning.specs.Expiring.{SeekDue, NextDue, MadeReady, Clean, ExpiresAll};
+ghost use Rattle.planning.specs.Expiring.{SeekDue, NextDue, MadeReady, ExpiresAll};
 
 // One turn of expiring: whether an owner is due, its key and its connection.
 pub struct Turn {
@@ -99,51 +99,38 @@ fn expire_silent(s: &mut [u8], clock: u64)
 }
 
 // Every owner whose time is over fails, in key order, and its parents are announced for it, one owner after the other. Where nobody can be
-// evicted any more (spent) no later parent looks for a victim.
-fn expire_each(
-    s: &mut [u8],
-    m: usize,
-    first: &mut [u8],
-    c: usize,
-    low: &mut [u64],
-    high: &mut [u64],
-    clock: u64,
-)
-    requires { ⌜ Parted (now s) (now first) m c × Clean (now low) (now high) c ⌝ }
-    ensures { λ _. ⌜ ExpiresAll (now (s .entry)) (now (s .exit)) (now (first .entry)) (now (first .exit)) m c (now (low .exit)) (now (high .exit)) clock ⌝ }
+// evicted any more no later parent looks for a victim. Answers how many places at most have notes.
+fn expire_each(s: &mut [u8], m: usize, first: &mut [u8], c: usize, clock: u64) -> usize
+    requires { ⌜ Rested (now s) (now first) m c ⌝ }
+    ensures { λ e. ⌜ ExpiresAll (now (s .entry)) (now (s .exit)) (now (first .entry)) (now (first .exit)) m c clock e ⌝ }
 {
     let mut k = first_key();
     let mut after = false;
-    let mut spent = false;
+    let mut q = apart::lapsing::Progress {
+        noted: 0,
+        spent: false,
+    };
     loop {
         let w = next_due(&s[0..m], clock, k, after);
         if !w.more {
-            return;
+            return q.noted;
         }
         let j = w.key;
-        spent = apart::lapsing::expire_one(s, m, first, c, low, high, j, w.conn, clock, spent);
+        q = apart::lapsing::expire_one(s, m, first, c, j, w.conn, clock, q);
         k = j;
         after = true;
     }
 }
 
 // Every owner whose time is over fails, in key order, and its parents are announced for it. The c places of the store are set apart; the
-// parents kept are noted in low and high at the number of their place.
-pub fn expire(
-    s: &mut [u8],
-    m: usize,
-    first: &mut [u8],
-    c: usize,
-    low: &mut [u64],
-    high: &mut [u64],
-    clock: u64,
-)
-    requires { ⌜ Parted (now s) (now first) m c × Clean (now low) (now high) c ⌝ }
-    ensures { λ _. ⌜ ExpiresAll (now (s .entry)) (now (s .exit)) (now (first .entry)) (now (first .exit)) m c (now (low .exit)) (now (high .exit)) clock ⌝ }
+// parents kept are noted at their place. Answers how many places at most have notes.
+pub fn expire(s: &mut [u8], m: usize, first: &mut [u8], c: usize, clock: u64) -> usize
+    requires { ⌜ Rested (now s) (now first) m c ⌝ }
+    ensures { λ e. ⌜ ExpiresAll (now (s .entry)) (now (s .exit)) (now (first .entry)) (now (first .exit)) m c clock e ⌝ }
 {
     if c == 0 {
         expire_silent(&mut s[0..m], clock);
-    } else {
-        expire_each(s, m, first, c, low, high, clock);
+        return 0;
     }
+    expire_each(s, m, first, c, clock)
 }

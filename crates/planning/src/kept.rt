@@ -74,15 +74,16 @@ fn consider_noted(
     m: usize,
     first: &[u8],
     i: usize,
-    low: u64,
-    high: u64,
     clock: u64,
     picks: &mut [usize],
     v: selecting::Scan,
 ) -> selecting::Scan
     requires { ⌜ Room (now s) (now first) m (i + 1) × Kept (take m (now s)) × (clock ≤ latestClock) × (maxRequestChecks < length (now picks)) × Roomy v × (v .considered + listMost ≤ half) ⌝ }
-    ensures { λ w. ⌜ PlaceScans (now (s .entry)) (now (s .exit)) (now (first .entry)) m i low high (now (picks .entry)) (now (picks .exit)) clock v w ⌝ }
+    ensures { λ w. ⌜ PlaceScans (now (s .entry)) (now (s .exit)) (now (first .entry)) m i (now (picks .entry)) (now (picks .exit)) clock v w ⌝ }
 {
+    let x = apart::slots::note_at(s, m, first, i);
+    let low = x.low;
+    let high = x.high;
     if (low == 0) & (high == 0) {
         return v;
     }
@@ -92,29 +93,26 @@ fn consider_noted(
     consider_place(&mut s[0..m], clock, &slot, c, low, high, picks, v)
 }
 
-// Considers the parents that are noted of the c places.
+// Considers the parents that are noted of the first e places.
 fn keys_kept(
     s: &mut [u8],
     m: usize,
     first: &[u8],
-    c: usize,
-    low: &[u64],
-    high: &[u64],
+    e: usize,
     clock: u64,
     picks: &mut [usize],
     v: selecting::Scan,
 ) -> selecting::Scan
-    requires { ⌜ Room (now s) (now first) m c × Kept (take m (now s)) × (clock ≤ latestClock) × (maxRequestChecks < length (now picks)) × Roomy v × (v .considered + listMost * c ≤ half)
-        × ((c ≤ length (now low)) × (c ≤ length (now high))) ⌝ }
-    ensures { λ w. ⌜ KeptScans (now (s .entry)) (now (s .exit)) (now (first .entry)) m c c (now (low .entry)) (now (high .entry)) (now (picks .entry)) (now (picks .exit)) clock v w ⌝ }
+    requires { ⌜ Room (now s) (now first) m e × Kept (take m (now s)) × (clock ≤ latestClock) × (maxRequestChecks < length (now picks)) × Roomy v × (v .considered + listMost * e ≤ half) ⌝ }
+    ensures { λ w. ⌜ KeptScans (now (s .entry)) (now (s .exit)) (now (first .entry)) m e e (now (picks .entry)) (now (picks .exit)) clock v w ⌝ }
 {
     let mut w = v;
     let mut i = 0;
-    while i < c {
+    while i < e {
         if w.full {
             return w;
         }
-        w = consider_noted(s, m, first, i, low[i], high[i], clock, picks, w);
+        w = consider_noted(s, m, first, i, clock, picks, w);
         i += 1;
     }
     w
@@ -125,17 +123,15 @@ pub fn phase_kept(
     s: &mut [u8],
     m: usize,
     first: &[u8],
-    c: usize,
-    low: &[u64],
-    high: &[u64],
+    e: usize,
     clock: u64,
     picks: &mut [usize],
     v: selecting::Scan,
 ) -> selecting::Scan
-    requires { ⌜ Room (now s) (now first) m c × Kept (take m (now s)) × (clock ≤ latestClock) × (maxRequestChecks < length (now picks)) × (v .chosen ≤ maxRequestChecks)
-        × (v .considered + listMost * c ≤ half) × ((c ≤ length (now low)) × (c ≤ length (now high))) ⌝ }
-    ensures { λ w. ⌜ KeptPhased (now (s .entry)) (now (s .exit)) (now (first .entry)) m c (now (low .entry)) (now (high .entry)) (now (picks .entry)) (now (picks .exit)) clock v w ⌝ }
+    requires { ⌜ Room (now s) (now first) m e × Kept (take m (now s)) × (clock ≤ latestClock) × (maxRequestChecks < length (now picks)) × (v .chosen ≤ maxRequestChecks)
+        × (v .considered + listMost * e ≤ half) ⌝ }
+    ensures { λ w. ⌜ KeptPhased (now (s .entry)) (now (s .exit)) (now (first .entry)) m e (now (picks .entry)) (now (picks .exit)) clock v w ⌝ }
 {
     let w = selecting::phase::opened(v);
-    keys_kept(s, m, first, c, low, high, clock, picks, w)
+    keys_kept(s, m, first, e, clock, picks, w)
 }

@@ -9,22 +9,15 @@ ghost use lib.ListN.{length};
 ghost use Rattle.machine.specs.Call.{entryBytes};
 ghost use Rattle.machine.specs.Limits.{latestClock, maxRequestChecks};
 ghost use Rattle.store.specs.Shown.{limitIn, Kept};
-ghost use Rattle.apart.specs.Apart.{Parted};
+ghost use Rattle.apart.specs.Apart.{Rested};
 ghost use Rattle.selecting.specs.Phasing.{givenKeys};
-ghost use Rattle.planning.specs.Replying.{Begins, Blank, SelectsOf, PlansOf};
+ghost use Rattle.planning.specs.Replying.{Begins, SelectsOf, PlansOf};
 
 // How many entries a plan has, how many keys it considered, and when to look again; 0 for no time (document 02, request c).
 pub struct Planned {
     pub count: usize,
     pub considered: u64,
     pub next: u64,
-}
-
-// Room for half of the notes of every place.
-fn note_room() -> [u64; 4_096]
-    ensures { λ r. ⌜ Blank r ⌝ }
-{
-    [0u64; 4_096]
 }
 
 // Every owner that is due expires, and the parents kept are considered. The c places of the store are set apart.
@@ -36,14 +29,14 @@ fn begin(
     clock: u64,
     picks: &mut [usize],
 ) -> selecting::Scan
-    requires { ⌜ Parted (now s) (now first) m c × (clock ≤ latestClock) × (maxRequestChecks < length (now picks)) ⌝ }
+    requires { ⌜ Rested (now s) (now first) m c × (clock ≤ latestClock) × (maxRequestChecks < length (now picks)) ⌝ }
     ensures { λ w. ⌜ Begins (now (s .entry)) (now (s .exit)) (now (first .entry)) (now (first .exit)) m c (now (picks .exit)) clock w ⌝ }
 {
-    let mut low = note_room();
-    let mut high = note_room();
-    expiring::expire(s, m, first, c, &mut low, &mut high, clock);
+    let e = expiring::expire(s, m, first, c, clock);
     let v = replying::fresh();
-    kept::phase_kept(s, m, first, c, &low, &high, clock, picks, v)
+    let w = kept::phase_kept(s, m, first, e, clock, picks, v);
+    apart::slots::forget(s, m, first, e);
+    w
 }
 
 // Expiry and both phases, over all keys after the ready cursor and round to it; the ready cursor becomes the last key considered.

@@ -337,7 +337,8 @@ fn announce_part(s: &mut [u8], a: Terms, items: &[u8], priorities: &[u8], first:
 }
 
 // Announces the items: a part that comes in together costs one pass over the rows. Whether the connection is overloaded is read before
-// the first.
+// the first. The first part stands before the loop: what is called from two places has a frame of its own, and its arrays do not lie beside
+// those of the test of the bytes.
 pub fn announce_transactions(
     s: &mut [u8],
     n: u64,
@@ -359,7 +360,10 @@ pub fn announce_transactions(
         source,
         late,
     };
-    let mut i = 0;
+    if count == 0 {
+        return;
+    }
+    let mut i = announce_part(s, a, items, priorities, 0);
     while i < count {
         i = announce_part(s, a, items, priorities, i);
     }

@@ -6,12 +6,14 @@ use Rattle.apart.proofs.put_back.Statement.{statement}
 use Rattle.apart.proofs.put_back.Tie as tie
 
 drop-dead-requires : tie.Need-drop-dead-requires
-drop-dead-requires c κs = let p = c .before .before .before .before .before .before .before .before .before .before .before .before .before .before .before .pre in places-shown (p .apart)
-    refl (p .count) (put-in (p .apart) refl (p .count) (c .before .before .before .before .before .before .before .before .before .before .before .copy-slot .ensures) refl (search needs) (c
+drop-dead-requires c κs = let p = c .before .before .before .before .before .before .before .before .before .before .before .before .before .before .before .pre in places-shown (p .places) (p
+    .apart)
+    refl (p .count) (put-in (p .places) (p .apart) refl (p .count) (c .before .before .before .before .before .before .before .before .before .before .before .copy-slot .ensures) refl (search
+    needs) (c
     .before .before .before .before .before .before .before .put .ensures .word) (c .before .before .before .put2 .ensures .word))
 
 returns : tie.Need-returns
-returns c = λ st ps o n. put-done o refl n (put-in o refl n (c .before .before .before .before .before .before .before .before .before .before .before .before .before .before .copy-slot
+returns c = λ st ps o n. put-done ps o refl n (put-in ps o refl n (c .before .before .before .before .before .before .before .before .before .before .before .before .before .before .copy-slot
     .ensures) refl (search needs) (c .before .before .before .before .before .before .before .before .before .before .put .ensures .word) (c .before .before .before .before .before .before
     .put2 .ensures .word)) (c .before .before .drop-dead .ensures)
 

@@ -8,7 +8,7 @@ use Rattle.gathering.proofs.region.clear.Statement.{statement}
 use Rattle.gathering.proofs.region.clear.Tie as tie
 
 returns : tie.Need-returns
-returns c = no-rows 1152 (words (c .before .before .before .before .before .args .new .now)) (c .before .before .clear .ensures)
+returns c = no-rows 4608 (words (c .before .before .before .before .before .args .new .now)) (c .before .before .clear .ensures)
     (omega (arith, length-words (c .before .before .before .before .before .args .new .now), c .before .before .before .before .before .pre))
 
 pub clear-spec : {M : Type 1} → statement M
