@@ -19,7 +19,7 @@ use Rattle.machine.specs.Limits.{Limits}
 use Rattle.machine.specs.State.{Table}
 use Rattle.machine.specs.Table.{one}
 use Rattle.machine.specs.Fail.{parentsFrom}
-use Rattle.store.proofs.Quads.{number-quad}
+use Rattle.regions.proofs.Order.{number-quad}
 use Rattle.announcing.specs.Answers.{oneParent}
 use Rattle.apart.specs.Apart.{Slot, SlotOf}
 use Rattle.apart.specs.Noting.{parentIn, hashesAt, picked, pickedIn, keptBits, halfMost, Halved}

@@ -25,7 +25,7 @@ use Rattle.store.specs.FlatSound.{PlacesAscend, StageFits, PlaceFits}
 use Rattle.machine.specs.Typed.{Each}
 use Rattle.store.specs.Image.{headSize, headWords, wordsOf, Shows, Writes}
 use Rattle.store.specs.Shown.{limitIn, Kept, placesAt, heldPlacesAt, Shown, withPlaces, Turns}
-use Rattle.store.proofs.Frame.{rowPart, connPart, placePart, framed, framed-is, sizes, shown}
+use Rattle.store.proofs.Frame.{rowPart, connPart, placePart, framed, framed-is, sizes, shown, padded-nil as padded-none, cleared}
 use Rattle.store.proofs.HeadWords.{head-length}
 use Rattle.store.proofs.ToFlat.{flat-sound}
 use Rattle.requests.proofs.Keeping.{sized-of, light-of}
@@ -36,9 +36,6 @@ use Rattle.apart.proofs.BareTable.{rows-bare, places-bare}
 use Rattle.apart.proofs.SlotWords.{rest-each, plain-rest}
 
 -- ---- a region cut behind its first record
-
-padded-none : (n : ℕ) → padded n [] ≡ replicate n 0
-padded-none n = padded-fit n [] (omega arith) ∙ (let e : n - 0 ≡ n = omega arith in rw e)
 
 zeros-take : (a b : ℕ) → take a (replicate {A = ℕ} (a + b) 0) ≡ replicate a 0
 zeros-take a b = rw (← (replicate-append-replicate {A = ℕ} a b 0)) (take-at (replicate a 0) (replicate b 0) a (length-replicate {A = ℕ} a 0))
@@ -148,13 +145,6 @@ module _ (b : List ℕ) (e : ℕ) {m : ℕ} (em : m ≡ e * 8) (l : m ≤ length
 
   pub rest-words : words (drop m b) ≡ drop e (words b)
   rest-words = let q : m ≡ 8 * e = omega arith in ap (λ (n : ℕ). words (drop n b)) q ∙ words-drop b e (omega arith)
-
-cleared : (w : List ℕ) (d : ℕ) → length w ≡ d → splice w 0 (replicate d 0) ≡ replicate d 0
-unfolding splice
-cleared w d n =
-    let m : length (replicate {A = ℕ} d 0) ≡ d = length-replicate d 0 in
-    let z : drop (0 + length (replicate {A = ℕ} d 0)) w ≡ [] = drop-of-length-le w {i = 0 + length (replicate {A = ℕ} d 0)} (omega arith) in
-    rw z (append-nil (replicate d 0))
 
 -- the need for one place, and for more
 need-one : (L : ℕ) → need L 1 ≡ bareBytes L

@@ -19,7 +19,7 @@ use Rattle.places.specs.Places.{Place, listMost, placeSize, parentsAt, stageAt,
 use Rattle.places.specs.Places.{parentCountAt, keptSize, hashWords, listWords, placeWords, placeKey, headOf, readHead, HeadAt}
 use Rattle.places.proofs.Places.{length-place, length-list, head-words, around-parents, length-front, head-back, parent-at}
 use Rattle.places.proofs.Segments.{quad-in, splice-back, splice-again}
-use Rattle.store.proofs.Quads.{number-quad}
+use Rattle.regions.proofs.Order.{number-quad}
 use Rattle.package_stages.specs.Records.{placeHashes}
 use Rattle.apart.specs.declared.slots.Note.{Note}
 use Rattle.apart.specs.Apart.{keptAt, Slot, slotWords, withNotes, dying, noteOf, atRest, resting, plain}

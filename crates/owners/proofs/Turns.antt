@@ -21,11 +21,10 @@ use Rattle.machine.specs.Sound.{Sound}
 use Rattle.machine.specs.Owners.{Holding, orHolding, holdingAt, holdings, ascending, greatestHash, keysUpTo, passed}
 use Rattle.machine.specs.Call.{ownerBytes}
 use Rattle.machine.specs.Step.{holdingAnswer, holdingsAnswer, written}
-use Rattle.machine.proofs.Tests.{and-left, and-right}
+use Rattle.machine.proofs.Tests.{and-left, and-right, order}
 use Rattle.machine.proofs.Owners.{length-holdingAnswer, length-holdingsAnswer}
 use Rattle.store.specs.Flat.{flatOf, rowsOf}
 use Rattle.store.specs.Image.{Writes}
-use Rattle.store.proofs.Tally.{order}
 use Rattle.store.specs.Shown.{rowsIn}
 use Rattle.lent_lists.proofs.Answer.{over-front}
 use Rattle.announcing.specs.Evicts.{part}

@@ -16,6 +16,7 @@ use Rattle.machine.specs.Sound.{CursorFits, Sound}
 use Rattle.machine.specs.Step.{entriesAnswer, written}
 use Rattle.machine.specs.Sweep.{round}
 use Rattle.machine.proofs.Plan.{bounded-expired, expired-keys, plan-cursor}
+use Rattle.machine.proofs.AnswerLengths.{length-sortByPriority as sort-count}
 use Rattle.store.specs.Flat.{placesOf}
 use Rattle.store.specs.Image.{Writes}
 use Rattle.store.specs.Shown.{limitIn, heldPlacesIn, Kept}
@@ -36,7 +37,6 @@ use Rattle.selecting.specs.Selecting.{Scanning}
 use Rattle.planning.specs.Expiring.{ExpiresAll}
 use Rattle.planning.specs.Keeping.{KeptPhased}
 use Rattle.planning.specs.Replying.{Fresh, Selects, Plans, asks, Asks, AsksOf, Begun, mostKept, BegunTo, Begins, SelectsOf, PlansOf}
-use Rattle.selecting.proofs.InOrder.{sort-count}
 use Rattle.planning.proofs.Whole.{fresh-scan}
 
 -- ---- expiry and the first phase
