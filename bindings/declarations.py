@@ -22,10 +22,10 @@ HANDED = {
     ("taken",): ("usize", "taken as usize"),
     ("written",): ("usize", "written as usize"),
     ("first", "count"): ("Range<usize>", "first as usize..(first + count) as usize"),
-    ("considered", "count"): ("Plan", "Plan { considered, count: count as usize }"),
+    ("considered", "count", "next"): ("Plan", "Plan { considered, count: count as usize, next: (next != 0).then_some(next) }"),
     ("own", "parents"): ("Left", "Left { own: own as usize, parents: parents as usize }"),
     ("owner",): ("Option<u64>", "(owner != 0).then_some(owner)"),
-    ("held", "room", "permille"): ("Figures", "Figures { held, free: room, permille }"),
+    ("held", "room", "preferred_room", "permille"): ("Figures", "Figures { held, free: room, preferred_free: preferred_room, permille }"),
     ("announced", "owned"): ("Counts", "Counts { announced, owned }"),
 }
 # Slices that are lists of hashes.

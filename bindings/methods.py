@@ -64,7 +64,7 @@ HANDED = {
     ("reply",): ("bool", "reply == 1"),
     ("count",): ("u64", "count"),
     ("owner",): ("Option<Connection>", "Connection::new(owner)"),
-    ("held", "room", "permille"): ("Figures", "Figures { held, free: room, permille }"),
+    ("held", "room", "preferred_room", "permille"): ("Figures", "Figures { held, free: room, preferred_free: preferred_room, permille }"),
     ("announced", "owned"): ("Counts", "Counts { announced, owned }"),
 }
 ANSWERED = {
@@ -109,7 +109,7 @@ SAID = {
     "request_parent": "announce, of a parent that is missing: a connection that is a candidate at the hash already turns preferred, with the smaller ready time and the"
     " smaller priority.",
     "plan": "Which candidate is to be asked for what, by priority: at most 1,025 entries. Owners whose deadline has come fail first.",
-    "sum": "How many announcements are held, how many more fit, and how full the tracker is in thousandths.",
+    "sum": "How many announcements are held, how many more fit of unpreferred newcomers and of preferred ones, and how full the tracker is in thousandths.",
     "save": "The listing of the tracker's state: text, a line feed after each line.",
     "counts": "How many announcements the connection has, and how many requests it owns, deadlines over or not.",
 }
@@ -227,9 +227,8 @@ def handed(name, function):
         found = HANDED.get(numbers)
     elif name in ("claim", "arrange") and len(numbers) == 1:
         found = "Entries<'_>", ENTRIES.format(numbers[0])
-    elif name.startswith("plan") and len(numbers) == 2 and "considered" in numbers:
-        other = next(number for number in numbers if number != "considered")
-        found = "Planned<'_>", "Planned { considered, entries: " + ENTRIES.format(other) + " }"
+    elif name.startswith("plan") and numbers == ("considered", "count", "next"):
+        found = "Planned<'_>", "Planned { considered, entries: " + ENTRIES.format("count") + ", next: (next != 0).then_some(next) }"
     else:
         found = ANSWERED.get(numbers)
     if not found:

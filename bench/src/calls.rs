@@ -69,13 +69,14 @@ fn row(scene: &Scene, runs: usize, answer: &mut [u8]) -> String {
     format!("| {l} | {held} | {} | {rust} | {checked} | {owned} |", scene.name)
 }
 
-pub fn table(runs: usize) {
+/// The rows whose names have the text in them.
+pub fn table(runs: usize, rows: &str) {
     let mut answer = vec![0; ANSWER];
     println!("| L | held | call | the Rust, µs | checked call, µs | owned call, µs |");
     println!("|---|---|---|---|---|---|");
     for l in [1_000, 10_000, 100_000] {
-        for scene in all(l) {
-            println!("{}", row(&scene, runs, &mut answer));
+        for scene in all(l).iter().filter(|scene| scene.name.contains(rows)) {
+            println!("{}", row(scene, runs, &mut answer));
         }
     }
 }

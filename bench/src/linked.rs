@@ -40,7 +40,7 @@ impl Prepared {
         let (start, length) = (store.as_mut_ptr(), store.len());
         let (list, list_length) = (self.list.as_ptr(), self.list.len());
         let (room, room_length) = (answer.as_mut_ptr(), answer.len());
-        let (mut a, mut b, mut c) = (0, 0, 0);
+        let (mut a, mut b, mut c, mut d) = (0, 0, 0, 0);
         let checked = side == Side::Checked;
         // SAFETY: store, answer and numbers are lent to this call alone, the lists are only read; what an owned call is given
         // is what an earlier call left or a sound state's image.
@@ -48,7 +48,7 @@ impl Prepared {
             match &self.call {
                 Call::Sum => {
                     let call = if checked { abi::tracker_sum } else { owned::tracker_owned_sum };
-                    call(start, length, &mut a, &mut b, &mut c)
+                    call(start, length, &mut a, &mut b, &mut c, &mut d)
                 }
                 Call::Failed { key, connection, now } => {
                     let call = if checked { abi::tracker_failed } else { owned::tracker_owned_failed };
@@ -77,12 +77,12 @@ impl Prepared {
                 }
                 Call::Plan { now, keys: None } => {
                     let call = if checked { abi::tracker_plan } else { owned::tracker_owned_plan };
-                    call(start, length, *now, room, room_length, &mut a, &mut b)
+                    call(start, length, *now, room, room_length, &mut a, &mut b, &mut c)
                 }
                 Call::Plan { now, keys: Some(_) } => {
                     let call =
                         if checked { abi::tracker_plan_given } else { owned::tracker_owned_plan_given };
-                    call(start, length, *now, list, list_length, room, room_length, &mut a, &mut b)
+                    call(start, length, *now, list, list_length, room, room_length, &mut a, &mut b, &mut c)
                 }
                 Call::Sweep => {
                     let call = if checked { abi::tracker_sweep } else { owned::tracker_owned_sweep };

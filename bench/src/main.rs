@@ -1,6 +1,8 @@
 //! Times of the sound test, of announce and of the other calls. Prints the tables of docs/BENCHMARKS.md.
 //!
-//!     bench [--runs N] [--sound] [--calls]     --sound: the table of the sound test alone; --calls: that of the other calls
+//!     bench [--runs N] [--sound] [--calls] [--rows TEXT]
+//!
+//! --sound: the table of the sound test alone; --calls: that of the other calls; --rows: of that those rows whose names have the text in them
 
 #[cfg(feature = "source")]
 mod announcing;
@@ -28,8 +30,8 @@ fn machine() -> String {
 }
 
 fn main() {
-    let mut arguments = env::args().skip_while(|argument| argument != "--runs").skip(1);
-    let runs = arguments.next().map_or(RUNS, |text| text.parse().expect("--runs wants a number"));
+    let after = |option: &str| env::args().skip_while(|argument| argument != option).nth(1);
+    let runs = after("--runs").map_or(RUNS, |text| text.parse().expect("--runs wants a number"));
     println!("{}; medians of {runs} runs\n", machine());
     let asked = |option| env::args().any(|argument| argument == option);
     let (sound, alone) = (asked("--sound"), asked("--calls"));
@@ -46,7 +48,7 @@ fn main() {
             announcing::table(runs);
             println!();
         }
-        calls::table(runs);
+        calls::table(runs, &after("--rows").unwrap_or_default());
     }
     #[cfg(not(feature = "source"))]
     println!("Without the Rust: no table of announce and of the other calls.");

@@ -159,7 +159,7 @@ fn leaving(l: u64, owned: usize, places: usize) -> Scene {
 fn claiming(l: u64) -> Scene {
     let state = state(l, 16, requests(&mut Rng::new(29), l));
     let mut machine = Machine::load(&state).expect("a sound state");
-    let Reply::Planned(_, checked) = machine.call(&Call::Plan { now: NOW, keys: None }) else {
+    let Reply::Planned(_, checked, _) = machine.call(&Call::Plan { now: NOW, keys: None }) else {
         unreachable!("a plan is not refused")
     };
     scene(
@@ -232,11 +232,35 @@ fn planning(l: u64, ready: bool, owners: u64, parents: usize) -> Scene {
     }
     let call = Call::Plan { now: NOW, keys: None };
     let mut machine = Machine::load(&state).expect("a sound state");
-    let Reply::Planned(_, selected) = machine.call(&call) else { unreachable!("a plan is not refused") };
+    let Reply::Planned(_, selected, _) = machine.call(&call) else { unreachable!("a plan is not refused") };
     let what = if ready { "all ready" } else { "none ready" };
     let selected = selected.len();
     let name = format!("plan, {what}, {late} owners late, {parents} parents each: {selected} selected");
     scene(name, state, vec![call])
+}
+
+/// A silent crowd where L is held: an eighth of the requests have an owner that is late, as many of them as there may be places with 100 parents each.
+fn crowd_late(l: u64) -> Scene {
+    let rng = &mut Rng::new(43);
+    let owners = l / 8;
+    let places = owners.min(4_096);
+    let mut state = state(l, places, requests(rng, l));
+    let mut late = 0;
+    for request in state.requests.iter_mut().filter(|request| request.key.kind == Kind::Wtxid) {
+        if late == owners {
+            break;
+        }
+        let connection = 1 + late % CONNECTIONS;
+        request.candidates[0].connection = connection;
+        request.owner = Some(Owner { connection, deadline: NOW });
+        if late < places {
+            request.package_info = true;
+            request.parents = (0..100).map(|_| fresh(rng)).collect();
+        }
+        late += 1;
+    }
+    let name = format!("plan, all ready, {late} owners late, {places} with 100 parents each");
+    scene(name, state, vec![Call::Plan { now: NOW, keys: None }])
 }
 
 pub fn all(l: u64) -> Vec<Scene> {
@@ -252,5 +276,6 @@ pub fn all(l: u64) -> Vec<Scene> {
         [(false, 0, 0), (true, 0, 0), (true, 12, 100), (true, late, 0), (true, late, 100)]
             .map(|(ready, owners, parents)| planning(l, ready, owners, parents)),
     );
+    scenes.push(crowd_late(l));
     scenes
 }

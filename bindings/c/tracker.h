@@ -119,7 +119,7 @@ static inline const char *tracker_status_text(uint64_t status) {
 #define TRACKER_POLL_MS UINT64_C(100)              /* between polls */
 #define TRACKER_LATEST_NOW (UINT64_MAX - TRACKER_LIFETIME_MS)
 #define TRACKER_FORMAT UINT64_C(1)                 /* of the store: its first word */
-#define TRACKER_STACK_BYTES (160 * 1024)
+#define TRACKER_STACK_BYTES (128 * 1024)
 
 /* ---- sizes in bytes. TRACKER_NEED(l, q) is for arrays; l is 1 to TRACKER_MAX_L, q 1 to TRACKER_MAX_Q. */
 #define TRACKER_NEED(l, q) ((size_t)8 * (24 + (size_t)12 * (l) + (size_t)824 * (q)))
@@ -269,8 +269,10 @@ uint64_t tracker_open(uint8_t *store, size_t length, uint64_t l, uint64_t q) TRA
 /* Whether the bytes, as far as their need, write a sound state: what a call tests first. */
 bool tracker_sound(const uint8_t *store, size_t length) TRACKER_MUST_USE;
 
-/* How many announcements are held, how many more fit, and how full the tracker is in thousandths. Refused, it hands nothing out. */
-uint64_t tracker_sum(const uint8_t *store, size_t length, uint64_t *held, uint64_t *room, uint64_t *permille) TRACKER_MUST_USE;
+/* How many announcements are held, how many more fit of unpreferred newcomers and of preferred ones, and how full the tracker is in
+ * thousandths. Refused, it hands nothing out. */
+uint64_t tracker_sum(const uint8_t *store, size_t length, uint64_t *held, uint64_t *room, uint64_t *preferred_room,
+                     uint64_t *permille) TRACKER_MUST_USE;
 
 /* What a claim has taken, given in 112 bytes an entry, stands in the answer by ascending connection, then claim order: so many as `count`
  * says. A t item of a marked request turns v for a witness connection: those of the list, which has 8 bytes for each, least first. The
@@ -379,13 +381,14 @@ uint64_t tracker_claim(uint8_t *store, size_t length, uint64_t now, const uint8_
                        size_t answer_length, uint64_t *taken) TRACKER_MUST_USE;
 
 /* Plans over all keys after the ready cursor and round to it. What it selects stands in the answer in 112 bytes an entry: so many as
- * `count` says, of as many keys as `considered` says. */
+ * `count` says, of as many keys as `considered` says. `next` is the least time later than the clock at which a key that nobody owns may be
+ * ready or an owner be late, 0 if there is none. */
 uint64_t tracker_plan(uint8_t *store, size_t length, uint64_t now, uint8_t *answer, size_t answer_length, uint64_t *considered,
-                      uint64_t *count) TRACKER_MUST_USE;
+                      uint64_t *count, uint64_t *next) TRACKER_MUST_USE;
 
 /* The same over the keys that are given in 40 bytes each; the ready cursor stays. */
 uint64_t tracker_plan_given(uint8_t *store, size_t length, uint64_t now, const uint8_t *given, size_t given_length, uint8_t *answer,
-                            size_t answer_length, uint64_t *considered, uint64_t *count) TRACKER_MUST_USE;
+                            size_t answer_length, uint64_t *considered, uint64_t *count, uint64_t *next) TRACKER_MUST_USE;
 
 /* The next keys after the known cursor, which becomes the last of them. They stand in the answer: so many as `count` says. */
 uint64_t tracker_sweep(uint8_t *store, size_t length, uint8_t *answer, size_t answer_length, uint64_t *count) TRACKER_MUST_USE;

@@ -18,8 +18,10 @@ extern "C" {
 
 /* begin: written by bindings/generate out of crates/owned/src */
 
-/* How many announcements are held, how many more fit, and how full the tracker is in thousandths. The store is only read. */
-uint64_t tracker_owned_sum(const uint8_t *store, size_t length, uint64_t *held, uint64_t *room, uint64_t *permille) TRACKER_MUST_USE;
+/* How many announcements are held, how many more fit of unpreferred newcomers and of preferred ones, and how full the tracker is in
+ * thousandths. The store is only read. */
+uint64_t tracker_owned_sum(const uint8_t *store, size_t length, uint64_t *held, uint64_t *room, uint64_t *preferred_room,
+                           uint64_t *permille) TRACKER_MUST_USE;
 
 /* What a claim has taken, given in 112 bytes an entry, stands in the answer by ascending connection, then claim order: so many as `count`
  * says. A t item of a marked request turns v for a witness connection: those of the list, which has 8 bytes for each, least first. The
@@ -118,13 +120,14 @@ uint64_t tracker_owned_claim(uint8_t *store, size_t length, uint64_t now, const 
                              size_t answer_length, uint64_t *taken) TRACKER_MUST_USE;
 
 /* Plans over all keys after the ready cursor and round to it. What it selects stands in the answer in 112 bytes an entry: so many as
- * `count` says, of as many keys as `considered` says. */
+ * `count` says, of as many keys as `considered` says. `next` is the least time later than the clock at which a key that nobody owns may be
+ * ready or an owner be late, 0 if there is none. */
 uint64_t tracker_owned_plan(uint8_t *store, size_t length, uint64_t now, uint8_t *answer, size_t answer_length, uint64_t *considered,
-                            uint64_t *count) TRACKER_MUST_USE;
+                            uint64_t *count, uint64_t *next) TRACKER_MUST_USE;
 
 /* The same over the keys that are given in 40 bytes each; the ready cursor stays. */
 uint64_t tracker_owned_plan_given(uint8_t *store, size_t length, uint64_t now, const uint8_t *given, size_t given_length, uint8_t *answer,
-                                  size_t answer_length, uint64_t *considered, uint64_t *count) TRACKER_MUST_USE;
+                                  size_t answer_length, uint64_t *considered, uint64_t *count, uint64_t *next) TRACKER_MUST_USE;
 
 /* The next keys after the known cursor, which becomes the last of them. They stand in the answer: so many as `count` says. */
 uint64_t tracker_owned_sweep(uint8_t *store, size_t length, uint8_t *answer, size_t answer_length, uint64_t *count) TRACKER_MUST_USE;

@@ -219,11 +219,11 @@ pub enum Reply {
     Keys(Vec<Key>),
     /// The connection's own keys, then the parents' keys.
     Gone(Vec<Key>, Vec<Key>),
-    /// The count of keys considered, then the entries.
-    Planned(u64, Vec<Entry>),
+    /// The count of keys considered, the entries, and when to look again (document 02, request c).
+    Planned(u64, Vec<Entry>, Option<u64>),
     Entries(Vec<Entry>),
-    /// Held, free, permille.
-    Sum(u64, u64, u64),
+    /// Held, free for unpreferred newcomers and for preferred ones, permille.
+    Sum(u64, u64, u64, u64),
 }
 
 /// The last clock that refusal 5 lets pass: 2^64 - 60,001.

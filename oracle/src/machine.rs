@@ -191,15 +191,17 @@ impl Machine {
                     keys.as_ref().map(|keys| keys.iter().copied().map(key_in).collect());
                 standins::take_considered();
                 let planned = policy.plan(Instant(*now), keys.as_deref());
-                Reply::Planned(standins::take_considered(), entries_out(&planned))
+                Reply::Planned(standins::take_considered(), entries_out(&planned), self.next_look(*now))
             }
             Call::Claim { now, checked } => {
                 Reply::Entries(entries_out(&policy.claim(Instant(*now), &entries_in(checked))))
             }
             Call::Sweep => Reply::Keys(keys_out(&policy.known_batch())),
             Call::Sum => {
-                let held = policy.announcements as u64;
-                Reply::Sum(held, self.l - held, held * 1_000 / self.l)
+                // Both are the source's own books.
+                let (held, evictable) = (policy.announcements as u64, policy.evictable.len() as u64);
+                let free = self.l - held;
+                Reply::Sum(held, free, free + evictable, held * 1_000 / self.l)
             }
             Call::Arrange { taken, witness } => Reply::Entries(self.arranged(taken, witness)),
             Call::Part { arranged, connection } => Reply::Entries(
@@ -207,6 +209,21 @@ impl Machine {
             ),
             _ => self.wrapper(call),
         }
+    }
+
+    /// Document 02, request c: "the least time later than now among ready times of unowned keys
+    /// and deadlines of owned ones, in the state after the plan". The source has no such answer:
+    /// it is read off its maps.
+    fn next_look(&self, now: u64) -> Option<u64> {
+        let mut next = None;
+        for request in self.policy.requests.values() {
+            let soonest = match request.owner {
+                Some((_, deadline)) => (deadline.0 > now).then_some(deadline.0),
+                None => request.candidates.iter().map(|c| c.ready.0).filter(|ready| *ready > now).min(),
+            };
+            next = [next, soonest].into_iter().flatten().min();
+        }
+        next
     }
 
     /// The source's batches carry key and item alone. They stand by connection and then

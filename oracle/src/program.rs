@@ -78,7 +78,7 @@ impl Program {
         };
         let reply = machine.call(&call);
         match (&call, &reply) {
-            (Call::Plan { .. }, Reply::Planned(_, entries)) => self.planned.clone_from(entries),
+            (Call::Plan { .. }, Reply::Planned(_, entries, _)) => self.planned.clone_from(entries),
             (Call::Claim { .. }, Reply::Entries(entries)) => self.taken.clone_from(entries),
             (Call::Arrange { .. }, Reply::Entries(entries)) => self.arranged.clone_from(entries),
             _ => {}

@@ -59,9 +59,12 @@ pub fn reply(reply: &Reply) -> String {
         Reply::Number(number) => number.to_string(),
         Reply::Keys(keys) => list(keys.iter().copied().map(key).collect()),
         Reply::Gone(own, parents) => counted(own.len() as u64, own.iter().chain(parents).copied().map(key)),
-        Reply::Planned(count, entries) => counted(*count, entries.iter().map(entry)),
+        Reply::Planned(count, entries, next) => {
+            let next = or_none(next.map(|time| time.to_string()));
+            counted(*count, entries.iter().map(entry).chain([next]))
+        }
         Reply::Entries(entries) => list(entries.iter().map(entry).collect()),
-        Reply::Sum(held, free, permille) => format!("{held},{free},{permille}"),
+        Reply::Sum(held, free, preferred, permille) => format!("{held},{free},{preferred},{permille}"),
     }
 }
 

@@ -8,7 +8,7 @@ enum { L = 60, Q = 2 };
 static uint8_t store[TRACKER_NEED(L, Q)], odd[TRACKER_NEED(L, Q) + 1];
 static uint8_t answer[TRACKER_PLAN_NEED];
 static uint8_t x[32] = {0}, y[32] = {0}, items[2 * TRACKER_ITEM_BYTES], priorities[16], entry[TRACKER_ENTRY_BYTES];
-static uint64_t a, b;
+static uint64_t a, b, c;
 
 static void check(const char *what, bool holds) {
     if (!holds) {
@@ -69,7 +69,7 @@ static void entries(void) {
 
 static void needs(void) {
     NEEDS(tracker_sweep_need(L), sweep, answer, n, &a);
-    NEEDS(tracker_plan_need(L), plan, 1000, answer, n, &a, &b);
+    NEEDS(tracker_plan_need(L), plan, 1000, answer, n, &a, &b, &c);
     NEEDS((size_t)TRACKER_KEYS_NEED, announce_parents, 7, x, 32, 1000, answer, n, &a);
     NEEDS(tracker_failed_package_claims_need(Q), failed_package_claims, 7, x, 32, 1000, answer, n, &a);
     NEEDS(tracker_not_found_need(Q, 2), transaction_not_found, 8, items, sizeof items, 1000, answer, n, &a);

@@ -12,7 +12,7 @@ enum { L = 1200, Q = 4, PAGE = 4096, IDS = 2048, RAN = 80 };
 
 struct side {
     uint8_t store[TRACKER_NEED(L, Q)], answer[TRACKER_PLAN_NEED];
-    uint64_t numbers[3];
+    uint64_t numbers[4];
 };
 static struct side sides[2];
 static uint8_t ids[IDS][32], items[8 * TRACKER_ITEM_BYTES], payload[1 + 8 * TRACKER_WIRE_BYTES], priorities[8 * 8], planned[TRACKER_PLAN_NEED], witnesses[16];
@@ -92,7 +92,7 @@ static void agree(const char *name, uint64_t one, uint64_t two) {
 
 /* ---- by theme. Ids 0 to 99 are parents, 100 to 199 wtxids of packages, 200 and on transactions; a time is later than the one before. */
 static void ask_all(uint64_t now) {
-    CALL(plan, now, ANSWER, &s->numbers[1], NUMBER);
+    CALL(plan, now, ANSWER, &s->numbers[1], NUMBER, &s->numbers[2]);
     size_t bytes = tracker_entries_need((size_t)sides[0].numbers[0]);
     memcpy(planned, sides[0].answer, bytes);
     CALL(claim, now, planned, bytes, ANSWER, NUMBER);
@@ -129,11 +129,11 @@ static void requests(void) {
     CALL(forget, TRACKER_WTXID, ids[203]);
     CALL(forget_known, TRACKER_TXID, ids[204], 3003);
     CALL(transaction_response_completed, 7, ids[204], ids[205], 3004);
-    CALL(plan_given, 3005, planned, TRACKER_KEY_BYTES, ANSWER, &s->numbers[1], NUMBER);
+    CALL(plan_given, 3005, planned, TRACKER_KEY_BYTES, ANSWER, &s->numbers[1], NUMBER, &s->numbers[2]);
     CALL(poll_gate, 3005, NUMBER);
     WAS(1, "poll_gate");
     CALL(sweep, ANSWER, NUMBER);
-    CALL(sum, NUMBER, &s->numbers[1], &s->numbers[2]);
+    CALL(sum, NUMBER, &s->numbers[1], &s->numbers[2], &s->numbers[3]);
     CALL(save, ANSWER, NUMBER);
     CALL(counts, 9, NUMBER, &s->numbers[1]);
     WAS(100, "counts");
@@ -186,7 +186,7 @@ static void late(void) {
     package(18, 320, 0, 80001);
     package(18, 322, 1, 80001);
     package(19, 324, 2, 80001);
-    CALL(sum, NUMBER, &s->numbers[1], &s->numbers[2]);
+    CALL(sum, NUMBER, &s->numbers[1], &s->numbers[2], &s->numbers[3]);
     WAS(L, "sum");
     batch(29, 1700, 80001);
     ask_all(80002);

@@ -186,9 +186,9 @@ class Driver:
         if name == "Entries":
             return text.entries(args[0]) or "-"
         if name == "Chosen":
-            return ",".join(filter(None, [str(args[0]), text.entries(args[1])]))
+            return ",".join(filter(None, [str(args[0]), text.entries(args[1]), str(args[2].value) if args[2] else "none"]))
         if name == "Summed":
-            return f"{args[0].held},{args[0].free},{args[0].permille}"
+            return f"{args[0].held},{args[0].free},{args[0].preferred},{args[0].permille}"
         raise AssertionError(f"a reply {name}")
 
 

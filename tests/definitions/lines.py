@@ -192,5 +192,5 @@ class Text:
         if reply.NAME in ("Keys", "Left"):
             return b"".join(self.key_bytes(k) for keys in reply.args for k in keys)
         if reply.NAME in ("Entries", "Chosen"):
-            return b"".join(map(self.entry_bytes, reply.args[-1]))
+            return b"".join(map(self.entry_bytes, reply.args[reply.NAME == "Chosen"]))
         return b""

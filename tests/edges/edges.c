@@ -7,7 +7,7 @@
 enum { L = 6000, Q = 12, KEYS = 2500 };
 
 static uint8_t store[TRACKER_NEED(L, Q)], answer[TRACKER_PLAN_NEED], checked[TRACKER_PLAN_NEED], list[101 * 32], seen[KEYS];
-static uint64_t considered, count, reply;
+static uint64_t considered, count, reply, next;
 
 static void same(const char *what, uint64_t got, uint64_t wanted) {
     if (got != wanted) {
@@ -44,7 +44,7 @@ static uint64_t solicited(uint64_t connection, uint64_t number, size_t parents, 
 }
 
 static uint64_t planned(uint64_t now) {
-    same("plan", tracker_plan(store, sizeof store, now, answer, sizeof answer, &considered, &count), 0);
+    same("plan", tracker_plan(store, sizeof store, now, answer, sizeof answer, &considered, &count, &next), 0);
     return count;
 }
 
@@ -68,6 +68,7 @@ static void owned(void) {
     same("another announcement", announced(7, 5, 3000), 1);
     same("100 owned, selected", planned(0), 0);
     same("100 owned, considered", considered, 101);
+    same("100 owned, a ready candidate, the next look at a deadline", next, 60000);
     same("unclaim", tracker_unclaim(store, sizeof store, TRACKER_WTXID, hash(1000), 7), 0);
     same("99 owned, selected", planned(0), 1);
     same("99 owned, taken", claimed(0), 1);

@@ -131,7 +131,12 @@ EVENTS = {
     "plan: one before a deadline": on("plan", lambda s: any(r.deadline == s.now + 1 for r in s.before.requests.values() if r.deadline)),
     "plan: wraps": on("plan", lambda s: s.before.ready != "none" and len(s.after.requests) > 1 and cursor_between(s.after.requests, s.before.ready)),
     "plan: cursor at a key that is gone": on("plan", lambda s: s.before.ready != "none" and s.before.at(s.before.ready) is None),
-    "plan: of nothing": on("plan", lambda s: s.answer == "0" and s.before.ready != "none"),
+    "plan: of nothing": on("plan", lambda s: s.answer == "0,none" and s.before.ready != "none"),
+    "plan: no time to look again": on("plan", lambda s: s.next() is None and s.after.requests),
+    "plan: looks again at a ready time": on("plan", lambda s: any(c[2] == s.next() for r in s.after.requests.values() if r.owner is None for c in r.candidates)),
+    "plan: looks again at a deadline": on("plan", lambda s: any(r.deadline == s.next() for r in s.after.requests.values() if r.owner is not None)),
+    "plan: looks again at a key whose hash is owned": on("plan", lambda s: any(
+        c[2] == s.next() for r in s.after.requests.values() if r.owner is None and (other := s.after.at(twin(r.key))) and other.owner is not None for c in r.candidates)),
     "plan: an owned hash is passed": on("plan", lambda s: any(r.owner is not None for r in s.after.requests.values())),
     "plan: chooses across kinds": on("plan", lambda s: any(s.after.at(twin(e[0])) for e in s.entries())),
     "plan: not ready yet": on("plan", lambda s: s.considered() > len(s.entries()) and any(c[2] > s.now for c in candidates(s.after))),

@@ -14,6 +14,8 @@ FORMS = [f"{word} gives {form}" for word, forms in REPLIES.items() for form in f
 def form(word, answer):
     if answer in ("ok", "-") or answer.startswith("no,"):
         return answer
+    if word in ("plan", "want"):
+        answer = answer.rpartition(",")[0]      # without the time of the next look
     if not answer.isdigit():
         return "list"
     return answer if answer in REPLIES[word].split() else "count"

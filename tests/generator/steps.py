@@ -107,11 +107,16 @@ class Step:
     def entries(self):
         """The entries of an answer, six fields each."""
         fields = self.answer.split(",")
-        fields = fields[1:] if self.word in ("plan", "want") else [] if fields == ["-"] else fields
+        fields = fields[1:-1] if self.word in ("plan", "want") else [] if fields == ["-"] else fields
         return [fields[i:i + 6] for i in range(0, len(fields), 6)]
 
     def considered(self):
         return int(self.answer.split(",")[0])
+
+    def next(self):
+        """When to look again, the last field of a plan's answer."""
+        last = self.answer.split(",")[-1]
+        return None if last == "none" else int(last)
 
 
 def steps(lines, answers):

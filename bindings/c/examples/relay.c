@@ -28,10 +28,10 @@ static void announce(uint64_t connection, uint32_t item_type, const uint8_t hash
     done(tracker_announce(store, sizeof store, connection, item_type, hash, 1000, preferred, priority, &kept));
 }
 
-/* Asks, at that time, whom the tracker selects. */
+/* Asks, at that time, whom the tracker selects. The program may sleep until the plan's next time, if nothing else happens before. */
 static void ask(uint64_t now) {
-    uint64_t considered, count, asked;
-    done(tracker_plan(store, sizeof store, now, planned, sizeof planned, &considered, &count));
+    uint64_t considered, count, next, asked;
+    done(tracker_plan(store, sizeof store, now, planned, sizeof planned, &considered, &count, &next));
     done(tracker_claim(store, sizeof store, now, planned, tracker_entries_need((size_t)count), taken, sizeof taken, &asked));
     for (uint64_t i = 0; i < asked; i++) {
         const uint8_t *entry = tracker_entry(taken, i);
@@ -52,7 +52,7 @@ static void come(uint64_t now, uint64_t kind, const uint8_t hash[32]) {
 
 int main(void) {
     uint8_t a[32], b[32];
-    uint64_t own, parents, held, room, permille, announced, owned;
+    uint64_t own, parents, held, room, preferred_room, permille, announced, owned;
     memset(a, 0xaa, sizeof a);
     memset(b, 0xbb, sizeof b);
     done(tracker_open(store, sizeof store, L, Q));
@@ -76,7 +76,7 @@ int main(void) {
     }
     ask(62000);
     come(62500, TRACKER_WTXID, a);
-    done(tracker_sum(store, sizeof store, &held, &room, &permille));
+    done(tracker_sum(store, sizeof store, &held, &room, &preferred_room, &permille));
     printf("%" PRIu64 " announcements are held\n", held);
     return 0;
 }

@@ -10,8 +10,11 @@ pub(crate) const ENTRY_BYTES: usize = 112;
 pub struct Figures {
     /// How many announcements are held.
     pub held: u64,
-    /// How many more fit.
+    /// How many more fit: what an unpreferred newcomer finds free.
     pub free: u64,
+    /// What a preferred newcomer finds free: that, and the unpreferred candidates that do not own their
+    /// request, which give way to it. Neither figure speaks of the limits for a hash and for a connection.
+    pub preferred_free: u64,
     /// How full it is in thousandths, rounded down.
     pub permille: u64,
 }
@@ -176,6 +179,8 @@ pub struct Planned<'a> {
     pub considered: u64,
     /// Who is to be asked for what, by priority.
     pub entries: Entries<'a>,
+    /// When to look again: the least time later than the plan's at which a key that nobody owns may be ready or an owner be late.
+    pub next: Option<u64>,
 }
 
 /// The word at that place, counted in words.

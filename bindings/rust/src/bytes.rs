@@ -47,13 +47,15 @@ pub struct Left {
     pub parents: usize,
 }
 
-/// What a plan answers: how many keys it considered, and how many entries it selected.
+/// What a plan answers: how many keys it considered, how many entries it selected, and when to look again.
 #[derive(Clone, Copy, Debug, Default, Eq, PartialEq)]
 pub struct Plan {
     /// Keys considered, repeats counted.
     pub considered: u64,
     /// Entries in the answer.
     pub count: usize,
+    /// The least time later than the plan's at which a key that nobody owns may be ready or an owner be late.
+    pub next: Option<u64>,
 }
 
 /// Bytes of a key, or of an item, in a list or an answer.

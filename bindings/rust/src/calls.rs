@@ -25,17 +25,19 @@ pub fn sound(store: &[u8]) -> bool {
     }
 }
 
-/// How many announcements are held, how many more fit, and how full the tracker is in thousandths. Refused,
-/// it hands nothing out.
+/// How many announcements are held, how many more fit of unpreferred newcomers and of preferred ones, and
+/// how full the tracker is in thousandths. Refused, it hands nothing out.
 pub fn sum(store: &[u8]) -> Result<Figures, Error> {
     let mut held = 0;
     let mut room = 0;
+    let mut preferred_room = 0;
     let mut permille = 0;
     // SAFETY: what is lent is lent for the call, and what it may write is lent to it alone.
     let status = unsafe {
-        abi::tracker_sum(store.as_ptr(), store.len(), &mut held, &mut room, &mut permille)
+        abi::tracker_sum(store.as_ptr(), store.len(), &mut held, &mut room, &mut preferred_room,
+            &mut permille)
     };
-    done(status, Figures { held, free: room, permille })
+    done(status, Figures { held, free: room, preferred_free: preferred_room, permille })
 }
 
 /// What a claim has taken, given in 112 bytes an entry, stands in the answer by ascending connection, then
@@ -378,28 +380,32 @@ pub fn claim(store: &mut [u8], now: u64, checked: &[u8], answer: &mut [u8]) -> R
 }
 
 /// Plans over all keys after the ready cursor and round to it. What it selects stands in the answer in 112
-/// bytes an entry: so many as `count` says, of as many keys as `considered` says.
+/// bytes an entry: so many as `count` says, of as many keys as `considered` says. `next` is the least time
+/// later than the clock at which a key that nobody owns may be ready or an owner be late, 0 if there is
+/// none.
 pub fn plan(store: &mut [u8], now: u64, answer: &mut [u8]) -> Result<Plan, Error> {
     let mut considered = 0;
     let mut count = 0;
+    let mut next = 0;
     // SAFETY: what is lent is lent for the call, and what it may write is lent to it alone.
     let status = unsafe {
         abi::tracker_plan(store.as_mut_ptr(), store.len(), now, answer.as_mut_ptr(), answer.len(),
-            &mut considered, &mut count)
+            &mut considered, &mut count, &mut next)
     };
-    done(status, Plan { considered, count: count as usize })
+    done(status, Plan { considered, count: count as usize, next: (next != 0).then_some(next) })
 }
 
 /// The same over the keys that are given in 40 bytes each; the ready cursor stays.
 pub fn plan_given(store: &mut [u8], now: u64, given: &[u8], answer: &mut [u8]) -> Result<Plan, Error> {
     let mut considered = 0;
     let mut count = 0;
+    let mut next = 0;
     // SAFETY: what is lent is lent for the call, and what it may write is lent to it alone.
     let status = unsafe {
         abi::tracker_plan_given(store.as_mut_ptr(), store.len(), now, given.as_ptr(), given.len(),
-            answer.as_mut_ptr(), answer.len(), &mut considered, &mut count)
+            answer.as_mut_ptr(), answer.len(), &mut considered, &mut count, &mut next)
     };
-    done(status, Plan { considered, count: count as usize })
+    done(status, Plan { considered, count: count as usize, next: (next != 0).then_some(next) })
 }
 
 /// The next keys after the known cursor, which becomes the last of them. They stand in the answer: so many

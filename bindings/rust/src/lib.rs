@@ -32,7 +32,7 @@
 //! | `owned` | [`abi::owned`], which links libtracker_owned.a beside libtracker.a |
 //!
 //! Times are milliseconds of any clock, which may go back. docs/API.md has the rule of each call and its refusals. A call takes
-//! less than 160 KiB of stack.
+//! less than 128 KiB of stack.
 #![no_std]
 #![deny(missing_docs, unsafe_op_in_unsafe_fn)]
 

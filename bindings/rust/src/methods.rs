@@ -298,13 +298,14 @@ impl<S: StoreMut> Tracker<S> {
         self.room(self.sizes.plan_need());
         let mut considered = 0;
         let mut count = 0;
+        let mut next = 0;
         let store = self.store.bytes_mut();
         // SAFETY: the store is sound and nobody else can write it; what the call may write is lent to it alone.
         let status = unsafe {
             abi::tracker_owned_plan(store.as_mut_ptr(), store.len(), now.millis(), self.answer.as_mut_ptr(),
-                self.answer.len(), &mut considered, &mut count)
+                self.answer.len(), &mut considered, &mut count, &mut next)
         };
-        settled(status, Planned { considered, entries: Entries::new(&self.answer, count as usize) })
+        settled(status, Planned { considered, entries: Entries::new(&self.answer, count as usize), next: (next != 0).then_some(next) })
     }
 
     /// plan over these keys alone; the ready cursor stays.
@@ -313,13 +314,15 @@ impl<S: StoreMut> Tracker<S> {
         let given = listed(given);
         let mut considered = 0;
         let mut count = 0;
+        let mut next = 0;
         let store = self.store.bytes_mut();
         // SAFETY: the store is sound and nobody else can write it; what the call may write is lent to it alone.
         let status = unsafe {
             abi::tracker_owned_plan_given(store.as_mut_ptr(), store.len(), now.millis(), given.as_ptr(),
-                given.len(), self.answer.as_mut_ptr(), self.answer.len(), &mut considered, &mut count)
+                given.len(), self.answer.as_mut_ptr(), self.answer.len(), &mut considered, &mut count,
+                &mut next)
         };
-        settled(status, Planned { considered, entries: Entries::new(&self.answer, count as usize) })
+        settled(status, Planned { considered, entries: Entries::new(&self.answer, count as usize), next: (next != 0).then_some(next) })
     }
 
     /// The next keys after the known cursor, at most 1,024; the cursor becomes the last of them.

@@ -8,17 +8,20 @@ use crate::{Connection, Counts, Entries, Entry, Figures, Key, Now, Store, Tracke
 impl<S: Store> Tracker<S> {
     // begin: written by bindings/generate out of crates/owned/src
 
-    /// How many announcements are held, how many more fit, and how full the tracker is in thousandths.
+    /// How many announcements are held, how many more fit of unpreferred newcomers and of preferred ones,
+    /// and how full the tracker is in thousandths.
     pub fn sum(&self) -> Figures {
         let mut held = 0;
         let mut room = 0;
+        let mut preferred_room = 0;
         let mut permille = 0;
         let store = self.store.bytes();
         // SAFETY: the store is sound and nobody else can write it; what the call may write is lent to it alone.
         let status = unsafe {
-            abi::tracker_owned_sum(store.as_ptr(), store.len(), &mut held, &mut room, &mut permille)
+            abi::tracker_owned_sum(store.as_ptr(), store.len(), &mut held, &mut room, &mut preferred_room,
+                &mut permille)
         };
-        settled(status, Figures { held, free: room, permille })
+        settled(status, Figures { held, free: room, preferred_free: preferred_room, permille })
     }
 
     /// What a claim has taken, by ascending connection, then in claim order. A t item of a marked request

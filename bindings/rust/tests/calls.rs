@@ -77,14 +77,15 @@ impl Pair {
 
     /// Plans and claims: who is asked.
     fn ask(&mut self, now: u64) -> Vec<Entry> {
-        let (considered, planned) = self.both(
+        let (considered, next, planned) = self.both(
             |t| {
                 let planned = t.plan(at(now));
-                (planned.considered, planned.entries.collect::<Vec<_>>())
+                (planned.considered, planned.next, planned.entries.collect::<Vec<_>>())
             },
-            |s, a| bytes::plan(s, now, a).map(|plan| (plan.considered, entries(a, plan.count))),
+            |s, a| bytes::plan(s, now, a).map(|plan| (plan.considered, plan.next, entries(a, plan.count))),
         );
         assert!(considered >= planned.len() as u64);
+        assert!(next.is_none_or(|time| time > now));
         let checked: Vec<_> = planned.iter().map(Entry::to_bytes).collect();
         let taken = self.both(
             |t| t.claim(at(now), &planned).collect::<Vec<_>>(),
@@ -121,8 +122,9 @@ impl Pair {
     }
 
     fn held(&mut self) -> u64 {
-        let Figures { held, free, permille } = self.both(|t| t.sum(), |s, _| bytes::sum(s));
+        let Figures { held, free, preferred_free, permille } = self.both(|t| t.sum(), |s, _| bytes::sum(s));
         assert_eq!((free, permille), (100 - held, 10 * held));
+        assert!((free..=100).contains(&preferred_free));
         held
     }
 

@@ -3,6 +3,7 @@ pub mod Victims
 pub mod Deciding
 pub mod Entering
 pub mod Adopting
+pub mod Counted
 pub mod OneParent
 pub mod Repeats
 pub mod Listing

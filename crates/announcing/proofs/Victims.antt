@@ -58,7 +58,7 @@ over-append o (r ∷ a) b = over-append (orRow o r) a b
 
 module _ (q : Request) (c : Candidate) where
   -- its bits say whether it stays
-  bits-say : protected ((rowOf q c) .bits) ≡ (c .preferred || ownerIs (c .connection) (q .owner))
+  pub bits-say : protected ((rowOf q c) .bits) ≡ (c .preferred || ownerIs (c .connection) (q .owner))
   bits-say = rw (owns-row q c, preferred)
     where
       preferred : eqb ((rowOf q c) .bits / 4 % 2) 1 ≡ c .preferred

@@ -1,15 +1,23 @@
 -- What the contracts of announcing at a key say.
-use Prim.Native.Nat.{_<_}
+use Prim.Native.Nat.{ℕ, _<_}
 use mathlib.Core.Path.{_≡_}
-use mathlib.Core.Bool.{true, false}
+use mathlib.Core.Bool.{Bool, true, false}
+use mathlib.Core.List.{List}
+use lib.Dec.{leb}
 use Rattle.ident.specs.Number.{top, Key}
 use Rattle.regions.specs.declared.Row.{Row}
 use Rattle.machine.specs.Limits.{Limits}
-use Rattle.machine.specs.State.{Candidate, Table, refused, done, ownerIs}
-use Rattle.machine.specs.Table.{at, has, held, isCandidate}
+use Rattle.machine.specs.State.{Candidate, State, Table, limitsOf, refused, done, ownerIs}
+use Rattle.machine.specs.Table.{at, has, held, heldAt, isCandidate}
+use Rattle.machine.specs.Sound.{Sound}
 use Rattle.machine.specs.Announce.{push, cut, announceAt}
 use Rattle.store.specs.Gather.{keyAt}
+use Rattle.store.specs.Image.{Writes}
 use Rattle.announcing.specs.declared.keyed.Verdict.{Verdict}
+
+-- whether the hash h has as many candidates as it may, in the state that the bytes write
+abbrev pub Crowded : List ℕ → ℕ → Bool → Type 0
+Crowded b h r = (st : State) → Sound st → Writes b st → r ≡ leb ((limitsOf st) .alternates) (heldAt h (st .table))
 
 -- the candidate of a row can be taken out: it is there, and does not own its request
 pub record Goes (r : Row) (t : Table) : Type 0 where

@@ -7,6 +7,7 @@ ghost use lib.Dec.{ltb};
 ghost use Rattle.ident.specs.Words.{hashNum, keyNum};
 ghost use Rattle.regions.specs.Rows.{keyOf};
 ghost use Rattle.machine.specs.Announce as machine;
+ghost use Rattle.machine.specs.Wrapper as wrapper;
 ghost use Rattle.store.specs.Flat.{Flat};
 ghost use Rattle.store.specs.Gather.{kindIs, keyAt};
 ghost use Rattle.store.specs.Image.{Shows};
@@ -152,6 +153,24 @@ pub fn victim_anywhere(s: &[u8]) -> Victim
 {
     let n = store::head::rows(s);
     greatest_in(s, 0, n, nobody())
+}
+
+// How many candidates of the table can be evicted, in one pass.
+pub fn evictable(s: &[u8]) -> u64
+    requires { ⌜ Kept (now s) ⌝ }
+    ensures { λ m. ⌜ Tells (now (s .entry)) (λ t. m ≡ wrapper.evictable t) ⌝ }
+{
+    let n = store::head::rows(s);
+    let mut i = 0;
+    let mut m = 0;
+    while i < n {
+        let r = store::rows::row_at(s, i);
+        if !stays(r.bits) {
+            m += 1;
+        }
+        i += 1;
+    }
+    m
 }
 
 // ---- the victim's key

@@ -1,14 +1,13 @@
 // announce at a key (document 01, "announce"): who is refused, who comes in, and who gives way.
 use crate::evict;
-use machine::limits::MAX_ALTERNATES;
 use machine::limits::MAX_PEER_ANNOUNCEMENTS;
 ghost use mathlib.Core.Path.{_≡_};
 ghost use mathlib.Core.Bool.{false, _||_};
 ghost use lib.Dec.{leb};
 ghost use Rattle.ident.specs.Words.{hashNum, keyNum};
-ghost use Rattle.machine.specs.Limits.{maxAlternates, maxPeerAnnouncements};
+ghost use Rattle.machine.specs.Limits.{maxPeerAnnouncements};
 ghost use Rattle.machine.specs.State.{State, limitsOf};
-ghost use Rattle.machine.specs.Table.{held, heldBy, heldAt, isCandidate};
+ghost use Rattle.machine.specs.Table.{held, heldBy, isCandidate};
 ghost use Rattle.machine.specs.Sound.{Sound};
 ghost use Rattle.machine.specs.Announce as machine;
 ghost use Rattle.store.specs.Gather.{keyAt};
@@ -16,7 +15,7 @@ ghost use Rattle.store.specs.Image.{Writes};
 ghost use Rattle.store.specs.Shown.{Kept};
 ghost use Rattle.requests.specs.Changes.{candidateOf, Makes, Tells};
 ghost use Rattle.announcing.specs.Answers.{Answered};
-ghost use Rattle.announcing.specs.Enters.{Goes, Decided};
+ghost use Rattle.announcing.specs.Enters.{Crowded, Goes, Decided};
 
 // How an announcement fares: whether it comes in, and the candidate that gives way to it, if one has to.
 pub struct Verdict {
@@ -47,11 +46,11 @@ fn barred(s: &[u8], h: ident::Hash, n: u64) -> bool
 }
 
 // The hash has as many candidates as it may.
-fn crowded(s: &[u8], h: ident::Hash) -> bool
+pub fn crowded(s: &[u8], h: ident::Hash) -> bool
     requires { ⌜ Kept (now s) ⌝ }
-    ensures { λ r. ⌜ Tells (now (s .entry)) (λ t. r ≡ leb maxAlternates (heldAt (hashNum h) t)) ⌝ }
+    ensures { λ r. ⌜ Crowded (now (s .entry)) (hashNum h) r ⌝ }
 {
-    requests::candidates_at(s, h) >= MAX_ALTERNATES
+    requests::candidates_at(s, h) >= store::head::alternates(s)
 }
 
 // L announcements are held.

@@ -10,7 +10,7 @@ use lib.Dec.{ltb, leb, eqb}
 use lib.ListN.{length}
 use borrow.Author.Tests.{lt-leb, le-leb, eqb-true, eqb-false}
 use Rattle.ident.specs.Number.{top, Key, place, txid, wtxid, keyOf}
-use Rattle.machine.specs.Limits.{Limits, maxAlternates, maxPeerAnnouncements, word}
+use Rattle.machine.specs.Limits.{Limits, maxPeerAnnouncements, word}
 use Rattle.machine.specs.State.{Candidate, Entry, Request, Table, State, Answer, limitsOf, onTable, done, withCandidates, marked}
 use Rattle.machine.specs.Table.{at, has, any, by, under, byUnder, count, held, heldBy, heldAt, isCandidate}
 use Rattle.machine.specs.Announce.{without, push, cut, victims, greatest, anywhere, evicting, announceAt, announceKeyed, requestParentAt}
@@ -35,9 +35,9 @@ use Rattle.gathering.specs.Exchanges.{Full, Underway, Instead, Swapped, Exchang
 use Rattle.gathering.proofs.Waiting.{barred-beside, held-beside, at-beside, pushes-more}
 use Rattle.gathering.proofs.Exchanging.{cut-pushes, victims-pushes}
 use Rattle.apart.specs.declared.displacing.Reserve.{Reserve}
-use Rattle.apart.specs.Noting.{parentIn, hashesAt}
+use Rattle.apart.specs.Noting.{parentIn, hashesAt, Spent}
 use Rattle.apart.specs.Waiting.{parentEntries, marks, waiting, Beside}
-use Rattle.apart.specs.Displacing.{Spent, unlisted, Stock, Supplied, Supplies, FurtherAt, SwapsWith}
+use Rattle.apart.specs.Displacing.{unlisted, Stock, Supplied, Supplies, FurtherAt, SwapsWith}
 use Rattle.apart.proofs.Marking.{Else, count-marks, push-marks, sound-marks, marks-more, entryOf, entries-small, entries-else}
 use Rattle.apart.proofs.Alongside.{hashes-then, entries-then}
 use Rattle.apart.proofs.Spent.{victims-marks}
@@ -119,7 +119,7 @@ module _ {z : List ℕ} {n now : ℕ} {b w v : List ℕ} {i d : ℕ} {st : State
     abbrev base′ : Table
     base′ = swapped .table
 
-    instead : Instead base es (txid h) c (swapped .full .entries) base′
+    instead : Instead m base es (txid h) c (swapped .full .entries) base′
     instead = swapped .enters (omega (arith, x .beside .aside .count)) (txid h) refl
 
     abbrev j : Key
@@ -148,8 +148,8 @@ module _ {z : List ℕ} {n now : ℕ} {b w v : List ℕ} {i d : ℕ} {st : State
     unfolding evicting candidateAt
     announced =
         let k : (isCandidate n h u || leb maxPeerAnnouncements (heldBy n u)) ≡ false = rw (new, same (by n)) (or-right (isCandidate n h all) (leb maxPeerAnnouncements (heldBy n all)) free) in
-        let few : leb maxAlternates (heldAt h u) ≡ false = ap (leb maxAlternates) (same (under h) ∙ at-beside n es base (x .beside .aside .ready) ordered h nowhere)
-        ∙ lt-leb maxAlternates (heldAt h base) (instead .room) in
+        let few : leb (m .alternates) (heldAt h u) ≡ false = ap (leb (m .alternates)) (same (under h) ∙ at-beside n es base (x .beside .aside .ready) ordered h nowhere)
+        ∙ lt-leb (m .alternates) (heldAt h base) (instead .room) in
         let full : leb (st .limit) (held u) ≡ true = le-leb (st .limit) (held u) (omega (
           arith,
           same any,

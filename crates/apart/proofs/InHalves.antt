@@ -1,7 +1,7 @@
 -- Parents announced one after the other, in two halves, some of them waiting beside the store: the bits of each half.
 use Prim.Native.Nat.{ℕ, _+_, _-_, _*_, _≤_, _<_}
 use mathlib.Core.Path.{_≡_, refl, sym, ap, subst, _∙_}
-use mathlib.Core.Bool.{Bool, false}
+use mathlib.Core.Bool.{Bool, true}
 use mathlib.Core.List.{List, [], _∷_}
 use native.Mathlib.Nat.{mul-add, mul-assoc}
 use native.Mathlib.Numerals.{add-one}
@@ -11,7 +11,6 @@ use Rattle.machine.specs.State.{Table, State, limitsOf, onTable}
 use Rattle.machine.specs.Table.{one}
 use Rattle.machine.specs.Fail.{parentsFrom}
 use Rattle.machine.specs.Sound.{Sound}
-use Rattle.machine.proofs.Tests.{never}
 use Rattle.store.specs.Image.{Writes}
 use Rattle.store.specs.Shown.{Kept}
 use Rattle.announcing.specs.Answers.{oneParent}
@@ -20,11 +19,11 @@ use Rattle.gathering.specs.Aside.{Empty}
 use Rattle.apart.specs.declared.displacing.Reserve.{Reserve}
 use Rattle.apart.specs.declared.displacing.Further.{Further}
 use Rattle.apart.specs.declared.noting.Half.{Half}
-use Rattle.apart.specs.Noting.{parentIn, hashesAt, keptBits, Halved, pickedIn, Noted}
+use Rattle.apart.specs.Noting.{parentIn, hashesAt, keptBits, Halved, pickedIn, Spent, Exhausted, Noted}
 use Rattle.apart.specs.Waiting.{Waits, LetIn}
 use Rattle.apart.specs.Displacing.{unlisted, Supplied, Supplies, FurtherIn, HalfAt, HalfIn}
 use Rattle.apart.proofs.Alongside.{beside-none, none-writes}
-use Rattle.apart.proofs.ForVictims.{supplied-unlisted}
+use Rattle.apart.proofs.ForVictims.{supplied-unlisted, supplied-spent}
 use Rattle.apart.proofs.Notes.{kept-picked, parts-keys, parts-table, hashes-next, hashes-none, hashes-long, whole, in-front, behind}
 
 -- ---- the loop
@@ -93,15 +92,18 @@ module _ (z : List ℕ) (n now : ℕ) (from to : ℕ) where
 
 -- ---- both halves
 
--- nobody waits, and nothing is known of the victims
-first-supplied : {z b w a : List ℕ} {n now : ℕ} {st : State} → Empty w → Sound st → Writes b st → Supplied z n now b w a 0 0 st (st .table) (unlisted false)
-first-supplied {a = a} e s o = supplied-unlisted a (beside-none s o e) false (λ i. never i)
+-- nobody waits, and no victim is listed
+first-supplied : {z b w a : List ℕ} {n now : ℕ} {st : State} → Empty w → Sound st → Writes b st → (x : Bool) → (x ≡ true → Spent (st .table))
+    → Supplied z n now b w a 0 0 st (st .table) (unlisted x)
+first-supplied {a = a} e s o x k = supplied-unlisted a (beside-none s o e) x k
 
-pub unlisted-few : {q : Reserve} → q ≡ unlisted false → q .count ≤ listSpace
+pub unlisted-few : {q : Reserve} {x : Bool} → q ≡ unlisted x → q .count ≤ listSpace
 unlisted-few e = let i = ap (λ (o : Reserve). o .count) e in omega arith
 
-pub none-waits : {z b w a : List ℕ} {n now : ℕ} {q : Reserve} → Kept b → Empty w → q ≡ unlisted false → Supplies z n now b w a 0 0 q
-none-waits {z} {b} {w} {a} {n} {now} k e i = subst (Supplies z n now b w a 0 0) (sym i) (record { state = k .state; with-them = k .state .table; supplied = first-supplied e (k .sound) (k .writes) })
+pub none-waits : {z b w a : List ℕ} {n now : ℕ} {q : Reserve} {x : Bool} → Kept b → Empty w → Exhausted b x → q ≡ unlisted x → Supplies z n now b w a 0 0 q
+none-waits {z} {b} {w} {a} {n} {now} {x = x} k e g i =
+    subst (Supplies z n now b w a 0 0) (sym i)
+    (record { state = k .state; with-them = k .state .table; supplied = first-supplied e (k .sound) (k .writes) x (λ y. g y (k .state) (k .sound) (k .writes)) })
 
 pub half-supplies : {z b b₁ w w₁ a a₁ : List ℕ} {n now from to d : ℕ} {q : Reserve} {r : Half} → HalfIn z n now b b₁ w w₁ a a₁ from to d q r → Supplies z n now b w a (from - d) d q
     → Supplies z n now b₁ w₁ a₁ (to - r .waiting) (r .waiting) (r .reserve)
@@ -110,7 +112,8 @@ half-supplies x k = record { state = k .state; with-them = _; supplied = x .half
 pub supplies-waits : {z b w a : List ℕ} {n now i d : ℕ} {q : Reserve} → Supplies z n now b w a i d q → Waits z n now b w i d
 supplies-waits k = record { state = k .state; with-them = k .with-them; beside = k .supplied .beside }
 
-module _ {b b₁ b₂ b₃ w₀ w₁ w₂ w₃ a₀ a₁ a₂ : List ℕ} {n now c e : ℕ} {q : Reserve} {x y : Half} (z : List ℕ) (empty : Empty w₀) (known : q ≡ unlisted false) (h : Halved c e)
+module _ {b b₁ b₂ b₃ w₀ w₁ w₂ w₃ a₀ a₁ a₂ : List ℕ} {n now c e : ℕ} {q : Reserve} {spent : Bool} {x y : Half} (z : List ℕ) (empty : Empty w₀) (given : Exhausted b spent) (known : q ≡ unlisted spent)
+    (h : Halved c e)
     (first : HalfIn z n now b b₁ w₀ w₁ a₀ a₁ 0 e 0 q x) (second : HalfIn z n now b₁ b₂ w₁ w₂ a₁ a₂ e c (x .waiting) (x .reserve) y) (came : LetIn z n now b₂ b₃ w₂ w₃ c (y .waiting)) where
   abbrev hs : List ℕ
   hs = hashesAt z 0 c
@@ -129,7 +132,7 @@ module _ {b b₁ b₂ b₃ w₀ w₁ w₂ w₃ a₀ a₁ a₂ : List ℕ} {n now
     t₁ = (parentsFrom (limitsOf st) n now 0 xs (st .table)) .table
 
     half₁ : HalfAt z n now b₁ w₁ a₁ 0 e st (st .table) x
-    half₁ = first .half st (st .table) (subst (λ (i : Reserve). Supplied z n now b w₀ a₀ 0 0 st (st .table) i) (sym known) (first-supplied empty s o))
+    half₁ = first .half st (st .table) (subst (λ (i : Reserve). Supplied z n now b w₀ a₀ 0 0 st (st .table) i) (sym known) (first-supplied empty s o spent (λ i. given i st s o)))
 
     all : hashesAt z 0 (e - 0) ≡ xs
     all = let q : e - 0 ≡ e = omega arith in ap (hashesAt z 0) q
@@ -158,5 +161,8 @@ module _ {b b₁ b₂ b₃ w₀ w₁ w₂ w₃ a₀ a₁ a₂ : List ℕ} {n now
     written : Writes b₃ (onTable ((parentsFrom (limitsOf st) n now 0 hs (st .table)) .table) st)
     written = subst (λ (t : Table). Writes b₃ (onTable t st)) (sym table-is) (none-writes (came st _ (half₂ .supplied .beside)))
 
-  pub both-noted : Noted b b₃ n now hs (record { low = x .bits; high = y .bits })
-  both-noted = record { keys = keys-are; table = written }
+    none-left : y .reserve .spent ≡ true → Spent ((parentsFrom (limitsOf st) n now 0 hs (st .table)) .table)
+    none-left i = subst Spent (sym table-is) (supplied-spent (half₂ .supplied) i)
+
+  pub both-noted : Noted b b₃ n now hs (record { low = x .bits; high = y .bits; spent = y .reserve .spent })
+  both-noted = record { keys = keys-are; table = written; none-left = none-left }

@@ -11,6 +11,7 @@ pub mod Marking
 pub mod Notes
 pub mod Alongside
 pub mod Spent
+pub mod SpentStill
 pub mod ForVictims
 pub mod NextParent
 pub mod InHalves

@@ -23,9 +23,9 @@ use Rattle.announcing.specs.Falls.{mostListed, listSpace, VictimsIn}
 use Rattle.apart.specs.declared.joining.Next.{Next}
 use Rattle.apart.specs.declared.displacing.Reserve.{Reserve}
 use Rattle.apart.specs.declared.displacing.Further.{Further}
-use Rattle.apart.specs.Noting.{parentIn}
+use Rattle.apart.specs.Noting.{parentIn, Spent}
 use Rattle.apart.specs.Waiting.{Waits, LetIn, NextIn}
-use Rattle.apart.specs.Displacing.{Spent, unlisted, Stock, Lacks, Restocked, ShutOut, Unaided, Supplied, Supplies, FurtherIn, FurtherAlone, SwapsWith, SpentIn}
+use Rattle.apart.specs.Displacing.{unlisted, Stock, Lacks, Restocked, ShutOut, Unaided, Supplied, Supplies, FurtherIn, FurtherAlone, SwapsWith, SpentIn}
 use Rattle.apart.proofs.Alongside.{none-sound, none-writes, alone-by}
 use Rattle.apart.proofs.Spent.{spent-next, spent-left}
 use Rattle.apart.proofs.ForVictims.{supplied-spent, supplied-unlisted}
@@ -116,13 +116,14 @@ module _ {z : List ℕ} {n now : ℕ} {b w : List ℕ} {j d : ℕ} where
 
   pub further-next : {b′ w′ : List ℕ} {r : Next} {s : Bool} {q : Reserve} → q ≡ unlisted s → NextIn z n now b b′ w w′ j d r
       → FurtherAlone z n now b b′ w w′ j d (unlisted s) (record { kept = r .kept; waiting = r .waiting; reserve = q })
-  further-next {b′} {w′} {r} {s} {q} k x v = subst (λ (o : Reserve). FurtherIn z n now b b′ w w′ v v j d (unlisted s) (record { kept = r .kept; waiting = r .waiting; reserve = o })) (sym k) (record {
-    most = x .most;
-    few = omega arith;
-    next = λ st t y.
-        let a = x .next st t (y .beside) in
-        record { reply = a .reply; supplied = supplied-unlisted v (a .beside) s (λ e. spent-next (limitsOf st) n now (parentIn z j) j t (supplied-spent y e)) };
-  })
+  further-next {b′} {w′} {r} {s} {q} k x v = subst (λ (o : Reserve). FurtherIn z n now b b′ w w′ v v j d (unlisted s) (record { kept = r .kept; waiting = r .waiting; reserve = o })) (sym k)
+      (record {
+        most = x .most;
+        few = omega arith;
+        next = λ st t y.
+            let a = x .next st t (y .beside) in
+            record { reply = a .reply; supplied = supplied-unlisted v (a .beside) s (λ e. spent-next (limitsOf st) n now (parentIn z j) j t (supplied-spent y e)) };
+      })
 
   -- ---- the whole
 

@@ -15,6 +15,7 @@ use Rattle.places.specs.Places.{Place, listMost, blank, withStage}
 use Rattle.machine.specs.Limits.{word, maxPlaces}
 use Rattle.machine.specs.State.{Package, Table, State, Answer, limitsOf, onTable, ownerIs, enqueuedIn, isSome}
 use Rattle.machine.specs.Table.{at}
+use Rattle.machine.specs.Announce.{victims, anywhere}
 use Rattle.machine.specs.Fail.{Listed, failed, dedup, parentsFrom, announceParents, parentsFor}
 use Rattle.machine.specs.Sound.{Sound}
 use Rattle.machine.proofs.Fail.{bounded-failed}
@@ -31,18 +32,21 @@ use Rattle.package_stages.specs.Records.{placeHashes}
 use Rattle.package_stages.specs.Changes.{hasPlace}
 use Rattle.package_stages.specs.Dead.{filter, live}
 use Rattle.package_stages.proofs.Seeking.{hash-at}
+use Rattle.requests.specs.Changes.{Tells}
+use Rattle.failing.proofs.Leaving.{told}
 use Rattle.announcing.specs.Answers.{Answered}
 use Rattle.apart.specs.declared.noting.Bits.{Bits}
 use Rattle.apart.specs.declared.slots.Spot.{Spot}
 use Rattle.apart.specs.Bare.{bareState}
 use Rattle.apart.specs.Apart.{slotBytes, Room, SpotHeld, SpotNone, SpotIn, Apart, Parted}
-use Rattle.apart.specs.Noting.{picked, halfMost, pickedIn}
+use Rattle.apart.specs.Noting.{picked, halfMost, pickedIn, Spent, Exhausted}
 use Rattle.apart.specs.Lapsing.{family, noted, Clear, lapsed, LapsedTo, expireAt, PlaceExpired, ExpiredTo}
 use Rattle.apart.proofs.BareTable.{sound-bare}
 use Rattle.apart.proofs.BareChange.{failed-bare}
 use Rattle.apart.proofs.BarePlaces.{no-place, txid-free}
 use Rattle.apart.proofs.BareExpiry.{no-parents, bounded-after, places-unheld}
 use Rattle.apart.proofs.Overdue.{front-lent, front-is, rest-stays, slots-rest, none-packaged, filter-from, lapsed-sound}
+use Rattle.apart.proofs.SpentStill.{victims-bare, spent-failed}
 
 -- ---- what the functions ask for
 
@@ -72,6 +76,19 @@ module _ {b f : List ℕ} {m : ℕ} {st : State} {ps : List Place} (o : Apart b 
     sound = sound-bare (sound-table (o .sound) (bounded-failed k n now small late (o .sound .bounded)));
     writes = g .writes;
   })
+
+  -- nobody can be evicted
+
+  pub front-spent : {x : Bool} → Exhausted (take m b) x → x ≡ true → Spent (st .table)
+  front-spent e i = sym (victims-bare (st .table)) ∙ e i (bareState st) (sound-bare (o .sound)) (o .writes)
+
+  pub lapsed-spent : {k : Key} {r : Spot} {n now : ℕ} → now < word → k .hash < top → {b₂ f₂ : List ℕ} → LapsedTo b₂ f₂ m st ps r k n now → {x : Bool} → Exhausted (take m b) x
+      → Exhausted (take (m - 0) (drop 0 b₂)) x
+  lapsed-spent {k} {r} {n} {now} late small {b₂} g e i =
+      let t = (failed k n now (st .table)) .table in
+      subst (λ (z : List ℕ). Tells z Spent) (sym (front-lent b₂ m))
+      (told Spent (bareState (onTable t st)) (sound-bare (sound-table (o .sound) (bounded-failed k n now small late (o .sound .bounded)))) (g .writes)
+      (victims-bare t ∙ spent-failed n now (o .sound .bounded) k small (front-spent e i)))
 
 -- ---- what is noted
 
@@ -139,7 +156,7 @@ module _ {b f : List ℕ} {m : ℕ} {st : State} {ps : List Place} (o : Apart b 
   above-here j g l = let s = places-sorted 0 ps (o .ascend) (r .at) j g (omega (arith, length-map ps (λ (p : Place). p .hash))) in omega (arith, hash-here)
 
   pub expired-with : {b′ f′ low high : List ℕ} {n now : ℕ} {x : Bits} → r .at < length low → r .at < length high → PlaceExpired b′ f′ m st ps r k n now x
-      → ExpiredTo b′ f′ m st ps low (set low (r .at) (x .low)) high (set high (r .at) (x .high)) k n now
+      → ExpiredTo b′ f′ m st ps low (set low (r .at) (x .low)) high (set high (r .at) (x .high)) k n now (x .spent)
   expired-with {b′} {f′} {low} {high} {n} {now} {x} l g e = record {
     places = lapsed r ps;
     apart = e .apart;
@@ -154,6 +171,7 @@ module _ {b f : List ℕ} {m : ℕ} {st : State} {ps : List Place} (o : Apart b 
     later = λ j u v c.
         let d : j ≡ r .at → ⊥ = λ z. (let y = ap (λ (i : ℕ). getD (placeHashes ps) i 0) z in omega (arith, hash-here, key-place)) in
         record { low-bits = getD-set-other low (r .at) j (x .low) 0 d ∙ c .low-bits; high-bits = getD-set-other high (r .at) j (x .high) 0 d ∙ c .high-bits };
+    none-left = e .none-left;
   }
 
 -- ---- without
@@ -191,8 +209,8 @@ module _ {b f : List ℕ} {m : ℕ} {st : State} {ps : List Place} (o : Apart b 
 
   pub expired-without : {v : List ℕ} {reply : Bool} {b′ : List ℕ} (low high : List ℕ) → length v ≡ length (take (m - 0) (drop 0 b)) → Answered (take (m - 0) (drop 0 b)) v reply (λ l x.
       failed k n now x)
-      → length b′ ≡ length b → b′ ≡ take 0 b ++ (v ++ drop (m - 0) (drop 0 b)) → ExpiredTo b′ f m st ps low low high high k n now
-  expired-without {v} {b′ = b′} low high nv ans nb e = record {
+      → length b′ ≡ length b → b′ ≡ take 0 b ++ (v ++ drop (m - 0) (drop 0 b)) → {x : Bool} → Exhausted (take m b) x → ExpiredTo b′ f m st ps low low high high k n now x
+  expired-without {v} {b′ = b′} low high nv ans nb e given = record {
     places = ps;
     apart = record {
       sound = sound-table (o .sound) (bounded-after k n now small late (o .sound .bounded) own);
@@ -213,6 +231,7 @@ module _ {b f : List ℕ} {m : ℕ} {st : State} {ps : List Place} (o : Apart b 
     hashes-same = refl;
     keys = λ c. sym (ap (λ (x : Listed). noted (family ps) low high ++ x .keys) alone ∙ append-nil (noted (family ps) low high));
     later = λ j u v c. c;
+    none-left = λ i. ap (λ (y : Listed). victims anywhere (y .table)) alone ∙ spent-failed n now (o .sound .bounded) k small (front-spent o given i);
   }
 
 -- ---- the place that was found, of some state

@@ -20,6 +20,7 @@ use Rattle.places.specs.Places.{Place, listMost, placeSize, placeWords, blank, 
 use Rattle.machine.specs.Limits.{word}
 use Rattle.machine.specs.State.{Package, Request, Table, State, Answer, limitsOf, onTable, ownerIs, enqueuedIn, isSome}
 use Rattle.machine.specs.Table.{at, one}
+use Rattle.machine.specs.Announce.{victims, anywhere}
 use Rattle.machine.specs.Fail.{Listed, failed, dedup, parentsFrom, announceParents, parentsFor}
 use Rattle.machine.specs.Sound.{Sound, Lawful}
 use Rattle.machine.specs.Typed.{Each}
@@ -48,6 +49,7 @@ use Rattle.apart.proofs.BareAnnounce.{parentsFrom-bare}
 use Rattle.apart.proofs.BarePlaces.{PlaceOf, place-whose, no-place, txid-free}
 use Rattle.apart.proofs.BareExpiry.{parents-beside, no-parents, dedup-distinct, bounded-after, places-enqueued, places-unheld, places-without}
 use Rattle.apart.proofs.Notes.{slot-all}
+use Rattle.apart.proofs.SpentStill.{victims-bare}
 
 -- ---- the front of a store, lent and come back
 
@@ -279,6 +281,8 @@ module _ {b f : List ℕ} {m : ℕ} {st : State} {ps : List Place} (o : Apart b 
               short = lapsed-as (Each (λ y. length (y .parents) ≤ listMost)) (o .short) (dies-short ps (r .at) (blank 0 0) (o .short));
             };
             keys = told .keys (bareState after) (sound-bare lapsed-sound) (g .writes) ∙ ap (λ (y : Listed). y .keys) bare-is;
+            none-left = λ e. sym (victims-bare ((expireAt (limitsOf st) now k n t) .table)) ∙ ap (λ (y : Listed). victims anywhere (y .table)) (sym bare-is)
+                ∙ told .none-left (bareState after) (sound-bare lapsed-sound) (g .writes) e;
           }
             where
               lapsed-as : (P : List Place → Type 0) → P ps → P (set ps (r .at) (withStage 0 p)) → P (lapsed r ps)

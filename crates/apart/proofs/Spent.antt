@@ -22,19 +22,19 @@ use Rattle.requests.proofs.Holding.{either-kind}
 use Rattle.announcing.specs.Answers.{oneParent}
 use Rattle.announcing.proofs.Deciding.{when-barred, when-crowded, when-full, when-room}
 use Rattle.announcing.proofs.Giving.{victims-push}
+use Rattle.apart.specs.Noting.{Spent}
 use Rattle.apart.specs.Waiting.{marks}
-use Rattle.apart.specs.Displacing.{Spent}
 
 -- ---- victims of a request and of a table
 
-cons-nil : (x : Entry) (l : List Entry) → x ∷ l ≡ [] → ⊥
+pub cons-nil : (x : Entry) (l : List Entry) → x ∷ l ≡ [] → ⊥
 cons-nil x l q = let z : suc (length l) ≡ 0 = ap length q in omega arith
 
-none-left : (a b : List Entry) → a ++ b ≡ [] → a ≡ []
+pub none-left : (a b : List Entry) → a ++ b ≡ [] → a ≡ []
 none-left [] b e = refl
 none-left (x ∷ a) b e = absurd (cons-nil x (a ++ b) e)
 
-none-right : (a b : List Entry) → a ++ b ≡ [] → b ≡ []
+pub none-right : (a b : List Entry) → a ++ b ≡ [] → b ≡ []
 none-right [] b e = e
 none-right (x ∷ a) b e = absurd (cons-nil x (a ++ b) e)
 
@@ -51,7 +51,7 @@ spent-some p (r ∷ t) e =
 abbrev step : Candidate → Key → Option Owner → List Entry → List Entry
 step c k o l = if c .preferred || ownerIs (c .connection) o then l else record { key = k; candidate = c } ∷ l
 
-in-same : (r q : Request) → r .key ≡ q .key → r .owner ≡ q .owner → (cs : List Candidate) → victimsIn r cs ≡ victimsIn q cs
+pub in-same : (r q : Request) → r .key ≡ q .key → r .owner ≡ q .owner → (cs : List Candidate) → victimsIn r cs ≡ victimsIn q cs
 unfolding victimsIn
 in-same r q k o [] = refl
 in-same r q k o (c ∷ cs) =

@@ -2,10 +2,9 @@
 use Prim.Native.Nat.{ℕ, _+_, _-_, _≤_, _<_}
 use mathlib.Core.Path.{_≡_}
 use mathlib.Core.Bool.{Bool, true, false}
-use mathlib.Core.List.{List, []}
+use mathlib.Core.List.{List}
 use Rattle.machine.specs.State.{Table, State, limitsOf, onTable}
 use Rattle.machine.specs.Table.{held, isCandidate}
-use Rattle.machine.specs.Announce.{victims, anywhere}
 use Rattle.machine.specs.Fail.{parentsFrom}
 use Rattle.machine.specs.Sound.{Sound}
 use Rattle.store.specs.Flat.{rowsOf}
@@ -16,12 +15,8 @@ use Rattle.gathering.specs.Exchanges.{VictimsFrom}
 use Rattle.apart.specs.declared.displacing.Reserve.{Reserve}
 use Rattle.apart.specs.declared.displacing.Further.{Further}
 use Rattle.apart.specs.declared.noting.Half.{Half}
-use Rattle.apart.specs.Noting.{parentIn, hashesAt, keptBits}
+use Rattle.apart.specs.Noting.{parentIn, hashesAt, keptBits, Spent}
 use Rattle.apart.specs.Waiting.{Beside, NextAt}
-
--- no candidate of the table can be evicted
-abbrev pub Spent : Table → Type 0
-Spent t = victims anywhere t ≡ []
 
 -- no victim is listed
 abbrev pub unlisted : Bool → Reserve

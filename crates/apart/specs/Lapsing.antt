@@ -18,7 +18,7 @@ use Rattle.apart.specs.Bare.{bareState}
 use Rattle.apart.specs.declared.noting.Bits.{Bits}
 use Rattle.apart.specs.declared.slots.Spot.{Spot}
 use Rattle.apart.specs.Apart.{Slots, SpotHeld, Apart}
-use Rattle.apart.specs.Noting.{pickedIn}
+use Rattle.apart.specs.Noting.{pickedIn, Spent}
 
 -- ---- what is noted of all places
 
@@ -67,12 +67,13 @@ expireAt m now k n t = announceParents m n now (parentsFor n (at k t)) ((failed 
 pub record PlaceExpired (b′ f′ : List ℕ) (m : ℕ) (st : State) (ps : List Place) (r : Spot) (k : Key) (n now : ℕ) (x : Bits) : Type 0 where
   pub apart : Apart b′ f′ m (onTable ((expireAt (limitsOf st) now k n (st .table)) .table) st) (lapsed r ps)
   pub keys : pickedIn ((getD ps (r .at) (blank 0 0)) .parents) (x .low) (x .high) ≡ (expireAt (limitsOf st) now k n (st .table)) .keys
+  pub none-left : x .spent ≡ true → Spent ((expireAt (limitsOf st) now k n (st .table)) .table)
 
 abbrev pub PlaceExpires : List ℕ → List ℕ → List ℕ → List ℕ → ℕ → Spot → Key → ℕ → ℕ → Bits → Type 0
 PlaceExpires b b′ f f′ m r k n now x = (st : State) (ps : List Place) → Apart b f m st ps → SpotHeld ps k r → 0 < r .stage → ownerIs n ((at k (st .table)) .owner) ≡ true
     → PlaceExpired b′ f′ m st ps r k n now x
 
-pub record ExpiredTo (b′ f′ : List ℕ) (m : ℕ) (st : State) (ps : List Place) (low low′ high high′ : List ℕ) (k : Key) (n now : ℕ) : Type 0 where
+pub record ExpiredTo (b′ f′ : List ℕ) (m : ℕ) (st : State) (ps : List Place) (low low′ high high′ : List ℕ) (k : Key) (n now : ℕ) (x : Bool) : Type 0 where
   pub places : List Place
   pub apart : Apart b′ f′ m (onTable ((expireAt (limitsOf st) now k n (st .table)) .table) st) places
   pub family-same : family places ≡ family ps
@@ -81,7 +82,9 @@ pub record ExpiredTo (b′ f′ : List ℕ) (m : ℕ) (st : State) (ps : List Pl
   pub keys : ((j : ℕ) → j < length ps → place k ≤ place (wtxid (getD (placeHashes ps) j 0)) → Clear low high j)
       → noted (family ps) low′ high′ ≡ noted (family ps) low high ++ (expireAt (limitsOf st) now k n (st .table)) .keys
   pub later : (j : ℕ) → j < length ps → place k < place (wtxid (getD (placeHashes ps) j 0)) → Clear low high j → Clear low′ high′ j
+  -- if x says so, nobody can be evicted then
+  pub none-left : x ≡ true → Spent ((expireAt (limitsOf st) now k n (st .table)) .table)
 
-abbrev pub Expires : List ℕ → List ℕ → List ℕ → List ℕ → ℕ → ℕ → List ℕ → List ℕ → List ℕ → List ℕ → Key → ℕ → ℕ → Type 0
-Expires b b′ f f′ m c low low′ high high′ k n now = (st : State) (ps : List Place) → Apart b f m st ps → c ≡ length ps → ownerIs n ((at k (st .table)) .owner) ≡ true
-    → ExpiredTo b′ f′ m st ps low low′ high high′ k n now
+abbrev pub Expires : List ℕ → List ℕ → List ℕ → List ℕ → ℕ → ℕ → List ℕ → List ℕ → List ℕ → List ℕ → Key → ℕ → ℕ → Bool → Type 0
+Expires b b′ f f′ m c low low′ high high′ k n now x = (st : State) (ps : List Place) → Apart b f m st ps → c ≡ length ps → ownerIs n ((at k (st .table)) .owner) ≡ true
+    → ExpiredTo b′ f′ m st ps low low′ high high′ k n now x

@@ -1,6 +1,7 @@
 -- Parents of a place announced one by one, and which of them were kept noted as the bits of a number, the first the least.
 use Prim.Native.Nat.{ℕ, zero, suc, _+_, _-_, _*_, _/_, _%_, _≤_}
 use mathlib.Core.Path.{_≡_}
+use mathlib.Core.Bool.{Bool, true}
 use mathlib.Core.List.{List, [], _∷_, _++_}
 use lib.Dec.{eqb}
 use lib.ListN.{length, take, drop, getD}
@@ -11,9 +12,11 @@ use Rattle.places.specs.Places.{Place, listMost, placeSize, parentsAt}
 use Rattle.machine.specs.Limits.{Limits}
 use Rattle.machine.specs.State.{Table, State, limitsOf, onTable}
 use Rattle.machine.specs.Table.{one}
+use Rattle.machine.specs.Announce.{victims, anywhere}
 use Rattle.machine.specs.Fail.{parentsFrom}
 use Rattle.machine.specs.Sound.{Sound}
 use Rattle.store.specs.Image.{Writes}
+use Rattle.requests.specs.Changes.{Tells}
 use Rattle.announcing.specs.Answers.{oneParent}
 use Rattle.apart.specs.declared.noting.Bits.{Bits}
 use Rattle.apart.specs.Apart.{SlotOf}
@@ -63,7 +66,16 @@ pickedIn hs low high = picked (take halfMost hs) low ++ picked (drop halfMost hs
 
 -- ---- parts of contracts
 
+-- no candidate of the table can be evicted
+abbrev pub Spent : Table → Type 0
+Spent t = victims anywhere t ≡ []
+
+-- if x says so, no candidate can be evicted in the sound state that the bytes b write
+abbrev pub Exhausted : List ℕ → Bool → Type 0
+Exhausted b x = x ≡ true → Tells b Spent
+
 -- all hashes hs are announced, those kept noted in two halves
 pub record Noted (b b′ : List ℕ) (n now : ℕ) (hs : List ℕ) (r : Bits) : Type 0 where
   pub keys : (st : State) → Sound st → Writes b st → pickedIn hs (r .low) (r .high) ≡ (parentsFrom (limitsOf st) n now 0 hs (st .table)) .keys
   pub table : (st : State) → Sound st → Writes b st → Writes b′ (onTable ((parentsFrom (limitsOf st) n now 0 hs (st .table)) .table) st)
+  pub none-left : (st : State) → Sound st → Writes b st → r .spent ≡ true → Spent ((parentsFrom (limitsOf st) n now 0 hs (st .table)) .table)

@@ -9,6 +9,7 @@ ghost use Rattle.ident.specs.Words.{keyNum};
 ghost use Rattle.apart.specs.Apart.{Room, Parted};
 ghost use Rattle.store.specs.Shown.{Kept};
 ghost use lib.ListN.{take};
+ghost use Rattle.apart.specs.Noting.{Exhausted};
 ghost use Rattle.apart.specs.Lapsing.{Lapses, PlaceExpiring, PlaceExpires, Expires};
 
 // The owner n of the request at k, whose place is p, fails, unless its package is Enqueued, and the place dies.
@@ -39,18 +40,20 @@ fn expire_place(
     k: ident::Key,
     n: u64,
     clock: u64,
+    spent: bool,
 ) -> noting::Bits
-    requires { ⌜ PlaceExpiring (now s) (now first) m p (keyNum k) n ⌝ }
+    requires { ⌜ PlaceExpiring (now s) (now first) m p (keyNum k) n × Exhausted (take m (now s)) spent ⌝ }
     ensures { λ r. ⌜ PlaceExpires (now (s .entry)) (now (s .exit)) (now (first .entry)) (now (first .exit)) m p (keyNum k) n clock r ⌝ }
 {
     let mut slot = crate::slot_room();
     slots::load(s, m, first, p.at, &mut slot);
     lapse(s, m, first, p, k, n, clock);
-    noting::announce_all(&mut s[0..m], &slot, p.parents, n, clock)
+    noting::announce_all(&mut s[0..m], &slot, p.parents, n, clock, spent)
 }
 
 // The owner n of the request at k, whose time is over, expires: it fails, unless its package is Enqueued, and its parents are announced
-// for it. Those kept are noted in low and high at the number of its place, of which there are c.
+// for it. Those kept are noted in low and high at the number of its place, of which there are c. spent: nobody can be evicted; answers
+// whether that is so afterwards.
 pub fn expire_one(
     s: &mut [u8],
     m: usize,
@@ -61,18 +64,20 @@ pub fn expire_one(
     k: ident::Key,
     n: u64,
     clock: u64,
-)
-    requires { ⌜ Parted (now s) (now first) m c × (1 ≤ n) × (c ≤ length (now low)) × (c ≤ length (now high)) ⌝ }
-    ensures { λ _. ⌜ Expires (now (s .entry)) (now (s .exit)) (now (first .entry)) (now (first .exit)) m c (now (low .entry)) (now (low .exit)) (now (high .entry))
-        (now (high .exit)) (keyNum k) n clock ⌝ }
+    spent: bool,
+) -> bool
+    requires { ⌜ Parted (now s) (now first) m c × (1 ≤ n) × (c ≤ length (now low)) × (c ≤ length (now high)) × Exhausted (take m (now s)) spent ⌝ }
+    ensures { λ r. ⌜ Expires (now (s .entry)) (now (s .exit)) (now (first .entry)) (now (first .exit)) m c (now (low .entry)) (now (low .exit)) (now (high .entry))
+        (now (high .exit)) (keyNum k) n clock r ⌝ }
 {
     let p = slots::find(s, m, first, c, k);
     if p.stage == 0 {
         failing::failed(&mut s[0..m], k, n, clock);
-    } else {
-        let r = expire_place(s, m, first, p, k, n, clock);
-        let i = p.at;
-        low[i] = r.low;
-        high[i] = r.high;
+        return spent;
     }
+    let r = expire_place(s, m, first, p, k, n, clock, spent);
+    let i = p.at;
+    low[i] = r.low;
+    high[i] = r.high;
+    r.spent
 }

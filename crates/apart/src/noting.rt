@@ -13,7 +13,7 @@ ghost use Rattle.machine.specs.Table.{one};
 ghost use Rattle.store.specs.Shown.{Kept};
 ghost use Rattle.gathering.specs.Aside.{space};
 ghost use Rattle.apart.specs.Apart.{slotBytes};
-ghost use Rattle.apart.specs.Noting.{parentIn, hashesAt, ParentsIn, halfMost, Halved, Noted};
+ghost use Rattle.apart.specs.Noting.{parentIn, hashesAt, ParentsIn, halfMost, Halved, Exhausted, Noted};
 ghost use Rattle.announcing.specs.Falls.{listSpace};
 ghost use Rattle.apart.specs.Displacing.{Supplies, HalfIn};
 
@@ -22,10 +22,11 @@ const MOST: usize = 100;
 
 const HALF: usize = 50;
 
-// Which parents of a place were kept: those of the first half and the others, the first the least bit.
+// Which parents of a place were kept: those of the first half and the others, the first the least bit. spent: nobody can be evicted then.
 pub struct Bits {
     pub low: u64,
     pub high: u64,
+    pub spent: bool,
 }
 
 // How many parents a place has.
@@ -135,15 +136,15 @@ fn list() -> [u8; LISTED] {
 // With fewer parents a pass over the rows costs more than it spares.
 const FEW: usize = 6;
 
-// Announces the c parents of a place for the connection n, and notes those kept.
-pub fn announce_all(s: &mut [u8], slot: &[u8], c: usize, n: u64, clock: u64) -> Bits
-    requires { ⌜ Kept (now s) × (1 ≤ n) × (c ≤ listMost) × (length (now slot) ≡ slotBytes) ⌝ }
+// Announces the c parents of a place for the connection n, and notes those kept. spent: nobody can be evicted.
+pub fn announce_all(s: &mut [u8], slot: &[u8], c: usize, n: u64, clock: u64, spent: bool) -> Bits
+    requires { ⌜ Kept (now s) × (1 ≤ n) × (c ≤ listMost) × (length (now slot) ≡ slotBytes) × Exhausted (now s) spent ⌝ }
     ensures { λ r. ⌜ Noted (now (s .entry)) (now (s .exit)) n clock (hashesAt (words (now (slot .entry))) 0 c) r ⌝ }
 {
     let mut new = region();
     gathering::region::clear(&mut new);
     let mut top = list();
-    let v = displacing::nothing_listed(false);
+    let v = displacing::nothing_listed(spent);
     let e = first_half(c);
     let together = c >= FEW;
     let low = announce_bits(
@@ -176,8 +177,10 @@ pub fn announce_all(s: &mut [u8], slot: &[u8], c: usize, n: u64, clock: u64) -> 
         together,
     );
     joining::let_in(s, slot, &mut new, high.waiting, c, n, clock);
+    let last = high.reserve;
     Bits {
         low: low.bits,
         high: high.bits,
+        spent: last.spent,
     }
 }

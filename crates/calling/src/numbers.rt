@@ -29,7 +29,13 @@ pub fn answer_sum(store: &[u8], out: &mut [u8]) -> usize
     let a = public_requests::sum(store);
     match a {
         outcome::Figures::Refused(n) => refusal(out, n),
-        outcome::Figures::Are(held, free, permille) => figures(out, held, free, permille),
+        outcome::Figures::Are(held, free, preferred, permille) => figures(
+            out,
+            held,
+            free,
+            preferred,
+            permille,
+        ),
     }
 }
 

@@ -15,12 +15,13 @@ use Rattle.ident.specs.declared.Kind.the-variants.{Txid, Wtxid}
 use Rattle.ident.specs.Number.{top, Key, place, txid, wtxid}
 use Rattle.regions.specs.declared.Row.{Row}
 use Rattle.machine.specs.State.{Candidate, Owner, Request, Table, Entry, State, ownerIs, isSome, isNone}
-use Rattle.machine.specs.Table.{at, has, one, total, under, owners, ownerIn, ownedAt}
+use Rattle.machine.specs.Table.{at, has, ownedAt}
 use Rattle.machine.specs.Plan.{able, better, orElse, leastIn, leastAt, choice}
-use Rattle.machine.specs.Sound.{AllFit, OwnerFits, Lawful, Ordered, All, Sound}
+use Rattle.machine.specs.Sound.{AllFit, OwnerFits, Lawful, All, Sound}
 use Rattle.machine.proofs.Change.{unowned-at}
-use Rattle.machine.proofs.Table.{at-key, at-absent, lawful-at}
+use Rattle.machine.proofs.Table.{at-key, lawful-at}
 use Rattle.machine.proofs.Tests.{test, never, or-true}
+use Rattle.machine.proofs.Unowned.{owners-none}
 use Rattle.store.specs.Flat.{rowOf, rowsFor, rowsOf}
 use Rattle.store.specs.FlatSound.{owns}
 use Rattle.store.proofs.Bits.{key-row, owns-row, candidate-row}
@@ -73,10 +74,10 @@ module _ {b : List ℕ} (st : State) (s : Sound st) (w : Writes b st) (k : Key) 
   abbrev t : Table
   t = st .table
 
-  here : part from to (rowsOf t) ≡ rowsFor (at k t)
+  pub here : part from to (rowsOf t) ≡ rowsFor (at k t)
   here = window-part k 0 t (s .bounded .ordered) (from-at st s k small num (sp .from-is st s w)) (to-at st s k small num (sp .to-is st s w))
 
-  l : Lawful (at k t)
+  pub l : Lawful (at k t)
   l = lawful-at k t (s .bounded .lawful)
 
   window-least : (p : Candidate → Bool) → leastRows p (part from to (rowsOf t)) ≡ leastIn p k ((at k t) .candidates)
@@ -103,28 +104,6 @@ pub of-both : (now : ℕ) (t : Table) (h : ℕ) {v x y : Option Entry} → v ≡
 unfolding choice
 of-both now t h e f g = e ∙ rw (f, g) refl
 
-no-weight : (b : Bool) (o : Option Owner) → b ≡ false → ownerIn (λ n. b) o ≡ 0
-no-weight b none e = refl
-no-weight b (some o) e = ap one e
-
--- nobody owns the hash, if nobody does at a key with that hash
-owners-none : (h lo : ℕ) (t : Table) → Ordered lo t → ((k : Key) → k .hash ≡ h → (at k t) .owner ≡ none) → owners (under h) t ≡ 0
-unfolding total at
-owners-none h lo [] o f = refl
-owners-none h lo (r ∷ t) o f = omega (arith, first, owners-none h _ t (o .2) rest)
-  where
-    first : ownerIn (under h (r .key)) (r .owner) ≡ 0
-    first = elim (test (eqb (r .key .hash) h)) [
-      | inl e ↦ let z : r .owner ≡ none = rw (eq-eqb (place (r .key)) (place (r .key)) refl) at (f (r .key) (eqb-true (r .key .hash) h e)) in ap (ownerIn (under h (r .key))) z
-      | inr e ↦ no-weight (eqb (r .key .hash) h) (r .owner) e
-    ]
-
-    rest : (k : Key) → k .hash ≡ h → (at k t) .owner ≡ none
-    rest k e = elim (test (eqb (place k) (place (r .key)))) [
-      | inl d ↦ ap (λ (q : Request). q .owner) (at-absent k _ t (omega (arith, eqb-true (place k) (place (r .key)) d)) (o .2))
-      | inr d ↦ rw d at (f k e)
-    ]
-
 not-some : (o : Option Owner) → isSome o ≡ false → o ≡ none
 not-some none e = refl
 not-some (some o) e = never (sym e)
@@ -134,13 +113,19 @@ module _ (now : ℕ) (st : State) (s : Sound st) (h : ℕ) (small : h < top) whe
   u = st .table
 
   -- an owner at a key of the hash
-  pub choice-owned : (k : Key) → k .hash ≡ h → {x : Bool} → x ≡ isSome ((at k u) .owner) → x ≡ true → {v : Option Entry} → v ≡ none → v ≡ freeChoice now u (txid h)
-  choice-owned k e {x} f d q = rw (ne-eqb (ownedAt h u) 0 (λ z. never (sym (ap isSome (unowned-at k u (rw e small) (s .bounded .ordered) (rw e (omega (arith, z))))) ∙ sym f ∙ d))) q
+  pub hash-owned : (k : Key) → k .hash ≡ h → {x : Bool} → x ≡ isSome ((at k u) .owner) → x ≡ true → eqb (ownedAt h u) 0 ≡ false
+  hash-owned k e {x} f d = ne-eqb (ownedAt h u) 0 (λ z. never (sym (ap isSome (unowned-at k u (rw e small) (s .bounded .ordered) (rw e (omega (arith, z))))) ∙ sym f ∙ d))
 
-  pub choice-free : {x y : Bool} → x ≡ isSome ((at (txid h) u) .owner) → y ≡ isSome ((at (wtxid h) u) .owner) → x ≡ false → y ≡ false → {v : Option Entry} → v ≡ choice now u [] (txid h)
-      → v ≡ freeChoice now u (txid h)
-  choice-free f g d e q = rw (eq-eqb (ownedAt h u) 0 (owners-none h 0 u (s .bounded .ordered) (λ k z. at-kind (k .kind) (k .hash) z))) q
-    where
-      at-kind : (k : Kind) (i : ℕ) → i ≡ h → (at (record { kind = k; hash = i }) u) .owner ≡ none
-      at-kind Txid i z = rw z (not-some ((at (txid h) u) .owner) (sym f ∙ d))
-      at-kind Wtxid i z = rw z (not-some ((at (wtxid h) u) .owner) (sym g ∙ e))
+  pub choice-owned : (k : Key) → k .hash ≡ h → {x : Bool} → x ≡ isSome ((at k u) .owner) → x ≡ true → {v : Option Entry} → v ≡ none → v ≡ freeChoice now u (txid h)
+  choice-owned k e f d q = rw (hash-owned k e f d) q
+
+  module _ {x y : Bool} (f : x ≡ isSome ((at (txid h) u) .owner)) (g : y ≡ isSome ((at (wtxid h) u) .owner)) (d : x ≡ false) (e : y ≡ false) where
+    pub hash-free : eqb (ownedAt h u) 0 ≡ true
+    hash-free = eq-eqb (ownedAt h u) 0 (owners-none h 0 u (s .bounded .ordered) (λ k z. at-kind (k .kind) (k .hash) z))
+      where
+        at-kind : (k : Kind) (i : ℕ) → i ≡ h → (at (record { kind = k; hash = i }) u) .owner ≡ none
+        at-kind Txid i z = rw z (not-some ((at (txid h) u) .owner) (sym f ∙ d))
+        at-kind Wtxid i z = rw z (not-some ((at (wtxid h) u) .owner) (sym g ∙ e))
+
+    pub choice-free : {v : Option Entry} → v ≡ choice now u [] (txid h) → v ≡ freeChoice now u (txid h)
+    choice-free q = rw hash-free q

@@ -1,2 +1,3 @@
 pub mod Scanned
 pub mod Keyed
+pub mod Waiting

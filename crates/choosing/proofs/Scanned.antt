@@ -119,7 +119,7 @@ module _ (rs : List Row) where
   unfolding anyOwns
   owns-none i to h = let z : to - i ≡ 0 = omega arith in rw z refl
 
-  part-more : (i to : ℕ) (d : Row) → i < to → to ≤ length rs → part i to rs ≡ getD rs i d ∷ part (i + 1) to rs
+  pub part-more : (i to : ℕ) (d : Row) → i < to → to ≤ length rs → part i to rs ≡ getD rs i d ∷ part (i + 1) to rs
   part-more i to d l h =
       let m : i < length rs = omega arith in
       let z : to - i ≡ suc (to - (i + 1)) = omega arith in

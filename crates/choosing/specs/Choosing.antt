@@ -14,6 +14,7 @@ use Rattle.regions.specs.declared.Row.{Row}
 use Rattle.machine.specs.State.{Candidate, Table, Entry}
 use Rattle.machine.specs.Table.{ownedAt}
 use Rattle.machine.specs.Plan.{able, better, orElse, choice}
+use Rattle.machine.specs.Later.{waitFor, timeOf}
 use Rattle.store.specs.Flat.{Flat, rowsOf}
 use Rattle.store.specs.FlatSound.{owns}
 use Rattle.store.specs.Gather.{candidateAt}
@@ -44,6 +45,10 @@ anyOwns (r ∷ rs) = owns r || anyOwns rs
 -- "A key whose hash is unowned .. yields": what is chosen at a key, where nobody owns its hash
 abbrev pub freeChoice : ℕ → Table → Key → Option Entry
 freeChoice now t k = if eqb (ownedAt (k .hash) t) 0 then choice now t [] k else none
+
+-- and when a candidate is ready, where none of a key is: document 02, request c
+abbrev pub freeWait : ℕ → Table → Key → Option ℕ
+freeWait now t k = if eqb (ownedAt (k .hash) t) 0 then waitFor now t k else none
 
 -- ---- what the scan finds, and where
 
@@ -88,3 +93,9 @@ pub record Windows (b : List ℕ) (h : ℕ) (x y : Window) : Type 0 where
 pub record Choice (b : List ℕ) (now : ℕ) (x y : Window) (v : Pick) : Type 0 where
   pub is : (h : ℕ) → Windows b h x y → Tells b (λ t. picked v ≡ freeChoice now t (txid h))
   pub found : (f : Flat) → Shows b f → Found (f .rows) v
+  pub wait : (h : ℕ) → Windows b h x y → Tells b (λ t. timeOf (v .wait) ≡ freeWait now t (txid h))
+
+-- for the hash h
+pub record Chooses (b : List ℕ) (now h : ℕ) (v : Pick) : Type 0 where
+  pub is : Tells b (λ t. picked v ≡ freeChoice now t (txid h))
+  pub wait : Tells b (λ t. timeOf (v .wait) ≡ freeWait now t (txid h))

@@ -1,5 +1,5 @@
 // The candidate that a plan chooses for a hash: "the least (unpreferred, priority, kind, arrival) over both kinds, ready, its
-// connection below 100".
+// connection below 100". And, where no candidate of a key is ready, the earliest later ready time among them (document 02, request c).
 //
 // The rows of a key are scanned from the last to the first, so that what has been found is the choice among the rows from here on.
 use machine::limits::MAX_PEER_IN_FLIGHT;
@@ -7,7 +7,6 @@ ghost use mathlib.Core.Path.{_≡_};
 ghost use mathlib.Core.Bool.{false};
 ghost use mathlib.Core.List.{[]};
 ghost use Prim.Native.Nat.{_≤_};
-ghost use Rattle.ident.specs.Number.{txid};
 ghost use Rattle.ident.specs.Words.{hashNum};
 ghost use Rattle.machine.specs.Plan as machine;
 ghost use Rattle.store.specs.Flat.{Flat, rowsOf};
@@ -16,18 +15,21 @@ ghost use Rattle.store.specs.Image.{Shows};
 ghost use Rattle.store.specs.Shown.{rowsIn, Shown, Kept};
 ghost use Rattle.requests.specs.Changes.{Tells};
 ghost use Rattle.announcing.specs.Evicts.{entryAt, part};
-ghost use Rattle.choosing.specs.Choosing.{picked, anyOwns, freeChoice, Better, WithRow, Least, Either, Choice, WindowAs};
+ghost use Rattle.choosing.specs.Choosing.{anyOwns, Better, WithRow, Least, Either, Choice, WindowAs, Chooses};
 
-// What a scan has found: the row of a candidate, if there is one, and its number.
+pub mod later;
+
+// What a scan has found: the row of a candidate, if there is one, and its number. And when one is ready, where none is; 0 for no time.
 pub struct Pick {
     pub some: bool,
     pub row: regions::Row,
     pub at: usize,
+    pub wait: u64,
 }
 
 // Nothing found.
 fn nothing() -> Pick
-    ensures { λ r. ⌜ r .some ≡ false ⌝ }
+    ensures { λ r. ⌜ (r .some ≡ false) × (r .wait ≡ 0) ⌝ }
 {
     let v = announcing::evict::nobody();
     let row = v.row;
@@ -35,6 +37,7 @@ fn nothing() -> Pick
         some: false,
         row,
         at: 0,
+        wait: 0,
     }
 }
 
@@ -78,6 +81,7 @@ fn better(r: regions::Row, i: usize, best: Pick) -> Pick
         some: true,
         row: r,
         at: i,
+        wait: 0,
     }
 }
 
@@ -139,7 +143,7 @@ fn either(a: Pick, b: Pick) -> Pick
     b
 }
 
-// What a plan chooses for the hash whose rows stand in x as Txid and in y as Wtxid, if nobody owns it.
+// What a plan chooses for the hash whose rows stand in x as Txid and in y as Wtxid, if nobody owns it. Where no row of a key is ready, when one will be.
 pub fn choose_within(s: &[u8], clock: u64, x: requests::Window, y: requests::Window) -> Pick
     requires { ⌜ Kept (now s) × ((x .from ≤ x .to) × (x .to ≤ rowsIn (now s))) × ((y .from ≤ y .to) × (y .to ≤ rowsIn (now s))) ⌝ }
     ensures { λ v. ⌜ Choice (now (s .entry)) clock x y v ⌝ }
@@ -152,7 +156,17 @@ pub fn choose_within(s: &[u8], clock: u64, x: requests::Window, y: requests::Win
     }
     let p = least_in(s, clock, x.from, x.to);
     let q = least_in(s, clock, y.from, y.to);
-    either(p, q)
+    let v = either(p, q);
+    let a = later::wait_in(s, clock, x.from, x.to);
+    let b = later::wait_in(s, clock, y.from, y.to);
+    let wait = later::earlier(a, b);
+    let row = v.row;
+    Pick {
+        some: v.some,
+        row,
+        at: v.at,
+        wait,
+    }
 }
 
 // Where the rows of the hash h stand under one kind.
@@ -167,7 +181,7 @@ pub fn window_as(s: &[u8], kind: ident::Kind, h: ident::Hash) -> requests::Windo
 // What a plan chooses for the hash h, if nobody owns it.
 pub fn choose_free(s: &[u8], clock: u64, h: ident::Hash) -> Pick
     requires { ⌜ Kept (now s) ⌝ }
-    ensures { λ v. ⌜ Tells (now (s .entry)) (λ t. picked v ≡ freeChoice clock t (txid (hashNum h))) ⌝ }
+    ensures { λ v. ⌜ Chooses (now (s .entry)) clock (hashNum h) v ⌝ }
 {
     let x = window_as(s, ident::Kind::Txid, h);
     let y = window_as(s, ident::Kind::Wtxid, h);

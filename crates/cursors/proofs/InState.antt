@@ -18,7 +18,7 @@ use Rattle.store.proofs.HeadWords.{poll-words, cursor-words, inWords, head-word
 use Rattle.cursors.specs.declared.Cursors.{Cursors}
 use Rattle.cursors.specs.declared.Fields.{Fields}
 use Rattle.cursors.specs.declared.Stored.{Stored}
-use Rattle.cursors.specs.Numbers.{Numbers, timeNum, numbersOf, cursorsOf, withCursors, withKnown, withReady, gateAt, Loads, Saves}
+use Rattle.cursors.specs.Numbers.{Numbers, timeNum, numbersOf, cursorsOf, withCursors, withKnown, gateAt, Loads, Saves}
 use Rattle.cursors.specs.InWords.{pollAt, knownAt, readyAt, storedWords, storedKey, storedAt, Reads, written, Stands, ReadyMoved}
 
 -- ---- the header
@@ -132,6 +132,3 @@ module _ {b b′ : List ℕ} (c c′ : Cursors) (l : Loads b c) (v : Saves b b�
   -- a cursor set
   pub known-saved : (k : Option Key) → numbersOf c′ ≡ withKnown k (numbersOf c) → Writes b′ (withKnownCursor k s)
   known-saved k e = saved (withKnown k) e
-
-  pub ready-saved : (k : Option Key) → numbersOf c′ ≡ withReady k (numbersOf c) → Writes b′ (withReadyCursor k s)
-  ready-saved k e = saved (withReady k) e

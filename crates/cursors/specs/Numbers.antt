@@ -41,9 +41,6 @@ withNext p n = record { next = p; known = n .known; ready = n .ready }
 abbrev pub withKnown : Option Key → Numbers → Numbers
 withKnown k n = record { next = n .next; known = k; ready = n .ready }
 
-abbrev pub withReady : Option Key → Numbers → Numbers
-withReady k n = record { next = n .next; known = n .known; ready = k }
-
 -- what a poll at a time leaves
 abbrev pub gateAt : ℕ → Numbers → Numbers
 gateAt now n = withNext (nextPollAfter now (n .next)) n

@@ -14,7 +14,7 @@ ghost use Rattle.machine.specs.Limits.{latestClock};
 ghost use Rattle.machine.specs.Wrapper.{dueAt, nextPollAfter};
 ghost use Rattle.store.specs.Image.{headSize, pollWords};
 ghost use Rattle.store.specs.Read.{pollIs, cursorIs};
-ghost use Rattle.cursors.specs.Numbers.{timeNum, numbersOf, withKnown, withReady, gateAt, Loads, Saves, Gated, KnownMoved};
+ghost use Rattle.cursors.specs.Numbers.{timeNum, numbersOf, withKnown, gateAt, Loads, Saves, Gated, KnownMoved};
 ghost use Rattle.cursors.specs.InWords.{pollAt, storedWords, storedKey, storedAt, Reads, written, Stands, ReadyMoved};
 
 pub enum MaybeTime {
@@ -257,18 +257,12 @@ pub fn poll_gate(c: &mut Cursors, clock: u64) -> bool
     due(old, clock)
 }
 
-// ---- the cursors
+// ---- the known cursor
 
 pub fn set_known(c: &mut Cursors, k: ident::MaybeKey)
     ensures { λ _. ⌜ numbersOf (now (c .exit)) ≡ withKnown (maybeKeyNum k) (numbersOf (now (c .entry))) ⌝ }
 {
     c.known = k;
-}
-
-pub fn set_ready(c: &mut Cursors, k: ident::MaybeKey)
-    ensures { λ _. ⌜ numbersOf (now (c .exit)) ≡ withReady (maybeKeyNum k) (numbersOf (now (c .entry))) ⌝ }
-{
-    c.ready = k;
 }
 
 // ---- on the bytes of a store

@@ -1,11 +1,11 @@
 // arrange and part, for C and Rust. A call that is refused hands nothing out.
-use super::hand_count;
+use crossing::hand_count;
 ghost use mathlib.Core.Path.{_≡_};
 ghost use Rattle.words.specs.Words.{words};
 ghost use Rattle.machine.specs.Call.{On, Arrange};
 ghost use Rattle.claiming.specs.Claiming.{entriesIn};
 ghost use Rattle.public_plans.specs.Parts.{PartIs};
-ghost use Rattle.exports.specs.Status.{HandsEntries};
+ghost use Rattle.crossing.specs.Status.{HandsEntries};
 
 // What a claim has taken, given in 112 bytes an entry, stands in the answer by ascending connection, then claim order: so many as `count` says. A t item of a
 // marked request turns v for a witness connection: those of the list, which has 8 bytes for each, least first. The store is only read.

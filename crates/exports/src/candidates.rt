@@ -1,35 +1,11 @@
 // The calls that bring candidates, for C and Rust. A call that is refused hands nothing out.
-use super::hand_count;
-use super::hand_out;
-ghost use mathlib.Core.Path.{_≡_};
+use crossing::arguments::candidate;
+use crossing::hand_count;
+use crossing::hand_out;
 ghost use Rattle.machine.specs.Call.{On, Announce, RequestParent, AnnounceParents};
 ghost use Rattle.lent_lists.specs.Lists.{hashesIn};
-ghost use Rattle.requests.specs.Changes.{candidateOf};
-ghost use Rattle.exports.specs.Arguments.{candidateIn};
-ghost use Rattle.exports.specs.Status.{HandsOut, HandsKeys};
-
-// One announcement from its parts, the item by its type number.
-pub fn candidate(
-    connection: u64,
-    item_type: u32,
-    hash: &[u8; 32],
-    ready: u64,
-    preferred: bool,
-    priority: u64,
-) -> requests::Candidate
-    ensures { λ r. ⌜ candidateOf r ≡ candidateIn connection «item_type» (now (hash .entry)) ready preferred priority ⌝ }
-{
-    let kind = ident::item_kind(item_type);
-    let hash = ident::hash_from_bytes(hash);
-    let item = ident::Item { kind, hash };
-    requests::Candidate {
-        connection,
-        item,
-        ready,
-        preferred,
-        priority,
-    }
-}
+ghost use Rattle.crossing.specs.Arguments.{candidateIn};
+ghost use Rattle.crossing.specs.Status.{HandsOut, HandsKeys};
 
 // A connection can deliver an item. The reply is 1 if it is kept.
 #[no_mangle]

@@ -1,7 +1,7 @@
 // disconnected, for C and Rust. A call that is refused hands nothing out.
-use super::hand_departure;
+use crossing::hand_departure;
 ghost use Rattle.machine.specs.Call.{On, Disconnected};
-ghost use Rattle.exports.specs.Status.{HandsDeparture};
+ghost use Rattle.crossing.specs.Status.{HandsDeparture};
 
 // The connection leaves every request that it is a candidate of. The keys of these stand in the answer, so many as `own` says, and behind them the keys of parents
 // that are announced for the candidates left, so many as `parents` says.

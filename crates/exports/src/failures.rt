@@ -1,32 +1,12 @@
 // The calls of a failed or withdrawn request, for C and Rust. A call that is refused hands nothing out.
-use super::hand_count;
-use super::hand_out;
-use super::status;
-ghost use mathlib.Core.Path.{_≡_};
-ghost use Rattle.ident.specs.Words.{keyNum};
+use crossing::arguments::key_given;
+use crossing::hand_count;
+use crossing::hand_out;
+use crossing::status;
 ghost use Rattle.machine.specs.Call.{On, Failed, FailedWithParents, Unclaim, Forget, ForgetKnown, FailedPackageInfo, PackageInfoOwner};
 ghost use Rattle.outcome.specs.Outcome.{Leaves};
-ghost use Rattle.exports.specs.Arguments.{kindGiven, keyGiven};
-ghost use Rattle.exports.specs.Status.{numbered, HandsOut, HandsKeys};
-
-// The kind of a key by its number, as answer buffers have it.
-fn kind_given(number: u64) -> ident::Kind
-    ensures { λ r. ⌜ r ≡ kindGiven number ⌝ }
-{
-    if number == 0 {
-        ident::Kind::Txid
-    } else {
-        ident::Kind::Wtxid
-    }
-}
-
-pub fn key_given(kind: u64, hash: &[u8; 32]) -> ident::Key
-    ensures { λ r. ⌜ keyNum r ≡ keyGiven kind (now (hash .entry)) ⌝ }
-{
-    let kind = kind_given(kind);
-    let hash = ident::hash_from_bytes(hash);
-    ident::Key { kind, hash }
-}
+ghost use Rattle.crossing.specs.Arguments.{keyGiven};
+ghost use Rattle.crossing.specs.Status.{numbered, HandsOut, HandsKeys};
 
 // The owner of the request at the key failed to deliver. The reply is 0 unless the connection owns it and its package is not Enqueued.
 #[no_mangle]

@@ -1,7 +1,7 @@
 // Listings, for C and Rust (docs/LISTING.md). A call that is refused hands nothing out.
-use super::hand_count;
+use crossing::hand_count;
 ghost use Rattle.machine.specs.Call.{On, Save};
-ghost use Rattle.exports.specs.Status.{HandsText};
+ghost use Rattle.crossing.specs.Status.{HandsText};
 
 // The listing of the tracker's state, in the answer: so many bytes as `written` says. The store is only read.
 #[no_mangle]

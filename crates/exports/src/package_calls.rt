@@ -1,10 +1,10 @@
 // The calls on packages, for C and Rust. A call that is refused hands nothing out.
-use super::hand_count;
-use super::hand_out;
+use crossing::hand_count;
+use crossing::hand_out;
 ghost use Rattle.machine.specs.Call.{On, SolicitPackageInfo, ClaimPackage, BeginPackageResolution, ReleasePackage};
 ghost use Rattle.lent_lists.specs.Lists.{hashesIn};
-ghost use Rattle.exports.specs.Arguments.{hashGiven};
-ghost use Rattle.exports.specs.Status.{HandsOut, HandsKeys};
+ghost use Rattle.crossing.specs.Arguments.{hashGiven};
+ghost use Rattle.crossing.specs.Status.{HandsOut, HandsKeys};
 
 // The connection is asked for the package info of the transaction with that wtxid, whose parents are given in 32 bytes each. The reply is 0 if the hash is owned, if
 // the connection owns 100 requests, or if it is no candidate and is not kept as one.

@@ -1,9 +1,9 @@
 // failed_package_claims and teardown_package_claims, for C and Rust. A call that is refused hands nothing out.
-use super::hand_count;
-use super::hand_out;
+use crossing::hand_count;
+use crossing::hand_out;
 ghost use Rattle.machine.specs.Call.{On, FailedPackageClaims, TeardownPackageClaims};
 ghost use Rattle.lent_lists.specs.Lists.{hashesIn};
-ghost use Rattle.exports.specs.Status.{HandsOut, HandsKeys};
+ghost use Rattle.crossing.specs.Status.{HandsOut, HandsKeys};
 
 // The claims of the connection whose packages have one of the combined hashes, which are given in 32 bytes each, have failed; of two with one hash, that at the
 // greater key. Their keys stand in the answer, each followed by those of its parents that are kept: so many as `count` says.

@@ -1,20 +1,7 @@
 // read_payload and write_payload, for C and Rust: they take no store. A call that is refused hands nothing out.
-ghost use mathlib.Core.Path.{_≡_};
+use crossing::hand_answer;
 ghost use Rattle.lent_lists.specs.Items.{itemsIn};
-ghost use Rattle.exports.specs.Payloads.{answerStatus, answerOut, HandsItems, HandsBytes};
-
-// The status of an answer, and its count handed out.
-fn hand_answer(a: wire::Answer, count: &mut u64) -> u64
-    ensures { λ r. ⌜ (r ≡ answerStatus a) × (now (count .exit) ≡ answerOut a (now (count .entry))) ⌝ }
-{
-    match a {
-        wire::Answer::Refused(refusal) => refusal,
-        wire::Answer::Count(n) => {
-            *count = n;
-            0
-        }
-    }
-}
+ghost use Rattle.crossing.specs.Payloads.{HandsItems, HandsBytes};
 
 // The items of a whole inv, getdata or notfound payload stand in the answer in 40 bytes each: so many as `count` says. They can be given to
 // tracker_announce_transactions and tracker_transaction_not_found as they stand there. It takes no store.

@@ -1,8 +1,8 @@
 // sweep and the poll gate, for C and Rust. A call that is refused hands nothing out.
-use super::hand_count;
-use super::hand_out;
+use crossing::hand_count;
+use crossing::hand_out;
 ghost use Rattle.machine.specs.Call.{On, Sweep, PollGate};
-ghost use Rattle.exports.specs.Status.{HandsOut, HandsKeys};
+ghost use Rattle.crossing.specs.Status.{HandsOut, HandsKeys};
 
 // The next keys after the known cursor, which becomes the last of them. They stand in the answer: so many as `count` says.
 #[no_mangle]

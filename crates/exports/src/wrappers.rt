@@ -1,11 +1,11 @@
 // The wrappers' calls, for C and Rust.
-use super::hand_count;
-use super::status;
+use crossing::hand_count;
+use crossing::status;
 ghost use Rattle.machine.specs.Call.{On, AnnounceTransactions, TransactionResponseCompleted, TransactionNotFound};
 ghost use Rattle.lent_lists.specs.Items.{itemsIn, offersIn};
 ghost use Rattle.outcome.specs.Outcome.{Leaves};
-ghost use Rattle.exports.specs.Arguments.{hashGiven};
-ghost use Rattle.exports.specs.Status.{numbered, HandsKeys};
+ghost use Rattle.crossing.specs.Arguments.{hashGiven};
+ghost use Rattle.crossing.specs.Status.{numbered, HandsKeys};
 
 // The connection announces the items, which are given in 40 bytes each, with the priorities beside them in 8; the shorter list decides. source: a wtxid source exists.
 // Carried out, it replies 1.

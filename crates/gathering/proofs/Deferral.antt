@@ -14,7 +14,7 @@ use Rattle.ident.specs.Number.{top, Key, txid, wtxid}
 use Rattle.regions.specs.declared.Row.{Row}
 use Rattle.regions.specs.Rows.{rowSize, rowWords, readRow}
 use Rattle.regions.specs.Regions.{Found}
-use Rattle.machine.specs.Limits.{maxAlternates, maxPeerAnnouncements}
+use Rattle.machine.specs.Limits.{maxPeerAnnouncements}
 use Rattle.machine.specs.State.{Candidate, Entry, State, Table, Answer, limitsOf, onTable}
 use Rattle.machine.specs.Table.{at, byUnder, by, under, held, heldBy, heldAt, isCandidate}
 use Rattle.machine.specs.Announce.{push, cut, victims, greatest, anywhere, atHash, evicting, announceAt, announceKeyed}
@@ -163,7 +163,7 @@ module _ {b w v : List ℕ} {d m : ℕ} {st : State} {c : Candidate} (f : Owing 
 
   -- it is barred, or there are eight at its hash of whom none can be evicted
   pub out-same : (k : Key) → k .hash < top → Each (λ (y : Row). eqb ((keyAt y) .hash) (k .hash) ≡ false) (take d (f .listed .rows)) → {y : Row} → c .preferred ≡ true
-      → Suited (st .table) (f .entries) k c y 0 → (announceAt (limitsOf st) k c (pushes (f .entries) (leftBy f))) .table ≡ pushes (f .entries) (leftBy f)
+      → Suited (limitsOf st) (st .table) (f .entries) k c y 0 → (announceAt (limitsOf st) k c (pushes (f .entries) (leftBy f))) .table ≡ pushes (f .entries) (leftBy f)
   unfolding evicting greatest
   out-same k small e p s =
       let l = limitsOf st in
@@ -177,7 +177,7 @@ module _ {b w v : List ℕ} {d m : ℕ} {st : State} {c : Candidate} (f : Owing 
               let none-there : victims (atHash (k .hash)) (pushes (f .entries) (leftBy f)) ≡ [] =
               victims-pushed (c .connection) (k .hash) small (f .entries) (leftBy f) a o (waits-not l c (f .entries) (leftBy f) a o k z) ∙ victims-same f k e small ∙ i .1 in
               ap (λ (x : Answer). x .table)
-              (taken-crowded l c (f .entries) (leftBy f) a o k z (le-leb maxAlternates (heldAt (k .hash) (leftBy f)) (omega (arith, at-same f k e, i .0))) p
+              (taken-crowded l c (f .entries) (leftBy f) a o k z (le-leb (l .alternates) (heldAt (k .hash) (leftBy f)) (omega (arith, at-same f k e, i .0))) p
               ∙ ap (λ (x : List Entry). evicting (greatest x) k c (pushes (f .entries) (leftBy f))) none-there)
         ]
       ]
@@ -208,7 +208,7 @@ module _ {b w v : List ℕ} {d m : ℕ} {st : State} (c : Candidate) (f : Owing 
         each-front (λ (x : Row). eqb ((keyAt x) .hash) (k .hash) ≡ false) (take d (f .listed .rows)) (y ∷ [])
         (subst (Each (λ (x : Row). eqb ((keyAt x) .hash) (k .hash) ≡ false)) one-more e)
 
-    module _ (p : c .preferred ≡ true) (x : Suited (st .table) (f .entries) k c y 1) where
+    module _ (p : c .preferred ≡ true) (x : Suited (limitsOf st) (st .table) (f .entries) k c y 1) where
       abbrev new : Entry
       new = record { key = k; candidate = c }
 
@@ -223,7 +223,7 @@ module _ {b w v : List ℕ} {d m : ℕ} {st : State} (c : Candidate) (f : Owing 
           let s = left-sound f in
           let left = drop (suc d) (f .listed .rows) in
           let full : leb (st .limit) (held u + length (f .entries)) ≡ true = le-leb (st .limit) (held u + length (f .entries)) (omega (arith, left-held f, f .aside .count)) in
-          let room : leb maxAlternates (heldAt (k .hash) u) ≡ false = lt-leb maxAlternates (heldAt (k .hash) u) (omega (arith, at-same f k (split .0), x .room refl)) in
+          let room : leb ((limitsOf st) .alternates) (heldAt (k .hash) u) ≡ false = lt-leb ((limitsOf st) .alternates) (heldAt (k .hash) u) (omega (arith, at-same f k (split .0), x .room refl)) in
           let goes : greatest (victims anywhere (pushes (f .entries) u)) ≡ some (entryAt y) =
           ap greatest (victims-pushes (f .entries) u (f .preferred)) ∙ first-greatest (onTable u st) s y left here in
           let small-y = first-goes (onTable u st) s y left here .small in

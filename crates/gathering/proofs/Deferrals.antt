@@ -8,19 +8,20 @@ use mathlib.Core.Option.{Option, none, some}
 use native.Mathlib.Omega.{arith}
 use lib.Dec.{eqb}
 use lib.ListN.{length, take, getD}
+use borrow.Author.Tests.{leb-true, leb-false}
 use lib.Seq.{take-suc}
 use Rattle.ident.specs.Number.{top, Key}
 use Rattle.regions.specs.declared.Row.{Row}
 use Rattle.regions.specs.Rows.{rowSize, rowWords, readRow, quadNumber}
 use Rattle.regions.specs.Regions.{Found, Holds}
-use Rattle.machine.specs.Limits.{maxAlternates}
-use Rattle.machine.specs.State.{Candidate, State}
+use Rattle.machine.specs.State.{Candidate, State, limitsOf}
 use Rattle.machine.specs.Table.{heldAt}
 use Rattle.machine.specs.Announce.{victims, greatest, atHash, announceKeyed}
 use Rattle.machine.specs.Typed.{Each}
 use Rattle.store.specs.Gather.{keyAt}
 use Rattle.requests.specs.Changes.{Tells}
 use Rattle.announcing.specs.declared.evict.Victim.{Victim}
+use Rattle.announcing.specs.Enters.{Crowded}
 use Rattle.announcing.specs.Evicts.{found}
 use Rattle.announcing.specs.Falls.{listSpace}
 use Rattle.announcing.proofs.Nobody.{none-greatest}
@@ -86,26 +87,30 @@ module _ {b w v : List ℕ} {d : ℕ} {k : Key} {c : Candidate} {y : Row} where
       };
     }
 
-    pub suited-crowded : {x : ℕ} → Tells b (λ t. x ≡ heldAt (k .hash) t) → maxAlternates ≤ x → (z : Victim) → Tells b (λ t. found z ≡ greatest (victims (atHash (k .hash)) t)) → z .some ≡ false
+    pub suited-crowded : {x : Bool} → Crowded b (k .hash) x → x ≡ true → (z : Victim) → Tells b (λ t. found z ≡ greatest (victims (atHash (k .hash)) t)) → z .some ≡ false
         → SuitedIn b w v d k c y 0
-    suited-crowded {x} q l z r e = record {
+    suited-crowded q l z r e = record {
       most = omega arith;
       spare = λ e. absurd (omega arith);
       preferred = λ _. p;
       other = λ e. absurd (omega arith);
       elsewhere = λ _. subst (ListedAt v (d + 1) (k .hash)) n at;
       suited = λ st s g es a. record {
-        out = λ _. inr (omega (arith, q st s g), none-greatest (victims (atHash (k .hash)) (st .table)) (sym (r st s g) ∙ none-found z e));
+        out = λ _. inr (
+          leb-true ((limitsOf st) .alternates) (heldAt (k .hash) (st .table))
+              (sym (q st s g) ∙ l),
+          none-greatest (victims (atHash (k .hash)) (st .table)) (sym (r st s g) ∙ none-found z e),
+        );
         free = λ e. absurd (omega arith);
         room = λ e. absurd (omega arith);
         apart = λ e. absurd (omega arith);
       };
     }
 
-    pub suited-in : {r z : Bool} {x h : ℕ} → d < space → BarredIn b w d k (c .connection) r → r ≡ false → Tells b (λ t. x ≡ heldAt (k .hash) t) → x < maxAlternates
+    pub suited-in : {r x z : Bool} {h : ℕ} → d < space → BarredIn b w d k (c .connection) r → r ≡ false → Crowded b (k .hash) x → x ≡ false
         → eqb (y .conn) (c .connection) ≡ false → h ≡ quadNumber (y .hash) → WaitsAt w d h z → z ≡ false → SuitedIn b w v d k c y 1
     unfolding keyAt
-    suited-in {r} {z} {x} {h} l q e held few mine i wait u = record {
+    suited-in l q e crowd few mine i wait u = record {
       most = omega arith;
       spare = λ _. l;
       preferred = λ _. p;
@@ -114,7 +119,7 @@ module _ {b w v : List ℕ} {d : ℕ} {k : Key} {c : Candidate} {y : Row} where
       suited = λ st s g es a. record {
         out = λ e. absurd (omega arith);
         free = λ _. sym (q st s g es a) ∙ e;
-        room = λ _. omega (arith, held st s g);
+        room = λ _. leb-false ((limitsOf st) .alternates) (heldAt (k .hash) (st .table)) (sym (crowd st s g) ∙ few);
         apart = λ _. ap (λ (j : ℕ). waits j es) (sym i) ∙ sym (wait (c .connection) (st .table) (s .bounded .ordered) es a) ∙ u;
       };
     }
@@ -139,7 +144,7 @@ module _ {b w v : List ℕ} {d m : ℕ} {c : Candidate} where
           let z : r ≡ 0 = omega (arith, n) in
           owed-not f z (out-same f k small (fewer (f .listed .rows) (omega (arith, f .listed .count)) (s .elsewhere h refl (f .listed .rows) (omega (arith, f .listed .count)) (f .listed .holds)))
           (s .preferred h)
-          (subst (λ (i : ℕ). Suited (st .table) (f .entries) k c y i) z (s .suited st (f .sound) (f .writes) (f .entries) (f .aside))));
+          (subst (λ (i : ℕ). Suited (limitsOf st) (st .table) (f .entries) k c y i) z (s .suited st (f .sound) (f .writes) (f .entries) (f .aside))));
       alone = λ _. refl;
     }
       where
@@ -157,7 +162,7 @@ module _ {b w v : List ℕ} {d m : ℕ} {c : Candidate} where
       spare = λ _. (s .spare e, l);
       owed = λ _ st f.
           owed-in c f l y found-y k small (s .elsewhere (omega arith) refl (f .listed .rows) (omega (arith, f .listed .count)) (f .listed .holds)) (s .preferred (omega arith))
-          (subst (λ (i : ℕ). Suited (st .table) (f .entries) k c y i) e (s .suited st (f .sound) (f .writes) (f .entries) (f .aside))) (s .other e) (s .spare e) row put;
+          (subst (λ (i : ℕ). Suited (limitsOf st) (st .table) (f .entries) k c y i) e (s .suited st (f .sound) (f .writes) (f .entries) (f .aside))) (s .other e) (s .spare e) row put;
       alone = λ i. absurd (omega arith);
     }
 

@@ -8,12 +8,12 @@ use native.Mathlib.Omega.{arith}
 use lib.Dec.{leb, eqb}
 use lib.ListN.{length, drop, getD}
 use lib.Seq.{drop-cons}
-use borrow.Author.Tests.{lt-leb, le-leb, eqb-false}
+use borrow.Author.Tests.{lt-leb, le-leb, leb-false, eqb-false}
 use Rattle.ident.specs.Number.{top, Key, place}
 use Rattle.regions.specs.declared.Row.{Row}
 use Rattle.regions.specs.Rows.{rowSize, rowWords, readRow, quadNumber}
 use Rattle.regions.specs.Regions.{Found}
-use Rattle.machine.specs.Limits.{Limits, maxAlternates, maxPeerAnnouncements}
+use Rattle.machine.specs.Limits.{Limits, maxPeerAnnouncements}
 use Rattle.machine.specs.State.{Candidate, Entry, State, Table, Answer, limitsOf, onTable, withCandidates, ownerIs}
 use Rattle.machine.specs.Table.{at, has, held, heldBy, heldAt, isCandidate}
 use Rattle.machine.specs.Announce.{without, push, cut, victims, greatest, anywhere, evicting, announceAt, announceKeyed}
@@ -26,8 +26,8 @@ use Rattle.store.specs.Flat.{rowOf, rowsOf}
 use Rattle.store.specs.Gather.{keyAt, candidateAt}
 use Rattle.store.specs.Image.{Writes}
 use Rattle.store.specs.Shown.{Kept}
-use Rattle.requests.specs.Changes.{Makes, Tells}
-use Rattle.announcing.specs.Enters.{Goes}
+use Rattle.requests.specs.Changes.{Makes}
+use Rattle.announcing.specs.Enters.{Crowded, Goes}
 use Rattle.announcing.specs.Evicts.{entryAt}
 use Rattle.announcing.specs.Falls.{listSpace, Foremost}
 use Rattle.announcing.proofs.Entering.{fresh, cleared-sound, cleared-fresh, cleared-kept, cut-writes}
@@ -110,7 +110,7 @@ module _ (c : Candidate) {b w v : List ℕ} {d p m : ℕ} {st : State} (f : Full
   pub after-kept : {b′ : List ℕ} {j : Key} → j ≡ keyAt y → Makes b b′ (λ u. (has (y .conn) ((at j u) .candidates) ≡ true) × (ownerIs (y .conn) ((at j u) .owner) ≡ false)) (cut j (y .conn)) → Kept b′
   after-kept q h = cleared-kept st (f .sound) y gives-way (cut-writes st (f .sound) y gives-way q h (f .writes))
 
-  module _ {k : Key} (small : k .hash < top) (x : Suits t es k c y 1) where
+  module _ {k : Key} (small : k .hash < top) (x : Suits (limitsOf st) t es k c y 1) where
     abbrev b₁ : Entry
     b₁ = record { key = k; candidate = c }
 
@@ -122,7 +122,7 @@ module _ (c : Candidate) {b w v : List ℕ} {d p m : ℕ} {st : State} (f : Full
     table-is : (announceKeyed (limitsOf st) (some k) c (pushes es t)) .table ≡ pushes (es ++ (b₁ ∷ [])) after
     unfolding announceKeyed evicting candidateAt
     table-is =
-        let e = taken-evicting (limitsOf st) c es t (f .aside .ready) (f .sound .bounded .ordered) k (x .free refl) (lt-leb maxAlternates (heldAt (k .hash) t) (x .room refl))
+        let e = taken-evicting (limitsOf st) c es t (f .aside .ready) (f .sound .bounded .ordered) k (x .free refl) (lt-leb ((limitsOf st) .alternates) (heldAt (k .hash) t) (x .room refl))
         (le-leb (st .limit) (held t + length es) (omega (arith, f .whole, f .aside .count))) (x .preferred refl) in
         let g : greatest (victims anywhere (pushes es t)) ≡ some (entryAt y) = ap greatest (victims-pushes es t (f .preferred)) ∙ first-greatest st (f .sound) y left here in
         ap (λ (a : Answer). a .table) (e ∙ ap (λ (o : Option Entry). evicting o k c (pushes es t)) g)
@@ -130,7 +130,7 @@ module _ (c : Candidate) {b w v : List ℕ} {d p m : ℕ} {st : State} (f : Full
         ∙ sym (pushes-more es b₁ after)
 
     -- it is the machine's victim that goes
-    instead-of : Instead t es k c (es ++ (b₁ ∷ [])) after
+    instead-of : Instead (limitsOf st) t es k c (es ++ (b₁ ∷ [])) after
     instead-of = record {
       row = y;
       free = x .free refl;
@@ -167,7 +167,7 @@ module _ (c : Candidate) {b w v : List ℕ} {d p m : ℕ} {st : State} (f : Full
             };
           };
           same = table-is;
-          enters = λ _ i q. let e : k ≡ i = cc in subst (λ (l : Key). Instead t es l c (es ++ (b₁ ∷ [])) after) e instead-of;
+          enters = λ _ i q. let e : k ≡ i = cc in subst (λ (l : Key). Instead (limitsOf st) t es l c (es ++ (b₁ ∷ [])) after) e instead-of;
           stays = λ q. absurd (omega (arith, f .aside .count));
         }
 
@@ -227,17 +227,17 @@ suits-barred q e = record {
   };
 }
 
-pub suits-in : {b w : List ℕ} {d : ℕ} {k : Key} {c : Candidate} {y : Row} {r z : Bool} {n h : ℕ} → d < space → c .preferred ≡ true → BarredIn b w d k (c .connection) r → r ≡ false
-    → Tells b (λ t. n ≡ heldAt (k .hash) t) → n < maxAlternates → h ≡ quadNumber (y .hash) → WaitsAt w d h z → z ≡ false
+pub suits-in : {b w : List ℕ} {d : ℕ} {k : Key} {c : Candidate} {y : Row} {r x z : Bool} {h : ℕ} → d < space → c .preferred ≡ true → BarredIn b w d k (c .connection) r → r ≡ false
+    → Crowded b (k .hash) x → x ≡ false → h ≡ quadNumber (y .hash) → WaitsAt w d h z → z ≡ false
     → SuitsIn b w d k c y 1
 unfolding keyAt
-suits-in {b} {w} {d} {k} {c} {y} {r} {z} {n} {h} l p q e x few i wait u = record {
+suits-in {b} {w} {d} {k} {c} {y} {r} l p q e crowd few i wait u = record {
   most = omega arith;
   spare = λ _. l;
   suits = λ st s g es a. record {
     barred = λ e. absurd (omega arith);
     free = λ _. sym (q st s g es a) ∙ e;
-    room = λ _. omega (arith, x st s g);
+    room = λ _. leb-false ((limitsOf st) .alternates) (heldAt (k .hash) (st .table)) (sym (crowd st s g) ∙ few);
     preferred = λ _. p;
     apart = λ _. ap (λ (j : ℕ). waits j es) (sym i) ∙ sym (wait (c .connection) (st .table) (s .bounded .ordered) es a) ∙ u;
   };
@@ -270,7 +270,7 @@ module _ {b w v : List ℕ} {d p m : ℕ} {c : Candidate} where
     exchanged-in {b′} {w′} {j} {z} {r} small l found s e q h row put = record {
       most = omega arith;
       spare = λ _. (s .spare e, l);
-      swapped = λ _ st f. swapped-in c f l y found small (subst (λ (i : ℕ). Suits (st .table) (f .entries) k c y i) e (s .suits st (f .sound) (f .writes) (f .entries) (f .aside)))
+      swapped = λ _ st f. swapped-in c f l y found small (subst (λ (i : ℕ). Suits (limitsOf st) (st .table) (f .entries) k c y i) e (s .suits st (f .sound) (f .writes) (f .entries) (f .aside)))
           (s .spare e) q h row put;
       alone = λ i. absurd (omega arith);
     }

@@ -13,7 +13,7 @@ use Rattle.ident.specs.Number.{top, Key}
 use Rattle.regions.specs.declared.Row.{Row}
 use Rattle.regions.specs.Regions.{Holds}
 use Rattle.regions.specs.Rows.{rowSize, rowWords}
-use Rattle.machine.specs.Limits.{Limits, maxAlternates, maxPeerAnnouncements}
+use Rattle.machine.specs.Limits.{Limits, maxPeerAnnouncements}
 use Rattle.machine.specs.State.{Candidate, Entry, State, Table, limitsOf, ownerIs}
 use Rattle.machine.specs.Table.{at, held, heldBy, heldAt, isCandidate}
 use Rattle.machine.specs.Announce.{announceKeyed}
@@ -96,15 +96,15 @@ module _ (st : State) (s : Sound st) (k : Key) (c : Candidate) (small : k .hash 
 
   -- L announcements are held, or eight at the hash
   pub fares-full : {r : Bool} → r ≡ leb (st .limit) (held t + d) → r ≡ true → c .preferred ≡ false → Fares m t es k c 0
-  fares-full q e p = out (or-true (leb maxAlternates (heldAt (k .hash) t)) _ (ap (λ (i : ℕ). leb (st .limit) (held t + i)) (a .count) ∙ sym q ∙ e)) p
+  fares-full q e p = out (or-true (leb (m .alternates) (heldAt (k .hash) t)) _ (ap (λ (i : ℕ). leb (st .limit) (held t + i)) (a .count) ∙ sym q ∙ e)) p
 
-  pub fares-crowded : {x : ℕ} → x ≡ heldAt (k .hash) t → maxAlternates ≤ x → c .preferred ≡ false → Fares m t es k c 0
-  fares-crowded q l p = out (ap (λ (b : Bool). b || leb (st .limit) (held t + length es)) (le-leb maxAlternates (heldAt (k .hash) t) (omega arith))) p
+  pub fares-crowded : {x : Bool} → x ≡ leb (m .alternates) (heldAt (k .hash) t) → x ≡ true → c .preferred ≡ false → Fares m t es k c 0
+  fares-crowded q e p = out (ap (λ (b : Bool). b || leb (st .limit) (held t + length es)) (sym q ∙ e)) p
 
-  pub fares-in : {f b : Bool} {x : ℕ} → f ≡ leb (st .limit) (held t + d) → f ≡ false → b ≡ Barred → b ≡ false → x ≡ heldAt (k .hash) t → x < maxAlternates → Fares m t es k c 1
+  pub fares-in : {f b x : Bool} → f ≡ leb (st .limit) (held t + d) → f ≡ false → b ≡ Barred → b ≡ false → x ≡ leb (m .alternates) (heldAt (k .hash) t) → x ≡ false → Fares m t es k c 1
   fares-in {f} {b} {x} qf ef qb eb qx ex =
       let full : leb (st .limit) (held t + length es) ≡ false = ap (λ (i : ℕ). leb (st .limit) (held t + i)) (a .count) ∙ sym qf ∙ ef in
-      let crowd : leb maxAlternates (heldAt (k .hash) t) ≡ false = lt-leb maxAlternates (heldAt (k .hash) t) (omega arith) in
+      let crowd : leb (m .alternates) (heldAt (k .hash) t) ≡ false = sym qx ∙ ex in
       let spare : fullBeside m es k t ≡ false = ap (λ (z : Bool). z || leb (st .limit) (held t + length es)) crowd ∙ full in
       let free : Barred ≡ false = sym qb ∙ eb in
       let apart = or-left (isCandidate (c .connection) (k .hash) t || waits (k .hash) es) (leb maxPeerAnnouncements (heldBy (c .connection) t + length es)) free in

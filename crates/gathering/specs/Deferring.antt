@@ -12,7 +12,7 @@ use Rattle.ident.specs.Number.{Key}
 use Rattle.regions.specs.declared.Row.{Row}
 use Rattle.regions.specs.Regions.{Holds}
 use Rattle.regions.specs.Rows.{rowSize, rowWords}
-use Rattle.machine.specs.Limits.{maxAlternates}
+use Rattle.machine.specs.Limits.{Limits}
 use Rattle.machine.specs.State.{Candidate, Entry, State, Table, limitsOf, onTable}
 use Rattle.machine.specs.Table.{held, heldAt}
 use Rattle.machine.specs.Announce.{victims, atHash, announceKeyed}
@@ -50,10 +50,10 @@ ListedAt v n h r = r ≡ false → (rows : List Row) → n ≤ length rows → H
 
 -- 0: it changes nothing, as it is barred or there are eight at its hash of whom none can be evicted; 1: it comes in if the candidate of the row y
 -- goes for it; by any other number it is to be announced by itself
-pub record Suited (t : Table) (es : List Entry) (k : Key) (c : Candidate) (y : Row) (r : ℕ) : Type 0 where
-  pub out : r ≡ 0 → (barredBeside es k (c .connection) t ≡ true) ⊎ ((maxAlternates ≤ heldAt (k .hash) t) × (victims (atHash (k .hash)) t ≡ []))
+pub record Suited (m : Limits) (t : Table) (es : List Entry) (k : Key) (c : Candidate) (y : Row) (r : ℕ) : Type 0 where
+  pub out : r ≡ 0 → (barredBeside es k (c .connection) t ≡ true) ⊎ ((m .alternates ≤ heldAt (k .hash) t) × (victims (atHash (k .hash)) t ≡ []))
   pub free : r ≡ 1 → barredBeside es k (c .connection) t ≡ false
-  pub room : r ≡ 1 → heldAt (k .hash) t < maxAlternates
+  pub room : r ≡ 1 → heldAt (k .hash) t < m .alternates
   pub apart : r ≡ 1 → waits ((keyAt y) .hash) es ≡ false
 
 pub record SuitedIn (b w v : List ℕ) (d : ℕ) (k : Key) (c : Candidate) (y : Row) (r : ℕ) : Type 0 where
@@ -62,7 +62,7 @@ pub record SuitedIn (b w v : List ℕ) (d : ℕ) (k : Key) (c : Candidate) (y : 
   pub preferred : r ≤ 1 → c .preferred ≡ true
   pub other : r ≡ 1 → eqb (y .conn) (c .connection) ≡ false
   pub elsewhere : r ≤ 1 → ListedAt v (d + 1) (k .hash) false
-  pub suited : (st : State) → Sound st → Writes b st → Beside w d (c .connection) (st .table) (λ es. Suited (st .table) es k c y r)
+  pub suited : (st : State) → Sound st → Writes b st → Beside w d (c .connection) (st .table) (λ es. Suited (limitsOf st) (st .table) es k c y r)
 
 -- what stands once c was announced
 pub record Owed (b w v : List ℕ) (d m : ℕ) (x : Option Key) (c : Candidate) (st : State) (es : List Entry) (t : Table) : Type 0 where

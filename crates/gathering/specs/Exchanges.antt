@@ -9,7 +9,7 @@ use Rattle.ident.specs.Number.{top, Key}
 use Rattle.regions.specs.declared.Row.{Row}
 use Rattle.regions.specs.Regions.{Holds}
 use Rattle.regions.specs.Rows.{rowSize, rowWords}
-use Rattle.machine.specs.Limits.{Limits, maxAlternates}
+use Rattle.machine.specs.Limits.{Limits}
 use Rattle.machine.specs.State.{Candidate, Entry, State, Table, limitsOf, onTable}
 use Rattle.machine.specs.Table.{held, heldAt}
 use Rattle.machine.specs.Announce.{cut, victims, greatest, anywhere, announceKeyed}
@@ -48,23 +48,23 @@ pub record Underway (b w v : List ℕ) (n d p m : ℕ) : Type 0 where
 -- ---- an announcement at k beside those that wait, for which the candidate of the row y would go
 
 -- 0: it changes nothing; 1: it comes in; by any other number it is to be announced by itself
-pub record Suits (t : Table) (es : List Entry) (k : Key) (c : Candidate) (y : Row) (r : ℕ) : Type 0 where
+pub record Suits (m : Limits) (t : Table) (es : List Entry) (k : Key) (c : Candidate) (y : Row) (r : ℕ) : Type 0 where
   pub barred : r ≡ 0 → barredBeside es k (c .connection) t ≡ true
   pub free : r ≡ 1 → barredBeside es k (c .connection) t ≡ false
-  pub room : r ≡ 1 → heldAt (k .hash) t < maxAlternates
+  pub room : r ≡ 1 → heldAt (k .hash) t < m .alternates
   pub preferred : r ≡ 1 → c .preferred ≡ true
   pub apart : r ≡ 1 → waits ((keyAt y) .hash) es ≡ false
 
 pub record SuitsIn (b w : List ℕ) (d : ℕ) (k : Key) (c : Candidate) (y : Row) (r : ℕ) : Type 0 where
   pub most : r ≤ 2
   pub spare : r ≡ 1 → d < space
-  pub suits : (st : State) → Sound st → Writes b st → Beside w d (c .connection) (st .table) (λ es. Suits (st .table) es k c y r)
+  pub suits : (st : State) → Sound st → Writes b st → Beside w d (c .connection) (st .table) (λ es. Suits (limitsOf st) (st .table) es k c y r)
 
 -- c comes in at k behind es for the candidate of a row, the greatest that can be evicted in the table t: they are then `entries`, and `left` is left of t
-pub record Instead (t : Table) (es : List Entry) (k : Key) (c : Candidate) (entries : List Entry) (left : Table) : Type 0 where
+pub record Instead (m : Limits) (t : Table) (es : List Entry) (k : Key) (c : Candidate) (entries : List Entry) (left : Table) : Type 0 where
   pub row : Row
   pub free : barredBeside es k (c .connection) t ≡ false
-  pub room : heldAt (k .hash) t < maxAlternates
+  pub room : heldAt (k .hash) t < m .alternates
   pub greatest-is : greatest (victims anywhere t) ≡ some (entryAt row)
   pub small : (keyAt row) .hash < top
   pub apart : waits ((keyAt row) .hash) es ≡ false
@@ -76,7 +76,7 @@ pub record Swapped (b w v : List ℕ) (d p m : ℕ) (x : Option Key) (c : Candid
   pub table : Table
   pub full : Full b w v (c .connection) d p m (onTable table st)
   pub same : (announceKeyed (limitsOf st) x c (pushes es (st .table))) .table ≡ pushes (full .entries) table
-  pub enters : length es < d → (k : Key) → x ≡ some k → Instead (st .table) es k c (full .entries) table
+  pub enters : length es < d → (k : Key) → x ≡ some k → Instead (limitsOf st) (st .table) es k c (full .entries) table
   pub stays : d ≡ length es → (full .entries ≡ es) × (table ≡ st .table)
 
 -- r of 0 or 1: r more wait than the d before, and r victims more have gone; by 2 nothing is done

@@ -1,7 +1,6 @@
 // Announcements of a connection beside those of it that wait: each is tested on the store as it is and on the rows that wait, and
 // waits with them if it comes in without another's giving way.
 use crate::region;
-use machine::limits::MAX_ALTERNATES;
 use machine::limits::MAX_PEER_ANNOUNCEMENTS;
 ghost use mathlib.Core.Path.{_≡_};
 ghost use Prim.Native.Nat.{_+_, _*_, _≤_};
@@ -21,7 +20,7 @@ ghost use Rattle.requests.specs.Changes.{candidateOf};
 ghost use Rattle.gathering.specs.Aside.{space, BarredIn, FaresIn, RowIn, SetAside};
 
 // As many rows can wait.
-pub const SPACE: usize = 512;
+pub const SPACE: usize = 128;
 
 // With the m that wait L announcements are held.
 pub fn full(s: &[u8], m: usize) -> bool
@@ -66,7 +65,7 @@ fn fares(s: &[u8], new: &[u8], m: usize, k: ident::Key, c: requests::Candidate) 
         return 0;
     }
     let h = k.hash;
-    if requests::candidates_at(s, h) >= MAX_ALTERNATES {
+    if announcing::keyed::crowded(s, h) {
         if c.preferred {
             return 2;
         }

@@ -3,7 +3,6 @@
 use crate::beside;
 use crate::beside::SPACE;
 use crate::region;
-use machine::limits::MAX_ALTERNATES;
 ghost use Prim.Native.Nat.{_+_, _*_, _≤_, _<_};
 ghost use mathlib.Core.Path.{_≡_};
 ghost use mathlib.Core.Option.{some};
@@ -64,7 +63,7 @@ fn suits(
     if beside::barred(s, new, d, k, c.connection) {
         return 0;
     }
-    if requests::candidates_at(s, h) >= MAX_ALTERNATES {
+    if announcing::keyed::crowded(s, h) {
         let v = announcing::evict::victim_at(s, h);
         if v.some {
             return 2;

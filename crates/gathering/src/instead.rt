@@ -2,7 +2,6 @@
 use crate::beside;
 use crate::beside::SPACE;
 use crate::region;
-use machine::limits::MAX_ALTERNATES;
 ghost use Prim.Native.Nat.{_+_, _*_, _≤_};
 ghost use mathlib.Core.Path.{_≡_};
 ghost use mathlib.Core.Option.{some};
@@ -40,7 +39,7 @@ fn suits(
         return 0;
     }
     let h = k.hash;
-    if requests::candidates_at(s, h) >= MAX_ALTERNATES {
+    if announcing::keyed::crowded(s, h) {
         return 2;
     }
     let q = y.hash;

@@ -8,10 +8,10 @@ ghost use Rattle.regions.specs.Rows.{rowSize, keyNumber};
 ghost use Rattle.gathering.specs.Aside.{space, Empty, KeyIn, PutIn, WaitsAt};
 
 // Words of the region.
-const WORDS: usize = 4_608;
+const WORDS: usize = 1_152;
 
 // The same in bytes.
-pub const ROOM: usize = 36_864;
+pub const ROOM: usize = 9_216;
 
 // Makes the region empty.
 pub fn clear(new: &mut [u8])

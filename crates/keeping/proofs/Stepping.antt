@@ -31,7 +31,7 @@ use Rattle.public_plans.proofs.Entered.{length-from, length-entries}
 use Rattle.machine.specs.Text.{decimal, joined}
 use Rattle.reading.specs.Line.{Line, Asks, Take, Send, Part}
 use Rattle.asking.specs.Calls.{answerBuffer}
-use Rattle.printing.specs.Replies.{refusalText, unreadable, listed, entryTexts, replyText}
+use Rattle.printing.specs.Replies.{refusalText, unreadable, listed, entryTexts, selectionText, replyText}
 use Rattle.printing.specs.Given.{mostEntries, Printed}
 use Rattle.keeping.specs.Lists.{countIn, listIn, listBytes, planPart, takenPart, arrangedPart, keptLists, Fits, Ordered, Holds}
 use Rattle.printing.specs.Kept.{chosenOr, entriesOr}
@@ -66,7 +66,7 @@ module _ {u : Buffer} {n : ℕ} where
   pub entries-fit : {a : Listing} → a ≡ Listed n → Listable (entriesOf a u) u → (n ≤ mostEntries) × (entryBytes * n ≤ length u)
   entries-fit {a} e f = fit-in (entriesOf a u) (ap (λ (x : Listing). answerBytes (entriesOf x u)) e) f
 
-  pub selection-fits : {a : Selection} {k : ℕ} → a ≡ Selected k n → Listable (plannedOf a u) u → (n ≤ mostEntries) × (entryBytes * n ≤ length u)
+  pub selection-fits : {a : Selection} {k x : ℕ} → a ≡ Selected k n x → Listable (plannedOf a u) u → (n ≤ mostEntries) × (entryBytes * n ≤ length u)
   selection-fits {a} e f = fit-in (plannedOf a u) (ap (λ (x : Selection). answerBytes (plannedOf x u)) e) f
 
 module _ {p out out′ : List ℕ} {y : Reply} {r : ℕ} where
@@ -80,7 +80,7 @@ module _ {p out out′ : List ℕ} {y : Reply} {r : ℕ} where
   unfolding replyText
   entries-kept l h e t = record { fits = h .fits; list = h .list ∙ sym (ap (entriesOr l) e); text = λ a. rw e t }
 
-  pub selection-kept : (l : List Entry) {m : List Entry} {k : ℕ} → Holds p m → y ≡ Chosen k m → Printed out out′ (joined (decimal k ∷ entryTexts m)) r → KeptReply p (chosenOr l y) out out′ y r
+  pub selection-kept : (l : List Entry) {m : List Entry} {k : ℕ} {x : Option ℕ} → Holds p m → y ≡ Chosen k m x → Printed out out′ (selectionText k m x) r → KeptReply p (chosenOr l y) out out′ y r
   unfolding replyText
   selection-kept l h e t = record { fits = h .fits; list = h .list ∙ sym (ap (chosenOr l) e); text = λ a. rw e t }
 

@@ -73,9 +73,9 @@ pub fn keep_selection(list: &mut [u8], out: &mut [u8], answer: &[u8], a: Selecti
 {
     match a {
         Selection::Refused(n) => refusal(out, n),
-        Selection::Chosen(considered, n) => {
+        Selection::Chosen(considered, n, next) => {
             keep(list, answer, n as usize);
-            printing::entries::put_selection(out, answer, considered, n as usize)
+            printing::entries::put_selection(out, answer, considered, n as usize, next)
         }
     }
 }

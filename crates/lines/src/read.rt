@@ -1,4 +1,5 @@
 // Fields of a line, each a part of its bytes, as values.
+use crate::digits::value;
 ghost use mathlib.Core.Path.{_≡_};
 ghost use mathlib.Core.Bool.{_&&_};
 ghost use Prim.Native.Nat.{_+_, _*_, _<_, _≤_};
@@ -6,7 +7,7 @@ ghost use lib.Dec.{ltb};
 ghost use lib.ListN.{length, drop};
 ghost use Rattle.regions.specs.Rows.{quadNumber};
 ghost use Rattle.ident.specs.Number.{top};
-ghost use Rattle.machine.specs.Fields.{digitOf, numeralOf, numberOf, typeOf, hashOf, boolOf, kindOf, keyOf, letterKind, otherKind, otherOf, itemOf, sameText, before};
+ghost use Rattle.machine.specs.Fields.{numeralOf, numberOf, typeOf, hashOf, boolOf, kindOf, keyOf, letterKind, otherKind, otherOf, itemOf, sameText, before};
 ghost use Rattle.lines.specs.Values.{numberIn, hashIn, boolIn, keyIn, itemKindIn, itemIn};
 ghost use Rattle.ident.specs.Words.{maybeKind};
 
@@ -44,25 +45,6 @@ pub enum MaybeItemKind {
 
 // ---- Numbers
 
-// The digit of a byte, 16 for a byte that is none.
-fn digit(c: u8) -> u64
-    ensures { λ r. ⌜ r ≡ digitOf c ⌝ }
-{
-    if c < b'0' {
-        return 16;
-    }
-    if c <= b'9' {
-        return (c - b'0') as u64;
-    }
-    if c < b'a' {
-        return 16;
-    }
-    if c <= b'f' {
-        return (c - b'a') as u64 + 10;
-    }
-    16
-}
-
 // Whether d is a decimal digit, and a number that ends in it, behind the digits of a, is at most `most`.
 fn has_room(a: u64, d: u64, most: u64) -> bool
     requires { ⌜ 9 ≤ most ⌝ }
@@ -82,13 +64,13 @@ fn decimal(f: &[u8], most: u64) -> MaybeNumber
     if f.len() == 0 {
         return MaybeNumber::Not;
     }
-    let mut a = digit(f[0]);
+    let mut a = value(f[0]);
     if 10 <= a {
         return MaybeNumber::Not;
     }
     let mut i = 1;
     while i < f.len() {
-        let d = digit(f[i]);
+        let d = value(f[i]);
         if a == 0 {
             return MaybeNumber::Not;
         }
@@ -140,7 +122,7 @@ pub fn hash(f: &[u8]) -> MaybeHash
     if f.len() == 0 {
         return MaybeHash::Not;
     }
-    let first = digit(f[0]);
+    let first = value(f[0]);
     if 16 <= first {
         return MaybeHash::Not;
     }
@@ -152,7 +134,7 @@ pub fn hash(f: &[u8]) -> MaybeHash
     };
     let mut i = 1;
     while i < f.len() {
-        let d = digit(f[i]);
+        let d = value(f[i]);
         if first == 0 {
             return MaybeHash::Not;
         }

@@ -1,34 +1,24 @@
 // Values as text, written into lent bytes from an index on. Each function answers the index behind what it wrote.
+use crate::digits::text;
 use crate::read::HIGH_DIGIT;
 ghost use mathlib.Core.Path.{_≡_};
-ghost use Prim.Native.Nat.{_+_, _/_, _≤_, _<_};
+ghost use Prim.Native.Nat.{_+_, _/_, _≤_};
 ghost use lib.Dec.{ltb};
 ghost use lib.ListN.{length};
 ghost use Rattle.regions.specs.Rows.{quadNumber};
-ghost use Rattle.machine.specs.Text.{digitText, decimalDigits, decimal, hashDigits, hexadecimal, kindLetter, keyText};
+ghost use Rattle.machine.specs.Text.{decimalDigits, decimal, hashDigits, hexadecimal, kindLetter, keyText};
 ghost use Rattle.lines.specs.Text.{Wrote};
-
-// The byte of a digit below 16.
-fn digit_text(d: u64) -> u8
-    requires { ⌜ d < 16 ⌝ }
-    ensures { λ r. ⌜ r ≡ digitText d ⌝ }
-{
-    if d < 10 {
-        return b'0' + d as u8;
-    }
-    b'a' - 10 + d as u8
-}
 
 pub fn put_decimal(s: &mut [u8], a: usize, n: u64) -> usize
     requires { ⌜ a + decimalDigits ≤ length (now s) ⌝ }
     ensures { λ r. ⌜ Wrote (now (s .entry)) (now (s .exit)) a (decimal n) r ⌝ }
 {
     if n < 10 {
-        s[a] = digit_text(n);
+        s[a] = text(n);
         return a + 1;
     }
     let e = put_decimal(s, a, n / 10);
-    s[e] = digit_text(n % 10);
+    s[e] = text(n % 10);
     e + 1
 }
 
@@ -65,11 +55,11 @@ pub fn put_hash(s: &mut [u8], a: usize, q: regions::Quad) -> usize
     ensures { λ r. ⌜ Wrote (now (s .entry)) (now (s .exit)) a (hexadecimal (quadNumber q)) r ⌝ }
 {
     if is_digit(q) {
-        s[a] = digit_text(q.w0);
+        s[a] = text(q.w0);
         return a + 1;
     }
     let e = put_hash(s, a, without_digit(q));
-    s[e] = digit_text(q.w0 % 16);
+    s[e] = text(q.w0 % 16);
     e + 1
 }
 

@@ -10,6 +10,7 @@ use Rattle.machine.specs.Package.{solicit, claimPackage, sameList, begin
 use Rattle.machine.specs.Package.{releasePackage, claimKey, someKeys, failEach, failedPackageClaims, packageKeys, leftIfOwned, tearEach, teardown}
 use Rattle.machine.specs.Leave.{guarded, forgetKnown, keysOf, announceEach, dropAt, dropEach, insertKey, sortKeys, disconnected}
 use Rattle.machine.specs.Sweep.{only, round, lastOf, handed}
+use Rattle.machine.specs.Later.{leastLater, anyReady, times}
 use Rattle.machine.specs.Plan.{chosenBy, chosenAt, able, sooner, better, orElse, leastIn, leastAt, choice, consider, phase, due, expire, insertByPriority, sortByPriority, plan}
 use Rattle.machine.specs.Claim.{sameEntry, takes, claim, elem, forWitness, insertByConnection, sortByConnection, arrange, partOf}
 use Rattle.machine.specs.Wrapper.{offersFrom, announceTransactions, responseCompleted, notFoundOne, notFoundEach, packagesIn, notFound, sum}
@@ -21,11 +22,13 @@ pub edges : Edges
 unfolding top digits bytesOf need at keep change keys countIn total has without victimsIn victims after greatestFrom greatest evicting announceAt announceKeyed adopt requestParentAt
     requestParentKeyed left failed unclaim forget but dedup parentsFrom announceParents solicit claimPackage sameList beginResolution listedAfter failedWithParents failedPackageInfo
     packageInfoOwner releasePackage claimKey someKeys failEach failedPackageClaims packageKeys leftIfOwned tearEach teardown guarded forgetKnown keysOf announceEach dropAt dropEach insertKey
-    sortKeys disconnected only round lastOf handed chosenBy chosenAt able sooner better orElse leastIn leastAt choice consider phase due expire insertByPriority sortByPriority plan sameEntry
+    sortKeys disconnected only round lastOf handed
+    leastLater anyReady times chosenBy chosenAt able sooner better orElse leastIn leastAt choice consider phase due expire insertByPriority sortByPriority plan sameEntry
     takes claim elem forWitness insertByConnection sortByConnection arrange partOf offersFrom announceTransactions responseCompleted notFoundOne notFoundEach packagesIn notFound sum named anyLate
     takesPlace openingRefusal askRefusal refusal perform carryOut keysAnswer entriesAnswer written stepIf
 edges = record {
   worked-lines = refl;
+  look-lines = refl;
   ninth-preferred = refl;
   all-stay = refl;
   one-unpreferred = refl;

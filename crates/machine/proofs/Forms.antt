@@ -23,7 +23,7 @@ use Rattle.machine.specs.Fields.{digitOf, numeralOf, numberOf, typeOf, k
 use Rattle.machine.specs.Listing.{HashForm, short, Digital, FormFits, keyField, keyIn, itemField, otherIn, itemIn, noneText, maybeField, hashFields, listFields, listThen, Every}
 use Rattle.machine.specs.Listing.{KeyListed, HashesListed, ItemListed}
 use Rattle.machine.proofs.Tests.{test, and-left, and-right}
-use Rattle.machine.proofs.Digits.{digit-text, digit-below}
+use Rattle.machine.proofs.DigitBytes.{digit-text, digit-below}
 use Rattle.machine.proofs.Numerals.{numeral-none, numeral-one, numeral-more, numeralOf-empty}
 use Rattle.machine.proofs.Parting.{before-digits, before-met, parted}
 use Rattle.machine.proofs.RoundTrips.{never-some, hash-back, hash-text, number-back, number-text, type-back, type-text, kind-letter, key-parts, item-parts, letter-text, OtherIs, other-is}

@@ -20,8 +20,11 @@ pub mod Entered
 pub mod KeptAtZero
 pub mod Demand1
 pub mod Batches
+pub mod Free
 pub mod Edges
+pub mod Later
 pub mod Owning
+pub mod Unowned
 pub mod FairLists
 pub mod Fairness
 pub mod Sweeps
@@ -35,7 +38,7 @@ pub mod Leave
 pub mod Wrapper
 pub mod Kept
 pub mod Demand3
-pub mod Digits
+pub mod DigitBytes
 pub mod Numerals
 pub mod Parting
 pub mod RoundTrips

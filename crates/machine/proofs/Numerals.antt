@@ -14,7 +14,7 @@ use borrow.Author.Tests.{ltb-true, ltb-false, lt-ltb, le-ltb}
 use Rattle.machine.proofs.Tests.{test, by-test, and-left, and-right}
 use Rattle.machine.specs.Text.{digitText, numeral}
 use Rattle.machine.specs.Fields.{digitOf, follows, further, numeralOf}
-use Rattle.machine.proofs.Digits.{digit-text, text-digit}
+use Rattle.machine.proofs.DigitBytes.{digit-text, text-digit}
 
 -- ---- a numeral's lines
 

@@ -13,7 +13,7 @@ use borrow.Author.Tests.{eq-eqb, ne-eqb, eqb-true, eqb-false, ltb-true, ltb-fals
 use Rattle.machine.proofs.Tests.{test, by-test}
 use Rattle.machine.specs.Text.{digitText, numeral}
 use Rattle.machine.specs.Fields.{before, behind}
-use Rattle.machine.proofs.Digits.{text-figure, text-letter}
+use Rattle.machine.proofs.DigitBytes.{text-figure, text-letter}
 use Rattle.machine.proofs.Numerals.{numeral-none, numeral-one, numeral-more}
 
 -- ---- the search, byte by byte

@@ -57,7 +57,7 @@ keysIn (Number n) = []
 keysIn (Keys ks) = ks
 keysIn (Left own parents) = own ++ parents
 keysIn (Entries l) = []
-keysIn (Chosen n l) = []
+keysIn (Chosen n l x) = []
 keysIn (Summed s) = []
 keysIn (Saved t) = []
 

@@ -1,4 +1,4 @@
--- The edges of document 01 that are marked P, and its worked lines: one record, proved as one theorem by computation.
+-- The edges of document 01 that are marked P, its worked lines and those of document 02, request c: one record, proved as one theorem by computation.
 use Prim.Native.Nat.{ℕ, zero, suc}
 use mathlib.Core.Path.{_≡_}
 use mathlib.Core.Bool.{Bool, true, false}
@@ -112,10 +112,34 @@ worked =
     Open 4 1 ∷ On (Announce (w 7 10 false 5)) ∷ On (Announce (t 7 10 false 6)) ∷ On (Plan 0 none room) ∷ On (Claim 0 (held7 ∷ []) room) ∷ On (Failed (wtxid 10) 7 10)
     ∷ On (Plan 10 none room) ∷ []
 
+-- ---- lines of document 02, request c
+
+-- a candidate that is not ready at 0
+abbrev pub at : ℕ → Candidate → Candidate
+at ready c = record { connection = c .connection; item = c .item; ready = ready; preferred = c .preferred; priority = c .priority }
+
+abbrev pub later8 : Entry
+later8 = record { key = txid 10; candidate = at 30 (t 8 10 false 5) }
+
+abbrev pub later9 : Entry
+later9 = record { key = wtxid 10; candidate = at 60030 (w 9 10 false 1) }
+
+-- open,4,1 / ann,7,ta,50,0,5 / plan,10 / ann,8,ta,30,0,5 / plan,10 / plan,30 / take,30 / plan,40 / ann,9,wa,45,0,1 / plan,40 / ann,6,wa,70000,0,9 / plan,60030
+abbrev pub looking : List Call
+looking =
+    Open 4 1 ∷ On (Announce (at 50 (t 7 10 false 5))) ∷ On (Plan 10 none room) ∷ On (Announce (at 30 (t 8 10 false 5))) ∷ On (Plan 10 none room) ∷ On (Plan 30 none room)
+    ∷ On (Claim 30 (later8 ∷ []) room) ∷ On (Plan 40 none room) ∷ On (Announce (at 45 (w 9 10 false 1))) ∷ On (Plan 40 none room)
+    ∷ On (Announce (at 70000 (w 6 10 false 9))) ∷ On (Plan 60030 none room) ∷ []
+
 -- ---- the edges
 
 pub record Edges : Type 0 where
-  pub worked-lines : replies 100000 worked (empty 1 1) ≡ Number 1 ∷ Number 1 ∷ Number 0 ∷ Chosen 1 (held7 ∷ []) ∷ Entries (held7 ∷ []) ∷ Number 1 ∷ Chosen 0 [] ∷ []
+  pub worked-lines : replies 100000 worked (empty 1 1) ≡ Number 1 ∷ Number 1 ∷ Number 0 ∷ Chosen 1 (held7 ∷ []) none ∷ Entries (held7 ∷ []) ∷ Number 1 ∷ Chosen 0 [] none ∷ []
+  -- the next look: 50, then 30, while nothing is ready; 50 beside a selection; the deadline 60030 of an owner; 45 at a key that nobody owns though its hash is owned; none, since expiry makes
+  -- the candidates there ready, the one at 70000 too
+  pub look-lines : replies 100000 looking (empty 1 1) ≡
+      Number 1 ∷ Number 1 ∷ Chosen 1 [] (some 50) ∷ Number 1 ∷ Chosen 1 [] (some 30) ∷ Chosen 1 (later8 ∷ []) (some 50) ∷ Entries (later8 ∷ []) ∷ Chosen 1 [] (some 60030) ∷ Number 1
+      ∷ Chosen 2 [] (some 45) ∷ Number 1 ∷ Chosen 2 (later9 ∷ []) none ∷ []
   -- "Eight preferred at a hash, ninth preferred: 0."
   pub ninth-preferred : reply ninth (eight (w 3 77 true 0) (w 6 77 true 0)) ≡ Number 0
   pub all-stay : evicted (w 3 77 true 0) (w 6 77 true 0) ≡ (1 ∷ 2 ∷ 3 ∷ 4 ∷ 5 ∷ 6 ∷ 7 ∷ 8 ∷ []) ∷ []
@@ -141,5 +165,5 @@ pub record Edges : Type 0 where
   -- "Inbound, txid delay, overload: ready = now + 6,000."
   pub delayed : figures (λ c. c .ready) (after (AnnounceTransactions 7 1000 false true (record { item = record { kind = Transaction; hash = 0 }; priority = 0 } ∷ []) ∷ []) (owning 100)) ≡
       (7000 ∷ []) ∷ map (λ (r : Request). 0 ∷ []) ((owning 100) .table)
-  -- "L = 3, held 2: `2,1,666`."
-  pub two-of-three : reply Sum (after (Announce (w 7 10 false 5) ∷ Announce (w 8 10 false 5) ∷ []) (empty 3 1)) ≡ Summed (record { held = 2; free = 1; permille = 666 })
+  -- "L = 3, held 2: `2,1,666`", which document 02 makes `2,1,3,666` "if both held ones are unpreferred and unowned"
+  pub two-of-three : reply Sum (after (Announce (w 7 10 false 5) ∷ Announce (w 8 10 false 5) ∷ []) (empty 3 1)) ≡ Summed (record { held = 2; free = 1; preferred = 3; permille = 666 })

@@ -6,11 +6,13 @@ pub mod Fail
 pub mod Package
 pub mod Leave
 pub mod Sweep
+pub mod Later
 pub mod Plan
 pub mod Claim
 pub mod Wrapper
 pub mod Text
 pub mod Fields
+pub mod Digits
 pub mod Listing
 pub mod SoundTest
 pub mod Call
@@ -21,4 +23,6 @@ pub mod Choosing
 pub mod Replies
 pub mod Demand1
 pub mod Demand3
+pub mod Free
 pub mod Edges
+pub mod Looking

@@ -12,6 +12,7 @@ use Rattle.machine.specs.State.{Candidate, Owner, Request, Table, State,
 use Rattle.machine.specs.Table.{at, keys, one, ownedBy, ownedAt}
 use Rattle.machine.specs.Fail.{failed, Listed, nothing, announceParents, parentsFor}
 use Rattle.machine.specs.Sweep.{round}
+use Rattle.machine.specs.Later.{nextLook}
 
 -- ---- the candidate that a plan chooses for a hash
 
@@ -131,10 +132,11 @@ abbrev pub cursorAfter : Option (List Key) → Option Key → Option Key → Opt
 cursorAfter none last old = last
 cursorAfter (some ks) last old = old
 
--- "The reply carries the count of keys considered, repeats counted"
+-- "The reply carries the count of keys considered, repeats counted"; document 02, request c: it ends in the time of the next look
 pub record Planned : Type 0 where
   pub entries : List Entry
   pub considered : ℕ
+  pub next : Option ℕ
   pub state : State
 
 -- the owners that are due, failed
@@ -147,11 +149,13 @@ scanned now asked s =
     let e = expired now s in
     phase now (e .table) (askedKeys asked (s .readyCursor) (e .table)) (phase now (e .table) (e .keys) start)
 
+-- next: "in the state after the plan", whose table is the one after expiry, since a plan owns nothing
 unfoldable pub plan : ℕ → Option (List Key) → State → Planned
 plan now asked s =
     let b = scanned now asked s in
     record {
       entries = sortByPriority (b .chosen);
       considered = b .considered;
+      next = nextLook now ((expired now s) .table);
       state = withReadyCursor (cursorAfter asked (b .last) (s .readyCursor)) (onTable ((expired now s) .table) s);
     }

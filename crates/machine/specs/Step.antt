@@ -32,7 +32,7 @@ pub data Reply : Type 0 where
   Keys : (ks : List Key) → Reply
   Left : (own parents : List Key) → Reply
   Entries : (l : List Entry) → Reply
-  Chosen : (considered : ℕ) (l : List Entry) → Reply
+  Chosen : (considered : ℕ) (l : List Entry) (next : Option ℕ) → Reply
   Summed : (s : Sums) → Reply
   Saved : (text : List ℕ) → Reply
 
@@ -54,7 +54,7 @@ abbrev pub silent : State → Result
 silent s = record { reply = Number 1; state = s }
 
 abbrev pub planned : Planned → Result
-planned p = record { reply = Chosen (p .considered) (p .entries); state = p .state }
+planned p = record { reply = Chosen (p .considered) (p .entries) (p .next); state = p .state }
 
 abbrev pub taken : Taken → State → Result
 taken a s = record { reply = Entries (a .entries); state = onTable (a .table) s }
@@ -149,7 +149,7 @@ answerBytes (Number n) = []
 answerBytes (Keys ks) = keysAnswer ks
 answerBytes (Left own parents) = keysAnswer (own ++ parents)
 answerBytes (Entries l) = entriesAnswer l
-answerBytes (Chosen n l) = entriesAnswer l
+answerBytes (Chosen n l x) = entriesAnswer l
 answerBytes (Summed s) = []
 answerBytes (Saved t) = t
 

@@ -4,6 +4,7 @@ use mathlib.Core.Bool.{Bool, true, false, not, _&&_}
 use mathlib.Core.List.{List, [], _∷_, _++_}
 use mathlib.Core.Option.{Option, none, some}
 use lib.Dec.{leb, eqb}
+use lib.ListN.{length}
 use Rattle.ident.specs.declared.ItemKind.{ItemKind}
 use Rattle.ident.specs.declared.ItemKind.the-variants.{Transaction, WitnessTransaction, WTx, Other}
 use Rattle.ident.specs.If.{if_then_else_}
@@ -11,7 +12,7 @@ use Rattle.ident.specs.Number.{Key, Item, keyOf, txid, wtxid}
 use Rattle.machine.specs.Limits.{Limits, maxInFlight, sourceDelay, pollInterval, msgPkgTxns, msgAncPkgInfo}
 use Rattle.machine.specs.State.{Candidate, Table, State}
 use Rattle.machine.specs.Table.{at, one, held, ownedBy}
-use Rattle.machine.specs.Announce.{announce}
+use Rattle.machine.specs.Announce.{victims, anywhere, announce}
 use Rattle.machine.specs.Fail.{failed, Listed, nothing, parentsFor}
 use Rattle.machine.specs.Package.{failedPackageInfo, listedAfter, failedPackageClaims}
 
@@ -93,12 +94,24 @@ dueAt now (some next) = leb next now
 abbrev pub nextPollAfter : ℕ → Option ℕ → Option ℕ
 nextPollAfter now next = if dueAt now next then some (now + pollInterval) else next
 
--- ---- sum: "held, free = L − held, held × 1,000 / L rounded down"
+-- ---- sum: "held, free = L − held, held × 1,000 / L rounded down", and document 02's "two free figures: L − held for unpreferred newcomers, and that plus
+-- the unpreferred candidates not owning their own request for preferred ones"
+
+-- these are the candidates that a preferred newcomer can evict, at whatever hash
+abbrev pub evictable : Table → ℕ
+evictable t = length (victims anywhere t)
 
 pub record Sums : Type 0 where
   pub held : ℕ
   pub free : ℕ
+  pub preferred : ℕ
   pub permille : ℕ
 
 unfoldable pub sum : State → Sums
-sum s = record { held = held (s .table); free = s .limit - held (s .table); permille = held (s .table) * 1000 / s .limit }
+sum s =
+    record {
+      held = held (s .table);
+      free = s .limit - held (s .table);
+      preferred = s .limit - held (s .table) + evictable (s .table);
+      permille = held (s .table) * 1000 / s .limit;
+    }

@@ -20,7 +20,7 @@ replyOf (Yes n) = Number n
 
 abbrev pub figuresOf : Figures → Reply
 figuresOf (NoFigures n) = Refused n
-figuresOf (Are held free permille) = Summed (record { held = held; free = free; permille = permille })
+figuresOf (Are held free preferred permille) = Summed (record { held = held; free = free; preferred = preferred; permille = permille })
 
 -- n keys stand in the answer buffer
 abbrev pub keysListed : ℕ → Buffer → Reply

@@ -18,10 +18,10 @@ pub enum Answer {
     Number(u64),
 }
 
-// Held, free and permille used, or a refusal.
+// Held, free for unpreferred newcomers and for preferred ones, permille used, or a refusal.
 pub enum Figures {
     Refused(u64),
-    Are(u64, u64, u64),
+    Are(u64, u64, u64, u64),
 }
 
 // How many keys, entries or bytes of text stand in the answer buffer, or a refusal.

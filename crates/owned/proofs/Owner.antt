@@ -14,10 +14,10 @@ use Rattle.public_plans.specs.declared.Selection.{Selection}
 use Rattle.tracker.specs.Made.{Made}
 use Rattle.tracker.proofs.Typed.{made-typed}
 use Rattle.outcome.proofs.Owned.{does-keeps-sound}
-use Rattle.exports.specs.Status.{statusOf, handedOut, listingStatus, countOut, departureStatus, ownOut, parentsOut, numbered, HandsOut}
-use Rattle.exports.specs.Status.{HandsKeys, HandsEntries, HandsDeparture, plannedStatus, consideredOut, chosenOut, HandsPlan}
-use Rattle.exports.proofs.Replies.{RepliesOne}
-use Rattle.exports.proofs.Statuses.{hands-out, hands-keys, hands-entries, hands-departure, hands-plan, one-told}
+use Rattle.crossing.specs.Status.{statusOf, handedOut, listingStatus, countOut, departureStatus, ownOut, parentsOut, numbered, HandsOut}
+use Rattle.crossing.specs.Status.{HandsKeys, HandsEntries, HandsDeparture, plannedStatus, consideredOut, chosenOut, nextOut, HandsPlan}
+use Rattle.crossing.proofs.Replies.{RepliesOne}
+use Rattle.crossing.proofs.Statuses.{hands-out, hands-keys, hands-entries, hands-departure, hands-plan, one-told}
 
 -- c₀ is the call that was made of the sound store b, c what the export says of its arguments; z is left
 module _ {c₀ : Call} (m : Made c₀) {b : List ℕ} (w : SoundStore b) (p : Bytes b) {c : Call} {z : List ℕ} where
@@ -43,6 +43,7 @@ pub owner-departure : {c : Call} → Made c → {b : List ℕ} → SoundStore b 
 owner-departure {c} m w p d was was′ l e = (hands-departure d was was′ l e, does-keeps-sound w (made-typed c m) p l)
 
 -- of a plan
-pub owner-plan : {c : Call} → Made c → {b : List ℕ} → SoundStore b → Bytes b → (p : Selection) (was was′ : ℕ) {z : List ℕ} {u : Buffer} {r k n : ℕ}
-    → LeavesWith c b z u (plannedOf p) → (r ≡ plannedStatus p) × (k ≡ consideredOut p was) × (n ≡ chosenOut p was′) → HandsPlan c b z u r was k was′ n × SoundStore z
-owner-plan {c} m w p q was was′ l e = (hands-plan q was was′ l e, does-keeps-sound w (made-typed c m) p l)
+pub owner-plan : {c : Call} → Made c → {b : List ℕ} → SoundStore b → Bytes b → (p : Selection) (was was′ was″ : ℕ) {z : List ℕ} {u : Buffer} {r k n x : ℕ}
+    → LeavesWith c b z u (plannedOf p) → (r ≡ plannedStatus p) × (k ≡ consideredOut p was) × (n ≡ chosenOut p was′) × (x ≡ nextOut p was″)
+    → HandsPlan c b z u r was k was′ n was″ x × SoundStore z
+owner-plan {c} m w p q was was′ was″ l e = (hands-plan q was was′ was″ l e, does-keeps-sound w (made-typed c m) p l)

@@ -3,7 +3,7 @@ ghost use Rattle.words.specs.Words.{words};
 ghost use Rattle.machine.specs.Call.{On, Arrange};
 ghost use Rattle.store.specs.Image.{SoundStore};
 ghost use Rattle.claiming.specs.Claiming.{entriesIn};
-ghost use Rattle.exports.specs.Status.{HandsEntries};
+ghost use Rattle.crossing.specs.Status.{HandsEntries};
 
 // What a claim has taken, given in 112 bytes an entry, stands in the answer by ascending connection, then claim order: so many as `count` says. A t item of a
 // marked request turns v for a witness connection: those of the list, which has 8 bytes for each, least first. The store is only read.
@@ -20,5 +20,5 @@ pub extern "C" fn tracker_owned_arrange(
         (now (s .entry)) (now (s .entry)) (now (answer .exit)) r (now (count .entry)) (now (count .exit)) ⌝ }
 {
     let l = public_plans::on_sound::arrangements::arrange(s, witnesses, taken, answer);
-    exports::hand_count(l, count)
+    crossing::hand_count(l, count)
 }

@@ -2,8 +2,8 @@
 ghost use Rattle.machine.specs.Call.{On, Announce, RequestParent, AnnounceParents};
 ghost use Rattle.lent_lists.specs.Lists.{hashesIn};
 ghost use Rattle.store.specs.Image.{SoundStore};
-ghost use Rattle.exports.specs.Arguments.{candidateIn};
-ghost use Rattle.exports.specs.Status.{HandsOut, HandsKeys};
+ghost use Rattle.crossing.specs.Arguments.{candidateIn};
+ghost use Rattle.crossing.specs.Status.{HandsOut, HandsKeys};
 
 // A connection can deliver an item. The reply is 1 if it is kept.
 #[no_mangle]
@@ -22,9 +22,9 @@ pub extern "C" fn tracker_owned_announce(
         (now (s .entry)) (now (s .exit)) r (now (reply .entry)) (now (reply .exit)) ⌝ }
     ensures sound { λ r. ⌜ SoundStore (now (s .exit)) ⌝ }
 {
-    let c = exports::candidates::candidate(connection, item_type, hash, ready, preferred, priority);
+    let c = crossing::arguments::candidate(connection, item_type, hash, ready, preferred, priority);
     let a = public_requests::on_sound::candidates::announce(s, c);
-    exports::hand_out(a, reply)
+    crossing::hand_out(a, reply)
 }
 
 // The same for a parent that is missing.
@@ -44,9 +44,9 @@ pub extern "C" fn tracker_owned_request_parent(
         (now (s .entry)) (now (s .exit)) r (now (reply .entry)) (now (reply .exit)) ⌝ }
     ensures sound { λ r. ⌜ SoundStore (now (s .exit)) ⌝ }
 {
-    let c = exports::candidates::candidate(connection, item_type, hash, ready, preferred, priority);
+    let c = crossing::arguments::candidate(connection, item_type, hash, ready, preferred, priority);
     let a = public_requests::on_sound::candidates::request_parent(s, c);
-    exports::hand_out(a, reply)
+    crossing::hand_out(a, reply)
 }
 
 // Requests the parents of a transaction, 32 bytes each. The keys of those that are kept stand in the answer: so many as `count` says.
@@ -71,5 +71,5 @@ pub extern "C" fn tracker_owned_announce_parents(
         clock,
         answer,
     );
-    exports::hand_count(l, count)
+    crossing::hand_count(l, count)
 }

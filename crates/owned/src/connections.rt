@@ -1,6 +1,6 @@
 // counts, of an owner. It only reads.
 ghost use Rattle.store.specs.Image.{SoundStore};
-ghost use Rattle.exports.specs.Counts.{HandsCounts};
+ghost use Rattle.crossing.specs.Counts.{HandsCounts};
 
 // How many announcements the connection has, and how many requests it owns, deadlines over or not. The store is only read.
 #[no_mangle]
@@ -14,5 +14,5 @@ pub extern "C" fn tracker_owned_counts(
     ensures { λ r. ⌜ HandsCounts (now (s .entry)) connection r (now (announced .entry)) (now (announced .exit)) (now (owned .entry)) (now (owned .exit)) ⌝ }
 {
     let c = public_requests::on_sound::connections::counts(s, connection);
-    exports::connections::hand_counts(c, announced, owned)
+    crossing::hand_counts(c, announced, owned)
 }

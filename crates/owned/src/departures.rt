@@ -1,7 +1,7 @@
 // disconnected, of an owner.
 ghost use Rattle.machine.specs.Call.{On, Disconnected};
 ghost use Rattle.store.specs.Image.{SoundStore};
-ghost use Rattle.exports.specs.Status.{HandsDeparture};
+ghost use Rattle.crossing.specs.Status.{HandsDeparture};
 
 // The connection leaves every request that it is a candidate of. The keys of these stand in the answer, so many as `own` says, and behind them the keys of parents
 // that are announced for the candidates left, so many as `parents` says.
@@ -20,5 +20,5 @@ pub extern "C" fn tracker_owned_disconnected(
     ensures sound { λ r. ⌜ SoundStore (now (s .exit)) ⌝ }
 {
     let d = public_packages::on_sound::departures::disconnected(s, connection, clock, answer);
-    exports::hand_departure(d, own, parents)
+    crossing::hand_departure(d, own, parents)
 }

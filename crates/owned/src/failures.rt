@@ -2,8 +2,8 @@
 ghost use Rattle.machine.specs.Call.{On, Failed, FailedWithParents, Unclaim, Forget, ForgetKnown, FailedPackageInfo, PackageInfoOwner};
 ghost use Rattle.store.specs.Image.{SoundStore};
 ghost use Rattle.outcome.specs.Outcome.{Leaves};
-ghost use Rattle.exports.specs.Arguments.{keyGiven};
-ghost use Rattle.exports.specs.Status.{numbered, HandsOut, HandsKeys};
+ghost use Rattle.crossing.specs.Arguments.{keyGiven};
+ghost use Rattle.crossing.specs.Status.{numbered, HandsOut, HandsKeys};
 
 // The owner of the request at the key failed to deliver. The reply is 0 unless the connection owns it and its package is not Enqueued.
 #[no_mangle]
@@ -19,9 +19,9 @@ pub extern "C" fn tracker_owned_failed(
     ensures { λ r. ⌜ HandsOut (On (Failed (keyGiven kind (now (hash .entry))) connection clock)) (now (s .entry)) (now (s .exit)) r (now (reply .entry)) (now (reply .exit)) ⌝ }
     ensures sound { λ r. ⌜ SoundStore (now (s .exit)) ⌝ }
 {
-    let k = exports::failures::key_given(kind, hash);
+    let k = crossing::arguments::key_given(kind, hash);
     let a = public_requests::on_sound::failures::failed(s, k, connection, clock);
-    exports::hand_out(a, reply)
+    crossing::hand_out(a, reply)
 }
 
 // failed, and the parents of the request are requested of the connection. The key and those of the parents that are kept stand in the answer: so many as
@@ -41,7 +41,7 @@ pub extern "C" fn tracker_owned_failed_with_parents(
         (now (s .entry)) (now (s .exit)) (now (answer .exit)) r (now (count .entry)) (now (count .exit)) ⌝ }
     ensures sound { λ r. ⌜ SoundStore (now (s .exit)) ⌝ }
 {
-    let k = exports::failures::key_given(kind, hash);
+    let k = crossing::arguments::key_given(kind, hash);
     let l = public_requests::on_sound::failures::failed_with_parents(
         s,
         k,
@@ -49,7 +49,7 @@ pub extern "C" fn tracker_owned_failed_with_parents(
         clock,
         answer,
     );
-    exports::hand_count(l, count)
+    crossing::hand_count(l, count)
 }
 
 // The owner gives the request back and stays a candidate. Carried out, it replies 1.
@@ -64,8 +64,8 @@ pub extern "C" fn tracker_owned_unclaim(
     ensures { λ r. ⌜ Leaves (On (Unclaim (keyGiven kind (now (hash .entry))) connection)) (now (s .entry)) (now (s .exit)) (numbered r 1) ⌝ }
     ensures sound { λ r. ⌜ SoundStore (now (s .exit)) ⌝ }
 {
-    let k = exports::failures::key_given(kind, hash);
-    exports::status(public_requests::on_sound::failures::unclaim(s, k, connection))
+    let k = crossing::arguments::key_given(kind, hash);
+    crossing::status(public_requests::on_sound::failures::unclaim(s, k, connection))
 }
 
 // The request at the key goes. Carried out, it replies 1.
@@ -75,8 +75,8 @@ pub extern "C" fn tracker_owned_forget(s: &mut [u8], kind: u64, hash: &[u8; 32])
     ensures { λ r. ⌜ Leaves (On (Forget (keyGiven kind (now (hash .entry))))) (now (s .entry)) (now (s .exit)) (numbered r 1) ⌝ }
     ensures sound { λ r. ⌜ SoundStore (now (s .exit)) ⌝ }
 {
-    let k = exports::failures::key_given(kind, hash);
-    exports::status(public_requests::on_sound::failures::forget(s, k))
+    let k = crossing::arguments::key_given(kind, hash);
+    crossing::status(public_requests::on_sound::failures::forget(s, k))
 }
 
 // The transaction of the request at the key is known: the request goes, and its parents are announced for its owner. It stays if a package is still to come of it.
@@ -92,8 +92,8 @@ pub extern "C" fn tracker_owned_forget_known(
     ensures { λ r. ⌜ Leaves (On (ForgetKnown (keyGiven kind (now (hash .entry))) clock)) (now (s .entry)) (now (s .exit)) (numbered r 1) ⌝ }
     ensures sound { λ r. ⌜ SoundStore (now (s .exit)) ⌝ }
 {
-    let k = exports::failures::key_given(kind, hash);
-    exports::status(public_packages::on_sound::package_claims::forget_known(s, k, clock))
+    let k = crossing::arguments::key_given(kind, hash);
+    crossing::status(public_packages::on_sound::package_claims::forget_known(s, k, clock))
 }
 
 // failed, of a connection that is asked for package info. The reply is 0 unless it is.
@@ -110,9 +110,9 @@ pub extern "C" fn tracker_owned_failed_package_info(
     ensures { λ r. ⌜ HandsOut (On (FailedPackageInfo (keyGiven kind (now (hash .entry))) connection clock)) (now (s .entry)) (now (s .exit)) r (now (reply .entry)) (now (reply .exit)) ⌝ }
     ensures sound { λ r. ⌜ SoundStore (now (s .exit)) ⌝ }
 {
-    let k = exports::failures::key_given(kind, hash);
+    let k = crossing::arguments::key_given(kind, hash);
     let a = public_packages::on_sound::package_info::failed_package_info(s, k, connection, clock);
-    exports::hand_out(a, reply)
+    crossing::hand_out(a, reply)
 }
 
 // The connection that is asked for package info of the request at the key, and in time; 0, if there is none.
@@ -127,7 +127,7 @@ pub extern "C" fn tracker_owned_package_info_owner(
     requires { ⌜ SoundStore (now s) ⌝ }
     ensures { λ r. ⌜ HandsOut (On (PackageInfoOwner (keyGiven kind (now (hash .entry))) clock)) (now (s .entry)) (now (s .entry)) r (now (owner .entry)) (now (owner .exit)) ⌝ }
 {
-    let k = exports::failures::key_given(kind, hash);
+    let k = crossing::arguments::key_given(kind, hash);
     let a = public_packages::on_sound::package_info::package_info_owner(s, k, clock);
-    exports::hand_out(a, owner)
+    crossing::hand_out(a, owner)
 }

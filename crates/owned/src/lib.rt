@@ -6,7 +6,7 @@
 ghost use Rattle.machine.specs.Call.{On, Sum};
 ghost use Rattle.store.specs.Image.{SoundStore};
 ghost use Rattle.outcome.specs.Outcome.{Leaves};
-ghost use Rattle.exports.specs.Status.{figured, Stays};
+ghost use Rattle.crossing.specs.Status.{figured, Stays};
 
 pub mod arrangements;
 pub mod candidates;
@@ -20,25 +20,28 @@ pub mod plans;
 pub mod sweeps;
 pub mod wrappers;
 
-// How many announcements are held, how many more fit, and how full the tracker is in thousandths. The store is only read.
+// How many announcements are held, how many more fit of unpreferred newcomers and of preferred ones, and how full the tracker is in thousandths. The store is only read.
 #[no_mangle]
 pub extern "C" fn tracker_owned_sum(
     s: &[u8],
     held: &mut u64,
     free: &mut u64,
+    preferred_free: &mut u64,
     permille: &mut u64,
 ) -> u64
     requires { ⌜ SoundStore (now s) ⌝ }
-    ensures { λ r. ⌜ Leaves (On Sum) (now (s .entry)) (now (s .entry)) (figured r (now (held .exit)) (now (free .exit)) (now (permille .exit))) ⌝ }
-    ensures kept { λ r. ⌜ Stays r (now (held .entry)) (now (held .exit)) × Stays r (now (free .entry)) (now (free .exit)) × Stays r (now (permille .entry)) (now (permille .exit)) ⌝ }
+    ensures { λ r. ⌜ Leaves (On Sum) (now (s .entry)) (now (s .entry)) (figured r (now (held .exit)) (now (free .exit)) (now («preferred_free» .exit)) (now (permille .exit))) ⌝ }
+    ensures kept { λ r. ⌜ Stays r (now (held .entry)) (now (held .exit)) × Stays r (now (free .entry)) (now (free .exit))
+        × Stays r (now («preferred_free» .entry)) (now («preferred_free» .exit)) × Stays r (now (permille .entry)) (now (permille .exit)) ⌝ }
 {
     let f = public_requests::on_sound::sum(s);
     match f {
         outcome::Figures::Refused(n) => n,
-        outcome::Figures::Are(a, b, c) => {
+        outcome::Figures::Are(a, b, c, d) => {
             *held = a;
             *free = b;
-            *permille = c;
+            *preferred_free = c;
+            *permille = d;
             0
         }
     }

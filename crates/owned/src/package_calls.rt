@@ -2,8 +2,8 @@
 ghost use Rattle.machine.specs.Call.{On, SolicitPackageInfo, ClaimPackage, BeginPackageResolution, ReleasePackage};
 ghost use Rattle.lent_lists.specs.Lists.{hashesIn};
 ghost use Rattle.store.specs.Image.{SoundStore};
-ghost use Rattle.exports.specs.Arguments.{hashGiven};
-ghost use Rattle.exports.specs.Status.{HandsOut, HandsKeys};
+ghost use Rattle.crossing.specs.Arguments.{hashGiven};
+ghost use Rattle.crossing.specs.Status.{HandsOut, HandsKeys};
 
 // The connection is asked for the package info of the transaction with that wtxid, whose parents are given in 32 bytes each. The reply is 0 if the hash is owned, if
 // the connection owns 100 requests, or if it is no candidate and is not kept as one.
@@ -29,7 +29,7 @@ pub extern "C" fn tracker_owned_solicit_package_info(
         parents,
         clock,
     );
-    exports::hand_out(a, reply)
+    crossing::hand_out(a, reply)
 }
 
 // The package info of the request at the Wtxid key has come: its owner has until the deadline to get the package, whose wtxids are given in 32 bytes each. The
@@ -59,7 +59,7 @@ pub extern "C" fn tracker_owned_claim_package(
         wtxids,
         clock,
     );
-    exports::hand_out(a, reply)
+    crossing::hand_out(a, reply)
 }
 
 // The package itself has come: it waits in the queue from now on, and no deadline ends it. The reply is 0 unless combined hash and wtxids are those that were
@@ -89,7 +89,7 @@ pub extern "C" fn tracker_owned_begin_package_resolution(
         wtxids,
         clock,
     );
-    exports::hand_out(a, reply)
+    crossing::hand_out(a, reply)
 }
 
 // The package in the queue at the Wtxid key, if the connection owns it, is given up: the connection leaves, and is asked for the parents. The key and those of the
@@ -116,5 +116,5 @@ pub extern "C" fn tracker_owned_release_package(
         clock,
         answer,
     );
-    exports::hand_count(l, count)
+    crossing::hand_count(l, count)
 }

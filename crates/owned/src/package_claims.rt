@@ -2,7 +2,7 @@
 ghost use Rattle.machine.specs.Call.{On, FailedPackageClaims, TeardownPackageClaims};
 ghost use Rattle.store.specs.Image.{SoundStore};
 ghost use Rattle.lent_lists.specs.Lists.{hashesIn};
-ghost use Rattle.exports.specs.Status.{HandsOut, HandsKeys};
+ghost use Rattle.crossing.specs.Status.{HandsOut, HandsKeys};
 
 // The claims of the connection whose packages have one of the combined hashes, which are given in 32 bytes each, have failed; of two with one hash, that at the
 // greater key. Their keys stand in the answer, each followed by those of its parents that are kept: so many as `count` says.
@@ -27,7 +27,7 @@ pub extern "C" fn tracker_owned_failed_package_claims(
         clock,
         answer,
     );
-    exports::hand_count(l, count)
+    crossing::hand_count(l, count)
 }
 
 // Every package goes, whatever its phase, and its owner leaves the request. `count` says how many went.
@@ -42,5 +42,5 @@ pub extern "C" fn tracker_owned_teardown_package_claims(
     ensures sound { λ r. ⌜ SoundStore (now (s .exit)) ⌝ }
 {
     let a = public_packages::on_sound::package_claims::teardown_package_claims(s, clock);
-    exports::hand_out(a, count)
+    crossing::hand_out(a, count)
 }

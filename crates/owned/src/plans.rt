@@ -4,7 +4,7 @@ ghost use Rattle.machine.specs.Call.{On, Plan, Claim};
 ghost use Rattle.store.specs.Image.{SoundStore};
 ghost use Rattle.claiming.specs.Claiming.{entriesIn};
 ghost use Rattle.selecting.specs.Phasing.{givenKeys};
-ghost use Rattle.exports.specs.Status.{HandsEntries, HandsPlan};
+ghost use Rattle.crossing.specs.Status.{HandsEntries, HandsPlan};
 
 // Takes, in order, each entry of the checked list, which is given in 112 bytes each, whose hash is unowned and that is still what plan would choose for it. Those
 // that are taken stand in the answer: so many as `taken` says.
@@ -22,11 +22,11 @@ pub extern "C" fn tracker_owned_claim(
     ensures sound { λ r. ⌜ SoundStore (now (s .exit)) ⌝ }
 {
     let l = public_plans::on_sound::plans::claim(s, clock, checked, answer);
-    exports::hand_count(l, taken)
+    crossing::hand_count(l, taken)
 }
 
 // Plans over all keys after the ready cursor and round to it. What it selects stands in the answer in 112 bytes an entry: so many as `count` says, of as many keys
-// as `considered` says.
+// as `considered` says. `next` is the least time later than the clock at which a key that nobody owns may be ready or an owner be late, 0 if there is none.
 #[no_mangle]
 pub extern "C" fn tracker_owned_plan(
     s: &mut [u8],
@@ -34,14 +34,16 @@ pub extern "C" fn tracker_owned_plan(
     answer: &mut [u8],
     considered: &mut u64,
     count: &mut u64,
+    next: &mut u64,
 ) -> u64
     requires { ⌜ SoundStore (now s) ⌝ }
     ensures { λ r. ⌜ HandsPlan (On (Plan clock none (now (answer .entry))))
-        (now (s .entry)) (now (s .exit)) (now (answer .exit)) r (now (considered .entry)) (now (considered .exit)) (now (count .entry)) (now (count .exit)) ⌝ }
+        (now (s .entry)) (now (s .exit)) (now (answer .exit)) r (now (considered .entry)) (now (considered .exit)) (now (count .entry)) (now (count .exit))
+        (now (next .entry)) (now (next .exit)) ⌝ }
     ensures sound { λ r. ⌜ SoundStore (now (s .exit)) ⌝ }
 {
     let p = public_plans::on_sound::plans::plan(s, clock, answer);
-    exports::hand_plan(p, considered, count)
+    crossing::hand_plan(p, considered, count, next)
 }
 
 // The same over the keys that are given in 40 bytes each; the ready cursor stays.
@@ -53,12 +55,14 @@ pub extern "C" fn tracker_owned_plan_given(
     answer: &mut [u8],
     considered: &mut u64,
     count: &mut u64,
+    next: &mut u64,
 ) -> u64
     requires { ⌜ SoundStore (now s) ⌝ }
     ensures { λ r. ⌜ HandsPlan (On (Plan clock (some (givenKeys (now (given .entry)))) (now (answer .entry))))
-        (now (s .entry)) (now (s .exit)) (now (answer .exit)) r (now (considered .entry)) (now (considered .exit)) (now (count .entry)) (now (count .exit)) ⌝ }
+        (now (s .entry)) (now (s .exit)) (now (answer .exit)) r (now (considered .entry)) (now (considered .exit)) (now (count .entry)) (now (count .exit))
+        (now (next .entry)) (now (next .exit)) ⌝ }
     ensures sound { λ r. ⌜ SoundStore (now (s .exit)) ⌝ }
 {
     let p = public_plans::on_sound::plans::plan_given(s, clock, given, answer);
-    exports::hand_plan(p, considered, count)
+    crossing::hand_plan(p, considered, count, next)
 }

@@ -1,7 +1,7 @@
 // sweep and the poll gate, of an owner.
 ghost use Rattle.machine.specs.Call.{On, Sweep, PollGate};
 ghost use Rattle.store.specs.Image.{SoundStore};
-ghost use Rattle.exports.specs.Status.{HandsOut, HandsKeys};
+ghost use Rattle.crossing.specs.Status.{HandsOut, HandsKeys};
 
 // The next keys after the known cursor, which becomes the last of them. They stand in the answer: so many as `count` says.
 #[no_mangle]
@@ -11,7 +11,7 @@ pub extern "C" fn tracker_owned_sweep(s: &mut [u8], answer: &mut [u8], count: &m
     ensures sound { λ r. ⌜ SoundStore (now (s .exit)) ⌝ }
 {
     let l = public_requests::on_sound::sweeps::sweep(s, answer);
-    exports::hand_count(l, count)
+    crossing::hand_count(l, count)
 }
 
 // Whether a poll is due. If the reply is 1, the next one is 100 milliseconds later.
@@ -22,5 +22,5 @@ pub extern "C" fn tracker_owned_poll_gate(s: &mut [u8], clock: u64, reply: &mut 
     ensures sound { λ r. ⌜ SoundStore (now (s .exit)) ⌝ }
 {
     let a = public_requests::on_sound::sweeps::poll_gate(s, clock);
-    exports::hand_out(a, reply)
+    crossing::hand_out(a, reply)
 }

@@ -3,8 +3,8 @@ ghost use Rattle.machine.specs.Call.{On, AnnounceTransactions, TransactionRespo
 ghost use Rattle.store.specs.Image.{SoundStore};
 ghost use Rattle.lent_lists.specs.Items.{itemsIn, offersIn};
 ghost use Rattle.outcome.specs.Outcome.{Leaves};
-ghost use Rattle.exports.specs.Arguments.{hashGiven};
-ghost use Rattle.exports.specs.Status.{numbered, HandsKeys};
+ghost use Rattle.crossing.specs.Arguments.{hashGiven};
+ghost use Rattle.crossing.specs.Status.{numbered, HandsKeys};
 
 // The connection announces the items, which are given in 40 bytes each, with the priorities beside them in 8; the shorter list decides. source: a wtxid source exists.
 // Carried out, it replies 1.
@@ -31,7 +31,7 @@ pub extern "C" fn tracker_owned_announce_transactions(
         items,
         priorities,
     );
-    exports::status(a)
+    crossing::status(a)
 }
 
 // A response of the connection is complete: what it still owns of this transaction, under either identity, has failed. Carried out, it replies 1.
@@ -51,7 +51,7 @@ pub extern "C" fn tracker_owned_transaction_response_completed(
     let h = ident::hash_from_bytes(wtxid);
     let x = ident::Txid(g);
     let w = ident::Wtxid(h);
-    exports::status(public_plans::on_sound::wrappers::transaction_response_completed(
+    crossing::status(public_plans::on_sound::wrappers::transaction_response_completed(
         s,
         connection,
         x,
@@ -83,5 +83,5 @@ pub extern "C" fn tracker_owned_transaction_not_found(
         clock,
         answer,
     );
-    exports::hand_count(l, count)
+    crossing::hand_count(l, count)
 }

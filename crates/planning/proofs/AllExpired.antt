@@ -17,14 +17,18 @@ use Rattle.machine.specs.Table.{at}
 use Rattle.machine.specs.Plan.{Due, expired}
 use Rattle.machine.specs.Sound.{Ordered, All, Lawful, Sound}
 use Rattle.machine.proofs.At.{at-here, at-there}
+use Rattle.machine.proofs.Tests.{never}
 use Rattle.store.specs.Shown.{Kept}
 use Rattle.requests.specs.Changes.{Tells}
 use Rattle.package_stages.specs.Records.{placeHashes}
 use Rattle.apart.specs.Bare.{bare, bareState}
 use Rattle.apart.specs.Apart.{Apart, Parted}
+use Rattle.apart.specs.Noting.{Spent, Exhausted}
 use Rattle.apart.specs.Lapsing.{family, noted, Clear, Expires}
 use Rattle.apart.proofs.BareTable.{sound-bare}
 use Rattle.apart.proofs.OneOwner.{noted-none}
+use Rattle.apart.proofs.SpentStill.{victims-bare}
+use Rattle.failing.proofs.Leaving.{told}
 use Rattle.planning.specs.Expiring.{expireOne, dueFrom, DueNext, NextDue, Clean, ExpiredAll, ExpiresAll}
 use Rattle.apart.proofs.Overdue.{front-lent}
 use Rattle.planning.specs.declared.expiring.Turn.{Turn}
@@ -56,7 +60,7 @@ due-owns now x lo (r ∷ t) d ds o l e =
     ]
 
 -- the owners before the place x of the state st, with the places ps, are expired
-pub record OnTheWay (now : ℕ) (st : State) (ps : List Place) (b f : List ℕ) (m x : ℕ) (low high : List ℕ) : Type 0 where
+pub record OnTheWay (now : ℕ) (st : State) (ps : List Place) (b f : List ℕ) (m x : ℕ) (low high : List ℕ) (spent : Bool) : Type 0 where
   pub table : Table
   pub places : List Place
   pub apart : Apart b f m (onTable table st) places
@@ -64,14 +68,15 @@ pub record OnTheWay (now : ℕ) (st : State) (ps : List Place) (b f : List ℕ) 
   pub hashes-same : placeHashes places ≡ placeHashes ps
   pub going : Expiring (limitsOf st) now (expired now st) x table (noted (family ps) low high)
   pub later : (j : ℕ) → j < length ps → x ≤ place (wtxid (getD (placeHashes ps) j 0)) → Clear low high j
+  pub none-left : spent ≡ true → Spent table
 
-abbrev pub AllOnTheWay : List ℕ → List ℕ → List ℕ → List ℕ → ℕ → ℕ → ℕ → ℕ → List ℕ → List ℕ → Type 0
-AllOnTheWay b₀ b f₀ f m c now x low high = (st : State) (ps : List Place) → Apart b₀ f₀ m st ps → c ≡ length ps → OnTheWay now st ps b f m x low high
+abbrev pub AllOnTheWay : List ℕ → List ℕ → List ℕ → List ℕ → ℕ → ℕ → ℕ → ℕ → List ℕ → List ℕ → Bool → Type 0
+AllOnTheWay b₀ b f₀ f m c now x low high spent = (st : State) (ps : List Place) → Apart b₀ f₀ m st ps → c ≡ length ps → OnTheWay now st ps b f m x low high spent
 
 pub same-long : (ps qs : List Place) → family qs ≡ family ps → length qs ≡ length ps
 same-long ps qs e = sym (length-map qs (λ (p : Place). p .parents)) ∙ ap length e ∙ length-map ps (λ (p : Place). p .parents)
 
-pub way-starts : {b f : List ℕ} {m c : ℕ} {low high : List ℕ} (now x : ℕ) → x ≡ 0 → Clean low high c → AllOnTheWay b b f f m c now x low high
+pub way-starts : {b f : List ℕ} {m c : ℕ} {low high : List ℕ} (now x : ℕ) → x ≡ 0 → Clean low high c → AllOnTheWay b b f f m c now x low high false
 way-starts {low = low} {high} now x e z st ps o n =
     let none = noted-none (family ps) low high (λ j h. z .clear j (omega (arith, length-map ps (λ (p : Place). p .parents)))) in
     record {
@@ -83,15 +88,22 @@ way-starts {low = low} {high} now x e z st ps o n =
       going = subst (λ (ks : List Key). Expiring (limitsOf st) now (expired now st) x (st .table) ks) (sym none)
           (subst (λ (i : ℕ). Expiring (limitsOf st) now (expired now st) i (st .table) []) (sym e) (expiring-start (limitsOf st) now (st .table) (o .sound .bounded .ordered)));
       later = λ j h l. z .clear j (omega arith);
+      none-left = λ i. never i;
     }
 
-pub way-parted : {b₀ b f₀ f : List ℕ} {m c now x : ℕ} {low high : List ℕ} → Parted b₀ f₀ m c → AllOnTheWay b₀ b f₀ f m c now x low high → Parted b f m c
+pub way-parted : {b₀ b f₀ f : List ℕ} {m c now x : ℕ} {low high : List ℕ} {spent : Bool} → Parted b₀ f₀ m c → AllOnTheWay b₀ b f₀ f m c now x low high spent → Parted b f m c
 way-parted p a =
     let g = a (p .state) (p .places) (p .apart) (p .count) in
     record { state = onTable (g .table) (p .state); places = g .places; apart = g .apart; count = p .count ∙ sym (same-long (p .places) (g .places) (g .family-same)) }
 
-pub way-goes : {b₀ b b′ f₀ f f′ : List ℕ} {m c now x : ℕ} {low low′ high high′ : List ℕ} {k : Key} {n : ℕ} → now < word → AllOnTheWay b₀ b f₀ f m c now x low high → DueNext (take m b) now x k n
-    → Expires b b′ f f′ m c low low′ high high′ k n now → AllOnTheWay b₀ b′ f₀ f′ m c now (place k + 1) low′ high′
+-- nobody can be evicted in the store as it is
+pub way-spent : {b₀ b f₀ f : List ℕ} {m c now x : ℕ} {low high : List ℕ} {spent : Bool} → Parted b₀ f₀ m c → AllOnTheWay b₀ b f₀ f m c now x low high spent → Exhausted (take m b) spent
+way-spent p a i =
+    let g = a (p .state) (p .places) (p .apart) (p .count) in
+    told Spent (bareState (onTable (g .table) (p .state))) (sound-bare (g .apart .sound)) (g .apart .writes) (victims-bare (g .table) ∙ g .none-left i)
+
+pub way-goes : {b₀ b b′ f₀ f f′ : List ℕ} {m c now x : ℕ} {low low′ high high′ : List ℕ} {k : Key} {n : ℕ} {spent spent′ : Bool} → now < word → AllOnTheWay b₀ b f₀ f m c now x low high spent
+    → DueNext (take m b) now x k n → Expires b b′ f f′ m c low low′ high high′ k n now spent′ → AllOnTheWay b₀ b′ f₀ f′ m c now (place k + 1) low′ high′ spent′
 way-goes {b′ = b′} {f′ = f′} {m} {c} {now} {x} {low} {low′} {high} {high′} {k} {n} w a next one st ps o count =
     let g = a st ps o count in
     let t = g .table in
@@ -118,9 +130,10 @@ way-goes {b′ = b′} {f′ = f′} {m} {c} {now} {x} {low} {low′} {high} {hi
       later = λ j h l.
           let z = ap (λ (hs : List ℕ). place (wtxid (getD hs j 0))) (g .hashes-same) in
           y .later j (omega arith) (omega arith) (g .later j h (omega (arith, next .from)));
+      none-left = y .none-left;
     }
 
-pub way-ends : {b₀ b f₀ f : List ℕ} {m c now x : ℕ} {low high : List ℕ} → AllOnTheWay b₀ b f₀ f m c now x low high → Tells (take m b) (λ t. dueFrom now x t ≡ [])
+pub way-ends : {b₀ b f₀ f : List ℕ} {m c now x : ℕ} {low high : List ℕ} {spent : Bool} → AllOnTheWay b₀ b f₀ f m c now x low high spent → Tells (take m b) (λ t. dueFrom now x t ≡ [])
     → ExpiresAll b₀ b f₀ f m c low high now
 way-ends {b = b} {f = f} {m} {now = now} {x} {low = low} {high = high} a d st ps o n =
     let g = a st ps o n in

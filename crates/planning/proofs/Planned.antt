@@ -11,14 +11,16 @@ use Rattle.machine.specs.Limits.{word, maxPlaces, maxRequestChecks}
 use Rattle.machine.specs.State.{Table, State, onTable, withReadyCursor}
 use Rattle.machine.specs.Table.{keys}
 use Rattle.machine.specs.Plan as machine
+use Rattle.machine.specs.Later.{nextLook, timeOf}
 use Rattle.machine.specs.Sound.{CursorFits, Sound}
 use Rattle.machine.specs.Step.{entriesAnswer, written}
 use Rattle.machine.specs.Sweep.{round}
-use Rattle.machine.proofs.Plan.{expired-keys, plan-cursor}
+use Rattle.machine.proofs.Plan.{bounded-expired, expired-keys, plan-cursor}
 use Rattle.store.specs.Flat.{placesOf}
 use Rattle.store.specs.Image.{Writes}
 use Rattle.store.specs.Shown.{limitIn, heldPlacesIn, Kept}
 use Rattle.store.proofs.Frame.{sizes}
+use Rattle.requests.specs.Changes.{Tells}
 use Rattle.apart.specs.Bare.{bare, bareState}
 use Rattle.apart.specs.Apart.{Slots, Apart, Parted, SetApart, PutBack}
 use Rattle.apart.specs.Lapsing.{family, noted, Clear}
@@ -31,7 +33,7 @@ use Rattle.planning.specs.declared.replying.Reply.{Reply}
 use Rattle.selecting.specs.Selecting.{Scanning}
 use Rattle.planning.specs.Expiring.{Clean, ExpiresAll}
 use Rattle.planning.specs.Keeping.{KeptPhased}
-use Rattle.planning.specs.Replying.{Fresh, Plans, asks, Asks, AsksOf, Begun, mostKept, BegunTo, Begins, Blank, PlansOf}
+use Rattle.planning.specs.Replying.{Fresh, Selects, Plans, asks, Asks, AsksOf, Begun, mostKept, BegunTo, Begins, Blank, SelectsOf, PlansOf}
 use Rattle.planning.proofs.AllExpired.{same-long}
 use Rattle.selecting.proofs.InOrder.{sort-count}
 use Rattle.planning.proofs.Whole.{fresh-scan}
@@ -166,7 +168,7 @@ module _ {b₀ b₁ b₂ f₁ f₂ p₂ : List ℕ} {m c now : ℕ} (asked : Opt
       pub parted-after : Parted b₃ f₂ m c
       parted-after = record { state = withReadyCursor cursor st₁; places = start .places; apart = apart-after; count = start .count }
 
-      pub plan-is : {b₄ : List ℕ} → PutBack b₃ b₄ f₂ m c → Plans now asked st b₄ u u′ r
+      pub plan-is : {b₄ : List ℕ} → PutBack b₃ b₄ f₂ m c → Selects now asked st b₄ u u′ r
       unfolding machine.plan
       plan-is back = record {
         count = answer .count ∙ ap (λ (k : machine.Scan). length (k .chosen)) scan-is ∙ sym (sort-count ((machine.scanned now asked st) .chosen));
@@ -174,3 +176,28 @@ module _ {b₀ b₁ b₂ f₁ f₂ p₂ : List ℕ} {m c now : ℕ} (asked : Opt
         considered = answer .considered ∙ ap (λ (k : machine.Scan). k .considered) scan-is;
         state = back (withReadyCursor cursor st₁) (start .places) apart-after (start .count);
       }
+
+-- ---- and when to look again
+
+module _ {b b′ u u′ : List ℕ} {now : ℕ} (asked : Option (List Key)) {r : Reply} (late : now < word) (h : SelectsOf b b′ u u′ now asked r) where
+  sound-plan : (st : State) → Sound st → Sound ((machine.plan now asked st) .state)
+  unfolding machine.plan
+  sound-plan st g = record {
+    some-limit = g .some-limit;
+    most-limit = g .most-limit;
+    some-place = g .some-place;
+    most-places = g .most-places;
+    bounded = bounded-expired now st late g;
+    poll = g .poll;
+    known = g .known;
+    ready = plan-cursor now asked st late g;
+  }
+
+  pub plan-kept : Kept b → Kept b′
+  plan-kept k = record { state = (machine.plan now asked (k .state)) .state; sound = sound-plan (k .state) (k .sound); writes = (h (k .state) (k .sound) (k .writes)) .state }
+
+  pub plan-next : (n : ℕ) → Tells b′ (λ t. timeOf n ≡ nextLook now t) → PlansOf b b′ u u′ now asked (record { count = r .count; considered = r .considered; next = n })
+  unfolding machine.plan
+  plan-next n f st s w =
+      let g = h st s w in
+      record { count = g .count; entries = g .entries; considered = g .considered; next = f _ (sound-plan st s) (g .state); state = g .state }

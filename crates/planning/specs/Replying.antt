@@ -9,6 +9,7 @@ use Rattle.places.specs.Places.{Place, listMost}
 use Rattle.machine.specs.Limits.{maxPlaces}
 use Rattle.machine.specs.State.{Entry, State, onTable, withReadyCursor}
 use Rattle.machine.specs.Plan as machine
+use Rattle.machine.specs.Later.{timeOf}
 use Rattle.machine.specs.Sound.{Sound}
 use Rattle.machine.specs.Typed.{Each, KeyTyped}
 use Rattle.machine.specs.Step.{entriesAnswer, written}
@@ -18,6 +19,7 @@ use Rattle.apart.specs.Apart.{Apart}
 use Rattle.cursors.specs.InWords.{Stands}
 use Rattle.selecting.specs.declared.Scan.{Scan}
 use Rattle.planning.specs.declared.replying.Reply.{Reply}
+use Rattle.planning.specs.declared.plan.Planned.{Planned}
 use Rattle.selecting.specs.Selecting.{Marks, Scanning}
 
 -- nothing is selected yet
@@ -30,11 +32,19 @@ pub record Fresh (v : Scan) : Type 0 where
 abbrev pub Closed : List ℕ → List ℕ → List ℕ → ℕ → List ℕ → List ℕ → Type 0
 Closed b b′ p n u u′ = (now : ℕ) (st : State) (l : List Entry) → Sound st → Marks now st l b p n → Writes b′ st × (u′ ≡ written (entriesAnswer (machine.sortByPriority l)) u)
 
--- what a plan answers and leaves
-pub record Plans (now : ℕ) (asked : Option (List Key)) (st : State) (b′ u u′ : List ℕ) (r : Reply) : Type 0 where
+-- what the phases of a plan answer and leave
+pub record Selects (now : ℕ) (asked : Option (List Key)) (st : State) (b′ u u′ : List ℕ) (r : Reply) : Type 0 where
   pub count : r .count ≡ length ((machine.plan now asked st) .entries)
   pub entries : u′ ≡ written (entriesAnswer ((machine.plan now asked st) .entries)) u
   pub considered : r .considered ≡ (machine.plan now asked st) .considered
+  pub state : Writes b′ ((machine.plan now asked st) .state)
+
+-- what a plan answers and leaves
+pub record Plans (now : ℕ) (asked : Option (List Key)) (st : State) (b′ u u′ : List ℕ) (r : Planned) : Type 0 where
+  pub count : r .count ≡ length ((machine.plan now asked st) .entries)
+  pub entries : u′ ≡ written (entriesAnswer ((machine.plan now asked st) .entries)) u
+  pub considered : r .considered ≡ (machine.plan now asked st) .considered
+  pub next : timeOf (r .next) ≡ (machine.plan now asked st) .next
   pub state : Writes b′ ((machine.plan now asked st) .state)
 
 -- ---- the second phase
@@ -87,5 +97,8 @@ pub record Blank (r : List ℕ) : Type 0 where
 
 -- ---- a plan, of every sound state that b write
 
-abbrev pub PlansOf : List ℕ → List ℕ → List ℕ → List ℕ → ℕ → Option (List Key) → Reply → Type 0
+abbrev pub SelectsOf : List ℕ → List ℕ → List ℕ → List ℕ → ℕ → Option (List Key) → Reply → Type 0
+SelectsOf b b′ u u′ now asked r = (st : State) → Sound st → Writes b st → Selects now asked st b′ u u′ r
+
+abbrev pub PlansOf : List ℕ → List ℕ → List ℕ → List ℕ → ℕ → Option (List Key) → Planned → Type 0
 PlansOf b b′ u u′ now asked r = (st : State) → Sound st → Writes b st → Plans now asked st b′ u u′ r

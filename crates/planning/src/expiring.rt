@@ -98,7 +98,8 @@ fn expire_silent(s: &mut [u8], clock: u64)
     apart::silent::drop_due(s, clock);
 }
 
-// Every owner whose time is over fails, in key order, and its parents are announced for it, one owner after the other.
+// Every owner whose time is over fails, in key order, and its parents are announced for it, one owner after the other. Where nobody can be
+// evicted any more (spent) no later parent looks for a victim.
 fn expire_each(
     s: &mut [u8],
     m: usize,
@@ -113,13 +114,14 @@ fn expire_each(
 {
     let mut k = first_key();
     let mut after = false;
+    let mut spent = false;
     loop {
         let w = next_due(&s[0..m], clock, k, after);
         if !w.more {
             return;
         }
         let j = w.key;
-        apart::lapsing::expire_one(s, m, first, c, low, high, j, w.conn, clock);
+        spent = apart::lapsing::expire_one(s, m, first, c, low, high, j, w.conn, clock, spent);
         k = j;
         after = true;
     }

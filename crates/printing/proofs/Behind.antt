@@ -32,7 +32,7 @@ behind-one : (u : List ℕ) → behind (u ∷ []) ≡ 44 ∷ u
 unfolding behind
 behind-one u = ap (λ (l : List ℕ). 44 ∷ l) (append-nil u)
 
-behind-append : (ts : List (List ℕ)) (u : List ℕ) → behind (ts ++ (u ∷ [])) ≡ behind ts ++ (44 ∷ u)
+pub behind-append : (ts : List (List ℕ)) (u : List ℕ) → behind (ts ++ (u ∷ [])) ≡ behind ts ++ (44 ∷ u)
 behind-append ts u = behind-both ts (u ∷ []) ∙ ap (λ (l : List ℕ). behind ts ++ l) (behind-one u)
 
 -- ---- the loop over the keys

@@ -3,6 +3,7 @@ use Prim.Native.Nat.{ℕ, zero, suc, _+_, _*_, _-_, _≤_}
 use mathlib.Core.Path.{_≡_, refl, sym, ap, subst, _∙_}
 use mathlib.Core.Bool.{Bool, true, false}
 use mathlib.Core.List.{List, [], _∷_, _++_, append-assoc, append-nil}
+use mathlib.Core.Option.{Option, none, some}
 use native.Mathlib.Nat.{add-zero}
 use native.Mathlib.Numerals.{add-one}
 use native.Mathlib.Omega.{arith}
@@ -18,16 +19,18 @@ use Rattle.regions.specs.Rows.{quadNumber}
 use Rattle.regions.proofs.Order.{number-quad}
 use Rattle.requests.specs.Changes.{Words}
 use Rattle.machine.specs.State.{Candidate, Entry}
+use Rattle.machine.specs.Later.{timeOf}
+use Rattle.choosing.proofs.Waiting.{time-some}
 use Rattle.claiming.specs.Claiming.{entryFrom, entriesFrom}
 use Rattle.machine.specs.Text.{hashDigits, decimalDigits, decimal, hexadecimal, boolText, keyText, itemKindText, itemText, joined}
 use Rattle.lines.specs.Text.{Wrote}
 use Rattle.machine.proofs.Numerals.{length-numeral}
 use Rattle.lines.proofs.Writing.{wrote-more, wrote-none}
-use Rattle.printing.specs.Replies.{listed, entryTexts}
+use Rattle.printing.specs.Replies.{listed, entryTexts, timeText, selectionText}
 use Rattle.printing.specs.Given.{answerRoom, mostEntries, keyRoom, kindRoom, itemRoom, numberRoom, candidateRoom, entryRoom, behind, candidateTexts, entryText, Printed}
 use Rattle.printing.proofs.KeyLists.{key-length}
 use Rattle.printing.proofs.Printing.{decimal-end}
-use Rattle.printing.proofs.Behind.{joined-behind, behind-both}
+use Rattle.printing.proofs.Behind.{joined-behind, behind-both, behind-append}
 
 -- ---- how long the texts are
 
@@ -78,6 +81,18 @@ wrote-other {n = n} e h p q w =
     let n₁ = p .next in
     let n₂ = q .next in
     rw (e, ← append-assoc (111 ∷ []) (decimal n) (58 ∷ [])) (wrote-more (wrote-more p q (omega arith)) w (omega arith))
+
+time-length : (o : Option ℕ) → length (timeText o) ≤ decimalDigits
+time-length none = omega arith
+time-length (some n) = length-numeral 10 decimalDigits n
+
+-- a time: `none` for 0
+module _ {s s′ : List ℕ} {a r : ℕ} (n : ℕ) where
+  pub wrote-none-time : n ≡ 0 → Wrote s s′ a (44 ∷ 110 ∷ 111 ∷ 110 ∷ 101 ∷ []) r → Wrote s s′ a (44 ∷ timeText (timeOf n)) r
+  wrote-none-time e w = rw e w
+
+  pub wrote-time : (n ≡ 0 → ⊥) → Wrote s s′ a (44 ∷ decimal n) r → Wrote s s′ a (44 ∷ timeText (timeOf n)) r
+  wrote-time h w = rw (time-some n h) w
 
 -- where a field's text ends
 module _ {s s′ : List ℕ} {a r : ℕ} where
@@ -215,9 +230,14 @@ module _ {out₀ : List ℕ} (room : answerRoom ≤ length out₀) (u : List ℕ
       let q′ : Wrote out out′ e (behind (entryTexts (entriesFrom u (first + 1) n))) r = rw f at q in
       record { wrote = rw (some-listed u first n) (wrote-more p q′ (omega (arith, p .next, q′ .next))); room = omega (arith, p .next) }
 
-  pub selection-wrote : {out out′ : List ℕ} {e r : ℕ} (considered n : ℕ) → n ≤ mostEntries → Wrote out₀ out 0 (decimal considered) e → Wrote out out′ e (behind (entryTexts (entriesFrom u 0 n))) r
-      → r ≤ e + entryRoom * n
-      → Printed out₀ out′ (joined (decimal considered ∷ entryTexts (entriesFrom u 0 n))) r
-  selection-wrote considered n m p q h =
+  pub selection-wrote : {out out′ out″ : List ℕ} {e r t : ℕ} (considered n : ℕ) (next : Option ℕ) → n ≤ mostEntries → Wrote out₀ out 0 (decimal considered) e
+      → Wrote out out′ e (behind (entryTexts (entriesFrom u 0 n))) r → r ≤ e + entryRoom * n → Wrote out′ out″ r (44 ∷ timeText next) t
+      → Printed out₀ out″ (selectionText considered (entriesFrom u 0 n) next) t
+  selection-wrote considered n next m p q h w =
       let d = decimal-end considered p in
-      record { wrote = rw (joined-behind (decimal considered) (entryTexts (entriesFrom u 0 n))) (wrote-more p q (omega (arith, q .next))); room = omega arith }
+      let l = time-length next in
+      let x = entryTexts (entriesFrom u 0 n) in
+      let e : joined (decimal considered ∷ (x ++ (timeText next ∷ []))) ≡ (decimal considered ++ behind x) ++ (44 ∷ timeText next) =
+      joined-behind (decimal considered) (x ++ (timeText next ∷ [])) ∙ ap (_++_ (decimal considered)) (behind-append x (timeText next))
+      ∙ sym (append-assoc (decimal considered) (behind x) (44 ∷ timeText next)) in
+      record { wrote = rw e (wrote-more (wrote-more p q (omega (arith, q .next))) w (omega (arith, w .next))); room = omega (arith, w .next) }

@@ -26,20 +26,24 @@ module _ {s : List ℕ} (room : answerRoom ≤ length s) where
   pub printed-refusal : {s₁ s₂ : List ℕ} {e r : ℕ} (n : ℕ) → Wrote s s₁ 0 (110 ∷ 111 ∷ 44 ∷ []) e → Wrote s₁ s₂ e (decimal n) r → Printed s s₂ (refusalText n) r
   printed-refusal n p q = record { wrote = wrote-more p q (omega (arith, p .next, length-numeral 10 decimalDigits n)); room = omega (arith, p .next, decimal-end n q) }
 
-  pub printed-figures : {s₁ s₂ s₃ s₄ s₅ : List ℕ} {e₁ e₂ e₃ e₄ r : ℕ} (h f p : ℕ) → Wrote s s₁ 0 (decimal h) e₁ → Wrote s₁ s₂ e₁ (44 ∷ []) e₂ → Wrote s₂ s₃ e₂ (decimal f) e₃
-      → Wrote s₃ s₄ e₃ (44 ∷ []) e₄ → Wrote s₄ s₅ e₄ (decimal p) r
-      → Printed s s₅ (joined (decimal h ∷ decimal f ∷ decimal p ∷ [])) r
+  pub printed-figures : {s₁ s₂ s₃ s₄ s₅ s₆ s₇ : List ℕ} {e₁ e₂ e₃ e₄ e₅ e₆ r : ℕ} (h f g p : ℕ) → Wrote s s₁ 0 (decimal h) e₁ → Wrote s₁ s₂ e₁ (44 ∷ []) e₂ → Wrote s₂ s₃ e₂ (decimal f) e₃
+      → Wrote s₃ s₄ e₃ (44 ∷ []) e₄ → Wrote s₄ s₅ e₄ (decimal g) e₅ → Wrote s₅ s₆ e₅ (44 ∷ []) e₆ → Wrote s₆ s₇ e₆ (decimal p) r
+      → Printed s s₇ (joined (decimal h ∷ decimal f ∷ decimal g ∷ decimal p ∷ [])) r
   unfolding joined
-  printed-figures h f p w₁ w₂ w₃ w₄ w₅ =
+  printed-figures h f g p w₁ w₂ w₃ w₄ w₅ w₆ w₇ =
       let b₁ = decimal-end h w₁ in
       let n₂ = w₂ .next in
       let b₃ = decimal-end f w₃ in
       let n₄ = w₄ .next in
-      let b₅ = decimal-end p w₅ in
+      let b₅ = decimal-end g w₅ in
+      let n₆ = w₆ .next in
+      let b₇ = decimal-end p w₇ in
       let l₃ = w₃ .next in
       let l₅ = w₅ .next in
+      let l₇ = w₇ .next in
       let w = wrote-more (wrote-more (wrote-more (wrote-more w₁ w₂ (omega arith)) w₃ (omega arith)) w₄ (omega arith)) w₅ (omega arith) in
-      record { wrote = simp append-assoc at w; room = omega arith }
+      let v = wrote-more (wrote-more w w₆ (omega arith)) w₇ (omega arith) in
+      record { wrote = simp append-assoc at v; room = omega arith }
 
 -- ---- a reply of the tracker
 
@@ -55,7 +59,8 @@ module _ {out out′ : List ℕ} {r : ℕ} where
   unfolding replyText
   reply-ok L Q e w = rw e (record { wrote = w; room = omega (arith, w .next) })
 
-  pub reply-figures : {y : Reply} {h f p : ℕ} → y ≡ Summed (record { held = h; free = f; permille = p }) → Printed out out′ (joined (decimal h ∷ decimal f ∷ decimal p ∷ [])) r
+  pub reply-figures : {y : Reply} {h f g p : ℕ} → y ≡ Summed (record { held = h; free = f; preferred = g; permille = p })
+      → Printed out out′ (joined (decimal h ∷ decimal f ∷ decimal g ∷ decimal p ∷ [])) r
       → Printed out out′ (replyText (On Sum) y) r
   unfolding replyText
   reply-figures e w = rw e w

@@ -37,7 +37,7 @@ chosenOr l (Number n) = l
 chosenOr l (Keys ks) = l
 chosenOr l (Left own parents) = l
 chosenOr l (Entries m) = l
-chosenOr l (Chosen considered m) = m
+chosenOr l (Chosen considered m next) = m
 chosenOr l (Summed s) = l
 chosenOr l (Saved t) = l
 
@@ -48,7 +48,7 @@ entriesOr l (Number n) = l
 entriesOr l (Keys ks) = l
 entriesOr l (Left own parents) = l
 entriesOr l (Entries m) = m
-entriesOr l (Chosen considered m) = l
+entriesOr l (Chosen considered m next) = l
 entriesOr l (Summed s) = l
 entriesOr l (Saved t) = l
 
@@ -59,7 +59,7 @@ afterOpening k (Number n) = noLists
 afterOpening k (Keys ks) = k
 afterOpening k (Left own parents) = k
 afterOpening k (Entries m) = k
-afterOpening k (Chosen considered m) = k
+afterOpening k (Chosen considered m next) = k
 afterOpening k (Summed s) = k
 afterOpening k (Saved t) = k
 

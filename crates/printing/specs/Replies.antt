@@ -1,6 +1,7 @@
 -- What is printed of a reply (docs/EVENTS.md, "Answers").
 use Prim.Native.Nat.{ℕ}
 use mathlib.Core.List.{List, [], _∷_, _++_}
+use mathlib.Core.Option.{Option, none, some}
 use lib.ListN.{length}
 use Rattle.ident.specs.Number.{Key}
 use Rattle.machine.specs.State.{Entry}
@@ -38,13 +39,22 @@ numberText (Open L Q) n = 111 ∷ 107 ∷ []
 numberText (Restore x) n = decimal n
 numberText (On a) n = decimal n
 
+-- a time, or `none`
+abbrev pub timeText : Option ℕ → List ℕ
+timeText none = 110 ∷ 111 ∷ 110 ∷ 101 ∷ []
+timeText (some n) = decimal n
+
+-- a plan's: the keys considered, the entries, and when to look again
+abbrev pub selectionText : ℕ → List Entry → Option ℕ → List ℕ
+selectionText considered l next = joined (decimal considered ∷ (entryTexts l ++ (timeText next ∷ [])))
+
 unfoldable pub replyText : Call → Reply → List ℕ
 replyText c (Refused n) = refusalText n
 replyText c (Number n) = numberText c n
 replyText c (Keys ks) = listed (keyTexts ks)
 replyText c (Left own parents) = joined (decimal (length own) ∷ (keyTexts own ++ keyTexts parents))
 replyText c (Entries l) = listed (entryTexts l)
-replyText c (Chosen considered l) = joined (decimal considered ∷ entryTexts l)
-replyText c (Summed s) = joined (decimal (s .held) ∷ decimal (s .free) ∷ decimal (s .permille) ∷ [])
+replyText c (Chosen considered l next) = selectionText considered l next
+replyText c (Summed s) = joined (decimal (s .held) ∷ decimal (s .free) ∷ decimal (s .preferred) ∷ decimal (s .permille) ∷ [])
 -- no word asks for a listing; its length would be told
 replyText c (Saved t) = decimal (length t)

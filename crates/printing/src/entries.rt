@@ -4,11 +4,12 @@ ghost use mathlib.Core.List.{_∷_};
 ghost use lib.ListN.{length};
 ghost use Rattle.ident.specs.Words.{keyNum, itemNum};
 ghost use Rattle.machine.specs.Call.{entryBytes};
+ghost use Rattle.machine.specs.Later.{timeOf};
 ghost use Rattle.requests.specs.Changes.{candidateOf};
 ghost use Rattle.claiming.specs.Claiming.{entryFrom, entriesFrom};
 ghost use Rattle.machine.specs.Text.{decimal, boolText, keyText, itemKindText, itemText, joined};
 ghost use Rattle.lines.specs.Text.{Wrote};
-ghost use Rattle.printing.specs.Replies.{listed, entryTexts};
+ghost use Rattle.printing.specs.Replies.{listed, entryTexts, timeText, selectionText};
 ghost use Rattle.printing.specs.Given.{answerRoom, mostEntries, keyRoom, kindRoom, itemRoom, numberRoom, candidateRoom, entryRoom, behind, candidateTexts, entryText, Printed};
 use lines::write::put_bytes;
 use lines::write::put_decimal;
@@ -127,11 +128,23 @@ pub fn put_entries(out: &mut [u8], answer: &[u8], first: usize, n: usize) -> usi
     put_behind(out, at, answer, first + 1, n - 1)
 }
 
-// How many keys a plan considered, and behind it the first n entries of its answer.
-pub fn put_selection(out: &mut [u8], answer: &[u8], considered: u64, n: usize) -> usize
+// A time behind a comma; 0 is `none`.
+fn put_time(out: &mut [u8], at: usize, t: u64) -> usize
+    requires { ⌜ at + numberRoom ≤ length (now out) ⌝ }
+    ensures { λ r. ⌜ Wrote (now (out .entry)) (now (out .exit)) at (44 ∷ timeText (timeOf t)) r ⌝ }
+{
+    if t == 0 {
+        return put_bytes(out, at, b",none");
+    }
+    put_number(out, at, t)
+}
+
+// How many keys a plan considered, behind it the first n entries of its answer, and when to look again.
+pub fn put_selection(out: &mut [u8], answer: &[u8], considered: u64, n: usize, next: u64) -> usize
     requires { ⌜ (answerRoom ≤ length (now out)) × (n ≤ mostEntries) × (entryBytes * n ≤ length (now answer)) ⌝ }
-    ensures { λ r. ⌜ Printed (now (out .entry)) (now (out .exit)) (joined (decimal considered ∷ entryTexts (entriesFrom (now (answer .entry)) 0 n))) r ⌝ }
+    ensures { λ r. ⌜ Printed (now (out .entry)) (now (out .exit)) (selectionText considered (entriesFrom (now (answer .entry)) 0 n) (timeOf next)) r ⌝ }
 {
     let at = put_decimal(out, 0, considered);
-    put_behind(out, at, answer, 0, n)
+    let to = put_behind(out, at, answer, 0, n);
+    put_time(out, to, next)
 }

@@ -25,13 +25,15 @@ pub fn unreadable(out: &mut [u8]) -> usize
     refusal(out, 9)
 }
 
-pub fn figures(out: &mut [u8], held: u64, free: u64, permille: u64) -> usize
+pub fn figures(out: &mut [u8], held: u64, free: u64, preferred: u64, permille: u64) -> usize
     requires { ⌜ answerRoom ≤ length (now out) ⌝ }
-    ensures { λ r. ⌜ Printed (now (out .entry)) (now (out .exit)) (joined (decimal held ∷ decimal free ∷ decimal permille ∷ [])) r ⌝ }
+    ensures { λ r. ⌜ Printed (now (out .entry)) (now (out .exit)) (joined (decimal held ∷ decimal free ∷ decimal preferred ∷ decimal permille ∷ [])) r ⌝ }
 {
     let e = put_decimal(out, 0, held);
     let from = put_bytes(out, e, b",");
     let e = put_decimal(out, from, free);
+    let from = put_bytes(out, e, b",");
+    let e = put_decimal(out, from, preferred);
     let from = put_bytes(out, e, b",");
     put_decimal(out, from, permille)
 }

@@ -17,6 +17,7 @@ use Rattle.machine.specs.Table.{at, keys, ownedAt}
 use Rattle.machine.specs.Sound.{Fits, AllFit, Bounded, Sound}
 use Rattle.machine.specs.Typed.{Each, KeyTyped, KeysTyped}
 use Rattle.machine.specs.Plan.{chosenAt, able, sooner, better, orElse, leastIn, leastAt, choice, Scan, start, add, consider, phase, insertByPriority, sortByPriority, askedKeys, expired, scanned, plan}
+use Rattle.machine.specs.Later.{timeOf}
 use Rattle.machine.specs.Call.{Buffer, Plan, On, entryBytes, named, takesPlace}
 use Rattle.machine.specs.Step.{Chosen, perform, entriesAnswer, written}
 use Rattle.machine.proofs.Tests.{by-test}
@@ -24,7 +25,7 @@ use Rattle.machine.proofs.Table.{at-key, lawful-at}
 use Rattle.machine.proofs.Announce.{each-append}
 use Rattle.machine.proofs.Plan.{keys-typed, round-typed, bounded-expired, expired-keys}
 use Rattle.store.specs.Image.{Writes, SoundStore, Bytes}
-use Rattle.planning.specs.declared.replying.Reply.{Reply}
+use Rattle.planning.specs.declared.plan.Planned.{Planned}
 use Rattle.claiming.specs.Claiming.{entriesFrom}
 use Rattle.planning.specs.Replying.{Plans}
 use Rattle.outcome.specs.Outcome.{Does}
@@ -136,12 +137,12 @@ module _ (clock : ℕ) (asked : Option (List Key)) where
 
   pub plans-done : {u : Buffer} {b : List ℕ} (v : SoundStore b) → clock < word → KeysTyped asked → {t : ℕ}
       → t ≡ inTurn [] (clock ∷ []) 0 (length u) (entryBytes * min (maxRequestChecks + 1) (v .state .limit)) → t ≡ 0 → {m : ℕ} → Lent b m
-      → {p : List ℕ} → Bytes (p ++ drop m b) → {u′ : List ℕ} {r : Reply} → ((s : State) → Sound s → Writes (take m b) s → Plans clock asked s p u u′ r)
-      → Does (On (Plan clock asked u)) b (record { reply = Chosen (r .considered) (entriesFrom u′ 0 (r .count)); buffer = u′; store = p ++ drop m b })
+      → {p : List ℕ} → Bytes (p ++ drop m b) → {u′ : List ℕ} {r : Planned} → ((s : State) → Sound s → Writes (take m b) s → Plans clock asked s p u u′ r)
+      → Does (On (Plan clock asked u)) b (record { reply = Chosen (r .considered) (entriesFrom u′ 0 (r .count)) (timeOf (r .next)); buffer = u′; store = p ++ drop m b })
   unfolding named perform
   plans-done {u} v w k q z e {p} h {u′} {r} f =
       let s = v .state in
       let g = f s (v .sound) (front-writes v e) in
       let l = (plan clock asked s) .entries in
       let is : entriesFrom u′ 0 (r .count) ≡ l = (λ i. entriesFrom (g .entries i) 0 (g .count i)) ∙ entries-back l u (plan-whole clock asked s w (v .sound) k) in
-      does-front v e (Plan clock asked u) (passes (plans u) v q z) p h _ u′ (λ i. Chosen (g .considered i) (is i)) (g .entries) (g .state)
+      does-front v e (Plan clock asked u) (passes (plans u) v q z) p h _ u′ (λ i. Chosen (g .considered i) (is i) (g .next i)) (g .entries) (g .state)

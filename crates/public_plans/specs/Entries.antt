@@ -1,6 +1,7 @@
 -- What an answer says that lists entries, in document 01's values.
 use Prim.Native.Nat.{ℕ}
 use Rattle.machine.specs.Call.{Buffer}
+use Rattle.machine.specs.Later.{timeOf}
 use Rattle.machine.specs.Step.{Reply, Refused, Entries, Chosen}
 use Rattle.claiming.specs.Claiming.{entriesFrom}
 use Rattle.outcome.specs.declared.Listing.{Listing}
@@ -16,10 +17,10 @@ abbrev pub entriesOf : Listing → Buffer → Reply
 entriesOf (NoEntries n) u = Refused n
 entriesOf (Listed n) u = entriesListed n u
 
--- a plan: k keys considered, and n entries in the answer buffer
-abbrev pub chosenListed : ℕ → ℕ → Buffer → Reply
-chosenListed k n u = Chosen k (entriesFrom u 0 n)
+-- a plan: k keys considered, n entries in the answer buffer, and when to look again
+abbrev pub chosenListed : ℕ → ℕ → ℕ → Buffer → Reply
+chosenListed k n x u = Chosen k (entriesFrom u 0 n) (timeOf x)
 
 abbrev pub plannedOf : Selection → Buffer → Reply
 plannedOf (NoPlan n) u = Refused n
-plannedOf (Selected k n) u = chosenListed k n u
+plannedOf (Selected k n x) u = chosenListed k n x u

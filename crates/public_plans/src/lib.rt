@@ -5,8 +5,8 @@ pub mod on_sound;
 pub mod plans;
 pub mod wrappers;
 
-// How many keys a plan considered, and how many entries stand in the answer buffer, or a refusal.
+// How many keys a plan considered, how many entries stand in the answer buffer, and when to look again, 0 for no time (document 02, request c); or a refusal.
 pub enum Selection {
     Refused(u64),
-    Chosen(u64, u64),
+    Chosen(u64, u64, u64),
 }

@@ -7,7 +7,7 @@ use outcome::Figures;
 use outcome::need;
 use outcome::refusals;
 ghost use mathlib.Core.Path.{_≡_};
-ghost use Prim.Native.Nat.{_-_, _*_, _/_, _≤_};
+ghost use Prim.Native.Nat.{_+_, _-_, _*_, _/_, _≤_};
 ghost use Rattle.machine.specs.Limits as limits;
 ghost use Rattle.machine.specs.Call.{Open, On, Sum, sizesTaken};
 ghost use Rattle.outcome.specs.Outcome.{Leaves};
@@ -57,7 +57,8 @@ pub fn open(s: &mut [u8], l: u64, q: u64) -> Answer
     Answer::Number(1)
 }
 
-// How many announcements are held, how many more fit, and how full the tracker is in thousandths, rounded down.
+// How many announcements are held, how many more fit of unpreferred newcomers and of preferred ones, who may evict, and how full the tracker is in
+// thousandths, rounded down.
 pub fn sum(s: &[u8]) -> Figures
     ensures { λ r. ⌜ Leaves (On Sum) (now (s .entry)) (now (s .entry)) (figuresOf r) ⌝ }
 {
@@ -67,10 +68,10 @@ pub fn sum(s: &[u8]) -> Figures
     on_sound::sum(s)
 }
 
-// The figures of n held of L.
-fn figures_of(n: u64, l: u64) -> Figures
-    requires { ⌜ (1 ≤ l) × (l ≤ limits.maxAnnouncements) × (n ≤ l) ⌝ }
-    ensures { λ r. ⌜ r ≡ Are n (l - n) (n * 1000 / l) ⌝ }
+// The figures of n held of L, m of which can be evicted.
+fn figures_of(n: u64, l: u64, m: u64) -> Figures
+    requires { ⌜ (1 ≤ l) × (l ≤ limits.maxAnnouncements) × (n ≤ l) × (m ≤ n) ⌝ }
+    ensures { λ r. ⌜ r ≡ Are n (l - n) (l - n + m) (n * 1000 / l) ⌝ }
 {
-    Figures::Are(n, l - n, n * 1000 / l)
+    Figures::Are(n, l - n, l - n + m, n * 1000 / l)
 }

@@ -4,6 +4,7 @@
 // store. What they leave of a sound store is sound (crates/outcome/proofs/Owned, `does-keeps-sound`), so that an owner never tests again.
 use crate::figures_of;
 use outcome::Figures;
+use outcome::refusals;
 ghost use Rattle.machine.specs.Call.{On, Sum};
 ghost use Rattle.store.specs.Image.{SoundStore};
 ghost use Rattle.outcome.specs.Outcome.{Leaves};
@@ -20,5 +21,7 @@ pub fn sum(s: &[u8]) -> Figures
 {
     let l = words::get(s, 1);
     let n = words::get(s, 3);
-    figures_of(n, l)
+    let e = refusals::need_of(s);
+    let m = announcing::evict::evictable(&s[..e]);
+    figures_of(n, l, m)
 }

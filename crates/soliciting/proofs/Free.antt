@@ -1,49 +1,24 @@
 -- Who owns a hash, read at its two keys.
 use Prim.Native.Nat.{ℕ, _<_}
 use mathlib.Core.Path.{_≡_, refl, sym, ap, _∙_}
-use mathlib.Core.Logic.{inl, inr}
 use mathlib.Core.Bool.{Bool, false, _&&_}
-use mathlib.Core.List.{[], _∷_}
 use mathlib.Core.Option.{Option, none, some}
 use native.Mathlib.Omega.{arith}
 use lib.Dec.{ltb, eqb}
-use borrow.Author.Tests.{eqb-true, eq-eqb, ne-eqb}
+use borrow.Author.Tests.{eq-eqb, ne-eqb}
 use Rattle.ident.specs.declared.Kind.{Kind}
 use Rattle.ident.specs.declared.Kind.the-variants.{Txid, Wtxid}
-use Rattle.ident.specs.Number.{top, Key, place, txid, wtxid}
+use Rattle.ident.specs.Number.{top, Key, txid, wtxid}
 use Rattle.machine.specs.Limits.{maxInFlight}
 use Rattle.machine.specs.State.{Owner, Request, Table, State}
-use Rattle.machine.specs.Table.{at, one, total, under, owners, ownerIn, ownedAt, ownedBy}
-use Rattle.machine.specs.Sound.{Lawful, Ordered, Sound}
+use Rattle.machine.specs.Table.{at, ownedAt, ownedBy}
+use Rattle.machine.specs.Sound.{Lawful, Sound}
 use Rattle.machine.proofs.Change.{unowned-at}
 use Rattle.machine.proofs.Fail.{owner-peer}
-use Rattle.machine.proofs.Table.{at-absent, lawful-at}
-use Rattle.machine.proofs.Tests.{test}
+use Rattle.machine.proofs.Unowned.{owners-none}
+use Rattle.machine.proofs.Table.{lawful-at}
 use Rattle.package_stages.specs.declared.Request.{Request as Read}
 use Rattle.package_stages.specs.Changes.{ownerNum, RequestOf}
-
--- ---- nobody owns the hash, if nobody does at a key with that hash
-
-no-weight : (b : Bool) (o : Option Owner) → b ≡ false → ownerIn (λ n. b) o ≡ 0
-no-weight b none e = refl
-no-weight b (some o) e = ap one e
-
-owners-none : (h lo : ℕ) (t : Table) → Ordered lo t → ((k : Key) → k .hash ≡ h → (at k t) .owner ≡ none) → owners (under h) t ≡ 0
-unfolding total at
-owners-none h lo [] o f = refl
-owners-none h lo (r ∷ t) o f = omega (arith, first, owners-none h _ t (o .2) rest)
-  where
-    first : ownerIn (under h (r .key)) (r .owner) ≡ 0
-    first = elim (test (eqb (r .key .hash) h)) [
-      | inl e ↦ let z : r .owner ≡ none = rw (eq-eqb (place (r .key)) (place (r .key)) refl) at (f (r .key) (eqb-true (r .key .hash) h e)) in ap (ownerIn (under h (r .key))) z
-      | inr e ↦ no-weight (eqb (r .key .hash) h) (r .owner) e
-    ]
-
-    rest : (k : Key) → k .hash ≡ h → (at k t) .owner ≡ none
-    rest k e = elim (test (eqb (place k) (place (r .key)))) [
-      | inl d ↦ ap (λ (q : Request). q .owner) (at-absent k _ t (omega (arith, eqb-true (place k) (place (r .key)) d)) (o .2))
-      | inr d ↦ rw d at (f k e)
-    ]
 
 -- ---- the two keys of a hash
 

@@ -7,7 +7,7 @@ use lib.Seq.{slice}
 use Rattle.words.specs.Words.{recs}
 use Rattle.regions.specs.Rows.{rowSize, readRow, connSize, readConn}
 use Rattle.places.specs.Places.{placeSize}
-use Rattle.machine.specs.Limits.{maxAnnouncements, maxPlaces}
+use Rattle.machine.specs.Limits.{maxAnnouncements, maxPlaces, maxAlternates}
 use Rattle.store.specs.Image.{format, headSize}
 use Rattle.store.specs.Read.{readHash}
 use Rattle.sound_rows.specs.Rows.{RowsSound}
@@ -52,7 +52,7 @@ pub record HeadPlain (w : List ℕ) : Type 0 where
 
 pub record RecordsSound (r : List ℕ) (i : ℕ) (c : List ℕ) (j : ℕ) (p : List ℕ) (k : ℕ) : Type 0 where
   pub rows : RowsSound (recs rowSize readRow i r)
-  pub groups : GroupsSound (recs rowSize readRow i r)
+  pub groups : GroupsSound maxAlternates (recs rowSize readRow i r)
   pub conns : ConnsSound (recs rowSize readRow i r) (recs connSize readConn j c)
   pub places : PlacesSound (recs rowSize readRow i r) k p
   pub rows-zero : slice (i * rowSize) (length r) r ≡ replicate (length r - i * rowSize) 0

@@ -4,6 +4,7 @@
 // none. Each part decides what FlatSound (crates/store) says of the records that one region holds: the rows (crates/sound_rows), the
 // connections (crates/sound_conns), the package places. A region is a slice whose word 0 is the region's first word; a `requires` says
 // only that the records in question lie within the slice. Each byte of the need is read once or a few times.
+use machine::limits::MAX_ALTERNATES;
 use machine::limits::MAX_ANNOUNCEMENTS;
 use machine::limits::MAX_PLACES;
 use places::PLACE;
@@ -115,7 +116,7 @@ fn records_fit(rows: &[u8], n: usize, conns: &[u8], c: usize, places: &[u8], p: 
     if !sound_rows::candidate::rows_fit(rows, n) {
         return false;
     }
-    if !sound_rows::group::groups_fit(rows, n) {
+    if !sound_rows::group::groups_fit(rows, n, MAX_ALTERNATES) {
         return false;
     }
     if !sound_conns::conns_fit(rows, n, conns, c) {

@@ -14,7 +14,6 @@ use Rattle.words.proofs.Records.{recs-add, recs-at, length-recs}
 use Rattle.regions.specs.declared.Row.{Row}
 use Rattle.regions.specs.Order.{First}
 use Rattle.regions.specs.Rows.{rowSize, readRow, rowConn}
-use Rattle.machine.specs.Limits.{maxAlternates}
 use Rattle.machine.specs.Table.{one}
 use Rattle.machine.specs.Typed.{Each}
 use Rattle.machine.proofs.Tests.{test}
@@ -97,9 +96,9 @@ any-of h rs = rows-same _ _ rs (λ r. sym (and-true (eqb (hashAt r) h)))
 -- ---- a group taken off
 
 module _ (h : ℕ) (a t b u : List Row) (p : Parted h a t b u) where
-  groups-split : Iff (GroupsSound ((a ++ t) ++ (b ++ u))) (GroupFits a b × GroupsSound (t ++ u))
-  groups-split =
-      let few = most-split h a t b u p (λ r. true) maxAlternates in
+  groups-split : {most : ℕ} → Iff (GroupsSound most ((a ++ t) ++ (b ++ u))) (GroupFits most a b × GroupsSound most (t ++ u))
+  groups-split {most} =
+      let few = most-split h a t b u p (λ r. true) most in
       let single = most-split h a t b u p owns 1 in
       record {
         to = λ s.
@@ -129,8 +128,8 @@ module _ (w : List ℕ) (from i to h r : ℕ) (o : from ≤ i) (l : Level w from
 
 module _ (w : List ℕ) (i m j n h a b : ℕ) {from from′ : ℕ} (o : from ≤ i) (o′ : from′ ≤ j) (l : Level w from m) (l′ : Level w from′ n) (e : Least w i m j n h) (v : Run w i m h a)
     (v′ : Run w j n h b) where
-  pub group-off : Iff (GroupsSound (rowsIn w i m ++ rowsIn w j n)) (GroupFits (rowsIn w i a) (rowsIn w j b) × GroupsSound (rowsIn w a m ++ rowsIn w b n))
-  group-off =
+  pub group-off : {most : ℕ} → Iff (GroupsSound most (rowsIn w i m ++ rowsIn w j n)) (GroupFits most (rowsIn w i a) (rowsIn w j b) × GroupsSound most (rowsIn w a m ++ rowsIn w b n))
+  group-off {most} =
       rw (in-split w i a m (v .least) (v .most), in-split w j b n (v′ .least) (v′ .most))
       (groups-split h (rowsIn w i a) (rowsIn w a m) (rowsIn w j b) (rowsIn w b n) (record {
         front = run-front w from i m h a o l v (e .left);
@@ -252,20 +251,21 @@ owners-turn w i to h e = rw (in-turn w i to h, e) (cons (rowAt w i) (rowsIn w (i
 pub owners-none : (w : List ℕ) (i to : ℕ) → to ≤ i → countRows owns (rowsIn w i to) ≡ 0
 owners-none w i to h = rw (in-none w i to h) (unfold countRows in refl)
 
-pub group-decides : (a b : List Row) (m n : ℕ) → length a + length b ≤ maxAlternates → Apart b a → Apart [] b → m ≡ countRows owns a → n ≡ countRows owns b → Decides (leb (m + n) 1) (GroupFits a b)
+pub group-decides : {most : ℕ} (a b : List Row) (m n : ℕ) → length a + length b ≤ most → Apart b a → Apart [] b → m ≡ countRows owns a → n ≡ countRows owns b
+    → Decides (leb (m + n) 1) (GroupFits most a b)
 group-decides a b m n f p q e g = elim (test (leb (m + n) 1)) [
   | inl t ↦ rw t (record { few = f; once = apart-iff a b .to (p, q); single = omega (arith, leb-true (m + n) 1 t) })
   | inr t ↦ rw t (λ s. omega (arith, s .single, leb-false (m + n) 1 t))
 ]
 
 -- the rows are the two halves
-pub halves : (w : List ℕ) (m n : ℕ) → m ≤ n → Iff (GroupsSound (recs rowSize readRow n w)) (GroupsSound (rowsIn w 0 m ++ rowsIn w m n))
+pub halves : {most : ℕ} (w : List ℕ) (m n : ℕ) → m ≤ n → Iff (GroupsSound most (recs rowSize readRow n w)) (GroupsSound most (rowsIn w 0 m ++ rowsIn w m n))
 halves w m n h = rw (sym (rest-all rowSize readRow n w) ∙ in-split w 0 m n (omega arith) h) iff-self
 
-pub groups-end : {X : Type 0} (w : List ℕ) (i m j n : ℕ) → m ≤ i → n ≤ j → Iff X (GroupsSound (rowsIn w i m ++ rowsIn w j n)) → X
-groups-end w i m j n h l v = v .from (rw (in-none w i m h, in-none w j n l) none)
+pub groups-end : {X : Type 0} {most : ℕ} (w : List ℕ) (i m j n : ℕ) → m ≤ i → n ≤ j → Iff X (GroupsSound most (rowsIn w i m ++ rowsIn w j n)) → X
+groups-end {X} {most} w i m j n h l v = v .from (rw (in-none w i m h, in-none w j n l) none)
   where
-    none : GroupsSound ([] ++ [])
+    none : GroupsSound most ([] ++ [])
     none = unfold countRows in record { alternates = λ h. omega arith; once = λ n h. omega arith; single = λ h. omega arith }
 
 module _ {X G R S : Type 0} (v : Iff X G) (g : Iff G (R × S)) where

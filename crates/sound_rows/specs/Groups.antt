@@ -9,11 +9,11 @@ use lib.ListN.{length, take, drop, getD}
 use Rattle.words.specs.Words.{recs}
 use Rattle.regions.specs.declared.Row.{Row}
 use Rattle.regions.specs.Rows.{rowSize, readRow}
-use Rattle.machine.specs.Limits.{maxAlternates}
 use Rattle.store.specs.FlatSound.{countRows, hashAt, owns}
 
-pub record GroupsSound (rs : List Row) : Type 0 where
-  pub alternates : (h : ℕ) → countRows (λ r. eqb (hashAt r) h) rs ≤ maxAlternates
+-- at most `most` rows of a hash, no connection twice, one owner at most
+pub record GroupsSound (most : ℕ) (rs : List Row) : Type 0 where
+  pub alternates : (h : ℕ) → countRows (λ r. eqb (hashAt r) h) rs ≤ most
   pub once : (n h : ℕ) → countRows (λ r. eqb (hashAt r) h && eqb (r .conn) n) rs ≤ 1
   pub single : (h : ℕ) → countRows (λ r. eqb (hashAt r) h && owns r) rs ≤ 1
 
@@ -69,7 +69,7 @@ abbrev pub Marking : Bool → List ℕ → ℕ → ℕ → ℕ → List ℕ → 
 Marking true w from to v t t′ = (others : List Row) → ConnsMarked v t others → Apart others (rowsIn w from to) × ConnsMarked v t′ (rowsIn w from to)
 Marking false w from to v t t′ = Unit {0}
 
-pub record GroupFits (a b : List Row) : Type 0 where
-  pub few : length a + length b ≤ maxAlternates
+pub record GroupFits (most : ℕ) (a b : List Row) : Type 0 where
+  pub few : length a + length b ≤ most
   pub once : (n : ℕ) → rowsBy n a + rowsBy n b ≤ 1
   pub single : countRows owns a + countRows owns b ≤ 1

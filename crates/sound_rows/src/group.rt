@@ -1,5 +1,4 @@
 // The test of the rows of one hash over both kinds: few, no connection twice, one owner at most.
-use machine::limits::MAX_ALTERNATES;
 ghost use mathlib.Core.Path.{_≡_};
 ghost use Prim.Native.Nat.{_+_, _*_, _≤_, _<_};
 ghost use mathlib.Core.Bool.{true};
@@ -150,20 +149,21 @@ fn conns_once(
     apart(s, j, b, b, b)
 }
 
-// Whether the rows i .. a and j .. b, which are those of one hash, are few, of distinct connections, and have one owner at most.
+// Whether the rows i .. a and j .. b, which are those of one hash, are `most` at most, of distinct connections, and have one owner at most.
 fn group_fits(
     s: &[u8],
     i: usize,
     a: usize,
     j: usize,
     b: usize,
+    most: usize,
     slots: &mut [u64],
     mark: u64,
 ) -> bool
     requires { ⌜ (i ≤ a) × (8 * (rowSize * a) ≤ length (now s)) × (j ≤ b) × (8 * (rowSize * b) ≤ length (now s)) × (length (now slots) ≡ connSlots) ⌝ }
-    ensures { λ r. ⌜ Decides r (GroupFits (rowsIn (words (now (s .entry))) i a) (rowsIn (words (now (s .entry))) j b)) × (length (now (slots .exit)) ≡ connSlots) ⌝ }
+    ensures { λ r. ⌜ Decides r (GroupFits most (rowsIn (words (now (s .entry))) i a) (rowsIn (words (now (s .entry))) j b)) × (length (now (slots .exit)) ≡ connSlots) ⌝ }
 {
-    if a - i + (b - j) > MAX_ALTERNATES {
+    if a - i + (b - j) > most {
         return false;
     }
     if !conns_once(s, i, a, j, b, slots, mark) {
@@ -172,11 +172,11 @@ fn group_fits(
     owners(s, i, a) + owners(s, j, b) <= 1
 }
 
-// Whether each hash has few rows over both kinds, no connection twice, and one owner at most. Takes the rows of one hash after the
+// Whether each hash has at most `most` rows over both kinds, no connection twice, and one owner at most. Takes the rows of one hash after the
 // other from both halves of the rows, Txid and Wtxid.
-pub fn groups_fit(s: &[u8], n: usize) -> bool
+pub fn groups_fit(s: &[u8], n: usize, most: usize) -> bool
     requires { ⌜ 8 * (rowSize * n) ≤ length (now s) ⌝ }
-    ensures { λ b. ⌜ (RowsSound (recs rowSize readRow n (words (now (s .entry)))) → Decides b (GroupsSound (recs rowSize readRow n (words (now (s .entry)))))) ⌝ }
+    ensures { λ b. ⌜ (RowsSound (recs rowSize readRow n (words (now (s .entry)))) → Decides b (GroupsSound most (recs rowSize readRow n (words (now (s .entry)))))) ⌝ }
 {
     let zero = regions::Quad {
         w0: 0,
@@ -196,7 +196,7 @@ pub fn groups_fit(s: &[u8], n: usize) -> bool
         let h = least_hash(s, i, m, j, n);
         let a = run_end(s, i, m, h);
         let b = run_end(s, j, n, h);
-        if !group_fits(s, i, a, j, b, &mut slots, (i + j + 1) as u64) {
+        if !group_fits(s, i, a, j, b, most, &mut slots, (i + j + 1) as u64) {
             return false;
         }
         i = a;

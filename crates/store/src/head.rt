@@ -1,8 +1,11 @@
 // The header: sizes and counts, and a store made empty.
+use machine::limits::MAX_ALTERNATES;
 ghost use mathlib.Core.Path.{_≡_};
 ghost use Prim.Native.Nat.{_*_, _≤_};
 ghost use lib.ListN.{length};
 ghost use Rattle.machine.specs.Limits.{need, maxAnnouncements, maxPlaces};
+ghost use Rattle.machine.specs.State.{State, limitsOf};
+ghost use Rattle.machine.specs.Sound.{Sound};
 ghost use Rattle.machine.specs.Step.{empty};
 ghost use Rattle.store.specs.Image.{headSize, Writes};
 ghost use Rattle.store.specs.Shown.{limitAt, placesAt, rowsAt, connsAt, heldPlacesAt, Field};
@@ -16,6 +19,14 @@ pub fn limit(s: &[u8]) -> usize
     ensures { λ r. ⌜ Field (now (s .entry)) limitAt (λ f. f .head .limit) r ⌝ }
 {
     words::get(s, 1) as usize
+}
+
+// A, as many candidates a hash may have. It is 8 in every store, so that no word of the header writes it.
+pub fn alternates(s: &[u8]) -> usize
+    requires { ⌜ 8 * headSize ≤ length (now s) ⌝ }
+    ensures { λ r. ⌜ ((st : State) → Sound st → Writes (now (s .entry)) st → r ≡ (limitsOf st) .alternates) ⌝ }
+{
+    MAX_ALTERNATES
 }
 
 // Q.

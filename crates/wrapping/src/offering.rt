@@ -1,6 +1,5 @@
 // announce_transactions: the items that a connection announces in one message, each with the priority that the host drew for it.
 use gathering::region::ROOM;
-use machine::limits::MAX_ALTERNATES;
 use machine::limits::MAX_PEER_IN_FLIGHT;
 use machine::limits::SOURCE_DELAY;
 ghost use mathlib.Core.Path.{_≡_};
@@ -213,7 +212,7 @@ fn displaces(s: &[u8], a: Terms, items: &[u8], priorities: &[u8], first: usize) 
     }
     let item = lent_lists::item_at(items, first);
     let h = item.hash;
-    if requests::candidates_at(s, h) >= MAX_ALTERNATES {
+    if announcing::keyed::crowded(s, h) {
         return false;
     }
     full(s)

@@ -14,7 +14,7 @@ pub fn walk(rng: &mut Rng, l: u64, q: u64, calls: usize) -> State {
     for _ in 0..calls {
         walk.now += walk.rng.below(40) * 500;
         let call = walk.call(&machine);
-        if let Reply::Planned(_, entries) = machine.call(&call) {
+        if let Reply::Planned(_, entries, _) = machine.call(&call) {
             walk.planned = entries;
         }
     }

@@ -12,7 +12,7 @@ fn ninth_preferred_gets_0() {
          ann,9,wa,0,1,0 => 0
          ann,9,ta,0,1,0 => 0
          ann,9,tb,0,0,0 => 1
-         sum => 9,91,90"
+         sum => 9,91,92,90"
     ));
 }
 
@@ -28,7 +28,7 @@ fn one_unpreferred_of_eight_goes() {
          ann,9,wa,0,1,0 => 1
          gone,3,0 => 0
          ann,10,wa,0,1,0 => 0
-         sum => 8,92,80"
+         sum => 8,92,92,80"
     ));
 }
 
@@ -37,7 +37,7 @@ fn an_owner_of_eight_stays() {
     check(
         "open,100,1 => ok
          ann,3,wa,0,0,5 => 1
-         plan,0 => 1,wa,3,wa,0,0,5
+         plan,0 => 1,wa,3,wa,0,0,5,none
          take,0 => wa,3,wa,0,0,5
          ann,1,wa,0,1,5 => 1
          ann,2,wa,0,1,5 => 1
@@ -87,7 +87,7 @@ fn an_owner_is_never_evicted() {
     check(
         "open,1,1 => ok
          ann,1,ta,0,0,5 => 1
-         plan,0 => 1,ta,1,ta,0,0,5
+         plan,0 => 1,ta,1,ta,0,0,5,none
          take,0 => ta,1,ta,0,0,5
          ann,2,tb,0,1,0 => 0
          off,ta,1 => 1
@@ -101,11 +101,11 @@ fn a_deadline_is_sixty_seconds() {
     check(
         "open,4,1 => ok
          ann,7,wa,0,0,5 => 1
-         plan,1000 => 1,wa,7,wa,0,0,5
+         plan,1000 => 1,wa,7,wa,0,0,5,none
          take,1000 => wa,7,wa,0,0,5
-         plan,60999 => 1
+         plan,60999 => 1,61000
          dump => s,4,1,none,none,wa;r,wa,7,61000,0,none,0,0;c,7,wa,0,0,5
-         plan,61000 => 0
+         plan,61000 => 0,none
          dump => s,4,1,none,none,none",
     );
 }
@@ -130,14 +130,14 @@ fn at_99_owned_one_more_at_100_none() {
     script.check(&fill);
     let plan = script.run("plan,0");
     assert!(plan.starts_with("101,t1,7,t1,0,1,1,"), "101 keys considered");
-    assert_eq!(plan.split(',').count(), 1 + 6 * 100, "100 selected");
+    assert_eq!(plan.split(',').count(), 1 + 6 * 100 + 1, "100 selected");
     assert_eq!(script.run("take,0").split(',').count(), 6 * 100);
     script.check(
-        "plan,1 => 101
+        "plan,1 => 101,60000
          sol,7,ffff,1,0 => 0
          grab,1,1,t65,7,t65,0,1,101 => -
          bad,t5,7,2 => 1
-         plan,3 => 100,t65,7,t65,0,1,101
+         plan,3 => 100,t65,7,t65,0,1,101,60000
          sol,7,ffff,1,0 => 1
          take,3 => -
          info,wffff,7,3 => 1
@@ -186,7 +186,7 @@ fn five_thousand_of_one_connection() {
          par,7,t5,0,1,0 => 1
          drop,t5 => 1
          ann,7,tffff,0,1,0 => 1
-         sum => 5001,94999,50",
+         sum => 5001,94999,99998,50",
     );
 }
 
@@ -201,14 +201,14 @@ fn a_plan_selects_up_to_1025() {
     }
     script.check("ann,99,wffff,0,1,0 => 1");
     let plan = script.run("want,60000,2,wffff,wfffe");
-    let entries = (plan.split(',').count() - 1) / 6;
+    let entries = (plan.split(',').count() - 2) / 6;
     assert_eq!(plan.split(',').next(), Some("1025"), "the second phase considers one more");
     assert_eq!(entries, 1_025);
     // 1,100 parents are held; the ready cursor does not move where keys are given.
-    script.check("sum => 1101,18899,55");
+    script.check("sum => 1101,18899,18899,55");
     let plan = script.run("plan,60000");
     assert_eq!(plan.split(',').next(), Some("1024"));
-    assert_eq!((plan.split(',').count() - 1) / 6, 1_024);
+    assert_eq!((plan.split(',').count() - 2) / 6, 1_024);
 }
 
 #[test]
@@ -244,7 +244,7 @@ fn an_enqueued_package_stays() {
          dump => s,9,1,none,none,none;r,wa,7,60000,0,enqueued,cc,2,1,2,2,b,c,0;c,7,wa,0,1,0
          sol,8,d,0,0 => no,8
          sol,8,a,0,0 => 0
-         plan,60000 => 5,tb,7,tb,60000,1,0,tc,7,tc,60000,1,1
+         plan,60000 => 5,tb,7,tb,60000,1,0,tc,7,tc,60000,1,1,none
          dump => s,9,1,none,none,wa;r,tb,none,none,0,none,0,1;c,7,tb,60000,1,0;r,tc,none,none,0,none,0,1;c,7,tc,60000,1,1;r,wa,7,60000,0,enqueued,cc,2,1,2,2,b,c,0;c,7,wa,0,1,0
          rel,7,a,70000 => wa,tb,tc
          sol,8,d,70000,0 => 1",
@@ -271,10 +271,64 @@ fn repeated_parents() {
 fn sums() {
     check(
         "open,3,1 => ok
-         sum => 0,3,0
+         sum => 0,3,3,0
          ann,1,ta,0,1,0 => 1
          ann,1,tb,0,1,0 => 1
-         sum => 2,1,666",
+         sum => 2,1,1,666",
+    );
+}
+
+/// Document 02: free "L − held for unpreferred newcomers, and that plus the unpreferred candidates not owning their
+/// own request for preferred ones".
+#[test]
+fn sums_with_two_free_figures() {
+    // "if both held ones are unpreferred and unowned"
+    check(
+        "open,3,1 => ok
+         ann,1,ta,0,0,5 => 1
+         ann,2,tb,0,0,5 => 1
+         sum => 2,1,3,666",
+    );
+    // a preferred one is no such candidate, nor is an unpreferred owner
+    check(
+        "open,3,1 => ok
+         ann,1,ta,0,0,5 => 1
+         ann,2,tb,0,1,5 => 1
+         sum => 2,1,2,666
+         plan,0 => 2,ta,1,ta,0,0,5,tb,2,tb,0,1,5,none
+         take,0 => ta,1,ta,0,0,5,tb,2,tb,0,1,5
+         sum => 2,1,1,666",
+    );
+    // an unpreferred candidate beside another owner of its request counts, under either kind
+    check(
+        "open,4,1 => ok
+         ann,1,ta,0,1,5 => 1
+         ann,2,ta,0,0,5 => 1
+         ann,3,wa,0,0,5 => 1
+         sum => 3,1,3,750
+         plan,0 => 2,ta,1,ta,0,1,5,none
+         take,0 => ta,1,ta,0,1,5
+         sum => 3,1,3,750
+         bad,ta,1,1 => 1
+         plan,1 => 2,ta,2,ta,1,0,5,none
+         take,1 => ta,2,ta,1,0,5
+         sum => 2,2,3,500",
+    );
+}
+
+#[test]
+fn a_full_tracker_takes_as_many_preferred_ones_as_it_says() {
+    check(
+        "open,2,1 => ok
+         ann,1,ta,0,0,5 => 1
+         ann,2,tb,0,0,5 => 1
+         sum => 2,0,2,1000
+         ann,3,tc,0,0,0 => 0
+         ann,3,tc,0,1,0 => 1
+         sum => 2,0,1,1000
+         ann,4,td,0,1,0 => 1
+         sum => 2,0,0,1000
+         ann,5,te,0,1,0 => 0",
     );
 }
 

@@ -10,10 +10,10 @@ fn worked_lines() {
         "open,4,1 => ok
          ann,7,wa,0,0,5 => 1
          ann,7,ta,0,0,6 => 0
-         plan,0 => 1,wa,7,wa,0,0,5
+         plan,0 => 1,wa,7,wa,0,0,5,none
          take,0 => wa,7,wa,0,0,5
          bad,wa,7,10 => 1
-         plan,10 => 0",
+         plan,10 => 0,none",
     );
 }
 
@@ -30,7 +30,7 @@ fn before_an_opening() {
          sum => no,3
          open,1,1 => ok
          open,0,1 => no,2
-         sum => 0,1,0",
+         sum => 0,1,1,0",
     );
 }
 
@@ -192,6 +192,24 @@ fn the_oracles_own_words_are_no_event_lines() {
     }
 }
 
+/// Document 02, request c.
+#[test]
+fn when_to_look_again() {
+    check(
+        "open,4,1 => ok
+         ann,7,ta,50,0,5 => 1
+         plan,10 => 1,50
+         ann,8,ta,30,0,5 => 1
+         plan,10 => 1,30
+         plan,30 => 1,ta,8,ta,30,0,5,50
+         take,30 => ta,8,ta,30,0,5
+         plan,40 => 1,60030
+         ann,9,wa,45,0,1 => 1
+         plan,40 => 2,45
+         plan,60030 => 2,wa,9,wa,60030,0,1,none",
+    );
+}
+
 #[test]
 fn kept_lists() {
     check(
@@ -201,7 +219,7 @@ fn kept_lists() {
          part,3 => -
          ann,3,ta,0,1,2 => 1
          ann,2,tb,0,1,3 => 1
-         plan,0 => 2,ta,3,ta,0,1,2,tb,2,tb,0,1,3
+         plan,0 => 2,ta,3,ta,0,1,2,tb,2,tb,0,1,3,none
          take,0 => ta,3,ta,0,1,2,tb,2,tb,0,1,3
          send,0 => tb,2,tb,0,1,3,ta,3,ta,0,1,2
          part,3 => ta,3,ta,0,1,2
@@ -231,7 +249,7 @@ fn sending() {
          kin,3,5,1,b => tb
          ann,3,wc,0,1,2 => 1
          ann,2,td,0,1,3 => 1
-         plan,5 => 4,ta,9,ta,5,1,0,tb,3,tb,5,1,0,wc,3,wc,0,1,2,td,2,td,0,1,3
+         plan,5 => 4,ta,9,ta,5,1,0,tb,3,tb,5,1,0,wc,3,wc,0,1,2,td,2,td,0,1,3,none
          take,5 => ta,9,ta,5,1,0,tb,3,tb,5,1,0,wc,3,wc,0,1,2,td,2,td,0,1,3
          send,2,9,2 => td,2,td,0,1,3,tb,3,tb,5,1,0,wc,3,wc,0,1,2,ta,9,va,5,1,0
          part,3 => tb,3,tb,5,1,0,wc,3,wc,0,1,2

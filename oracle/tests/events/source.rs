@@ -131,12 +131,12 @@ fn a_plan_of_nothing_clears_the_ready_cursor() {
     check(
         "open,9,1 => ok
          ann,1,ta,5,1,0 => 1
-         plan,0 => 1
+         plan,0 => 1,5
          dump => s,9,1,none,none,ta;r,ta,none,none,0,none,0,0;c,1,ta,5,1,0
          drop,ta => 1
-         want,0,1,tb => 1
+         want,0,1,tb => 1,none
          dump => s,9,1,none,none,ta
-         plan,0 => 0
+         plan,0 => 0,none
          dump => s,9,1,none,none,none",
     );
 }
@@ -147,7 +147,7 @@ fn a_parent_of_an_expired_owner_can_be_its_own_key() {
     check(
         "open,9,1 => ok
          sol,7,a,0,1,a => 1
-         plan,60000 => 2,ta,7,ta,60000,1,0
+         plan,60000 => 2,ta,7,ta,60000,1,0,none
          dump => s,9,1,none,none,ta;r,ta,none,none,0,none,0,1;c,7,ta,60000,1,0",
     );
 }
@@ -158,7 +158,7 @@ fn a_w_item_not_found_leaves_parents_out() {
         "open,9,1 => ok
          sol,7,a,0,1,b => 1
          nfd,7,1,1,wa => wa
-         sum => 0,9,0
+         sum => 0,9,9,0
          sol,7,a,0,1,b => 1
          nfd,7,1,1,o7:a => wa,tb
          sol,7,c,0,1,d => 1
@@ -175,7 +175,7 @@ fn not_found_packages_come_after_the_other_items() {
          sol,7,a,0,0 => 1
          clm,7,a,c,0,1,1 => 1
          ann,7,tb,0,1,0 => 1
-         plan,0 => 2,tb,7,tb,0,1,0
+         plan,0 => 2,tb,7,tb,0,1,0,60000
          take,0 => tb,7,tb,0,1,0
          nfd,7,1,2,o6:c,tb => tb,wa",
     );
@@ -198,7 +198,7 @@ fn a_failure_readies_both_kinds() {
          ann,1,ta,50,0,9 => 1
          ann,2,wa,60,0,9 => 1
          ann,3,wa,0,0,1 => 1
-         plan,0 => 2,wa,3,wa,0,0,1
+         plan,0 => 2,wa,3,wa,0,0,1,50
          take,0 => wa,3,wa,0,0,1
          bad,wa,3,100 => 1
          dump => s,9,1,none,none,wa;r,ta,none,none,0,none,0,0;c,1,ta,100,0,9;r,wa,none,none,0,none,0,0;c,2,wa,100,0,9",

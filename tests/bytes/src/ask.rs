@@ -14,7 +14,8 @@ pub const ENTRY: usize = 112;
 pub const HASH_BYTES: usize = 32;
 
 /// What the caller's numbers hold before a call.
-pub const UNTOUCHED: [u64; 3] = [0x5a5a_5a5a_5a5a_5a5a, 0xa5a5_a5a5_a5a5_a5a5, 0x3c3c_3c3c_3c3c_3c3c];
+pub const UNTOUCHED: [u64; 4] =
+    [0x5a5a_5a5a_5a5a_5a5a, 0xa5a5_a5a5_a5a5_a5a5, 0x3c3c_3c3c_3c3c_3c3c, 0xc3c3_c3c3_c3c3_c3c3];
 
 /// The arguments.
 #[derive(Clone, Debug)]
@@ -57,7 +58,7 @@ pub struct Lent<'a> {
     pub store: &'a mut [u8],
     pub rest: &'a [u8],
     pub buffer: &'a mut [u8],
-    pub out: &'a mut [u64; 3],
+    pub out: &'a mut [u64; 4],
 }
 
 impl Lent<'_> {
@@ -91,7 +92,7 @@ pub fn library(store: &mut [u8], ask: &Ask) -> Answer {
 pub struct Answer {
     pub status: u64,
     /// The caller's numbers after the call.
-    pub out: [u64; 3],
+    pub out: [u64; 4],
     pub buffer: Vec<u8>,
 }
 
@@ -106,7 +107,7 @@ impl Answer {
         match reply {
             _ if ask.spec.hands == Hands::Nothing => {}
             Reply::Number(number) => answer.out[0] = *number,
-            Reply::Sum(held, free, permille) => answer.out = [*held, *free, *permille],
+            Reply::Sum(held, free, preferred, permille) => answer.out = [*held, *free, *preferred, *permille],
             Reply::Keys(keys) => {
                 answer.out[0] = keys.len() as u64;
                 answer.put_keys(keys.iter());
@@ -115,8 +116,8 @@ impl Answer {
                 [answer.out[0], answer.out[1]] = [own, parents].map(|keys| keys.len() as u64);
                 answer.put_keys(own.iter().chain(parents));
             }
-            Reply::Planned(considered, entries) => {
-                [answer.out[0], answer.out[1]] = [*considered, entries.len() as u64];
+            Reply::Planned(considered, entries, next) => {
+                [answer.out[0], answer.out[1], answer.out[2]] = [*considered, entries.len() as u64, next.unwrap_or(0)];
                 answer.put_entries(entries);
             }
             Reply::Entries(entries) => {
@@ -149,7 +150,7 @@ impl Answer {
 
     /// How many bytes of the buffer are reply.
     pub fn written(&self, ask: &Ask) -> usize {
-        let [first, second, _] = self.out.map(|number| number as usize);
+        let [first, second, ..] = self.out.map(|number| number as usize);
         match ask.spec.hands {
             _ if self.status != 0 => 0,
             Hands::Keys => KEY * first,

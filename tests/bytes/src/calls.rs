@@ -81,7 +81,7 @@ pub enum Hands {
     Departure,
     /// Entries in the answer buffer, and their count.
     Entries,
-    /// The count of keys considered, and entries with theirs.
+    /// The count of keys considered, entries with theirs, and when to look again.
     Plan,
     Figures,
     /// The counts of a connection.
@@ -157,7 +157,7 @@ fn some(reply: &Reply) -> bool {
         Reply::Number(number) => *number != 0,
         Reply::Keys(keys) => !keys.is_empty(),
         Reply::Gone(own, _) => !own.is_empty(),
-        Reply::Entries(entries) | Reply::Planned(_, entries) => !entries.is_empty(),
+        Reply::Entries(entries) | Reply::Planned(_, entries, _) => !entries.is_empty(),
         _ => true,
     }
 }

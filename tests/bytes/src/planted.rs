@@ -46,7 +46,7 @@ const FAULTS: &[(&str, Fault)] = &[
     }),
     ("another figure of a sum", |done, rng| {
         let sum = done.ask.spec.hands == Hands::Figures;
-        done.answer.out[rng.index(3)] += u64::from(sum);
+        done.answer.out[rng.index(4)] += u64::from(sum);
         sum && done.answer.status == 0
     }),
     ("a status for a call that was carried out", |done, rng| {

@@ -56,7 +56,7 @@ pub fn run(
         done.map_err(|text| about(calls, text))?;
         match (&ask.given, trial.reply.take()) {
             (Given::On(Call::Claim { .. }), Some(Reply::Entries(taken))) => draw.taken = taken,
-            (Given::On(Call::Plan { now, .. }), Some(Reply::Planned(_, entries))) => {
+            (Given::On(Call::Plan { now, .. }), Some(Reply::Planned(_, entries, _))) => {
                 draw.planned = Planned { now: *now, entries, fresh: true };
             }
             _ => {}

@@ -96,7 +96,7 @@ impl<'a> Trial<'a> {
         let got = (self.call)(&mut self.store, ask);
         let wanted = oracles::counts(&self.machine.state(), connection, ask);
         self.tally.call(ask.spec, &wanted);
-        if let Answer { status: 0, out: [announced, owned, _], .. } = wanted {
+        if let Answer { status: 0, out: [announced, owned, ..], .. } = wanted {
             self.tally.case(ask.spec, counts_case([announced, owned]));
         }
         same_answer(ask, &got, &wanted)?;

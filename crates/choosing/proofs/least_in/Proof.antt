@@ -28,9 +28,9 @@ loop-holds : tie.Need-loop-holds Inv-loop μ-loop
 loop-holds c = (
   c .before .before .pre .1,
   omega arith,
-  λ st s w. is-none (c .nothing .result .row) (c .nothing .result .some) (c .nothing .ensures) ∙ least-none (rowsOf (st .table))
+  λ st s w. is-none (c .nothing .result .row) (c .nothing .result .some) (c .nothing .ensures .0) ∙ least-none (rowsOf (st .table))
       (machine.able (c .before .before .args .clock) (st .table) []) (c .before .before .args .to) (c .before .before .args .to) (omega arith),
-  λ f w. found-none (f .rows) (c .nothing .result) (c .nothing .ensures),
+  λ f w. found-none (f .rows) (c .nothing .result) (c .nothing .ensures .0),
 )
 
 row-at-requires : tie.Need-row-at-requires Inv-loop μ-loop

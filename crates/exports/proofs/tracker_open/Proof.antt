@@ -1,8 +1,8 @@
 -- `exports::tracker_open` meets its contract.
 use mathlib.Core.Path.{refl}
 use borrow.Author.Needs.{needs}
-use Rattle.exports.proofs.Statuses.{one-told}
-use Rattle.exports.proofs.Replies.{opens}
+use Rattle.crossing.proofs.Statuses.{one-told}
+use Rattle.crossing.proofs.Replies.{opens}
 use Rattle.exports.proofs.tracker_open.Statement.{statement}
 use Rattle.exports.proofs.tracker_open.Tie as tie
 

@@ -9,6 +9,7 @@ use Rattle.words.proofs.Words.{length-words}
 use Rattle.regions.specs.Rows.{rowSize, readRow, connSize, readConn}
 use Rattle.places.specs.Places.{placeSize}
 use Rattle.sound_rows.specs.Rows.{RowsSound}
+use Rattle.machine.specs.Limits.{maxAlternates}
 use Rattle.sound_rows.specs.Groups.{GroupsSound}
 use Rattle.sound_conns.specs.Conns.{ConnsSound}
 use Rattle.sound.specs.Places.{PlacesSound}
@@ -36,7 +37,7 @@ returns-2 c =
     let c′ = words (c .before .before .before .before .before .before .before .args .conns .now) in
     let p = words (c .before .before .before .before .before .before .before .args .places .now) in
     let rs = recs rowSize readRow (c .before .before .before .before .before .before .before .args .n) r in
-    λ s. failed (GroupsSound rs) (c .before .groups-fit .result) (c .if2 .taken) (c .before .groups-fit .ensures (s .rows)) (s .groups)
+    λ s. failed (GroupsSound maxAlternates rs) (c .before .groups-fit .result) (c .if2 .taken) (c .before .groups-fit .ensures (s .rows)) (s .groups)
 
 conns-fit-requires : tie.Need-conns-fit-requires
 conns-fit-requires c κs = search needs
@@ -106,7 +107,7 @@ returns-7 c =
     let a₁ = passed (RowsSound rs) (c .before .before .before .before .before .before .before .before .before .before .before .before .rows-fit .result)
     (c .before .before .before .before .before .before .before .before .before .before .before .if1 .left)
     (c .before .before .before .before .before .before .before .before .before .before .before .before .rows-fit .ensures) in
-    let a₂ = passed (GroupsSound rs) (c .before .before .before .before .before .before .before .before .before .before .groups-fit .result)
+    let a₂ = passed (GroupsSound maxAlternates rs) (c .before .before .before .before .before .before .before .before .before .before .groups-fit .result)
     (c .before .before .before .before .before .before .before .before .before .if2 .left)
     (c .before .before .before .before .before .before .before .before .before .before .groups-fit .ensures a₁) in
     let a₃ = passed

@@ -56,7 +56,7 @@ pub fn case([announced, owned]: [u64; 2]) -> &'static str {
 
 fn link(given: &Given, lent: Lent) -> u64 {
     let Given::Counts { connection } = given else { unreachable!() };
-    let [announced, owned, _] = lent.out;
+    let [announced, owned, ..] = lent.out;
     // SAFETY: the bytes are only read, the numbers are lent to this call alone.
     unsafe { abi::tracker_counts(lent.store.as_ptr(), lent.store.len(), *connection, announced, owned) }
 }

@@ -122,7 +122,7 @@ fn link(given: &Given, lent: Lent) -> u64 {
     let Given::On(Call::Disconnected { connection, now }) = given else { unreachable!() };
     let (store, length) = (lent.store.as_mut_ptr(), lent.store.len());
     let (answer, room) = (lent.buffer.as_mut_ptr(), lent.buffer.len());
-    let [own, parents, _] = lent.out;
+    let [own, parents, ..] = lent.out;
     // SAFETY: store, buffer and counts are lent to this call alone.
     unsafe { abi::tracker_disconnected(store, length, *connection, *now, answer, room, own, parents) }
 }

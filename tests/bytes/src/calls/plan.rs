@@ -103,7 +103,7 @@ pub fn clock(draw: &mut Draw, seen: &Reference) -> u64 {
 
 /// By how many are selected.
 pub fn case(_: &Call, seen: &Reference, reply: &Reply) -> &'static str {
-    let Reply::Planned(_, entries) = reply else { unreachable!() };
+    let Reply::Planned(_, entries, _) = reply else { unreachable!() };
     match entries.len() as u64 {
         0 if seen.rows().is_empty() => "no key",
         0 => "nothing ready",
@@ -170,7 +170,7 @@ pub fn parents_selected(seen: &Reference, now: u64, entries: &[Entry]) -> usize 
 
 /// The cases that both plans have, but for how many are selected.
 pub fn common(call: &Call, seen: &Reference, reply: &Reply) -> Vec<&'static str> {
-    let (Call::Plan { now, .. }, Reply::Planned(_, entries)) = (call, reply) else { unreachable!() };
+    let (Call::Plan { now, .. }, Reply::Planned(_, entries, _)) = (call, reply) else { unreachable!() };
     let mut cases = expired(seen, *now).cases;
     let parents = parents_selected(seen, *now, entries);
     cases.extend((parents > 0).then_some("a parent selected"));
@@ -225,7 +225,7 @@ fn of_kinds(seen: &Reference, now: u64, entry: &Entry) -> Option<&'static str> {
 
 /// Where the ready cursor stands among the keys, and whether the plan came round to it.
 fn about_cursor(seen: &Reference, reply: &Reply) -> Vec<&'static str> {
-    let Reply::Planned(considered, entries) = reply else { unreachable!() };
+    let Reply::Planned(considered, entries, _) = reply else { unreachable!() };
     let (count, stopped) = (seen.rows().len(), entries.len() as u64 >= CHECKS);
     let mut cases = Vec::new();
     let mut keys: Vec<_> = (0..count).map(|i| seen.key_at(i)).collect();
@@ -249,7 +249,7 @@ fn link(given: &Given, lent: Lent) -> u64 {
     let Given::On(Call::Plan { now, .. }) = given else { unreachable!() };
     let (store, length) = (lent.store.as_mut_ptr(), lent.store.len());
     let (answer, room) = (lent.buffer.as_mut_ptr(), lent.buffer.len());
-    let [considered, count, _] = lent.out;
+    let [considered, count, next, ..] = lent.out;
     // SAFETY: store, buffer and counts are lent to this call alone.
-    unsafe { abi::tracker_plan(store, length, *now, answer, room, considered, count) }
+    unsafe { abi::tracker_plan(store, length, *now, answer, room, considered, count, next) }
 }

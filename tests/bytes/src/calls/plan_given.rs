@@ -117,7 +117,7 @@ fn other_kind(key: Key) -> Key {
 }
 
 fn also(call: &Call, seen: &Reference, reply: &Reply) -> Vec<&'static str> {
-    let (Call::Plan { now, keys: Some(keys) }, Reply::Planned(considered, entries)) = (call, reply) else {
+    let (Call::Plan { now, keys: Some(keys) }, Reply::Planned(considered, entries, _)) = (call, reply) else {
         unreachable!()
     };
     let mut cases = common(call, seen, reply);
@@ -154,7 +154,7 @@ fn link(given: &Given, lent: Lent) -> u64 {
     list.extend(lent.rest);
     let (store, length) = (lent.store.as_mut_ptr(), lent.store.len());
     let (answer, room) = (lent.buffer.as_mut_ptr(), lent.buffer.len());
-    let [considered, count, _] = lent.out;
+    let [considered, count, next, ..] = lent.out;
     // SAFETY: store, buffer and counts are lent to this call alone; the list is only read.
     unsafe {
         abi::tracker_plan_given(
@@ -167,6 +167,7 @@ fn link(given: &Given, lent: Lent) -> u64 {
             room,
             considered,
             count,
+            next,
         )
     }
 }

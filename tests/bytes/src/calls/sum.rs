@@ -1,7 +1,7 @@
 //! sum.
 
 use oracle::calls::{Call, Reply};
-use oracle::image::header;
+use oracle::image::{header, row};
 use tracker::abi;
 
 use super::{COMMON, Hands, Spec};
@@ -22,12 +22,13 @@ pub static SPEC: Spec = Spec {
 };
 
 fn link(_: &Given, lent: Lent) -> u64 {
-    let [held, free, permille] = lent.out;
+    let [held, free, preferred, permille] = lent.out;
     // SAFETY: the bytes are only read, the numbers are lent to this call alone.
-    unsafe { abi::tracker_sum(lent.store.as_ptr(), lent.store.len(), held, free, permille) }
+    unsafe { abi::tracker_sum(lent.store.as_ptr(), lent.store.len(), held, free, preferred, permille) }
 }
 
 fn follow(reference: &mut Reference, _: &Call, _: &mut Tally) -> Reply {
     let [l, held] = [header::L, header::ROWS].map(|at| reference.words[at]);
-    Reply::Sum(held, l - held, held * 1_000 / l)
+    let evictable = reference.rows().iter().filter(|row| row[row::BITS] & (row::PREFERRED | row::OWNS) == 0);
+    Reply::Sum(held, l - held, l - held + evictable.count() as u64, held * 1_000 / l)
 }

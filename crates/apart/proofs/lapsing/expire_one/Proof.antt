@@ -25,38 +25,6 @@ part-failed-end c = search needs
 failed-requires : tie.Need-failed-requires
 failed-requires c κs = lent-kept (c .before .before .before .before .before .before .before .before .before .before .pre .0 .apart)
 
-expire-place-requires : tie.Need-expire-place-requires
-expire-place-requires c κs = let x = c .before .before .before .before .before .before .before .before .before .before .before .pre .0 in record {
-  state = x .state;
-  places = x .places;
-  apart = x .apart;
-  held = found-held x (c .before .before .before .before .find .ensures) (omega (arith, c .before .before .if1 .left));
-  some-stage = (omega (
-    arith,
-    c .before .before
-        .if1 .left,
-  ));
-  some-peer = c .before .before .before .before .before .before .before .before .before .before .before .pre .1;
-}
-
-mul-low : tie.Need-mul-low
-mul-low c = let y = found-few (c .before .before .before .before .before .before .before .before .before .before .before .before .before .before .before .before .pre .0) (c .before .before
-    .before .before .before .before .before .before .before .find .ensures) (omega (arith, c .before .before .before .before .before .before .before .if1 .left)) in omega (arith, y)
-
-slice-write-low : tie.Need-slice-write-low
-slice-write-low c = let y = found-inside (c .before .before .before .before .before .before .before .before .before .before .before .before .before .before .before .before .pre .0) (c
-    .before .before .before .before .before .before .before .before .before .find .ensures) (omega (arith, c .before .before .before .before .before .before .before .if1 .left)) in omega
-    (arith, y, c .before .before .before .before .before .before .before .before .before .before .before .before .before .before .before .before .pre .2)
-
-mul-high : tie.Need-mul-high
-mul-high c = let y = found-few (c .before .before .before .before .before .before .before .before .before .before .before .before .before .before .before .before .pre .0) (c .before .before
-    .before .before .before .before .before .before .before .find .ensures) (omega (arith, c .before .before .before .before .before .before .before .if1 .left)) in omega (arith, y)
-
-slice-write-high : tie.Need-slice-write-high
-slice-write-high c = let y = found-inside (c .before .before .before .before .before .before .before .before .before .before .before .before .before .before .before .before .pre .0) (c
-    .before .before .before .before .before .before .before .before .before .find .ensures) (omega (arith, c .before .before .before .before .before .before .before .if1 .left)) in omega
-    (arith, y, c .before .before .before .before .before .before .before .before .before .before .before .before .before .before .before .before .pre .3)
-
 same-length : tie.Need-same-length
 same-length c = search needs
 
@@ -65,14 +33,49 @@ same-length-2 c = search needs
 
 returns : tie.Need-returns
 returns c = λ st ps o n own. let late : c .before .before .before .before .before .before .before .before .before .before .before .before .before .args .clock < word = omega arith in
-    expired-without o (keyNum (c .before .before .before .before .before .before .before .before .before .before .before .before .before .args .k)) (c .before .before .before .before
-    .before .before .before .before .before .before .before .before .before .args .n) (c .before .before .before .before .before .before .before .before .before .before .before .before
-    .before .args .clock) late (hash-below (c .before .before .before .before .before .before .before .before .before .before .before .before .before .args .k .hash) (key-four (c .before
-    .before .before .before .before .before .before .before .before .before .before .before .before .args .k) (c .before .before .before .before .before .before .before .before .before
-    .before .before .before .before .good .1 .1 .1 .1 .1 .1 .0))) own (c .before .before .before .before .before .before .find .ensures .none (st .places) ps n (o .slots) (o .ascend) (omega
-    (arith, c .before .before .before .before .if1 .taken))) (c .before .before .before .before .before .before .before .before .before .before .before .before .before .args .low .now) (c
-    .before .before .before .before .before .before .before .before .before .before .before .before .before .args .high .now) (c .before .before .failed .kept .0) (c .before .before .failed
-    .ensures) (search needs) refl
+    expired-without o (keyNum (c .before .before .before .before .before .before .before .before .before .before .before .before .before .args .k))
+    (c .before .before .before .before .before .before .before .before .before .before .before .before .before .args .n)
+    (c .before .before .before .before .before .before .before .before .before .before .before .before .before .args .clock) late (hash-below
+    (c .before .before .before .before .before .before .before .before .before .before .before .before .before .args .k .hash) (key-four
+    (c .before .before .before .before .before .before .before .before .before .before .before .before .before .args .k)
+    (c .before .before .before .before .before .before .before .before .before .before .before .before .before .good .1 .1 .1 .1 .1 .1 .0))) own
+    (c .before .before .before .before .before .before .find .ensures .none (st .places) ps n (o .slots) (o .ascend) (omega
+    (arith, c .before .before .before .before .if1 .taken))) (c .before .before .before .before .before .before .before .before .before .before .before .before .before .args .low .now)
+    (c .before .before .before .before .before .before .before .before .before .before .before .before .before .args .high .now) (c .before .before .failed .kept .0)
+    (c .before .before .failed .ensures) (search needs) refl (c .before .before .before .before .before .before .before .before .before .before .before .before .before .pre .4)
+
+expire-place-requires : tie.Need-expire-place-requires
+expire-place-requires c κs = let x = c .before .before .before .before .before .before .before .before .before .before .before .pre .0 in (
+  record {
+    state = x .state;
+    places = x .places;
+    apart = x .apart;
+    held = found-held x (c .before .before .before .before .find .ensures) (omega (arith, c .before .before .if1 .left));
+    some-stage = omega (arith, c .before .before .if1 .left);
+    some-peer = c .before .before .before .before .before .before .before .before .before .before .before .pre .1;
+  },
+  c .before .before .before .before .before .before .before .before .before .before .before .pre .4,
+)
+
+mul-low : tie.Need-mul-low
+mul-low c = let y = found-few (c .before .before .before .before .before .before .before .before .before .before .before .before .before .before .before .before .pre .0)
+    (c .before .before .before .before .before .before .before .before .before .find .ensures) (omega (arith, c .before .before .before .before .before .before .before .if1 .left)) in omega
+    (arith, y)
+
+slice-write-low : tie.Need-slice-write-low
+slice-write-low c = let y = found-inside (c .before .before .before .before .before .before .before .before .before .before .before .before .before .before .before .before .pre .0)
+    (c .before .before .before .before .before .before .before .before .before .find .ensures) (omega (arith, c .before .before .before .before .before .before .before .if1 .left)) in omega
+    (arith, y, c .before .before .before .before .before .before .before .before .before .before .before .before .before .before .before .before .pre .2)
+
+mul-high : tie.Need-mul-high
+mul-high c = let y = found-few (c .before .before .before .before .before .before .before .before .before .before .before .before .before .before .before .before .pre .0)
+    (c .before .before .before .before .before .before .before .before .before .find .ensures) (omega (arith, c .before .before .before .before .before .before .before .if1 .left)) in omega
+    (arith, y)
+
+slice-write-high : tie.Need-slice-write-high
+slice-write-high c = let y = found-inside (c .before .before .before .before .before .before .before .before .before .before .before .before .before .before .before .before .pre .0)
+    (c .before .before .before .before .before .before .before .before .before .find .ensures) (omega (arith, c .before .before .before .before .before .before .before .if1 .left)) in omega
+    (arith, y, c .before .before .before .before .before .before .before .before .before .before .before .before .before .before .before .before .pre .3)
 
 same-length-3 : tie.Need-same-length-3
 same-length-3 c = search needs
@@ -94,18 +97,15 @@ returns-2 c = λ st ps o n own. let h = c .before .before .before .before .befor
   arith,
   h .inside,
   n,
-  c .before .before .before .before .before .before .before .before
-      .before .before .before .before .before .before .before .before .pre .2,
+  c .before .before .before .before .before .before .before .before .before .before .before .before .before .before .before .before .pre .2,
 )) (omega (
   arith,
   h .inside,
   n,
-  c .before .before .before .before .before .before .before .before .before .before
-      .before .before .before .before .before .before .pre .3,
+  c .before .before .before .before .before .before .before .before .before .before .before .before .before .before .before .before .pre .3,
 )) (c .before .before .before .before .expire-place .ensures st ps o h (omega (
   arith,
-  c .before .before .before .before .before
-      .before .before .if1 .left,
+  c .before .before .before .before .before .before .before .if1 .left,
 )) own)
 
 pub expire-one-spec : {M : Type 1} → statement M
@@ -117,14 +117,14 @@ expire-one-spec =
     part-failed-start
     part-failed-end
     failed-requires
+    same-length
+    same-length-2
+    returns
     expire-place-requires
     mul-low
     slice-write-low
     mul-high
     slice-write-high
-    same-length
-    same-length-2
-    returns
     same-length-3
     same-length-4
     same-length-5

@@ -6,7 +6,7 @@ use Rattle.ident.proofs.Words.{key-four, hash-below}
 use Rattle.machine.specs.Limits.{word}
 use Rattle.places.specs.Places.{blank}
 use Rattle.apart.proofs.Overdue.{place-expired}
-use Rattle.apart.proofs.OneOwner.{front-kept, place-room, lapsed-kept, few-parents}
+use Rattle.apart.proofs.OneOwner.{front-kept, place-room, lapsed-kept, few-parents, lapsed-spent}
 use borrow.Author.Needs.{needs}
 use Rattle.apart.proofs.lapsing.expire_place.Statement.{statement}
 use Rattle.apart.proofs.lapsing.expire_place.Tie as tie
@@ -22,9 +22,9 @@ load-requires c κs = search needs
 
 lapse-requires : tie.Need-lapse-requires
 lapse-requires c κs = (
-  place-room (c .before .before .before .before .before .before .before .before .before .before .pre .apart) (c .before .before .before .before .before .before .before
-      .before .before .before .pre .held .inside),
-  front-kept (c .before .before .before .before .before .before .before .before .before .before .pre .apart),
+  place-room (c .before .before .before .before .before .before .before .before .before .before .pre .0 .apart)
+      (c .before .before .before .before .before .before .before .before .before .before .pre .0 .held .inside),
+  front-kept (c .before .before .before .before .before .before .before .before .before .before .pre .0 .apart),
 )
 
 sub-announce-all : tie.Need-sub-announce-all
@@ -40,15 +40,20 @@ slice-aggregate-announce-all : tie.Need-slice-aggregate-announce-all
 slice-aggregate-announce-all c = search needs
 
 announce-all-requires : tie.Need-announce-all-requires
-announce-all-requires c κs = let x = c .before .before .before .before .before .before .before .before .before .before .before .before .before .before .before .before .before .pre in let
+announce-all-requires c κs = let x = c .before .before .before .before .before .before .before .before .before .before .before .before .before .before .before .before .before .pre .0 in let
     late : c .before .before .before .before .before .before .before .before .before .before .before .before .before .before .before .before .before .args .clock < word = omega arith in (
       lapsed-kept (x .apart) (x .held) (x .some-stage) late (hash-below (c .before .before .before .before .before .before .before .before .before .before .before .before .before .before
           .before .before .before .args .k .hash) (key-four (c .before .before .before .before .before .before .before .before .before .before .before .before .before .before .before .before
-          .before .args .k) (c .before .before .before .before .before .before .before .before .before .before .before .before .before .before .before .before .before .good .1 .1 .1 .1 .0))) (c
-          .before .before .before .before .before .before .lapse .ensures (x .state) (x .places) (x .apart) (x .held) (x .some-stage)),
+          .before .args .k) (c .before .before .before .before .before .before .before .before .before .before .before .before .before .before .before .before .before .good .1 .1 .1 .1 .0)))
+          (c .before .before .before .before .before .before .lapse .ensures (x .state) (x .places) (x .apart) (x .held) (x .some-stage)),
       x .some-peer,
       few-parents (x .apart) (x .held),
       search needs,
+      lapsed-spent (x .apart) late (hash-below (c .before .before .before .before .before .before .before .before .before .before .before .before .before .before .before .before .before .args
+          .k .hash) (key-four (c .before .before .before .before .before .before .before .before .before .before .before .before .before .before .before .before .before .args .k)
+          (c .before .before .before .before .before .before .before .before .before .before .before .before .before .before .before .before .before .good .1 .1 .1 .1 .0)))
+          (c .before .before .before .before .before .before .lapse .ensures (x .state) (x .places) (x .apart) (x .held) (x .some-stage))
+          (c .before .before .before .before .before .before .before .before .before .before .before .before .before .before .before .before .before .pre .1),
     )
 
 same-length : tie.Need-same-length
@@ -59,12 +64,12 @@ same-length-2 c = search needs
 
 returns : tie.Need-returns
 returns c = λ st ps o h z own. let late : c .before .before .before .before .before .before .before .before .before .before .before .before .before .before .before .before .before .before
-    .before .before .args .clock < word = omega arith in place-expired o h z (c .before .before .before .before .before .before .before .before .before .before .before .before .before
-    .before .before .before .before .before .before .before .args .n) (c .before .before .before .before .before .before .before .before .before .before .before .before .before .before
-    .before .before .before .before .before .before .args .clock) late (hash-below (c .before .before .before .before .before .before .before .before .before .before .before .before .before
-    .before .before .before .before .before .before .before .args .k .hash) (key-four (c .before .before .before .before .before .before .before .before .before .before .before .before
-    .before .before .before .before .before .before .before .before .args .k) (c .before .before .before .before .before .before .before .before .before .before .before .before .before
-    .before .before .before .before .before .before .before .good .1 .1 .1 .1 .0))) own (c .before .before .before .before .before .before .before .before .before .lapse .ensures st ps o h
+    .before .before .args .clock < word = omega arith in place-expired o h z (c .before .before .before .before .before .before .before .before .before .before .before .before .before .before
+    .before .before .before .before .before .before .args .n) (c .before .before .before .before .before .before .before .before .before .before .before .before .before .before .before .before
+    .before .before .before .before .args .clock) late (hash-below (c .before .before .before .before .before .before .before .before .before .before .before .before .before .before .before
+    .before .before .before .before .before .args .k .hash) (key-four (c .before .before .before .before .before .before .before .before .before .before .before .before .before .before .before
+    .before .before .before .before .before .args .k) (c .before .before .before .before .before .before .before .before .before .before .before .before .before .before .before .before .before
+    .before .before .before .good .1 .1 .1 .1 .0))) own (c .before .before .before .before .before .before .before .before .before .lapse .ensures st ps o h
     z) _ (c .before .before .before .before .before .before .before .before .before .before .before .before .before .load .ensures (st .places) ps (blank 0 0) (h .inside) (o .slots))
     (search needs) (c .before .before .announce-all .kept .0) (c .before .before .announce-all .ensures) (search needs) (search needs) refl
 

@@ -33,7 +33,8 @@ slice-aggregate-announce-bits-2 c = search needs
 announce-bits-requires : tie.Need-announce-bits-requires
 announce-bits-requires c κs = let h = c .before .before .before .first-half .ensures in (
   none-waits (c .before .before .before .before .before .before .before .before .before .before .before .before .pre .0)
-      (c .before .before .before .before .before .before .before .clear .ensures) (c .before .before .before .before .nothing-listed .ensures),
+      (c .before .before .before .before .before .before .before .clear .ensures) (c .before .before .before .before .before .before .before .before .before .before .before .before .pre .4)
+      (c .before .before .before .before .nothing-listed .ensures),
   c .before .before .before .before .before .before .before .before .before .before .before .before .pre .1,
   omega arith,
   omega arith,
@@ -57,6 +58,7 @@ announce-bits-requires-2 c κs = let h = c .before .before .before .before .befo
   half-supplies (c .before .before .before .before .before .before .before .before .announce-bits .ensures) (none-waits
       (c .before .before .before .before .before .before .before .before .before .before .before .before .before .before .before .before .before .before .before .before .before .pre .0)
       (c .before .before .before .before .before .before .before .before .before .before .before .before .before .before .before .before .clear .ensures)
+      (c .before .before .before .before .before .before .before .before .before .before .before .before .before .before .before .before .before .before .before .before .before .pre .4)
       (c .before .before .before .before .before .before .before .before .before .before .before .before .before .nothing-listed .ensures)),
   c .before .before .before .before .before .before .before .before .before .before .before .before .before .before .before .before .before .before .before .before .before .pre .1,
   c .before .before .before .before .before .before .before .before .announce-bits .ensures .most,
@@ -80,7 +82,9 @@ let-in-requires c κs = (
       (c .before .before .before .before .before .before .before .before .before .before .before .before .before .before .before .before .before .before .before .before .before .before .before
       .before .before .before .before .before .pre .0) (c .before .before .before .before .before .before .before .before .before .before .before .before .before .before .before .before .before
       .before .before .before .before .before .before .clear .ensures) (c .before .before .before .before .before .before .before .before .before .before .before .before .before .before .before
-      .before .before .before .before .before .nothing-listed .ensures)))),
+      .before .before .before .before .before .before .before .before .before .before .before .before .before .pre .4)
+      (c .before .before .before .before .before .before .before .before .before .before .before .before .before .before .before .before .before .before .before .before .nothing-listed
+      .ensures)))),
   c .before .before .before .before .before .before .announce-bits2 .ensures .most,
   c .before .before .before .before .before .before .before .before .before .before .before .before .before .before .before .before .before .before .before .before .before .before .before
       .before .before .before .before .before .pre .2,
@@ -94,13 +98,15 @@ same-length c = search needs
 
 returns : tie.Need-returns
 returns c = both-noted (words (c .before .before .before .before .before .before .before .before .before .before .before .before .before .before .before .before .before .before .before .before
-    .before .before .before .before .before .before .before .before .before .before .before .before .args .slot .now))
+    .before .before .before .before .before .before .before .before .before .before .before .before .before .args .slot .now))
     (c .before .before .before .before .before .before .before .before .before .before .before .before .before .before .before .before .before .before .before .before .before .before .before
-    .before .before .before .before .clear .ensures) (c .before .before .before .before .before .before .before .before .before .before .before .before .before .before .before .before .before
-    .before .before .before .before .before .before .before .nothing-listed .ensures)
+    .before .before .before .before .before .clear .ensures) (c .before .before .before .before .before .before .before .before .before .before .before .before .before .before .before .before
+    .before .before .before .before .before .before .before .before .before .before .before .before .before .before .before .before .before .pre .4)
     (c .before .before .before .before .before .before .before .before .before .before .before .before .before .before .before .before .before .before .before .before .before .before .before
-    .first-half .ensures) (c .before .before .before .before .before .before .before .before .before .before .before .before .before .before .before .before .before .before .before
-    .announce-bits .ensures) (c .before .before .before .before .before .before .before .before .before .before .announce-bits2 .ensures) (c .before .before .before .let-in .ensures)
+    .before .before .nothing-listed .ensures) (c .before .before .before .before .before .before .before .before .before .before .before .before .before .before .before .before .before .before
+    .before .before .before .before .before .before .first-half .ensures) (c .before .before .before .before .before .before .before .before .before .before .before .before .before .before
+    .before .before .before .before .before .before .announce-bits .ensures) (c .before .before .before .before .before .before .before .before .before .before .before .announce-bits2 .ensures)
+    (c .before .before .before .before .let-in .ensures)
 
 pub announce-all-spec : {M : Type 1} → statement M
 announce-all-spec = tie.close (tie.spec region-requires slice-aggregate-clear clear-requires list-requires nothing-listed-requires first-half-requires slice-aggregate-announce-bits

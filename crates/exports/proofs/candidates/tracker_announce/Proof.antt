@@ -2,7 +2,7 @@
 use mathlib.Core.Path.{ap}
 use borrow.Author.Needs.{needs}
 use Rattle.machine.specs.Call.{On, Announce}
-use Rattle.exports.proofs.Statuses.{hands-out}
+use Rattle.crossing.proofs.Statuses.{hands-out}
 use Rattle.exports.proofs.candidates.tracker_announce.Statement.{statement}
 use Rattle.exports.proofs.candidates.tracker_announce.Tie as tie
 

@@ -1,7 +1,7 @@
 -- `exports::candidates::tracker_announce_parents` meets its contract: the public call's, its reply said by the numbers handed out.
 use mathlib.Core.Path.{refl}
 use borrow.Author.Needs.{needs}
-use Rattle.exports.proofs.Statuses.{hands-keys}
+use Rattle.crossing.proofs.Statuses.{hands-keys}
 use Rattle.exports.proofs.candidates.tracker_announce_parents.Statement.{statement}
 use Rattle.exports.proofs.candidates.tracker_announce_parents.Tie as tie
 

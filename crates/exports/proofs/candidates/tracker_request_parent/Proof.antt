@@ -2,7 +2,7 @@
 use mathlib.Core.Path.{ap}
 use borrow.Author.Needs.{needs}
 use Rattle.machine.specs.Call.{On, RequestParent}
-use Rattle.exports.proofs.Statuses.{hands-out}
+use Rattle.crossing.proofs.Statuses.{hands-out}
 use Rattle.exports.proofs.candidates.tracker_request_parent.Statement.{statement}
 use Rattle.exports.proofs.candidates.tracker_request_parent.Tie as tie
 

@@ -1,6 +1,6 @@
 -- `exports::connections::tracker_counts` meets its contract: the public call's, its answer said by the numbers handed out.
 use borrow.Author.Needs.{needs}
-use Rattle.exports.proofs.Counts.{hands-counts}
+use Rattle.crossing.proofs.Counts.{hands-counts}
 use Rattle.exports.proofs.connections.tracker_counts.Statement.{statement}
 use Rattle.exports.proofs.connections.tracker_counts.Tie as tie
 

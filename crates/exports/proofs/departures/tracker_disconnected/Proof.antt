@@ -1,6 +1,6 @@
 -- `exports::departures::tracker_disconnected` meets its contract: the public call's, its reply said by the numbers handed out.
 use borrow.Author.Needs.{needs}
-use Rattle.exports.proofs.Statuses.{hands-departure}
+use Rattle.crossing.proofs.Statuses.{hands-departure}
 use Rattle.exports.proofs.departures.tracker_disconnected.Statement.{statement}
 use Rattle.exports.proofs.departures.tracker_disconnected.Tie as tie
 

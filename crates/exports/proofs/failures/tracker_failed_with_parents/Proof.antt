@@ -2,7 +2,7 @@
 use mathlib.Core.Path.{ap}
 use borrow.Author.Needs.{needs}
 use Rattle.machine.specs.Call.{On, FailedWithParents}
-use Rattle.exports.proofs.Statuses.{hands-keys}
+use Rattle.crossing.proofs.Statuses.{hands-keys}
 use Rattle.exports.proofs.failures.tracker_failed_with_parents.Statement.{statement}
 use Rattle.exports.proofs.failures.tracker_failed_with_parents.Tie as tie
 

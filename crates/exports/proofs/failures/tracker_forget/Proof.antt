@@ -2,8 +2,8 @@
 use mathlib.Core.Path.{ap}
 use borrow.Author.Needs.{needs}
 use Rattle.machine.specs.Call.{On, Forget}
-use Rattle.exports.proofs.Statuses.{one-told}
-use Rattle.exports.proofs.Replies.{forgets}
+use Rattle.crossing.proofs.Statuses.{one-told}
+use Rattle.crossing.proofs.Replies.{forgets}
 use Rattle.exports.proofs.failures.tracker_forget.Statement.{statement}
 use Rattle.exports.proofs.failures.tracker_forget.Tie as tie
 

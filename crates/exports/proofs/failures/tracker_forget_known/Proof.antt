@@ -2,8 +2,8 @@
 use mathlib.Core.Path.{ap}
 use borrow.Author.Needs.{needs}
 use Rattle.machine.specs.Call.{On, ForgetKnown}
-use Rattle.exports.proofs.Statuses.{one-told}
-use Rattle.exports.proofs.Replies.{forgets-known}
+use Rattle.crossing.proofs.Statuses.{one-told}
+use Rattle.crossing.proofs.Replies.{forgets-known}
 use Rattle.exports.proofs.failures.tracker_forget_known.Statement.{statement}
 use Rattle.exports.proofs.failures.tracker_forget_known.Tie as tie
 

@@ -2,8 +2,8 @@
 use mathlib.Core.Path.{ap}
 use borrow.Author.Needs.{needs}
 use Rattle.machine.specs.Call.{On, Unclaim}
-use Rattle.exports.proofs.Statuses.{one-told}
-use Rattle.exports.proofs.Replies.{unclaims}
+use Rattle.crossing.proofs.Statuses.{one-told}
+use Rattle.crossing.proofs.Replies.{unclaims}
 use Rattle.exports.proofs.failures.tracker_unclaim.Statement.{statement}
 use Rattle.exports.proofs.failures.tracker_unclaim.Tie as tie
 

@@ -1,6 +1,6 @@
 -- `exports::listings::tracker_save` meets its contract: the public call's, its reply said by the number handed out.
 use borrow.Author.Needs.{needs}
-use Rattle.exports.proofs.Statuses.{hands-text}
+use Rattle.crossing.proofs.Statuses.{hands-text}
 use Rattle.exports.proofs.listings.tracker_save.Statement.{statement}
 use Rattle.exports.proofs.listings.tracker_save.Tie as tie
 

@@ -1,6 +1,6 @@
 -- `exports::package_calls::tracker_begin_package_resolution` meets its contract: the public call's, its reply said by the numbers handed out.
 use borrow.Author.Needs.{needs}
-use Rattle.exports.proofs.Statuses.{hands-out}
+use Rattle.crossing.proofs.Statuses.{hands-out}
 use Rattle.exports.proofs.package_calls.tracker_begin_package_resolution.Statement.{statement}
 use Rattle.exports.proofs.package_calls.tracker_begin_package_resolution.Tie as tie
 

@@ -1,7 +1,7 @@
 -- `exports::package_claims::tracker_failed_package_claims` meets its contract: the public call's, its reply said by the numbers handed out.
 use mathlib.Core.Path.{refl}
 use borrow.Author.Needs.{needs}
-use Rattle.exports.proofs.Statuses.{hands-keys}
+use Rattle.crossing.proofs.Statuses.{hands-keys}
 use Rattle.exports.proofs.package_claims.tracker_failed_package_claims.Statement.{statement}
 use Rattle.exports.proofs.package_claims.tracker_failed_package_claims.Tie as tie
 

@@ -1,6 +1,6 @@
 -- `exports::payloads::tracker_read_payload` meets its contract: that of `wire::read_payload`, its answer said by the numbers handed out.
 use borrow.Author.Needs.{needs}
-use Rattle.exports.proofs.Handing.{hands-items}
+use Rattle.crossing.proofs.Handing.{hands-items}
 use Rattle.exports.proofs.payloads.tracker_read_payload.Statement.{statement}
 use Rattle.exports.proofs.payloads.tracker_read_payload.Tie as tie
 

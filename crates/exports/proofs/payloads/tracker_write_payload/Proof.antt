@@ -1,7 +1,7 @@
 -- `exports::payloads::tracker_write_payload` meets its contract: that of `wire::write_payload`, its answer said by the numbers handed out.
 use borrow.Author.Needs.{needs}
 use Rattle.lent_lists.specs.Items.{itemsIn}
-use Rattle.exports.proofs.Handing.{hands-bytes}
+use Rattle.crossing.proofs.Handing.{hands-bytes}
 use Rattle.exports.proofs.payloads.tracker_write_payload.Statement.{statement}
 use Rattle.exports.proofs.payloads.tracker_write_payload.Tie as tie
 

@@ -1,6 +1,6 @@
 -- `exports::plans::tracker_claim` meets its contract: the public call's, its reply said by the numbers handed out.
 use borrow.Author.Needs.{needs}
-use Rattle.exports.proofs.Statuses.{hands-entries}
+use Rattle.crossing.proofs.Statuses.{hands-entries}
 use Rattle.exports.proofs.plans.tracker_claim.Statement.{statement}
 use Rattle.exports.proofs.plans.tracker_claim.Tie as tie
 

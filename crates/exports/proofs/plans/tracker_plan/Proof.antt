@@ -1,6 +1,6 @@
 -- `exports::plans::tracker_plan` meets its contract: the public call's, its reply said by the numbers handed out.
 use borrow.Author.Needs.{needs}
-use Rattle.exports.proofs.Statuses.{hands-plan}
+use Rattle.crossing.proofs.Statuses.{hands-plan}
 use Rattle.exports.proofs.plans.tracker_plan.Statement.{statement}
 use Rattle.exports.proofs.plans.tracker_plan.Tie as tie
 
@@ -17,7 +17,9 @@ same-length-2 : tie.Need-same-length-2
 same-length-2 c = search needs
 
 returns : tie.Need-returns
-returns c = hands-plan (c .before .before .before .before .before .before .before .plan .result) _ _ (c .before .before .before .before .before .before .before .plan .ensures) (c .hand-plan .ensures)
+returns c =
+    hands-plan (c .before .before .before .before .before .before .before .before .plan .result) _ _ _
+    (c .before .before .before .before .before .before .before .before .plan .ensures) (c .hand-plan .ensures)
 
 pub tracker-plan-spec : {M : Type 1} → statement M
 tracker-plan-spec = tie.close (tie.spec plan-requires hand-plan-requires same-length same-length-2 returns)

@@ -1,7 +1,7 @@
 -- `exports::sweeps::tracker_poll_gate` meets its contract: the public call's, its reply said by the numbers handed out.
 use mathlib.Core.Path.{refl}
 use borrow.Author.Needs.{needs}
-use Rattle.exports.proofs.Statuses.{hands-out}
+use Rattle.crossing.proofs.Statuses.{hands-out}
 use Rattle.exports.proofs.sweeps.tracker_poll_gate.Statement.{statement}
 use Rattle.exports.proofs.sweeps.tracker_poll_gate.Tie as tie
 

@@ -1,7 +1,7 @@
 -- `exports::sweeps::tracker_sweep` meets its contract: the public call's, its reply said by the numbers handed out.
 use mathlib.Core.Path.{refl}
 use borrow.Author.Needs.{needs}
-use Rattle.exports.proofs.Statuses.{hands-keys}
+use Rattle.crossing.proofs.Statuses.{hands-keys}
 use Rattle.exports.proofs.sweeps.tracker_sweep.Statement.{statement}
 use Rattle.exports.proofs.sweeps.tracker_sweep.Tie as tie
 

@@ -1,8 +1,8 @@
 -- `exports::wrappers::tracker_announce_transactions` meets its contract: the public call's, its reply said by the status.
 use mathlib.Core.Path.{refl}
 use borrow.Author.Needs.{needs}
-use Rattle.exports.proofs.Statuses.{one-told}
-use Rattle.exports.proofs.Replies.{announces-transactions}
+use Rattle.crossing.proofs.Statuses.{one-told}
+use Rattle.crossing.proofs.Replies.{announces-transactions}
 use Rattle.exports.proofs.wrappers.tracker_announce_transactions.Statement.{statement}
 use Rattle.exports.proofs.wrappers.tracker_announce_transactions.Tie as tie
 

@@ -1,7 +1,7 @@
 -- `exports::wrappers::tracker_transaction_not_found` meets its contract: the public call's, its reply said by the numbers handed out.
 use mathlib.Core.Path.{refl}
 use borrow.Author.Needs.{needs}
-use Rattle.exports.proofs.Statuses.{hands-keys}
+use Rattle.crossing.proofs.Statuses.{hands-keys}
 use Rattle.exports.proofs.wrappers.tracker_transaction_not_found.Statement.{statement}
 use Rattle.exports.proofs.wrappers.tracker_transaction_not_found.Tie as tie
 

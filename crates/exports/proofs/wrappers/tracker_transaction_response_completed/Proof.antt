@@ -1,7 +1,7 @@
 -- `exports::wrappers::tracker_transaction_response_completed` meets its contract: the public call's, its reply said by the status.
 use borrow.Author.Needs.{needs}
-use Rattle.exports.proofs.Statuses.{one-told}
-use Rattle.exports.proofs.Replies.{completes}
+use Rattle.crossing.proofs.Statuses.{one-told}
+use Rattle.crossing.proofs.Replies.{completes}
 use Rattle.exports.proofs.wrappers.tracker_transaction_response_completed.Statement.{statement}
 use Rattle.exports.proofs.wrappers.tracker_transaction_response_completed.Tie as tie
 

@@ -43,8 +43,8 @@ returns-4 c =
           (c .before .before .before .before .before .before .before .args .c)) small a (c .before .barred .ensures st s w es a) (c .if4 .taken);
     }
 
-candidates-at-requires : tie.Need-candidates-at-requires
-candidates-at-requires c κs = search needs
+crowded-requires : tie.Need-crowded-requires
+crowded-requires c κs = search needs
 
 returns-5 : tie.Need-returns-5
 returns-5 c = record { most = omega arith; spare = λ e. absurd (omega arith); fares = λ st s w es a. fares-alone (limitsOf st) (st .table) es _ _ }
@@ -57,7 +57,7 @@ returns-6 c =
       most = omega arith;
       spare = λ e. absurd (omega arith);
       fares = λ st s w es a. fares-crowded st s (keyNum k) (candidateOf (c .before .before .before .before .before .before .before .before .before .before .before .args .c)) small a
-          (c .before .before .candidates-at .ensures st s w) (c .before .if5 .taken) (c .if6 .left);
+          (c .before .before .crowded .ensures st s w) (c .before .if5 .taken) (c .if6 .left);
     }
 
 returns-7 : tie.Need-returns-7
@@ -69,7 +69,7 @@ returns-7 c =
       spare = λ e. omega (arith, c .before .before .before .before .before .before .before .if1 .left);
       fares = λ st s w es a. fares-in st s (keyNum k) (candidateOf (c .before .before .before .before .before .before .before .before .before .before .args .c)) small a
           (c .before .before .before .before .before .before .full .ensures st s w) (c .before .before .before .before .before .if2 .left) (c .before .before .before .before .barred .ensures st s w
-          es a) (c .before .before .before .if4 .left) (c .before .candidates-at .ensures st s w) (c .if5 .left);
+          es a) (c .before .before .before .if4 .left) (c .before .crowded .ensures st s w) (c .if5 .left);
     }
 
 pub fares-spec : {M : Type 1} → statement M
@@ -82,7 +82,7 @@ fares-spec =
     returns-3
     barred-requires
     returns-4
-    candidates-at-requires
+    crowded-requires
     returns-5
     returns-6
     returns-7)

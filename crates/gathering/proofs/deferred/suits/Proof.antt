@@ -28,8 +28,8 @@ returns-4 : tie.Need-returns-4
 returns-4 c = suited-barred (not-false (c .before .before .before .before .before .before .before .before .before .before .before .args .c .preferred)
     (c .before .before .before .before .before .if2 .left)) (c .before .before .before .listed-at .ensures) (c .before .before .if3 .left) (c .before .barred .ensures) (c .if4 .taken)
 
-candidates-at-requires : tie.Need-candidates-at-requires
-candidates-at-requires c κs = search needs
+crowded-requires : tie.Need-crowded-requires
+crowded-requires c κs = search needs
 
 victim-at-requires : tie.Need-victim-at-requires
 victim-at-requires c κs = search needs
@@ -40,7 +40,7 @@ returns-5 c = suited-alone
 returns-6 : tie.Need-returns-6
 returns-6 c = suited-crowded (not-false (c .before .before .before .before .before .before .before .before .before .before .before .before .before .before .before .args .c .preferred)
     (c .before .before .before .before .before .before .before .before .before .if2 .left)) (c .before .before .before .before .before .before .before .listed-at .ensures)
-    (c .before .before .before .before .before .before .if3 .left) (c .before .before .before .candidates-at .ensures) (c .before .before .if5 .taken) (c .before .victim-at .result)
+    (c .before .before .before .before .before .before .if3 .left) (c .before .before .before .crowded .ensures) (c .before .before .if5 .taken) (c .before .victim-at .result)
     (c .before .victim-at .ensures) (c .if6 .left)
 
 returns-7 : tie.Need-returns-7
@@ -62,7 +62,7 @@ returns-9 c = suited-in (not-false (c .before .before .before .before .before .b
     (c .before .before .before .before .before .before .before .before .before .before .before .if3 .left) (omega
     (arith, c .before .before .before .before .before .before .before .before .before .before .before .before .before .before .before .before .if1 .left))
     (c .before .before .before .before .before .before .before .before .before .before .barred .ensures) (c .before .before .before .before .before .before .before .before .before .if4 .left)
-    (c .before .before .before .before .before .before .before .before .candidates-at .ensures) (omega (arith, c .before .before .before .before .before .before .before .if5 .left))
+    (c .before .before .before .before .before .before .before .before .crowded .ensures) (c .before .before .before .before .before .before .before .if5 .left)
     (ne-eqb (c .before .before .before .before .before .before .before .before .before .before .before .before .before .before .before .before .before .before .before .before .args .y .conn)
     (c .before .before .before .before .before .before .before .before .before .before .before .before .before .before .before .before .before .before .before .before .args .c .connection)
     (c .before .before .before .before .if7 .left)) (c .before .before .quad-hash .ensures) (c .before .waits-at .ensures) (c .if8 .left)
@@ -78,7 +78,7 @@ suits-spec =
     returns-3
     barred-requires
     returns-4
-    candidates-at-requires
+    crowded-requires
     victim-at-requires
     returns-5
     returns-6

@@ -18,8 +18,8 @@ barred-requires c κs = search needs
 returns-3 : tie.Need-returns-3
 returns-3 c = suits-barred (c .before .barred .ensures) (c .if3 .taken)
 
-candidates-at-requires : tie.Need-candidates-at-requires
-candidates-at-requires c κs = search needs
+crowded-requires : tie.Need-crowded-requires
+crowded-requires c κs = search needs
 
 returns-4 : tie.Need-returns-4
 returns-4 c = suits-alone
@@ -37,8 +37,8 @@ returns-6 : tie.Need-returns-6
 returns-6 c = suits-in (omega (arith, c .before .before .before .before .before .before .before .before .before .before .before .if1 .left))
     (not-false (c .before .before .before .before .before .before .before .before .before .before .before .before .before .before .args .c .preferred)
     (c .before .before .before .before .before .before .before .before .before .if2 .left)) (c .before .before .before .before .before .before .before .before .barred .ensures)
-    (c .before .before .before .before .before .before .before .if3 .left) (c .before .before .before .before .before .candidates-at .ensures)
-    (omega (arith, c .before .before .before .before .if4 .left)) (c .before .before .quad-hash .ensures) (c .before .waits-at .ensures) (c .if5 .left)
+    (c .before .before .before .before .before .before .before .if3 .left) (c .before .before .before .before .before .crowded .ensures)
+    (c .before .before .before .before .if4 .left) (c .before .before .quad-hash .ensures) (c .before .waits-at .ensures) (c .if5 .left)
 
 pub suits-spec : {M : Type 1} → statement M
 suits-spec =
@@ -48,7 +48,7 @@ suits-spec =
     returns-2
     barred-requires
     returns-3
-    candidates-at-requires
+    crowded-requires
     returns-4
     quad-hash-requires
     waits-at-requires

@@ -14,7 +14,7 @@ same-length : tie.Need-same-length
 same-length c = search needs
 
 returns : tie.Need-returns
-returns c = no-rows 4608 (words (c .before .before .before .before .before .args .new .now)) (c .before .before .clear .ensures)
+returns c = no-rows 1152 (words (c .before .before .before .before .before .args .new .now)) (c .before .before .clear .ensures)
     (omega (arith, length-words (c .before .before .before .before .before .args .new .now), c .before .before .before .before .before .pre))
 
 pub clear-spec : {M : Type 1} → statement M

@@ -21,29 +21,29 @@ returns : tie.Need-returns Inv-loop μ-loop
 returns c = sym (scan-empty _ _ _ (c .if1 .taken))
 
 returns-2 : tie.Need-returns-2 Inv-loop μ-loop
-returns-2 c = sym (scan-not _ _ _ (c .before .digit .result) (omega arith) (c .before .digit .ensures) (c .if2 .taken))
+returns-2 c = sym (scan-not _ _ _ (c .before .value .result) (omega arith) (c .before .value .ensures) (c .if2 .taken))
 
 loop-holds : tie.Need-loop-holds Inv-loop μ-loop
-loop-holds c = (omega arith, scan-start _ _ _ (c .before .digit .result) (omega arith) (c .before .digit .ensures) (c .if2 .left))
+loop-holds c = (omega arith, scan-start _ _ _ (c .before .value .result) (omega arith) (c .before .value .ensures) (c .if2 .left))
 
 returns-3 : tie.Need-returns-3 Inv-loop μ-loop
-returns-3 c = sym (c .before .before .before .before .loop .inv .1 ∙ scan-zero _ _ _ _ _ (c .before .before .before .loop-test .taken) (c .before .digit2 .ensures) (c .if3 .taken))
+returns-3 c = sym (c .before .before .before .before .loop .inv .1 ∙ scan-zero _ _ _ _ _ (c .before .before .before .loop-test .taken) (c .before .value2 .ensures) (c .if3 .taken))
 
 returns-4 : tie.Need-returns-4 Inv-loop μ-loop
 returns-4 c = sym (c .before .before .before .before .before .before .loop .inv .1 ∙ scan-stop _ _ _ _ _ (c .before .before .before .before .before .loop-test .taken)
-    (c .before .before .before .digit2 .ensures) (pos-of-ne-zero (c .before .before .if3 .left)) (sym (c .before .has-room .ensures) ∙ not-true _ (c .if4 .taken)))
+    (c .before .before .before .value2 .ensures) (pos-of-ne-zero (c .before .before .if3 .left)) (sym (c .before .has-room .ensures) ∙ not-true _ (c .if4 .taken)))
 
 mul-a : tie.Need-mul-a Inv-loop μ-loop
 mul-a c = omega (
   arith,
-  fits-below (c .before .before .before .before .before .before .loop .a) (c .before .before .before .digit2 .result)
+  fits-below (c .before .before .before .before .before .before .loop .a) (c .before .before .before .value2 .result)
       (c .before .before .before .before .before .before .before .before .before .before .before .before .args .most) (sym (c .before .has-room .ensures) ∙ not-false _ (c .if4 .left)),
 )
 
 add-a : tie.Need-add-a Inv-loop μ-loop
 add-a c = omega (
   arith,
-  fits-below (c .before .before .before .before .before .before .loop .a) (c .before .before .before .digit2 .result)
+  fits-below (c .before .before .before .before .before .before .loop .a) (c .before .before .before .value2 .result)
       (c .before .before .before .before .before .before .before .before .before .before .before .before .args .most) (sym (c .before .has-room .ensures) ∙ not-false _ (c .if4 .left)),
 )
 
@@ -51,7 +51,7 @@ loop-again : tie.Need-loop-again Inv-loop μ-loop
 loop-again c = (
   omega arith,
   c .before .before .before .before .before .before .loop .inv .1 ∙ scan-step _ _ _ _ _ (c .before .before .before .before .before .loop-test .taken)
-      (c .before .before .before .digit2 .ensures) (pos-of-ne-zero (c .before .before .if3 .left)) (sym (c .before .has-room .ensures) ∙ not-false _ (c .if4 .left)),
+      (c .before .before .before .value2 .ensures) (pos-of-ne-zero (c .before .before .if3 .left)) (sym (c .before .has-room .ensures) ∙ not-false _ (c .if4 .left)),
 )
 
 returns-5 : tie.Need-returns-5 Inv-loop μ-loop

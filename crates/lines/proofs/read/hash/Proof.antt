@@ -24,20 +24,20 @@ returns : tie.Need-returns Inv-loop μ-loop
 returns c = sym (scan-empty _ _ _ (c .if1 .taken))
 
 returns-2 : tie.Need-returns-2 Inv-loop μ-loop
-returns-2 c = sym (scan-not _ _ _ (c .before .digit .result) (omega arith) (c .before .digit .ensures) (c .if2 .taken))
+returns-2 c = sym (scan-not _ _ _ (c .before .value .result) (omega arith) (c .before .value .ensures) (c .if2 .taken))
 
 loop-holds : tie.Need-loop-holds Inv-loop μ-loop
 loop-holds c =
-    let e = quad-low (c .before .digit .result) in
-    (omega arith, omega arith, omega arith, scan-start _ _ _ (c .before .digit .result) (omega arith) (c .before .digit .ensures) (c .if2 .left) ∙ rw e)
+    let e = quad-low (c .before .value .result) in
+    (omega arith, omega arith, omega arith, scan-start _ _ _ (c .before .value .result) (omega arith) (c .before .value .ensures) (c .if2 .left) ∙ rw e)
 
 returns-3 : tie.Need-returns-3 Inv-loop μ-loop
-returns-3 c = sym (c .before .before .before .before .loop .inv .3 ∙ scan-zero _ _ _ _ _ (c .before .before .before .loop-test .taken) (c .before .digit2 .ensures)
+returns-3 c = sym (c .before .before .before .before .loop .inv .3 ∙ scan-zero _ _ _ _ _ (c .before .before .before .loop-test .taken) (c .before .value2 .ensures)
     (c .before .before .before .before .loop .inv .2 (c .if3 .taken)))
 
 returns-4 : tie.Need-returns-4 Inv-loop μ-loop
 returns-4 c = sym (c .before .before .before .before .before .before .loop .inv .3 ∙ scan-stop _ _ _ _ _ (c .before .before .before .before .before .loop-test .taken)
-    (c .before .before .before .digit2 .ensures) (c .before .before .before .before .before .before .loop .inv .1 (pos-of-ne-zero (c .before .before .if3 .left)))
+    (c .before .before .before .value2 .ensures) (c .before .before .before .before .before .before .loop .inv .1 (pos-of-ne-zero (c .before .before .if3 .left)))
     (sym (c .before .hash-has-room .ensures) ∙ not-true _ (c .if4 .taken)))
 
 with-digit-requires : tie.Need-with-digit-requires Inv-loop μ-loop
@@ -52,7 +52,7 @@ loop-again c =
       λ _. omega arith,
       λ n. absurd (c .before .before .before .if3 .left n),
       c .before .before .before .before .before .before .before .loop .inv .3 ∙ rw e (scan-step _ _ _ _ _ (c .before .before .before .before .before .before .loop-test .taken)
-          (c .before .before .before .before .digit2 .ensures) z (sym (c .before .before .hash-has-room .ensures) ∙ not-false _ (c .before .if4 .left))),
+          (c .before .before .before .before .value2 .ensures) z (sym (c .before .before .hash-has-room .ensures) ∙ not-false _ (c .before .if4 .left))),
     )
 
 returns-5 : tie.Need-returns-5 Inv-loop μ-loop

@@ -11,7 +11,7 @@ use borrow.Fn.PlainCycle.{Measures, is, falls, and}
 use Rattle.lines.proofs.write.put_decimal.Reads as put-decimal
 use Rattle.lines.proofs.write.put_decimal.Kinds as put-decimal-kinds
 use Rattle.lines.proofs.write.+put_decimal.Lts-put_decimal as put-decimal-lts
-use Rattle.lines.proofs.write.digit_text.Reads as digit-text-reads
+use Rattle.lines.proofs.digits.text.Reads as text-reads
 use Rattle.lines.proofs.write.+put_decimal.{statement}
 use Rattle.lines.proofs.write.+put_decimal.Tie.{close}
 
@@ -26,16 +26,16 @@ abbrev put-decimal-below : ℕ → In 1 put-decimal-kinds.ps
 put-decimal-below t =
     and 1 put-decimal-kinds.ps (falls 1 put-decimal-kinds.ps _<_ μ-put-decimal t) put-decimal.Pre
 
-put-decimal-returns : (t : ℕ) → put-decimal-lts.Need-returns (digit-text-reads.Asked, digit-text-reads.Learnt, put-decimal-below t, put-decimal.Post)
+put-decimal-returns : (t : ℕ) → put-decimal-lts.Need-returns (text-reads.Asked, text-reads.Learnt, put-decimal-below t, put-decimal.Post)
     (put-decimal-at t) put-decimal.Post
-put-decimal-returns t c = rw (c .digit-text .ensures) (wrote-one 10 18 (lit< tt) (lit≤ tt) _ _ _ (c .before .before .before .pre .1) (c .before .if1 .taken))
+put-decimal-returns t c = rw (c .text .ensures) (wrote-one 10 18 (lit< tt) (lit≤ tt) _ _ _ (c .before .before .before .pre .1) (c .before .if1 .taken))
 
 put-decimal-put-decimal-requires : (t : ℕ) → put-decimal-lts.Need-put-decimal-requires
-    (digit-text-reads.Asked, digit-text-reads.Learnt, put-decimal-below t, put-decimal.Post) (put-decimal-at t) put-decimal.Post
+    (text-reads.Asked, text-reads.Learnt, put-decimal-below t, put-decimal.Post) (put-decimal-at t) put-decimal.Post
 put-decimal-put-decimal-requires t c κs = (omega arith, omega arith)
 
 put-decimal-slice-write-s-2 : (t : ℕ) → put-decimal-lts.Need-slice-write-s-2
-    (digit-text-reads.Asked, digit-text-reads.Learnt, put-decimal-below t, put-decimal.Post) (put-decimal-at t) put-decimal.Post
+    (text-reads.Asked, text-reads.Learnt, put-decimal-below t, put-decimal.Post) (put-decimal-at t) put-decimal.Post
 put-decimal-slice-write-s-2 t c =
     let g = decimal-fits (c .before .before .before .before .before .before .before .fits .n .fits) in
     omega (
@@ -47,7 +47,7 @@ put-decimal-slice-write-s-2 t c =
     )
 
 put-decimal-add-result-2 : (t : ℕ) → put-decimal-lts.Need-add-result-2
-    (digit-text-reads.Asked, digit-text-reads.Learnt, put-decimal-below t, put-decimal.Post) (put-decimal-at t) put-decimal.Post
+    (text-reads.Asked, text-reads.Learnt, put-decimal-below t, put-decimal.Post) (put-decimal-at t) put-decimal.Post
 put-decimal-add-result-2 t c =
     let g = decimal-fits (c .before .before .before .before .before .before .before .fits .n .fits) in
     omega (
@@ -59,15 +59,15 @@ put-decimal-add-result-2 t c =
     )
 
 put-decimal-returns-2 : (t : ℕ) → put-decimal-lts.Need-returns-2
-    (digit-text-reads.Asked, digit-text-reads.Learnt, put-decimal-below t, put-decimal.Post) (put-decimal-at t) put-decimal.Post
+    (text-reads.Asked, text-reads.Learnt, put-decimal-below t, put-decimal.Post) (put-decimal-at t) put-decimal.Post
 put-decimal-returns-2 t c =
     let g = decimal-fits (c .before .before .before .before .before .before .before .fits .n .fits) in
-    rw (c .digit-text2 .ensures) (wrote-last 10 18 (lit< tt) (lit≤ tt) (c .before .before .before .before .before .before .before .args .s .now)
+    rw (c .text2 .ensures) (wrote-last 10 18 (lit< tt) (lit≤ tt) (c .before .before .before .before .before .before .before .args .s .now)
     (c .before .before .before .before .before .before .before .args .a) (c .before .before .before .before .before .before .before .args .n)
     (c .before .before .before .before .before .before .before .pre .1) (c .before .before .before .before .before .if1 .left) g (c .before .before .before .put-decimal .ensures))
 
 pub +put-decimal-spec : {M : Type 1} → statement M
 +put-decimal-spec = close μ-put-decimal λ t. put-decimal-lts.spec
-    (digit-text-reads.Asked, digit-text-reads.Learnt, put-decimal-below t, put-decimal.Post) (put-decimal-at t) put-decimal.Post (λ c κs. omega arith)
+    (text-reads.Asked, text-reads.Learnt, put-decimal-below t, put-decimal.Post) (put-decimal-at t) put-decimal.Post (λ c κs. omega arith)
     (λ c. omega arith) (λ c. omega arith) (λ c. search needs) (put-decimal-returns t) (put-decimal-put-decimal-requires t) (λ c κs. omega arith)
     (put-decimal-slice-write-s-2 t) (put-decimal-add-result-2 t) (λ c. search needs) (put-decimal-returns-2 t)

@@ -14,7 +14,7 @@ use borrow.Fn.PlainCycle.{Measures, is, falls, and}
 use Rattle.lines.proofs.write.put_hash.Reads as put-hash
 use Rattle.lines.proofs.write.put_hash.Kinds as put-hash-kinds
 use Rattle.lines.proofs.write.+put_hash.Lts-put_hash as put-hash-lts
-use Rattle.lines.proofs.write.digit_text.Reads as digit-text-reads
+use Rattle.lines.proofs.digits.text.Reads as text-reads
 use Rattle.lines.proofs.write.is_digit.Reads as is-digit-reads
 use Rattle.lines.proofs.write.without_digit.Reads as without-digit-reads
 use Rattle.lines.proofs.write.+put_hash.{statement}
@@ -30,29 +30,29 @@ abbrev put-hash-below : ℕ → In 1 put-hash-kinds.ps
 put-hash-below t =
     and 1 put-hash-kinds.ps (falls 1 put-hash-kinds.ps _<_ μ-put-hash t) put-hash.Pre
 
-put-hash-digit-text-requires : (t : ℕ) → put-hash-lts.Need-digit-text-requires
-    (is-digit-reads.Asked, is-digit-reads.Learnt, digit-text-reads.Asked, digit-text-reads.Learnt, without-digit-reads.Asked, without-digit-reads.Learnt, put-hash-below t, put-hash.Post)
+put-hash-text-requires : (t : ℕ) → put-hash-lts.Need-text-requires
+    (is-digit-reads.Asked, is-digit-reads.Learnt, text-reads.Asked, text-reads.Learnt, without-digit-reads.Asked, without-digit-reads.Learnt, put-hash-below t, put-hash.Post)
     (put-hash-at t) put-hash.Post
-put-hash-digit-text-requires t c κs =
+put-hash-text-requires t c κs =
     let h = ltb-true (quadNumber (c .before .before .before .args .q)) 16 (sym (c .before .is-digit .ensures) ∙ c .if1 .taken) in
     omega (arith, digit-word (c .before .before .before .args .q) h)
 
 put-hash-returns : (t : ℕ) → put-hash-lts.Need-returns
-    (is-digit-reads.Asked, is-digit-reads.Learnt, digit-text-reads.Asked, digit-text-reads.Learnt, without-digit-reads.Asked, without-digit-reads.Learnt, put-hash-below t, put-hash.Post)
+    (is-digit-reads.Asked, is-digit-reads.Learnt, text-reads.Asked, text-reads.Learnt, without-digit-reads.Asked, without-digit-reads.Learnt, put-hash-below t, put-hash.Post)
     (put-hash-at t) put-hash.Post
 put-hash-returns t c = hash-one (c .before .before .before .before .args .s .now) (c .before .before .before .before .args .a)
-    (c .before .before .before .before .args .q) (c .before .before .before .before .pre .1) (c .digit-text .ensures)
+    (c .before .before .before .before .args .q) (c .before .before .before .before .pre .1) (c .text .ensures)
     (ltb-true (quadNumber (c .before .before .before .before .args .q)) 16 (sym (c .before .before .is-digit .ensures) ∙ c .before .if1 .taken))
 
 put-hash-put-hash-requires : (t : ℕ) → put-hash-lts.Need-put-hash-requires
-    (is-digit-reads.Asked, is-digit-reads.Learnt, digit-text-reads.Asked, digit-text-reads.Learnt, without-digit-reads.Asked, without-digit-reads.Learnt, put-hash-below t, put-hash.Post)
+    (is-digit-reads.Asked, is-digit-reads.Learnt, text-reads.Asked, text-reads.Learnt, without-digit-reads.Asked, without-digit-reads.Learnt, put-hash-below t, put-hash.Post)
     (put-hash-at t) put-hash.Post
 put-hash-put-hash-requires t c κs =
     let h = ltb-false (quadNumber (c .before .before .before .before .before .args .q)) 16 (sym (c .before .before .before .is-digit .ensures) ∙ c .before .before .if1 .left) in
     (omega (arith, c .without-digit .ensures), omega arith)
 
 put-hash-slice-write-s-2 : (t : ℕ) → put-hash-lts.Need-slice-write-s-2
-    (is-digit-reads.Asked, is-digit-reads.Learnt, digit-text-reads.Asked, digit-text-reads.Learnt, without-digit-reads.Asked, without-digit-reads.Learnt, put-hash-below t, put-hash.Post)
+    (is-digit-reads.Asked, is-digit-reads.Learnt, text-reads.Asked, text-reads.Learnt, without-digit-reads.Asked, without-digit-reads.Learnt, put-hash-below t, put-hash.Post)
     (put-hash-at t) put-hash.Post
 put-hash-slice-write-s-2 t c =
     let f : Small (c .before .before .before .before .before .before .before .before .before .before .args .q) = omega arith in
@@ -68,7 +68,7 @@ put-hash-slice-write-s-2 t c =
     )
 
 put-hash-add-result-2 : (t : ℕ) → put-hash-lts.Need-add-result-2
-    (is-digit-reads.Asked, is-digit-reads.Learnt, digit-text-reads.Asked, digit-text-reads.Learnt, without-digit-reads.Asked, without-digit-reads.Learnt, put-hash-below t, put-hash.Post)
+    (is-digit-reads.Asked, is-digit-reads.Learnt, text-reads.Asked, text-reads.Learnt, without-digit-reads.Asked, without-digit-reads.Learnt, put-hash-below t, put-hash.Post)
     (put-hash-at t) put-hash.Post
 put-hash-add-result-2 t c =
     let f : Small (c .before .before .before .before .before .before .before .before .before .before .args .q) = omega arith in
@@ -84,7 +84,7 @@ put-hash-add-result-2 t c =
     )
 
 put-hash-returns-2 : (t : ℕ) → put-hash-lts.Need-returns-2
-    (is-digit-reads.Asked, is-digit-reads.Learnt, digit-text-reads.Asked, digit-text-reads.Learnt, without-digit-reads.Asked, without-digit-reads.Learnt, put-hash-below t, put-hash.Post)
+    (is-digit-reads.Asked, is-digit-reads.Learnt, text-reads.Asked, text-reads.Learnt, without-digit-reads.Asked, without-digit-reads.Learnt, put-hash-below t, put-hash.Post)
     (put-hash-at t) put-hash.Post
 put-hash-returns-2 t c =
     let f : Small (c .before .before .before .before .before .before .before .before .before .before .args .q) = omega arith in
@@ -93,11 +93,11 @@ put-hash-returns-2 t c =
     hash-last (c .before .before .before .before .before .before .before .before .before .before .args .s .now)
     (c .before .before .before .before .before .before .before .before .before .before .args .a) (c .before .before .before .before .before .before .before .before .before .before .args .q)
     (c .before .before .before .before .before .before .before .before .before .before .pre .1) f h (c .before .before .before .before .before .without-digit .ensures)
-    (c .before .before .before .before .put-hash .ensures) (c .digit-text2 .ensures)
+    (c .before .before .before .before .put-hash .ensures) (c .text2 .ensures)
 
 pub +put-hash-spec : {M : Type 1} → statement M
 +put-hash-spec = close μ-put-hash λ t. put-hash-lts.spec
-    (is-digit-reads.Asked, is-digit-reads.Learnt, digit-text-reads.Asked, digit-text-reads.Learnt, without-digit-reads.Asked, without-digit-reads.Learnt, put-hash-below t, put-hash.Post)
-    (put-hash-at t) put-hash.Post (λ c κs. search needs) (put-hash-digit-text-requires t) (λ c. search needs) (λ c. search needs) (λ c. search needs)
+    (is-digit-reads.Asked, is-digit-reads.Learnt, text-reads.Asked, text-reads.Learnt, without-digit-reads.Asked, without-digit-reads.Learnt, put-hash-below t, put-hash.Post)
+    (put-hash-at t) put-hash.Post (λ c κs. search needs) (put-hash-text-requires t) (λ c. search needs) (λ c. search needs) (λ c. search needs)
     (put-hash-returns t) (λ c κs. search needs) (put-hash-put-hash-requires t) (λ c κs. search needs) (put-hash-slice-write-s-2 t)
     (put-hash-add-result-2 t) (λ c. search needs) (put-hash-returns-2 t)

@@ -1,6 +1,6 @@
 -- `owned::arrangements::tracker_owned_arrange` meets its contract: that of the checked call, behind its sound test.
 use borrow.Author.Needs.{needs}
-use Rattle.exports.proofs.Statuses.{hands-entries}
+use Rattle.crossing.proofs.Statuses.{hands-entries}
 use Rattle.owned.proofs.arrangements.tracker_owned_arrange.Statement.{statement}
 use Rattle.owned.proofs.arrangements.tracker_owned_arrange.Tie as tie
 

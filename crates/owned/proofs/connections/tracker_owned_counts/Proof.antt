@@ -1,6 +1,6 @@
 -- `owned::connections::tracker_owned_counts` meets its contract: that of the checked call, behind its sound test.
 use borrow.Author.Needs.{needs}
-use Rattle.exports.proofs.Counts.{hands-counts}
+use Rattle.crossing.proofs.Counts.{hands-counts}
 use Rattle.owned.proofs.connections.tracker_owned_counts.Statement.{statement}
 use Rattle.owned.proofs.connections.tracker_owned_counts.Tie as tie
 

@@ -4,7 +4,7 @@ use native.Mathlib.Omega.{arith}
 use borrow.Author.Needs.{needs}
 use Rattle.machine.specs.Call.{On, Forget}
 use Rattle.tracker.specs.Made.{forgets as makes}
-use Rattle.exports.proofs.Replies.{forgets}
+use Rattle.crossing.proofs.Replies.{forgets}
 use Rattle.owned.proofs.Owner.{owner-one}
 use Rattle.owned.proofs.failures.tracker_owned_forget.Statement.{statement}
 use Rattle.owned.proofs.failures.tracker_owned_forget.Tie as tie

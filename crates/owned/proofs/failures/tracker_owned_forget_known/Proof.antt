@@ -4,7 +4,7 @@ use native.Mathlib.Omega.{arith}
 use borrow.Author.Needs.{needs}
 use Rattle.machine.specs.Call.{On, ForgetKnown}
 use Rattle.tracker.specs.Made.{forgets-known as makes}
-use Rattle.exports.proofs.Replies.{forgets-known}
+use Rattle.crossing.proofs.Replies.{forgets-known}
 use Rattle.owned.proofs.Owner.{owner-one}
 use Rattle.owned.proofs.failures.tracker_owned_forget_known.Statement.{statement}
 use Rattle.owned.proofs.failures.tracker_owned_forget_known.Tie as tie

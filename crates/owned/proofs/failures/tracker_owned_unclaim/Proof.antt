@@ -4,7 +4,7 @@ use native.Mathlib.Omega.{arith}
 use borrow.Author.Needs.{needs}
 use Rattle.machine.specs.Call.{On, Unclaim}
 use Rattle.tracker.specs.Made.{unclaims as makes}
-use Rattle.exports.proofs.Replies.{unclaims}
+use Rattle.crossing.proofs.Replies.{unclaims}
 use Rattle.owned.proofs.Owner.{owner-one}
 use Rattle.owned.proofs.failures.tracker_owned_unclaim.Statement.{statement}
 use Rattle.owned.proofs.failures.tracker_owned_unclaim.Tie as tie

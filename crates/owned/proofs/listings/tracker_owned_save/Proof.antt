@@ -1,6 +1,6 @@
 -- `owned::listings::tracker_owned_save` meets its contract: that of the checked call, behind its sound test.
 use borrow.Author.Needs.{needs}
-use Rattle.exports.proofs.Statuses.{hands-text}
+use Rattle.crossing.proofs.Statuses.{hands-text}
 use Rattle.owned.proofs.listings.tracker_owned_save.Statement.{statement}
 use Rattle.owned.proofs.listings.tracker_owned_save.Tie as tie
 

@@ -20,11 +20,11 @@ same-length-2 c = search needs
 
 returns : tie.Need-returns
 returns c =
-    let m = makes (c .before .before .before .before .before .before .before .before .before .before .before .before .args .clock)
-    (c .before .before .before .before .before .before .before .before .before .before .before .before .args .answer .now) (omega arith) in
-    owner-plan m (c .before .before .before .before .before .before .before .before .before .before .before .before .pre)
-    (λ i. omega (arith, c .before .before .before .before .before .before .before .before .before .before .before .slice-known .given i))
-    (c .before .before .before .before .before .before .before .plan .result) _ _ (c .before .before .before .before .before .before .before .plan .ensures)
+    let m = makes (c .before .before .before .before .before .before .before .before .before .before .before .before .before .args .clock)
+    (c .before .before .before .before .before .before .before .before .before .before .before .before .before .args .answer .now) (omega arith) in
+    owner-plan m (c .before .before .before .before .before .before .before .before .before .before .before .before .before .pre)
+    (λ i. omega (arith, c .before .before .before .before .before .before .before .before .before .before .before .before .slice-known .given i))
+    (c .before .before .before .before .before .before .before .before .plan .result) _ _ _ (c .before .before .before .before .before .before .before .before .plan .ensures)
     (c .hand-plan .ensures)
 
 pub tracker-owned-plan-spec : {M : Type 1} → statement M

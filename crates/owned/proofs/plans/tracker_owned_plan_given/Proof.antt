@@ -20,13 +20,13 @@ same-length-2 c = search needs
 
 returns : tie.Need-returns
 returns c =
-    let m = makes (c .before .before .before .before .before .before .before .before .before .before .before .before .before .args .clock)
-    (c .before .before .before .before .before .before .before .before .before .before .before .before .before .args .given .now)
-    (c .before .before .before .before .before .before .before .before .before .before .before .before .before .args .answer .now) (omega arith)
-    (λ i. omega (arith, c .before .before .before .before .before .before .before .before .before .before .before .shared-slice-known .given i)) in
-    owner-plan m (c .before .before .before .before .before .before .before .before .before .before .before .before .before .pre)
-    (λ i. omega (arith, c .before .before .before .before .before .before .before .before .before .before .before .before .slice-known .given i))
-    (c .before .before .before .before .before .before .before .plan-given .result) _ _ (c .before .before .before .before .before .before .before .plan-given .ensures)
+    let m = makes (c .before .before .before .before .before .before .before .before .before .before .before .before .before .before .args .clock)
+    (c .before .before .before .before .before .before .before .before .before .before .before .before .before .before .args .given .now)
+    (c .before .before .before .before .before .before .before .before .before .before .before .before .before .before .args .answer .now) (omega arith)
+    (λ i. omega (arith, c .before .before .before .before .before .before .before .before .before .before .before .before .shared-slice-known .given i)) in
+    owner-plan m (c .before .before .before .before .before .before .before .before .before .before .before .before .before .before .pre)
+    (λ i. omega (arith, c .before .before .before .before .before .before .before .before .before .before .before .before .before .slice-known .given i))
+    (c .before .before .before .before .before .before .before .before .plan-given .result) _ _ _ (c .before .before .before .before .before .before .before .before .plan-given .ensures)
     (c .hand-plan .ensures)
 
 pub tracker-owned-plan-given-spec : {M : Type 1} → statement M

@@ -3,7 +3,7 @@ use mathlib.Core.Path.{refl}
 use native.Mathlib.Omega.{arith}
 use borrow.Author.Needs.{needs}
 use Rattle.tracker.specs.Made.{announces-transactions as makes}
-use Rattle.exports.proofs.Replies.{announces-transactions}
+use Rattle.crossing.proofs.Replies.{announces-transactions}
 use Rattle.owned.proofs.Owner.{owner-one}
 use Rattle.owned.proofs.wrappers.tracker_owned_announce_transactions.Statement.{statement}
 use Rattle.owned.proofs.wrappers.tracker_owned_announce_transactions.Tie as tie

@@ -3,7 +3,7 @@ use native.Mathlib.Omega.{arith}
 use borrow.Author.Needs.{needs}
 use Rattle.ident.proofs.Words.{hash-four, hash-below}
 use Rattle.tracker.specs.Made.{completes as makes}
-use Rattle.exports.proofs.Replies.{completes}
+use Rattle.crossing.proofs.Replies.{completes}
 use Rattle.owned.proofs.Owner.{owner-one}
 use Rattle.owned.proofs.wrappers.tracker_owned_transaction_response_completed.Statement.{statement}
 use Rattle.owned.proofs.wrappers.tracker_owned_transaction_response_completed.Tie as tie

@@ -1,5 +1,6 @@
 -- `printing::entries::put_selection` meets its contract.
 use native.Mathlib.Omega.{arith}
+use Rattle.machine.specs.Later.{timeOf}
 use Rattle.printing.proofs.Printing.{decimal-end}
 use Rattle.printing.proofs.EntryLists.{selection-wrote}
 use borrow.Author.Needs.{needs}
@@ -21,16 +22,20 @@ put-behind-requires c κs = (
   ),
 )
 
-same-length : tie.Need-same-length
-same-length c = search needs
+put-time-requires : tie.Need-put-time-requires
+put-time-requires c κs =
+    let s = c .before .before .before .before .before .before .before .before .before .before .before in
+    let d = c .before .before .before .before .before .before .before .put-decimal in
+    let b = c .before .before .before .put-behind in
+    omega (arith, b .ensures .0, decimal-end (s .args .considered) (d .ensures), b .kept, d .kept, s .pre .0, s .pre .1)
 
 returns : tie.Need-returns
-returns c = selection-wrote (c .before .before .before .before .before .before .before .before .before .before .pre .0)
-    (c .before .before .before .before .before .before .before .before .before .before .args .answer .now)
-    (c .before .before .before .before .before .before .before .before .before .before .args .considered)
-    (c .before .before .before .before .before .before .before .before .before .before .args .n) (c .before .before .before .before .before .before .before .before .before .before .pre .1)
-    (c .before .before .before .before .before .before .put-decimal .ensures) (c .before .before .put-behind .ensures .1) (c .before .before .put-behind .ensures .0)
+returns c =
+    let s = c .before .before .before .before .before .before .before .before .before .before .before .before .before .before in
+    let b = c .before .before .before .before .before .before .put-behind .ensures in
+    selection-wrote (s .pre .0) (s .args .answer .now) (s .args .considered) (s .args .n) (timeOf (s .args .next)) (s .pre .1)
+    (c .before .before .before .before .before .before .before .before .before .before .put-decimal .ensures) (b .1) (b .0) (c .before .before .put-time .ensures)
 
 pub put-selection-spec : {M : Type 1} → statement M
 put-selection-spec =
-    tie.close (tie.spec put-decimal-requires put-behind-requires same-length returns)
+    tie.close (tie.spec put-decimal-requires put-behind-requires put-time-requires (λ c. search needs) returns)

@@ -47,20 +47,60 @@ put-decimal-requires-3 c κs = omega (
   c .before .before .before .put-bytes2 .ensures .next,
 )
 
+slice-aggregate-put-bytes-3 : tie.Need-slice-aggregate-put-bytes-3
+slice-aggregate-put-bytes-3 c = search needs
+
+put-bytes-requires-3 : tie.Need-put-bytes-requires-3
+put-bytes-requires-3 c κs =
+    let w₅ = c .before .before .before .before in
+    let w₄ = w₅ .before .before .before .before in
+    let w₃ = w₄ .before .before .before .before .before in
+    let w₂ = w₃ .before .before .before .before in
+    let w₁ = w₂ .before .before .before .before .before in
+    let start : tie.Start = w₁ .before .before .before in
+    omega (
+      arith,
+      decimal-end (start .args .held) (w₁ .put-decimal .ensures),
+      w₂ .put-bytes .ensures .next,
+      decimal-end (start .args .free) (w₃ .put-decimal2 .ensures),
+      w₄ .put-bytes2 .ensures .next,
+      decimal-end (start .args .preferred) (w₅ .put-decimal3 .ensures),
+    )
+
+put-decimal-requires-4 : tie.Need-put-decimal-requires-4
+put-decimal-requires-4 c κs =
+    let w₆ = c .before .before .before in
+    let w₅ = w₆ .before .before .before .before .before in
+    let w₄ = w₅ .before .before .before .before in
+    let w₃ = w₄ .before .before .before .before .before in
+    let w₂ = w₃ .before .before .before .before in
+    let w₁ = w₂ .before .before .before .before .before in
+    let start : tie.Start = w₁ .before .before .before in
+    omega (
+      arith,
+      decimal-end (start .args .held) (w₁ .put-decimal .ensures),
+      w₂ .put-bytes .ensures .next,
+      decimal-end (start .args .free) (w₃ .put-decimal2 .ensures),
+      w₄ .put-bytes2 .ensures .next,
+      decimal-end (start .args .preferred) (w₅ .put-decimal3 .ensures),
+      w₆ .put-bytes3 .ensures .next,
+    )
+
 same-length : tie.Need-same-length
 same-length c = search needs
 
 returns : tie.Need-returns
-returns c = printed-figures
-    (c .before .before .before .before .before .before .before .before .before .before .before .before .before .before .before .before .before .before .before .before .before .before .before .pre)
-    (c .before .before .before .before .before .before .before .before .before .before .before .before .before .before .before .before .before .before
-    .before .before .before .before .before .args .held) (c .before .before .before .before .before .before .before .before .before .before .before .before
-    .before .before .before .before .before .before .before .before .before .before .before .args .free) (c .before .before .before .before .before .before
-    .before .before .before .before .before .before .before .before .before .before .before .before .before .before .before .before .before .args .permille)
-    (c .before .before .before .before .before .before .before .before .before .before .before .before .before .before .before .before .before .before .before .before .put-decimal .ensures)
-    (c .before .before .before .before .before .before .before .before .before .before .before .before .before .before .before .put-bytes .ensures)
-    (c .before .before .before .before .before .before .before .before .before .before .before .put-decimal2 .ensures) (c .before .before .before .before .before .before .put-bytes2 .ensures)
-    (c .before .before .put-decimal3 .ensures)
+returns c =
+    let w₇ = c .before .before in
+    let w₆ = w₇ .before .before .before .before in
+    let w₅ = w₆ .before .before .before .before .before in
+    let w₄ = w₅ .before .before .before .before in
+    let w₃ = w₄ .before .before .before .before .before in
+    let w₂ = w₃ .before .before .before .before in
+    let w₁ = w₂ .before .before .before .before .before in
+    let start : tie.Start = w₁ .before .before .before in
+    printed-figures (start .pre) (start .args .held) (start .args .free) (start .args .preferred) (start .args .permille) (w₁ .put-decimal .ensures) (w₂ .put-bytes .ensures)
+    (w₃ .put-decimal2 .ensures) (w₄ .put-bytes2 .ensures) (w₅ .put-decimal3 .ensures) (w₆ .put-bytes3 .ensures) (w₇ .put-decimal4 .ensures)
 
 pub figures-spec : {M : Type 1} → statement M
 figures-spec =
@@ -73,5 +113,8 @@ figures-spec =
     slice-aggregate-put-bytes-2
     put-bytes-requires-2
     put-decimal-requires-3
+    slice-aggregate-put-bytes-3
+    put-bytes-requires-3
+    put-decimal-requires-4
     same-length
     returns)

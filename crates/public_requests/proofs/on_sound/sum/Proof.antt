@@ -12,16 +12,29 @@ get-requires c κs = omega (arith, head-inside (c .before .args .s .now) (c .bef
 get-requires-2 : tie.Need-get-requires-2
 get-requires-2 c κs = omega (arith, head-inside (c .before .before .args .s .now) (c .before .before .pre))
 
+need-of-requires : tie.Need-need-of-requires
+need-of-requires c κs = search needs
+
+slice-aggregate-evictable : tie.Need-slice-aggregate-evictable
+slice-aggregate-evictable c = search needs
+
+evictable-requires : tie.Need-evictable-requires
+evictable-requires c κs = search needs
+
 figures-of-requires : tie.Need-figures-of-requires
 figures-of-requires c κs =
-    figures-fit (c .before .before .before .args .s .now) (c .before .before .before .pre) (c .get2 .result) (c .before .get .result) (c .get2 .ensures) (c .before .get .ensures)
+    let start : tie.Start = c .before .before .before .before .before .before in
+    figures-fit (start .args .s .now) (start .pre) (c .before .before .before .get2 .result) (c .before .before .before .before .get .result) (c .evictable .result)
+    (c .before .before .before .get2 .ensures) (c .before .before .before .before .get .ensures) (c .before .before .need-of .ensures) (c .evictable .ensures)
 
 returns : tie.Need-returns
 returns c =
-    sum-figures (c .before .before .before .before .args .s .now) (c .before .before .before .before .pre) (c .before .get2 .result) (c .before .before .get .result)
-    (λ i. omega (arith, c .before .before .before .shared-slice-known .given i)) (c .before .get2 .ensures) (c .before .before .get .ensures) (c .figures-of .ensures)
+    let start : tie.Start = c .before .before .before .before .before .before .before in
+    sum-figures (start .args .s .now) (start .pre) (c .before .before .before .before .get2 .result) (c .before .before .before .before .before .get .result) (c .before .evictable .result)
+    (λ i. omega (arith, c .before .before .before .before .before .before .shared-slice-known .given i)) (c .before .before .before .before .get2 .ensures)
+    (c .before .before .before .before .before .get .ensures) (c .before .before .before .need-of .ensures) (c .before .evictable .ensures) (c .figures-of .ensures)
 
 pub sum-spec : {M : Type 1} → statement M
 sum-spec =
     tie.close
-    (tie.spec get-requires get-requires-2 figures-of-requires returns)
+    (tie.spec get-requires get-requires-2 need-of-requires slice-aggregate-evictable evictable-requires figures-of-requires returns)

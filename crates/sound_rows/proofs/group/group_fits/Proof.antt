@@ -5,7 +5,6 @@ use mathlib.Core.Path.{_≡_}
 use lib.ListN.{length, drop}
 use Rattle.words.specs.Words.{words}
 use Rattle.words.proofs.Records.{length-recs}
-use Rattle.machine.specs.Limits.{maxAlternates}
 use Rattle.regions.specs.Rows.{rowSize, readRow}
 use Rattle.sound_rows.specs.Groups.{rowsIn, Once}
 use Rattle.sound_rows.proofs.Decide.{passed, failed}
@@ -65,7 +64,7 @@ returns-3 c =
     let b = rowsIn w (x .j) (x .b) in
     let la : length a ≡ x .a - x .i = length-recs rowSize readRow (x .a - x .i) (drop (rowSize * x .i) w) in
     let lb : length b ≡ x .b - x .j = length-recs rowSize readRow (x .b - x .j) (drop (rowSize * x .j) w) in
-    let few : length a + length b ≤ maxAlternates = omega arith in
+    let few : length a + length b ≤ x .most = omega arith in
     let o = passed (Once a b) (c .before .before .before .before .before .conns-once .result) (c .before .before .if2 .left) (c .before .before .before .before .before .conns-once .ensures .0) in (
       group-decides a b (c .before .owners .result) (c .owners2 .result) few (o .0) (o .1) (c .before .owners .ensures .0) (c .owners2 .ensures .0),
       c .before .before .before .before .before .conns-once .ensures .1,

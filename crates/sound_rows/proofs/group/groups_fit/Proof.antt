@@ -15,11 +15,11 @@ use Rattle.sound_rows.proofs.group.groups_fit.Statement.{statement}
 use Rattle.sound_rows.proofs.group.groups_fit.Tie as tie
 
 abbrev Inv-loop : tie.InvT-loop
-Inv-loop s n m slots₀ i₀ j₀ slots i j = (length slots ≡ connSlots) × (i ≤ m) × (m ≤ j) × (j ≤ n)
-    × (RowsSound (recs rowSize readRow n (words s)) → Iff (GroupsSound (recs rowSize readRow n (words s))) (GroupsSound (rowsIn (words s) i m ++ rowsIn (words s) j n)))
+Inv-loop s n most m slots₀ i₀ j₀ slots i j = (length slots ≡ connSlots) × (i ≤ m) × (m ≤ j) × (j ≤ n)
+    × (RowsSound (recs rowSize readRow n (words s)) → Iff (GroupsSound most (recs rowSize readRow n (words s))) (GroupsSound most (rowsIn (words s) i m ++ rowsIn (words s) j n)))
 
 abbrev μ-loop : tie.MeasureT-loop
-μ-loop s n m slots₀ i₀ j₀ slots i j = (m + n) - (i + j)
+μ-loop s n most m slots₀ i₀ j₀ slots i j = (m + n) - (i + j)
 
 seek-row-requires : tie.Need-seek-row-requires Inv-loop μ-loop
 seek-row-requires c κs = search needs
@@ -64,6 +64,7 @@ returns : tie.Need-returns Inv-loop μ-loop
 returns c =
     let w = words (c .before .before .before .before .before .before .before .before .before .before .before .args .s .now) in
     let m = c .before .before .before .before .before .before .before .before .before .seek-row .result in
+    let most = c .before .before .before .before .before .before .before .before .before .before .before .args .most in
     λ s. off-stop (c .before .before .before .before .before .before .before .before .loop .inv .4 s)
     (group-off w (c .before .before .before .before .before .before .before .before .loop .i) m (c .before .before .before .before .before .before .before .before .loop .j)
     (c .before .before .before .before .before .before .before .before .before .before .before .args .n) (quadNumber (c .before .before .before .before .before .before .least-hash .result))
@@ -73,7 +74,7 @@ returns c =
     (wtxid-level (c .before .before .before .before .before .before .before .before .before .before .before .args .n) w s m
     (c .before .before .before .before .before .before .before .before .before .seek-row .ensures)) (c .before .before .before .before .before .before .least-hash .ensures)
     (c .before .before .before .before .before .run-end .ensures) (c .before .before .before .before .run-end2 .ensures))
-    (failed (GroupFits (rowsIn w (c .before .before .before .before .before .before .before .before .loop .i) (c .before .before .before .before .before .run-end .result))
+    (failed (GroupFits most (rowsIn w (c .before .before .before .before .before .before .before .before .loop .i) (c .before .before .before .before .before .run-end .result))
     (rowsIn w (c .before .before .before .before .before .before .before .before .loop .j) (c .before .before .before .before .run-end2 .result))) (c .before .before .group-fits .result)
     (c .if1 .taken) (c .before .before .group-fits .ensures .0))
 
@@ -90,7 +91,8 @@ loop-less c = omega (
 loop-again : tie.Need-loop-again Inv-loop μ-loop
 loop-again c =
     let w = words (c .before .before .before .before .before .before .before .before .before .before .before .args .s .now) in
-    let m = c .before .before .before .before .before .before .before .before .before .seek-row .result in (
+    let m = c .before .before .before .before .before .before .before .before .before .seek-row .result in
+    let most = c .before .before .before .before .before .before .before .before .before .before .before .args .most in (
       c .before .before .group-fits .ensures .1,
       omega arith,
       omega arith,
@@ -104,7 +106,7 @@ loop-again c =
           (wtxid-level (c .before .before .before .before .before .before .before .before .before .before .before .args .n) w s m
           (c .before .before .before .before .before .before .before .before .before .seek-row .ensures)) (c .before .before .before .before .before .before .least-hash .ensures)
           (c .before .before .before .before .before .run-end .ensures) (c .before .before .before .before .run-end2 .ensures)) (passed
-          (GroupFits (rowsIn w (c .before .before .before .before .before .before .before .before .loop .i) (c .before .before .before .before .before .run-end .result))
+          (GroupFits most (rowsIn w (c .before .before .before .before .before .before .before .before .loop .i) (c .before .before .before .before .before .run-end .result))
           (rowsIn w (c .before .before .before .before .before .before .before .before .loop .j) (c .before .before .before .before .run-end2 .result))) (c .before .before .group-fits .result)
           (c .if1 .left) (c .before .before .group-fits .ensures .0)),
     )

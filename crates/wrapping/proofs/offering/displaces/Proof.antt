@@ -29,8 +29,8 @@ item-at-requires c κs = omega (
       (c .before .before .before .before .before .before .before .args .items .now)) (words (c .before .before .before .before .before .before .before .args .priorities .now)),
 )
 
-candidates-at-requires : tie.Need-candidates-at-requires
-candidates-at-requires c κs = search needs
+crowded-requires : tie.Need-crowded-requires
+crowded-requires c κs = search needs
 
 returns-3 : tie.Need-returns-3
 returns-3 c = λ e. never e
@@ -54,7 +54,7 @@ displaces-spec =
     returns
     returns-2
     item-at-requires
-    candidates-at-requires
+    crowded-requires
     returns-3
     full-requires
     returns-4)
