@@ -91,7 +91,7 @@ recounted f g h e a = record {
   met = record { same = a .met .same; lost = a .met .lost; bound = λ y. omega (arith, h y, a .met .bound y); room = omega (arith, a .met .room) };
 }
 
-length-with : (x : ℕ) (ns ks : List ℕ) → length (countsWith x ns ks) ≡ length ks
+pub length-with : (x : ℕ) (ns ks : List ℕ) → length (countsWith x ns ks) ≡ length ks
 unfolding countsWith
 length-with x ns ks = elim (test (isIn x ns)) [
   | inl t ↦ rw t (length-set ks (indexOf x ns) (getD ks (indexOf x ns) 0 + 1))

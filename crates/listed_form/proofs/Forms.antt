@@ -47,7 +47,7 @@ pub scan-stop : {b : List ℕ} {from at : ℕ} {m : code-met.Met} → Scanned b 
 scan-stop {b} {from} {at} {m} s e =
     sym (s .is ∙ ap (λ (x : Met). placedFrom x (linesOfText (drop at b))) (met-bad m e) ∙ none-placed (linesOfText (drop at b)))
 
-no-line-left : linesOfText [] ≡ some []
+pub no-line-left : linesOfText [] ≡ some []
 unfolding linesOfText textLines linesIn
 no-line-left = refl
 

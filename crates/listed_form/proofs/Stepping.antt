@@ -15,14 +15,14 @@ use Rattle.listed_form.specs.Given.{Body, requestsOnly}
 
 -- ---- the first of several lines
 
-record Parted (x : Option Line) (o : Option (List Line)) (ls : List Line) : Type 0 where
+pub record Parted (x : Option Line) (o : Option (List Line)) (ls : List Line) : Type 0 where
   pub first : Line
   pub others : List Line
   pub is : x ≡ some first
   pub are : o ≡ some others
   pub parts : ls ≡ first ∷ others
 
-parted : (x : Option Line) (o : Option (List Line)) {ls : List Line} → oneMore x o ≡ some ls → Parted x o ls
+pub parted : (x : Option Line) (o : Option (List Line)) {ls : List Line} → oneMore x o ≡ some ls → Parted x o ls
 parted none o e = never (ap isSome e)
 parted (some m) none e = never (ap isSome e)
 parted (some m) (some ms) e = record { first = m; others = ms; is = refl; are = refl; parts = cc }
