@@ -52,7 +52,8 @@ pub record Left {S : Type 0} (f : List ℕ → S → List ℕ) (b : List ℕ) (f
   pub is : (ls : List Line) → linesOfText (drop from b) ≡ some ls → LeftOf f b o (f (stream o ls) z) at s
 
 module _ {S : Type 0} (f : List ℕ → S → List ℕ) (g : Option ℕ → S → S) (step : (n : Option ℕ) (xs : List ℕ) (s : S) → f (behind n xs) s ≡ f xs (g n s)) {b : List ℕ} {o : Bool} where
-  one-line : {at : ℕ} {s : S} {l : LineAt} {ws ps all : List ℕ} → LeftOf f b o all at s → LineRead b at ws ps l → (n : Option ℕ) → n ≡ added o (lineIn ws ps (l .line)) → LeftOf f b o all (l .end) (g n s)
+  one-line : {at : ℕ} {s : S} {l : LineAt} {ws ps all : List ℕ} → LeftOf f b o all at s → LineRead b at ws ps l → (n : Option ℕ) → n ≡ added o (lineIn ws ps (l .line))
+      → LeftOf f b o all (l .end) (g n s)
   one-line {at} {s} {l} {ws} {ps} {all} y p n h =
       let d = parted (lineIn ws ps (l .line)) (linesOfText (drop (l .end) b)) (sym (p .is) ∙ y .are) in
       let k : added o (some (d .first)) ≡ n = sym (h ∙ ap (added o) (d .is)) in
@@ -60,13 +61,14 @@ module _ {S : Type 0} (f : List ℕ → S → List ℕ) (g : Option ℕ → S �
         lines = d .others;
         are = d .are;
         same = y .same ∙ ap (λ (ls : List Line). f (stream o ls) s) (d .parts) ∙ ap (λ (xs : List ℕ). f xs s) (stream-line o (d .first) (d .others))
-        ∙ ap (λ (m : Option ℕ). f (behind m (stream o (d .others))) s) k ∙ step n (stream o (d .others)) s;
+            ∙ ap (λ (m : Option ℕ). f (behind m (stream o (d .others))) s) k ∙ step n (stream o (d .others)) s;
       }
 
   pub left-all : {from : ℕ} {z : S} → Left f b from o z from z
   left-all = record { is = λ ls e. record { lines = ls; are = e; same = refl } }
 
-  pub left-line : {from at : ℕ} {z s : S} {l : LineAt} {ws ps : List ℕ} {n : MaybeNumber} → Left f b from o z at s → LineRead b at ws ps l → Adds o (l .line) n → Left f b from o z (l .end) (g (numberIn n) s)
+  pub left-line : {from at : ℕ} {z s : S} {l : LineAt} {ws ps : List ℕ} {n : MaybeNumber} → Left f b from o z at s → LineRead b at ws ps l → Adds o (l .line) n
+      → Left f b from o z (l .end) (g (numberIn n) s)
   left-line {ws = ws} {ps = ps} {n = n} y p a = record { is = λ ls e. one-line (y .is ls e) p (numberIn n) (a .is ws ps) }
 
   pub left-none : {from at : ℕ} {z s : S} → Left f b from o z at s → length b ≤ at → (ls : List Line) → linesOfText (drop from b) ≡ some ls → f [] s ≡ f (stream o ls) z

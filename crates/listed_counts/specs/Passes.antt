@@ -13,7 +13,7 @@ use Rattle.machine.specs.Listing.{Line, HeadLine, RequestLine, CandidateLine}
 use Rattle.machine.specs.SoundTest.{every, isFilled}
 use Rattle.lines.specs.declared.read.MaybeNumber.{MaybeNumber}
 use Rattle.lines.specs.Values.{numberIn}
-use Rattle.heavy.specs.Counters.{namesWith, countsWith, namesOf, countedWith, countsOf, Few}
+use Rattle.heavy.specs.Counters.{namesWith, countsWith, namesOf, countedWith, countsOf, sum, Few}
 use Rattle.heavy.specs.Streams.{lineConnections, lineOwners}
 use Rattle.listed_lines.specs.declared.line.Line as line-line
 use Rattle.listed_lines.specs.Given.{lineIn, linesOfText}
@@ -78,6 +78,13 @@ pub record NotesAll (b : List ℕ) (from : ℕ) (owners : Bool) (ns ks ns′ : L
 
 pub record CountsAll (b : List ℕ) (from : ℕ) (owners : Bool) (ns ks ks′ : List ℕ) : Type 0 where
   pub is : (ls : List Line) → linesOfText (drop from b) ≡ some ls → ks′ ≡ countsOf (stream owners ls) ns ks
+
+-- names, counts for the first pass and for the second, at 0
+pub record Fresh (ns ks zs : List ℕ) : Type 0 where
+  pub same : length ns ≡ length ks
+  pub zeros : sum ks ≡ 0
+  pub again : length zs ≡ length ks
+  pub noughts : sum zs ≡ 0
 
 -- both, with k counters
 pub record Verdict (b : List ℕ) (from : ℕ) (owners : Bool) (most k : ℕ) (r : Bool) : Type 0 where

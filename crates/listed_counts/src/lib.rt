@@ -9,7 +9,7 @@ ghost use lib.ListN.{length};
 ghost use Rattle.lines.specs.Values.{numberIn};
 ghost use Rattle.heavy.specs.Counters.{sum};
 ghost use Rattle.listed_lines.specs.Given.{listRoom, ownerOf};
-ghost use Rattle.listed_counts.specs.Passes.{ownerNumber, Adds, Notes, Counts, NotesAll, CountsAll, Verdict, LightRead};
+ghost use Rattle.listed_counts.specs.Passes.{ownerNumber, Adds, Notes, Counts, NotesAll, CountsAll, Fresh, Verdict, LightRead};
 use lines::read::MaybeNumber;
 use listed_lines::line::Line;
 use listed_lines::line::line_at;
@@ -142,7 +142,7 @@ fn none_often(
     wtxids: &mut [u8],
     parents: &mut [u8],
 ) -> bool
-    requires { ⌜ (from ≤ length (now text)) × (listRoom ≤ length (now wtxids)) × (listRoom ≤ length (now parents)) × (length (now names) ≡ length (now counts)) × (sum (now counts) ≡ 0) × (length (now again) ≡ length (now counts)) × (sum (now again) ≡ 0) ⌝ }
+    requires { ⌜ (from ≤ length (now text)) × (listRoom ≤ length (now wtxids)) × (listRoom ≤ length (now parents)) × Fresh (now names) (now counts) (now again) ⌝ }
     ensures { λ r. ⌜ Verdict (now (text .entry)) from owners most (length (now (counts .entry))) r ⌝ }
 {
     note_lines(text, from, owners, names, counts, wtxids, parents);

@@ -19,10 +19,12 @@ abbrev μ-loop : tie.MeasureT-loop
 μ-loop text from owners names counts₀ wtxids₀ parents₀ at₀ counts wtxids parents at = length text - at
 
 loop-holds : tie.Need-loop-holds Inv-loop μ-loop
-loop-holds c = (c .before .before .before .before .before .pre .0, refl, refl, refl, omega (arith, c .before .before .before .before .before .pre .4), count-begin (c .before .before .before .before .before .args .names .now))
+loop-holds c = let s = c .before .before .before .before .before in (s .pre .0, refl, refl, refl, omega (arith, s .pre .4), count-begin (s .args .names .now))
 
 line-at-requires : tie.Need-line-at-requires Inv-loop μ-loop
-line-at-requires c κs = (omega arith, omega (arith, c .before .before .before .loop .inv .2, c .before .before .before .before .before .before .before .before .before .pre .1), omega (arith, c .before .before .before .loop .inv .3, c .before .before .before .before .before .before .before .before .before .pre .2))
+line-at-requires c κs =
+    let d = c .before .before .before in
+    (omega arith, omega (arith, d .loop .inv .2, d .before .before .before .before .before .before .pre .1), omega (arith, d .loop .inv .3, d .before .before .before .before .before .before .pre .2))
 
 count-number-requires : tie.Need-count-number-requires Inv-loop μ-loop
 count-number-requires c κs =
@@ -30,19 +32,19 @@ count-number-requires c κs =
     (d .before .before .before .before .before .before .pre .3 ∙ sym (d .loop .inv .1), omega (arith, d .loop .inv .4, d .loop .inv .0, d .before .before .before .before .before .before .good .0 .1))
 
 loop-less : tie.Need-loop-less Inv-loop μ-loop
-loop-less c = omega (arith, c .before .before .before .before .before .before .before .before .before .line-at .ensures .on, c .before .before .before .before .before .before .before .before .before .line-at .ensures .inside)
+loop-less c = let l = c .before .before .before .before .before .before .before .before .before .line-at .ensures in omega (arith, l .on, l .inside)
 
 loop-again : tie.Need-loop-again Inv-loop μ-loop
 loop-again c =
     let l = c .before .before .before .before .before .before .before .before .before .line-at in
     let n = c .before .before .count-number in
-    let d = c .before .before .before .before .before .before .before .before .before .before .before .before .before in (
+    let d = c .before .before .before .before .before .before .before .before .before .before .before .before .before in
+    let s = d .before .before .before .before .before .before in (
       l .ensures .inside,
       n .kept .1 .0 ∙ d .loop .inv .1,
       l .kept .1 .1 .0 ∙ d .loop .inv .2,
       l .kept .1 .1 .1 .0 ∙ d .loop .inv .3,
-      omega
-          (arith, sum-more (d .before .before .before .before .before .before .args .names .now) (d .loop .counts) (d .before .before .before .before .before .before .pre .3 ∙ sym (d .loop .inv .1)) (n .ensures), d .loop .inv .4, l .ensures .on),
+      omega (arith, sum-more (s .args .names .now) (d .loop .counts) (s .pre .3 ∙ sym (d .loop .inv .1)) (n .ensures), d .loop .inv .4, l .ensures .on),
       count-on (d .loop .inv .5) (l .ensures) (c .before .before .before .before .added .ensures) (n .ensures),
     )
 

@@ -9,7 +9,9 @@ returns : tie.Need-returns
 returns c = heavy-held (c .before .before .before .before .before .connections-few .ensures) (not-true _ (c .if1 .taken))
 
 returns-2 : tie.Need-returns-2
-returns-2 c = light-told (c .before .before .before .before .before .before .before .before .before .before .before .before .connections-few .ensures) (not-false _ (c .before .before .before .before .before .before .before .if1 .left)) (c .before .before .before .before .owners-few .ensures)
+returns-2 c =
+    let d = c .before .before .before .before .before .before .before in
+    light-told (d .before .before .before .before .before .connections-few .ensures) (not-false _ (d .if1 .left)) (c .before .before .before .before .owners-few .ensures)
 
 pub light-spec : {M : Type 1} → statement M
 light-spec =

@@ -6,8 +6,10 @@ use Rattle.listed_counts.proofs.none_often.Tie as tie
 
 returns : tie.Need-returns
 returns c =
-    let s = c .before .before .before .before .before .before .before .before .before .before .before .before .before .before .before .before .before .before .before .before .before .before .before .before .before .before .before .before .before .before .before .before in
-    passes-tell (c .before .before .before .before .before .before .before .before .before .before .before .before .before .before .before .before .before .before .before .before .before .note-lines .ensures) (c .before .before .before .before .before .before .before .before .count-lines .ensures) (c .none-above .ensures) (s .pre .3) (s .pre .4) (s .pre .5) (s .pre .6)
+    let m = c .before .before .before .before .before .before .before .before in
+    let n = m .before .before .before .before .before .before .before .before .before .before .before .before .before in
+    let z = n .before .before .before .before .before .before .before .before .before .before .before .pre .3 in
+    passes-tell (n .note-lines .ensures) (m .count-lines .ensures) (c .none-above .ensures) (z .same) (z .zeros) (z .again) (z .noughts)
 
 pub none-often-spec : {M : Type 1} → statement M
 none-often-spec =

@@ -22,28 +22,31 @@ loop-holds : tie.Need-loop-holds Inv-loop μ-loop
 loop-holds c = (c .before .before .before .before .before .pre .0, refl, refl, refl, refl, omega (arith, c .before .before .before .before .before .pre .4), note-begin)
 
 line-at-requires : tie.Need-line-at-requires Inv-loop μ-loop
-line-at-requires c κs = (omega arith, omega (arith, c .before .before .before .loop .inv .3, c .before .before .before .before .before .before .before .before .before .pre .1), omega (arith, c .before .before .before .loop .inv .4, c .before .before .before .before .before .before .before .before .before .pre .2))
+line-at-requires c κs =
+    let d = c .before .before .before in
+    (omega arith, omega (arith, d .loop .inv .3, d .before .before .before .before .before .before .pre .1), omega (arith, d .loop .inv .4, d .before .before .before .before .before .before .pre .2))
 
 note-number-requires : tie.Need-note-number-requires Inv-loop μ-loop
 note-number-requires c κs =
     let d = c .before .before .before .before .before .before .before .before .before .before .before in
-    (d .loop .inv .1 ∙ d .before .before .before .before .before .before .pre .3 ∙ sym (d .loop .inv .2), omega (arith, d .loop .inv .5, d .loop .inv .0, d .before .before .before .before .before .before .good .0 .1))
+    let s = d .before .before .before .before .before .before in
+    (d .loop .inv .1 ∙ s .pre .3 ∙ sym (d .loop .inv .2), omega (arith, d .loop .inv .5, d .loop .inv .0, s .good .0 .1))
 
 loop-less : tie.Need-loop-less Inv-loop μ-loop
-loop-less c = omega (arith, c .before .before .before .before .before .before .before .before .before .before .before .before .line-at .ensures .on, c .before .before .before .before .before .before .before .before .before .before .before .before .line-at .ensures .inside)
+loop-less c = let l = c .before .before .before .before .before .before .before .before .before .before .before .before .line-at .ensures in omega (arith, l .on, l .inside)
 
 loop-again : tie.Need-loop-again Inv-loop μ-loop
 loop-again c =
     let l = c .before .before .before .before .before .before .before .before .before .before .before .before .line-at in
     let n = c .before .before .before .before .note-number in
-    let d = c .before .before .before .before .before .before .before .before .before .before .before .before .before .before .before .before in (
+    let d = c .before .before .before .before .before .before .before .before .before .before .before .before .before .before .before .before in
+    let e = d .loop .inv .1 ∙ d .before .before .before .before .before .before .pre .3 ∙ sym (d .loop .inv .2) in (
       l .ensures .inside,
       n .kept .0 ∙ d .loop .inv .1,
       n .kept .1 .0 ∙ d .loop .inv .2,
       l .kept .1 .1 .0 ∙ d .loop .inv .3,
       l .kept .1 .1 .1 .0 ∙ d .loop .inv .4,
-      omega
-          (arith, sum-noted (d .loop .names) (d .loop .counts) (d .loop .inv .1 ∙ d .before .before .before .before .before .before .pre .3 ∙ sym (d .loop .inv .2)) (n .ensures), d .loop .inv .5, l .ensures .on),
+      omega (arith, sum-noted (d .loop .names) (d .loop .counts) e (n .ensures), d .loop .inv .5, l .ensures .on),
       note-on (d .loop .inv .6) (l .ensures) (c .before .before .before .before .before .before .before .added .ensures) (n .ensures),
     )
 

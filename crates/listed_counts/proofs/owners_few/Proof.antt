@@ -5,7 +5,9 @@ use Rattle.listed_counts.proofs.owners_few.Statement.{statement}
 use Rattle.listed_counts.proofs.owners_few.Tie as tie
 
 returns : tie.Need-returns
-returns c = verdict-with (c .before .before .before .before .before .before .before .before .before .before .before .before .before .before .owner-counters2 .ensures .0) (c .before .before .before .before .before .before .before .none-often .ensures)
+returns c =
+    let d = c .before .before .before .before .before .before .before in
+    verdict-with (d .before .before .before .before .before .before .before .owner-counters2 .ensures .0) (d .none-often .ensures)
 
 pub owners-few-spec : {M : Type 1} → statement M
 owners-few-spec =
