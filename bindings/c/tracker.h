@@ -161,6 +161,11 @@ static inline size_t tracker_not_found_need(uint64_t q, size_t n) {
     return (n + (size_t)(TRACKER_MAX_PARENTS * q)) * TRACKER_KEY_BYTES;
 }
 
+/* Of tracker_save at most: it needs the listing's own length (docs/LISTING.md). */
+static inline size_t tracker_save_need(uint64_t l, uint64_t q) {
+    return (size_t)165 + (size_t)250 * (size_t)l + (size_t)13068 * (size_t)q;
+}
+
 /* Of tracker_claim and tracker_arrange. */
 static inline size_t tracker_entries_need(size_t n) {
     return n * TRACKER_ENTRY_BYTES;
@@ -323,6 +328,9 @@ uint64_t tracker_failed_package_info(uint8_t *store, size_t length, uint64_t kin
 /* The connection that is asked for package info of the request at the key, and in time; 0, if there is none. */
 uint64_t tracker_package_info_owner(const uint8_t *store, size_t length, uint64_t kind, const uint8_t hash[32], uint64_t now,
                                     uint64_t *owner) TRACKER_MUST_USE;
+
+/* The listing of the tracker's state, in the answer: so many bytes as `written` says. The store is only read. */
+uint64_t tracker_save(const uint8_t *store, size_t length, uint8_t *answer, size_t answer_length, uint64_t *written) TRACKER_MUST_USE;
 
 /* The connection is asked for the package info of the transaction with that wtxid, whose parents are given in 32 bytes each. The reply is
  * 0 if the hash is owned, if the connection owns 100 requests, or if it is no candidate and is not kept as one. */

@@ -134,6 +134,7 @@ static void requests(void) {
     WAS(1, "poll_gate");
     CALL(sweep, ANSWER, NUMBER);
     CALL(sum, NUMBER, &s->numbers[1], &s->numbers[2]);
+    CALL(save, ANSWER, NUMBER);
     CALL(counts, 9, NUMBER, &s->numbers[1]);
     WAS(100, "counts");
 }

@@ -218,6 +218,17 @@ pub fn package_info_owner(store: &[u8], key: &Key, now: u64) -> Result<Option<u6
     done(status, (owner != 0).then_some(owner))
 }
 
+/// The listing of the tracker's state, in the answer: so many bytes as `written` says. The store is only
+/// read.
+pub fn save(store: &[u8], answer: &mut [u8]) -> Result<usize, Error> {
+    let mut written = 0;
+    // SAFETY: what is lent is lent for the call, and what it may write is lent to it alone.
+    let status = unsafe {
+        abi::tracker_save(store.as_ptr(), store.len(), answer.as_mut_ptr(), answer.len(), &mut written)
+    };
+    done(status, written as usize)
+}
+
 /// The connection is asked for the package info of the transaction with that wtxid, whose parents are given
 /// in 32 bytes each. The reply is 0 if the hash is owned, if the connection owns 100 requests, or if it is
 /// no candidate and is not kept as one.

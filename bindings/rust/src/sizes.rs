@@ -72,6 +72,11 @@ impl Sizes {
         101 * self.places as usize * KEY_BYTES
     }
 
+    /// Bytes that a listing has at most.
+    pub const fn listing_need(self) -> usize {
+        165 + 250 * self.announcements as usize + 13_068 * self.places as usize
+    }
+
     /// Bytes of the answer that so many items, not found, need.
     pub const fn not_found_need(self, items: usize) -> usize {
         (items + 100 * self.places as usize) * KEY_BYTES

@@ -10,8 +10,8 @@ use Rattle.machine.specs.Plan.{plan}
 use Rattle.machine.specs.Wrapper.{Offer, Sums}
 use Rattle.machine.specs.Call.{Ask, Announce, RequestParent, Failed, Unclaim, SolicitPackageInfo, ClaimPackage, BeginPackageResolution, AnnounceParents}
 use Rattle.machine.specs.Call.{FailedPackageClaims, Plan, Claim, Sweep, Disconnected, ReleasePackage, TeardownPackageClaims, Forget, ForgetKnown, FailedWithParents}
-use Rattle.machine.specs.Call.{FailedPackageInfo, PackageInfoOwner, AnnounceTransactions, TransactionResponseCompleted, TransactionNotFound, PollGate, Arrange, Sum, Call, Open, On}
-use Rattle.machine.specs.Step.{Reply, Refused, Number, Keys, Left, Entries, Chosen, Summed, perform, carryOut}
+use Rattle.machine.specs.Call.{FailedPackageInfo, PackageInfoOwner, AnnounceTransactions, TransactionResponseCompleted, TransactionNotFound, PollGate, Arrange, Sum, Save, Call, Open, Restore, On}
+use Rattle.machine.specs.Step.{Reply, Refused, Number, Keys, Left, Entries, Chosen, Summed, Saved, perform, carryOut}
 
 -- r is no refusal
 abbrev pub Carried : Reply → Type 0
@@ -34,6 +34,9 @@ chosen-carried k l n e = let z : _≡_ {A = ℕ} 0 1 = cc in omega arith
 
 summed-carried : (s : Sums) → Carried (Summed s)
 summed-carried s n e = let z : _≡_ {A = ℕ} 0 1 = cc in omega arith
+
+saved-carried : (t : List ℕ) → Carried (Saved t)
+saved-carried t n e = let z : _≡_ {A = ℕ} 0 1 = cc in omega arith
 
 performed : (a : Ask) (s : State) → Carried ((perform a s) .reply)
 unfolding perform
@@ -63,10 +66,12 @@ performed (TransactionNotFound n l now b) s = keys-carried _
 performed (PollGate now) s = number-carried _
 performed (Arrange ws l b) s = entries-carried _
 performed Sum s = summed-carried _
+performed (Save b) s = saved-carried _
 
 pub replies : (c : Call) (s : State) → Carried ((carryOut c s) .reply)
 unfolding carryOut
 replies (Open L Q) s = number-carried 1
+replies (Restore x) s = number-carried 1
 replies (On a) s = performed a s
 
 -- ---- "Where the Rust returns nothing, the reply is 1."
@@ -77,6 +82,10 @@ RepliesOne c = (s : State) → (carryOut c s) .reply ≡ Number 1
 pub opens : (L Q : ℕ) → RepliesOne (Open L Q)
 unfolding carryOut
 opens L Q s = refl
+
+pub restores : (x : List ℕ) → RepliesOne (Restore x)
+unfolding carryOut
+restores x s = refl
 
 pub unclaims : (k : Key) (n : ℕ) → RepliesOne (On (Unclaim k n))
 unfolding carryOut perform

@@ -28,10 +28,10 @@ use Rattle.public_plans.specs.declared.Selection.the-variants.{Chosen as Select
 use Rattle.public_plans.specs.Entries.{entriesOf, plannedOf}
 use Rattle.public_plans.specs.Parts.{connectionsIn, PartIs}
 use Rattle.public_plans.proofs.Entered.{length-from, length-entries}
-use Rattle.lines.specs.Text.{decimal}
+use Rattle.machine.specs.Text.{decimal, joined}
 use Rattle.reading.specs.Line.{Line, Asks, Take, Send, Part}
 use Rattle.asking.specs.Calls.{answerBuffer}
-use Rattle.printing.specs.Replies.{refusalText, unreadable, joined, listed, entryTexts, replyText}
+use Rattle.printing.specs.Replies.{refusalText, unreadable, listed, entryTexts, replyText}
 use Rattle.printing.specs.Given.{mostEntries, Printed}
 use Rattle.keeping.specs.Lists.{countIn, listIn, listBytes, planPart, takenPart, arrangedPart, keptLists, Fits, Ordered, Holds}
 use Rattle.printing.specs.Kept.{chosenOr, entriesOr}

@@ -5,7 +5,8 @@ ghost use Prim.Native.Nat.{_+_, _/_, _≤_, _<_};
 ghost use lib.Dec.{ltb};
 ghost use lib.ListN.{length};
 ghost use Rattle.regions.specs.Rows.{quadNumber};
-ghost use Rattle.lines.specs.Text.{digitText, decimalDigits, decimal, hashDigits, hexadecimal, kindLetter, keyText, Wrote};
+ghost use Rattle.machine.specs.Text.{digitText, decimalDigits, decimal, hashDigits, hexadecimal, kindLetter, keyText};
+ghost use Rattle.lines.specs.Text.{Wrote};
 
 // The byte of a digit below 16.
 fn digit_text(d: u64) -> u8

@@ -56,7 +56,7 @@ length-entriesAnswer (a ∷ l) = omega (arith, length-append (entryAnswer a) (en
 
 -- ---- keys of a table, and sweep
 
-length-countIn : (cs : List Candidate) → countIn (λ n. true) cs ≡ length cs
+pub length-countIn : (cs : List Candidate) → countIn (λ n. true) cs ≡ length cs
 unfolding countIn
 length-countIn [] = refl
 length-countIn (c ∷ cs) = omega (arith, length-countIn cs)

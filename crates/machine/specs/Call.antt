@@ -2,7 +2,7 @@
 use Prim.Native.Nat.{ℕ, _+_, _*_, min}
 use mathlib.Core.Bool.{Bool, false, not, _&&_, _||_}
 use mathlib.Core.List.{List, [], _∷_}
-use mathlib.Core.Option.{Option}
+use mathlib.Core.Option.{Option, none, some}
 use lib.Dec.{ltb, leb}
 use lib.ListN.{length}
 use Rattle.ident.specs.If.{if_then_else_}
@@ -13,6 +13,8 @@ use Rattle.machine.specs.Table.{placesHeld}
 use Rattle.machine.specs.Package.{solicit}
 use Rattle.machine.specs.Claim.{elem}
 use Rattle.machine.specs.Wrapper.{Offer}
+use Rattle.machine.specs.Listing.{listing, readListing}
+use Rattle.machine.specs.SoundTest.{isSound}
 
 -- an answer buffer: its bytes
 abbrev pub Buffer : Type 0
@@ -46,10 +48,12 @@ pub data Ask : Type 0 where
   PollGate : (now : ℕ) → Ask
   Arrange : (witnesses : List ℕ) (taken : List Entry) (b : Buffer) → Ask
   Sum : Ask
+  Save : (b : Buffer) → Ask
 
 -- "In the list stand opening and every other call here that takes a store"
 pub data Call : Type 0 where
   Open : (L Q : ℕ) → Call
+  Restore : (text : List ℕ) → Call
   On : Ask → Call
 
 -- ---- what the refusals 4 to 7 look at
@@ -78,6 +82,10 @@ keyed ns ts p b n = record { connections = ns; clocks = ts; parents = p; buffer 
 
 abbrev pub entered : List ℕ → List ℕ → Buffer → ℕ → Named
 entered ns ts b n = record { connections = ns; clocks = ts; parents = 0; buffer = b; needs = entryBytes * n }
+
+-- one whose answer is a listing: "saving needs a buffer of its length"
+abbrev pub saving : Buffer → State → Named
+saving b s = record { connections = []; clocks = []; parents = 0; buffer = b; needs = length (listing s) }
 
 -- "Buffer needs in entries: plan min(1,025, L); sweep min(1,024, L); claim the checked length; disconnected
 -- min(5,000, L) + 100 × Q; package claims 101 × Q; not-found its items + 100 × Q; arranging the taken length; any other key
@@ -109,6 +117,7 @@ named (TransactionNotFound n l now b) s = keyed (n ∷ []) (now ∷ []) 0 b (len
 named (PollGate now) s = plain [] (now ∷ []) 0
 named (Arrange ws l b) s = entered ws [] b (length l)
 named Sum s = plain [] [] 0
+named (Save b) s = saving b s
 
 unfoldable pub anyLate : List ℕ → Bool
 anyLate [] = false
@@ -148,6 +157,7 @@ roleOf (TransactionNotFound n l now b) = AsOther
 roleOf (PollGate now) = AsOther
 roleOf (Arrange ws l b) = AsOther
 roleOf Sum = AsOther
+roleOf (Save b) = AsOther
 
 -- "a solicitation that would reply 1"
 abbrev pub placeTaken : Role → State → Bool
@@ -167,6 +177,12 @@ sizesTaken L Q = (leb 1 L && leb L maxAnnouncements) && (leb 1 Q && leb Q maxPla
 unfoldable pub openingRefusal : ℕ → ℕ → ℕ → ℕ
 openingRefusal n L Q = if sizesTaken L Q then (if ltb n (need L Q) then 1 else 0) else 2
 
+-- A text that lists no state gets 11, one that lists an unsound state 12; "a receiving store shorter than the state's need gets 1 after those, and
+-- its old bytes are not tested". The store has n bytes.
+unfoldable pub restoreRefusal : ℕ → Option State → ℕ
+restoreRefusal n none = 11
+restoreRefusal n (some t) = if isSound t then (if ltb n (need (t .limit) (t .places)) then 1 else 0) else 12
+
 -- "Other calls test 3 to 8 in turn." sound: the store's bytes write a sound state, which is s.
 unfoldable pub askRefusal : Bool → Ask → State → ℕ
 askRefusal sound a s =
@@ -180,4 +196,5 @@ askRefusal sound a s =
 
 unfoldable pub refusal : ℕ → Bool → Call → State → ℕ
 refusal n sound (Open L Q) s = openingRefusal n L Q
+refusal n sound (Restore x) s = restoreRefusal n (readListing x)
 refusal n sound (On a) s = askRefusal sound a s

@@ -9,6 +9,10 @@ pub mod Sweep
 pub mod Plan
 pub mod Claim
 pub mod Wrapper
+pub mod Text
+pub mod Fields
+pub mod Listing
+pub mod SoundTest
 pub mod Call
 pub mod Step
 pub mod Sound

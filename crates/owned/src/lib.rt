@@ -13,6 +13,7 @@ pub mod candidates;
 pub mod connections;
 pub mod departures;
 pub mod failures;
+pub mod listings;
 pub mod package_calls;
 pub mod package_claims;
 pub mod plans;

@@ -4,15 +4,9 @@ use mathlib.Core.List.{List, [], _∷_, _++_}
 use lib.ListN.{length}
 use Rattle.ident.specs.Number.{Key}
 use Rattle.machine.specs.State.{Entry}
-use Rattle.machine.specs.Call.{Call, Open, On}
-use Rattle.machine.specs.Step.{Reply, Refused, Number, Keys, Left, Entries, Chosen, Summed}
-use Rattle.lines.specs.Text.{decimal, boolText, keyText, itemText}
-
--- texts parted by commas
-unfoldable pub joined : List (List ℕ) → List ℕ
-joined [] = []
-joined (t ∷ []) = t
-joined (t ∷ u ∷ ts) = t ++ (44 ∷ joined (u ∷ ts))
+use Rattle.machine.specs.Call.{Call, Open, Restore, On}
+use Rattle.machine.specs.Step.{Reply, Refused, Number, Keys, Left, Entries, Chosen, Summed, Saved}
+use Rattle.machine.specs.Text.{decimal, boolText, keyText, itemText, joined}
 
 -- "An empty list is `-`."
 abbrev pub listed : List (List ℕ) → List ℕ
@@ -41,6 +35,7 @@ unreadable = 9
 -- a reply's number; an opening's is `ok`
 abbrev pub numberText : Call → ℕ → List ℕ
 numberText (Open L Q) n = 111 ∷ 107 ∷ []
+numberText (Restore x) n = decimal n
 numberText (On a) n = decimal n
 
 unfoldable pub replyText : Call → Reply → List ℕ
@@ -51,3 +46,5 @@ replyText c (Left own parents) = joined (decimal (length own) ∷ (keyTexts own 
 replyText c (Entries l) = listed (entryTexts l)
 replyText c (Chosen considered l) = joined (decimal considered ∷ entryTexts l)
 replyText c (Summed s) = joined (decimal (s .held) ∷ decimal (s .free) ∷ decimal (s .permille) ∷ [])
+-- no word asks for a listing; its length would be told
+replyText c (Saved t) = decimal (length t)

@@ -1,6 +1,6 @@
 -- `lines::read::digit` meets its contract: a law of proofs/Digits for each range of bytes.
 use mathlib.Core.Path.{sym}
-use Rattle.lines.proofs.Digits.{digit-below, digit-figure, digit-between, digit-letter, digit-above}
+use Rattle.machine.proofs.Digits.{digit-below, digit-figure, digit-between, digit-letter, digit-above}
 use borrow.Author.Needs.{needs}
 use Rattle.lines.proofs.read.digit.Statement.{statement}
 use Rattle.lines.proofs.read.digit.Tie as tie

@@ -1,6 +1,6 @@
 -- `lines::write::digit_text` meets its contract.
 use mathlib.Core.Path.{sym}
-use Rattle.lines.proofs.Digits.{text-figure, text-letter}
+use Rattle.machine.proofs.Digits.{text-figure, text-letter}
 use borrow.Author.Needs.{needs}
 use Rattle.lines.proofs.write.digit_text.Statement.{statement}
 use Rattle.lines.proofs.write.digit_text.Tie as tie
