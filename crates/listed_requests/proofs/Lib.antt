@@ -1,3 +1,4 @@
 pub mod Lines
 pub mod Crowds
 pub mod Together
+pub mod Counted
