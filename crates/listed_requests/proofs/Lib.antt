@@ -2,3 +2,5 @@ pub mod Lines
 pub mod Crowds
 pub mod Together
 pub mod Counted
+pub mod Fitting
+pub mod Gathering

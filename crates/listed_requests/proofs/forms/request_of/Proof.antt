@@ -1,8 +1,8 @@
--- `listed_requests::request_of` meets its contract.
+-- `listed_requests::forms::request_of` meets its contract.
 use Rattle.listed_requests.proofs.Lines.{no-request, head-no-request, is-request, candidate-no-request}
 use borrow.Author.Needs.{needs}
-use Rattle.listed_requests.proofs.request_of.Statement.{statement}
-use Rattle.listed_requests.proofs.request_of.Tie as tie
+use Rattle.listed_requests.proofs.forms.request_of.Statement.{statement}
+use Rattle.listed_requests.proofs.forms.request_of.Tie as tie
 
 returns : tie.Need-returns
 returns c = no-request (c .enum-told .given .1)

@@ -1,8 +1,8 @@
--- `listed_requests::candidate_of` meets its contract.
+-- `listed_requests::forms::candidate_of` meets its contract.
 use Rattle.listed_requests.proofs.Lines.{no-candidate, head-no-candidate, request-no-candidate, is-candidate}
 use borrow.Author.Needs.{needs}
-use Rattle.listed_requests.proofs.candidate_of.Statement.{statement}
-use Rattle.listed_requests.proofs.candidate_of.Tie as tie
+use Rattle.listed_requests.proofs.forms.candidate_of.Statement.{statement}
+use Rattle.listed_requests.proofs.forms.candidate_of.Tie as tie
 
 returns : tie.Need-returns
 returns c = no-candidate (c .enum-told .given .1)
