@@ -4,3 +4,4 @@ pub mod Together
 pub mod Counted
 pub mod Fitting
 pub mod Gathering
+pub mod Repeats

@@ -3,4 +3,5 @@
 //
 // The text is one that lists requests (`Body`, listed_form/specs/Given); a contract says what the definition's test says of them (specs/Parts).
 pub mod candidates;
+pub mod distinct;
 pub mod forms;

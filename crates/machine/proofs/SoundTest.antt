@@ -64,7 +64,7 @@ test-absent : (b : Bool) → Test (not b) (b ≡ false)
 test-absent true = record { holds = λ e. sym e; passes = λ e. sym e }
 test-absent false = record { holds = λ e. refl; passes = λ e. refl }
 
-test-distinct : (hs : List ℕ) → Test (noRepeat hs) (NoRepeat hs)
+pub test-distinct : (hs : List ℕ) → Test (noRepeat hs) (NoRepeat hs)
 unfolding noRepeat
 test-distinct [] = test-unit
 test-distinct (h ∷ hs) = test-and (not (elem h hs)) (noRepeat hs) (test-absent (elem h hs)) (test-distinct hs)
