@@ -64,7 +64,7 @@ test-absent : (b : Bool) → Test (not b) (b ≡ false)
 test-absent true = record { holds = λ e. sym e; passes = λ e. sym e }
 test-absent false = record { holds = λ e. refl; passes = λ e. refl }
 
-test-distinct : (hs : List ℕ) → Test (noRepeat hs) (NoRepeat hs)
+pub test-distinct : (hs : List ℕ) → Test (noRepeat hs) (NoRepeat hs)
 unfolding noRepeat
 test-distinct [] = test-unit
 test-distinct (h ∷ hs) = test-and (not (elem h hs)) (noRepeat hs) (test-absent (elem h hs)) (test-distinct hs)
@@ -148,7 +148,7 @@ test-mark : (k : Kind) (m : Bool) → Test (markFits k m) (Marked k m)
 test-mark k true = test-kind k Txid
 test-mark k false = test-unit
 
-test-lawful : (r : Request) → Test (isLawful r) (Lawful r)
+pub test-lawful : (r : Request) → Test (isLawful r) (Lawful r)
 unfolding isLawful
 test-lawful r =
     let packed = isPacked (r .key .kind) (r .owner) (r .info) (r .«package») (r .parents) in
@@ -162,7 +162,7 @@ test-lawful r =
 
 -- ---- the table
 
-test-ordered : (lo : ℕ) (t : Table) → Test (isOrdered lo t) (Ordered lo t)
+pub test-ordered : (lo : ℕ) (t : Table) → Test (isOrdered lo t) (Ordered lo t)
 unfolding isOrdered
 test-ordered lo [] = test-unit
 test-ordered lo (r ∷ t) =
@@ -171,7 +171,7 @@ test-ordered lo (r ∷ t) =
     (test-and (ltb (r .key .hash) top) rest (test-less (r .key .hash) top) (test-ordered (suc (place (r .key))) t)))
     (λ q. (q .0, q .1 .0, q .1 .1)) (λ q. (q .0, (q .1, q .2)))
 
-test-every : (p : Request → Bool) (P : Request → Type 0) → ((r : Request) → Test (p r) (P r)) → (t : Table) → Test (every p t) (All P t)
+pub test-every : (p : Request → Bool) (P : Request → Type 0) → ((r : Request) → Test (p r) (P r)) → (t : Table) → Test (every p t) (All P t)
 unfolding every
 test-every p P f [] = test-unit
 test-every p P f (r ∷ t) = test-and (p r) (every p t) (f r) (test-every p P f t)
@@ -202,7 +202,7 @@ met p q (r ∷ t) e h = elim (test (ltb 0 (countIn (q (r .key)) (r .candidates))
 ]
 
 -- what bounds the count where a candidate of it stands bounds it
-most-met : (p : Key → Candidate → Bool) (q : Key → ℕ → Bool) (t : Table) (n m : ℕ) → everyOne p t ≡ true → n ≤ count q t
+pub most-met : (p : Key → Candidate → Bool) (q : Key → ℕ → Bool) (t : Table) (n m : ℕ) → everyOne p t ≡ true → n ≤ count q t
     → ((k : Key) (c : Candidate) → p k c ≡ true → q k (c .connection) ≡ true → n ≤ m) → n ≤ m
 most-met p q t n m e l f = elim (test (ltb 0 n)) [
   | inl d ↦ let z : 0 < n = ltb-true 0 n d in let w = met p q t e (omega arith) in f (w .key) (w .candidate) (w .passed) (w .counted)
@@ -222,7 +222,7 @@ owner-counts : (q : ℕ → Bool) (o : Option Owner) (cs : List Candidate) → O
 owner-counts q none cs f = omega arith
 owner-counts q (some o) cs f = count-has q (o .connection) cs (f .0)
 
-owners-count : (q : Key → ℕ → Bool) (t : Table) → All Lawful t → owners q t ≤ count q t
+pub owners-count : (q : Key → ℕ → Bool) (t : Table) → All Lawful t → owners q t ≤ count q t
 unfolding total
 owners-count q [] a = omega arith
 owners-count q (r ∷ t) a = omega (arith, owner-counts (q (r .key)) (r .owner) (r .candidates) (a .0 .owner), owners-count q t (a .1))
@@ -258,7 +258,7 @@ unfolding everyIn
 every-in p f k [] = refl
 every-in p f k (c ∷ cs) = rw (f k c, every-in p f k cs)
 
-every-one : (p : Key → Candidate → Bool) → ((k : Key) (c : Candidate) → p k c ≡ true) → (t : Table) → everyOne p t ≡ true
+pub every-one : (p : Key → Candidate → Bool) → ((k : Key) (c : Candidate) → p k c ≡ true) → (t : Table) → everyOne p t ≡ true
 unfolding every
 every-one p f [] = refl
 every-one p f (r ∷ t) = rw (every-in p f (r .key) (r .candidates), every-one p f t)
@@ -276,7 +276,7 @@ crowds m t a e n h = record {
     at-hand : (k : Key) (c : Candidate) → crowdFits m t k c ≡ true → Crowd m t (c .connection) (k .hash)
     at-hand k c p = test-crowd m t k c .holds p
 
-test-bounded : (m : Limits) (Q : ℕ) (t : Table) → Test (isBounded m Q t) (Bounded m Q t)
+pub test-bounded : (m : Limits) (Q : ℕ) (t : Table) → Test (isBounded m Q t) (Bounded m Q t)
 unfolding isBounded
 test-bounded m Q t = record { holds = to; passes = from }
   where
