@@ -33,7 +33,7 @@ fn fill(s: &mut [u8])
 }
 
 // The table of the entries, each of which stands for one row.
-fn settle(s: &mut [u8])
+fn settle_conns(s: &mut [u8])
     requires { ⌜ Shown (now s) ⌝ }
     ensures { λ _. ⌜ Turns (now (s .entry)) (now (s .exit)) (λ f. withConns (counted [] (f .conns)) f) ⌝ }
 {
@@ -51,5 +51,5 @@ pub fn tally_rows(s: &mut [u8])
     ensures { λ _. ⌜ Turns (now (s .entry)) (now (s .exit)) (λ f. withConns (tally (f .rows)) f) ⌝ }
 {
     fill(s);
-    settle(s);
+    settle_conns(s);
 }
