@@ -101,5 +101,6 @@ module _ {b₀ b : List ℕ} {n i : ℕ} (k : Shown b₀) (p : Filling b₀ b n 
 pub filled-shown : {b₀ b : List ℕ} → Shown b₀ → Turns b₀ b (λ f. withConns (map entryOf (f .rows)) f) → Shown b
 filled-shown k t = entries-shown k (k .flat .rows) (omega arith) (t (k .flat) (k .shows))
 
-pub tallied-rows : {b₀ b b₁ : List ℕ} → Turns b₀ b (λ f. withConns (map entryOf (f .rows)) f) → Turns b b₁ (λ f. withConns (counted [] (f .conns)) f) → Turns b₀ b₁ (λ f. withConns (tally (f .rows)) f)
+pub tallied-rows : {b₀ b b₁ : List ℕ} → Turns b₀ b (λ f. withConns (map entryOf (f .rows)) f) → Turns b b₁ (λ f. withConns (counted [] (f .conns)) f) → Turns b₀ b₁ (λ f. withConns (tally
+    (f .rows)) f)
 tallied-rows {b₀} {b} {b₁} t u f h = subst (λ (cs : List Conn). Shows b₁ (withConns cs f)) (counted-rows (f .rows)) (u (withConns (map entryOf (f .rows)) f) (t f h))

@@ -40,7 +40,8 @@ module _ (L : ℕ) (T : List Conn) (y x : Conn) (R : List Conn) (q : ℕ) (h : q
   front = sym (ap (each connWords) (take-append-drop q T)) ∙ each-append connWords (take q T) (drop q T)
 
   before : each connWords (T ++ (y ∷ R)) ≡ A ++ (B ++ (connWords y ++ E))
-  before = each-append connWords T (y ∷ R) ∙ ap (λ (z : List ℕ). z ++ each connWords (y ∷ R)) front ∙ append-assoc A B (each connWords (y ∷ R)) ∙ ap (λ (z : List ℕ). A ++ (B ++ z)) (each-cons y R)
+  before = each-append connWords T (y ∷ R) ∙ ap (λ (z : List ℕ). z ++ each connWords (y ∷ R)) front ∙ append-assoc A B (each connWords (y ∷ R)) ∙ ap (λ (z : List ℕ). A ++ (B ++ z))
+      (each-cons y R)
 
   after : each connWords (insertAt q x T ++ R) ≡ A ++ (connWords x ++ (B ++ E))
   after =
@@ -64,7 +65,8 @@ module _ (L : ℕ) (T : List Conn) (y x : Conn) (R : List Conn) (q : ℕ) (h : q
       let a : length (A ++ (connWords x ++ (B ++ E))) ≡ length A + (length (connWords x) + (length B + length E)) = simp length-append in
       ap length after ∙ a ∙ omega (arith, both-long)
 
-  pub opened-entries : opened (connSize * q) (connSize * length T) (connWords x) (padded (connSize * L) (each connWords (T ++ (y ∷ R)))) ≡ padded (connSize * L) (each connWords (insertAt q x T ++ R))
+  pub opened-entries : opened (connSize * q) (connSize * length T) (connWords x) (padded (connSize * L) (each connWords (T ++ (y ∷ R)))) ≡ padded (connSize * L) (each connWords
+      (insertAt q x T ++ R))
   opened-entries =
       let n : ℕ = connSize * L in
       let z : List ℕ = replicate (n - connSize * (length T + suc (length R))) 0 in

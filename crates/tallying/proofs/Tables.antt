@@ -162,7 +162,14 @@ collecting-none w n = record { short = omega arith; most = omega arith; parts = 
 module _ {w₀ w : List ℕ} {n m j : ℕ} (p : Collecting w₀ w n m j) where
   pub collecting-more : Filled w₀ n → j < n → Underway w m j
   collecting-more f l =
-      record { capacity = f .capacity; entries = f .entries; more = omega (arith, f .long); fits = omega (arith, f .long, f .fits); partly = p .parts (f .capacity) (f .entries) (f .long) (f .fits) (f .holds) }
+      record {
+        capacity = f .capacity;
+        entries = f .entries;
+        more = omega (arith, f .long);
+        fits = omega (arith, f .long, f .fits);
+        partly = p .parts (f .capacity) (f .entries) (f .long)
+            (f .fits) (f .holds);
+      }
 
   pub collecting-next : {w₁ : List ℕ} {k : ℕ} → j < n → k ≤ j + 1 → Counts w w₁ m j k → Collecting w₀ w₁ n k (j + 1)
   collecting-next {w₁} {k} l s c = record {

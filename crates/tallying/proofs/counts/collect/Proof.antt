@@ -33,7 +33,11 @@ loop-less : tie.Need-loop-less Inv-loop μ-loop
 loop-less c = omega (arith, c .before .before .before .before .loop-test .taken)
 
 loop-again : tie.Need-loop-again Inv-loop μ-loop
-loop-again c = (collecting-next (c .before .before .before .before .before .loop .inv .0) (c .before .before .before .before .loop-test .taken) (c .before .before .count .ensures .0) (c .before .before .count .ensures .1), c .before .before .count .kept .0 ∙ c .before .before .before .before .before .loop .inv .1)
+loop-again c = (
+  collecting-next (c .before .before .before .before .before .loop .inv .0) (c .before .before .before .before .loop-test .taken) (c .before .before .count .ensures .0)
+      (c .before .before .count .ensures .1),
+  c .before .before .count .kept .0 ∙ c .before .before .before .before .before .loop .inv .1,
+)
 
 mul-clear : tie.Need-mul-clear Inv-loop μ-loop
 mul-clear c = omega (arith, c .before .before .before .before .pre .0, c .before .before .loop .inv .0 .short, c .before .before .loop .inv .0 .most)
@@ -51,22 +55,17 @@ same-length : tie.Need-same-length Inv-loop μ-loop
 same-length c = c .before .before .clear .kept .0 ∙ c .before .before .before .before .before .loop .inv .1
 
 returns : tie.Need-returns Inv-loop μ-loop
-returns c = collecting-done (c .before .before .before .before .before .loop .inv .0) (omega (arith, c .before .before .before .before .before .loop .inv .0 .most, c .before .before .before .before .loop-test .left)) (omega (arith, length-words (c .before .before .before .before .before .loop .r), c .before .before .before .before .before .before .before .pre .0, c .before .before .before .before .before .loop .inv .1)) (c .before .before .clear .ensures)
+returns c = collecting-done (c .before .before .before .before .before .loop .inv .0) (omega
+    (arith, c .before .before .before .before .before .loop .inv .0 .most, c .before .before .before .before .loop-test .left)) (omega (
+      arith,
+      length-words
+          (c .before .before .before .before .before .loop .r),
+      c .before .before .before .before .before .before .before .pre .0,
+      c .before .before .before .before .before .loop .inv .1,
+    ))
+    (c .before .before .clear .ensures)
 
 pub collect-spec : {M : Type 1} → statement M
 collect-spec =
     tie.close
-    (tie.spec
-    Inv-loop
-    μ-loop
-    loop-holds
-    count-requires
-    add-j
-    loop-less
-    loop-again
-    mul-clear
-    sub-clear
-    mul-clear-2
-    clear-requires
-    same-length
-    returns)
+    (tie.spec Inv-loop μ-loop loop-holds count-requires add-j loop-less loop-again mul-clear sub-clear mul-clear-2 clear-requires same-length returns)

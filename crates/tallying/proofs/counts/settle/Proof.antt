@@ -9,7 +9,11 @@ sort-requires : tie.Need-sort-requires
 sort-requires c κs = search needs
 
 collect-requires : tie.Need-collect-requires
-collect-requires c κs = (omega (arith, c .before .before .before .before .before .before .pre .0, c .before .before .before .sort .kept .0), shuffled-filled _ (c .before .before .before .sort .ensures) (c .before .before .before .before .before .before .pre .1))
+collect-requires c κs = (
+  omega (arith, c .before .before .before .before .before .before .pre .0, c .before .before .before .sort .kept .0),
+  shuffled-filled _
+      (c .before .before .before .sort .ensures) (c .before .before .before .before .before .before .pre .1),
+)
 
 same-length : tie.Need-same-length
 same-length c = search needs
