@@ -1,6 +1,6 @@
 -- Entries counted into a table: in any order, one after the other, and those of rows.
 use Prim.Native.Nat.{ℕ, zero, suc, _+_, _%_, _≤_, _<_}
-use mathlib.Core.Path.{_≡_, refl, sym, ap, _∙_}
+use mathlib.Core.Path.{_≡_, refl, ap, _∙_}
 use mathlib.Core.Logic.{inl, inr}
 use mathlib.Core.List.{List, [], _∷_, _++_, map}
 use native.Mathlib.Omega.{arith}

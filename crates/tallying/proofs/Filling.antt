@@ -1,15 +1,15 @@
 -- An entry for each row, in bytes; and the table in their place.
-use Prim.Native.Nat.{ℕ, suc, _+_, _*_, _≤_, _<_}
+use Prim.Native.Nat.{ℕ, suc, _+_, _≤_, _<_}
 use mathlib.Core.Path.{_≡_, refl, sym, ap, subst, _∙_}
-use mathlib.Core.List.{List, [], _∷_, _++_, map, map-append, append-nil}
+use mathlib.Core.List.{List, [], _∷_, _++_, map, map-append}
 use native.Mathlib.Omega.{arith}
-use lib.ListN.{length, take, drop, getD, length-map, drop-of-length-le}
+use lib.ListN.{length, take, getD, length-map, drop-of-length-le}
 use lib.Seq.{take-all, take-suc, length-take-le}
 use Rattle.regions.specs.declared.Row.{Row}
 use Rattle.regions.specs.declared.Conn.{Conn}
 use Rattle.regions.specs.Regions.{insertAt}
 use Rattle.machine.specs.Typed.{Each}
-use Rattle.store.specs.Flat.{Flat, ownBit, tally}
+use Rattle.store.specs.Flat.{Flat, tally}
 use Rattle.store.specs.Image.{Shows}
 use Rattle.store.specs.Shown.{limitIn, rowsIn, connsIn, Light, Shown, withConns, Turns}
 use Rattle.store.proofs.Frame.{sizes, shown}

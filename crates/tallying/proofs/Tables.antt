@@ -1,10 +1,10 @@
 -- The entries of a region, counted one after the other into the table at their front.
-use Prim.Native.Nat.{ℕ, zero, suc, _+_, _-_, _*_, _%_, _≤_, _<_}
+use Prim.Native.Nat.{ℕ, suc, _+_, _-_, _*_, _%_, _≤_, _<_}
 use mathlib.Core.Path.{_≡_, refl, sym, ap, subst, _∙_}
 use mathlib.Core.Bool.{Bool, true, false}
-use mathlib.Core.List.{List, [], _∷_, _++_, map, map-append}
+use mathlib.Core.List.{List, [], _∷_, _++_, map-append}
 use native.Mathlib.Omega.{arith}
-use lib.ListN.{length, take, drop, getD, set, replicate, length-append, length-set, length-map, length-drop}
+use lib.ListN.{length, take, drop, getD, set, replicate, length-append, length-set, length-map}
 use lib.Seq.{take-at, take-all, length-take-le, getD-take, getD-drop, drop-drop, drop-append-add, drop-set-lt, set-append-left}
 use Rattle.words.specs.Words.{recs, splice}
 use Rattle.words.proofs.Records.{take-recs}

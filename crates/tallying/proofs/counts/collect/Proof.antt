@@ -6,7 +6,6 @@ use lib.ListN.{length}
 use Rattle.words.specs.Words.{words}
 use Rattle.words.proofs.Words.{length-words}
 use Rattle.tallying.proofs.Tables.{Collecting, collecting-none, collecting-more, collecting-next, collecting-done}
-use borrow.Author.Needs.{needs}
 use Rattle.tallying.proofs.counts.collect.Statement.{statement}
 use Rattle.tallying.proofs.counts.collect.Tie as tie
 
