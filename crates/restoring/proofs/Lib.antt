@@ -1,0 +1,2 @@
+pub mod ParentLists
+pub mod Appending
