@@ -10,8 +10,8 @@ use Rattle.regions.specs.Regions.{insertAt}
 use Rattle.places.specs.Places.{Place, blank, withCombined, withWtxids, withParents}
 use Rattle.store.specs.Flat.{Flat}
 use Rattle.store.specs.Image.{Shows}
-use Rattle.store.specs.Shown.{rowsIn, placesIn, heldPlacesIn, Shown, withRows, withPlaces, Turns}
-use Rattle.store.proofs.Frame.{sizes, shown}
+use Rattle.store.specs.Shown.{rowsIn, placesIn, heldPlacesIn, Sized, Shown, withRows, withPlaces, Turns}
+use Rattle.store.proofs.Frame.{sizes}
 use Rattle.store.proofs.RowsAt.{insert-seam}
 use Rattle.package_stages.specs.Records.{NoWtxids, ListedIn}
 use Rattle.restoring.specs.Given.{Appends, NoParents, ParentsIn}
@@ -21,9 +21,10 @@ insert-end : {A : Type 0} (l : List A) (i : ℕ) (x : A) → i ≡ length l → 
 insert-end l i x e =
     ap (λ (j : ℕ). insertAt j x l) e ∙ ap (insertAt (length l) x) (sym (append-nil l)) ∙ insert-seam l x []
 
-pub row-added : {b b′ : List ℕ} {n : ℕ} (r : Row) → ((f : Flat) → Shows b f → n ≡ length (f .rows)) → Turns b b′ (λ f. withRows (insertAt n r (f .rows)) f)
+pub row-added : {b b′ : List ℕ} {n : ℕ} {x : Row} (r : Row) → x ≡ r → ((f : Flat) → Shows b f → n ≡ length (f .rows)) → Turns b b′ (λ f. withRows (insertAt n x (f .rows)) f)
     → Turns b b′ (λ f. withRows (f .rows ++ (r ∷ [])) f)
-row-added {b} {b′} {n} r e turn f h = subst (λ (rs : List Row). Shows b′ (withRows rs f)) (insert-end (f .rows) n r (e f h)) (turn f h)
+row-added {b} {b′} {n} r x e turn f h =
+    subst (λ (rs : List Row). Shows b′ (withRows rs f)) (ap (λ (y : Row). insertAt n y (f .rows)) x ∙ insert-end (f .rows) n r (e f h)) (turn f h)
 
 -- ---- a place
 
@@ -35,17 +36,20 @@ module _ {b b₁ : List ℕ} {n : ℕ} (z : Shown b) (room : heldPlacesIn b < pl
   abbrev flat : Flat
   flat = withPlaces (z .flat .places ++ (p ∷ [])) (z .flat)
 
-  there : Shows b₁ flat
+  pub there : Shows b₁ flat
   there = a (z .flat) (z .shows)
 
   longer : length (z .flat .places ++ (p ∷ [])) ≡ length (z .flat .places) + 1
   longer = length-append (z .flat .places) (p ∷ [])
 
-  pub last-shown : Shown b₁
-  last-shown =
+  pub last-sized : Sized flat
+  last-sized =
       let y = z .sized in
       let x = z .sizes in
-      shown there (record { limit = y .limit; places = y .places; rows-few = y .rows-few; conns-few = y .conns-few; places-few = omega (arith, longer, room, x .places, x .held-places) }) (z .light)
+      record { limit = y .limit; places = y .places; rows-few = y .rows-few; conns-few = y .conns-few; places-few = omega (arith, longer, room, x .places, x .held-places) }
+
+  abbrev pub last-shown : Shown b₁
+  last-shown = record { flat = flat; shows = there; sizes = sizes there; sized = last-sized; light = z .light }
 
   pub last-inside : n < heldPlacesIn b₁
   last-inside = let x = sizes there in omega (arith, longer, x .held-places, e (z .flat) (z .shows))

@@ -1,2 +1,4 @@
+pub mod Headers
+pub mod LineFields
 pub mod ParentLists
 pub mod Appending

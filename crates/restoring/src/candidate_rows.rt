@@ -62,8 +62,10 @@ fn row_of(r: Request, c: Candidate) -> regions::Row
     let n = c.connection;
     let o = r.owner;
     let hash = r.hash;
-    let kind = kind_bit(r.kind);
-    let witness = witness_bit(c.kind);
+    let k = r.kind;
+    let t = c.kind;
+    let kind = kind_bit(k);
+    let witness = witness_bit(t);
     let preferred = bit(c.preferred);
     let owns = bit(is_owner(o, n));
     let mark = bit(r.mark);
