@@ -2,3 +2,4 @@ pub mod Headers
 pub mod LineFields
 pub mod ParentLists
 pub mod Appending
+pub mod Walking

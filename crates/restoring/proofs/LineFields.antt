@@ -204,16 +204,16 @@ front-few n ws l m = omega (arith, ap length (front-hashes n ws (omega arith)), 
 
 -- the place behind the others
 pub placed : {b b′ : List ℕ} (ws ps : List ℕ) (q : line-request.Request) (z : PlaceRoom b (requestIn ws ps q)) (g : (q .info || q .packed .held) ≡ true) → listRoom ≤ length ws → listRoom ≤ length ps
-    → {c : Quad} {v n : ℕ} → ((us : List ℕ) → quadNumber c ≡ combinedFor (packageOf us (q .packed))) → ((us : List ℕ) → v ≡ stageFor (packageOf us (q .packed)))
+    → {x v : ℕ} (n : ℕ) → ((us : List ℕ) → x ≡ combinedFor (packageOf us (q .packed))) → ((us : List ℕ) → v ≡ stageFor (packageOf us (q .packed)))
     → ((us : List ℕ) → hashesOf n us ≡ wtxidsFor (packageOf us (q .packed)))
-    → Appends b b′ (record { hash = quadNumber (q .hash); combined = quadNumber c; stage = v; wtxids = hashesIn (take (n * 32) ws); parents = hashesIn (take (q .parents * 32) ps) })
+    → Appends b b′ (record { hash = quadNumber (q .hash); combined = x; stage = v; wtxids = hashesIn (take (n * 32) ws); parents = hashesIn (take (q .parents * 32) ps) })
     → Turns b b′ (λ f. withPlaces (f .places ++ placesFor (requestIn ws ps q)) f)
-placed {b} {b′} ws ps q z g lw lp {c} {v} {n} ec ev en a f h =
+placed {b} {b′} ws ps q z g lw lp {x} {v} n ec ev en a f h =
     let mw = few-wtxids ws ps q z g (en ws) in
     let mp = few-parents ws ps q z g in
     let hw = front-hashes n ws (omega arith) ∙ en ws in
     let hp = front-hashes (q .parents) ps (omega arith) in
-    let same : _≡_ {A = Place} (record { hash = quadNumber (q .hash); combined = quadNumber c; stage = v; wtxids = hashesIn (take (n * 32) ws); parents = hashesIn (take (q .parents * 32) ps) })
+    let same : _≡_ {A = Place} (record { hash = quadNumber (q .hash); combined = x; stage = v; wtxids = hashesIn (take (n * 32) ws); parents = hashesIn (take (q .parents * 32) ps) })
     (placeOf ws ps q) = (λ i. record { hash = quadNumber (q .hash); combined = ec ws i; stage = ev ws i; wtxids = hw i; parents = hp i }) in
     subst (λ (x : List Place). Shows b′ (withPlaces (f .places ++ x) f)) (ap (λ (p : Place). p ∷ []) same ∙ sym (place-is ws ps q g)) (a f h)
 

@@ -44,7 +44,7 @@ append-place-requires c κs =
 returns : tie.Need-returns
 returns c =
     let a = c .before .before .before .before .before .before .before .before .before .before .before .before .before .before .before .before .before .before .args in
-    placed (a .wtxids .now) (a .parents .now) (a .r) (c .before .before .before .before .before .before .before .before .before .before .before .before .before .before .before .before .before .before .pre .0) (c .before .before .before .before .before .before .before .before .before .before .before .if1 .taken) (c .before .before .before .before .before .before .before .before .before .before .before .before .before .before .before .before .before .before .pre .1) (c .before .before .before .before .before .before .before .before .before .before .before .before .before .before .before .before .before .before .pre .2) (c .before .before .before .before .before .before .before .before .before .combined-of .ensures) (c .before .before .before .before .before .before .before .before .stage-of .ensures) (c .before .before .before .before .before .before .before .wtxid-count .ensures) (c .before .before .append-place .ensures)
+    placed (a .wtxids .now) (a .parents .now) (a .r) (c .before .before .before .before .before .before .before .before .before .before .before .before .before .before .before .before .before .before .pre .0) (c .before .before .before .before .before .before .before .before .before .before .before .if1 .taken) (c .before .before .before .before .before .before .before .before .before .before .before .before .before .before .before .before .before .before .pre .1) (c .before .before .before .before .before .before .before .before .before .before .before .before .before .before .before .before .before .before .pre .2) (c .before .before .before .before .before .before .before .wtxid-count .result) (c .before .before .before .before .before .before .before .before .before .combined-of .ensures) (c .before .before .before .before .before .before .before .before .stage-of .ensures) (c .before .before .before .before .before .before .before .wtxid-count .ensures) (c .before .before .append-place .ensures)
 
 returns-2 : tie.Need-returns-2
 returns-2 c = let a = c .before .before .before .before .before .before .before .args in not-placed (a .wtxids .now) (a .parents .now) (a .r) (c .if1 .left)
