@@ -16,37 +16,38 @@ abbrev μ-loop : tie.MeasureT-loop
 μ-loop text from s₀ wtxids₀ parents₀ r₀ at₀ s wtxids parents r at = length text - at
 
 loop-holds : tie.Need-loop-holds Inv-loop μ-loop
-loop-holds c = (@hash-room .ensures, @hash-room2 .ensures, walked-none (@no-request .result) (@pre .body .inside))
+loop-holds c = (c .before .before .hash-room .ensures, c .before .hash-room2 .ensures, walked-none (c .no-request .result) (c .before .before .before .before .before .pre .body .inside))
 
 slice-aggregate-line-at : tie.Need-slice-aggregate-line-at Inv-loop μ-loop
-slice-aggregate-line-at c = sym (@loop .inv .0)
+slice-aggregate-line-at c = sym (c .before .before .loop .inv .0)
 
 slice-aggregate-line-at-2 : tie.Need-slice-aggregate-line-at-2 Inv-loop μ-loop
-slice-aggregate-line-at-2 c = sym (@loop .inv .1)
+slice-aggregate-line-at-2 c = sym (c .before .before .before .loop .inv .1)
 
 line-at-requires : tie.Need-line-at-requires Inv-loop μ-loop
-line-at-requires c κs = (@loop-test .taken, omega (arith, @loop .inv .0), omega (arith, @loop .inv .1))
+line-at-requires c κs = (c .before .before .loop-test .taken, omega (arith, c .before .before .before .loop .inv .0), omega (arith, c .before .before .before .loop .inv .1))
 
 slice-aggregate-take-line : tie.Need-slice-aggregate-take-line Inv-loop μ-loop
-slice-aggregate-take-line c = ?
+slice-aggregate-take-line c = sym (c .before .before .before .before .line-at .kept .1 .1 .0 ∙ c .before .before .before .before .before .before .before .before .loop .inv .0)
 
 slice-aggregate-take-line-2 : tie.Need-slice-aggregate-take-line-2 Inv-loop μ-loop
-slice-aggregate-take-line-2 c = ?
+slice-aggregate-take-line-2 c = sym (c .before .before .before .before .before .line-at .kept .1 .1 .1 .0 ∙ c .before .before .before .before .before .before .before .before .before .loop .inv .1)
 
 take-line-requires : tie.Need-take-line-requires Inv-loop μ-loop
-take-line-requires c κs = walked-room (@loop .inv .2) (@pre) (@line-at .ensures) ? ?
+take-line-requires c κs = walked-room (c .before .before .before .before .before .before .before .before .before .loop .inv .2) (c .before .before .before .before .before .before .before .before .before .before .before .before .before .before .before .pre) (c .before .before .before .before .before .line-at .ensures)
+    (omega (arith, c .before .before .before .before .before .line-at .kept .1 .1 .0, c .before .before .before .before .before .before .before .before .before .loop .inv .0)) (omega (arith, c .before .before .before .before .before .line-at .kept .1 .1 .1 .0, c .before .before .before .before .before .before .before .before .before .loop .inv .1))
 
 loop-less : tie.Need-loop-less Inv-loop μ-loop
-loop-less c = omega (arith, @line-at .ensures .on, @line-at .ensures .inside)
+loop-less c = omega (arith, c .before .before .before .before .before .before .before .before .line-at .ensures .on, c .before .before .before .before .before .before .before .before .line-at .ensures .inside)
 
 loop-again : tie.Need-loop-again Inv-loop μ-loop
-loop-again c = (?, ?, walked-on (@loop .inv .2) (@line-at .ensures) (@take-line .ensures) (@take-line .kept .0))
+loop-again c = (c .before .before .before .before .before .before .before .before .line-at .kept .1 .1 .0 ∙ c .before .before .before .before .before .before .before .before .before .before .before .before .loop .inv .0, c .before .before .before .before .before .before .before .before .line-at .kept .1 .1 .1 .0 ∙ c .before .before .before .before .before .before .before .before .before .before .before .before .loop .inv .1, walked-on (c .before .before .before .before .before .before .before .before .before .before .before .before .loop .inv .2) (c .before .before .before .before .before .before .before .before .line-at .ensures) (c .before .before .take-line .ensures) (c .before .before .take-line .kept .0))
 
 same-length : tie.Need-same-length Inv-loop μ-loop
-same-length c = @loop .inv .2 .long
+same-length c = c .before .loop .inv .2 .long
 
 returns : tie.Need-returns Inv-loop μ-loop
-returns c = walked-all (@loop .inv .2) (omega (arith, @loop-test .left))
+returns c = walked-all (c .before .loop .inv .2) (omega (arith, c .loop-test .left))
 
 pub put-lines-spec : {M : Type 1} → statement M
 put-lines-spec =
