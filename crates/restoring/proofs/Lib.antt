@@ -4,3 +4,4 @@ pub mod ParentLists
 pub mod Appending
 pub mod TakingLines
 pub mod Walking
+pub mod Wholes

@@ -7,18 +7,19 @@ use mathlib.Core.Bool.{Bool, true, false}
 use lib.ListN.{length, getD, set}
 use Rattle.regions.specs.declared.Row.{Row}
 use Rattle.places.specs.Places.{Place, PlaceShort, withParents}
-use Rattle.machine.specs.State.{Package, Request, State}
+use Rattle.machine.specs.State.{Package, Request, State, onTable}
 use Rattle.machine.specs.Sound.{Sound}
 use Rattle.machine.specs.Table.{one}
 use Rattle.machine.specs.Typed.{Each}
 use Rattle.machine.specs.Listing.{readListing}
 use Rattle.store.specs.Flat.{Flat, headOf, flatOf, rowOf, placesFor}
-use Rattle.store.specs.Image.{Shows, needOf}
+use Rattle.store.specs.Image.{Shows, Writes, needOf}
 use Rattle.store.specs.Shown.{limitIn, rowsIn, placesIn, heldPlacesIn, Shown, withConns, withPlaces, Turns}
+use Rattle.listed_lines.specs.declared.line.Head as line-head
 use Rattle.listed_lines.specs.declared.line.Request as line-request
 use Rattle.listed_lines.specs.declared.line.Line as line-line
 use Rattle.listed_lines.specs.declared.line.Line.the-variants.{Not as NoLine, Head as IsHead, Request as IsRequest, Candidate as IsCandidate}
-use Rattle.listed_lines.specs.Given.{listRoom, requestIn, candidateIn}
+use Rattle.listed_lines.specs.Given.{listRoom, headState, requestIn, candidateIn}
 use Rattle.listed_form.specs.Given.{Body, requestsOnly}
 
 -- ---- a place
@@ -110,6 +111,18 @@ pub record Headed (text : List ℕ) (e : ℕ) (b : List ℕ) : Type 0 where
   pub shows : Shows b (bare state)
 
 -- ---- the whole
+
+-- the lines from index e on, behind the first line h, list a sound state, which needs n bytes
+pub record Readable (text : List ℕ) (h : line-head.Head) (e n : ℕ) : Type 0 where
+  pub state : State
+  pub head : state ≡ onTable (state .table) (headState h)
+  pub body : Body text e (requestsOnly (state .table))
+  pub sound : Sound state
+  pub needs : n ≡ needOf state
+
+-- the bytes b write the state that they list
+abbrev pub Restored : List ℕ → line-head.Head → ℕ → List ℕ → Type 0
+Restored text h e b = (st : State) → Sound st → st ≡ onTable (st .table) (headState h) → Body text e (requestsOnly (st .table)) → Writes b st
 
 -- the text is the listing of a sound state, which needs n bytes
 pub record SoundListing (text : List ℕ) (n : ℕ) : Type 0 where

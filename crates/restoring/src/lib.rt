@@ -3,14 +3,19 @@
 // The lines come into the store in their own order: each candidate's row and each request's place behind those that are there, so that nothing
 // moves. The connections are counted at the end. As in `store`, bytes are spoken of as lists of records: `Turns`, `Shows`.
 use listed_lines::hash_lists::hash_room;
+use listed_lines::line::Head;
 use listed_lines::line::Line;
 use listed_lines::line::Request;
 use listed_lines::line::line_at;
+ghost use mathlib.Core.Path.{_≡_};
+ghost use mathlib.Core.Option.{some};
+ghost use lib.ListN.{length};
 ghost use Rattle.machine.specs.State.{State};
 ghost use Rattle.machine.specs.Sound.{Sound};
-ghost use Rattle.store.specs.Image.{Shows};
+ghost use Rattle.machine.specs.Listing.{readListing};
+ghost use Rattle.store.specs.Image.{Shows, Writes};
 ghost use Rattle.listed_form.specs.Given.{Body, requestsOnly};
-ghost use Rattle.restoring.specs.Given.{LineRoom, TakesLine, bare, untallied, Headed};
+ghost use Rattle.restoring.specs.Given.{LineRoom, TakesLine, bare, untallied, Headed, Readable, Restored, SoundListing};
 
 pub mod candidate_rows;
 pub mod head_fields;
@@ -80,5 +85,33 @@ fn put_lines(text: &[u8], from: usize, s: &mut [u8])
         at = l.end;
         let line = l.line;
         r = take_line(s, r, line, &wtxids, &parents);
+    }
+}
+
+// The state whose first line is h and whose other lines begin at an index, into any bytes of its need.
+pub fn write_from(text: &[u8], h: Head, from: usize, s: &mut [u8])
+    requires { ⌜ Readable (now text) h from (length (now s)) ⌝ }
+    ensures { λ _. ⌜ Restored (now (text .entry)) h from (now (s .exit)) ⌝ }
+{
+    head_fields::put_head(s, h);
+    put_lines(text, from, s);
+    tallying::tally_rows(s);
+}
+
+// The state that the text lists, into any bytes of its need.
+pub fn write(text: &[u8], s: &mut [u8])
+    requires { ⌜ SoundListing (now text) (length (now s)) ⌝ }
+    ensures { λ _. ⌜ ((st : State) → readListing (now (text .entry)) ≡ some st → Writes (now (s .exit)) st) ⌝ }
+{
+    let mut wtxids = hash_room();
+    let mut parents = hash_room();
+    let first = line_at(text, 0, &mut wtxids, &mut parents);
+    let from = first.end;
+    let line = first.line;
+    match line {
+        Line::Not => {}
+        Line::Head(h) => write_from(text, h, from, s),
+        Line::Request(_) => {}
+        Line::Candidate(_) => {}
     }
 }
