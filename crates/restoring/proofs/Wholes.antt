@@ -33,11 +33,11 @@ head-fits {h = h} z =
     (omega (arith, l, z .sound .most-limit), omega (arith, q, z .sound .most-places), z .needs ∙ (λ i. need (l i) (q i)))
 
 -- the header of a state is that of its first line
-state-bare : {b : List ℕ} {h : line-head.Head} (st : State) → st ≡ onTable (st .table) (headState h) → Shows b (bare (headState h)) → Shows b (bare st)
-state-bare {b} st e x = subst (λ (s : State). Shows b (bare s)) (sym e) x
+state-bare : {b : List ℕ} (h : line-head.Head) (st : State) → st ≡ onTable (st .table) (headState h) → Shows b (bare (headState h)) → Shows b (bare st)
+state-bare {b} h st e x = subst (λ (s : State). Shows b (bare s)) (sym e) x
 
 pub head-there : {text b : List ℕ} {h : line-head.Head} {e n : ℕ} → Readable text h e n → Shows b (bare (headState h)) → Headed text e b
-head-there z x = record { state = z .state; sound = z .sound; body = z .body; shows = state-bare (z .state) (z .head) x }
+head-there {h = h} z x = record { state = z .state; sound = z .sound; body = z .body; shows = state-bare h (z .state) (z .head) x }
 
 -- what stands before the connections are counted
 module _ {b : List ℕ} (st : State) (s : Sound st) (x : Shows b (untallied st)) where
@@ -55,13 +55,13 @@ module _ {b : List ℕ} (st : State) (s : Sound st) (x : Shows b (untallied st))
   no-conns = (sizes x) .conns
 
 -- the store when all lines are in it
-module _ {text b₀ b₁ b₂ : List ℕ} {h : line-head.Head} {e : ℕ} (x : Shows b₀ (bare (headState h)))
+module _ {text b₀ b₁ : List ℕ} (h : line-head.Head) {e : ℕ} (x : Shows b₀ (bare (headState h)))
     (lines : (st : State) → Sound st → Body text e (requestsOnly (st .table)) → Shows b₀ (bare st) → Shows b₁ (untallied st)) where
   pub lines-there : {n : ℕ} → (z : Readable text h e n) → Shows b₁ (untallied (z .state))
-  lines-there z = lines (z .state) (z .sound) (z .body) (state-bare (z .state) (z .head) x)
+  lines-there z = lines (z .state) (z .sound) (z .body) (state-bare h (z .state) (z .head) x)
 
-  pub restored : Turns b₁ b₂ (λ f. withConns (tally (f .rows)) f) → Restored text h e b₂
-  restored turn st s d y = turn (untallied st) (lines st s y (state-bare st d x))
+  pub restored : {b₂ : List ℕ} → Turns b₁ b₂ (λ f. withConns (tally (f .rows)) f) → Restored text h e b₂
+  restored turn st s d y = turn (untallied st) (lines st s y (state-bare h st d x))
 
 -- ---- the first line
 
@@ -88,7 +88,7 @@ no-candidate c none = refl
 no-candidate c (some ls) = refl
 
 -- what the first line leaves to the others
-record First (b : List ℕ) (h : line-head.Head) (e : ℕ) (st : State) : Type 0 where
+pub record First (b : List ℕ) (h : line-head.Head) (e : ℕ) (st : State) : Type 0 where
   pub head : st ≡ onTable (st .table) (headState h)
   pub body : Body b e (requestsOnly (st .table))
 
