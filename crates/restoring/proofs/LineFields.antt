@@ -183,7 +183,8 @@ front-hashes n ws l =
     let m : length (take (n * 32) ws) ≡ n * 32 = length-take-le (n * 32) ws l in
     let k : length (take (n * 32) ws) / hashBytes ≡ n = omega (arith, m) in
     let s : n * 32 ≡ hashBytes * n = omega arith in
-    ap (λ (j : ℕ). recs hashBytes (number 256) j (take (n * 32) ws)) k ∙ ap (λ (j : ℕ). recs hashBytes (number 256) n (take j ws)) s ∙ recs-take hashBytes (number 256) n ws (omega (arith, l))
+    ap (λ (j : ℕ). recs hashBytes (number 256) j (take (n * 32) ws)) k ∙ ap (λ (j : ℕ). recs hashBytes (number 256) n (take j ws)) s ∙ recs-take hashBytes (number 256) n ws
+    (omega (arith, l))
 
 -- how long the lists are, and that there is room
 module _ {b : List ℕ} (ws ps : List ℕ) (q : line-request.Request) (z : PlaceRoom b (requestIn ws ps q)) (g : (q .info || q .packed .held) ≡ true) where
@@ -203,7 +204,8 @@ pub front-few : (n : ℕ) (ws : List ℕ) → n ≤ listMost → listRoom ≤ le
 front-few n ws l m = omega (arith, ap length (front-hashes n ws (omega arith)), length-recs hashBytes (number 256) n ws)
 
 -- the place behind the others
-pub placed : {b b′ : List ℕ} (ws ps : List ℕ) (q : line-request.Request) (z : PlaceRoom b (requestIn ws ps q)) (g : (q .info || q .packed .held) ≡ true) → listRoom ≤ length ws → listRoom ≤ length ps
+pub placed : {b b′ : List ℕ} (ws ps : List ℕ) (q : line-request.Request) (z : PlaceRoom b (requestIn ws ps q))
+    (g : (q .info || q .packed .held) ≡ true) → listRoom ≤ length ws → listRoom ≤ length ps
     → {x v : ℕ} (n : ℕ) → ((us : List ℕ) → x ≡ combinedFor (packageOf us (q .packed))) → ((us : List ℕ) → v ≡ stageFor (packageOf us (q .packed)))
     → ((us : List ℕ) → hashesOf n us ≡ wtxidsFor (packageOf us (q .packed)))
     → Appends b b′ (record { hash = quadNumber (q .hash); combined = x; stage = v; wtxids = hashesIn (take (n * 32) ws); parents = hashesIn (take (q .parents * 32) ps) })

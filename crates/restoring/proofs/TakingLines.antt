@@ -54,4 +54,5 @@ module _ {b ws ps : List ℕ} {r : line-request.Request} {l : line-line.Line} wh
   pub takes-candidate : {b′ : List ℕ} {c : line-candidate.Candidate} → l ≡ IsCandidate c → Turns b b′ (λ f. withRows (f .rows ++ (rowOf (requestIn [] [] r) (candidateIn c) ∷ [])) f)
       → TakesLine b b′ ws ps r l r
   takes-candidate {b′} {c} e t = taking (IsCandidate c) e refl (λ f h.
-      subst (λ (x : List Place). Shows b′ (record { head = f .head; rows = f .rows ++ (rowOf (requestIn [] [] r) (candidateIn c) ∷ []); conns = f .conns; places = x })) (sym (append-nil (f .places))) (t f h))
+      subst (λ (x : List Place). Shows b′ (record { head = f .head; rows = f .rows ++ (rowOf (requestIn [] [] r) (candidateIn c) ∷ []); conns = f .conns; places = x }))
+      (sym (append-nil (f .places))) (t f h))

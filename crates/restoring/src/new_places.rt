@@ -44,7 +44,12 @@ fn append_place(
 )
     requires { ⌜ Shown (now s) × (heldPlacesIn (now s) < placesIn (now s)) × (length (hashesIn (now wtxids)) ≤ listMost) × (length (hashesIn (now parents)) ≤ listMost) ⌝ }
     ensures { λ _. ⌜ Appends (now (s .entry)) (now (s .exit)) (record {
-        hash = quadNumber hash; combined = quadNumber combined; stage = stage; wtxids = hashesIn (now (wtxids .entry)); parents = hashesIn (now (parents .entry)) }) ⌝ }
+      hash = quadNumber hash;
+      combined = quadNumber combined;
+      stage = stage;
+      wtxids = hashesIn (now (wtxids .entry));
+      parents = hashesIn (now (parents .entry));
+    }) ⌝ }
 {
     let i = store::head::held_places(s);
     store::package_places::open_place(s, i, hash, stage);

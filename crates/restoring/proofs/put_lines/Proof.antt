@@ -31,17 +31,24 @@ slice-aggregate-take-line : tie.Need-slice-aggregate-take-line Inv-loop μ-loop
 slice-aggregate-take-line c = sym (c .before .before .before .before .line-at .kept .1 .1 .0 ∙ c .before .before .before .before .before .before .before .before .loop .inv .0)
 
 slice-aggregate-take-line-2 : tie.Need-slice-aggregate-take-line-2 Inv-loop μ-loop
-slice-aggregate-take-line-2 c = sym (c .before .before .before .before .before .line-at .kept .1 .1 .1 .0 ∙ c .before .before .before .before .before .before .before .before .before .loop .inv .1)
+slice-aggregate-take-line-2 c = sym
+    (c .before .before .before .before .before .line-at .kept .1 .1 .1 .0 ∙ c .before .before .before .before .before .before .before .before .before .loop .inv .1)
 
 take-line-requires : tie.Need-take-line-requires Inv-loop μ-loop
-take-line-requires c κs = walked-room (c .before .before .before .before .before .before .before .before .before .loop .inv .2) (c .before .before .before .before .before .before .before .before .before .before .before .before .before .before .before .pre) (c .before .before .before .before .before .line-at .ensures)
-    (omega (arith, c .before .before .before .before .before .line-at .kept .1 .1 .0, c .before .before .before .before .before .before .before .before .before .loop .inv .0)) (omega (arith, c .before .before .before .before .before .line-at .kept .1 .1 .1 .0, c .before .before .before .before .before .before .before .before .before .loop .inv .1))
+take-line-requires c κs =
+    let inv = c .before .before .before .before .before .before .before .before .before .loop .inv in
+    let l = c .before .before .before .before .before .line-at in
+    walked-room (inv .2) (c .before .before .before .before .before .before .before .before .before .before .before .before .before .before .before .pre) (l .ensures)
+    (omega (arith, l .kept .1 .1 .0, inv .0)) (omega (arith, l .kept .1 .1 .1 .0, inv .1))
 
 loop-less : tie.Need-loop-less Inv-loop μ-loop
-loop-less c = omega (arith, c .before .before .before .before .before .before .before .before .line-at .ensures .on, c .before .before .before .before .before .before .before .before .line-at .ensures .inside)
+loop-less c = let l = c .before .before .before .before .before .before .before .before .line-at in omega (arith, l .ensures .on, l .ensures .inside)
 
 loop-again : tie.Need-loop-again Inv-loop μ-loop
-loop-again c = (c .before .before .before .before .before .before .before .before .line-at .kept .1 .1 .0 ∙ c .before .before .before .before .before .before .before .before .before .before .before .before .loop .inv .0, c .before .before .before .before .before .before .before .before .line-at .kept .1 .1 .1 .0 ∙ c .before .before .before .before .before .before .before .before .before .before .before .before .loop .inv .1, walked-on (c .before .before .before .before .before .before .before .before .before .before .before .before .loop .inv .2) (c .before .before .before .before .before .before .before .before .line-at .ensures) (c .before .before .take-line .ensures) (c .before .before .take-line .kept .0))
+loop-again c =
+    let inv = c .before .before .before .before .before .before .before .before .before .before .before .before .loop .inv in
+    let l = c .before .before .before .before .before .before .before .before .line-at in
+    (l .kept .1 .1 .0 ∙ inv .0, l .kept .1 .1 .1 .0 ∙ inv .1, walked-on (inv .2) (l .ensures) (c .before .before .take-line .ensures) (c .before .before .take-line .kept .0))
 
 same-length : tie.Need-same-length Inv-loop μ-loop
 same-length c = c .before .loop .inv .2 .long

@@ -5,10 +5,12 @@ use Rattle.restoring.proofs.take_line.Statement.{statement}
 use Rattle.restoring.proofs.take_line.Tie as tie
 
 add-place-requires : tie.Need-add-place-requires
-add-place-requires c κs = (place-room (c .before .before .before .before .before .before .before .pre) (c .before .before .l .given .1), c .before .before .before .before .before .before .before .pre .wtxids, c .before .before .before .before .before .before .before .pre .parents)
+add-place-requires c κs = let start : tie.Start = c .before .before .before .before .before .before .before in
+    (place-room (start .pre) (c .before .before .l .given .1), start .pre .wtxids, start .pre .parents)
 
 add-candidate-requires : tie.Need-add-candidate-requires
-add-candidate-requires c κs = (c .before .before .before .before .before .before .before .pre .is-shown, row-room (c .before .before .before .before .before .before .before .pre) (c .before .before .l2 .given .1))
+add-candidate-requires c κs = let start : tie.Start = c .before .before .before .before .before .before .before in
+    (start .pre .is-shown, row-room (start .pre) (c .before .before .l2 .given .1))
 
 returns : tie.Need-returns
 returns c = takes-not (c .enum-told .given .1)

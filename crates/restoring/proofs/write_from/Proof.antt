@@ -12,12 +12,16 @@ put-lines-requires c κs = head-there (c .before .before .before .before .before
 
 tally-rows-requires : tie.Need-tally-rows-requires
 tally-rows-requires c κs =
-    let z = c .before .before .before .before .before .before .before .before .before .before .before .pre in
-    let x = lines-there (c .before .before .before .before .before .before .before .before .before .before .before .args .h) (c .before .before .before .before .before .before .before .put-head .ensures) (c .before .before .before .put-lines .ensures) z in
+    let start : tie.Start = c .before .before .before .before .before .before .before .before .before .before .before in
+    let z = start .pre in
+    let x = lines-there (start .args .h) (c .before .before .before .before .before .before .before .put-head .ensures) (c .before .before .before .put-lines .ensures) z in
     (lines-shown (z .state) (z .sound) x, no-conns (z .state) (z .sound) x)
 
 returns : tie.Need-returns
-returns c = restored (c .before .before .before .before .before .before .before .before .before .before .before .before .before .before .args .h) (c .before .before .before .before .before .before .before .before .before .before .put-head .ensures) (c .before .before .before .before .before .before .put-lines .ensures) (c .before .before .tally-rows .ensures)
+returns c =
+    let start : tie.Start = c .before .before .before .before .before .before .before .before .before .before .before .before .before .before in
+    restored (start .args .h) (c .before .before .before .before .before .before .before .before .before .before .put-head .ensures)
+    (c .before .before .before .before .before .before .put-lines .ensures) (c .before .before .tally-rows .ensures)
 
 pub write-from-spec : {M : Type 1} → statement M
 write-from-spec = tie.close (tie.spec put-head-requires put-lines-requires tally-rows-requires (λ c. search needs) returns)

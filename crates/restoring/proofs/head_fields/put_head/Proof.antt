@@ -12,8 +12,13 @@ write-requires c κs = omega (arith, c .before .before .before .before .before .
 
 returns : tie.Need-returns
 returns c =
-    headed (c .before .before .before .before .before .before .before .before .before .before .before .before .args .h) (record { next = c .before .before .before .before .before .before .time-of .result; known = c .before .before .before .before .before .stored-of .result; ready = c .before .before .before .before .stored-of2 .result }) (c .before .before .before .before .before .before .before .before .before .fill .ensures) (c .before .before .write .kept .0) (c .before .before .write .ensures)
-    (c .before .before .before .before .before .before .time-of .ensures) (c .before .before .before .before .before .stored-of .ensures) (c .before .before .before .before .stored-of2 .ensures)
+    let known = c .before .before .before .before .before .stored-of in
+    let ready = c .before .before .before .before .stored-of2 in
+    let next = c .before .before .before .before .before .before .time-of in
+    headed (c .before .before .before .before .before .before .before .before .before .before .before .before .args .h)
+    (record { next = next .result; known = known .result; ready = ready .result })
+    (c .before .before .before .before .before .before .before .before .before .fill .ensures) (c .before .before .write .kept .0) (c .before .before .write .ensures) (next .ensures)
+    (known .ensures) (ready .ensures)
 
 pub put-head-spec : {M : Type 1} → statement M
 put-head-spec =
