@@ -5,3 +5,4 @@ pub mod Counted
 pub mod Fitting
 pub mod Gathering
 pub mod Repeats
+pub mod Judging

@@ -3,7 +3,9 @@ use Prim.Native.Nat.{ℕ}
 use mathlib.Core.Path.{_≡_, refl, sym, ap, _∙_}
 use mathlib.Core.List.{List, [], _∷_}
 use mathlib.Core.Option.{Option, none, some}
-use Rattle.machine.specs.State.{isSome}
+use native.Mathlib.Omega.{arith}
+use lib.ListN.{length}
+use Rattle.machine.specs.State.{Table, isSome}
 use Rattle.machine.specs.Listing.{Line, HeadLine, RequestLine, CandidateLine}
 use Rattle.machine.proofs.Tests.{never}
 use Rattle.listed_lines.specs.declared.line.Line as line-line
@@ -15,8 +17,11 @@ use Rattle.listed_lines.specs.declared.line.CandidateIn.{CandidateIn}
 use Rattle.listed_lines.specs.declared.line.CandidateIn.the-variants.{Not as NoCandidate, Is as IsCandidate}
 use Rattle.listed_lines.specs.declared.line.RequestIn.{RequestIn}
 use Rattle.listed_lines.specs.declared.line.RequestIn.the-variants.{Not as NoRequest, Is as IsRequest}
-use Rattle.listed_lines.specs.Given.{requestLine, candidateLine, requestIn, candidateIn, lineIn}
-use Rattle.listed_requests.specs.Given.{candidateOnly, requestOnly, CandidateOf, RequestOf}
+use Rattle.listed_lines.specs.declared.line.LineAt.{LineAt}
+use Rattle.listed_lines.specs.Given.{requestLine, candidateLine, requestIn, candidateIn, lineIn, LineRead}
+use Rattle.listed_form.specs.Given.{Body, requestsOnly}
+use Rattle.listed_form.proofs.Stepping.{after-candidate, after-request, no-bad-line, no-head-line}
+use Rattle.listed_requests.specs.Given.{candidateOnly, requestOnly, CandidateOf, RequestOf, NextRequest}
 
 module _ {l : line-line.Line} where
   pub no-candidate : l ≡ Not → CandidateOf l NoCandidate
@@ -68,3 +73,19 @@ module _ {l : line-line.Line} where
 
   pub not-request : {r : RequestIn} → RequestOf l r → r ≡ NoRequest → (ws ps : List ℕ) → requestOnly (lineIn ws ps l) ≡ none
   not-request {r} f e ws ps = sym (f .is ws ps) ∙ ap (λ (x : RequestIn). requestLine ws ps x) e
+
+-- ---- the request that is listed at an index
+
+pub next-request : {b ws ps : List ℕ} {at : ℕ} {l : LineAt} {r : RequestIn} → LineRead b at ws ps l → RequestOf (l .line) r → NextRequest b at ws ps (record { line = r; end = l .end })
+next-request {b} {ws} {ps} {at} {l} {r} p f = record {
+  on = p .on;
+  inside = p .inside;
+  none = λ e t y. none-there (lineIn ws ps (l .line)) refl (not-request f e ws ps) y;
+  is = λ q e t y. let z = after-request p y (requestIn ws ps q) (request-there f e ws ps) in record { candidates = z .candidates; table = z .table; parts = z .parts; body = z .body };
+}
+  where
+    none-there : (x : Option Line) → lineIn ws ps (l .line) ≡ x → requestOnly x ≡ none → {t : Table} → Body b at (requestsOnly t) → ⊥
+    none-there none d n y = no-bad-line p y d
+    none-there (some (HeadLine s)) d n y = no-head-line p y d
+    none-there (some (RequestLine q)) d n y = never (sym (ap isSome n))
+    none-there (some (CandidateLine c)) d n y = let z = ap length (after-candidate p y c d .parts) in omega arith

@@ -1,24 +1,32 @@
 -- What the contracts of the passes over a listing's requests say.
 use Prim.Native.Nat.{ℕ, _+_, _<_, _≤_}
 use mathlib.Core.Path.{_≡_}
-use mathlib.Core.Bool.{Bool, true, false}
-use mathlib.Core.List.{List, _++_}
+use mathlib.Core.Bool.{Bool, true, false, _&&_}
+use mathlib.Core.List.{List, _∷_, _++_}
 use mathlib.Core.Option.{Option, none, some}
+use lib.Dec.{eqb}
 use lib.ListN.{length, take}
 use Rattle.ident.specs.declared.Kind.{Kind}
+use Rattle.ident.specs.declared.Kind.the-variants.{Wtxid}
 use Rattle.ident.specs.Number.{Key}
 use Rattle.regions.specs.declared.Quad.{Quad}
 use Rattle.regions.specs.Rows.{quadNumber}
-use Rattle.machine.specs.Claim.{sameKind}
-use Rattle.machine.specs.Listing.{Line, HeadLine, RequestLine, CandidateLine, Rest}
+use Rattle.machine.specs.Limits.{maxAlternates}
+use Rattle.machine.specs.State.{Candidate, Request, Table, withCandidates}
+use Rattle.machine.specs.Claim.{elem, sameKind}
+use Rattle.machine.specs.Listing.{Line, HeadLine, RequestLine, CandidateLine, Rest, RequestListed}
 use Rattle.machine.specs.SoundTest.{allFit}
 use Rattle.heavy.specs.Streams.{connectionsOf}
 use Rattle.listed_lines.specs.declared.line.Line as line-line
 use Rattle.listed_lines.specs.declared.line.CandidateIn.{CandidateIn}
+use Rattle.listed_lines.specs.declared.line.Request as line-request
 use Rattle.listed_lines.specs.declared.line.RequestIn.{RequestIn}
-use Rattle.listed_lines.specs.Given.{requestLine, candidateLine, lineIn}
+use Rattle.listed_lines.specs.declared.line.RequestIn.the-variants.{Not as NoRequest, Is as IsRequest}
+use Rattle.listed_lines.specs.Given.{requestIn, requestLine, candidateLine, lineIn}
 use Rattle.listed_form.specs.Given.{Body, requestsOnly}
 use Rattle.listed_requests.specs.declared.candidates.Gathered.{Gathered}
+use Rattle.listed_requests.specs.declared.forms.Found.{Found}
+use Rattle.listed_requests.specs.Parts.{lineFits, oneFits}
 
 -- ---- a line as a candidate's, or as a request's
 
@@ -67,3 +75,44 @@ pub record Gathers (b : List ℕ) (from : ℕ) (k : Key) (n : ℕ) (w w′ : Lis
   pub bound : g .count ≤ 9
   pub many : (q : Rest) → Body b from q → g .count ≡ 9 → mostGathered < n + length (q .candidates)
   pub whole : (q : Rest) → Body b from q → g .count ≤ mostGathered → Whole b k n w w′ g q
+
+-- ---- a request's line
+
+-- the first of the requests t is r with the candidates that are listed from index end on
+pub record First (b : List ℕ) (end : ℕ) (r : Request) (t : Table) : Type 0 where
+  pub candidates : List Candidate
+  pub table : Table
+  pub parts : t ≡ withCandidates candidates r ∷ table
+  pub body : Body b end (record { candidates = candidates; table = table })
+
+-- the request that is listed at an index
+pub record NextRequest (b : List ℕ) (at : ℕ) (ws ps : List ℕ) (f : Found) : Type 0 where
+  pub on : at < f .end
+  pub inside : f .end ≤ length b
+  pub none : f .line ≡ NoRequest → (t : Table) → Body b at (requestsOnly t) → ⊥
+  pub is : (r : line-request.Request) → f .line ≡ IsRequest r → (t : Table) → Body b at (requestsOnly t) → First b (f .end) (requestIn ws ps r) t
+
+-- flag, package and parents, by whether there is an owner, a package, a parent
+abbrev pub packs : Kind → Bool → Bool → Bool → ℕ → Bool
+packs k owned true true n = false
+packs k owned true false n = owned && sameKind k Wtxid
+packs k owned false true n = owned && sameKind k Wtxid
+packs k owned false false n = eqb n 0
+
+-- an owner is one of these connections
+abbrev pub ownerAmong : Bool → ℕ → List ℕ → Bool
+ownerAmong false n l = true
+ownerAmong true n l = elem n l
+
+-- the tests of a request's line, whose parents stand in ps
+pub record LineFits (ps : List ℕ) (r : line-request.Request) (fit : Bool) : Type 0 where
+  pub is : (ws : List ℕ) → RequestListed (requestIn ws ps r) → fit ≡ lineFits (requestIn ws ps r)
+
+-- the request of a line with the candidates that are listed from an index on
+pub record Judged (b : List ℕ) (from : ℕ) (ps : List ℕ) (r : line-request.Request) (g : Gathered) : Type 0 where
+  pub on : from ≤ g .end
+  pub inside : g .end ≤ length b
+  pub bound : g .count ≤ 9
+  pub is : (ws : List ℕ) (q : Rest) → Body b from q → RequestListed (requestIn ws ps r) → g .fit ≡ oneFits maxAlternates (withCandidates (q .candidates) (requestIn ws ps r))
+  pub count : (q : Rest) → Body b from q → g .fit ≡ true → g .count ≡ length (q .candidates)
+  pub body : (q : Rest) → Body b from q → g .fit ≡ true → Body b (g .end) (requestsOnly (q .table))

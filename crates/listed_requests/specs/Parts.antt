@@ -4,15 +4,15 @@ use Prim.Native.Nat.{ℕ, zero, suc, _+_}
 use mathlib.Core.Bool.{Bool, true, false, not, _&&_}
 use mathlib.Core.List.{List, [], _∷_, _++_}
 use mathlib.Core.Option.{Option, none, some}
-use lib.Dec.{leb}
+use lib.Dec.{ltb, leb}
 use lib.ListN.{length}
 use Rattle.ident.specs.declared.Kind.{Kind}
 use Rattle.ident.specs.declared.Kind.the-variants.{Txid, Wtxid}
-use Rattle.ident.specs.Number.{Key, place, wtxid}
+use Rattle.ident.specs.Number.{top, Key, place, wtxid}
 use Rattle.machine.specs.Limits.{Limits, maxPeerAnnouncements, maxInFlight}
 use Rattle.machine.specs.State.{Candidate, Owner, Request, Table, State, limitsOf, isSome}
 use Rattle.machine.specs.Table.{at, held, heldBy, ownedBy, placeIn, placesHeld}
-use Rattle.machine.specs.SoundTest.{noRepeat, cursorFits, pollFits, isLawful, isOrdered, every, isFilled, everyOne, sizesFit}
+use Rattle.machine.specs.SoundTest.{noRepeat, cursorFits, pollFits, isPacked, parentsFit, markFits, isLawful, isOrdered, every, isFilled, everyOne, sizesFit}
 use Rattle.heavy.specs.Streams.{connectionsOf}
 
 -- ---- the first line
@@ -29,10 +29,26 @@ fewOnce most cs = leb (length cs) most && noRepeat (connectionsOf cs)
 abbrev pub uncrowded : ℕ → Request → Bool
 uncrowded most r = fewOnce most (r .candidates)
 
+-- a request's line by itself: its package, its parents, its mark
+unfoldable pub lineFits : Request → Bool
+lineFits r = isPacked (r .key .kind) (r .owner) (r .info) (r .«package») (r .parents) && (parentsFit (r .parents) && markFits (r .key .kind) (r .fallback))
+
+-- a request with its candidates
+unfoldable pub oneFits : ℕ → Request → Bool
+oneFits most r = isFilled r && (isLawful r && uncrowded most r)
+
 unfoldable pub localFits : Limits → ℕ → Table → Bool
 localFits m Q t =
     (isOrdered 0 t && (every isFilled t && every isLawful t))
     && (every (uncrowded (m .alternates)) t && (leb (held t) (m .announcements) && leb (placesHeld t) Q))
+
+-- the same in one pass: the next key's place is lo at least, h announcements and p places are held before it
+unfoldable pub passFits : Limits → ℕ → ℕ → ℕ → ℕ → Table → Bool
+passFits m Q lo h p [] = true
+passFits m Q lo h p (r ∷ t) =
+    ((leb lo (place (r .key)) && ltb (r .key .hash) top) && oneFits (m .alternates) r)
+    && ((leb (h + length (r .candidates)) (m .announcements) && leb (p + placeIn (r .info) (r .«package»)) Q)
+    && passFits m Q (suc (place (r .key))) (h + length (r .candidates)) (p + placeIn (r .info) (r .«package»)) t)
 
 -- ---- a hash under both kinds
 

@@ -5,3 +5,4 @@
 pub mod candidates;
 pub mod distinct;
 pub mod forms;
+pub mod lawful;
