@@ -71,6 +71,11 @@ none-left : (m : Limits) (Q lo h p : ℕ) → passFits m Q lo h p [] ≡ true
 unfolding passFits
 none-left m Q lo h p = refl
 
+pub place-most : (i b : Bool) → placeFor i b ≤ 1
+place-most i true = omega arith
+place-most true false = omega arith
+place-most false false = omega arith
+
 place-if : (i b : Bool) (c : ℕ) (ws : List ℕ) (e : Bool) → placeIn i (packageIf b c ws e) ≡ placeFor i b
 place-if i true c ws e = refl
 place-if i false c ws e = refl
