@@ -56,7 +56,8 @@ fn restored(state: &State, text: &str) -> Result<(), String> {
     let wanted = image(state);
     let mut store = vec![OLD; wanted.len() + SPARE];
     let status = restore(&mut store, text.as_bytes());
-    if status != 0 || store[..wanted.len()] != wanted || store[wanted.len()..].iter().any(|byte| *byte != OLD) {
+    if status != 0 || store[..wanted.len()] != wanted || store[wanted.len()..].iter().any(|byte| *byte != OLD)
+    {
         return Err(format!("status {status}, or not the bytes that were saved:\n{text}"));
     }
     not_restored(SHORT_STORE, text.as_bytes(), &[0, wanted.len() - 1])
@@ -190,7 +191,10 @@ fn run(count: u64, seed: u64) -> Result<(), String> {
         bytes += text.len();
     }
     println!("random: {count} states saved and read, {bytes} bytes; {refused} damaged stores refused with 3");
-    println!("changed listings: {} read, {} refused with 11, {} with 12", verdicts[0], verdicts[11], verdicts[12]);
+    println!(
+        "changed listings: {} read, {} refused with 11, {} with 12",
+        verdicts[0], verdicts[11], verdicts[12]
+    );
     Ok(())
 }
 
