@@ -56,6 +56,7 @@ NEEDS = {
     "claim": "checked.len() * bytes::ENTRY_BYTES",
     "arrange": "taken.len() * bytes::ENTRY_BYTES",
     "owners_of": "hashes.len() * bytes::OWNER_BYTES",
+    "save": "self.sizes.listing_need()",
 }
 KEYS = "Keys::new(&self.answer, {} as usize)"
 ENTRIES = "Entries::new(&self.answer, {} as usize)"
@@ -72,6 +73,7 @@ ANSWERED = {
     ("count",): ("Keys<'_>", KEYS.format("count")),
     ("own", "parents"): ("Departed<'_>", "Departed::new(&self.answer, own as usize, parents as usize)"),
     ("passed",): ("Owned<'_>", "Owned { passed, owners: Owners::new(&self.answer, hashes.len() / 32) }"),
+    ("written",): ("&[u8]", "&self.answer[..written as usize]"),
 }
 # What a method says where the function's comment speaks of the answer's bytes.
 SAID = {
@@ -111,6 +113,7 @@ SAID = {
     " smaller priority.",
     "plan": "Which candidate is to be asked for what, by priority: at most 1,025 entries. Owners whose deadline has come fail first.",
     "sum": "How many announcements are held, how many more fit of unpreferred newcomers and of preferred ones, and how full the tracker is in thousandths.",
+    "save": "The listing of the tracker's state: text, a line feed after each line.",
     "counts": "How many announcements the connection has, and how many requests it owns, deadlines over or not.",
     "owners_of": "Who owns each of the hashes, deadlines over or not, and how many keys were passed. [`Error::WrongHashes`] if they are more than 1,024 or not"
     " in strictly ascending order, byte 31 being the most significant.",
@@ -130,6 +133,17 @@ EXAMPLES = {
         let list = tracker.arrange(&[peer], &taken); // 7 takes witnesses
         let getdata = list.part(peer).map(|entry| entry.candidate.item);
         assert!(getdata.eq([Item::WitnessTx(Txid([1; 32]))]));
+        # Ok::<(), tracker::Error>(())
+        """,
+    "save": """
+        use tracker::{Announcement, Connection, Item, Tracker, Wtxid};
+
+        let mut tracker = Tracker::new(4, 1)?;
+        let mut hash = [0; 32];
+        hash[0] = 10;
+        let peer = Connection::new(7).expect("not 0");
+        tracker.announce(&Announcement::new(peer, Item::WTx(Wtxid(hash))).priority(5));
+        assert_eq!(tracker.save(), b"4,1,none,none,none\\nwa,none,0,none,0,0\\n7,wa,0,0,5\\n");
         # Ok::<(), tracker::Error>(())
         """,
     "counts": """

@@ -8,6 +8,7 @@
 
 pub mod calls;
 pub mod image;
+pub mod listing;
 #[cfg(feature = "source")]
 pub mod program;
 pub mod random;

@@ -1,17 +1,19 @@
 //! Event lines from standard input, answers to standard output.
 //!
-//!   oracle [--big] [--extra] [--states] [--about]
+//!   oracle [--big] [--extra] [--states] [--listings] [--about]
 //!
 //! --big     every L and Q that opening takes, and lines of any length
 //! --extra   the words dump, load, grab and ship (README.md)
 //! --states  after each answer a line with the whole state, `-` before the first `ok`
+//! --listings  as --states, with the listing of docs/LISTING.md, `;` for a line feed
 //! --about   which source was derived, and how; nothing is read
 
 use std::io::{self, BufRead as _, BufWriter, Write as _};
 use std::process::ExitCode;
 
 use oracle::program::Program;
-use oracle::{sound, tracker, write};
+use oracle::state::State;
+use oracle::{listing, sound, tracker, write};
 
 fn about() {
     println!("source: {} lines, FNV-1a 64 {:016x}", tracker::SOURCE_LINES, tracker::SOURCE_FNV64);
@@ -20,7 +22,7 @@ fn about() {
     }
 }
 
-fn run(mut program: Program, states: bool) -> io::Result<()> {
+fn run(mut program: Program, shown: Option<fn(&State) -> String>) -> io::Result<()> {
     let mut input = io::stdin().lock();
     let mut output = BufWriter::new(io::stdout().lock());
     let mut line = Vec::new();
@@ -33,9 +35,8 @@ fn run(mut program: Program, states: bool) -> io::Result<()> {
             sound::assert_sound(machine);
             machine.state()
         });
-        if states {
-            let dump = state.map_or("-".to_owned(), |state| write::dump(&state));
-            writeln!(output, "{dump}")?;
+        if let Some(text) = shown {
+            writeln!(output, "{}", state.map_or("-".to_owned(), |state| text(&state)))?;
         }
         line.clear();
     }
@@ -43,12 +44,14 @@ fn run(mut program: Program, states: bool) -> io::Result<()> {
 }
 
 fn main() -> ExitCode {
-    let (mut big, mut extra, mut states) = (false, false, false);
+    let (mut big, mut extra) = (false, false);
+    let mut shown: Option<fn(&State) -> String> = None;
     for argument in std::env::args().skip(1) {
         match argument.as_str() {
             "--big" => big = true,
             "--extra" => extra = true,
-            "--states" => states = true,
+            "--states" => shown = Some(write::dump),
+            "--listings" => shown = Some(|state| listing::write(state).replace('\n', ";")),
             "--about" => {
                 about();
                 return ExitCode::SUCCESS;
@@ -59,7 +62,7 @@ fn main() -> ExitCode {
             }
         }
     }
-    match run(Program::new(big, extra), states) {
+    match run(Program::new(big, extra), shown) {
         Ok(()) => ExitCode::SUCCESS,
         Err(error) => {
             eprintln!("{error}");

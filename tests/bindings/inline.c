@@ -131,6 +131,11 @@ static void statuses(void) {
     check("another format", REFUSED(TRACKER_NOT_SOUND, unclaim, TRACKER_TXID, x, 1));
     for (uint64_t status = TRACKER_OK; status <= TRACKER_WRONG_HASHES; status++)
         check("a text for each status", status == 9 || status == 11 || status == 12 || strcmp(tracker_status_text(status), tracker_status_text(9)) != 0);
+    static const uint8_t text[] = "0,1,none,none,none\n";
+    check("no listing", tracker_restore(store, sizeof store, text, sizeof text) == TRACKER_NOT_A_LISTING);
+    check("not sound", tracker_restore(store, sizeof store, text, sizeof text - 1) == TRACKER_LISTING_NOT_SOUND);
+    for (uint64_t status = TRACKER_OK; status <= TRACKER_LISTING_NOT_SOUND; status++)
+        check("a text for each status", status == 9 || strcmp(tracker_status_text(status), tracker_status_text(9)) != 0);
 }
 
 /* A payload of 253 items, written and read; what is read is announced as it stands. */

@@ -233,6 +233,25 @@ pub fn owners_of(store: &[u8], hashes: &[[u8; 32]], answer: &mut [u8]) -> Result
             answer.as_mut_ptr(), answer.len(), &mut passed)
     };
     done(status, passed)
+/// The listing of the tracker's state, in the answer: so many bytes as `written` says. The store is only
+/// read.
+pub fn save(store: &[u8], answer: &mut [u8]) -> Result<usize, Error> {
+    let mut written = 0;
+    // SAFETY: what is lent is lent for the call, and what it may write is lent to it alone.
+    let status = unsafe {
+        abi::tracker_save(store.as_ptr(), store.len(), answer.as_mut_ptr(), answer.len(), &mut written)
+    };
+    done(status, written as usize)
+}
+
+/// Makes the store the tracker that the text lists. It takes any store that is long enough, whose old bytes
+/// are not looked at; bytes past the need stay.
+pub fn restore(store: &mut [u8], text: &[u8]) -> Result<(), Error> {
+    // SAFETY: what is lent is lent for the call, and what it may write is lent to it alone.
+    let status = unsafe {
+        abi::tracker_restore(store.as_mut_ptr(), store.len(), text.as_ptr(), text.len())
+    };
+    done(status, ())
 }
 
 /// The connection is asked for the package info of the transaction with that wtxid, whose parents are given

@@ -6,7 +6,7 @@ use core::fmt;
 #[derive(Clone, Copy, Debug, Eq, Hash, PartialEq)]
 #[repr(u64)]
 pub enum Error {
-    /// Opening: the store is shorter than the need of its sizes.
+    /// Opening, reading a listing: the store is shorter than the need of its sizes.
     StoreTooShort = 1,
     /// Opening: L is not 1 to 100,000, or Q is not 1 to 4,096.
     SizesOutOfRange = 2,
@@ -26,11 +26,16 @@ pub enum Error {
     BadPayload = 10,
     /// Hashes are more than 1,024, or not in strictly ascending order.
     WrongHashes = 13,
+    /// Reading a listing: the text is none.
+    NotAListing = 11,
+    /// Reading a listing: the state that it lists is not sound.
+    ListingNotSound = 12,
 }
 
 impl Error {
     /// Every refusal, by its number.
     pub const ALL: [Self; 10] = [
+    pub const ALL: [Self; 11] = [
         Self::StoreTooShort,
         Self::SizesOutOfRange,
         Self::NotSound,
@@ -41,6 +46,8 @@ impl Error {
         Self::NoPlace,
         Self::BadPayload,
         Self::WrongHashes,
+        Self::NotAListing,
+        Self::ListingNotSound,
     ];
 
     /// Its number in the table.
@@ -67,6 +74,8 @@ impl fmt::Display for Error {
             Self::NoPlace => "all package places are held",
             Self::BadPayload => "no inventory payload, or items that make none",
             Self::WrongHashes => "more than 1,024 hashes, or not in strictly ascending order",
+            Self::NotAListing => "the text is no listing",
+            Self::ListingNotSound => "the state that the text lists is not sound",
         })
     }
 }

@@ -37,6 +37,13 @@ impl Sizes {
         if store.len() < 24 { None } else { Self::new(word(store, 1), word(store, 2)).ok() }
     }
 
+    /// Those that a listing begins with; none if it does not begin with two numbers, or they are out of range.
+    pub fn listed(text: &[u8]) -> Option<Self> {
+        let mut fields = text.split(|byte| *byte == b',');
+        let mut number = || core::str::from_utf8(fields.next()?).ok()?.parse().ok();
+        Self::new(number()?, number()?).ok()
+    }
+
     /// L.
     pub const fn announcements(self) -> u64 {
         self.announcements
@@ -70,6 +77,11 @@ impl Sizes {
     /// Bytes of the answer that failed package claims need.
     pub const fn failed_package_claims_need(self) -> usize {
         101 * self.places as usize * KEY_BYTES
+    }
+
+    /// Bytes that a listing has at most.
+    pub const fn listing_need(self) -> usize {
+        165 + 250 * self.announcements as usize + 13_068 * self.places as usize
     }
 
     /// Bytes of the answer that so many items, not found, need.

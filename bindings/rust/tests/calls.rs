@@ -369,6 +369,9 @@ fn swept_and_polled() {
         pair.both(|t| t.sweep().collect::<Vec<_>>(), |s, a| bytes::sweep(s, a).map(|count| keys(a, count)));
     assert_eq!(swept, [Key::Txid(B), Key::Wtxid(A)]);
     assert_eq!(pair.tracker.sweep().len(), 2);
+    let saved =
+        pair.both(|t| t.save().to_vec(), |s, a| bytes::save(s, a).map(|written| a[..written].to_vec()));
+    assert!(saved.starts_with(b"100,2,none,") && saved.ends_with(b",0,0,0\n"), "{saved:?}");
     let mut pair = Pair::new();
     for (now, due) in [(1_000, true), (1_099, false), (1_100, true)] {
         assert_eq!(pair.both(|t| t.poll_gate(at(now)), |s, _| bytes::poll_gate(s, now)), due);

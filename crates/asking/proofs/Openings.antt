@@ -6,9 +6,9 @@ use mathlib.Core.Option.{Option, none, some}
 use lib.ListN.{length}
 use borrow.Author.Tests.{le-leb, lt-leb}
 use Rattle.machine.specs.Call.{Open}
-use Rattle.lines.specs.Fields.{numberOf, rest}
+use Rattle.machine.specs.Fields.{numberOf, rest, taking, ending}
 use Rattle.asking.specs.Calls.{mostAnnouncements, mostPlaces, opening, openOf}
-use Rattle.reading.specs.Line.{Line, Asks, taking, ending}
+use Rattle.reading.specs.Line.{Line, Asks}
 use Rattle.reading.specs.Given.{At, FieldRead}
 use Rattle.reading.proofs.Taking.{field-not, field-is, ending-end, ending-more}
 

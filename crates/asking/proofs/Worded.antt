@@ -6,7 +6,7 @@ use mathlib.Core.Option.{Option}
 use native.Mathlib.Omega.{arith}
 use lib.ListN.{length, take, drop}
 use Rattle.reading.specs.Line.{Line}
-use Rattle.lines.specs.Fields.{before, rest}
+use Rattle.machine.specs.Fields.{before, rest}
 use Rattle.lines.proofs.Splitting.{rest-field, rest-start}
 use Rattle.asking.specs.declared.vocabulary.Word.{Word}
 use Rattle.asking.specs.Words.{wordOf}

@@ -8,8 +8,8 @@ use Rattle.ident.specs.declared.Kind.the-variants.{Txid, Wtxid}
 use Rattle.ident.specs.declared.ItemKind.the-variants.{WitnessTransaction, WTx}
 use Rattle.ident.specs.Number.{top}
 use Rattle.machine.specs.Call.{Open, On, Announce, Plan, TransactionNotFound}
-use Rattle.lines.specs.Fields.{digitOf, further, numeralOf, boolOf, keyOf, itemOf, sameText, push, fields}
-use Rattle.reading.specs.Line.{Asks, Take, Send, Part, taking, elementsThen, listThen}
+use Rattle.machine.specs.Fields.{digitOf, further, numeralOf, boolOf, keyOf, itemOf, sameText, push, fields, taking, elementsThen}
+use Rattle.reading.specs.Line.{Asks, Take, Send, Part, listThen}
 use Rattle.reading.specs.Forms.{plainThen, fieldThen, formThen}
 use Rattle.reading.specs.Lists.{keyListCall, itemListCall, sendLine}
 use Rattle.asking.specs.Words.{wordOf, requestWord, packageWord, keysWord, hashesWord, planWord}

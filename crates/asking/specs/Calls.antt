@@ -14,7 +14,7 @@ use Rattle.machine.specs.Call.{TransactionResponseCompleted, PollGate, Sum}
 use Rattle.machine.specs.Call.{Sweep, FailedWithParents, ReleasePackage, Disconnected, AnnounceTransactions}
 use Rattle.machine.specs.Call.{SolicitPackageInfo, ClaimPackage, BeginPackageResolution, AnnounceParents, FailedPackageClaims, OwnersOf}
 use Rattle.machine.specs.Call.{Plan, TransactionNotFound}
-use Rattle.lines.specs.Fields.{numberOf, fields}
+use Rattle.machine.specs.Fields.{numberOf, fields, taking, ending}
 use Rattle.asking.specs.declared.vocabulary.Word.{Word}
 use Rattle.asking.specs.declared.vocabulary.Word.the-variants.{None as NoWord, Open as OpenWord, Sum as SumWord, Leave as LeaveWord, Inventory as InventoryWord}
 use Rattle.asking.specs.declared.vocabulary.Word.the-variants.{Plan as PlanWord, Want as WantWord, Take as TakeWord, Missing as MissingWord, Send as SendWord, Part as PartWord}
@@ -28,8 +28,9 @@ use Rattle.asking.specs.declared.vocabulary.KeysWord.{KeysWord}
 use Rattle.asking.specs.declared.vocabulary.KeysWord.the-variants.{Sweep as SweepWord, FailedWithParents as FailWord, ReleasePackage as ReleaseWord}
 use Rattle.asking.specs.declared.vocabulary.HashesWord.{HashesWord}
 use Rattle.asking.specs.declared.vocabulary.HashesWord.the-variants.{SolicitPackageInfo as SolicitWord, ClaimPackage as ClaimWord}
-use Rattle.asking.specs.declared.vocabulary.HashesWord.the-variants.{BeginPackageResolution as BeginWord, AnnounceParents as ParentsWord, FailedPackageClaims as LostWord, OwnersOf as OwnersWord}
-use Rattle.reading.specs.Line.{Line, Asks, Take, Part, taking, ending}
+use Rattle.asking.specs.declared.vocabulary.HashesWord.the-variants.{BeginPackageResolution as BeginWord, AnnounceParents as ParentsWord, FailedPackageClaims as LostWord}
+use Rattle.asking.specs.declared.vocabulary.HashesWord.the-variants.{OwnersOf as OwnersWord}
+use Rattle.reading.specs.Line.{Line, Asks, Take, Part}
 use Rattle.reading.specs.Forms.{Values, blank, keyIn, candidateIn, formThen}
 use Rattle.reading.specs.Forms.{keyField, itemField, hashField, combinedField, connectionField, nowField, readyField, priorityField, preferredField, sourceField}
 use Rattle.reading.specs.Lists.{listCall, keyListCall, itemListCall, offersCall, sendLine}

@@ -3,7 +3,7 @@ use Prim.Native.Nat.{ℕ, _+_}
 use mathlib.Core.List.{List}
 use mathlib.Core.Option.{Option, none, some}
 use Rattle.machine.specs.Call.{Sum, Open, On}
-use Rattle.lines.specs.Fields.{rest}
+use Rattle.machine.specs.Fields.{rest}
 use Rattle.reading.specs.Line.{Line, Asks, Take, Part}
 use Rattle.reading.specs.Lists.{listCall, keyListCall, itemListCall, offersCall, sendLine}
 use Rattle.reading.specs.Given.{valuesOf}

@@ -2,7 +2,7 @@
 use Prim.Native.Nat.{ℕ}
 use mathlib.Core.List.{List, [], _∷_}
 use Rattle.ident.specs.If.{if_then_else_}
-use Rattle.lines.specs.Fields.{sameText}
+use Rattle.machine.specs.Fields.{sameText}
 use Rattle.asking.specs.declared.vocabulary.Word.{Word}
 use Rattle.asking.specs.declared.vocabulary.Word.the-variants.{None as NoWord, Open as OpenWord, Sum as SumWord, Leave as LeaveWord, Inventory as InventoryWord}
 use Rattle.asking.specs.declared.vocabulary.Word.the-variants.{Plan as PlanWord, Want as WantWord, Take as TakeWord, Missing as MissingWord, Send as SendWord, Part as PartWord}

@@ -2,11 +2,11 @@
 ghost use mathlib.Core.Path.{_≡_};
 ghost use mathlib.Core.Option.{some};
 ghost use Prim.Native.Nat.{_+_};
-ghost use Rattle.lines.specs.Fields.{rest};
+ghost use Rattle.machine.specs.Fields.{rest, ending};
 ghost use Rattle.machine.specs.Call.{On, Sum};
 ghost use Rattle.asking.specs.Calls.{openOf, numberForm, numberCall, keysForm, keysCall, leaveCall, inventoryCall, hashesForm, hashesCall};
 ghost use Rattle.asking.specs.Calls.{planLine, wantLine, takeLine, missingLine, partLine, lineWith, lineOf};
-ghost use Rattle.reading.specs.Line.{Asks, ending};
+ghost use Rattle.reading.specs.Line.{Asks};
 ghost use Rattle.reading.specs.Given.{FormRead, WholeRead};
 ghost use Rattle.asking.specs.Given.{askedLine};
 use crate::vocabulary::HashesWord;

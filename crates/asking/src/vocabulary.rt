@@ -1,7 +1,7 @@
 // The words of event lines: the first field, compared with fixed byte strings.
 ghost use mathlib.Core.Path.{_≡_};
 ghost use Rattle.ident.specs.If.{if_then_else_};
-ghost use Rattle.lines.specs.Fields.{sameText};
+ghost use Rattle.machine.specs.Fields.{sameText};
 ghost use Rattle.asking.specs.Words.{wordOf, requestWord, packageWord, keysWord, hashesWord, planWord};
 use lines::read::same;
 

@@ -6,7 +6,7 @@ use mathlib.Core.Option.{none}
 use Rattle.ident.specs.Number.{Item}
 use Rattle.machine.specs.Wrapper.{Offer}
 use Rattle.machine.specs.Call.{Ask}
-use Rattle.lines.specs.Fields.{rest}
+use Rattle.machine.specs.Fields.{rest}
 use Rattle.reading.specs.declared.hashes.Hashes.{Hashes}
 use Rattle.reading.specs.declared.hashes.Hashes.the-variants.{None as NoHashes, Are as AreHashes}
 use Rattle.reading.specs.Lists.{listCall, offersCall, itemListCall}

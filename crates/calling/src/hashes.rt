@@ -3,7 +3,7 @@ ghost use Prim.Native.Nat.{_+_, _≤_};
 ghost use lib.ListN.{length};
 ghost use Rattle.machine.specs.Call.{On};
 ghost use Rattle.lent_lists.specs.Lists.{hashesIn};
-ghost use Rattle.lines.specs.Fields.{rest};
+ghost use Rattle.machine.specs.Fields.{rest};
 ghost use Rattle.reading.specs.Lists.{listCall};
 ghost use Rattle.asking.specs.Calls.{hashesAsk};
 ghost use Rattle.reading.specs.Given.{valuesOf};

@@ -4,7 +4,7 @@ ghost use Prim.Native.Nat.{_+_, _≤_};
 ghost use lib.ListN.{length};
 ghost use Rattle.machine.specs.Call.{On};
 ghost use Rattle.lent_lists.specs.Items.{itemsIn};
-ghost use Rattle.lines.specs.Fields.{rest};
+ghost use Rattle.machine.specs.Fields.{rest};
 ghost use Rattle.reading.specs.Lists.{itemListCall};
 ghost use Rattle.asking.specs.Calls.{missingBuffer, missingAsk};
 ghost use Rattle.reading.specs.Given.{valuesOf};

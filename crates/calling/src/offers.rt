@@ -1,7 +1,7 @@
 // A batch of announcements (`inv`): its items and priorities read from the line, the call carried out, its reply as text.
 ghost use Prim.Native.Nat.{_+_, _≤_};
 ghost use lib.ListN.{length};
-ghost use Rattle.lines.specs.Fields.{rest};
+ghost use Rattle.machine.specs.Fields.{rest};
 ghost use Rattle.reading.specs.Lists.{offersCall};
 ghost use Rattle.asking.specs.Calls.{inventoryAsk};
 ghost use Rattle.reading.specs.Given.{valuesOf};

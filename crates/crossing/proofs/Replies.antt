@@ -12,8 +12,9 @@ use Rattle.machine.specs.Wrapper.{Offer, Sums}
 use Rattle.machine.specs.Owners.{Holding}
 use Rattle.machine.specs.Call.{Ask, Announce, RequestParent, Failed, Unclaim, SolicitPackageInfo, ClaimPackage, BeginPackageResolution, AnnounceParents}
 use Rattle.machine.specs.Call.{FailedPackageClaims, Plan, Claim, Sweep, Disconnected, ReleasePackage, TeardownPackageClaims, Forget, ForgetKnown, FailedWithParents}
-use Rattle.machine.specs.Call.{FailedPackageInfo, PackageInfoOwner, AnnounceTransactions, TransactionResponseCompleted, TransactionNotFound, PollGate, Arrange, Sum, OwnersOf, Call, Open, On}
-use Rattle.machine.specs.Step.{Reply, Refused, Number, Keys, Left, Entries, Chosen, Summed, Owned, perform, carryOut}
+use Rattle.machine.specs.Call.{FailedPackageInfo, PackageInfoOwner, AnnounceTransactions, TransactionResponseCompleted, TransactionNotFound, PollGate, Arrange, Sum, OwnersOf, Call, Open, On, Save}
+use Rattle.machine.specs.Call.{Restore}
+use Rattle.machine.specs.Step.{Reply, Refused, Number, Keys, Left, Entries, Chosen, Summed, Owned, perform, carryOut, Saved}
 
 -- r is no refusal
 abbrev pub Carried : Reply → Type 0
@@ -39,6 +40,8 @@ summed-carried s n e = let z : _≡_ {A = ℕ} 0 1 = cc in omega arith
 
 owned-carried : (k : ℕ) (l : List (Option Holding)) → Carried (Owned k l)
 owned-carried k l n e = let z : _≡_ {A = ℕ} 0 1 = cc in omega arith
+saved-carried : (t : List ℕ) → Carried (Saved t)
+saved-carried t n e = let z : _≡_ {A = ℕ} 0 1 = cc in omega arith
 
 performed : (a : Ask) (s : State) → Carried ((perform a s) .reply)
 unfolding perform
@@ -69,10 +72,12 @@ performed (PollGate now) s = number-carried _
 performed (Arrange ws l b) s = entries-carried _
 performed Sum s = summed-carried _
 performed (OwnersOf hs b) s = owned-carried _ _
+performed (Save b) s = saved-carried _
 
 pub replies : (c : Call) (s : State) → Carried ((carryOut c s) .reply)
 unfolding carryOut
 replies (Open L Q) s = number-carried 1
+replies (Restore x) s = number-carried 1
 replies (On a) s = performed a s
 
 -- ---- "Where the Rust returns nothing, the reply is 1."
@@ -83,6 +88,10 @@ RepliesOne c = (s : State) → (carryOut c s) .reply ≡ Number 1
 pub opens : (L Q : ℕ) → RepliesOne (Open L Q)
 unfolding carryOut
 opens L Q s = refl
+
+pub restores : (x : List ℕ) → RepliesOne (Restore x)
+unfolding carryOut
+restores x s = refl
 
 pub unclaims : (k : Key) (n : ℕ) → RepliesOne (On (Unclaim k n))
 unfolding carryOut perform

@@ -11,10 +11,10 @@ use Rattle.ident.specs.If.{if_then_else_}
 use Rattle.words.specs.Words.{words}
 use Rattle.machine.specs.State.{State}
 use Rattle.machine.specs.Call.{Buffer, Call, On, Sum, refusal}
-use Rattle.machine.specs.Step.{Reply, Refused, Number, Keys, Left, Entries, Chosen, Summed, Owned, perform, carryOut, stepIf}
+use Rattle.machine.specs.Step.{Reply, Refused, Number, Keys, Left, Entries, Chosen, Summed, Owned, perform, carryOut, stepIf, Saved}
 use Rattle.store.specs.Read.{stateOf}
 use Rattle.outcome.specs.Outcome.{outcomeIf, Does, Leaves, LeavesWith}
-use Rattle.outcome.specs.Reply.{replyOf, figuresOf, listingOf, departureOf}
+use Rattle.outcome.specs.Reply.{replyOf, figuresOf, listingOf, departureOf, textOf}
 use Rattle.public_plans.specs.Entries.{entriesOf, plannedOf}
 use Rattle.public_plans.specs.Ownership.{ownersOf}
 use Rattle.public_plans.specs.declared.Selection.{Selection}
@@ -28,7 +28,7 @@ use Rattle.outcome.specs.declared.Listing.the-variants.{Refused as NoKeys, List
 use Rattle.outcome.specs.declared.Departure.the-variants.{Refused as NotLeft, Left as LeftKeys}
 use Rattle.crossing.proofs.Replies.{Carried, RepliesOne, replies}
 use Rattle.crossing.specs.Status.{statusOf, handedOut, listingStatus, countOut, departureStatus, ownOut, parentsOut, numbered, figured, Stays}
-use Rattle.crossing.specs.Status.{HandsOut, HandsKeys, HandsEntries, HandsDeparture, plannedStatus, consideredOut, chosenOut, nextOut, HandsPlan, HandsOwners}
+use Rattle.crossing.specs.Status.{HandsOut, HandsKeys, HandsEntries, HandsDeparture, plannedStatus, consideredOut, chosenOut, nextOut, HandsPlan, HandsOwners, HandsText}
 
 -- ---- a refusal's number is not 0
 
@@ -72,6 +72,7 @@ statusIn (Entries l) = 0
 statusIn (Chosen n l x) = 0
 statusIn (Summed s) = 0
 statusIn (Owned n l) = 0
+statusIn (Saved t) = 0
 
 status-in : (a : Answer) → statusOf a ≡ statusIn (replyOf a)
 status-in (No n) = refl
@@ -130,6 +131,13 @@ pub hands-owners : {c : Call} (hs : List ℕ) (l : Listing) (was : ℕ) {b z : L
 hands-owners {c} hs (NoKeys zero) was d e = absurd (refused-zero c d)
 hands-owners hs (NoKeys (suc k)) was d e = rw (e .0, e .1) (d, refl)
 hands-owners hs (Listed k) was d e = rw (e .0, e .1) (d, tt)
+-- ---- answers that are a text
+
+pub hands-text : {c : Call} (l : Listing) (was : ℕ) {b z : List ℕ} {u : Buffer} {r n : ℕ} → LeavesWith c b z u (textOf l) → (r ≡ listingStatus l) × (n ≡ countOut l was)
+    → HandsText c b z u r was n
+hands-text {c} (NoKeys zero) was d e = absurd (refused-zero c d)
+hands-text (NoKeys (suc k)) was d e = rw (e .0, e .1) (d, refl)
+hands-text (Listed k) was d e = rw (e .0, e .1) (d, tt)
 
 -- ---- of a connection that left
 

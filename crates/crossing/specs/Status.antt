@@ -12,7 +12,7 @@ use Rattle.outcome.specs.declared.Listing.the-variants.{Refused as NoKeys, List
 use Rattle.outcome.specs.declared.Departure.{Departure}
 use Rattle.outcome.specs.declared.Departure.the-variants.{Refused as NotLeft, Left as LeftKeys}
 use Rattle.outcome.specs.Outcome.{Leaves, LeavesWith}
-use Rattle.outcome.specs.Reply.{keysListed, leftListed}
+use Rattle.outcome.specs.Reply.{keysListed, leftListed, textListed}
 use Rattle.public_plans.specs.Entries.{entriesListed, chosenListed}
 use Rattle.public_plans.specs.Ownership.{ownersListed}
 use Rattle.public_plans.specs.declared.Selection.{Selection}
@@ -28,7 +28,7 @@ abbrev pub handedOut : Answer → ℕ → ℕ
 handedOut (No n) was = was
 handedOut (Yes n) was = n
 
--- the same of an answer that lists keys or entries: their count
+-- the same of an answer that lists keys or entries, or is a text: their count, its length
 abbrev pub listingStatus : Listing → ℕ
 listingStatus (NoKeys n) = n
 listingStatus (Listed n) = 0
@@ -88,6 +88,10 @@ counted k n u = told k (keysListed n u)
 abbrev pub entered : ℕ → ℕ → Buffer → Reply
 entered k n u = told k (entriesListed n u)
 
+-- or a text of so many bytes
+abbrev pub texted : ℕ → ℕ → Buffer → Reply
+texted k n u = told k (textListed n u)
+
 -- two counts: so many keys stand there, and so many behind them
 abbrev pub parted : ℕ → ℕ → ℕ → Buffer → Reply
 parted k own parents u = told k (leftListed own parents u)
@@ -123,6 +127,9 @@ HandsEntries c b b′ u status was is = LeavesWith c b b′ u (entered status is
 -- or the owners of the hashes hs: the count of keys passed is handed out
 abbrev pub HandsOwners : Call → List ℕ → List ℕ → List ℕ → Buffer → ℕ → ℕ → ℕ → Type 0
 HandsOwners c hs b b′ u status was is = LeavesWith c b b′ u (owning hs status is) × Stays status was is
+-- or a text, whose length is handed out
+abbrev pub HandsText : Call → List ℕ → List ℕ → Buffer → ℕ → ℕ → ℕ → Type 0
+HandsText c b b′ u status was is = LeavesWith c b b′ u (texted status is) × Stays status was is
 
 -- the same of a connection that left: the count of its own keys and that of its parents' are handed out
 abbrev pub HandsDeparture : Call → List ℕ → List ℕ → Buffer → ℕ → ℕ → ℕ → ℕ → ℕ → Type 0

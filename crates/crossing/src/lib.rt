@@ -30,7 +30,7 @@ pub fn hand_out(a: outcome::Answer, reply: &mut u64) -> u64
     }
 }
 
-// The same of an answer that lists keys or entries: their count is handed out.
+// The same of an answer that lists keys or entries, or is a text: their count, or its length, is handed out.
 pub fn hand_count(l: outcome::Listing, count: &mut u64) -> u64
     ensures { λ r. ⌜ (r ≡ listingStatus l) × (now (count .exit) ≡ countOut l (now (count .entry))) ⌝ }
 {

@@ -11,8 +11,8 @@ use Rattle.words.specs.Words.{number, words}
 use Rattle.machine.specs.Call.{Ask, On, keyBytes}
 use Rattle.lent_lists.specs.Lists.{keyIn, givenKeys, keysIn}
 use Rattle.lent_lists.specs.Items.{itemBytes, itemIn, itemsIn}
-use Rattle.lines.specs.Fields.{numberOf, keyOf, itemOf, rest}
-use Rattle.reading.specs.Line.{Line, Asks, Send, taking, Reader, listThen}
+use Rattle.machine.specs.Fields.{numberOf, keyOf, itemOf, rest, taking}
+use Rattle.reading.specs.Line.{Line, Asks, Send, Reader, listThen}
 use Rattle.reading.specs.Lists.{keyListCall, itemListCall, sendLine}
 use Rattle.reading.proofs.Elements.{NoList}
 use Rattle.reading.proofs.Stored.{all-stored}

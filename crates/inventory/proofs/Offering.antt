@@ -11,8 +11,8 @@ use Rattle.words.proofs.Records.{length-recs}
 use Rattle.machine.specs.Wrapper.{Offer}
 use Rattle.machine.specs.Call.{Ask, On}
 use Rattle.lent_lists.specs.Items.{itemBytes, itemIn, paired, offersIn}
-use Rattle.lines.specs.Fields.{numberOf, itemOf}
-use Rattle.reading.specs.Line.{Line, Asks, taking}
+use Rattle.machine.specs.Fields.{numberOf, itemOf, taking}
+use Rattle.reading.specs.Line.{Line, Asks}
 use Rattle.reading.specs.Lists.{offerOf, offerThen, offersCall}
 use Rattle.reading.specs.Given.{At, ElementRead, FieldRead}
 use Rattle.reading.proofs.Taking.{field-not, field-is}

@@ -13,8 +13,8 @@ use Rattle.ident.specs.If.{if_then_else_}
 use Rattle.ident.specs.Number.{Item, isPlain}
 use Rattle.machine.specs.Call.{Open}
 use Rattle.machine.proofs.Tests.{test, by-test}
-use Rattle.lines.specs.Fields.{itemWith, letterKind, otherKind, otherOf, typeOf, hashOf, before, behind, itemOf, rest}
-use Rattle.reading.specs.Line.{Line, Asks, withValue, taking}
+use Rattle.machine.specs.Fields.{itemWith, letterKind, otherKind, otherOf, typeOf, hashOf, before, behind, itemOf, rest, withValue, taking}
+use Rattle.reading.specs.Line.{Line, Asks}
 use Rattle.reading.specs.Given.{At, FieldRead}
 use Rattle.reading.proofs.Taking.{field-is}
 

@@ -10,8 +10,8 @@ use Rattle.ident.specs.declared.Kind.{Kind}
 use Rattle.ident.specs.declared.ItemKind.{ItemKind}
 use Rattle.ident.specs.Number.{Key, Item, top}
 use Rattle.machine.proofs.Tests.{by-test}
-use Rattle.lines.specs.Fields.{numberOf, hashOf, kindOf, keyWith, keyOf, itemWith, letterKind, otherKind, typeOf, before, behind, otherOf, itemOf}
-use Rattle.reading.specs.Line.{Line, taking}
+use Rattle.machine.specs.Fields.{numberOf, hashOf, kindOf, keyWith, keyOf, itemWith, letterKind, otherKind, typeOf, before, behind, otherOf, itemOf, taking}
+use Rattle.reading.specs.Line.{Line}
 use Rattle.reading.specs.Lists.{offerOf, offerThen}
 use Rattle.reading.proofs.Bytes.{bytes, numeral-some}
 use Rattle.reading.proofs.Elements.{Takes, takes-field}

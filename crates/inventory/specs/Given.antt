@@ -12,7 +12,7 @@ use Rattle.machine.specs.Wrapper.{Offer}
 use Rattle.machine.specs.Call.{Ask, On, keyBytes}
 use Rattle.lent_lists.specs.Lists.{givenKeys}
 use Rattle.lent_lists.specs.Items.{itemBytes, itemIn, itemsIn, paired, offersIn}
-use Rattle.lines.specs.Fields.{rest}
+use Rattle.machine.specs.Fields.{rest}
 use Rattle.reading.specs.Line.{Line, Asks, Send}
 use Rattle.reading.specs.Lists.{keyListCall, itemListCall, offersCall, sendLine}
 use Rattle.reading.specs.Given.{Stored}

@@ -2,8 +2,7 @@
 ghost use Prim.Native.Nat.{_≤_};
 ghost use mathlib.Core.Path.{_≡_};
 ghost use lib.ListN.{length};
-ghost use Rattle.lines.specs.Fields.{numberOf};
-ghost use Rattle.reading.specs.Line.{taking};
+ghost use Rattle.machine.specs.Fields.{numberOf, taking};
 ghost use Rattle.reading.specs.Given.{longestLine, ListRead};
 ghost use Rattle.inventory.specs.Given.{mostNumbers, numberRoom, numbersOf, NumbersGiven};
 use reading::fields::NumberAt;

@@ -5,7 +5,7 @@ use mathlib.Core.List.{List}
 use mathlib.Core.Option.{none}
 use Rattle.ident.specs.Number.{Key}
 use Rattle.machine.specs.Call.{Ask}
-use Rattle.lines.specs.Fields.{rest}
+use Rattle.machine.specs.Fields.{rest}
 use Rattle.reading.specs.Lists.{keyListCall, sendLine}
 use Rattle.inventory.specs.declared.keys.Keys.{Keys}
 use Rattle.inventory.specs.declared.keys.Keys.the-variants.{None as NoKeys, Are as AreKeys}

@@ -28,6 +28,7 @@ use Rattle.public_plans.specs.declared.Selection.the-variants.{Chosen as Select
 use Rattle.public_plans.specs.Entries.{entriesOf, plannedOf}
 use Rattle.public_plans.specs.Parts.{connectionsIn, PartIs}
 use Rattle.public_plans.proofs.Entered.{length-from, length-entries}
+use Rattle.machine.specs.Text.{decimal, joined}
 use Rattle.reading.specs.Line.{Line, Asks, Take, Send, Part}
 use Rattle.asking.specs.Calls.{answerBuffer}
 use Rattle.printing.specs.Replies.{refusalText, unreadable, listed, entryTexts, selectionText, replyText}

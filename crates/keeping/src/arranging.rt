@@ -9,7 +9,7 @@ ghost use Rattle.machine.specs.Claim.{partOf};
 ghost use Rattle.outcome.specs.Outcome.{LeavesWith};
 ghost use Rattle.public_plans.specs.Entries.{entriesOf};
 ghost use Rattle.public_plans.specs.Parts.{connectionsIn};
-ghost use Rattle.lines.specs.Fields.{rest};
+ghost use Rattle.machine.specs.Fields.{rest};
 ghost use Rattle.reading.specs.Line.{Send, Part};
 ghost use Rattle.reading.specs.Lists.{sendLine};
 ghost use Rattle.printing.specs.Replies.{listed, entryTexts};

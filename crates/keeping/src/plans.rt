@@ -6,7 +6,7 @@ ghost use Rattle.machine.specs.Call.{On, Plan, Claim};
 ghost use Rattle.selecting.specs.Phasing.{givenKeys};
 ghost use Rattle.outcome.specs.Outcome.{LeavesWith};
 ghost use Rattle.public_plans.specs.Entries.{entriesOf};
-ghost use Rattle.lines.specs.Fields.{rest};
+ghost use Rattle.machine.specs.Fields.{rest};
 ghost use Rattle.reading.specs.Line.{Asks, Take};
 ghost use Rattle.reading.specs.Lists.{keyListCall};
 ghost use Rattle.asking.specs.Calls.{answerBuffer, wantAsk};

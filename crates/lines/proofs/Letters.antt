@@ -14,9 +14,9 @@ use Rattle.ident.specs.declared.ItemKind.{ItemKind}
 use Rattle.ident.specs.declared.ItemKind.the-variants.{Other}
 use Rattle.ident.specs.If.{if_then_else_}
 use Rattle.ident.specs.Number.{isPlain}
-use Rattle.lines.specs.Fields.{boolOf, kindOf, keyWith, keyOf, before, behind, itemWith, letterKind, otherKind, otherOf, itemOf, hashOf, typeOf}
+use Rattle.machine.specs.Fields.{boolOf, kindOf, keyWith, keyOf, before, behind, itemWith, letterKind, otherKind, otherOf, itemOf, hashOf, typeOf}
 use Rattle.lines.proofs.Scans.{scan-empty}
-use Rattle.lines.proofs.Parting.{take-before, before-length}
+use Rattle.machine.proofs.Parting.{take-before, before-length}
 
 -- ---- bools
 

@@ -1,9 +1,5 @@
-pub mod DigitBytes
-pub mod Numerals
-pub mod RoundTrips
 pub mod Writing
 pub mod Scans
-pub mod Parting
 pub mod Letters
 pub mod Splitting
 pub mod Sameness

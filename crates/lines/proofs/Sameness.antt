@@ -8,7 +8,7 @@ use lib.Dec.{eqb}
 use lib.ListN.{length, drop, getD, drop-of-length-le}
 use lib.Seq.{drop-cons}
 use borrow.Author.Tests.{eq-eqb, ne-eqb}
-use Rattle.lines.specs.Fields.{sameText}
+use Rattle.machine.specs.Fields.{sameText}
 
 pub differ-length : (s t : List ℕ) → (length s ≡ length t → ⊥) → false ≡ sameText s t
 unfolding sameText

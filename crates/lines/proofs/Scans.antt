@@ -12,8 +12,8 @@ use lib.ListN.{length, drop, getD, drop-of-length-le}
 use lib.Seq.{drop-cons}
 use borrow.Author.Tests.{lt-ltb, le-ltb, leb-true, leb-false, ltb-true}
 use Rattle.machine.proofs.Tests.{test, and-left, and-right}
-use Rattle.lines.specs.Fields.{digitOf, further, numeralOf}
-use Rattle.lines.proofs.Numerals.{further-step, further-stop, further-end, numeralOf-first, numeralOf-not, numeralOf-empty}
+use Rattle.machine.specs.Fields.{digitOf, further, numeralOf}
+use Rattle.machine.proofs.Numerals.{further-step, further-stop, further-end, numeralOf-first, numeralOf-not, numeralOf-empty}
 
 pub scan-empty : (b m : ℕ) (f : List ℕ) → length f ≡ 0 → numeralOf b m f ≡ none
 scan-empty b m [] e = numeralOf-empty b m

@@ -10,8 +10,8 @@ use lib.Seq.{drop-drop}
 use borrow.Author.Tests.{leb-true, leb-false, le-leb, lt-leb, eqb-true, eqb-false, lt-ltb, le-ltb}
 use Rattle.ident.specs.If.{if_then_else_}
 use Rattle.machine.proofs.Tests.{test}
-use Rattle.lines.specs.Fields.{before, behind, push, fields, rest}
-use Rattle.lines.proofs.Parting.{take-before, before-nil, before-skip, before-met, behind-skip, behind-met}
+use Rattle.machine.specs.Fields.{before, behind, push, fields, rest}
+use Rattle.machine.proofs.Parting.{take-before, before-nil, before-skip, before-met, behind-skip, behind-met}
 
 -- the first field, and the fields behind its comma
 abbrev split : List ℕ → List (List ℕ)

@@ -11,12 +11,13 @@ use lib.Seq.{set-split, take-suc, take-all}
 use Rattle.ident.specs.declared.Kind.{Kind}
 use Rattle.words.specs.Words.{splice}
 use Rattle.words.proofs.Splice.{length-splice, splice-more}
-use Rattle.lines.specs.Text.{digitText, numeral, hashDigits, hexadecimal, kindLetter, keyText, Wrote}
+use Rattle.machine.specs.Text.{digitText, numeral, hashDigits, hexadecimal, kindLetter, keyText}
+use Rattle.lines.specs.Text.{Wrote}
 use Rattle.regions.specs.declared.Quad.{Quad}
 use Rattle.regions.specs.Rows.{quadNumber}
 use Rattle.regions.proofs.Order.{Small}
 use Rattle.lines.proofs.Hashes.{digit-word, last-digit, quad-below}
-use Rattle.lines.proofs.Numerals.{numeral-one, numeral-more, numeral-fuel, length-numeral, rest-below}
+use Rattle.machine.proofs.Numerals.{numeral-one, numeral-more, numeral-fuel, length-numeral, rest-below}
 
 -- one byte
 pub wrote-byte : (s : List ℕ) (a v : ℕ) → a < length s → Wrote s (set s a v) a (v ∷ []) (a + 1)

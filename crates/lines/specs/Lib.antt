@@ -1,4 +1,2 @@
 pub mod Text
-pub mod Fields
 pub mod Values
-pub mod Digits

@@ -1,9 +1,9 @@
 // Decimal and hexadecimal digits: the value of a byte and the byte of a value, one function each way, by comparison and plain arithmetic (document 02,
-// request f). No table of digits is kept; specs/Digits says which bytes are digits, with what value, and each value's digit.
+// request f). No table of digits is kept; machine/specs/Digits says which bytes are digits, with what value, and each value's digit.
 ghost use mathlib.Core.Path.{_≡_};
 ghost use Prim.Native.Nat.{_<_};
-ghost use Rattle.lines.specs.Fields.{digitOf};
-ghost use Rattle.lines.specs.Text.{digitText};
+ghost use Rattle.machine.specs.Fields.{digitOf};
+ghost use Rattle.machine.specs.Text.{digitText};
 
 // The digit of a byte, 16 for a byte that is none.
 pub fn value(c: u8) -> u64

@@ -7,7 +7,7 @@ ghost use lib.Dec.{ltb};
 ghost use lib.ListN.{length, drop};
 ghost use Rattle.regions.specs.Rows.{quadNumber};
 ghost use Rattle.ident.specs.Number.{top};
-ghost use Rattle.lines.specs.Fields.{numeralOf, numberOf, typeOf, hashOf, boolOf, kindOf, keyOf, letterKind, otherKind, otherOf, itemOf, sameText, before};
+ghost use Rattle.machine.specs.Fields.{numeralOf, numberOf, typeOf, hashOf, boolOf, kindOf, keyOf, letterKind, otherKind, otherOf, itemOf, sameText, before};
 ghost use Rattle.lines.specs.Values.{numberIn, hashIn, boolIn, keyIn, itemKindIn, itemIn};
 ghost use Rattle.ident.specs.Words.{maybeKind};
 

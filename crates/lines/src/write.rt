@@ -6,7 +6,8 @@ ghost use Prim.Native.Nat.{_+_, _/_, _≤_};
 ghost use lib.Dec.{ltb};
 ghost use lib.ListN.{length};
 ghost use Rattle.regions.specs.Rows.{quadNumber};
-ghost use Rattle.lines.specs.Text.{decimalDigits, decimal, hashDigits, hexadecimal, kindLetter, keyText, Wrote};
+ghost use Rattle.machine.specs.Text.{decimalDigits, decimal, hashDigits, hexadecimal, kindLetter, keyText};
+ghost use Rattle.lines.specs.Text.{Wrote};
 
 pub fn put_decimal(s: &mut [u8], a: usize, n: u64) -> usize
     requires { ⌜ a + decimalDigits ≤ length (now s) ⌝ }

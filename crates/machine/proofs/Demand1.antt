@@ -1,9 +1,10 @@
 -- Demand 1: the refusal of every call is 0, or the number of the first of the table's causes that applies.
 use Prim.Native.Nat.{ℕ, suc, _≤_, _<_}
-use mathlib.Core.Path.{_≡_, refl, sym, ap, _∙_}
+use mathlib.Core.Path.{_≡_, refl, sym, ap, _∙_, subst}
 use mathlib.Core.Logic.{_⊎_, inl, inr}
 use mathlib.Core.Bool.{Bool, true, false, not, _&&_, _||_}
 use mathlib.Core.List.{List, [], _∷_}
+use mathlib.Core.Option.{Option, none, some}
 use native.Mathlib.Omega.{arith}
 use lib.Dec.{ltb, leb, eqb}
 use lib.ListN.{length}
@@ -13,12 +14,19 @@ use Rattle.machine.specs.State.{State}
 use Rattle.machine.specs.Table.{placesHeld}
 use Rattle.machine.specs.Claim.{elem}
 use Rattle.machine.specs.Owners.{ascending}
-use Rattle.machine.specs.Call.{Ask, Role, AsSolicitation, AsSweep, AsOther, roleOf, placeTaken, Call, Open, On, Named}
-use Rattle.machine.specs.Call.{named, anyLate, takesPlace, wrongHashes, late, sizesTaken, openingRefusal, askRefusal, refusal}
+use Rattle.machine.specs.Call.{Ask, Role, AsSolicitation, AsSweep, AsOther, roleOf, placeTaken, Call, Open, On, Named, named, anyLate, takesPlace, wrongHashes, late, sizesTaken}
+use Rattle.machine.specs.Call.{openingRefusal, askRefusal, refusal, Restore, restoreRefusal}
 use Rattle.machine.specs.Step.{stepIf}
-use Rattle.machine.specs.Demand1.{Any, WrongSizes, WouldSolicit, OpeningCause, short-store, wrong-sizes, AskCause, unsound-store, connection-0}
-use Rattle.machine.specs.Demand1.{late-clock, many-parents, Ascending, WrongHashes, wrong-hashes, short-buffer, no-place, Cause, tested, turn, Sooner, FirstCause, carried, refusedAs, Demand1}
+use Rattle.machine.specs.Demand1.{Any, WrongSizes, WouldSolicit, OpeningCause, short-store, wrong-sizes, AskCause, unsound-store, connection-0, late-clock, many-parents, Ascending}
+use Rattle.machine.specs.Demand1.{WrongHashes, wrong-hashes, short-buffer, no-place, Cause, tested, turn, Sooner, FirstCause, carried, refusedAs, Demand1, Lists, ReadingCause, unreadable}
+use Rattle.machine.specs.Demand1.{unsound-listing, short-receiver, testedReading}
 use Rattle.machine.proofs.Tests.{test, never, and-left, and-right, order}
+use Rattle.machine.specs.Sound.{Sound}
+use Rattle.machine.specs.Listing.{readListing}
+use Rattle.machine.specs.SoundTest.{isSound}
+use Rattle.machine.proofs.RoundTrips.{never-some}
+use Rattle.machine.proofs.Listings.{listed-read, read-listed, read-listing}
+use Rattle.machine.proofs.SoundTest.{sound-passes, passes-sound}
 
 -- ---- a test and what it decides
 
@@ -215,10 +223,94 @@ module _ (n : ℕ) (sound : Bool) (s : State) (L Q : ℕ) where
         | inr e ↦ inr (2, record { number = rw e; some-number = omega arith; cause = record { applies = wrong-sizes refl (wrong-ones L Q e); none-sooner = none-before-2 } })
       ]
 
+-- ---- readings: 11, 12, then 1
+
+-- a text lists one state, and the one that is read
+lists-read : (x : List ℕ) (t : State) → Lists x t → readListing x ≡ some t
+lists-read x t l = subst (λ (y : List ℕ). readListing y ≡ some t) (l .1) (listed-read t (l .0))
+
+read-lists : (x : List ℕ) (t : State) → readListing x ≡ some t → Lists x t
+read-lists x t e = (read-listed x t e, read-listing x t e)
+
+module _ (n : ℕ) (sound : Bool) (s : State) (x : List ℕ) where
+  -- no state is read
+  module _ (e : readListing x ≡ none) where
+    none-listed : (t : State) → Lists x t → ⊥
+    none-listed t l = never-some (sym e ∙ lists-read x t l)
+
+    none-sooner-11 : (i : ℕ) → turn i testedReading < turn 11 testedReading → ReadingCause n x i → ⊥
+    none-sooner-11 i h (unreadable z p) = omega (arith, rw z at h)
+    none-sooner-11 i h (unsound-listing z t l p) = none-listed t l
+    none-sooner-11 i h (short-receiver z t l p) = none-listed t l
+
+    not-read : Verdict n sound s (Restore x)
+    unfolding refusal restoreRefusal
+    not-read = inr (11, record { number = rw e; some-number = omega arith; cause = record { applies = unreadable refl none-listed; none-sooner = none-sooner-11 } })
+
+  -- the state t is
+  module _ (t : State) (e : readListing x ≡ some t) where
+    abbrev lists : Lists x t
+    lists = read-lists x t e
+
+    the-one : (u : State) → Lists x u → t ≡ u
+    the-one u l = let p : some t ≡ some u = sym e ∙ lists-read x u l in cc
+
+    none-sooner-12 : (i : ℕ) → turn i testedReading < turn 12 testedReading → ReadingCause n x i → ⊥
+    none-sooner-12 i h (unreadable z p) = p t lists
+    none-sooner-12 i h (unsound-listing z u l p) = omega (arith, rw z at h)
+    none-sooner-12 i h (short-receiver z u l p) = omega (arith, rw z at h)
+
+    none-sooner-1 : Sound t → (i : ℕ) → turn i testedReading < turn 1 testedReading → ReadingCause n x i → ⊥
+    none-sooner-1 g i h (unreadable z p) = p t lists
+    none-sooner-1 g i h (unsound-listing z u l p) = p (subst Sound (the-one u l) g)
+    none-sooner-1 g i h (short-receiver z u l p) = omega (arith, rw z at h)
+
+    no-reading-cause : Sound t → need (t .limit) (t .places) ≤ n → (i : ℕ) → ReadingCause n x i → ⊥
+    no-reading-cause g m i (unreadable z p) = p t lists
+    no-reading-cause g m i (unsound-listing z u l p) = p (subst Sound (the-one u l) g)
+    no-reading-cause g m i (short-receiver z u l p) = omega (arith, m, subst (λ (v : State). n < need (v .limit) (v .places)) (sym (the-one u l)) p)
+
+    is-read : Verdict n sound s (Restore x)
+    unfolding refusal restoreRefusal
+    is-read = elim (test (isSound t)) [
+      | inl d ↦ let g = passes-sound t d in elim (test (ltb n (need (t .limit) (t .places)))) [
+        | inl m ↦ inr (
+          1,
+          record {
+            number = rw (e, d, m);
+            some-number = omega arith;
+            cause = record { applies = short-receiver refl t lists (ltb-true n (need (t .limit) (t .places)) m); none-sooner = none-sooner-1 g };
+          },
+        )
+        | inr m ↦ inl (rw (e, d, m), no-reading-cause g (ltb-false n (need (t .limit) (t .places)) m))
+      ]
+      | inr d ↦ inr (
+        12,
+        record {
+          number = rw (e, d);
+          some-number = omega arith;
+          cause = record { applies = unsound-listing refl t lists (λ g. never (sym d ∙ sound-passes t g)); none-sooner = none-sooner-12 };
+        },
+      )
+    ]
+
+  reading : Verdict n sound s (Restore x)
+  reading = go (readListing x) refl
+    where
+      go : (o : Option State) → readListing x ≡ o → Verdict n sound s (Restore x)
+      go none e = not-read e
+      go (some t) e = is-read t e
+
+reading-tested : (n : ℕ) (x : List ℕ) (i : ℕ) → ReadingCause n x i → turn i testedReading < length testedReading
+reading-tested n x i (unreadable z p) = rw z (omega arith)
+reading-tested n x i (unsound-listing z t l p) = rw z (omega arith)
+reading-tested n x i (short-receiver z t l p) = rw z (omega arith)
+
 -- ---- every call
 
 verdict : (n : ℕ) (sound : Bool) (s : State) (c : Call) → Verdict n sound s c
 verdict n sound s (Open L Q) = opening n sound s L Q
+verdict n sound s (Restore x) = reading n sound s x
 verdict n sound s (On a) = in-turn n sound s a
 
 -- a number that stands in a list has a place of its own
@@ -232,6 +324,11 @@ turn-one i j (n ∷ l) e h =
 
 sooner-one : (n : ℕ) (sound : Bool) (s : State) (c : Call) (i j : ℕ) → Cause n sound s c i → (Sooner c i j → ⊥) → (Sooner c j i → ⊥) → i ≡ j
 sooner-one n sound s (Open L Q) i j c p q = elim (order i j) [ inl h ↦ absurd (q h) | inr h ↦ elim h [ inl e ↦ e | inr g ↦ absurd (p g) ] ]
+sooner-one n sound s (Restore x) i j c p q =
+    elim (order (turn i testedReading) (turn j testedReading)) [
+      | inl h ↦ absurd (p h)
+      | inr h ↦ elim h [ inl e ↦ turn-one i j testedReading e (reading-tested n x i c) | inr g ↦ absurd (q g) ]
+    ]
 sooner-one n sound s (On a) i j c p q =
     elim (order (turn i tested) (turn j tested)) [ inl h ↦ absurd (p h) | inr h ↦ elim h [ inl e ↦ turn-one i j tested e (cause-tested n sound s a i c) | inr g ↦ absurd (q g) ] ]
 

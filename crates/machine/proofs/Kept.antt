@@ -4,7 +4,7 @@ use mathlib.Core.Path.{_≡_, refl}
 use mathlib.Core.Logic.{inl, inr}
 use mathlib.Core.Bool.{Bool, true, false, not, _&&_}
 use mathlib.Core.List.{List, [], _∷_}
-use mathlib.Core.Option.{Option}
+use mathlib.Core.Option.{Option, none, some}
 use native.Mathlib.Omega.{arith}
 use lib.Dec.{ltb, leb, eqb}
 use lib.ListN.{length}
@@ -19,11 +19,15 @@ use Rattle.machine.specs.Claim.{elem}
 use Rattle.machine.specs.Call.{Ask, Announce, RequestParent, Failed, Unclaim, SolicitPackageInfo, ClaimPackage, BeginPackageResolution, AnnounceParents}
 use Rattle.machine.specs.Call.{FailedPackageClaims, Plan, Claim, Sweep, Disconnected, ReleasePackage, TeardownPackageClaims, Forget, ForgetKnown}
 use Rattle.machine.specs.Call.{FailedWithParents, FailedPackageInfo, PackageInfoOwner, AnnounceTransactions, TransactionResponseCompleted}
-use Rattle.machine.specs.Call.{TransactionNotFound, PollGate, Arrange, Sum, OwnersOf, Call, Open, On, named, anyLate, takesPlace, late, sizesTaken, openingRefusal, askRefusal, refusal}
-use Rattle.machine.specs.Step.{perform, empty, carryOut, stepIf, step}
+use Rattle.machine.specs.Call.{TransactionNotFound, PollGate, Arrange, Sum, OwnersOf, Call, Open, On, named, anyLate, takesPlace, late, sizesTaken, openingRefusal, askRefusal, refusal, Save}
+use Rattle.machine.specs.Call.{Restore, restoreRefusal}
+use Rattle.machine.specs.Step.{perform, empty, carryOut, stepIf, step, restored}
+use Rattle.machine.specs.Listing.{readListing}
+use Rattle.machine.specs.SoundTest.{isSound}
 use Rattle.machine.specs.Sound.{Hashes, CursorFits, PollFits, Bounded, Sound}
 use Rattle.machine.specs.Typed.{AskTyped, CallTyped}
 use Rattle.machine.proofs.Tests.{test, by-test, never, and-left, and-right, or-left}
+use Rattle.machine.proofs.SoundTest.{passes-sound}
 use Rattle.machine.proofs.Announce.{bounded-announce}
 use Rattle.machine.proofs.Fail.{Peer, FewHashes, bounded-failed, bounded-unclaim, bounded-forget, bounded-requestParent, bounded-parents}
 use Rattle.machine.proofs.Package.{bounded-solicit, bounded-claimPackage, bounded-begin, bounded-failedPackageInfo}
@@ -162,6 +166,7 @@ sound-perform (PollGate now) s w r g = sound-with g (g .bounded) (gate-poll now 
 sound-perform (Arrange ws l b) s w r g = g
 sound-perform Sum s w r g = g
 sound-perform (OwnersOf hs b) s w r g = g
+sound-perform (Save b) s w r g = g
 
 -- ---- a call
 
@@ -170,9 +175,16 @@ opening-takes : (n L Q : ℕ) → openingRefusal n L Q ≡ 0 → sizesTaken L Q 
 unfolding openingRefusal
 opening-takes n L Q e = elim (test (sizesTaken L Q)) [ inl d ↦ d | inr d ↦ absurd (omega (arith, rw d at e)) ]
 
+-- a text that is not refused lists a sound state
+pub restored-sound : (n : ℕ) (o : Option State) (s : State) → restoreRefusal n o ≡ 0 → Sound (restored o s)
+unfolding restoreRefusal
+restored-sound n none s e = absurd (omega arith)
+restored-sound n (some t) s e = elim (test (isSound t)) [ inl d ↦ passes-sound t d | inr d ↦ absurd (omega (arith, rw d at e)) ]
+
 sound-carryOut : (n : ℕ) (c : Call) (s : State) → CallTyped c → refusal n true c s ≡ 0 → Sound s → Sound ((carryOut c s) .state)
 unfolding carryOut refusal
 sound-carryOut n (Open L Q) s w e g = sound-empty L Q (opening-takes n L Q e)
+sound-carryOut n (Restore x) s w e g = restored-sound n (readListing x) s e
 sound-carryOut n (On a) s w e g = sound-perform a s w (carried a s e) g
 
 pub sound-step : (n : ℕ) (c : Call) (s : State) → CallTyped c → Sound s → Sound ((step n c s) .state)

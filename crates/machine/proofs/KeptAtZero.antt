@@ -17,7 +17,8 @@ use Rattle.machine.specs.Package.{soliciting, solicit, mayClaim, claimPa
 use Rattle.machine.specs.Wrapper.{dueAt, nextPollAfter}
 use Rattle.machine.specs.Call.{Ask, Announce, RequestParent, Failed, Unclaim, SolicitPackageInfo, ClaimPackage, BeginPackageResolution, AnnounceParents, FailedPackageClaims}
 use Rattle.machine.specs.Call.{Plan, Claim, Sweep, Disconnected, ReleasePackage, TeardownPackageClaims, Forget, ForgetKnown, FailedWithParents, FailedPackageInfo}
-use Rattle.machine.specs.Call.{PackageInfoOwner, AnnounceTransactions, TransactionResponseCompleted, TransactionNotFound, PollGate, Arrange, Sum, OwnersOf, Call, Open, On, refusal}
+use Rattle.machine.specs.Call.{PackageInfoOwner, AnnounceTransactions, TransactionResponseCompleted, TransactionNotFound, PollGate, Arrange, Sum, OwnersOf, Call, Open, On, refusal, Save}
+use Rattle.machine.specs.Call.{Restore}
 use Rattle.machine.specs.Step.{Number, Keys, Entries, answered, perform, carryOut, stepIf}
 use Rattle.machine.specs.Sound.{Packed, Ordered, All, Lawful, Sound}
 use Rattle.machine.specs.Replies.{KeptAt0}
@@ -177,10 +178,12 @@ kept-perform (PollGate now) s g e = ap (λ (p : Option ℕ). withNextPoll p s) (
 kept-perform (Arrange ws l b) s g e = refl
 kept-perform Sum s g e = refl
 kept-perform (OwnersOf hs b) s g e = refl
+kept-perform (Save b) s g e = refl
 
 kept-carryOut : (c : Call) (s : State) → Sound s → (carryOut c s) .reply ≡ Number 0 → (carryOut c s) .state ≡ s
 unfolding carryOut
 kept-carryOut (Open L Q) s g e = other-reply e
+kept-carryOut (Restore x) s g e = other-reply e
 kept-carryOut (On a) s g e = kept-perform a s g e
 
 pub kept-at-0 : KeptAt0

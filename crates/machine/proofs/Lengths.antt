@@ -14,10 +14,12 @@ use Rattle.machine.specs.Table.{at, keys}
 use Rattle.machine.specs.Fail.{Listed, parentsFor, failed, leaves}
 use Rattle.machine.specs.Package.{enqueuedBy, failedWithParents, releasePackage}
 use Rattle.machine.specs.Leave.{disconnected}
-use Rattle.machine.specs.Call.{Ask, Announce, RequestParent, Failed, Unclaim, SolicitPackageInfo, ClaimPackage, BeginPackageResolution, AnnounceParents, FailedPackageClaims, Plan, Claim, Sweep}
+use Rattle.machine.specs.Call.{Ask, Announce, RequestParent, Failed, Unclaim, SolicitPackageInfo, ClaimPackage, BeginPackageResolution, AnnounceParents, FailedPackageClaims, Plan}
+use Rattle.machine.specs.Call.{Claim, Sweep}
 use Rattle.machine.specs.Call.{Disconnected, ReleasePackage, TeardownPackageClaims, Forget, ForgetKnown, FailedWithParents, FailedPackageInfo, PackageInfoOwner, AnnounceTransactions}
-use Rattle.machine.specs.Call.{TransactionResponseCompleted, TransactionNotFound, PollGate, Arrange, Sum, OwnersOf, keyBytes, entryBytes}
-use Rattle.machine.specs.Call.{Call, Open, On, named, openingRefusal, askRefusal, refusal}
+use Rattle.machine.specs.Call.{TransactionResponseCompleted, TransactionNotFound, PollGate, Arrange, Sum, OwnersOf, keyBytes, entryBytes, Call, Open, On, named, openingRefusal, askRefusal}
+use Rattle.machine.specs.Call.{refusal, Save, Restore, restoreRefusal}
+use Rattle.machine.specs.Listing.{readListing}
 use Rattle.machine.specs.Step.{perform, carryOut, written, bufferOf, stepIf, step, keysAnswer, entriesAnswer, answerBytes}
 use Rattle.machine.specs.Sound.{Bounded, Sound}
 use Rattle.machine.specs.Typed.{AskTyped, CallTyped}
@@ -87,6 +89,7 @@ fits (PollGate now) s w g r = omega arith
 fits (Arrange ws l b) s w g r = entries-fit _ _ (omega (arith, length-arrange ws l (s .table)))
 fits Sum s w g r = omega arith
 fits (OwnersOf hs b) s w g r = omega (arith, length-holdings hs (s .table))
+fits (Save b) s w g r = omega arith
 
 pub answer-fits : (a : Ask) (s : State) → AskTyped a → Sound s → askRefusal true a s ≡ 0 → length (answerBytes ((perform a s) .reply)) ≤ (named a s) .needs
 answer-fits a s w g e = fits a s w g (carried a s e)
@@ -104,6 +107,7 @@ length-written x b h = omega (arith, length-append x (drop (length x) b), length
 pub buffer-length : (n : ℕ) (c : Call) (s : State) → CallTyped c → Sound s → length ((step n c s) .buffer) ≡ length (bufferOf c s)
 unfolding stepIf refusal carryOut written
 buffer-length n (Open L Q) s w g = by-test (λ (b : List ℕ). length b ≡ 0) (eqb (openingRefusal n L Q) 0) (λ e. refl) (λ e. refl)
+buffer-length n (Restore x) s w g = by-test (λ (b : List ℕ). length b ≡ 0) (eqb (restoreRefusal n (readListing x)) 0) (λ e. refl) (λ e. refl)
 buffer-length n (On a) s w g =
     by-test (λ (b : List ℕ). length b ≡ length ((named a s) .buffer)) (eqb (askRefusal true a s) 0)
     (λ e. length-written (answerBytes ((perform a s) .reply)) ((named a s) .buffer) (answer-in-buffer a s w g (eqb-true _ _ e))) (λ e. refl)

@@ -39,3 +39,15 @@ pub mod Wrapper
 pub mod Kept
 pub mod Demand3
 pub mod First
+pub mod DigitBytes
+pub mod Numerals
+pub mod Parting
+pub mod RoundTrips
+pub mod Readers
+pub mod Commas
+pub mod Forms
+pub mod ListingLines
+pub mod Listings
+pub mod SoundTest
+pub mod Restoring
+pub mod ListingLengths

@@ -1,4 +1,4 @@
--- The carried-out sweeps of a list of calls are successive batches: the known cursor is moved by sweep and opening alone, and
+-- The carried-out sweeps of a list of calls are successive batches: the known cursor is moved by sweep, opening and the reading of a listing alone, and
 -- what is held at a sweep is in order.
 use Prim.Native.Nat.{ℕ, _≤_}
 use mathlib.Core.Path.{_≡_, refl, ap, _∙_}
@@ -19,8 +19,9 @@ use Rattle.machine.specs.Sound.{Ordered}
 use Rattle.machine.specs.Call.{Ask, Announce, RequestParent, Failed, Unclaim, SolicitPackageInfo, ClaimPackage, BeginPackageResolution, AnnounceParents}
 use Rattle.machine.specs.Call.{FailedPackageClaims, Plan, Claim, Sweep, Disconnected, ReleasePackage, TeardownPackageClaims, Forget, ForgetKnown, FailedWithParents}
 use Rattle.machine.specs.Call.{FailedPackageInfo, PackageInfoOwner, AnnounceTransactions, TransactionResponseCompleted, TransactionNotFound, PollGate, Arrange, Sum, OwnersOf, Call, Open, On}
+use Rattle.machine.specs.Call.{Save, Restore}
 use Rattle.machine.specs.Step.{swept, perform, carryOut, stepIf, step}
-use Rattle.machine.specs.Demand3.{carriedOut, Swept, isSweep, sweeping, opening, keysIn, sweepsOf, NoOpening}
+use Rattle.machine.specs.Demand3.{carriedOut, Swept, isSweep, sweeping, afresh, keysIn, sweepsOf, Unbroken}
 use Rattle.machine.proofs.Tests.{test, never}
 use Rattle.machine.proofs.FairLists.{Asc, Below}
 use Rattle.machine.proofs.Fairness.{Batch, batches, self, end, helds}
@@ -72,6 +73,7 @@ moved (PollGate now) s = record { cursor = refl; out = refl }
 moved (Arrange ws l b) s = record { cursor = refl; out = refl }
 moved Sum s = record { cursor = refl; out = refl }
 moved (OwnersOf hs b) s = record { cursor = refl; out = refl }
+moved (Save b) s = record { cursor = refl; out = refl }
 
 pub cursor-stays : (a : Ask) (s : State) → isSweep a ≡ false → ((perform a s) .state) .knownCursor ≡ s .knownCursor
 cursor-stays a s e = (moved a s) .cursor ∙ rw e
@@ -86,19 +88,22 @@ cursor-refused : (n : ℕ) (c : Call) (s : State) → carriedOut n c s ≡ false
 unfolding stepIf
 cursor-refused n c s e = rw e
 
-cursor-other : (n : ℕ) (c : Call) (s : State) → (opening c ≡ true → carriedOut n c s ≡ false) → sweeping c ≡ false → ((step n c s) .state) .knownCursor ≡ s .knownCursor
+cursor-other : (n : ℕ) (c : Call) (s : State) → (afresh c ≡ true → carriedOut n c s ≡ false) → sweeping c ≡ false → ((step n c s) .state) .knownCursor ≡ s .knownCursor
 unfolding stepIf carryOut
 cursor-other n (Open L Q) s o e = cursor-refused n (Open L Q) s (o refl)
+cursor-other n (Restore x) s o e = cursor-refused n (Restore x) s (o refl)
 cursor-other n (On a) s o e = elim (test (carriedOut n (On a) s)) [ inl d ↦ rw d (cursor-stays a s e) | inr d ↦ rw d ]
 
 cursor-next : (n : ℕ) (c : Call) (s : State) → sweeping c ≡ true → carriedOut n c s ≡ true → ((step n c s) .state) .knownCursor ≡ lastOf (next s)
 unfolding stepIf carryOut
 cursor-next n (Open L Q) s e d = never e
+cursor-next n (Restore x) s e d = never e
 cursor-next n (On a) s e d = rw d (cursor-swept a s e)
 
 reply-next : (n : ℕ) (c : Call) (s : State) → sweeping c ≡ true → carriedOut n c s ≡ true → keysIn ((step n c s) .reply) ≡ next s
 unfolding stepIf carryOut
 reply-next n (Open L Q) s e d = never e
+reply-next n (Restore x) s e d = never e
 reply-next n (On a) s e d = rw d (reply-swept a s e)
 
 -- ---- the sweeps of a list are successive batches
@@ -113,7 +118,7 @@ pub held-batches : (ws : List Swept) → helds (map batchOf ws) ≡ map (λ w. w
 held-batches [] = refl
 held-batches (w ∷ ws) = rw (held-batches ws)
 
-pub successive : (n : ℕ) (cs : List Call) (s : State) → NoOpening n cs s → outs (sweepsOf n cs s) ≡ batches (s .knownCursor) (map batchOf (sweepsOf n cs s))
+pub successive : (n : ℕ) (cs : List Call) (s : State) → Unbroken n cs s → outs (sweepsOf n cs s) ≡ batches (s .knownCursor) (map batchOf (sweepsOf n cs s))
 unfolding sweepsOf batches handed
 successive n [] s o = refl
 successive n (c ∷ cs) s o =

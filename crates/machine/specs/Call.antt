@@ -2,7 +2,7 @@
 use Prim.Native.Nat.{ℕ, _+_, _*_, min}
 use mathlib.Core.Bool.{Bool, false, not, _&&_, _||_}
 use mathlib.Core.List.{List, [], _∷_}
-use mathlib.Core.Option.{Option}
+use mathlib.Core.Option.{Option, none, some}
 use lib.Dec.{ltb, leb, eqb}
 use lib.ListN.{length}
 use Rattle.ident.specs.If.{if_then_else_}
@@ -14,6 +14,8 @@ use Rattle.machine.specs.Package.{solicit}
 use Rattle.machine.specs.Claim.{elem}
 use Rattle.machine.specs.Wrapper.{Offer}
 use Rattle.machine.specs.Owners.{ascending}
+use Rattle.machine.specs.Listing.{listing, readListing}
+use Rattle.machine.specs.SoundTest.{isSound}
 
 -- an answer buffer: its bytes
 abbrev pub Buffer : Type 0
@@ -48,10 +50,12 @@ pub data Ask : Type 0 where
   Arrange : (witnesses : List ℕ) (taken : List Entry) (b : Buffer) → Ask
   Sum : Ask
   OwnersOf : (hashes : List ℕ) (b : Buffer) → Ask
+  Save : (b : Buffer) → Ask
 
 -- "In the list stand opening and every other call here that takes a store"
 pub data Call : Type 0 where
   Open : (L Q : ℕ) → Call
+  Restore : (text : List ℕ) → Call
   On : Ask → Call
 
 -- ---- what the refusals 4 to 7 and 13 look at
@@ -85,6 +89,10 @@ keyed ns ts p b n = record { connections = ns; clocks = ts; parents = p; hashes 
 abbrev pub entered : List ℕ → List ℕ → Buffer → ℕ → Named
 entered ns ts b n = record { connections = ns; clocks = ts; parents = 0; hashes = []; buffer = b; needs = entryBytes * n }
 
+-- one whose answer is a listing: "saving needs a buffer of its length"
+abbrev pub saving : Buffer → State → Named
+saving b s = record { connections = []; clocks = []; parents = 0; hashes = []; buffer = b; needs = length (listing s) }
+
 -- "Buffer needs in entries: plan min(1,025, L); sweep min(1,024, L); claim the checked length; disconnected
 -- min(5,000, L) + 100 × Q; package claims 101 × Q; not-found its items + 100 × Q; arranging the taken length; any other key
 -- list 101." Document 02, request e: "The buffer's need is the list's length in entries."
@@ -116,6 +124,7 @@ named (PollGate now) s = plain [] (now ∷ []) 0
 named (Arrange ws l b) s = entered ws [] b (length l)
 named Sum s = plain [] [] 0
 named (OwnersOf hs b) s = record { connections = []; clocks = []; parents = 0; hashes = hs; buffer = b; needs = ownerBytes * length hs }
+named (Save b) s = saving b s
 
 unfoldable pub anyLate : List ℕ → Bool
 anyLate [] = false
@@ -156,6 +165,7 @@ roleOf (PollGate now) = AsOther
 roleOf (Arrange ws l b) = AsOther
 roleOf Sum = AsOther
 roleOf (OwnersOf hs b) = AsOther
+roleOf (Save b) = AsOther
 
 -- "a solicitation that would reply 1"
 abbrev pub placeTaken : Role → State → Bool
@@ -182,6 +192,11 @@ wrongHashes hs = ltb maxAskedHashes (length hs) || not (ascending hs)
 
 unfoldable pub late : Ask → State → ℕ
 late a s = if wrongHashes ((named a s) .hashes) then 13 else 0
+-- A text that lists no state gets 11, one that lists an unsound state 12; "a receiving store shorter than the state's need gets 1 after those, and
+-- its old bytes are not tested". The store has n bytes.
+unfoldable pub restoreRefusal : ℕ → Option State → ℕ
+restoreRefusal n none = 11
+restoreRefusal n (some t) = if isSound t then (if ltb n (need (t .limit) (t .places)) then 1 else 0) else 12
 
 -- "Other calls test 3 to 8 in turn." sound: the store's bytes write a sound state, which is s.
 unfoldable pub askRefusal : Bool → Ask → State → ℕ
@@ -197,4 +212,5 @@ askRefusal sound a s =
 
 unfoldable pub refusal : ℕ → Bool → Call → State → ℕ
 refusal n sound (Open L Q) s = openingRefusal n L Q
+refusal n sound (Restore x) s = restoreRefusal n (readListing x)
 refusal n sound (On a) s = askRefusal sound a s

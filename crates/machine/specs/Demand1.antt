@@ -11,7 +11,9 @@ use Rattle.machine.specs.Limits.{need, maxAnnouncements, maxPlaces, maxP
 use Rattle.machine.specs.State.{State, limitsOf}
 use Rattle.machine.specs.Table.{placesHeld}
 use Rattle.machine.specs.Package.{solicit}
-use Rattle.machine.specs.Call.{Ask, Role, AsSolicitation, AsSweep, AsOther, roleOf, Call, Open, On, named, refusal}
+use Rattle.machine.specs.Sound.{Sound}
+use Rattle.machine.specs.Listing.{listing, Listed}
+use Rattle.machine.specs.Call.{Ask, Role, AsSolicitation, AsSweep, AsOther, roleOf, Call, Open, Restore, On, named, refusal}
 use Rattle.machine.specs.Step.{Refused, carryOut, answerBytes, written, bufferOf, Outcome, stepIf}
 
 -- one of a list passes
@@ -46,6 +48,18 @@ pub data OpeningCause (n L Q r : ℕ) : Type 0 where
   -- "L not 1 to 100,000, or Q not 1 to 4,096"
   wrong-sizes : r ≡ 2 → WrongSizes L Q → OpeningCause n L Q r
 
+-- of the reading of a text x by such a store: whether it is the listing of a state,
+abbrev pub Lists : List ℕ → State → Type 0
+Lists x t = Listed t × (listing t ≡ x)
+
+pub data ReadingCause (n : ℕ) (x : List ℕ) (r : ℕ) : Type 0 where
+  -- "An unreadable or misplaced line, a parent or wtxid list of wrong length, no line at all or falling keys"
+  unreadable : r ≡ 11 → ((t : State) → Lists x t → ⊥) → ReadingCause n x r
+  -- "a readable listing of an unsound state"
+  unsound-listing : r ≡ 12 → (t : State) → Lists x t → (Sound t → ⊥) → ReadingCause n x r
+  -- "a receiving store shorter than the state's need"
+  short-receiver : r ≡ 1 → (t : State) → Lists x t → n < need (t .limit) (t .places) → ReadingCause n x r
+
 -- and of any other call on a store that writes the sound state s, if `sound` is true.
 pub data AskCause (sound : Bool) (s : State) (a : Ask) (r : ℕ) : Type 0 where
   -- "store bytes do not write a sound state"
@@ -65,11 +79,16 @@ pub data AskCause (sound : Bool) (s : State) (a : Ask) (r : ℕ) : Type 0 where
 
 abbrev pub Cause : ℕ → Bool → State → Call → ℕ → Type 0
 Cause n sound s (Open L Q) r = OpeningCause n L Q r
+Cause n sound s (Restore x) r = ReadingCause n x r
 Cause n sound s (On a) r = AskCause sound s a r
 
 -- "Opening tests 2, then 1. Other calls test 3 to 8 in turn." 13 "after the test of the store and before the buffer's"
 abbrev pub tested : List ℕ
 tested = 3 ∷ 4 ∷ 5 ∷ 6 ∷ 13 ∷ 7 ∷ 8 ∷ []
+
+-- Of a reading: "gets 1 after those"
+abbrev pub testedReading : List ℕ
+testedReading = 11 ∷ 12 ∷ 1 ∷ []
 
 -- the place of a number in such a list
 abbrev pub turn : ℕ → List ℕ → ℕ
@@ -78,6 +97,7 @@ turn r (n ∷ l) = if eqb r n then 0 else suc (turn r l)
 
 abbrev pub Sooner : Call → ℕ → ℕ → Type 0
 Sooner (Open L Q) i j = j < i
+Sooner (Restore x) i j = turn i testedReading < turn j testedReading
 Sooner (On a) i j = turn i tested < turn j tested
 
 -- r is the number of the first cause that applies

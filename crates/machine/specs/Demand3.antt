@@ -11,8 +11,8 @@ use Rattle.machine.specs.Limits.{maxAlternates, maxPeerAnnouncements, ma
 use Rattle.machine.specs.State.{Request, State}
 use Rattle.machine.specs.Table.{keys, held, heldBy, heldAt, ownedBy, ownedAt}
 use Rattle.machine.specs.Sound.{All, OwnerFits, Sound}
-use Rattle.machine.specs.Call.{Ask, Role, AsSolicitation, AsSweep, AsOther, roleOf, Call, Open, On, refusal}
-use Rattle.machine.specs.Step.{Reply, Refused, Number, Keys, Left, Entries, Chosen, Summed, Owned, step}
+use Rattle.machine.specs.Call.{Ask, Role, AsSolicitation, AsSweep, AsOther, roleOf, Call, Open, On, refusal, Restore}
+use Rattle.machine.specs.Step.{Reply, Refused, Number, Keys, Left, Entries, Chosen, Summed, Owned, step, Saved}
 use Rattle.machine.specs.Typed.{CallTyped, Each}
 
 -- ---- a list of calls on one store of n bytes: each gets the state that the last one left
@@ -41,11 +41,14 @@ isSweep a = sweepRole (roleOf a)
 
 abbrev pub sweeping : Call → Bool
 sweeping (Open L Q) = false
+sweeping (Restore x) = false
 sweeping (On a) = isSweep a
 
-abbrev pub opening : Call → Bool
-opening (Open L Q) = true
-opening (On a) = false
+-- "the wait for a sweep is counted afresh from a reading, as from a reopening"
+abbrev pub afresh : Call → Bool
+afresh (Open L Q) = true
+afresh (Restore x) = true
+afresh (On a) = false
 
 -- the keys in a reply
 abbrev pub keysIn : Reply → List Key
@@ -57,6 +60,7 @@ keysIn (Entries l) = []
 keysIn (Chosen n l x) = []
 keysIn (Summed s) = []
 keysIn (Owned n l) = []
+keysIn (Saved t) = []
 
 abbrev pub sweptBy : ℕ → Call → State → Swept
 sweptBy n c s = record { held = keys (s .table); out = keysIn ((step n c s) .reply) }
@@ -68,10 +72,10 @@ sweepsOf n (c ∷ cs) s =
     let rest = sweepsOf n cs ((step n c s) .state) in
     if sweeping c then (if carriedOut n c s then sweptBy n c s ∷ rest else rest) else rest
 
--- "with no carried-out opening between"
-abbrev pub NoOpening : ℕ → List Call → State → Type 0
-NoOpening n [] s = Unit {0}
-NoOpening n (c ∷ cs) s = (opening c ≡ true → carriedOut n c s ≡ false) × NoOpening n cs ((step n c s) .state)
+-- "with no carried-out opening between", and no carried-out reading of a listing
+abbrev pub Unbroken : ℕ → List Call → State → Type 0
+Unbroken n [] s = Unit {0}
+Unbroken n (c ∷ cs) s = (afresh c ≡ true → carriedOut n c s ≡ false) × Unbroken n cs ((step n c s) .state)
 
 -- ---- keys in lists
 
@@ -105,11 +109,11 @@ HeldAtAll k (w ∷ ws) = (mem k (w .held) ≡ true) × HeldAtAll k ws
 abbrev pub HandedOut : Key → List Swept → Type 0
 HandedOut k ws = mem k (flat (map (λ w. w .out) ws)) ≡ true
 
--- "for any m > 0 successive carried-out sweeps with no carried-out opening between": whatever stretch `part` of the list they
+-- "for any m > 0 successive carried-out sweeps with no carried-out opening" or reading "between": whatever stretch `part` of the list they
 -- stand in, "each key held at all m is handed out by one of them if m is at least floor((N − 1) / 1,024) + 1"
 abbrev pub Fair : ℕ → State → List Call → Type 0
 Fair n first calls =
-    (pre part post : List Call) → calls ≡ pre ++ (part ++ post) → NoOpening n part (run n pre first) → (k : Key)
+    (pre part post : List Call) → calls ≡ pre ++ (part ++ post) → Unbroken n part (run n pre first) → (k : Key)
     → 0 < length (sweepsOf n part (run n pre first))
     → HeldAtAll k (sweepsOf n part (run n pre first))
     → (differentKeys (sweepsOf n part (run n pre first)) - 1) / maxKnownChecks + 1 ≤ length (sweepsOf n part (run n pre first))

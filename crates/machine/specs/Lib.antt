@@ -11,6 +11,11 @@ pub mod Plan
 pub mod Claim
 pub mod Wrapper
 pub mod Owners
+pub mod Text
+pub mod Fields
+pub mod Digits
+pub mod Listing
+pub mod SoundTest
 pub mod Call
 pub mod Step
 pub mod Sound

@@ -21,9 +21,10 @@ use Rattle.machine.specs.Plan.{Planned, plan}
 use Rattle.machine.specs.Claim.{Taken, claim, arrange}
 use Rattle.machine.specs.Wrapper.{announceTransactions, responseCompleted, notFound, dueAt, nextPollAfter, Sums, sum}
 use Rattle.machine.specs.Owners.{Holding, holdings, passed}
-use Rattle.machine.specs.Call.{Buffer, Ask, Announce, RequestParent, Failed, Unclaim, SolicitPackageInfo, ClaimPackage, BeginPackageResolution, AnnounceParents, FailedPackageClaims}
-use Rattle.machine.specs.Call.{Plan, Claim, Sweep, Disconnected, ReleasePackage, TeardownPackageClaims, Forget, ForgetKnown, FailedWithParents, FailedPackageInfo, PackageInfoOwner}
-use Rattle.machine.specs.Call.{AnnounceTransactions, TransactionResponseCompleted, TransactionNotFound, PollGate, Arrange, Sum, OwnersOf, Call, Open, On, Named, named, refusal}
+use Rattle.machine.specs.Call.{Buffer, Ask, Announce, RequestParent, Failed, Unclaim, SolicitPackageInfo, ClaimPackage, BeginPackageResolution, AnnounceParents, FailedPackageClaims, Plan}
+use Rattle.machine.specs.Call.{Claim, Sweep, Disconnected, ReleasePackage, TeardownPackageClaims, Forget, ForgetKnown, FailedWithParents, FailedPackageInfo, PackageInfoOwner}
+use Rattle.machine.specs.Call.{AnnounceTransactions, TransactionResponseCompleted, TransactionNotFound, PollGate, Arrange, Sum, OwnersOf, Call, Open, On, Named, named, refusal, Save, Restore}
+use Rattle.machine.specs.Listing.{listing, readListing}
 
 -- A reply, in document 01's numbers and values.
 pub data Reply : Type 0 where
@@ -35,6 +36,7 @@ pub data Reply : Type 0 where
   Chosen : (considered : ℕ) (l : List Entry) (next : Option ℕ) → Reply
   Summed : (s : Sums) → Reply
   Owned : (passed : ℕ) (l : List (Option Holding)) → Reply
+  Saved : (text : List ℕ) → Reply
 
 pub record Result : Type 0 where
   pub reply : Reply
@@ -98,13 +100,20 @@ perform (PollGate now) s = record { reply = Number (one (dueAt now (s .nextPoll)
 perform (Arrange ws l b) s = record { reply = Entries (arrange ws l (s .table)); state = s }
 perform Sum s = record { reply = Summed (sum s); state = s }
 perform (OwnersOf hs b) s = record { reply = Owned (passed hs (s .table)) (holdings hs (s .table)); state = s }
+perform (Save b) s = record { reply = Saved (listing s); state = s }
 
 -- "An opened store" is an empty tracker.
 abbrev pub empty : ℕ → ℕ → State
 empty L Q = record { limit = L; places = Q; table = []; nextPoll = none; knownCursor = none; readyCursor = none }
 
+-- "Reading a listing gives the store bytes that were saved": the state that the text lists
+abbrev pub restored : Option State → State → State
+restored none s = s
+restored (some t) s = t
+
 unfoldable pub carryOut : Call → State → Result
 carryOut (Open L Q) s = silent (empty L Q)
+carryOut (Restore x) s = silent (restored (readListing x) s)
 carryOut (On a) s = perform a s
 
 -- ---- answer buffers: a key is 5 words, an entry 14, an owner 3
@@ -158,6 +167,7 @@ answerBytes (Entries l) = entriesAnswer l
 answerBytes (Chosen n l x) = entriesAnswer l
 answerBytes (Summed s) = []
 answerBytes (Owned n l) = holdingsAnswer l
+answerBytes (Saved t) = t
 
 -- "bytes .. past the reply stay"
 unfoldable pub written : List ℕ → Buffer → Buffer
@@ -165,6 +175,7 @@ written x b = x ++ drop (length x) b
 
 abbrev pub bufferOf : Call → State → Buffer
 bufferOf (Open L Q) s = []
+bufferOf (Restore x) s = []
 bufferOf (On a) s = (named a s) .buffer
 
 -- ---- one call on a store of n bytes

@@ -11,6 +11,7 @@ use Rattle.machine.specs.Wrapper.{Offer}
 use Rattle.machine.specs.Call.{Ask, Announce, RequestParent, Failed, Unclaim, SolicitPackageInfo, ClaimPackage, BeginPackageResolution, AnnounceParents}
 use Rattle.machine.specs.Call.{FailedPackageClaims, Plan, Claim, Sweep, Disconnected, ReleasePackage, TeardownPackageClaims, Forget, ForgetKnown, FailedWithParents}
 use Rattle.machine.specs.Call.{FailedPackageInfo, PackageInfoOwner, AnnounceTransactions, TransactionResponseCompleted, TransactionNotFound, PollGate, Arrange, Sum, OwnersOf, Call, Open, On}
+use Rattle.machine.specs.Call.{Save, Restore}
 
 pub record CandidateTyped (c : Candidate) : Type 0 where
   pub connection : c .connection < word
@@ -65,7 +66,9 @@ AskTyped (PollGate now) = now < word
 AskTyped (Arrange ws l b) = Each (λ (n : ℕ). n < word) ws × Each EntryTyped l
 AskTyped Sum = Unit {0}
 AskTyped (OwnersOf hs b) = Hashes hs
+AskTyped (Save b) = Unit {0}
 
 abbrev pub CallTyped : Call → Type 0
 CallTyped (Open L Q) = (L < word) × (Q < word)
+CallTyped (Restore x) = Unit {0}
 CallTyped (On a) = AskTyped a

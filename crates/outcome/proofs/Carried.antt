@@ -15,7 +15,7 @@ use Rattle.machine.specs.Fail.{Listed}
 use Rattle.machine.specs.Typed.{Each, KeyTyped}
 use Rattle.machine.specs.Owners.{ascending}
 use Rattle.machine.specs.Call.{Buffer, Ask, On, keyBytes, named, takesPlace, late, askRefusal}
-use Rattle.machine.specs.Step.{Reply, Refused, Number, Keys, Result, answered, listed, perform, answerBytes, written}
+use Rattle.machine.specs.Step.{Reply, Refused, Number, Keys, Result, answered, listed, perform, answerBytes, written, Saved}
 use Rattle.store.specs.Image.{Writes, SoundStore, Bytes, needOf}
 use Rattle.store.specs.Shown.{limitIn, placesIn}
 use Rattle.store.proofs.Frame.{sizes}
@@ -28,7 +28,7 @@ use Rattle.outcome.specs.Tests.{inTurn}
 use Rattle.outcome.specs.Lent.{Lent}
 use Rattle.outcome.proofs.Sizes.{need-kept}
 use Rattle.outcome.proofs.Turns.{in-turn}
-use Rattle.outcome.proofs.Contract.{does-carried, does-refused}
+use Rattle.outcome.proofs.Contract.{does-carried, does-nothing, does-refused}
 
 -- ---- refused, by what a test after the sound test answers
 
@@ -167,3 +167,19 @@ pub lists-done : {a : Ask} {ns ts : List ℕ} {parents : ℕ} {u : Buffer} {m : 
 lists-done {a} {ns} {ts} {parents} {u} {m} {f} k v q z e h t g =
     let hands : Hands a ns ts parents u m (λ s. (f (limitsOf s) (s .table)) .keys) (λ s. onTable ((f (limitsOf s) (s .table)) .table) s) = record { names = k .names; performs = k .performs } in
     hands-done hands v q z e h t (record { count = g .count; keys-are = g .keys; state-is = g .table })
+
+-- ---- calls that write a text and leave the store
+
+-- u is the answer buffer, which must have room for the text
+pub record Texts (a : Ask) (u : Buffer) (text : State → List ℕ) : Type 0 where
+  pub names : Names a [] [] 0 u (λ s. length (text s))
+  pub performs : (s : State) → perform a s ≡ record { reply = Saved (text s); state = s }
+
+pub texts-done : {a : Ask} {u : Buffer} {text : State → List ℕ} → Texts a u text → {b : List ℕ} (v : SoundStore b) → Bytes b → {t : ℕ} → t ≡ inTurn [] [] 0 (length u) (length (text (v .state)))
+    → t ≡ 0 → {u′ : List ℕ} {n : ℕ} → n ≡ length (text (v .state)) → u′ ≡ written (text (v .state)) u → Does (On a) b (record { reply = Saved (take n u′); buffer = u′; store = b })
+unfolding written
+texts-done {a} {u} {text} k {b} v h q z {u′} {n} g w =
+    let x = text (v .state) in
+    let d = k .performs (v .state) in
+    let front : take n u′ ≡ x = rw (g, w) (take-at x (drop (length x) u) (length x) refl) in
+    does-nothing b _ a v (passes (k .names) v q z) (rw d (ap Saved front)) (rw (d, k .names .are (v .state)) w) (ap (λ (o : Result). o .state) d) h refl

@@ -3,12 +3,14 @@ use Prim.Native.Nat.{ℕ, suc}
 use mathlib.Core.Path.{_≡_, refl, sym, ap, subst, _∙_}
 use mathlib.Core.Bool.{Bool, true, false}
 use mathlib.Core.List.{List, []}
+use mathlib.Core.Option.{some}
 use lib.Dec.{eqb·suc-zero}
 use lib.ListN.{length, take, drop}
 use Rattle.words.specs.Words.{words}
 use Rattle.machine.specs.Limits.{need}
 use Rattle.machine.specs.State.{State}
-use Rattle.machine.specs.Call.{Ask, Call, Open, On, named, openingRefusal, askRefusal, refusal}
+use Rattle.machine.specs.Listing.{readListing}
+use Rattle.machine.specs.Call.{Ask, Call, Open, Restore, On, named, openingRefusal, restoreRefusal, askRefusal, refusal}
 use Rattle.machine.specs.Step.{Refused, Number, perform, carryOut, answerBytes, written, empty, bufferOf, stepIf}
 use Rattle.store.specs.Image.{Writes, SoundStore, stored, Bytes, needOf}
 use Rattle.store.specs.Read.{stateOf}
@@ -89,3 +91,20 @@ module _ (b : List ℕ) (e : Effect) (L Q : ℕ) (u : e .buffer ≡ []) where
   unfolding refusal
   does-not-open m z r t =
       record { sound = true; tested = tt; effect = same-effect e (kept b (Open L Q) (stateOf (words b)) (suc m)) r u t ∙ sym (outcome-kept b true (Open L Q) m z) }
+
+-- ---- the reading of a listing
+
+module _ (b : List ℕ) (e : Effect) (x : List ℕ) (u : e .buffer ≡ []) where
+  pub does-restored : (t : State) → readListing x ≡ some t → restoreRefusal (length b) (some t) ≡ 0 → e .reply ≡ Number 1 → Bytes (e .store) → Writes (take (needOf t) (e .store)) t
+      → drop (needOf t) (e .store) ≡ drop (needOf t) b → Does (Restore x) b e
+  unfolding refusal carryOut written
+  does-restored t g z r p v d =
+      record { sound = true; tested = tt; effect = same-effect e (record { reply = Number 1; buffer = []; store = stored t b }) r u (stored-from t b (e .store) p v d) ∙ sym shown }
+    where
+      shown : outcomeIf true b (Restore x) ≡ record { reply = Number 1; buffer = []; store = stored t b }
+      shown = outcome-done b true (Restore x) (rw g z) ∙ rw g
+
+  pub does-not-restore : (m : ℕ) → restoreRefusal (length b) (readListing x) ≡ suc m → e .reply ≡ Refused (suc m) → e .store ≡ b → Does (Restore x) b e
+  unfolding refusal
+  does-not-restore m z r t =
+      record { sound = true; tested = tt; effect = same-effect e (kept b (Restore x) (stateOf (words b)) (suc m)) r u t ∙ sym (outcome-kept b true (Restore x) m z) }

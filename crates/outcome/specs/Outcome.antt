@@ -7,7 +7,7 @@ use lib.Dec.{eqb}
 use lib.ListN.{length}
 use Rattle.ident.specs.If.{if_then_else_}
 use Rattle.words.specs.Words.{words, Decides}
-use Rattle.machine.specs.Call.{Buffer, Call, Open, On, refusal}
+use Rattle.machine.specs.Call.{Buffer, Call, Open, Restore, On, refusal}
 use Rattle.machine.specs.Step.{Reply, Outcome, stepIf}
 use Rattle.store.specs.Image.{SoundStore, stored}
 use Rattle.store.specs.Read.{stateOf}
@@ -26,9 +26,10 @@ outcomeIf sound b c =
     let o = stepIf (length b) sound c s in
     record { reply = o .reply; buffer = o .buffer; store = if eqb (refusal (length b) sound c s) 0 then stored (o .state) b else b }
 
--- opening takes any store; the other calls go by whether its bytes write a sound state
+-- opening and the reading of a listing take any store; the other calls go by whether its bytes write a sound state
 abbrev pub Tested : Call → Bool → List ℕ → Type 0
 Tested (Open L Q) sound b = Unit {0}
+Tested (Restore x) sound b = Unit {0}
 Tested (On a) sound b = Decides sound (SoundStore b)
 
 -- the contract of every public call: e is what the call leaves of the bytes b

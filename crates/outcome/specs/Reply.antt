@@ -1,9 +1,9 @@
 -- What the answers of the public calls say, in document 01's numbers and values.
 use Prim.Native.Nat.{ℕ, _*_}
-use lib.ListN.{drop}
+use lib.ListN.{take, drop}
 use Rattle.machine.specs.Wrapper.{Sums}
 use Rattle.machine.specs.Call.{Buffer, keyBytes}
-use Rattle.machine.specs.Step.{Reply, Refused, Number, Keys, Left, Summed}
+use Rattle.machine.specs.Step.{Reply, Refused, Number, Keys, Left, Summed, Saved}
 use Rattle.lent_lists.specs.Lists.{keysIn}
 use Rattle.outcome.specs.declared.Answer.{Answer}
 use Rattle.outcome.specs.declared.Answer.the-variants.{Refused as No, Number as Yes}
@@ -37,3 +37,11 @@ leftListed own parents u = Left (keysIn own u) (keysIn parents (drop (keyBytes *
 abbrev pub departureOf : Departure → Buffer → Reply
 departureOf (NotLeft n) u = Refused n
 departureOf (LeftKeys own parents) u = leftListed own parents u
+
+-- a text of n bytes stands in the answer buffer
+abbrev pub textListed : ℕ → Buffer → Reply
+textListed n u = Saved (take n u)
+
+abbrev pub textOf : Listing → Buffer → Reply
+textOf (NoKeys n) u = Refused n
+textOf (Listed n) u = textListed n u

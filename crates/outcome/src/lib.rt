@@ -24,7 +24,7 @@ pub enum Figures {
     Are(u64, u64, u64, u64),
 }
 
-// How many keys, or entries, stand in the answer buffer, or a refusal.
+// How many keys, entries or bytes of text stand in the answer buffer, or a refusal.
 pub enum Listing {
     Refused(u64),
     Listed(u64),

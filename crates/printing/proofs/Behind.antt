@@ -10,9 +10,10 @@ use Rattle.words.proofs.Records.{recs-add}
 use Rattle.machine.specs.Call.{Buffer, keyBytes, Ask, On}
 use Rattle.machine.specs.Step.{Reply, Left}
 use Rattle.lent_lists.specs.Lists.{keysIn}
-use Rattle.lines.specs.Text.{hashDigits, decimal, keyText, Wrote}
+use Rattle.machine.specs.Text.{hashDigits, decimal, keyText, joined}
+use Rattle.lines.specs.Text.{Wrote}
 use Rattle.lines.proofs.Writing.{wrote-more, wrote-none}
-use Rattle.printing.specs.Replies.{joined, keyTexts, replyText}
+use Rattle.printing.specs.Replies.{keyTexts, replyText}
 use Rattle.printing.specs.Given.{answerRoom, mostKeys, behind, Printed}
 use Rattle.printing.proofs.KeyLists.{keyAt, keys-more, texts-append, key-length, length-keys}
 use Rattle.printing.proofs.Printing.{decimal-end}

@@ -22,10 +22,11 @@ use Rattle.machine.specs.State.{Candidate, Entry}
 use Rattle.machine.specs.Later.{timeOf}
 use Rattle.choosing.proofs.Waiting.{time-some}
 use Rattle.claiming.specs.Claiming.{entryFrom, entriesFrom}
-use Rattle.lines.specs.Text.{hashDigits, decimalDigits, decimal, hexadecimal, boolText, keyText, itemKindText, itemText, Wrote}
-use Rattle.lines.proofs.Numerals.{length-numeral}
+use Rattle.machine.specs.Text.{hashDigits, decimalDigits, decimal, hexadecimal, boolText, keyText, itemKindText, itemText, joined}
+use Rattle.lines.specs.Text.{Wrote}
+use Rattle.machine.proofs.Numerals.{length-numeral}
 use Rattle.lines.proofs.Writing.{wrote-more, wrote-none}
-use Rattle.printing.specs.Replies.{joined, listed, entryTexts, timeText, selectionText}
+use Rattle.printing.specs.Replies.{listed, entryTexts, timeText, selectionText}
 use Rattle.printing.specs.Given.{answerRoom, mostEntries, keyRoom, kindRoom, itemRoom, numberRoom, candidateRoom, entryRoom, behind, candidateTexts, entryText, Printed}
 use Rattle.printing.proofs.KeyLists.{key-length}
 use Rattle.printing.proofs.Printing.{decimal-end}

@@ -20,12 +20,13 @@ use Rattle.words.proofs.Words.{word-at}
 use Rattle.words.proofs.Records.{recs-add, length-recs}
 use Rattle.machine.specs.Call.{keyBytes}
 use Rattle.lent_lists.specs.Lists.{keyIn, keysIn}
-use Rattle.lines.specs.Text.{hashDigits, keyText, Wrote}
-use Rattle.lines.proofs.Numerals.{length-numeral}
+use Rattle.machine.specs.Text.{hashDigits, keyText, joined}
+use Rattle.lines.specs.Text.{Wrote}
+use Rattle.machine.proofs.Numerals.{length-numeral}
 use borrow.Author.Tests.{eq-eqb, ne-eqb, eqb-true, eqb-false}
 use Rattle.machine.proofs.Tests.{by-test}
 use Rattle.lines.proofs.Writing.{wrote-more, wrote-none}
-use Rattle.printing.specs.Replies.{joined, listed, keyTexts}
+use Rattle.printing.specs.Replies.{listed, keyTexts}
 use Rattle.printing.specs.Given.{answerRoom, mostKeys, kindIn, nextText, Printed}
 
 -- the i-th key of a buffer

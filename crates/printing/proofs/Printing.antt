@@ -11,10 +11,11 @@ use Rattle.outcome.specs.declared.Listing.{Listing}
 use Rattle.outcome.specs.declared.Departure.{Departure}
 use Rattle.outcome.specs.Reply.{listingOf, departureOf}
 use Rattle.outcome.specs.Outcome.{Effect, Does}
-use Rattle.lines.specs.Text.{decimalDigits, decimal, Wrote}
-use Rattle.lines.proofs.Numerals.{length-numeral}
+use Rattle.machine.specs.Text.{decimalDigits, decimal, joined}
+use Rattle.lines.specs.Text.{Wrote}
+use Rattle.machine.proofs.Numerals.{length-numeral}
 use Rattle.lines.proofs.Writing.{wrote-more}
-use Rattle.printing.specs.Replies.{refusalText, joined, listed, keyTexts, replyText}
+use Rattle.printing.specs.Replies.{refusalText, listed, keyTexts, replyText}
 use Rattle.printing.specs.Given.{answerRoom, Printed, ReplyPrinted, Carried}
 
 -- where a number's text ends

@@ -11,7 +11,8 @@ use Rattle.machine.specs.State.{Candidate, Entry}
 use Rattle.machine.specs.Call.{Buffer, keyBytes, ownerBytes, Ask, Call, On}
 use Rattle.machine.specs.Step.{Reply, answerBytes}
 use Rattle.outcome.specs.Outcome.{Effect, Does}
-use Rattle.lines.specs.Text.{decimalDigits, decimal, hashDigits, boolText, keyText, itemText, Wrote}
+use Rattle.machine.specs.Text.{decimalDigits, decimal, hashDigits, boolText, keyText, itemText}
+use Rattle.lines.specs.Text.{Wrote}
 use Rattle.printing.specs.Replies.{replyText}
 
 -- ---- room

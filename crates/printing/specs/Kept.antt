@@ -2,8 +2,8 @@
 use Prim.Native.Nat.{ℕ}
 use mathlib.Core.List.{List, []}
 use Rattle.machine.specs.State.{Entry}
-use Rattle.machine.specs.Call.{Claim, Arrange, Call, Open, On}
-use Rattle.machine.specs.Step.{Reply, Refused, Number, Keys, Left, Entries, Chosen, Summed, Owned}
+use Rattle.machine.specs.Call.{Claim, Arrange, Call, Open, On, Restore}
+use Rattle.machine.specs.Step.{Reply, Refused, Number, Keys, Left, Entries, Chosen, Summed, Owned, Saved}
 use Rattle.reading.specs.Line.{Line, Asks, Take, Send, Part}
 use Rattle.asking.specs.Calls.{answerBuffer}
 
@@ -40,6 +40,7 @@ chosenOr l (Entries m) = l
 chosenOr l (Chosen considered m next) = m
 chosenOr l (Summed s) = l
 chosenOr l (Owned passed m) = l
+chosenOr l (Saved t) = l
 
 -- the entries of a reply, if it lists entries; else what was kept
 abbrev pub entriesOr : List Entry → Reply → List Entry
@@ -51,6 +52,7 @@ entriesOr l (Entries m) = m
 entriesOr l (Chosen considered m next) = l
 entriesOr l (Summed s) = l
 entriesOr l (Owned passed m) = l
+entriesOr l (Saved t) = l
 
 -- "An `ok` of an `open` empties the kept plan, take and arrangement; nothing else does."
 abbrev pub afterOpening : KeptLists → Reply → KeptLists
@@ -62,10 +64,12 @@ afterOpening k (Entries m) = k
 afterOpening k (Chosen considered m next) = k
 afterOpening k (Summed s) = k
 afterOpening k (Owned passed m) = k
+afterOpening k (Saved t) = k
 
 -- "`take` does not use the plan up."
 abbrev pub keptAfter : Line → Reply → KeptLists → KeptLists
 keptAfter (Asks (Open L Q)) y k = afterOpening k y
+keptAfter (Asks (Restore x)) y k = k
 keptAfter (Asks (On a)) y k = record { plan = chosenOr (k .plan) y; taken = k .taken; arranged = k .arranged }
 keptAfter (Take now) y k = record { plan = k .plan; taken = entriesOr (k .taken) y; arranged = k .arranged }
 keptAfter (Send ws) y k = record { plan = k .plan; taken = k .taken; arranged = entriesOr (k .arranged) y }

@@ -15,6 +15,9 @@ unfoldable pub joined : List (List ℕ) → List ℕ
 joined [] = []
 joined (t ∷ []) = t
 joined (t ∷ u ∷ ts) = t ++ (44 ∷ joined (u ∷ ts))
+use Rattle.machine.specs.Call.{Call, Open, Restore, On}
+use Rattle.machine.specs.Step.{Reply, Refused, Number, Keys, Left, Entries, Chosen, Summed, Saved}
+use Rattle.machine.specs.Text.{decimal, boolText, keyText, itemText, joined}
 
 -- "An empty list is `-`."
 abbrev pub listed : List (List ℕ) → List ℕ
@@ -56,6 +59,7 @@ unreadable = 9
 -- a reply's number; an opening's is `ok`
 abbrev pub numberText : Call → ℕ → List ℕ
 numberText (Open L Q) n = 111 ∷ 107 ∷ []
+numberText (Restore x) n = decimal n
 numberText (On a) n = decimal n
 
 -- a time, or `none`
@@ -76,3 +80,5 @@ replyText c (Entries l) = listed (entryTexts l)
 replyText c (Chosen considered l next) = selectionText considered l next
 replyText c (Summed s) = joined (decimal (s .held) ∷ decimal (s .free) ∷ decimal (s .preferred) ∷ decimal (s .permille) ∷ [])
 replyText c (Owned passed l) = joined (decimal passed ∷ ownerTexts l)
+-- no word asks for a listing; its length would be told
+replyText c (Saved t) = decimal (length t)

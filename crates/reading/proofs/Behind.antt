@@ -11,9 +11,9 @@ use Rattle.ident.specs.Words.{hashBytes}
 use Rattle.words.specs.Words.{number}
 use Rattle.machine.specs.Call.{Ask, On}
 use Rattle.lent_lists.specs.Lists.{hashesIn}
-use Rattle.lines.specs.Fields.{hashOf, rest}
+use Rattle.machine.specs.Fields.{hashOf, rest, taking}
 use Rattle.reading.specs.declared.hashes.Hashes.the-variants.{None, Are}
-use Rattle.reading.specs.Line.{Line, Asks, taking, listThen}
+use Rattle.reading.specs.Line.{Line, Asks, listThen}
 use Rattle.reading.specs.Lists.{listCall}
 use Rattle.reading.specs.Given.{mostHashes, storedBytes, hashesOf, HashesGiven}
 use Rattle.reading.proofs.Bytes.{numeral-some}

@@ -8,8 +8,8 @@ use lib.Dec.{leb, eqb}
 use lib.ListN.{length, drop, length-drop}
 use borrow.Author.Tests.{leb-true}
 use Rattle.machine.proofs.Tests.{by-test}
-use Rattle.lines.specs.Fields.{numeralOf, push, fields, rest}
-use Rattle.reading.specs.Line.{Line, withValue}
+use Rattle.machine.specs.Fields.{numeralOf, push, fields, rest, withValue}
+use Rattle.reading.specs.Line.{Line}
 
 -- ---- the bytes of fields, a comma counted with each
 

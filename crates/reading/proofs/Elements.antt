@@ -6,10 +6,10 @@ use mathlib.Core.Option.{Option, none, some}
 use native.Mathlib.Nat.{mul-suc}
 use native.Mathlib.Omega.{arith}
 use lib.ListN.{length}
-use Rattle.lines.specs.Fields.{numberOf, rest}
+use Rattle.machine.specs.Fields.{numberOf, rest, taking, ending, elementsThen}
 use Rattle.reading.specs.declared.hashes.ListAt.{ListAt}
 use Rattle.reading.specs.declared.hashes.ListAt.the-variants.{Not, Is}
-use Rattle.reading.specs.Line.{Line, taking, ending, Reader, elementsThen, listThen}
+use Rattle.reading.specs.Line.{Line, Reader, listThen}
 use Rattle.reading.specs.Given.{At, thenOf, ElementRead, FieldRead, ElementsRead, ElementsAs, ListRead}
 use Rattle.reading.proofs.Taking.{field-not, field-is, ending-end, ending-more}
 use Rattle.reading.proofs.Bytes.{bytes, bytes-rest, no-value}

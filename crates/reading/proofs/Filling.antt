@@ -10,13 +10,13 @@ use lib.ListN.{length, drop, getD}
 use lib.Seq.{drop-cons, drop-length}
 use borrow.Author.Tests.{eq-eqb, ne-eqb}
 use Rattle.ident.specs.Number.{Key, Item}
-use Rattle.lines.specs.Fields.{numberOf, boolOf, hashOf, keyOf, itemOf, rest}
+use Rattle.machine.specs.Fields.{numberOf, boolOf, hashOf, keyOf, itemOf, rest, taking, ending}
 use Rattle.reading.specs.declared.forms.Values as forms
 use Rattle.reading.specs.declared.forms.ValuesAt.{ValuesAt}
 use Rattle.reading.specs.declared.forms.ValuesAt.the-variants.{Not, Is}
 use Rattle.reading.specs.declared.forms.Whole.{Whole}
 use Rattle.reading.specs.declared.forms.Whole.the-variants.{Not as NoWhole, Is as IsWhole}
-use Rattle.reading.specs.Line.{Line, taking, ending}
+use Rattle.reading.specs.Line.{Line}
 use Rattle.reading.specs.Forms.{Values, blank, Then, keyField, itemField, isHash, isBool, putKey, putItem, putHash, putNumber, putBool, plainThen, fieldThen, formThen}
 use Rattle.reading.specs.Given.{At, FieldRead, valuesOf, thenValues, PlainTaken, FieldTaken, FormRead, wholeLine, WholeRead}
 use Rattle.reading.proofs.Taking.{field-not, field-is, ending-end, ending-more}

@@ -5,9 +5,9 @@ use mathlib.Core.List.{List, [], _∷_}
 use mathlib.Core.Option.{Option, none, some}
 use native.Mathlib.Omega.{arith}
 use lib.ListN.{length, take, drop}
-use Rattle.lines.specs.Fields.{before, rest}
+use Rattle.machine.specs.Fields.{before, rest, withValue, taking, ending}
 use Rattle.lines.proofs.Splitting.{rest-field, rest-past}
-use Rattle.reading.specs.Line.{Line, withValue, taking, ending, Reader}
+use Rattle.reading.specs.Line.{Line, Reader}
 use Rattle.reading.specs.Given.{At, thenOf, ElementRead, FieldRead}
 
 taking-none : {A : Type 0} (read : List ℕ → Option A) (k : A → List (List ℕ) → Option Line) → taking read k [] ≡ none

@@ -11,8 +11,8 @@ use Rattle.ident.specs.declared.ItemKind.{ItemKind}
 use Rattle.ident.specs.declared.ItemKind.the-variants.{Transaction}
 use Rattle.ident.specs.Number.{Key, Item}
 use Rattle.machine.specs.State.{Candidate}
-use Rattle.lines.specs.Fields.{numberOf, boolOf, hashOf, keyOf, itemOf}
-use Rattle.reading.specs.Line.{Line, taking}
+use Rattle.machine.specs.Fields.{numberOf, boolOf, hashOf, keyOf, itemOf, taking}
+use Rattle.reading.specs.Line.{Line}
 
 -- the values of a line's fields; zero where it has no such field. The hash is the key's, the item's, or stands alone.
 pub record Values : Type 0 where

@@ -11,7 +11,7 @@ use Rattle.words.specs.Words.{number, recs}
 use Rattle.regions.specs.Rows.{quadNumber}
 use Rattle.machine.specs.Call.{Ask, On}
 use Rattle.lent_lists.specs.Lists.{hashesIn}
-use Rattle.lines.specs.Fields.{rest}
+use Rattle.machine.specs.Fields.{rest, taking, ending, elementsThen}
 use Rattle.reading.specs.declared.fields.NumberAt.{NumberAt}
 use Rattle.reading.specs.declared.fields.NumberAt.the-variants.{Not as NoNumber, Is as IsNumber}
 use Rattle.reading.specs.declared.fields.BoolAt.{BoolAt}
@@ -31,7 +31,7 @@ use Rattle.reading.specs.declared.hashes.ListAt.{ListAt}
 use Rattle.reading.specs.declared.hashes.ListAt.the-variants.{Not as NoList, Is as IsList}
 use Rattle.reading.specs.declared.hashes.Hashes.{Hashes}
 use Rattle.reading.specs.declared.hashes.Hashes.the-variants.{None as NoHashes, Are as AreHashes}
-use Rattle.reading.specs.Line.{Line, Asks, taking, ending, Reader, elementsThen}
+use Rattle.reading.specs.Line.{Line, Asks, Reader}
 use Rattle.reading.specs.Forms.{Values, blank, Then, plainThen, fieldThen, formThen}
 use Rattle.reading.specs.Lists.{listCall}
 

@@ -5,8 +5,8 @@ use mathlib.Core.Option.{Option}
 use Rattle.ident.specs.Number.{Key, Item}
 use Rattle.machine.specs.Wrapper.{Offer}
 use Rattle.machine.specs.Call.{Ask, On}
-use Rattle.lines.specs.Fields.{numberOf, hashOf, keyOf, itemOf}
-use Rattle.reading.specs.Line.{Line, Asks, Send, taking, Reader, listThen}
+use Rattle.machine.specs.Fields.{numberOf, hashOf, keyOf, itemOf, taking}
+use Rattle.reading.specs.Line.{Line, Asks, Send, Reader, listThen}
 
 -- of hashes
 unfoldable pub listCall : (List ℕ → Ask) → List (List ℕ) → Option Line

@@ -1,5 +1,5 @@
 // A line's fields one after the other, each found behind the comma that ends the one before it.
-ghost use Rattle.lines.specs.Fields.{numberOf, boolOf, hashOf, keyOf, itemOf};
+ghost use Rattle.machine.specs.Fields.{numberOf, boolOf, hashOf, keyOf, itemOf};
 ghost use Rattle.reading.specs.Given.{FieldRead, numberAt, boolAt, hashAt, keyAt, itemAt};
 
 // A field as a value, with the index where it ends.

@@ -2,10 +2,12 @@
 use Prim.Native.Nat.{ℕ}
 use mathlib.Core.Path.{_≡_, refl, subst, _∙_}
 use mathlib.Core.List.{List, [], _∷_}
+use mathlib.Core.Option.{some}
 use lib.ListN.{length}
 use Rattle.machine.specs.State.{State}
 use Rattle.machine.specs.Sound.{Sound}
-use Rattle.machine.specs.Call.{Call, Open, openingRefusal}
+use Rattle.machine.specs.Listing.{readListing}
+use Rattle.machine.specs.Call.{Call, Open, Restore, openingRefusal, restoreRefusal}
 use Rattle.machine.specs.Step.{empty, step}
 use Rattle.machine.specs.Typed.{Each, CallTyped}
 use Rattle.machine.specs.Demand3.{run, Bounds}
@@ -13,7 +15,7 @@ use Rattle.machine.proofs.Demand3.{demand-3}
 use Rattle.store.specs.Image.{SoundStore, Bytes}
 use Rattle.outcome.specs.Outcome.{Effect, Does}
 use Rattle.outcome.specs.Steps.{Stepped}
-use Rattle.outcome.proofs.Calls.{opened, does-steps, does-open}
+use Rattle.outcome.proofs.Calls.{opened, read, does-steps, does-open, does-read}
 use Rattle.tracker.specs.Tracked.{Ran, lastStore, Agrees, Follows, Tracked}
 
 -- ---- by induction over the list
@@ -74,3 +76,10 @@ pub tracked-open : (b : List ℕ) (L Q : ℕ) (e : Effect) (calls : List Call) (
 tracked-open b L Q e calls es z p t r =
     let q = does-open b e L Q z p (r .0) in
     (q, track calls es (empty L Q) (e .store) (record { sound = q .sound; state = q .state; bytes = q .bytes; long = refl }) t (r .1))
+
+-- "from .. any sound store": a list that begins with the reading of a listing that is carried out, on any store
+pub tracked-restored : (b x : List ℕ) (t : State) (e : Effect) (calls : List Call) (es : List Effect) → readListing x ≡ some t → restoreRefusal (length b) (some t) ≡ 0 → Bytes b
+    → Each CallTyped calls → Ran b (Restore x ∷ calls) (e ∷ es) → Stepped b (read t) e × Tracked (e .store) t calls es
+tracked-restored b x t e calls es g z p w r =
+    let q = does-read b e x t g z p (r .0) in
+    (q, track calls es t (e .store) (record { sound = q .sound; state = q .state; bytes = q .bytes; long = refl }) w (r .1))

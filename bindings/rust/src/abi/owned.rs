@@ -165,6 +165,14 @@ unsafe extern "C" {
         answer: *mut u8,
         answer_length: usize,
         passed: &mut u64,
+    /// The listing of the tracker's state, in the answer: so many bytes as `written` says. The store is only
+    /// read.
+    pub fn tracker_owned_save(
+        store: *const u8,
+        length: usize,
+        answer: *mut u8,
+        answer_length: usize,
+        written: &mut u64,
     ) -> u64;
     /// The connection is asked for the package info of the transaction with that wtxid, whose parents are
     /// given in 32 bytes each. The reply is 0 if the hash is owned, if the connection owns 100 requests, or

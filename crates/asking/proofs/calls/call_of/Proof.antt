@@ -2,7 +2,7 @@
 use mathlib.Core.Path.{_∙_}
 use native.Mathlib.Omega.{arith}
 use lib.ListN.{length-take}
-use Rattle.lines.proofs.Parting.{end-most}
+use Rattle.machine.proofs.Parting.{end-most}
 use Rattle.asking.proofs.Worded.{worded}
 use borrow.Author.Needs.{needs}
 use Rattle.asking.proofs.calls.call_of.Statement.{statement}

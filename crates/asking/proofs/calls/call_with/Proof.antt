@@ -1,7 +1,7 @@
 -- `asking::calls::call_with` meets its contract.
 use Prim.Native.Nat.{_+_}
 use mathlib.Core.Path.{refl}
-use Rattle.lines.specs.Fields.{rest}
+use Rattle.machine.specs.Fields.{rest}
 use Rattle.asking.proofs.Worded.{with-word}
 use borrow.Author.Needs.{needs}
 use Rattle.asking.proofs.calls.call_with.Statement.{statement}

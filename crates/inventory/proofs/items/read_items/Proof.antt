@@ -4,8 +4,7 @@ use mathlib.Core.Path.{_≡_, ap, _∙_}
 use native.Mathlib.Omega.{arith}
 use lib.ListN.{length}
 use Rattle.lent_lists.specs.Items.{itemBytes, itemIn}
-use Rattle.lines.specs.Fields.{itemOf}
-use Rattle.reading.specs.Line.{taking}
+use Rattle.machine.specs.Fields.{itemOf, taking}
 use Rattle.reading.specs.Given.{itemAt, ElementsRead}
 use Rattle.reading.proofs.Elements.{none-read, no-element, one-more}
 use Rattle.reading.proofs.Stored.{none-stored}

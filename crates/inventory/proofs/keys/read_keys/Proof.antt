@@ -5,8 +5,7 @@ use native.Mathlib.Omega.{arith}
 use lib.ListN.{length}
 use Rattle.machine.specs.Call.{keyBytes}
 use Rattle.lent_lists.specs.Lists.{keyIn, keysIn}
-use Rattle.lines.specs.Fields.{keyOf}
-use Rattle.reading.specs.Line.{taking}
+use Rattle.machine.specs.Fields.{keyOf, taking}
 use Rattle.reading.specs.Given.{keyAt, ElementsRead}
 use Rattle.reading.proofs.Elements.{none-read, no-element, one-more}
 use Rattle.reading.proofs.Stored.{none-stored}

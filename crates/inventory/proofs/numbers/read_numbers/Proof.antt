@@ -4,8 +4,7 @@ use mathlib.Core.Path.{_≡_, ap, _∙_}
 use native.Mathlib.Omega.{arith}
 use lib.ListN.{length}
 use Rattle.words.specs.Words.{number}
-use Rattle.lines.specs.Fields.{numberOf}
-use Rattle.reading.specs.Line.{taking}
+use Rattle.machine.specs.Fields.{numberOf, taking}
 use Rattle.reading.specs.Given.{numberAt, ElementsRead}
 use Rattle.reading.proofs.Elements.{none-read, no-element, one-more}
 use Rattle.reading.proofs.Stored.{none-stored}

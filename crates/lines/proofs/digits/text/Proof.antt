@@ -1,6 +1,6 @@
 -- `lines::digits::text` meets its contract.
 use mathlib.Core.Path.{sym}
-use Rattle.lines.proofs.DigitBytes.{text-figure, text-letter}
+use Rattle.machine.proofs.DigitBytes.{text-figure, text-letter}
 use borrow.Author.Needs.{needs}
 use Rattle.lines.proofs.digits.text.Statement.{statement}
 use Rattle.lines.proofs.digits.text.Tie as tie

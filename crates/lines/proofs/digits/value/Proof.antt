@@ -1,6 +1,6 @@
--- `lines::digits::value` meets its contract: a law of proofs/DigitBytes for each range of bytes.
+-- `lines::digits::value` meets its contract: a law of machine/proofs/DigitBytes for each range of bytes.
 use mathlib.Core.Path.{sym}
-use Rattle.lines.proofs.DigitBytes.{digit-below, digit-figure, digit-between, digit-letter, digit-above}
+use Rattle.machine.proofs.DigitBytes.{digit-below, digit-figure, digit-between, digit-letter, digit-above}
 use borrow.Author.Needs.{needs}
 use Rattle.lines.proofs.digits.value.Statement.{statement}
 use Rattle.lines.proofs.digits.value.Tie as tie

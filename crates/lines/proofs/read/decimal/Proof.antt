@@ -6,7 +6,7 @@ use native.Mathlib.Nat.{pos-of-ne-zero}
 use native.Mathlib.Omega.{arith}
 use lib.ListN.{length, drop}
 use borrow.Author.Tests.{not-true, not-false}
-use Rattle.lines.specs.Fields.{numeralOf, further}
+use Rattle.machine.specs.Fields.{numeralOf, further}
 use Rattle.lines.proofs.Scans.{scan-empty, scan-not, scan-start, scan-zero, scan-stop, scan-step, scan-end, fits-below}
 use Rattle.lines.proofs.read.decimal.Statement.{statement}
 use Rattle.lines.proofs.read.decimal.Tie as tie

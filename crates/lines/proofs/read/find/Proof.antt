@@ -4,8 +4,8 @@ use Prim.Native.Nat.{_≤_, _+_, _-_}
 use mathlib.Core.Path.{_≡_}
 use native.Mathlib.Omega.{arith}
 use lib.ListN.{length, drop}
-use Rattle.lines.specs.Fields.{before}
-use Rattle.lines.proofs.Parting.{before-end, before-here, before-past}
+use Rattle.machine.specs.Fields.{before}
+use Rattle.machine.proofs.Parting.{before-end, before-here, before-past}
 use Rattle.lines.proofs.read.find.Statement.{statement}
 use Rattle.lines.proofs.read.find.Tie as tie
 

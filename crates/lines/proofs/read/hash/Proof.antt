@@ -8,7 +8,7 @@ use lib.ListN.{length, drop}
 use borrow.Author.Tests.{not-true, not-false}
 use Rattle.ident.specs.Number.{top}
 use Rattle.regions.specs.Rows.{quadNumber}
-use Rattle.lines.specs.Fields.{hashOf, further}
+use Rattle.machine.specs.Fields.{hashOf, further}
 use Rattle.lines.proofs.Hashes.{quad-low}
 use Rattle.lines.proofs.Scans.{scan-empty, scan-not, scan-start, scan-zero, scan-stop, scan-step, scan-end, digit-room}
 use Rattle.lines.proofs.read.hash.Statement.{statement}

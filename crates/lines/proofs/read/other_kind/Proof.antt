@@ -1,10 +1,10 @@
 -- `lines::read::other_kind` meets its contract.
 use mathlib.Core.Path.{sym, ap, _∙_}
 use borrow.Author.Tests.{not-true, not-false}
-use Rattle.lines.specs.Fields.{otherKind}
+use Rattle.machine.specs.Fields.{otherKind}
 use Rattle.lines.specs.Values.{numberIn}
 use Rattle.lines.proofs.Letters.{other-named, other-kind}
-use Rattle.lines.proofs.RoundTrips.{type-text}
+use Rattle.machine.proofs.RoundTrips.{type-text}
 use borrow.Author.Needs.{needs}
 use Rattle.lines.proofs.read.other_kind.Statement.{statement}
 use Rattle.lines.proofs.read.other_kind.Tie as tie

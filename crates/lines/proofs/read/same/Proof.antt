@@ -4,7 +4,7 @@ use Prim.Native.Nat.{_≤_, _-_}
 use mathlib.Core.Path.{_≡_, sym, _∙_}
 use native.Mathlib.Omega.{arith}
 use lib.ListN.{length, drop}
-use Rattle.lines.specs.Fields.{sameText}
+use Rattle.machine.specs.Fields.{sameText}
 use Rattle.lines.proofs.Sameness.{differ-length, same-end, same-stop, same-step}
 use Rattle.lines.proofs.read.same.Statement.{statement}
 use Rattle.lines.proofs.read.same.Tie as tie

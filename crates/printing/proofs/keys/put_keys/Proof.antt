@@ -7,7 +7,8 @@ use native.Mathlib.Omega.{arith}
 use lib.ListN.{length}
 use Rattle.lent_lists.specs.Lists.{keysIn}
 use Rattle.lines.specs.Text.{Wrote}
-use Rattle.printing.specs.Replies.{joined, keyTexts}
+use Rattle.machine.specs.Text.{joined}
+use Rattle.printing.specs.Replies.{keyTexts}
 use Rattle.printing.proofs.KeyLists.{start-wrote, more-wrote, all-wrote, none-wrote}
 use Rattle.printing.proofs.keys.put_keys.Statement.{statement}
 use Rattle.printing.proofs.keys.put_keys.Tie as tie

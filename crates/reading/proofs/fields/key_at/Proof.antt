@@ -1,9 +1,9 @@
 -- `reading::fields::key_at` meets its contract.
 use mathlib.Core.Path.{sym, ap, _∙_}
 use native.Mathlib.Omega.{arith}
-use Rattle.lines.specs.Fields.{keyOf}
+use Rattle.machine.specs.Fields.{keyOf}
 use Rattle.lines.specs.Values.{keyIn}
-use Rattle.lines.proofs.Parting.{end-most}
+use Rattle.machine.proofs.Parting.{end-most}
 use Rattle.reading.proofs.Taking.{taking-past, taking-not, taking-is}
 use borrow.Author.Needs.{needs}
 use Rattle.reading.proofs.fields.key_at.Statement.{statement}

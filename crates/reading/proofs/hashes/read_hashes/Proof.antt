@@ -5,8 +5,7 @@ use native.Mathlib.Omega.{arith}
 use lib.ListN.{length}
 use Rattle.ident.specs.Words.{hashBytes}
 use Rattle.words.specs.Words.{number}
-use Rattle.lines.specs.Fields.{hashOf}
-use Rattle.reading.specs.Line.{taking}
+use Rattle.machine.specs.Fields.{hashOf, taking}
 use Rattle.reading.specs.Given.{hashAt, hashesOf, ElementsRead}
 use Rattle.reading.proofs.Elements.{none-read, no-element, one-more}
 use Rattle.reading.proofs.Stored.{none-stored}

@@ -2,8 +2,7 @@
 use mathlib.Core.Path.{refl, ap}
 use native.Mathlib.Omega.{arith}
 use Rattle.reading.specs.Given.{numberAt}
-use Rattle.lines.specs.Fields.{hashOf}
-use Rattle.reading.specs.Line.{taking}
+use Rattle.machine.specs.Fields.{hashOf, taking}
 use Rattle.reading.proofs.Elements.{no-count, too-long, no-list, more-fields, list-is}
 use Rattle.reading.proofs.Behind.{hash-takes, no-hashes, hashes-are}
 use borrow.Author.Needs.{needs}

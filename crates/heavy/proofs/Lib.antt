@@ -1,0 +1,5 @@
+pub mod Held
+pub mod Frequent
+pub mod Seeking
+pub mod Streams
+pub mod ListedStreams

@@ -1,0 +1,4 @@
+pub mod Placing
+pub mod Meeting
+pub mod Forms
+pub mod Stepping

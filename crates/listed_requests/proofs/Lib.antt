@@ -1,0 +1,10 @@
+pub mod Lines
+pub mod Crowds
+pub mod Together
+pub mod Counted
+pub mod Fitting
+pub mod Gathering
+pub mod Repeats
+pub mod Judging
+pub mod Passing
+pub mod Advancing
