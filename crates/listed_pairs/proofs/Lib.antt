@@ -2,3 +2,4 @@ pub mod Facing
 pub mod Seeking
 pub mod Pairing
 pub mod Comparing
+pub mod Verdict

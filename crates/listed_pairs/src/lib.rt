@@ -124,6 +124,16 @@ fn side_by_side(
     Both { fit, first, second }
 }
 
+fn pair_at(verdict: u64, first: usize, second: usize) -> Pair
+    ensures { λ r. ⌜ r ≡ record { verdict = verdict; first = first; second = second } ⌝ }
+{
+    Pair {
+        verdict,
+        first,
+        second,
+    }
+}
+
 // The requests that are listed at two indices: a Txid request, unless none is left, and a Wtxid request.
 fn compare(
     text: &[u8],
@@ -140,61 +150,33 @@ fn compare(
     let from = f.end;
     let front = f.line;
     let RequestIn::Is(r) = front else {
-        return Pair {
-            verdict: 1,
-            first: i,
-            second: j,
-        };
+        return pair_at(1, i, j);
     };
     let kind = r.kind;
     if is_wtxid(kind) {
-        return Pair {
-            verdict: 1,
-            first: i,
-            second: j,
-        };
+        return pair_at(1, i, j);
     }
     let g = request_at(text, j, wtxids, parents);
     let to = g.end;
     let back = g.line;
     let RequestIn::Is(w) = back else {
-        return Pair {
-            verdict: 1,
-            first: i,
-            second: j,
-        };
+        return pair_at(1, i, j);
     };
     let h = r.hash;
     let k = w.hash;
     if regions::quad_less(h, k) {
         let first = skip(text, from, r, conns, wtxids, parents);
-        return Pair {
-            verdict: 2,
-            first,
-            second: j,
-        };
+        return pair_at(2, first, j);
     }
     if regions::quad_less(k, h) {
         let second = skip(text, to, w, conns, wtxids, parents);
-        return Pair {
-            verdict: 2,
-            first: i,
-            second,
-        };
+        return pair_at(2, i, second);
     }
     let b = side_by_side(text, from, r, to, w, conns, wtxids, parents);
     if !b.fit {
-        return Pair {
-            verdict: 0,
-            first: i,
-            second: j,
-        };
+        return pair_at(0, i, j);
     }
-    Pair {
-        verdict: 2,
-        first: b.first,
-        second: b.second,
-    }
+    pair_at(2, b.first, b.second)
 }
 
 // Whether the two requests of each hash that are listed from an index on fit together, where each request fits by itself.

@@ -11,7 +11,7 @@ use Rattle.ident.specs.declared.Kind.the-variants.{Wtxid}
 use Rattle.ident.specs.Number.{Key, place}
 use Rattle.regions.specs.declared.Quad.{Quad}
 use Rattle.regions.specs.Rows.{quadNumber}
-use Rattle.machine.specs.Limits.{maxAlternates}
+use Rattle.machine.specs.Limits.{maxAnnouncements, maxPlaces, maxAlternates}
 use Rattle.machine.specs.State.{Candidate, Request, Table, withCandidates}
 use Rattle.machine.specs.Table.{one}
 use Rattle.machine.specs.Claim.{elem, sameKind}
@@ -140,9 +140,9 @@ pub record Begun (p : Pass) : Type 0 where
 abbrev pub leftFits : ℕ → ℕ → Pass → Table → Bool
 leftFits L Q p t = passFits (record { announcements = L; alternates = maxAlternates }) Q (lowestOf p) (p .held) (p .taken) t
 
--- neither limit is passed
+-- L and Q are such as opening takes, and neither is passed
 abbrev pub Within : ℕ → ℕ → Pass → Type 0
-Within L Q p = (p .held ≤ L) × (p .taken ≤ Q)
+Within L Q p = (L ≤ maxAnnouncements) × (Q ≤ maxPlaces) × (p .held ≤ L) × (p .taken ≤ Q)
 
 -- a package place, by whether there is a package
 abbrev pub placeFor : Bool → Bool → ℕ

@@ -2,6 +2,7 @@
 use crate::forms::request_at;
 use crate::lawful::judge;
 ghost use mathlib.Core.Path.{_≡_};
+ghost use mathlib.Core.Bool.{false};
 ghost use Prim.Native.Nat.{_<_, _≤_};
 ghost use lib.Dec.{leb};
 ghost use lib.ListN.{length};
@@ -71,6 +72,16 @@ fn place_of(info: bool, packed: bool) -> u64
     0
 }
 
+fn stopped(p: Pass, end: usize) -> Step
+    ensures { λ s. ⌜ s ≡ record { good = false; pass = p; end = end } ⌝ }
+{
+    Step {
+        good: false,
+        pass: p,
+        end,
+    }
+}
+
 // The request at an index.
 fn advance(
     text: &[u8],
@@ -82,54 +93,34 @@ fn advance(
     wtxids: &mut [u8],
     parents: &mut [u8],
 ) -> Step
-    requires { ⌜ (at < length (now text)) × (limit ≤ maxAnnouncements) × (places ≤ maxPlaces) × Within limit places p × (mostGathered ≤ length (now conns)) × (listRoom ≤ length (now wtxids)) × (listRoom ≤ length (now parents)) ⌝ }
+    requires { ⌜ (at < length (now text)) × Within limit places p × (mostGathered ≤ length (now conns)) × (listRoom ≤ length (now wtxids)) × (listRoom ≤ length (now parents)) ⌝ }
     ensures { λ s. ⌜ Stepped (now (text .entry)) at limit places p s ⌝ }
 {
     let f = request_at(text, at, wtxids, parents);
     let end = f.end;
     let line = f.line;
     let RequestIn::Is(r) = line else {
-        return Step {
-            good: false,
-            pass: p,
-            end,
-        };
+        return stopped(p, end);
     };
     let kind = r.kind;
     let hash = r.hash;
     if !rises(p, kind, hash) {
-        return Step {
-            good: false,
-            pass: p,
-            end,
-        };
+        return stopped(p, end);
     }
     let info = r.info;
     let package = r.packed;
     let packed = package.held;
     let g = judge(text, end, r, conns, wtxids, parents);
     if !g.fit {
-        return Step {
-            good: false,
-            pass: p,
-            end,
-        };
+        return stopped(p, end);
     }
     let held = p.held + g.count as u64;
     if limit < held {
-        return Step {
-            good: false,
-            pass: p,
-            end,
-        };
+        return stopped(p, end);
     }
     let taken = p.taken + place_of(info, packed);
     if places < taken {
-        return Step {
-            good: false,
-            pass: p,
-            end,
-        };
+        return stopped(p, end);
     }
     Step {
         good: true,

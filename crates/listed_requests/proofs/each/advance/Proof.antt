@@ -9,52 +9,79 @@ use Rattle.listed_requests.proofs.each.advance.Tie as tie
 
 returns : tie.Need-returns
 returns c =
-    let d = c .before .before .before .before .before .before in
-    let e = d .before .before .before .before .before .before .before in
-    let a = e .args in no-request (d .request-at .ensures) (a .limit) (a .places) (a .p) (c .enum-told .given .1)
+    let a = c .before .before .before .before .before .before .before .before .before .before .before .before .before .before .args in
+    rw (c .stopped .ensures) (no-request (c .before .before .before .before .before .before .before .request-at .ensures) (a .limit) (a .places) (a .p) (c .before .enum-told .given .1))
 
 returns-2 : tie.Need-returns-2
 returns-2 c =
-    let d = c .before .before .before .before in
+    let g = c .before .before .before .before .before in
+    let d = g in
     let e = d .before .before .before .before .before .before in
     let f = e .before .before .before .before .before .before .before in
     let a = f .args in
-    stops-order (e .request-at .ensures) (a .limit) (a .places) (a .p) (d .line .given .1) (c .before .rises .ensures) (not-true _ (c .if1 .taken))
+    rw (c .stopped2 .ensures) (stops-order (e .request-at .ensures) (a .limit) (a .places) (a .p) (d .line .given .1) (c .before .before .rises .ensures) (not-true _ (c .before .if1 .taken)))
 
 judge-requires : tie.Need-judge-requires
 judge-requires c κs =
     let d = c .before .before .before .before .before .before .before .before .before .before .before .before .before .before in
     let e = d .before .before .before .before .before .before .before in (
       d .request-at .ensures .inside,
-      e .pre .4,
-      omega (arith, d .request-at .kept .1 .1 .0, e .pre .5),
-      omega (arith, d .request-at .kept .1 .1 .1 .0, e .pre .6),
+      e .pre .2,
+      omega (arith, d .request-at .kept .1 .1 .0, e .pre .3),
+      omega (arith, d .request-at .kept .1 .1 .1 .0, e .pre .4),
     )
+
+same-length-6 : tie.Need-same-length-6
+same-length-6 c =
+    let d = c .before .before .before .before .before .before .before .before .before in
+    let e = d .before .before .before .before .before .before .before .before .before .before .before .before .before .before .before in
+    d .judge .kept .1 .1 .1 .1 .0 ∙ e .request-at .kept .1 .1 .0
+
+same-length-7 : tie.Need-same-length-7
+same-length-7 c =
+    let d = c .before .before .before .before .before .before .before .before .before in
+    let e = d .before .before .before .before .before .before .before .before .before .before .before .before .before .before .before in
+    d .judge .kept .1 .1 .1 .1 .1 .0 ∙ e .request-at .kept .1 .1 .1 .0
 
 returns-3 : tie.Need-returns-3
 returns-3 c =
-    let d = c .before .before .before .before .before .before .before .before in
+    let d = c .before .before .before .before .before .before .before .before .before in
     let e = d .before .before .before .before .before .before .before .before .before in
     let f = e .before .before .before .before .before .before in
     let g = f .before .before .before .before .before .before .before in
     let a = g .args in
-    stops-one (f .request-at .ensures) (a .limit) (a .places) (a .p) (e .line .given .1) (d .judge .ensures) (not-true _ (c .if2 .taken))
+    rw (c .stopped3 .ensures)
+    (stops-one (f .request-at .ensures) (a .limit) (a .places) (a .p) (e .line .given .1) (d .judge .ensures) (not-true _ (c .before .if2 .taken)))
 
 add-held : tie.Need-add-held
 add-held c =
     let d = c .before .before .before .before .before .before .before .before .before in
     let e = d .before .before .before .before .before .before .before .before .before .before .before .before .before .before .before .before .before .before in
     let f = e .before .before .before .before in
-    omega (arith, d .judge .ensures .bound, f .pre .1, f .pre .3 .0)
+    omega (arith, d .judge .ensures .bound, f .pre .1 .0, f .pre .1 .2)
+
+same-length-9 : tie.Need-same-length-9
+same-length-9 c =
+    let d = c .before .before .before .before .before .before .before .before .before .before .before in
+    let e = d .before .before .before .before .before .before .before .before .before .before .before .before .before .before .before in
+    d .judge .kept .1 .1 .1 .1 .0 ∙ e .request-at .kept .1 .1 .0
+
+same-length-10 : tie.Need-same-length-10
+same-length-10 c =
+    let d = c .before .before .before .before .before .before .before .before .before .before .before in
+    let e = d .before .before .before .before .before .before .before .before .before .before .before .before .before .before .before in
+    d .judge .kept .1 .1 .1 .1 .1 .0 ∙ e .request-at .kept .1 .1 .1 .0
 
 returns-4 : tie.Need-returns-4
 returns-4 c =
-    let d = c .before .before .before .before .before .before .before .before .before .before in
+    let h = c .before .before .before .before .before .before .before .before .before .before .before in
+    let d = h in
     let e = d .before .before .before .before .before .before .before .before .before in
     let f = e .before .before .before .before .before .before in
     let g = f .before .before .before .before .before .before .before in
     let a = g .args in
-    stops-held (f .request-at .ensures) (a .limit) (a .places) (a .p) (e .line .given .1) (d .judge .ensures) (not-false _ (c .before .before .if2 .left)) refl (c .if3 .taken)
+    rw (c .stopped4 .ensures)
+    (stops-held (f .request-at .ensures) (a .limit) (a .places) (a .p) (e .line .given .1) (d .judge .ensures) (not-false _ (c .before .before .before .if2 .left)) refl (c .before .if3 .taken))
 
 add-taken : tie.Need-add-taken
 add-taken c =
@@ -62,29 +89,32 @@ add-taken c =
     let e = d .before .before .before in
     let f = e .before .before .before .before .before .before .before .before .before .before .before .before .before in
     let r = e .line .given .0 .0 in
-    omega (arith, c .before .place-of .ensures, place-most (r .info) (r .packed .held), f .pre .2, f .pre .3 .1)
-
-returns-5 : tie.Need-returns-5
-returns-5 c =
-    let d = c .before .before .before .before .before in
-    let e = d .before .before .before .before .before .before .before .before in
-    let f = e .before .before .before .before .before .before .before .before .before in
-    let g = f .before .before .before .before .before .before in
-    let h = g .before .before .before .before .before .before .before in
-    let a = h .args in
-    stops-taken (g .request-at .ensures) (a .limit) (a .places) (a .p) (f .line .given .1) (e .judge .ensures) (not-false _ (d .if2 .left)) (c .before .before .place-of .ensures) refl (c .if4 .taken)
+    omega (arith, c .before .place-of .ensures, place-most (r .info) (r .packed .held), f .pre .1 .1, f .pre .1 .3)
 
 same-length-12 : tie.Need-same-length-12
 same-length-12 c =
-    let d = c .before .before .before .before .before .before .before .before .before .before .before .before .before in
+    let d = c .before .before .before .before .before .before .before .before .before .before .before .before .before .before in
     let e = d .before .before .before .before .before .before .before .before .before .before .before .before .before .before .before in
     d .judge .kept .1 .1 .1 .1 .0 ∙ e .request-at .kept .1 .1 .0
 
 same-length-13 : tie.Need-same-length-13
 same-length-13 c =
-    let d = c .before .before .before .before .before .before .before .before .before .before .before .before .before in
+    let d = c .before .before .before .before .before .before .before .before .before .before .before .before .before .before in
     let e = d .before .before .before .before .before .before .before .before .before .before .before .before .before .before .before in
     d .judge .kept .1 .1 .1 .1 .1 .0 ∙ e .request-at .kept .1 .1 .1 .0
+
+returns-5 : tie.Need-returns-5
+returns-5 c =
+    let i = c .before .before .before .before .before .before in
+    let d = i in
+    let e = d .before .before .before .before .before .before .before .before in
+    let f = e .before .before .before .before .before .before .before .before .before in
+    let g = f .before .before .before .before .before .before in
+    let h = g .before .before .before .before .before .before .before in
+    let a = h .args in
+    rw (c .stopped5 .ensures)
+    (stops-taken (g .request-at .ensures) (a .limit) (a .places) (a .p) (f .line .given .1) (e .judge .ensures) (not-false _ (d .if2 .left)) (c .before .before .before .place-of .ensures) refl
+    (c .before .if4 .taken))
 
 same-length-15 : tie.Need-same-length-15
 same-length-15 c =
@@ -114,7 +144,7 @@ returns-6 c =
 pub advance-spec : {M : Type 1} → statement M
 advance-spec =
     tie.close
-    (tie.spec (λ c κs. search needs) (λ c. search needs) (λ c. search needs) (λ c. search needs) (λ c. search needs) returns (λ c κs. search needs) (λ c. search needs)
-    (λ c. search needs) returns-2 judge-requires (λ c. search needs) (λ c. search needs) (λ c. search needs) returns-3 add-held (λ c. search needs) (λ c. search needs)
-    (λ c. search needs) returns-4 (λ c κs. search needs) add-taken (λ c. search needs) same-length-12 same-length-13 returns-5 (λ c. search needs) same-length-15
-    same-length-16 returns-6)
+    (tie.spec (λ c κs. search needs) (λ c. search needs) (λ c. search needs) (λ c κs. search needs) (λ c. search needs) (λ c. search needs) returns (λ c κs. search needs)
+    (λ c κs. search needs) (λ c. search needs) (λ c. search needs) returns-2 judge-requires (λ c κs. search needs) (λ c. search needs) same-length-6 same-length-7
+    returns-3 add-held (λ c κs. search needs) (λ c. search needs) same-length-9 same-length-10 returns-4 (λ c κs. search needs) add-taken (λ c κs. search needs)
+    (λ c. search needs) same-length-12 same-length-13 returns-5 (λ c. search needs) same-length-15 same-length-16 returns-6)

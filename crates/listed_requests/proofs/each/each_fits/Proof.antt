@@ -30,15 +30,15 @@ loop-holds c =
     )
 
 advance-requires : tie.Need-advance-requires Inv-loop μ-loop
-advance-requires c κs = (
-  omega (arith, c .before .before .before .loop-test .taken),
-  c .before .before .before .before .before .before .before .before .before .pre .1,
-  c .before .before .before .before .before .before .before .before .before .pre .2,
-  (c .before .before .before .before .loop .inv .4, c .before .before .before .before .loop .inv .5),
-  omega (arith, c .before .before .before .before .loop .inv .3),
-  omega (arith, c .before .before .before .before .loop .inv .1, c .before .before .before .before .before .before .before .before .before .pre .3),
-  omega (arith, c .before .before .before .before .loop .inv .2, c .before .before .before .before .before .before .before .before .before .pre .4),
-)
+advance-requires c κs =
+    let d = c .before .before .before .before in
+    let p = d .before .before .before .before .before .pre in (
+      omega (arith, c .before .before .before .loop-test .taken),
+      (p .1, p .2, d .loop .inv .4, d .loop .inv .5),
+      omega (arith, d .loop .inv .3),
+      omega (arith, d .loop .inv .1, p .3),
+      omega (arith, d .loop .inv .2, p .4),
+    )
 
 same-length : tie.Need-same-length Inv-loop μ-loop
 same-length c =

@@ -18,24 +18,20 @@ each-fits-requires c κs =
     (s .pre .0, taken-limit (s .args .h .limit) (s .args .h .places) g, taken-places (s .args .h .limit) (s .args .h .places) g, s .pre .1, s .pre .2)
 
 returns-2 : tie.Need-returns-2
-returns-2 c =
-    let e = c .before .before .before .before .before in
-    bad-local (sym (e .before .before .before .before .sizes-taken .ensures) ∙ not-false _ (e .before .before .before .if1 .left)) (e .each-fits .ensures) (not-true _ (c .if2 .taken))
+returns-2 c = bad-local (c .before .before .before .before .before .each-fits .ensures) (not-true _ (c .if2 .taken))
 
 returns-3 : tie.Need-returns-3
 returns-3 c =
     let p = c .before .before .before .before .before in
-    let e = p .before .before .before .before .before .before .before .before in
-    bad-pairs (sym (e .before .before .before .before .sizes-taken .ensures) ∙ not-false _ (e .before .before .before .if1 .left)) (e .each-fits .ensures)
-    (not-false _ (p .before .before .before .if2 .left)) (p .pairs-fit .ensures) (not-true _ (c .if3 .taken))
+    bad-pairs (p .before .before .before .before .before .before .before .before .each-fits .ensures) (not-false _ (p .before .before .before .if2 .left)) (p .pairs-fit .ensures) (not-true _ (c .if3 .taken))
 
 returns-4 : tie.Need-returns-4
 returns-4 c =
     let l = c .before .before .before .before in
     let p = l .before .before .before .before .before .before .before .before in
     let e = p .before .before .before .before .before .before .before .before in
-    all-told (sym (e .before .before .before .before .sizes-taken .ensures) ∙ not-false _ (e .before .before .before .if1 .left)) (e .each-fits .ensures)
-    (not-false _ (p .before .before .before .if2 .left)) (p .pairs-fit .ensures) (not-false _ (l .before .before .before .if3 .left)) (l .light .ensures)
+    all-told (e .each-fits .ensures) (not-false _ (p .before .before .before .if2 .left)) (p .pairs-fit .ensures) (sym (e .before .before .before .before .sizes-taken .ensures) ∙ not-false _ (e .before .before .before .if1 .left))
+    (not-false _ (l .before .before .before .if3 .left)) (l .light .ensures)
 
 pub sound-lines-spec : {M : Type 1} → statement M
 sound-lines-spec =
