@@ -43,7 +43,7 @@ fn at_stage(stage: u64) -> Met
 }
 
 // Whether the key of kind k and hash h comes before that of kind l and hash g.
-fn comes_before(k: ident::Kind, h: regions::Quad, l: ident::Kind, g: regions::Quad) -> bool
+pub fn comes_before(k: ident::Kind, h: regions::Quad, l: ident::Kind, g: regions::Quad) -> bool
     ensures { λ r. ⌜ r ≡ ltb (place (record { kind = k; hash = quadNumber h })) (place (record { kind = l; hash = quadNumber g })) ⌝ }
 {
     match k {

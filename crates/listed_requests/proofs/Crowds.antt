@@ -155,7 +155,7 @@ module _ (h : ℕ) (small : h < top) (v w : Request → ℕ) (weighs : (r : Requ
 
 -- ---- the three counts at a hash
 
-all-in : (b : Bool) (cs : List Candidate) → b ≡ true → countIn (λ m. b) cs ≡ length cs
+pub all-in : (b : Bool) (cs : List Candidate) → b ≡ true → countIn (λ m. b) cs ≡ length cs
 unfolding countIn
 all-in true [] e = refl
 all-in true (c ∷ cs) e = omega (arith, all-in true cs refl)

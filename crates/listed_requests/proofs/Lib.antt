@@ -6,3 +6,5 @@ pub mod Fitting
 pub mod Gathering
 pub mod Repeats
 pub mod Judging
+pub mod Passing
+pub mod Advancing

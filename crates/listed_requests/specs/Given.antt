@@ -1,5 +1,5 @@
 -- What the contracts of the passes over a listing's requests say.
-use Prim.Native.Nat.{ℕ, _+_, _<_, _≤_}
+use Prim.Native.Nat.{ℕ, suc, _+_, _<_, _≤_}
 use mathlib.Core.Path.{_≡_}
 use mathlib.Core.Bool.{Bool, true, false, _&&_}
 use mathlib.Core.List.{List, _∷_, _++_}
@@ -8,13 +8,14 @@ use lib.Dec.{eqb}
 use lib.ListN.{length, take}
 use Rattle.ident.specs.declared.Kind.{Kind}
 use Rattle.ident.specs.declared.Kind.the-variants.{Wtxid}
-use Rattle.ident.specs.Number.{Key}
+use Rattle.ident.specs.Number.{Key, place}
 use Rattle.regions.specs.declared.Quad.{Quad}
 use Rattle.regions.specs.Rows.{quadNumber}
 use Rattle.machine.specs.Limits.{maxAlternates}
 use Rattle.machine.specs.State.{Candidate, Request, Table, withCandidates}
+use Rattle.machine.specs.Table.{one}
 use Rattle.machine.specs.Claim.{elem, sameKind}
-use Rattle.machine.specs.Listing.{Line, HeadLine, RequestLine, CandidateLine, Rest, RequestListed}
+use Rattle.machine.specs.Listing.{Line, HeadLine, RequestLine, CandidateLine, Rest, RequestListed, TableListed}
 use Rattle.machine.specs.SoundTest.{allFit}
 use Rattle.heavy.specs.Streams.{connectionsOf}
 use Rattle.listed_lines.specs.declared.line.Line as line-line
@@ -26,7 +27,9 @@ use Rattle.listed_lines.specs.Given.{requestIn, requestLine, candidateLine, lin
 use Rattle.listed_form.specs.Given.{Body, requestsOnly}
 use Rattle.listed_requests.specs.declared.candidates.Gathered.{Gathered}
 use Rattle.listed_requests.specs.declared.forms.Found.{Found}
-use Rattle.listed_requests.specs.Parts.{lineFits, oneFits}
+use Rattle.listed_requests.specs.declared.each.Pass.{Pass}
+use Rattle.listed_requests.specs.declared.each.Step.{Step}
+use Rattle.listed_requests.specs.Parts.{lineFits, oneFits, localFits, passFits}
 
 -- ---- a line as a candidate's, or as a request's
 
@@ -116,3 +119,48 @@ pub record Judged (b : List ℕ) (from : ℕ) (ps : List ℕ) (r : line-request.
   pub is : (ws : List ℕ) (q : Rest) → Body b from q → RequestListed (requestIn ws ps r) → g .fit ≡ oneFits maxAlternates (withCandidates (q .candidates) (requestIn ws ps r))
   pub count : (q : Rest) → Body b from q → g .fit ≡ true → g .count ≡ length (q .candidates)
   pub body : (q : Rest) → Body b from q → g .fit ≡ true → Body b (g .end) (requestsOnly (q .table))
+
+-- ---- one request after the other
+
+-- the least place that the next key may have
+abbrev pub lowest : Bool → Key → ℕ
+lowest false k = 0
+lowest true k = suc (place k)
+
+abbrev pub lowestOf : Pass → ℕ
+lowestOf p = lowest (p .started) (keyWith (p .kind) (p .hash))
+
+-- no request yet
+pub record Begun (p : Pass) : Type 0 where
+  pub first : p .started ≡ false
+  pub held : p .held ≡ 0
+  pub taken : p .taken ≡ 0
+
+-- what is left of the test at the requests t
+abbrev pub leftFits : ℕ → ℕ → Pass → Table → Bool
+leftFits L Q p t = passFits (record { announcements = L; alternates = maxAlternates }) Q (lowestOf p) (p .held) (p .taken) t
+
+-- a package place, by whether there is a package
+abbrev pub placeFor : Bool → Bool → ℕ
+placeFor info false = one info
+placeFor info true = 1
+
+-- the requests behind the first of t are left, with the same test
+pub record Further (b : List ℕ) (L Q : ℕ) (p : Pass) (t : Table) (s : Step) : Type 0 where
+  pub table : Table
+  pub body : Body b (s .end) (requestsOnly table)
+  pub listed : TableListed table
+  pub same : leftFits L Q p t ≡ leftFits L Q (s .pass) table
+
+-- the first request of those that are listed from an index on
+pub record Stepped (b : List ℕ) (at L Q : ℕ) (p : Pass) (s : Step) : Type 0 where
+  pub on : at < s .end
+  pub inside : s .end ≤ length b
+  pub held : s .good ≡ true → s .pass .held ≤ L
+  pub taken : s .good ≡ true → s .pass .taken ≤ Q
+  pub none : s .good ≡ false → (t : Table) → Body b at (requestsOnly t) → TableListed t → leftFits L Q p t ≡ false
+  pub is : s .good ≡ true → (t : Table) → Body b at (requestsOnly t) → TableListed t → Further b L Q p t s
+
+-- the requests that are listed from an index on, each by itself
+pub record EachFits (b : List ℕ) (from L Q : ℕ) (r : Bool) : Type 0 where
+  pub is : (t : Table) → Body b from (requestsOnly t) → TableListed t → r ≡ localFits (record { announcements = L; alternates = maxAlternates }) Q t

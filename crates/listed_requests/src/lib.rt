@@ -4,5 +4,6 @@
 // The text is one that lists requests (`Body`, listed_form/specs/Given); a contract says what the definition's test says of them (specs/Parts).
 pub mod candidates;
 pub mod distinct;
+pub mod each;
 pub mod forms;
 pub mod lawful;

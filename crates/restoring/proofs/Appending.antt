@@ -1,16 +1,16 @@
 -- One record more behind the others: a row, a place and what is then stored in it.
-use Prim.Native.Nat.{ℕ, _+_, _≤_, _<_}
-use mathlib.Core.Path.{_≡_, refl, sym, ap, subst, _∙_}
+use Prim.Native.Nat.{ℕ, _+_, _<_}
+use mathlib.Core.Path.{_≡_, sym, ap, subst, _∙_}
 use mathlib.Core.List.{List, [], _∷_, _++_, append-nil}
 use native.Mathlib.Omega.{arith}
 use lib.ListN.{length, getD, set, length-append}
 use lib.Seq.{set-at, getD-at}
 use Rattle.regions.specs.declared.Row.{Row}
 use Rattle.regions.specs.Regions.{insertAt}
-use Rattle.places.specs.Places.{Place, blank, withCombined, withWtxids, withParents}
+use Rattle.places.specs.Places.{Place, withCombined, withWtxids, withParents}
 use Rattle.store.specs.Flat.{Flat}
 use Rattle.store.specs.Image.{Shows}
-use Rattle.store.specs.Shown.{rowsIn, placesIn, heldPlacesIn, Sized, Shown, withRows, withPlaces, Turns}
+use Rattle.store.specs.Shown.{placesIn, heldPlacesIn, Sized, Shown, withRows, withPlaces, Turns}
 use Rattle.store.proofs.Frame.{sizes}
 use Rattle.store.proofs.RowsAt.{insert-seam}
 use Rattle.package_stages.specs.Records.{NoWtxids, ListedIn}

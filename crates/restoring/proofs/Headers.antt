@@ -2,14 +2,12 @@
 use mathlib.Core.Path.{_≡_, refl, sym, ap, subst, _∙_}
 use Prim.Native.Nat.{ℕ}
 use mathlib.Core.List.{List, [], _∷_}
-use mathlib.Core.Option.{Option, none, some}
+use mathlib.Core.Option.{none, some}
 use lib.ListN.{length}
 use Rattle.ident.specs.declared.Kind.{Kind}
-use Rattle.ident.specs.declared.Hash.{Hash}
 use Rattle.ident.specs.declared.MaybeKey.{MaybeKey}
 use Rattle.ident.specs.declared.MaybeKey.the-variants.{None, Is}
-use Rattle.ident.specs.Number.{Key}
-use Rattle.ident.specs.Words.{hashNum, maybeKeyNum}
+use Rattle.ident.specs.Words.{maybeKeyNum}
 use Rattle.words.specs.Words.{words}
 use Rattle.regions.specs.declared.Quad.{Quad}
 use Rattle.regions.specs.Regions.{each}

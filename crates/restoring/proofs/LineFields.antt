@@ -4,19 +4,15 @@ use mathlib.Core.Path.{_≡_, refl, sym, ap, subst, _∙_}
 use mathlib.Core.Bool.{Bool, true, false, _||_}
 use native.Mathlib.Omega.{arith}
 use mathlib.Core.List.{List, [], _∷_, _++_, append-nil}
-use mathlib.Core.Option.{Option, none, some}
 use lib.Dec.{eqb}
 use lib.ListN.{length, take}
 use lib.Seq.{length-take-le}
-use Rattle.ident.specs.If.{if_then_else_}
 use Rattle.ident.specs.Words.{hashBytes}
-use Rattle.ident.specs.declared.Kind.{Kind}
 use Rattle.words.specs.Words.{number, recs}
 use Rattle.words.proofs.Records.{length-recs, recs-take}
 use Rattle.lent_lists.specs.Lists.{hashesIn}
 use Rattle.regions.specs.declared.Row.{Row}
 use Rattle.places.specs.Places.{Place, PlaceShort, listMost}
-use Rattle.regions.specs.declared.Quad.{Quad}
 use Rattle.regions.specs.Rows.{quadNumber}
 use Rattle.machine.specs.State.{Request, ownerIs}
 use Rattle.machine.specs.Table.{one}

@@ -7,7 +7,6 @@ use native.Mathlib.Omega.{arith}
 use lib.ListN.{length, take, getD, set, length-set}
 use lib.Seq.{length-take-le, take-suc, set-getD, set-set, getD-set-same}
 use Rattle.places.specs.Places.{Place, withParents}
-use Rattle.store.specs.Flat.{Flat}
 use Rattle.store.specs.Image.{Shows}
 use Rattle.store.specs.Shown.{heldPlacesIn, Shown, withPlaces}
 use Rattle.store.proofs.Frame.{sizes, shown}

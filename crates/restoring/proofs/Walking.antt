@@ -1,5 +1,5 @@
 -- The walk over the lines behind the first: what is in the store, and what the lines that are left bring.
-use Prim.Native.Nat.{ℕ, _+_, _≤_, _<_}
+use Prim.Native.Nat.{ℕ, _+_, _≤_}
 use mathlib.Core.Path.{_≡_, refl, sym, ap, subst, _∙_}
 use mathlib.Core.Bool.{Bool, true, false}
 use mathlib.Core.List.{List, [], _∷_, _++_, map, append-assoc, append-nil}
@@ -12,20 +12,19 @@ use Rattle.places.specs.Places.{Place, PlaceShort}
 use Rattle.machine.specs.State.{Candidate, Package, Request, Table, State, withCandidates}
 use Rattle.machine.specs.Sound.{Lawful, Packed, All, Sound}
 use Rattle.machine.specs.Typed.{Each}
-use Rattle.machine.specs.Listing.{Line, RequestLine, CandidateLine, Rest}
+use Rattle.machine.specs.Listing.{Line, Rest}
 use Rattle.store.specs.Flat.{Flat, headOf, rowOf, rowsFor, rowsOf, placeFor, placesFor, placesOf}
 use Rattle.store.specs.Image.{Shows}
-use Rattle.store.specs.Shown.{limitIn, rowsIn, placesIn, heldPlacesIn, Shown}
 use Rattle.store.proofs.Frame.{sizes, shown}
 use Rattle.store.proofs.Counts.{held-rows, places-rows}
 use Rattle.listed_lines.specs.declared.line.Request as line-request
 use Rattle.listed_lines.specs.declared.line.Line as line-line
 use Rattle.listed_lines.specs.declared.line.Line.the-variants.{Not as NoLine, Head as IsHead, Request as IsRequest, Candidate as IsCandidate}
 use Rattle.listed_lines.specs.declared.line.LineAt.{LineAt}
-use Rattle.listed_lines.specs.Given.{listRoom, headState, requestIn, candidateIn, lineIn, LineRead}
+use Rattle.listed_lines.specs.Given.{listRoom, requestIn, candidateIn, lineIn, LineRead}
 use Rattle.listed_form.specs.Given.{Body, requestsOnly}
 use Rattle.listed_form.proofs.Stepping.{no-bad-line, no-head-line, after-candidate, after-request, body-end}
-use Rattle.restoring.specs.Given.{requestAfter, rowsMore, placesMore, grown, LineRoom, TakesLine, bare, untallied, Headed}
+use Rattle.restoring.specs.Given.{requestAfter, rowsMore, placesMore, LineRoom, TakesLine, bare, untallied, Headed}
 
 -- the rows that lines still bring: candidates of the last request r, then the requests behind them
 abbrev rowsLeft : line-request.Request → Rest → List Row

@@ -8,9 +8,9 @@ use lib.ListN.{length, drop}
 use Rattle.machine.specs.Limits.{need, maxAnnouncements, maxPlaces}
 use Rattle.machine.specs.State.{Candidate, Request, State, onTable, isSome}
 use Rattle.machine.specs.Sound.{Sound}
-use Rattle.machine.specs.Listing.{Line, HeadLine, RequestLine, CandidateLine, Rest, restOf, short, textLines, linesIn, oneMore, stateOf, tabled, tabledFrom, readIn, readListing}
+use Rattle.machine.specs.Listing.{Line, HeadLine, RequestLine, CandidateLine, Rest, restOf, textLines, linesIn, oneMore, stateOf, tabled, tabledFrom, readIn, readListing}
 use Rattle.machine.proofs.Tests.{never}
-use Rattle.store.specs.Flat.{tally, rowsOf, placesOf}
+use Rattle.store.specs.Flat.{tally}
 use Rattle.store.specs.Image.{Shows, Writes}
 use Rattle.store.specs.Shown.{connsIn, Shown, withConns, Turns}
 use Rattle.store.proofs.Frame.{sizes, shown}

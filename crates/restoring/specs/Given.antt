@@ -3,7 +3,6 @@ use Prim.Native.Nat.{ℕ, _+_, _≤_, _<_}
 use mathlib.Core.Path.{_≡_}
 use mathlib.Core.List.{List, [], _∷_, _++_}
 use mathlib.Core.Option.{Option, none, some}
-use mathlib.Core.Bool.{Bool, true, false}
 use lib.ListN.{length, getD, set}
 use Rattle.regions.specs.declared.Row.{Row}
 use Rattle.places.specs.Places.{Place, PlaceShort, withParents}

@@ -8,7 +8,7 @@ use places::ENQUEUED;
 use places::FLAG;
 ghost use mathlib.Core.Path.{_≡_};
 ghost use Prim.Native.Nat.{ℕ, _≤_, _<_};
-ghost use mathlib.Core.List.{List, [], _∷_, _++_};
+ghost use mathlib.Core.List.{List, _++_};
 ghost use lib.ListN.{length};
 ghost use Rattle.lent_lists.specs.Lists.{hashesIn};
 ghost use Rattle.regions.specs.Rows.{quadNumber};

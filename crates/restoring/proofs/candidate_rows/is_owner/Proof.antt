@@ -1,7 +1,6 @@
 -- `restoring::candidate_rows::is_owner` meets its contract.
 use mathlib.Core.Path.{sym}
 use Rattle.restoring.proofs.LineFields.{owner-held, owner-none}
-use borrow.Author.Needs.{needs}
 use Rattle.restoring.proofs.candidate_rows.is_owner.Statement.{statement}
 use Rattle.restoring.proofs.candidate_rows.is_owner.Tie as tie
 

@@ -1,6 +1,5 @@
 -- `restoring::new_places::combined_of` meets its contract.
 use Rattle.restoring.proofs.LineFields.{flag-combined, package-combined}
-use borrow.Author.Needs.{needs}
 use Rattle.restoring.proofs.new_places.combined_of.Statement.{statement}
 use Rattle.restoring.proofs.new_places.combined_of.Tie as tie
 

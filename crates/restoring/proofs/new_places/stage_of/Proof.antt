@@ -5,7 +5,6 @@ use borrow.Author.Tests.{not-true, not-false}
 use mathlib.Core.Bool.{Bool}
 use Rattle.machine.specs.Table.{one}
 use Rattle.restoring.proofs.LineFields.{flag-stage, package-stage}
-use borrow.Author.Needs.{needs}
 use Rattle.restoring.proofs.new_places.stage_of.Statement.{statement}
 use Rattle.restoring.proofs.new_places.stage_of.Tie as tie
 

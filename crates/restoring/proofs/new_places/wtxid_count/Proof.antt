@@ -1,6 +1,5 @@
 -- `restoring::new_places::wtxid_count` meets its contract.
 use Rattle.restoring.proofs.LineFields.{flag-wtxids, package-wtxids}
-use borrow.Author.Needs.{needs}
 use Rattle.restoring.proofs.new_places.wtxid_count.Statement.{statement}
 use Rattle.restoring.proofs.new_places.wtxid_count.Tie as tie
 
