@@ -65,7 +65,7 @@ packed-is k o true none hs l = refl
 packed-is k o false (some p) hs l = rw (package-fits p l, and-true (sameKind k Wtxid))
 packed-is k o false none hs l = empty-is hs
 
-owner-if : (b : Bool) (n d : ℕ) → isSome (ownerIf b n d) ≡ b
+pub owner-if : (b : Bool) (n d : ℕ) → isSome (ownerIf b n d) ≡ b
 owner-if true n d = refl
 owner-if false n d = refl
 

@@ -15,7 +15,7 @@ ghost use Rattle.listed_requests.specs.Given.{mostGathered, packs, owner
 use listed_lines::line::Request;
 use listed_lines::parts::Owner;
 
-fn is_wtxid(kind: ident::Kind) -> bool
+pub fn is_wtxid(kind: ident::Kind) -> bool
     ensures { λ r. ⌜ r ≡ sameKind kind Wtxid ⌝ }
 {
     match kind {

@@ -7,3 +7,4 @@ pub mod distinct;
 pub mod each;
 pub mod forms;
 pub mod lawful;
+pub mod pairs;
