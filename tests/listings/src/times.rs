@@ -1,6 +1,6 @@
-//! How long saving and reading take at the largest sizes, of listings as they may come and of hostile ones.
+//! How long saving and reading take at the largest sizes, of listings as they may come and of hostile ones, in processor time of the thread.
 
-use std::time::Instant;
+use std::time::Duration;
 
 use oracle::calls::{Candidate, Hash, Item, Key, Kind};
 use oracle::image::image;
@@ -80,12 +80,29 @@ fn shuffled() -> State {
     full(1, true, |number| order[number as usize])
 }
 
+/// Processor time of this thread: what others on the machine take is not in it.
+fn clock() -> Duration {
+    #[repr(C)]
+    struct Time {
+        seconds: i64,
+        nanoseconds: i64,
+    }
+    unsafe extern "C" {
+        fn clock_gettime(clock: i32, time: *mut Time) -> i32;
+    }
+    const THREAD: i32 = 3;
+    let mut time = Time { seconds: 0, nanoseconds: 0 };
+    // SAFETY: the time is lent to the call alone.
+    assert_eq!(unsafe { clock_gettime(THREAD, &mut time) }, 0);
+    Duration::new(time.seconds as u64, time.nanoseconds as u32)
+}
+
 fn milliseconds(mut call: impl FnMut() -> u64, status: u64) -> Result<f64, String> {
     let mut best = f64::INFINITY;
     for _ in 0..ROUNDS {
-        let start = Instant::now();
+        let start = clock();
         let got = call();
-        best = best.min(start.elapsed().as_secs_f64() * 1e3);
+        best = best.min((clock() - start).as_secs_f64() * 1e3);
         if got != status {
             return Err(format!("{got} and not {status}"));
         }
