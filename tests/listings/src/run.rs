@@ -10,7 +10,7 @@ use crate::damage::{KINDS, Tally};
 use crate::library::Library;
 
 /// One state in so many is larger.
-const LARGE: u64 = 300;
+const LARGE: u64 = 1_000;
 /// Draws of a damage that come to nothing before it is left.
 const DRAWS: u64 = 20;
 /// A run of so many states must have met every kind of damage with each of its verdicts.
@@ -27,7 +27,7 @@ pub struct Met {
 fn any_state(rng: &mut Rng) -> State {
     let (l, q) = match rng.below(LARGE) {
         0 => (2_000, 40),
-        one if one % 2 == 0 => (1 + rng.below(8), 1 + rng.below(2)),
+        one if one % 4 != 0 => (1 + rng.below(8), 1 + rng.below(2)),
         _ => (1 + rng.below(100), 1 + rng.below(4)),
     };
     let shape = Shape::any(rng, l, q);
