@@ -25,8 +25,10 @@ module _ (t : Table) where
   passes : AllFew t → countsFit t ≡ true
   passes f =
       every-one (countFits t)
-      (λ k c. rw (le-leb (heldBy (c .connection) t) maxPeerAnnouncements (held-few maxPeerAnnouncements t (f .held) (c .connection)),
-      le-leb (ownedBy (c .connection) t) maxInFlight (owned-few maxInFlight t (f .owned) (c .connection)))) t
+      (λ k c. rw (
+        le-leb (heldBy (c .connection) t) maxPeerAnnouncements (held-few maxPeerAnnouncements t (f .held) (c .connection)),
+        le-leb (ownedBy (c .connection) t) maxInFlight (owned-few maxInFlight t (f .owned) (c .connection)),
+      )) t
 
   module _ (l : All Lawful t) (e : countsFit t ≡ true) where
     each : (n : ℕ) → heldBy n t ≤ maxPeerAnnouncements

@@ -51,7 +51,8 @@ none-both true true = refl
 module _ (k : Kind) (q : Quad) (c : line-candidate.Candidate) (a : c .connection < word) (b : c .ready < word) (d : c .priority < word) where
   fits-is : fits (keyWith k q) (candidateIn c) ≡ (kindIs k (kindOf (c .kind)) && (eqb (quadNumber (c .hash)) (quadNumber q) && ltb 0 (c .connection)))
   fits-is =
-      ap (λ (x : Bool). x && ((ltb 0 (c .connection) && ltb (c .connection) word) && (ltb (c .ready) word && ltb (c .priority) word))) (key-is k (quadNumber q) (quadNumber (c .hash)) (kindOf (c .kind)))
+      ap (λ (x : Bool). x && ((ltb 0 (c .connection) && ltb (c .connection) word) && (ltb (c .ready) word && ltb (c .priority) word)))
+      (key-is k (quadNumber q) (quadNumber (c .hash)) (kindOf (c .kind)))
       ∙ regrouped (kindIs k (kindOf (c .kind))) (eqb (quadNumber (c .hash)) (quadNumber q)) (ltb 0 (c .connection)) (ltb (c .connection) word) (ltb (c .ready) word) (ltb (c .priority) word)
       (lt-ltb (c .connection) word a) (lt-ltb (c .ready) word b) (lt-ltb (c .priority) word d)
 

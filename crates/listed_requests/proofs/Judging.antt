@@ -47,8 +47,12 @@ all-below (h ∷ hs) e = rw (lt-ltb h top (e .0), all-below hs (e .1))
 
 package-fits : (p : Package) → PackageListed p → packageFits p ≡ true
 package-fits p l =
-    rw (lt-ltb (p .combined) top (l .combined), all-below (p .wtxids) (l .wtxids .hashes), le-leb 1 (length (p .wtxids)) (l .wtxids .least),
-    le-leb (length (p .wtxids)) maxWtxids (l .wtxids .most))
+    rw (
+      lt-ltb (p .combined) top (l .combined),
+      all-below (p .wtxids) (l .wtxids .hashes),
+      le-leb 1 (length (p .wtxids)) (l .wtxids .least),
+      le-leb (length (p .wtxids)) maxWtxids (l .wtxids .most),
+    )
 
 pub parents-fit : (hs : List ℕ) → HashesListed 0 maxParents hs → parentsFit hs ≡ noRepeat hs
 parents-fit hs l = rw (all-below hs (l .hashes), le-leb (length hs) maxParents (l .most)) (and-true (noRepeat hs))

@@ -8,7 +8,3 @@ pub mod Repeats
 pub mod Judging
 pub mod Passing
 pub mod Advancing
-pub mod Facing
-pub mod Seeking
-pub mod Pairing
-pub mod Comparing

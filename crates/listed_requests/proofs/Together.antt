@@ -34,7 +34,7 @@ every-here p q lo [] o e f = refl
 every-here p q lo (r ∷ t) o e f =
     let here = f r (o .0) (o .1) (at-here (r .key) r t refl) (and-left (p r) (every p t) e) in
     let there = every-here p q (suc (place (r .key))) t (o .2) (and-right (p r) (every p t) e)
-        (λ x l s a g. f x (omega (arith, o .0)) s (at-there (x .key) r t (λ z. omega arith) ∙ a) g) in
+    (λ x l s a g. f x (omega (arith, o .0)) s (at-there (x .key) r t (λ z. omega arith) ∙ a) g) in
     rw (here, there)
 
 pub every-at : (p : Request → Bool) (k : Key) (t : Table) → p (blank k) ≡ true → every p t ≡ true → p (at k t) ≡ true
@@ -131,7 +131,10 @@ module _ (most : ℕ) (t : Table) (o : Ordered 0 t) (few : every (uncrowded most
   module _ (h : ℕ) (small : h < top) where
     without : at (txid h) t ≡ blank (txid h) → Two most (at (txid h) t) (at (wtxid h) t)
     without e =
-        rw e (record { few = test-few most (at (wtxid h) t .candidates) .holds (every-at (uncrowded most) (wtxid h) t (none-few most) few); single = omega (arith, one-most (isSome (at (wtxid h) t .owner))) })
+        rw e (record {
+          few = test-few most (at (wtxid h) t .candidates) .holds (every-at (uncrowded most) (wtxid h) t (none-few most) few);
+          single = omega (arith, one-most (isSome (at (wtxid h) t .owner)));
+        })
 
     with-one : paired most t (at (txid h) t) ≡ true → Two most (at (txid h) t) (at (wtxid h) t)
     with-one e =
@@ -182,8 +185,10 @@ module _ (m : Limits) (Q : ℕ) (t : Table) where
       let b = test-bounded m Q t .holds e in
       let o = b .ordered in
       let all : (h : ℕ) → At (m .alternates) t h = λ h. record { alternates = b .alternates h; once = λ n. b .once n h; single = b .single h } in
-      let c = every-one (countFits t) (λ k c. rw (le-leb (heldBy (c .connection) t) maxPeerAnnouncements (b .each (c .connection)), le-leb (ownedBy (c .connection) t) maxInFlight (b .owned (c .connection)))) t in
-      rw (and-left shape (everyOne (crowdFits m t) t && room) e, all-few o all, and-right (everyOne (crowdFits m t) t) room (and-right shape (everyOne (crowdFits m t) t && room) e), all-pairs o all, c)
+      let c = every-one (countFits t)
+      (λ k c. rw (le-leb (heldBy (c .connection) t) maxPeerAnnouncements (b .each (c .connection)), le-leb (ownedBy (c .connection) t) maxInFlight (b .owned (c .connection)))) t in
+      let r = and-right (everyOne (crowdFits m t) t) room (and-right shape (everyOne (crowdFits m t) t && room) e) in
+      rw (and-left shape (everyOne (crowdFits m t) t && room) e, all-few o all, r, all-pairs o all, c)
 
   from : parts ≡ true → isBounded m Q t ≡ true
   unfolding isBounded localFits
@@ -196,7 +201,7 @@ module _ (m : Limits) (Q : ℕ) (t : Table) where
       let f = and-left few room (and-right shape (few && room) l) in
       let p = and-left (pairsFit (m .alternates) t t) (countsFit t) r in
       let c = every-here (λ x. everyIn (countFits t) (x .key) (x .candidates)) (λ x. everyIn (crowdFits m t) (x .key) (x .candidates)) 0 t o
-          (and-right (pairsFit (m .alternates) t t) (countsFit t) r) (λ x b h a g. crowd-in m t (x .key) (x .candidates) (at-most (m .alternates) t o f p (x .key .hash) h) g) in
+      (and-right (pairsFit (m .alternates) t t) (countsFit t) r) (λ x b h a g. crowd-in m t (x .key) (x .candidates) (at-most (m .alternates) t o f p (x .key .hash) h) g) in
       rw (s, c, and-right few room (and-right shape (few && room) l))
 
   pub table-is : isBounded m Q t ≡ (localFits m Q t && (pairsFit (m .alternates) t t && countsFit t))

@@ -140,6 +140,10 @@ pub record Begun (p : Pass) : Type 0 where
 abbrev pub leftFits : ℕ → ℕ → Pass → Table → Bool
 leftFits L Q p t = passFits (record { announcements = L; alternates = maxAlternates }) Q (lowestOf p) (p .held) (p .taken) t
 
+-- neither limit is passed
+abbrev pub Within : ℕ → ℕ → Pass → Type 0
+Within L Q p = (p .held ≤ L) × (p .taken ≤ Q)
+
 -- a package place, by whether there is a package
 abbrev pub placeFor : Bool → Bool → ℕ
 placeFor info false = one info

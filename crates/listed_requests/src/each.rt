@@ -8,7 +8,7 @@ ghost use lib.ListN.{length};
 ghost use Rattle.ident.specs.Number.{place};
 ghost use Rattle.machine.specs.Limits.{maxAnnouncements, maxPlaces};
 ghost use Rattle.listed_lines.specs.Given.{listRoom};
-ghost use Rattle.listed_requests.specs.Given.{keyWith, mostGathered, lowestOf, Begun, placeFor, Stepped, EachFits};
+ghost use Rattle.listed_requests.specs.Given.{keyWith, mostGathered, lowestOf, Begun, placeFor, Within, Stepped, EachFits};
 use listed_form::comes_before;
 use listed_lines::line::RequestIn;
 
@@ -82,7 +82,7 @@ fn advance(
     wtxids: &mut [u8],
     parents: &mut [u8],
 ) -> Step
-    requires { ⌜ (at < length (now text)) × (limit ≤ maxAnnouncements) × (places ≤ maxPlaces) × (p .held ≤ limit) × (p .taken ≤ places) × (mostGathered ≤ length (now conns)) × (listRoom ≤ length (now wtxids)) × (listRoom ≤ length (now parents)) ⌝ }
+    requires { ⌜ (at < length (now text)) × (limit ≤ maxAnnouncements) × (places ≤ maxPlaces) × Within limit places p × (mostGathered ≤ length (now conns)) × (listRoom ≤ length (now wtxids)) × (listRoom ≤ length (now parents)) ⌝ }
     ensures { λ s. ⌜ Stepped (now (text .entry)) at limit places p s ⌝ }
 {
     let f = request_at(text, at, wtxids, parents);
@@ -145,7 +145,14 @@ fn advance(
 }
 
 // Whether each request that is listed from an index on is in order, lawful, with few candidates, and all of them are within L and Q.
-pub fn each_fits(text: &[u8], from: usize, limit: u64, places: u64, wtxids: &mut [u8], parents: &mut [u8]) -> bool
+pub fn each_fits(
+    text: &[u8],
+    from: usize,
+    limit: u64,
+    places: u64,
+    wtxids: &mut [u8],
+    parents: &mut [u8],
+) -> bool
     requires { ⌜ (from ≤ length (now text)) × (limit ≤ maxAnnouncements) × (places ≤ maxPlaces) × (listRoom ≤ length (now wtxids)) × (listRoom ≤ length (now parents)) ⌝ }
     ensures { λ r. ⌜ EachFits (now (text .entry)) from limit places r ⌝ }
 {

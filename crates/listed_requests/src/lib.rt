@@ -7,4 +7,3 @@ pub mod distinct;
 pub mod each;
 pub mod forms;
 pub mod lawful;
-pub mod pairs;

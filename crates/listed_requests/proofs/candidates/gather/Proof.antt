@@ -18,15 +18,16 @@ abbrev μ-loop : tie.MeasureT-loop
 μ-loop text from kind hash n conns₀ wtxids₀ parents₀ at₀ i₀ fit₀ conns wtxids parents at i fit = length text - at
 
 loop-holds : tie.Need-loop-holds Inv-loop μ-loop
-loop-holds c = (
-  c .before .before .before .before .pre .0,
-  omega arith,
-  c .before .before .before .before .pre .1,
-  refl,
-  refl,
-  refl,
-  gone-none (c .before .before .before .before .args .text .now) (c .before .before .before .before .args .from) (keyWith (c .before .before .before .before .args .kind) (c .before .before .before .before .args .hash)) (c .before .before .before .before .args .n) (c .before .before .before .before .args .conns .now),
-)
+loop-holds c =
+    let d = c .before .before .before .before in (
+      d .pre .0,
+      omega arith,
+      d .pre .1,
+      refl,
+      refl,
+      refl,
+      gone-none (d .args .text .now) (d .args .from) (keyWith (d .args .kind) (d .args .hash)) (d .args .n) (d .args .conns .now),
+    )
 
 line-at-requires : tie.Need-line-at-requires Inv-loop μ-loop
 line-at-requires c κs = (
@@ -39,10 +40,16 @@ same-length : tie.Need-same-length Inv-loop μ-loop
 same-length c = c .before .before .before .before .before .before .before .before .before .before .before .loop .inv .3
 
 same-length-2 : tie.Need-same-length-2 Inv-loop μ-loop
-same-length-2 c = c .before .before .before .before .before .before .before .line-at .kept .1 .1 .0 ∙ c .before .before .before .before .before .before .before .before .before .before .before .loop .inv .4
+same-length-2 c =
+    let d = c .before .before .before .before .before .before .before in
+    let e = d .before .before .before .before in
+    d .line-at .kept .1 .1 .0 ∙ e .loop .inv .4
 
 same-length-3 : tie.Need-same-length-3 Inv-loop μ-loop
-same-length-3 c = c .before .before .before .before .before .before .before .line-at .kept .1 .1 .1 .0 ∙ c .before .before .before .before .before .before .before .before .before .before .before .loop .inv .5
+same-length-3 c =
+    let d = c .before .before .before .before .before .before .before in
+    let e = d .before .before .before .before in
+    d .line-at .kept .1 .1 .1 .0 ∙ e .loop .inv .5
 
 returns : tie.Need-returns Inv-loop μ-loop
 returns c =
@@ -59,39 +66,58 @@ same-length-4 : tie.Need-same-length-4 Inv-loop μ-loop
 same-length-4 c = c .before .before .before .before .before .before .before .before .before .before .before .before .before .loop .inv .3
 
 same-length-5 : tie.Need-same-length-5 Inv-loop μ-loop
-same-length-5 c = c .before .before .before .before .before .before .before .before .before .line-at .kept .1 .1 .0 ∙ c .before .before .before .before .before .before .before .before .before .before .before .before .before .loop .inv .4
+same-length-5 c =
+    let d = c .before .before .before .before .before .before .before .before .before in
+    let e = d .before .before .before .before in
+    d .line-at .kept .1 .1 .0 ∙ e .loop .inv .4
 
 same-length-6 : tie.Need-same-length-6 Inv-loop μ-loop
-same-length-6 c = c .before .before .before .before .before .before .before .before .before .line-at .kept .1 .1 .1 .0 ∙ c .before .before .before .before .before .before .before .before .before .before .before .before .before .loop .inv .5
+same-length-6 c =
+    let d = c .before .before .before .before .before .before .before .before .before in
+    let e = d .before .before .before .before in
+    d .line-at .kept .1 .1 .1 .0 ∙ e .loop .inv .5
 
 returns-2 : tie.Need-returns-2 Inv-loop μ-loop
 returns-2 c =
-    let d = c .before .before .before .before .before .before .before .before .before in
+    let f = c .before .before .before .before in
+    let g = f .before .before .before .before .before in
+    let d = g in
     record {
       on = d .before .before .before .before .loop .inv .1;
       inside = d .before .before .before .before .loop .inv .0;
       bound = omega arith;
-      many = λ q y e. too-many (d .before .before .before .before .loop .inv .6) (d .line-at .ensures) (c .before .before .before .before .candidate-of .ensures) (c .before .before .c .given .1) (omega (arith, d .before .before .before .before .loop .inv .2, c .if1 .taken)) q y;
+      many = λ q y e.
+          too-many (d .before .before .before .before .loop .inv .6) (d .line-at .ensures) (f .candidate-of .ensures) (c .before .before .c .given .1)
+          (omega (arith, d .before .before .before .before .loop .inv .2, c .if1 .taken)) q y;
       whole = λ q y h. absurd (omega arith);
     }
 
 slice-write-conns : tie.Need-slice-write-conns Inv-loop μ-loop
-slice-write-conns c = omega (arith, c .before .before .before .before .before .before .before .before .before .before .before .before .before .loop .inv .3, c .before .before .before .before .before .before .before .before .before .before .before .before .before .before .before .before .before .before .pre .2, c .if1 .left)
+slice-write-conns c =
+    let d = c .before .before .before .before .before .before .before .before .before .before .before .before .before in
+    let e = d .before .before .before .before .before in
+    omega (arith, d .loop .inv .3, e .pre .2, c .if1 .left)
 
 loop-less : tie.Need-loop-less Inv-loop μ-loop
-loop-less c = omega (arith, c .before .before .before .before .before .before .before .before .before .before .line-at .ensures .on, c .before .before .before .before .before .before .before .before .before .before .line-at .ensures .inside)
+loop-less c =
+    let d = c .before .before .before .before .before .before .before .before .before .before in
+    omega (arith, d .line-at .ensures .on, d .line-at .ensures .inside)
 
 loop-again : tie.Need-loop-again Inv-loop μ-loop
-loop-again c = (
-  c .before .before .before .before .before .before .before .before .before .before .line-at .ensures .inside,
-  omega (arith, c .before .before .before .before .before .before .before .before .before .before .before .before .before .before .loop .inv .1, c .before .before .before .before .before .before .before .before .before .before .line-at .ensures .on),
-  omega (arith, c .before .if1 .left),
-  simp length-set (c .before .before .before .before .before .before .before .before .before .before .before .before .before .before .loop .inv .3),
-  c .before .before .before .before .before .before .before .before .before .before .line-at .kept .1 .1 .0 ∙ c .before .before .before .before .before .before .before .before .before .before .before .before .before .before .loop .inv .4,
-  c .before .before .before .before .before .before .before .before .before .before .line-at .kept .1 .1 .1 .0 ∙ c .before .before .before .before .before .before .before .before .before .before .before .before .before .before .loop .inv .5,
-  gone-more (c .before .before .before .before .before .before .before .before .before .before .before .before .before .before .loop .inv .6) (c .before .before .before .before .before .before .before .before .before .before .line-at .ensures) (c .before .before .before .before .before .candidate-of .ensures) (c .before .before .before .c .given .1) (omega (arith, c .before .before .before .before .before .before .before .before .before .before .before .before .before .before .loop .inv .3, c .before .before .before .before .before .before .before .before .before .before .before .before .before .before .before .before .before .before .before .pre .2, c .before .if1 .left))
-      (c .fits2 .ensures),
-)
+loop-again c =
+    let d = c .before .before .before .before .before in
+    let e = d .before .before .before .before .before in
+    let f = e .before .before .before .before in
+    let g = f .before .before .before .before .before in (
+      e .line-at .ensures .inside,
+      omega (arith, f .loop .inv .1, e .line-at .ensures .on),
+      omega (arith, c .before .if1 .left),
+      simp length-set (f .loop .inv .3),
+      e .line-at .kept .1 .1 .0 ∙ f .loop .inv .4,
+      e .line-at .kept .1 .1 .1 .0 ∙ f .loop .inv .5,
+      gone-more (f .loop .inv .6) (e .line-at .ensures) (d .candidate-of .ensures) (c .before .before .before .c .given .1) (omega (arith, f .loop .inv .3, g .pre .2, c .before .if1 .left))
+          (c .fits2 .ensures),
+    )
 
 same-length-7 : tie.Need-same-length-7 Inv-loop μ-loop
 same-length-7 c = c .before .loop .inv .3

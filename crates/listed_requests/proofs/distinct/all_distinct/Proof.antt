@@ -24,14 +24,18 @@ stands-requires c κs = omega (arith, c .before .loop-test .taken, c .before .be
 
 returns : tie.Need-returns Inv-loop μ-loop
 returns c =
-    let a = c .before .before .before .before .before .before .args in
-    sym (repeated (a .list .now) (c .before .before .before .before .loop .i) (a .n) (omega (arith, c .before .before .before .loop-test .taken)) (c .before .before .before .before .before .before .pre) (sym (c .before .stands .ensures) ∙ c .if1 .taken))
+    let d = c .before .before .before .before in
+    let e = d .before .before in
+    let a = e .args in
+    sym (repeated (a .list .now) (d .loop .i) (a .n) (omega (arith, c .before .before .before .loop-test .taken)) (e .pre) (sym (c .before .stands .ensures) ∙ c .if1 .taken))
 
 loop-again : tie.Need-loop-again Inv-loop μ-loop
 loop-again c =
-    let a = c .before .before .before .before .before .before .args in (
+    let d = c .before .before .before .before in
+    let e = d .before .before in
+    let a = e .args in (
       omega arith,
-      distinct-on (a .list .now) (c .before .before .before .before .loop .i) (omega (arith, c .before .before .before .loop-test .taken, c .before .before .before .before .before .before .pre)) (c .before .before .before .before .loop .inv .1) (sym (c .before .stands .ensures) ∙ c .if1 .left),
+      distinct-on (a .list .now) (d .loop .i) (omega (arith, c .before .before .before .loop-test .taken, e .pre)) (d .loop .inv .1) (sym (c .before .stands .ensures) ∙ c .if1 .left),
     )
 
 returns-2 : tie.Need-returns-2 Inv-loop μ-loop

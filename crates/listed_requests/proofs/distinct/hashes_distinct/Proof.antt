@@ -25,17 +25,19 @@ occurs-before-requires c κs = omega (arith, c .loop-test .taken, so-many (c .be
 
 returns : tie.Need-returns Inv-loop μ-loop
 returns c =
-    let a = c .before .before .before .before .before .args in
+    let d = c .before .before .before .before .before in
+    let a = d .args in
     let b = a .s .now in
-    sym (ap noRepeat (sym (first-hashes b (a .n) (c .before .before .before .before .before .pre))) ∙ repeated (hashesIn b) (c .before .before .before .loop .i) (a .n) (omega (arith, c .before .before .loop-test .taken)) (so-many b (a .n) (c .before .before .before .before .before .pre))
-    (sym (c .before .occurs-before .ensures) ∙ c .if1 .taken))
+    sym (ap noRepeat (sym (first-hashes b (a .n) (d .pre))) ∙ repeated (hashesIn b) (c .before .before .before .loop .i) (a .n)
+    (omega (arith, c .before .before .loop-test .taken)) (so-many b (a .n) (d .pre)) (sym (c .before .occurs-before .ensures) ∙ c .if1 .taken))
 
 loop-again : tie.Need-loop-again Inv-loop μ-loop
 loop-again c =
-    let a = c .before .before .before .before .before .args in (
+    let d = c .before .before .before .before .before in
+    let a = d .args in (
       omega arith,
-      distinct-on (hashesIn (a .s .now)) (c .before .before .before .loop .i) (omega (arith, c .before .before .loop-test .taken, so-many (a .s .now) (a .n) (c .before .before .before .before .before .pre))) (c .before .before .before .loop .inv .1)
-          (sym (c .before .occurs-before .ensures) ∙ c .if1 .left),
+      distinct-on (hashesIn (a .s .now)) (c .before .before .before .loop .i) (omega (arith, c .before .before .loop-test .taken, so-many (a .s .now) (a .n) (d .pre)))
+          (c .before .before .before .loop .inv .1) (sym (c .before .occurs-before .ensures) ∙ c .if1 .left),
     )
 
 returns-2 : tie.Need-returns-2 Inv-loop μ-loop

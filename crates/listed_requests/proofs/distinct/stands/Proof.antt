@@ -27,8 +27,10 @@ returns c =
 
 loop-again : tie.Need-loop-again Inv-loop μ-loop
 loop-again c =
-    let a = c .before .before .before .before .args in
-    (omega arith, elem-on (a .x) (a .list .now) (c .before .before .before .loop .j) (omega (arith, c .before .before .loop-test .taken, c .before .before .before .before .pre)) (c .before .before .before .loop .inv .1) (ne-eqb _ _ (c .if1 .left)))
+    let d = c .before .before .before .before in
+    let a = d .args in
+    let l = c .before .before .before in
+    (omega arith, elem-on (a .x) (a .list .now) (l .loop .j) (omega (arith, c .before .before .loop-test .taken, d .pre)) (l .loop .inv .1) (ne-eqb _ _ (c .if1 .left)))
 
 returns-2 : tie.Need-returns-2 Inv-loop μ-loop
 returns-2 c =

@@ -18,50 +18,63 @@ abbrev μ-loop : tie.MeasureT-loop
 μ-loop text from limit places wtxids₀ parents₀ conns₀ p₀ at₀ wtxids parents conns p at = length text - at
 
 loop-holds : tie.Need-loop-holds Inv-loop μ-loop
-loop-holds c = (
-  c .before .before .before .before .pre .0,
-  refl,
-  refl,
-  refl,
-  omega (arith, c .begin .ensures .held),
-  omega (arith, c .begin .ensures .taken),
-  pass-begin (c .before .before .before .before .args .text .now) (c .before .before .before .before .args .from) (c .before .before .before .before .args .limit) (c .before .before .before .before .args .places) (c .begin .ensures),
-)
+loop-holds c =
+    let d = c .before .before .before .before in (
+      d .pre .0,
+      refl,
+      refl,
+      refl,
+      omega (arith, c .begin .ensures .held),
+      omega (arith, c .begin .ensures .taken),
+      pass-begin (d .args .text .now) (d .args .from) (d .args .limit) (d .args .places) (c .begin .ensures),
+    )
 
 advance-requires : tie.Need-advance-requires Inv-loop μ-loop
 advance-requires c κs = (
   omega (arith, c .before .before .before .loop-test .taken),
   c .before .before .before .before .before .before .before .before .before .pre .1,
   c .before .before .before .before .before .before .before .before .before .pre .2,
-  c .before .before .before .before .loop .inv .4,
-  c .before .before .before .before .loop .inv .5,
+  (c .before .before .before .before .loop .inv .4, c .before .before .before .before .loop .inv .5),
   omega (arith, c .before .before .before .before .loop .inv .3),
   omega (arith, c .before .before .before .before .loop .inv .1, c .before .before .before .before .before .before .before .before .before .pre .3),
   omega (arith, c .before .before .before .before .loop .inv .2, c .before .before .before .before .before .before .before .before .before .pre .4),
 )
 
 same-length : tie.Need-same-length Inv-loop μ-loop
-same-length c = c .before .before .before .before .before .before .before .advance .kept .1 .1 .1 .1 .1 .1 .0 ∙ c .before .before .before .before .before .before .before .before .before .before .before .before .loop .inv .1
+same-length c =
+    let d = c .before .before .before .before .before .before .before in
+    let e = d .before .before .before .before .before in
+    d .advance .kept .1 .1 .1 .1 .1 .1 .0 ∙ e .loop .inv .1
 
 same-length-2 : tie.Need-same-length-2 Inv-loop μ-loop
-same-length-2 c = c .before .before .before .before .before .before .before .advance .kept .1 .1 .1 .1 .1 .1 .1 .0 ∙ c .before .before .before .before .before .before .before .before .before .before .before .before .loop .inv .2
+same-length-2 c =
+    let d = c .before .before .before .before .before .before .before in
+    let e = d .before .before .before .before .before in
+    d .advance .kept .1 .1 .1 .1 .1 .1 .1 .0 ∙ e .loop .inv .2
 
 returns : tie.Need-returns Inv-loop μ-loop
-returns c = pass-stop (c .before .before .before .before .before .before .before .before .before .before .before .before .loop .inv .6) (c .before .before .before .before .before .before .before .advance .ensures) (not-true _ (c .if1 .taken))
+returns c =
+    let d = c .before .before .before .before .before .before .before in
+    let e = d .before .before .before .before .before in
+    pass-stop (e .loop .inv .6) (d .advance .ensures) (not-true _ (c .if1 .taken))
 
 loop-less : tie.Need-loop-less Inv-loop μ-loop
-loop-less c = omega (arith, c .before .before .before .before .before .before .before .before .advance .ensures .on, c .before .before .before .before .before .before .before .before .advance .ensures .inside)
+loop-less c =
+    let d = c .before .before .before .before .before .before .before .before in
+    omega (arith, d .advance .ensures .on, d .advance .ensures .inside)
 
 loop-again : tie.Need-loop-again Inv-loop μ-loop
-loop-again c = (
-  c .before .before .before .before .before .before .before .before .advance .ensures .inside,
-  c .before .before .before .before .before .before .before .before .advance .kept .1 .1 .1 .1 .1 .1 .0 ∙ c .before .before .before .before .before .before .before .before .before .before .before .before .before .loop .inv .1,
-  c .before .before .before .before .before .before .before .before .advance .kept .1 .1 .1 .1 .1 .1 .1 .0 ∙ c .before .before .before .before .before .before .before .before .before .before .before .before .before .loop .inv .2,
-  c .before .before .before .before .before .before .before .before .advance .kept .1 .1 .1 .1 .1 .0 ∙ c .before .before .before .before .before .before .before .before .before .before .before .before .before .loop .inv .3,
-  c .before .before .before .before .before .before .before .before .advance .ensures .held (not-false _ (c .before .if1 .left)),
-  c .before .before .before .before .before .before .before .before .advance .ensures .taken (not-false _ (c .before .if1 .left)),
-  pass-on (c .before .before .before .before .before .before .before .before .before .before .before .before .before .loop .inv .6) (c .before .before .before .before .before .before .before .before .advance .ensures) (not-false _ (c .before .if1 .left)),
-)
+loop-again c =
+    let d = c .before .before .before .before .before .before .before .before in
+    let e = d .before .before .before .before .before in (
+      d .advance .ensures .inside,
+      d .advance .kept .1 .1 .1 .1 .1 .1 .0 ∙ e .loop .inv .1,
+      d .advance .kept .1 .1 .1 .1 .1 .1 .1 .0 ∙ e .loop .inv .2,
+      d .advance .kept .1 .1 .1 .1 .1 .0 ∙ e .loop .inv .3,
+      d .advance .ensures .held (not-false _ (c .before .if1 .left)),
+      d .advance .ensures .taken (not-false _ (c .before .if1 .left)),
+      pass-on (e .loop .inv .6) (d .advance .ensures) (not-false _ (c .before .if1 .left)),
+    )
 
 same-length-3 : tie.Need-same-length-3 Inv-loop μ-loop
 same-length-3 c = c .before .loop .inv .1

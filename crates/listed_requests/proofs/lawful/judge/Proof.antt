@@ -11,11 +11,19 @@ returns : tie.Need-returns
 returns c = judged-line (c .before .line-fits .ensures) (not-true _ (c .if1 .taken)) (c .before .before .before .before .before .before .before .pre .0)
 
 returns-2 : tie.Need-returns-2
-returns-2 c = judged-many (c .before .before .before .before .before .before .before .before .before .before .before .before .before .line-fits .ensures) (c .before .before .before .before .before .before .before .gather .ensures) (c .if2 .taken)
+returns-2 c =
+    let d = c .before .before .before .before .before .before .before in
+    let e = d .before .before .before .before .before .before in
+    judged-many (e .line-fits .ensures) (d .gather .ensures) (c .if2 .taken)
 
 returns-3 : tie.Need-returns-3
 returns-3 c =
-    judged-few (c .before .before .before .before .before .before .before .before .before .before .before .before .before .before .before .before .before .before .before .line-fits .ensures) (c .before .before .before .before .before .before .before .before .before .before .before .before .before .gather .ensures) (not-false _ (c .before .before .before .before .before .before .before .before .before .before .before .before .before .before .before .before .before .before .if1 .left)) (omega (arith, c .before .before .before .before .before .before .if2 .left)) (c .before .before .before .all-distinct .ensures) (c .before .owner-stands .ensures)
+    let d = c .before .before .before .before .before .before in
+    let e = d .before .before .before .before .before .before .before in
+    let f = e .before .before .before .before .before in
+    let g = f .before in
+    judged-few (g .line-fits .ensures) (e .gather .ensures) (not-false _ (f .if1 .left)) (omega (arith, d .if2 .left))
+    (c .before .before .before .all-distinct .ensures) (c .before .owner-stands .ensures)
 
 pub judge-spec : {M : Type 1} → statement M
 judge-spec =

@@ -6,10 +6,14 @@ use Rattle.listed_requests.proofs.lawful.packs.Statement.{statement}
 use Rattle.listed_requests.proofs.lawful.packs.Tie as tie
 
 returns-2 : tie.Need-returns-2
-returns-2 c = packs-info (c .before .before .before .args .kind) (c .before .before .before .args .owned) (c .before .before .before .args .parents) (c .before .before .if1 .taken) (c .before .if2 .left) (c .is-wtxid .ensures)
+returns-2 c =
+    let a = c .before .before .before .args in
+    packs-info (a .kind) (a .owned) (a .parents) (c .before .before .if1 .taken) (c .before .if2 .left) (c .is-wtxid .ensures)
 
 returns-3 : tie.Need-returns-3
-returns-3 c = packs-package (c .before .before .before .args .kind) (c .before .before .before .args .owned) (c .before .before .before .args .parents) (c .before .before .if1 .left) (c .before .if3 .taken) (c .is-wtxid2 .ensures)
+returns-3 c =
+    let a = c .before .before .before .args in
+    packs-package (a .kind) (a .owned) (a .parents) (c .before .before .if1 .left) (c .before .if3 .taken) (c .is-wtxid2 .ensures)
 
 returns-4 : tie.Need-returns-4
 returns-4 c = packs-none (c .before .before .args .kind) (c .before .before .args .owned) (c .before .before .args .parents) (c .before .if1 .left) (c .if3 .left)

@@ -1,8 +1,8 @@
--- `listed_requests::pairs::skip` meets its contract.
-use Rattle.listed_requests.proofs.Pairing.{skips}
+-- `listed_pairs::skip` meets its contract.
+use Rattle.listed_pairs.proofs.Pairing.{skips}
 use borrow.Author.Needs.{needs}
-use Rattle.listed_requests.proofs.pairs.skip.Statement.{statement}
-use Rattle.listed_requests.proofs.pairs.skip.Tie as tie
+use Rattle.listed_pairs.proofs.skip.Statement.{statement}
+use Rattle.listed_pairs.proofs.skip.Tie as tie
 
 returns : tie.Need-returns
 returns c = skips (c .before .before .before .before .before .before .gather .ensures)

@@ -18,9 +18,9 @@ use Rattle.listed_lines.specs.declared.line.Line as line-line
 use Rattle.listed_lines.specs.declared.line.Request as line-request
 use Rattle.listed_lines.specs.Given.{lineIn}
 use Rattle.listed_form.specs.Given.{Body, requestsOnly}
-use Rattle.listed_requests.specs.declared.pairs.Both.{Both}
-use Rattle.listed_requests.specs.declared.pairs.Pair.{Pair}
+use Rattle.listed_pairs.specs.declared.Both.{Both}
+use Rattle.listed_pairs.specs.declared.Pair.{Pair}
 use Rattle.listed_requests.specs.Parts.{fewOnce, uncrowded, pairsFit}
 
 -- ---- the first Wtxid request
 

@@ -22,16 +22,16 @@ use Rattle.listed_lines.specs.declared.line.RequestIn.the-variants.{Not as NoRe
 use Rattle.listed_lines.specs.Given.{requestIn}
 use Rattle.listed_form.specs.Given.{Body, requestsOnly}
 use Rattle.listed_form.proofs.Stepping.{body-end}
 use Rattle.listed_requests.specs.Parts.{fewOnce, uncrowded, pairFits, pairsFit}
 use Rattle.listed_requests.specs.declared.forms.Found.{Found}
-use Rattle.listed_requests.specs.declared.pairs.Both.{Both}
-use Rattle.listed_requests.specs.declared.pairs.Pair.{Pair}
+use Rattle.listed_pairs.specs.declared.Both.{Both}
+use Rattle.listed_pairs.specs.declared.Pair.{Pair}
 use Rattle.listed_requests.specs.Given.{NextRequest}
-use Rattle.listed_requests.specs.Pairs.{Behind, FirstWtxid, Skips, SideBySide, Facing, Left, Compared, PairsFit}
+use Rattle.listed_pairs.specs.Given.{Behind, FirstWtxid, Skips, SideBySide, Facing, Left, Compared, PairsFit}
 use Rattle.listed_requests.proofs.Crowds.{test-few}
 use Rattle.listed_requests.proofs.Judging.{owner-if}
-use Rattle.listed_requests.proofs.Facing.{weaken, from-first, first-few, others-few, no-txid, no-wtxid, front-first, back-first, both-first, same-wtxids}
-use Rattle.listed_requests.proofs.Seeking.{txid-kind, wtxid-kind}
+use Rattle.listed_pairs.proofs.Facing.{weaken, from-first, first-few, others-few, no-txid, no-wtxid, front-first, back-first, both-first, same-wtxids}
+use Rattle.listed_pairs.proofs.Seeking.{txid-kind, wtxid-kind}
 
 abbrev most : ℕ
 most = maxAlternates

@@ -26,11 +26,11 @@ use Rattle.listed_lines.specs.declared.line.RequestIn.the-variants.{Not as NoRe
 use Rattle.listed_lines.specs.Given.{requestIn, lineIn, LineRead}
 use Rattle.listed_form.specs.Given.{Body, requestsOnly}
 use Rattle.listed_form.proofs.Stepping.{after-candidate, after-request, no-bad-line, no-head-line, body-end}
 use Rattle.listed_requests.specs.Parts.{uncrowded}
 use Rattle.listed_requests.specs.Given.{requestOnly, RequestOf}
-use Rattle.listed_requests.specs.Pairs.{wtxidOnly, WtxidLine, Behind, FirstWtxid}
+use Rattle.listed_pairs.specs.Given.{wtxidOnly, WtxidLine, Behind, FirstWtxid}
 use Rattle.listed_requests.proofs.Lines.{request-there, not-request}
-use Rattle.listed_requests.proofs.Facing.{weaken, others-few}
+use Rattle.listed_pairs.proofs.Facing.{weaken, others-few}
 
 -- ---- a line
 

@@ -17,11 +17,11 @@ use Rattle.machine.proofs.Tests.{test, never}
 use Rattle.heavy.specs.Streams.{connectionsOf}
 use Rattle.listed_lines.specs.declared.line.Request as line-request
 use Rattle.listed_form.specs.Given.{Body, requestsOnly}
 use Rattle.listed_requests.specs.Parts.{fewOnce}
 use Rattle.listed_requests.specs.declared.candidates.Gathered.{Gathered}
-use Rattle.listed_requests.specs.declared.pairs.Both.{Both}
+use Rattle.listed_pairs.specs.declared.Both.{Both}
 use Rattle.listed_requests.specs.Given.{mostGathered, Gathers}
-use Rattle.listed_requests.specs.Pairs.{Skips, SideBySide}
+use Rattle.listed_pairs.specs.Given.{Skips, SideBySide}
 
 pub skips : {b : List ℕ} {from : ℕ} {k : Key} {w w′ : List ℕ} {g : Gathered} → Gathers b from k 0 w w′ g → Skips b from (g .end)
 skips {g = g} a = record {
@@ -84,5 +84,6 @@ module _ {b : List ℕ} {from : ℕ} {r : line-request.Request} {to : ℕ} {w : 
             let i = a .whole q y few in
             let j = c .whole p z h in
             let e : length (q .candidates ++ p .candidates) ≤ maxAlternates = omega (arith, i .count, j .count, length-append (q .candidates) (p .candidates)) in
-            o ∙ ap noRepeat (j .connections ∙ ap (λ (t : List ℕ). t ++ connectionsOf (p .candidates)) (i .connections) ∙ sym (map-append (λ (t : Candidate). t .connection) (q .candidates) (p .candidates)))
+            o ∙ ap noRepeat (j .connections ∙ ap (λ (t : List ℕ). t ++ connectionsOf (p .candidates)) (i .connections)
+            ∙ sym (map-append (λ (t : Candidate). t .connection) (q .candidates) (p .candidates)))
             ∙ sym (ap (λ (t : Bool). t && noRepeat (connectionsOf (q .candidates ++ p .candidates))) (le-leb (length (q .candidates ++ p .candidates)) maxAlternates e))

@@ -1,8 +1,8 @@
--- `listed_requests::pairs::wtxid_line` meets its contract.
-use Rattle.listed_requests.proofs.Seeking.{no-wtxid-line, request-line}
+-- `listed_pairs::wtxid_line` meets its contract.
+use Rattle.listed_pairs.proofs.Seeking.{no-wtxid-line, request-line}
 use borrow.Author.Needs.{needs}
-use Rattle.listed_requests.proofs.pairs.wtxid_line.Statement.{statement}
-use Rattle.listed_requests.proofs.pairs.wtxid_line.Tie as tie
+use Rattle.listed_pairs.proofs.wtxid_line.Statement.{statement}
+use Rattle.listed_pairs.proofs.wtxid_line.Tie as tie
 
 returns : tie.Need-returns
 returns c = no-wtxid-line (c .before .before .request-of .ensures) (c .enum-told .given .1)

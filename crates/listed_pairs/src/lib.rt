@@ -1,18 +1,18 @@
 // A hash under both kinds: its Txid request and its Wtxid request together. Two indices go through the listing, one among the Txid requests and one among the
 // Wtxid requests; keys ascend, so each request is met once by each.
-use crate::candidates::gather;
-use crate::distinct::all_distinct;
-use crate::forms::request_at;
-use crate::forms::request_of;
-use crate::lawful::is_wtxid;
+use listed_requests::candidates::gather;
+use listed_requests::distinct::all_distinct;
+use listed_requests::forms::request_at;
+use listed_requests::forms::request_of;
+use listed_requests::lawful::is_wtxid;
 ghost use mathlib.Core.Path.{_≡_};
 ghost use Prim.Native.Nat.{_<_, _≤_};
 ghost use lib.ListN.{length};
 ghost use Rattle.ident.specs.declared.Kind.the-variants.{Wtxid};
 ghost use Rattle.machine.specs.Claim.{sameKind};
 ghost use Rattle.listed_lines.specs.Given.{listRoom};
 ghost use Rattle.listed_requests.specs.Given.{mostGathered};
-ghost use Rattle.listed_requests.specs.Pairs.{WtxidLine, FirstWtxid, Skips, SideBySide, Compared, PairsFit};
+ghost use Rattle.listed_pairs.specs.Given.{WtxidLine, FirstWtxid, Skips, SideBySide, Compared, PairsFit};
 use listed_lines::line::Line;
 use listed_lines::line::Request;
 use listed_lines::line::RequestIn;

@@ -1,0 +1,4 @@
+pub mod Facing
+pub mod Seeking
+pub mod Pairing
+pub mod Comparing
