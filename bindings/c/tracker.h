@@ -60,8 +60,8 @@ extern "C" {
 #define TRACKER_MUST_USE
 #endif
 
-/* ---- what a call returns: 0, or the number of its refusal. tracker_open tests 2, then 1; the two calls on payloads, which take no store,
- * test 10, then 7; any other call tests 3 to 8 in turn, those that its arguments can meet. */
+/* ---- what a call returns: 0, or the number of its refusal. tracker_open tests 2, then 1; tracker_restore 11, 12, then 1; the two calls
+ * on payloads, which take no store, test 10, then 7; any other call tests 3 to 8 in turn, those that its arguments can meet. */
 enum tracker_status {
     TRACKER_OK = 0,
     TRACKER_STORE_TOO_SHORT = 1,
@@ -72,7 +72,9 @@ enum tracker_status {
     TRACKER_TOO_MANY_PARENTS = 6,
     TRACKER_ANSWER_TOO_SHORT = 7,
     TRACKER_NO_PLACE = 8,
-    TRACKER_BAD_PAYLOAD = 10
+    TRACKER_BAD_PAYLOAD = 10,
+    TRACKER_NOT_A_LISTING = 11,
+    TRACKER_LISTING_NOT_SOUND = 12
 };
 
 static inline const char *tracker_status_text(uint64_t status) {
@@ -87,6 +89,8 @@ static inline const char *tracker_status_text(uint64_t status) {
     case TRACKER_ANSWER_TOO_SHORT: return "the answer is shorter than its need";
     case TRACKER_NO_PLACE: return "all package places are held";
     case TRACKER_BAD_PAYLOAD: return "no inventory payload, or items that make none";
+    case TRACKER_NOT_A_LISTING: return "the text is no listing";
+    case TRACKER_LISTING_NOT_SOUND: return "the state that the text lists is not sound";
     default: return "no status of the tracker";
     }
 }
@@ -333,6 +337,10 @@ uint64_t tracker_package_info_owner(const uint8_t *store, size_t length, uint64_
 
 /* The listing of the tracker's state, in the answer: so many bytes as `written` says. The store is only read. */
 uint64_t tracker_save(const uint8_t *store, size_t length, uint8_t *answer, size_t answer_length, uint64_t *written) TRACKER_MUST_USE;
+
+/* Makes the store the tracker that the text lists. It takes any store that is long enough, whose old bytes are not looked at; bytes past
+ * the need stay. */
+uint64_t tracker_restore(uint8_t *store, size_t length, const uint8_t *text, size_t text_length) TRACKER_MUST_USE;
 
 /* The connection is asked for the package info of the transaction with that wtxid, whose parents are given in 32 bytes each. The reply is
  * 0 if the hash is owned, if the connection owns 100 requests, or if it is no candidate and is not kept as one. */

@@ -111,7 +111,10 @@ static void statuses(void) {
     check("no connection", REFUSED(TRACKER_NO_CONNECTION, unclaim, TRACKER_TXID, x, 0));
     store[0] ^= 1;
     check("another format", REFUSED(TRACKER_NOT_SOUND, unclaim, TRACKER_TXID, x, 1));
-    for (uint64_t status = TRACKER_OK; status <= TRACKER_BAD_PAYLOAD; status++)
+    static const uint8_t text[] = "0,1,none,none,none\n";
+    check("no listing", tracker_restore(store, sizeof store, text, sizeof text) == TRACKER_NOT_A_LISTING);
+    check("not sound", tracker_restore(store, sizeof store, text, sizeof text - 1) == TRACKER_LISTING_NOT_SOUND);
+    for (uint64_t status = TRACKER_OK; status <= TRACKER_LISTING_NOT_SOUND; status++)
         check("a text for each status", status == 9 || strcmp(tracker_status_text(status), tracker_status_text(9)) != 0);
 }
 

@@ -135,6 +135,7 @@ static void requests(void) {
     CALL(sweep, ANSWER, NUMBER);
     CALL(sum, NUMBER, &s->numbers[1], &s->numbers[2], &s->numbers[3]);
     CALL(save, ANSWER, NUMBER);
+    ALONE(restore, sides[0].store, sizeof sides[0].store, sides[0].answer, (size_t)sides[0].numbers[0]);
     CALL(counts, 9, NUMBER, &s->numbers[1]);
     WAS(100, "counts");
 }

@@ -168,6 +168,9 @@ unsafe extern "C" {
         answer_length: usize,
         written: &mut u64,
     ) -> u64;
+    /// Makes the store the tracker that the text lists. It takes any store that is long enough, whose old
+    /// bytes are not looked at; bytes past the need stay.
+    pub fn tracker_restore(store: *mut u8, length: usize, text: *const u8, text_length: usize) -> u64;
     /// The connection is asked for the package info of the transaction with that wtxid, whose parents are
     /// given in 32 bytes each. The reply is 0 if the hash is owned, if the connection owns 100 requests, or
     /// if it is no candidate and is not kept as one.

@@ -231,6 +231,16 @@ pub fn save(store: &[u8], answer: &mut [u8]) -> Result<usize, Error> {
     done(status, written as usize)
 }
 
+/// Makes the store the tracker that the text lists. It takes any store that is long enough, whose old bytes
+/// are not looked at; bytes past the need stay.
+pub fn restore(store: &mut [u8], text: &[u8]) -> Result<(), Error> {
+    // SAFETY: what is lent is lent for the call, and what it may write is lent to it alone.
+    let status = unsafe {
+        abi::tracker_restore(store.as_mut_ptr(), store.len(), text.as_ptr(), text.len())
+    };
+    done(status, ())
+}
+
 /// The connection is asked for the package info of the transaction with that wtxid, whose parents are given
 /// in 32 bytes each. The reply is 0 if the hash is owned, if the connection owns 100 requests, or if it is
 /// no candidate and is not kept as one.

@@ -6,7 +6,7 @@ use core::fmt;
 #[derive(Clone, Copy, Debug, Eq, Hash, PartialEq)]
 #[repr(u64)]
 pub enum Error {
-    /// Opening: the store is shorter than the need of its sizes.
+    /// Opening, reading a listing: the store is shorter than the need of its sizes.
     StoreTooShort = 1,
     /// Opening: L is not 1 to 100,000, or Q is not 1 to 4,096.
     SizesOutOfRange = 2,
@@ -24,11 +24,15 @@ pub enum Error {
     NoPlace = 8,
     /// The bytes are no inventory payload, or the items make none.
     BadPayload = 10,
+    /// Reading a listing: the text is none.
+    NotAListing = 11,
+    /// Reading a listing: the state that it lists is not sound.
+    ListingNotSound = 12,
 }
 
 impl Error {
     /// Every refusal, by its number.
-    pub const ALL: [Self; 9] = [
+    pub const ALL: [Self; 11] = [
         Self::StoreTooShort,
         Self::SizesOutOfRange,
         Self::NotSound,
@@ -38,6 +42,8 @@ impl Error {
         Self::AnswerTooShort,
         Self::NoPlace,
         Self::BadPayload,
+        Self::NotAListing,
+        Self::ListingNotSound,
     ];
 
     /// Its number in the table.
@@ -63,6 +69,8 @@ impl fmt::Display for Error {
             Self::AnswerTooShort => "the answer is shorter than its need",
             Self::NoPlace => "all package places are held",
             Self::BadPayload => "no inventory payload, or items that make none",
+            Self::NotAListing => "the text is no listing",
+            Self::ListingNotSound => "the state that the text lists is not sound",
         })
     }
 }

@@ -68,6 +68,24 @@ impl Tracker {
     pub fn with_sizes(sizes: Sizes) -> Self {
         opened(vec![0; sizes.need()], sizes).expect("a store of their need")
     }
+
+    /// The tracker that [`save`](Self::save) listed, here or elsewhere; [`Error::NotAListing`] if the text is none,
+    /// [`Error::ListingNotSound`] if no tracker can be in the state that it lists.
+    ///
+    /// ```
+    /// use tracker::{Error, Tracker};
+    ///
+    /// let mut tracker = Tracker::restore(b"4,1,none,none,none\nwa,none,0,none,0,0\n7,wa,0,0,5\n")?;
+    /// assert_eq!(tracker.sum().held, 1);
+    /// let text = tracker.save().to_vec();
+    /// assert_eq!(Tracker::restore(&text)?, tracker);
+    /// assert_eq!(Tracker::restore(b"4,1"), Err(Error::NotAListing));
+    /// assert_eq!(Tracker::restore(b"0,1,none,none,none\n"), Err(Error::ListingNotSound)); // no room for one announcement
+    /// # Ok::<(), Error>(())
+    /// ```
+    pub fn restore(text: &[u8]) -> Result<Self, Error> {
+        restored(vec![0; Sizes::listed(text).map_or(0, Sizes::need)], text)
+    }
 }
 
 impl<'a> TrackerMut<'a> {
@@ -76,11 +94,24 @@ impl<'a> TrackerMut<'a> {
     pub fn open(store: &'a mut [u8], sizes: Sizes) -> Result<Self, Error> {
         opened(store, sizes)
     }
+
+    /// Makes the bytes the tracker that a listing lists, whatever they were; [`Error::StoreTooShort`] below the need of its sizes,
+    /// which is tested last. Bytes past the need stay.
+    pub fn restore_in(store: &'a mut [u8], text: &[u8]) -> Result<Self, Error> {
+        restored(store, text)
+    }
 }
 
 /// An empty tracker of these sizes on that store.
 fn opened<S: StoreMut>(mut store: S, sizes: Sizes) -> Result<Tracker<S>, Error> {
     bytes::open(store.bytes_mut(), sizes.announcements(), sizes.places())?;
+    Ok(Tracker { store: store.cut(sizes.need()), sizes, answer: Vec::new() })
+}
+
+/// The tracker that a listing lists, on that store.
+fn restored<S: StoreMut>(mut store: S, text: &[u8]) -> Result<Tracker<S>, Error> {
+    bytes::restore(store.bytes_mut(), text)?;
+    let sizes = Sizes::of(store.bytes()).expect("a sound store has sizes in range");
     Ok(Tracker { store: store.cut(sizes.need()), sizes, answer: Vec::new() })
 }
 

@@ -37,6 +37,13 @@ impl Sizes {
         if store.len() < 24 { None } else { Self::new(word(store, 1), word(store, 2)).ok() }
     }
 
+    /// Those that a listing begins with; none if it does not begin with two numbers, or they are out of range.
+    pub fn listed(text: &[u8]) -> Option<Self> {
+        let mut fields = text.split(|byte| *byte == b',');
+        let mut number = || core::str::from_utf8(fields.next()?).ok()?.parse().ok();
+        Self::new(number()?, number()?).ok()
+    }
+
     /// L.
     pub const fn announcements(self) -> u64 {
         self.announcements

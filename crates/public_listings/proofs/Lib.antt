@@ -1,1 +1,4 @@
 pub mod Instances
+pub mod Deciding
+pub mod Judging
+pub mod Restored

@@ -27,7 +27,7 @@ pub enum Counts {
 }
 
 // Whether opening takes these sizes.
-fn sizes_taken(l: u64, q: u64) -> bool
+pub fn sizes_taken(l: u64, q: u64) -> bool
     ensures { λ r. ⌜ r ≡ sizesTaken l q ⌝ }
 {
     if l < 1 {

@@ -16,7 +16,7 @@ use Rattle.outcome.proofs.Widths.{candidate-typed, key-typed}
 use Rattle.public_plans.proofs.Entered.{entries-whole, whole-typed}
 use Rattle.public_plans.proofs.Sent.{words-small}
 use Rattle.tracker.specs.Tracked.{Ran, Tracked}
-use Rattle.tracker.specs.Made.{Made, opens, sums, saves, announces, requests-parent, announces-parents, fails, fails-with-parents, releases-package, claims}
+use Rattle.tracker.specs.Made.{Made, opens, sums, saves, restores, announces, requests-parent, announces-parents, fails, fails-with-parents, releases-package, claims}
 use Rattle.tracker.specs.Made.{departs, unclaims, forgets, forgets-known, fails-info, reads-owner, announces-transactions, completes, sweeps, gates}
 use Rattle.tracker.specs.Made.{solicits, claims-package, begins-resolution, fails-claims, tears-down, misses, plans, plans-given, arranges}
 use Rattle.tracker.proofs.Demands.{tracked, tracked-open}
@@ -25,6 +25,7 @@ pub made-typed : (c : Call) → Made c → CallTyped c
 made-typed c (opens l q g h) = (g, h)
 made-typed c sums = tt
 made-typed c (saves u) = tt
+made-typed c (restores x) = tt
 made-typed c (announces d g) = candidate-typed d g
 made-typed c (requests-parent d g) = candidate-typed d g
 made-typed c (announces-parents n clock b u g h p) = (g, hashes-fit b p, h)

@@ -8,7 +8,7 @@ use Rattle.ident.specs.Number.{top}
 use Rattle.ident.specs.Words.{keyNum}
 use Rattle.words.specs.Words.{words}
 use Rattle.machine.specs.Limits.{word}
-use Rattle.machine.specs.Call.{Buffer, Call, Open, On, Sum, Announce, RequestParent, AnnounceParents, Failed, FailedWithParents, ReleasePackage}
+use Rattle.machine.specs.Call.{Buffer, Call, Open, Restore, On, Sum, Announce, RequestParent, AnnounceParents, Failed, FailedWithParents, ReleasePackage}
 use Rattle.machine.specs.Call.{Claim, Disconnected, Unclaim, Forget, ForgetKnown, FailedPackageInfo, PackageInfoOwner, AnnounceTransactions}
 use Rattle.machine.specs.Call.{TransactionResponseCompleted, Sweep, PollGate, SolicitPackageInfo, ClaimPackage, BeginPackageResolution}
 use Rattle.machine.specs.Call.{FailedPackageClaims, TeardownPackageClaims, TransactionNotFound, Plan, Arrange, Save}
@@ -27,6 +27,7 @@ pub data Made : Call → Type 0 where
   opens : (l q : ℕ) → l < word → q < word → Made (Open l q)
   sums : Made (On Sum)
   saves : (u : Buffer) → Made (On (Save u))
+  restores : (x : List ℕ) → Made (Restore x)
   announces : (c : Candidate) → IsCandidate c → Made (On (Announce (candidateOf c)))
   requests-parent : (c : Candidate) → IsCandidate c → Made (On (RequestParent (candidateOf c)))
   announces-parents : (n clock : ℕ) (b : List ℕ) (u : Buffer) → n < word → clock < word → Bytes b → Made (On (AnnounceParents n (hashesIn b) clock u))
