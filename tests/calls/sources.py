@@ -16,10 +16,10 @@ def snake(name):
 # ---- the machine
 
 def asks(root):
-    """The constructors of `Ask` and the opening, by the names of their calls."""
+    """The constructors of `Ask`, and those of `Call` that take any bytes, opening and reading, by the names of their calls."""
     text = read(root, "crates/machine/specs/Call.antt")
-    ask = re.search(r"^pub data Ask .*?\n(.*?)\n\n", text, re.M | re.S)[1]
-    return {snake(name): name for name in ["Open", *re.findall(r"^  (\w+) :", ask, re.M)]}
+    call, ask = (re.search(rf"^pub data {name} .*?\n(.*?)\n\n", text, re.M | re.S)[1] for name in ("Call", "Ask"))
+    return {snake(name): name for name in re.findall(r"^  (\w+) :", call + "\n" + ask, re.M) if name != "On"}
 
 
 def defined(root, name, file):
@@ -88,7 +88,7 @@ def refusals(root):
     taken = {role for role, value in re.findall(r"^placeTaken \(?(\w+).* s = (.*)$", text, re.M) if value != "false"}
     places = {name for name, role in re.findall(r"^roleOf \(?(\w+).* = (\w+)", text, re.M) if role in taken}
     places |= {name for name, value in re.findall(r"^takesPlace \((\w+).* = (.*)$", text, re.M) if value != "false"}
-    found = {"open": ([2, 1], "")}
+    found = {"open": ([2, 1], ""), "restore": ([11, 12, 1], "")}
     for name, form, rest in re.findall(r"^named \(?(\w+)[^=]*= (plain|keyed|entered) (.*)$", text, re.M):
         given = arguments(rest)
         parents = "0" if form == "entered" else given[2]
