@@ -75,9 +75,9 @@ enum tracker_status {
     TRACKER_ANSWER_TOO_SHORT = 7,
     TRACKER_NO_PLACE = 8,
     TRACKER_BAD_PAYLOAD = 10,
-    TRACKER_WRONG_HASHES = 13
     TRACKER_NOT_A_LISTING = 11,
-    TRACKER_LISTING_NOT_SOUND = 12
+    TRACKER_LISTING_NOT_SOUND = 12,
+    TRACKER_WRONG_HASHES = 13
 };
 
 static inline const char *tracker_status_text(uint64_t status) {
@@ -372,6 +372,7 @@ uint64_t tracker_package_info_owner(const uint8_t *store, size_t length, uint64_
  * not above the greatest of them. The store is only read. */
 uint64_t tracker_owners_of(const uint8_t *store, size_t length, const uint8_t *hashes, size_t hashes_length, uint8_t *answer,
                            size_t answer_length, uint64_t *passed) TRACKER_MUST_USE;
+
 /* The listing of the tracker's state, in the answer: so many bytes as `written` says. The store is only read. */
 uint64_t tracker_save(const uint8_t *store, size_t length, uint8_t *answer, size_t answer_length, uint64_t *written) TRACKER_MUST_USE;
 

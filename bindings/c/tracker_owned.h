@@ -83,6 +83,7 @@ uint64_t tracker_owned_package_info_owner(const uint8_t *store, size_t length, u
  * not above the greatest of them. The store is only read. */
 uint64_t tracker_owned_owners_of(const uint8_t *store, size_t length, const uint8_t *hashes, size_t hashes_length, uint8_t *answer,
                                  size_t answer_length, uint64_t *passed) TRACKER_MUST_USE;
+
 /* The listing of the tracker's state, in the answer: so many bytes as `written` says. The store is only read. */
 uint64_t tracker_owned_save(const uint8_t *store, size_t length, uint8_t *answer, size_t answer_length,
                             uint64_t *written) TRACKER_MUST_USE;

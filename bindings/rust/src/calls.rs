@@ -233,6 +233,8 @@ pub fn owners_of(store: &[u8], hashes: &[[u8; 32]], answer: &mut [u8]) -> Result
             answer.as_mut_ptr(), answer.len(), &mut passed)
     };
     done(status, passed)
+}
+
 /// The listing of the tracker's state, in the answer: so many bytes as `written` says. The store is only
 /// read.
 pub fn save(store: &[u8], answer: &mut [u8]) -> Result<usize, Error> {

@@ -34,8 +34,7 @@ pub enum Error {
 
 impl Error {
     /// Every refusal, by its number.
-    pub const ALL: [Self; 10] = [
-    pub const ALL: [Self; 11] = [
+    pub const ALL: [Self; 12] = [
         Self::StoreTooShort,
         Self::SizesOutOfRange,
         Self::NotSound,
@@ -45,9 +44,9 @@ impl Error {
         Self::AnswerTooShort,
         Self::NoPlace,
         Self::BadPayload,
-        Self::WrongHashes,
         Self::NotAListing,
         Self::ListingNotSound,
+        Self::WrongHashes,
     ];
 
     /// Its number in the table.

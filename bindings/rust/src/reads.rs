@@ -127,6 +127,8 @@ impl<S: Store> Tracker<S> {
                 self.answer.as_mut_ptr(), self.answer.len(), &mut passed)
         };
         done(status, Owned { passed, owners: Owners::new(&self.answer, hashes.len() / 32) })
+    }
+
     /// The listing of the tracker's state: text, a line feed after each line.
     ///
     /// ```

@@ -165,6 +165,7 @@ unsafe extern "C" {
         answer: *mut u8,
         answer_length: usize,
         passed: &mut u64,
+    ) -> u64;
     /// The listing of the tracker's state, in the answer: so many bytes as `written` says. The store is only
     /// read.
     pub fn tracker_owned_save(
