@@ -24,12 +24,12 @@ pub enum Error {
     NoPlace = 8,
     /// The bytes are no inventory payload, or the items make none.
     BadPayload = 10,
-    /// Hashes are more than 1,024, or not in strictly ascending order.
-    WrongHashes = 13,
     /// Reading a listing: the text is none.
     NotAListing = 11,
     /// Reading a listing: the state that it lists is not sound.
     ListingNotSound = 12,
+    /// Hashes are more than 1,024, or not in strictly ascending order.
+    WrongHashes = 13,
 }
 
 impl Error {

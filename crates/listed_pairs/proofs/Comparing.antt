@@ -27,11 +27,11 @@ use Rattle.listed_requests.specs.declared.forms.Found.{Found}
 use Rattle.listed_pairs.specs.declared.Both.{Both}
 use Rattle.listed_pairs.specs.declared.Pair.{Pair}
 use Rattle.listed_requests.specs.Given.{NextRequest}
-use Rattle.listed_pairs.specs.Given.{Behind, FirstWtxid, Skips, SideBySide, Facing, Left, Compared, PairsFit}
-use Rattle.listed_requests.proofs.Crowds.{test-few}
+use Rattle.listed_pairs.specs.Given.{Behind, FirstWtxid, Skips, PassesBelow, SideBySide, Facing, Left, Compared, PairsFit}
 use Rattle.listed_requests.proofs.Judging.{owner-if}
 use Rattle.listed_pairs.proofs.Facing.{weaken, from-first, first-few, others-few, no-txid, no-wtxid, front-first, back-first, both-first, same-wtxids}
 use Rattle.listed_pairs.proofs.Seeking.{txid-kind, wtxid-kind}
+use Rattle.listed_pairs.proofs.Skipping.{few-in}
 
 abbrev most : ℕ
 most = maxAlternates
@@ -146,32 +146,24 @@ module _ {b : List ℕ} {i j : ℕ} {ws ps ws′ ps′ : List ℕ} {f g : Found}
   is-txid : r .kind ≡ Txid
   is-txid = txid-kind (r .kind) (sym x-is ∙ txid)
 
-  few-in : (q : Request) (t : Table) → every (uncrowded most) (q ∷ t) ≡ true → length (q .candidates) ≤ most
-  few-in q t h = test-few most (q .candidates) .holds (first-few most q t h) .few
-
   -- the test with the two in front
   with-both : {p q : Table} (t : Met b (f .end) (g .end) front back p q) → pairsFit most q p ≡ pairsFit most (back (t .ds) ∷ t .u) (front (t .cs) ∷ t .s)
   with-both {p} {q} t = ap (pairsFit most q) (t .first) ∙ ap (λ (y : Table). pairsFit most y (front (t .cs) ∷ t .s)) (t .second)
 
-  pub front-less : j ≤ length b → {y : Bool} → y ≡ ltb (quadNumber (r .hash)) (quadNumber (w .hash)) → y ≡ true → {to : ℕ} → Skips b (f .end) to
+  pub front-less : j ≤ length b → {y : Bool} → y ≡ ltb (quadNumber (r .hash)) (quadNumber (w .hash)) → y ≡ true → {to : ℕ} → PassesBelow b (f .end) to (quadNumber (w .hash))
       → Compared b i j (record { verdict = 2; first = to; second = j })
   front-less k {y} y-is y-true {to} s =
       moves (omega (arith, n .on, s .on)) (omega arith) (omega (arith, n .on, s .on)) (s .inside) k (λ p q a.
       let t = meet p q a in
       let l = ltb-true (quadNumber (r .hash)) (quadNumber (w .hash)) (sym y-is ∙ y-true) in
+      let z = s .is (record { candidates = t .cs; table = t .s }) (t .body) (few-in (front (t .cs)) (t .s) (t .few)) (weaken (t .s) (omega arith) (t .ordered .2))
+      (others-few most (front (t .cs)) (t .s) (t .few)) in
       record {
-        p = t .s;
+        p = z .table;
         q = q;
-        facing = record {
-          front = s .is (record { candidates = t .cs; table = t .s }) (t .body) (few-in (front (t .cs)) (t .s) (t .few));
-          back = a .back;
-          ordered = weaken (t .s) (omega arith) (t .ordered .2);
-          above = a .above;
-          few = others-few most (front (t .cs)) (t .s) (t .few);
-          fewer = a .fewer;
-        };
+        facing = record { front = z .body; back = a .back; ordered = z .ordered; above = a .above; few = z .few; fewer = a .fewer };
         same = with-both t ∙ front-first most (front (t .cs)) (t .s) (back (t .ds)) (t .u) (t .ordered) (t .above) is-txid (first-few most (front (t .cs)) (t .s) (t .few)) l
-            ∙ sym (ap (λ (y : Table). pairsFit most y (t .s)) (t .second));
+            ∙ z .same (back (t .ds)) (t .u) (t .above) refl ∙ sym (ap (λ (y : Table). pairsFit most y (z .table)) (t .second));
       })
 
   pub back-less : i ≤ length b → {y : Bool} → y ≡ ltb (quadNumber (w .hash)) (quadNumber (r .hash)) → y ≡ true → {to : ℕ} → Skips b (g .end) to

@@ -2,13 +2,13 @@
 use Prim.Native.Nat.{ℕ, _+_, _<_, _≤_}
 use mathlib.Core.Path.{_≡_}
 use mathlib.Core.Bool.{Bool, true, false, not, _&&_}
-use mathlib.Core.List.{List, _++_}
+use mathlib.Core.List.{List, _∷_, _++_}
 use mathlib.Core.Option.{Option, none, some}
 use lib.ListN.{length}
 use Rattle.ident.specs.declared.Kind.the-variants.{Wtxid}
 use Rattle.ident.specs.Number.{top, wtxid}
 use Rattle.machine.specs.Limits.{maxAlternates}
-use Rattle.machine.specs.State.{Table}
+use Rattle.machine.specs.State.{Request, Table}
 use Rattle.machine.specs.Table.{at}
 use Rattle.machine.specs.Claim.{sameKind}
 use Rattle.machine.specs.Sound.{Ordered}
@@ -52,6 +52,24 @@ pub record Skips (b : List ℕ) (from e : ℕ) : Type 0 where
   pub on : from ≤ e
   pub inside : e ≤ length b
   pub is : (q : Rest) → Body b from q → length (q .candidates) ≤ maxAlternates → Body b e (requestsOnly (q .table))
+
+-- of the requests p those before index e come to nothing beside Wtxid requests from hash k on
+pub record Passed (b : List ℕ) (e k : ℕ) (p : Table) : Type 0 where
+  pub table : Table
+  pub body : Body b e (requestsOnly table)
+  pub ordered : Ordered 0 table
+  pub few : every (uncrowded maxAlternates) table ≡ true
+  pub same : (w : Request) (u : Table) → Ordered top (w ∷ u) → w .key .hash ≡ k → pairsFit maxAlternates (w ∷ u) p ≡ pairsFit maxAlternates (w ∷ u) table
+
+pub record Below (b : List ℕ) (from e k : ℕ) : Type 0 where
+  pub on : from ≤ e
+  pub inside : e ≤ length b
+  pub is : (p : Table) → Body b from (requestsOnly p) → Ordered 0 p → every (uncrowded maxAlternates) p ≡ true → Passed b e k p
+
+pub record PassesBelow (b : List ℕ) (from e k : ℕ) : Type 0 where
+  pub on : from ≤ e
+  pub inside : e ≤ length b
+  pub is : (q : Rest) → Body b from q → length (q .candidates) ≤ maxAlternates → Ordered 0 (q .table) → every (uncrowded maxAlternates) (q .table) ≡ true → Passed b e k (q .table)
 
 -- the requests of two lines with the candidates that are listed from two indices on
 pub record SideBySide (b : List ℕ) (from : ℕ) (r : line-request.Request) (to : ℕ) (w : line-request.Request) (g : Both) : Type 0 where

@@ -8,11 +8,10 @@ use listed_requests::lawful::is_wtxid;
 ghost use mathlib.Core.Path.{_≡_};
 ghost use Prim.Native.Nat.{_<_, _≤_};
 ghost use lib.ListN.{length};
-ghost use Rattle.ident.specs.declared.Kind.the-variants.{Wtxid};
-ghost use Rattle.machine.specs.Claim.{sameKind};
+ghost use Rattle.regions.specs.Rows.{quadNumber};
 ghost use Rattle.listed_lines.specs.Given.{listRoom};
 ghost use Rattle.listed_requests.specs.Given.{mostGathered};
-ghost use Rattle.listed_pairs.specs.Given.{WtxidLine, FirstWtxid, Skips, SideBySide, Compared, PairsFit};
+ghost use Rattle.listed_pairs.specs.Given.{WtxidLine, FirstWtxid, Skips, Below, PassesBelow, SideBySide, Compared, PairsFit};
 use listed_lines::line::Line;
 use listed_lines::line::Request;
 use listed_lines::line::RequestIn;
@@ -77,6 +76,56 @@ fn skip(
     let hash = r.hash;
     let g = gather(text, from, kind, hash, 0, conns, wtxids, parents);
     g.end
+}
+
+// The first request from an index on that is a Wtxid request or whose hash is k at least, or the end.
+fn below(
+    text: &[u8],
+    from: usize,
+    k: regions::Quad,
+    conns: &mut [u64],
+    wtxids: &mut [u8],
+    parents: &mut [u8],
+) -> usize
+    requires { ⌜ (from ≤ length (now text)) × (mostGathered ≤ length (now conns)) × (listRoom ≤ length (now wtxids)) × (listRoom ≤ length (now parents)) ⌝ }
+    ensures { λ e. ⌜ Below (now (text .entry)) from e (quadNumber k) ⌝ }
+{
+    let mut at = from;
+    while at < text.len() {
+        let f = request_at(text, at, wtxids, parents);
+        let end = f.end;
+        let line = f.line;
+        let RequestIn::Is(r) = line else {
+            return at;
+        };
+        let kind = r.kind;
+        if is_wtxid(kind) {
+            return at;
+        }
+        let h = r.hash;
+        if !regions::quad_less(h, k) {
+            return at;
+        }
+        at = skip(text, end, r, conns, wtxids, parents);
+    }
+    at
+}
+
+// The same, from the candidates of a request on. A long line of the Wtxid request with hash k is not read again for each of them.
+fn pass_below(
+    text: &[u8],
+    from: usize,
+    r: Request,
+    k: regions::Quad,
+    conns: &mut [u64],
+    wtxids: &mut [u8],
+    parents: &mut [u8],
+) -> usize
+    requires { ⌜ (from ≤ length (now text)) × (mostGathered ≤ length (now conns)) × (listRoom ≤ length (now wtxids)) × (listRoom ≤ length (now parents)) ⌝ }
+    ensures { λ e. ⌜ PassesBelow (now (text .entry)) from e (quadNumber k) ⌝ }
+{
+    let at = skip(text, from, r, conns, wtxids, parents);
+    below(text, at, k, conns, wtxids, parents)
 }
 
 // Two requests of one hash, whose candidates are listed from two indices on.
@@ -165,7 +214,7 @@ fn compare(
     let h = r.hash;
     let k = w.hash;
     if regions::quad_less(h, k) {
-        let first = skip(text, from, r, conns, wtxids, parents);
+        let first = pass_below(text, from, r, k, conns, wtxids, parents);
         return pair_at(2, first, j);
     }
     if regions::quad_less(k, h) {

@@ -34,8 +34,8 @@ returns-3 c =
     let f = e .before in
     rw (c .pair-at3 .ensures) (no-back (omega (arith, f .pre .0)) (omega (arith, f .pre .1)) (d .request-at2 .ensures) (c .before .enum-told2 .given .1))
 
-skip-requires : tie.Need-skip-requires
-skip-requires c κs =
+pass-below-requires : tie.Need-pass-below-requires
+pass-below-requires c κs =
     let d = c .before .before .before .before .before .before .before .before .before .before .before .before .before .before in
     let e = d .before .before .before .before .before .before .before .before .before .before .before .before in
     let f = e .before .before .before .before .before .before .before in (
@@ -50,14 +50,14 @@ same-length-8 c =
     let d = c .before .before .before .before .before .before .before in
     let e = d .before .before .before .before .before .before .before .before .before .before .before .before .before .before .before in
     let f = e .before .before .before .before .before .before .before .before .before .before .before .before in
-    d .skip .kept .1 .1 .1 .1 .0 ∙ e .request-at2 .kept .1 .1 .0 ∙ f .request-at .kept .1 .1 .0
+    d .pass-below .kept .1 .1 .1 .1 .1 .0 ∙ e .request-at2 .kept .1 .1 .0 ∙ f .request-at .kept .1 .1 .0
 
 same-length-9 : tie.Need-same-length-9
 same-length-9 c =
     let d = c .before .before .before .before .before .before .before in
     let e = d .before .before .before .before .before .before .before .before .before .before .before .before .before .before .before in
     let f = e .before .before .before .before .before .before .before .before .before .before .before .before in
-    d .skip .kept .1 .1 .1 .1 .1 .0 ∙ e .request-at2 .kept .1 .1 .1 .0 ∙ f .request-at .kept .1 .1 .1 .0
+    d .pass-below .kept .1 .1 .1 .1 .1 .1 .0 ∙ e .request-at2 .kept .1 .1 .1 .0 ∙ f .request-at .kept .1 .1 .1 .0
 
 returns-4 : tie.Need-returns-4
 returns-4 c =
@@ -73,10 +73,10 @@ returns-4 c =
     let m = l .before .before .before .before .before .before .before in
     rw (c .pair-at4 .ensures)
     (front-less (l .request-at .ensures) (h .request-at2 .ensures) (k .front .given .1) (g .back .given .1) (j .is-wtxid .ensures) (i .if1 .left)
-    (omega (arith, m .pre .1)) (f .quad-less .ensures) (e .if2 .taken) (d .skip .ensures))
+    (omega (arith, m .pre .1)) (f .quad-less .ensures) (e .if2 .taken) (d .pass-below .ensures))
 
-skip-requires-2 : tie.Need-skip-requires-2
-skip-requires-2 c κs =
+skip-requires : tie.Need-skip-requires
+skip-requires c κs =
     let d = c .before .before .before .before .before .before .before .before .before .before .before .before .before .before .before .before in
     let e = d .before .before .before .before .before .before .before .before .before .before .before .before in
     let f = e .before .before .before .before .before .before .before in (
@@ -91,14 +91,14 @@ same-length-11 c =
     let d = c .before .before .before .before .before .before .before in
     let e = d .before .before .before .before .before .before .before .before .before .before .before .before .before .before .before .before .before in
     let f = e .before .before .before .before .before .before .before .before .before .before .before .before in
-    d .skip2 .kept .1 .1 .1 .1 .0 ∙ e .request-at2 .kept .1 .1 .0 ∙ f .request-at .kept .1 .1 .0
+    d .skip .kept .1 .1 .1 .1 .0 ∙ e .request-at2 .kept .1 .1 .0 ∙ f .request-at .kept .1 .1 .0
 
 same-length-12 : tie.Need-same-length-12
 same-length-12 c =
     let d = c .before .before .before .before .before .before .before in
     let e = d .before .before .before .before .before .before .before .before .before .before .before .before .before .before .before .before .before in
     let f = e .before .before .before .before .before .before .before .before .before .before .before .before in
-    d .skip2 .kept .1 .1 .1 .1 .1 .0 ∙ e .request-at2 .kept .1 .1 .1 .0 ∙ f .request-at .kept .1 .1 .1 .0
+    d .skip .kept .1 .1 .1 .1 .1 .0 ∙ e .request-at2 .kept .1 .1 .1 .0 ∙ f .request-at .kept .1 .1 .1 .0
 
 returns-5 : tie.Need-returns-5
 returns-5 c =
@@ -114,7 +114,7 @@ returns-5 c =
     let m = l .before .before .before .before .before .before .before in
     rw (c .pair-at5 .ensures)
     (back-less (l .request-at .ensures) (h .request-at2 .ensures) (k .front .given .1) (g .back .given .1) (j .is-wtxid .ensures) (i .if1 .left)
-    (omega (arith, m .pre .0)) (f .quad-less2 .ensures) (e .if3 .taken) (d .skip2 .ensures))
+    (omega (arith, m .pre .0)) (f .quad-less2 .ensures) (e .if3 .taken) (d .skip .ensures))
 
 side-by-side-requires : tie.Need-side-by-side-requires
 side-by-side-requires c κs =
@@ -197,6 +197,6 @@ compare-spec =
     tie.close
     (tie.spec (λ c κs. search needs) (λ c. search needs) (λ c. search needs) (λ c κs. search needs) (λ c. search needs) (λ c. search needs) returns (λ c κs. search needs)
     (λ c κs. search needs) (λ c. search needs) (λ c. search needs) returns-2 request-at-requires-2 (λ c. search needs) (λ c. search needs) (λ c κs. search needs)
-    (λ c. search needs) (λ c. search needs) returns-3 (λ c κs. search needs) skip-requires (λ c κs. search needs) (λ c. search needs) same-length-8 same-length-9
-    returns-4 (λ c κs. search needs) skip-requires-2 (λ c κs. search needs) (λ c. search needs) same-length-11 same-length-12 returns-5 side-by-side-requires
+    (λ c. search needs) (λ c. search needs) returns-3 (λ c κs. search needs) pass-below-requires (λ c κs. search needs) (λ c. search needs) same-length-8 same-length-9
+    returns-4 (λ c κs. search needs) skip-requires (λ c κs. search needs) (λ c. search needs) same-length-11 same-length-12 returns-5 side-by-side-requires
     (λ c κs. search needs) (λ c. search needs) same-length-14 same-length-15 returns-6 (λ c κs. search needs) (λ c. search needs) same-length-17 same-length-18 returns-7)
