@@ -23,7 +23,7 @@ use Rattle.machine.proofs.Table.{at-key, lawful-at}
 use Rattle.store.specs.Image.{Writes}
 use Rattle.store.specs.Shown.{heldPlacesIn, Kept}
 use Rattle.store.specs.Gather.{kindIs}
-use Rattle.store.proofs.Quads.{number-quad}
+use Rattle.regions.proofs.Order.{number-quad}
 use Rattle.requests.specs.Changes.{KeyWords, Tells}
 use Rattle.package_stages.specs.declared.Request.{Request as RequestRead}
 use Rattle.package_stages.specs.Changes.{stageOf, wtxidsOf, combinedOf, hasPlace, PlaceSpot, SpotOf, ReadAt, RequestAt}
