@@ -21,7 +21,7 @@ use Rattle.package_stages.specs.Dead.{filter}
 use Rattle.merging.specs.Merges.{Rising}
 use Rattle.cutting.specs.Cuts.{between, cutAt, cutEach, cuts}
 use Rattle.leaving.specs.Parts.{listed, Unowned, Within, inParts}
-use Rattle.leaving.proofs.Segments.{at-cut-else, rising-keys, listed-keys, part-between, drop-part}
+use Rattle.leaving.proofs.Segments.{at-cut-else, rising-keys, listed-keys, part-between, drop-part, listed-below as listed-behind}
 use Rattle.leaving.proofs.Newcomers.{fewer-drop}
 
 -- ---- at the start
@@ -55,11 +55,6 @@ listed-in j a b (k ∷ ks) i h = elim (test (eqb (place k) (place j))) [
   | inl e ↦ let d = eqb-true (place k) (place j) e in (omega (arith, i .0 .0), omega (arith, i .0 .1))
   | inr e ↦ listed-in j a b ks (i .1) (rw e at h)
 ]
-
-pub listed-behind : (j : Key) (lo : ℕ) (ks : List Key) → Rising lo ks → place j < lo → listed j ks ≡ false
-unfolding listed
-listed-behind j lo [] r h = refl
-listed-behind j lo (k ∷ ks) r h = rw (ne-eqb (place k) (place j) (λ e. omega (arith, r .0)), listed-behind j (suc (place k)) ks (r .2) (omega (arith, r .0)))
 
 -- ---- a part is a range
 

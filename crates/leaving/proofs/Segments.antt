@@ -6,7 +6,7 @@ use mathlib.Core.Bool.{Bool, true, false, _&&_}
 use mathlib.Core.List.{List, [], _∷_, _++_}
 use native.Mathlib.Omega.{arith}
 use lib.Dec.{eqb}
-use borrow.Author.Tests.{eqb-true, eqb-false}
+use borrow.Author.Tests.{eqb-true, eqb-false, ne-eqb}
 use Rattle.ident.specs.If.{if_then_else_}
 use Rattle.ident.specs.Number.{top, Key, place}
 use Rattle.ident.proofs.Places.{place-same as place-inj}
@@ -19,14 +19,13 @@ use Rattle.machine.specs.Leave.{keysOf, dropAt, dropEach}
 use Rattle.machine.specs.Sound.{Ordered, All, Filled}
 use Rattle.machine.proofs.Tests.{test, by-test}
 use Rattle.machine.proofs.Table.{ordered-change, filled-change, all-at}
-use Rattle.machine.proofs.At.{kept, kept-some, at-here, at-there, at-same, at-other}
 use Rattle.machine.proofs.First.{without-absent as without-none}
+use Rattle.machine.proofs.At.{kept, kept-some, at-here, at-there, at-same, at-other}
 use Rattle.package_stages.specs.Dead.{filter}
 use Rattle.announcing.proofs.Swapping.{table-same}
 use Rattle.merging.specs.Merges.{Rising}
 use Rattle.cutting.specs.Cuts.{between, cutAt, cutEach, cuts}
 use Rattle.leaving.specs.Parts.{listed, Unowned}
-use Rattle.leaving.proofs.Parts.{listed-behind as listed-below}
 
 -- ---- what a cut leaves at each key
 
@@ -61,6 +60,11 @@ pub filled-each : (n : ℕ) (ks : List Key) (t : Table) → All Filled t → All
 unfolding cutEach
 filled-each n [] t f = f
 filled-each n (k ∷ ks) t f = filled-each n ks (cutAt n k t) (filled-cut n k t f)
+
+pub listed-below : (j : Key) (lo : ℕ) (ks : List Key) → Rising lo ks → place j < lo → listed j ks ≡ false
+unfolding listed
+listed-below j lo [] r h = refl
+listed-below j lo (k ∷ ks) r h = rw (ne-eqb (place k) (place j) (λ e. omega (arith, r .0)), listed-below j (suc (place k)) ks (r .2) (omega (arith, r .0)))
 
 at-each : (n : ℕ) (j : Key) (lo : ℕ) (ks : List Key) (t : Table) → j .hash < top → Rising lo ks → Ordered 0 t → at j (cutEach n ks t) ≡ (if listed j ks then cutOne n j (at j t) else at j t)
 unfolding cutEach listed
