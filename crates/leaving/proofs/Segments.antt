@@ -9,6 +9,7 @@ use lib.Dec.{eqb}
 use borrow.Author.Tests.{eqb-true, eqb-false, ne-eqb}
 use Rattle.ident.specs.If.{if_then_else_}
 use Rattle.ident.specs.Number.{top, Key, place}
+use Rattle.ident.proofs.Places.{place-same as place-inj}
 use Rattle.machine.specs.Limits.{Limits}
 use Rattle.machine.specs.State.{Candidate, Request, Table, withCandidates, ownerIs}
 use Rattle.machine.specs.Table.{at, has}
@@ -17,14 +18,14 @@ use Rattle.machine.specs.Fail.{Listed, nothing}
 use Rattle.machine.specs.Leave.{keysOf, dropAt, dropEach}
 use Rattle.machine.specs.Sound.{Ordered, All, Filled}
 use Rattle.machine.proofs.Tests.{test, by-test}
-use Rattle.machine.proofs.Table.{place-inj, ordered-change, filled-change, all-at}
+use Rattle.machine.proofs.Table.{ordered-change, filled-change, all-at}
+use Rattle.machine.proofs.First.{without-absent as without-none}
 use Rattle.machine.proofs.At.{kept, kept-some, at-here, at-there, at-same, at-other}
 use Rattle.package_stages.specs.Dead.{filter}
 use Rattle.announcing.proofs.Swapping.{table-same}
 use Rattle.merging.specs.Merges.{Rising}
 use Rattle.cutting.specs.Cuts.{between, cutAt, cutEach, cuts}
 use Rattle.leaving.specs.Parts.{listed, Unowned}
-use Rattle.cutting.proofs.AtOnce.{without-none}
 
 -- ---- what a cut leaves at each key
 
