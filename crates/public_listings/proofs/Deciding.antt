@@ -43,23 +43,23 @@ module _ {b : List ℕ} {from : ℕ} {t : Table} (y : Body b from (requestsOnly 
 
 -- ---- the tests in turn
 
+each-told : {b : List ℕ} {e L Q : ℕ} {x z : Bool} → EachFits b e L Q x → x ≡ z → EachFits b e L Q z
+each-told {b} {e} {L} {Q} v q = subst (λ (r : Bool). EachFits b e L Q r) q v
+
+pairs-told : {b : List ℕ} {e : ℕ} {p q : Bool} → PairsFit b e p → p ≡ q → PairsFit b e q
+pairs-told {b} {e} w q = subst (λ (r : Bool). PairsFit b e r) q w
+
 module _ {b : List ℕ} {h : line-head.Head} {e : ℕ} where
   pub bad-sizes : sizesTaken (h .limit) (h .places) ≡ false → Sounds b h e false
   bad-sizes g = record { is = λ y. sym (unsized y g) }
 
   module _ {x : Bool} (v : EachFits b e (h .limit) (h .places) x) where
-    each-told : {z : Bool} → x ≡ z → EachFits b e (h .limit) (h .places) z
-    each-told q = subst (λ (r : Bool). EachFits b e (h .limit) (h .places) r) q v
-
     pub bad-local : x ≡ false → Sounds b h e false
-    bad-local q = record { is = λ y. sym (not-each y (each-told q)) }
+    bad-local q = record { is = λ y. sym (not-each y (each-told v q)) }
 
     module _ (z : x ≡ true) {p : Bool} (w : PairsFit b e p) where
-      pairs-told : {q : Bool} → p ≡ q → PairsFit b e q
-      pairs-told q = subst (λ (r : Bool). PairsFit b e r) q w
-
       pub bad-pairs : p ≡ false → Sounds b h e false
-      bad-pairs q = record { is = λ y. sym (not-pairs y (each-told z) (pairs-told q)) }
+      bad-pairs q = record { is = λ y. sym (not-pairs y (each-told v z) (pairs-told w q)) }
 
       -- announcements that are within L, which opening takes
       held-few-there : sizesTaken (h .limit) (h .places) ≡ true → (y : Reads b h e) → held (y .state .table) ≤ maxAnnouncements
@@ -67,12 +67,12 @@ module _ {b : List ℕ} {h : line-head.Head} {e : ℕ} where
           let s = y .state in
           let k : sizesFit s ≡ true = ap sizesFit (y .head) ∙ g in
           let m : s .limit ≤ maxAnnouncements = leb-true (s .limit) maxAnnouncements (and-right (leb 1 (s .limit)) _ (and-left (leb 1 (s .limit) && leb (s .limit) maxAnnouncements) _ k)) in
-          omega (arith, held-within (limitsOf s) (s .places) (s .table) (passed y (each-told z)))
+          omega (arith, held-within (limitsOf s) (s .places) (s .table) (passed y (each-told v z)))
 
       pub all-told : sizesTaken (h .limit) (h .places) ≡ true → p ≡ true → {r : Bool} → LightRead b e r → Sounds b h e r
       all-told g q {r} u = record {
         is = λ y.
             let s = y .state in
-            counts-told (y .body) r u (held-few-there g y) (all-filled (limitsOf s) (s .places) (s .table) (passed y (each-told z))) (lawful y (each-told z))
-            ∙ sym (by-counts y (each-told z) g (pairs-told q));
+            counts-told (y .body) r u (held-few-there g y) (all-filled (limitsOf s) (s .places) (s .table) (passed y (each-told v z))) (lawful y (each-told v z))
+            ∙ sym (by-counts y (each-told v z) g (pairs-told w q));
       }

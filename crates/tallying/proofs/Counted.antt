@@ -11,7 +11,8 @@ use Rattle.regions.specs.declared.Conn.{Conn}
 use Rattle.machine.specs.Typed.{Each}
 use Rattle.store.specs.Flat.{ownBit, bump, tally}
 use Rattle.store.proofs.RowsFit.{each-by}
-use Rattle.store.proofs.Tally.{order, bump-nil, bump-lt, bump-eq, bump-gt, bump-swap, Tallied, bump-tallied}
+use Rattle.machine.proofs.Tests.{order}
+use Rattle.store.proofs.Tally.{bump-nil, bump-lt, bump-eq, bump-gt, bump-swap, Tallied, bump-tallied}
 use Rattle.tallying.specs.Entries.{entryOf, withRow, counted}
 
 -- ---- in any order

@@ -9,7 +9,7 @@ use lib.Seq.{take-all}
 use Rattle.lent_lists.specs.Lists.{hashesIn}
 use Rattle.regions.specs.Rows.{quadNumber}
 use Rattle.places.specs.Places.{blank}
-use Rattle.store.proofs.Quads.{number-quad}
+use Rattle.regions.proofs.Order.{number-quad}
 use Rattle.restoring.specs.Given.{ParentsIn}
 use Rattle.restoring.proofs.ParentLists.{Filled, filled-none, parents-shown, parents-inside, filled-more}
 use Rattle.restoring.proofs.new_places.push_parents.Statement.{statement}
