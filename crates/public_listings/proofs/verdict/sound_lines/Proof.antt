@@ -23,13 +23,8 @@ returns-2 c = bad-local (c .before .before .before .before .before .each-fits .e
 returns-3 : tie.Need-returns-3
 returns-3 c =
     let p = c .before .before .before .before .before in
-<<<<<<< HEAD
-    let e = p .before .before .before .before .before .before .before .before in
-    bad-pairs (e .each-fits .ensures) (not-false _ (p .before .before .before .if2 .left)) (p .pairs-fit .ensures) (not-true _ (c .if3 .taken))
-=======
     bad-pairs (p .before .before .before .before .before .before .before .before .each-fits .ensures) (not-false _ (p .before .before .before .if2 .left)) (p .pairs-fit .ensures)
     (not-true _ (c .if3 .taken))
->>>>>>> w-b
 
 returns-4 : tie.Need-returns-4
 returns-4 c =
