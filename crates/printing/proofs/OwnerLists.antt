@@ -16,10 +16,11 @@ use Rattle.machine.specs.Call.{Buffer, ownerBytes}
 use Rattle.owners.specs.Back.{holdingFrom, holdingIn, holdingsIn}
 use Rattle.machine.specs.Step.{Reply, Owned, answerBytes}
 use Rattle.machine.proofs.Owners.{length-holdingsAnswer}
-use Rattle.lines.specs.Text.{decimal, decimalDigits, keyText, Wrote}
-use Rattle.lines.proofs.Numerals.{length-numeral}
+use Rattle.machine.specs.Text.{decimal, decimalDigits, keyText, joined}
+use Rattle.lines.specs.Text.{Wrote}
+use Rattle.machine.proofs.Numerals.{length-numeral}
 use Rattle.lines.proofs.Writing.{wrote-more, wrote-none}
-use Rattle.printing.specs.Replies.{joined, noneText, ownerText, ownerTexts, replyText}
+use Rattle.printing.specs.Replies.{noneText, ownerText, ownerTexts, replyText}
 use Rattle.printing.specs.Given.{answerRoom, mostOwners, ownerRoom, taggedKind, behind, OwnersFit, Printed, ReplyPrinted}
 use Rattle.printing.proofs.KeyLists.{key-length}
 use Rattle.printing.proofs.Printing.{decimal-end}

@@ -6,17 +6,8 @@ use lib.ListN.{length}
 use Rattle.ident.specs.Number.{Key}
 use Rattle.machine.specs.State.{Entry}
 use Rattle.machine.specs.Owners.{Holding}
-use Rattle.machine.specs.Call.{Call, Open, On}
-use Rattle.machine.specs.Step.{Reply, Refused, Number, Keys, Left, Entries, Chosen, Summed, Owned}
-use Rattle.lines.specs.Text.{decimal, boolText, keyText, itemText}
-
--- texts parted by commas
-unfoldable pub joined : List (List ℕ) → List ℕ
-joined [] = []
-joined (t ∷ []) = t
-joined (t ∷ u ∷ ts) = t ++ (44 ∷ joined (u ∷ ts))
 use Rattle.machine.specs.Call.{Call, Open, Restore, On}
-use Rattle.machine.specs.Step.{Reply, Refused, Number, Keys, Left, Entries, Chosen, Summed, Saved}
+use Rattle.machine.specs.Step.{Reply, Refused, Number, Keys, Left, Entries, Chosen, Summed, Owned, Saved}
 use Rattle.machine.specs.Text.{decimal, boolText, keyText, itemText, joined}
 
 -- "An empty list is `-`."
