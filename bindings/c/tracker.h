@@ -60,10 +60,8 @@ extern "C" {
 #define TRACKER_MUST_USE
 #endif
 
-/* ---- what a call returns: 0, or the number of its refusal. tracker_open tests 2, then 1; the two calls on payloads, which take no store,
- * test 10, then 7; any other call tests 3 to 6, 13, 7 and 8 in turn, those that its arguments can meet. */
 /* ---- what a call returns: 0, or the number of its refusal. tracker_open tests 2, then 1; tracker_restore 11, 12, then 1; the two calls
- * on payloads, which take no store, test 10, then 7; any other call tests 3 to 8 in turn, those that its arguments can meet. */
+ * on payloads, which take no store, test 10, then 7; any other call tests 3 to 6, 13, 7 and 8 in turn, those that its arguments can meet. */
 enum tracker_status {
     TRACKER_OK = 0,
     TRACKER_STORE_TOO_SHORT = 1,

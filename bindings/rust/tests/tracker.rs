@@ -14,7 +14,7 @@ fn peer(number: u64) -> Connection {
 
 #[test]
 fn refusals_have_numbers_and_words() {
-    assert_eq!(Error::ALL.map(Error::number), [1, 2, 3, 4, 5, 6, 7, 8, 10, 13]);
+    assert_eq!(Error::ALL.map(Error::number), [1, 2, 3, 4, 5, 6, 7, 8, 10, 11, 12, 13]);
     assert!(Error::ALL.iter().all(|error| Error::from_number(error.number()) == Some(*error)));
     assert_eq!((Error::from_number(0), Error::from_number(9)), (None, None));
     assert_eq!(Error::NoPlace.to_string(), "all package places are held");
