@@ -40,6 +40,7 @@ summed-carried s n e = let z : _≡_ {A = ℕ} 0 1 = cc in omega arith
 
 owned-carried : (k : ℕ) (l : List (Option Holding)) → Carried (Owned k l)
 owned-carried k l n e = let z : _≡_ {A = ℕ} 0 1 = cc in omega arith
+
 saved-carried : (t : List ℕ) → Carried (Saved t)
 saved-carried t n e = let z : _≡_ {A = ℕ} 0 1 = cc in omega arith
 

@@ -131,6 +131,7 @@ pub hands-owners : {c : Call} (hs : List ℕ) (l : Listing) (was : ℕ) {b z : L
 hands-owners {c} hs (NoKeys zero) was d e = absurd (refused-zero c d)
 hands-owners hs (NoKeys (suc k)) was d e = rw (e .0, e .1) (d, refl)
 hands-owners hs (Listed k) was d e = rw (e .0, e .1) (d, tt)
+
 -- ---- answers that are a text
 
 pub hands-text : {c : Call} (l : Listing) (was : ℕ) {b z : List ℕ} {u : Buffer} {r n : ℕ} → LeavesWith c b z u (textOf l) → (r ≡ listingStatus l) × (n ≡ countOut l was)

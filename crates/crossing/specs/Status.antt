@@ -127,6 +127,7 @@ HandsEntries c b b′ u status was is = LeavesWith c b b′ u (entered status is
 -- or the owners of the hashes hs: the count of keys passed is handed out
 abbrev pub HandsOwners : Call → List ℕ → List ℕ → List ℕ → Buffer → ℕ → ℕ → ℕ → Type 0
 HandsOwners c hs b b′ u status was is = LeavesWith c b b′ u (owning hs status is) × Stays status was is
+
 -- or a text, whose length is handed out
 abbrev pub HandsText : Call → List ℕ → List ℕ → Buffer → ℕ → ℕ → ℕ → Type 0
 HandsText c b b′ u status was is = LeavesWith c b b′ u (texted status is) × Stays status was is

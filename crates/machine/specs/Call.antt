@@ -192,6 +192,7 @@ wrongHashes hs = ltb maxAskedHashes (length hs) || not (ascending hs)
 
 unfoldable pub late : Ask → State → ℕ
 late a s = if wrongHashes ((named a s) .hashes) then 13 else 0
+
 -- A text that lists no state gets 11, one that lists an unsound state 12; "a receiving store shorter than the state's need gets 1 after those, and
 -- its old bytes are not tested". The store has n bytes.
 unfoldable pub restoreRefusal : ℕ → Option State → ℕ
