@@ -220,21 +220,6 @@ pub fn package_info_owner(store: &[u8], key: &Key, now: u64) -> Result<Option<u6
     done(status, (owner != 0).then_some(owner))
 }
 
-/// Who owns each of up to 1,024 hashes, which are given in strictly ascending order, 32 bytes each: the kind
-/// (0 nobody, 1 Txid, 2 Wtxid), the connection and the deadline stand in the answer, 8 bytes each, least
-/// first. So many held keys as `passed` says have a hash that is not above the greatest of them. The store
-/// is only read.
-pub fn owners_of(store: &[u8], hashes: &[[u8; 32]], answer: &mut [u8]) -> Result<u64, Error> {
-    let hashes = hashes.as_flattened();
-    let mut passed = 0;
-    // SAFETY: what is lent is lent for the call, and what it may write is lent to it alone.
-    let status = unsafe {
-        abi::tracker_owners_of(store.as_ptr(), store.len(), hashes.as_ptr(), hashes.len(),
-            answer.as_mut_ptr(), answer.len(), &mut passed)
-    };
-    done(status, passed)
-}
-
 /// The listing of the tracker's state, in the answer: so many bytes as `written` says. The store is only
 /// read.
 pub fn save(store: &[u8], answer: &mut [u8]) -> Result<usize, Error> {
@@ -254,6 +239,21 @@ pub fn restore(store: &mut [u8], text: &[u8]) -> Result<(), Error> {
         abi::tracker_restore(store.as_mut_ptr(), store.len(), text.as_ptr(), text.len())
     };
     done(status, ())
+}
+
+/// Who owns each of up to 1,024 hashes, which are given in strictly ascending order, 32 bytes each: the kind
+/// (0 nobody, 1 Txid, 2 Wtxid), the connection and the deadline stand in the answer, 8 bytes each, least
+/// first. So many held keys as `passed` says have a hash that is not above the greatest of them. The store
+/// is only read.
+pub fn owners_of(store: &[u8], hashes: &[[u8; 32]], answer: &mut [u8]) -> Result<u64, Error> {
+    let hashes = hashes.as_flattened();
+    let mut passed = 0;
+    // SAFETY: what is lent is lent for the call, and what it may write is lent to it alone.
+    let status = unsafe {
+        abi::tracker_owners_of(store.as_ptr(), store.len(), hashes.as_ptr(), hashes.len(),
+            answer.as_mut_ptr(), answer.len(), &mut passed)
+    };
+    done(status, passed)
 }
 
 /// The connection is asked for the package info of the transaction with that wtxid, whose parents are given

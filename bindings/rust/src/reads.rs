@@ -96,6 +96,31 @@ impl<S: Store> Tracker<S> {
         settled(status, Connection::new(owner))
     }
 
+    /// The listing of the tracker's state: text, a line feed after each line.
+    ///
+    /// ```
+    /// use tracker::{Announcement, Connection, Item, Tracker, Wtxid};
+    ///
+    /// let mut tracker = Tracker::new(4, 1)?;
+    /// let mut hash = [0; 32];
+    /// hash[0] = 10;
+    /// let peer = Connection::new(7).expect("not 0");
+    /// tracker.announce(&Announcement::new(peer, Item::WTx(Wtxid(hash))).priority(5));
+    /// assert_eq!(tracker.save(), b"4,1,none,none,none\nwa,none,0,none,0,0\n7,wa,0,0,5\n");
+    /// # Ok::<(), tracker::Error>(())
+    /// ```
+    pub fn save(&mut self) -> &[u8] {
+        self.room(self.sizes.listing_need());
+        let mut written = 0;
+        let store = self.store.bytes();
+        // SAFETY: the store is sound and nobody else can write it; what the call may write is lent to it alone.
+        let status = unsafe {
+            abi::tracker_owned_save(store.as_ptr(), store.len(), self.answer.as_mut_ptr(), self.answer.len(),
+                &mut written)
+        };
+        settled(status, &self.answer[..written as usize])
+    }
+
     /// Who owns each of the hashes, deadlines over or not, and how many keys were passed.
     /// [`Error::WrongHashes`] if they are more than 1,024 or not in strictly ascending order, byte 31 being
     /// the most significant.
@@ -127,31 +152,6 @@ impl<S: Store> Tracker<S> {
                 self.answer.as_mut_ptr(), self.answer.len(), &mut passed)
         };
         done(status, Owned { passed, owners: Owners::new(&self.answer, hashes.len() / 32) })
-    }
-
-    /// The listing of the tracker's state: text, a line feed after each line.
-    ///
-    /// ```
-    /// use tracker::{Announcement, Connection, Item, Tracker, Wtxid};
-    ///
-    /// let mut tracker = Tracker::new(4, 1)?;
-    /// let mut hash = [0; 32];
-    /// hash[0] = 10;
-    /// let peer = Connection::new(7).expect("not 0");
-    /// tracker.announce(&Announcement::new(peer, Item::WTx(Wtxid(hash))).priority(5));
-    /// assert_eq!(tracker.save(), b"4,1,none,none,none\nwa,none,0,none,0,0\n7,wa,0,0,5\n");
-    /// # Ok::<(), tracker::Error>(())
-    /// ```
-    pub fn save(&mut self) -> &[u8] {
-        self.room(self.sizes.listing_need());
-        let mut written = 0;
-        let store = self.store.bytes();
-        // SAFETY: the store is sound and nobody else can write it; what the call may write is lent to it alone.
-        let status = unsafe {
-            abi::tracker_owned_save(store.as_ptr(), store.len(), self.answer.as_mut_ptr(), self.answer.len(),
-                &mut written)
-        };
-        settled(status, &self.answer[..written as usize])
     }
 
     // end: written by bindings/generate
