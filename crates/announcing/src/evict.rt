@@ -13,7 +13,7 @@ ghost use Rattle.requests.specs.Changes.{Tells};
 ghost use Rattle.announcing.specs.Evicts.{entry_at, found, key_after, protected, or_row, greatest_over, part};
 
 // What a scan has found so far: the row of a candidate, if there is one.
-#[derive(Drop)]
+#[derive(Clone, Copy)]
 pub struct Victim {
     pub some: bool,
     pub row: regions::Row,

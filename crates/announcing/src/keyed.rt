@@ -17,7 +17,7 @@ use crate::evict;
 use machine::limits::MAX_PEER_ANNOUNCEMENTS;
 
 // How an announcement fares: whether it comes in, and the candidate that gives way to it, if one has to.
-#[derive(Drop)]
+#[derive(Clone, Copy)]
 pub struct Verdict {
     pub enters: bool,
     pub victim: evict::Victim,

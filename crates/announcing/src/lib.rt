@@ -1,4 +1,6 @@
 // announce, request_parent and announce_parents on the bytes of a sound store (document 01, "The request machine").
+#![tactic(auto)]
+
 ghost use Rattle.machine.specs.Announce as machine;
 ghost use Rattle.store.specs.Shown.{Kept};
 ghost use Rattle.requests.specs.Changes.{candidate_of};

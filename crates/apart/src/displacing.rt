@@ -15,7 +15,7 @@ ghost use Rattle.apart.specs.Displacing.{unlisted, Lacks, Restocked, ShutOut, Un
 use crate::{joining, noting};
 
 // What is known of the victims: so many are listed, and the first of these have gone. spent: nobody can be evicted.
-#[derive(Drop)]
+#[derive(Clone, Copy)]
 pub struct Reserve {
     pub count: usize,
     pub gone: usize,
@@ -23,7 +23,7 @@ pub struct Reserve {
 }
 
 // Whether a parent was kept, how many wait after it, and what is known of the victims.
-#[derive(Drop)]
+#[derive(Clone, Copy)]
 pub struct Further {
     pub kept: bool,
     pub waiting: usize,

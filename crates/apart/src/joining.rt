@@ -15,7 +15,7 @@ ghost use Rattle.apart.specs.Waiting.{marks, Waits, LetIn, WaitsWith, NextIn};
 use crate::noting;
 
 // Whether a parent was kept, and how many wait after it.
-#[derive(Drop)]
+#[derive(Clone, Copy)]
 pub struct Next {
     pub kept: bool,
     pub waiting: usize,

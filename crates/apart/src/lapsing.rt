@@ -49,7 +49,7 @@ fn expire_place(
 }
 
 // What is known while owners expire: how many places at most have notes, and whether nobody can be evicted.
-#[derive(Drop)]
+#[derive(Clone, Copy)]
 pub struct Progress {
     pub noted: usize,
     pub spent: bool,

@@ -3,6 +3,8 @@
 // A store is header, rows, connections, places. `set_apart` takes the first place out into an array beside the store and says in the
 // header that there is room for one place and none is held: the bytes as far as that place then write a sound state without packages,
 // and the other places lie behind them. `put_back` undoes it, without the places that died meanwhile, when nothing is noted of a place any more.
+#![tactic(auto)]
+
 ghost use Rattle.std.specs.Prelude.{◌≡◌, ◌*◌, ◌≤◌, length};
 ghost use Rattle.store.specs.Shown.{limit_in, Kept};
 ghost use Rattle.apart.specs.Apart.{slot_bytes, bare_bytes, SetApart, Rested, PutBack};

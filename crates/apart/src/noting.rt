@@ -21,7 +21,7 @@ const MOST: usize = 100;
 const HALF: usize = 50;
 
 // Which parents of a place were kept: those of the first half and the others, the first the least bit. spent: nobody can be evicted then.
-#[derive(Drop)]
+#[derive(Clone, Copy)]
 pub struct Bits {
     pub low: u64,
     pub high: u64,
@@ -63,7 +63,7 @@ pub fn parent_of(slot: &[u8], j: usize) -> ident::Hash
 }
 
 // The bits of one half, how many of its parents wait, and what is known of the victims.
-#[derive(Drop)]
+#[derive(Clone, Copy)]
 pub struct Half {
     pub bits: u64,
     pub waiting: usize,

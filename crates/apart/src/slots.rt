@@ -11,7 +11,7 @@ ghost use Rattle.apart.specs.Apart.{slot_bytes, kept_at, with_notes, dying, Room
 use places::{DEAD, PLACE};
 
 // A place of a key: its number, its stage, how many parents it has. Stage 0: there is none, or it is dead.
-#[derive(Drop)]
+#[derive(Clone, Copy)]
 pub struct Spot {
     pub at: usize,
     pub stage: u64,
@@ -19,7 +19,7 @@ pub struct Spot {
 }
 
 // Which parents of a place were kept: those of the first half and the others, the first the least bit.
-#[derive(Drop)]
+#[derive(Clone, Copy)]
 pub struct Note {
     pub low: u64,
     pub high: u64,

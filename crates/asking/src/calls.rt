@@ -14,7 +14,7 @@ use reading::fields::{NumberAt, number_at};
 use reading::forms::{Values, ValuesAt, Whole, read_form, read_whole};
 
 // What a line asks for. A list stands behind the comma at an index: it is read where its call is carried out.
-#[derive(Drop)]
+#[derive(Clone, Copy)]
 pub enum Asked {
     Unreadable,
     Opening(u64, u64),

@@ -7,7 +7,7 @@ ghost use Rattle.asking.specs.Words.{word_of, request_word, package_word, keys_w
 use lines::read::same;
 
 // A call by its word. None: no word of a call that this program has.
-#[derive(Drop)]
+#[derive(Clone, Copy)]
 pub enum Word {
     None,
     Open,
@@ -26,7 +26,7 @@ pub enum Word {
 }
 
 // The calls whose reply is a number, and whose fields are those of a form.
-#[derive(Drop)]
+#[derive(Clone, Copy)]
 pub enum NumberWord {
     Announce,
     RequestParent,
@@ -42,7 +42,7 @@ pub enum NumberWord {
 }
 
 // The calls whose reply is a list of keys.
-#[derive(Drop)]
+#[derive(Clone, Copy)]
 pub enum KeysWord {
     Sweep,
     FailedWithParents,
@@ -50,7 +50,7 @@ pub enum KeysWord {
 }
 
 // The calls that take a list of hashes behind the fields of their form.
-#[derive(Drop)]
+#[derive(Clone, Copy)]
 pub enum HashesWord {
     SolicitPackageInfo,
     ClaimPackage,

@@ -1,4 +1,6 @@
 // Calls that leave the kept lists, carried out on a store, and their replies as text (docs/EVENTS.md): every word but `open`, `plan`, `want`, `take`, `send` and `part`.
+#![tactic(auto)]
+
 pub mod departures;
 pub mod hashes;
 pub mod listings;

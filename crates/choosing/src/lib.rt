@@ -2,6 +2,8 @@
 // connection below 100". And, where no candidate of a key is ready, the earliest later ready time among them (document 02, request c).
 //
 // The rows of a key are scanned from the last to the first, so that what has been found is the choice among the rows from here on.
+#![tactic(auto)]
+
 ghost use Rattle.std.specs.Prelude.{◌≡◌, false, [], ◌≤◌};
 ghost use Rattle.ident.specs.Words.{hash_num};
 ghost use Rattle.machine.specs.Plan as machine;
@@ -18,7 +20,7 @@ use machine::limits::MAX_PEER_IN_FLIGHT;
 pub mod later;
 
 // What a scan has found: the row of a candidate, if there is one, and its number. And when one is ready, where none is; 0 for no time.
-#[derive(Drop)]
+#[derive(Clone, Copy)]
 pub struct Pick {
     pub some: bool,
     pub row: regions::Row,

@@ -1,5 +1,7 @@
 // claim (document 01, "claim"): an entry of the checked list is taken if its hash is unowned and it is still, in every field, what
 // plan would choose for its hash.
+#![tactic(auto)]
+
 ghost use Rattle.std.specs.Prelude.{◌≡◌, ◌≤◌};
 ghost use Rattle.ident.specs.declared.Kind.TheVariants.{Txid};
 ghost use Rattle.ident.specs.Words.{key_num, item_num};
@@ -18,7 +20,7 @@ pub mod checked;
 pub mod entries;
 
 // What a plan answers and a claim is given: a candidate with its request's key.
-#[derive(Drop)]
+#[derive(Clone, Copy)]
 pub struct Entry {
     pub key: ident::Key,
     pub connection: u64,

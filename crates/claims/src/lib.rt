@@ -1,5 +1,7 @@
 // Package claims given up, on the bytes of a sound store (document 01, "The request machine"): forget_known; `waiting` has
 // failed_package_claims.
+#![tactic(auto)]
+
 ghost use Rattle.std.specs.Prelude.{◌≡◌};
 ghost use Rattle.ident.specs.Words.{key_num};
 ghost use Rattle.machine.specs.Table.{at};

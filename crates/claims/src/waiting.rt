@@ -96,7 +96,7 @@ fn claims_of(s: &[u8], n: u64, keys: &mut [u8], sums: &mut [u8]) -> usize
 }
 
 // A hash, if it is held: that of a claim's key, or one that is given.
-#[derive(Drop)]
+#[derive(Clone, Copy)]
 struct Found {
     hash: ident::Hash,
     held: bool,

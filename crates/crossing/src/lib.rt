@@ -1,5 +1,7 @@
 // What crosses between the calls and programs in C and Rust (crates/exports, crates/owned): arguments that come as numbers and bytes (arguments), replies that go as a status, 0 if the
 // call was carried out and else the number of document 01's table, and numbers handed out. A reply said so is the public call's (specs/Status, by proofs/Statuses).
+#![tactic(auto)]
+
 ghost use Rattle.std.specs.Prelude.{◌≡◌};
 ghost use Rattle.crossing.specs.Status.{status_of, handed_out, listing_status, count_out, departure_status, own_out, parents_out, planned_status, considered_out, chosen_out, next_out};
 ghost use Rattle.crossing.specs.Counts.{counts_status, announced_out, owned_out};

@@ -3,6 +3,8 @@
 //
 // The words of the header are read and written by covered functions. A function with a `Cursors` or a `MaybeKey` in it is proved by a
 // walk of its MIR, so it is kept short.
+#![tactic(auto)]
+
 ghost use Rattle.std.specs.Prelude.{◌≡◌, ℕ, ◌+◌, ◌*◌, ◌≤◌, ◌<◌, length, get_or};
 ghost use Rattle.std.proofs.Math.Option.{none, some};
 ghost use Rattle.ident.specs.Words.{key_num, maybe_key_num};
@@ -16,13 +18,13 @@ ghost use Rattle.cursors.specs.InWords.{poll_at, stored_words, stored_key, store
 
 use machine::limits::REQUEST_POLL_INTERVAL;
 
-#[derive(Drop)]
+#[derive(Clone, Copy)]
 pub enum MaybeTime {
     None,
     Is(u64),
 }
 
-#[derive(Drop)]
+#[derive(Clone, Copy)]
 pub struct Cursors {
     pub next: MaybeTime,
     pub known: ident::MaybeKey,
@@ -39,14 +41,14 @@ pub const KNOWN: usize = 8;
 pub const READY: usize = 13;
 
 // A cursor as a store holds it: tag 0 none, 1 Txid, 2 Wtxid.
-#[derive(Drop)]
+#[derive(Clone, Copy)]
 pub struct Stored {
     pub tag: u64,
     pub hash: regions::Quad,
 }
 
 // What the header holds of next poll and cursors.
-#[derive(Drop)]
+#[derive(Clone, Copy)]
 pub struct Fields {
     pub next: MaybeTime,
     pub known: Stored,

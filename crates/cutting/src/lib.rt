@@ -2,6 +2,8 @@
 // the rows: one by one, each would move every row behind it.
 //
 // `cut_between` comes to the machine's cuts under these keys, one after the other in the order of keys.
+#![tactic(auto)]
+
 ghost use Rattle.std.specs.Prelude.{◌≡◌, ◌+◌, ◌*◌, ◌≤◌, ◌<◌, length};
 ghost use Rattle.ident.specs.Words.{key_num};
 ghost use Rattle.words.specs.Words.{words};
@@ -14,7 +16,7 @@ ghost use Rattle.cutting.specs.Cuts.{between, cuts, row_in, row_key_in, stays, D
 use regions::ROW;
 
 // A connection, and the keys from .. to.
-#[derive(Drop)]
+#[derive(Clone, Copy)]
 pub struct Span {
     pub conn: u64,
     pub from: regions::Key,

@@ -38,13 +38,13 @@ pub fn list_buffer() -> [u8; LISTS]
 }
 
 // What came of a line so far: how many bytes are kept, and whether there were more than the buffer holds.
-#[derive(Drop)]
+#[derive(Clone, Copy)]
 pub struct Kept {
     pub len: usize,
     pub long: bool,
 }
 
-#[derive(Drop)]
+#[derive(Clone, Copy)]
 struct Read {
     more: bool,
     kept: Kept,

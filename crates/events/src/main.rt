@@ -1,6 +1,8 @@
 // The event program (document 01, "Event lines"; docs/EVENTS.md): calls on standard input, a line each, and their answers on standard output.
 //
 // `input` parts the bytes that are read into lines (specs/Input); `answering::answers::answer_line` answers a line.
+#![tactic(auto)]
+
 mod input;
 
 // The bytes that a store needs for L = 100 and Q = 2, the most that a line may open.

@@ -2,6 +2,8 @@
 //
 // A call returns a status, 0 if it was carried out and else the number of document 01's table, and hands the numbers of its reply
 // out. Each contract is the one of the public call (crates/tracker), its reply said by these numbers (crates/crossing).
+#![tactic(auto)]
+
 ghost use Rattle.words.specs.Words.{Decides};
 ghost use Rattle.machine.specs.Call.{Open, On, Sum};
 ghost use Rattle.store.specs.Image.{SoundStore};

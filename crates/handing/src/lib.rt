@@ -1,5 +1,7 @@
 // The connection that leaves owns a request: it fails there (an Enqueued package stays), and the parents are announced for every
 // candidate that is left.
+#![tactic(auto)]
+
 ghost use Rattle.std.specs.Prelude.{◌≡◌, ◌*◌, ◌≤◌, true, false, [], length};
 ghost use Rattle.ident.specs.Words.{key_num};
 ghost use Rattle.regions.specs.Rows.{key_number, key_of as row_key_of};
@@ -96,7 +98,7 @@ pub fn drop_owned(s: &mut [u8], k: ident::Key, n: u64, clock: u64, u: &mut [u8],
 // ---- a key that waits to be cut with others
 
 // Whether a connection owns a request, and the row from which to look for its next one.
-#[derive(Drop)]
+#[derive(Clone, Copy)]
 struct Seen {
     owner: bool,
     next: usize,
@@ -189,7 +191,7 @@ fn ease(s: &mut [u8], k: ident::Key, n: u64, clock: u64)
 }
 
 // Whether a key waits, and the row from which to look for the next row of its connection.
-#[derive(Drop)]
+#[derive(Clone, Copy)]
 pub struct Rest {
     pub waits: bool,
     pub next: usize,

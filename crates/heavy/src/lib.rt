@@ -3,6 +3,8 @@
 //
 // A counter has a name and a count. The contracts are equations between lists of numbers; the law of the two passes is `heavy-decides` (proofs/Frequent): with k counters
 // they tell exactly whether one of at most (k + 1) * most + k numbers comes more than `most` times.
+#![tactic(auto)]
+
 ghost use Rattle.std.specs.Prelude.{◌≡◌, ◌-◌, ◌<◌, ◌^◌, length};
 ghost use Rattle.heavy.specs.Counters.{index_of, lowered, Notes, counted_with, none_above, sum};
 

@@ -3,6 +3,8 @@
 // A hash is 32 bytes read as a number, a key is a hash as Txid or as Wtxid, an item is what an inventory entry names. Each contract
 // says what a function does to those numbers, by the definitions of specs/: nothing is promised of a hash but its number, and
 // proofs/Words.antt has the law that two hashes of one number are equal.
+#![tactic(auto)]
+
 ghost use Rattle.std.specs.Prelude.{◌≡◌, ◌+◌, ◌*◌, ◌<◌, ◌≤◌, length, take, drop};
 ghost use Rattle.ident.specs.Number.{txid, wtxid, swap, other, place, type_of, item_kind_of, is_plain, kind_of, key_of};
 ghost use Rattle.words.specs.Words.{number, digits, splice};
@@ -10,33 +12,33 @@ ghost use Rattle.ident.specs.Words.{hash_bytes, hash_num, key_num, item_num, may
 ghost use Rattle.ident.specs.Compare.{order_of, then_of, kind_rank};
 
 // Which of a transaction's two identities a hash is.
-#[derive(Drop)]
+#[derive(Clone, Copy)]
 pub enum Kind {
     Txid,
     Wtxid,
 }
 
 // 32 bytes as a number: word 3 is the most significant.
-#[derive(Drop)]
+#[derive(Clone, Copy)]
 pub struct Hash {
     pub words: [u64; 4],
 }
 
-#[derive(Drop)]
+#[derive(Clone, Copy)]
 pub struct Txid(pub Hash);
 
-#[derive(Drop)]
+#[derive(Clone, Copy)]
 pub struct Wtxid(pub Hash);
 
 // What a request is filed under.
-#[derive(Drop)]
+#[derive(Clone, Copy)]
 pub struct Key {
     pub kind: Kind,
     pub hash: Hash,
 }
 
 // What an inventory item names: t, v, w, or any other type with its number.
-#[derive(Drop)]
+#[derive(Clone, Copy)]
 pub enum ItemKind {
     Transaction,
     WitnessTransaction,
@@ -44,26 +46,26 @@ pub enum ItemKind {
     Other(u32),
 }
 
-#[derive(Drop)]
+#[derive(Clone, Copy)]
 pub struct Item {
     pub kind: ItemKind,
     pub hash: Hash,
 }
 
 // The key of an item, if its kind has one.
-#[derive(Drop)]
+#[derive(Clone, Copy)]
 pub enum MaybeKey {
     None,
     Is(Key),
 }
 
-#[derive(Drop)]
+#[derive(Clone, Copy)]
 pub enum MaybeKind {
     None,
     Is(Kind),
 }
 
-#[derive(Drop)]
+#[derive(Clone, Copy)]
 pub enum Order {
     Less,
     Equal,

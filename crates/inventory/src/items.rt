@@ -16,7 +16,7 @@ const ITEMS: usize = 21_845;
 const STORED: usize = ITEMS * ITEM;
 
 // The items of a line, or that it has none: how many stand in the bytes.
-#[derive(Drop)]
+#[derive(Clone, Copy)]
 pub enum Items {
     None,
     Are(usize),

@@ -17,7 +17,7 @@ const KEYS: usize = 21_845;
 const STORED: usize = KEYS * KEY;
 
 // The keys of a line, or that it has none: how many stand in the bytes.
-#[derive(Drop)]
+#[derive(Clone, Copy)]
 pub enum Keys {
     None,
     Are(usize),

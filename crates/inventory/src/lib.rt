@@ -1,6 +1,8 @@
 // Lists of a line other than hashes, read into bytes that are lent: keys and items (40 bytes each), numbers (8), and items with their priorities.
 //
 // The read_list of a module answers how many elements the bytes hold, or that the line has no such list.
+#![tactic(auto)]
+
 pub mod items;
 pub mod keys;
 pub mod numbers;

@@ -15,7 +15,7 @@ pub const NUMBER: usize = 8;
 const STORED: usize = NUMBERS * NUMBER;
 
 // The numbers of a line, or that it has none: how many stand in the bytes.
-#[derive(Drop)]
+#[derive(Clone, Copy)]
 pub enum Numbers {
     None,
     Are(usize),

@@ -19,7 +19,7 @@ const ITEMS: usize = OFFERS * ITEM;
 const PRIORITIES: usize = OFFERS * NUMBER;
 
 // The offers of a line, or that it has none: how many stand in the bytes.
-#[derive(Drop)]
+#[derive(Clone, Copy)]
 pub enum Offers {
     None,
     Are(usize),

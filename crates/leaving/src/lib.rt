@@ -1,5 +1,7 @@
 // A connection leaves (document 01, "disconnected"). Its keys wait to be cut together (crate cutting), up to one that it owns and whose
 // parents are announced (crate handing): cuts may move neither before nor behind that, since it needs room.
+#![tactic(auto)]
+
 ghost use Rattle.std.specs.Prelude.{◌≡◌, ℕ, min, ◌+◌, ◌*◌, ◌≤◌, ◌<◌, List, length};
 ghost use Rattle.machine.specs.Limits.{max_peer_announcements, max_parents};
 ghost use Rattle.machine.specs.State.{State, limits_of};
@@ -48,14 +50,14 @@ pub fn own_keys(s: &[u8], n: u64, out: &mut [u8]) -> usize
 // ---- disconnected
 
 // How many keys are the connection's own, and how many the parents'.
-#[derive(Drop)]
+#[derive(Clone, Copy)]
 pub struct Left {
     pub own: usize,
     pub parents: usize,
 }
 
 // Which of its keys is the first that waits to be cut, how many parents' keys are listed, and the row from which to look for its next row.
-#[derive(Drop)]
+#[derive(Clone, Copy)]
 struct Progress {
     from: usize,
     parents: usize,

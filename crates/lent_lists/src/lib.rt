@@ -1,5 +1,7 @@
 // Lists in lent bytes (document 01, "Buffer needs in entries" and module 4): hashes that a call is given, 32 bytes each, items, 40 bytes
 // each, and keys that it answers, 40 bytes each.
+#![tactic(auto)]
+
 ghost use Rattle.std.specs.Prelude.{◌≡◌, ◌+◌, ◌*◌, ◌<◌, ◌≤◌, eqb, length, get_or, take, drop};
 ghost use Rattle.words.specs.Words.{splice};
 ghost use Rattle.ident.specs.Number.{Item};

@@ -9,38 +9,38 @@ ghost use Rattle.ident.specs.Words.{maybe_kind};
 use crate::digits::value;
 
 // What a field may be.
-#[derive(Drop)]
+#[derive(Clone, Copy)]
 pub enum MaybeNumber {
     Not,
     Is(u64),
 }
 
-#[derive(Drop)]
+#[derive(Clone, Copy)]
 pub enum MaybeHash {
     Not,
     Is(regions::Quad),
 }
 
-#[derive(Drop)]
+#[derive(Clone, Copy)]
 pub enum MaybeBool {
     Not,
     Is(bool),
 }
 
-#[derive(Drop)]
+#[derive(Clone, Copy)]
 pub enum MaybeKey {
     Not,
     Is(ident::Kind, regions::Quad),
 }
 
-#[derive(Drop)]
+#[derive(Clone, Copy)]
 pub enum MaybeItem {
     Not,
     Is(ident::ItemKind, regions::Quad),
 }
 
 // The kind that an item's letter or an other item's type stands for.
-#[derive(Drop)]
+#[derive(Clone, Copy)]
 pub enum MaybeItemKind {
     Not,
     Is(ident::ItemKind),

@@ -2,6 +2,8 @@
 //
 // From the text alone, in two passes for each, with a few counters (crates/heavy): 19 of them tell of 100,000 candidates which come more than 5,000 times, 999
 // of as many owners which come more than 100 times.
+#![tactic(auto)]
+
 ghost use Rattle.std.specs.Prelude.{◌≡◌, true, false, ◌≤◌, ◌<◌, ◌^◌, length};
 ghost use Rattle.lines.specs.Values.{number_in};
 ghost use Rattle.heavy.specs.Counters.{sum};

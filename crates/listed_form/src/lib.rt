@@ -2,6 +2,8 @@
 //
 // It is not if a line has none of the three forms, stands where it may not, or has a key that falls: refusal 11. The contract says that it is exactly
 // where the definition reads a state (`read_listing`, machine/specs/Listing), and which lines list it.
+#![tactic(auto)]
+
 ghost use Rattle.std.specs.Prelude.{◌≡◌, ◌≤◌, ltb, length, drop};
 ghost use Rattle.ident.specs.Number.{place};
 ghost use Rattle.regions.specs.Rows.{quad_number};
@@ -12,7 +14,7 @@ ghost use Rattle.listed_form.specs.Given.{met_of, Meets, HeadOf, FormRead};
 use listed_lines::line::{Head, HeadIn, Line, line_at};
 
 // What a scan of the lines has met: 0 a line that may not stand there, 1 no request yet, 2 a request of this key, the last one.
-#[derive(Drop)]
+#[derive(Clone, Copy)]
 pub struct Met {
     pub stage: u64,
     pub kind: ident::Kind,
@@ -20,7 +22,7 @@ pub struct Met {
 }
 
 // A text that is no listing; or its first line, and the index behind that.
-#[derive(Drop)]
+#[derive(Clone, Copy)]
 pub enum Form {
     Not,
     Is(Head, usize),

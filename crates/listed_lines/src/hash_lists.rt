@@ -17,14 +17,14 @@ const LONGEST: usize = 100;
 const ROOM: usize = LONGEST * HASH_BYTES;
 
 // Hashes that were read: the index where the last field ends.
-#[derive(Drop)]
+#[derive(Clone, Copy)]
 pub enum HashesAt {
     Not,
     Is(usize),
 }
 
 // A list that was read: how many hashes it has, and the index where its last field ends.
-#[derive(Drop)]
+#[derive(Clone, Copy)]
 pub enum ListAt {
     Not,
     Is(usize, usize),

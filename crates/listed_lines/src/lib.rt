@@ -2,6 +2,8 @@
 //
 // A contract says that the answer is the line which the definition reads from these bytes (machine/specs/Listing). Hashes of a request's lists
 // are stored in lent bytes, 32 bytes each; all else is answered by value. Nothing is asked of the text.
+#![tactic(auto)]
+
 pub mod hash_lists;
 pub mod line;
 pub mod parts;

@@ -12,7 +12,7 @@ use crate::pieces::{
 use reading::fields::{BoolAt, ItemAt, KeyAt, NumberAt, bool_at, item_at, number_at};
 
 // The first line: L, Q, next poll and cursors.
-#[derive(Drop)]
+#[derive(Clone, Copy)]
 pub struct Head {
     pub limit: u64,
     pub places: u64,
@@ -22,7 +22,7 @@ pub struct Head {
 }
 
 // A request without its candidates; of its parents how many.
-#[derive(Drop)]
+#[derive(Clone, Copy)]
 pub struct Request {
     pub kind: ident::Kind,
     pub hash: regions::Quad,
@@ -33,7 +33,7 @@ pub struct Request {
     pub mark: bool,
 }
 
-#[derive(Drop)]
+#[derive(Clone, Copy)]
 pub struct Candidate {
     pub connection: u64,
     pub kind: ident::ItemKind,
@@ -44,26 +44,26 @@ pub struct Candidate {
 }
 
 // Each line if it is of that form.
-#[derive(Drop)]
+#[derive(Clone, Copy)]
 pub enum HeadIn {
     Not,
     Is(Head),
 }
 
-#[derive(Drop)]
+#[derive(Clone, Copy)]
 pub enum RequestIn {
     Not,
     Is(Request),
 }
 
-#[derive(Drop)]
+#[derive(Clone, Copy)]
 pub enum CandidateIn {
     Not,
     Is(Candidate),
 }
 
 // A line of any form.
-#[derive(Drop)]
+#[derive(Clone, Copy)]
 pub enum Line {
     Not,
     Head(Head),
@@ -72,7 +72,7 @@ pub enum Line {
 }
 
 // A line, and the index behind its line feed.
-#[derive(Drop)]
+#[derive(Clone, Copy)]
 pub struct LineAt {
     pub line: Line,
     pub end: usize,

@@ -9,7 +9,7 @@ use crate::pieces::none_at;
 use reading::fields::{BoolAt, HashAt, NumberAt, bool_at, hash_at, number_at};
 
 // The connection that is asked and until when, if there is one.
-#[derive(Drop)]
+#[derive(Clone, Copy)]
 pub struct Owner {
     pub held: bool,
     pub connection: u64,
@@ -17,7 +17,7 @@ pub struct Owner {
 }
 
 // A package, if there is one: its combined hash, how many wtxids it has, whether it is Enqueued.
-#[derive(Drop)]
+#[derive(Clone, Copy)]
 pub struct Package {
     pub held: bool,
     pub combined: regions::Quad,
@@ -26,13 +26,13 @@ pub struct Package {
 }
 
 // Each with the index where its last field ends.
-#[derive(Drop)]
+#[derive(Clone, Copy)]
 pub enum OwnerAt {
     Not,
     Is(Owner, usize),
 }
 
-#[derive(Drop)]
+#[derive(Clone, Copy)]
 pub enum PackageAt {
     Not,
     Is(Package, usize),

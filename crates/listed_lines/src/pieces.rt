@@ -9,13 +9,13 @@ use lines::read::{MaybeKey, MaybeNumber, field_end};
 use reading::fields::{KeyAt, NumberAt, key_at, number_at};
 
 // A field that may be `none`, with the index where it ends: not readable, or what it has.
-#[derive(Drop)]
+#[derive(Clone, Copy)]
 pub enum MaybeNumberAt {
     Not,
     Is(MaybeNumber, usize),
 }
 
-#[derive(Drop)]
+#[derive(Clone, Copy)]
 pub enum MaybeKeyAt {
     Not,
     Is(MaybeKey, usize),

@@ -1,5 +1,7 @@
 // A hash under both kinds: its Txid request and its Wtxid request together. Two indices go through the listing, one among the Txid requests and one among the
 // Wtxid requests; keys ascend, so each request is met once by each.
+#![tactic(auto)]
+
 ghost use Rattle.std.specs.Prelude.{◌≡◌, ◌<◌, ◌≤◌, length};
 ghost use Rattle.regions.specs.Rows.{quad_number};
 ghost use Rattle.listed_lines.specs.Given.{list_room};
@@ -13,7 +15,7 @@ use listed_requests::forms::{request_at, request_of};
 use listed_requests::lawful::is_wtxid;
 
 // Whether two requests fit together; the indices behind them.
-#[derive(Drop)]
+#[derive(Clone, Copy)]
 pub struct Both {
     pub fit: bool,
     pub first: usize,
@@ -21,7 +23,7 @@ pub struct Both {
 }
 
 // 0: two requests do not fit together; 1: no Txid request is left; 2: go on from these indices.
-#[derive(Drop)]
+#[derive(Clone, Copy)]
 pub struct Pair {
     pub verdict: u64,
     pub first: usize,

@@ -10,7 +10,7 @@ use crate::forms::candidate_of;
 use listed_lines::line::{Candidate, CandidateIn, line_at};
 
 // How many connections there are with those of the request, 9 for more than 8; whether each of its candidates fits; the index behind them.
-#[derive(Drop)]
+#[derive(Clone, Copy)]
 pub struct Gathered {
     pub count: usize,
     pub fit: bool,

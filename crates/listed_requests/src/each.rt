@@ -11,7 +11,7 @@ use listed_form::comes_before;
 use listed_lines::line::RequestIn;
 
 // The key of the last request, if there was one; announcements and places that are held up to it.
-#[derive(Drop)]
+#[derive(Clone, Copy)]
 pub struct Pass {
     pub started: bool,
     pub kind: ident::Kind,
@@ -21,7 +21,7 @@ pub struct Pass {
 }
 
 // Whether a request passed; what is known behind it; the index behind it.
-#[derive(Drop)]
+#[derive(Clone, Copy)]
 pub struct Step {
     pub good: bool,
     pub pass: Pass,

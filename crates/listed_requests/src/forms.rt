@@ -6,7 +6,7 @@ ghost use Rattle.listed_requests.specs.Given.{CandidateOf, RequestOf, NextReques
 use listed_lines::line::{CandidateIn, Line, RequestIn, line_at};
 
 // A request's line, if it is one, and the index behind it.
-#[derive(Drop)]
+#[derive(Clone, Copy)]
 pub struct Found {
     pub line: RequestIn,
     pub end: usize,

@@ -2,6 +2,8 @@
 // connection comes. A listing that is not gets refusal 12.
 //
 // The text is one that lists requests (`Body`, listed_form/specs/Given); a contract says what the definition's test says of them (specs/Parts).
+#![tactic(auto)]
+
 pub mod candidates;
 pub mod distinct;
 pub mod each;

@@ -2,6 +2,8 @@
 //
 // One pass over the rows, from the last to the first. The rows of a key stand together: what they have come to is kept until the next key begins,
 // since a row further on may own the request. A time is a number, and 0 stands for none (choosing/src/later).
+#![tactic(auto)]
+
 ghost use Rattle.std.specs.Prelude.{ℕ, ◌≡◌, List, [], ◌∷◌};
 ghost use Rattle.std.proofs.Math.Option.{Option, none};
 ghost use Rattle.regions.specs.declared.Row.{Row};
@@ -17,7 +19,7 @@ use choosing::later::{earlier, later};
 
 // What the rows from here on have come to: of the key at hand whether it is owned, until when, and its least later ready time; and the next look at the
 // keys behind it.
-#[derive(Drop)]
+#[derive(Clone, Copy)]
 pub struct Look {
     pub owned: bool,
     pub due: u64,

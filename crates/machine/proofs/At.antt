@@ -55,7 +55,7 @@ at_same k f lo (r ∷ t) ff o =
           (at_keep k (f (blank k)) _ (place r.key) (r ∷ t) (ap place (sym (ff (blank k)))) (ltb-true _ _ e) (omega arith, o.1, o.2))
       | inr e ↦ rw e (elim (test (eqb (place k) (place r.key))) [
         | inl d ↦ rw d (at_keep k (f r) _ (suc (place r.key)) t (eqb-true _ _ d ∙ ap place (sym (ff r))) (omega (arith, eqb-true (place k) (place r.key) d)) o.2)
-        | inr d ↦ rw d (at_there k r (change k f t) (eqb-false _ _ d) ∙ at_same k f _ t ff o.2)
+        | inr d ↦ rw d (at_there k r (change k f t) (eqb-false _ _ d) ∙ at_same k f (suc (place r.key)) t ff o.2)
       ])
     ]
 
@@ -126,6 +126,6 @@ keys-stay k f lo (r ∷ t) ff o p q =
       | inl e ↦ absurd (omega (arith, rw (at_absent k (place r.key) (r ∷ t) (ltb-true _ _ e) (omega arith, o.1, o.2)) at p))
       | inr e ↦ rw e (elim (test (eqb (place k) (place r.key))) [
         | inl d ↦ rw d (keys-keep (f r) _ t (rw d at q) ∙ ap (λ (j : Key). j ∷ keys t) (ff r))
-        | inr d ↦ rw d (ap (λ (l : List Key). r.key ∷ l) (keys-stay k f _ t ff o.2 (rw d at p) (rw d at q)))
+        | inr d ↦ rw d (ap (λ (l : List Key). r.key ∷ l) (keys-stay k f (suc (place r.key)) t ff o.2 (rw d at p) (rw d at q)))
       ])
     ]

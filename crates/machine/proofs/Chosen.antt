@@ -1,6 +1,6 @@
 -- How many entries a plan has: one a hash, each hash with a request, and at most one more than a phase stops at.
 use Prim.Native.Nat.{ℕ, suc, ◌+◌, ◌-◌, ◌≤◌, ◌<◌, min}
-use mathlib.Core.Path.{◌≡◌, refl, ap}
+use mathlib.Core.Path.{◌≡◌, refl, sym, ap, subst}
 use mathlib.Core.Logic.{inl, inr}
 use mathlib.Core.Bool.{Bool, true, false}
 use mathlib.Core.List.{List, [], ◌∷◌, ◌++◌, map}
@@ -37,8 +37,8 @@ unfolding at keys elem
 at_among k lo [] s o h = absurd (omega arith)
 at_among k lo (r ∷ t) s o h =
     elim (test (eqb (place k) (place r.key))) [
-      | inl e ↦ rw (place-inj k r.key s o.1 (eqb-true _ _ e)) (elem-head r.key.hash (table_hashes t))
-      | inr e ↦ elem_tail k.hash r.key.hash (table_hashes t) (at_among k _ t s o.2 (rw e at h))
+      | inl e ↦ subst (λ (j : Key). elem j.hash (table_hashes (r ∷ t)) ≡ true) (sym (place-inj k r.key s o.1 (eqb-true _ _ e))) (elem-head r.key.hash (table_hashes t))
+      | inr e ↦ elem_tail k.hash r.key.hash (table_hashes t) (at_among k (suc (place r.key)) t s o.2 (rw e at h))
     ]
 
 -- ---- what is chosen for a hash

@@ -1,4 +1,5 @@
 -- claim keeps the bounds.
+use Rattle.ident.specs.If.{if◌then◌else◌}
 use Prim.Native.Nat.{ℕ, ◌+◌, ◌<◌}
 use mathlib.Core.Path.{◌≡◌, refl}
 use mathlib.Core.Bool.{Bool, true, false}
@@ -35,7 +36,7 @@ owns-until k n d w = record {
   lawful = λ r e u h l. record {
     candidates = l.candidates;
     owner = (h, w);
-    packed = packed-own r.key.kind r.owner _ r.info r.«package» r.parents l.packed;
+    packed = packed-own r.key.kind r.owner (record { connection = n; deadline = d }) r.info r.«package» r.parents l.packed;
     parents = l.parents;
     mark = l.mark;
   };
@@ -139,4 +140,4 @@ bounded-take now a s w x b = bounded-own (owns-until a.key a.candidate.connectio
 pub bounded-claim : {m : Limits} {Q : ℕ} {t : Table} (now : ℕ) (l : List Entry) → now + request_lifetime < word → Each EntryTyped l → Bounded m Q t → Bounded m Q (claim now l t).table
 unfolding claim
 bounded-claim now [] w s b = b
-bounded-claim {m} {Q} {t} now (a ∷ l) w s b = bounded-claim now l w s.1 (by_test (Bounded m Q) (takes now a t) (λ e. bounded-take now a s.0.hash w (takes-means now a t e) b) (λ e. b))
+bounded-claim {m} {Q} {t} now (a ∷ l) w s b = bounded-claim {t = if takes now a t then change a.key (owned_until a.candidate.connection (now + request_lifetime)) t else t} now l w s.1 (by_test (Bounded m Q) (takes now a t) (λ e. bounded-take now a s.0.hash w (takes-means now a t e) b) (λ e. b))

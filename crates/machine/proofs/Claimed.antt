@@ -85,7 +85,7 @@ claimed {m} {Q} {t} now (a ∷ l) w s b =
     let d = now + request_lifetime in
     let t' = if takes now a t then change a.key (owned_until a.candidate.connection d) t else t in
     let one : Claimed d t t' = by_test (Claimed d t) (takes now a t) (λ e. claimed-take a d s.0.hash (takes-means now a t e) b) (λ e. claimed_same) in
-    claimed_then one (claimed now l w s.1 (by_test (Bounded m Q) (takes now a t) (λ e. bounded-take now a s.0.hash w (takes-means now a t e) b) (λ e. b)))
+    claimed_then one (claimed {t = t'} now l w s.1 (by_test (Bounded m Q) (takes now a t) (λ e. bounded-take now a s.0.hash w (takes-means now a t e) b) (λ e. b)))
 
 -- an owner stays
 owner_stays : {d : ℕ} {t t' : Table} (j : Key) → j.hash < top → Claimed d t t' → {n e : ℕ} → (at j t).owner ≡ owning n e → (at j t').owner ≡ owning n e
@@ -102,7 +102,7 @@ keeps {m} {Q} {t} now (a ∷ l) w s b =
           let x = takes-means now a t e in
           let b' = bounded-take now a s.0.hash w x b in
           let one = claimed-take a d s.0.hash x b in
-          let g = keeps now l w s.1 b' in
+          let g = keeps {t = change a.key (owned_until a.candidate.connection (now + request_lifetime)) t} now l w s.1 b' in
           let here = ap (λ (r : Request). r.owner) (taken_here a d t b.ordered x) in
           rw e (record {
             keys = g.keys ∙ one.keys;

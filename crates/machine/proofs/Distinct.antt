@@ -1,6 +1,6 @@
 -- Lists without repeats: one whose members all stand in another list is no longer than that one.
 use Prim.Native.Nat.{ℕ, suc, ◌≤◌}
-use mathlib.Core.Path.{◌≡◌, refl, sym, ap, ◌∙◌}
+use mathlib.Core.Path.{◌≡◌, refl, sym, ap, ◌∙◌, subst}
 use mathlib.Core.Logic.{◌⊎◌, inl, inr}
 use mathlib.Core.Bool.{true, false}
 use mathlib.Core.List.{List, [], ◌∷◌, ◌++◌}
@@ -86,7 +86,7 @@ unfolding but
 length-but h [] n = omega arith
 length-but h (y ∷ l) n =
     elim (test (eqb y h)) [
-      | inl d ↦ rw (d, ← (eqb-true y h d)) (omega (arith, ap length (but-absent y l n.0)))
+      | inl d ↦ rw d (subst (λ (x : ℕ). suc (length l) ≤ suc (length (but x l))) (eqb-true y h d) (omega (arith, ap length (but-absent y l n.0))))
       | inr d ↦ rw d (omega (arith, length-but h l n.1))
     ]
 

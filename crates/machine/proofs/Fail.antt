@@ -1,4 +1,5 @@
 -- request_parent, failed, unclaim, forget and announce_parents keep the bounds.
+use Rattle.ident.specs.If.{if◌then◌else◌}
 use Prim.Native.Nat.{ℕ, suc, ◌+◌, ◌≤◌, ◌<◌}
 use mathlib.Core.Path.{◌≡◌, refl, sym, ap, ◌∙◌}
 use mathlib.Core.Logic.{inl, inr}
@@ -263,7 +264,7 @@ bounded-parents_from n now i [] p w a l b = b
 bounded-parents_from {m} {Q} {t} n now i (h ∷ hs) p w a l b =
     let x = request_parent_at m (txid h) (parent_of n now h i) t in
     let b' = bounded-parent_at (txid h) (parent_of n now h i) a.0 (fits-parent n now h i p w (omega arith)) b in
-    bounded-parents_from n now (suc i) hs p w a.1 (omega arith) (by_test (Bounded m Q) x.reply (λ e. bounded-mark h a.0 b') (λ e. b'))
+    bounded-parents_from {t = if x.reply then mark (txid h) x.table else x.table} n now (suc i) hs p w a.1 (omega arith) (by_test (Bounded m Q) x.reply (λ e. bounded-mark h a.0 b') (λ e. b'))
 
 pub bounded-parents : {m : Limits} {Q : ℕ} {t : Table} (n now : ℕ) (hs : List ℕ) → Peer n → now < word → FewHashes hs → Bounded m Q t → Bounded m Q (announce_parents m n now hs t).table
 unfolding announce_parents

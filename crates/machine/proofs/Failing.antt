@@ -54,7 +54,7 @@ unfolding fail_each
 length-fail_each n now [] p w s b = omega arith
 length-fail_each {m} {Q} {t} n now (k ∷ ks) p w s b =
     let a = failed_with_parents m k n now t in
-    let rest = length-fail_each n now ks p w s.1 (bounded-failed_with_parents k n now s.0 p w b) in
+    let rest = length-fail_each {t = (failed_with_parents m k n now t).table} n now ks p w s.1 (bounded-failed_with_parents k n now s.0 p w b) in
     omega (arith, length-append a.keys (fail_each m n now ks a.table).keys, failing_one k n now s.0 p w b, rest)
 
 -- a key with a place fails once, so that its place bounds the key too
@@ -65,7 +65,7 @@ length-fail_each_held n now [] p w s b = omega arith
 length-fail_each_held {m} {Q} {t} n now (k ∷ ks) p w s b =
     let a = failed_with_parents m k n now t in
     let l = loosened_failed_with_parents k n now s.0.small p w b in
-    let rest = length-fail_each_held n now ks p w (each_map (HoldsPlace n t) (HoldsPlace n a.table) ks (holds_loosened l) s.1) (bounded-failed_with_parents k n now s.0.small p w b) in
+    let rest = length-fail_each_held {t = (failed_with_parents m k n now t).table} n now ks p w (each_map (HoldsPlace n t) (HoldsPlace n a.table) ks (holds_loosened l) s.1) (bounded-failed_with_parents k n now s.0.small p w b) in
     omega (arith, length-append a.keys (fail_each m n now ks a.table).keys, failing_held k n now s.0.small p w b s.0.place, rest)
 
 -- ---- failed_package_claims: every key that is looked up has a package
@@ -91,7 +91,7 @@ found_claim : (n c lo : ℕ) (t : Table) → Ordered lo t → Found lo t (claim_
 unfolding claim_key
 found_claim n c lo [] o = tt
 found_claim n c lo (r ∷ t) o =
-    by_test (Found lo (r ∷ t)) (is_some (claim_key n c t)) (λ e. found_later lo r t (claim_key n c t) o.0 (found_claim n c _ t o.2)) λ e.
+    by_test (Found lo (r ∷ t)) (is_some (claim_key n c t)) (λ e. found_later lo r t (claim_key n c t) o.0 (found_claim n c (suc (place r.key)) t o.2)) λ e.
     by_test (Found lo (r ∷ t)) (owner_is n r.owner && awaits_hash c r.«package»)
     (λ d. record { from = o.0; small = o.1; packed = rw (at_here r.key r t refl) (awaits_some c r.«package» (and_right (owner_is n r.owner) _ d)) }) (λ d. tt)
 
@@ -186,7 +186,7 @@ length-not_found_each {m} {Q} {t} n now (i ∷ l) p w s b =
       length-append a.keys (not_found_each m n now l a.table).keys,
       length-packages_in i l,
       length-not_found_one n now i.kind i.hash p w s.0 b,
-      length-not_found_each n now l p w s.1 (bounded-not_found_one n now i p w s.0 b),
+      length-not_found_each {t = (not_found_one m n now i t).table} n now l p w s.1 (bounded-not_found_one n now i p w s.0 b),
     )
 
 pub length-not_found : {m : Limits} {Q : ℕ} {t : Table} (n now : ℕ) (l : List Item) → Peer n → now < word → Each (λ (i : Item). i.hash < top) l → Bounded m Q t

@@ -63,7 +63,7 @@ asc_weaken f a b (x ∷ l) h o = (omega arith, o.1)
 -- one list, then another above it
 pub asc_append : (f : ℕ → ℕ) (a hi : ℕ) (l m : List Key) → a ≤ hi → Below f hi l → Asc f a l → Asc f hi m → Asc f a (l ++ m)
 asc_append f a hi [] m h b o p = asc_weaken f a hi m h p
-asc_append f a hi (x ∷ l) m h b o p = (o.0, asc_append f _ hi l m b.0 b.1 o.1 p)
+asc_append f a hi (x ∷ l) m h b o p = (o.0, asc_append f (suc (f (place x))) hi l m b.0 b.1 o.1 p)
 
 -- a key of an ascending list stands at its start or above
 pub mem_above : (f : ℕ → ℕ) (k : Key) (a : ℕ) (l : List Key) → Asc f a l → mem k l ≡ true → a ≤ f (place k)
@@ -72,7 +72,7 @@ mem_above f k a [] o h = never h
 mem_above f k a (x ∷ l) o h =
     elim (test (eqb (place x) (place k))) [
       | inl e ↦ omega (arith, ap f (eqb-true (place x) (place k) e), o.0)
-      | inr e ↦ omega (arith, o.0, mem_above f k _ l o.1 (rw e at h))
+      | inr e ↦ omega (arith, o.0, mem_above f k (suc (f (place x))) l o.1 (rw e at h))
     ]
 
 pub mem_below : (f : ℕ → ℕ) (k : Key) (hi : ℕ) (l : List Key) → Below f hi l → mem k l ≡ true → f (place k) < hi
@@ -100,7 +100,7 @@ pub asc_join : (f : ℕ → ℕ) (a : ℕ) (z : Key) (l m : List Key) → last_o
 unfolding last_of
 asc_join f a z [] m e o p = absurd (none-ne-some z e)
 asc_join f a z (x ∷ []) m e o p = (o.0, rw (some-injective x z e) p)
-asc_join f a z (x ∷ (y ∷ l)) m e o p = (o.0, asc_join f _ z (y ∷ l) m e o.1 p)
+asc_join f a z (x ∷ (y ∷ l)) m e o p = (o.0, asc_join f (suc (f (place x))) z (y ∷ l) m e o.1 p)
 
 -- ---- a list without a key, and with none twice
 
@@ -151,13 +151,13 @@ within_less : (f : ℕ → ℕ) (y : Key) (a : ℕ) (l u : List Key) → f (plac
 unfolding Within
 within_less f y a [] u h o w = tt
 within_less f y a (x ∷ l) u h o w =
-    (mem_less x y u w.0 (λ e. omega (arith, ap f e, o.0)), within_less f y _ l u (omega (arith, o.0)) o.1 w.1)
+    (mem_less x y u w.0 (λ e. omega (arith, ap f e, o.0)), within_less f y (suc (f (place x))) l u (omega (arith, o.0)) o.1 w.1)
 
 no_longer : (f : ℕ → ℕ) (a : ℕ) (l u : List Key) → Asc f a l → Within l u → length l ≤ length u
 unfolding Within
 no_longer f a [] u o w = omega arith
 no_longer f a (x ∷ l) u o w =
-    omega (arith, less_shorter x u w.0, no_longer f _ l (less x u) o.1 (within_less f x _ l u (omega arith) o.1 w.1))
+    omega (arith, less_shorter x u w.0, no_longer f (suc (f (place x))) l (less x u) o.1 (within_less f x _ l u (omega arith) o.1 w.1))
 
 pub pigeonhole : (f : ℕ → ℕ) (a : ℕ) (l u : List Key) → Asc f a l → ((x : Key) → mem x l ≡ true → mem x u ≡ true) → length l ≤ length u
 pigeonhole f a l u o w = no_longer f a l u o (within l u w)

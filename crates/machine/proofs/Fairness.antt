@@ -59,8 +59,8 @@ unfolding only
 asc_only p a [] o = tt
 asc_only p a (x ∷ l) o =
     elim (test (p (place x))) [
-      | inl e ↦ rw e (o.0, asc_only p _ l o.1)
-      | inr e ↦ rw e (asc_weaken self a _ (only p l) (omega arith) (asc_only p _ l o.1))
+      | inl e ↦ rw e (o.0, asc_only p (suc (place x)) l o.1)
+      | inr e ↦ rw e (asc_weaken self a _ (only p l) (omega arith) (asc_only p (suc (place x)) l o.1))
     ]
 
 -- all above a number, if the test says so
@@ -69,8 +69,8 @@ unfolding only
 only_above p c a [] h o = tt
 only_above p c a (x ∷ l) h o =
     elim (test (p (place x))) [
-      | inl e ↦ rw e (h (place x) e, asc_only p _ l o.1)
-      | inr e ↦ rw e (only_above p c _ l h o.1)
+      | inl e ↦ rw e (h (place x) e, asc_only p (suc (place x)) l o.1)
+      | inr e ↦ rw e (only_above p c (suc (self (place x))) l h o.1)
     ]
 
 below_only : (p : ℕ → Bool) (m : ℕ) (l : List Key) → Below self m l → Below self m (only p l)
@@ -116,16 +116,16 @@ asc_before_down k a (x ∷ l) o h =
     elim (test (eqb (place x) (place k))) [
       | inl e ↦ rw e tt
       | inr e ↦ rw (e, turn_down k (place x) (omega (arith, mem_above self k _ l o.1 (rw e at h))))
-          (omega arith, asc_weaken (turn k) _ _ (before k l) (omega arith) (asc_before_down k _ l o.1 (rw e at h)))
+          (omega arith, asc_weaken (turn k) _ _ (before k l) (omega arith) (asc_before_down k (suc (self (place x))) l o.1 (rw e at h)))
     ]
 
 asc_up : (k : Key) (a : ℕ) (l : List Key) → place k < a → Asc self a l → Asc (turn k) a l
 asc_up k a [] h o = tt
-asc_up k a (x ∷ l) h o = rw (turn_up k (place x) (omega arith)) (o.0, asc_up k _ l (omega arith) o.1)
+asc_up k a (x ∷ l) h o = rw (turn_up k (place x) (omega arith)) (o.0, asc_up k (suc (place x)) l (omega arith) o.1)
 
 below_up : (k : Key) (a : ℕ) (l : List Key) → place k < a → Asc self a l → Below self end l → Below (turn k) end l
 below_up k a [] h o u = tt
-below_up k a (x ∷ l) h o u = (rw (turn_up k (place x) (omega arith)) u.0, below_up k _ l (omega arith) o.1 u.1)
+below_up k a (x ∷ l) h o u = (rw (turn_up k (place x) (omega arith)) u.0, below_up k (suc (place x)) l (omega arith) o.1 u.1)
 
 -- ---- one round
 

@@ -113,7 +113,7 @@ head-owned lo [] o l = tt
 head-owned lo (r ∷ t) o l =
     by_test (HeadOwned lo (r ∷ t)) (is_some r.«package»)
     (λ e. (o.0, ap (λ (q : Request). is_some q.owner) (at_here r.key r t refl) ∙ packed-owned r l.0 e))
-    (λ e. later (package_keys t) (head-owned _ t o.2 l.1))
+    (λ e. later (package_keys t) (head-owned (suc (place r.key)) t o.2 l.1))
   where
     later : (ks : List Key) → HeadOwned (suc (place r.key)) t ks → HeadOwned lo (r ∷ t) ks
     later [] h = tt

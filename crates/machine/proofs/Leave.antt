@@ -1,14 +1,14 @@
 -- forget_known and disconnected keep the bounds.
-use Prim.Native.Nat.{ℕ, ◌<◌}
+use Prim.Native.Nat.{ℕ, ◌<◌, suc}
 use mathlib.Core.Path.{◌≡◌, refl}
 use mathlib.Core.List.{List, [], ◌∷◌}
 use mathlib.Core.Option.{Option, none, some}
 use borrow.Author.Tests.{eq-eqb}
-use Rattle.ident.specs.Number.{top, Key}
+use Rattle.ident.specs.Number.{top, Key, place}
 use Rattle.machine.specs.Limits.{Limits, word}
 use Rattle.machine.specs.State.{Candidate, Owner, Request, Table, owner_is}
 use Rattle.machine.specs.Table.{at, has}
-use Rattle.machine.specs.Fail.{failed, Listed, parents_for}
+use Rattle.machine.specs.Fail.{failed, Listed, parents_for, announce_parents}
 use Rattle.machine.specs.Leave.{guarded, owner_parents, forget_known, is_empty, keys_of, announce_each, drop_at_key, drop_each, disconnected}
 use Rattle.machine.specs.Sound.{AllFit, Ordered, Lawful, Bounded}
 use Rattle.machine.specs.Typed.{Each, KeyTyped}
@@ -34,13 +34,13 @@ bounded-forget_known {m} {Q} {t} k now s w b = by_test (Bounded m Q) (guarded no
 pub keys-of : (n lo : ℕ) (t : Table) → Ordered lo t → Each KeyTyped (keys_of n t)
 unfolding keys_of
 keys-of n lo [] o = tt
-keys-of n lo (r ∷ t) o = by_test (Each KeyTyped) (has n r.candidates) (λ e. (o.1, keys-of n _ t o.2)) (λ e. keys-of n _ t o.2)
+keys-of n lo (r ∷ t) o = by_test (Each KeyTyped) (has n r.candidates) (λ e. (o.1, keys-of n (suc (place r.key)) t o.2)) (λ e. keys-of n _ t o.2)
 
 pub bounded-announce_each : {m : Limits} {Q : ℕ} {t : Table} (now : ℕ) (k : Key) (hs : List ℕ) (cs : List Candidate) → now < word → AllFit k cs → FewHashes hs → Bounded m Q t
     → Bounded m Q (announce_each m now hs cs t).table
 unfolding announce_each
 bounded-announce_each now k hs [] w f a b = b
-bounded-announce_each now k hs (c ∷ cs) w f a b = bounded-announce_each now k hs cs w f.1 a
+bounded-announce_each {m = m} {Q = Q} {t = t} now k hs (c ∷ cs) w f a b = bounded-announce_each {t = (announce_parents m c.connection now hs t).table} now k hs cs w f.1 a
     (bounded-parents c.connection now hs (record { positive = f.0.positive; small = f.0.connection }) w a b)
 
 pub bounded-drop_at_key : {m : Limits} {Q : ℕ} {t : Table} (n now : ℕ) (k : Key) → k.hash < top → now < word → Bounded m Q t → Bounded m Q (drop_at_key m n now k t).table
@@ -56,7 +56,7 @@ bounded-drop_at_key {m} {Q} {t} n now k s w b =
 bounded-drop_each : {m : Limits} {Q : ℕ} {t : Table} (n now : ℕ) (ks : List Key) → now < word → Each KeyTyped ks → Bounded m Q t → Bounded m Q (drop_each m n now ks t).table
 unfolding drop_each
 bounded-drop_each n now [] w s b = b
-bounded-drop_each n now (k ∷ ks) w s b = bounded-drop_each n now ks w s.1 (bounded-drop_at_key n now k s.0 w b)
+bounded-drop_each {m = m} {Q = Q} {t = t} n now (k ∷ ks) w s b = bounded-drop_each {t = (drop_at_key m n now k t).table} n now ks w s.1 (bounded-drop_at_key n now k s.0 w b)
 
 pub bounded-disconnected : {m : Limits} {Q : ℕ} {t : Table} (n now : ℕ) → now < word → Bounded m Q t → Bounded m Q (disconnected m n now t).table
 unfolding disconnected

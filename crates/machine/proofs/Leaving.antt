@@ -63,7 +63,7 @@ ascending-insert k lo [] h a = (h, tt)
 ascending-insert k lo (x ∷ l) h a =
     by_test (Ascending lo) (ltb (place k) (place x)) (λ e. (h, (ltb-true _ _ e, a.1))) λ e.
     by_test (Ascending lo) (eqb (place k) (place x)) (λ d. a) λ d.
-    (a.0, ascending-insert k _ l (omega (arith, ltb-false (place k) (place x) e, eqb-false (place k) (place x) d)) a.1)
+    (a.0, ascending-insert k (suc (place x)) l (omega (arith, ltb-false (place k) (place x) e, eqb-false (place k) (place x) d)) a.1)
 
 ascending-sort : (l : List Key) → Ascending 0 (sort_keys l)
 unfolding sort_keys
@@ -88,11 +88,11 @@ places l = map place l
 absent_below : (p lo : ℕ) (l : List Key) → p < lo → Ascending lo l → elem p (places l) ≡ false
 unfolding elem
 absent_below p lo [] h a = refl
-absent_below p lo (k ∷ l) h a = rw (ne_eqb (place k) p (λ e. omega (arith, a.0))) (absent_below p _ l (omega (arith, a.0)) a.1)
+absent_below p lo (k ∷ l) h a = rw (ne_eqb (place k) p (λ e. omega (arith, a.0))) (absent_below p (suc (place k)) l (omega (arith, a.0)) a.1)
 
 ascending-distinct : (lo : ℕ) (l : List Key) → Ascending lo l → NoRepeat (places l)
 ascending-distinct lo [] a = tt
-ascending-distinct lo (k ∷ l) a = (absent_below (place k) _ l (omega arith) a.1, ascending-distinct _ l a.1)
+ascending-distinct lo (k ∷ l) a = (absent_below (place k) _ l (omega arith) a.1, ascending-distinct (suc (place k)) l a.1)
 
 -- a Txid key whose hash is one of hs: its place is its hash
 abbrev Among : List ℕ → Key → Type 0
@@ -157,9 +157,9 @@ alone-announce_each : {m : Limits} {Q : ℕ} {t : Table} (now : ℕ) (k : Key) (
     → Alone t (announce_each m now hs cs t).table
 unfolding announce_each
 alone-announce_each now k hs [] w f a b = alone_same
-alone-announce_each now k hs (c ∷ cs) w f a b =
+alone-announce_each {m = m} {Q = Q} {t = t} now k hs (c ∷ cs) w f a b =
     let p : Peer c.connection = record { positive = f.0.positive; small = f.0.connection } in
-    alone_then (alone-parents c.connection now hs p w a b) (alone-announce_each now k hs cs w f.1 a (bounded-parents c.connection now hs p w a b))
+    alone_then (alone-parents c.connection now hs p w a b) (alone-announce_each {t = (announce_parents m c.connection now hs t).table} now k hs cs w f.1 a (bounded-parents c.connection now hs p w a b))
 
 pub loosened_drop_at_key : {m : Limits} {Q : ℕ} {t : Table} (n now : ℕ) (k : Key) → k.hash < top → now < word → Bounded m Q t → Loosened (owner_is n) t (drop_at_key m n now k t).table
 unfolding drop_at_key
@@ -197,7 +197,7 @@ among-drop_each n now [] w s b l = tt
 among-drop_each {m} {Q} {t} {t₀} n now (k ∷ ks) w s b l =
     let a = drop_at_key m n now k t in
     let hs = parents_for n (at k t₀) in
-    let rest = among-drop_each n now ks w s.1 (bounded-drop_at_key n now k s.0 w b) (loosened_then l (loosened_drop_at_key n now k s.0 w b)) in
+    let rest = among-drop_each {t = (drop_at_key m n now k t).table} n now ks w s.1 (bounded-drop_at_key n now k s.0 w b) (loosened_then l (loosened_drop_at_key n now k s.0 w b)) in
     each_append (Among (hs ++ handed_on n ks t₀)) a.keys (drop_each m n now ks a.table).keys
     (among_wider (parents_for n (at k t)) (hs ++ handed_on n ks t₀) a.keys (λ x e. elem_front x hs (handed_on n ks t₀) (loosened_parents n k s.0 l x e)) (among-drop_at_key m n now k t))
     (among_wider (handed_on n ks t₀) (hs ++ handed_on n ks t₀) (drop_each m n now ks a.table).keys (λ x e. elem_back x hs (handed_on n ks t₀) e) rest)
@@ -207,7 +207,7 @@ keys_of_from : (n lo : ℕ) (t : Table) → Ordered lo t → Each (λ (k : Key).
 unfolding keys_of
 keys_of_from n lo [] o = tt
 keys_of_from n lo (r ∷ t) o =
-    let rest = each_map (λ (k : Key). suc (place r.key) ≤ place k) (λ (k : Key). lo ≤ place k) (keys_of n t) (λ k h. omega (arith, o.0)) (keys_of_from n _ t o.2) in
+    let rest = each_map (λ (k : Key). suc (place r.key) ≤ place k) (λ (k : Key). lo ≤ place k) (keys_of n t) (λ k h. omega (arith, o.0)) (keys_of_from n (suc (place r.key)) t o.2) in
     by_test (Each (λ (k : Key). lo ≤ place k)) (has n r.candidates) (λ e. (o.0, rest)) (λ e. rest)
 
 handed_on_later : (n : ℕ) (ks : List Key) (r : Request) (t : Table) → Each (λ (k : Key). suc (place r.key) ≤ place k) ks → handed_on n ks (r ∷ t) ≡ handed_on n ks t
@@ -220,7 +220,7 @@ pub length_handed_on : (n lo : ℕ) (t : Table) → Ordered lo t → All Lawful 
 unfolding keys_of handed_on total
 length_handed_on n lo [] o l = omega arith
 length_handed_on n lo (r ∷ t) o l =
-    let later : length (handed_on n (keys_of n t) (r ∷ t)) ≤ max_parents * places_held t = rw (handed_on_later n (keys_of n t) r t (keys_of_from n _ t o.2)) (length_handed_on n _ t o.2 l.1) in
+    let later : length (handed_on n (keys_of n t) (r ∷ t)) ≤ max_parents * places_held t = rw (handed_on_later n (keys_of n t) r t (keys_of_from n _ t o.2)) (length_handed_on n (suc (place r.key)) t o.2 l.1) in
     by_test (λ (ks : List Key). length (handed_on n ks (r ∷ t)) ≤ max_parents * places_held (r ∷ t)) (has n r.candidates)
     (λ e. omega (
       arith,

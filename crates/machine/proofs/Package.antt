@@ -1,5 +1,5 @@
 -- The calls on packages keep the bounds.
-use Prim.Native.Nat.{ℕ, ◌+◌, ◌≤◌, ◌<◌}
+use Prim.Native.Nat.{ℕ, ◌+◌, ◌≤◌, ◌<◌, suc}
 use mathlib.Core.Path.{◌≡◌, refl, sym, ap, ◌∙◌}
 use mathlib.Core.Bool.{Bool, true, false, not, ◌&&◌}
 use mathlib.Core.List.{List, [], ◌∷◌, map}
@@ -11,7 +11,7 @@ use lib.ListN.{length}
 use borrow.Author.Tests.{ltb-true, leb-true, eqb-true}
 use Rattle.ident.specs.declared.Kind.{Kind}
 use Rattle.ident.specs.declared.Kind.TheVariants.{Wtxid}
-use Rattle.ident.specs.Number.{top, Key, other, wtxid}
+use Rattle.ident.specs.Number.{top, Key, other, wtxid, place}
 use Rattle.machine.specs.Limits.{Limits, max_in_flight, max_wtxids, request_lifetime, word}
 use Rattle.machine.specs.State.{Owner, Package, Request, Table, Answer, owner_is, is_some, is_none}
 use Rattle.machine.specs.Table.{at, change, one, count_in, owner_in, place_in, places_held, has, by, under, owned_by, owned_at}
@@ -49,7 +49,7 @@ owns-solicited h n d hs w a = record {
   lawful = λ r e u h l. record {
     candidates = l.candidates;
     owner = (h, w);
-    packed = packed-solicited r.key.kind r.owner _ r.info r.«package» r.parents hs (ap (λ (k : Key). k.kind) e) u l.packed;
+    packed = packed-solicited r.key.kind r.owner (record { connection = n; deadline = d }) r.info r.«package» r.parents hs (ap (λ (k : Key). k.kind) e) u l.packed;
     parents = a;
     mark = l.mark;
   };
@@ -185,7 +185,7 @@ claim-key : (n c lo : ℕ) (t : Table) → Ordered lo t → CursorFits (claim_ke
 unfolding claim_key
 claim-key n c lo [] o = tt
 claim-key n c lo (r ∷ t) o =
-    by_test CursorFits (is_some (claim_key n c t)) (λ e. claim-key n c _ t o.2) λ e.
+    by_test CursorFits (is_some (claim_key n c t)) (λ e. claim-key n c (suc (place r.key)) t o.2) λ e.
     by_test CursorFits (owner_is n r.owner && awaits_hash c r.«package») (λ e. o.1) (λ e. tt)
 
 key-cons : (x : Option Key) (l : List (Option Key)) → CursorFits x → Each KeyTyped (some_keys l) → Each KeyTyped (some_keys (x ∷ l))
@@ -201,7 +201,7 @@ some-keys n (c ∷ cs) lo t o = key-cons (claim_key n c t) (map (λ c. claim_key
 bounded-fail_each : {m : Limits} {Q : ℕ} {t : Table} (n now : ℕ) (ks : List Key) → Peer n → now < word → Each KeyTyped ks → Bounded m Q t → Bounded m Q (fail_each m n now ks t).table
 unfolding fail_each
 bounded-fail_each n now [] p w s b = b
-bounded-fail_each n now (k ∷ ks) p w s b = bounded-fail_each n now ks p w s.1 (bounded-failed_with_parents k n now s.0 p w b)
+bounded-fail_each {m = m} {Q = Q} {t = t} n now (k ∷ ks) p w s b = bounded-fail_each {t = (failed_with_parents m k n now t).table} n now ks p w s.1 (bounded-failed_with_parents k n now s.0 p w b)
 
 pub bounded-failed_package_claims : {m : Limits} {Q : ℕ} {t : Table} (n : ℕ) (cs : List ℕ) (now : ℕ) → Peer n → now < word → Bounded m Q t → Bounded m Q (failed_package_claims m n cs now t).table
 unfolding failed_package_claims
@@ -212,7 +212,7 @@ bounded-failed_package_claims {m} {Q} {t} n cs now p w b = bounded-fail_each n n
 pub package-keys : (lo : ℕ) (t : Table) → Ordered lo t → Each KeyTyped (package_keys t)
 unfolding package_keys
 package-keys lo [] o = tt
-package-keys lo (r ∷ t) o = by_test (Each KeyTyped) (is_some r.«package») (λ e. (o.1, package-keys _ t o.2)) (λ e. package-keys _ t o.2)
+package-keys lo (r ∷ t) o = by_test (Each KeyTyped) (is_some r.«package») (λ e. (o.1, package-keys (suc (place r.key)) t o.2)) (λ e. package-keys _ t o.2)
 
 left_if_owned_at : (n now : ℕ) (r : Request) → now < word → ShrinksAt (left_if_owned n now) r
 unfolding left_if_owned
@@ -237,7 +237,7 @@ bounded-tear_one (some o) k now s w b = bounded-change (other k) _ s (shrinks_le
 bounded-tear_each : {m : Limits} {Q : ℕ} {t : Table} (now : ℕ) (ks : List Key) → now < word → Each KeyTyped ks → Bounded m Q t → Bounded m Q (tear_each now ks t).table
 unfolding tear_each
 bounded-tear_each now [] w s b = b
-bounded-tear_each {m} {Q} {t} now (k ∷ ks) w s b = bounded-tear_each now ks w s.1 (bounded-tear_one (at k t).owner k now s.0 w b)
+bounded-tear_each {m} {Q} {t} now (k ∷ ks) w s b = bounded-tear_each {t = tear_one (at k t).owner k now t} now ks w s.1 (bounded-tear_one (at k t).owner k now s.0 w b)
 
 pub bounded-teardown : {m : Limits} {Q : ℕ} {t : Table} (now : ℕ) → now < word → Bounded m Q t → Bounded m Q (teardown now t).table
 unfolding teardown

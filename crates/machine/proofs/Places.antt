@@ -38,7 +38,7 @@ total_mono w lo [] t z o' o h = omega arith
 total_mono w lo (r ∷ t') t z o' o h =
     let k = r.key in
     let here : w r ≤ w (at k t) = rw (at_here k r t' refl) at (h k o'.1) in
-    let rest : total w t' ≤ total w (change k gone t) = total_mono w _ t' (change k gone t) z o'.2 (ordered-change k gone 0 t (λ r. refl) (omega arith) o'.1 o) (λ j s.
+    let rest : total w t' ≤ total w (change k gone t) = total_mono w (suc (place r.key)) t' (change k gone t) z o'.2 (ordered-change k gone 0 t (λ r. refl) (omega arith) o'.1 o) (λ j s.
     elim (test (eqb (place j) (place k))) [
       | inl e ↦ rw (at_absent j (suc (place k)) t' (omega (arith, eqb-true (place j) (place k) e)) o'.2) (omega (arith, z j))
       | inr e ↦ rw (at_other j k gone t (λ r. refl) (eqb-false _ _ e)) (rw (at_there j r t' (eqb-false _ _ e)) at (h j s))

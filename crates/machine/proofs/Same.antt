@@ -28,7 +28,7 @@ after k (r ∷ t) = if leb (place r.key) (place k) then after k t else r ∷ t
 ordered-after : (k : Key) (lo : ℕ) (t : Table) → Ordered lo t → Ordered (suc (place k)) (after k t)
 unfolding after
 ordered-after k lo [] o = tt
-ordered-after k lo (r ∷ t) o = elim (test (leb (place r.key) (place k))) [ inl e ↦ rw e (ordered-after k _ t o.2) | inr e ↦ rw e (leb-false _ _ e, o.1, o.2) ]
+ordered-after k lo (r ∷ t) o = elim (test (leb (place r.key) (place k))) [ inl e ↦ rw e (ordered-after k (suc (place r.key)) t o.2) | inr e ↦ rw e (leb-false _ _ e, o.1, o.2) ]
 
 after_all : (k : Key) (lo : ℕ) (t : Table) → place k < lo → Ordered lo t → after k t ≡ t
 unfolding after
@@ -40,7 +40,7 @@ unfolding after
 at_after j k lo [] o h = refl
 at_after j k lo (r ∷ t) o h =
     elim (test (leb (place r.key) (place k))) [
-      | inl e ↦ rw e (at_after j k _ t o.2 h ∙ sym (at_there j r t (λ d. omega (arith, leb-true (place r.key) (place k) e))))
+      | inl e ↦ rw e (at_after j k (suc (place r.key)) t o.2 h ∙ sym (at_there j r t (λ d. omega (arith, leb-true (place r.key) (place k) e))))
       | inr e ↦ rw e
     ]
 
@@ -69,7 +69,7 @@ module _ {A : Type 0} (c : Request → A → A) (z : A) (nought : (k : Key) (a :
           | inl d ↦ sym (ap (λ (q : Request). c q (walk c z (after k t))) (at_here k r t (eqb-true _ _ d)) ∙
               ap (λ (x : Table). c r (walk c z x)) (after_all k _ t (omega (arith, eqb-true (place k) (place r.key) d)) o.2))
           | inr d ↦ passes-head (place k) lo r t o (omega (arith, leb-true (place r.key) (place k) e, eqb-false (place k) (place r.key) d)) p (walk c z t)
-              ∙ (walk_from k _ t o.2 (passes_tail (place k) lo r t o p) ∙ ap (λ (q : Request). c q (walk c z (after k t))) (sym (at_there k r t (eqb-false _ _ d))))
+              ∙ (walk_from k (suc (place r.key)) t o.2 (passes_tail (place k) lo r t o p) ∙ ap (λ (q : Request). c q (walk c z (after k t))) (sym (at_there k r t (eqb-false _ _ d))))
         ])
         | inr e ↦ rw e (sym (ap (λ (q : Request). c q (c r (walk c z t))) (at_absent k (place r.key) (r ∷ t) (leb-false _ _ e) (omega arith, o.1, o.2)) ∙ nought k (c r (walk c z t))))
       ]
@@ -78,7 +78,7 @@ module _ {A : Type 0} (c : Request → A → A) (z : A) (nought : (k : Key) (a :
   unfolding walk
   walk-nothing lo [] o p = refl
   walk-nothing lo (r ∷ t) o p =
-      passes-head (suc (place r.key)) lo r t o (omega arith) (λ j s h. p j s) (walk c z t) ∙ walk-nothing _ t o.2 (λ j s. passes_tail (suc (place j)) lo r t o (λ i u h. p i u) j s (omega arith))
+      passes-head (suc (place r.key)) lo r t o (omega arith) (λ j s h. p j s) (walk c z t) ∙ walk-nothing (suc (place r.key)) t o.2 (λ j s. passes_tail (suc (place j)) lo r t o (λ i u h. p i u) j s (omega arith))
 
   pub walk_same : (lo' lo : ℕ) (t' t : Table) → Ordered lo' t' → Ordered lo t → ((j : Key) → j.hash < top → (a : A) → c (at j t') a ≡ c (at j t) a) → walk c z t' ≡ walk c z t
   unfolding walk
@@ -86,7 +86,7 @@ module _ {A : Type 0} (c : Request → A → A) (z : A) (nought : (k : Key) (a :
   walk_same lo' lo (r ∷ t') t o' o e =
       let k = r.key in
       let o'' = ordered-after k lo t o in
-      let rest : walk c z t' ≡ walk c z (after k t) = walk_same _ _ t' (after k t) o'.2 o'' (λ j s a. elim (test (leb (place j) (place k))) [
+      let rest : walk c z t' ≡ walk c z (after k t) = walk_same (suc (place k)) (suc (place k)) t' (after k t) o'.2 o'' (λ j s a. elim (test (leb (place j) (place k))) [
         | inl d ↦ let h : place j < suc (place k) = omega (arith, leb-true (place j) (place k) d) in ap (λ (q : Request). c q a) (at_absent j _ t' h o'.2 ∙ sym (at_absent j _ (after k t) h o''))
         | inr d ↦ let h : place k < place j = leb-false _ _ d in ap (λ (q : Request). c q a) (sym (at_there j r t' (λ x. omega arith))) ∙
             (e j s a ∙ ap (λ (q : Request). c q a) (sym (at_after j k lo t o h)))

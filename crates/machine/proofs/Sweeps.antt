@@ -1,6 +1,6 @@
 -- The carried-out sweeps of a list of calls are successive batches: the known cursor is moved by sweep, opening and the reading of a listing alone, and
 -- what is held at a sweep is in order.
-use Prim.Native.Nat.{ℕ, ◌≤◌}
+use Prim.Native.Nat.{ℕ, ◌≤◌, suc}
 use mathlib.Core.Path.{◌≡◌, refl, ap, ◌∙◌}
 use mathlib.Core.Logic.{inl, inr}
 use mathlib.Core.Bool.{true, false}
@@ -9,7 +9,7 @@ use native.Mathlib.Omega.{arith}
 use Rattle.ident.specs.declared.Kind.{Kind}
 use Rattle.ident.specs.declared.Kind.TheVariants.{Txid, Wtxid}
 use Rattle.ident.specs.If.{if◌then◌else◌}
-use Rattle.ident.specs.Number.{base, top, Key}
+use Rattle.ident.specs.Number.{base, top, Key, place}
 use Rattle.machine.specs.Limits.{max_known_checks}
 use Rattle.machine.specs.State.{Table, State}
 use Rattle.machine.specs.Table.{keys}
@@ -136,7 +136,7 @@ successive n (c ∷ cs) s o =
 pub ascending : (lo : ℕ) (t : Table) → Ordered lo t → Asc self lo (keys t)
 unfolding keys
 ascending lo [] o = tt
-ascending lo (r ∷ t) o = (o.0, ascending _ t o.2)
+ascending lo (r ∷ t) o = (o.0, ascending (suc (place r.key)) t o.2)
 
 base-le : (k : Kind) → base k ≤ top
 base-le Txid = omega arith
@@ -145,4 +145,4 @@ base-le Wtxid = omega arith
 pub inside : (lo : ℕ) (t : Table) → Ordered lo t → Below self end (keys t)
 unfolding keys
 inside lo [] o = tt
-inside lo (r ∷ t) o = (omega (arith, base-le r.key.kind, o.1), inside _ t o.2)
+inside lo (r ∷ t) o = (omega (arith, base-le r.key.kind, o.1), inside (suc (place r.key)) t o.2)

@@ -36,7 +36,7 @@ ordered-change k f lo (r ∷ t) ff h s o =
       | inl e ↦ rw e (ordered-keep lo (f (blank k)) _ (r ∷ t) (rw (ff (blank k)) h) (rw (ff (blank k)) s) (rw (ff (blank k)) (omega (arith, ltb-true), o.1, o.2)))
       | inr e ↦ rw e (elim (test (eqb (place k) (place r.key))) [
         | inl d ↦ rw d (ordered-keep lo (f r) _ t (rw (ff r) o.0) (rw (ff r) o.1) (rw (ff r) o.2))
-        | inr d ↦ rw d (o.0, o.1, ordered-change k f _ t ff (omega (arith, ltb-false, eqb-false (place k) (place r.key) d)) s o.2)
+        | inr d ↦ rw d (o.0, o.1, ordered-change k f (suc (place r.key)) t ff (omega (arith, ltb-false, eqb-false (place k) (place r.key) d)) s o.2)
       ])
     ]
 
@@ -45,7 +45,7 @@ ordered-change k f lo (r ∷ t) ff h s o =
 pub at_absent : (k : Key) (lo : ℕ) (t : Table) → place k < lo → Ordered lo t → at k t ≡ blank k
 unfolding at
 at_absent k lo [] h o = refl
-at_absent k lo (r ∷ t) h o = rw (ne_eqb (place k) (place r.key) (λ e. omega (arith, o.0))) (at_absent k _ t (omega (arith, o.0)) o.2)
+at_absent k lo (r ∷ t) h o = rw (ne_eqb (place k) (place r.key) (λ e. omega (arith, o.0))) (at_absent k (suc (place r.key)) t (omega (arith, o.0)) o.2)
 
 pub at_key : (k : Key) (lo : ℕ) (t : Table) → k.hash < top → Ordered lo t → (at k t).key ≡ k
 unfolding at
@@ -53,7 +53,7 @@ at_key k lo [] s o = refl
 at_key k lo (r ∷ t) s o =
     elim (test (eqb (place k) (place r.key))) [
       | inl e ↦ rw e (sym (place-inj k r.key s o.1 (eqb-true _ _ e)))
-      | inr e ↦ rw e (at_key k _ t s o.2)
+      | inr e ↦ rw e (at_key k (suc (place r.key)) t s o.2)
     ]
 
 -- ---- weights
@@ -72,7 +72,7 @@ total-change w k f lo (r ∷ t) z o =
       | inl e ↦ rw (e, at_absent k (place r.key) (r ∷ t) (ltb-true _ _ e) (omega arith, o.1, o.2)) (omega (arith, total-keep w (f (blank k)) (f (blank k)).candidates (r ∷ t)))
       | inr e ↦ rw e (elim (test (eqb (place k) (place r.key))) [
         | inl d ↦ rw d (omega (arith, total-keep w (f r) (f r).candidates t))
-        | inr d ↦ rw d (omega (arith, total-change w k f _ t z o.2))
+        | inr d ↦ rw d (omega (arith, total-change w k f (suc (place r.key)) t z o.2))
       ])
     ]
 
@@ -109,7 +109,7 @@ all_change P k f lo (r ∷ t) o p a =
       | inl e ↦ rw e (all_keep P (f (blank k)) _ (r ∷ t) (rw (at_absent k (place r.key) (r ∷ t) (ltb-true _ _ e) (omega arith, o.1, o.2)) at p) a)
       | inr e ↦ rw e (elim (test (eqb (place k) (place r.key))) [
         | inl d ↦ rw d (all_keep P (f r) _ t (rw d at p) a.1)
-        | inr d ↦ rw d (a.0, all_change P k f _ t o.2 (rw d at p) a.1)
+        | inr d ↦ rw d (a.0, all_change P k f (suc (place r.key)) t o.2 (rw d at p) a.1)
       ])
     ]
 

@@ -1,5 +1,5 @@
 -- A hash that nobody owns.
-use Prim.Native.Nat.{ℕ}
+use Prim.Native.Nat.{ℕ, suc}
 use mathlib.Core.Path.{◌≡◌, refl, ap}
 use mathlib.Core.Logic.{inl, inr}
 use mathlib.Core.Bool.{Bool, false}
@@ -23,7 +23,7 @@ no-weight b (some o) e = ap one e
 pub owners_none : (h lo : ℕ) (t : Table) → Ordered lo t → ((k : Key) → k.hash ≡ h → (at k t).owner ≡ none) → owners (under h) t ≡ 0
 unfolding total at
 owners_none h lo [] o f = refl
-owners_none h lo (r ∷ t) o f = omega (arith, first, owners_none h _ t o.2 rest)
+owners_none h lo (r ∷ t) o f = omega (arith, first, owners_none h (suc (place r.key)) t o.2 rest)
   where
     first : owner_in (under h r.key) r.owner ≡ 0
     first = elim (test (eqb r.key.hash h)) [

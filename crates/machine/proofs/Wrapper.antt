@@ -1,4 +1,5 @@
 -- The wrappers keep the bounds, and the poll gate's time is of 64 bits.
+use Rattle.machine.specs.Announce.{announce}
 use Prim.Native.Nat.{ℕ, ◌+◌, ◌<◌}
 use mathlib.Core.Bool.{Bool, not, ◌&&◌}
 use mathlib.Core.List.{List, [], ◌∷◌}
@@ -35,7 +36,7 @@ pub bounded-offers : {m : Limits} {Q : ℕ} {t : Table} (n now : ℕ) (p v f : B
     → Bounded m Q (offers_from m n now p v f os t)
 unfolding offers_from
 bounded-offers n now p v f [] a w h b = b
-bounded-offers n now p v f (o ∷ os) a w h b = bounded-offers n now p v f os a w h.1 (bounded-announce (offered n now p v f o) a.positive (offered-typed n now p v f o a w h.0) b)
+bounded-offers {m = m} {Q = Q} {t = t} n now p v f (o ∷ os) a w h b = bounded-offers {t = (announce m (offered n now p v f o) t).table} n now p v f os a w h.1 (bounded-announce (offered n now p v f o) a.positive (offered-typed n now p v f o a w h.0) b)
 
 pub bounded-announce_transactions : {m : Limits} {Q : ℕ} {t : Table} (n now : ℕ) (p v : Bool) (os : List Offer) → Peer n → now + request_lifetime < word → Each OfferTyped os → Bounded m Q t
     → Bounded m Q (announce_transactions m n now p v os t)
@@ -64,7 +65,7 @@ pub bounded-not_found_each : {m : Limits} {Q : ℕ} {t : Table} (n now : ℕ) (l
     → Bounded m Q (not_found_each m n now l t).table
 unfolding not_found_each
 bounded-not_found_each n now [] p w s b = b
-bounded-not_found_each n now (i ∷ l) p w s b = bounded-not_found_each n now l p w s.1 (bounded-not_found_one n now i p w s.0 b)
+bounded-not_found_each {m = m} {Q = Q} {t = t} n now (i ∷ l) p w s b = bounded-not_found_each {t = (not_found_one m n now i t).table} n now l p w s.1 (bounded-not_found_one n now i p w s.0 b)
 
 pub bounded-not_found : {m : Limits} {Q : ℕ} {t : Table} (n now : ℕ) (l : List Item) → Peer n → now < word → Each (λ (i : Item). i.hash < top) l → Bounded m Q t
     → Bounded m Q (not_found m n now l t).table

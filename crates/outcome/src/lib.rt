@@ -3,6 +3,8 @@
 // A public call (crates public_requests, public_packages, public_plans) takes the store that the caller lends, of any length and with any bytes, and asks nothing
 // of it. Its contract says that reply, answer buffer and store are what one definition gives, `outcome_if` (specs/Outcome): the number of document 01's table and
 // every byte as it was, or what the request machine does to the state that the bytes write, and the bytes past the need as they were.
+#![tactic(auto)]
+
 ghost use Rattle.std.specs.Prelude.{◌≡◌, ◌≤◌};
 ghost use Rattle.machine.specs.Limits as limits;
 ghost use Rattle.machine.specs.Table.{one};
@@ -12,28 +14,28 @@ ghost use Rattle.outcome.specs.Reply.{reply_of};
 pub mod refusals;
 
 // An answer that is a number: a refusal of document 01's table, or the reply.
-#[derive(Drop)]
+#[derive(Clone, Copy)]
 pub enum Answer {
     Refused(u64),
     Number(u64),
 }
 
 // Held, free for unpreferred newcomers and for preferred ones, permille used, or a refusal.
-#[derive(Drop)]
+#[derive(Clone, Copy)]
 pub enum Figures {
     Refused(u64),
     Are(u64, u64, u64, u64),
 }
 
 // How many keys, entries or bytes of text stand in the answer buffer, or a refusal.
-#[derive(Drop)]
+#[derive(Clone, Copy)]
 pub enum Listing {
     Refused(u64),
     Listed(u64),
 }
 
 // How many keys of a connection that left stand in the answer buffer, and how many of parents behind them, or a refusal.
-#[derive(Drop)]
+#[derive(Clone, Copy)]
 pub enum Departure {
     Refused(u64),
     Left(u64, u64),

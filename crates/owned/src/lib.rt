@@ -3,6 +3,8 @@
 // Each asks for a sound store and does not test it: what the checked call (crates/exports) does behind its sound test. It leaves a sound store, so that an
 // owner whose bytes nobody else writes, once opened or tested, may call on for ever. A caller that is proved shows `requires`; one in C or Rust must keep the
 // bytes to itself. This archive is another than the checked one, which has no such function.
+#![tactic(auto)]
+
 ghost use Rattle.machine.specs.Call.{On, Sum};
 ghost use Rattle.store.specs.Image.{SoundStore};
 ghost use Rattle.outcome.specs.Outcome.{Leaves};

@@ -2,6 +2,8 @@
 //
 // Rows ascend by key: first those of Txid keys, then those of Wtxid keys, and in each half by hash. Two indices go along the halves, from one hash of the list to the
 // next, so that every row up to the greatest hash is passed once, and behind it no more than the next one is looked at. A key is counted at its last row.
+#![tactic(auto)]
+
 ghost use Rattle.std.specs.Prelude.{◌≡◌, true, [], ◌∷◌, ℕ, ◌+◌, ◌*◌, ◌≤◌, ◌<◌, ltb, length};
 ghost use Rattle.std.proofs.Math.Option.{Option, none};
 ghost use Rattle.words.specs.Words.{bytes_of, splice};
@@ -24,7 +26,7 @@ pub mod list;
 const OWNER: usize = 3;
 
 // Who owns a hash, as an answer has it. Tag: 0 nobody, 1 as Txid, 2 as Wtxid.
-#[derive(Drop)]
+#[derive(Clone, Copy)]
 struct Owner {
     tag: u64,
     connection: u64,
@@ -32,7 +34,7 @@ struct Owner {
 }
 
 // The rows up to a hash: the first one behind them, how many keys they have, and whom they name as the hash's owner.
-#[derive(Drop)]
+#[derive(Clone, Copy)]
 struct Stretch {
     at: usize,
     keys: u64,

@@ -10,7 +10,7 @@ use places::PLACE;
 use regions::{CONN, ROW};
 
 // The bytes of a store that its places lie in.
-#[derive(Drop)]
+#[derive(Clone, Copy)]
 pub struct Part {
     pub from: usize,
     pub to: usize,

@@ -2,6 +2,8 @@
 //
 // As in `requests`, a contract speaks of every sound state that the bytes write. A request that has the flag or a package has a place;
 // it is found by the hash of the request's Wtxid key.
+#![tactic(auto)]
+
 ghost use Rattle.std.specs.Prelude.{◌≡◌, ◌≤◌, ◌<◌, false, length, get_or};
 ghost use Rattle.std.proofs.Math.Option.{some};
 ghost use Rattle.ident.specs.Number.{wtxid};
@@ -23,7 +25,7 @@ pub mod flat;
 
 // ---- where the place of a hash stands
 
-#[derive(Drop)]
+#[derive(Clone, Copy)]
 pub struct Spot {
     pub at: usize,
     pub held: bool,
@@ -49,7 +51,7 @@ pub fn seek(s: &[u8], h: ident::Hash) -> Spot
 // ---- the request at a key
 
 // Its rows are from .. to. Owner 0 is none. Stage: 0 neither flag nor package, 1 flag, 2 Awaiting, 3 Enqueued.
-#[derive(Drop)]
+#[derive(Clone, Copy)]
 pub struct Request {
     pub from: usize,
     pub to: usize,
@@ -59,7 +61,7 @@ pub struct Request {
     pub mark: bool,
 }
 
-#[derive(Drop)]
+#[derive(Clone, Copy)]
 struct Owner {
     connection: u64,
     deadline: u64,

@@ -3,6 +3,8 @@
 // A place has 824 words: hash 4, combined hash 4, stage (1 flag, 2 Awaiting, 3 Enqueued), wtxid count, parent count, 100 wtxids and
 // 100 parents of 4 words, and 13 words that are zero at rest. Places stand in the order of their hashes. As for the records of
 // `regions`, contracts say what happens to a region that holds a list of places, and a `requires` asks for room only.
+#![tactic(auto)]
+
 ghost use Rattle.std.specs.Prelude.{[], ◌∷◌, ◌+◌, ◌*◌, ◌≤◌, ◌<◌, length};
 ghost use Rattle.words.specs.Words.{words, recs};
 ghost use Rattle.regions.specs.Regions.{Inserted, Removed, Truncated, Copied, Changed};
@@ -36,7 +38,7 @@ pub const AWAITING: u64 = 2;
 pub const ENQUEUED: u64 = 3;
 
 // What a place has beside its lists. The counts are those of the lists.
-#[derive(Drop)]
+#[derive(Clone, Copy)]
 pub struct Head {
     pub hash: regions::Quad,
     pub combined: regions::Quad,

@@ -10,7 +10,7 @@ ghost use Rattle.apart.specs.Silent.{Placeless, silenced};
 ghost use Rattle.planning.specs.Expiring.{SeekDue, NextDue, MadeReady, ExpiresAll};
 
 // One turn of expiring: whether an owner is due, its key and its connection.
-#[derive(Drop)]
+#[derive(Clone, Copy)]
 pub struct Turn {
     pub more: bool,
     pub key: ident::Key,

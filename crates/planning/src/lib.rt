@@ -1,4 +1,6 @@
 // plan on the bytes of a sound store (document 01, "plan").
+#![tactic(auto)]
+
 pub mod expiring;
 pub mod kept;
 pub mod plan;

@@ -12,7 +12,7 @@ ghost use Rattle.planning.specs.Replying.{Begins, SelectsOf, PlansOf};
 use crate::{expiring, kept, replying};
 
 // How many entries a plan has, how many keys it considered, and when to look again; 0 for no time (document 02, request c).
-#[derive(Drop)]
+#[derive(Clone, Copy)]
 pub struct Planned {
     pub count: usize,
     pub considered: u64,

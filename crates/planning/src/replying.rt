@@ -9,7 +9,7 @@ ghost use Rattle.selecting.specs.Phasing.{given_keys};
 ghost use Rattle.planning.specs.Replying.{Fresh, Closed, Begun, most_kept, AsksOf};
 
 // How many entries a plan has, and how many keys it considered.
-#[derive(Drop)]
+#[derive(Clone, Copy)]
 pub struct Reply {
     pub count: usize,
     pub considered: u64,

@@ -1,4 +1,6 @@
 // The public calls on listings (document 02, request b; docs/LISTING.md): saving and reading. Each takes any store and asks nothing of it (crates/outcome).
+#![tactic(auto)]
+
 ghost use Rattle.machine.specs.Call.{Restore, On, Save};
 ghost use Rattle.outcome.specs.Outcome.{Leaves, LeavesWith};
 ghost use Rattle.outcome.specs.Reply.{reply_of, text_of};

@@ -8,7 +8,7 @@ use listed_lines::hash_lists::hash_room;
 use listed_lines::line::Head;
 
 // Of a sound one the first line, and the index behind that.
-#[derive(Drop)]
+#[derive(Clone, Copy)]
 pub enum Verdict {
     Unreadable,
     Unsound,

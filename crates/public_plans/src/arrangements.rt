@@ -59,7 +59,7 @@ fn seek(list: &[u8], connection: u64, after: bool) -> usize
 }
 
 // A part of a list of entries: so many, from the first on.
-#[derive(Drop)]
+#[derive(Clone, Copy)]
 pub struct Range {
     pub first: usize,
     pub count: usize,

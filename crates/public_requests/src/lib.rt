@@ -1,5 +1,7 @@
 // The public calls on a request (document 01, "Refusals and replies", "The request machine"): opening, sum, those that bring candidates, those of a failed or
 // withdrawn request, sweep and the poll gate. Each takes any store and asks nothing of it (crates/outcome).
+#![tactic(auto)]
+
 ghost use Rattle.std.specs.Prelude.{◌≡◌, ◌+◌, ◌-◌, ◌*◌, ◌/◌, ◌≤◌};
 ghost use Rattle.machine.specs.Limits as limits;
 ghost use Rattle.machine.specs.Call.{Open, On, Sum, sizes_taken};
@@ -17,7 +19,7 @@ pub mod on_sound;
 pub mod sweeps;
 
 // How many announcements a connection has, and how many requests it owns, or a refusal.
-#[derive(Drop)]
+#[derive(Clone, Copy)]
 pub enum Counts {
     Refused(u64),
     Are(u64, u64),

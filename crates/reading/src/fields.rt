@@ -3,31 +3,31 @@ ghost use Rattle.machine.specs.Fields.{number_of, bool_of, hash_of, key_of, item
 ghost use Rattle.reading.specs.Given.{FieldRead, number_at, bool_at, hash_at, key_at, item_at};
 
 // A field as a value, with the index where it ends.
-#[derive(Drop)]
+#[derive(Clone, Copy)]
 pub enum NumberAt {
     Not,
     Is(u64, usize),
 }
 
-#[derive(Drop)]
+#[derive(Clone, Copy)]
 pub enum BoolAt {
     Not,
     Is(bool, usize),
 }
 
-#[derive(Drop)]
+#[derive(Clone, Copy)]
 pub enum HashAt {
     Not,
     Is(regions::Quad, usize),
 }
 
-#[derive(Drop)]
+#[derive(Clone, Copy)]
 pub enum KeyAt {
     Not,
     Is(ident::Kind, regions::Quad, usize),
 }
 
-#[derive(Drop)]
+#[derive(Clone, Copy)]
 pub enum ItemAt {
     Not,
     Is(ident::ItemKind, regions::Quad, usize),

@@ -11,7 +11,7 @@ use crate::fields::{
 };
 
 // The values of a line's fields, hashes as plain words; an item's hash is `hash`. What a form does not name is zero.
-#[derive(Drop)]
+#[derive(Clone, Copy)]
 pub struct Values {
     pub kind: ident::Kind,
     pub item: ident::ItemKind,
@@ -26,14 +26,14 @@ pub struct Values {
 }
 
 // The values with the index where the last field ends.
-#[derive(Drop)]
+#[derive(Clone, Copy)]
 pub enum ValuesAt {
     Not,
     Is(Values, usize),
 }
 
 // The values of a line's last fields.
-#[derive(Drop)]
+#[derive(Clone, Copy)]
 pub enum Whole {
     Not,
     Is(Values),

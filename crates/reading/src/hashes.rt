@@ -15,14 +15,14 @@ const HASHES: usize = 32_768;
 const STORED: usize = HASHES * HASH_BYTES;
 
 // A list that was read, with the index where its last field ends.
-#[derive(Drop)]
+#[derive(Clone, Copy)]
 pub enum ListAt {
     Not,
     Is(usize),
 }
 
 // The list of hashes of a line, or that it has none: how many bytes hold it.
-#[derive(Drop)]
+#[derive(Clone, Copy)]
 pub enum Hashes {
     None,
     Are(usize),

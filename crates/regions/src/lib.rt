@@ -4,6 +4,8 @@
 // behind them up to its capacity, so that a list of records has one image. Contracts say what happens to any words, and what happens
 // to a region that holds a list of records: an insertion in the words is an insertion in the list. A `requires` says only that the
 // records in question lie within the slice.
+#![tactic(auto)]
+
 ghost use Rattle.std.specs.Prelude.{◌≡◌, ◌+◌, ◌*◌, ◌≤◌, ◌<◌, [], ◌∷◌, length, take, drop, ltb};
 ghost use Rattle.words.specs.Words.{words, recs, splice, up, down};
 ghost use Rattle.regions.specs.Regions.{shut, Inserted, Removed, Replaced, Truncated, Copied, Found};
@@ -20,7 +22,7 @@ pub const ROW: usize = 9;
 pub const CONN: usize = 3;
 
 // A hash as four words, w3 the most significant.
-#[derive(Drop)]
+#[derive(Clone, Copy)]
 pub struct Quad {
     pub w0: u64,
     pub w1: u64,
@@ -29,14 +31,14 @@ pub struct Quad {
 }
 
 // What rows are in the order of: the kind (0 Txid, 1 Wtxid), then the hash.
-#[derive(Drop)]
+#[derive(Clone, Copy)]
 pub struct Key {
     pub kind: u64,
     pub hash: Quad,
 }
 
 // A candidate of a request. The deadline is 0 unless it owns the request; bits: 1 Wtxid kind, 2 item is v, 4 preferred, 8 owns, 16 mark.
-#[derive(Drop)]
+#[derive(Clone, Copy)]
 pub struct Row {
     pub hash: Quad,
     pub conn: u64,
@@ -47,7 +49,7 @@ pub struct Row {
 }
 
 // A connection, how many announcements it has, and how many requests it owns.
-#[derive(Drop)]
+#[derive(Clone, Copy)]
 pub struct Conn {
     pub conn: u64,
     pub held: u64,

@@ -2,6 +2,8 @@
 //
 // A contract speaks of every sound state that the bytes write and cites the machine's own definition of the change. A `requires`
 // asks that the bytes write some sound state, and room where a row is added.
+#![tactic(auto)]
+
 ghost use Rattle.std.specs.Prelude.{◌≡◌, min, ◌+◌, ◌-◌, ◌≤◌, ◌<◌, map, length, true, false};
 ghost use Rattle.std.proofs.Math.Option.{none};
 ghost use Rattle.ident.specs.Words.{hash_num, key_num};
@@ -18,7 +20,7 @@ ghost use Rattle.requests.specs.Changes.{candidate_of, Words, KeyWords, Spans, S
 pub mod whole;
 
 // One announcement: who can deliver, as what item, from when on, and how it ranks.
-#[derive(Drop)]
+#[derive(Clone, Copy)]
 pub struct Candidate {
     pub connection: u64,
     pub item: ident::Item,
@@ -28,7 +30,7 @@ pub struct Candidate {
 }
 
 // Where the rows of a key stand.
-#[derive(Drop)]
+#[derive(Clone, Copy)]
 pub struct Window {
     pub from: usize,
     pub to: usize,
@@ -135,7 +137,7 @@ pub fn mark_in(s: &[u8], from: usize, to: usize) -> u64
 }
 
 // Where the row of a connection stands among those of a key; `end`, if it has none there.
-#[derive(Drop)]
+#[derive(Clone, Copy)]
 pub struct Spot {
     pub at: usize,
     pub end: usize,

@@ -2,6 +2,8 @@
 //
 // The lines come into the store in their own order: each candidate's row and each request's place behind those that are there, so that nothing
 // moves. The connections are counted at the end. As in `store`, bytes are spoken of as lists of records: `Turns`, `Shows`.
+#![tactic(auto)]
+
 ghost use Rattle.std.specs.Prelude.{◌≡◌, length};
 ghost use Rattle.std.proofs.Math.Option.{some};
 ghost use Rattle.machine.specs.State.{State};

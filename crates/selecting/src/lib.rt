@@ -1,6 +1,8 @@
 // The scan of a plan (document 01, "plan"). For its length what is selected owns its request in the store, so that "not yet selected by
 // this plan" and "counting this plan's" are questions to the store. Rows do not move meanwhile: a selection is remembered by the number
 // of its row, and its entry is written once, when the order is known.
+#![tactic(auto)]
+
 ghost use Rattle.std.specs.Prelude.{◌+◌, ◌≤◌, ◌<◌, length};
 ghost use Rattle.ident.specs.Words.{hash_num, key_num};
 ghost use Rattle.machine.specs.Limits.{latest_clock};
@@ -17,7 +19,7 @@ pub mod phase;
 
 // How far a scan has come: how many are selected, how many keys were considered, the last of them as a store holds a cursor, and
 // whether the phase has stopped.
-#[derive(Drop)]
+#[derive(Clone, Copy)]
 pub struct Scan {
     pub chosen: usize,
     pub considered: u64,
@@ -85,7 +87,7 @@ pub fn consider(s: &mut [u8], clock: u64, k: ident::Key, picks: &mut [usize], v:
 }
 
 // A scan that walks over the rows, and where the rows of the last hash end under each kind.
-#[derive(Drop)]
+#[derive(Clone, Copy)]
 pub struct Walk {
     pub scan: Scan,
     pub txid: usize,

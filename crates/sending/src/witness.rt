@@ -11,14 +11,14 @@ ghost use Rattle.claiming.specs.Claiming.{entry_of};
 ghost use Rattle.sending.specs.Turned.{is_transaction, Holds, Turned, PutTurned};
 
 // Whether a connection is a witness connection. It is remembered from one entry to the next, since those of a connection are sent together.
-#[derive(Drop)]
+#[derive(Clone, Copy)]
 pub struct Known {
     pub connection: u64,
     pub listed: bool,
 }
 
 // An entry as it is sent, and what is known after it.
-#[derive(Drop)]
+#[derive(Clone, Copy)]
 pub struct Sent {
     pub entry: claiming::Entry,
     pub known: Known,

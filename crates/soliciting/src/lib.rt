@@ -1,4 +1,6 @@
 // The package calls on the bytes of a sound store (document 01, "claim_package", "begin_package_resolution").
+#![tactic(auto)]
+
 ghost use Rattle.std.specs.Prelude.{◌≡◌, ◌<◌, ◌&&◌, eqb};
 ghost use Rattle.ident.specs.Number.{wtxid};
 ghost use Rattle.ident.specs.Words.{hash_num};

@@ -4,6 +4,8 @@
 // none. Each part decides what FlatSound (crates/store) says of the records that one region holds: the rows (crates/sound_rows), the
 // connections (crates/sound_conns), the package places. A region is a slice whose word 0 is the region's first word; a `requires` says
 // only that the records in question lie within the slice. Each byte of the need is read once or a few times.
+#![tactic(auto)]
+
 use machine::limits::{MAX_ALTERNATES, MAX_ANNOUNCEMENTS, MAX_PLACES};
 use places::PLACE;
 use regions::{CONN, ROW};

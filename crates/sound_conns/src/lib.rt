@@ -4,6 +4,8 @@
 // has counters for a window of up to MANY entries, in an array of 32 KiB (2 KiB where there are FEW), so that one is enough unless
 // there are more. A pass takes only the rows whose connection is above the last entry of the pass before (`done`), and not above its
 // own last entry (`last`).
+#![tactic(auto)]
+
 use machine::limits::{MAX_PEER_ANNOUNCEMENTS, MAX_PEER_IN_FLIGHT};
 use regions::CONN;
 

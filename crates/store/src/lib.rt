@@ -3,6 +3,8 @@
 // The functions here take the need of a store, a slice of exactly need(L, Q) bytes, and speak of it as lists of records: `Shows`
 // says that bytes write a flat state, and a contract says what holds of every flat state that the bytes write. A `requires` asks
 // only that counts and sums are in range (`Shown`).
+#![tactic(auto)]
+
 pub mod conns;
 pub mod counting;
 pub mod head;

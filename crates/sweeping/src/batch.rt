@@ -15,7 +15,7 @@ ghost use Rattle.cursors.specs.InWords.{stored_key, Stands};
 ghost use Rattle.sweeping.specs.Batches.{last_row, Put, Walks, AfterCursor, AfterKnown};
 
 // How many keys are handed out, and the last of them as a store holds a cursor.
-#[derive(Drop)]
+#[derive(Clone, Copy)]
 pub struct Batch {
     pub count: usize,
     pub last: cursors::Stored,

@@ -1,4 +1,6 @@
 // sweep (the Rust's known_batch) and the poll gate, on the bytes of a sound store (document 01, module 6).
+#![tactic(auto)]
+
 ghost use Rattle.std.specs.Prelude.{min, ◌*◌, ◌≤◌, length};
 ghost use Rattle.machine.specs.Limits.{latest_clock, max_known_checks};
 ghost use Rattle.machine.specs.Call.{key_bytes};

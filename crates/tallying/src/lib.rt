@@ -2,6 +2,8 @@
 //
 // Each row first has an entry of its own. These are put in order and counted into the table where they stand: one row after the other
 // would move the entries behind its connection's each time.
+#![tactic(auto)]
+
 pub mod counts;
 pub mod heap;
 

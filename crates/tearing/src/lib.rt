@@ -3,6 +3,8 @@
 // One pass over the rows takes those of the packages' owners out and readies those beside them, one over the places takes the packages
 // out. The rows come first, since the places say which keys these are. In between the bytes write rows and their tally (`Shorn`); entries of
 // the tally that lose their last row stay for as long as the rows are passed over (`Ebbs`).
+#![tactic(auto)]
+
 ghost use Rattle.std.specs.Prelude.{◌≡◌, ℕ, ◌+◌, ◌≤◌, ◌<◌, length, get_or, set};
 ghost use Rattle.regions.specs.declared.Row.{Row};
 ghost use Rattle.regions.specs.Rows.{with_ready};
@@ -46,7 +48,7 @@ fn keep_row(s: &mut [u8], m: usize, i: usize, r: regions::Row)
 }
 
 // How many rows stay of those looked at, and where the place of the last one stands, or would.
-#[derive(Drop)]
+#[derive(Clone, Copy)]
 struct Stay {
     rows: usize,
     at: usize,

@@ -77,7 +77,7 @@ fn seek_near(s: &[u8], q: regions::Quad, guess: usize) -> usize
 }
 
 // Whether a request has a package, and where its place stands, or would.
-#[derive(Drop)]
+#[derive(Clone, Copy)]
 pub struct Found {
     pub held: bool,
     pub at: usize,

@@ -2,6 +2,8 @@
 //
 // A list of items has 40 bytes for each, in the layout of `lent_lists::item_at`: what the reader leaves in the answer can be lent to `announce_transactions` and
 // `transaction_not_found` as it is. Neither call takes a store. Refusal 10 is tested before 7, and both before the first byte is written.
+#![tactic(auto)]
+
 ghost use Rattle.std.specs.Prelude.{◌≡◌, ◌+◌, ◌*◌, ◌<◌, ◌≤◌, length, get_or, take, drop};
 ghost use Rattle.ident.specs.Number.{Item};
 ghost use Rattle.words.specs.Words.{number, digits, recs, splice};
@@ -12,14 +14,14 @@ ghost use Rattle.wire.specs.Calls.{item_answer, items_answer, items_reply, bytes
 ghost use Rattle.wire.specs.Steps.{Begins, Holds, Counted};
 
 // What a call answers: a refusal's number, or how many items it has read or bytes written.
-#[derive(Drop)]
+#[derive(Clone, Copy)]
 pub enum Answer {
     Refused(u64),
     Count(u64),
 }
 
 // The count of a payload and where its items begin; or that it is none.
-#[derive(Drop)]
+#[derive(Clone, Copy)]
 enum Found {
     Not,
     At(usize, usize),

@@ -2,6 +2,8 @@
 //
 // Every function takes a slice whose byte 0 is the first byte of word 0, and its contract is an equation between lists of words
 // that holds of any bytes. A `requires` says only that the words in question lie within the slice.
+#![tactic(auto)]
+
 ghost use Rattle.std.specs.Prelude.{◌≡◌, ◌+◌, ◌-◌, ◌*◌, ◌≤◌, ◌<◌, length, get_or, replicate};
 ghost use Rattle.std.proofs.Math.Seq.{slice};
 ghost use Rattle.words.specs.Words.{words, up, down, splice, Put, Decides};

@@ -1,5 +1,7 @@
 // announce_transactions, transaction_response_completed and transaction_not_found on the bytes of a sound store (document 01,
 // "Wrappers' tracker part").
+#![tactic(auto)]
+
 ghost use Rattle.ident.specs.Words.{hash_num};
 ghost use Rattle.machine.specs.Wrapper as machine;
 ghost use Rattle.store.specs.Shown.{Kept};

@@ -78,7 +78,7 @@ fn overloaded(s: &[u8], n: u64) -> bool
 }
 
 // What holds of every item of a batch. source: a wtxid source exists; late: the connection owned as many requests as it may before.
-#[derive(Drop)]
+#[derive(Clone, Copy)]
 struct Terms {
     connection: u64,
     clock: u64,
@@ -115,7 +115,7 @@ fn announce_one(s: &mut [u8], a: Terms, items: &[u8], priorities: &[u8], i: usiz
 }
 
 // Where a part of a batch ends, and how many of it wait.
-#[derive(Drop)]
+#[derive(Clone, Copy)]
 struct Part {
     next: usize,
     waiting: usize,

@@ -1,0 +1,26 @@
+use Rattle.store.proofs.Frame.{sizes}
+use Prim.Native.Nat.{◌-◌}
+use mathlib.Core.Path.{refl, sym, ◌∙◌}
+use native.Mathlib.Omega.{arith}
+use Rattle.announcing.specs.Evicts.{found}
+use Rattle.announcing.proofs.Scanning.{over_none, over_step}
+use Rattle.announcing.proofs.evict.greatest_in.Goals as goal
+
+pub loop-i-init : goal.loop-i-init
+loop-i-init c = (c.requires.1, λ f w. refl)
+
+pub row_at-r-requires : goal.row_at-r-requires
+row_at-r-requires c = (c.requires.0, omega arith)
+
+pub loop-i-preserved : goal.loop-i-preserved
+loop-i-preserved c = (
+  omega arith,
+  λ f w.
+      let z = sizes w in
+      over_step f.rows (found c.loop-i.v) c.row_at-r.result c.loop-i.i c.args.to
+      (omega arith) (omega (arith, c.requires.2)) c.greater-v.ensures (c.row_at-r.ensures f c.row_at-r.result w)
+      (c.loop-i.invariant.1 f w),
+)
+
+pub returns : goal.returns
+returns c = λ f w. sym (over_none f.rows (found c.loop-i.v) c.loop-i.i c.args.to (omega arith)) ∙ c.loop-i.invariant.1 f w

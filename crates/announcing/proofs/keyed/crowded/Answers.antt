@@ -1,0 +1,12 @@
+use mathlib.Core.Path.{ap}
+use native.Mathlib.Omega.{arith}
+use lib.Dec.{leb}
+use Rattle.machine.specs.State.{limits_of}
+use Rattle.requests.proofs.Keeping.{kept_shown}
+use Rattle.announcing.proofs.keyed.crowded.Goals as goal
+
+pub alternates-requires : goal.alternates-requires
+alternates-requires c = let z = (kept_shown c.requires).sizes in omega arith
+
+pub returns : goal.returns
+returns c = λ st s w. rw (c.alternates.ensures st s w) (ap (leb (limits_of st).alternates) (c.candidates_at.ensures st s w))

@@ -1,0 +1,136 @@
+-- `answering::answers::answer_line` meets its contract.
+use mathlib.Core.Path.{refl, sym, ap, ◌∙◌}
+use Rattle.asking.specs.Given.{asked_line}
+use Rattle.keeping.proofs.Stepping.{step_unread, step_keeps, step_is}
+use Rattle.answering.proofs.answers.answer_line.Goals as goal
+
+pub unreadable-requires : goal.unreadable-requires
+unreadable-requires c = c.requires.1
+
+pub answer_open-requires : goal.answer_open-requires
+answer_open-requires c = (
+  c.requires.0,
+  c.requires.1,
+)
+
+pub answer_sum-requires : goal.answer_sum-requires
+answer_sum-requires c = c.requires.1
+
+pub answer_leaving-requires : goal.answer_leaving-requires
+answer_leaving-requires c = c.requires.1
+
+pub answer_offers-requires : goal.answer_offers-requires
+answer_offers-requires c =
+    (c.requires.1, c.requires.2)
+
+pub answer_plan-requires : goal.answer_plan-requires
+answer_plan-requires c = (
+  c.requires.0,
+  c.requires.1,
+)
+
+pub answer_want-requires : goal.answer_want-requires
+answer_want-requires c = (
+  c.requires.0,
+  c.requires.1,
+  c.requires.2,
+)
+
+pub answer_missing-requires : goal.answer_missing-requires
+answer_missing-requires c =
+    (c.requires.1, c.requires.2)
+
+pub answer_take-requires : goal.answer_take-requires
+answer_take-requires c = (
+  c.requires.0,
+  c.requires.1,
+)
+
+pub answer_send-requires : goal.answer_send-requires
+answer_send-requires c = (
+  c.requires.0,
+  c.requires.1,
+  c.requires.2,
+)
+
+pub answer_part-requires : goal.answer_part-requires
+answer_part-requires c = (
+  c.requires.0,
+  c.requires.1,
+)
+
+pub answer_number-requires : goal.answer_number-requires
+answer_number-requires c = c.requires.1
+
+pub answer_keys-requires : goal.answer_keys-requires
+answer_keys-requires c = c.requires.1
+
+pub answer_hashes-requires : goal.answer_hashes-requires
+answer_hashes-requires c =
+    (c.requires.1, c.requires.2)
+
+pub returns-in-Unreadable : goal.returns-in-Unreadable
+returns-in-Unreadable c = step_unread c.requires.0 (sym (ap (asked_line _)
+    c.in-Unreadable.is) ∙ c.call_of-asked.ensures) refl c.unreadable.ensures
+
+pub returns-in-Opening : goal.returns-in-Opening
+returns-in-Opening c = step_is (sym (ap (asked_line _) c.in-Opening.is) ∙
+    c.call_of-asked.ensures)
+    c.answer_open.ensures
+
+pub returns-in-Summing : goal.returns-in-Summing
+returns-in-Summing c = step_keeps c.requires.0 (sym (ap (asked_line _)
+    c.in-Summing.is) ∙ c.call_of-asked.ensures) c.answer_sum.ensures
+
+pub returns-in-Leaving : goal.returns-in-Leaving
+returns-in-Leaving c = step_keeps c.requires.0
+    (sym (ap (asked_line _) c.in-Leaving.is) ∙
+    c.call_of-asked.ensures) c.answer_leaving.ensures
+
+pub returns-in-Offers : goal.returns-in-Offers
+returns-in-Offers c = step_keeps c.requires.0
+    (sym (ap (asked_line _) c.in-Offers.is) ∙
+    c.call_of-asked.ensures) c.answer_offers.ensures
+
+pub returns-in-Planning : goal.returns-in-Planning
+returns-in-Planning c = step_is (sym (ap (asked_line _) c.in-Planning.is) ∙
+    c.call_of-asked.ensures)
+    c.answer_plan.ensures
+
+pub returns-in-Wanting : goal.returns-in-Wanting
+returns-in-Wanting c = step_is (sym (ap (asked_line _) c.in-Wanting.is) ∙
+    c.call_of-asked.ensures)
+    c.answer_want.ensures
+
+pub returns-in-Missing : goal.returns-in-Missing
+returns-in-Missing c = step_keeps c.requires.0
+    (sym (ap (asked_line _) c.in-Missing.is) ∙
+    c.call_of-asked.ensures) c.answer_missing.ensures
+
+pub returns-in-Taking : goal.returns-in-Taking
+returns-in-Taking c = step_is (sym (ap (asked_line _) c.in-Taking.is) ∙
+    c.call_of-asked.ensures)
+    c.answer_take.ensures
+
+pub returns-in-Sending : goal.returns-in-Sending
+returns-in-Sending c = step_is (sym (ap (asked_line _) c.in-Sending.is) ∙
+    c.call_of-asked.ensures) c.answer_send.ensures
+
+pub returns-in-Parting : goal.returns-in-Parting
+returns-in-Parting c = step_is (sym (ap (asked_line _) c.in-Parting.is) ∙
+    c.call_of-asked.ensures) c.answer_part.ensures
+
+pub returns-in-Number : goal.returns-in-Number
+returns-in-Number c = step_keeps c.requires.0
+    (sym (ap (asked_line _) c.in-Number.is) ∙
+    c.call_of-asked.ensures) c.answer_number.ensures
+
+pub returns-in-Keys : goal.returns-in-Keys
+returns-in-Keys c = step_keeps c.requires.0
+    (sym (ap (asked_line _) c.in-Keys.is) ∙
+    c.call_of-asked.ensures) c.answer_keys.ensures
+
+pub returns-in-Hashes : goal.returns-in-Hashes
+returns-in-Hashes c = step_keeps c.requires.0
+    (sym (ap (asked_line _) c.in-Hashes.is) ∙
+    c.call_of-asked.ensures) c.answer_hashes.ensures

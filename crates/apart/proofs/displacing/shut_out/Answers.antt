@@ -1,0 +1,17 @@
+-- `apart::displacing::shut_out` meets its contract.
+use Prim.Native.Nat.{◌+◌}
+use mathlib.Core.Path.{sym, ◌∙◌}
+use native.Mathlib.Omega.{arith}
+use borrow.Author.Tests.{leb-true}
+use Rattle.machine.specs.Table.{held}
+use Rattle.machine.proofs.Tests.{never}
+use Rattle.apart.proofs.displacing.shut_out.Goals as goal
+
+pub returns-then-is_candidate : goal.returns-then-is_candidate
+returns-then-is_candidate c = record { new = λ e. never e; full = λ e. never e }
+
+pub returns : goal.returns
+returns c = record {
+  new = λ _ st s g. sym (c.is_candidate.ensures st s g) ∙ c.if-is_candidate.false;
+  full = λ e st s g. omega (arith, leb-true st.limit (held st.table + 0) (sym (c.full.ensures st s g) ∙ e));
+}

@@ -1,0 +1,38 @@
+-- `apart::joining::mark_parents` meets its contract.
+use Prim.Native.Nat.{◌-◌}
+use mathlib.Core.Path.{refl, ◌∙◌}
+use native.Mathlib.Omega.{arith}
+use Rattle.ident.proofs.Words.{hash-four, hash_below}
+use Rattle.apart.proofs.Alongside.{marking-starts, marking_kept, marking_goes, marking-ends}
+use Rattle.apart.proofs.joining.mark_parents.Goals as goal
+
+pub loop-j-init : goal.loop-j-init
+loop-j-init c = ((omega arith, c.requires.1), refl, marking-starts _ _ _ _)
+
+pub parent_of-h-requires : goal.parent_of-h-requires
+parent_of-h-requires c = (omega (arith, c.loop-j-test.true, c.requires.2), c.requires.3)
+
+pub mark-requires : goal.mark-requires
+mark-requires c = marking_kept c.loop-j.invariant.2 c.requires.0
+
+pub overflow_add-j : goal.overflow_add-j
+overflow_add-j c = omega (arith, c.loop-j-test.true)
+
+pub loop-j-smaller : goal.loop-j-smaller
+loop-j-smaller c = omega (arith, c.loop-j-test.true)
+
+pub loop-j-preserved : goal.loop-j-preserved
+loop-j-preserved c = (
+  (omega (arith, c.loop-j.invariant.0), omega (arith, c.loop-j-test.true)),
+  c.mark.auto.0 ∙ c.loop-j.invariant.1,
+  marking_goes c.loop-j.invariant.2
+      c.loop-j-test.true (hash_below c.parent_of-h.result
+      (hash-four c.parent_of-h.result c.parent_of-h.type-inv))
+      c.parent_of-h.ensures c.txid_key.ensures c.mark.ensures,
+)
+
+pub shape_of-s : goal.shape_of-s
+shape_of-s c = c.loop-j.invariant.1
+
+pub returns : goal.returns
+returns c = marking-ends c.loop-j.invariant.2 (omega (arith, c.loop-j.invariant.0, c.loop-j-test.false))

@@ -1,0 +1,18 @@
+-- `apart::joining::wait_with` meets its contract.
+use mathlib.Core.Path.{refl}
+use native.Mathlib.Omega.{arith}
+use Rattle.ident.proofs.Words.{hash-four, hash_below}
+use Rattle.machine.proofs.Tests.{never}
+use Rattle.apart.proofs.Alongside.{waits_with}
+use Rattle.apart.proofs.joining.wait_with.Goals as goal
+
+pub returns-then-not-together : goal.returns-then-not-together
+returns-then-not-together c = record { joins = λ e. never e; alone = λ _. refl }
+
+pub returns : goal.returns
+returns c =
+    waits_with (record { positive = c.requires.1; small = omega arith })
+    (omega arith) (omega (arith, c.requires.3))
+    c.requires.2 (hash_below c.parent_of-h.result
+    (hash-four c.parent_of-h.result c.parent_of-h.type-inv))
+    c.parent_of-h.ensures c.offered-c.ensures c.set_aside.ensures

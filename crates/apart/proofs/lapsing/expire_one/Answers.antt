@@ -1,0 +1,65 @@
+-- `apart::lapsing::expire_one` meets its contract.
+use Prim.Native.Nat.{◌<◌}
+use mathlib.Core.Path.{refl}
+use native.Mathlib.Omega.{arith}
+use Rattle.ident.specs.Words.{key_num}
+use Rattle.ident.proofs.Words.{key-four, hash_below}
+use Rattle.machine.specs.Limits.{word}
+use Rattle.apart.proofs.OneOwner.{all_room, lent_kept, found_held, found_few, found_inside, expired-without, expired_with}
+use Rattle.apart.proofs.Forgetting.{room_within}
+use borrow.Author.Rules.{rules}
+use Rattle.apart.proofs.lapsing.expire_one.Goals as goal
+
+pub failed-requires : goal.failed-requires
+failed-requires c = lent_kept c.requires.0.apart
+
+pub returns-then-p-eq0 : goal.returns-then-p-eq0
+returns-then-p-eq0 c = record {
+  most = λ l. l;
+  goes = λ st xs o n own.
+      let late : c.args.clock < word = omega arith in
+      expired-without o (key_num c.args.k) c.args.n c.args.clock late (hash_below c.args.k.hash (key-four c.args.k c.well-formed.1.1.1.1.0)) own
+      (c.find-p.ensures.none st.places xs n o.slots o.ascend (omega (arith, c.if-p-eq0.true))) c.failed.auto.0 c.failed.ensures (search rules) refl c.requires.2;
+}
+
+pub expire_place-r-requires : goal.expire_place-r-requires
+expire_place-r-requires c = let x = c.requires.0 in (
+  record {
+    state = x.state;
+    places = x.places;
+    apart = x.apart;
+    held = found_held x c.find-p.ensures (omega (arith, c.if-p-eq0.false));
+    some_stage = omega (arith, c.if-p-eq0.false);
+    some_peer = c.requires.1;
+  },
+  c.requires.2,
+)
+
+pub set_note-requires : goal.set_note-requires
+set_note-requires c = let x = c.requires.0 in room_within
+    (found_inside x c.find-p.ensures (omega (
+      arith,
+      c.if-p-eq0.false,
+    ))) (all_room x.apart (omega (arith, x.count)))
+    c.expire_place-r.auto.0 c.expire_place-r.auto.1.1.0
+
+pub overflow_add-result : goal.overflow_add-result
+overflow_add-result c = let y = found_few c.requires.0 c.find-p.ensures (omega (
+  arith,
+  c.if-p-eq0.false,
+)) in omega (arith, y)
+
+pub returns : goal.returns
+returns c = record {
+  most = λ l. let y = found_inside c.requires.0 c.find-p.ensures (omega (
+    arith,
+    c.if-p-eq0.false,
+  )) in omega (arith, y);
+  goes = λ st xs o n own.
+      let h = c.find-p.ensures.held st.places xs n o.slots
+      o.ascend (omega (arith, c.if-p-eq0.false)) in
+      expired_with o h (c.expire_place-r.ensures st xs o h (omega (
+        arith,
+        c.if-p-eq0.false,
+      )) own) c.set_note.ensures c.set_note.auto.0 c.set_note.auto.1.1.0;
+}

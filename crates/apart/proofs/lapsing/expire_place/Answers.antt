@@ -1,0 +1,46 @@
+-- `apart::lapsing::expire_place` meets its contract.
+use Prim.Native.Nat.{◌<◌}
+use mathlib.Core.Path.{refl}
+use native.Mathlib.Omega.{arith}
+use Rattle.ident.proofs.Words.{key-four, hash_below}
+use Rattle.machine.specs.Limits.{word}
+use Rattle.apart.specs.Lapsing.{nowhere}
+use Rattle.apart.proofs.SlotWords.{plain-long}
+use Rattle.apart.proofs.Overdue.{place-expired}
+use Rattle.apart.proofs.OneOwner.{front_kept, place-room, lapsed_kept, few_parents, lapsed-spent}
+use borrow.Author.Rules.{rules}
+use Rattle.apart.proofs.lapsing.expire_place.Goals as goal
+
+pub load-requires : goal.load-requires
+load-requires c = let x = c.requires.0 in (place-room x.apart x.held.inside, search rules)
+
+pub lapse-requires : goal.lapse-requires
+lapse-requires c = (
+  place-room c.requires.0.apart
+      c.requires.0.held.inside,
+  front_kept c.requires.0.apart,
+)
+
+pub announce_all-requires : goal.announce_all-requires
+announce_all-requires c = let x = c.requires.0 in let
+    late : c.args.clock < word = omega arith in (
+      lapsed_kept x.apart x.held x.some_stage late (hash_below c.args.k.hash (key-four c.args.k c.well-formed.1.1.1.1.0))
+          (c.lapse.ensures x.state x.places x.apart x.held x.some_stage),
+      x.some_peer,
+      few_parents x.apart x.held,
+      search rules,
+      lapsed-spent x.apart late (hash_below c.args.k.hash (key-four c.args.k
+          c.well-formed.1.1.1.1.0))
+          (c.lapse.ensures x.state x.places x.apart x.held x.some_stage)
+          c.requires.1,
+    )
+
+pub returns : goal.returns
+returns c = λ st xs o h z own. let late : c.args.clock < word = omega arith in place-expired o h z c.args.n c.args.clock late (hash_below c.args.k.hash (key-four c.args.k c.well-formed.1.1.1.1.0)) own (c.lapse.ensures st xs o h
+    z) _ (c.load.ensures st.places xs nowhere (omega (
+      arith,
+      h.inside,
+      plain-long
+          xs,
+    )) o.slots)
+    (search rules) c.announce_all.auto.0 c.announce_all.ensures (search rules) (search rules) refl

@@ -1,0 +1,24 @@
+-- `apart::set_apart` meets its contract.
+use mathlib.Core.Path.{refl, ap, ◌∙◌}
+use native.Mathlib.Omega.{arith}
+use Rattle.store.proofs.Frame.{sizes}
+use Rattle.apart.specs.Apart.{bare_bytes}
+use Rattle.apart.proofs.Parting.{set_out, room-enough}
+use borrow.Author.Rules.{rules}
+use Rattle.apart.proofs.set_apart.Goals as goal
+
+pub slice_bounds-copy_slot-end : goal.slice_bounds-copy_slot-end
+slice_bounds-copy_slot-end c = let l = room-enough c.requires.0 c.requires.1 in omega (arith, l)
+
+pub slice_bounds-clear-end : goal.slice_bounds-clear-end
+slice_bounds-clear-end c = let l = room-enough c.requires.0 c.requires.1 in omega (arith, l)
+
+pub put-requires : goal.put-requires
+put-requires c = let l = room-enough c.requires.0 c.requires.1 in search rules
+
+pub put-requires-2 : goal.put-requires-2
+put-requires-2 c = let l = room-enough c.requires.0
+    c.requires.1 in search rules
+
+pub returns : goal.returns
+returns c = λ st s o. set_out c.args.s.now st s o (c.requires.1 ∙ ap bare_bytes (sizes o).limit) refl _ c.copy_slot.ensures c.clear.auto.0 c.clear.ensures refl (search rules) c.put.ensures.word c.put-2.ensures.word

@@ -1,0 +1,53 @@
+-- `apart::silent::drop_due` meets its contract.
+use Prim.Native.Nat.{◌-◌}
+use mathlib.Core.Path.{◌∙◌}
+use native.Mathlib.Omega.{arith}
+use Rattle.store.proofs.Frame.{sizes}
+use Rattle.announcing.proofs.DroppingRows.{dropping_none, dropping_rows, dropping_shown, dropping_more, dropping_end}
+use Rattle.apart.specs.Silent.{is_due}
+use Rattle.apart.proofs.DroppedTables.{dropped-writes}
+use Rattle.apart.proofs.silent.drop_due.Goals as goal
+
+pub rows-n-requires : goal.rows-n-requires
+rows-n-requires c = omega (arith, sizes c.requires.writes)
+
+pub loop-i-init : goal.loop-i-init
+loop-i-init c = dropping_none _ (is_due c.args.clock)
+
+pub drop_row-m-requires : goal.drop_row-m-requires
+drop_row-m-requires c = (
+  dropping_shown c.loop-i.invariant c.requires,
+  c.loop-i.invariant.less,
+  omega (
+    arith,
+    dropping_rows c.loop-i.invariant c.requires,
+    c.loop-i-test.true,
+    c.rows-n.ensures.word,
+  ),
+)
+
+pub overflow_add-i : goal.overflow_add-i
+overflow_add-i c = omega (arith, c.loop-i-test.true)
+
+pub loop-i-smaller : goal.loop-i-smaller
+loop-i-smaller c = omega (arith, c.loop-i-test.true)
+
+pub loop-i-preserved : goal.loop-i-preserved
+loop-i-preserved c = dropping_more c.loop-i.invariant
+    (omega (arith, c.rows-n.ensures.word, c.loop-i-test.true)) c.drop_row-m.auto.0
+    c.drop_row-m.ensures
+
+pub drop_rows-requires : goal.drop_rows-requires
+drop_rows-requires c = (
+  dropping_shown c.loop-i.invariant c.requires,
+  omega (arith, c.loop-i.invariant.less, c.loop-i.invariant.most, c.rows-n.ensures.word),
+  omega (arith, dropping_rows c.loop-i.invariant c.requires, c.rows-n.ensures.word),
+)
+
+pub shape_of-s : goal.shape_of-s
+shape_of-s c = c.drop_rows.auto.0 ∙ c.loop-i.invariant.size
+
+pub returns : goal.returns
+returns c = λ st s w p. dropped-writes c.args.clock st s p
+    (dropping_end c.loop-i.invariant c.rows-n.ensures.word
+    (omega (arith, c.loop-i-test.false)) c.drop_rows.ensures st s w)

@@ -1,0 +1,35 @@
+-- `apart::slots::forget` meets its contract.
+use Prim.Native.Nat.{◌-◌}
+use mathlib.Core.Path.{refl, ◌∙◌}
+use native.Mathlib.Omega.{arith}
+use Rattle.apart.proofs.Forgetting.{forgetting_starts, forgetting_goes, forgetting_ends, room_within}
+use Rattle.apart.proofs.slots.forget.Goals as goal
+
+pub loop-i-init : goal.loop-i-init
+loop-i-init c = (omega arith, refl, refl, forgetting_starts)
+
+pub set_note-requires : goal.set_note-requires
+set_note-requires c = room_within c.loop-i-test.true c.requires c.loop-i.invariant.1 c.loop-i.invariant.2
+
+pub overflow_add-i : goal.overflow_add-i
+overflow_add-i c = omega (arith, c.loop-i-test.true)
+
+pub loop-i-smaller : goal.loop-i-smaller
+loop-i-smaller c = omega (arith, c.loop-i-test.true)
+
+pub loop-i-preserved : goal.loop-i-preserved
+loop-i-preserved c = (
+  omega (arith, c.loop-i-test.true),
+  c.set_note.auto.0 ∙ c.loop-i.invariant.1,
+  c.set_note.auto.1.1.0 ∙ c.loop-i.invariant.2,
+  forgetting_goes c.loop-i.invariant.3 c.set_note.ensures,
+)
+
+pub shape_of-s : goal.shape_of-s
+shape_of-s c = c.loop-i.invariant.1
+
+pub shape_of-first : goal.shape_of-first
+shape_of-first c = c.loop-i.invariant.2
+
+pub returns : goal.returns
+returns c = forgetting_ends (omega (arith, c.loop-i.invariant.0, c.loop-i-test.false)) c.loop-i.invariant.3

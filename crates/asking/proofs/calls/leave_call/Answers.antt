@@ -1,0 +1,14 @@
+-- `asking::calls::leave_call` meets its contract.
+use Rattle.machine.specs.Call.{On}
+use Rattle.reading.specs.Line.{Asks}
+use Rattle.reading.proofs.Filling.{line_not, line_is}
+use Rattle.asking.specs.Calls.{leave_ask, leave_call}
+use Rattle.asking.proofs.calls.leave_call.Goals as goal
+
+pub returns-in_default : goal.returns-in_default
+unfolding leave_call
+returns-in_default c = line_not c.read_whole.ensures (λ v. Asks (On (leave_ask v))) c.in_default.is
+
+pub returns : goal.returns
+unfolding leave_call
+returns c = line_is c.read_whole.ensures (λ v. Asks (On (leave_ask v))) c.in-Is.is

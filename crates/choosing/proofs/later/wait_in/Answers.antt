@@ -1,0 +1,30 @@
+-- `choosing::later::wait_in` meets its contract.
+use Prim.Native.Nat.{◌-◌}
+use native.Mathlib.Omega.{arith}
+use Rattle.store.proofs.Frame.{sizes}
+use Rattle.choosing.proofs.Waiting.{waits_none, waits-row, waits-ready, waits_till}
+use Rattle.choosing.proofs.later.wait_in.Goals as goal
+
+pub loop-i-init : goal.loop-i-init
+loop-i-init c = (c.requires.1, omega arith, λ f w. waits_none c.args.clock f.rows c.args.to c.args.to (omega arith))
+
+pub row_at-r-requires : goal.row_at-r-requires
+row_at-r-requires c = (c.requires.0, omega (arith, c.requires.2))
+
+pub loop-i-preserved : goal.loop-i-preserved
+loop-i-preserved c = (
+  omega arith,
+  omega arith,
+  λ f w.
+      let z = sizes w in
+      waits-row c.args.clock f.rows c.args.to
+      c.row_at-r.result (c.loop-i.i - 1) (omega arith) (omega arith)
+      (omega (arith, c.requires.2)) (c.row_at-r.ensures f c.row_at-r.result w)
+      (c.loop-i.invariant.2 f w) c.later.ensures c.earlier-w.ensures,
+)
+
+pub returns-then-any : goal.returns-then-any
+returns-then-any c = λ f w. waits-ready f.rows c.args.to (c.loop-i.invariant.2 f w) (omega arith) c.if-any.true
+
+pub returns-else-any : goal.returns-else-any
+returns-else-any c = λ f w. waits_till f.rows c.args.to (c.loop-i.invariant.2 f w) (omega arith) c.if-any.false

@@ -1,0 +1,55 @@
+-- `choosing::least_in` meets its contract.
+use Prim.Native.Nat.{ℕ, ◌-◌}
+use mathlib.Core.Path.{◌≡◌, ap, ◌∙◌}
+use mathlib.Core.List.{[]}
+use mathlib.Core.Option.{none}
+use native.Mathlib.Omega.{arith}
+use Rattle.machine.specs.Plan as machine
+use Rattle.store.specs.Flat.{flat_of, rows_of}
+use Rattle.store.proofs.Frame.{sizes}
+use Rattle.requests.proofs.Keeping.{kept_shown}
+use Rattle.announcing.specs.Evicts.{part}
+use Rattle.choosing.specs.Choosing.{least_rows}
+use Rattle.choosing.proofs.Scanned.{is_none, found_none, least_none, least_step}
+use Rattle.choosing.proofs.least_in.Goals as goal
+
+pub loop-i-init : goal.loop-i-init
+loop-i-init c = (
+  c.requires.1,
+  omega arith,
+  λ st s w. is_none c.nothing-v.result.row c.nothing-v.result.some c.nothing-v.ensures.0 ∙ least_none (rows_of st.table)
+      (machine.able c.args.clock st.table []) c.args.to c.args.to (omega arith),
+  λ f w. found_none f.rows c.nothing-v.result c.nothing-v.ensures.0,
+)
+
+pub row_at-r-requires : goal.row_at-r-requires
+row_at-r-requires c = (kept_shown c.requires.0, omega arith)
+
+pub with_row-v-requires : goal.with_row-v-requires
+with_row-v-requires c = c.requires.0
+
+pub loop-i-preserved : goal.loop-i-preserved
+loop-i-preserved c = (
+  omega arith,
+  omega arith,
+  λ st s w.
+      let z = sizes w in
+      least_step (rows_of st.table) (machine.able c.args.clock st.table []) c.row_at-r.result
+      (c.loop-i.i - 1) c.args.to (omega arith) (omega arith)
+      (omega (arith, c.requires.2)) (c.with_row-v.ensures.is st s w) (c.row_at-r.ensures (flat_of st) c.row_at-r.result w)
+      (c.loop-i.invariant.2 st s w),
+  λ f w.
+      let z = sizes w in
+      c.with_row-v.ensures.found f.rows
+      (record {
+        inside = omega (arith, c.requires.2);
+        row_is = λ d. c.row_at-r.ensures f d w;
+      }) (c.loop-i.invariant.3 f w),
+)
+
+pub returns : goal.returns
+returns c = record {
+  is = λ st s w. let e : c.loop-i.i ≡ c.args.from = omega arith in c.loop-i.invariant.2 st s w ∙ ap
+      (λ (i : ℕ). least_rows (machine.able c.args.clock st.table []) (part i c.args.to (rows_of st.table))) e;
+  found = c.loop-i.invariant.3;
+}

@@ -1,0 +1,61 @@
+use mathlib.Core.Path.{refl, ap}
+use native.Mathlib.Omega.{arith}
+use Rattle.ident.specs.Number.{Key, wtxid}
+use Rattle.ident.specs.Words.{hash_num, key_num}
+use Rattle.machine.specs.State.{limits_of}
+use Rattle.machine.specs.Package.{failed_with_parents}
+use Rattle.claims.proofs.Listing.{listed_on, nothing_on, same_on, fails-nothing, fails_few, not_owner, the-owner, part_room}
+use Rattle.claims.proofs.waiting.fail_claim.Goals as goal
+
+pub returns-then-q-n : goal.returns-then-q-n
+returns-then-q-n c = nothing_on _ c.args.c
+    (λ m t. failed_with_parents m (wtxid (hash_num c.args.h))
+    c.args.n c.args.clock t) (λ st s w. fails-nothing
+    (limits_of st) (wtxid (hash_num c.args.h)) c.args.n
+    c.args.clock st.table (not_owner st.table c.wtxid_key-k.ensures
+    (c.request_at-q.ensures.is st s w) c.requires.1 c.if-q-n.true))
+
+pub failed_with_parents-r-requires : goal.failed_with_parents-r-requires
+failed_with_parents-r-requires c = (
+  c.requires.0,
+  c.requires.1,
+  part_room c.args.out.now
+      c.args.c _ _ refl refl (c.requires.3
+      c.requires.0.state c.requires.0.sound
+      c.requires.0.writes (the-owner _ c.wtxid_key-k.ensures
+      (c.request_at-q.ensures.is c.requires.0.state
+      c.requires.0.sound c.requires.0.writes)
+      c.requires.1 c.if-q-n.false)),
+)
+
+pub overflow_add-result : goal.overflow_add-result
+overflow_add-result c = omega (
+  arith,
+  c.requires.4,
+  c.failed_with_parents-r.ensures.count
+      c.requires.0.state
+      c.requires.0.sound
+      c.requires.0.writes,
+  fails_few (limits_of c.requires.0.state) (key_num
+      c.wtxid_key-k.result)
+      c.args.n
+      c.args.clock
+      c.requires.0.state
+      c.requires.0.sound,
+)
+
+pub returns : goal.returns
+returns c = same_on (λ m t. failed_with_parents m (key_num c.wtxid_key-k.result)
+    c.args.n
+    c.args.clock t)
+    (λ m t. failed_with_parents m (wtxid (hash_num c.args.h))
+    c.args.n
+    c.args.clock t)
+    (λ m t. ap (λ (k : Key). failed_with_parents m k c.args.n
+    c.args.clock t)
+    c.wtxid_key-k.ensures)
+    (listed_on _ c.args.c _ _ refl refl
+    (λ m t. failed_with_parents m (key_num c.wtxid_key-k.result)
+    c.args.n
+    c.args.clock t)
+    c.failed_with_parents-r.ensures)

@@ -1,0 +1,14 @@
+use mathlib.Core.Path.{refl}
+use native.Mathlib.Omega.{arith}
+use Rattle.claims.proofs.Gathering.{claims-lent}
+use Rattle.claims.proofs.waiting.fail_claims.Goals as goal
+
+pub fail_given-requires : goal.fail_given-requires
+fail_given-requires c = (
+  c.requires.0,
+  c.requires.1,
+  c.requires.2,
+  claims-lent _ _ c.claims_of-m.result _ refl
+      c.claims_of-m.ensures (omega (arith, c.claims_of-m.auto))
+      (omega (arith, c.claims_of-m.auto)),
+)

@@ -1,0 +1,66 @@
+use Prim.Native.Nat.{◌-◌, ◌<◌}
+use mathlib.Core.Path.{ap}
+use native.Mathlib.Omega.{arith}
+use lib.ListN.{length}
+use Rattle.ident.specs.Words.{hash_num}
+use Rattle.machine.specs.Limits.{word}
+use Rattle.machine.proofs.Fail.{Peer}
+use Rattle.claims.specs.Awaited.{entries_in, given_in, hash_found}
+use Rattle.claims.proofs.Naming.{somes_given}
+use Rattle.claims.proofs.Listing.{failed_none, failed_kept, failed-fits, failed_few, failed-room, failed_more, same_many, failed_done}
+use Rattle.claims.proofs.waiting.fail_given.Goals as goal
+
+pub loop-i-init : goal.loop-i-init
+loop-i-init c = failed_none _ _ c.args.n c.args.clock
+    (entries_in c.args.items c.args.given.now)
+
+pub entry_at-g-requires : goal.entry_at-g-requires
+entry_at-g-requires c = omega (arith, c.entries-count.ensures, c.loop-i-test.true)
+
+pub fail_entry-c-requires : goal.fail_entry-c-requires
+fail_entry-c-requires c =
+    let start : tie.Start invariant-loop decreases-loop = c in
+    let a = start.args in
+    let peer : Peer a.n = record { positive = start.requires.1; small = omega arith } in
+    let late : a.clock < word = omega arith in
+    let v = c.loop-i.invariant in
+    let inside : c.loop-i.i < length (entries_in a.items a.given.now) =
+    omega (arith, c.entries-count.ensures, c.loop-i-test.true) in
+    let given = somes_given a.items a.given.now in
+    let kept = start.requires.0 in (
+      failed_kept v peer late kept,
+      start.requires.1,
+      failed-fits v peer late kept (ap length given) start.requires.2,
+      same_many (start.requires.3 kept.state kept.sound kept.writes),
+      failed-room v peer late kept (ap length given) start.requires.2 (hash_found c.entry_at-g.result.held (hash_num c.entry_at-g.result.hash)) inside
+          c.entry_at-g.ensures start.requires.3,
+      failed_few v peer late kept,
+    )
+
+pub loop-i-preserved : goal.loop-i-preserved
+loop-i-preserved c =
+    let start : tie.Start invariant-loop decreases-loop = c in
+    let a = start.args in
+    let peer : Peer a.n = record { positive = start.requires.1; small = omega arith } in
+    let late : a.clock < word = omega arith in
+    let v = c.loop-i.invariant in
+    let inside : c.loop-i.i < length (entries_in a.items a.given.now) = omega (
+      arith,
+      c.entries-count.ensures,
+      c.loop-i-test.true,
+    ) in
+    failed_more v peer late (hash_found c.entry_at-g.result.held
+    (hash_num c.entry_at-g.result.hash)) inside c.entry_at-g.ensures
+    start.requires.3 (omega (arith, c.fail_entry-c.auto)) (omega (arith, c.fail_entry-c.auto))
+    c.fail_entry-c.ensures
+
+pub shape_of-s : goal.shape_of-s
+shape_of-s c = c.loop-i.invariant.size
+
+pub shape_of-out : goal.shape_of-out
+shape_of-out c = c.loop-i.invariant.long
+
+pub returns : goal.returns
+returns c = failed_done (given_in c.args.items
+    c.args.given.now) c.loop-i.invariant (omega (arith, c.entries-count.ensures, c.loop-i-test.false))
+    (somes_given c.args.items c.args.given.now)

@@ -1,0 +1,11 @@
+use Prim.Native.Nat.{◌-◌}
+use Rattle.ident.specs.Words.{hash_num}
+use Rattle.lent_lists.specs.Lists.{hashes_in}
+use Rattle.claims.proofs.LastOnes.{NoneFrom}
+use Rattle.claims.proofs.waiting.latest.Given as goal
+
+abbrev pub invariant-loop-j : goal.invariant-loop-j
+invariant-loop-j l = NoneFrom (hash_num l.c) (hashes_in l.keys) (hashes_in l.sums) l.j
+
+abbrev pub decreases-loop-j : goal.decreases-loop-j
+decreases-loop-j l = l.j

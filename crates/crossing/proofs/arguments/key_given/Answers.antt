@@ -1,0 +1,5 @@
+-- `crossing::arguments::key_given` meets its contract.
+use Rattle.crossing.proofs.arguments.key_given.Goals as goal
+
+pub returns : goal.returns
+returns c = rw (c.kind_given-kind.ensures, c.hash_from_bytes-hash.ensures)

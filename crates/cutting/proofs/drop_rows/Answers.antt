@@ -1,0 +1,27 @@
+use native.Mathlib.Omega.{arith}
+use mathlib.Core.Path.{sym}
+use Rattle.store.proofs.Frame.{rows-lent, rows_back, rows-counted}
+use Rattle.package_stages.specs.Dead.{filter}
+use Rattle.cutting.specs.Cuts.{stays}
+use borrow.Author.Rules.{rules}
+use Rattle.cutting.proofs.drop_rows.Goals as goal
+
+pub returns : goal.returns
+returns c =
+    let p = c.args.p in
+    let q = stays p.conn p.from p.to in
+    record {
+      gone = λ f h.
+          let n = c.rows-n.ensures.field f h in
+          let m = c.compact-m.ensures.count f.head.limit f.rows (sym n)
+          (rows-lent h (c.limit.ensures.field f h)) in
+          omega (arith, c.compact-m.ensures.most);
+      rows = λ f h.
+          let lim = c.limit.ensures.field f h in
+          let n = c.rows-n.ensures.field f h in
+          let held = rows-lent h lim in
+          let m = c.compact-m.ensures.count f.head.limit f.rows (sym n) held in
+          rows-counted h (search rules) (filter q f.rows) c.compact-m.result
+          (sym m) (rows_back h lim _ _ c.compact-m.auto.0
+          (c.compact-m.ensures.region f.head.limit f.rows (sym n) held)) c.put.ensures.word;
+    }

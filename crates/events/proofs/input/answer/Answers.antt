@@ -1,0 +1,55 @@
+-- `events::input::answer` meets its contract: the text, and a line feed.
+use native.Mathlib.Omega.{arith}
+use lib.ListN.{length-set, length-take}
+use Rattle.printing.proofs.Lines.{room_of}
+use Rattle.events.proofs.Bytewise.{fed}
+use Rattle.events.proofs.input.answer.Goals as goal
+
+pub print-n-requires : goal.print-n-requires
+print-n-requires c = (
+  c.requires.0,
+  c.requires.1,
+  c.requires.2,
+)
+
+pub bounds-out-n : goal.bounds-out-n
+bounds-out-n c = omega (
+  arith,
+  c.requires.1,
+  room_of c.print-n.ensures.answered,
+  c.print-n.auto,
+)
+
+pub overflow_add-end : goal.overflow_add-end
+overflow_add-end c = omega (
+  arith,
+  c.requires.1,
+  room_of c.print-n.ensures.answered,
+)
+
+pub slice_bounds-write_all-end : goal.slice_bounds-write_all-end
+slice_bounds-write_all-end c = simp length-set (omega (
+  arith,
+  c.requires.1,
+  room_of c.print-n.ensures.answered,
+  c.print-n.auto,
+))
+
+pub slice_bounds-write_all-end-2 : goal.slice_bounds-write_all-end-2
+slice_bounds-write_all-end-2 c = simp (length-take, length-set)
+    (omega (
+      arith,
+      c.requires.1,
+      room_of c.print-n.ensures.answered,
+      c.print-n.auto,
+    ))
+
+pub returns : goal.returns
+returns c = fed c.print-n.ensures
+    (omega (
+      arith,
+      c.requires.1,
+      room_of
+          c.print-n.ensures.answered,
+      c.print-n.auto,
+    )) (omega arith)

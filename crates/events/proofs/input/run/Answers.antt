@@ -1,0 +1,65 @@
+-- `events::input::run` meets its contract: nothing is kept, all bytes are read, and the last line.
+use native.Mathlib.Omega.{arith}
+use Rattle.events.proofs.Bytewise.{ran}
+use Rattle.events.proofs.input.run.Goals as goal
+
+pub read_lines-last-requires : goal.read_lines-last-requires
+read_lines-last-requires c = (
+  c.empty.ensures.order,
+  c.empty.ensures.none,
+  c.requires.1,
+  c.requires.2,
+)
+
+pub end-requires : goal.end-requires
+end-requires c = (
+  c.read_lines-last.ensures.0.0,
+  omega (
+    arith,
+    c.requires.1,
+    c.read_lines-last.auto,
+  ),
+  omega (
+    arith,
+    c.requires.2,
+    c.read_lines-last.auto,
+  ),
+  c.read_lines-last.ensures.0.1,
+)
+
+pub shape_of-store : goal.shape_of-store
+shape_of-store c = omega (
+  arith,
+  c.end.auto,
+  c.read_lines-last.auto,
+  c.empty.auto,
+)
+
+pub shape_of-lists : goal.shape_of-lists
+shape_of-lists c = omega (
+  arith,
+  c.end.auto,
+  c.read_lines-last.auto,
+  c.empty.auto,
+)
+
+pub shape_of-line : goal.shape_of-line
+shape_of-line c = omega (
+  arith,
+  c.end.auto,
+  c.read_lines-last.auto,
+  c.empty.auto,
+)
+
+pub shape_of-out : goal.shape_of-out
+shape_of-out c = omega (
+  arith,
+  c.end.auto,
+  c.read_lines-last.auto,
+  c.empty.auto,
+)
+
+pub returns : goal.returns
+returns c = let t =
+    c.read_lines-last.ensures.1 in
+    ran t (c.end.ensures t.all.next t.all.held)

@@ -1,0 +1,8 @@
+-- `exports::plans::tracker_plan` meets its contract: the public call's, its reply said by the numbers handed out.
+use Rattle.crossing.proofs.Statuses.{hands-plan}
+use Rattle.exports.proofs.plans.tracker_plan.Goals as goal
+
+pub returns : goal.returns
+returns c =
+    hands-plan c.plan-p.result _ _ _
+    c.plan-p.ensures c.hand_plan.ensures

@@ -1,0 +1,63 @@
+use Prim.Native.Nat.{◌<◌}
+use native.Mathlib.Omega.{arith}
+use mathlib.Core.Path.{refl}
+use borrow.Author.Tests.{not-true, not-false}
+use Rattle.ident.specs.Words.{key_num}
+use Rattle.ident.proofs.Words.{key-four, hash_below}
+use Rattle.machine.specs.Limits.{word}
+use Rattle.failing.proofs.Handing.{nothing-handed, failed_kept, few_first, room_first, first_are, handed}
+use Rattle.failing.proofs.failed_with_parents.Goals as goal
+
+pub returns-then-not-failed : goal.returns-then-not-failed
+returns-then-not-failed c = nothing-handed (key_num c.args.k)
+    c.args.n
+    c.args.clock
+    c.args.out.now (not-true c.failed.result c.if-not-failed.true-raw)
+    c.failed.ensures
+
+pub announce_behind-requires : goal.announce_behind-requires
+announce_behind-requires c =
+    let v : c.args.clock < word =
+    omega (arith, c.well-formed.1.1.1.0) in (
+      failed_kept (key_num c.args.k)
+          (hash_below c.args.k.hash
+          (key-four c.args.k
+          c.well-formed.1.0))
+          c.args.n
+          c.args.clock v
+          (not-false c.failed.result c.if-not-failed.false-raw)
+          c.failed.ensures
+          c.requires.0,
+      c.requires.1,
+      few_first _ c.parents_for-m.result _ refl
+          c.parents_for-m.ensures.0
+          (omega (arith, c.parents_for-m.auto)),
+      room_first _ c.parents_for-m.result _ refl
+          c.parents_for-m.ensures.0
+          (omega (arith, c.parents_for-m.auto))
+          c.args.out.now
+          c.requires.2,
+    )
+
+pub returns : goal.returns
+returns c =
+    let v : c.args.clock < word =
+    omega (
+      arith,
+      c.well-formed.1.1.1.0,
+    ) in
+    handed (key_num c.args.k)
+    (hash_below
+    c.args.k.hash
+    (key-four c.args.k
+    c.well-formed.1.0))
+    c.args.n
+    c.args.clock v
+    (not-false c.failed.result
+    c.if-not-failed.false-raw)
+    c.failed.ensures _
+    (λ st s w. first_are _ c.parents_for-m.result _ refl
+    c.parents_for-m.ensures.0
+    (omega (arith, c.parents_for-m.auto)) _
+    (c.parents_for-m.ensures.1 st s w))
+    c.announce_behind.ensures

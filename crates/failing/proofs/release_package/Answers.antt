@@ -1,0 +1,72 @@
+use Prim.Native.Nat.{◌<◌}
+use native.Mathlib.Omega.{arith}
+use mathlib.Core.Path.{refl, sym, ◌∙◌}
+use borrow.Author.Tests.{not-true, not-false}
+use Rattle.ident.specs.Words.{hash_num, key_num}
+use Rattle.ident.proofs.Words.{key-four, hash_below}
+use Rattle.machine.specs.Limits.{word}
+use Rattle.machine.specs.Table.{at}
+use Rattle.failing.proofs.Handing.{few_first, room_first, first_are}
+use Rattle.failing.proofs.Enqueued.{enqueued-owner, nothing_released, released_kept, released_handed}
+use Rattle.failing.proofs.release_package.Goals as goal
+
+pub returns-then-not-enqueued_by : goal.returns-then-not-enqueued_by
+returns-then-not-enqueued_by c = nothing_released (key_num c.wtxid_key-k.result) (hash_num c.args.subject.0)
+    c.args.n c.args.clock
+    c.args.out.now c.wtxid_key-k.ensures
+    (λ st s w. sym (c.enqueued_by.ensures st s w) ∙ not-true c.enqueued_by.result c.if-not-enqueued_by.true-raw)
+
+pub leave_both-requires : goal.leave_both-requires
+leave_both-requires c = (
+  c.requires.0,
+  λ st s w. enqueued-owner c.args.n (at (key_num
+      c.wtxid_key-k.result) st.table) (sym (c.enqueued_by.ensures st s w) ∙
+      not-false c.enqueued_by.result c.if-not-enqueued_by.false-raw),
+)
+
+pub announce_behind-requires : goal.announce_behind-requires
+announce_behind-requires c =
+    let v : c.args.clock < word =
+    omega (arith, c.well-formed.1.1.1.0) in (
+      released_kept (key_num c.wtxid_key-k.result)
+          (hash_below c.wtxid_key-k.result.hash
+          (key-four c.wtxid_key-k.result
+          c.wtxid_key-k.type-inv))
+          c.args.n
+          c.args.clock v
+          c.leave_both.ensures
+          c.requires.0,
+      c.requires.1,
+      few_first _ c.parents_for-m.result _ refl
+          c.parents_for-m.ensures.0
+          (omega (arith, c.parents_for-m.auto)),
+      room_first _ c.parents_for-m.result _ refl
+          c.parents_for-m.ensures.0
+          (omega (arith, c.parents_for-m.auto))
+          c.args.out.now
+          c.requires.2,
+    )
+
+pub returns : goal.returns
+returns c =
+    let v : c.args.clock < word = omega (
+      arith,
+      c.well-formed.1.1.1.0,
+    ) in
+    released_handed (key_num
+    c.wtxid_key-k.result)
+    (hash_below
+    c.wtxid_key-k.result.hash
+    (key-four
+    c.wtxid_key-k.result
+    c.wtxid_key-k.type-inv))
+    c.args.n c.args.clock v c.leave_both.ensures (hash_num c.args.subject.0)
+    c.wtxid_key-k.ensures
+    (λ st s w. sym (c.enqueued_by.ensures st
+    s w) ∙ not-false c.enqueued_by.result
+    c.if-not-enqueued_by.false-raw) _
+    (λ st s w. first_are _ c.parents_for-m.result _ refl
+    c.parents_for-m.ensures.0
+    (omega (arith, c.parents_for-m.auto)) _
+    (c.parents_for-m.ensures.1 st s w))
+    c.announce_behind.ensures

@@ -1,0 +1,32 @@
+-- `gathering::deferred::listed_at` meets its contract.
+use Prim.Native.Nat.{◌-◌}
+use mathlib.Core.Path.{sym}
+use native.Mathlib.Omega.{arith}
+use Rattle.machine.proofs.Tests.{never}
+use Rattle.gathering.proofs.Deferrals.{passed_none, passed_more, passed_all}
+use Rattle.gathering.proofs.deferred.listed_at.Goals as goal
+
+pub loop-i-init : goal.loop-i-init
+loop-i-init c = (omega arith, passed_none)
+
+pub read_row-x-requires : goal.read_row-x-requires
+read_row-x-requires c = omega (arith, c.requires.0, c.requires.1, c.loop-i-test.true)
+
+pub returns-then-same_hash : goal.returns-then-same_hash
+returns-then-same_hash c = λ e. never (sym e)
+
+pub overflow_add-i : goal.overflow_add-i
+overflow_add-i c = omega (arith, c.loop-i-test.true)
+
+pub loop-i-smaller : goal.loop-i-smaller
+loop-i-smaller c = omega (arith, c.loop-i-test.true)
+
+pub loop-i-preserved : goal.loop-i-preserved
+loop-i-preserved c = (
+  omega (arith, c.loop-i-test.true),
+  passed_more c.loop-i.invariant.1 c.read_row-x.ensures c.quad_hash-g.ensures
+      c.same_hash.ensures c.if-same_hash.false,
+)
+
+pub returns : goal.returns
+returns c = passed_all c.loop-i.invariant.1 (omega (arith, c.loop-i.invariant.0, c.loop-i-test.false))

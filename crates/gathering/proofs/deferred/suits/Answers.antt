@@ -1,0 +1,50 @@
+-- `gathering::deferred::suits` meets its contract.
+use native.Mathlib.Omega.{arith}
+use borrow.Author.Tests.{not-false, ne_eqb}
+use Rattle.gathering.proofs.Deferrals.{suited-alone, suited-barred, suited-crowded, suited_in}
+use Rattle.gathering.proofs.deferred.suits.Goals as goal
+
+pub returns-then-d-ge-SPACE : goal.returns-then-d-ge-SPACE
+returns-then-d-ge-SPACE c = suited-alone
+
+pub returns-then-not-c : goal.returns-then-not-c
+returns-then-not-c c = suited-alone
+
+pub overflow_add-d : goal.overflow_add-d
+overflow_add-d c = omega (arith, c.requires.3)
+
+pub listed_at-requires : goal.listed_at-requires
+listed_at-requires c = (omega (arith, c.requires.3), c.requires.4)
+
+pub returns-then-listed_at : goal.returns-then-listed_at
+returns-then-listed_at c = suited-alone
+
+pub returns-then-barred : goal.returns-then-barred
+returns-then-barred c = suited-barred (not-false c.args.c.preferred
+    c.if-not-c.false) c.listed_at.ensures c.if-listed_at.false c.barred.ensures c.if-barred.true
+
+pub returns-then-v : goal.returns-then-v
+returns-then-v c = suited-alone
+
+pub returns-then-crowded : goal.returns-then-crowded
+returns-then-crowded c = suited-crowded (not-false c.args.c.preferred
+    c.if-not-c.false) c.listed_at.ensures
+    c.if-listed_at.false c.crowded.ensures c.if-crowded.true c.victim_at-v.result
+    c.victim_at-v.ensures c.if-v.false
+
+pub returns-then-y-c : goal.returns-then-y-c
+returns-then-y-c c = suited-alone
+
+pub returns-then-waits_at : goal.returns-then-waits_at
+returns-then-waits_at c = suited-alone
+
+pub returns : goal.returns
+returns c = suited_in (not-false c.args.c.preferred c.if-not-c.false)
+    c.listed_at.ensures
+    c.if-listed_at.false (omega
+    (arith, c.if-d-ge-SPACE.false))
+    c.barred.ensures c.if-barred.false
+    c.crowded.ensures c.if-crowded.false
+    (ne_eqb c.args.y.conn
+    c.args.c.connection
+    c.if-y-c.false) c.quad_hash-v.ensures c.waits_at.ensures c.if-waits_at.false

@@ -1,0 +1,38 @@
+-- `gathering::going::cut_victims` meets its contract.
+use Prim.Native.Nat.{◌-◌}
+use mathlib.Core.Path.{◌≡◌}
+use native.Mathlib.Omega.{arith}
+use Rattle.gathering.proofs.Departing.{parting_none, parting_kept, parting_more, parting_done}
+use Rattle.gathering.proofs.going.cut_victims.Goals as goal
+
+pub loop-i-init : goal.loop-i-init
+loop-i-init c = (omega arith, parting_none)
+
+pub read_row-y-requires : goal.read_row-y-requires
+read_row-y-requires c = omega (arith, c.requires.2, c.requires.3, c.requires.4, c.loop-i-test.true)
+
+pub cut-requires : goal.cut-requires
+cut-requires c = parting_kept c.loop-i.invariant.1 c.requires.0
+    c.requires.1
+
+pub overflow_add-i : goal.overflow_add-i
+overflow_add-i c = omega (arith, c.loop-i-test.true)
+
+pub loop-i-smaller : goal.loop-i-smaller
+loop-i-smaller c = omega (arith, c.loop-i-test.true)
+
+pub loop-i-preserved : goal.loop-i-preserved
+loop-i-preserved c = (
+  omega (arith, c.loop-i-test.true),
+  parting_more c.loop-i.invariant.1 (omega
+      (arith, c.loop-i-test.true, c.requires.2))
+      c.read_row-y.ensures c.key_of.ensures c.cut.auto.0 c.cut.ensures,
+)
+
+pub shape_of-s : goal.shape_of-s
+shape_of-s c = c.loop-i.invariant.1.size
+
+pub returns : goal.returns
+returns c =
+    let e : c.loop-i.i ≡ c.args.d = omega (arith, c.loop-i.invariant.0, c.loop-i-test.false) in
+    parting_done c.loop-i.invariant.1 e

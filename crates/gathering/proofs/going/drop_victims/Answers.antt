@@ -1,0 +1,60 @@
+-- `gathering::going::drop_victims` meets its contract.
+use Prim.Native.Nat.{◌-◌}
+use mathlib.Core.Path.{◌∙◌}
+use native.Mathlib.Omega.{arith}
+use Rattle.store.proofs.Frame.{sizes}
+use Rattle.announcing.specs.Falls.{goes_by}
+use Rattle.announcing.proofs.DroppingRows.{dropping_none, dropping_rows, dropping_shown, dropping_more, dropping_end}
+use Rattle.gathering.proofs.Departing.{gone_at_once}
+use Rattle.gathering.proofs.going.drop_victims.Goals as goal
+
+pub overflow_sub-d : goal.overflow_sub-d
+overflow_sub-d c = omega (arith, c.requires.1)
+
+pub read_row-v-requires : goal.read_row-v-requires
+read_row-v-requires c = omega (arith, c.requires.1, c.requires.2, c.requires.3, c.requires.4)
+
+pub rows-n-requires : goal.rows-n-requires
+rows-n-requires c = omega (arith, sizes c.requires.0.writes)
+
+pub loop-i-init : goal.loop-i-init
+loop-i-init c = dropping_none _ (goes_by c.read_row-v.result)
+
+pub drop_row-k-requires : goal.drop_row-k-requires
+drop_row-k-requires c = (
+  dropping_shown c.loop-i.invariant c.requires.0,
+  c.loop-i.invariant.less,
+  omega (
+    arith,
+    dropping_rows c.loop-i.invariant c.requires.0,
+    c.loop-i-test.true,
+    c.rows-n.ensures.word,
+  ),
+)
+
+pub overflow_add-i : goal.overflow_add-i
+overflow_add-i c = omega (arith, c.loop-i-test.true)
+
+pub loop-i-smaller : goal.loop-i-smaller
+loop-i-smaller c = omega (arith, c.loop-i-test.true)
+
+pub loop-i-preserved : goal.loop-i-preserved
+loop-i-preserved c = dropping_more c.loop-i.invariant (omega
+    (arith, c.rows-n.ensures.word, c.loop-i-test.true)) c.drop_row-k.auto.0
+    c.drop_row-k.ensures
+
+pub drop_rows-requires : goal.drop_rows-requires
+drop_rows-requires c = (
+  dropping_shown c.loop-i.invariant c.requires.0,
+  omega (arith, c.loop-i.invariant.less, c.loop-i.invariant.most, c.rows-n.ensures.word),
+  omega (arith, dropping_rows c.loop-i.invariant c.requires.0, c.rows-n.ensures.word),
+)
+
+pub shape_of-s : goal.shape_of-s
+shape_of-s c = c.drop_rows.auto.0 ∙ c.loop-i.invariant.size
+
+pub returns : goal.returns
+returns c = gone_at_once c.requires.1
+    c.requires.2 c.read_row-v.ensures
+    (λ st s w. dropping_end c.loop-i.invariant c.rows-n.ensures.word (omega
+    (arith, c.loop-i-test.false)) c.drop_rows.ensures st s w)

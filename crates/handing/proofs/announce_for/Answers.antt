@@ -1,0 +1,44 @@
+use native.Mathlib.Omega.{arith}
+use Rattle.machine.proofs.Fail.{FewHashes}
+use Rattle.machine.proofs.AnswerLengths.{length-announce_parents}
+use Rattle.machine.specs.State.{limits_of}
+use Rattle.lent_lists.specs.Lists.{hashes_in}
+use Rattle.lent_lists.proofs.Given.{hashes-fit}
+use Rattle.handing.proofs.Announcing.{merge-room, one_merged}
+use Rattle.handing.proofs.announce_for.Goals as goal
+
+pub merge-requires : goal.merge-requires
+merge-requires c = let kept = c.requires.0 in
+    let hs = hashes_in c.args.list.now in
+    let few : FewHashes hs = record {
+      hashes = hashes-fit c.args.list.now
+          (λ j. omega (arith, c.type_inv.list j));
+      few = c.requires.2;
+    } in (
+      c.requires.3,
+      omega (
+        arith,
+        c.requires.2,
+        c.announce_parents-c.auto,
+        c.announce_parents-c.ensures.count kept.state kept.sound kept.writes,
+        length-announce_parents (limits_of kept.state) c.args.x
+            c.args.clock hs kept.state.table,
+      ),
+      merge-room c.args.x
+          c.args.clock hs few
+          c.announce_parents-c.ensures c.args.u.now
+          c.args.n kept
+          c.requires.4,
+    )
+
+pub returns : goal.returns
+returns c = let hs = hashes_in c.args.list.now in
+    let few : FewHashes hs =
+    record {
+      hashes = hashes-fit c.args.list.now
+          (λ j. omega (arith, c.type_inv.list j));
+      few = c.requires.2;
+    } in
+    one_merged c.args.x
+    c.args.clock hs few
+    c.announce_parents-c.ensures c.merge.ensures

@@ -1,0 +1,66 @@
+use native.Mathlib.Omega.{arith}
+use Prim.Native.Nat.{◌-◌}
+use mathlib.Core.Path.{refl}
+use Rattle.ident.specs.Words.{key_num}
+use Rattle.store.specs.Flat.{flat_of}
+use Rattle.store.proofs.Frame.{sizes}
+use Rattle.requests.proofs.Keeping.{kept_shown, from_at, to_at}
+use Rattle.requests.proofs.AtHash.{window-size}
+use Rattle.handing.proofs.Copying.{few_candidates, copied_more, copied_all, copied_none}
+use Rattle.handing.proofs.copy_conns.Goals as goal
+
+pub loop-i-init : goal.loop-i-init
+loop-i-init c = let kept = c.requires.0 in
+    let st = kept.state in
+    let k = key_num c.args.k in
+    let key = c.key_words-key.ensures in
+    let n = window-size k st.table (from_at st kept.sound k key.small key.number (c.window_of-w.ensures.from_is st kept.sound kept.writes))
+    (to_at st kept.sound k key.small key.number (c.window_of-w.ensures.to_is st kept.sound kept.writes)) in (
+      copied_none c.args.s.now c.window_of-w.result.from (c.window_of-w.result.to - c.window_of-w.result.from)
+          c.args.conns.now,
+      omega (arith, n, few_candidates st kept.sound k key.small, c.requires.1),
+    )
+
+pub overflow_add-from : goal.overflow_add-from
+overflow_add-from c = omega (arith, c.window_of-w.ensures.most, c.window_of-w.ensures.order, c.loop-i-test.true)
+
+pub row_at-r-requires : goal.row_at-r-requires
+row_at-r-requires c = (
+  kept_shown c.requires.0,
+  omega (arith, c.window_of-w.ensures.most, c.window_of-w.ensures.order, c.loop-i-test.true),
+)
+
+pub put-requires : goal.put-requires
+put-requires c = omega (arith, c.loop-i-test.true, c.loop-i.invariant.0.long, c.loop-i.invariant.1)
+
+pub overflow_add-i : goal.overflow_add-i
+overflow_add-i c = omega (arith, c.loop-i-test.true)
+
+pub loop-i-smaller : goal.loop-i-smaller
+loop-i-smaller c = omega (arith, c.loop-i-test.true)
+
+pub loop-i-preserved : goal.loop-i-preserved
+loop-i-preserved c = (
+  copied_more c.row_at-r.result c.loop-i.invariant.0
+      c.loop-i-test.true c.loop-i.invariant.1 c.put.auto.0 (λ f h. omega (
+        arith,
+        c.window_of-w.ensures.most,
+        c.window_of-w.ensures.order,
+        (sizes h).rows,
+      )) (λ f d h. c.row_at-r.ensures f d h) c.put.ensures,
+  c.loop-i.invariant.1,
+)
+
+pub shape_of-conns : goal.shape_of-conns
+shape_of-conns c = c.loop-i.invariant.0.long
+
+pub returns : goal.returns
+returns c = (
+  c.loop-i.invariant.1,
+  λ st s w.
+      let k = key_num c.args.k in
+      let key = c.key_words-key.ensures in
+      let from = from_at st s k key.small key.number (c.window_of-w.ensures.from_is st s w) in
+      let n = window-size k st.table from (to_at st s k key.small key.number (c.window_of-w.ensures.to_is st s w)) in
+      copied_all st s k c.loop-i.invariant.0 c.loop-i-test.false (flat_of st) refl w from n,
+)

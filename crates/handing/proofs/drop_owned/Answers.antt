@@ -1,0 +1,83 @@
+use Prim.Native.Nat.{◌<◌}
+use native.Mathlib.Omega.{arith}
+use mathlib.Core.Path.{refl}
+use Rattle.ident.specs.Words.{key_num}
+use Rattle.ident.proofs.Words.{key-four, hash_below}
+use Rattle.machine.specs.Limits.{word}
+use Rattle.failing.proofs.Handing.{few_first, first_are}
+use Rattle.handing.proofs.Dropping.{drop_kept, drop_peers, drop-room, dropped}
+use borrow.Author.Rules.{rules}
+use Rattle.handing.proofs.drop_owned.Goals as goal
+
+pub copy_conns-q-requires : goal.copy_conns-q-requires
+copy_conns-q-requires c = let v : c.args.clock < word =
+    omega (arith, c.well-formed.1.1.1.0) in (
+      drop_kept (key_num c.args.k) (hash_below
+          c.args.k.hash
+          (key-four c.args.k
+          c.well-formed.1.0))
+          c.args.n
+          c.args.clock v c.failed.ensures
+          c.requires.0,
+      search rules,
+    )
+
+pub announce_each-requires : goal.announce_each-requires
+announce_each-requires c =
+    let v : c.args.clock < word =
+    omega (arith, c.well-formed.1.1.1.0) in
+    let small = hash_below
+    c.args.k.hash
+    (key-four c.args.k
+    c.well-formed.1.0) in (
+      drop_kept (key_num c.args.k) small
+          c.args.n
+          c.args.clock v
+          c.failed.ensures
+          c.requires.0,
+      few_first _ c.parents_for-p.result _ refl
+          c.parents_for-p.ensures.0
+          (omega (arith, c.parents_for-p.auto)),
+      omega (arith, c.copy_conns-q.ensures.0, c.copy_conns-q.auto),
+      drop_peers (key_num c.args.k)
+          small c.args.n
+          c.args.clock v
+          c.failed.ensures
+          c.requires.2 _ (λ st s w. first_are _
+          c.parents_for-p.result _ refl
+          c.parents_for-p.ensures.0
+          (omega (arith, c.parents_for-p.auto)) _
+          (c.parents_for-p.ensures.1 st s w)) _
+          c.copy_conns-q.ensures.1
+          c.requires.0,
+      c.requires.3,
+      drop-room (key_num c.args.k)
+          small c.args.n
+          c.args.clock v
+          c.failed.ensures
+          c.requires.2 _ (λ st s w. first_are _
+          c.parents_for-p.result _ refl
+          c.parents_for-p.ensures.0
+          (omega (arith, c.parents_for-p.auto)) _
+          (c.parents_for-p.ensures.1 st s w)) _
+          c.copy_conns-q.ensures.1
+          c.args.u.now
+          c.args.c
+          c.requires.0
+          c.requires.4,
+    )
+
+pub returns : goal.returns
+returns c = let v : c.args.clock < word = omega (
+  arith,
+  c.well-formed.1.1.1.0,
+) in
+    let small = hash_below c.before.before.before.before.before.before.before.before.before.before.before.before.before.before.before.before.before.before.before.before.before.before.before.before.args.k.hash (key-four c.before.before.before.before.before.before.before.before.before.before.before.before.before.before.before.before.before.before.before.before.before.before.before.before.args.k c.before.before.before.before.before.before.before.before.before.before.before.before.before.before.before.before.before.before.before.before.before.before.before.before.well-formed.1.0) in
+    dropped (key_num c.before.before.before.before.before.before.before.before.before.before.before.before.before.before.before.before.before.before.before.before.before.before.before.before.args.k) small c.before.before.before.before.before.before.before.before.before.before.before.before.before.before.before.before.before.before.before.before.before.before.before.before.args.n c.before.before.before.before.before.before.before.before.before.before.before.before.before.before.before.before.before.before.before.before.before.before.before.before.args.clock v
+    c.before.before.before.before.before.before.before.before.before.before.before.before.before.before.before.before.failed.ensures
+    c.before.before.before.before.before.before.before.before.before.before.before.before.before.before.before.before.before.before.before.before.before.before.before.before.requires.2 _ (λ st s w. first_are _
+    c.before.before.before.before.before.before.before.before.before.before.before.before.before.before.before.before.before.before.before.parents-for.result _ refl
+    c.before.before.before.before.before.before.before.before.before.before.before.before.before.before.before.before.before.before.before.parents-for.ensures.0 (omega
+    (arith, c.before.before.before.before.before.before.before.before.before.before.before.before.before.before.before.before.before.before.before.parents-for.auto)) _
+    (c.before.before.before.before.before.before.before.before.before.before.before.before.before.before.before.before.before.before.before.parents-for.ensures.1 st s w))
+    _ c.before.before.before.before.before.before.before.before.before.before.before.copy-conns.ensures.1 c.before.before.before.before.announce-each.ensures

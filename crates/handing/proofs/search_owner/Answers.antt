@@ -1,0 +1,5 @@
+use Rattle.failing.proofs.Releasing.{owner-is}
+use Rattle.handing.proofs.search_owner.Goals as goal
+
+pub returns : goal.returns
+returns c = λ st s w. owner-is (c.request_at-r.ensures.is st s w) c.args.n c.requires.1

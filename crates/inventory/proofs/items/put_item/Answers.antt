@@ -1,0 +1,22 @@
+-- `inventory::items::put_item` meets its contract.
+use Prim.Native.Nat.{◌<◌}
+use native.Mathlib.Omega.{arith}
+use Rattle.ident.specs.Number.{type_of}
+use Rattle.regions.specs.Rows.{quad_number}
+use Rattle.lent_lists.specs.Items.{type_top}
+use Rattle.reading.proofs.Stored.{quad_below}
+use Rattle.inventory.proofs.Putting.{item-put}
+use Rattle.inventory.proofs.items.put_item.Goals as goal
+
+pub returns : goal.returns
+returns c =
+    let q = c.args.q in
+    let t : type_of c.args.kind < type_top = omega
+    (arith, c.item_type.ensures) in
+    let u = quad_below q (omega arith) (omega arith) (omega arith) (omega arith) in
+    item-put c.args.items.now
+    c.args.i
+    c.args.kind (quad_number q) t u
+    c.requires
+    c.item_type.ensures c.hash_of.ensures
+    c.put.ensures.bytes c.put_hash.ensures

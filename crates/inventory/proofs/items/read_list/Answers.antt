@@ -1,0 +1,40 @@
+-- `inventory::items::read_list` meets its contract.
+use mathlib.Core.Path.{refl, ap}
+use native.Mathlib.Omega.{arith}
+use Rattle.machine.specs.Fields.{item_of, taking}
+use Rattle.reading.specs.Given.{number_at}
+use Rattle.reading.proofs.Elements.{no-count, too_long, no-list, more_fields, list_is}
+use Rattle.inventory.proofs.Sizes.{item-takes}
+use Rattle.inventory.proofs.Listing.{no_items, items-are}
+use Rattle.inventory.proofs.items.read_list.Goals as goal
+
+pub returns-in_default : goal.returns-in_default
+returns-in_default c = no_items (no-count (taking item_of) c.number_at.ensures (ap number_at c.in_default.is))
+
+pub returns-then-count-gt21845 : goal.returns-then-count-gt21845
+returns-then-count-gt21845 c =
+    no_items (too_long (taking item_of) c.number_at.ensures (ap number_at c.in-Is.is) item-takes
+    (omega (arith, c.requires.0, c.if-count-gt21845.true)))
+
+pub returns-in_default-read_items : goal.returns-in_default-read_items
+returns-in_default-read_items c =
+    no_items (no-list (taking item_of) c.number_at.ensures
+    (ap number_at c.in-Is.is) refl c.read_items.ensures c.in_default-read_items.is)
+
+pub returns-then-end-line : goal.returns-then-end-line
+returns-then-end-line c =
+    no_items (more_fields (taking item_of) c.number_at.ensures
+    (ap number_at c.in-Is.is) refl c.read_items.ensures
+    c.in-Is-read_items.is c.if-end-line.true)
+
+pub returns : goal.returns
+returns c =
+    items-are (omega (arith, c.if-count-gt21845.false))
+    (omega (
+      arith,
+      c.read_items.auto,
+      c.requires.1,
+    ))
+    (list_is (taking item_of) c.number_at.ensures
+    (ap number_at c.in-Is.is) refl c.read_items.ensures
+    c.in-Is-read_items.is c.if-end-line.false)

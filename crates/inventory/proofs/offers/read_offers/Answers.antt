@@ -1,0 +1,80 @@
+-- `inventory::offers::read_offers` meets its contract. The loop's invariant: the first i offers are read.
+use Prim.Native.Nat.{◌-◌}
+use mathlib.Core.Path.{◌≡◌, refl, ap, ◌∙◌}
+use native.Mathlib.Omega.{arith}
+use Rattle.reading.specs.Lists.{offer_then}
+use Rattle.reading.specs.Given.{item_at, number_at}
+use Rattle.reading.proofs.Elements.{none_read, no-element, one_more_lem}
+use Rattle.inventory.proofs.Offering.{no_item, no-priority, offer_is, none_yet, offer-put}
+use Rattle.inventory.proofs.offers.read_offers.Goals as goal
+
+pub loop-i-init : goal.loop-i-init
+loop-i-init c = (
+  omega arith,
+  omega arith,
+  omega arith,
+  none_read offer_then c.args.line.now c.args.e c.args.n
+      (none_yet c.args.items.now c.args.priorities.now),
+)
+
+pub shape_of-items-in_default : goal.shape_of-items-in_default
+shape_of-items-in_default c = c.loop-i.invariant.1
+
+pub shape_of-priorities-in_default : goal.shape_of-priorities-in_default
+shape_of-priorities-in_default c = c.loop-i.invariant.2
+
+pub returns-in_default : goal.returns-in_default
+returns-in_default c = record { is = no-element c.loop-i.invariant.3 (omega arith) (no_item c.item_at.ensures (ap item_at c.in_default.is)) refl }
+
+pub shape_of-items-in_default-number_at : goal.shape_of-items-in_default-number_at
+shape_of-items-in_default-number_at c = c.loop-i.invariant.1
+
+pub shape_of-priorities-in_default-number_at : goal.shape_of-priorities-in_default-number_at
+shape_of-priorities-in_default-number_at c = c.loop-i.invariant.2
+
+pub returns-in_default-number_at : goal.returns-in_default-number_at
+returns-in_default-number_at c =
+    record {
+      is = no-element c.loop-i.invariant.3 (omega arith)
+          (no-priority c.item_at.ensures (ap item_at c.in-Is.is) c.number_at.ensures
+          (ap number_at c.in_default-number_at.is)) refl;
+    }
+
+pub put_offer-requires : goal.put_offer-requires
+put_offer-requires c = (
+  omega arith,
+  omega (
+    arith,
+    c.loop-i.invariant.1,
+    c.requires.1,
+  ),
+  omega (
+    arith,
+    c.loop-i.invariant.2,
+    c.requires.2,
+  ),
+)
+
+pub loop-i-preserved : goal.loop-i-preserved
+loop-i-preserved c =
+    let p = c.item_at.ensures in
+    let z = ap item_at c.in-Is.is in
+    let o = offer_is p z c.number_at.ensures
+    (ap number_at c.in-Is-number_at.is) in (
+      omega arith,
+      c.put_offer.auto.0
+          ∙ c.loop-i.invariant.1,
+      c.put_offer.auto.1.0
+          ∙ c.loop-i.invariant.2,
+      one_more_lem c.loop-i.invariant.3 (omega arith) o refl
+          (offer-put p z c.put_offer.ensures),
+    )
+
+pub shape_of-items : goal.shape_of-items
+shape_of-items c = c.loop-i.invariant.1
+
+pub shape_of-priorities : goal.shape_of-priorities
+shape_of-priorities c = c.loop-i.invariant.2
+
+pub returns : goal.returns
+returns c = record { is = (let e : c.loop-i.i ≡ c.args.n = omega arith in rw e at c.loop-i.invariant.3) }

@@ -1,0 +1,10 @@
+-- `keeping::kept::empty` meets its contract.
+use mathlib.Core.Path.{◌∙◌}
+use Rattle.keeping.proofs.Keeping.{emptied}
+use Rattle.keeping.proofs.kept.empty.Goals as goal
+
+pub returns : goal.returns
+returns c = emptied c.requires
+    c.put.ensures c.put-2.ensures
+    c.put-3.ensures (c.put-3.auto.0 ∙ c.put-2.auto.0 ∙
+    c.put.auto.0)

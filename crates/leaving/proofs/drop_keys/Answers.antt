@@ -1,0 +1,62 @@
+use Prim.Native.Nat.{◌-◌, ◌<◌}
+use native.Mathlib.Omega.{arith}
+use Rattle.machine.specs.Limits.{word}
+use Rattle.leaving.proofs.Walking.{going_kept}
+use Rattle.leaving.proofs.Departing.{going-long}
+use Rattle.leaving.proofs.Turning.{keys-inside}
+use Rattle.leaving.proofs.Ending.{going_first, store_long, ended}
+use Rattle.leaving.proofs.drop_keys.Goals as goal
+
+pub idle_keys-i-requires : goal.idle_keys-i-requires
+idle_keys-i-requires c = c.requires.0
+
+pub loop-i-init : goal.loop-i-init
+loop-i-init c = λ st s w.
+    let late : c.args.clock < word = omega (arith, c.well-formed.1.1.0) in
+    going_first c.args.n c.args.clock late st s w c.args.out.now
+    c.args.own (c.requires.3.count st s w) (c.requires.3.keys st s w)
+    c.requires.2 c.idle_keys-i.ensures
+
+pub take_turn-p-requires : goal.take_turn-p-requires
+take_turn-p-requires c = let kept = c.requires.0 in (
+  record {
+    state = kept.state;
+    buffer = c.args.out.now;
+    going = c.loop-i.invariant kept.state
+        kept.sound kept.writes;
+  },
+  c.requires.1,
+  c.loop-i-test.true,
+)
+
+pub overflow_add-i : goal.overflow_add-i
+overflow_add-i c = omega (arith, c.loop-i-test.true)
+
+pub loop-i-smaller : goal.loop-i-smaller
+loop-i-smaller c = omega (arith, c.loop-i-test.true)
+
+pub loop-i-preserved : goal.loop-i-preserved
+loop-i-preserved c = λ st s w. c.take_turn-p.ensures st
+    c.args.out.now
+    (c.loop-i.invariant st s w)
+
+pub cut_listed-requires : goal.cut_listed-requires
+cut_listed-requires c = let kept = c.requires.0 in
+    let late : c.args.clock < word =
+    omega (arith, c.well-formed.1.1.0) in
+    let g = c.loop-i.invariant kept.state kept.sound kept.writes in
+    (going_kept g, omega (arith, keys-inside g late))
+
+pub shape_of-s : goal.shape_of-s
+shape_of-s c = let kept = c.requires.0 in
+    let g = c.loop-i.invariant kept.state kept.sound kept.writes in
+    omega (arith, store_long g kept.writes, c.cut_listed.auto)
+
+pub shape_of-out : goal.shape_of-out
+shape_of-out c = let kept = c.requires.0 in
+    let late : c.args.clock < word =
+    omega (arith, c.well-formed.1.1.0) in
+    going-long (c.loop-i.invariant kept.state kept.sound kept.writes) late
+
+pub returns : goal.returns
+returns c = λ st s w. ended (c.loop-i.invariant st s w) c.loop-i-test.false c.cut_listed.ensures

@@ -1,0 +1,6 @@
+-- `listed_counts::count_number` meets its contract.
+use Rattle.listed_counts.proofs.Numbers.{counts_some}
+use Rattle.listed_counts.proofs.count_number.Goals as goal
+
+pub returns : goal.returns
+returns c = counts_some _ _ c.in-Is.is c.count.ensures

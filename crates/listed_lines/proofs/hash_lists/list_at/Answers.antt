@@ -1,0 +1,30 @@
+-- `listed_lines::hash_lists::list_at` meets its contract.
+use mathlib.Core.Path.{refl, ap}
+use Rattle.machine.specs.Fields.{number_of}
+use Rattle.reading.specs.Given.{number_at}
+use Rattle.listed_lines.specs.Given.{hashes_at}
+use Rattle.listed_lines.proofs.Anywhere.{number_took}
+use Rattle.listed_lines.proofs.Lists.{no_length, too_short, too_long, no-hashes, hashes-are}
+use Rattle.listed_lines.proofs.hash_lists.list_at.Goals as goal
+
+pub returns-in_default : goal.returns-in_default
+returns-in_default c = no_length _ (number_took number_of c.number_at.ensures) (ap number_at c.in_default.is)
+
+pub returns-then-count-least : goal.returns-then-count-least
+returns-then-count-least c = too_short _ (number_took number_of c.number_at.ensures) (ap number_at c.in-Is.is) c.if-count-least.true
+
+pub returns-then-count-gt100 : goal.returns-then-count-gt100
+returns-then-count-gt100 c = too_long _ (number_took number_of c.number_at.ensures) (ap number_at c.in-Is.is) c.if-count-gt100.true
+
+pub returns-in_default-hashes_at : goal.returns-in_default-hashes_at
+returns-in_default-hashes_at c =
+    no-hashes _ (number_took number_of c.number_at.ensures)
+    (ap number_at c.in-Is.is) c.if-count-least.false
+    c.if-count-gt100.false refl c.hashes_at.ensures (ap (hashes_at _ _) c.in_default-hashes_at.is)
+
+pub returns : goal.returns
+returns c =
+    hashes-are _ (number_took number_of c.number_at.ensures)
+    (ap number_at c.in-Is.is)
+    c.if-count-least.false c.if-count-gt100.false refl
+    c.hashes_at.ensures (ap (hashes_at _ _) c.in-Is-hashes_at.is)

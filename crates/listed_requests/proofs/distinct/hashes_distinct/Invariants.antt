@@ -1,0 +1,14 @@
+-- `listed_requests::distinct::hashes_distinct` meets its contract.
+use Prim.Native.Nat.{◌≤◌, ◌-◌}
+use mathlib.Core.Path.{◌≡◌}
+use mathlib.Core.Bool.{true}
+use lib.ListN.{take}
+use Rattle.machine.specs.SoundTest.{no_repeat}
+use Rattle.lent_lists.specs.Lists.{hashes_in}
+use Rattle.listed_requests.proofs.distinct.hashes_distinct.Given as goal
+
+abbrev pub invariant-loop-i : goal.invariant-loop-i
+invariant-loop-i l = (l.i ≤ l.n) × (no_repeat (take l.i (hashes_in l.s)) ≡ true)
+
+abbrev pub decreases-loop-i : goal.decreases-loop-i
+decreases-loop-i l = l.n - l.i

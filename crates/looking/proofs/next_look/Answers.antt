@@ -1,0 +1,45 @@
+-- `looking::next_look` meets its contract.
+use Prim.Native.Nat.{◌-◌}
+use native.Mathlib.Omega.{arith}
+use Rattle.store.specs.Flat.{flat_of, rows_of}
+use Rattle.store.specs.Gather.{gather}
+use Rattle.store.proofs.Frame.{sizes}
+use Rattle.requests.proofs.Keeping.{kept_shown}
+use Rattle.announcing.specs.Evicts.{part}
+use Rattle.looking.proofs.Looked.{looks_start, looks-row, looked_all}
+use Rattle.looking.proofs.next_look.Goals as goal
+
+pub rows-n-requires : goal.rows-n-requires
+rows-n-requires c = let z = (kept_shown c.requires).sizes.long in omega (arith, z)
+
+pub loop-i-init : goal.loop-i-init
+loop-i-init c = (
+  omega arith,
+  λ f w. looks_start c.args.clock c.rows-n.result f.rows c.rows-n.result c.nothing-v.result (omega arith)
+      (c.nothing-v.ensures c.args.clock),
+)
+
+pub row_at-r-requires : goal.row_at-r-requires
+row_at-r-requires c = (kept_shown c.requires, omega (arith, c.rows-n.ensures.word))
+
+pub ends_key-ends-requires : goal.ends_key-ends-requires
+ends_key-ends-requires c = (kept_shown c.requires, omega arith, omega (arith, c.rows-n.ensures.word))
+
+pub loop-i-preserved : goal.loop-i-preserved
+loop-i-preserved c = (
+  omega arith,
+  λ f w.
+      let n = c.rows-n.result in
+      let j = c.loop-i.i in
+      let r = c.row_at-r.result in
+      looks-row c.args.clock n f.rows r (j - 1) (omega arith) (omega arith)
+      (omega (arith, c.rows-n.ensures.field f w)) (c.row_at-r.ensures f r w) c.turn-v.result
+      (c.turn-v.ensures (part j n f.rows) (c.ends_key-ends.ensures f w) (c.loop-i.invariant.1 f w)),
+)
+
+pub returns : goal.returns
+returns c = λ st s w.
+    let n = c.rows-n.result in
+    let i = c.loop-i.i in
+    looked_all c.args.clock st s {n = n} {i = i} (c.rows-n.ensures.field (flat_of st) w) (omega arith)
+    (c.settled.ensures (gather (part i n (rows_of st.table))) (c.loop-i.invariant.1 (flat_of st) w))

@@ -1,0 +1,17 @@
+-- `owned::failures::tracker_owned_failed` meets its contract: that of the checked call, behind its sound test, and the store stays sound.
+use mathlib.Core.Path.{ap}
+use native.Mathlib.Omega.{arith}
+use Rattle.machine.specs.Call.{On, Failed}
+use Rattle.tracker.specs.Made.{fails as makes}
+use Rattle.owned.proofs.Owner.{owner-number}
+use Rattle.owned.proofs.failures.tracker_owned_failed.Goals as goal
+
+pub returns : goal.returns
+returns c =
+    let m = (makes c.key_given-k.result c.args.connection
+    c.args.clock c.key_given-k.type-inv (omega arith) (omega arith)) in
+    owner-number m c.requires
+    (λ i. omega (arith, c.type_inv.s i)) c.failed-a.result _
+    c.failed-a.ensures c.hand_out.ensures
+    (ap (λ x. On (Failed x c.args.connection
+    c.args.clock)) c.key_given-k.ensures)

@@ -1,0 +1,19 @@
+-- `owned::package_calls::tracker_owned_begin_package_resolution` meets its contract: that of the checked call, behind its sound test, and the store stays sound.
+use native.Mathlib.Omega.{arith}
+use Rattle.ident.proofs.Words.{hash-four, hash_below}
+use Rattle.tracker.specs.Made.{begins-resolution as makes}
+use Rattle.owned.proofs.Owner.{owner-number}
+use Rattle.owned.proofs.package_calls.tracker_owned_begin_package_resolution.Goals as goal
+
+pub returns : goal.returns
+returns c =
+    let m = (makes c.args.connection _ _
+    c.args.clock
+    c.args.wtxids.now (omega arith)
+    (hash_below _ (hash-four _ c.hash_from_bytes.type-inv))
+    (hash_below _ (hash-four _ c.hash_from_bytes-d.type-inv)) (omega arith)
+    (λ i. omega (arith, c.type_inv.wtxids i))) in
+    owner-number m c.requires
+    (λ i. omega (arith, c.type_inv.s i))
+    c.begin_package_resolution-a.result _ c.begin_package_resolution-a.ensures c.hand_out.ensures
+    (rw (c.hash_from_bytes.ensures, c.hash_from_bytes-d.ensures))

@@ -1,0 +1,14 @@
+-- `owned::plans::tracker_owned_plan` meets its contract: that of the checked call, behind its sound test, and the store stays sound.
+use native.Mathlib.Omega.{arith}
+use Rattle.tracker.specs.Made.{plans as makes}
+use Rattle.owned.proofs.Owner.{owner-plan}
+use Rattle.owned.proofs.plans.tracker_owned_plan.Goals as goal
+
+pub returns : goal.returns
+returns c =
+    let m = makes c.args.clock
+    c.args.answer.now (omega arith) in
+    owner-plan m c.requires
+    (λ i. omega (arith, c.type_inv.s i))
+    c.plan-p.result _ _ _ c.plan-p.ensures
+    c.hand_plan.ensures

@@ -1,0 +1,19 @@
+-- `owned::tracker_owned_sum` meets its contract: that of the checked call, behind its sound test.
+use Rattle.crossing.proofs.Statuses.{sum-refused, sum_told, stays}
+use Rattle.owned.proofs.tracker_owned_sum.Goals as goal
+
+pub returns-in-Refused : goal.returns-in-Refused
+returns-in-Refused c = (
+  sum-refused c.args.s.now _ _ _ _ _
+      (sum_told c.args.s.now c.sum-f.ensures c.in-Refused.is),
+  (
+    stays c.in-Refused.n c.args.held.now,
+    stays c.in-Refused.n
+        c.args.free.now,
+    stays c.in-Refused.n c.args.preferred-free.now,
+    stays c.in-Refused.n c.args.permille.now,
+  ),
+)
+
+pub returns-in-Are : goal.returns-in-Are
+returns-in-Are c = (sum_told c.args.s.now c.sum-f.ensures c.in-Are.is, (tt, tt, tt, tt))

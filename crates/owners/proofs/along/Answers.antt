@@ -1,0 +1,60 @@
+-- `owners::along` meets its contract.
+use Prim.Native.Nat.{◌-◌}
+use mathlib.Core.Path.{sym, ◌∙◌}
+use native.Mathlib.Omega.{arith}
+use borrow.Author.Tests.{ltb-true, ltb-false}
+use Rattle.regions.specs.Rows.{quad_number}
+use Rattle.owners.proofs.Rows.{hash_is}
+use Rattle.owners.proofs.Stretches.{going_start, going_done, going_past, going_more}
+use Rattle.owners.proofs.along.Goals as goal
+
+pub loop-i-init : goal.loop-i-init
+loop-i-init c = going_start _ _ _ _ _ c.requires.1 c.nobody-owner.ensures
+
+pub row_at-r-requires : goal.row_at-r-requires
+row_at-r-requires c = (c.requires.0, omega (arith, c.loop-i-test.true, c.requires.2))
+
+pub returns-then-quad_less : goal.returns-then-quad_less
+returns-then-quad_less c = going_past c.loop-i.invariant c.loop-i-test.true
+    c.requires.2 c.row_at-r.ensures
+    (omega (
+      arith,
+      hash_is c.row_at-r.result,
+      ltb-true (quad_number c.args.h)
+          (quad_number c.row_at-r.result.hash) (sym c.quad_less.ensures ∙ c.if-quad_less.true),
+    ))
+
+pub with_row-owner-requires : goal.with_row-owner-requires
+with_row-owner-requires c = ltb-false (quad_number c.args.h) (quad_number c.row_at-r.result.hash)
+    (sym c.quad_less.ensures ∙ c.if-quad_less.false)
+
+pub overflow_add-i : goal.overflow_add-i
+overflow_add-i c = omega (arith, c.loop-i-test.true)
+
+pub ended-keys-requires : goal.ended-keys-requires
+ended-keys-requires c = (
+  c.requires.0,
+  omega (arith, c.loop-i-test.true),
+  c.requires.2,
+)
+
+pub overflow_add-keys : goal.overflow_add-keys
+overflow_add-keys c = omega (arith, c.loop-i-test.true, c.loop-i.invariant.few, c.ended-keys.ensures.0)
+
+pub loop-i-smaller : goal.loop-i-smaller
+loop-i-smaller c = omega (arith, c.loop-i-test.true)
+
+pub loop-i-preserved : goal.loop-i-preserved
+loop-i-preserved c = going_more c.loop-i.invariant c.loop-i-test.true
+    c.requires.2 c.row_at-r.ensures
+    (omega (
+      arith,
+      hash_is c.row_at-r.result,
+      ltb-false
+          (quad_number c.args.h) (quad_number c.row_at-r.result.hash)
+          (sym c.quad_less.ensures ∙ c.if-quad_less.false),
+    ))
+    c.with_row-owner.ensures c.ended-keys.ensures.0 c.ended-keys.ensures.1
+
+pub returns : goal.returns
+returns c = going_done c.loop-i.invariant (omega (arith, c.loop-i-test.false))

@@ -1,0 +1,116 @@
+-- `owners::owners_of` meets its contract.
+use Prim.Native.Nat.{◌-◌}
+use mathlib.Core.Path.{ap}
+use native.Mathlib.Omega.{arith}
+use Rattle.requests.proofs.Keeping.{kept_shown}
+use Rattle.owners.proofs.Listed.{quad_is, quad_small}
+use Rattle.owners.proofs.Turns.{walking_start, walking_more, walking_done}
+use Rattle.owners.proofs.owners_of.Goals as goal
+
+pub rows-n-requires : goal.rows-n-requires
+rows-n-requires c = let z = (kept_shown c.requires.0).sizes in omega arith
+
+pub first_wtxid-m-requires : goal.first_wtxid-m-requires
+first_wtxid-m-requires c = c.requires.0
+
+pub loop-p-init : goal.loop-p-init
+loop-p-init c = walking_start _ _ _ _ c.first_wtxid-m.ensures
+
+pub hash_in-g-requires : goal.hash_in-g-requires
+hash_in-g-requires c = omega (arith, c.loop-p-test.true, c.hashes-count.ensures)
+
+pub along-a-requires : goal.along-a-requires
+along-a-requires c = (
+  kept_shown c.requires.0,
+  c.loop-p.invariant.first,
+  c.first_wtxid-m.ensures.most,
+)
+
+pub along-b-requires : goal.along-b-requires
+along-b-requires c =
+    let w = c.rows-n.ensures.word in (
+      kept_shown c.requires.0,
+      omega (arith, c.loop-p.invariant.second, w),
+      omega (arith, w),
+    )
+
+pub put_owner-requires : goal.put_owner-requires
+put_owner-requires c = omega (
+  arith,
+  c.loop-p.invariant.long,
+  c.requires.2,
+  c.loop-p-test.true,
+  c.hashes-count.ensures,
+)
+
+pub overflow_add-passed : goal.overflow_add-passed
+overflow_add-passed c =
+    let k = kept_shown
+    c.requires.0 in
+    let one = c.along-a.ensures in
+    let two = c.along-b.ensures in
+    let w = c.rows-n.ensures.word in
+    omega (
+      arith,
+      one.few,
+      one.most,
+      two.few,
+      two.most,
+      c.first_wtxid-m.ensures.most,
+      w,
+      k.sizes.rows,
+      k.sized.rows_few,
+      k.sized.limit,
+    )
+
+pub overflow_add-passed-in-loop-p : goal.overflow_add-passed-in-loop-p
+overflow_add-passed-in-loop-p c =
+    let k = kept_shown
+    c.requires.0 in
+    let one = c.along-a.ensures in
+    let two = c.along-b.ensures in
+    let w = c.rows-n.ensures.word in
+    omega (
+      arith,
+      c.loop-p.invariant.few,
+      one.few,
+      one.most,
+      two.few,
+      two.most,
+      c.first_wtxid-m.ensures.most,
+      w,
+      k.sizes.rows,
+      k.sized.rows_few,
+      k.sized.limit,
+    )
+
+pub overflow_add-p : goal.overflow_add-p
+overflow_add-p c = omega (
+  arith,
+  c.loop-p-test.true,
+  c.hashes-count.type-inv,
+)
+
+pub loop-p-smaller : goal.loop-p-smaller
+loop-p-smaller c = omega (arith, c.loop-p-test.true)
+
+pub loop-p-preserved : goal.loop-p-preserved
+loop-p-preserved c =
+    let given = c.requires in
+    let taken = c.loop-p-test.true in
+    let quad = c.hash_quad-h.ensures in
+    let word = c.rows-n.ensures.word in
+    let second = rw word at c.along-b.ensures in
+    walking_more c.loop-p.invariant given.1
+    c.first_wtxid-m.ensures
+    (omega (arith, taken, c.hashes-count.ensures))
+    (quad_is quad c.hash_in-g.ensures) (quad_small quad)
+    c.along-a.ensures second c.either.ensures
+    c.put_owner.ensures
+    (omega (arith, c.put_owner.auto)) given.2
+
+pub shape_of-out : goal.shape_of-out
+shape_of-out c = c.loop-p.invariant.long
+
+pub returns : goal.returns
+returns c = walking_done c.loop-p.invariant c.requires.1 (omega (arith, c.loop-p-test.false, c.hashes-count.ensures))

@@ -1,0 +1,16 @@
+use mathlib.Core.Path.{sym}
+use Rattle.store.proofs.Frame.{places-counted}
+use Rattle.package_stages.specs.Dead.{filter, live}
+use Rattle.package_stages.proofs.Lending.{lent, came_back}
+use borrow.Author.Rules.{rules}
+use Rattle.package_stages.proofs.dead.drop_dead.Goals as goal
+
+pub returns : goal.returns
+returns c = λ f h.
+    let part = c.places_part-p.ensures in
+    let held = lent h part in
+    let n = sym (c.held_places-n.ensures.field f h) in
+    let m = c.compact-m.ensures.count f.head.places f.places n held in
+    places-counted h (search rules) (filter live f.places) c.compact-m.result (sym m) (came_back h part _ _
+    c.compact-m.auto.0 (c.compact-m.ensures.region f.head.places f.places n held))
+    c.put.ensures.word

@@ -1,0 +1,48 @@
+use native.Mathlib.Omega.{arith}
+use native.Mathlib.Nat.{le_refl}
+use Prim.Native.Nat.{ℕ, ◌-◌, ◌<◌}
+use mathlib.Core.Path.{◌≡◌, ap, subst, ◌∙◌}
+use lib.ListN.{length, take}
+use lib.Seq.{take_all}
+use Rattle.lent_lists.specs.Lists.{hashes_in}
+use Rattle.regions.specs.Rows.{quad_number}
+use Rattle.regions.proofs.Order.{number_quad}
+use Rattle.places.specs.Places.{blank}
+use Rattle.package_stages.specs.Records.{ListedIn}
+use Rattle.package_stages.proofs.Filling.{filled_none, listed-shown, listed-inside, filled_more}
+use Rattle.package_stages.proofs.flat.push_wtxids.Goals as goal
+
+pub loop-j-init : goal.loop-j-init
+loop-j-init c = (filled_none c.args.i (hashes_in c.args.list.now), c.hashes-n.ensures)
+
+pub hash_in-h-requires : goal.hash_in-h-requires
+hash_in-h-requires c = omega (arith, c.loop-j.invariant.1, c.loop-j-test.true)
+
+pub push_wtxid-requires : goal.push_wtxid-requires
+push_wtxid-requires c = (
+  listed-shown c.requires.0 (blank 0 0) c.loop-j.invariant.0.turns,
+  listed-inside c.requires.0 (blank 0 0) c.loop-j.invariant.0.turns,
+  omega (arith, c.requires.1, c.loop-j.invariant.1, c.loop-j-test.true),
+)
+
+pub loop-j-preserved : goal.loop-j-preserved
+loop-j-preserved c =
+    let inv = c.loop-j.invariant in
+    let l : c.loop-j.j
+    < length (hashes_in c.args.list.now) =
+    omega (arith, inv.1, c.loop-j-test.true) in
+    let x = ap quad_number c.hash_quad-q.ensures.words_are ∙ number_quad _ ∙ c.hash_in-h.ensures in (
+      filled_more c.requires.0 inv.0 l x c.push_wtxid.auto.0
+          c.push_wtxid.ensures,
+      inv.1,
+    )
+
+pub shape_of-s : goal.shape_of-s
+shape_of-s c = c.loop-j.invariant.0.long
+
+pub returns : goal.returns
+returns c =
+    let hs = hashes_in c.args.list.now in
+    let e : c.loop-j.j ≡ length hs = omega (arith, c.loop-j.invariant.0.most, c.loop-j.invariant.1, c.loop-j-test.false) in
+    subst (ListedIn c.args.s.now c.loop-j.s c.args.i)
+    (ap (λ (j : ℕ). take j hs) e ∙ take_all (length hs) hs (le_refl (length hs))) c.loop-j.invariant.0.turns

@@ -1,0 +1,39 @@
+use Prim.Native.Nat.{ℕ}
+use mathlib.Core.Path.{ap, subst, ◌∙◌}
+use lib.Dec.{eqb}
+use Rattle.ident.specs.Words.{key_num}
+use Rattle.machine.specs.Table.{at}
+use Rattle.store.specs.Flat.{flat_of, row_of}
+use Rattle.store.proofs.Bits.{bit_one}
+use Rattle.requests.specs.Changes.{Spans}
+use Rattle.requests.proofs.Keeping.{kept_shown, from_at, to_at}
+use Rattle.requests.proofs.Pushing.{mark_of}
+use Rattle.package_stages.proofs.Owners.{nobody, owner-is}
+use Rattle.package_stages.proofs.request_at.Goals as goal
+
+pub owner_in-o-requires : goal.owner_in-o-requires
+owner_in-o-requires c = (kept_shown c.requires, c.window_of-w.ensures.order, c.window_of-w.ensures.most)
+
+pub mark_in-m-requires : goal.mark_in-m-requires
+mark_in-m-requires c = (kept_shown c.requires, c.window_of-w.ensures.most)
+
+pub returns : goal.returns
+returns c =
+    let k = key_num c.args.k in
+    let key = c.key_words-key.ensures in
+    let win = c.window_of-w.ensures in
+    record {
+      spans = subst (λ (x : ℕ). Spans c.args.s.now x c.window_of-w.result.from
+          c.window_of-w.result.to) key.number win;
+      is = λ st s w.
+          let d = row_of (at k st.table) nobody in
+          let from = from_at st s k key.small key.number (win.from_is st s w) in
+          let to = to_at st s k key.small key.number (win.to_is st s w) in
+          let o = owner-is st s k from to d (c.owner_in-o.ensures (flat_of st) d w) in
+          record {
+            owner = o.connection;
+            deadline = o.deadline;
+            stage = c.Stage-at.ensures st s w;
+            mark = ap (λ (x : ℕ). eqb x 1) (c.mark_in-m.ensures.is (flat_of st) d w ∙ mark_of st s k d from to) ∙ bit_one (at k st.table).fallback;
+          };
+    }

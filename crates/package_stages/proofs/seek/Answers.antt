@@ -1,0 +1,60 @@
+use native.Mathlib.Omega.{arith}
+use Prim.Native.Nat.{ℕ, ◌<◌}
+use mathlib.Core.Path.{sym, ap, ◌∙◌}
+use lib.Dec.{ltb}
+use lib.ListN.{length}
+use Rattle.ident.specs.Words.{hash_num}
+use Rattle.regions.specs.Rows.{quad_number}
+use Rattle.regions.proofs.Order.{number_quad}
+use Rattle.places.specs.Places.{blank}
+use Rattle.machine.proofs.Tests.{never}
+use Rattle.store.specs.Flat.{flat_of, places_of}
+use Rattle.store.proofs.Frame.{sizes}
+use Rattle.requests.proofs.Keeping.{kept_shown}
+use Rattle.package_stages.proofs.Seeking.{head-hash, sought_at, tested, missing}
+use Rattle.package_stages.proofs.seek.Goals as goal
+
+pub seek_place-at-requires : goal.seek_place-at-requires
+seek_place-at-requires c = kept_shown c.requires
+
+pub held_places-requires : goal.held_places-requires
+held_places-requires c = let z = kept_shown c.requires in omega (arith, z.sizes.long)
+
+pub place_at-p-requires : goal.place_at-p-requires
+place_at-p-requires c = (kept_shown c.requires, omega (arith, c.held_places.ensures.word, c.if-at-held_places.true))
+
+pub returns-then-at-held_places : goal.returns-then-at-held_places
+returns-then-at-held_places c = record {
+  small = c.hash_quad-q.ensures.small;
+  most = c.seek_place-at.ensures.most;
+  inside = λ e. omega (arith, c.held_places.ensures.word, c.if-at-held_places.true);
+  is = λ st s w.
+      let h = hash_num c.args.h in
+      let z = sizes w in
+      let d = blank 0 0 in
+      let bd = sought_at st s h c.hash_quad-q.ensures.words_are w c.seek_place-at.ensures in
+      let l : c.seek_place-at.result < length (places_of st.table) =
+      omega (arith, c.held_places.ensures.word, c.if-at-held_places.true) in
+      let x = ap quad_number c.hash_quad-q.ensures.words_are ∙ number_quad h in
+      let y = head-hash _ (c.place_at-p.ensures (flat_of st) d w) in
+      record {
+        bound = bd;
+        held_is = tested st s h c.hash_quad-q.ensures.small bd d l (c.quad_less-after.ensures ∙
+            ap (λ (n : ℕ). ltb n (quad_number c.place_at-p.result.hash)) x ∙ ap (ltb h) y);
+      };
+}
+
+pub returns-else-at-held_places : goal.returns-else-at-held_places
+returns-else-at-held_places c = record {
+  small = c.hash_quad-q.ensures.small;
+  most = c.seek_place-at.ensures.most;
+  inside = λ e. never e;
+  is = λ st s w.
+      let h = hash_num c.args.h in
+      let z = sizes w in
+      let bd = sought_at st s h c.hash_quad-q.ensures.words_are w c.seek_place-at.ensures in
+      record {
+        bound = bd;
+        held_is = sym (missing st s h c.hash_quad-q.ensures.small bd (blank 0 0) (λ l y. omega (arith, c.held_places.ensures.word, c.if-at-held_places.false)));
+      };
+}

@@ -1,0 +1,13 @@
+use native.Mathlib.Omega.{arith}
+use Rattle.words.specs.Words.{words}
+use Rattle.words.proofs.Words.{length-words}
+use Rattle.places.specs.Places.{parents_at, parent_count_at, with_parents}
+use Rattle.places.proofs.Places.{parent-push}
+use Rattle.places.proofs.Changes.{pushed}
+use Rattle.places.proofs.push_parent.Goals as goal
+
+pub returns : goal.returns
+returns c =
+    pushed (words c.args.s.now) c.args.i (omega (arith, length-words c.args.s.now, c.requires)) parents_at parent_count_at c.args.n
+    (λ p. p.parents) with_parents c.args.h (omega arith) (omega arith) c.requires.0 (λ p. parent-push p c.args.h (omega arith) c.args.n c.requires.0)
+    c.write_quad.ensures c.put.ensures.word

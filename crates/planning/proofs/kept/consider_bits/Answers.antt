@@ -1,0 +1,104 @@
+-- `planning::kept::consider_bits` meets its contract.
+use Prim.Native.Nat.{◌+◌, ◌-◌, ◌/◌, ◌≤◌}
+use mathlib.Core.Path.{refl, ◌∙◌}
+use mathlib.Core.List.{[]}
+use native.Mathlib.Omega.{arith}
+use Rattle.words.specs.Words.{words}
+use Rattle.apart.specs.Noting.{hashes_at, picked}
+use Rattle.selecting.proofs.Walked.{scans_start, scans_as, scans_full, scans_more}
+use Rattle.planning.proofs.Keepings.{bit-set, bit-clear, bits_done}
+use Rattle.planning.proofs.kept.consider_bits.Goals as goal
+
+pub loop-j-init : goal.loop-j-init
+loop-j-init c = let z : 0 ≤ c.args.from - c.args.from = omega arith in (
+  (omega arith, c.requires.4.0),
+  refl,
+  refl,
+  scans_as (scans_start (λ st. picked (hashes_at (words c.args.slot.now) c.args.from (c.args.to - c.args.from)) c.args.bits) c.args.v c.requires.0 c.requires.3) _ _ z (λ st l s m. refl),
+)
+
+pub shape_of-s-then-w : goal.shape_of-s-then-w
+shape_of-s-then-w c = c.loop-j.invariant.1
+
+pub shape_of-picks-then-w : goal.shape_of-picks-then-w
+shape_of-picks-then-w c = c.loop-j.invariant.2
+
+pub returns-then-w : goal.returns-then-w
+returns-then-w c = scans_full c.loop-j.invariant.3 (λ st. []) _ (omega (arith, c.loop-j.invariant.0)) c.if-w.true
+
+pub overflow_add-j : goal.overflow_add-j
+overflow_add-j c = omega (arith, c.loop-j-test.true)
+
+pub parent_of-h-requires : goal.parent_of-h-requires
+parent_of-h-requires c = (
+  omega (arith, c.loop-j-test.true, c.requires.4.1),
+  c.requires.5,
+)
+
+pub consider-w-requires : goal.consider-w-requires
+consider-w-requires c = let x = c.loop-j.invariant.3 in (
+  x.kept,
+  c.requires.1,
+  omega (
+    arith,
+    x.roomy.more c.if-w.false,
+    c.loop-j.invariant.2,
+    c.requires.2,
+  ),
+  omega (
+    arith,
+    x.near,
+    c.loop-j.invariant.0,
+    c.loop-j-test.true,
+    c.requires.6,
+  ),
+)
+
+pub loop-j-smaller-then-bit-eq1 : goal.loop-j-smaller-then-bit-eq1
+loop-j-smaller-then-bit-eq1 c = omega (arith, c.loop-j-test.true)
+
+pub loop-j-preserved-then-bit-eq1 : goal.loop-j-preserved-then-bit-eq1
+loop-j-preserved-then-bit-eq1 c = let d : c.loop-j.j - c.args.from + 1 ≤ c.loop-j.j + 1 - c.args.from = omega (
+  arith,
+  c.loop-j.invariant.0,
+) in (
+  (
+    omega (
+      arith,
+      c.before.before.before.before.before.before.before.before.before.before.before.before.loop.invariant.0,
+    ),
+    omega (
+      arith,
+      c.before.before.before.before.before.before.before.before.before.before.before.loop-test.true,
+    ),
+  ),
+  c.before.before.before.before.consider.auto.0 ∙ c.before.before.before.before.before.before.before.before.before.before.before.before.loop.invariant.1,
+  c.before.before.before.before.consider.auto.1.1.1.0 ∙ c.before.before.before.before.before.before.before.before.before.before.before.before.loop.invariant.2,
+  scans_more
+      c.before.before.before.before.before.before.before.before.before.before.before.before.loop.invariant.3 (λ st. picked (hashes_at (words c.before.before.before.before.before.before.before.before.before.before.before.before.before.before.before.before.args.slot.now) (c.before.before.before.before.before.before.before.before.before.before.before.before.loop.j + 1) (c.before.before.before.before.before.before.before.before.before.before.before.before.before.before.before.before.args.to - (c.before.before.before.before.before.before.before.before.before.before.before.before.loop.j + 1))) (c.before.before.before.before.before.before.before.before.before.before.before.before.loop.left / 2)) _ d c.before.before.before.before.before.before.before.before.before.before.if1.false c.before.before.before.before.consider.ensures (λ st l s m. bit-set (words c.before.before.before.before.before.before.before.before.before.before.before.before.before.before.before.before.args.slot.now) c.before.before.before.before.before.before.before.before.before.before.before.before.loop.j c.before.before.before.before.before.before.before.before.before.before.before.before.before.before.before.before.args.to c.before.before.before.before.before.before.before.before.before.before.before.before.loop.left c.before.before.before.before.before.before.before.before.before.before.before.loop-test.true c.before.before.before.before.before.before.before.txid-key.ensures c.before.before.before.before.before.before.before.before.parent_of.ensures c.before.before.before.before.before.before.before.before.before.if2.true),
+)
+
+pub loop-j-smaller : goal.loop-j-smaller
+loop-j-smaller c = omega (arith, c.loop-j-test.true)
+
+pub loop-j-preserved : goal.loop-j-preserved
+loop-j-preserved c = let d : c.loop-j.j - c.args.from ≤ c.loop-j.j + 1 - c.args.from = omega (arith, c.loop-j.invariant.0) in (
+  (
+    omega (arith, c.loop-j.invariant.0),
+    omega
+        (arith, c.loop-j-test.true),
+  ),
+  c.loop-j.invariant.1,
+  c.loop-j.invariant.2,
+  scans_as c.loop-j.invariant.3 (λ
+      st. picked (hashes_at (words c.args.slot.now) (c.loop-j.j + 1) (c.args.to - (c.loop-j.j + 1))) (c.loop-j.left / 2)) _ d (λ st l s m. bit-clear (words c.args.slot.now) c.loop-j.j c.args.to c.loop-j.left c.loop-j-test.true c.if-bit-eq1.false),
+)
+
+pub shape_of-s : goal.shape_of-s
+shape_of-s c = c.loop-j.invariant.1
+
+pub shape_of-picks : goal.shape_of-picks
+shape_of-picks c = c.loop-j.invariant.2
+
+pub returns : goal.returns
+returns c = scans_as c.loop-j.invariant.3 (λ st. []) _ (omega (arith, c.loop-j.invariant.0)) (λ st l s m. bits_done (words c.args.slot.now) c.loop-j.j c.args.to c.loop-j.left (omega (arith, c.loop-j-test.false)))

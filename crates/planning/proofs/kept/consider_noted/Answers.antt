@@ -1,0 +1,24 @@
+-- `planning::kept::consider_noted` meets its contract.
+use mathlib.Core.Path.{refl, sym, subst}
+use Rattle.store.specs.Shown.{Kept}
+use Rattle.apart.proofs.Overdue.{front_lent}
+use Rattle.planning.proofs.Keepings.{both_zero, place-clear, place-scanned}
+use borrow.Author.Rules.{rules}
+use Rattle.planning.proofs.kept.consider_noted.Goals as goal
+
+pub returns-then-low-high : goal.returns-then-low-high
+returns-then-low-high c = let z = both_zero c.note_at-x.result.low c.note_at-x.result.high c.if-low-high.true in place-clear c.note_at-x.ensures z.0 z.1 c.requires.1 c.requires.4
+
+pub consider_place-requires : goal.consider_place-requires
+consider_place-requires c = (
+  subst Kept (sym (front_lent c.args.s.now c.args.m)) c.requires.1,
+  c.requires.2,
+  c.requires.3,
+  c.requires.4,
+  c.parents_in-c.ensures.most,
+  search rules,
+  c.requires.5,
+)
+
+pub returns : goal.returns
+returns c = place-scanned c.note_at-x.ensures _ _ _ c.load.ensures c.parents_in-c.ensures c.requires.0.front c.consider_place.auto.0 refl c.consider_place.ensures

@@ -1,0 +1,39 @@
+-- `planning::kept::consider_place` meets its contract.
+use mathlib.Core.Path.{refl}
+use mathlib.Core.List.{[]}
+use native.Mathlib.Omega.{arith}
+use Rattle.words.specs.Words.{words}
+use Rattle.places.specs.Places.{list_most}
+use Rattle.apart.specs.Noting.{hashes_at, picked_in}
+use Rattle.apart.proofs.Notes.{both_halves}
+use Rattle.selecting.proofs.Walked.{scans_as, scans_for, scans_both}
+use Rattle.planning.proofs.kept.consider_place.Goals as goal
+
+pub consider_bits-requires : goal.consider_bits-requires
+consider_bits-requires c = let x = c.consider_bits-x.ensures in let h = c.first_half-e.ensures in (
+  x.kept,
+  c.requires.1,
+  omega (
+    arith,
+    c.consider_bits-x.auto.1.1.1.1.1.1.0,
+    c.requires.2,
+  ),
+  x.roomy,
+  (h.within, c.requires.4),
+  c.requires.5,
+  omega (
+    arith,
+    x.near,
+    h.within,
+    c.requires.4,
+    c.requires.6,
+  ),
+)
+
+pub returns : goal.returns
+returns c = let h = c.first_half-e.ensures in scans_as (scans_for (λ st.
+    picked_in (hashes_at (words c.args.slot.now) 0 c.args.c) c.args.low c.args.high) (λ st l u w. both_halves (words c.args.slot.now) h c.args.low c.args.high) (scans_both c.consider_bits-x.ensures c.consider_bits.ensures)) (λ st. []) list_most (omega (
+      arith,
+      h.within,
+      c.requires.4,
+    )) (λ st l u w. refl)

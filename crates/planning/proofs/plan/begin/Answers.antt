@@ -1,0 +1,31 @@
+-- `planning::plan::begin` meets its contract.
+use native.Mathlib.Omega.{arith}
+use mathlib.Core.Path.{◌∙◌}
+use Rattle.apart.proofs.OneOwner.{all_room, front_kept}
+use Rattle.planning.proofs.Planned.{rested_few, expired-parted, room_same, begun}
+use Rattle.planning.proofs.plan.begin.Goals as goal
+
+pub expire-e-requires : goal.expire-e-requires
+expire-e-requires c = c.requires.0
+
+pub phase_kept-w-requires : goal.phase_kept-w-requires
+phase_kept-w-requires c = let x = expired-parted c.expire-e.ensures c.requires.0 in let n = rested_few c.requires.0 in (
+  all_room x.apart (omega (arith, c.expire-e.ensures.most, x.count)),
+  front_kept x.apart,
+  c.requires.1,
+  c.requires.2,
+  omega (arith, c.fresh-v.ensures.chosen),
+  omega (arith, n, c.expire-e.ensures.most, c.fresh-v.ensures.considered),
+)
+
+pub forget-requires : goal.forget-requires
+forget-requires c = let x = expired-parted c.expire-e.ensures c.requires.0 in room_same
+    (all_room x.apart (omega (
+      arith,
+      c.expire-e.ensures.most,
+      x.count,
+    ))) c.phase_kept-w.auto.0
+
+pub returns : goal.returns
+returns c = begun (rested_few c.requires.0) c.expire-e.ensures c.fresh-v.ensures
+    c.phase_kept-w.ensures c.forget.ensures (c.forget.auto.0 ∙ c.phase_kept-w.auto.0) c.forget.auto.1.1.0

@@ -1,0 +1,63 @@
+-- `planning::plan::select_round` meets its contract.
+use Prim.Native.Nat.{◌<◌}
+use mathlib.Core.Path.{refl}
+use mathlib.Core.Option.{none}
+use native.Mathlib.Omega.{arith}
+use Rattle.machine.specs.Limits.{word}
+use Rattle.requests.proofs.Keeping.{kept_shown}
+use Rattle.apart.proofs.OneOwner.{front_within}
+use Rattle.planning.proofs.Planned.{set-parted, started, limit_is, parted-after, plan_is}
+use borrow.Author.Rules.{rules}
+use Rattle.planning.proofs.plan.select_round.Goals as goal
+
+pub held_places-c-requires : goal.held_places-c-requires
+held_places-c-requires c = let z = (kept_shown c.requires.0).sizes.long in omega (arith, z)
+
+pub begin-v-requires : goal.begin-v-requires
+begin-v-requires c = (
+  set-parted c.requires.0 c.set_apart.ensures c.held_places-c.ensures.word,
+  c.requires.1,
+  omega
+      (arith, c.numbers-picks.ensures),
+)
+
+pub slice_bounds-ask_round-end : goal.slice_bounds-ask_round-end
+slice_bounds-ask_round-end c = let y = front_within (set-parted c.requires.0 c.set_apart.ensures c.held_places-c.ensures.word).apart in
+    omega (arith, y, c.begin-v.auto.0)
+
+pub ask_round-r-requires : goal.ask_round-r-requires
+ask_round-r-requires c = let late : c.args.clock < word = omega (
+  arith,
+  c.requires.1,
+) in let k = c.before.before.before.before.before.before.before.before.before.before.before.before.before.before.before.before.before.before.before.before.before.before.before.before.before.requires.0 in (
+  started none late c.before.before.before.before.before.before.before.before.before.before.before.before.before.before.before.set_apart.ensures c.before.before.before.before.before.before.before.begin.ensures c.before.before.before.before.before.before.before.before.before.before.before.before.before.before.before.before.before.before.before.before.before.held-places.ensures.word k.state k.sound k.writes,
+  c.before.before.before.before.before.before.before.before.before.before.before.before.before.before.before.before.before.before.before.before.before.before.before.before.before.requires.1,
+  omega (
+    arith,
+    c.before.before.before.before.before.before.before.before.before.before.before.numbers.ensures,
+    c.before.before.before.before.before.before.before.begin.auto.1.1.1.1.1.0,
+  ),
+  rw (limit_is none late c.before.before.before.before.before.before.before.before.before.before.before.before.before.before.before.set_apart.ensures c.before.before.before.before.before.before.before.begin.ensures c.before.before.before.before.before.before.before.before.before.before.before.before.before.before.before.before.before.before.before.before.before.held-places.ensures.word k.state k.sound k.writes) c.before.before.before.before.before.before.before.before.before.before.before.before.before.before.before.before.before.before.before.before.before.before.before.before.before.requires.2,
+  c.before.before.before.before.before.before.before.begin.ensures.near,
+)
+
+pub put_back-requires : goal.put_back-requires
+put_back-requires c = let late : c.args.clock < word = omega (
+  arith,
+  c.requires.1,
+) in let k = c.before.before.before.before.before.before.before.before.before.before.before.before.before.before.before.before.before.before.before.before.before.before.before.before.before.before.before.before.before.before.before.before.before.requires.0 in parted-after none late
+    c.before.before.before.before.before.before.before.before.before.before.before.before.before.before.before.before.before.before.before.before.before.before.before.set_apart.ensures c.before.before.before.before.before.before.before.before.before.before.before.before.before.before.before.begin.ensures c.before.before.before.before.before.before.before.before.before.before.before.before.before.before.before.before.before.before.before.before.before.before.before.before.before.before.before.before.before.held-places.ensures.word k.state k.sound k.writes (let y = front_within (set-parted c.before.before.before.before.before.before.before.before.before.before.before.before.before.before.before.before.before.before.before.before.before.before.before.before.before.before.before.before.before.before.before.before.before.requires.0 c.before.before.before.before.before.before.before.before.before.before.before.before.before.before.before.before.before.before.before.before.before.before.before.set_apart.ensures c.before.before.before.before.before.before.before.before.before.before.before.before.before.before.before.before.before.before.before.before.before.before.before.before.before.before.before.before.before.held-places.ensures.word).apart in omega (
+      arith,
+      y,
+      c.before.before.before.before.before.before.before.before.before.before.before.before.before.before.before.begin.auto.0,
+    )) c.before.before.before.before.before.before.before.ask-round.auto.0 refl (search rules) c.before.before.before.before.before.before.before.before.before.before.before.before.before.before.before.begin.auto.1.1.0 c.before.before.before.before.before.before.before.ask-round.ensures
+
+pub returns : goal.returns
+returns c = let late : c.args.clock < word = omega (
+  arith,
+  c.requires.1,
+) in λ st s o. plan_is none late c.before.before.before.before.before.before.before.before.before.before.before.before.before.before.before.before.before.before.before.before.before.before.before.before.before.before.set_apart.ensures c.before.before.before.before.before.before.before.before.before.before.before.before.before.before.before.before.before.before.begin.ensures c.before.before.before.before.before.before.before.before.before.before.before.before.before.before.before.before.before.before.before.before.before.before.before.before.before.before.before.before.before.before.before.before.held-places.ensures.word st s o (let y = front_within (set-parted c.before.before.before.before.before.before.before.before.before.before.before.before.before.before.before.before.before.before.before.before.before.before.before.before.before.before.before.before.before.before.before.before.before.before.before.before.requires.0 c.before.before.before.before.before.before.before.before.before.before.before.before.before.before.before.before.before.before.before.before.before.before.before.before.before.before.set_apart.ensures c.before.before.before.before.before.before.before.before.before.before.before.before.before.before.before.before.before.before.before.before.before.before.before.before.before.before.before.before.before.before.before.before.held-places.ensures.word).apart in omega (
+  arith,
+  y,
+  c.before.before.before.before.before.before.before.before.before.before.before.before.before.before.before.before.before.before.begin.auto.0,
+)) c.before.before.before.before.before.before.before.before.before.before.ask-round.auto.0 refl (search rules) c.before.before.before.before.before.before.before.before.before.before.before.before.before.before.before.before.before.before.begin.auto.1.1.0 c.before.before.before.before.before.before.before.before.before.before.ask-round.ensures c.before.before.put_back.ensures

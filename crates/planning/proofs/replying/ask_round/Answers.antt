@@ -1,0 +1,49 @@
+-- `planning::replying::ask_round` meets its contract.
+use mathlib.Core.Option.{none}
+use native.Mathlib.Omega.{arith}
+use Rattle.requests.proofs.Keeping.{kept_shown}
+use Rattle.planning.proofs.Whole.{begun_kept, begun_few, round-keys, marked-after, few_chosen, planned}
+use Rattle.planning.proofs.replying.ask_round.Goals as goal
+
+pub phase_round-w-requires : goal.phase_round-w-requires
+phase_round-w-requires c = let k = kept_shown (begun_kept c.requires.0) in (
+  begun_kept c.requires.0,
+  c.requires.1,
+  c.requires.2,
+  begun_few c.requires.0,
+  omega (
+    arith,
+    c.requires.4,
+    k.sizes.rows,
+    k.sized.rows_few,
+    k.sized.limit,
+  ),
+)
+
+pub finish-requires : goal.finish-requires
+finish-requires c = let x = c.phase_round-w.ensures in (
+  marked-after none x c.requires.0,
+  omega (
+    arith,
+    x.most,
+    c.phase_round-w.auto.1.1.0,
+    c.requires.2,
+  ),
+  x.most,
+  omega (
+    arith,
+    few_chosen none x round-keys c.requires.0,
+    c.requires.3,
+  ),
+)
+
+pub move_ready-requires : goal.move_ready-requires
+move_ready-requires c = let z = (kept_shown (begun_kept c.requires.0)).sizes.long in omega (
+  arith,
+  z,
+  c.phase_round-w.auto.0,
+  c.finish.auto.0,
+)
+
+pub returns : goal.returns
+returns c = planned none c.phase_round-w.ensures c.args.out.now c.finish.ensures (λ st k h w. c.move_ready.ensures k h st w)

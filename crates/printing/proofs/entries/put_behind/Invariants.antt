@@ -1,0 +1,15 @@
+-- `printing::entries::put_behind` meets its contract. The loop's invariant: the first i entries are written.
+use Prim.Native.Nat.{◌+◌, ◌*◌, ◌-◌, ◌≤◌}
+use mathlib.Core.Path.{◌≡◌}
+use lib.ListN.{length}
+use Rattle.claiming.specs.Claiming.{entries_from}
+use Rattle.lines.specs.Text.{Wrote}
+use Rattle.printing.specs.Replies.{entry_texts}
+use Rattle.printing.specs.Given.{behind, entry_room}
+use Rattle.printing.proofs.entries.put_behind.Given as goal
+
+abbrev pub invariant-loop-i : goal.invariant-loop-i
+invariant-loop-i l = (i ≤ l.n) × (length l.to ≡ length l.initial.out) × (l.i ≤ l.at + entry_room * i) × Wrote l.initial.out l.to l.at (behind (entry_texts (entries_from l.answer l.first i))) l.i
+
+abbrev pub decreases-loop-i : goal.decreases-loop-i
+decreases-loop-i l = l.n - i

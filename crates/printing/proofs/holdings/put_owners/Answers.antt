@@ -1,0 +1,52 @@
+-- `printing::holdings::put_owners` meets its contract.
+use Prim.Native.Nat.{◌-◌}
+use native.Mathlib.Omega.{arith}
+use Rattle.lent_lists.specs.Lists.{hashes_in}
+use Rattle.owners.proofs.Listed.{quad_is}
+use Rattle.printing.proofs.Printing.{decimal_end}
+use Rattle.printing.proofs.OwnerLists.{telling_none, telling_more, telling_all}
+use Rattle.printing.proofs.holdings.put_owners.Goals as goal
+
+pub put_decimal-to-requires : goal.put_decimal-to-requires
+put_decimal-to-requires c = omega (arith, c.requires.0)
+
+pub loop-i-init : goal.loop-i-init
+loop-i-init c = telling_none (hashes_in c.args.hashes.now) c.args.answer.now
+
+pub hash_in-requires : goal.hash_in-requires
+hash_in-requires c = omega (arith, c.loop-i-test.true, c.hashes-n.ensures)
+
+pub put_owner-to-requires : goal.put_owner-to-requires
+put_owner-to-requires c =
+    let t = c.loop-i-test.true in
+    let n = c.hashes-n.ensures in
+    let v = c.loop-i.invariant in
+    let d = c.put_decimal-to in
+    (omega (arith, t, n, c.requires.2), omega (arith, t, n, v.ends, v.long, decimal_end _ d.ensures, d.auto, c.requires.0, c.requires.1))
+
+pub overflow_add-i : goal.overflow_add-i
+overflow_add-i c =
+    let n = c.hashes-n in
+    omega (arith, c.loop-i-test.true, n.type-inv)
+
+pub loop-i-smaller : goal.loop-i-smaller
+loop-i-smaller c = omega (arith, c.loop-i-test.true)
+
+pub loop-i-preserved : goal.loop-i-preserved
+loop-i-preserved c =
+    let t = c.loop-i-test.true in
+    let n = c.hashes-n.ensures in
+    let v = c.loop-i.invariant in
+    let p = c.put_owner-to in
+    let d = c.put_decimal-to in
+    telling_more (hashes_in c.args.hashes.now) c.args.answer.now v (omega (arith, t, n))
+    (quad_is c.hash_quad-h.ensures c.hash_in.ensures)
+    (omega (arith, t, n, v.ends, decimal_end _ d.ensures, d.auto, c.requires.0, c.requires.1)) (omega (arith, p.auto)) p.ensures
+
+pub shape_of-out : goal.shape_of-out
+shape_of-out c = omega (arith, c.loop-i.invariant.long, c.put_decimal-to.auto)
+
+pub returns : goal.returns
+returns c =
+    telling_all (hashes_in c.args.hashes.now) c.args.answer.now c.args.passed c.requires.0 c.put_decimal-to.ensures c.loop-i.invariant
+    (omega (arith, c.loop-i-test.false, c.hashes-n.ensures)) c.requires.1

@@ -1,0 +1,27 @@
+-- `public_packages::on_sound::package_calls::release_package` meets its contract: an instance of crates/outcome/proofs/Carried.
+use native.Mathlib.Omega.{arith}
+use Rattle.outcome.proofs.Turns.{some_connection, passed}
+use Rattle.outcome.proofs.Carried.{refused, lists_done}
+use Rattle.public_packages.proofs.Instances.{releases-package}
+use Rattle.soliciting.proofs.Subject.{subject_below}
+use Rattle.outcome.proofs.ListedKeys.{released_typed}
+use Rattle.public_packages.proofs.on_sound.package_calls.release_package.Goals as goal
+
+pub returns-then-refusal-ne0 : goal.returns-then-refusal-ne0
+returns-then-refusal-ne0 c = refused (releases-package _ _ _ _).names c.requires c.in_turn-refusal.ensures c.if-refusal-ne0.true
+
+pub release_package-listed-requires : goal.release_package-listed-requires
+release_package-listed-requires c =
+    let p = passed c.in_turn-refusal.ensures c.if-refusal-ne0.false in
+    (c.need_of-n.ensures.kept, some_connection _ p.connections, omega (arith, p.room))
+
+pub returns : goal.returns
+returns c =
+    let k = released_typed c.requires.state
+    c.requires.sound _ _ _
+    (subject_below c.args.subject
+    c.well-formed.1.1.0) in
+    lists_done (releases-package _ _ _ _) c.requires
+    c.in_turn-refusal.ensures
+    c.if-refusal-ne0.false c.need_of-n.ensures
+    (λ i. omega (arith, c.type_inv.s i)) k c.release_package-listed.ensures

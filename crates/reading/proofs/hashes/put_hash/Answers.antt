@@ -1,0 +1,11 @@
+-- `reading::hashes::put_hash` meets its contract.
+use native.Mathlib.Omega.{arith}
+use Rattle.reading.proofs.Stored.{quad_below, hash-put}
+use Rattle.reading.proofs.hashes.put_hash.Goals as goal
+
+pub returns : goal.returns
+returns c =
+    let q = c.args.q in
+    hash-put c.args.hashes.now c.args.i
+    c.requires.0 c.requires.1 q (quad_below q (omega arith) (omega arith) (omega arith) (omega arith))
+    c.hash_of.result c.hash_of.ensures c.put_hash.ensures

@@ -1,0 +1,25 @@
+use Prim.Native.Nat.{min, ◌+◌, ◌*◌, ◌/◌, ◌%◌}
+use mathlib.Core.Path.{◌≡◌, ap, ◌∙◌}
+use Rattle.regions.specs.declared.Row.{Row}
+use Rattle.store.specs.Flat.{row_of}
+use Rattle.requests.specs.Changes.{candidate_of, witness_as}
+use Rattle.requests.proofs.Adopting.{adopted-row}
+use Rattle.requests.proofs.adopted_row.Goals as goal
+
+pub returns : goal.returns
+returns c = λ q d e.
+    let k = c.args.c in
+    let w = c.witness_as-w.result in
+    let m : w ≡ witness_as c.args.same k.item.kind (row_of q d).bits =
+    c.witness_as-w.ensures.0 ∙
+    ap (λ (a : Row). witness_as c.args.same k.item.kind a.bits) e in
+    rw (c.least.ensures, c.least-2.ensures)
+    (ap (λ (a : Row). record {
+      hash = a.hash;
+      conn = a.conn;
+      ready = min a.ready k.ready;
+      prio = min a.prio k.priority;
+      deadline = a.deadline;
+      bits = a.bits % 2 + 2 * w + 4 + 8 * (a.bits / 8 % 2) + 16 * (a.bits / 16 % 2);
+    }) e
+    ∙ adopted-row q (candidate_of k) d c.args.same m)

@@ -1,0 +1,58 @@
+use native.Mathlib.Omega.{arith}
+use mathlib.Core.Path.{◌∙◌}
+use Rattle.ident.specs.Words.{key_num}
+use Rattle.machine.specs.Table.{at}
+use Rattle.store.specs.Flat.{flat_of, rows_of}
+use Rattle.store.proofs.RowsAt.{among}
+use Rattle.requests.proofs.Keeping.{kept_shown, conns_in_order, from_at, to_at}
+use Rattle.requests.proofs.Cutting.{ahead_in, found_at, row_there}
+use Rattle.machine.proofs.Table.{lawful_at}
+use Rattle.requests.proofs.Owning.{replaced-shown, disown_made, owner-is, owner_at_lem}
+use Rattle.requests.proofs.disown.Goals as goal
+
+pub row_at-r-requires : goal.row_at-r-requires
+row_at-r-requires c = (kept_shown c.requires, omega (arith, c.spot_of_lem.ensures.spans.most, c.if-i-p.true))
+
+pub set_row-requires : goal.set_row-requires
+set_row-requires c = (
+  kept_shown c.requires,
+  omega (arith, c.spot_of_lem.ensures.spans.most, c.if-i-p.true),
+)
+
+pub recount-requires : goal.recount-requires
+recount-requires c =
+    let kept = c.requires in (
+      replaced-shown kept.state kept.sound c.spot_of_lem.result.at
+          c.unowned_row.result (c.set_row.ensures (flat_of kept.state) kept.writes),
+      omega arith,
+    )
+
+pub returns-then-i-p : goal.returns-then-i-p
+returns-then-i-p c = λ st s w p.
+    let k = key_num c.args.k in
+    let n = c.args.n in
+    let key = c.key_words-key.ensures in
+    let f = among n (at k st.table).candidates (owner-is n (at k st.table).owner p.owns (at k st.table).candidates (lawful_at k st.table s.bounded.lawful).owner) in
+    let from = from_at st s k key.small key.number
+    (c.spot_of_lem.ensures.spans.from_is st s w) in
+    let to = to_at st s k key.small key.number
+    (c.spot_of_lem.ensures.spans.to_is st s w) in
+    let i = found_at k n 0 st.table s.bounded.ordered f from to
+    (c.spot_of_lem.ensures.met.first (flat_of st) w) in
+    let q = c.row_at-r.ensures (flat_of st)
+    c.row_at-r.result w ∙
+    row_there k n 0 st.table s.bounded.ordered f c.row_at-r.result i in
+    let v = owner_at_lem n (at k st.table).owner p.owns in
+    disown_made st s k n f i q v.owner v.is v.name p.info p.bare c.unowned_row.ensures
+    (c.recount.ensures _ (conns_in_order (rows_of st.table)) (c.set_row.ensures (flat_of st) w))
+
+pub returns-else-i-p : goal.returns-else-i-p
+returns-else-i-p c = λ st s w p.
+    let k = key_num c.args.k in
+    let n = c.args.n in
+    let key = c.key_words-key.ensures in
+    let f = among n (at k st.table).candidates (owner-is n (at k st.table).owner p.owns (at k st.table).candidates (lawful_at k st.table s.bounded.lawful).owner) in
+    let from = from_at st s k key.small key.number (c.spot_of_lem.ensures.spans.from_is st s w) in
+    let to = to_at st s k key.small key.number (c.spot_of_lem.ensures.spans.to_is st s w) in
+    let i = found_at k n 0 st.table s.bounded.ordered f from to (c.spot_of_lem.ensures.met.first (flat_of st) w) in
+    absurd (omega (arith, ahead_in k n 0 st.table s.bounded.ordered f, c.if-i-p.false))

@@ -1,0 +1,46 @@
+use native.Mathlib.Omega.{arith}
+use Prim.Native.Nat.{◌<◌, ◌≤◌}
+use mathlib.Core.Path.{refl, ◌∙◌}
+use lib.ListN.{length}
+use Rattle.ident.specs.Words.{key_num}
+use Rattle.machine.specs.Table.{at}
+use Rattle.store.specs.Flat.{flat_of, rows_of}
+use Rattle.store.proofs.Frame.{sizes}
+use Rattle.requests.specs.Changes.{candidate_of}
+use Rattle.requests.proofs.Keeping.{kept_shown, conns_in_order, from_at, to_at}
+use Rattle.requests.proofs.Pushing.{its-hash, its-kind, mark_of, added-shown, pushed}
+use Rattle.requests.proofs.push.Goals as goal
+
+pub mark_in-mark-requires : goal.mark_in-mark-requires
+mark_in-mark-requires c = (kept_shown c.requires.0, c.window_of-w.ensures.most)
+
+pub add_row-requires : goal.add_row-requires
+add_row-requires c = (
+  kept_shown c.requires.0,
+  c.window_of-w.ensures.most,
+  c.requires.1,
+)
+
+pub count_in-requires : goal.count_in-requires
+count_in-requires c =
+    let kept = c.requires.0 in
+    let z = sizes kept.writes in
+    let rs = rows_of kept.state.table in
+    let l : c.window_of-w.result.to ≤ length rs =
+    omega (arith, c.window_of-w.ensures.most) in
+    let m : length rs < kept.state.limit = omega (arith, c.requires.1) in
+    added-shown kept.state kept.sound c.new_row-r.result (c.add_row.ensures (flat_of kept.state) kept.writes) l m
+
+pub returns : goal.returns
+returns c = λ st s w o.
+    let k = key_num c.args.k in
+    let key = c.key_words-key.ensures in
+    let from = from_at st s k key.small key.number (c.window_of-w.ensures.from_is st s w) in
+    let to = to_at st s k key.small key.number (c.window_of-w.ensures.to_is st s w) in
+    let m = c.mark_in-mark.ensures.is
+    (flat_of st) c.new_row-r.result w ∙
+    mark_of st s k c.new_row-r.result from to in
+    let r = c.new_row-r.ensures (at k st.table) (key.hash ∙ its-hash st s k key.small)
+    (key.kind ∙ its-kind st s k key.small) o m in
+    pushed st s k (candidate_of c.args.c) to r o refl
+    (c.count_in.ensures _ (conns_in_order (rows_of st.table)) (c.add_row.ensures (flat_of st) w))

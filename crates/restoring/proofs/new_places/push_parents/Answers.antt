@@ -1,0 +1,49 @@
+-- `restoring::new_places::push_parents` meets its contract. The loop's invariant: the first j hashes are in.
+use native.Mathlib.Omega.{arith}
+use native.Mathlib.Nat.{le_refl}
+use Prim.Native.Nat.{ℕ, ◌-◌, ◌<◌}
+use mathlib.Core.Path.{◌≡◌, ap, subst, ◌∙◌}
+use lib.ListN.{length, take}
+use lib.Seq.{take_all}
+use Rattle.lent_lists.specs.Lists.{hashes_in}
+use Rattle.regions.specs.Rows.{quad_number}
+use Rattle.places.specs.Places.{blank}
+use Rattle.regions.proofs.Order.{number_quad}
+use Rattle.restoring.specs.Given.{ParentsIn}
+use Rattle.restoring.proofs.ParentLists.{filled_none, parents-shown, parents-inside, filled_more}
+use Rattle.restoring.proofs.new_places.push_parents.Goals as goal
+
+pub loop-j-init : goal.loop-j-init
+loop-j-init c = (filled_none c.args.i (hashes_in c.args.list.now), c.hashes-n.ensures)
+
+pub hash_in-h-requires : goal.hash_in-h-requires
+hash_in-h-requires c = omega (arith, c.loop-j.invariant.1, c.loop-j-test.true)
+
+pub push_parent-requires : goal.push_parent-requires
+push_parent-requires c = (
+  parents-shown c.requires.0 (blank 0 0) c.loop-j.invariant.0.turns,
+  parents-inside c.requires.0 (blank 0 0) c.loop-j.invariant.0.turns,
+  omega (arith, c.requires.1, c.loop-j.invariant.1, c.loop-j-test.true),
+)
+
+pub loop-j-preserved : goal.loop-j-preserved
+loop-j-preserved c =
+    let inv = c.loop-j.invariant in
+    let l : c.loop-j.j
+    < length (hashes_in c.args.list.now) =
+    omega (arith, inv.1, c.loop-j-test.true) in
+    let x = ap quad_number c.hash_quad-q.ensures.words_are ∙ number_quad _ ∙ c.hash_in-h.ensures in (
+      filled_more c.requires.0 inv.0 l x c.push_parent.auto.0
+          c.push_parent.ensures,
+      inv.1,
+    )
+
+pub shape_of-s : goal.shape_of-s
+shape_of-s c = c.loop-j.invariant.0.long
+
+pub returns : goal.returns
+returns c =
+    let hs = hashes_in c.args.list.now in
+    let e : c.loop-j.j ≡ length hs = omega (arith, c.loop-j.invariant.0.most, c.loop-j.invariant.1, c.loop-j-test.false) in
+    subst (ParentsIn c.args.s.now c.loop-j.s c.args.i)
+    (ap (λ (j : ℕ). take j hs) e ∙ take_all (length hs) hs (le_refl (length hs))) c.loop-j.invariant.0.turns

@@ -1,0 +1,23 @@
+-- `saving::candidate_lines::next_item` meets its contract.
+use native.Mathlib.Omega.{arith}
+use Rattle.saving.proofs.Texts.{item-laid}
+use Rattle.saving.proofs.candidate_lines.next_item.Goals as goal
+
+pub put_letter-e-requires : goal.put_letter-e-requires
+put_letter-e-requires c = omega (arith, c.put_text-from.ensures.next)
+
+pub put_hash-requires : goal.put_hash-requires
+put_hash-requires c = omega (arith, c.put_text-from.ensures.next, c.put_letter-e.ensures.0)
+
+pub returns : goal.returns
+returns c = (
+  omega (
+    arith,
+    c.put_text-from.ensures.next,
+    c.put_letter-e.ensures.0,
+    c.put_hash.ensures.0,
+  ),
+  item-laid _ _
+      c.put_text-from.ensures c.put_letter-e.ensures.1
+      c.put_hash.ensures.1,
+)

@@ -1,0 +1,45 @@
+-- `saving::candidate_lines::put_candidates` meets its contract. The loop's invariant: the rows before i are done.
+use Prim.Native.Nat.{◌-◌}
+use mathlib.Core.Path.{◌≡◌, refl, ◌∙◌}
+use native.Mathlib.Omega.{arith}
+use Rattle.saving.proofs.Candidates.{rows_none, rows-laid}
+use Rattle.saving.proofs.candidate_lines.put_candidates.Goals as goal
+
+pub loop-i-init : goal.loop-i-init
+loop-i-init c = (
+  omega arith,
+  c.requires.1,
+  refl,
+  omega arith,
+  rows_none c.args.s.now c.args.from c.args.out.now
+      c.args.at,
+)
+
+pub row_at-r-requires : goal.row_at-r-requires
+row_at-r-requires c = (c.requires.0, omega (arith, c.requires.2))
+
+pub put_candidate-e-requires : goal.put_candidate-e-requires
+put_candidate-e-requires c = omega (arith, c.loop-i.invariant.3, c.requires.3)
+
+pub loop-i-preserved : goal.loop-i-preserved
+loop-i-preserved c = (
+  omega (arith, c.loop-i.invariant.0),
+  omega arith,
+  c.put_candidate-e.ensures.1.long ∙ c.loop-i.invariant.2,
+  omega (
+    arith,
+    c.put_candidate-e.ensures.0,
+    c.loop-i.invariant.3,
+  ),
+  rows-laid _ _ _ _ c.loop-i.invariant.0 (omega (
+    arith,
+    c.requires.2,
+  )) _ c.loop-i.invariant.4
+      c.row_at-r.ensures c.put_candidate-e.ensures.1,
+)
+
+pub shape_of-out : goal.shape_of-out
+shape_of-out c = c.loop-i.invariant.2
+
+pub returns : goal.returns
+returns c = let e : c.loop-i.i ≡ c.args.to = omega arith in (omega (arith, c.loop-i.invariant.3), rw e at c.loop-i.invariant.4)

@@ -1,0 +1,30 @@
+-- `saving::fields::put_number` meets its contract.
+use native.Mathlib.Omega.{arith}
+use Rattle.saving.proofs.Laying.{taken, number_end, number-laid}
+use Rattle.saving.proofs.fields.put_number.Goals as goal
+
+pub slice_bounds-t-end : goal.slice_bounds-t-end
+slice_bounds-t-end c = omega (arith, number_end _ c.put_decimal-e.ensures, c.put_decimal-e.auto)
+
+pub slice_bounds-put_text-end : goal.slice_bounds-put_text-end
+slice_bounds-put_text-end c = taken c.put_decimal-e.result c.put_decimal-e.new.0 (omega (
+  arith,
+  number_end _
+      c.put_decimal-e.ensures,
+  c.put_decimal-e.auto,
+))
+
+pub put_text-requires : goal.put_text-requires
+put_text-requires c = omega (
+  arith,
+  taken c.put_decimal-e.result c.put_decimal-e.new.0 (omega (
+    arith,
+    number_end _
+        c.put_decimal-e.ensures,
+    c.put_decimal-e.auto,
+  )),
+  number_end _ c.put_decimal-e.ensures,
+)
+
+pub returns : goal.returns
+returns c = number-laid _ c.put_decimal-e.ensures c.put_text.ensures

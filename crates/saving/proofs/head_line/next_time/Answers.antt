@@ -1,0 +1,10 @@
+-- `saving::head_line::next_time` meets its contract.
+use native.Mathlib.Omega.{arith}
+use Rattle.saving.proofs.Texts.{time_none, time_some}
+use Rattle.saving.proofs.head_line.next_time.Goals as goal
+
+pub returns-in-None : goal.returns-in-None
+returns-in-None c = (omega (arith, c.put_text.ensures.next), time_none c.in-None.is c.put_text.ensures)
+
+pub returns-in-Is : goal.returns-in-Is
+returns-in-Is c = (omega (arith, c.next_number.ensures.0), time_some c.in-Is.is c.next_number.ensures.1)

@@ -1,0 +1,67 @@
+-- `saving::request_lines::next_package` meets its contract.
+use native.Mathlib.Omega.{arith}
+use Rattle.saving.proofs.Places.{none_laid, package-laid}
+use Rattle.saving.proofs.request_lines.next_package.Goals as goal
+
+pub put_text-requires : goal.put_text-requires
+put_text-requires c = omega (arith, c.requires.2)
+
+pub returns-then-stage-lt-AWAITING : goal.returns-then-stage-lt-AWAITING
+returns-then-stage-lt-AWAITING c = (omega (arith, c.put_text.ensures.next), none_laid c.if-stage-lt-AWAITING.true c.put_text.ensures)
+
+pub combined_at-c-requires : goal.combined_at-c-requires
+combined_at-c-requires c = (c.requires.0, c.requires.1)
+
+pub wtxids-n-requires : goal.wtxids-n-requires
+wtxids-n-requires c = (c.requires.0, c.requires.1)
+
+pub next_hash-e-requires : goal.next_hash-e-requires
+next_hash-e-requires c = omega (arith, c.requires.2)
+
+pub next_number-e-requires : goal.next_number-e-requires
+next_number-e-requires c = omega (arith, c.requires.2, c.next_hash-e.ensures.0)
+
+pub next_wtxids-e-requires : goal.next_wtxids-e-requires
+next_wtxids-e-requires c = (
+  c.requires.0,
+  c.requires.1,
+  c.wtxids-n.ensures.0,
+  omega (
+    arith,
+    c.requires.2,
+    c.wtxids-n.ensures.0,
+    c.next_hash-e.ensures.0,
+    c.next_number-e.ensures.0,
+  ),
+)
+
+pub next_bool-requires : goal.next_bool-requires
+next_bool-requires c = omega (
+  arith,
+  c.requires.2,
+  c.wtxids-n.ensures.0,
+  c.next_hash-e.ensures.0,
+  c.next_number-e.ensures.0,
+  c.next_wtxids-e.ensures.0,
+)
+
+pub returns : goal.returns
+returns c = (
+  omega (
+    arith,
+    c.wtxids-n.ensures.0,
+    c.next_hash-e.ensures.0,
+    c.next_number-e.ensures.0,
+    c.next_wtxids-e.ensures.0,
+    c.next_bool.ensures.0,
+  ),
+  package-laid _ (omega (
+    arith,
+    c.if-stage-lt-AWAITING.false,
+  ))
+      c.combined_at-c.ensures
+      c.wtxids-n.ensures.1
+      c.next_hash-e.ensures.1
+      c.next_number-e.ensures.1
+      c.next_wtxids-e.ensures.1 c.next_bool.ensures.1,
+)

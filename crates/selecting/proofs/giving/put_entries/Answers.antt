@@ -1,0 +1,67 @@
+-- `selecting::giving::put_entries` meets its contract.
+use Prim.Native.Nat.{◌-◌}
+use mathlib.Core.Path.{◌≡◌, refl, ap, ◌∙◌}
+use mathlib.Core.List.{List}
+use native.Mathlib.Omega.{arith}
+use lib.ListN.{take}
+use lib.Seq.{take_all}
+use Rattle.machine.specs.State.{Entry}
+use Rattle.machine.specs.Step.{entries_answer, written}
+use Rattle.requests.proofs.Keeping.{kept_shown}
+use Rattle.claiming.specs.Claiming.{entry_of}
+use Rattle.claiming.proofs.Stored.{written_none}
+use Rattle.selecting.proofs.Putting.{puts_more}
+use Rattle.selecting.proofs.giving.put_entries.Goals as goal
+
+pub loop-j-init : goal.loop-j-init
+loop-j-init c = (omega arith, refl, λ f l w q g. written_none c.args.out.now)
+
+pub offset_bounds-numbers-j : goal.offset_bounds-numbers-j
+offset_bounds-numbers-j c = omega (arith, c.loop-j-test.true, c.requires.2, c.well-formed.1.0)
+
+pub bounds-numbers-j : goal.bounds-numbers-j
+bounds-numbers-j c = omega (arith, c.loop-j-test.true, c.requires.2)
+
+pub row_at-r-requires : goal.row_at-r-requires
+row_at-r-requires c = (
+  kept_shown c.requires.0,
+  c.requires.1 c.loop-j.j
+      c.loop-j-test.true,
+)
+
+pub put_entry-requires : goal.put_entry-requires
+put_entry-requires c = omega (
+  arith,
+  c.loop-j-test.true,
+  c.loop-j.invariant.1,
+  c.requires.3,
+)
+
+pub overflow_add-j : goal.overflow_add-j
+overflow_add-j c = omega (arith, c.loop-j-test.true)
+
+pub loop-j-smaller : goal.loop-j-smaller
+loop-j-smaller c = omega (arith, c.loop-j-test.true)
+
+pub loop-j-preserved : goal.loop-j-preserved
+loop-j-preserved c = (
+  omega (arith, c.loop-j-test.true),
+  c.put_entry.auto.0 ∙ c.loop-j.invariant.1,
+  λ f l w q g.
+      puts_more f.rows l c.args.numbers.now
+      c.args.out.now
+      c.args.n c.loop-j.j
+      (entry_of c.entry_of-e.result) c.row_at-r.result q
+      c.loop-j-test.true g (c.row_at-r.ensures f
+      c.row_at-r.result w) c.entry_of-e.ensures
+      (c.loop-j.invariant.2 f l w q g) c.put_entry.ensures
+      c.requires.3,
+)
+
+pub shape_of-out : goal.shape_of-out
+shape_of-out c = c.loop-j.invariant.1
+
+pub returns : goal.returns
+returns c = λ f l w q g.
+    let e : take c.loop-j.j l ≡ l = take_all c.loop-j.j l (omega (arith, c.loop-j-test.false, q)) in
+    c.loop-j.invariant.2 f l w q g ∙ ap (λ (x : List Entry). written (entries_answer x) c.args.out.now) e

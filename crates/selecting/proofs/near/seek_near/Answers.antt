@@ -1,0 +1,16 @@
+-- `selecting::near::seek_near` meets its contract.
+use native.Mathlib.Omega.{arith}
+use Prim.Native.Nat.{◌≤◌}
+use lib.ListN.{length}
+use Rattle.store.proofs.Frame.{sizes, rows-lent}
+use Rattle.store.proofs.Searches.{row_sought}
+use Rattle.selecting.proofs.near.seek_near.Goals as goal
+
+pub returns : goal.returns
+returns c = record {
+  most = omega (arith, c.seek_in.ensures, c.rows-n.ensures);
+  bound = λ f h.
+      let z = sizes h in
+      let few : length f.rows ≤ f.head.limit = omega (arith, c.requires) in
+      row_sought f.head.limit f.rows few (rows-lent h (c.limit.ensures.field f h)) (c.rows-n.ensures.field f h) c.seek_in.ensures;
+}

@@ -1,0 +1,13 @@
+-- `selecting::near::window_near` meets its contract.
+use Rattle.requests.proofs.Keeping.{kept_shown}
+use Rattle.selecting.proofs.Nearing.{window_by}
+use Rattle.selecting.proofs.near.window_near.Goals as goal
+
+pub seek_near-from-requires : goal.seek_near-from-requires
+seek_near-from-requires c = kept_shown c.requires
+
+pub seek_near-to-requires : goal.seek_near-to-requires
+seek_near-to-requires c = kept_shown c.requires
+
+pub returns : goal.returns
+returns c = window_by c.requires c.key_words-k.ensures c.seek_near-from.ensures c.seek_near-to.ensures

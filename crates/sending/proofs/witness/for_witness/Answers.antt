@@ -1,0 +1,47 @@
+-- `sending::witness::for_witness` meets its contract.
+use mathlib.Core.Path.{sym, ◌∙◌}
+use borrow.Author.Tests.{not-true, not-false}
+use Rattle.words.specs.Words.{words}
+use Rattle.claiming.specs.Claiming.{entry_of}
+use Rattle.sending.proofs.Witnessed.{looked_up, stays_other, stays_unmarked, stays_unlisted, turns}
+use Rattle.sending.proofs.witness.for_witness.Goals as goal
+
+pub returns-then-not-is_transaction : goal.returns-then-not-is_transaction
+returns-then-not-is_transaction c =
+    let a = c.args in
+    let k = c.is_transaction in
+    record {
+      entry = λ st s w. stays_other (words a.witnesses.now) st.table (entry_of a.e) (sym k.ensures ∙ not-true k.result c.if-not-is_transaction.true-raw);
+      known = c.requires.1;
+    }
+
+pub returns-then-not-marked : goal.returns-then-not-marked
+returns-then-not-marked c =
+    let a = c.args in
+    let m = c.marked in
+    record {
+      entry = λ st s w. stays_unmarked (words a.witnesses.now) st.table (entry_of a.e) (sym (not-true m.result c.if-not-marked.true-raw) ∙ m.ensures st s w);
+      known = c.requires.1;
+    }
+
+pub returns-then-not-asked : goal.returns-then-not-asked
+returns-then-not-asked c =
+    let a = c.args in
+    let l = c.look_up-asked in
+    record {
+      entry = λ st s w. stays_unlisted (words a.witnesses.now) st.table (entry_of a.e) (sym (not-true l.result.listed c.if-not-asked.true) ∙ l.ensures.1);
+      known = looked_up (words a.witnesses.now) l.ensures.0 l.ensures.1;
+    }
+
+pub returns : goal.returns
+returns c =
+    let a = c.args in
+    let k = c.is_transaction in
+    let m = c.marked in
+    let l = c.look_up-asked in
+    record {
+      entry = λ st s w.
+          turns (words a.witnesses.now) st.table (entry_of a.e) (sym (not-false k.result c.if-not-is_transaction.false-raw) ∙ k.ensures)
+          (sym (not-false m.result c.if-not-marked.false-raw) ∙ m.ensures st s w) (sym (not-false l.result.listed c.if-not-asked.false) ∙ l.ensures.1);
+      known = looked_up (words a.witnesses.now) l.ensures.0 l.ensures.1;
+    }

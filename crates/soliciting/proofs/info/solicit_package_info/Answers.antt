@@ -1,0 +1,114 @@
+-- `soliciting::info::solicit_package_info` meets its contract.
+use native.Mathlib.Omega.{arith}
+use borrow.Author.Tests.{not-true, not-false}
+use Rattle.ident.specs.Words.{hash_num, key_num}
+use Rattle.lent_lists.specs.Lists.{hashes_in}
+use Rattle.machine.proofs.Fail.{Peer}
+use Rattle.requests.specs.Changes.{candidate_of}
+use Rattle.soliciting.proofs.Subject.{subject_below}
+use Rattle.soliciting.proofs.Soliciting.{as_soliciting, solicit-barred, announced_kept, solicit-refused, may-keeps, room_left, opened-keeps, solicit_done}
+use Rattle.soliciting.proofs.info.solicit_package_info.Goals as goal
+
+pub may_own-requires : goal.may_own-requires
+may_own-requires c = c.requires.0
+
+pub returns-then-not-may_own : goal.returns-then-not-may_own
+returns-then-not-may_own c =
+    let small = subject_below c.args.subject c.well-formed.1.1.0 in
+    solicit-barred c.args.n (hash_num c.args.subject.0) (hashes_in c.args.parents.now) c.args.clock (record { positive = c.requires.1; small = omega arith }) small
+    c.requires.2 c.may_own.ensures (not-true _ c.if-not-may_own.true-raw)
+
+pub announce_at-requires : goal.announce_at-requires
+announce_at-requires c = c.requires.0
+
+pub holds-requires : goal.holds-requires
+holds-requires c =
+    let n = c.args.n in
+    let h = hash_num c.args.subject.0 in
+    let hs = hashes_in c.args.parents.now in
+    let peer : Peer n = record { positive = c.requires.1; small = omega arith } in
+    let small = subject_below c.args.subject c.well-formed.1.1.0 in
+    let may = c.may_own.ensures in
+    let y = not-false c.may_own.result c.if-not-may_own.false-raw in
+    let key = c.wtxid_key-k in
+    let a = as_soliciting n h c.args.clock (key_num key.result) (candidate_of c.soliciting.result) key.ensures
+    c.soliciting.ensures c.announce_at.ensures in
+    announced_kept n h hs c.args.clock peer small c.requires.2 may y a c.requires.0
+
+pub returns-then-not-holds : goal.returns-then-not-holds
+returns-then-not-holds c =
+    let n = c.args.n in
+    let h = hash_num c.args.subject.0 in
+    let hs = hashes_in c.args.parents.now in
+    let peer : Peer n = record { positive = c.requires.1; small = omega arith } in
+    let small = subject_below c.args.subject c.well-formed.1.1.0 in
+    let may = c.may_own.ensures in
+    let y = not-false c.may_own.result
+    c.if-not-may_own.false-raw in
+    let key = c.wtxid_key-k in
+    let a = as_soliciting n h c.args.clock (key_num key.result) (candidate_of c.soliciting.result) key.ensures
+    c.soliciting.ensures c.announce_at.ensures in
+    solicit-refused n h hs c.args.clock peer small c.requires.2 may y a (key_num key.result) key.ensures c.holds.ensures (not-true _ c.if-not-holds.true-raw)
+
+pub own_flagged-requires : goal.own_flagged-requires
+own_flagged-requires c =
+    let n = c.args.n in
+    let h = hash_num c.args.subject.0 in
+    let hs = hashes_in c.args.parents.now in
+    let peer : Peer n = record { positive = c.requires.1; small = omega arith } in
+    let small = subject_below c.args.subject c.well-formed.1.1.0 in
+    let may = c.may_own.ensures in
+    let y = not-false c.may_own.result
+    c.if-not-may_own.false-raw in
+    let key = c.wtxid_key-k in
+    let a = as_soliciting n h c.args.clock (key_num key.result) (candidate_of c.soliciting.result) key.ensures
+    c.soliciting.ensures c.announce_at.ensures in
+    let z = c.holds.ensures in
+    let d = not-false c.holds.result c.if-not-holds.false-raw in (
+      may-keeps n h hs c.args.clock peer small c.requires.2 may y a (key_num key.result) key.ensures z d c.requires.4 c.requires.0,
+      room_left n h hs c.args.clock peer small c.requires.2 may y a (key_num key.result) key.ensures z d c.requires.4 c.requires.0,
+      c.requires.2,
+    )
+
+pub add_parents-requires : goal.add_parents-requires
+add_parents-requires c =
+    let n = c.args.n in
+    let h = hash_num c.args.subject.0 in
+    let hs = hashes_in c.args.parents.now in
+    let peer : Peer n = record { positive = c.requires.1; small = omega arith } in
+    let small = subject_below c.args.subject c.well-formed.1.1.0 in
+    let may = c.may_own.ensures in
+    let y = not-false c.may_own.result
+    c.if-not-may_own.false-raw in
+    let key = c.wtxid_key-k in
+    let a = as_soliciting n h c.args.clock (key_num key.result)
+    (candidate_of c.soliciting.result)
+    key.ensures c.soliciting.ensures
+    c.announce_at.ensures in
+    let d = not-false c.holds.result c.if-not-holds.false-raw in (
+      opened-keeps n h hs c.args.clock peer small c.requires.2 may y a (key_num key.result) key.ensures c.holds.ensures d
+          c.requires.4 c.own_flagged.ensures c.requires.0,
+      c.requires.3,
+    )
+
+pub returns : goal.returns
+returns c =
+    let start : tie.Start =
+    c in
+    let n = start.args.n in
+    let h = hash_num start.args.subject.0 in
+    let hs = hashes_in start.args.parents.now in
+    let peer : Peer n = record { positive = start.pre.1; small = omega arith } in
+    let small = subject_below start.args.subject start.good.1.1.0 in
+    let may = c.may_own.ensures in
+    let y = not-false c.may_own.result
+    c.if-not-may_own.false-raw in
+    let key = c.wtxid_key-k in
+    let a = as_soliciting n h start.args.clock (key_num key.result)
+    (candidate_of c.soliciting.result)
+    key.ensures c.soliciting.ensures
+    c.announce_at.ensures in
+    let d = not-false c.holds.result c.if-not-holds.false-raw in
+    solicit_done n h hs start.args.clock peer small start.pre.2 may y a (key_num key.result) key.ensures
+    c.holds.ensures d start.pre.4 c.own_flagged.ensures
+    c.add_parents.ensures

@@ -1,0 +1,103 @@
+-- `soliciting::same_package` meets its contract.
+use Prim.Native.Nat.{◌-◌, ◌<◌}
+use mathlib.Core.Path.{refl, sym, ◌∙◌}
+use native.Mathlib.Omega.{arith}
+use lib.ListN.{length}
+use borrow.Author.Tests.{not-true, not-false}
+use Rattle.ident.specs.Number.{wtxid}
+use Rattle.ident.specs.Words.{hash_num}
+use Rattle.lent_lists.specs.Lists.{hashes_in}
+use Rattle.machine.specs.Table.{at}
+use Rattle.package_stages.specs.Changes.{wtxids_of, combined_of}
+use Rattle.soliciting.proofs.SamePackage.{compared, other_hash, other_length, other_wtxid, all_same, next_same}
+use Rattle.soliciting.proofs.same_package.Goals as goal
+
+pub returns-then-not-same_hash : goal.returns-then-not-same_hash
+returns-then-not-same_hash c = λ h small st s w p.
+    let start : tie.Start invariant-loop decreases-loop = c in
+    let q = at (wtxid h) st.table in
+    other_hash (combined_of q.«package») (hash_num start.args.combined) (wtxids_of q.«package») (hashes_in start.args.wtxids.now)
+    (compared c.same_hash.ensures (c.combined_at-c.ensures h small st s w p) refl (not-true _ c.if-not-same_hash.true-raw))
+
+pub returns-then-hashes-count : goal.returns-then-hashes-count
+returns-then-hashes-count c = λ h small st s w p.
+    let start : tie.Start invariant-loop decreases-loop = c in
+    let q = at (wtxid h) st.table in
+    let x = compared c.same_hash.ensures (c.combined_at-c.ensures h small st s w p) refl
+    (not-false _ c.if-not-same_hash.false-raw) in
+    other_length (combined_of q.«package») (hash_num start.args.combined) (wtxids_of q.«package») (hashes_in start.args.wtxids.now) x
+    (λ e. c.if-hashes-count.true (c.hashes.ensures ∙ sym e ∙ sym (c.wtxids-count.ensures.1 h small st s w p)))
+
+pub loop-j-init : goal.loop-j-init
+loop-j-init c = (omega arith, λ h small st s w p. refl)
+
+pub wtxid_at-a-requires : goal.wtxid_at-a-requires
+wtxid_at-a-requires c = (
+  c.requires.0,
+  c.requires.1,
+  omega (arith, c.loop-j-test.true, c.wtxids-count.ensures.0),
+)
+
+pub hash_in-b-requires : goal.hash_in-b-requires
+hash_in-b-requires c = omega (arith, c.loop-j-test.true, c.if-hashes-count.false, c.hashes.ensures)
+
+pub same_hash-requires-in-loop-j : goal.same_hash-requires-in-loop-j
+same_hash-requires-in-loop-j c = tt
+
+pub returns-then-not-same_hash-2 : goal.returns-then-not-same_hash-2
+returns-then-not-same_hash-2 c = λ h small st s w p.
+    let j = c.loop-j.j in
+    let a = wtxids_of (at (wtxid h) st.table).«package» in
+    let b = hashes_in c.args.wtxids.now in
+    let n = c.wtxids-count.ensures.1 h small st s w p in
+    let l : j < length a = omega (arith, n, c.loop-j-test.true) in
+    let g : j < length b = omega (
+      arith,
+      c.loop-j-test.true,
+      c.if-hashes-count.false,
+      c.hashes.ensures,
+    ) in
+    let x = compared c.same_hash.ensures
+    (c.combined_at-c.ensures h small st s w p) refl
+    (not-false _ c.if-not-same_hash.false-raw) in
+    other_wtxid (combined_of (at (wtxid h) st.table).«package»)
+    (hash_num c.args.combined) a b x j
+    (c.loop-j.invariant.1 h small st s w p) l g
+    (compared c.same_hash-in-loop-j.ensures (c.wtxid_at-a.ensures h small st s w p l) c.hash_in-b.ensures (not-true _ c.if-not-same_hash-2.true-raw))
+
+pub overflow_add-j : goal.overflow_add-j
+overflow_add-j c = omega (arith, c.loop-j-test.true)
+
+pub loop-j-smaller : goal.loop-j-smaller
+loop-j-smaller c = omega (arith, c.loop-j-test.true)
+
+pub loop-j-preserved : goal.loop-j-preserved
+loop-j-preserved c = (
+  omega (arith, c.loop-j-test.true),
+  λ h small st s w p.
+      let j = c.loop-j.j in
+      let a = wtxids_of (at (wtxid h) st.table).«package» in
+      let b = hashes_in c.args.wtxids.now in
+      let n = c.wtxids-count.ensures.1 h small st s w p in
+      let l : j < length a = omega (arith, n, c.loop-j-test.true) in
+      let g : j < length b = omega (
+        arith,
+        c.loop-j-test.true,
+        c.if-hashes-count.false,
+        c.hashes.ensures,
+      ) in
+      next_same a b j (c.loop-j.invariant.1 h small st s w p) l g
+      (compared c.same_hash-in-loop-j.ensures (c.wtxid_at-a.ensures h small st s w p l) c.hash_in-b.ensures (not-false _ c.if-not-same_hash-2.false-raw)),
+)
+
+pub returns : goal.returns
+returns c = λ h small st s w p.
+    let j = c.loop-j.j in
+    let a = wtxids_of (at (wtxid h) st.table).«package» in
+    let b = hashes_in c.args.wtxids.now in
+    let n = c.wtxids-count.ensures.1 h small st s w p in
+    let x = compared c.same_hash.ensures (c.combined_at-c.ensures h small st s w p) refl
+    (not-false _ c.if-not-same_hash.false-raw) in
+    all_same (combined_of (at (wtxid h) st.table).«package») (hash_num c.args.combined) a b x j
+    (c.loop-j.invariant.1 h small st s w p) (omega (arith, n, c.loop-j.invariant.0, c.loop-j-test.false))
+    (omega (arith, c.loop-j.invariant.0, c.loop-j-test.false, c.if-hashes-count.false, c.hashes.ensures))

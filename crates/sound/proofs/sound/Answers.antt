@@ -1,0 +1,111 @@
+use native.Mathlib.Omega.{arith}
+use Prim.Native.Nat.{◌+◌, ◌-◌, ◌*◌}
+use lib.ListN.{length}
+use Rattle.words.specs.Words.{words}
+use Rattle.words.proofs.Parts.{words-lent}
+use Rattle.sound.specs.Whole.{HeadPlain}
+use Rattle.sound_rows.proofs.Decide.{decides_iff, passed, failed}
+use Rattle.sound_rows.proofs.Ranges.{below_bytes, below_words}
+use Rattle.sound.proofs.StoreTests.{refuse_short, refuse_head, refuse_long, store_iff, length-lent}
+use Rattle.sound.proofs.sound.Goals as goal
+
+pub returns-then-s : goal.returns-then-s
+returns-then-s c =
+    let b = c.args.s.now in
+    let p = below_words b (below_bytes b c.type_inv.s) in
+    refuse_short b p (omega arith)
+
+pub returns-then-not-head_fits : goal.returns-then-not-head_fits
+returns-then-not-head_fits c =
+    let b = c.args.s.now in
+    let p = below_words b (below_bytes b c.type_inv.s) in
+    refuse_head b p (failed (HeadPlain (words b)) c.head_fits.result c.if-not-head_fits.true-raw c.head_fits.ensures)
+
+pub overflow_mul-x : goal.overflow_mul-x
+overflow_mul-x c =
+    let h = passed (HeadPlain (words c.args.s.now)) c.head_fits.result c.if-not-head_fits.false-raw
+    c.head_fits.ensures in
+    omega (arith, h.sizes.most-limit, h.sizes.most-places, c.get-l.ensures, c.get-q.ensures)
+
+pub overflow_add-x : goal.overflow_add-x
+overflow_add-x c =
+    let h = passed (HeadPlain (words c.args.s.now)) c.head_fits.result c.if-not-head_fits.false-raw
+    c.head_fits.ensures in
+    omega (arith, h.sizes.most-limit, h.sizes.most-places, c.get-l.ensures, c.get-q.ensures)
+
+pub overflow_mul-y : goal.overflow_mul-y
+overflow_mul-y c =
+    let h = passed (HeadPlain (words c.args.s.now)) c.head_fits.result c.if-not-head_fits.false-raw
+    c.head_fits.ensures in
+    omega (arith, h.sizes.most-limit, h.sizes.most-places, c.get-l.ensures, c.get-q.ensures)
+
+pub overflow_add-y : goal.overflow_add-y
+overflow_add-y c =
+    let h = passed (HeadPlain (words c.args.s.now)) c.head_fits.result c.if-not-head_fits.false-raw
+    c.head_fits.ensures in
+    omega (arith, h.sizes.most-limit, h.sizes.most-places, c.get-l.ensures, c.get-q.ensures)
+
+pub overflow_mul-z : goal.overflow_mul-z
+overflow_mul-z c =
+    let h = passed (HeadPlain (words c.args.s.now)) c.head_fits.result c.if-not-head_fits.false-raw
+    c.head_fits.ensures in
+    omega (arith, h.sizes.most-limit, h.sizes.most-places, c.get-l.ensures, c.get-q.ensures)
+
+pub overflow_add-z : goal.overflow_add-z
+overflow_add-z c =
+    let h = passed (HeadPlain (words c.args.s.now)) c.head_fits.result c.if-not-head_fits.false-raw
+    c.head_fits.ensures in
+    omega (arith, h.sizes.most-limit, h.sizes.most-places, c.get-l.ensures, c.get-q.ensures)
+
+pub overflow_mul-z-2 : goal.overflow_mul-z-2
+overflow_mul-z-2 c =
+    let h = passed (HeadPlain (words c.args.s.now)) c.head_fits.result c.if-not-head_fits.false-raw
+    c.head_fits.ensures in
+    omega (arith, h.sizes.most-limit, h.sizes.most-places, c.get-l.ensures, c.get-q.ensures)
+
+pub returns-then-s-z : goal.returns-then-s-z
+returns-then-s-z c =
+    let b = c.args.s.now in
+    let p = below_words b (below_bytes b c.type_inv.s) in
+    refuse_long b p c.get-l.result c.get-q.result c.get-l.ensures c.get-q.ensures (omega arith)
+
+pub records_fit-requires : goal.records_fit-requires
+records_fit-requires c =
+    let h = passed (HeadPlain (words c.args.s.now))
+    c.head_fits.result
+    c.if-not-head_fits.false-raw
+    c.head_fits.ensures in
+    let b = c.args.s.now in
+    let l = c.get-l.result in
+    let q = c.get-q.result in
+    let x = 24 + l * 9 in
+    let y = 24 + l * 9 + l * 3 in
+    let z = 24 + l * 9 + l * 3 + q * 824 in
+    let lr = length-lent b (24 * 8) (x * 8) (omega arith) (omega arith) in
+    let lc = length-lent b (x * 8) (y * 8) (omega arith) (omega arith) in
+    let lp = length-lent b (y * 8) (z * 8) (omega arith) (omega arith) in (
+      omega (arith, lr, h.sizes.rows_few, c.get-l.ensures, c.get-n.ensures),
+      omega (arith, lc, h.sizes.conns_few, c.get-l.ensures, c.get-c.ensures),
+      omega (arith, lp, h.sizes.places_few, c.get-q.ensures, c.get-p.ensures),
+      omega (arith, h.sizes.rows_few, h.sizes.most-limit, c.get-n.ensures),
+    )
+
+pub returns : goal.returns
+returns c =
+    let b = c.args.s.now in
+    let p = below_words b (below_bytes b c.type_inv.s) in
+    let l = c.get-l.result in
+    let q = c.get-q.result in
+    let x = 24 + l * 9 in
+    let y = 24 + l * 9 + l * 3 in
+    let z = 24 + l * 9 + l * 3 + q * 824 in
+    let h = passed (HeadPlain (words c.args.s.now))
+    c.head_fits.result
+    c.if-not-head_fits.false-raw
+    c.head_fits.ensures in
+    let i = store_iff b p l q c.get-l.ensures
+    c.get-q.ensures c.get-n.result
+    c.get-c.result c.get-p.result c.get-n.ensures
+    c.get-c.ensures c.get-p.ensures h (omega arith) in
+    decides_iff c.records_fit.result i
+    (rw (words-lent b 24 x (omega arith) (omega arith), words-lent b x y (omega arith) (omega arith), words-lent b y z (omega arith) (omega arith)) at c.records_fit.ensures)

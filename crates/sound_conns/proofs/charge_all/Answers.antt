@@ -1,0 +1,39 @@
+use borrow.Author.Rules.{rules}
+use native.Mathlib.Omega.{arith}
+use lib.ListN.{length-set}
+use Rattle.words.proofs.Records.{length-recs}
+use Prim.Native.Nat.{◌-◌}
+use mathlib.Core.Path.{refl, ◌∙◌}
+use lib.ListN.{length}
+use Rattle.words.specs.Words.{recs, words}
+use Rattle.regions.specs.Rows.{conn_size, read_conn}
+use Rattle.sound_conns.proofs.Tally.{charged_turn, conn-fits}
+use Rattle.sound_conns.proofs.charge_all.Goals as goal
+
+pub loop-i-init : goal.loop-i-init
+loop-i-init c = (omega arith, omega arith, refl, λ j h l. absurd (omega arith))
+
+pub returns-then-j-t : goal.returns-then-j-t
+returns-then-j-t c = (λ j h l. c.loop-i.invariant.3 j (omega arith) l, search rules)
+
+pub charge-requires : goal.charge-requires
+charge-requires c =
+    let a = c.args in
+    conn-fits a.n (words a.s.now) c.loop-i.i (omega arith) c.read_conn-c.ensures.words_are c.requires.1
+
+pub loop-i-preserved : goal.loop-i-preserved
+loop-i-preserved c =
+    let a = c.args in
+    let e = length-set c.loop-i.t (c.loop-i.i - a.lo) c.charge.result in (
+      omega arith,
+      omega (arith, e),
+      e ∙ c.loop-i.invariant.2,
+      charged_turn a.n (words a.s.now) c.loop-i.i (omega arith) c.read_conn-c.ensures.words_are a.lo
+          c.loop-i.t (omega arith) (omega arith) c.charge.ensures
+          c.loop-i.invariant.3,
+    )
+
+pub returns : goal.returns
+returns c =
+    let a = c.args in
+    (λ j h l. c.loop-i.invariant.3 j (omega (arith, length-recs conn_size read_conn a.n (words a.s.now))) l, search rules)

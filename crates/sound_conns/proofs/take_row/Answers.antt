@@ -1,0 +1,34 @@
+use native.Mathlib.Omega.{arith}
+use mathlib.Core.Path.{refl}
+use mathlib.Core.Logic.{inl}
+use Rattle.words.specs.Words.{words}
+use Rattle.sound_rows.proofs.Decide.{passed, failed}
+use Rattle.sound_conns.specs.Conns.{names, Inside}
+use Rattle.sound_conns.proofs.Entries.{length-names}
+use Rattle.sound_conns.proofs.Tally.{took_outside, taking}
+use Rattle.sound_conns.proofs.take_row.Goals as goal
+
+pub returns-then-not-inside : goal.returns-then-not-inside
+returns-then-not-inside c =
+    let a = c.args in (
+      took_outside _ _ _ _ _ _ _ (failed (Inside a.done a.last a.x) c.inside.result c.if-not-inside.true-raw c.inside.ensures)
+          c.requires.5,
+      refl,
+    )
+
+pub returns-then-k-n : goal.returns-then-k-n
+returns-then-k-n c =
+    let a = c.args in
+    let i = passed (Inside a.done a.last a.x) c.inside.result c.if-not-inside.false-raw c.inside.ensures in
+    (inl (i, c.find_entry-k.ensures.absent (omega arith) c.requires.1), refl)
+
+pub returns : goal.returns
+returns c =
+    let a = c.args in
+    let w = words a.s.now in (
+      taking (names a.n w) a.done a.last a.lo a.x a.own a.t.now c.find_entry-k.result
+          c.take_off.new.0 (omega (arith, length-names a.n w))
+          (c.find_entry-k.ensures.found (omega arith)) c.take_off.result
+          c.requires.1 c.take_off.ensures.0,
+      c.take_off.ensures.1,
+    )

@@ -1,0 +1,16 @@
+use native.Mathlib.Omega.{arith}
+use Rattle.sound_rows.proofs.Ahead.{ahead-follows}
+use Rattle.sound_rows.proofs.candidate.follows.Goals as goal
+
+pub returns : goal.returns
+returns c =
+    let p = c.args.p in
+    let r = c.args.r in
+    rw (
+      c.ahead.ensures,
+      c.ahead-w3.ensures,
+      c.ahead-w2.ensures,
+      c.ahead-w1.ensures,
+      c.ahead-w0.ensures,
+    )
+    (ahead-follows p r (record { w0 = omega arith; w1 = omega arith; w2 = omega arith; w3 = omega arith }) (record { w0 = omega arith; w1 = omega arith; w2 = omega arith; w3 = omega arith }))

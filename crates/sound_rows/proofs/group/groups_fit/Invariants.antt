@@ -1,0 +1,17 @@
+use Prim.Native.Nat.{◌+◌, ◌-◌, ◌≤◌}
+use mathlib.Core.Path.{◌≡◌}
+use mathlib.Core.List.{◌++◌}
+use lib.ListN.{length}
+use Rattle.words.specs.Words.{recs, words}
+use Rattle.regions.specs.Rows.{row_size, read_row}
+use Rattle.sound_rows.specs.Rows.{RowsSound}
+use Rattle.sound_rows.specs.Groups.{GroupsSound, rows_in, conn_slots}
+use Rattle.sound_rows.proofs.Decide.{Iff}
+use Rattle.sound_rows.proofs.group.groups_fit.Given as goal
+
+abbrev pub invariant-loop-i : goal.invariant-loop-i
+invariant-loop-i l = (length l.slots ≡ conn_slots) × (l.i ≤ l.m) × (l.m ≤ l.j) × (l.j ≤ l.n)
+    × (RowsSound (recs row_size read_row l.n (words l.s)) → Iff (GroupsSound l.most (recs row_size read_row l.n (words l.s))) (GroupsSound l.most (rows_in (words l.s) l.i l.m ++ rows_in (words l.s) l.j l.n)))
+
+abbrev pub decreases-loop-i : goal.decreases-loop-i
+decreases-loop-i l = (l.m + l.n) - (l.i + l.j)

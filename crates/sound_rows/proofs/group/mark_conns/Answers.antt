@@ -1,0 +1,36 @@
+use native.Mathlib.Omega.{arith}
+use mathlib.Core.Path.{◌≡◌, refl, ◌∙◌}
+use lib.ListN.{length, length-set}
+use Rattle.words.specs.Words.{words}
+use Rattle.sound_rows.proofs.ConnMarks.{marks_none, marks_turn}
+use Rattle.sound_rows.proofs.group.mark_conns.Goals as goal
+
+pub loop-k-init : goal.loop-k-init
+loop-k-init c =
+    let a = c.args in
+    (c.requires.0, omega arith, c.requires.2, marks_none (words a.s.now) a.to a.mark a.slots.now)
+
+pub bounds-slots-x : goal.bounds-slots-x
+bounds-slots-x c = omega (arith, c.loop-k.invariant.2)
+
+pub returns-then-slots-x : goal.returns-then-slots-x
+returns-then-slots-x c = (tt, c.loop-k.invariant.2)
+
+pub bounds-slots-x-in-loop-k : goal.bounds-slots-x-in-loop-k
+bounds-slots-x-in-loop-k c = omega (arith, c.loop-k.invariant.2)
+
+pub loop-k-preserved : goal.loop-k-preserved
+loop-k-preserved c =
+    let a = c.args in
+    let l = c.loop-k in (
+      omega arith,
+      omega arith,
+      length-set l.slots _ _ ∙ l.invariant.2,
+      marks_turn (words a.s.now) l.k a.to a.mark a.slots.now l.slots c.read_row-r.result (omega arith) l.invariant.1
+          c.read_row-r.ensures.words_are refl (omega (arith, l.invariant.2)) c.if-slots-x.false l.invariant.3,
+    )
+
+pub returns : goal.returns
+returns c =
+    let e : c.loop-k.k ≡ c.args.from = omega arith in
+    ((λ others m. let d = (rw e at c.loop-k.invariant.3) others m in (d.0, d.2)), c.loop-k.invariant.2)

@@ -1,0 +1,13 @@
+use Prim.Native.Nat.{◌≤◌}
+use mathlib.Core.Path.{◌≡◌}
+use lib.ListN.{length}
+use Rattle.words.specs.Words.{words}
+use Rattle.sound_rows.specs.Groups.{conn_slots}
+use Rattle.sound_rows.proofs.ConnMarks.{Marks}
+use Rattle.sound_rows.proofs.group.mark_conns.Given as goal
+
+abbrev pub invariant-loop-k : goal.invariant-loop-k
+invariant-loop-k l = (l.from ≤ l.k) × (l.k ≤ l.to) × (length l.slots ≡ conn_slots) × Marks (words l.s) l.k l.to l.mark l.initial.slots l.slots
+
+abbrev pub decreases-loop-k : goal.decreases-loop-k
+decreases-loop-k l = l.k

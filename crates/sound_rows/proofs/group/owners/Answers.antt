@@ -1,0 +1,21 @@
+use borrow.Author.Rules.{rules}
+use native.Mathlib.Omega.{arith}
+use Prim.Native.Nat.{◌-◌}
+use Rattle.words.specs.Words.{words}
+use Rattle.sound_rows.proofs.Groups.{owners_turn, owners_none}
+use Rattle.sound_rows.proofs.group.owners.Goals as goal
+
+pub loop-i-init : goal.loop-i-init
+loop-i-init c = (omega arith, search rules, omega arith, omega arith)
+
+pub loop-i-preserved : goal.loop-i-preserved
+loop-i-preserved c =
+    let t = owners_turn (words c.args.s.now) c.loop-i.i c.args.to (omega arith)
+    c.read_row-r.ensures.words_are in
+    (search rules, search rules, omega arith, omega (arith, c.loop-i.invariant.3))
+
+pub returns : goal.returns
+returns c = (
+  omega (arith, c.loop-i.invariant.3, owners_none (words c.args.s.now) c.loop-i.i c.args.to (omega arith)),
+  omega arith,
+)

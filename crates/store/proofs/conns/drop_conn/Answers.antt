@@ -1,0 +1,21 @@
+use native.Mathlib.Omega.{arith}
+use Prim.Native.Nat.{◌-◌, ◌<◌}
+use mathlib.Core.Path.{◌≡◌, sym, ap, ◌∙◌}
+use lib.ListN.{length}
+use Rattle.regions.specs.Regions.{remove_at}
+use Rattle.store.proofs.Frame.{sizes, conns-lent, conns_back, conns-counted, length_remove}
+use borrow.Author.Rules.{rules}
+use Rattle.store.proofs.conns.drop_conn.Goals as goal
+
+pub returns : goal.returns
+returns c = λ f h.
+    let z = sizes h in
+    let lim = c.limit-l.ensures.field f h in
+    let n = c.conns-n.ensures.field f h in
+    let i : c.args.i < length f.conns =
+    omega (arith, c.requires) in
+    let held = c.remove_conn.ensures.region f.head.limit f.conns (sym n) (conns-lent h lim) in
+    let m : length (remove_at c.args.i f.conns) ≡
+    c.conns-n.result - 1 = length_remove f.conns
+    c.args.i i ∙ ap (λ j. j - 1) (sym n) in
+    conns-counted h (search rules) _ _ m (conns_back h lim _ _ c.remove_conn.auto.0 held) c.put.ensures.word

@@ -1,0 +1,21 @@
+use native.Mathlib.Omega.{arith}
+use Prim.Native.Nat.{◌-◌, ◌<◌}
+use mathlib.Core.Path.{◌≡◌, sym, ap, ◌∙◌}
+use lib.ListN.{length}
+use Rattle.regions.specs.Regions.{remove_at}
+use Rattle.store.proofs.Frame.{sizes, rows-lent, rows_back, rows-counted, length_remove}
+use borrow.Author.Rules.{rules}
+use Rattle.store.proofs.rows.drop_row.Goals as goal
+
+pub returns : goal.returns
+returns c = λ f h.
+    let z = sizes h in
+    let lim = c.limit.ensures.field f h in
+    let n = c.rows-n.ensures.field f h in
+    let i : c.args.i < length f.rows =
+    omega (arith, c.requires) in
+    let held = c.remove_row.ensures.region f.head.limit f.rows (sym n) (rows-lent h lim) in
+    let m : length (remove_at c.args.i f.rows) ≡
+    c.rows-n.result - 1 = length_remove f.rows
+    c.args.i i ∙ ap (λ j. j - 1) (sym n) in
+    rows-counted h (search rules) _ _ m (rows_back h lim _ _ c.remove_row.auto.0 held) c.put.ensures.word

@@ -1,0 +1,21 @@
+use native.Mathlib.Omega.{arith}
+use Prim.Native.Nat.{◌-◌, ◌≤◌}
+use mathlib.Core.Path.{◌≡◌, sym, ap, ◌∙◌}
+use lib.ListN.{length}
+use Rattle.regions.specs.Regions.{remove_range}
+use Rattle.store.proofs.Frame.{sizes, rows-lent, rows_back, rows-counted, length_remove_range}
+use borrow.Author.Rules.{rules}
+use Rattle.store.proofs.rows.drop_rows.Goals as goal
+
+pub returns : goal.returns
+returns c = λ f h.
+    let z = sizes h in
+    let lim = c.limit.ensures.field f h in
+    let n = c.rows-n.ensures.field f h in
+    let a = c.args in
+    let to : a.to ≤ length f.rows = omega (arith, c.requires) in
+    let held = c.remove_rows.ensures.region f.head.limit f.rows (sym n) (rows-lent h lim) in
+    let m : length (remove_range a.from a.to f.rows) ≡ c.rows-n.result - (a.to - a.from) =
+    length_remove_range f.rows a.from a.to c.requires.1 to ∙
+    ap (λ j. j - (a.to - a.from)) (sym n) in
+    rows-counted h (search rules) _ _ m (rows_back h lim _ _ c.remove_rows.auto.0 held) c.put.ensures.word

@@ -1,0 +1,16 @@
+use native.Mathlib.Omega.{arith}
+use Prim.Native.Nat.{◌≤◌}
+use lib.ListN.{length}
+use Rattle.store.proofs.Frame.{sizes, rows-lent}
+use Rattle.store.proofs.Searches.{row-met}
+use Rattle.store.proofs.rows.find_row.Goals as goal
+
+pub returns : goal.returns
+returns c = record {
+  least = c.find_conn_in.ensures.least;
+  most = c.find_conn_in.ensures.most;
+  first = λ f h.
+      let z = sizes h in
+      let few : length f.rows ≤ f.head.limit = omega (arith, c.requires) in
+      row-met f.head.limit f.rows few (rows-lent h (c.limit.ensures.field f h)) (omega (arith, c.requires)) c.find_conn_in.ensures;
+}

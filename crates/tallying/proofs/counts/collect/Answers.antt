@@ -1,0 +1,58 @@
+-- `tallying::counts::collect` meets its contract.
+use Prim.Native.Nat.{◌-◌}
+use mathlib.Core.Path.{refl, ◌∙◌}
+use native.Mathlib.Omega.{arith}
+use lib.ListN.{length}
+use Rattle.words.specs.Words.{words}
+use Rattle.words.proofs.Words.{length-words}
+use Rattle.tallying.proofs.Tables.{collecting_none, collecting_more, collecting_next, collecting_done}
+use Rattle.tallying.proofs.counts.collect.Goals as goal
+
+pub loop-j-init : goal.loop-j-init
+loop-j-init c = (collecting_none _ _, refl)
+
+pub count-m-requires : goal.count-m-requires
+count-m-requires c = (
+  c.loop-j.invariant.0.short,
+  omega (arith, c.requires.0, c.loop-j.invariant.1, c.loop-j-test.true),
+  collecting_more c.loop-j.invariant.0 c.requires.1 c.loop-j-test.true,
+)
+
+pub overflow_add-j : goal.overflow_add-j
+overflow_add-j c = omega (arith, c.requires.0, c.loop-j-test.true)
+
+pub loop-j-smaller : goal.loop-j-smaller
+loop-j-smaller c = omega (arith, c.loop-j-test.true)
+
+pub loop-j-preserved : goal.loop-j-preserved
+loop-j-preserved c = (
+  collecting_next c.loop-j.invariant.0 c.loop-j-test.true c.count-m.ensures.0
+      c.count-m.ensures.1,
+  c.count-m.auto.0 ∙ c.loop-j.invariant.1,
+)
+
+pub overflow_mul-m : goal.overflow_mul-m
+overflow_mul-m c = omega (arith, c.requires.0, c.loop-j.invariant.0.short, c.loop-j.invariant.0.most)
+
+pub overflow_sub-n : goal.overflow_sub-n
+overflow_sub-n c = omega (arith, c.loop-j.invariant.0.short, c.loop-j.invariant.0.most)
+
+pub overflow_mul-n : goal.overflow_mul-n
+overflow_mul-n c = omega (arith, c.requires.0, c.loop-j.invariant.0.short, c.loop-j.invariant.0.most)
+
+pub clear-requires : goal.clear-requires
+clear-requires c = omega (arith, c.requires.0, c.loop-j.invariant.1, c.loop-j.invariant.0.short, c.loop-j.invariant.0.most)
+
+pub shape_of-r : goal.shape_of-r
+shape_of-r c = c.clear.auto.0 ∙ c.loop-j.invariant.1
+
+pub returns : goal.returns
+returns c = collecting_done c.loop-j.invariant.0 (omega
+    (arith, c.loop-j.invariant.0.most, c.loop-j-test.false)) (omega (
+      arith,
+      length-words
+          c.loop-j.r,
+      c.requires.0,
+      c.loop-j.invariant.1,
+    ))
+    c.clear.ensures

@@ -1,0 +1,45 @@
+-- `tallying::counts::count` meets its contract.
+use native.Mathlib.Omega.{arith}
+use Rattle.tallying.proofs.Tables.{entry_few, partly_found, partly_new}
+use Rattle.tallying.proofs.counts.count.Goals as goal
+
+pub overflow_add-d : goal.overflow_add-d
+overflow_add-d c = omega (
+  arith,
+  c.requires.1,
+  entry_few
+      c.requires.2.partly
+      c.requires.2.more
+      c.read_conn-c.ensures (c.is_entry.ensures.inside
+      c.if-is_entry.true) c.read_conn-e.ensures,
+)
+
+pub overflow_add-d-then-is_entry : goal.overflow_add-d-then-is_entry
+overflow_add-d-then-is_entry c = omega (
+  arith,
+  c.requires.1,
+  entry_few
+      c.requires.2.partly
+      c.requires.2.more
+      c.read_conn-c.ensures (c.is_entry.ensures.inside
+      c.if-is_entry.true) c.read_conn-e.ensures,
+)
+
+pub returns-then-is_entry : goal.returns-then-is_entry
+returns-then-is_entry c = (
+  omega (arith, c.requires.0),
+  λ L cs l fits p. partly_found p l c.read_conn-c.ensures
+      (c.is_entry.ensures.inside c.if-is_entry.true)
+      c.read_conn-e.ensures fits
+      c.seek_conn-p.ensures
+      c.is_entry.ensures c.if-is_entry.true
+      c.write_conn.ensures,
+)
+
+pub returns : goal.returns
+returns c = (
+  omega (arith, c.requires.0),
+  λ L cs l fits p. partly_new p l c.read_conn-c.ensures fits
+      c.seek_conn-p.ensures c.is_entry.ensures
+      c.if-is_entry.false c.insert_conn.ensures,
+)

@@ -1,0 +1,41 @@
+-- `tallying::fill` meets its contract.
+use Prim.Native.Nat.{◌-◌}
+use native.Mathlib.Omega.{arith}
+use Rattle.tallying.proofs.Filling.{filling_none, filling_shown, filling_row, filling_room, filling_more, filling_done}
+use Rattle.tallying.proofs.fill.Goals as goal
+
+pub loop-i-init : goal.loop-i-init
+loop-i-init c = filling_none c.rows-n.ensures.word c.requires.1
+
+pub row_at-r-requires : goal.row_at-r-requires
+row_at-r-requires c = (
+  filling_shown c.requires.0 c.loop-i.invariant,
+  filling_row
+      c.requires.0 c.loop-i.invariant c.loop-i-test.true,
+)
+
+pub add_conn-requires : goal.add_conn-requires
+add_conn-requires c = (
+  filling_shown c.requires.0 c.loop-i.invariant,
+  (filling_room c.requires.0 c.loop-i.invariant
+      c.loop-i-test.true).0,
+  (filling_room c.requires.0 c.loop-i.invariant
+      c.loop-i-test.true).1,
+)
+
+pub overflow_add-i : goal.overflow_add-i
+overflow_add-i c = omega (arith, c.loop-i-test.true)
+
+pub loop-i-smaller : goal.loop-i-smaller
+loop-i-smaller c = omega (arith, c.loop-i-test.true)
+
+pub loop-i-preserved : goal.loop-i-preserved
+loop-i-preserved c = filling_more c.requires.0
+    c.loop-i.invariant c.loop-i-test.true
+    c.row_at-r.ensures c.add_conn.ensures c.add_conn.auto.0
+
+pub shape_of-s : goal.shape_of-s
+shape_of-s c = c.loop-i.invariant.size
+
+pub returns : goal.returns
+returns c = filling_done c.requires.0 c.loop-i.invariant (omega (arith, c.loop-i.invariant.most, c.loop-i-test.false))

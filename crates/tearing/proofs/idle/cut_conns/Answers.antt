@@ -1,0 +1,37 @@
+-- `tearing::idle::cut_conns` meets its contract.
+use native.Mathlib.Omega.{arith}
+use Rattle.tearing.proofs.Sifting.{cutting_none, cutting-shown, cutting-conns, cutting_more, cutting_end}
+use Rattle.tearing.proofs.idle.cut_conns.Goals as goal
+
+pub conns-n-requires : goal.conns-n-requires
+conns-n-requires c = omega (arith, c.requires.0.sizes)
+
+pub loop-n-init : goal.loop-n-init
+loop-n-init c = cutting_none _ c.requires.1 c.conns-n.ensures.word
+
+pub overflow_sub-n : goal.overflow_sub-n
+overflow_sub-n c = omega (arith, c.loop-n-test.true)
+
+pub drop_conn-requires : goal.drop_conn-requires
+drop_conn-requires c = (
+  cutting-shown c.loop-n.invariant c.requires.0,
+  omega (
+    arith,
+    cutting-conns c.loop-n.invariant
+        c.requires.0.flat c.requires.0.shows,
+    c.loop-n-test.true,
+  ),
+)
+
+pub loop-n-smaller : goal.loop-n-smaller
+loop-n-smaller c = omega (arith, c.loop-n-test.true)
+
+pub loop-n-preserved : goal.loop-n-preserved
+loop-n-preserved c = cutting_more c.loop-n.invariant (omega (arith, c.loop-n-test.true))
+    c.loop-n-test.true c.drop_conn.auto.0 c.drop_conn.ensures
+
+pub shape_of-s : goal.shape_of-s
+shape_of-s c = c.loop-n.invariant.size
+
+pub returns : goal.returns
+returns c = cutting_end c.loop-n.invariant (omega (arith, c.loop-n-test.false))

@@ -1,0 +1,27 @@
+-- `wire::write_items` meets its contract.
+use Prim.Native.Nat.{◌-◌}
+use mathlib.Core.Path.{◌∙◌}
+use native.Mathlib.Omega.{arith}
+use Rattle.lent_lists.specs.Items.{items_in}
+use Rattle.wire.proofs.Filling.{write_none, write_turn, write-all}
+use Rattle.wire.proofs.write_items.Goals as goal
+
+pub loop-i-init : goal.loop-i-init
+loop-i-init c = (omega arith, omega arith, write_none (items_in c.args.items.now) c.args.s.now c.args.at)
+
+pub write_item-requires : goal.write_item-requires
+write_item-requires c = (omega (arith, c.requires), omega (arith, c.requires))
+
+pub loop-i-preserved : goal.loop-i-preserved
+loop-i-preserved c =
+    let start : tie.Start invariant-loop decreases-loop = c in (
+      omega arith,
+      omega arith,
+      write_turn (items_in start.args.items.now) c.loop-i.i start.args.at start.args.s.now
+          (omega (arith, start.requires)) (omega (arith, start.requires)) c.loop-i.invariant.2 c.write_item.ensures,
+    )
+
+pub returns : goal.returns
+returns c =
+    let start : tie.Start invariant-loop decreases-loop = c in
+    c.loop-i.invariant.2 ∙ write-all (items_in start.args.items.now) c.loop-i.i start.args.s.now start.args.at (omega (arith, start.requires))

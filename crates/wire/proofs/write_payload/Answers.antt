@@ -1,0 +1,31 @@
+-- `wire::write_payload` meets its contract.
+use native.Mathlib.Omega.{arith}
+use borrow.Author.Tests.{not-true, not-false}
+use Rattle.lent_lists.specs.Items.{items_in}
+use Rattle.wire.proofs.Counts.{few_bytes}
+use Rattle.wire.proofs.Answers.{write-many, write_other, write-short, write_done}
+use Rattle.wire.proofs.write_payload.Goals as goal
+
+pub returns-then-n-gt-MAX_ITEMS : goal.returns-then-n-gt-MAX_ITEMS
+returns-then-n-gt-MAX_ITEMS c = write-many (items_in c.args.items.now) c.args.answer.now c.items-n.ensures c.if-n-gt-MAX_ITEMS.true
+
+pub returns-then-not-all_plain : goal.returns-then-not-all_plain
+returns-then-not-all_plain c =
+    write_other (items_in c.args.items.now) c.args.answer.now c.all_plain.ensures (not-true _ c.if-not-all_plain.true-raw)
+
+pub overflow_add-need : goal.overflow_add-need
+overflow_add-need c = omega (arith, few_bytes c.items-n.result (omega arith), c.count_bytes-at.ensures)
+
+pub returns-then-answer-need : goal.returns-then-answer-need
+returns-then-answer-need c =
+    write-short (items_in c.args.items.now) c.args.answer.now c.items-n.ensures (omega arith)
+    c.all_plain.ensures (not-false _ c.if-not-all_plain.false-raw) c.count_bytes-at.ensures c.if-answer-need.true
+
+pub returns : goal.returns
+returns c =
+    let counted = c.count_bytes-at.ensures in
+    let plain = c.all_plain.ensures in
+    let passed = c.if-not-all_plain.false-raw in
+    let listed = c.items-n.ensures in
+    write_done (items_in c.args.items.now) c.args.answer.now listed (omega arith) plain (not-false _ passed) counted (omega arith)
+    c.put_count.ensures c.write_items.ensures

@@ -1,0 +1,127 @@
+-- `wrapping::missing::not_found_each` meets its contract.
+use Prim.Native.Nat.{◌*◌, ◌-◌, ◌<◌}
+use mathlib.Core.Path.{◌≡◌, sym}
+use native.Mathlib.Omega.{arith}
+use lib.ListN.{length}
+use Rattle.machine.specs.Limits.{word}
+use Rattle.machine.specs.Call.{key_bytes}
+use Rattle.machine.proofs.Fail.{Peer}
+use Rattle.lent_lists.specs.Items.{items_in}
+use Rattle.lent_lists.proofs.Inventory.{items-fit}
+use Rattle.wrapping.proofs.Unfound.{turned_start, turned_kept, turned_fits, turned_roomy, turned_more, turned_done}
+use Rattle.wrapping.proofs.missing.not_found_each.Goals as goal
+
+pub loop-i-init : goal.loop-i-init
+loop-i-init c = turned_start _ _ _ _ _
+
+pub item_at-item-requires : goal.item_at-item-requires
+item_at-item-requires c = omega (arith, c.loop-i-test.true, c.items-count.ensures)
+
+pub overflow_mul-a : goal.overflow_mul-a
+overflow_mul-a c =
+    let start : tie.Start invariant-loop decreases-loop = c in
+    let a = start.args in
+    let l = items_in a.items.now in
+    let peer : Peer a.n = record { positive = start.requires.1; small = omega arith } in
+    let late : a.clock < word = omega arith in
+    let hashed = items-fit a.items.now (λ j. omega (arith, c.type_inv.items j)) in
+    let v = c.loop-i.invariant in
+    omega (arith, turned_fits v peer late hashed start.requires.0 start.requires.2, v.buffer-long)
+
+pub slice_bounds-not_found_one-count : goal.slice_bounds-not_found_one-count
+slice_bounds-not_found_one-count c =
+    let start : tie.Start invariant-loop decreases-loop = c in
+    let a = start.args in
+    let l = items_in a.items.now in
+    let peer : Peer a.n = record { positive = start.requires.1; small = omega arith } in
+    let late : a.clock < word = omega arith in
+    let hashed = items-fit a.items.now (λ j. omega (arith, c.type_inv.items j)) in
+    let v = c.loop-i.invariant in
+    omega (arith, turned_fits v peer late hashed start.requires.0 start.requires.2, v.buffer-long)
+
+pub slice_bounds-not_found_one-start : goal.slice_bounds-not_found_one-start
+slice_bounds-not_found_one-start c =
+    let start : tie.Start invariant-loop decreases-loop = c in
+    let a = start.args in
+    let l = items_in a.items.now in
+    let peer : Peer a.n = record { positive = start.requires.1; small = omega arith } in
+    let late : a.clock < word = omega arith in
+    let hashed = items-fit a.items.now (λ j. omega (arith, c.type_inv.items j)) in
+    let v = c.loop-i.invariant in
+    omega (arith, turned_fits v peer late hashed start.requires.0 start.requires.2, v.buffer-long)
+
+pub slice_bounds-not_found_one-end : goal.slice_bounds-not_found_one-end
+slice_bounds-not_found_one-end c = omega (arith, c.loop-i.invariant.buffer-long)
+
+pub not_found_one-c-requires : goal.not_found_one-c-requires
+not_found_one-c-requires c =
+    let start : tie.Start invariant-loop decreases-loop = c in
+    let a = start.args in
+    let l = items_in a.items.now in
+    let peer : Peer a.n = record { positive = start.requires.1; small = omega arith } in
+    let late : a.clock < word = omega arith in
+    let hashed = items-fit a.items.now (λ j. omega (arith, c.type_inv.items j)) in
+    let v = c.loop-i.invariant in
+    let inside : c.loop-i.i < length l = omega (arith, c.loop-i-test.true, c.items-count.ensures) in
+    let from : c.loop-i.auto * key_bytes ≡ key_bytes * c.loop-i.auto = omega arith in
+    (turned_kept v peer late hashed start.requires.0 start.requires.2, start.requires.1, turned_roomy v peer late hashed start.requires.0 start.requires.2 inside from (sym v.buffer-long))
+
+pub overflow_add-kept : goal.overflow_add-kept
+overflow_add-kept c =
+    let start : tie.Start invariant-loop decreases-loop = c in
+    let a = start.args in
+    let l = items_in a.items.now in
+    let peer : Peer a.n = record { positive = start.requires.1; small = omega arith } in
+    let late : a.clock < word = omega arith in
+    let hashed = items-fit a.items.now (λ j. omega (arith, c.type_inv.items j)) in
+    let v = c.loop-i.invariant in
+    let inside : c.loop-i.i < length l = omega (
+      arith,
+      c.loop-i-test.true,
+      c.items-count.ensures,
+    ) in
+    let from : c.loop-i.auto * key_bytes ≡
+    key_bytes * c.loop-i.auto = omega arith in
+    let next = turned_more v peer late hashed start.requires.0 start.requires.2 inside from (sym v.buffer-long) _ c.item_at-item.ensures
+    c.not_found_one-c.auto.0 c.not_found_one-c.auto.1.1.1.1.0
+    c.not_found_one-c.ensures in
+    omega (arith, turned_fits next peer late hashed start.requires.0 start.requires.2)
+
+pub overflow_add-i : goal.overflow_add-i
+overflow_add-i c = omega (arith, c.loop-i-test.true)
+
+pub loop-i-smaller : goal.loop-i-smaller
+loop-i-smaller c = omega (
+  arith,
+  c.loop-i-test.true,
+  c.items-count.ensures,
+)
+
+pub loop-i-preserved : goal.loop-i-preserved
+loop-i-preserved c =
+    let start : tie.Start invariant-loop decreases-loop = c in
+    let a = start.args in
+    let l = items_in a.items.now in
+    let peer : Peer a.n = record { positive = start.requires.1; small = omega arith } in
+    let late : a.clock < word = omega arith in
+    let hashed = items-fit a.items.now (λ j. omega (arith, c.type_inv.items j)) in
+    let v = c.loop-i.invariant in
+    let inside : c.loop-i.i < length l = omega (
+      arith,
+      c.loop-i-test.true,
+      c.items-count.ensures,
+    ) in
+    let from : c.loop-i.auto * key_bytes ≡
+    key_bytes * c.loop-i.auto = omega arith in
+    turned_more v peer late hashed start.requires.0 start.requires.2 inside from (sym v.buffer-long) _ c.item_at-item.ensures
+    c.not_found_one-c.auto.0 c.not_found_one-c.auto.1.1.1.1.0
+    c.not_found_one-c.ensures
+
+pub shape_of-s : goal.shape_of-s
+shape_of-s c = c.loop-i.invariant.store_long
+
+pub shape_of-out : goal.shape_of-out
+shape_of-out c = c.loop-i.invariant.buffer-long
+
+pub returns : goal.returns
+returns c = turned_done c.loop-i.invariant (omega (arith, c.loop-i.invariant.inside, c.loop-i-test.false, c.items-count.ensures))

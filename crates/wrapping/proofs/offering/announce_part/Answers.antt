@@ -1,0 +1,56 @@
+-- `wrapping::offering::announce_part` meets its contract.
+use native.Mathlib.Omega.{arith}
+use borrow.Author.Tests.{not-false}
+use Rattle.machine.specs.Typed.{Each, OfferTyped}
+use Rattle.machine.proofs.Fail.{Peer}
+use Rattle.lent_lists.specs.Items.{offers_in}
+use Rattle.lent_lists.proofs.Inventory.{offers-fit}
+use Rattle.wrapping.proofs.Swapped.{went_kept, went_then}
+use Rattle.wrapping.proofs.offering.announce_part.Goals as goal
+
+pub announce_for_victims-next-requires : goal.announce_for_victims-next-requires
+announce_for_victims-next-requires c =
+    let z = c.displaces.ensures (not-false c.displaces.result c.if-not-displaces.false-raw) in (
+      c.requires.0,
+      z.0,
+      z.1,
+      c.requires.2,
+      c.requires.3,
+    )
+
+pub announce_some-requires-2 : goal.announce_some-requires-2
+announce_some-requires-2 c =
+    let os = offers_in c.args.items.now
+    c.args.priorities.now in
+    let peer : Peer c.args.a.connection =
+    record {
+      positive = c.requires.1;
+      small = omega (arith, c.well-formed.1.0);
+    } in
+    let typed : Each OfferTyped os = offers-fit c.args.items.now
+    c.args.priorities.now
+    (λ j. omega (arith, c.type_inv.items j))
+    (λ j. omega (arith, c.type_inv.priorities j)) in (
+      went_kept c.announce_for_victims-next.ensures peer c.requires.2
+          typed c.requires.0,
+      c.requires.1,
+      c.requires.2,
+      c.requires.3,
+    )
+
+pub returns : goal.returns
+returns c =
+    let os = offers_in c.args.items.now
+    c.args.priorities.now in
+    let peer : Peer c.args.a.connection =
+    record {
+      positive = c.requires.1;
+      small = omega (arith, c.well-formed.1.0);
+    } in
+    let typed : Each OfferTyped os = offers-fit c.args.items.now
+    c.args.priorities.now
+    (λ j. omega (arith, c.type_inv.items j))
+    (λ j. omega (arith, c.type_inv.priorities j)) in
+    went_then c.announce_for_victims-next.ensures peer
+    c.requires.2 typed
+    (omega (arith, c.if-first-next.false)) c.announce_some-2.ensures

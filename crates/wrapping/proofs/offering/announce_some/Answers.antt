@@ -1,0 +1,92 @@
+-- `wrapping::offering::announce_some` meets its contract.
+use Prim.Native.Nat.{◌+◌}
+use native.Mathlib.Omega.{arith}
+use Rattle.machine.specs.Typed.{Each, OfferTyped}
+use Rattle.machine.proofs.Fail.{Peer}
+use Rattle.lent_lists.specs.Items.{offers_in}
+use Rattle.lent_lists.proofs.Inventory.{offers-fit}
+use Rattle.wrapping.proofs.Gathered.{collects_gathers, collects_in, part_kept, part_join}
+use Rattle.wrapping.proofs.offering.announce_some.Goals as goal
+
+pub come_in-requires : goal.come_in-requires
+come_in-requires c = (
+  collects_gathers c.collect-p.ensures
+      c.requires.0,
+  omega (arith, c.collect-p.ensures.few, c.collect-p.auto.1.0, c.clear.auto.0),
+)
+
+pub announce_one-requires-then-next-count : goal.announce_one-requires-then-next-count
+announce_one-requires-then-next-count c =
+    let os = offers_in
+    c.args.items.now
+    c.args.priorities.now
+    in
+    let peer : Peer
+    c.args.a.connection =
+    record {
+      positive =
+          c.requires.1;
+      small = omega
+          (arith, c.well-formed.1.0);
+    } in
+    let typed : Each OfferTyped os = offers-fit
+    c.args.items.now
+    c.args.priorities.now
+    (λ j. omega (
+      arith,
+      c.type_inv.items j,
+    )) (λ j.
+    omega (arith, c.type_inv.priorities j)) in
+    let came = collects_in c.collect-p.ensures c.come_in.ensures in (
+      part_kept c.args.a os
+          c.args.first
+          c.collect-p.result.next came peer
+          c.requires.2 typed
+          c.requires.0,
+      c.requires.2,
+      omega (arith, c.if-next-count.true, c.offers-count.ensures),
+    )
+
+pub returns-then-next-count : goal.returns-then-next-count
+returns-then-next-count c =
+    let os = offers_in c.args.items.now c.args.priorities.now in
+    let peer : Peer c.args.a.connection = record {
+      positive = c.requires.1;
+      small = omega (
+        arith,
+        c.well-formed.1.0,
+      );
+    } in
+    let typed : Each OfferTyped os = offers-fit c.args.items.now c.args.priorities.now (λ j. omega (
+      arith,
+      c.type_inv.items j,
+    )) (λ j. omega (
+      arith,
+      c.type_inv.priorities j,
+    )) in
+    let came = collects_in c.collect-p.ensures
+    c.come_in.ensures in
+    record {
+      more = omega (arith, c.collect-p.ensures.from);
+      inside = omega (
+        arith,
+        c.if-next-count.true,
+        c.offers-count.ensures,
+      );
+      table = part_join c.args.a os c.args.first c.collect-p.result.next came peer
+          c.requires.2 typed (c.collect-p.result.next + 1)
+          c.collect-p.ensures.from (omega arith) c.announce_one-then-next-count.ensures;
+    }
+
+pub returns : goal.returns
+returns c =
+    record {
+      more = omega (
+        arith,
+        c.if-next-count.false,
+        c.offers-count.ensures,
+        c.requires.3,
+      );
+      inside = c.collect-p.ensures.inside;
+      table = collects_in c.collect-p.ensures c.come_in.ensures;
+    }

@@ -1,0 +1,90 @@
+-- `wrapping::offering::announce_transactions` meets its contract.
+use Prim.Native.Nat.{◌-◌}
+use mathlib.Core.Path.{refl, ◌∙◌}
+use native.Mathlib.Omega.{arith}
+use Rattle.machine.specs.Typed.{Each, OfferTyped}
+use Rattle.machine.proofs.Fail.{Peer}
+use Rattle.lent_lists.specs.Items.{offers_in}
+use Rattle.lent_lists.proofs.Inventory.{offers-fit}
+use Rattle.wrapping.proofs.Batching.{batched_start, batched_kept, batched_more, batched_done}
+use Rattle.wrapping.proofs.offering.announce_transactions.Goals as goal
+
+pub shape_of-s-then-count-eq0 : goal.shape_of-s-then-count-eq0
+shape_of-s-then-count-eq0 c = refl
+
+pub returns-then-count-eq0 : goal.returns-then-count-eq0
+returns-then-count-eq0 c = batched_done (batched_start _ _ _ _ _ _) (omega (arith, c.if-count-eq0.true, c.offers-count.ensures))
+
+pub announce_part-i-requires : goal.announce_part-i-requires
+announce_part-i-requires c = (
+  c.requires.0,
+  c.requires.1,
+  c.requires.2,
+  omega (arith, c.if-count-eq0.false, c.offers-count.ensures),
+)
+
+pub loop-i-init : goal.loop-i-init
+loop-i-init c = (refl, c.announce_part-i.ensures.inside, λ u f b. b)
+
+pub announce_part-i-requires-in-loop-i : goal.announce_part-i-requires-in-loop-i
+announce_part-i-requires-in-loop-i c = let peer : Peer c.args.n = record {
+  positive =
+      c.requires.1;
+  small = omega arith;
+} in
+    let typed : Each OfferTyped (offers_in c.before.before.before.before.before.before.before.before.before.before.before.before.before.before.args.items.now c.before.before.before.before.before.before.before.before.before.before.before.before.before.before.args.priorities.now) = offers-fit c.before.before.before.before.before.before.before.before.before.before.before.before.before.before.args.items.now c.before.before.before.before.before.before.before.before.before.before.before.before.before.before.args.priorities.now
+    (λ j. omega (arith, c.before.before.before.before.before.before.before.before.before.before.before.before.shared-slice-known.given j)) (λ j. omega (
+      arith,
+      c.before.before.before.before.before.before.before.before.before.before.before.shared-slice-known2.given j,
+    )) in
+    let begun = batched_more (batched_start c.before.before.before.before.before.before.before.before.before.before.before.before.before.before.args.n c.before.before.before.before.before.before.before.before.before.before.before.before.before.before.args.clock c.before.before.before.before.before.before.before.before.before.before.before.before.before.before.args.preferred c.before.before.before.before.before.before.before.before.before.before.before.before.before.before.args.source (offers_in c.before.before.before.before.before.before.before.before.before.before.before.before.before.before.args.items.now c.before.before.before.before.before.before.before.before.before.before.before.before.before.before.args.priorities.now) c.before.before.before.before.before.before.before.before.before.before.before.before.before.before.args.s.now) peer c.before.before.before.before.before.before.before.before.before.before.before.before.before.before.requires.2 typed
+    c.before.before.before.before.before.before.before.before.before.overloaded.ensures c.before.before.before.before.before.announce-part.ensures c.before.before.before.before.before.announce-part.auto.0 in (
+      batched_kept (c.before.before.loop.invariant.2 c.before.before.before.before.before.before.before.before.before.before.before.before.before.before.args.s.now c.before.before.before.before.before.before.before.before.before.overloaded.ensures begun) peer c.before.before.before.before.before.before.before.before.before.before.before.before.before.before.requires.2 typed c.before.before.before.before.before.before.before.before.before.before.before.before.before.before.requires.0,
+      c.before.before.before.before.before.before.before.before.before.before.before.before.before.before.requires.1,
+      c.before.before.before.before.before.before.before.before.before.before.before.before.before.before.requires.2,
+      omega (arith, c.before.loop-test.true, c.before.before.before.before.before.before.before.before.offers.ensures),
+    )
+
+pub loop-i-smaller : goal.loop-i-smaller
+loop-i-smaller c = omega (
+  arith,
+  c.announce_part-i-in-loop-i.ensures.more,
+  c.loop-i-test.true,
+  c.offers-count.ensures,
+)
+
+pub loop-i-preserved : goal.loop-i-preserved
+loop-i-preserved c = let peer : Peer c.args.n = record {
+  positive = c.requires.1;
+  small = omega arith;
+} in
+    let typed : Each OfferTyped (offers_in c.before.before.before.before.before.before.before.before.before.before.before.before.before.before.before.before.before.args.items.now c.before.before.before.before.before.before.before.before.before.before.before.before.before.before.before.before.before.args.priorities.now) = offers-fit c.before.before.before.before.before.before.before.before.before.before.before.before.before.before.before.before.before.args.items.now c.before.before.before.before.before.before.before.before.before.before.before.before.before.before.before.before.before.args.priorities.now
+    (λ j. omega (arith, c.before.before.before.before.before.before.before.before.before.before.before.before.before.before.before.shared-slice-known.given j)) (λ j. omega
+    (arith, c.before.before.before.before.before.before.before.before.before.before.before.before.before.before.shared-slice-known2.given j)) in (
+      c.before.before.announce-part2.auto.0 ∙ c.before.before.before.before.before.loop.invariant.0,
+      c.before.before.announce-part2.ensures.inside,
+      λ u f b. batched_more (c.before.before.before.before.before.loop.invariant.2 u f b) peer c.before.before.before.before.before.before.before.before.before.before.before.before.before.before.before.before.before.requires.2 typed f c.before.before.announce-part2.ensures c.before.before.announce-part2.auto.0,
+    )
+
+pub shape_of-s : goal.shape_of-s
+shape_of-s c = c.loop-i.invariant.0 ∙ c.announce_part-i.auto.0
+
+pub returns : goal.returns
+returns c = let peer : Peer c.args.n = record {
+  positive = c.requires.1;
+  small = omega arith;
+} in
+    let typed : Each OfferTyped (offers_in c.before.before.before.before.before.before.before.before.before.before.before.before.before.args.items.now c.before.before.before.before.before.before.before.before.before.before.before.before.before.args.priorities.now) = offers-fit c.before.before.before.before.before.before.before.before.before.before.before.before.before.args.items.now c.before.before.before.before.before.before.before.before.before.before.before.before.before.args.priorities.now
+    (λ j. omega (arith, c.before.before.before.before.before.before.before.before.before.before.before.shared-slice-known.given j)) (λ j. omega (
+      arith,
+      c.before.before.before.before.before.before.before.before.before.before.shared-slice-known2.given j,
+    )) in
+    let begun = batched_more (batched_start c.before.before.before.before.before.before.before.before.before.before.before.before.before.args.n c.before.before.before.before.before.before.before.before.before.before.before.before.before.args.clock c.before.before.before.before.before.before.before.before.before.before.before.before.before.args.preferred c.before.before.before.before.before.before.before.before.before.before.before.before.before.args.source (offers_in c.before.before.before.before.before.before.before.before.before.before.before.before.before.args.items.now c.before.before.before.before.before.before.before.before.before.before.before.before.before.args.priorities.now) c.before.before.before.before.before.before.before.before.before.before.before.before.before.args.s.now) peer
+    c.before.before.before.before.before.before.before.before.before.before.before.before.before.requires.2 typed
+    c.before.before.before.before.before.before.before.before.overloaded.ensures c.before.before.before.before.announce-part.ensures c.before.before.before.before.announce-part.auto.0 in
+    batched_done (c.before.loop.invariant.2 c.before.before.before.before.before.before.before.before.before.before.before.before.before.args.s.now c.before.before.before.before.before.before.before.before.overloaded.ensures begun) (omega (
+      arith,
+      c.before.loop.invariant.1,
+      c.loop-test.false,
+      c.before.before.before.before.before.before.before.offers.ensures,
+    ))

@@ -1,0 +1,32 @@
+-- `wrapping::offering::displaces` meets its contract.
+use native.Mathlib.Omega.{arith}
+use borrow.Author.Tests.{not-false}
+use Rattle.machine.proofs.Tests.{never}
+use Rattle.words.specs.Words.{words}
+use Rattle.lent_lists.specs.Items.{items_in}
+use Rattle.lent_lists.proofs.Inventory.{paired-inside}
+use Rattle.wrapping.proofs.offering.displaces.Goals as goal
+
+pub returns-then-count-first-lt-FEW : goal.returns-then-count-first-lt-FEW
+returns-then-count-first-lt-FEW c = λ e. never e
+
+pub returns-then-not-a : goal.returns-then-not-a
+returns-then-not-a c = λ e. never e
+
+pub item_at-item-requires : goal.item_at-item-requires
+item_at-item-requires c = omega (
+  arith,
+  c.requires.1,
+  paired-inside (items_in
+      c.args.items.now) (words c.args.priorities.now),
+)
+
+pub returns-then-crowded : goal.returns-then-crowded
+returns-then-crowded c = λ e. never e
+
+pub returns : goal.returns
+returns c = λ e. (
+  c.full.ensures e,
+  not-false c.args.a.preferred
+      c.if-not-a.false,
+)

@@ -1,0 +1,43 @@
+-- `wrapping::offering::settle` meets its contract.
+use native.Mathlib.Omega.{arith}
+use Rattle.wrapping.proofs.Swapped.{swaps_gathers, swaps_settled}
+use Rattle.wrapping.proofs.offering.settle.Goals as goal
+
+pub swap-p-requires : goal.swap-p-requires
+swap-p-requires c = (
+  c.requires.0,
+  c.requires.1,
+  c.requires.2,
+  c.requires.3,
+  c.requires.4,
+  omega (arith, c.clear.auto.0),
+  c.clear.ensures,
+  c.requires.5,
+  c.requires.6,
+)
+
+pub go-requires : goal.go-requires
+go-requires c = (
+  c.requires.0,
+  c.requires.2,
+  c.swap-p.ensures.less,
+  omega
+      (arith, c.requires.3),
+  c.requires.4,
+)
+
+pub come_in-requires : goal.come_in-requires
+come_in-requires c = (
+  swaps_gathers c.swap-p.ensures c.go.ensures
+      c.requires.0,
+  omega (
+    arith,
+    c.swap-p.ensures.few,
+    c.swap-p.auto.1.0,
+    c.clear.auto.0,
+  ),
+)
+
+pub returns : goal.returns
+returns c = swaps_settled c.swap-p.ensures
+    c.go.ensures c.come_in.ensures

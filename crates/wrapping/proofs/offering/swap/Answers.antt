@@ -1,0 +1,66 @@
+-- `wrapping::offering::swap` meets its contract.
+use Prim.Native.Nat.{◌-◌, ◌<◌}
+use mathlib.Core.Path.{refl, ◌∙◌}
+use native.Mathlib.Omega.{arith}
+use lib.ListN.{length}
+use Rattle.lent_lists.specs.Items.{offers_in}
+use Rattle.wrapping.proofs.Swapped.{swaps_start, swaps_more, swaps_same}
+use Rattle.wrapping.proofs.offering.swap.Goals as goal
+
+pub loop-i-init : goal.loop-i-init
+loop-i-init c = (
+  swaps_start c.args.a (offers_in c.args.items.now
+      c.args.priorities.now) c.requires.6
+      c.requires.2 c.requires.1 c.requires.8,
+  refl,
+)
+
+pub offered_at-c-requires : goal.offered_at-c-requires
+offered_at-c-requires c = (c.requires.7, omega (arith, c.loop-i-test.true, c.offers-count.ensures))
+
+pub defer-more-requires : goal.defer-more-requires
+defer-more-requires c = (
+  c.requires.0,
+  omega (arith, c.requires.5, c.loop-i.invariant.1),
+  c.requires.4,
+  c.loop-i.invariant.0.few,
+  omega (arith, c.requires.3),
+)
+
+pub shape_of-new-then-more-eq2 : goal.shape_of-new-then-more-eq2
+shape_of-new-then-more-eq2 c = c.defer-more.auto.1.0 ∙ c.loop-i.invariant.1
+
+pub returns-then-more-eq2 : goal.returns-then-more-eq2
+returns-then-more-eq2 c =
+    let inside : c.loop-i.i < length (offers_in
+    c.args.items.now
+    c.args.priorities.now) = omega
+    (arith, c.loop-i-test.true, c.offers-count.ensures) in
+    swaps_same c.loop-i.invariant.0 inside c.offered_at-c.ensures
+    c.defer-more.ensures c.if-more-eq2.true
+
+pub overflow_add-d : goal.overflow_add-d
+overflow_add-d c = omega (arith, c.loop-i.invariant.0.few, c.defer-more.ensures.most)
+
+pub overflow_add-i : goal.overflow_add-i
+overflow_add-i c = omega (arith, c.loop-i-test.true)
+
+pub loop-i-smaller : goal.loop-i-smaller
+loop-i-smaller c = omega (arith, c.loop-i-test.true, c.offers-count.ensures)
+
+pub loop-i-preserved : goal.loop-i-preserved
+loop-i-preserved c =
+    let inside : c.loop-i.i < length (offers_in
+    c.args.items.now
+    c.args.priorities.now) = omega
+    (arith, c.loop-i-test.true, c.offers-count.ensures) in (
+      swaps_more c.loop-i.invariant.0 inside c.offered_at-c.ensures
+          c.defer-more.ensures c.if-more-eq2.false,
+      c.defer-more.auto.1.0 ∙ c.loop-i.invariant.1,
+    )
+
+pub shape_of-new : goal.shape_of-new
+shape_of-new c = c.loop-i.invariant.1
+
+pub returns : goal.returns
+returns c = c.loop-i.invariant.0
