@@ -80,7 +80,7 @@ has-place r l = go r.info r.«package» refl refl l.packed
 under_places : (lo hi : ℕ) (t : Table) → Ordered lo t → All Lawful t → (x : ℕ) → x < lo → Apart x (places_of t)
 unfolding each
 under_places lo hi [] o l x h = tt
-under_places lo hi (r ∷ t) o l x h = go (places_for r) (has-place r l.0) (under_places _ hi t o.2 l.1 x (omega (arith, o.0)))
+under_places lo hi (r ∷ t) o l x h = go (places_for r) (has-place r l.0) (under_places (suc (place r.key)) hi t o.2 l.1 x (omega (arith, o.0)))
   where
     go : (ps : List Place) → Has r ps → Apart x (places_of t) → Apart x (ps ++ places_of t)
     go ps (nothing e) a = a
@@ -104,7 +104,7 @@ dress-table lo (r ∷ t) ps o l u =
     let one : dress (ps ++ (places_for r ++ places_of t)) (bare r) ≡ r =
     dress-skip (bare r) ps (places_for r ++ places_of t) (under_apart (place r.key) ps (under_more lo (place r.key) ps o.0 u)) ∙
     dressed r (places_for r) (places_of t) h (under_places _ 0 t o.2 l.1 (place r.key) (omega arith)) in
-    let rest = dress-table _ t (ps ++ places_for r) o.2 l.1 (under_append _ ps (places_for r) (under_more lo _ ps (omega (arith, o.0)) u) (under_its r (places_for r) h)) in
+    let rest = dress-table (suc (place r.key)) t (ps ++ places_for r) o.2 l.1 (under_append _ ps (places_for r) (under_more lo _ ps (omega (arith, o.0)) u) (under_its r (places_for r) h)) in
     rw one (ap (λ (l : List Request). r ∷ l) (rw append_assoc at rest))
 
 -- rows and places show the table that they are of

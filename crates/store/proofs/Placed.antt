@@ -54,7 +54,7 @@ module _ (ps : List Place) where
 
   pub dress-ordered : (lo : ℕ) (t : Table) → Ordered lo t → Ordered lo (map (dress ps) t)
   dress-ordered lo [] o = tt
-  dress-ordered lo (r ∷ t) o = rw (dress_kept ps r).key (o.0, o.1, dress-ordered _ t o.2)
+  dress-ordered lo (r ∷ t) o = rw (dress_kept ps r).key (o.0, o.1, dress-ordered (suc (place r.key)) t o.2)
 
   pub dress-filled : (t : Table) → All Filled t → All Filled (map (dress ps) t)
   dress-filled [] f = tt
@@ -84,7 +84,7 @@ dress_none r (p ∷ ps) f = rw (ne_eqb (spot_of p) (place r.key) (λ z. omega (a
 dress_past : (p : Place) (ps : List Place) (lo : ℕ) (t : Table) → spot_of p < lo → Ordered lo t → map (dress (p ∷ ps)) t ≡ map (dress ps) t
 unfolding dress
 dress_past p ps lo [] h o = refl
-dress_past p ps lo (r ∷ t) h o = rw (ne_eqb (spot_of p) (place r.key) (λ z. omega (arith, o.0)), dress_past p ps _ t (omega (arith, o.0)) o.2)
+dress_past p ps lo (r ∷ t) h o = rw (ne_eqb (spot_of p) (place r.key) (λ z. omega (arith, o.0)), dress_past p ps (suc (place r.key)) t (omega (arith, o.0)) o.2)
 
 -- ---- owners by the order of keys
 
@@ -100,7 +100,7 @@ owned-behind : (h lo : ℕ) (t : Table) → place (wtxid h) < lo → Ordered lo 
 unfolding total
 owned-behind h lo [] l o = refl
 owned-behind h lo (r ∷ t) l o =
-    omega (arith, owned_none (at_wtxid h r.key) r.owner (λ n. ne_eqb (place r.key) (place (wtxid h)) (λ z. omega (arith, o.0))), owned-behind h _ t (omega (arith, o.0)) o.2)
+    omega (arith, owned_none (at_wtxid h r.key) r.owner (λ n. ne_eqb (place r.key) (place (wtxid h)) (λ z. omega (arith, o.0))), owned-behind h (suc (place r.key)) t (omega (arith, o.0)) o.2)
 
 abbrev OwnedIn : Table → Place → Type 0
 OwnedIn t p = 1 ≤ owners (at_wtxid p.hash) t
@@ -175,7 +175,7 @@ dressed_from : (rs : List Row) (lo : ℕ) (t : Table) (ps : List Place) → Orde
 unfolding each total
 dressed_from rs lo [] [] o l u f s w = record { places = refl; lawful = tt }
 dressed_from rs lo [] (p ∷ ps) o l u f s w = absurd (omega (arith, w.0))
-dressed_from rs lo (r ∷ t) [] o l u f s w = past [] r t tt l.0 u.0 (dressed_from rs _ t [] o.2 l.1 u.1 tt tt tt)
+dressed_from rs lo (r ∷ t) [] o l u f s w = past [] r t tt l.0 u.0 (dressed_from rs (suc (place r.key)) t [] o.2 l.1 u.1 tt tt tt)
 dressed_from rs lo (r ∷ t) (p ∷ ps) o l u f s w =
     elim (order (place r.key) (spot_of p)) [
       | inl b ↦ past (p ∷ ps) r t (b, f.1) l.0 u.0 (dressed_from rs _ t (p ∷ ps) o.2 l.1 u.1 (b, f.1) s (owned_past r t (p ∷ ps) (b, f.1) w))

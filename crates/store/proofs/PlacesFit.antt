@@ -53,7 +53,7 @@ module _ (rs : List Row) where
   unfolding each total
   places-fit lo [] o l u = tt
   places-fit lo (r ∷ t) o l u =
-      Each-both (PlaceFits rs) (places_for r) (places_of t) (places-in r o.1 l.0 (omega (arith, u r.key.hash))) (places-fit _ t o.2 l.1 (λ h. omega (arith, u h)))
+      Each-both (PlaceFits rs) (places_for r) (places_of t) (places-in r o.1 l.0 (omega (arith, u r.key.hash))) (places-fit (suc (place r.key)) t o.2 l.1 (λ h. omega (arith, u h)))
 
 -- ---- their order
 
@@ -65,7 +65,7 @@ Behind x t = (n : ℕ) → ((h : ℕ) → suc x ≤ place (wtxid h) → n ≤ h)
 pub places-ascend : (lo m : ℕ) (t : Table) → Ordered lo t → All Lawful t → ((h : ℕ) → lo ≤ place (wtxid h) → m ≤ h) → PlacesAscend m (places_of t)
 unfolding each places_for
 places-ascend lo m [] o l f = tt
-places-ascend lo m (r ∷ t) o l f = go r.info r.«package» l.0.packed (λ n g. places-ascend _ n t o.2 l.1 g)
+places-ascend lo m (r ∷ t) o l f = go r.info r.«package» l.0.packed (λ n g. places-ascend (suc (place r.key)) n t o.2 l.1 g)
   where
     held : r.key.kind ≡ Wtxid → Behind (place r.key) t → (m ≤ r.key.hash) × PlacesAscend (suc r.key.hash) (places_of t)
     held w rest =

@@ -81,13 +81,13 @@ part_all r l = go r.owner l.owner refl
 
 ordered-bare : (lo : ℕ) (t : Table) → Ordered lo t → Ordered lo (map bare t)
 ordered-bare lo [] o = tt
-ordered-bare lo (r ∷ t) o = (o.0, o.1, ordered-bare _ t o.2)
+ordered-bare lo (r ∷ t) o = (o.0, o.1, ordered-bare (suc (place r.key)) t o.2)
 
 -- the whole table
 pub gather-table : (lo : ℕ) (t : Table) → Ordered lo t → All Lawful t → All Filled t → gather (rows_of t) ≡ map bare t
 unfolding each rows_for gather
 gather-table lo [] o l f = refl
-gather-table lo (r ∷ t) o l f = go r.candidates refl (gather-table _ t o.2 l.1 f.1)
+gather-table lo (r ∷ t) o l f = go r.candidates refl (gather-table (suc (place r.key)) t o.2 l.1 f.1)
   where
     go : (cs : List Candidate) → r.candidates ≡ cs → gather (rows_of t) ≡ map bare t → gather (map (row_of r) r.candidates ++ rows_of t) ≡ bare r ∷ map bare t
     go [] e ih = absurd (omega (arith, f.0, ap length e))

@@ -83,7 +83,7 @@ fit_in r (c ∷ cs) h l f = (row_fits r c h l f.0, fit_in r cs h l f.1)
 pub rows_fit : (lo : ℕ) (t : Table) → Ordered lo t → All Lawful t → Each RowFits (rows_of t)
 unfolding each rows_for
 rows_fit lo [] o l = tt
-rows_fit lo (r ∷ t) o l = Each-both RowFits (map (row_of r) r.candidates) (rows_of t) (fit_in r r.candidates o.1 l.0 l.0.candidates) (rows_fit _ t o.2 l.1)
+rows_fit lo (r ∷ t) o l = Each-both RowFits (map (row_of r) r.candidates) (rows_of t) (fit_in r r.candidates o.1 l.0 l.0.candidates) (rows_fit (suc (place r.key)) t o.2 l.1)
 
 -- ---- their order
 
@@ -98,7 +98,7 @@ ascending_in lo r (c ∷ cs) rs h a = rw (key_row r c) (h, ascending_in (place r
 pub rows-ascend : (lo : ℕ) (t : Table) → Ordered lo t → Ascending lo (rows_of t)
 unfolding each rows_for
 rows-ascend lo [] o = tt
-rows-ascend lo (r ∷ t) o = ascending_in lo r r.candidates (rows_of t) o.0 (ascending_weaken _ (suc (place r.key)) (rows_of t) (omega arith) (rows-ascend _ t o.2))
+rows-ascend lo (r ∷ t) o = ascending_in lo r r.candidates (rows_of t) o.0 (ascending_weaken _ (suc (place r.key)) (rows_of t) (omega arith) (rows-ascend (suc (place r.key)) t o.2))
 
 -- ---- their marks
 
@@ -113,7 +113,7 @@ marks_in r c (d ∷ cs) rs a m = ((λ e. mark-row r c ∙ sym (mark-row r d)), m
 pub rows-marked : (lo : ℕ) (t : Table) → Ordered lo t → SameMarks (rows_of t)
 unfolding each rows_for
 rows-marked lo [] o = tt
-rows-marked lo (r ∷ t) o = go r.candidates (rows-ascend _ t o.2) (rows-marked _ t o.2)
+rows-marked lo (r ∷ t) o = go r.candidates (rows-ascend _ t o.2) (rows-marked (suc (place r.key)) t o.2)
   where
     go : (cs : List Candidate) → Ascending (suc (place r.key)) (rows_of t) → SameMarks (rows_of t) → SameMarks (map (row_of r) cs ++ rows_of t)
     go [] a m = m

@@ -38,7 +38,7 @@ pub above_ordered : (k : Key) (lo : ℕ) (t : Table) → Ordered lo t → Ordere
 unfolding above
 above_ordered k lo [] o = tt
 above_ordered k lo (r ∷ t) o =
-    elim (test (leb (place r.key) (place k))) [ inl e ↦ rw e (above_ordered k _ t o.2) | inr e ↦ rw e (leb-false (place r.key) (place k) e, o.1, o.2) ]
+    elim (test (leb (place r.key) (place k))) [ inl e ↦ rw e (above_ordered k (suc (place r.key)) t o.2) | inr e ↦ rw e (leb-false (place r.key) (place k) e, o.1, o.2) ]
 
 pub below_under : (k : Key) (t : Table) → All (λ r. place r.key < place k) (below k t)
 unfolding below
@@ -58,7 +58,7 @@ change_split k f lo (r ∷ t) o =
         | inl d ↦ let q = eqb-true (place k) (place r.key) d in
             rw (d, le-ltb (place r.key) (place k) (omega arith), le-leb (place r.key) (place k) (omega arith), above_all k _ t (omega arith) o.2)
         | inr d ↦ let q : place r.key < place k = omega (arith, ltb-false, eqb-false (place k) (place r.key) d) in
-            rw (d, lt-ltb (place r.key) (place k) q, le-leb (place r.key) (place k) (omega arith), change_split k f _ t o.2)
+            rw (d, lt-ltb (place r.key) (place k) q, le-leb (place r.key) (place k) (omega arith), change_split k f (suc (place r.key)) t o.2)
       ])
     ]
 
@@ -92,7 +92,7 @@ module _ {B : Type 0} (g : Request → List B) where
           | inl d ↦ let q = eqb-true (place k) (place r.key) d in
               rw (d, le-ltb (place r.key) (place k) (omega arith), le-leb (place r.key) (place k) (omega arith), above_all k _ t (omega arith) o.2)
           | inr d ↦ let q : place r.key < place k = omega (arith, ltb-false, eqb-false (place k) (place r.key) d) in
-              rw (d, lt-ltb (place r.key) (place k) q, le-leb (place r.key) (place k) (omega arith), append_assoc, ← (each_at k _ t o.2 h))
+              rw (d, lt-ltb (place r.key) (place k) q, le-leb (place r.key) (place k) (omega arith), append_assoc, ← (each_at k (suc (place r.key)) t o.2 h))
         ]
       ]
 

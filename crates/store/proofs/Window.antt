@@ -1,4 +1,5 @@
 -- Where the rows of a key and the place of a hash stand: what a search finds.
+use Rattle.store.specs.Gather.{key_at}
 use Prim.Native.Nat.{ℕ, suc, ◌+◌, ◌≤◌, ◌<◌}
 use mathlib.Core.Path.{◌≡◌, refl, ap, ◌∙◌}
 use mathlib.Core.Logic.{inl, inr}
@@ -41,7 +42,7 @@ row_keys rs = map (λ r. key_number (key_of r)) rs
 
 keys-ascend : (lo : ℕ) (rs : List Row) → Ascending lo rs → Ascend lo (row_keys rs)
 keys-ascend lo [] a = tt
-keys-ascend lo (r ∷ rs) a = rw (row_number r) (a.0, keys-ascend _ rs a.1)
+keys-ascend lo (r ∷ rs) a = rw (row_number r) (a.0, keys-ascend (place (key_at r)) rs a.1)
 
 pub rows-sorted : (lo : ℕ) (rs : List Row) → Ascending lo rs → Sorted (row_keys rs)
 rows-sorted lo rs a = ascend-sorted lo (row_keys rs) (keys-ascend lo rs a)
