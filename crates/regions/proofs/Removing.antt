@@ -2,12 +2,12 @@
 use Prim.Native.Nat.{ℕ, ◌+◌, ◌-◌, ◌*◌, ◌≤◌}
 use mathlib.Core.Path.{◌≡◌, sym, ap, ◌∙◌}
 use mathlib.Core.List.{List, ◌++◌, append_assoc}
-use native.Mathlib.Nat.{mul-add, mul_comm}
+use native.Mathlib.Nat.{mul_comm}
 use native.Mathlib.Omega.{arith}
-use lib.ListN.{length, take, drop, length-append, length-take, length-drop, take-append-drop}
+use lib.ListN.{length, take, drop, length-append, length-drop, take-append-drop}
 use lib.Seq.{take-take, length-take-le}
 use Rattle.words.specs.Words.{down}
-use Rattle.regions.specs.Regions.{each, padded, Holds, remove_range, shut, RangeRemoved}
+use Rattle.regions.specs.Regions.{each, padded, remove_range, shut, RangeRemoved}
 use Rattle.regions.proofs.Regions.{length-padded, padded-shut, each_append, length_each}
 
 -- a move by a number that is written in another way

@@ -9,8 +9,8 @@ returns c =
     place-in (words c.args.s.now) c.args.n c.args.i c.requires.0 (omega (arith, length-words c.args.s.now, c.requires)) c.args.h c.args.stage
     (omega arith) (omega (
       arith,
-      length-words c.move_up.new.0,
-      c.move_up.auto.0,
+      length-words c.move_up.new.s,
+      c.move_up.auto.s,
       c.requires,
     ))
     c.move_up.ensures

@@ -10,6 +10,6 @@ pub returns : goal.returns
 returns c =
     let e = c.args.a + c.args.d in
     let by = c.args.b - c.args.a in
-    let moved = back_down by c.args.s.now c.shift_down.new.0 c.args.a e (omega arith) (omega arith) c.shift_down.auto.0
+    let moved = back_down by c.args.s.now c.shift_down.new.s c.args.a e (omega arith) (omega arith) c.shift_down.auto.s
     c.shift_down.ensures in
     copied_by (words c.args.s.now) c.args.a c.args.b c.args.d c.requires.0 (omega (arith, length-words c.args.s.now, c.requires)) moved

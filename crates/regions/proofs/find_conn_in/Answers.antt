@@ -1,5 +1,4 @@
 use native.Mathlib.Omega.{arith}
-use Prim.Native.Nat.{◌-◌}
 use mathlib.Core.Path.{sym, ◌∙◌}
 use Rattle.words.specs.Words.{words}
 use Rattle.regions.proofs.Order.{passing_start, passing_more, passing_found, passing_end}

@@ -1,6 +1,6 @@
 use native.Mathlib.Omega.{arith}
 use Prim.Native.Nat.{◌+◌, ◌-◌, ◌/◌}
-use Rattle.words.specs.Words.{words, recs}
+use Rattle.words.specs.Words.{words}
 use Rattle.words.proofs.Records.{length-recs}
 use Rattle.regions.specs.Rows.{conn_size, conn_key}
 use Rattle.regions.proofs.Order.{search_start, search_up, search_down, search_end}

@@ -10,6 +10,6 @@ pub returns : goal.returns
 returns c =
     let w = words c.args.s.now in
     let e = c.args.b - c.args.d in
-    let moved = back_down c.args.d c.args.s.now c.shift_down.new.0 c.args.a e (omega (arith, c.requires))
-    (omega (arith, c.requires)) c.shift_down.auto.0 c.shift_down.ensures in
+    let moved = back_down c.args.d c.args.s.now c.shift_down.new.s c.args.a e (omega (arith, c.requires))
+    (omega (arith, c.requires)) c.shift_down.auto.s c.shift_down.ensures in
     shut_by w c.args.d c.args.a c.args.b c.requires.0 (omega (arith, length-words c.args.s.now, c.requires)) moved c.clear.ensures

@@ -10,8 +10,8 @@ use Rattle.regions.proofs.write_row.Goals as goal
 pub returns : goal.returns
 unfolding row_words
 returns c =
-    replaced row_size row_words (λ r. refl) (words c.args.s.now) c.args.i (omega (arith, length-words c.args.s.now, c.pre)) c.args.r
-    (row_written (words c.args.s.now) c.args.i c.args.r (omega (arith, length-words c.args.s.now, c.pre)) c.write_quad.ensures
+    replaced row_size row_words (λ r. refl) (words c.args.s.now) c.args.i (omega (arith, length-words c.args.s.now, c.requires)) c.args.r
+    (row_written (words c.args.s.now) c.args.i c.args.r (omega (arith, length-words c.args.s.now, c.requires)) c.write_quad.ensures
     c.put.ensures.word
     c.put-2.ensures.word
     c.put-3.ensures.word c.put-4.ensures.word

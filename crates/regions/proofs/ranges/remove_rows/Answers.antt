@@ -18,6 +18,6 @@ returns c =
     let end = a.n * row_size - by in
     let down_by = c.rows_down_by in
     let as_by : row_size * (a.to - a.from) ≡ by = omega arith in
-    let moved = back_down by a.s.now down_by.last.0 (a.from * row_size) end (omega (arith, c.pre)) (omega (arith, c.pre)) down_by.kept.0 (rw as_by at down_by.ensures) in
-    let cleared = shut_by w by (a.from * row_size) (a.n * row_size) (omega (arith, c.pre)) (omega (arith, length-words a.s.now, c.pre)) moved c.clear.ensures in
-    range_removed row_size row_words (λ r. refl) w a.n a.from a.to c.pre.0 c.pre.1 (omega (arith, length-words a.s.now, c.pre)) cleared
+    let moved = back_down by a.s.now down_by.new.s (a.from * row_size) end (omega (arith, c.requires)) (omega (arith, c.requires)) down_by.auto.s (rw as_by at down_by.ensures) in
+    let cleared = shut_by w by (a.from * row_size) (a.n * row_size) (omega (arith, c.requires)) (omega (arith, length-words a.s.now, c.requires)) moved c.clear.ensures in
+    range_removed row_size row_words (λ r. refl) w a.n a.from a.to c.requires.0 c.requires.1 (omega (arith, length-words a.s.now, c.requires)) cleared
