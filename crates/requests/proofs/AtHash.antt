@@ -1,5 +1,5 @@
 -- The candidates of a hash are those of its two keys.
-use Prim.Native.Nat.{ℕ, ◌+◌, ◌-◌, ◌<◌}
+use Prim.Native.Nat.{ℕ, ◌+◌, ◌-◌, ◌<◌, suc}
 use mathlib.Core.Path.{◌≡◌, refl, sym, ap, ◌∙◌}
 use mathlib.Core.Logic.{inl, inr}
 use mathlib.Core.Bool.{Bool, true, false, ◌&&◌, and-true}
@@ -64,7 +64,7 @@ module _ (h : ℕ) (small : h < top) (p : ℕ → Bool) where
   unfolding total at count_in
   at-hash lo [] o = refl
   at-hash lo (r ∷ t) o = elim (test (eqb r.key.hash h)) [
-    | inl e ↦ here r.key.kind refl (eqb-true r.key.hash h e) e (at-hash _ t o.2)
+    | inl e ↦ here r.key.kind refl (eqb-true r.key.hash h e) e (at-hash (suc (place r.key)) t o.2)
     | inr e ↦ let n = eqb-false r.key.hash h e in
         let a = keyed_past p (txid h) r t (apart r Txid r.key.kind n o.1) in
         let b = keyed_past p (wtxid h) r t (apart r Wtxid r.key.kind n o.1) in
