@@ -29,7 +29,7 @@ pub record Four (h : Hash) : Type 0 where
   pub four : length h.words ≡ 4
   pub fits : (k : ℕ) → get_or h.words k 0 < 2 ^ 64
 
-each_fits : (xs : List ℕ) (us : List Val) → shadow (each ℕ u64.own_val (map (λ (v : ℕ). v) xs) us) → (k : ℕ) → get_or xs k 0 < 2 ^ 64
+each_fits : (xs : List ℕ) (us : List Val) → shadow (each ℕ u64.own_val xs us) → (k : ℕ) → get_or xs k 0 < 2 ^ 64
 each_fits [] [] s k = lit< tt
 each_fits [] (u ∷ us) s k = absurd s
 each_fits (x ∷ xs) [] s k = absurd s
@@ -37,7 +37,7 @@ each_fits (x ∷ xs) (u ∷ us) s zero = s.0.1
 each_fits (x ∷ xs) (u ∷ us) s (suc k) = each_fits xs us s.1 k
 
 pub hash-four : (h : Hash) → Is T.the_row h (LL.vals T.the_type T'.the_laws h) → Four h
-hash-four h g = let f = (LL.owed T.the_type T'.the_laws h _ g).0 in record { four = sym (length-map h.words (λ (v : ℕ). v)) ∙ f.1.0.1; fits = each_fits h.words f.0 f.1.1 }
+hash-four h g = let f = (LL.owed T.the_type T'.the_laws h _ g).0 in record { four = f.1.0.1; fits = each_fits h.words f.0 f.1.1 }
 
 pub key-four : (k : Key) → Is K.the_row k (LL.vals K.the_type K'.the_laws k) → Four k.hash
 key-four k g = hash-four k.hash (LL.owed K.the_type K'.the_laws k _ g).1.0

@@ -11,5 +11,5 @@ returns-then-not-takes c = entry_left c.args.clock (entry_of c.args.e) c.takes.e
 pub returns : goal.returns
 returns c = entry-taken c.args.clock
     (entry_of c.args.e) c.takes.ensures
-    (key_below c.args.e c.well-formed.1.1.0)
+    (key_below c.args.e c.well_formed.1.1.0)
     (not-false _ c.if-not-takes.false-raw) c.own.ensures

@@ -11,13 +11,13 @@ returns-then-guarded c = known_kept (key_num c.args.k) c.args.clock (λ st s w. 
 
 pub forget-requires : goal.forget-requires
 forget-requires c = let v : c.args.clock < word =
-    omega (arith, c.well-formed.1.1.0) in handed_kept
+    omega (arith, c.well_formed.1.1.0) in handed_kept
     (key_num c.args.k) c.args.clock v
     c.hand_on.ensures c.requires
 
 pub returns : goal.returns
 returns c = let v : c.args.clock < word =
-    omega (arith, c.well-formed.1.1.0) in
+    omega (arith, c.well_formed.1.1.0) in
     known_gone (key_num c.args.k)
     c.args.clock v
     c.hand_on.ensures (λ st s w. sym c.if-guarded.false ∙

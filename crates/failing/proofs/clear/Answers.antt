@@ -7,11 +7,11 @@ pub disown-requires : goal.disown-requires
 disown-requires c =
     let kept = c.requires in
     shut_kept kept.state kept.sound (key_num c.args.k) (hash_below c.args.k.hash
-    (key-four c.args.k c.well-formed.1.0))
+    (key-four c.args.k c.well_formed.1.0))
     (c.close.ensures kept.state kept.sound kept.writes tt)
 
 pub returns : goal.returns
 returns c = λ st s w e. cleared_from st s (key_num c.args.k) (hash_below
     c.args.k.hash (key-four c.args.k
-    c.well-formed.1.0)) c.args.n e
+    c.well_formed.1.0)) c.args.n e
     (c.close.ensures st s w tt) c.disown.ensures

@@ -18,11 +18,11 @@ returns-then-not-failed c = nothing-handed (key_num c.args.k)
 pub announce_behind-requires : goal.announce_behind-requires
 announce_behind-requires c =
     let v : c.args.clock < word =
-    omega (arith, c.well-formed.1.1.1.0) in (
+    omega (arith, c.well_formed.1.1.1.0) in (
       failed_kept (key_num c.args.k)
           (hash_below c.args.k.hash
           (key-four c.args.k
-          c.well-formed.1.0))
+          c.well_formed.1.0))
           c.args.n
           c.args.clock v
           (not-false c.failed.result c.if-not-failed.false-raw)
@@ -44,13 +44,13 @@ returns c =
     let v : c.args.clock < word =
     omega (
       arith,
-      c.well-formed.1.1.1.0,
+      c.well_formed.1.1.1.0,
     ) in
     handed (key_num c.args.k)
     (hash_below
     c.args.k.hash
     (key-four c.args.k
-    c.well-formed.1.0))
+    c.well_formed.1.0))
     c.args.n
     c.args.clock v
     (not-false c.failed.result

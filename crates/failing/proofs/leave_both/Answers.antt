@@ -9,17 +9,17 @@ use Rattle.failing.proofs.leave_both.Goals as goal
 pub leave-requires : goal.leave-requires
 leave-requires c = first_leave (key_num c.args.k)
     (hash_below c.args.k.hash (key-four c.args.k
-    c.well-formed.1.0)) c.args.n
+    c.well_formed.1.0)) c.args.n
     c.requires.1 c.clear.ensures c.requires.0
 
 pub leave-requires-2 : goal.leave-requires-2
 leave-requires-2 c =
     let v : c.args.clock < word =
-    omega (arith, c.well-formed.1.1.1.0) in
+    omega (arith, c.well_formed.1.1.1.0) in
     second-leave (key_num c.args.k)
     (hash_below c.args.k.hash
     (key-four c.args.k
-    c.well-formed.1.0))
+    c.well_formed.1.0))
     c.args.n
     c.requires.1 c.clear.ensures
     c.requires.0 v
@@ -28,11 +28,11 @@ leave-requires-2 c =
 pub returns : goal.returns
 returns c =
     let v : c.args.clock < word =
-    omega (arith, c.well-formed.1.1.1.0) in
+    omega (arith, c.well_formed.1.1.1.0) in
     both_left (key_num c.args.k)
     (hash_below c.args.k.hash
     (key-four c.args.k
-    c.well-formed.1.0))
+    c.well_formed.1.0))
     c.args.n
     c.requires.1
     c.clear.ensures v

@@ -27,7 +27,7 @@ leave_both-requires c = (
 pub announce_behind-requires : goal.announce_behind-requires
 announce_behind-requires c =
     let v : c.args.clock < word =
-    omega (arith, c.well-formed.1.1.1.0) in (
+    omega (arith, c.well_formed.1.1.1.0) in (
       released_kept (key_num c.wtxid_key-k.result)
           (hash_below c.wtxid_key-k.result.hash
           (key-four c.wtxid_key-k.result
@@ -51,7 +51,7 @@ pub returns : goal.returns
 returns c =
     let v : c.args.clock < word = omega (
       arith,
-      c.well-formed.1.1.1.0,
+      c.well_formed.1.1.1.0,
     ) in
     released_handed (key_num
     c.wtxid_key-k.result)

@@ -11,11 +11,11 @@ use Rattle.handing.proofs.drop_owned.Goals as goal
 
 pub copy_conns-q-requires : goal.copy_conns-q-requires
 copy_conns-q-requires c = let v : c.args.clock < word =
-    omega (arith, c.well-formed.1.1.1.0) in (
+    omega (arith, c.well_formed.1.1.1.0) in (
       drop_kept (key_num c.args.k) (hash_below
           c.args.k.hash
           (key-four c.args.k
-          c.well-formed.1.0))
+          c.well_formed.1.0))
           c.args.n
           c.args.clock v c.failed.ensures
           c.requires.0,
@@ -25,11 +25,11 @@ copy_conns-q-requires c = let v : c.args.clock < word =
 pub announce_each-requires : goal.announce_each-requires
 announce_each-requires c =
     let v : c.args.clock < word =
-    omega (arith, c.well-formed.1.1.1.0) in
+    omega (arith, c.well_formed.1.1.1.0) in
     let small = hash_below
     c.args.k.hash
     (key-four c.args.k
-    c.well-formed.1.0) in (
+    c.well_formed.1.0) in (
       drop_kept (key_num c.args.k) small
           c.args.n
           c.args.clock v
@@ -70,9 +70,9 @@ announce_each-requires c =
 pub returns : goal.returns
 returns c = let v : c.args.clock < word = omega (
   arith,
-  c.well-formed.1.1.1.0,
+  c.well_formed.1.1.1.0,
 ) in
-    let small = hash_below c.before.before.before.before.before.before.before.before.before.before.before.before.before.before.before.before.before.before.before.before.before.before.before.before.args.k.hash (key-four c.before.before.before.before.before.before.before.before.before.before.before.before.before.before.before.before.before.before.before.before.before.before.before.before.args.k c.before.before.before.before.before.before.before.before.before.before.before.before.before.before.before.before.before.before.before.before.before.before.before.before.well-formed.1.0) in
+    let small = hash_below c.before.before.before.before.before.before.before.before.before.before.before.before.before.before.before.before.before.before.before.before.before.before.before.before.args.k.hash (key-four c.before.before.before.before.before.before.before.before.before.before.before.before.before.before.before.before.before.before.before.before.before.before.before.before.args.k c.before.before.before.before.before.before.before.before.before.before.before.before.before.before.before.before.before.before.before.before.before.before.before.before.well_formed.1.0) in
     dropped (key_num c.before.before.before.before.before.before.before.before.before.before.before.before.before.before.before.before.before.before.before.before.before.before.before.before.args.k) small c.before.before.before.before.before.before.before.before.before.before.before.before.before.before.before.before.before.before.before.before.before.before.before.before.args.n c.before.before.before.before.before.before.before.before.before.before.before.before.before.before.before.before.before.before.before.before.before.before.before.before.args.clock v
     c.before.before.before.before.before.before.before.before.before.before.before.before.before.before.before.before.failed.ensures
     c.before.before.before.before.before.before.before.before.before.before.before.before.before.before.before.before.before.before.before.before.before.before.before.before.requires.2 _ (λ st s w. first_are _

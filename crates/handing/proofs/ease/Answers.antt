@@ -8,19 +8,19 @@ use Rattle.handing.proofs.ease.Goals as goal
 
 pub ready_all-requires : goal.ready_all-requires
 ready_all-requires c = let v : c.args.clock < word =
-    omega (arith, c.well-formed.1.1.1.0) in
+    omega (arith, c.well_formed.1.1.1.0) in
     ready_kept (key_num c.args.k) (hash_below c.args.k.hash
-    (key-four c.args.k c.well-formed.1.0))
+    (key-four c.args.k c.well_formed.1.0))
     c.args.n c.args.clock v
     c.requires.1 c.unclaim.ensures c.requires.0
 
 pub leave-requires : goal.leave-requires
 leave-requires c = let v : c.args.clock < word =
-    omega (arith, c.well-formed.1.1.1.0) in
+    omega (arith, c.well_formed.1.1.1.0) in
     leave-free (key_num c.args.k)
     (hash_below c.args.k.hash
     (key-four c.args.k
-    c.well-formed.1.0))
+    c.well_formed.1.0))
     c.args.n
     c.args.clock v
     c.requires.1 c.unclaim.ensures
@@ -29,11 +29,11 @@ leave-requires c = let v : c.args.clock < word =
 
 pub returns : goal.returns
 returns c = let v : c.args.clock < word =
-    omega (arith, c.well-formed.1.1.1.0) in
+    omega (arith, c.well_formed.1.1.1.0) in
     eased_made (key_num c.args.k)
     (hash_below c.args.k.hash
     (key-four c.args.k
-    c.well-formed.1.0))
+    c.well_formed.1.0))
     c.args.n
     c.args.clock v
     c.requires.1

@@ -12,8 +12,8 @@ chain o₀ o₁ o₂ o₃ r₀ r₁ r₂ p₀ p₁ p₂ p₃ e₃ e₂ f₂ e₁
 
 pub returns : goal.returns
 returns c =
-    let fa = hash-four c.args.a c.well-formed.0 in
-    let fb = hash-four c.args.b c.well-formed.1.0 in
+    let fa = hash-four c.args.a c.well_formed.0 in
+    let fb = hash-four c.args.b c.well_formed.1.0 in
     chain _ _ _ _ _ _ _ _ _ _ _ c.cmp_word-o3.ensures c.cmp_word.ensures
     c.then-o2.ensures
     c.cmp_word-2.ensures c.then-o1.ensures c.cmp_word-3.ensures c.then.ensures ∙

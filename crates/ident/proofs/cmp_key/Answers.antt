@@ -18,4 +18,4 @@ returns c =
     let b = c.args.b in
     chain _ _ _ _ _ _ _ _ c.cmp_hash-lo.ensures c.kind_rank.ensures c.kind_rank-2.ensures
     c.cmp_word.ensures c.then.ensures ∙
-    by_place (key_num a) (key_num b) (hash_below a.hash (key-four a c.well-formed.0)) (hash_below b.hash (key-four b c.well-formed.1.0))
+    by_place (key_num a) (key_num b) (hash_below a.hash (key-four a c.well_formed.0)) (hash_below b.hash (key-four b c.well_formed.1.0))

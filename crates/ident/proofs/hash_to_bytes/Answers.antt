@@ -8,4 +8,4 @@ use Rattle.ident.proofs.hash_to_bytes.Goals as goal
 pub returns : goal.returns
 returns c =
     let h = c.args.h in
-    written _ (hash_num h) refl (hash_below h (hash-four h c.well-formed.0)) c.put_hash.ensures
+    written _ (hash_num h) refl (hash_below h (hash-four h c.well_formed.0)) c.put_hash.ensures

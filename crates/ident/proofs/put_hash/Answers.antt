@@ -6,6 +6,6 @@ use Rattle.ident.proofs.put_hash.Goals as goal
 pub returns : goal.returns
 returns c =
     let h = c.args.h in
-    hash-put c.args.s.now c.args.a c.requires h (hash-four h c.well-formed.1.1.0)
+    hash-put c.args.s.now c.args.a c.requires h (hash-four h c.well_formed.1.1.0)
     c.put.ensures
     c.put-2.ensures c.put-3.ensures c.put-4.ensures

@@ -12,7 +12,7 @@ idle_keys-i-requires c = c.requires.0
 
 pub loop-i-init : goal.loop-i-init
 loop-i-init c = λ st s w.
-    let late : c.args.clock < word = omega (arith, c.well-formed.1.1.0) in
+    let late : c.args.clock < word = omega (arith, c.well_formed.1.1.0) in
     going_first c.args.n c.args.clock late st s w c.args.out.now
     c.args.own (c.requires.3.count st s w) (c.requires.3.keys st s w)
     c.requires.2 c.idle_keys-i.ensures
@@ -43,7 +43,7 @@ loop-i-preserved c = λ st s w. c.take_turn-p.ensures st
 pub cut_listed-requires : goal.cut_listed-requires
 cut_listed-requires c = let kept = c.requires.0 in
     let late : c.args.clock < word =
-    omega (arith, c.well-formed.1.1.0) in
+    omega (arith, c.well_formed.1.1.0) in
     let g = c.loop-i.invariant kept.state kept.sound kept.writes in
     (going_kept g, omega (arith, keys-inside g late))
 
@@ -55,7 +55,7 @@ shape_of-s c = let kept = c.requires.0 in
 pub shape_of-out : goal.shape_of-out
 shape_of-out c = let kept = c.requires.0 in
     let late : c.args.clock < word =
-    omega (arith, c.well-formed.1.1.0) in
+    omega (arith, c.well_formed.1.1.0) in
     going-long (c.loop-i.invariant kept.state kept.sound kept.writes) late
 
 pub returns : goal.returns

@@ -7,7 +7,7 @@ use Rattle.leaving.proofs.Turning.{keys-inside, turn_rests, still_kept, drop-ask
 use Rattle.leaving.proofs.take_turn.Goals as goal
 
 pub key_at-k-requires : goal.key_at-k-requires
-key_at-k-requires c = let late : c.args.clock < word = omega (arith, c.well-formed.1.1.0) in
+key_at-k-requires c = let late : c.args.clock < word = omega (arith, c.well_formed.1.1.0) in
     omega (arith, keys-inside c.requires.0.going late, c.requires.2)
 
 pub waits-w-requires : goal.waits-w-requires
@@ -16,13 +16,13 @@ waits-w-requires c = (going_kept c.requires.0.going, c.requires.1)
 pub returns-then-w : goal.returns-then-w
 returns-then-w c = λ st u₀ g.
     let late : c.args.clock < word =
-    omega (arith, c.well-formed.1.1.0) in
+    omega (arith, c.well_formed.1.1.0) in
     turn_rests g late (key_num c.key_at-k.result) c.requires.2
     c.key_at-k.ensures c.waits-w.ensures c.if-w.true
 
 pub cut_listed-requires : goal.cut_listed-requires
 cut_listed-requires c = let late : c.args.clock < word =
-    omega (arith, c.well-formed.1.1.0) in (
+    omega (arith, c.well_formed.1.1.0) in (
       still_kept c.requires.0.going late (key_num
           c.key_at-k.result) c.requires.2
           c.key_at-k.ensures c.waits-w.ensures c.if-w.false,
@@ -35,22 +35,22 @@ cut_listed-requires c = let late : c.args.clock < word =
 
 pub overflow_mul-x : goal.overflow_mul-x
 overflow_mul-x c = let late : c.args.clock < word =
-    omega (arith, c.well-formed.1.1.0) in
+    omega (arith, c.well_formed.1.1.0) in
     omega (arith, keys-inside c.requires.0.going late)
 
 pub slice_bounds-drop_owned-count : goal.slice_bounds-drop_owned-count
 slice_bounds-drop_owned-count c = let late : c.args.clock < word =
-    omega (arith, c.well-formed.1.1.0) in
+    omega (arith, c.well_formed.1.1.0) in
     omega (arith, keys-inside c.requires.0.going late)
 
 pub slice_bounds-drop_owned-start : goal.slice_bounds-drop_owned-start
 slice_bounds-drop_owned-start c = let late : c.args.clock < word =
-    omega (arith, c.well-formed.1.1.0) in
+    omega (arith, c.well_formed.1.1.0) in
     omega (arith, keys-inside c.requires.0.going late)
 
 pub drop_owned-parents-requires : goal.drop_owned-parents-requires
 drop_owned-parents-requires c = let late : c.args.clock < word =
-    omega (arith, c.well-formed.1.1.0) in
+    omega (arith, c.well_formed.1.1.0) in
     drop-asks c.requires.0.going late
     (key_num c.key_at-k.result)
     c.requires.2
@@ -63,7 +63,7 @@ pub returns : goal.returns
 returns c = λ st u₀ g.
     let late : c.args.clock < word = omega (
       arith,
-      c.well-formed.1.1.0,
+      c.well_formed.1.1.0,
     ) in
     turn_owned g late (key_num c.key_at-k.result)
     c.requires.2

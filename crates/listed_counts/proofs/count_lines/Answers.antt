@@ -16,7 +16,7 @@ line_at-l-requires c =
 
 pub count_number-requires : goal.count_number-requires
 count_number-requires c =
-    (c.requires.3 ∙ sym c.loop-at.invariant.1, omega (arith, c.loop-at.invariant.4, c.loop-at.invariant.0, c.well-formed.0.1))
+    (c.requires.3 ∙ sym c.loop-at.invariant.1, omega (arith, c.loop-at.invariant.4, c.loop-at.invariant.0, c.well_formed.0.1))
 
 pub loop-at-smaller : goal.loop-at-smaller
 loop-at-smaller c = let l = c.line_at_lem.ensures in omega (arith, l.on, l.inside)

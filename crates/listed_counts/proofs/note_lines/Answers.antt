@@ -16,7 +16,7 @@ line_at-l-requires c =
 
 pub note_number-requires : goal.note_number-requires
 note_number-requires c =
-    (c.loop-at.invariant.1 ∙ c.requires.3 ∙ sym c.loop-at.invariant.2, omega (arith, c.loop-at.invariant.5, c.loop-at.invariant.0, c.well-formed.0.1))
+    (c.loop-at.invariant.1 ∙ c.requires.3 ∙ sym c.loop-at.invariant.2, omega (arith, c.loop-at.invariant.5, c.loop-at.invariant.0, c.well_formed.0.1))
 
 pub loop-at-smaller : goal.loop-at-smaller
 loop-at-smaller c = let l = c.line_at_lem.ensures in omega (arith, l.on, l.inside)

@@ -15,7 +15,7 @@ place_at-x-requires c = (kept_shown c.requires, c.seek-p.ensures.inside c.if-p.t
 pub returns-in-Txid : goal.returns-in-Txid
 returns-in-Txid c = λ st s w.
     let k = c.args.k in
-    sym (txid-stage st s (key_num k) (hash_below k.hash (key-four k c.well-formed.1.0)) c.in-Txid.is)
+    sym (txid-stage st s (key_num k) (hash_below k.hash (key-four k c.well_formed.1.0)) c.in-Txid.is)
 
 pub returns-then-p : goal.returns-then-p
 returns-then-p c = λ st s w.

@@ -8,4 +8,4 @@ pub returns : goal.returns
 returns c = λ st s w.
     let h = c.args.h in
     rw (c.candidates_of.ensures.1 st s w, c.candidates_of-2.ensures.1 st s w)
-    (sym (held-at (hash_num h) (hash_below h (hash-four h c.well-formed.1.0)) st.table s.bounded.ordered))
+    (sym (held-at (hash_num h) (hash_below h (hash-four h c.well_formed.1.0)) st.table s.bounded.ordered))

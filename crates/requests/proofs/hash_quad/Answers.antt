@@ -3,4 +3,4 @@ use Rattle.requests.proofs.Hashes.{quad-of}
 use Rattle.requests.proofs.hash_quad.Goals as goal
 
 pub returns : goal.returns
-returns c = quad-of c.args.h (hash-four c.args.h c.well-formed.0)
+returns c = quad-of c.args.h (hash-four c.args.h c.well_formed.0)

@@ -6,11 +6,11 @@ use Rattle.requests.proofs.is_candidate.Goals as goal
 pub returns-then-holds : goal.returns-then-holds
 returns-then-holds c = λ st s w.
     let h = c.args.h in
-    candidate_first c.args.n (hash_num h) (hash_below h (hash-four h c.well-formed.1.0)) st.table s.bounded.ordered
+    candidate_first c.args.n (hash_num h) (hash_below h (hash-four h c.well_formed.1.0)) st.table s.bounded.ordered
     (c.holds.ensures st s w) c.if-holds.true
 
 pub returns-else-holds : goal.returns-else-holds
 returns-else-holds c = λ st s w.
     let h = c.args.h in
-    candidate-second c.args.n (hash_num h) (hash_below h (hash-four h c.well-formed.1.0)) st.table s.bounded.ordered
+    candidate-second c.args.n (hash_num h) (hash_below h (hash-four h c.well_formed.1.0)) st.table s.bounded.ordered
     (c.holds.ensures st s w) c.if-holds.false (c.holds-else-holds.ensures st s w)

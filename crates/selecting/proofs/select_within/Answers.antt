@@ -13,14 +13,14 @@ pub offset_bounds-picks-n : goal.offset_bounds-picks-n
 offset_bounds-picks-n c = omega (
   arith,
   c.requires.4,
-  c.well-formed.1.1.1.1.0,
+  c.well_formed.1.1.1.1.0,
 )
 
 pub overflow_add-result : goal.overflow_add-result
 overflow_add-result c = omega (
   arith,
   c.requires.4,
-  c.well-formed.1.1.1.1.0,
+  c.well_formed.1.1.1.1.0,
 )
 
 pub returns : goal.returns

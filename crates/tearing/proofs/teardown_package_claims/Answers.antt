@@ -12,6 +12,6 @@ tear_places-requires c = let k = c.requires in
 pub returns : goal.returns
 returns c =
     let late : c.args.clock < word =
-    omega (arith, c.well-formed.1.0) in
+    omega (arith, c.well_formed.1.0) in
     cleared c.args.clock late c.tear_rows.ensures
     c.tear_places.ensures

@@ -37,4 +37,4 @@ returns-else-v c = answered-room (key_num c.args.k) (candidate_of
     c.decide-d.ensures (not-false c.decide-d.result.enters
     c.if-not-d.false) (hash_below c.args.k.hash
     (key-four c.args.k
-    c.well-formed.1.0)) c.if-v.false c.push.ensures
+    c.well_formed.1.0)) c.if-v.false c.push.ensures

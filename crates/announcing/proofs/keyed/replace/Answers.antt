@@ -20,7 +20,7 @@ returns c = λ st s w u.
     let g = c.requires.1 st s w in
     let small = hash_below c.args.k.hash
     (key-four c.args.k
-    c.well-formed.1.1.0) in
+    c.well_formed.1.1.0) in
     let sound = cleared-sound st s c.args.r g in
     c.push.ensures _ sound (cut-writes st s c.args.r g
     c.key_of.ensures c.cut.ensures w)

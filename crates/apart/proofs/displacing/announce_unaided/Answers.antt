@@ -5,7 +5,7 @@ use Rattle.apart.proofs.displacing.announce_unaided.Goals as goal
 
 pub returns-then-shut_out : goal.returns-then-shut_out
 returns-then-shut_out c = unaided_shut c.shut_out.ensures c.if-shut_out.true (hash_below c.args.h (hash-four c.args.h
-    c.well-formed.1.1.1.0))
+    c.well_formed.1.1.1.0))
 
 pub returns : goal.returns
 returns c = unaided_by c.announce_parent.ensures

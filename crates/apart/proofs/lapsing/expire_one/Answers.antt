@@ -18,7 +18,7 @@ returns-then-p-eq0 c = record {
   most = λ l. l;
   goes = λ st xs o n own.
       let late : c.args.clock < word = omega arith in
-      expired-without o (key_num c.args.k) c.args.n c.args.clock late (hash_below c.args.k.hash (key-four c.args.k c.well-formed.1.1.1.1.0)) own
+      expired-without o (key_num c.args.k) c.args.n c.args.clock late (hash_below c.args.k.hash (key-four c.args.k c.well_formed.1.1.1.1.0)) own
       (c.find-p.ensures.none st.places xs n o.slots o.ascend (omega (arith, c.if-p-eq0.true))) c.failed.auto.0 c.failed.ensures (search rules) refl c.requires.2;
 }
 

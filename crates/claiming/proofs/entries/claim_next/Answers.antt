@@ -8,10 +8,10 @@ pub returns-then-claim_entry : goal.returns-then-claim_entry
 returns-then-claim_entry c = more_taken c.args.clock
     (entry_of c.args.e)
     (key_below c.args.e
-    c.well-formed.1.1.0) c.claim_entry.ensures
+    c.well_formed.1.1.0) c.claim_entry.ensures
     c.args.n c.if-claim_entry.true _ c.put_entry.ensures
 
 pub returns : goal.returns
 returns c = more_left c.args.clock (entry_of c.args.e)
-    (key_below c.args.e c.well-formed.1.1.0)
+    (key_below c.args.e c.well_formed.1.1.0)
     c.claim_entry.ensures c.args.n c.if-claim_entry.false _

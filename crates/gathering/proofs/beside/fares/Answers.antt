@@ -16,7 +16,7 @@ returns-then-c c = record { most = omega arith; spare = λ e. absurd (omega arit
 pub returns-then-full : goal.returns-then-full
 returns-then-full c =
     let k = c.args.k in
-    let small = hash_below k.hash (key-four k c.well-formed.1.1.1.0) in
+    let small = hash_below k.hash (key-four k c.well_formed.1.1.1.0) in
     record {
       most = omega arith;
       spare = λ e. absurd (omega arith);
@@ -27,7 +27,7 @@ returns-then-full c =
 pub returns-then-barred : goal.returns-then-barred
 returns-then-barred c =
     let k = c.args.k in
-    let small = hash_below k.hash (key-four k c.well-formed.1.1.1.0) in
+    let small = hash_below k.hash (key-four k c.well_formed.1.1.1.0) in
     record {
       most = omega arith;
       spare = λ e. absurd (omega arith);
@@ -41,7 +41,7 @@ returns-then-c-2 c = record { most = omega arith; spare = λ e. absurd (omega ar
 pub returns-then-crowded : goal.returns-then-crowded
 returns-then-crowded c =
     let k = c.args.k in
-    let small = hash_below k.hash (key-four k c.well-formed.1.1.1.0) in
+    let small = hash_below k.hash (key-four k c.well_formed.1.1.1.0) in
     record {
       most = omega arith;
       spare = λ e. absurd (omega arith);
@@ -52,7 +52,7 @@ returns-then-crowded c =
 pub returns : goal.returns
 returns c =
     let k = c.args.k in
-    let small = hash_below k.hash (key-four k c.well-formed.1.1.1.0) in
+    let small = hash_below k.hash (key-four k c.well_formed.1.1.1.0) in
     record {
       most = omega arith;
       spare = λ e. omega (arith, c.if-m-ge-SPACE.false);

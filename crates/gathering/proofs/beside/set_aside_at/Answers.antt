@@ -13,6 +13,6 @@ put_in-requires c = omega (arith, c.fares-r.ensures.spare c.if-r-ne1.false, c.re
 pub returns : goal.returns
 returns c =
     let k = c.args.k in
-    set_in (hash_below k.hash (key-four k c.well-formed.1.1.1.0))
+    set_in (hash_below k.hash (key-four k c.well_formed.1.1.1.0))
     c.fares-r.ensures c.if-r-ne1.false c.waiting_row-y.ensures
     c.put_in.ensures

@@ -21,7 +21,7 @@ suits-r-requires c = (
 
 pub returns-then-r-ne1 : goal.returns-then-r-ne1
 returns-then-r-ne1 c = deferred_not (hash_below c.args.k.hash (key-four
-    c.args.k c.well-formed.1.1.1.1.1.0)) (omega
+    c.args.k c.well_formed.1.1.1.1.1.0)) (omega
     (arith, c.if-d-m.false)) c.suits-r.ensures c.if-r-ne1.true
 
 pub put_in-requires : goal.put_in-requires
@@ -35,7 +35,7 @@ put_in-requires c = omega (
 pub returns : goal.returns
 returns c = deferred_in (hash_below c.args.k.hash (key-four
     c.args.k
-    c.well-formed.1.1.1.1.1.0)) (omega
+    c.well_formed.1.1.1.1.1.0)) (omega
     (arith, c.if-d-m.false)) c.read_row-y.ensures
     c.suits-r.ensures c.if-r-ne1.false c.waiting_row-z.ensures
     c.put_in.ensures

@@ -30,7 +30,7 @@ put_in-requires c =
 pub returns : goal.returns
 returns c =
     let k = c.args.k in
-    exchanged_in (hash_below k.hash (key-four k c.well-formed.1.1.1.1.1.1.0))
+    exchanged_in (hash_below k.hash (key-four k c.well_formed.1.1.1.1.1.1.0))
     (omega (arith, c.if-p-m.false))
     c.read_row-y.ensures
     c.suits-r.ensures

@@ -55,7 +55,7 @@ put-decimal-add-result-2 t c =
       rest_end 10 18 (lit< tt) (lit≤ tt) c.before.before.before.before.before.before.before.args.s.now c.before.before.before.before.before.before.before.args.a
           c.before.before.before.before.before.before.before.args.n c.before.before.before.before.before.before.before.requires.1
           c.before.before.before.before.before.if1.false g c.before.before.before.put-decimal.ensures,
-      c.before.before.before.before.before.before.before.well-formed.0.0,
+      c.before.before.before.before.before.before.before.well_formed.0.0,
     )
 
 put-decimal-returns-2 : (t : ℕ) → put-decimal-lts.Need-returns-2

@@ -80,7 +80,7 @@ put-hash-add-result-2 t c =
           c.before.before.before.before.before.before.before.before.before.before.args.a c.before.before.before.before.before.before.before.before.before.before.args.q
           c.before.before.before.before.before.before.before.before.before.before.requires.1 f h c.before.before.before.before.before.without-digit.ensures
           c.before.before.before.before.put-hash.ensures,
-      c.before.before.before.before.before.before.before.before.before.before.well-formed.0.0,
+      c.before.before.before.before.before.before.before.before.before.before.well_formed.0.0,
     )
 
 put-hash-returns-2 : (t : ℕ) → put-hash-lts.Need-returns-2

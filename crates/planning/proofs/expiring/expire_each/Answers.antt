@@ -46,7 +46,7 @@ pub loop-w-preserved : goal.loop-w-preserved
 loop-w-preserved c = let g = (lent_next c.loop-w.s c.args.m c.next_due-w.ensures).goes (not-false c.next_due-w.result.more c.if-not-w.false) in
     let v : c.args.clock < word = omega (
       arith,
-      c.well-formed.1.1.1.1.0,
+      c.well_formed.1.1.1.1.0,
     ) in (
       c.expire_one-q.auto.0 ∙ c.loop-w.invariant.0,
       c.expire_one-q.auto.1.1.0 ∙ c.loop-w.invariant.1,

@@ -7,7 +7,7 @@ use Rattle.restoring.proofs.candidate_rows.row_of.Goals as goal
 
 pub returns : goal.returns
 returns c =
-    let fits = c.well-formed in
+    let fits = c.well_formed in
     row_made c.args.r c.args.c
     (record { w0 = omega (arith, fits); w1 = omega (arith, fits); w2 = omega (arith, fits); w3 = omega (arith, fits) })
     c.kind_bit-kind.ensures.0 c.witness_bit-witness.ensures.0

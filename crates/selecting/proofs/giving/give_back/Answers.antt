@@ -14,7 +14,7 @@ pub overflow_sub-j : goal.overflow_sub-j
 overflow_sub-j c = omega (arith, c.loop-j-test.true)
 
 pub offset_bounds-picks-j : goal.offset_bounds-picks-j
-offset_bounds-picks-j c = omega (arith, c.loop-j.invariant.0, c.loop-j-test.true, c.requires.1, c.well-formed.1.0)
+offset_bounds-picks-j c = omega (arith, c.loop-j.invariant.0, c.loop-j-test.true, c.requires.1, c.well_formed.1.0)
 
 pub bounds-picks-j : goal.bounds-picks-j
 bounds-picks-j c = omega (arith, c.loop-j.invariant.0, c.loop-j-test.true, c.requires.1)

@@ -17,7 +17,7 @@ pub loop-j-init : goal.loop-j-init
 loop-j-init c = (omega arith, refl, λ f l w q g. written_none c.args.out.now)
 
 pub offset_bounds-numbers-j : goal.offset_bounds-numbers-j
-offset_bounds-numbers-j c = omega (arith, c.loop-j-test.true, c.requires.2, c.well-formed.1.0)
+offset_bounds-numbers-j c = omega (arith, c.loop-j-test.true, c.requires.2, c.well_formed.1.0)
 
 pub bounds-numbers-j : goal.bounds-numbers-j
 bounds-numbers-j c = omega (arith, c.loop-j-test.true, c.requires.2)

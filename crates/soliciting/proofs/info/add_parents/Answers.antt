@@ -24,7 +24,7 @@ pub loop-i-init : goal.loop-i-init
 loop-i-init c =
     let start : tie.Start invariant-loop decreases-loop = c in
     let h = start.args.h in
-    added_start (hash_num h) (hash_below h (hash-four h start.well-formed.1.0)) _ _
+    added_start (hash_num h) (hash_below h (hash-four h start.well_formed.1.0)) _ _
 
 pub occurs_before-requires : goal.occurs_before-requires
 occurs_before-requires c = omega (arith, c.loop-i-test.true, c.hashes-count.ensures)
@@ -36,7 +36,7 @@ pub add_parent-requires : goal.add_parent-requires
 add_parent-requires c =
     let start : tie.Start invariant-loop decreases-loop = c in
     let h = start.args.h in
-    added_kept (hash_num h) (hash_below h (hash-four h start.well-formed.1.0)) (hashes_in start.args.parents.now) c.loop-i.invariant (record {
+    added_kept (hash_num h) (hash_below h (hash-four h start.well_formed.1.0)) (hashes_in start.args.parents.now) c.loop-i.invariant (record {
       hashes =
           hashes-fit start.args.parents.now (λ j. omega (arith, c.type_inv.parents j));
       few = start.requires.1;
@@ -52,7 +52,7 @@ pub loop-i-preserved : goal.loop-i-preserved
 loop-i-preserved c =
     let start : tie.Start invariant-loop decreases-loop = c in
     let h = start.args.h in
-    let small = hash_below h (hash-four h start.well-formed.1.0) in
+    let small = hash_below h (hash-four h start.well_formed.1.0) in
     let hs = hashes_in start.args.parents.now in
     let v = c.loop-i.invariant in
     let inside : c.loop-i.i < length hs = omega (arith, c.loop-i-test.true, c.hashes-count.ensures) in
@@ -72,5 +72,5 @@ pub returns : goal.returns
 returns c =
     let start : tie.Start invariant-loop decreases-loop = c in
     let h = start.args.h in
-    added_done (hash_num h) (hash_below h (hash-four h start.well-formed.1.0)) (hashes_in start.args.parents.now) c.loop-i.invariant
+    added_done (hash_num h) (hash_below h (hash-four h start.well_formed.1.0)) (hashes_in start.args.parents.now) c.loop-i.invariant
     (omega (arith, c.loop-i.invariant.inside, c.loop-i-test.false, c.hashes-count.ensures))

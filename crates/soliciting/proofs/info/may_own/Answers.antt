@@ -12,7 +12,7 @@ use Rattle.soliciting.proofs.info.may_own.Goals as goal
 pub returns-then-a-ne0 : goal.returns-then-a-ne0
 returns-then-a-ne0 c = λ st s w.
     let h = c.args.h in
-    let small = hash_below h (hash-four h c.well-formed.1.1.0) in
+    let small = hash_below h (hash-four h c.well_formed.1.1.0) in
     let a = owner_at_lem st.table c.txid_key.ensures (c.request_at-a.ensures.is st s w) in
     let b = owner_at_lem st.table c.wtxid_key.ensures (c.request_at-b.ensures.is st s w) in
     ⊎_elim (λ z. owned_first st s c.args.n (hash_num h) small a b z.taken (ltb (owned_by c.args.n st.table) max_in_flight))
@@ -21,7 +21,7 @@ returns-then-a-ne0 c = λ st s w.
 pub returns : goal.returns
 returns c = λ st s w.
     let h = c.args.h in
-    let small = hash_below h (hash-four h c.well-formed.1.1.0) in
+    let small = hash_below h (hash-four h c.well_formed.1.1.0) in
     let a = owner_at_lem st.table c.txid_key.ensures
     (c.request_at-a.ensures.is st s w) in
     let b = owner_at_lem st.table c.wtxid_key.ensures (c.request_at-b.ensures.is st s w) in

@@ -15,7 +15,7 @@ pub open_info-requires : goal.open_info-requires
 open_info-requires c =
     let h = c.args.h in
     let g = c.requires.0 in
-    let small = hash_below h (hash-four h c.well-formed.1.1.0) in
+    let small = hash_below h (hash-four h c.well_formed.1.1.0) in
     let m = g.holds in
     let key = c.wtxid_key-k in (
       owned_kept g.state g.sound c.args.n (hash_num h) c.args.clock small c.requires.2 m (key_num key.result) key.ensures
@@ -27,7 +27,7 @@ open_info-requires c =
 pub returns : goal.returns
 returns c = λ st s w m.
     let h = c.args.h in
-    let small = hash_below h (hash-four h c.well-formed.1.1.0) in
+    let small = hash_below h (hash-four h c.well_formed.1.1.0) in
     let key = c.wtxid_key-k in
     opened-writes st s c.args.n (hash_num h) c.args.clock small c.requires.2 m (key_num key.result) key.ensures
     c.own.ensures w c.open_info.ensures

@@ -14,7 +14,7 @@ may_own-requires c = c.requires.0
 
 pub returns-then-not-may_own : goal.returns-then-not-may_own
 returns-then-not-may_own c =
-    let small = subject_below c.args.subject c.well-formed.1.1.0 in
+    let small = subject_below c.args.subject c.well_formed.1.1.0 in
     solicit-barred c.args.n (hash_num c.args.subject.0) (hashes_in c.args.parents.now) c.args.clock (record { positive = c.requires.1; small = omega arith }) small
     c.requires.2 c.may_own.ensures (not-true _ c.if-not-may_own.true-raw)
 
@@ -27,7 +27,7 @@ holds-requires c =
     let h = hash_num c.args.subject.0 in
     let hs = hashes_in c.args.parents.now in
     let peer : Peer n = record { positive = c.requires.1; small = omega arith } in
-    let small = subject_below c.args.subject c.well-formed.1.1.0 in
+    let small = subject_below c.args.subject c.well_formed.1.1.0 in
     let may = c.may_own.ensures in
     let y = not-false c.may_own.result c.if-not-may_own.false-raw in
     let key = c.wtxid_key-k in
@@ -41,7 +41,7 @@ returns-then-not-holds c =
     let h = hash_num c.args.subject.0 in
     let hs = hashes_in c.args.parents.now in
     let peer : Peer n = record { positive = c.requires.1; small = omega arith } in
-    let small = subject_below c.args.subject c.well-formed.1.1.0 in
+    let small = subject_below c.args.subject c.well_formed.1.1.0 in
     let may = c.may_own.ensures in
     let y = not-false c.may_own.result
     c.if-not-may_own.false-raw in
@@ -56,7 +56,7 @@ own_flagged-requires c =
     let h = hash_num c.args.subject.0 in
     let hs = hashes_in c.args.parents.now in
     let peer : Peer n = record { positive = c.requires.1; small = omega arith } in
-    let small = subject_below c.args.subject c.well-formed.1.1.0 in
+    let small = subject_below c.args.subject c.well_formed.1.1.0 in
     let may = c.may_own.ensures in
     let y = not-false c.may_own.result
     c.if-not-may_own.false-raw in
@@ -76,7 +76,7 @@ add_parents-requires c =
     let h = hash_num c.args.subject.0 in
     let hs = hashes_in c.args.parents.now in
     let peer : Peer n = record { positive = c.requires.1; small = omega arith } in
-    let small = subject_below c.args.subject c.well-formed.1.1.0 in
+    let small = subject_below c.args.subject c.well_formed.1.1.0 in
     let may = c.may_own.ensures in
     let y = not-false c.may_own.result
     c.if-not-may_own.false-raw in

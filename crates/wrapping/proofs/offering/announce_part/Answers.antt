@@ -25,7 +25,7 @@ announce_some-requires-2 c =
     let peer : Peer c.args.a.connection =
     record {
       positive = c.requires.1;
-      small = omega (arith, c.well-formed.1.0);
+      small = omega (arith, c.well_formed.1.0);
     } in
     let typed : Each OfferTyped os = offers-fit c.args.items.now
     c.args.priorities.now
@@ -45,7 +45,7 @@ returns c =
     let peer : Peer c.args.a.connection =
     record {
       positive = c.requires.1;
-      small = omega (arith, c.well-formed.1.0);
+      small = omega (arith, c.well_formed.1.0);
     } in
     let typed : Each OfferTyped os = offers-fit c.args.items.now
     c.args.priorities.now

@@ -27,7 +27,7 @@ announce_one-requires-then-next-count c =
       positive =
           c.requires.1;
       small = omega
-          (arith, c.well-formed.1.0);
+          (arith, c.well_formed.1.0);
     } in
     let typed : Each OfferTyped os = offers-fit
     c.args.items.now
@@ -54,7 +54,7 @@ returns-then-next-count c =
       positive = c.requires.1;
       small = omega (
         arith,
-        c.well-formed.1.0,
+        c.well_formed.1.0,
       );
     } in
     let typed : Each OfferTyped os = offers-fit c.args.items.now c.args.priorities.now (λ j. omega (

@@ -20,7 +20,7 @@ returns c =
     let k = released_typed c.requires.state
     c.requires.sound _ _ _
     (subject_below c.args.subject
-    c.well-formed.1.1.0) in
+    c.well_formed.1.1.0) in
     lists_done (releases-package _ _ _ _) c.requires
     c.in_turn-refusal.ensures
     c.if-refusal-ne0.false c.need_of-n.ensures

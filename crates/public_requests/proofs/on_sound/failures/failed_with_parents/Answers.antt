@@ -20,7 +20,7 @@ returns c =
     let k = failed-typed c.requires.state
     c.requires.sound _ _ _
     (key-typed c.args.key
-    c.well-formed.1.0) in
+    c.well_formed.1.0) in
     lists_done (fails_with_parents _ _ _ _) c.requires
     c.in_turn-refusal.ensures
     c.if-refusal-ne0.false c.need_of-n.ensures
