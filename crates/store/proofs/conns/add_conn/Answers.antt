@@ -20,4 +20,4 @@ returns c = λ f h.
     c.conns-n.result + 1 =
     length-insert f.conns c.args.i
     c.args.c i ∙ ap (λ j. j + 1) (sym n) in
-    conns-counted h (search rules) _ _ m (conns_back h lim _ _ c.insert_conn.auto.0 held) c.put.ensures.word
+    conns-counted h (search rules) _ _ m (conns_back h lim _ _ c.insert_conn.auto.s held) c.put.ensures.word

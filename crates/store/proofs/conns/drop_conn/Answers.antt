@@ -18,4 +18,4 @@ returns c = λ f h.
     let m : length (remove_at c.args.i f.conns) ≡
     c.conns-n.result - 1 = length_remove f.conns
     c.args.i i ∙ ap (λ j. j - 1) (sym n) in
-    conns-counted h (search rules) _ _ m (conns_back h lim _ _ c.remove_conn.auto.0 held) c.put.ensures.word
+    conns-counted h (search rules) _ _ m (conns_back h lim _ _ c.remove_conn.auto.s held) c.put.ensures.word

@@ -13,4 +13,4 @@ returns c = λ f h.
     let held = c.write_conn.ensures.region f.head.limit f.conns i (conns-lent h lim) in
     conns_same h (search rules) (set f.conns c.args.i c.args.c)
     (length-set f.conns c.args.i c.args.c)
-    (conns_back h lim _ _ c.write_conn.auto.0 held)
+    (conns_back h lim _ _ c.write_conn.auto.s held)

@@ -27,9 +27,9 @@ returns c =
     let q = c.args.q in
     let s = c.args.s.now in
     let d = length s / 8 in
-    filled l q d (words s) (c.put-3.auto.0 ∙ c.put-2.auto.0 ∙
-    c.put.auto.0 ∙
-    c.clear.auto.0 ∙
+    filled l q d (words s) (c.put-3.auto.s ∙ c.put-2.auto.s ∙
+    c.put.auto.s ∙
+    c.clear.auto.s ∙
     c.requires.2) (length-words s)
     (omega (arith, c.requires.2))
     c.clear.ensures

@@ -19,4 +19,4 @@ returns c = λ f h.
     let m : length (remove_at c.args.i f.places) ≡
     c.held_places-n.result - 1 = length_remove f.places
     c.args.i i ∙ ap (λ j. j - 1) (sym n) in
-    places-counted h (search rules) _ _ m (places_back h lim room _ _ c.remove_place.auto.0 held) c.put.ensures.word
+    places-counted h (search rules) _ _ m (places_back h lim room _ _ c.remove_place.auto.s held) c.put.ensures.word

@@ -23,4 +23,4 @@ returns c = λ f h.
     let m : length (insert_at c.args.i x f.places) ≡
     c.held_places-n.result + 1 = length-insert f.places
     c.args.i x i ∙ ap (λ j. j + 1) (sym n) in
-    places-counted h (search rules) _ _ m (places_back h lim room _ _ c.insert_place.auto.0 held) c.put.ensures.word
+    places-counted h (search rules) _ _ m (places_back h lim room _ _ c.insert_place.auto.s held) c.put.ensures.word

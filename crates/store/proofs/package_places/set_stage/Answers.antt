@@ -14,4 +14,4 @@ returns c = λ d f h.
     omega (arith, c.requires) in
     let held = c.set_stage.ensures.region f.head.places f.places d i (places-lent h lim room) in
     places_same h (search rules) _ (length-set f.places c.args.i _)
-    (places_back h lim room _ _ c.set_stage.auto.0 held)
+    (places_back h lim room _ _ c.set_stage.auto.s held)

@@ -20,4 +20,4 @@ returns c = λ f h.
     c.rows-n.result + 1 =
     length-insert f.rows c.args.i
     c.args.r i ∙ ap (λ j. j + 1) (sym n) in
-    rows-counted h (search rules) _ _ m (rows_back h lim _ _ c.insert_row.auto.0 held) c.put.ensures.word
+    rows-counted h (search rules) _ _ m (rows_back h lim _ _ c.insert_row.auto.s held) c.put.ensures.word

@@ -18,4 +18,4 @@ returns c = λ f h.
     let m : length (remove_at c.args.i f.rows) ≡
     c.rows-n.result - 1 = length_remove f.rows
     c.args.i i ∙ ap (λ j. j - 1) (sym n) in
-    rows-counted h (search rules) _ _ m (rows_back h lim _ _ c.remove_row.auto.0 held) c.put.ensures.word
+    rows-counted h (search rules) _ _ m (rows_back h lim _ _ c.remove_row.auto.s held) c.put.ensures.word

@@ -18,4 +18,4 @@ returns c = λ f h.
     let m : length (remove_range a.from a.to f.rows) ≡ c.rows-n.result - (a.to - a.from) =
     length_remove_range f.rows a.from a.to c.requires.1 to ∙
     ap (λ j. j - (a.to - a.from)) (sym n) in
-    rows-counted h (search rules) _ _ m (rows_back h lim _ _ c.remove_rows.auto.0 held) c.put.ensures.word
+    rows-counted h (search rules) _ _ m (rows_back h lim _ _ c.remove_rows.auto.s held) c.put.ensures.word

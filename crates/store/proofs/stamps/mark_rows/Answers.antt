@@ -20,9 +20,9 @@ set_row-requires c = (
 )
 
 pub loop-i-preserved : goal.loop-i-preserved
-loop-i-preserved c = stamped_more marked_row c.row_at-r.result c.Marked-row.result
+loop-i-preserved c = stamped_more marked_row c.row_at-r.result c.marked_row.result
     c.loop-i.invariant c.loop-i-test.true
-    c.set_row.auto.0 c.row_at-r.ensures c.Marked-row.ensures c.set_row.ensures
+    c.set_row.auto.s c.row_at-r.ensures c.marked_row.ensures c.set_row.ensures
 
 pub shape_of-s : goal.shape_of-s
 shape_of-s c = c.loop-i.invariant.long

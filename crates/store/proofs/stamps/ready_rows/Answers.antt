@@ -23,7 +23,7 @@ set_row-requires c = (
 pub loop-i-preserved : goal.loop-i-preserved
 loop-i-preserved c = stamped_more (with_ready c.args.v)
     c.row_at-r.result c.ready_row.result c.loop-i.invariant
-    c.loop-i-test.true c.set_row.auto.0 c.row_at-r.ensures
+    c.loop-i-test.true c.set_row.auto.s c.row_at-r.ensures
     c.ready_row.ensures c.set_row.ensures
 
 pub shape_of-s : goal.shape_of-s
