@@ -1,3 +1,2 @@
 pub mod HeaderWords
 pub mod InState
-pub mod Lent
