@@ -11,12 +11,12 @@ use Rattle.requests.proofs.Adopting.{adopt_made}
 use Rattle.requests.proofs.adopt.Goals as goal
 
 pub row_at-r-requires : goal.row_at-r-requires
-row_at-r-requires c = (kept_shown c.requires, omega (arith, c.spot_of_lem.ensures.spans.most, c.if-i-p.true))
+row_at-r-requires c = (kept_shown c.requires, omega (arith, c.spot_of-p.ensures.spans.most, c.if-i-p.true))
 
 pub set_row-requires : goal.set_row-requires
 set_row-requires c = (
   kept_shown c.requires,
-  omega (arith, c.spot_of_lem.ensures.spans.most, c.if-i-p.true),
+  omega (arith, c.spot_of-p.ensures.spans.most, c.if-i-p.true),
 )
 
 pub returns-then-i-p : goal.returns-then-i-p
@@ -25,9 +25,9 @@ returns-then-i-p c = λ st s w p.
     let n = c.args.c.connection in
     let key = c.key_words-key.ensures in
     let f = among n (at k st.table).candidates p in
-    let from = from_at st s k key.small key.number (c.spot_of_lem.ensures.spans.from_is st s w) in
-    let to = to_at st s k key.small key.number (c.spot_of_lem.ensures.spans.to_is st s w) in
-    let i = found_at k n 0 st.table s.bounded.ordered f from to (c.spot_of_lem.ensures.met.first (flat_of st) w) in
+    let from = from_at st s k key.small key.number (c.spot_of-p.ensures.spans.from_is st s w) in
+    let to = to_at st s k key.small key.number (c.spot_of-p.ensures.spans.to_is st s w) in
+    let i = found_at k n 0 st.table s.bounded.ordered f from to (c.spot_of-p.ensures.met.first (flat_of st) w) in
     let q = c.row_at-r.ensures (flat_of st) c.row_at-r.result w ∙
     row_there k n 0 st.table s.bounded.ordered f c.row_at-r.result i in
     adopt_made st s k (candidate_of c.args.c)
@@ -40,7 +40,7 @@ returns-else-i-p c = λ st s w p.
     let n = c.args.c.connection in
     let key = c.key_words-key.ensures in
     let f = among n (at k st.table).candidates p in
-    let from = from_at st s k key.small key.number (c.spot_of_lem.ensures.spans.from_is st s w) in
-    let to = to_at st s k key.small key.number (c.spot_of_lem.ensures.spans.to_is st s w) in
-    let i = found_at k n 0 st.table s.bounded.ordered f from to (c.spot_of_lem.ensures.met.first (flat_of st) w) in
+    let from = from_at st s k key.small key.number (c.spot_of-p.ensures.spans.from_is st s w) in
+    let to = to_at st s k key.small key.number (c.spot_of-p.ensures.spans.to_is st s w) in
+    let i = found_at k n 0 st.table s.bounded.ordered f from to (c.spot_of-p.ensures.met.first (flat_of st) w) in
     absurd (omega (arith, ahead_in k n 0 st.table s.bounded.ordered f, c.if-i-p.false))

@@ -11,18 +11,18 @@ use Rattle.requests.proofs.Owning.{replaced-shown, disown_made, owner-is, owner_
 use Rattle.requests.proofs.disown.Goals as goal
 
 pub row_at-r-requires : goal.row_at-r-requires
-row_at-r-requires c = (kept_shown c.requires, omega (arith, c.spot_of_lem.ensures.spans.most, c.if-i-p.true))
+row_at-r-requires c = (kept_shown c.requires, omega (arith, c.spot_of-p.ensures.spans.most, c.if-i-p.true))
 
 pub set_row-requires : goal.set_row-requires
 set_row-requires c = (
   kept_shown c.requires,
-  omega (arith, c.spot_of_lem.ensures.spans.most, c.if-i-p.true),
+  omega (arith, c.spot_of-p.ensures.spans.most, c.if-i-p.true),
 )
 
 pub recount-requires : goal.recount-requires
 recount-requires c =
     let kept = c.requires in (
-      replaced-shown kept.state kept.sound c.spot_of_lem.result.at
+      replaced-shown kept.state kept.sound c.spot_of-p.result.at
           c.unowned_row.result (c.set_row.ensures (flat_of kept.state) kept.writes),
       omega arith,
     )
@@ -34,11 +34,11 @@ returns-then-i-p c = λ st s w p.
     let key = c.key_words-key.ensures in
     let f = among n (at k st.table).candidates (owner-is n (at k st.table).owner p.owns (at k st.table).candidates (lawful_at k st.table s.bounded.lawful).owner) in
     let from = from_at st s k key.small key.number
-    (c.spot_of_lem.ensures.spans.from_is st s w) in
+    (c.spot_of-p.ensures.spans.from_is st s w) in
     let to = to_at st s k key.small key.number
-    (c.spot_of_lem.ensures.spans.to_is st s w) in
+    (c.spot_of-p.ensures.spans.to_is st s w) in
     let i = found_at k n 0 st.table s.bounded.ordered f from to
-    (c.spot_of_lem.ensures.met.first (flat_of st) w) in
+    (c.spot_of-p.ensures.met.first (flat_of st) w) in
     let q = c.row_at-r.ensures (flat_of st)
     c.row_at-r.result w ∙
     row_there k n 0 st.table s.bounded.ordered f c.row_at-r.result i in
@@ -52,7 +52,7 @@ returns-else-i-p c = λ st s w p.
     let n = c.args.n in
     let key = c.key_words-key.ensures in
     let f = among n (at k st.table).candidates (owner-is n (at k st.table).owner p.owns (at k st.table).candidates (lawful_at k st.table s.bounded.lawful).owner) in
-    let from = from_at st s k key.small key.number (c.spot_of_lem.ensures.spans.from_is st s w) in
-    let to = to_at st s k key.small key.number (c.spot_of_lem.ensures.spans.to_is st s w) in
-    let i = found_at k n 0 st.table s.bounded.ordered f from to (c.spot_of_lem.ensures.met.first (flat_of st) w) in
+    let from = from_at st s k key.small key.number (c.spot_of-p.ensures.spans.from_is st s w) in
+    let to = to_at st s k key.small key.number (c.spot_of-p.ensures.spans.to_is st s w) in
+    let i = found_at k n 0 st.table s.bounded.ordered f from to (c.spot_of-p.ensures.met.first (flat_of st) w) in
     absurd (omega (arith, ahead_in k n 0 st.table s.bounded.ordered f, c.if-i-p.false))

@@ -13,27 +13,27 @@ use Rattle.requests.proofs.Owning.{bits_few, replaced-shown, own_made}
 use Rattle.requests.proofs.own.Goals as goal
 
 pub row_at-r-requires : goal.row_at-r-requires
-row_at-r-requires c = (kept_shown c.requires, omega (arith, c.spot_of_lem.ensures.spans.most, c.if-i-p.true))
+row_at-r-requires c = (kept_shown c.requires, omega (arith, c.spot_of-p.ensures.spans.most, c.if-i-p.true))
 
 pub owned_row-requires : goal.owned_row-requires
 owned_row-requires c =
     let kept = c.requires in
     let z = sizes kept.writes in
-    let l : c.spot_of_lem.result.at < length (rows_of kept.state.table) =
-    omega (arith, c.spot_of_lem.ensures.spans.most, c.if-i-p.true) in
-    bits_few kept.state kept.sound c.spot_of_lem.result.at c.row_at-r.result l
+    let l : c.spot_of-p.result.at < length (rows_of kept.state.table) =
+    omega (arith, c.spot_of-p.ensures.spans.most, c.if-i-p.true) in
+    bits_few kept.state kept.sound c.spot_of-p.result.at c.row_at-r.result l
     (c.row_at-r.ensures (flat_of kept.state) c.row_at-r.result kept.writes)
 
 pub set_row-requires : goal.set_row-requires
 set_row-requires c = (
   kept_shown c.requires,
-  omega (arith, c.spot_of_lem.ensures.spans.most, c.if-i-p.true),
+  omega (arith, c.spot_of-p.ensures.spans.most, c.if-i-p.true),
 )
 
 pub recount-requires : goal.recount-requires
 recount-requires c =
     let kept = c.requires in (
-      replaced-shown kept.state kept.sound c.spot_of_lem.result.at
+      replaced-shown kept.state kept.sound c.spot_of-p.result.at
           c.owned_row.result (c.set_row.ensures (flat_of kept.state) kept.writes),
       omega arith,
     )
@@ -45,11 +45,11 @@ returns-then-i-p c = λ st s w p.
     let key = c.key_words-key.ensures in
     let f = among n (at k st.table).candidates p.0 in
     let from = from_at st s k key.small key.number
-    (c.spot_of_lem.ensures.spans.from_is st s w) in
+    (c.spot_of-p.ensures.spans.from_is st s w) in
     let to = to_at st s k key.small key.number
-    (c.spot_of_lem.ensures.spans.to_is st s w) in
+    (c.spot_of-p.ensures.spans.to_is st s w) in
     let i = found_at k n 0 st.table s.bounded.ordered f from to
-    (c.spot_of_lem.ensures.met.first (flat_of st) w) in
+    (c.spot_of-p.ensures.met.first (flat_of st) w) in
     let q = c.row_at-r.ensures (flat_of st)
     c.row_at-r.result w ∙
     row_there k n 0 st.table s.bounded.ordered f c.row_at-r.result i in
@@ -63,7 +63,7 @@ returns-else-i-p c = λ st s w p.
     let n = c.args.n in
     let key = c.key_words-key.ensures in
     let f = among n (at k st.table).candidates p.0 in
-    let from = from_at st s k key.small key.number (c.spot_of_lem.ensures.spans.from_is st s w) in
-    let to = to_at st s k key.small key.number (c.spot_of_lem.ensures.spans.to_is st s w) in
-    let i = found_at k n 0 st.table s.bounded.ordered f from to (c.spot_of_lem.ensures.met.first (flat_of st) w) in
+    let from = from_at st s k key.small key.number (c.spot_of-p.ensures.spans.from_is st s w) in
+    let to = to_at st s k key.small key.number (c.spot_of-p.ensures.spans.to_is st s w) in
+    let i = found_at k n 0 st.table s.bounded.ordered f from to (c.spot_of-p.ensures.met.first (flat_of st) w) in
     absurd (omega (arith, ahead_in k n 0 st.table s.bounded.ordered f, c.if-i-p.false))

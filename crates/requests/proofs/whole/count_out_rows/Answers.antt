@@ -23,7 +23,7 @@ count_out-requires c = out_shown c.requires.0 c.loop-i.invariant
 pub loop-i-preserved : goal.loop-i-preserved
 loop-i-preserved c = one_out c.requires.0 c.loop-i.invariant
     c.requires.2 c.loop-i-test.true
-    c.row_at-r.ensures c.count_out.auto.0 c.count_out.ensures
+    c.row_at-r.ensures c.count_out.auto.s c.count_out.ensures
 
 pub shape_of-s : goal.shape_of-s
 shape_of-s c = c.loop-i.invariant.long

@@ -5,7 +5,7 @@ use Rattle.requests.proofs.whole.drop_all.Goals as goal
 
 pub drop_rows-requires : goal.drop_rows-requires
 drop_rows-requires c = all_out c.requires c.window_of-w.ensures.order
-    c.window_of-w.ensures.most c.count_out_rows.auto.0 c.count_out_rows.ensures
+    c.window_of-w.ensures.most c.count_out_rows.auto.s c.count_out_rows.ensures
 
 pub returns : goal.returns
 returns c = λ st s w free.
