@@ -4,5 +4,4 @@ pub mod Below
 pub mod Stored
 pub mod Going
 pub mod Readings
-pub mod Lending
 pub mod Listed

@@ -1,7 +1,4 @@
-// The checked list of a claim (document 01, module 5): a lent list of records, read in one thin function that hands each entry by
-// value to covered code.
-//
-// A function with a `&[Entry]` in it is proved by a walk of its MIR, so it is kept short.
+// The checked list of a claim (document 01, module 5): a lent list of records, each entry handed by value to the claim of one entry.
 ghost use Rattle.std.specs.Prelude.{◌≡◌, map, ◌*◌, ◌<◌, ◌≤◌, length};
 ghost use Rattle.machine.specs.Call.{entry_bytes};
 ghost use Rattle.machine.specs.Limits.{latest_clock};

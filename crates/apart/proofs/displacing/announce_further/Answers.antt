@@ -18,7 +18,7 @@ swap_with-requires c = (
   c.restock-q.ensures.few,
   c.requires.6,
   c.requires.7,
-  c.restock-q.auto.1.0 ∙ c.requires.8,
+  c.restock-q.auto.top ∙ c.requires.8,
 )
 
 pub overflow_add-reserve : goal.overflow_add-reserve

@@ -24,7 +24,7 @@ loop-j-smaller c = omega (arith, c.loop-j-test.true)
 pub loop-j-preserved : goal.loop-j-preserved
 loop-j-preserved c = (
   (omega (arith, c.loop-j.invariant.0), omega (arith, c.loop-j-test.true)),
-  c.mark.auto.0 ∙ c.loop-j.invariant.1,
+  c.mark.auto.s ∙ c.loop-j.invariant.1,
   marking_goes c.loop-j.invariant.2
       c.loop-j-test.true (hash_below c.parent_of-h.result
       (hash-four c.parent_of-h.result c.parent_of-h.type-inv))

@@ -43,4 +43,4 @@ returns c = λ st xs o h z own. let late : c.args.clock < word = omega arith in 
       plain-long
           xs,
     )) o.slots)
-    (search rules) c.announce_all.auto.0 c.announce_all.ensures (search rules) (search rules) refl
+    (search rules) c.announce_all.auto.s c.announce_all.ensures (search rules) (search rules) refl

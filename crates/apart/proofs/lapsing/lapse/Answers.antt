@@ -14,7 +14,7 @@ returns-then-p-ne-ENQUEUED c = λ st ps o h z. lapse-fails o h z c.args.n c.args
   arith,
   e,
   c.if-p-ne-ENQUEUED.true,
-))) c.before.before.before.before.before.before.before.before.before.before.before.before.before.before.before.requires.0.front c.before.before.before.before.before.before.before.before.before.failed.auto.0 c.before.before.before.before.before.before.before.before.before.failed.ensures
+))) c.before.before.before.before.before.before.before.before.before.before.before.before.before.before.before.requires.0.front c.before.before.before.before.before.before.before.before.before.failed.auto.s c.before.before.before.before.before.before.before.before.before.failed.ensures
     refl c.before.before.before.before.kill.ensures
 
 pub returns-else-p-ne-ENQUEUED : goal.returns-else-p-ne-ENQUEUED

@@ -78,8 +78,8 @@ loop-j-preserved c = (
     omega
         (arith, c.loop-j-test.true),
   ),
-  c.announce_further-r.auto.0 ∙ c.loop-j.invariant.1,
-  c.announce_further-r.auto.1.1.0 ∙ c.loop-j.invariant.2,
+  c.announce_further-r.auto.s ∙ c.loop-j.invariant.1,
+  c.announce_further-r.auto.new ∙ c.loop-j.invariant.2,
   weight_next c.args.from
       c.loop-j.j
       c.loop-j.w
@@ -89,7 +89,7 @@ loop-j-preserved c = (
       c.announce_further-r.result.kept in omega
       (arith, y, c.raised-bits.ensures, c.loop-j.invariant.4)),
   c.announce_further-r.ensures.most,
-  c.announce_further-r.auto.1.1.1.0 ∙ c.loop-j.invariant.6,
+  c.announce_further-r.auto.top ∙ c.loop-j.invariant.6,
   c.announce_further-r.ensures.few,
   way_goes (words c.args.slot.now)
       c.args.n

@@ -34,7 +34,7 @@ loop-i-smaller c = omega (arith, c.loop-i-test.true)
 
 pub loop-i-preserved : goal.loop-i-preserved
 loop-i-preserved c = dropping_more c.loop-i.invariant
-    (omega (arith, c.rows-n.ensures.word, c.loop-i-test.true)) c.drop_row-m.auto.0
+    (omega (arith, c.rows-n.ensures.word, c.loop-i-test.true)) c.drop_row-m.auto.s
     c.drop_row-m.ensures
 
 pub drop_rows-requires : goal.drop_rows-requires
@@ -45,7 +45,7 @@ drop_rows-requires c = (
 )
 
 pub shape_of-s : goal.shape_of-s
-shape_of-s c = c.drop_rows.auto.0 ∙ c.loop-i.invariant.size
+shape_of-s c = c.drop_rows.auto.s ∙ c.loop-i.invariant.size
 
 pub returns : goal.returns
 returns c = λ st s w p. dropped-writes c.args.clock st s p

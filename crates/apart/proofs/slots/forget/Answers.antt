@@ -20,8 +20,8 @@ loop-i-smaller c = omega (arith, c.loop-i-test.true)
 pub loop-i-preserved : goal.loop-i-preserved
 loop-i-preserved c = (
   omega (arith, c.loop-i-test.true),
-  c.set_note.auto.0 ∙ c.loop-i.invariant.1,
-  c.set_note.auto.1.1.0 ∙ c.loop-i.invariant.2,
+  c.set_note.auto.s ∙ c.loop-i.invariant.1,
+  c.set_note.auto.first ∙ c.loop-i.invariant.2,
   forgetting_goes c.loop-i.invariant.3 c.set_note.ensures,
 )
 

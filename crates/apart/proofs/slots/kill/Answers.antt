@@ -20,4 +20,4 @@ returns-else-i-eq0 c = altered_later c.args.m c.args.i stage_at (0 ∷ []) dying
     tt) slot-dies _ (omega (
       arith,
       c.if-i-eq0.false,
-    )) c.requires.front c.set_stage-else-i-eq0.auto.0 c.set_stage-else-i-eq0.ensures.words_are
+    )) c.requires.front c.set_stage-else-i-eq0.auto.s c.set_stage-else-i-eq0.ensures.words_are

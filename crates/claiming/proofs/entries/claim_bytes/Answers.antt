@@ -13,12 +13,11 @@ use Rattle.claiming.proofs.entries.claim_bytes.Goals as goal
 
 pub loop-i-init : goal.loop-i-init
 loop-i-init c =
-    let start : tie.Start invariant-loop decreases-loop = c in
-    let b = start.args.checked.now in
+    let b = c.args.checked.now in
     let e : length b / entry_bytes ≡ length b / entry_bytes - 0 = omega arith in (
       omega arith,
-      subst (λ (m : ℕ). Turning start.args.clock (entries_in b) (entries_from b 0 m) start.args.s.now start.args.s.now start.args.out.now
-          start.args.out.now 0 0) e (turning_start start.args.clock (entries_in b) start.args.s.now start.args.out.now),
+      subst (λ (m : ℕ). Turning c.args.clock (entries_in b) (entries_from b 0 m) c.args.s.now c.args.s.now c.args.out.now
+          c.args.out.now 0 0) e (turning_start c.args.clock (entries_in b) c.args.s.now c.args.out.now),
     )
 
 pub entry_in-e-requires : goal.entry_in-e-requires
@@ -26,11 +25,10 @@ entry_in-e-requires c = omega (arith, c.loop-i-test.true, c.entries-count.ensure
 
 pub claim_next-n-requires : goal.claim_next-n-requires
 claim_next-n-requires c =
-    let start : tie.Start invariant-loop decreases-loop = c in
     let v = c.loop-i.invariant.1 in
     let less = c.loop-i-test.true in
     let all = c.entries-count.ensures in
-    (turning_kept v start.requires.0, start.requires.1, omega (arith, less, all, v.few, v.buffer-long, start.requires.2))
+    (turning_kept v c.requires.0, c.requires.1, omega (arith, less, all, v.few, v.buffer-long, c.requires.2))
 
 pub overflow_add-i : goal.overflow_add-i
 overflow_add-i c = omega (arith, c.loop-i-test.true)
@@ -42,19 +40,17 @@ loop-i-smaller c =
 
 pub loop-i-preserved : goal.loop-i-preserved
 loop-i-preserved c =
-    let start : tie.Start invariant-loop decreases-loop = c in
-    let now-at = c.loop-i in
     let less = c.loop-i-test.true in
     let all = c.entries-count.ensures in
     let e = c.entry_in-e in
     let x = c.claim_next-n in
-    let b = start.args.checked.now in
+    let b = c.args.checked.now in
     let m = length b / entry_bytes in
-    let i = now-at.i in
+    let i = c.loop-i.i in
     let rest = entries_from b (i + 1) (m - (i + 1)) in (
       omega (arith, less, all),
-      turning_more now-at.invariant.1 (entry_of e.result) rest (entries_next b i m (omega (arith, less, all)) ∙ ap (λ (a : Entry). a ∷ rest) (sym e.ensures))
-          start.requires.1 (omega (arith, less, all, start.requires.2)) x.auto.0 x.auto.1.1.1.0 x.ensures,
+      turning_more c.loop-i.invariant.1 (entry_of e.result) rest (entries_next b i m (omega (arith, less, all)) ∙ ap (λ (a : Entry). a ∷ rest) (sym e.ensures))
+          c.requires.1 (omega (arith, less, all, c.requires.2)) x.auto.s x.auto.out x.ensures,
     )
 
 pub shape_of-s : goal.shape_of-s

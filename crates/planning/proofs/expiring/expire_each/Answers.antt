@@ -48,8 +48,8 @@ loop-w-preserved c = let g = (lent_next c.loop-w.s c.args.m c.next_due-w.ensures
       arith,
       c.well_formed.1.1.1.1.0,
     ) in (
-      c.expire_one-q.auto.0 ∙ c.loop-w.invariant.0,
-      c.expire_one-q.auto.1.1.0 ∙ c.loop-w.invariant.1,
+      c.expire_one-q.auto.s ∙ c.loop-w.invariant.0,
+      c.expire_one-q.auto.first ∙ c.loop-w.invariant.1,
       place-small (key_num c.next_due-w.result.key) g.small,
       c.expire_one-q.ensures.most c.loop-w.invariant.3,
       way_goes v c.loop-w.invariant.4 g c.expire_one-q.ensures,

@@ -50,7 +50,7 @@ loop-w-preserved c =
     (not-false c.next_due-w.result.more
     c.if-not-w.false) in
     let late : c.args.clock < word = omega arith in (
-      c.ready_all-in-loop-w.auto.0 ∙ c.ready_all.auto.0 ∙
+      c.ready_all-in-loop-w.auto.s ∙ c.ready_all.auto.s ∙
           c.loop-w.invariant.0,
       place-small (key_num c.next_due-w.result.key) g.small,
       ready_goes c.loop-w.invariant.2 late g

@@ -72,8 +72,8 @@ loop-j-preserved-then-bit-eq1 c = let d : c.loop-j.j - c.args.from + 1 ≤ c.loo
       c.before.before.before.before.before.before.before.before.before.before.before.loop-test.true,
     ),
   ),
-  c.before.before.before.before.consider.auto.0 ∙ c.before.before.before.before.before.before.before.before.before.before.before.before.loop.invariant.1,
-  c.before.before.before.before.consider.auto.1.1.1.0 ∙ c.before.before.before.before.before.before.before.before.before.before.before.before.loop.invariant.2,
+  c.before.before.before.before.consider.auto.s ∙ c.before.before.before.before.before.before.before.before.before.before.before.before.loop.invariant.1,
+  c.before.before.before.before.consider.auto.picks ∙ c.before.before.before.before.before.before.before.before.before.before.before.before.loop.invariant.2,
   scans_more
       c.before.before.before.before.before.before.before.before.before.before.before.before.loop.invariant.3 (λ st. picked (hashes_at (words c.before.before.before.before.before.before.before.before.before.before.before.before.before.before.before.before.args.slot.now) (c.before.before.before.before.before.before.before.before.before.before.before.before.loop.j + 1) (c.before.before.before.before.before.before.before.before.before.before.before.before.before.before.before.before.args.to - (c.before.before.before.before.before.before.before.before.before.before.before.before.loop.j + 1))) (c.before.before.before.before.before.before.before.before.before.before.before.before.loop.left / 2)) _ d c.before.before.before.before.before.before.before.before.before.before.if1.false c.before.before.before.before.consider.ensures (λ st l s m. bit-set (words c.before.before.before.before.before.before.before.before.before.before.before.before.before.before.before.before.args.slot.now) c.before.before.before.before.before.before.before.before.before.before.before.before.loop.j c.before.before.before.before.before.before.before.before.before.before.before.before.before.before.before.before.args.to c.before.before.before.before.before.before.before.before.before.before.before.before.loop.left c.before.before.before.before.before.before.before.before.before.before.before.loop-test.true c.before.before.before.before.before.before.before.txid-key.ensures c.before.before.before.before.before.before.before.before.parent_of.ensures c.before.before.before.before.before.before.before.before.before.if2.true),
 )

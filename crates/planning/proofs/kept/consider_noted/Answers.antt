@@ -21,4 +21,4 @@ consider_place-requires c = (
 )
 
 pub returns : goal.returns
-returns c = place-scanned c.note_at-x.ensures _ _ _ c.load.ensures c.parents_in-c.ensures c.requires.0.front c.consider_place.auto.0 refl c.consider_place.ensures
+returns c = place-scanned c.note_at-x.ensures _ _ _ c.load.ensures c.parents_in-c.ensures c.requires.0.front c.consider_place.auto.s refl c.consider_place.ensures

@@ -15,7 +15,7 @@ consider_bits-requires c = let x = c.consider_bits-x.ensures in let h = c.first_
   c.requires.1,
   omega (
     arith,
-    c.consider_bits-x.auto.1.1.1.1.1.1.0,
+    c.consider_bits-x.auto.picks,
     c.requires.2,
   ),
   x.roomy,

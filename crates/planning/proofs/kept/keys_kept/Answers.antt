@@ -45,8 +45,8 @@ loop-i-smaller c = omega (arith, c.loop-i-test.true)
 pub loop-i-preserved : goal.loop-i-preserved
 loop-i-preserved c = (
   omega (arith, c.loop-i-test.true),
-  c.consider_noted-w.auto.0 ∙ c.loop-i.invariant.1,
-  c.consider_noted-w.auto.1.1.1.1.1.0 ∙ c.loop-i.invariant.2,
+  c.consider_noted-w.auto.s ∙ c.loop-i.invariant.1,
+  c.consider_noted-w.auto.picks ∙ c.loop-i.invariant.2,
   kept_goes c.loop-i.invariant.3 c.loop-i-test.true c.consider_noted-w.ensures,
 )
 

@@ -24,8 +24,8 @@ forget-requires c = let x = expired-parted c.expire-e.ensures c.requires.0 in ro
       arith,
       c.expire-e.ensures.most,
       x.count,
-    ))) c.phase_kept-w.auto.0
+    ))) c.phase_kept-w.auto.s
 
 pub returns : goal.returns
 returns c = begun (rested_few c.requires.0) c.expire-e.ensures c.fresh-v.ensures
-    c.phase_kept-w.ensures c.forget.ensures (c.forget.auto.0 ∙ c.phase_kept-w.auto.0) c.forget.auto.1.1.0
+    c.phase_kept-w.ensures c.forget.ensures (c.forget.auto.s ∙ c.phase_kept-w.auto.s) c.forget.auto.first

@@ -25,7 +25,7 @@ begin-v-requires c = (
 pub slice_bounds-ask_given-end : goal.slice_bounds-ask_given-end
 slice_bounds-ask_given-end c = let y = front_within (set-parted c.requires.0 c.set_apart.ensures
     c.held_places-c.ensures.word).apart
-    in omega (arith, y, c.begin-v.auto.0)
+    in omega (arith, y, c.begin-v.auto.s)
 
 pub ask_given-r-requires : goal.ask_given-r-requires
 ask_given-r-requires c = let late : c.args.clock < word = omega (
@@ -38,7 +38,7 @@ ask_given-r-requires c = let late : c.args.clock < word = omega (
       omega (
         arith,
         c.before.before.before.before.before.before.before.before.before.before.before.numbers.ensures,
-        c.before.before.before.before.before.before.before.begin.auto.1.1.1.1.1.0,
+        c.before.before.before.before.before.before.before.begin.auto.picks,
       ),
       rw (limit_is (some (given_keys c.before.before.before.before.before.before.before.before.before.before.before.before.before.before.before.before.before.before.before.before.before.before.before.before.before.before.args.given.now)) late c.before.before.before.before.before.before.before.before.before.before.before.before.before.before.before.set_apart.ensures c.before.before.before.before.before.before.before.begin.ensures c.before.before.before.before.before.before.before.before.before.before.before.before.before.before.before.before.before.before.before.before.before.held-places.ensures.word k.state k.sound k.writes) c.before.before.before.before.before.before.before.before.before.before.before.before.before.before.before.before.before.before.before.before.before.before.before.before.before.before.requires.2,
       c.before.before.before.before.before.before.before.begin.ensures.near,
@@ -52,8 +52,8 @@ put_back-requires c = let late : c.args.clock < word = omega (
     in parted-after (some (given_keys c.before.before.before.before.before.before.before.before.before.before.before.before.before.before.before.before.before.before.before.before.before.before.before.before.before.before.before.before.before.before.before.before.before.before.args.given.now)) late c.before.before.before.before.before.before.before.before.before.before.before.before.before.before.before.before.before.before.before.before.before.before.before.set_apart.ensures c.before.before.before.before.before.before.before.before.before.before.before.before.before.before.before.begin.ensures c.before.before.before.before.before.before.before.before.before.before.before.before.before.before.before.before.before.before.before.before.before.before.before.before.before.before.before.before.before.held-places.ensures.word k.state k.sound k.writes (let y = front_within (set-parted c.before.before.before.before.before.before.before.before.before.before.before.before.before.before.before.before.before.before.before.before.before.before.before.before.before.before.before.before.before.before.before.before.before.before.requires.0 c.before.before.before.before.before.before.before.before.before.before.before.before.before.before.before.before.before.before.before.before.before.before.before.set_apart.ensures c.before.before.before.before.before.before.before.before.before.before.before.before.before.before.before.before.before.before.before.before.before.before.before.before.before.before.before.before.before.held-places.ensures.word).apart in omega (
       arith,
       y,
-      c.before.before.before.before.before.before.before.before.before.before.before.before.before.before.before.begin.auto.0,
-    )) c.before.before.before.before.before.before.before.ask-given.auto.0 refl (search rules) c.before.before.before.before.before.before.before.before.before.before.before.before.before.before.before.begin.auto.1.1.0 c.before.before.before.before.before.before.before.ask-given.ensures
+      c.before.before.before.before.before.before.before.before.before.before.before.before.before.before.before.begin.auto.s,
+    )) c.before.before.before.before.before.before.before.ask-given.auto.0 refl (search rules) c.before.before.before.before.before.before.before.before.before.before.before.before.before.before.before.begin.auto.first c.before.before.before.before.before.before.before.ask-given.ensures
 
 pub returns : goal.returns
 returns c = let late : c.args.clock < word = omega (
@@ -62,5 +62,5 @@ returns c = let late : c.args.clock < word = omega (
 ) in λ st s o. plan_is (some (given_keys c.before.before.before.before.before.before.before.before.before.before.before.before.before.before.before.before.before.before.before.before.before.before.before.before.before.before.before.before.before.before.before.before.before.before.before.before.before.args.given.now)) late c.before.before.before.before.before.before.before.before.before.before.before.before.before.before.before.before.before.before.before.before.before.before.before.before.before.before.set_apart.ensures c.before.before.before.before.before.before.before.before.before.before.before.before.before.before.before.before.before.before.begin.ensures c.before.before.before.before.before.before.before.before.before.before.before.before.before.before.before.before.before.before.before.before.before.before.before.before.before.before.before.before.before.before.before.before.held-places.ensures.word st s o (let y = front_within (set-parted c.before.before.before.before.before.before.before.before.before.before.before.before.before.before.before.before.before.before.before.before.before.before.before.before.before.before.before.before.before.before.before.before.before.before.before.before.before.requires.0 c.before.before.before.before.before.before.before.before.before.before.before.before.before.before.before.before.before.before.before.before.before.before.before.before.before.before.set_apart.ensures c.before.before.before.before.before.before.before.before.before.before.before.before.before.before.before.before.before.before.before.before.before.before.before.before.before.before.before.before.before.before.before.before.held-places.ensures.word).apart in omega (
   arith,
   y,
-  c.before.before.before.before.before.before.before.before.before.before.before.before.before.before.before.before.before.before.begin.auto.0,
-)) c.before.before.before.before.before.before.before.before.before.before.ask-given.auto.0 refl (search rules) c.before.before.before.before.before.before.before.before.before.before.before.before.before.before.before.before.before.before.begin.auto.1.1.0 c.before.before.before.before.before.before.before.before.before.before.ask-given.ensures c.before.before.put_back.ensures
+  c.before.before.before.before.before.before.before.before.before.before.before.before.before.before.before.before.before.before.begin.auto.s,
+)) c.before.before.before.before.before.before.before.before.before.before.ask-given.auto.0 refl (search rules) c.before.before.before.before.before.before.before.before.before.before.before.before.before.before.before.before.before.before.begin.auto.first c.before.before.before.before.before.before.before.before.before.before.ask-given.ensures c.before.before.put_back.ensures

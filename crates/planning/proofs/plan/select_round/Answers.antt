@@ -23,7 +23,7 @@ begin-v-requires c = (
 
 pub slice_bounds-ask_round-end : goal.slice_bounds-ask_round-end
 slice_bounds-ask_round-end c = let y = front_within (set-parted c.requires.0 c.set_apart.ensures c.held_places-c.ensures.word).apart in
-    omega (arith, y, c.begin-v.auto.0)
+    omega (arith, y, c.begin-v.auto.s)
 
 pub ask_round-r-requires : goal.ask_round-r-requires
 ask_round-r-requires c = let late : c.args.clock < word = omega (
@@ -35,7 +35,7 @@ ask_round-r-requires c = let late : c.args.clock < word = omega (
   omega (
     arith,
     c.before.before.before.before.before.before.before.before.before.before.before.numbers.ensures,
-    c.before.before.before.before.before.before.before.begin.auto.1.1.1.1.1.0,
+    c.before.before.before.before.before.before.before.begin.auto.picks,
   ),
   rw (limit_is none late c.before.before.before.before.before.before.before.before.before.before.before.before.before.before.before.set_apart.ensures c.before.before.before.before.before.before.before.begin.ensures c.before.before.before.before.before.before.before.before.before.before.before.before.before.before.before.before.before.before.before.before.before.held-places.ensures.word k.state k.sound k.writes) c.before.before.before.before.before.before.before.before.before.before.before.before.before.before.before.before.before.before.before.before.before.before.before.before.before.requires.2,
   c.before.before.before.before.before.before.before.begin.ensures.near,
@@ -49,8 +49,8 @@ put_back-requires c = let late : c.args.clock < word = omega (
     c.before.before.before.before.before.before.before.before.before.before.before.before.before.before.before.before.before.before.before.before.before.before.before.set_apart.ensures c.before.before.before.before.before.before.before.before.before.before.before.before.before.before.before.begin.ensures c.before.before.before.before.before.before.before.before.before.before.before.before.before.before.before.before.before.before.before.before.before.before.before.before.before.before.before.before.before.held-places.ensures.word k.state k.sound k.writes (let y = front_within (set-parted c.before.before.before.before.before.before.before.before.before.before.before.before.before.before.before.before.before.before.before.before.before.before.before.before.before.before.before.before.before.before.before.before.before.requires.0 c.before.before.before.before.before.before.before.before.before.before.before.before.before.before.before.before.before.before.before.before.before.before.before.set_apart.ensures c.before.before.before.before.before.before.before.before.before.before.before.before.before.before.before.before.before.before.before.before.before.before.before.before.before.before.before.before.before.held-places.ensures.word).apart in omega (
       arith,
       y,
-      c.before.before.before.before.before.before.before.before.before.before.before.before.before.before.before.begin.auto.0,
-    )) c.before.before.before.before.before.before.before.ask-round.auto.0 refl (search rules) c.before.before.before.before.before.before.before.before.before.before.before.before.before.before.before.begin.auto.1.1.0 c.before.before.before.before.before.before.before.ask-round.ensures
+      c.before.before.before.before.before.before.before.before.before.before.before.before.before.before.before.begin.auto.s,
+    )) c.before.before.before.before.before.before.before.ask-round.auto.0 refl (search rules) c.before.before.before.before.before.before.before.before.before.before.before.before.before.before.before.begin.auto.first c.before.before.before.before.before.before.before.ask-round.ensures
 
 pub returns : goal.returns
 returns c = let late : c.args.clock < word = omega (
@@ -59,5 +59,5 @@ returns c = let late : c.args.clock < word = omega (
 ) in λ st s o. plan_is none late c.before.before.before.before.before.before.before.before.before.before.before.before.before.before.before.before.before.before.before.before.before.before.before.before.before.before.set_apart.ensures c.before.before.before.before.before.before.before.before.before.before.before.before.before.before.before.before.before.before.begin.ensures c.before.before.before.before.before.before.before.before.before.before.before.before.before.before.before.before.before.before.before.before.before.before.before.before.before.before.before.before.before.before.before.before.held-places.ensures.word st s o (let y = front_within (set-parted c.before.before.before.before.before.before.before.before.before.before.before.before.before.before.before.before.before.before.before.before.before.before.before.before.before.before.before.before.before.before.before.before.before.before.before.before.requires.0 c.before.before.before.before.before.before.before.before.before.before.before.before.before.before.before.before.before.before.before.before.before.before.before.before.before.before.set_apart.ensures c.before.before.before.before.before.before.before.before.before.before.before.before.before.before.before.before.before.before.before.before.before.before.before.before.before.before.before.before.before.before.before.before.held-places.ensures.word).apart in omega (
   arith,
   y,
-  c.before.before.before.before.before.before.before.before.before.before.before.before.before.before.before.before.before.before.begin.auto.0,
-)) c.before.before.before.before.before.before.before.before.before.before.ask-round.auto.0 refl (search rules) c.before.before.before.before.before.before.before.before.before.before.before.before.before.before.before.before.before.before.begin.auto.1.1.0 c.before.before.before.before.before.before.before.before.before.before.ask-round.ensures c.before.before.put_back.ensures
+  c.before.before.before.before.before.before.before.before.before.before.before.before.before.before.before.before.before.before.begin.auto.s,
+)) c.before.before.before.before.before.before.before.before.before.before.ask-round.auto.0 refl (search rules) c.before.before.before.before.before.before.before.before.before.before.before.before.before.before.before.before.before.before.begin.auto.first c.before.before.before.before.before.before.before.before.before.before.ask-round.ensures c.before.before.put_back.ensures

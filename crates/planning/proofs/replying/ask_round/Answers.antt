@@ -26,7 +26,7 @@ finish-requires c = let x = c.phase_round-w.ensures in (
   omega (
     arith,
     x.most,
-    c.phase_round-w.auto.1.1.0,
+    c.phase_round-w.auto.picks,
     c.requires.2,
   ),
   x.most,
@@ -41,8 +41,8 @@ pub move_ready-requires : goal.move_ready-requires
 move_ready-requires c = let z = (kept_shown (begun_kept c.requires.0)).sizes.long in omega (
   arith,
   z,
-  c.phase_round-w.auto.0,
-  c.finish.auto.0,
+  c.phase_round-w.auto.s,
+  c.finish.auto.s,
 )
 
 pub returns : goal.returns

@@ -18,7 +18,7 @@ put_entries-requires c =
     let r = rows-of c.requires.0 in (
       r.0,
       c.by_priority.ensures.within,
-      rw c.by_priority.auto.1.1.1.1.1.0 c.requires.2.2,
+      rw c.by_priority.auto.to c.requires.2.2,
       c.requires.3,
     )
 

@@ -44,7 +44,7 @@ loop-j-smaller c = omega (arith, c.loop-j-test.true)
 pub loop-j-preserved : goal.loop-j-preserved
 loop-j-preserved c = (
   omega (arith, c.loop-j.invariant.0, c.loop-j-test.true),
-  c.disown.auto.0 ∙ c.loop-j.invariant.1,
+  c.disown.auto.s ∙ c.loop-j.invariant.1,
   λ now st l s m.
       back_more s m (c.loop-j.j - 1)
       (omega (arith, c.loop-j-test.true))

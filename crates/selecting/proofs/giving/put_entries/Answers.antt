@@ -46,7 +46,7 @@ loop-j-smaller c = omega (arith, c.loop-j-test.true)
 pub loop-j-preserved : goal.loop-j-preserved
 loop-j-preserved c = (
   omega (arith, c.loop-j-test.true),
-  c.put_entry.auto.0 ∙ c.loop-j.invariant.1,
+  c.put_entry.auto.u ∙ c.loop-j.invariant.1,
   λ f l w q g.
       puts_more f.rows l c.args.numbers.now
       c.args.out.now

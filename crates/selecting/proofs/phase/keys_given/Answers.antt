@@ -68,8 +68,8 @@ loop-i-preserved c =
     ) in
     let next = given_next b i less ∙ ap (λ (k : Key). k ∷ drop (i + 1) (given_keys b)) (sym c.key_in-k.ensures) in (
       omega (arith, less),
-      c.consider-w.auto.0 ∙ c.loop-i.invariant.1,
-      c.consider-w.auto.1.1.1.0 ∙ c.loop-i.invariant.2,
+      c.consider-w.auto.s ∙ c.loop-i.invariant.1,
+      c.consider-w.auto.picks ∙ c.loop-i.invariant.2,
       scans_more c.loop-i.invariant.3 (λ st. drop (i + 1) (given_keys b)) (i + 1) (omega arith)
           c.if-w.false c.consider-w.ensures (λ st l s m. next),
     )

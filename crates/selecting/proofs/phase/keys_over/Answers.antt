@@ -66,8 +66,8 @@ loop-i-preserved-then-ends_key c =
     let less = c.loop-i-test.true in
     let d : i - c.args.from + 1 ≤ i + 1 - c.args.from = omega (arith, at) in (
       (omega (arith, at), omega (arith, less)),
-      c.consider_next-w.auto.0 ∙ c.loop-i.invariant.1,
-      c.consider_next-w.auto.1.1.1.0 ∙ c.loop-i.invariant.2,
+      c.consider_next-w.auto.s ∙ c.loop-i.invariant.1,
+      c.consider_next-w.auto.picks ∙ c.loop-i.invariant.2,
       scans_more x (λ st. keys_over (i + 1) to (rows_of st.table)) _ d c.if-x.false c.consider_next-w.ensures
           (λ st l s m. row_ends s m i to less (omega (arith, c.requires.4.1, x.rows_same)) c.row_at-r.ensures c.ends_key.ensures c.if-ends_key.true
           ∙ ap (λ (k : Key). k ∷ keys_over (i + 1) to (rows_of st.table)) (sym c.key_of-k.ensures)),

@@ -35,7 +35,7 @@ keys_over-requires c =
     let n = c.rows-n.ensures.word in
     let f = c.after_cursor-from.ensures.most in
     let w = c.keys_over-x.ensures in
-    let long = c.keys_over-x.auto.1.1.1.1.0 in (
+    let long = c.keys_over-x.auto.picks in (
       w.kept,
       c.requires.1,
       omega

@@ -83,7 +83,7 @@ overflow_add-kept c =
     let from : c.loop-i.auto * key_bytes ≡
     key_bytes * c.loop-i.auto = omega arith in
     let next = turned_more v peer late hashed start.requires.0 start.requires.2 inside from (sym v.buffer-long) _ c.item_at-item.ensures
-    c.not_found_one-c.auto.0 c.not_found_one-c.auto.1.1.1.1.0
+    c.not_found_one-c.auto.s c.not_found_one-c.auto.out
     c.not_found_one-c.ensures in
     omega (arith, turned_fits next peer late hashed start.requires.0 start.requires.2)
 
@@ -114,7 +114,7 @@ loop-i-preserved c =
     let from : c.loop-i.auto * key_bytes ≡
     key_bytes * c.loop-i.auto = omega arith in
     turned_more v peer late hashed start.requires.0 start.requires.2 inside from (sym v.buffer-long) _ c.item_at-item.ensures
-    c.not_found_one-c.auto.0 c.not_found_one-c.auto.1.1.1.1.0
+    c.not_found_one-c.auto.s c.not_found_one-c.auto.out
     c.not_found_one-c.ensures
 
 pub shape_of-s : goal.shape_of-s

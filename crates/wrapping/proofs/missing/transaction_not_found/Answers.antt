@@ -18,7 +18,7 @@ overflow_mul-a c =
     let late : a.clock < word = omega arith in
     let hashed = items-fit a.items.now (λ j. omega (arith, c.type_inv.items j)) in
     let v = c.not_found_each-kept.ensures in
-    let long = c.not_found_each-kept.auto.1.1.1.1.0 in
+    let long = c.not_found_each-kept.auto.out in
     omega (arith, items-within l v long peer late hashed c.requires.0 c.requires.2, long)
 
 pub slice_bounds-packages_not_found-count : goal.slice_bounds-packages_not_found-count
@@ -29,7 +29,7 @@ slice_bounds-packages_not_found-count c =
     let late : a.clock < word = omega arith in
     let hashed = items-fit a.items.now (λ j. omega (arith, c.type_inv.items j)) in
     let v = c.not_found_each-kept.ensures in
-    let long = c.not_found_each-kept.auto.1.1.1.1.0 in
+    let long = c.not_found_each-kept.auto.out in
     omega (arith, items-within l v long peer late hashed c.requires.0 c.requires.2, long)
 
 pub slice_bounds-packages_not_found-start : goal.slice_bounds-packages_not_found-start
@@ -40,7 +40,7 @@ slice_bounds-packages_not_found-start c =
     let late : a.clock < word = omega arith in
     let hashed = items-fit a.items.now (λ j. omega (arith, c.type_inv.items j)) in
     let v = c.not_found_each-kept.ensures in
-    let long = c.not_found_each-kept.auto.1.1.1.1.0 in
+    let long = c.not_found_each-kept.auto.out in
     omega (arith, items-within l v long peer late hashed c.requires.0 c.requires.2, long)
 
 pub packages_not_found-c-requires : goal.packages_not_found-c-requires
@@ -51,7 +51,7 @@ packages_not_found-c-requires c =
     let late : a.clock < word = omega arith in
     let hashed = items-fit a.items.now (λ j. omega (arith, c.type_inv.items j)) in
     let v = c.not_found_each-kept.ensures in
-    let long = c.not_found_each-kept.auto.1.1.1.1.0 in
+    let long = c.not_found_each-kept.auto.out in
     let from : c.not_found_each-kept.result * key_bytes ≡ key_bytes * c.not_found_each-kept.result =
     omega arith in
     (items_kept l v long peer late hashed c.requires.0 c.requires.2, c.requires.1, packages-room l v long peer late hashed c.requires.0 c.requires.2 from refl)
@@ -65,7 +65,7 @@ overflow_add-result c =
     let hashed = items-fit a.items.now
     (λ j. omega (arith, c.type_inv.items j)) in
     let v = c.not_found_each-kept.ensures in
-    let long = c.not_found_each-kept.auto.1.1.1.1.0 in
+    let long = c.not_found_each-kept.auto.out in
     let from : c.not_found_each-kept.result * key_bytes ≡
     key_bytes * c.not_found_each-kept.result = omega arith in
     omega (arith, packages-within l v long peer late hashed c.requires.0 c.requires.2 from refl c.packages_not_found-c.ensures)
@@ -79,7 +79,7 @@ returns c =
     let hashed = items-fit a.items.now
     (λ j. omega (arith, c.type_inv.items j)) in
     let v = c.not_found_each-kept.ensures in
-    let long = c.not_found_each-kept.auto.1.1.1.1.0 in
+    let long = c.not_found_each-kept.auto.out in
     let from : c.not_found_each-kept.result * key_bytes ≡
     key_bytes * c.not_found_each-kept.result = omega arith in
     packages-listed l v long peer late hashed c.requires.0 c.requires.2 from refl c.packages_not_found-c.ensures

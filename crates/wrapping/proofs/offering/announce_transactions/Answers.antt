@@ -38,7 +38,7 @@ announce_part-i-requires-in-loop-i c = let peer : Peer c.args.n = record {
       c.before.before.before.before.before.before.before.before.before.before.before.shared-slice-known2.given j,
     )) in
     let begun = batched_more (batched_start c.before.before.before.before.before.before.before.before.before.before.before.before.before.before.args.n c.before.before.before.before.before.before.before.before.before.before.before.before.before.before.args.clock c.before.before.before.before.before.before.before.before.before.before.before.before.before.before.args.preferred c.before.before.before.before.before.before.before.before.before.before.before.before.before.before.args.source (offers_in c.before.before.before.before.before.before.before.before.before.before.before.before.before.before.args.items.now c.before.before.before.before.before.before.before.before.before.before.before.before.before.before.args.priorities.now) c.before.before.before.before.before.before.before.before.before.before.before.before.before.before.args.s.now) peer c.before.before.before.before.before.before.before.before.before.before.before.before.before.before.requires.2 typed
-    c.before.before.before.before.before.before.before.before.before.overloaded.ensures c.before.before.before.before.before.announce-part.ensures c.before.before.before.before.before.announce-part.auto.0 in (
+    c.before.before.before.before.before.before.before.before.before.overloaded.ensures c.before.before.before.before.before.announce-part.ensures c.before.before.before.before.before.announce-part.auto.s in (
       batched_kept (c.before.before.loop.invariant.2 c.before.before.before.before.before.before.before.before.before.before.before.before.before.before.args.s.now c.before.before.before.before.before.before.before.before.before.overloaded.ensures begun) peer c.before.before.before.before.before.before.before.before.before.before.before.before.before.before.requires.2 typed c.before.before.before.before.before.before.before.before.before.before.before.before.before.before.requires.0,
       c.before.before.before.before.before.before.before.before.before.before.before.before.before.before.requires.1,
       c.before.before.before.before.before.before.before.before.before.before.before.before.before.before.requires.2,
@@ -61,13 +61,13 @@ loop-i-preserved c = let peer : Peer c.args.n = record {
     let typed : Each OfferTyped (offers_in c.before.before.before.before.before.before.before.before.before.before.before.before.before.before.before.before.before.args.items.now c.before.before.before.before.before.before.before.before.before.before.before.before.before.before.before.before.before.args.priorities.now) = offers-fit c.before.before.before.before.before.before.before.before.before.before.before.before.before.before.before.before.before.args.items.now c.before.before.before.before.before.before.before.before.before.before.before.before.before.before.before.before.before.args.priorities.now
     (λ j. omega (arith, c.before.before.before.before.before.before.before.before.before.before.before.before.before.before.before.shared-slice-known.given j)) (λ j. omega
     (arith, c.before.before.before.before.before.before.before.before.before.before.before.before.before.before.shared-slice-known2.given j)) in (
-      c.before.before.announce-part2.auto.0 ∙ c.before.before.before.before.before.loop.invariant.0,
+      c.before.before.announce-part2.auto.s ∙ c.before.before.before.before.before.loop.invariant.0,
       c.before.before.announce-part2.ensures.inside,
-      λ u f b. batched_more (c.before.before.before.before.before.loop.invariant.2 u f b) peer c.before.before.before.before.before.before.before.before.before.before.before.before.before.before.before.before.before.requires.2 typed f c.before.before.announce-part2.ensures c.before.before.announce-part2.auto.0,
+      λ u f b. batched_more (c.before.before.before.before.before.loop.invariant.2 u f b) peer c.before.before.before.before.before.before.before.before.before.before.before.before.before.before.before.before.before.requires.2 typed f c.before.before.announce-part2.ensures c.before.before.announce-part2.auto.s,
     )
 
 pub shape_of-s : goal.shape_of-s
-shape_of-s c = c.loop-i.invariant.0 ∙ c.announce_part-i.auto.0
+shape_of-s c = c.loop-i.invariant.0 ∙ c.announce_part-i.auto.s
 
 pub returns : goal.returns
 returns c = let peer : Peer c.args.n = record {
@@ -81,7 +81,7 @@ returns c = let peer : Peer c.args.n = record {
     )) in
     let begun = batched_more (batched_start c.before.before.before.before.before.before.before.before.before.before.before.before.before.args.n c.before.before.before.before.before.before.before.before.before.before.before.before.before.args.clock c.before.before.before.before.before.before.before.before.before.before.before.before.before.args.preferred c.before.before.before.before.before.before.before.before.before.before.before.before.before.args.source (offers_in c.before.before.before.before.before.before.before.before.before.before.before.before.before.args.items.now c.before.before.before.before.before.before.before.before.before.before.before.before.before.args.priorities.now) c.before.before.before.before.before.before.before.before.before.before.before.before.before.args.s.now) peer
     c.before.before.before.before.before.before.before.before.before.before.before.before.before.requires.2 typed
-    c.before.before.before.before.before.before.before.before.overloaded.ensures c.before.before.before.before.announce-part.ensures c.before.before.before.before.announce-part.auto.0 in
+    c.before.before.before.before.before.before.before.before.overloaded.ensures c.before.before.before.before.announce-part.ensures c.before.before.before.before.announce-part.auto.s in
     batched_done (c.before.loop.invariant.2 c.before.before.before.before.before.before.before.before.before.before.before.before.before.args.s.now c.before.before.before.before.before.before.before.before.overloaded.ensures begun) (omega (
       arith,
       c.before.loop.invariant.1,

@@ -25,7 +25,7 @@ set_aside-more-requires c = (
 )
 
 pub shape_of-new-then-more-eq2 : goal.shape_of-new-then-more-eq2
-shape_of-new-then-more-eq2 c = c.set_aside-more.auto.1.0 ∙ c.loop-i.invariant.1
+shape_of-new-then-more-eq2 c = c.set_aside-more.auto.new ∙ c.loop-i.invariant.1
 
 pub returns-then-more-eq2 : goal.returns-then-more-eq2
 returns-then-more-eq2 c =
@@ -53,7 +53,7 @@ loop-i-preserved c =
     omega (arith, c.loop-i-test.true, c.offers-count.ensures) in (
       collects_more c.loop-i.invariant.0 inside c.offered_at-c.ensures
           c.set_aside-more.ensures c.if-more-eq2.false,
-      c.set_aside-more.auto.1.0 ∙ c.loop-i.invariant.1,
+      c.set_aside-more.auto.new ∙ c.loop-i.invariant.1,
     )
 
 pub shape_of-new : goal.shape_of-new

@@ -10,7 +10,7 @@ swap-p-requires c = (
   c.requires.2,
   c.requires.3,
   c.requires.4,
-  omega (arith, c.clear.auto.0),
+  omega (arith, c.clear.auto.s),
   c.clear.ensures,
   c.requires.5,
   c.requires.6,
@@ -33,8 +33,8 @@ come_in-requires c = (
   omega (
     arith,
     c.swap-p.ensures.few,
-    c.swap-p.auto.1.0,
-    c.clear.auto.0,
+    c.swap-p.auto.new,
+    c.clear.auto.s,
   ),
 )
 

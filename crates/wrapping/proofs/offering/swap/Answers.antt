@@ -28,7 +28,7 @@ defer-more-requires c = (
 )
 
 pub shape_of-new-then-more-eq2 : goal.shape_of-new-then-more-eq2
-shape_of-new-then-more-eq2 c = c.defer-more.auto.1.0 ∙ c.loop-i.invariant.1
+shape_of-new-then-more-eq2 c = c.defer-more.auto.new ∙ c.loop-i.invariant.1
 
 pub returns-then-more-eq2 : goal.returns-then-more-eq2
 returns-then-more-eq2 c =
@@ -56,7 +56,7 @@ loop-i-preserved c =
     (arith, c.loop-i-test.true, c.offers-count.ensures) in (
       swaps_more c.loop-i.invariant.0 inside c.offered_at-c.ensures
           c.defer-more.ensures c.if-more-eq2.false,
-      c.defer-more.auto.1.0 ∙ c.loop-i.invariant.1,
+      c.defer-more.auto.new ∙ c.loop-i.invariant.1,
     )
 
 pub shape_of-new : goal.shape_of-new
