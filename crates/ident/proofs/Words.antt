@@ -1,9 +1,9 @@
 -- What the number of a hash says of its words: it is below `top`, and it decides them.
 use mathlib.Core.Path.{◌≡◌, sym, ◌∙◌, ap}
 use Prim.Native.Nat.{ℕ, zero, suc, ◌<◌, ◌^◌}
-use mathlib.Core.List.{List, [], ◌∷◌, map}
+use mathlib.Core.List.{List, [], ◌∷◌}
 use lib.Dec.{lit<}
-use lib.ListN.{length, get_or, length-map}
+use lib.ListN.{length, get_or}
 use mir.Val.{Val}
 use denote.Array.{each}
 use denote.Builtin.{u64}

@@ -4,13 +4,11 @@ use mathlib.Core.Path.{◌≡◌, refl, sym, ap, ◌∙◌}
 use mathlib.Core.List.{List, [], ◌∷◌}
 use native.Mathlib.Nat.{zero-add, suc-add}
 use native.Mathlib.Omega.{arith}
-use lib.Dec.{ltb}
 use lib.ListN.{length, take, drop, get_or, length-drop}
 use lib.Seq.{length-take-le, get_or-take, get_or-drop, take-take, take-nil, drop-drop}
 use borrow.Author.Tests.{lt-ltb, le-ltb}
 use Rattle.ident.specs.declared.ItemKind.{ItemKind}
 use Rattle.ident.specs.declared.ItemKind.TheVariants.{Other}
-use Rattle.ident.specs.If.{if◌then◌else◌}
 use Rattle.ident.specs.Number.{Item, top, item_kind_of}
 use Rattle.ident.specs.Words.{hash_bytes}
 use Rattle.words.specs.Words.{number, recs, words}

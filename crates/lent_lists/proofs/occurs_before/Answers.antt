@@ -1,7 +1,7 @@
 -- `lent_lists::occurs_before` meets its contract.
-use Prim.Native.Nat.{ℕ, ◌-◌}
+use Prim.Native.Nat.{ℕ}
 use mathlib.Core.Path.{◌≡◌, refl, sym}
-use mathlib.Core.Bool.{Bool, false}
+use mathlib.Core.Bool.{Bool}
 use native.Mathlib.Numerals.{add-one}
 use native.Mathlib.Omega.{arith}
 use lib.Dec.{eqb}
@@ -20,22 +20,17 @@ loop-j-init c = (omega arith, refl)
 pub hash_in-g-requires : goal.hash_in-g-requires
 hash_in-g-requires c = omega (arith, c.loop-j-test.true, c.requires)
 
-pub same_hash-requires : goal.same_hash-requires
-same_hash-requires c = tt
-
 pub returns-then-same_hash : goal.returns-then-same_hash
 returns-then-same_hash c =
-    let start : tie.Start invariant-loop decreases-loop = c in
-    sym (elem-met _ _ start.args.i c.loop-j.j (omega arith) (omega (arith, start.requires))
+    sym (elem-met _ _ c.args.i c.loop-j.j (omega arith) (omega (arith, c.requires))
     (same-as c.same_hash.ensures c.hash_in-g.ensures c.hash_in-h.ensures c.if-same_hash.true))
 
 pub loop-j-preserved : goal.loop-j-preserved
-loop-j-preserved c =
-    let start : tie.Start invariant-loop decreases-loop = c in (
-      omega arith,
-      rw add-one (elem-passed _ _ c.loop-j.j (omega (arith, start.requires)) c.loop-j.invariant.1
-          (same-as c.same_hash.ensures c.hash_in-g.ensures c.hash_in-h.ensures c.if-same_hash.false)),
-    )
+loop-j-preserved c = (
+  omega arith,
+  rw add-one (elem-passed _ _ c.loop-j.j (omega (arith, c.requires)) c.loop-j.invariant.1
+      (same-as c.same_hash.ensures c.hash_in-g.ensures c.hash_in-h.ensures c.if-same_hash.false)),
+)
 
 pub returns : goal.returns
 returns c =
