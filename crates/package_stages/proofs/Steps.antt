@@ -1,5 +1,5 @@
 -- Changes of one request, one after the other, are one change; so a solicitation is an owner, the flag, and each parent.
-use Prim.Native.Nat.{ℕ, ◌≤◌}
+use Prim.Native.Nat.{ℕ, ◌≤◌, suc}
 use mathlib.Core.Path.{◌≡◌, refl, sym, ap, subst, ◌∙◌}
 use mathlib.Core.Logic.{inl, inr}
 use mathlib.Core.List.{[], ◌∷◌}
@@ -36,7 +36,7 @@ module _ (k : Key) (f g : Request → Request) (key : KeepsKey f) where
         rw e (put_first (blank k) (r ∷ t) (subst (λ (x : Request). 1 ≤ length (f x).candidates) z h) refl)
     | inr e ↦ rw e (elim (test (eqb (place k) (place r.key))) [
       | inl d ↦ rw d (put_first r t (rw d at h) (eqb-true (place k) (place r.key) d))
-      | inr d ↦ rw (d, e, d) (ap (λ (x : Table). r ∷ x) (change-twice _ t o.2 (rw d at h)))
+      | inr d ↦ rw (d, e, d) (ap (λ (x : Table). r ∷ x) (change-twice (suc (place r.key)) t o.2 (rw d at h)))
     ])
   ]
 

@@ -33,7 +33,7 @@ returns c =
           record {
             owner = o.connection;
             deadline = o.deadline;
-            stage = c.Stage-at.ensures st s w;
+            stage = c.stage_at-stage.ensures st s w;
             mark = ap (λ (x : ℕ). eqb x 1) (c.mark_in-m.ensures.is (flat_of st) d w ∙ mark_of st s k d from to) ∙ bit_one (at k st.table).fallback;
           };
     }

@@ -1,9 +1,7 @@
 use native.Mathlib.Omega.{arith}
-use Prim.Native.Nat.{◌-◌}
 use mathlib.Core.Path.{refl, ◌∙◌}
 use Rattle.words.specs.Words.{words}
 use Rattle.places.specs.Places.{blank}
-use Rattle.package_stages.specs.Dead.{live}
 use Rattle.package_stages.proofs.Compacting.{compacting_none, compacting_more, compacting_end}
 use Rattle.package_stages.proofs.dead.compact.Goals as goal
 
@@ -16,7 +14,7 @@ keep_live-m-requires c = (c.loop-i.invariant.0.less, omega (arith, c.loop-i.inva
 pub loop-i-preserved : goal.loop-i-preserved
 loop-i-preserved c = (
   compacting_more (blank 0 0) c.loop-i.invariant.0 c.loop-i-test.true c.keep_live-m.ensures,
-  c.keep_live-m.auto.0 ∙ c.loop-i.invariant.1,
+  c.keep_live-m.auto.s ∙ c.loop-i.invariant.1,
 )
 
 pub truncate_places-requires : goal.truncate_places-requires
@@ -24,7 +22,7 @@ truncate_places-requires c =
     (omega (arith, c.loop-i.invariant.0.less, c.loop-i.invariant.0.most), omega (arith, c.loop-i.invariant.1, c.requires))
 
 pub shape_of-s : goal.shape_of-s
-shape_of-s c = c.truncate_places.auto.0 ∙ c.loop-i.invariant.1
+shape_of-s c = c.truncate_places.auto.s ∙ c.loop-i.invariant.1
 
 pub returns : goal.returns
 returns c = compacting_end c.loop-i.invariant.0 (omega (arith, c.loop-i-test.false)) c.truncate_places.ensures

@@ -12,5 +12,5 @@ returns c = λ f h.
     let n = sym (c.held_places-n.ensures.field f h) in
     let m = c.compact-m.ensures.count f.head.places f.places n held in
     places-counted h (search rules) (filter live f.places) c.compact-m.result (sym m) (came_back h part _ _
-    c.compact-m.auto.0 (c.compact-m.ensures.region f.head.places f.places n held))
+    c.compact-m.auto.s (c.compact-m.ensures.region f.head.places f.places n held))
     c.put.ensures.word

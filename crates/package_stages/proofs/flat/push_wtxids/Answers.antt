@@ -1,6 +1,6 @@
 use native.Mathlib.Omega.{arith}
 use native.Mathlib.Nat.{le_refl}
-use Prim.Native.Nat.{ℕ, ◌-◌, ◌<◌}
+use Prim.Native.Nat.{ℕ, ◌<◌}
 use mathlib.Core.Path.{◌≡◌, ap, subst, ◌∙◌}
 use lib.ListN.{length, take}
 use lib.Seq.{take_all}
@@ -32,7 +32,7 @@ loop-j-preserved c =
     < length (hashes_in c.args.list.now) =
     omega (arith, inv.1, c.loop-j-test.true) in
     let x = ap quad_number c.hash_quad-q.ensures.words_are ∙ number_quad _ ∙ c.hash_in-h.ensures in (
-      filled_more c.requires.0 inv.0 l x c.push_wtxid.auto.0
+      filled_more c.requires.0 inv.0 l x c.push_wtxid.auto.s
           c.push_wtxid.ensures,
       inv.1,
     )
