@@ -1,8 +1,5 @@
 // Next poll and the two cursors (document 01, module 6): one small record, read from the header of a store and written back, and
 // updated by a few thin calls.
-//
-// The words of the header are read and written by covered functions. A function with a `Cursors` or a `MaybeKey` in it is proved by a
-// walk of its MIR, so it is kept short.
 #![tactic(auto)]
 
 ghost use Rattle.std.specs.Prelude.{◌≡◌, ℕ, ◌+◌, ◌*◌, ◌≤◌, ◌<◌, length, get_or};
