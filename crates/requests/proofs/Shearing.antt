@@ -7,15 +7,15 @@ use mathlib.Core.List.{List, [], ◌∷◌, ◌++◌, append_assoc}
 use mathlib.Core.Option.{Option, none, some}
 use native.Mathlib.Numerals.{add-one}
 use native.Mathlib.Omega.{arith}
-use lib.ListN.{length, take, drop, get_or, length-append, take-append-drop}
+use lib.ListN.{length, take, drop, get_or, take-append-drop}
 use lib.Seq.{take_at, drop_at, drop-cons}
 use Rattle.ident.specs.Number.{Key}
 use Rattle.regions.specs.declared.Row.{Row}
 use Rattle.regions.specs.declared.Conn.{Conn}
 use Rattle.regions.specs.Regions.{remove_range}
 use Rattle.places.specs.Places.{Place}
-use Rattle.machine.specs.State.{Owner, Package, Request, Table, State, on_table, blank}
-use Rattle.machine.specs.Table.{at, change}
+use Rattle.machine.specs.State.{Owner, Package, Request, State, on_table, blank}
+use Rattle.machine.specs.Table.{at}
 use Rattle.machine.specs.Fail.{forget}
 use Rattle.machine.specs.Sound.{Sound, Packed, Lawful}
 use Rattle.machine.specs.Typed.{Each}
@@ -29,7 +29,7 @@ use Rattle.store.proofs.Entries.{tally-length}
 use Rattle.store.proofs.Frame.{shown, sizes, length_remove_range}
 use Rattle.store.proofs.Split.{rows_below, rows_above, places_below, places_above, rows_at, places-at, rows-change, places-change}
 use Rattle.store.proofs.Tally.{bump-nil, bump-lt, bump-eq, bump_gt, tally_less}
-use Rattle.requests.specs.Changes.{Makes, Shorn}
+use Rattle.requests.specs.Changes.{Shorn}
 use Rattle.requests.proofs.Keeping.{sized_of, conns_in_order, writes_by}
 
 -- ---- counts are at most the number of rows

@@ -4,7 +4,7 @@ use mathlib.Core.Path.{◌≡◌, refl, ap, ◌∙◌}
 use mathlib.Core.List.{List, [], ◌∷◌, ◌++◌}
 use native.Mathlib.Omega.{arith}
 use lib.Dec.{lit<}
-use lib.ListN.{take, drop, get_or}
+use lib.ListN.{take, drop}
 use lib.Seq.{get_or-drop}
 use Rattle.words.specs.Words.{digits, recs, words, bytes_of}
 use Rattle.words.proofs.Digits.{length_digits, number_digits}

@@ -1,5 +1,5 @@
 -- The state that lists of records show, whatever the records are: rows gathered into requests, each with its place.
-use Rattle.std.specs.Prelude.{ℕ, zero, suc, ◌/◌, ◌%◌, Bool, true, false, List, [], ◌∷◌, map, eqb}
+use Rattle.std.specs.Prelude.{ℕ, zero, suc, ◌/◌, ◌%◌, false, List, [], ◌∷◌, map, eqb}
 use Rattle.std.proofs.Math.Option.{Option, none, some}
 use Rattle.ident.specs.declared.Kind.{Kind}
 use Rattle.ident.specs.declared.Kind.TheVariants.{Txid, Wtxid}
@@ -11,7 +11,7 @@ use Rattle.regions.specs.declared.Row.{Row}
 use Rattle.regions.specs.Rows.{quad_number}
 use Rattle.places.specs.Places.{Place}
 use Rattle.machine.specs.State.{Candidate, Owner, Package, Request, Table, State}
-use Rattle.store.specs.Flat.{own_bit, Head, Flat}
+use Rattle.store.specs.Flat.{own_bit, Flat}
 
 -- ---- rows
 

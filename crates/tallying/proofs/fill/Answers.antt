@@ -32,7 +32,7 @@ loop-i-smaller c = omega (arith, c.loop-i-test.true)
 pub loop-i-preserved : goal.loop-i-preserved
 loop-i-preserved c = filling_more c.requires.0
     c.loop-i.invariant c.loop-i-test.true
-    c.row_at-r.ensures c.add_conn.ensures c.add_conn.auto.0
+    c.row_at-r.ensures c.add_conn.ensures c.add_conn.auto.s
 
 pub shape_of-s : goal.shape_of-s
 shape_of-s c = c.loop-i.invariant.size

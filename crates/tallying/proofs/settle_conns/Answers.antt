@@ -37,4 +37,4 @@ returns c = λ f h.
       c.requires.sizes.conns,
       c.requires.sizes.limit,
     )) (conns-lent h lim) in
-    conns-counted h (search rules) _ _ a.1 (conns_back h lim _ _ c.settle-m.auto.0 a.0) c.put.ensures.word
+    conns-counted h (search rules) _ _ a.1 (conns_back h lim _ _ c.settle-m.auto.r a.0) c.put.ensures.word

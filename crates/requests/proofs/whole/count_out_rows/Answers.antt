@@ -1,5 +1,4 @@
 use native.Mathlib.Omega.{arith}
-use Prim.Native.Nat.{◌-◌}
 use Rattle.requests.proofs.Shearing.{none_out, out_shown, out_rows, one_out}
 use mathlib.Core.Path.{◌≡◌, subst}
 use Rattle.requests.specs.Changes.{Shorn}

@@ -28,7 +28,7 @@ pub loop-j-preserved : goal.loop-j-preserved
 loop-j-preserved c = (
   collecting_next c.loop-j.invariant.0 c.loop-j-test.true c.count-m.ensures.0
       c.count-m.ensures.1,
-  c.count-m.auto.0 ∙ c.loop-j.invariant.1,
+  c.count-m.auto.r ∙ c.loop-j.invariant.1,
 )
 
 pub overflow_mul-m : goal.overflow_mul-m
@@ -44,7 +44,7 @@ pub clear-requires : goal.clear-requires
 clear-requires c = omega (arith, c.requires.0, c.loop-j.invariant.1, c.loop-j.invariant.0.short, c.loop-j.invariant.0.most)
 
 pub shape_of-r : goal.shape_of-r
-shape_of-r c = c.clear.auto.0 ∙ c.loop-j.invariant.1
+shape_of-r c = c.clear.auto.s ∙ c.loop-j.invariant.1
 
 pub returns : goal.returns
 returns c = collecting_done c.loop-j.invariant.0 (omega

@@ -5,7 +5,7 @@ use Rattle.tallying.proofs.counts.settle.Goals as goal
 
 pub collect-requires : goal.collect-requires
 collect-requires c = (
-  omega (arith, c.requires.0, c.sort.auto.0),
+  omega (arith, c.requires.0, c.sort.auto.r),
   shuffled_filled _
       c.sort.ensures c.requires.1,
 )
