@@ -8,7 +8,7 @@ use mathlib.Core.Option.{Option, none, some}
 use native.Mathlib.Omega.{arith}
 use lib.Dec.{leb}
 use borrow.Author.Tests.{leb-false}
-use Rattle.ident.specs.If.{if◌then◌else◌}
+use Rattle.std.specs.Prelude.{if◌then◌else◌}
 use Rattle.ident.specs.Number.{Key}
 use Rattle.machine.specs.Limits.{Limits, max_peer_announcements}
 use Rattle.machine.specs.State.{Candidate, Table, Entry, Answer, refused, done}

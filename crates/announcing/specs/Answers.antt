@@ -1,6 +1,5 @@
 -- What the contracts of announce, request_parent and announce_parents say.
-use Rattle.std.specs.Prelude.{ℕ, ◌≡◌, Bool, List, length}
-use Rattle.ident.specs.If.{if◌then◌else◌}
+use Rattle.std.specs.Prelude.{ℕ, ◌≡◌, Bool, List, length, if◌then◌else◌}
 use Rattle.ident.specs.Number.{txid}
 use Rattle.machine.specs.Limits.{Limits}
 use Rattle.machine.specs.State.{State, Table, Answer, limits_of, on_table}

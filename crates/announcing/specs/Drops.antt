@@ -1,6 +1,5 @@
 -- Rows that pass a test taken out in one pass: those that stay move to the front, and those that go are counted out.
-use Rattle.std.specs.Prelude.{ℕ, ◌+◌, ◌≤◌, ◌≡◌, Bool, List, [], ◌∷◌, ◌++◌, length, get_or, set}
-use Rattle.ident.specs.If.{if◌then◌else◌}
+use Rattle.std.specs.Prelude.{ℕ, ◌+◌, ◌≤◌, ◌≡◌, Bool, List, [], ◌∷◌, ◌++◌, length, get_or, set, if◌then◌else◌}
 use Rattle.regions.specs.declared.Row.{Row}
 use Rattle.machine.specs.State.{State}
 use Rattle.requests.specs.Changes.{Shorn}

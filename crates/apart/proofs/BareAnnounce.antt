@@ -6,7 +6,7 @@ use mathlib.Core.Bool.{Bool, true, false, ◌||◌}
 use mathlib.Core.List.{List, [], ◌∷◌}
 use mathlib.Core.Option.{Option, none, some}
 use lib.Dec.{ltb, leb}
-use Rattle.ident.specs.If.{if◌then◌else◌}
+use Rattle.std.specs.Prelude.{if◌then◌else◌}
 use Rattle.ident.specs.Number.{Key, other, txid}
 use Rattle.machine.specs.Limits.{Limits, max_peer_announcements}
 use Rattle.machine.specs.State.{Candidate, Request, Table, Entry, Answer, refused, owner_is}

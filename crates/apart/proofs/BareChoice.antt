@@ -6,7 +6,7 @@ use mathlib.Core.List.{List, [], ◌∷◌, ◌++◌}
 use mathlib.Core.Option.{Option, none, some}
 use lib.Dec.{ltb, leb, eqb}
 use lib.ListN.{length}
-use Rattle.ident.specs.If.{if◌then◌else◌}
+use Rattle.std.specs.Prelude.{if◌then◌else◌}
 use Rattle.ident.specs.Number.{Key, txid, wtxid}
 use Rattle.machine.specs.Limits.{max_in_flight, max_request_checks}
 use Rattle.machine.specs.State.{Candidate, Request, Table, Entry, is_none}

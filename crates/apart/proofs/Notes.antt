@@ -10,7 +10,7 @@ use lib.Dec.{eqb}
 use lib.Pow.{pow_mono}
 use lib.ListN.{length, take, drop, get_or, drop_of_length-le}
 use lib.Seq.{drop-cons, take_all, take_at, drop_at}
-use Rattle.ident.specs.If.{if◌then◌else◌}
+use Rattle.std.specs.Prelude.{if◌then◌else◌}
 use Rattle.ident.specs.Number.{Key, txid}
 use Rattle.words.specs.Words.{words}
 use Rattle.regions.specs.Rows.{quad_number}

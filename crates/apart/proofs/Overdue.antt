@@ -12,7 +12,7 @@ use lib.Seq.{take_at, drop_at, length-take-le, map-set_same}
 use borrow.Author.Tests.{lt-ltb, ltb-true, eqb-true, eqb-false, eq-eqb, ne_eqb}
 use Rattle.ident.specs.declared.Kind.{Kind}
 use Rattle.ident.specs.declared.Kind.TheVariants.{Txid, Wtxid}
-use Rattle.ident.specs.If.{if◌then◌else◌}
+use Rattle.std.specs.Prelude.{if◌then◌else◌}
 use Rattle.ident.specs.Number.{top, Key, wtxid}
 use Rattle.words.specs.Words.{words}
 use Rattle.regions.specs.Regions.{Holds}

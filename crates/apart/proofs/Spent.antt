@@ -9,7 +9,7 @@ use native.Mathlib.Omega.{arith}
 use lib.Dec.{ltb, leb, eqb}
 use lib.ListN.{length}
 use borrow.Author.Tests.{le-leb}
-use Rattle.ident.specs.If.{if◌then◌else◌}
+use Rattle.std.specs.Prelude.{if◌then◌else◌}
 use Rattle.ident.specs.Number.{top, Key, place, txid, wtxid, other}
 use Rattle.machine.specs.Limits.{Limits, max_peer_announcements}
 use Rattle.machine.specs.State.{Candidate, Entry, Owner, Request, Table, Answer, refused, done, blank, with_candidates, marked, adopting, owner_is}

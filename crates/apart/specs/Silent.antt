@@ -1,7 +1,6 @@
 -- Owners whose time is over, where no request has a package: their rows go in one pass.
-use Rattle.std.specs.Prelude.{ℕ, ◌≡◌, Bool, false, ◌&&◌, List, [], ◌∷◌, leb}
+use Rattle.std.specs.Prelude.{ℕ, ◌≡◌, Bool, false, ◌&&◌, List, [], ◌∷◌, leb, if◌then◌else◌}
 use Rattle.std.proofs.Math.Option.{Option, none, some}
-use Rattle.ident.specs.If.{if◌then◌else◌}
 use Rattle.ident.specs.Number.{Key, other}
 use Rattle.regions.specs.declared.Row.{Row}
 use Rattle.machine.specs.State.{Owner, Request, Table, with_candidates, unowned}

@@ -1,6 +1,5 @@
 -- The words of event lines (docs/EVENTS.md, "Words"): the first field of a line.
-use Rattle.std.specs.Prelude.{ℕ, List, [], ◌∷◌}
-use Rattle.ident.specs.If.{if◌then◌else◌}
+use Rattle.std.specs.Prelude.{ℕ, List, [], ◌∷◌, if◌then◌else◌}
 use Rattle.machine.specs.Fields.{same_text}
 use Rattle.asking.specs.declared.vocabulary.Word.{Word}
 use Rattle.asking.specs.declared.vocabulary.Word.TheVariants.{None as NoWord, Open as OpenWord, Sum as SumWord, Leave as LeaveWord, Inventory as InventoryWord}

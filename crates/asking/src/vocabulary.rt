@@ -1,6 +1,5 @@
 // The words of event lines: the first field, compared with fixed byte strings.
-ghost use Rattle.std.specs.Prelude.{◌≡◌};
-ghost use Rattle.ident.specs.If.{if◌then◌else◌};
+ghost use Rattle.std.specs.Prelude.{◌≡◌, if◌then◌else◌};
 ghost use Rattle.machine.specs.Fields.{same_text};
 ghost use Rattle.asking.specs.Words.{word_of, request_word, package_word, keys_word, hashes_word, plan_word};
 

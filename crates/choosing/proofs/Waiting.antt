@@ -8,7 +8,7 @@ use native.Mathlib.Omega.{arith}
 use lib.Dec.{ltb, leb, eqb}
 use lib.ListN.{length, get_or}
 use borrow.Author.Tests.{lt-ltb, le-ltb}
-use Rattle.ident.specs.If.{if◌then◌else◌}
+use Rattle.std.specs.Prelude.{if◌then◌else◌}
 use Rattle.ident.specs.Number.{top, Key, place, txid, wtxid}
 use Rattle.regions.specs.declared.Row.{Row}
 use Rattle.machine.specs.State.{Candidate, Request, Table, State, is_some}

@@ -1,9 +1,8 @@
 -- What the contracts of claim say: the declared entries as the machine's, and what becomes of one of them.
-use Rattle.std.specs.Prelude.{ℕ, zero, suc, ◌+◌, ◌*◌, ◌/◌, ◌%◌, ◌<◌, ◌≡◌, Bool, true, false, not, List, [], ◌∷◌, ◌++◌, eqb, length, get_or, take, drop}
+use Rattle.std.specs.Prelude.{ℕ, zero, suc, ◌+◌, ◌*◌, ◌/◌, ◌%◌, ◌<◌, ◌≡◌, Bool, true, false, not, List, [], ◌∷◌, ◌++◌, eqb, length, get_or, take, drop, if◌then◌else◌}
 use Rattle.ident.specs.declared.Hash.{Hash}
 use Rattle.ident.specs.declared.Kind.TheVariants.{Txid}
 use Rattle.ident.specs.declared.ItemKind.TheVariants.{Transaction}
-use Rattle.ident.specs.If.{if◌then◌else◌}
 use Rattle.ident.specs.Number.{top, Key, Item, type_of, item_kind_of}
 use Rattle.ident.specs.Words.{key_num, item_num}
 use Rattle.words.specs.Words.{number, words, bytes_of, splice}

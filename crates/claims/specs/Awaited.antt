@@ -1,7 +1,6 @@
 -- failed_package_claims: the claims of a connection in the table, in rows and in lists of hashes; keys listed behind others.
-use Rattle.std.specs.Prelude.{ℕ, ◌+◌, ◌*◌, ◌≤◌, ◌⊎◌, ◌≡◌, Bool, true, false, not, ◌&&◌, List, [], ◌∷◌, ◌++◌, map, eqb, length, take, drop}
+use Rattle.std.specs.Prelude.{ℕ, ◌+◌, ◌*◌, ◌≤◌, ◌⊎◌, ◌≡◌, Bool, true, false, not, ◌&&◌, List, [], ◌∷◌, ◌++◌, map, eqb, length, take, drop, if◌then◌else◌}
 use Rattle.std.proofs.Math.Option.{Option, none, some}
-use Rattle.ident.specs.If.{if◌then◌else◌}
 use Rattle.ident.specs.Number.{Key, Item, wtxid}
 use Rattle.regions.specs.declared.Row.{Row}
 use Rattle.machine.specs.Limits.{Limits, max_in_flight, max_parents, msg_pkg_txns}

@@ -1,8 +1,7 @@
 -- What the arguments of an exported call stand for.
-use Rattle.std.specs.Prelude.{ℕ, Bool, List, eqb}
+use Rattle.std.specs.Prelude.{ℕ, Bool, List, eqb, if◌then◌else◌}
 use Rattle.ident.specs.declared.Kind.{Kind}
 use Rattle.ident.specs.declared.Kind.TheVariants.{Txid, Wtxid}
-use Rattle.ident.specs.If.{if◌then◌else◌}
 use Rattle.ident.specs.Number.{Key, item_kind_of}
 use Rattle.words.specs.Words.{number}
 use Rattle.machine.specs.State.{Candidate}

@@ -9,7 +9,7 @@ use lib.Dec.{ltb}
 use lib.ListN.{length, take, drop, set, get_or, length-append}
 use lib.Seq.{take_all, take_at, take-append-le, take-suc, take-suc-set}
 use borrow.Author.Tests.{ltb-false, lt-ltb, le-ltb, eq-eqb, ne_eqb}
-use Rattle.ident.specs.If.{if◌then◌else◌}
+use Rattle.std.specs.Prelude.{if◌then◌else◌}
 use Rattle.words.specs.Words.{splice}
 use Rattle.lines.specs.Text.{Wrote}
 use Rattle.events.specs.declared.input.Kept.{Kept}

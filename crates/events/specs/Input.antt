@@ -1,7 +1,6 @@
 -- Standard input, a byte at a time (docs/EVENTS.md): its lines, what each answers, and the store.
-use Rattle.std.specs.Prelude.{ℕ, min, ◌≡◌, Bool, true, false, List, [], ◌∷◌, ◌++◌, eqb, ltb, length, take}
+use Rattle.std.specs.Prelude.{ℕ, min, ◌≡◌, Bool, true, false, List, [], ◌∷◌, ◌++◌, eqb, ltb, length, take, if◌then◌else◌}
 use Rattle.std.proofs.Math.Option.{Option, none, some}
-use Rattle.ident.specs.If.{if◌then◌else◌}
 use Rattle.words.specs.Words.{Decides}
 use Rattle.machine.specs.Call.{Call}
 use Rattle.store.specs.Image.{SoundStore}

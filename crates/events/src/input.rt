@@ -1,7 +1,6 @@
 // Standard input parted into lines. A line is counted without its line feed; the last one may lack it.
-ghost use Rattle.std.specs.Prelude.{◌≤◌, length, ◌≡◌};
+ghost use Rattle.std.specs.Prelude.{◌≤◌, length, ◌≡◌, if◌then◌else◌};
 ghost use Rattle.std.proofs.Math.Option.{none};
-ghost use Rattle.ident.specs.If.{if◌then◌else◌};
 ghost use Rattle.asking.specs.Calls.{line_of};
 ghost use Rattle.printing.specs.Given.{line_room, answer_room};
 ghost use Rattle.printing.specs.Kept.{no_lists};

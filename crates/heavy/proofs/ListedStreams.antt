@@ -4,7 +4,7 @@ use mathlib.Core.Path.{◌≡◌, refl, ap, ◌∙◌}
 use mathlib.Core.Bool.{Bool, true, false}
 use mathlib.Core.List.{List, [], ◌∷◌, ◌++◌}
 use mathlib.Core.Option.{Option, none, some}
-use Rattle.ident.specs.If.{if◌then◌else◌}
+use Rattle.std.specs.Prelude.{if◌then◌else◌}
 use Rattle.machine.specs.State.{Candidate, Request, with_candidates, is_some}
 use Rattle.machine.specs.Listing.{Line, HeadLine, RequestLine, CandidateLine, Rest, falls, candidate_then, request_then, rest_of}
 use Rattle.machine.proofs.Tests.{never}

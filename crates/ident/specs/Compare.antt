@@ -1,10 +1,9 @@
 -- The order of two numbers as the code answers it.
-use Rattle.std.specs.Prelude.{ℕ, ltb}
+use Rattle.std.specs.Prelude.{ℕ, ltb, if◌then◌else◌}
 use Rattle.ident.specs.declared.Kind.{Kind}
 use Rattle.ident.specs.declared.Kind.TheVariants.{Txid, Wtxid}
 use Rattle.ident.specs.declared.Order.{Order}
 use Rattle.ident.specs.declared.Order.TheVariants.{Less, Equal, Greater}
-use Rattle.ident.specs.If.{if◌then◌else◌}
 
 abbrev pub order_of : ℕ → ℕ → Order
 order_of m n = if ltb m n then Less else if ltb n m then Greater else Equal

@@ -1,4 +1,3 @@
-pub mod If
 pub mod Number
 pub mod Words
 pub mod Compare

@@ -11,7 +11,7 @@ use lib.Dec.{leb, eqb}
 use lib.ListN.{length}
 use Rattle.ident.specs.declared.Kind.{Kind}
 use Rattle.ident.specs.declared.Kind.TheVariants.{Txid, Wtxid}
-use Rattle.ident.specs.If.{if◌then◌else◌}
+use Rattle.std.specs.Prelude.{if◌then◌else◌}
 use Rattle.ident.specs.Number.{Key, place, other, top, txid, wtxid}
 use Rattle.machine.specs.Limits.{Limits, max_peer_announcements, word}
 use Rattle.machine.specs.State.{Candidate, Owner, Package, Request, Table, Entry, Answer, marked, unowned, owner_is, is_some}

@@ -1,8 +1,7 @@
 -- Items of an inventory in lent bytes, and the priorities beside them (document 01, "Wrappers' tracker part").
-use Rattle.std.specs.Prelude.{ℕ, ◌%◌, ◌/◌, ◌^◌, List, [], ◌∷◌, ltb, length, take, drop}
+use Rattle.std.specs.Prelude.{ℕ, ◌%◌, ◌/◌, ◌^◌, List, [], ◌∷◌, ltb, length, take, drop, if◌then◌else◌}
 use Rattle.ident.specs.declared.ItemKind.{ItemKind}
 use Rattle.ident.specs.declared.ItemKind.TheVariants.{Other}
-use Rattle.ident.specs.If.{if◌then◌else◌}
 use Rattle.ident.specs.Number.{Item, item_kind_of}
 use Rattle.words.specs.Words.{number, recs, words}
 use Rattle.machine.specs.Wrapper.{Offer}

@@ -1,8 +1,7 @@
 -- Lists in lent bytes: hashes given to a call, keys written to its answer buffer (document 01, "Buffer needs in entries").
-use Rattle.std.specs.Prelude.{ℕ, ◌/◌, List, length, take, drop, eqb}
+use Rattle.std.specs.Prelude.{ℕ, ◌/◌, List, length, take, drop, eqb, if◌then◌else◌}
 use Rattle.ident.specs.declared.Kind.{Kind}
 use Rattle.ident.specs.declared.Kind.TheVariants.{Txid, Wtxid}
-use Rattle.ident.specs.If.{if◌then◌else◌}
 use Rattle.ident.specs.Number.{Key}
 use Rattle.ident.specs.Words.{hash_bytes}
 use Rattle.words.specs.Words.{number, recs}

@@ -12,7 +12,7 @@ use borrow.Author.Tests.{eq-eqb, ne_eqb}
 use Rattle.ident.specs.declared.Kind.{Kind}
 use Rattle.ident.specs.declared.ItemKind.{ItemKind}
 use Rattle.ident.specs.declared.ItemKind.TheVariants.{Other}
-use Rattle.ident.specs.If.{if◌then◌else◌}
+use Rattle.std.specs.Prelude.{if◌then◌else◌}
 use Rattle.ident.specs.Number.{is_plain}
 use Rattle.machine.specs.Fields.{bool_of, kind_of, key_with, key_of, before, behind, item_with, letter_kind, other_kind, other_of, item_of, hash_of, type_of}
 use Rattle.lines.proofs.Scans.{scan-empty}

@@ -8,7 +8,7 @@ use lib.Dec.{eqb, ltb, leb, leb-suc-suc}
 use lib.ListN.{length, take, drop, length-drop}
 use lib.Seq.{drop-drop}
 use borrow.Author.Tests.{leb-true, leb-false, le-leb, lt-leb, eqb-true, eqb-false, lt-ltb, le-ltb}
-use Rattle.ident.specs.If.{if◌then◌else◌}
+use Rattle.std.specs.Prelude.{if◌then◌else◌}
 use Rattle.machine.proofs.Tests.{test}
 use Rattle.machine.specs.Fields.{before, behind, push, fields, rest}
 use Rattle.machine.proofs.Parting.{take-before, before-nil, before-skip, before-met, behind-skip, behind-met}

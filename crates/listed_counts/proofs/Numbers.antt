@@ -9,7 +9,7 @@ use native.Mathlib.Omega.{arith}
 use lib.Dec.{ltb}
 use lib.ListN.{length}
 use borrow.Author.Tests.{ltb-true, ltb-false, not-true, not-false}
-use Rattle.ident.specs.If.{if◌then◌else◌}
+use Rattle.std.specs.Prelude.{if◌then◌else◌}
 use Rattle.machine.proofs.Tests.{test}
 use Rattle.lines.specs.declared.read.MaybeNumber.{MaybeNumber}
 use Rattle.lines.specs.declared.read.MaybeNumber.TheVariants.{Not as NoNumber, Is as IsNumber}

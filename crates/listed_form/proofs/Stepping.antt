@@ -5,7 +5,7 @@ use mathlib.Core.Bool.{Bool, true, false}
 use mathlib.Core.List.{List, [], ◌∷◌}
 use mathlib.Core.Option.{Option, none, some}
 use lib.ListN.{length, drop, drop_of_length-le}
-use Rattle.ident.specs.If.{if◌then◌else◌}
+use Rattle.std.specs.Prelude.{if◌then◌else◌}
 use Rattle.machine.specs.State.{Candidate, Request, Table, State, with_candidates, is_some}
 use Rattle.machine.specs.Listing.{Line, HeadLine, RequestLine, CandidateLine, Rest, falls, candidate_then, request_then, rest_of, one_more, text_lines, lines_in}
 use Rattle.machine.proofs.Tests.{never}

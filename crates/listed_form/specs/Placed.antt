@@ -1,7 +1,6 @@
 -- Whether the lines behind a listing's first line are placed and their keys do not fall, as a scan from the first of them on.
-use Rattle.std.specs.Prelude.{Bool, true, false, List, [], ◌∷◌, ltb}
+use Rattle.std.specs.Prelude.{Bool, true, false, List, [], ◌∷◌, ltb, if◌then◌else◌}
 use Rattle.std.proofs.Math.Option.{Option, none, some}
-use Rattle.ident.specs.If.{if◌then◌else◌}
 use Rattle.ident.specs.Number.{Key, place}
 use Rattle.machine.specs.Listing.{Line, HeadLine, RequestLine, CandidateLine}
 

@@ -9,7 +9,7 @@ use native.Mathlib.Omega.{arith}
 use lib.Dec.{eqb}
 use borrow.Author.Tests.{eq-eqb}
 use Rattle.ident.specs.declared.ItemKind.TheVariants.{Transaction}
-use Rattle.ident.specs.If.{if◌then◌else◌}
+use Rattle.std.specs.Prelude.{if◌then◌else◌}
 use Rattle.ident.specs.Number.{Key, Item}
 use Rattle.machine.specs.State.{Candidate, is_some}
 use Rattle.machine.specs.Call.{Announce, Forget, On}

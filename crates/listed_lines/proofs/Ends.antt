@@ -10,7 +10,7 @@ use lib.Dec.{eqb}
 use lib.ListN.{length, take, drop, length-drop}
 use lib.Seq.{drop-drop}
 use borrow.Author.Tests.{eqb-true, eqb-false, ne_eqb}
-use Rattle.ident.specs.If.{if◌then◌else◌}
+use Rattle.std.specs.Prelude.{if◌then◌else◌}
 use Rattle.machine.specs.Fields.{before, behind, fields}
 use Rattle.machine.specs.Listing.{Line, short, head_of, request_of, candidate_of, line_of, new_line, in_line, text_lines, one_more, lines_in, lines_from}
 use Rattle.machine.proofs.Tests.{test}

@@ -6,7 +6,7 @@ use mathlib.Core.List.{List, [], ◌∷◌}
 use mathlib.Core.Option.{Option, none, some}
 use native.Mathlib.Omega.{arith}
 use lib.ListN.{length, take, drop}
-use Rattle.ident.specs.If.{if◌then◌else◌}
+use Rattle.std.specs.Prelude.{if◌then◌else◌}
 use Rattle.machine.specs.Fields.{before, same_text, rest, with_value, taking}
 use Rattle.machine.specs.Listing.{Line, none_text, present, maybe_in, none_or}
 use Rattle.lines.proofs.Splitting.{rest_field, rest_past}

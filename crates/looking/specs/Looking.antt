@@ -1,7 +1,6 @@
 -- What the contracts of the next look say: what the rows from here on have come to.
-use Rattle.std.specs.Prelude.{ℕ, ◌≡◌, List, [], ◌∷◌}
+use Rattle.std.specs.Prelude.{ℕ, ◌≡◌, List, [], ◌∷◌, if◌then◌else◌}
 use Rattle.std.proofs.Math.Option.{Option, none, some}
-use Rattle.ident.specs.If.{if◌then◌else◌}
 use Rattle.machine.specs.State.{Candidate, Owner, Table}
 use Rattle.machine.specs.Later.{least_later, ready_times, next_look, time_of}
 use Rattle.looking.specs.declared.Look.{Look}

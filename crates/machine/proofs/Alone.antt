@@ -10,7 +10,7 @@ use lib.Dec.{leb, eqb}
 use lib.ListN.{length, length-append}
 use borrow.Author.Tests.{eqb-true, eqb-false}
 use Rattle.ident.specs.declared.Kind.{Kind}
-use Rattle.ident.specs.If.{if◌then◌else◌}
+use Rattle.std.specs.Prelude.{if◌then◌else◌}
 use Rattle.ident.specs.Number.{Key, place, other, top, txid}
 use Rattle.ident.proofs.Places.{place_same as place-inj}
 use Rattle.machine.specs.Limits.{Limits, max_peer_announcements, word}

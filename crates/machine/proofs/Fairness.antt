@@ -11,7 +11,7 @@ use native.Mathlib.Nat.{suc-mul, div-lt_iff_lt-mul}
 use lib.Dec.{ltb, leb, eqb}
 use lib.ListN.{length, take, length-append}
 use borrow.Author.Tests.{ltb-true, ltb-false, eqb-true, lt-ltb, le-ltb, lt-leb, le-leb}
-use Rattle.ident.specs.If.{if◌then◌else◌}
+use Rattle.std.specs.Prelude.{if◌then◌else◌}
 use Rattle.ident.specs.Number.{top, Key, place}
 use Rattle.machine.specs.Sweep.{only, round, last_of}
 use Rattle.machine.specs.Demand3.{mem, less, unique, flat}

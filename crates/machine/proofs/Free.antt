@@ -9,7 +9,7 @@ use native.Mathlib.Omega.{arith}
 use lib.Dec.{ltb, leb}
 use lib.ListN.{length, length-append}
 use borrow.Author.Tests.{leb-true, leb-false, lt-ltb}
-use Rattle.ident.specs.If.{if◌then◌else◌}
+use Rattle.std.specs.Prelude.{if◌then◌else◌}
 use Rattle.ident.specs.Number.{Key, key_of}
 use Rattle.machine.specs.Limits.{Limits, max_peer_announcements}
 use Rattle.machine.specs.State.{Candidate, Request, Table, State, Entry, Answer, refused, done, limits_of, owner_is}

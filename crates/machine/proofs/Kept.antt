@@ -9,7 +9,7 @@ use native.Mathlib.Omega.{arith}
 use lib.Dec.{ltb, leb, eqb}
 use lib.ListN.{length}
 use borrow.Author.Tests.{ltb-false, leb-true, leb-false, eqb-true, eqb-false}
-use Rattle.ident.specs.If.{if◌then◌else◌}
+use Rattle.std.specs.Prelude.{if◌then◌else◌}
 use Rattle.ident.specs.Number.{Key}
 use Rattle.machine.specs.Limits.{Limits, max_announcements, max_places, max_parents, request_lifetime, latest_clock, word}
 use Rattle.machine.specs.State.{Table, State, limits_of, on_table}

@@ -9,7 +9,7 @@ use native.Mathlib.Omega.{arith}
 use lib.Dec.{ltb, eqb}
 use lib.ListN.{length, length-append, length-map}
 use borrow.Author.Tests.{ltb-true, ltb-false, eqb-false, ne_eqb}
-use Rattle.ident.specs.If.{if◌then◌else◌}
+use Rattle.std.specs.Prelude.{if◌then◌else◌}
 use Rattle.ident.specs.Number.{Key, place, top, txid}
 use Rattle.machine.specs.Limits.{Limits, max_peer_announcements, max_parents, word}
 use Rattle.machine.specs.State.{Candidate, Owner, Request, Table, owner_is, is_some}

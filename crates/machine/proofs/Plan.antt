@@ -7,7 +7,7 @@ use mathlib.Core.Option.{Option, none, some}
 use lib.Dec.{ltb, leb}
 use lib.ListN.{length, take}
 use borrow.Author.Tests.{eq-eqb}
-use Rattle.ident.specs.If.{if◌then◌else◌}
+use Rattle.std.specs.Prelude.{if◌then◌else◌}
 use Rattle.ident.specs.Number.{top, Key, place, txid}
 use Rattle.machine.specs.Limits.{Limits, max_known_checks, max_request_checks, word}
 use Rattle.machine.specs.State.{Owner, Table, State, limits_of, owner_is}

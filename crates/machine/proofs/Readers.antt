@@ -8,7 +8,7 @@ use mathlib.Core.Option.{Option, none, some}
 use native.Mathlib.Omega.{arith}
 use lib.Dec.{eqb}
 use borrow.Author.Tests.{eqb-true}
-use Rattle.ident.specs.If.{if◌then◌else◌}
+use Rattle.std.specs.Prelude.{if◌then◌else◌}
 use Rattle.machine.specs.Fields.{with_value, taking, ending, same_text}
 use Rattle.machine.specs.Listing.{none_text, maybe_field, present, maybe_in, maybe_fields, none_or, Whenever}
 use Rattle.machine.proofs.Tests.{test, never, and_left, and_right}

@@ -9,7 +9,7 @@ use native.Mathlib.Omega.{arith}
 use lib.Dec.{ltb, leb, eqb}
 use lib.ListN.{length}
 use borrow.Author.Tests.{ltb-true, ltb-false, eqb-true, eqb-false, lt-ltb, le-ltb, eq-eqb, ne_eqb}
-use Rattle.ident.specs.If.{if◌then◌else◌}
+use Rattle.std.specs.Prelude.{if◌then◌else◌}
 use Rattle.ident.specs.Number.{top, Key, place, other}
 use Rattle.ident.proofs.Places.{place_same as place-inj}
 use Rattle.machine.specs.State.{Candidate, Owner, Request, Table, blank}

@@ -1,7 +1,6 @@
 -- The request machine: announce and request_parent.
-use Rattle.std.specs.Prelude.{ℕ, Bool, true, false, ◌||◌, List, [], ◌∷◌, ◌++◌, ltb, leb, eqb}
+use Rattle.std.specs.Prelude.{ℕ, Bool, true, false, ◌||◌, List, [], ◌∷◌, ◌++◌, ltb, leb, eqb, if◌then◌else◌}
 use Rattle.std.proofs.Math.Option.{Option, none, some}
-use Rattle.ident.specs.If.{if◌then◌else◌}
 use Rattle.ident.specs.Number.{Key, place, other, key_of}
 use Rattle.machine.specs.Limits.{Limits, max_peer_announcements}
 use Rattle.machine.specs.State.{Candidate, Request, Table, Entry, Answer, refused, done, with_candidates, adopting, owner_is}

@@ -1,7 +1,6 @@
 -- The calls, what each names, and the refusals (document 01, "Refusals and replies", "Buffer needs in entries").
-use Rattle.std.specs.Prelude.{ℕ, ◌+◌, ◌*◌, min, Bool, false, not, ◌&&◌, ◌||◌, List, [], ◌∷◌, ltb, leb, eqb, length}
+use Rattle.std.specs.Prelude.{ℕ, ◌+◌, ◌*◌, min, Bool, false, not, ◌&&◌, ◌||◌, List, [], ◌∷◌, ltb, leb, eqb, length, if◌then◌else◌}
 use Rattle.std.proofs.Math.Option.{Option, none, some}
-use Rattle.ident.specs.If.{if◌then◌else◌}
 use Rattle.ident.specs.Number.{Key, Item}
 use Rattle.machine.specs.Limits.{need, max_announcements, max_places, max_peer_announcements, max_known_checks, max_request_checks, max_parents, max_asked_hashes, latest_clock}
 use Rattle.machine.specs.State.{Candidate, State, limits_of, Entry}

@@ -1,6 +1,5 @@
 -- Demand 1: a call within the limits is carried out, any other is refused by number, and nothing is lost (document 01, "Refusals and replies").
-use Rattle.std.specs.Prelude.{ℕ, suc, ◌≤◌, ◌<◌, ◌≡◌, ◌⊎◌, Bool, true, false, List, [], ◌∷◌, eqb, length}
-use Rattle.ident.specs.If.{if◌then◌else◌}
+use Rattle.std.specs.Prelude.{ℕ, suc, ◌≤◌, ◌<◌, ◌≡◌, ◌⊎◌, Bool, true, false, List, [], ◌∷◌, eqb, length, if◌then◌else◌}
 use Rattle.machine.specs.Limits.{need, max_announcements, max_places, max_parents, max_asked_hashes, latest_clock}
 use Rattle.machine.specs.State.{State, limits_of}
 use Rattle.machine.specs.Table.{places_held}

@@ -1,6 +1,5 @@
 -- Demand 3: one claim about a whole list of calls (document 01, "Demand 3 is one claim about a whole list").
-use Rattle.std.specs.Prelude.{ℕ, ◌+◌, ◌-◌, ◌/◌, ◌≤◌, ◌<◌, ◌≡◌, Bool, true, false, ◌||◌, List, [], ◌∷◌, ◌++◌, map, eqb, length}
-use Rattle.ident.specs.If.{if◌then◌else◌}
+use Rattle.std.specs.Prelude.{ℕ, ◌+◌, ◌-◌, ◌/◌, ◌≤◌, ◌<◌, ◌≡◌, Bool, true, false, ◌||◌, List, [], ◌∷◌, ◌++◌, map, eqb, length, if◌then◌else◌}
 use Rattle.ident.specs.Number.{Key, place}
 use Rattle.machine.specs.Limits.{max_alternates, max_peer_announcements, max_in_flight, max_known_checks}
 use Rattle.machine.specs.State.{Request, State}

@@ -1,8 +1,7 @@
 -- The request machine: failed, unclaim, forget, announce_parents.
-use Rattle.std.specs.Prelude.{ℕ, suc, Bool, true, false, not, ◌&&◌, ◌||◌, List, [], ◌∷◌, map, eqb}
+use Rattle.std.specs.Prelude.{ℕ, suc, Bool, true, false, not, ◌&&◌, ◌||◌, List, [], ◌∷◌, map, eqb, if◌then◌else◌}
 use Rattle.std.proofs.Math.Option.{Option, none, some}
 use Rattle.ident.specs.declared.ItemKind.TheVariants.{Transaction}
-use Rattle.ident.specs.If.{if◌then◌else◌}
 use Rattle.ident.specs.Number.{Key, Item, txid, other}
 use Rattle.machine.specs.Limits.{Limits}
 use Rattle.machine.specs.State.{Candidate, Owner, Package, Request, Table, Answer, refused, done, blank, with_candidates, unowned, marked, ready_at, owner_is, enqueued_in, is_some}

@@ -1,7 +1,6 @@
 -- The request machine: when to look again (document 02, request c).
-use Rattle.std.specs.Prelude.{ℕ, zero, suc, min, Bool, false, ◌||◌, List, [], ◌∷◌, ◌++◌, map, ltb, leb}
+use Rattle.std.specs.Prelude.{ℕ, zero, suc, min, Bool, false, ◌||◌, List, [], ◌∷◌, ◌++◌, map, ltb, leb, if◌then◌else◌}
 use Rattle.std.proofs.Math.Option.{Option, none, some}
-use Rattle.ident.specs.If.{if◌then◌else◌}
 use Rattle.ident.specs.Number.{Key, txid, wtxid}
 use Rattle.machine.specs.State.{Candidate, Owner, Request, Table}
 use Rattle.machine.specs.Table.{at}

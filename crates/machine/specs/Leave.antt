@@ -1,7 +1,6 @@
 -- The request machine: forget_known and disconnected.
-use Rattle.std.specs.Prelude.{ℕ, Bool, true, false, ◌&&◌, ◌||◌, List, [], ◌∷◌, ◌++◌, ltb, eqb}
+use Rattle.std.specs.Prelude.{ℕ, Bool, true, false, ◌&&◌, ◌||◌, List, [], ◌∷◌, ◌++◌, ltb, eqb, if◌then◌else◌}
 use Rattle.std.proofs.Math.Option.{Option, none, some}
-use Rattle.ident.specs.If.{if◌then◌else◌}
 use Rattle.ident.specs.Number.{Key, place}
 use Rattle.machine.specs.Limits.{Limits}
 use Rattle.machine.specs.State.{Candidate, Owner, Request, Table, owner_is, enqueued_in, is_some}

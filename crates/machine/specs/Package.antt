@@ -1,8 +1,7 @@
 -- The request machine: packages.
-use Rattle.std.specs.Prelude.{ℕ, ◌+◌, suc, Bool, true, false, not, ◌&&◌, ◌||◌, List, [], ◌∷◌, ◌++◌, map, ltb, leb, eqb, length}
+use Rattle.std.specs.Prelude.{ℕ, ◌+◌, suc, Bool, true, false, not, ◌&&◌, ◌||◌, List, [], ◌∷◌, ◌++◌, map, ltb, leb, eqb, length, if◌then◌else◌}
 use Rattle.std.proofs.Math.Option.{Option, none, some}
 use Rattle.ident.specs.declared.ItemKind.TheVariants.{WTx}
-use Rattle.ident.specs.If.{if◌then◌else◌}
 use Rattle.ident.specs.Number.{Key, other, wtxid}
 use Rattle.machine.specs.Limits.{Limits, max_in_flight, max_wtxids, request_lifetime}
 use Rattle.machine.specs.State.{Candidate, Owner, Package, Request, Table, Answer, refused, done, owner_is, enqueued_in, is_some, is_none}

@@ -1,7 +1,6 @@
 -- The request machine: plan.
-use Rattle.std.specs.Prelude.{ℕ, ◌+◌, suc, Bool, true, false, not, ◌&&◌, List, [], ◌∷◌, ◌++◌, ltb, leb, eqb, length}
+use Rattle.std.specs.Prelude.{ℕ, ◌+◌, suc, Bool, true, false, not, ◌&&◌, List, [], ◌∷◌, ◌++◌, ltb, leb, eqb, length, if◌then◌else◌}
 use Rattle.std.proofs.Math.Option.{Option, none, some}
-use Rattle.ident.specs.If.{if◌then◌else◌}
 use Rattle.ident.specs.Number.{Key, txid, wtxid}
 use Rattle.machine.specs.Limits.{Limits, max_in_flight, max_request_checks}
 use Rattle.machine.specs.State.{Candidate, Owner, Request, Table, State, limits_of, Entry, on_table, with_ready_cursor, is_none}

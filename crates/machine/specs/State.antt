@@ -1,7 +1,6 @@
 -- What a state holds (document 01, "What a state holds").
-use Rattle.std.specs.Prelude.{ℕ, min, Bool, true, false, List, [], eqb}
+use Rattle.std.specs.Prelude.{ℕ, min, Bool, true, false, List, [], eqb, if◌then◌else◌}
 use Rattle.std.proofs.Math.Option.{Option, none, some}
-use Rattle.ident.specs.If.{if◌then◌else◌}
 use Rattle.ident.specs.Number.{Key, Item}
 use Rattle.machine.specs.Limits.{Limits, max_alternates}
 

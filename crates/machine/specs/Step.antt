@@ -1,9 +1,8 @@
 -- What a call does: reply, answer buffer, next state.
-use Rattle.std.specs.Prelude.{ℕ, suc, Bool, true, false, List, [], ◌∷◌, ◌++◌, eqb, length, drop}
+use Rattle.std.specs.Prelude.{ℕ, suc, Bool, true, false, List, [], ◌∷◌, ◌++◌, eqb, length, drop, if◌then◌else◌}
 use Rattle.std.proofs.Math.Option.{Option, none, some}
 use Rattle.ident.specs.declared.Kind.{Kind}
 use Rattle.ident.specs.declared.Kind.TheVariants.{Txid, Wtxid}
-use Rattle.ident.specs.If.{if◌then◌else◌}
 use Rattle.ident.specs.Number.{Key, type_of}
 use Rattle.words.specs.Words.{digits, bytes_of}
 use Rattle.machine.specs.State.{Candidate, State, limits_of, Entry, Answer, on_table, with_next_poll, with_known_cursor}

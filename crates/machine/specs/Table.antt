@@ -1,7 +1,6 @@
 -- The ordered table of requests: what stands at a key, how it is changed there, and counts over it.
-use Rattle.std.specs.Prelude.{ℕ, ◌+◌, Bool, true, false, not, ◌&&◌, ◌||◌, List, [], ◌∷◌, ◌++◌, map, ltb, leb, eqb}
+use Rattle.std.specs.Prelude.{ℕ, ◌+◌, Bool, true, false, not, ◌&&◌, ◌||◌, List, [], ◌∷◌, ◌++◌, map, ltb, leb, eqb, if◌then◌else◌}
 use Rattle.std.proofs.Math.Option.{Option, none, some}
-use Rattle.ident.specs.If.{if◌then◌else◌}
 use Rattle.ident.specs.Number.{Key, place}
 use Rattle.machine.specs.State.{Candidate, Owner, Package, Request, Table, blank, owner_is}
 

@@ -1,6 +1,5 @@
 -- What a public call leaves: reply, answer buffer and store, one definition for all calls.
-use Rattle.std.specs.Prelude.{ℕ, Bool, true, false, ◌≡◌, List, [], eqb, length}
-use Rattle.ident.specs.If.{if◌then◌else◌}
+use Rattle.std.specs.Prelude.{ℕ, Bool, true, false, ◌≡◌, List, [], eqb, length, if◌then◌else◌}
 use Rattle.words.specs.Words.{words, Decides}
 use Rattle.machine.specs.Call.{Buffer, Call, Open, Restore, On, refusal}
 use Rattle.machine.specs.Step.{Reply, Outcome, step_if}

@@ -1,6 +1,5 @@
 -- The tests of document 01's table that calls share, each by itself: its number, or 0 if it has nothing against the call.
-use Rattle.std.specs.Prelude.{ℕ, zero, suc, Bool, ◌&&◌, List, ltb, leb}
-use Rattle.ident.specs.If.{if◌then◌else◌}
+use Rattle.std.specs.Prelude.{ℕ, zero, suc, Bool, ◌&&◌, List, ltb, leb, if◌then◌else◌}
 use Rattle.machine.specs.Limits.{max_parents}
 use Rattle.machine.specs.Claim.{elem}
 use Rattle.machine.specs.Call.{any_late, wrong_hashes}

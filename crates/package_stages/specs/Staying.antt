@@ -1,6 +1,5 @@
 -- Records taken out of a region in one pass, whatever the records: those that pass a test q stay, in their order.
-use Rattle.std.specs.Prelude.{ℕ, ◌+◌, ◌≤◌, ◌<◌, ◌≡◌, Bool, List, [], ◌∷◌, length, get_or, set}
-use Rattle.ident.specs.If.{if◌then◌else◌}
+use Rattle.std.specs.Prelude.{ℕ, ◌+◌, ◌≤◌, ◌<◌, ◌≡◌, Bool, List, [], ◌∷◌, length, get_or, set, if◌then◌else◌}
 use Rattle.regions.specs.Regions.{Holds}
 use Rattle.machine.specs.Table.{one}
 

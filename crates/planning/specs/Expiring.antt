@@ -1,6 +1,5 @@
 -- What the contracts of a plan's expired owners say.
-use Rattle.std.specs.Prelude.{ℕ, suc, ◌≤◌, ◌<◌, ◌≡◌, true, false, List, [], ◌∷◌, ◌++◌, leb, length, get_or, drop}
-use Rattle.ident.specs.If.{if◌then◌else◌}
+use Rattle.std.specs.Prelude.{ℕ, suc, ◌≤◌, ◌<◌, ◌≡◌, true, false, List, [], ◌∷◌, ◌++◌, leb, length, get_or, drop, if◌then◌else◌}
 use Rattle.ident.specs.Number.{top, Key, place}
 use Rattle.ident.specs.Words.{key_num}
 use Rattle.regions.specs.declared.Row.{Row}

@@ -6,7 +6,7 @@ use mathlib.Core.List.{List, ◌++◌}
 use native.Mathlib.Omega.{arith}
 use lib.Dec.{eqb}
 use lib.ListN.{length, drop, length-append}
-use Rattle.ident.specs.If.{if◌then◌else◌}
+use Rattle.std.specs.Prelude.{if◌then◌else◌}
 use Rattle.words.specs.Words.{words}
 use Rattle.machine.specs.State.{State}
 use Rattle.machine.specs.Call.{Buffer, key_bytes, owner_bytes, Ask, On, named, ask_refusal, refusal}

@@ -1,7 +1,6 @@
 -- What the step on one line says of the store, of the kept lists and of its answer.
-use Rattle.std.specs.Prelude.{ℕ, ◌≡◌, Bool, not, List, eqb}
+use Rattle.std.specs.Prelude.{ℕ, ◌≡◌, Bool, not, List, eqb, if◌then◌else◌}
 use Rattle.std.proofs.Math.Option.{Option, none, some}
-use Rattle.ident.specs.If.{if◌then◌else◌}
 use Rattle.words.specs.Words.{Decides}
 use Rattle.machine.specs.State.{Entry}
 use Rattle.machine.specs.Call.{Call}

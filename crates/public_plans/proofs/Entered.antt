@@ -10,7 +10,7 @@ use lib.Seq.{take_at, drop_at, drop-drop, length-take-le}
 use Rattle.ident.specs.declared.Kind.{Kind}
 use Rattle.ident.specs.declared.Kind.TheVariants.{Txid, Wtxid}
 use Rattle.ident.specs.declared.ItemKind.{ItemKind}
-use Rattle.ident.specs.If.{if◌then◌else◌}
+use Rattle.std.specs.Prelude.{if◌then◌else◌}
 use Rattle.ident.specs.Number.{top, type_of, item_kind_of, is_plain}
 use Rattle.ident.proofs.TypeNumbers.{kind-plain, type-kind, kind-type}
 use Rattle.words.specs.Words.{number, digits, words, bytes_of}

@@ -9,7 +9,7 @@ use lib.Dec.{eqb, leb, lit<}
 use lib.ListN.{length, take, drop}
 use Rattle.ident.specs.declared.ItemKind.{ItemKind}
 use Rattle.ident.specs.declared.ItemKind.TheVariants.{Transaction, WitnessTransaction, WTx, Other}
-use Rattle.ident.specs.If.{if◌then◌else◌}
+use Rattle.std.specs.Prelude.{if◌then◌else◌}
 use Rattle.ident.specs.Number.{Key, txid, wtxid, key_of, kind_of, key_as, type_of, is_plain, top}
 use Rattle.machine.specs.Limits.{Limits, max_request_checks, word}
 use Rattle.machine.specs.State.{Candidate, Entry, Table, State, is_none, limits_of}

@@ -1,7 +1,6 @@
 // Forms: the fields of a line in their order, a letter each. k: key, i: item, h: hash, m: combined hash, c: connection, n: now, r: ready,
 // q: priority, p: preferred, s: whether a wtxid source exists.
-ghost use Rattle.std.specs.Prelude.{◌≡◌, eqb};
-ghost use Rattle.ident.specs.If.{if◌then◌else◌};
+ghost use Rattle.std.specs.Prelude.{◌≡◌, eqb, if◌then◌else◌};
 ghost use Rattle.regions.specs.Rows.{quad_number};
 ghost use Rattle.reading.specs.Forms.{blank, put_key, put_item, put_hash, put_number, put_bool, is_hash, is_bool};
 ghost use Rattle.reading.specs.Given.{values_of, PlainTaken, FieldTaken, FormRead, WholeRead};

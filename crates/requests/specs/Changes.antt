@@ -1,10 +1,9 @@
 -- What the contracts of the changes of one request say.
-use Rattle.std.specs.Prelude.{ℕ, ◌+◌, ◌/◌, ◌%◌, ◌≤◌, ◌<◌, ◌≡◌, Bool, true, false, List, ltb, get_or}
+use Rattle.std.specs.Prelude.{ℕ, ◌+◌, ◌/◌, ◌%◌, ◌≤◌, ◌<◌, ◌≡◌, Bool, true, false, List, ltb, get_or, if◌then◌else◌}
 use Rattle.std.proofs.Math.Option.{none}
 use Rattle.ident.specs.declared.Hash.{Hash}
 use Rattle.ident.specs.declared.ItemKind.{ItemKind}
 use Rattle.ident.specs.declared.Key.{Key}
-use Rattle.ident.specs.If.{if◌then◌else◌}
 use Rattle.ident.specs.Number.{top, place}
 use Rattle.ident.specs.Words.{hash_num, key_num, item_num}
 use Rattle.regions.specs.declared.Quad.{Quad}

@@ -1,6 +1,5 @@
 -- What the writers of a listing leave, and how far they go.
-use Rattle.std.specs.Prelude.{ℕ, ◌+◌, ◌*◌, ◌≤◌, ◌≡◌, List, [], ◌∷◌, ◌++◌, map, length, eqb}
-use Rattle.ident.specs.If.{if◌then◌else◌}
+use Rattle.std.specs.Prelude.{ℕ, ◌+◌, ◌*◌, ◌≤◌, ◌≡◌, List, [], ◌∷◌, ◌++◌, map, length, eqb, if◌then◌else◌}
 use Rattle.words.specs.Words.{splice}
 use Rattle.regions.specs.declared.Row.{Row}
 use Rattle.machine.specs.State.{Request, State}

@@ -1,6 +1,5 @@
 -- What the contracts of a phase say: the keys of a list considered one after the other, from any earlier scan on.
-use Rattle.std.specs.Prelude.{ℕ, ◌+◌, ◌≤◌, ◌≡◌, false, List, ◌++◌}
-use Rattle.ident.specs.If.{if◌then◌else◌}
+use Rattle.std.specs.Prelude.{ℕ, ◌+◌, ◌≤◌, ◌≡◌, false, List, ◌++◌, if◌then◌else◌}
 use Rattle.ident.specs.Number.{Key}
 use Rattle.machine.specs.Limits.{max_request_checks}
 use Rattle.machine.specs.State.{State}

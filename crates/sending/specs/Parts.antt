@@ -1,6 +1,5 @@
 -- What the contracts of Sending say of one connection's part of an arranged list.
-use Rattle.std.specs.Prelude.{ℕ, ◌≡◌, List, map, ltb, take, drop}
-use Rattle.ident.specs.If.{if◌then◌else◌}
+use Rattle.std.specs.Prelude.{ℕ, ◌≡◌, List, map, ltb, take, drop, if◌then◌else◌}
 use Rattle.regions.specs.Order.{Sorted}
 use Rattle.machine.specs.Claim.{part_of}
 use Rattle.claiming.specs.declared.Entry.{Entry}

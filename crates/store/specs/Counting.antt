@@ -1,7 +1,6 @@
 -- The tally of connections with one row less, and with a row that comes to own its request or ceases to.
 -- (`bump` of Flat is one row more.)
-use Rattle.std.specs.Prelude.{ℕ, ◌+◌, ◌-◌, List, [], ◌∷◌, eqb}
-use Rattle.ident.specs.If.{if◌then◌else◌}
+use Rattle.std.specs.Prelude.{ℕ, ◌+◌, ◌-◌, List, [], ◌∷◌, eqb, if◌then◌else◌}
 use Rattle.regions.specs.declared.Conn.{Conn}
 
 -- the entry of a connection with one row less, or none

@@ -9,7 +9,7 @@ use native.Mathlib.Omega.{arith}
 use lib.Dec.{ltb, eqb}
 use borrow.Author.Tests.{ltb-true, eq-eqb}
 use Rattle.ident.specs.declared.Kind.{Kind}
-use Rattle.ident.specs.If.{if◌then◌else◌}
+use Rattle.std.specs.Prelude.{if◌then◌else◌}
 use Rattle.ident.specs.Number.{Key, place, wtxid}
 use Rattle.machine.specs.State.{Candidate, Owner, Package, Request, Table, is_some}
 use Rattle.machine.specs.Table.{at, keep, change}

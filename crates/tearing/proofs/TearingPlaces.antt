@@ -9,7 +9,7 @@ use lib.Dec.{leb}
 use lib.ListN.{length, take, drop, get_or, set, length-set, length-append, drop_of_length-le}
 use lib.Seq.{take_all, take-suc, set-get_or}
 use borrow.Author.Tests.{le-leb, lt-leb}
-use Rattle.ident.specs.If.{if◌then◌else◌}
+use Rattle.std.specs.Prelude.{if◌then◌else◌}
 use Rattle.places.specs.declared.Head.{Head}
 use Rattle.places.specs.Places.{Place, head_of, with_stage}
 use Rattle.machine.specs.Limits.{word}

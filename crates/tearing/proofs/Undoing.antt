@@ -9,7 +9,7 @@ use native.Mathlib.Omega.{arith}
 use lib.Dec.{eqb}
 use lib.ListN.{length}
 use borrow.Author.Tests.{eq-eqb}
-use Rattle.ident.specs.If.{if◌then◌else◌}
+use Rattle.std.specs.Prelude.{if◌then◌else◌}
 use Rattle.ident.specs.Number.{top, Key, place, other}
 use Rattle.machine.specs.Limits.{Limits, word}
 use Rattle.machine.specs.State.{Owner, Request, Table, owner_is, is_some}

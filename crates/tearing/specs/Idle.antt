@@ -1,6 +1,5 @@
 -- The tally while rows go: an entry whose last row goes stays, with no row, until all such entries are taken out together.
-use Rattle.std.specs.Prelude.{ℕ, ◌+◌, ◌-◌, ◌≤◌, ◌≡◌, Bool, List, [], ◌∷◌, ltb, eqb, get_or, set}
-use Rattle.ident.specs.If.{if◌then◌else◌}
+use Rattle.std.specs.Prelude.{ℕ, ◌+◌, ◌-◌, ◌≤◌, ◌≡◌, Bool, List, [], ◌∷◌, ltb, eqb, get_or, set, if◌then◌else◌}
 use Rattle.regions.specs.declared.Conn.{Conn}
 use Rattle.machine.specs.Table.{one}
 use Rattle.store.specs.Flat.{Flat}

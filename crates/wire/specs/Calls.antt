@@ -1,7 +1,6 @@
 -- What the two calls on payloads do: reply and answer buffer. They take no store (document 02, request a).
-use Rattle.std.specs.Prelude.{ℕ, ◌*◌, ◌≡◌, List, [], ◌∷◌, ◌++◌, ltb, length}
+use Rattle.std.specs.Prelude.{ℕ, ◌*◌, ◌≡◌, List, [], ◌∷◌, ◌++◌, ltb, length, if◌then◌else◌}
 use Rattle.std.proofs.Math.Option.{Option, none, some}
-use Rattle.ident.specs.If.{if◌then◌else◌}
 use Rattle.ident.specs.Number.{Item, type_of}
 use Rattle.words.specs.Words.{bytes_of, recs}
 use Rattle.machine.specs.Call.{Buffer}

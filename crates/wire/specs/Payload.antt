@@ -1,7 +1,6 @@
 -- Inventory payloads, as inv, getdata and notfound carry them: what one is, how it is read and how it is written (document 02, request a).
-use Rattle.std.specs.Prelude.{ℕ, ◌+◌, ◌*◌, ◌^◌, Bool, true, ◌&&◌, List, [], ◌∷◌, ◌++◌, ltb, leb, eqb, length, take, drop}
+use Rattle.std.specs.Prelude.{ℕ, ◌+◌, ◌*◌, ◌^◌, Bool, true, ◌&&◌, List, [], ◌∷◌, ◌++◌, ltb, leb, eqb, length, take, drop, if◌then◌else◌}
 use Rattle.std.proofs.Math.Option.{Option, none, some}
-use Rattle.ident.specs.If.{if◌then◌else◌}
 use Rattle.ident.specs.Number.{Item, type_of, item_kind_of, is_plain}
 use Rattle.words.specs.Words.{number, digits, recs}
 use Rattle.machine.specs.Step.{hash_bytes}
