@@ -1,5 +1,4 @@
 -- `tallying::fill` meets its contract.
-use Prim.Native.Nat.{◌-◌}
 use native.Mathlib.Omega.{arith}
 use Rattle.tallying.proofs.Filling.{filling_none, filling_shown, filling_row, filling_room, filling_more, filling_done}
 use Rattle.tallying.proofs.fill.Goals as goal

@@ -1,9 +1,6 @@
 -- `tallying::counts::collect` meets its contract.
-use Prim.Native.Nat.{◌-◌}
 use mathlib.Core.Path.{refl, ◌∙◌}
 use native.Mathlib.Omega.{arith}
-use lib.ListN.{length}
-use Rattle.words.specs.Words.{words}
 use Rattle.words.proofs.Words.{length-words}
 use Rattle.tallying.proofs.Tables.{collecting_none, collecting_more, collecting_next, collecting_done}
 use Rattle.tallying.proofs.counts.collect.Goals as goal
