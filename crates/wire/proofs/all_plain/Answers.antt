@@ -1,9 +1,7 @@
 -- `wire::all_plain` meets its contract.
-use Prim.Native.Nat.{◌-◌}
 use mathlib.Core.Path.{refl}
 use native.Mathlib.Numerals.{add-one}
 use native.Mathlib.Omega.{arith}
-use borrow.Author.Tests.{not-true, not-false}
 use Rattle.lent_lists.specs.Items.{items_in}
 use Rattle.wire.proofs.Answers.{plain_broken, plain-passed, plain_all}
 use Rattle.wire.proofs.all_plain.Goals as goal
@@ -16,18 +14,16 @@ item_at-item-requires c = omega (arith, c.items-n.ensures)
 
 pub returns-then-not-is_plain : goal.returns-then-not-is_plain
 returns-then-not-is_plain c =
-    let start : tie.Start invariant-loop decreases-loop = c in
-    plain_broken (items_in start.args.items.now) c.loop-i.i (omega (arith, c.items-n.ensures))
-    c.loop-i.invariant.1 c.item_at-item.ensures c.is_plain.ensures (not-true _ c.if-not-is_plain.true-raw)
+    plain_broken (items_in c.args.items.now) c.loop-i.i (omega (arith, c.items-n.ensures))
+    c.loop-i.invariant.1 c.item_at-item.ensures c.is_plain.ensures c.if-not-is_plain.true
 
 pub loop-i-preserved : goal.loop-i-preserved
-loop-i-preserved c =
-    let start : tie.Start invariant-loop decreases-loop = c in (
-      omega arith,
-      rw add-one (plain-passed (items_in start.args.items.now) c.loop-i.i (omega
-          (arith, c.items-n.ensures)) c.loop-i.invariant.1 c.item_at-item.ensures
-          c.is_plain.ensures (not-false _ c.if-not-is_plain.false-raw)),
-    )
+loop-i-preserved c = (
+  omega arith,
+  rw add-one (plain-passed (items_in c.args.items.now) c.loop-i.i (omega
+      (arith, c.items-n.ensures)) c.loop-i.invariant.1 c.item_at-item.ensures
+      c.is_plain.ensures c.if-not-is_plain.false),
+)
 
 pub returns : goal.returns
 returns c = plain_all (items_in c.args.items.now) c.loop-i.i (omega (arith, c.items-n.ensures)) c.loop-i.invariant.1

@@ -1,5 +1,4 @@
 -- `wire::read_items` meets its contract.
-use Prim.Native.Nat.{◌-◌}
 use mathlib.Core.Path.{◌≡◌}
 use native.Mathlib.Omega.{arith}
 use Rattle.wire.proofs.Filling.{read_none, read_turn}
@@ -12,13 +11,12 @@ pub read_item-requires : goal.read_item-requires
 read_item-requires c = (omega arith, omega arith)
 
 pub loop-i-preserved : goal.loop-i-preserved
-loop-i-preserved c =
-    let start : tie.Start invariant-loop decreases-loop = c in (
-      omega arith,
-      omega arith,
-      read_turn start.args.p.now start.args.at c.loop-i.i start.args.list.now (omega arith)
-          c.loop-i.invariant.2 c.read_item.ensures,
-    )
+loop-i-preserved c = (
+  omega arith,
+  omega arith,
+  read_turn c.args.p.now c.args.at c.loop-i.i c.args.list.now (omega arith)
+      c.loop-i.invariant.2 c.read_item.ensures,
+)
 
 pub returns : goal.returns
 returns c = let e : c.loop-i.i ≡ c.args.n = omega arith in rw e at c.loop-i.invariant.2

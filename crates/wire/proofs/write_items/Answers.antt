@@ -1,5 +1,4 @@
 -- `wire::write_items` meets its contract.
-use Prim.Native.Nat.{◌-◌}
 use mathlib.Core.Path.{◌∙◌}
 use native.Mathlib.Omega.{arith}
 use Rattle.lent_lists.specs.Items.{items_in}
@@ -13,15 +12,13 @@ pub write_item-requires : goal.write_item-requires
 write_item-requires c = (omega (arith, c.requires), omega (arith, c.requires))
 
 pub loop-i-preserved : goal.loop-i-preserved
-loop-i-preserved c =
-    let start : tie.Start invariant-loop decreases-loop = c in (
-      omega arith,
-      omega arith,
-      write_turn (items_in start.args.items.now) c.loop-i.i start.args.at start.args.s.now
-          (omega (arith, start.requires)) (omega (arith, start.requires)) c.loop-i.invariant.2 c.write_item.ensures,
-    )
+loop-i-preserved c = (
+  omega arith,
+  omega arith,
+  write_turn (items_in c.args.items.now) c.loop-i.i c.args.at c.args.s.now
+      (omega (arith, c.requires)) (omega (arith, c.requires)) c.loop-i.invariant.2 c.write_item.ensures,
+)
 
 pub returns : goal.returns
 returns c =
-    let start : tie.Start invariant-loop decreases-loop = c in
-    c.loop-i.invariant.2 ∙ write-all (items_in start.args.items.now) c.loop-i.i start.args.s.now start.args.at (omega (arith, start.requires))
+    c.loop-i.invariant.2 ∙ write-all (items_in c.args.items.now) c.loop-i.i c.args.s.now c.args.at (omega (arith, c.requires))

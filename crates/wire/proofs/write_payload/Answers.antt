@@ -1,6 +1,5 @@
 -- `wire::write_payload` meets its contract.
 use native.Mathlib.Omega.{arith}
-use borrow.Author.Tests.{not-true, not-false}
 use Rattle.lent_lists.specs.Items.{items_in}
 use Rattle.wire.proofs.Counts.{few_bytes}
 use Rattle.wire.proofs.Answers.{write-many, write_other, write-short, write_done}
@@ -11,7 +10,7 @@ returns-then-n-gt-MAX_ITEMS c = write-many (items_in c.args.items.now) c.args.an
 
 pub returns-then-not-all_plain : goal.returns-then-not-all_plain
 returns-then-not-all_plain c =
-    write_other (items_in c.args.items.now) c.args.answer.now c.all_plain.ensures (not-true _ c.if-not-all_plain.true-raw)
+    write_other (items_in c.args.items.now) c.args.answer.now c.all_plain.ensures c.if-not-all_plain.true
 
 pub overflow_add-need : goal.overflow_add-need
 overflow_add-need c = omega (arith, few_bytes c.items-n.result (omega arith), c.count_bytes-at.ensures)
@@ -19,13 +18,13 @@ overflow_add-need c = omega (arith, few_bytes c.items-n.result (omega arith), c.
 pub returns-then-answer-need : goal.returns-then-answer-need
 returns-then-answer-need c =
     write-short (items_in c.args.items.now) c.args.answer.now c.items-n.ensures (omega arith)
-    c.all_plain.ensures (not-false _ c.if-not-all_plain.false-raw) c.count_bytes-at.ensures c.if-answer-need.true
+    c.all_plain.ensures c.if-not-all_plain.false c.count_bytes-at.ensures c.if-answer-need.true
 
 pub returns : goal.returns
 returns c =
     let counted = c.count_bytes-at.ensures in
     let plain = c.all_plain.ensures in
-    let passed = c.if-not-all_plain.false-raw in
+    let passed = c.if-not-all_plain.false in
     let listed = c.items-n.ensures in
-    write_done (items_in c.args.items.now) c.args.answer.now listed (omega arith) plain (not-false _ passed) counted (omega arith)
+    write_done (items_in c.args.items.now) c.args.answer.now listed (omega arith) plain passed counted (omega arith)
     c.put_count.ensures c.write_items.ensures
