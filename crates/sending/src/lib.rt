@@ -1,6 +1,4 @@
 // Sending (document 01, "Sending"): what a claim has taken, arranged by ascending connection, and one connection's part of it.
-//
-// A function with a `&[Entry]` in it is proved by a walk of its MIR, so it is kept short.
 #![tactic(auto)]
 
 ghost use Rattle.std.specs.Prelude.{◌≡◌, ◌+◌, ltb, length};
