@@ -1,5 +1,4 @@
 use native.Mathlib.Omega.{arith}
-use Prim.Native.Nat.{◌-◌}
 use mathlib.Core.Path.{refl, ◌∙◌}
 use Rattle.words.specs.Words.{words}
 use Rattle.package_stages.proofs.Compacting.{compacting_none, compacting_more, compacting_end}
@@ -15,7 +14,7 @@ keep_row-m-requires c = (c.loop-i.invariant.0.less, omega (arith, c.loop-i.invar
 pub loop-i-preserved : goal.loop-i-preserved
 loop-i-preserved c = (
   compacting_more none c.loop-i.invariant.0 c.loop-i-test.true c.keep_row-m.ensures,
-  c.keep_row-m.auto.0 ∙ c.loop-i.invariant.1,
+  c.keep_row-m.auto.s ∙ c.loop-i.invariant.1,
 )
 
 pub truncate_rows-requires : goal.truncate_rows-requires
@@ -23,7 +22,7 @@ truncate_rows-requires c =
     (omega (arith, c.loop-i.invariant.0.less, c.loop-i.invariant.0.most), omega (arith, c.loop-i.invariant.1, c.requires))
 
 pub shape_of-s : goal.shape_of-s
-shape_of-s c = c.truncate_rows.auto.0 ∙ c.loop-i.invariant.1
+shape_of-s c = c.truncate_rows.auto.s ∙ c.loop-i.invariant.1
 
 pub returns : goal.returns
 returns c = compacting_end c.loop-i.invariant.0 (omega (arith, c.loop-i-test.false)) c.truncate_rows.ensures

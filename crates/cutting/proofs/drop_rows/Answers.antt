@@ -22,6 +22,6 @@ returns c =
           let held = rows-lent h lim in
           let m = c.compact-m.ensures.count f.head.limit f.rows (sym n) held in
           rows-counted h (search rules) (filter q f.rows) c.compact-m.result
-          (sym m) (rows_back h lim _ _ c.compact-m.auto.0
+          (sym m) (rows_back h lim _ _ c.compact-m.auto.s
           (c.compact-m.ensures.region f.head.limit f.rows (sym n) held)) c.put.ensures.word;
     }

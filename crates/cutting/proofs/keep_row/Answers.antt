@@ -16,4 +16,4 @@ returns-else-goes c =
     let p = c.args.p in
     let r = c.read_row-r.ensures in
     kept_on (λ L xs d l h. ap (stays p.conn p.from p.to) (sym (r.region L xs d l h))) c.args.m
-    (ap not (sym c.goes.ensures ∙ c.if-goes.false)) c.Move-row.ensures
+    (ap not (sym c.goes.ensures ∙ c.if-goes.false)) c.move_row.ensures
