@@ -1,5 +1,4 @@
 -- `lines::read::decimal` meets its contract. The loop's invariant: what is read of the field is what is read further, behind the digits of a.
-use Prim.Native.Nat.{◌-◌}
 use mathlib.Core.Path.{sym, ◌∙◌}
 use native.Mathlib.Nat.{pos_of_ne-zero}
 use native.Mathlib.Omega.{arith}

@@ -1,7 +1,5 @@
 -- `lines::read::find` meets its contract. The loop's invariant: the first x from i on is the first from `from` on.
-use Prim.Native.Nat.{◌-◌}
 use native.Mathlib.Omega.{arith}
-use Rattle.machine.specs.Fields.{before}
 use Rattle.machine.proofs.Parting.{before_end, before_here, before_past}
 use Rattle.lines.proofs.read.find.Goals as goal
 

@@ -1,10 +1,8 @@
 -- `lines::read::hash` meets its contract. The loop's invariant: what is read of the field is what is read further, behind the digits of q.
-use Prim.Native.Nat.{◌-◌}
 use mathlib.Core.Path.{sym, ◌∙◌}
 use native.Mathlib.Nat.{pos_of_ne-zero}
 use native.Mathlib.Omega.{arith}
 use borrow.Author.Tests.{not-true, not-false}
-use Rattle.ident.specs.Number.{top}
 use Rattle.lines.proofs.Hashes.{quad_low}
 use Rattle.lines.proofs.Scans.{scan-empty, scan_not, scan_start, scan-zero, scan_stop, scan_step, scan_end, digit_room}
 use Rattle.lines.proofs.read.hash.Goals as goal

@@ -1,8 +1,6 @@
 -- `lines::read::same` meets its contract. The loop's invariant: the texts are one if what is left of them is.
-use Prim.Native.Nat.{◌-◌}
 use mathlib.Core.Path.{sym, ◌∙◌}
 use native.Mathlib.Omega.{arith}
-use lib.ListN.{length}
 use Rattle.lines.proofs.Sameness.{differ-length, same_end, same_stop, same_step}
 use Rattle.lines.proofs.read.same.Goals as goal
 

@@ -1,7 +1,6 @@
 -- `lines::write::put_bytes` meets its contract. The loop's invariant: the first i bytes are written.
-use Prim.Native.Nat.{◌-◌}
 use native.Mathlib.Omega.{arith}
-use lib.ListN.{length, length-set}
+use lib.ListN.{length-set}
 use Rattle.lines.proofs.Writing.{wrote_none, wrote_next, wrote_all}
 use Rattle.lines.proofs.write.put_bytes.Goals as goal
 

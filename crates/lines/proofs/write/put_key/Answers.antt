@@ -10,7 +10,7 @@ pub put_hash-requires : goal.put_hash-requires
 put_hash-requires c = simp length-set (omega arith)
 
 pub shape_of-s : goal.shape_of-s
-shape_of-s c = c.put_hash.auto.0 ∙ simp length-set
+shape_of-s c = c.put_hash.auto.s ∙ simp length-set
 
 pub returns : goal.returns
 returns c = wrote-key c.args.s.now c.args.a
