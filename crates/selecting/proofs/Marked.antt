@@ -40,7 +40,7 @@ total_exact w k f lo (r ∷ t) z o h =
           rw (e, a) (omega (arith, z, total_stays w (f (blank k)) (f (blank k)).candidates (r ∷ t) (rw a at h)))
       | inr e ↦ rw e (elim (test (eqb (place k) (place r.key))) [
         | inl d ↦ rw d (omega (arith, total_stays w (f r) (f r).candidates t (rw d at h)))
-        | inr d ↦ rw d (omega (arith, total_exact w k f _ t z o.2 (rw d at h)))
+        | inr d ↦ rw d (omega (arith, total_exact w k f (suc (place r.key)) t z o.2 (rw d at h)))
       ])
     ]
 

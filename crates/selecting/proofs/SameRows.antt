@@ -1,5 +1,5 @@
 -- Selections marked leave the entry of every row as it was.
-use Prim.Native.Nat.{ℕ, ◌≤◌, ◌<◌}
+use Prim.Native.Nat.{ℕ, suc, ◌≤◌, ◌<◌}
 use mathlib.Core.Path.{◌≡◌, refl, sym, ap, subst, ◌∙◌}
 use mathlib.Core.Logic.{inl, inr}
 use mathlib.Core.Bool.{true, false}
@@ -57,7 +57,7 @@ same_rows k n d lo (r ∷ t) o h = elim (test (ltb (place k) (place r.key))) [
   | inr e ↦ elim (test (eqb (place k) (place r.key))) [
     | inl x ↦ rw (e, x, keep_one (owned_until n d r) r.candidates t (rw x at h), map-append, map-append)
         (ap (λ (l : List Entry). l ++ map entry_at (rows_of t)) (same_entries r n d r.candidates))
-    | inr x ↦ rw (e, x, map-append, map-append) (ap (λ (l : List Entry). map entry_at (map (row_of r) r.candidates) ++ l) (same_rows k n d _ t o.2 (rw x at h)))
+    | inr x ↦ rw (e, x, map-append, map-append) (ap (λ (l : List Entry). map entry_at (map (row_of r) r.candidates) ++ l) (same_rows k n d (suc (place r.key)) t o.2 (rw x at h)))
   ]
 ]
   where

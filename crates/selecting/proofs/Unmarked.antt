@@ -1,5 +1,5 @@
 -- The end of a plan's scan: a selection that is disowned again leaves the table as it was.
-use Prim.Native.Nat.{ℕ, ◌≤◌, ◌<◌}
+use Prim.Native.Nat.{ℕ, suc, ◌≤◌, ◌<◌}
 use mathlib.Core.Path.{◌≡◌, refl, sym, ap, subst, ◌∙◌}
 use mathlib.Core.Logic.{inl, inr}
 use mathlib.Core.Bool.{Bool, true, false}
@@ -57,7 +57,7 @@ unmark k n d lo (r ∷ t) o b h = elim (test (ltb (place k) (place r.key))) [
     | inl x ↦ let f = keep_one (owned_until n d r) r.candidates t (rw x at h) in
         let g = keep_one (unowned (owned_until n d r)) r.candidates t (rw x at h) in
         rw (e, x, f, e, x, g) (ap (λ (q : Request). q ∷ t) (again n d r (rw x at b)))
-    | inr x ↦ rw (e, x, e, x) (ap (λ (u : Table). r ∷ u) (unmark k n d _ t o.2 (rw x at b) (rw x at h)))
+    | inr x ↦ rw (e, x, e, x) (ap (λ (u : Table). r ∷ u) (unmark k n d (suc (place r.key)) t o.2 (rw x at b) (rw x at h)))
   ]
 ]
   where
