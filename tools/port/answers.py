@@ -1,5 +1,8 @@
 #!/usr/bin/env python3
-"""convert.py CRATE..: in a checkout, turns each proofs/F/Proof.antt that closes a tie into Invariants.antt and Answers.antt (names from /tmp/w/names/CRATE/names.json)."""
+"""Turns each crates/NAME/proofs/F/Proof.antt that closed a tie into Invariants.antt and Answers.antt, with today's names of goals and of what is known there.
+
+usage: answers.py NAMES CRATE..    at the top of the repository, after port.py and spelling.py; NAMES/CRATE/names.json is what
+       `rattle check --generated NAMES/CRATE --old-names` wrote of the crate. It proves nothing: the check decides. A proof that walks the code is left as it is."""
 import json,re,sys,os,glob
 SUB='₀₁₂₃₄₅₆₇₈₉'
 IDC=r"A-Za-z0-9_'\u2080-\u2089λ𝓤𝓛α-ω"
@@ -241,9 +244,9 @@ class Conv:
         os.remove(folder+'/Proof.antt')
         return s.warn
 def main():
-    old='--old' in sys.argv
-    for crate in [a for a in sys.argv[1:] if not a.startswith('--')]:
-        d=json.load(open(f'/tmp/w/names/{crate}/names.json'))
+    names, *crates = sys.argv[1:]
+    for crate in crates:
+        d=json.load(open(f'{names}/{crate}/names.json'))
         n=0
         for f in sorted(glob.glob(f'crates/{crate}/proofs/**/Proof.antt',recursive=True)):
             rel=os.path.dirname(f)[len(f'crates/{crate}/proofs/'):]
