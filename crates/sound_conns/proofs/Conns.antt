@@ -1,7 +1,7 @@
 -- The entries are the rows' tally exactly if each has its rows' counts and each row's connection has an entry.
 use Prim.Native.Nat.{ℕ, zero, suc, ◌+◌, ◌-◌, ◌≤◌, ◌<◌}
 use mathlib.Core.Path.{◌≡◌, sym, ap, ◌∙◌}
-use mathlib.Core.Logic.{◌⊎◌, inl, inr}
+use mathlib.Core.Logic.{inl, inr}
 use mathlib.Core.Bool.{true}
 use mathlib.Core.List.{List, [], ◌∷◌}
 use native.Mathlib.Omega.{arith}
@@ -12,15 +12,15 @@ use Rattle.words.specs.Words.{recs}
 use Rattle.words.proofs.Records.{length-recs}
 use Rattle.regions.specs.declared.Row.{Row}
 use Rattle.regions.specs.declared.Conn.{Conn}
-use Rattle.regions.specs.Rows.{row_size, read_row, conn_size, read_conn}
+use Rattle.regions.specs.Rows.{conn_size, read_conn}
 use Rattle.machine.specs.Typed.{Each}
 use Rattle.machine.proofs.Tests.{test, never}
 use Rattle.store.specs.Flat.{own_bit, tally}
-use Rattle.store.specs.FlatSound.{RowFits, ConnFits}
+use Rattle.store.specs.FlatSound.{RowFits}
 use Rattle.store.proofs.Tally as whole
 use Rattle.store.proofs.Tally.{bump_tallied}
 use Rattle.store.proofs.Certify.{Counted, listed, listed_at, certified, tally-counted, tally-listed}
-use Rattle.sound_conns.specs.Conns.{Rise, Entries, Counts, names, Named, Inside, Holds, NamedIn, Tallied, blank, Within, Window, LastOf, many, most, ConnsSound}
+use Rattle.sound_conns.specs.Conns.{Rise, Entries, Counts, names, Named, Inside, Holds, NamedIn, Tallied, blank, Window, LastOf, many, most, ConnsSound}
 use Rattle.sound_rows.proofs.Decide.{Iff, iff_self}
 use Rattle.sound_conns.proofs.Entries.{length-names, name-entry, entries-positive}
 use Rattle.sound_conns.proofs.Tally.{spent_iff}

@@ -1,25 +1,24 @@
 -- The entries of connections by themselves, and a search among them.
 use Prim.Native.Nat.{ℕ, zero, suc, ◌+◌, ◌-◌, ◌*◌, ◌≤◌, ◌<◌}
 use mathlib.Core.Path.{◌≡◌, refl, sym, ap, ◌∙◌}
-use mathlib.Core.Logic.{◌⊎◌, inl, inr}
-use mathlib.Core.Bool.{Bool, true, false}
+use mathlib.Core.Logic.{inl, inr}
 use mathlib.Core.List.{List, [], ◌∷◌}
 use native.Mathlib.Nat.{le_refl}
 use native.Mathlib.Omega.{arith}
-use lib.Dec.{ltb, eqb}
-use lib.ListN.{length, take, drop, get_or}
+use lib.Dec.{eqb}
+use lib.ListN.{length, drop, get_or}
 use lib.Seq.{get_or-take, get_or-drop}
 use borrow.Author.Tests.{eqb-true, eqb-false}
 use Rattle.words.specs.Words.{recs, Decides}
 use Rattle.words.proofs.Records.{length-recs, recs_at}
 use Rattle.regions.specs.declared.Conn.{Conn}
-use Rattle.regions.specs.Order.{Sorted, Bound, Sought}
+use Rattle.regions.specs.Order.{Sorted, Sought}
 use Rattle.regions.specs.Rows.{conn_size, read_conn, conn_key}
 use Rattle.machine.specs.Limits.{word}
 use Rattle.machine.specs.Typed.{Each}
 use Rattle.machine.proofs.Tests.{test, order}
 use Rattle.store.specs.FlatSound.{ConnFits}
-use Rattle.sound_conns.specs.Conns.{Rise, Entries, EntryStep, names, Rising, Named, Place, LastOf, blank, many, most}
+use Rattle.sound_conns.specs.Conns.{Rise, Entries, EntryStep, names, Rising, Place, LastOf, blank, many, most}
 use Rattle.sound_rows.proofs.Decide.{Iff, Chain}
 use Rattle.sound_rows.proofs.Ranges.{Below}
 

@@ -1,11 +1,11 @@
 -- What the test of the connections decides, in the words of FlatSound, and what its parts decide.
-use Rattle.std.specs.Prelude.{ℕ, zero, suc, ◌+◌, ◌*◌, ◌/◌, ◌%◌, ◌≤◌, ◌<◌, ◌≡◌, ◌⊎◌, Bool, true, false, ◌&&◌, List, [], ◌∷◌, eqb, length, get_or}
+use Rattle.std.specs.Prelude.{ℕ, suc, ◌+◌, ◌/◌, ◌%◌, ◌≤◌, ◌<◌, ◌≡◌, ◌⊎◌, Bool, true, false, ◌&&◌, List, [], ◌∷◌, eqb, length, get_or}
 use Rattle.words.specs.Words.{recs}
 use Rattle.regions.specs.declared.Row.{Row}
 use Rattle.regions.specs.declared.Conn.{Conn}
-use Rattle.regions.specs.Rows.{conn_size, read_conn, conn_key}
+use Rattle.regions.specs.Rows.{conn_size, conn_key}
 use Rattle.machine.specs.Typed.{Each}
-use Rattle.store.specs.Flat.{own_bit, tally}
+use Rattle.store.specs.Flat.{tally}
 use Rattle.store.specs.FlatSound.{count_rows, owns, ConnFits}
 
 pub record ConnsSound (rs : List Row) (cs : List Conn) : Type 0 where

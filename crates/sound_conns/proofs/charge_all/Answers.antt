@@ -4,8 +4,7 @@ use lib.ListN.{length-set}
 use Rattle.words.proofs.Records.{length-recs}
 use Prim.Native.Nat.{◌-◌}
 use mathlib.Core.Path.{refl, ◌∙◌}
-use lib.ListN.{length}
-use Rattle.words.specs.Words.{recs, words}
+use Rattle.words.specs.Words.{words}
 use Rattle.regions.specs.Rows.{conn_size, read_conn}
 use Rattle.sound_conns.proofs.Tally.{charged_turn, conn-fits}
 use Rattle.sound_conns.proofs.charge_all.Goals as goal

@@ -1,5 +1,5 @@
 use native.Mathlib.Omega.{arith}
-use Prim.Native.Nat.{◌+◌, ◌-◌, ◌<◌}
+use Prim.Native.Nat.{◌+◌, ◌<◌}
 use Rattle.words.specs.Words.{recs, words}
 use Rattle.regions.specs.Rows.{row_size, read_row, conn_size, read_conn}
 use Rattle.sound_conns.specs.Conns.{Entries, names, Window, few, many}

@@ -1,11 +1,9 @@
 use borrow.Author.Rules.{rules}
 use native.Mathlib.Omega.{arith}
-use Prim.Native.Nat.{◌-◌}
 use mathlib.Core.Path.{◌≡◌, refl, ◌∙◌}
 use mathlib.Core.Bool.{true, false}
 use borrow.Author.Tests.{not-true, not-false}
 use Rattle.words.specs.Words.{words}
-use Rattle.regions.specs.Rows.{read_row}
 use Rattle.sound_conns.proofs.Tally.{tallied_none, tallied_turn, tallied_stop}
 use Rattle.sound_conns.proofs.count_rows.Goals as goal
 

@@ -1,6 +1,5 @@
 use borrow.Author.Rules.{rules}
 use native.Mathlib.Omega.{arith}
-use Prim.Native.Nat.{◌-◌}
 use Rattle.words.specs.Words.{recs, words}
 use Rattle.regions.specs.Rows.{conn_size, read_conn}
 use Rattle.sound_conns.specs.Conns.{EntryStep, blank}

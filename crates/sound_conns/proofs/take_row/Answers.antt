@@ -27,7 +27,7 @@ returns c =
     let a = c.args in
     let w = words a.s.now in (
       taking (names a.n w) a.done a.last a.lo a.x a.own a.t.now c.find_entry-k.result
-          c.take_off.new.0 (omega (arith, length-names a.n w))
+          c.take_off.new.t (omega (arith, length-names a.n w))
           (c.find_entry-k.ensures.found (omega arith)) c.take_off.result
           c.requires.1 c.take_off.ensures.0,
       c.take_off.ensures.1,
