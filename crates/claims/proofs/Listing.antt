@@ -175,7 +175,7 @@ each_left {m} {Q} {t} n v (k ∷ ks) p w h b =
     let a = failed_with_parents m k n v t in
     let l = loosened_failed_with_parents k n v h.0.small p w b in
     let b' = bounded-failed_with_parents k n v h.0.small p w b in
-    let r = each_left n v ks p w (each_map (HoldsPlace n t) (HoldsPlace n a.table) ks (Holds-on l) h.1) b' in
+    let r = each_left {t = a.table} n v ks p w (each_map (HoldsPlace n t) (HoldsPlace n a.table) ks (Holds-on l) h.1) b' in
     record {
       bounded = r.bounded;
       loosened = loosened_then l r.loosened;

@@ -60,7 +60,7 @@ unfolding drop_each
 typed_each n now [] w s b = tt
 typed_each {m} {Q} {t} n now (k ∷ ks) w s b =
     let a = drop_at_key m n now k t in
-    each_append KeyTyped a.keys (drop_each m n now ks a.table).keys (typed_drop n now k b) (typed_each n now ks w s.1 (bounded-drop_at_key n now k s.0 w b))
+    each_append KeyTyped a.keys (drop_each m n now ks a.table).keys (typed_drop n now k b) (typed_each {t = a.table} n now ks w s.1 (bounded-drop_at_key n now k s.0 w b))
 
 -- ---- keys behind others
 

@@ -17,7 +17,7 @@ use Rattle.machine.specs.Limits.{Limits, max_peer_announcements, word}
 use Rattle.machine.specs.State.{Candidate, Owner, Package, Request, Table, Entry, Answer, marked, unowned, owner_is, is_some}
 use Rattle.machine.specs.Table.{at, change, has, held, held_by, held_at, is_candidate}
 use Rattle.machine.specs.Announce.{without, cut, victims, greatest, greatest_from, evicting, at_hash, anywhere, announce_at, request_parent_at}
-use Rattle.machine.specs.Fail.{Listed, left, releasable, failed, dedup, parent_of, parents_from, announce_parents, parents_for}
+use Rattle.machine.specs.Fail.{Listed, mark, left, releasable, failed, dedup, parent_of, parents_from, announce_parents, parents_for}
 use Rattle.machine.specs.Leave.{is_empty, announce_each, drop_at_key}
 use Rattle.machine.specs.Sound.{Hashes, AllFit, Packed, Ordered, All, Lawful, Bounded}
 use Rattle.machine.specs.Typed.{Each}
@@ -127,7 +127,7 @@ module _ (n lo : ℕ) (b : top ≤ lo) where
       let d' = bounded-parent_at (txid h) c a.0 (record { item = refl; positive = p.positive; connection = p.small; ready = w; priority = omega arith }) d in
       let f = fewer-parent_at m h c t a.0 d.ordered in
       fewer_then (by_test (Fewer n lo t) r.reply (λ e. fewer_then f (fewer-txid n lo h marked r.table b a.0 (λ q. refl))) (λ e. f))
-      (fewer-parents_from x now (suc i) hs p w a.1 (omega arith) (by_test (Bounded m Q) r.reply (λ e. bounded-mark h a.0 d') (λ e. d')))
+      (fewer-parents_from {t = if r.reply then mark (txid h) marked r.table else r.table} x now (suc i) hs p w a.1 (omega arith) (by_test (Bounded m Q) r.reply (λ e. bounded-mark h a.0 d') (λ e. d')))
 
   fewer-parents : {m : Limits} {Q : ℕ} {t : Table} (x now : ℕ) (hs : List ℕ) → Peer x → now < word → FewHashes hs → Bounded m Q t → Fewer n lo t (announce_parents m x now hs t).table
   unfolding announce_parents

@@ -126,7 +126,7 @@ within_next {m} {Q} n now lo ks k js t lk s w before b v = record {
 pub bounded_each : {m : Limits} {Q : ℕ} {t : Table} (n lo : ℕ) (ks : List Key) → Rising lo ks → Bounded m Q t → Bounded m Q (cut_each n ks t)
 unfolding cut_each cut_at
 bounded_each n lo [] r b = b
-bounded_each {m} {Q} {t} n lo (k ∷ ks) r b = bounded_each n (suc (place k)) ks r.2 (by_test (Bounded m Q) (owner_is n (at k t).owner) (λ e. b) (λ e. bounded-cut k n r.1 e b))
+bounded_each {m} {Q} {t} n lo (k ∷ ks) r b = bounded_each {t = cut_at n k t} n (suc (place k)) ks r.2 (by_test (Bounded m Q) (owner_is n (at k t).owner) (λ e. b) (λ e. bounded-cut k n r.1 e b))
 
 -- ---- the whole
 

@@ -85,7 +85,7 @@ split k (r ∷ t) = elim (test (leb (place r.key) (place k))) [ inl e ↦ rw e (
 pub ordered_up : (k : Key) (lo : ℕ) (t : Table) → Ordered lo t → Ordered lo (up_to k t)
 unfolding up_to
 ordered_up k lo [] o = tt
-ordered_up k lo (r ∷ t) o = elim (test (leb (place r.key) (place k))) [ inl e ↦ rw e (o.0, o.1, ordered_up k _ t o.2) | inr e ↦ rw e tt ]
+ordered_up k lo (r ∷ t) o = elim (test (leb (place r.key) (place k))) [ inl e ↦ rw e (o.0, o.1, ordered_up k (suc (place r.key)) t o.2) | inr e ↦ rw e tt ]
 
 module _ (P : Request → Type 0) (k : Key) where
   pub all_up : (t : Table) → All P t → All P (up_to k t)
@@ -102,18 +102,18 @@ module _ (k : Key) where
   none_up : (lo : ℕ) (t : Table) → place k < lo → Ordered lo t → only (λ n. leb n (place k)) (keys t) ≡ []
   unfolding only keys
   none_up lo [] h o = refl
-  none_up lo (r ∷ t) h o = rw (lt-leb (place r.key) (place k) (omega (arith, o.0))) (none_up _ t (omega (arith, o.0)) o.2)
+  none_up lo (r ∷ t) h o = rw (lt-leb (place r.key) (place k) (omega (arith, o.0))) (none_up (suc (place r.key)) t (omega (arith, o.0)) o.2)
 
   all_after : (lo : ℕ) (t : Table) → place k < lo → Ordered lo t → only (λ n. ltb (place k) n) (keys t) ≡ keys t
   unfolding only keys
   all_after lo [] h o = refl
-  all_after lo (r ∷ t) h o = rw (lt-ltb (place k) (place r.key) (omega (arith, o.0))) (ap (λ (l : List Key). r.key ∷ l) (all_after _ t (omega (arith, o.0)) o.2))
+  all_after lo (r ∷ t) h o = rw (lt-ltb (place k) (place r.key) (omega (arith, o.0))) (ap (λ (l : List Key). r.key ∷ l) (all_after (suc (place r.key)) t (omega (arith, o.0)) o.2))
 
   keys-up : (lo : ℕ) (t : Table) → Ordered lo t → keys (up_to k t) ≡ only (λ n. leb n (place k)) (keys t)
   unfolding only keys up_to
   keys-up lo [] o = refl
   keys-up lo (r ∷ t) o = elim (test (leb (place r.key) (place k))) [
-    | inl e ↦ rw e (ap (λ (l : List Key). r.key ∷ l) (keys-up _ t o.2))
+    | inl e ↦ rw e (ap (λ (l : List Key). r.key ∷ l) (keys-up (suc (place r.key)) t o.2))
     | inr e ↦ rw e (sym (none_up _ t (omega (arith, leb-false (place r.key) (place k) e)) o.2))
   ]
 
@@ -121,7 +121,7 @@ module _ (k : Key) where
   unfolding only keys above
   keys_above lo [] o = refl
   keys_above lo (r ∷ t) o = elim (test (leb (place r.key) (place k))) [
-    | inl e ↦ rw (e, le-ltb (place k) (place r.key) (leb-true (place r.key) (place k) e)) (keys_above _ t o.2)
+    | inl e ↦ rw (e, le-ltb (place k) (place r.key) (leb-true (place r.key) (place k) e)) (keys_above (suc (place r.key)) t o.2)
     | inr e ↦ let l = leb-false (place r.key) (place k) e in rw (e, lt-ltb (place k) (place r.key) l) (ap (λ (x : List Key). r.key ∷ x) (sym (all_after _ t (omega (arith, l)) o.2)))
   ]
 

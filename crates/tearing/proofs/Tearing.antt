@@ -63,7 +63,7 @@ torn_step k v lo (q ∷ t) o l e =
       | inr a ↦ rw a (elim (test (eqb (place k) (place q.key))) [
         | inl d ↦ let p : is_some q.«package» ≡ true = rw d at e in
             rw d (torn-keep v (quit v q) (quit v q).candidates t (quit-torn v q l.0 p) refl ∙ ap (λ (y : Request). keep y y.candidates (torn_all v t)) (sym (torn-yes v q p)))
-        | inr d ↦ rw d (ap (λ (x : Table). keep (torn_in v q) (torn_in v q).candidates x) (torn_step k v _ t o.2 l.1 (rw d at e)))
+        | inr d ↦ rw d (ap (λ (x : Table). keep (torn_in v q) (torn_in v q).candidates x) (torn_step k v (suc (place q.key)) t o.2 l.1 (rw d at e)))
       ])
     ]
 

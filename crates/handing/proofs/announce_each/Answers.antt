@@ -83,7 +83,7 @@ loop-i-preserved c = let late : c.args.clock < word = omega arith in
     c.requires.4
     c.requires.5
     c.loop-i.invariant c.get-x.result h g
-    c.announce_for-r.auto.0 c.announce_for-r.ensures
+    c.announce_for-r.auto.s c.announce_for-r.ensures
 
 pub shape_of-s : goal.shape_of-s
 shape_of-s c = c.loop-i.invariant.store_long

@@ -42,7 +42,7 @@ loop-i-smaller c = omega (arith, c.loop-i-test.true)
 pub loop-i-preserved : goal.loop-i-preserved
 loop-i-preserved c = (
   copied_more c.row_at-r.result c.loop-i.invariant.0
-      c.loop-i-test.true c.loop-i.invariant.1 c.put.auto.0 (λ f h. omega (
+      c.loop-i-test.true c.loop-i.invariant.1 c.put.auto.s (λ f h. omega (
         arith,
         c.window_of-w.ensures.most,
         c.window_of-w.ensures.order,

@@ -26,7 +26,7 @@ keys_in-requires c =
       f,
       w.few,
       omega (arith, n, f, z, w.near, k.sizes.rows, k.sizes.limit, k.sized.rows_few),
-      omega (arith, c.requires.1, c.keys_in-v.auto.1.1.1.1.0),
+      omega (arith, c.requires.1, c.keys_in-v.auto.out),
     )
 
 pub returns : goal.returns

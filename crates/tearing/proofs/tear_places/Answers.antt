@@ -23,14 +23,14 @@ loop-i-smaller c = omega (arith, c.loop-i-test.true)
 
 pub loop-i-preserved : goal.loop-i-preserved
 loop-i-preserved c = marking_more c.loop-i.invariant (blank 0 0)
-    (omega (arith, c.held_places-n.ensures.word, c.loop-i-test.true)) c.tear_place-c.auto.0
+    (omega (arith, c.held_places-n.ensures.word, c.loop-i-test.true)) c.tear_place-c.auto.s
     c.tear_place-c.ensures
 
 pub drop_dead-requires : goal.drop_dead-requires
 drop_dead-requires c = c.loop-i.invariant.is_shown
 
 pub shape_of-s : goal.shape_of-s
-shape_of-s c = c.drop_dead.auto.0 ∙ c.loop-i.invariant.size
+shape_of-s c = c.drop_dead.auto.s ∙ c.loop-i.invariant.size
 
 pub returns : goal.returns
 returns c = marking_end c.loop-i.invariant c.held_places-n.ensures.word

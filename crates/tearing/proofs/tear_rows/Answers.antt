@@ -31,7 +31,7 @@ loop-i-smaller c = omega (arith, c.loop-i-test.true)
 
 pub loop-i-preserved : goal.loop-i-preserved
 loop-i-preserved c = tearing_more c.loop-i.invariant
-    (omega (arith, c.rows-n.ensures.word, c.loop-i-test.true)) c.tear_row-k.auto.0
+    (omega (arith, c.rows-n.ensures.word, c.loop-i-test.true)) c.tear_row-k.auto.s
     c.tear_row-k.ensures
 
 pub drop_rows-requires : goal.drop_rows-requires
@@ -47,7 +47,7 @@ drop_idle-requires c = tearing-cut c.loop-i.invariant c.rows-n.ensures.word
     c.requires
 
 pub shape_of-s : goal.shape_of-s
-shape_of-s c = c.drop_idle.auto.0 ∙ c.drop_rows.auto.0 ∙
+shape_of-s c = c.drop_idle.auto.s ∙ c.drop_rows.auto.s ∙
     c.loop-i.invariant.size
 
 pub returns : goal.returns

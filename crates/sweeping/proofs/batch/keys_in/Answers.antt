@@ -1,4 +1,3 @@
-use Prim.Native.Nat.{◌-◌}
 use native.Mathlib.Omega.{arith}
 use Rattle.sweeping.proofs.Walking.{walking_start, walking_done, walking_full, walking_room, walking_skip, walking_more}
 use Rattle.sweeping.proofs.batch.keys_in.Goals as goal

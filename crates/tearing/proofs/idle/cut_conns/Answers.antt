@@ -28,7 +28,7 @@ loop-n-smaller c = omega (arith, c.loop-n-test.true)
 
 pub loop-n-preserved : goal.loop-n-preserved
 loop-n-preserved c = cutting_more c.loop-n.invariant (omega (arith, c.loop-n-test.true))
-    c.loop-n-test.true c.drop_conn.auto.0 c.drop_conn.ensures
+    c.loop-n-test.true c.drop_conn.auto.s c.drop_conn.ensures
 
 pub shape_of-s : goal.shape_of-s
 shape_of-s c = c.loop-n.invariant.size

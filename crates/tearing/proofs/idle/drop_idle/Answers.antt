@@ -31,7 +31,7 @@ loop-i-smaller c = omega (arith, c.loop-i-test.true)
 
 pub loop-i-preserved : goal.loop-i-preserved
 loop-i-preserved c = sifting_more c.loop-i.invariant
-    (omega (arith, c.conns-n.ensures.word, c.loop-i-test.true)) c.keep_busy-m.auto.0
+    (omega (arith, c.conns-n.ensures.word, c.loop-i-test.true)) c.keep_busy-m.auto.s
     c.keep_busy-m.ensures
 
 pub cut_conns-requires : goal.cut_conns-requires
@@ -46,7 +46,7 @@ cut_conns-requires c = (
 )
 
 pub shape_of-s : goal.shape_of-s
-shape_of-s c = c.cut_conns.auto.0 ∙ c.loop-i.invariant.size
+shape_of-s c = c.cut_conns.auto.s ∙ c.loop-i.invariant.size
 
 pub returns : goal.returns
 returns c = sifting_end c.loop-i.invariant
