@@ -1,15 +1,15 @@
 -- A region's words are those that its records are written as, with zeros behind them.
-use Prim.Native.Nat.{ℕ, ◌+◌, ◌-◌, ◌*◌, ◌≤◌}
+use Prim.Native.Nat.{ℕ, ◌-◌, ◌*◌, ◌≤◌}
 use mathlib.Core.Path.{◌≡◌, sym, ap, ◌∙◌}
-use mathlib.Core.List.{List, [], ◌∷◌, ◌++◌, append_cancel_left}
+use mathlib.Core.List.{List, ◌++◌}
 use native.Mathlib.Omega.{arith}
-use lib.ListN.{length, take, drop, replicate, length-take, length-drop, take-append-drop}
-use lib.Seq.{slice, take_all, take-take, take_at, drop_at, length-take-le}
+use lib.ListN.{length, take, drop, replicate, length-take, take-append-drop}
+use lib.Seq.{slice, take_all}
 use Rattle.words.specs.Words.{recs}
 use Rattle.words.proofs.Records.{recs_front}
 use Rattle.regions.specs.Regions.{each, padded}
 use Rattle.regions.specs.Rows.{row_size, read_row, row_words, conn_size, read_conn, conn_words}
-use Rattle.regions.proofs.Regions.{length-padded, padded-fit}
+use Rattle.regions.proofs.Regions.{padded-fit}
 use Rattle.regions.proofs.Columns.{row_back as row-nine, conn_back as conn-three}
 use Rattle.machine.specs.Limits.{word}
 use Rattle.sound_rows.proofs.Decide.{Iff}

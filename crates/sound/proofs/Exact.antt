@@ -3,7 +3,7 @@ use Prim.Native.Nat.{ℕ, zero, suc, ◌+◌, ◌-◌, ◌*◌, ◌≤◌, ◌<�
 use mathlib.Core.Path.{◌≡◌, refl, sym, ap, ◌∙◌}
 use mathlib.Core.List.{List, [], ◌∷◌, ◌++◌, append_cancel_left}
 use native.Mathlib.Omega.{arith}
-use lib.ListN.{length, take, drop, get_or, replicate, length-take, length-drop, length-replicate, take-append-drop}
+use lib.ListN.{length, take, drop, get_or, replicate, length-drop, take-append-drop}
 use lib.Seq.{slice, take-add, take-take, take_all, drop-drop, take_at, drop_at, length-take-le, get_or-drop}
 use Rattle.words.specs.Words.{recs}
 use Rattle.words.proofs.Records.{length-recs}
@@ -11,7 +11,7 @@ use Rattle.words.proofs.Moves.{mid as drop-take}
 use Rattle.regions.specs.Regions.{each, padded}
 use Rattle.regions.specs.Rows.{quad_words, read_quad}
 use Rattle.regions.proofs.Regions.{length-padded, padded-fit}
-use Rattle.places.specs.Places.{place_size, wtxids_at, parents_at, kept_size, list_most, hash_words, list_words, place_words, Place}
+use Rattle.places.specs.Places.{place_size, kept_size, list_most, hash_words, list_words, place_words}
 use Rattle.machine.specs.Limits.{word}
 use Rattle.store.specs.Read.{read_hash, read_place}
 use Rattle.store.proofs.Quads.{quad-number}

@@ -1,15 +1,13 @@
 -- Hashes in words: equal as numbers exactly if equal word by word, and lists of them.
-use Prim.Native.Nat.{ℕ, zero, suc, ◌+◌, ◌-◌, ◌*◌, ◌≤◌, ◌<◌}
+use Prim.Native.Nat.{ℕ, ◌+◌, ◌*◌, ◌≤◌, ◌<◌}
 use mathlib.Core.Path.{◌≡◌, refl, sym, ap, ◌∙◌}
-use mathlib.Core.Logic.{◌⊎◌, inl, inr}
-use mathlib.Core.Bool.{Bool, true, false, ◌||◌}
+use mathlib.Core.Bool.{true, false}
 use mathlib.Core.List.{List, [], ◌∷◌}
 use native.Mathlib.Omega.{arith}
-use lib.Dec.{eqb}
-use lib.ListN.{take, drop, get_or}
+use lib.ListN.{take, drop}
 use lib.Seq.{drop-drop, get_or-take}
 use borrow.Author.Tests.{eq-eqb, ne_eqb}
-use Rattle.words.specs.Words.{number, recs}
+use Rattle.words.specs.Words.{number}
 use Rattle.regions.specs.declared.Quad.{Quad}
 use Rattle.regions.specs.Rows.{read_quad, quad_number}
 use Rattle.machine.specs.Claim.{elem}

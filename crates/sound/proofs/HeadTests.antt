@@ -1,14 +1,14 @@
 -- The words of a header are those that the header read from them is written as, exactly if its tests pass.
-use Prim.Native.Nat.{ℕ, zero, suc, ◌+◌, ◌-◌, ◌*◌, ◌≤◌, ◌<◌}
+use Prim.Native.Nat.{ℕ, zero, suc, ◌+◌, ◌≤◌}
 use mathlib.Core.Path.{◌≡◌, refl, sym, ap, ◌∙◌}
-use mathlib.Core.Bool.{Bool, true, false}
-use mathlib.Core.List.{List, [], ◌∷◌, ◌++◌}
+use mathlib.Core.Bool.{Bool}
+use mathlib.Core.List.{List, [], ◌∷◌}
 use native.Mathlib.Omega.{arith}
 use lib.Dec.{eqb, leb}
 use lib.ListN.{length, take, drop, get_or, replicate}
 use lib.Seq.{slice, drop-cons, drop-drop, get_or-drop}
 use borrow.Author.Tests.{eqb-true, eqb-false, ne_eqb, lt-leb}
-use mathlib.Core.Logic.{◌⊎◌, inl, inr}
+use mathlib.Core.Logic.{inl, inr}
 use Rattle.words.specs.Words.{Decides}
 use Rattle.words.proofs.Moves.{mid as drop-take}
 use Rattle.regions.specs.declared.Quad.{Quad}
@@ -19,12 +19,11 @@ use Rattle.store.specs.FlatSound.{QuadFits}
 use Rattle.store.specs.Image.{format, head_size, head_words}
 use Rattle.ident.specs.Number.{Key}
 use mathlib.Core.Option.{Option}
-use Rattle.store.specs.Flat.{Head}
 use Rattle.store.specs.Read.{read_hash, poll_is, cursor_is, cursor_at, head_in}
 use Rattle.store.proofs.HeadWords.{poll_tag, poll_time, tag_of, quad_in, in_words, head-words}
 use Rattle.store.proofs.Quads.{quad-number}
 use Rattle.sound.specs.Whole.{PollPlain, CursorPlain}
-use Rattle.sound_rows.proofs.Decide.{Iff, decides_iff}
+use Rattle.sound_rows.proofs.Decide.{Iff}
 use Rattle.sound_rows.proofs.Ranges.{Below, below_drop, quad_ranges}
 use Rattle.sound.proofs.Hashes.{same-quad, zero_number}
 

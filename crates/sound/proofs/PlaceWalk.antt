@@ -1,13 +1,13 @@
 -- Places one after the other.
 use Prim.Native.Nat.{ℕ, zero, suc, ◌+◌, ◌-◌, ◌*◌, ◌≤◌, ◌<◌}
 use mathlib.Core.Path.{◌≡◌, refl, sym, ap, ◌∙◌}
-use mathlib.Core.Logic.{◌⊎◌, inl, inr}
-use mathlib.Core.Bool.{Bool, true, false}
+use mathlib.Core.Logic.{inl, inr}
+use mathlib.Core.Bool.{Bool}
 use mathlib.Core.List.{List, [], ◌∷◌, ◌++◌}
 use native.Mathlib.Omega.{arith}
 use lib.Dec.{ltb}
-use lib.ListN.{length, take, drop, get_or, replicate, length-drop}
-use lib.Seq.{take-add, take_at, drop_at, drop-drop, get_or-take, length-take-le}
+use lib.ListN.{length, take, drop, get_or, length-drop}
+use lib.Seq.{take-add, take_at, drop_at, get_or-take, length-take-le}
 use borrow.Author.Tests.{ltb-true, ltb-false}
 use Rattle.words.specs.Words.{recs, words, Decides}
 use Rattle.words.proofs.Parts.{words-lent}
@@ -16,7 +16,7 @@ use Rattle.regions.specs.declared.Row.{Row}
 use Rattle.regions.specs.declared.Quad.{Quad}
 use Rattle.regions.specs.Regions.{each}
 use Rattle.regions.specs.Rows.{read_quad, quad_number}
-use Rattle.places.specs.Places.{Place, place_size, place_key, place_words, list_most, kept_size, blank}
+use Rattle.places.specs.Places.{Place, place_size, place_key, place_words, blank}
 use Rattle.places.proofs.Places.{length-place}
 use Rattle.machine.specs.Typed.{Each}
 use Rattle.machine.proofs.Tests.{test}

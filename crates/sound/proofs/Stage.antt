@@ -1,8 +1,8 @@
 -- Stage, combined hash and number of wtxids of a place.
-use Prim.Native.Nat.{ℕ, zero, suc, ◌≤◌, ◌<◌}
-use mathlib.Core.Path.{◌≡◌, refl, sym, ap, ◌∙◌}
+use Prim.Native.Nat.{ℕ, zero, suc, ◌≤◌}
+use mathlib.Core.Path.{◌≡◌, refl}
 use mathlib.Core.Logic.{◌⊎◌, inl, inr}
-use mathlib.Core.Bool.{Bool, true, false}
+use mathlib.Core.Bool.{Bool}
 use native.Mathlib.Omega.{arith}
 use lib.Dec.{leb}
 use borrow.Author.Tests.{leb-true, leb-false}
@@ -10,7 +10,7 @@ use Rattle.words.specs.Words.{Decides}
 use Rattle.machine.specs.Limits.{max_wtxids}
 use Rattle.machine.proofs.Tests.{test}
 use Rattle.sound.specs.Places.{StagePlain}
-use Rattle.sound_rows.proofs.Decide.{Iff, decides_iff}
+use Rattle.sound_rows.proofs.Decide.{decides_iff}
 
 pub record Flag (s h n : ℕ) : Type 0 where
   pub stage : s ≡ 1

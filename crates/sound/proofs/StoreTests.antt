@@ -1,13 +1,12 @@
 -- Bytes are a sound store exactly if the header and the three regions pass their tests.
 use Prim.Native.Nat.{ℕ, zero, suc, ◌+◌, ◌-◌, ◌*◌, ◌≤◌, ◌<◌}
 use mathlib.Core.Path.{◌≡◌, refl, sym, ap, ◌∙◌}
-use mathlib.Core.List.{List, [], ◌∷◌, ◌++◌, append_assoc}
-use mathlib.Core.Option.{Option, none, some}
+use mathlib.Core.List.{List, ◌++◌, append_assoc}
 use native.Mathlib.Omega.{arith}
-use lib.ListN.{length, take, drop, get_or, length-append, length-take, length-drop}
-use lib.Seq.{take-add, take_at, drop_at, drop-drop, take-take, take-append-le, length-take-le}
+use lib.ListN.{length, take, drop, get_or, length-drop}
+use lib.Seq.{take-add, take_at, drop_at, drop-drop, length-take-le}
 use Rattle.ident.specs.Number.{top}
-use Rattle.words.specs.Words.{recs, words, Decides}
+use Rattle.words.specs.Words.{recs, words}
 use Rattle.words.proofs.Records.{length-recs}
 use Rattle.words.proofs.Words.{length-words}
 use Rattle.words.proofs.Parts.{words_take}
@@ -16,13 +15,13 @@ use Rattle.regions.specs.Rows.{row_size, read_row, row_words, conn_size, read_co
 use Rattle.regions.proofs.Regions.{length-padded, length_each}
 use Rattle.places.specs.Places.{place_size, place_words}
 use Rattle.places.proofs.Places.{length-place}
-use Rattle.machine.specs.Limits.{word, need, max_announcements}
+use Rattle.machine.specs.Limits.{word, need}
 use Rattle.machine.specs.Sound.{PollFits, CursorFits}
 use Rattle.store.specs.Flat.{Flat, flat_of}
 use Rattle.store.specs.Gather.{state_in}
 use Rattle.store.specs.FlatSound.{FlatSound}
 use Rattle.store.specs.Image.{head_size, head_words, words_of, SoundStore}
-use Rattle.store.specs.Read.{read_hash, read_place, poll_is, cursor_is, cursor_at, head_in, flat_in}
+use Rattle.store.specs.Read.{read_place, poll_is, cursor_is, cursor_at, head_in, flat_in}
 use Rattle.store.proofs.Quads.{number-top}
 use Rattle.store.proofs.ToFlat.{flat_sound}
 use Rattle.store.proofs.FromFlat.{sound-state, flat_back}
@@ -33,7 +32,7 @@ use Rattle.store.proofs.Stored.{words_front}
 use Rattle.sound.specs.Whole.{SizesPlain, HeadPlain, RecordsSound}
 use Rattle.sound_rows.proofs.Decide.{Iff}
 use Rattle.sound_rows.proofs.Ranges.{Below, below_take, below_drop, quad_ranges}
-use Rattle.sound.proofs.HeadTests.{HeadIs, head_iff}
+use Rattle.sound.proofs.HeadTests.{head_iff}
 use Rattle.sound.proofs.Areas.{area_iff, rows_exact, conns_exact, recs-lent}
 
 append_iff : (a b c d : List ℕ) → length a ≡ length c → Iff (a ++ b ≡ c ++ d) ((a ≡ c) × (b ≡ d))

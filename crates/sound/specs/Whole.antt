@@ -1,5 +1,5 @@
 -- What the test of the header decides, and that of the three regions.
-use Rattle.std.specs.Prelude.{ℕ, zero, suc, ◌+◌, ◌-◌, ◌*◌, ◌≤◌, ◌<◌, ◌≡◌, List, length, drop, get_or, replicate}
+use Rattle.std.specs.Prelude.{ℕ, zero, suc, ◌-◌, ◌*◌, ◌≤◌, ◌≡◌, List, length, drop, get_or, replicate}
 use Rattle.std.proofs.Math.Seq.{slice}
 use Rattle.words.specs.Words.{recs}
 use Rattle.regions.specs.Rows.{row_size, read_row, conn_size, read_conn}

@@ -1,6 +1,5 @@
 use native.Mathlib.Omega.{arith}
-use Prim.Native.Nat.{◌+◌, ◌-◌, ◌*◌}
-use lib.ListN.{length}
+use Prim.Native.Nat.{◌+◌, ◌*◌}
 use Rattle.words.specs.Words.{words}
 use Rattle.words.proofs.Parts.{words-lent}
 use Rattle.sound.specs.Whole.{HeadPlain}

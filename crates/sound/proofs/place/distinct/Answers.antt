@@ -1,7 +1,7 @@
 use borrow.Author.Rules.{rules}
 use native.Mathlib.Omega.{arith}
 use mathlib.Core.Path.{◌≡◌, sym, ◌∙◌}
-use lib.ListN.{length, length-set}
+use lib.ListN.{length-set}
 use Rattle.words.specs.Words.{words}
 use Rattle.sound.proofs.Marks.{unmarked, none_met, marked_turn, repeat_none, repeat_back, repeat_met}
 use Rattle.sound.proofs.place.distinct.Goals as goal

@@ -1,10 +1,8 @@
 use borrow.Author.Rules.{rules}
 use native.Mathlib.Omega.{arith}
-use Prim.Native.Nat.{◌-◌}
 use mathlib.Core.Path.{refl, sym, ◌∙◌}
 use Rattle.words.specs.Words.{words}
 use Rattle.regions.specs.Rows.{quad_number}
-use Rattle.machine.specs.Claim.{elem}
 use Rattle.sound.proofs.Hashes.{elem_here, elem_past, elem_end}
 use Rattle.sound.proofs.place.has_hash.Goals as goal
 

@@ -5,7 +5,6 @@ use Rattle.words.specs.Words.{words, recs}
 use Rattle.words.proofs.Words.{length-words}
 use Rattle.regions.specs.Rows.{row_size, read_row, quad_number}
 use Rattle.places.specs.Places.{place_size}
-use Rattle.machine.specs.Limits.{word}
 use Rattle.machine.specs.Sound.{NoRepeat}
 use Rattle.sound.specs.Places.{hashes_in, Padded, StagePlain}
 use Rattle.sound_rows.proofs.Decide.{passed, failed}
