@@ -38,7 +38,7 @@ pub all_from_at : (P : Request → Type 0) (lo : ℕ) (t : Table) → Ordered lo
 all_from_at P lo [] o b h = tt
 all_from_at P lo (r ∷ t) o b h = (
   subst P (at_here r.key r t refl) (h r.key o.1),
-  all_from_at P _ t o.2 b (λ j s. elim (test (leb (place j) (place r.key))) [
+  all_from_at P (suc (place r.key)) t o.2 b (λ j s. elim (test (leb (place j) (place r.key))) [
     | inl e ↦ subst P (sym (at_absent j _ t (omega (arith, leb-true (place j) (place r.key) e)) o.2)) (b j)
     | inr e ↦ subst P (at_there j r t (λ d. omega (arith, leb-false (place j) (place r.key) e))) (h j s)
   ]),
@@ -101,7 +101,7 @@ record PlaceFrom (lo : ℕ) (t : Table) (p : Place) : Type 0 where
 places-whose : (lo : ℕ) (t : Table) → Ordered lo t → All Lawful t → Each (PlaceFrom lo t) (places_of t)
 unfolding each
 places-whose lo [] o l = tt
-places-whose lo (r ∷ t) o l = each_append (PlaceFrom lo (r ∷ t)) (places_for r) (places_of t) here (each_map _ _ (places_of t) later (places-whose _ t o.2 l.1))
+places-whose lo (r ∷ t) o l = each_append (PlaceFrom lo (r ∷ t)) (places_for r) (places_of t) here (each_map _ _ (places_of t) later (places-whose (suc (place r.key)) t o.2 l.1))
   where
     here : Each (PlaceFrom lo (r ∷ t)) (places_for r)
     here = elim (test (has_place r)) [

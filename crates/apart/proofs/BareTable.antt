@@ -1,5 +1,5 @@
 -- A table without packages: what stands at a key, its keys, counts and rows are those of the table; it holds no place, and is sound.
-use Prim.Native.Nat.{ℕ}
+use Prim.Native.Nat.{ℕ, suc}
 use mathlib.Core.Path.{◌≡◌, refl, ap}
 use mathlib.Core.Logic.{inl, inr}
 use mathlib.Core.Bool.{Bool}
@@ -68,7 +68,7 @@ rows-bare (r ∷ t) = rw (rows_one r, rows-bare t)
 pub ordered-bare : (lo : ℕ) (t : Table) → Ordered lo t → Ordered lo (bare t)
 unfolding bare
 ordered-bare lo [] o = tt
-ordered-bare lo (r ∷ t) o = (o.0, o.1, ordered-bare _ t o.2)
+ordered-bare lo (r ∷ t) o = (o.0, o.1, ordered-bare (suc (place r.key)) t o.2)
 
 filled-bare : (t : Table) → All Filled t → All Filled (bare t)
 unfolding bare

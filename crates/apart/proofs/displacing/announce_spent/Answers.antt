@@ -17,7 +17,7 @@ returns c = spent-alone (record {
   positive = c.requires.1;
   small = omega
       arith;
-}) (omega arith) (omega (arith, c.before.before.before.before.before.before.before.before.before.before.before.before.before.before.before.requires.3)) (hash_below
-    c.before.before.before.before.parent_of.result (hash-four c.before.before.before.before.parent_of.result c.before.before.before.before.parent_of.type-inv))
-    c.before.before.before.before.parent_of.ensures c.before.before.before.before.before.before.before.before.before.let-in.ensures
-    c.before.before.announce-unaided.ensures
+}) (omega arith) (omega (arith, c.requires.3)) (hash_below
+    c.parent_of-h.result (hash-four c.parent_of-h.result c.parent_of-h.type_inv))
+    c.parent_of-h.ensures c.let_in.ensures
+    c.announce_unaided.ensures

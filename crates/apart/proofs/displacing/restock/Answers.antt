@@ -11,7 +11,7 @@ list_victims-m-requires c = (
       (not-false c.lacking.result
       c.if-not-lacking.false-raw),
   c.requires.2,
-  c.clear.auto.s ∙ c.requires.4,
+  c.clear.auto.top ∙ c.requires.4,
   c.clear.ensures,
 )
 

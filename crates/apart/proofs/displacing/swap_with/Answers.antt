@@ -24,9 +24,9 @@ returns c = swaps_with (record {
   positive = c.requires.1;
   small = omega
       arith;
-}) (omega arith) (omega (arith, c.before.before.before.before.before.before.before.before.before.before.before.before.before.before.before.requires.3))
-    c.before.before.before.before.before.before.before.before.before.before.before.before.before.before.before.requires.2 (hash_below
-    c.before.before.before.before.before.before.before.before.parent_of.result (hash-four c.before.before.before.before.before.before.before.before.parent_of.result
-    c.before.before.before.before.before.before.before.before.parent_of.type-inv)) c.before.before.before.before.before.before.before.before.parent_of.ensures (omega
-    (arith, c.before.before.before.before.before.before.before.before.before.if1.false)) c.before.before.before.before.before.before.before.offered.ensures
-    c.before.before.before.before.exchange.ensures
+}) (omega arith) (omega (arith, c.requires.3))
+    c.requires.2 (hash_below
+    c.parent_of-h.result (hash-four c.parent_of-h.result
+    c.parent_of-h.type_inv)) c.parent_of-h.ensures (omega
+    (arith, c.if-q.false)) c.offered-c.ensures
+    c.exchange.ensures

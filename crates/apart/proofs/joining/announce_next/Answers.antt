@@ -38,7 +38,7 @@ returns c =
       c.requires.3,
     ))
     c.requires.2
-    (hash_below c.parent_of-h.result (hash-four c.parent_of-h.result c.parent_of-h.type-inv))
+    (hash_below c.parent_of-h.result (hash-four c.parent_of-h.result c.parent_of-h.type_inv))
     c.parent_of-h.ensures
     (c.wait_with.ensures.alone
     c.if-wait_with.false)

@@ -27,7 +27,7 @@ loop-j-preserved c = (
   c.mark.auto.s ∙ c.loop-j.invariant.1,
   marking_goes c.loop-j.invariant.2
       c.loop-j-test.true (hash_below c.parent_of-h.result
-      (hash-four c.parent_of-h.result c.parent_of-h.type-inv))
+      (hash-four c.parent_of-h.result c.parent_of-h.type_inv))
       c.parent_of-h.ensures c.txid_key.ensures c.mark.ensures,
 )
 

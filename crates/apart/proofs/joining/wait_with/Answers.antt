@@ -14,5 +14,5 @@ returns c =
     waits_with (record { positive = c.requires.1; small = omega arith })
     (omega arith) (omega (arith, c.requires.3))
     c.requires.2 (hash_below c.parent_of-h.result
-    (hash-four c.parent_of-h.result c.parent_of-h.type-inv))
+    (hash-four c.parent_of-h.result c.parent_of-h.type_inv))
     c.parent_of-h.ensures c.offered-c.ensures c.set_aside.ensures

@@ -19,7 +19,7 @@ returns-then-p-eq0 c = record {
   goes = λ st xs o n own.
       let late : c.args.clock < word = omega arith in
       expired-without o (key_num c.args.k) c.args.n c.args.clock late (hash_below c.args.k.hash (key-four c.args.k c.well_formed.1.1.1.1.0)) own
-      (c.find-p.ensures.none st.places xs n o.slots o.ascend (omega (arith, c.if-p-eq0.true))) c.failed.auto.0 c.failed.ensures (search rules) refl c.requires.2;
+      (c.find-p.ensures.none st.places xs n o.slots o.ascend (omega (arith, c.if-p-eq0.true))) c.failed.auto.s c.failed.ensures (search rules) refl c.requires.2;
 }
 
 pub expire_place-r-requires : goal.expire_place-r-requires
@@ -41,7 +41,7 @@ set_note-requires c = let x = c.requires.0 in room_within
       arith,
       c.if-p-eq0.false,
     ))) (all_room x.apart (omega (arith, x.count)))
-    c.expire_place-r.auto.0 c.expire_place-r.auto.1.1.0
+    c.expire_place-r.auto.s c.expire_place-r.auto.first
 
 pub overflow_add-result : goal.overflow_add-result
 overflow_add-result c = let y = found_few c.requires.0 c.find-p.ensures (omega (
@@ -61,5 +61,5 @@ returns c = record {
       expired_with o h (c.expire_place-r.ensures st xs o h (omega (
         arith,
         c.if-p-eq0.false,
-      )) own) c.set_note.ensures c.set_note.auto.0 c.set_note.auto.1.1.0;
+      )) own) c.set_note.ensures c.set_note.auto.s c.set_note.auto.first;
 }

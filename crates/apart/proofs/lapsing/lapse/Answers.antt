@@ -14,8 +14,8 @@ returns-then-p-ne-ENQUEUED c = λ st ps o h z. lapse-fails o h z c.args.n c.args
   arith,
   e,
   c.if-p-ne-ENQUEUED.true,
-))) c.before.before.before.before.before.before.before.before.before.before.before.before.before.before.before.requires.0.front c.before.before.before.before.before.before.before.before.before.failed.auto.s c.before.before.before.before.before.before.before.before.before.failed.ensures
-    refl c.before.before.before.before.kill.ensures
+))) c.requires.0.front c.failed.auto.s c.failed.ensures
+    refl c.kill.ensures
 
 pub returns-else-p-ne-ENQUEUED : goal.returns-else-p-ne-ENQUEUED
 returns-else-p-ne-ENQUEUED c = λ st ps o h z. lapse_stays o h z c.args.n c.args.clock (eq-eqb c.args.p.stage 3 (omega (arith, c.if-p-ne-ENQUEUED.false)))

@@ -47,8 +47,8 @@ raised-bits-requires c = let x = weight-most (c.loop-j.j - c.args.from) (omega (
     omega (
       arith,
       x,
-      c.before.before.before.before.before.before.before.before.before.before.before.loop.invariant.3,
-      c.before.before.before.before.before.before.before.before.before.before.before.loop.invariant.4,
+      c.loop-j.invariant.3,
+      c.loop-j.invariant.4,
     )
 
 pub overflow_mul-w : goal.overflow_mul-w
@@ -61,8 +61,8 @@ overflow_mul-w c = let x = weight-most (c.loop-j.j - c.args.from) (omega (
     omega (
       arith,
       x,
-      c.before.before.before.before.before.before.before.before.before.before.before.before.before.loop.invariant.3,
-      c.before.before.before.before.before.before.before.before.before.before.before.before.before.loop.invariant.4,
+      c.loop-j.invariant.3,
+      c.loop-j.invariant.4,
     )
 
 pub overflow_add-j : goal.overflow_add-j

@@ -10,4 +10,4 @@ returns c = two_put (words c.args.region.now) c.args.i c.args.x.low c.args.x.hig
   arith,
   length-words c.args.region.now,
   c.requires,
-)) c.before.before.before.before.before.before.put.ensures.word c.before.before.put2.ensures.word
+)) c.put.ensures.word c.put-2.ensures.word
