@@ -43,10 +43,10 @@ evictable-rows (r ∷ t) =
 -- ---- a turn of the count, and its end
 
 module _ (r : Row) {x : Bool} (ex : x ≡ protected r.bits) (m : ℕ) {m' : ℕ} where
-  pub goes_one : not x ≡ true → m' ≡ m + 1 → m' ≡ m + one (goes r)
+  pub goes_one : x ≡ false → m' ≡ m + 1 → m' ≡ m + one (goes r)
   goes_one e q = q ∙ sym (rw (← ex, e))
 
-  pub stays_none : not x ≡ false → m' ≡ m → m' ≡ m + one (goes r)
+  pub stays_none : x ≡ true → m' ≡ m → m' ≡ m + one (goes r)
   stays_none e q = let z : one (goes r) ≡ 0 = rw (← ex, e) in omega arith
 
 module _ (rs : List Row) where

@@ -1,26 +1,24 @@
 -- The first of the victims gives way: the next ones are then the first. A preferred candidate that comes in changes nothing in their order.
-use Prim.Native.Nat.{ℕ, ◌+◌, ◌-◌, ◌≤◌, ◌<◌}
-use mathlib.Core.Path.{◌≡◌, refl, sym, ap, subst, ◌∙◌}
-use mathlib.Core.Logic.{inl, inr}
-use mathlib.Core.Bool.{Bool, true, false, ◌&&◌, ◌||◌}
-use mathlib.Core.List.{List, [], ◌∷◌, ◌++◌, map}
-use mathlib.Core.Option.{Option, none, some}
+use Prim.Native.Nat.{ℕ, ◌+◌, ◌≤◌}
+use mathlib.Core.Path.{◌≡◌, refl, sym, ap, ◌∙◌}
+use mathlib.Core.Bool.{Bool, true, ◌||◌}
+use mathlib.Core.List.{List, [], ◌∷◌, ◌++◌}
+use mathlib.Core.Option.{none, some}
 use native.Mathlib.Omega.{arith}
 use lib.Dec.{ltb, eqb}
 use lib.ListN.{length}
 use borrow.Author.Tests.{eq-eqb}
 use Rattle.std.specs.Prelude.{if◌then◌else◌}
-use Rattle.ident.specs.Number.{top, Key, place}
+use Rattle.ident.specs.Number.{Key, place}
 use Rattle.regions.specs.declared.Row.{Row}
 use Rattle.regions.specs.Regions.{remove_at}
 use Rattle.machine.specs.State.{Candidate, Entry, Request, State, Table, with_candidates, owner_is}
 use Rattle.machine.specs.Table.{at, keep, change, one, count, any, by_under, held}
 use Rattle.machine.specs.Announce.{victims_in, victims, greatest, anywhere, push, cut}
-use Rattle.machine.specs.Sound.{Ordered, Sound}
-use Rattle.machine.specs.Typed.{Each}
+use Rattle.machine.specs.Sound.{Sound}
 use Rattle.machine.proofs.Announce.{Victim, victims_all}
 use Rattle.machine.proofs.Table.{at_key, lawful_at}
-use Rattle.machine.proofs.Tests.{test, by_test}
+use Rattle.machine.proofs.Tests.{by_test}
 use Rattle.store.specs.Flat.{row_of, rows_of, places_of}
 use Rattle.store.specs.Gather.{key_at, candidate_at}
 use Rattle.store.specs.FlatSound.{count_rows}

@@ -1,20 +1,18 @@
 -- Those that give way first are the rows that can be evicted and that the last of them does not come after: they can go in one pass.
-use Prim.Native.Nat.{ℕ, ◌+◌, ◌≤◌, ◌<◌}
+use Prim.Native.Nat.{ℕ, ◌≤◌, ◌<◌, suc}
 use mathlib.Core.Path.{◌≡◌, refl, sym, ap, subst, ◌∙◌}
 use mathlib.Core.Logic.{◌⊎◌, inl, inr}
 use mathlib.Core.Bool.{Bool, true, false, not, ◌&&◌}
 use mathlib.Core.List.{List, [], ◌∷◌, ◌++◌, map, map-append, append_assoc}
 use native.Mathlib.Omega.{arith}
-use lib.Dec.{eqb}
 use borrow.Author.Tests.{eq-eqb}
-use Rattle.std.specs.Prelude.{if◌then◌else◌}
 use Rattle.ident.specs.Number.{top, Key, place}
 use Rattle.ident.proofs.Places.{place_same as place-inj}
 use Rattle.regions.specs.declared.Row.{Row}
 use Rattle.regions.specs.Regions.{each}
 use Rattle.regions.proofs.Regions.{each_append}
-use Rattle.machine.specs.State.{Candidate, Entry, Request, State, Table, on_table}
-use Rattle.machine.specs.Table.{one, by_under, count}
+use Rattle.machine.specs.State.{Candidate, Entry, State, Table, on_table}
+use Rattle.machine.specs.Table.{one, by_under}
 use Rattle.machine.specs.Announce.{after, cut}
 use Rattle.machine.specs.Sound.{Ordered, Sound}
 use Rattle.machine.specs.Typed.{Each}
@@ -98,7 +96,7 @@ Small r = (key_at r).hash < top
 small-rows : (lo : ℕ) (t : Table) → Ordered lo t → Each Small (rows_of t)
 unfolding each
 small-rows lo [] o = tt
-small-rows lo (q ∷ t) o = Each-both Small (rows_for q) (rows_of t) (unfold rows_for in request q.candidates) (small-rows _ t o.2)
+small-rows lo (q ∷ t) o = Each-both Small (rows_for q) (rows_of t) (unfold rows_for in request q.candidates) (small-rows (suc (place q.key)) t o.2)
   where
     request : (cs : List Candidate) → Each Small (map (row_of q) cs)
     request [] = tt

@@ -1,14 +1,14 @@
 -- Once the first of the victims have gone: what is left of the table, and what is not touched.
-use Prim.Native.Nat.{ℕ, ◌+◌, ◌≤◌, ◌<◌}
-use mathlib.Core.Path.{◌≡◌, refl, sym, ap, subst, ◌∙◌}
-use mathlib.Core.Bool.{Bool, true, false}
-use mathlib.Core.List.{List, [], ◌∷◌, ◌++◌, map, append_assoc}
+use Prim.Native.Nat.{ℕ, ◌+◌, ◌<◌}
+use mathlib.Core.Path.{◌≡◌, refl, sym, ap, ◌∙◌}
+use mathlib.Core.Bool.{Bool, false}
+use mathlib.Core.List.{List, [], ◌∷◌, ◌++◌, map}
 use native.Mathlib.Omega.{arith}
 use lib.ListN.{length}
 use Rattle.ident.specs.Number.{top, Key, txid, wtxid}
 use Rattle.regions.specs.declared.Row.{Row}
 use Rattle.machine.specs.State.{Entry, Request, State, Table, on_table}
-use Rattle.machine.specs.Table.{at, one, any, count, held}
+use Rattle.machine.specs.Table.{at, one, count, held}
 use Rattle.machine.specs.Announce.{victims_in, victims, at_hash, cut}
 use Rattle.machine.specs.Sound.{Ordered, Sound}
 use Rattle.machine.specs.Typed.{Each}

@@ -8,7 +8,6 @@ pub mod OneParent
 pub mod Repeats
 pub mod Listing
 pub mod Heads
-pub mod Taking
 pub mod Falling
 pub mod Ranking
 pub mod Giving

@@ -1,13 +1,13 @@
 -- Where L are held and nobody can be evicted, a preferred announcement changes nothing.
-use Prim.Native.Nat.{ℕ, ◌+◌, ◌≤◌}
+use Prim.Native.Nat.{ℕ, ◌≤◌}
 use mathlib.Core.Path.{◌≡◌, refl, sym, ap, ◌∙◌}
 use mathlib.Core.Logic.{inl, inr}
-use mathlib.Core.Bool.{Bool, true, false}
+use mathlib.Core.Bool.{Bool, true}
 use mathlib.Core.List.{List, [], ◌∷◌, ◌++◌}
 use mathlib.Core.Option.{Option, none, some}
 use native.Mathlib.Omega.{arith}
 use lib.Dec.{leb}
-use lib.ListN.{length, length-append}
+use lib.ListN.{length}
 use borrow.Author.Tests.{le-leb}
 use Rattle.ident.specs.Number.{Key}
 use Rattle.machine.specs.Limits.{Limits}
@@ -17,7 +17,6 @@ use Rattle.machine.specs.Announce.{victims_in, victims, greatest, anywhere, at_h
 use Rattle.machine.specs.Sound.{Sound}
 use Rattle.machine.proofs.Tests.{test}
 use Rattle.store.specs.Flat.{rows_of}
-use Rattle.announcing.specs.Evicts.{greatest_over}
 use Rattle.announcing.specs.Falls.{fallen, head_of}
 use Rattle.announcing.proofs.Deciding.{Barred, Crowded, when-barred, when-crowded, when-full}
 use Rattle.announcing.proofs.Falling.{fallen-head}

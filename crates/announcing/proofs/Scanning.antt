@@ -1,22 +1,21 @@
 -- A scan of rows for the greatest victim: what each test shows, and what one row more does.
-use Prim.Native.Nat.{ℕ, zero, suc, ◌+◌, ◌-◌, ◌%◌, ◌^◌, ◌≤◌, ◌<◌}
+use Prim.Native.Nat.{ℕ, zero, suc, ◌+◌, ◌-◌, ◌%◌, ◌≤◌, ◌<◌}
 use mathlib.Core.Path.{◌≡◌, refl, sym, ap, ◌∙◌}
-use mathlib.Core.Bool.{Bool, true, false, not, ◌&&◌, ◌||◌}
+use mathlib.Core.Bool.{Bool, true, false, ◌&&◌, ◌||◌}
 use mathlib.Core.List.{List}
 use mathlib.Core.Option.{Option, none, some}
 use native.Mathlib.Omega.{arith}
-use lib.Dec.{ltb, eqb}
+use lib.Dec.{ltb}
 use lib.ListN.{length, get_or}
 use lib.Seq.{drop-cons}
-use borrow.Author.Tests.{lt-ltb, le-ltb, ltb-true, not-true, not-false}
+use borrow.Author.Tests.{lt-ltb, le-ltb, ltb-true}
 use Rattle.ident.specs.declared.Kind.{Kind}
 use Rattle.ident.specs.declared.Kind.TheVariants.{Wtxid}
 use Rattle.std.specs.Prelude.{if◌then◌else◌}
 use Rattle.ident.specs.Number.{place}
-use Rattle.words.specs.Words.{number}
 use Rattle.regions.specs.declared.Row.{Row}
 use Rattle.regions.specs.declared.Key.{Key as RowKey}
-use Rattle.regions.specs.Rows.{quad_words, quad_number, key_number, key_of}
+use Rattle.regions.specs.Rows.{quad_number, key_number, key_of}
 use Rattle.machine.specs.State.{Entry}
 use Rattle.machine.specs.Announce.{after}
 use Rattle.machine.proofs.Tests.{by_test, never, or_left}
@@ -96,11 +95,11 @@ module _ (r : Row) {x : Bool} (ex : x ≡ protected r.bits) where
     first_row b n = rw n (sym (row_goes e none))
 
     module _ {a : Bool} (ea : a ≡ after (entry_at r) (entry_at row)) where
-      pub row_less : (b : Bool) → b ≡ true → not a ≡ true → is b row ≡ or_row (is b row) r
-      row_less b n d = rw n (sym (row_goes e (some (entry_at row)) ∙ rw (sym ea ∙ not-true a d)))
+      pub row_less : (b : Bool) → b ≡ true → a ≡ false → is b row ≡ or_row (is b row) r
+      row_less b n d = rw n (sym (row_goes e (some (entry_at row)) ∙ rw (sym ea ∙ d)))
 
-      pub row_more : (b : Bool) → b ≡ true → not a ≡ false → some (entry_at r) ≡ or_row (is b row) r
-      row_more b n d = rw n (sym (row_goes e (some (entry_at row)) ∙ rw (sym ea ∙ not-false a d)))
+      pub row_more : (b : Bool) → b ≡ true → a ≡ true → some (entry_at r) ≡ or_row (is b row) r
+      row_more b n d = rw n (sym (row_goes e (some (entry_at row)) ∙ rw (sym ea ∙ d)))
 
 -- ---- a part of a list of rows
 

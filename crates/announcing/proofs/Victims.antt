@@ -1,5 +1,5 @@
 -- The victims of a table, read from its rows in order.
-use Prim.Native.Nat.{ℕ, ◌+◌, ◌-◌, ◌/◌, ◌%◌, ◌≤◌, ◌<◌}
+use Prim.Native.Nat.{ℕ, ◌+◌, ◌-◌, ◌/◌, ◌%◌, ◌≤◌, ◌<◌, suc}
 use mathlib.Core.Path.{◌≡◌, refl, sym, ap, ◌∙◌}
 use mathlib.Core.Logic.{inl, inr}
 use mathlib.Core.Bool.{true, false, ◌||◌}
@@ -136,7 +136,7 @@ module _ (h : ℕ) (small : h < top) where
   unfolding victims at victims_in
   at-hash lo [] o = refl
   at-hash lo (r ∷ t) o = elim (test (eqb r.key.hash h)) [
-    | inl e ↦ rw e (here r.key.kind refl (eqb-true r.key.hash h e) (at-hash _ t o.2))
+    | inl e ↦ rw e (here r.key.kind refl (eqb-true r.key.hash h e) (at-hash (suc (place r.key)) t o.2))
     | inr e ↦ let n = eqb-false r.key.hash h e in
         let a = key_past (txid h) r t (apart h small (λ m. true) r Txid r.key.kind n o.1) in
         let b = key_past (wtxid h) r t (apart h small (λ m. true) r Wtxid r.key.kind n o.1) in

@@ -1,8 +1,6 @@
-use Prim.Native.Nat.{◌+◌, ◌-◌}
+use Prim.Native.Nat.{◌+◌}
 use mathlib.Core.Path.{◌≡◌, refl}
-use mathlib.Core.Logic.{⊎_elim}
 use native.Mathlib.Omega.{arith}
-use lib.ListN.{take}
 use Rattle.machine.specs.Table.{one}
 use Rattle.machine.proofs.Owning.{one_most}
 use Rattle.store.specs.Flat.{flat_of}
@@ -11,6 +9,7 @@ use Rattle.store.proofs.Frame.{sizes}
 use Rattle.requests.proofs.Keeping.{kept_shown}
 use Rattle.announcing.proofs.Counted.{goes, goes_one, stays_none, counted_turn, counted}
 use Rattle.announcing.proofs.evict.evictable.Goals as goal
+use Rattle.announcing.proofs.evict.evictable.Goals.{then-not-stays, else-not-stays}
 
 pub rows-n-requires : goal.rows-n-requires
 rows-n-requires c = let z = (kept_shown c.requires).sizes in omega arith
@@ -19,19 +18,22 @@ pub loop-i-init : goal.loop-i-init
 loop-i-init c = (omega arith, omega arith, λ f w. unfold count_rows in refl)
 
 pub row_at-r-requires : goal.row_at-r-requires
-row_at-r-requires c = (kept_shown c.requires, omega (arith, c.rows-n.ensures.word, c.loop-i-test))
+row_at-r-requires c = (kept_shown c.requires, omega (arith, c.rows-n.ensures.word, c.loop-i-test.true))
 
 pub loop-i-preserved : goal.loop-i-preserved
 loop-i-preserved c =
     let r = c.row_at-r.result in
     let m = c.loop-i.m in
     let e = c.stays.ensures in
-    let q : c.if-not-stays.m ≡ m + one (goes r) = ⊎_elim (λ x. goes_one r e m x.0.taken x.1) (λ x. stays_none r e m x.0.left x.1) c.if-not-stays.branch in (
+    let q : c.if-not-stays.m ≡ m + one (goes r) = elim c.if-not-stays.branch [
+      | then-not-stays w ↦ goes_one r e m w.if-not-stays.true w.m-is
+      | else-not-stays w ↦ stays_none r e m w.if-not-stays.false w.m-is
+    ] in (
       omega arith,
       omega (arith, q, one_most (goes r), c.loop-i.invariant.1),
       λ f w.
           let z = sizes w in
-          counted_turn f.rows r (omega (arith, c.rows-n.ensures.field f w, c.loop-i-test))
+          counted_turn f.rows r (omega (arith, c.rows-n.ensures.field f w, c.loop-i-test.true))
           (c.row_at-r.ensures f r w) (c.loop-i.invariant.2 f w) q,
     )
 

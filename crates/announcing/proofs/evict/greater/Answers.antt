@@ -9,13 +9,13 @@ pub returns-then-not-after : goal.returns-then-not-after
 returns-then-not-after c = row_less c.args.r (row-free c.args.r
     c.args.best.row c.args.best.some
     c.passed.ensures c.if-passed.false) refl c.args.best.row
-    c.after.ensures c.args.best.some c.if-best.true c.if-not-after.true-raw
+    c.after.ensures c.args.best.some c.if-best.true c.if-not-after.true
 
 pub returns-else-not-after : goal.returns-else-not-after
 returns-else-not-after c = row_more c.args.r (row-free c.args.r
     c.args.best.row c.args.best.some
     c.passed.ensures c.if-passed.false) refl c.args.best.row
-    c.after.ensures c.args.best.some c.if-best.true c.if-not-after.false-raw
+    c.after.ensures c.args.best.some c.if-best.true c.if-not-after.false
 
 pub returns-else-best : goal.returns-else-best
 returns-else-best c = first_row c.args.r (row-free c.args.r c.args.best.row

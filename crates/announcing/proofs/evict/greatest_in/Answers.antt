@@ -1,5 +1,4 @@
 use Rattle.store.proofs.Frame.{sizes}
-use Prim.Native.Nat.{◌-◌}
 use mathlib.Core.Path.{refl, sym, ◌∙◌}
 use native.Mathlib.Omega.{arith}
 use Rattle.announcing.specs.Evicts.{found}
