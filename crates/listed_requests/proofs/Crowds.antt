@@ -1,5 +1,5 @@
 -- Candidates of a hash: how many, whether a connection comes twice among them, and that they are those of its two keys.
-use Prim.Native.Nat.{ℕ, ◌+◌, ◌≤◌, ◌<◌}
+use Prim.Native.Nat.{ℕ, suc, ◌+◌, ◌≤◌, ◌<◌}
 use mathlib.Core.Path.{◌≡◌, refl, sym, ap, ◌∙◌}
 use mathlib.Core.Logic.{inl, inr}
 use mathlib.Core.Bool.{Bool, true, false, not, ◌&&◌}
@@ -130,11 +130,11 @@ module _ (h : ℕ) (small : h < top) (v w : Request → ℕ) (weighs : (r : Requ
   two_keys : (lo : ℕ) (t : Table) → Ordered lo t → total v t ≡ w (at (txid h) t) + w (at (wtxid h) t)
   two_keys lo [] o = omega (arith, total_none v, ap w (at_none (txid h)), ap w (at_none (wtxid h)), nothing (txid h), nothing (wtxid h))
   two_keys lo (r ∷ t) o = elim (test (eqb r.key.hash h)) [
-    | inl e ↦ here r.key.kind refl (eqb-true r.key.hash h e) (two_keys _ t o.2)
+    | inl e ↦ here r.key.kind refl (eqb-true r.key.hash h e) (two_keys (suc (place r.key)) t o.2)
     | inr e ↦ let n = eqb-false r.key.hash h e in
         let a = ap w (at_there (txid h) r t (apart r Txid r.key.kind n o.1)) in
         let b = ap w (at_there (wtxid h) r t (apart r Wtxid r.key.kind n o.1)) in
-        omega (arith, total_more v r t, weightless r n, a, b, two_keys _ t o.2)
+        omega (arith, total_more v r t, weightless r n, a, b, two_keys (suc (place r.key)) t o.2)
   ]
     where
       here : (k : Kind) → r.key.kind ≡ k → r.key.hash ≡ h → total v t ≡ w (at (txid h) t) + w (at (wtxid h) t)

@@ -19,16 +19,16 @@ count_number-requires c =
     (c.requires.3 ∙ sym c.loop-at.invariant.1, omega (arith, c.loop-at.invariant.4, c.loop-at.invariant.0, c.well_formed.0.1))
 
 pub loop-at-smaller : goal.loop-at-smaller
-loop-at-smaller c = let l = c.line_at_lem.ensures in omega (arith, l.on, l.inside)
+loop-at-smaller c = let l = c.line_at-l.ensures in omega (arith, l.on, l.inside)
 
 pub loop-at-preserved : goal.loop-at-preserved
 loop-at-preserved c =
-    let l = c.line_at_lem in
+    let l = c.line_at-l in
     let n = c.count_number in (
       l.ensures.inside,
-      n.auto.1.0 ∙ c.loop-at.invariant.1,
-      l.auto.1.1.0 ∙ c.loop-at.invariant.2,
-      l.auto.1.1.1.0 ∙ c.loop-at.invariant.3,
+      n.auto.counts ∙ c.loop-at.invariant.1,
+      l.auto.wtxids ∙ c.loop-at.invariant.2,
+      l.auto.parents ∙ c.loop-at.invariant.3,
       omega (arith, sum_more c.args.names.now c.loop-at.counts (c.requires.3 ∙ sym c.loop-at.invariant.1) n.ensures, c.loop-at.invariant.4, l.ensures.on),
       count_on c.loop-at.invariant.5 l.ensures c.added-n.ensures n.ensures,
     )

@@ -19,18 +19,18 @@ note_number-requires c =
     (c.loop-at.invariant.1 ∙ c.requires.3 ∙ sym c.loop-at.invariant.2, omega (arith, c.loop-at.invariant.5, c.loop-at.invariant.0, c.well_formed.0.1))
 
 pub loop-at-smaller : goal.loop-at-smaller
-loop-at-smaller c = let l = c.line_at_lem.ensures in omega (arith, l.on, l.inside)
+loop-at-smaller c = let l = c.line_at-l.ensures in omega (arith, l.on, l.inside)
 
 pub loop-at-preserved : goal.loop-at-preserved
 loop-at-preserved c =
-    let l = c.line_at_lem in
+    let l = c.line_at-l in
     let n = c.note_number in
     let e = c.loop-at.invariant.1 ∙ c.requires.3 ∙ sym c.loop-at.invariant.2 in (
       l.ensures.inside,
-      n.auto.0 ∙ c.loop-at.invariant.1,
-      n.auto.1.0 ∙ c.loop-at.invariant.2,
-      l.auto.1.1.0 ∙ c.loop-at.invariant.3,
-      l.auto.1.1.1.0 ∙ c.loop-at.invariant.4,
+      n.auto.names ∙ c.loop-at.invariant.1,
+      n.auto.counts ∙ c.loop-at.invariant.2,
+      l.auto.wtxids ∙ c.loop-at.invariant.3,
+      l.auto.parents ∙ c.loop-at.invariant.4,
       omega (arith, sum-noted c.loop-at.names c.loop-at.counts e n.ensures, c.loop-at.invariant.5, l.ensures.on),
       note_on c.loop-at.invariant.6 l.ensures c.added-n.ensures n.ensures,
     )

@@ -12,22 +12,22 @@ pub line_at-first-requires : goal.line_at-first-requires
 line_at-first-requires c = (omega (arith, c.if-text-eq0.false), c.requires.0, c.requires.1)
 
 pub returns-in_default : goal.returns-in_default
-returns-in_default c = no_first c.line_at_lem.ensures c.head_of.ensures c.in_default.is
+returns-in_default c = no_first c.line_at-first.ensures c.head_of.ensures c.in_default.is
 
 pub placed-requires : goal.placed-requires
 placed-requires c = (
-  c.line_at_lem.ensures.inside,
-  omega (arith, c.line_at_lem.auto.1.1.0, c.requires.0),
+  c.line_at-first.ensures.inside,
+  omega (arith, c.line_at-first.auto.wtxids, c.requires.0),
   omega
-      (arith, c.line_at_lem.auto.1.1.1.0, c.requires.1),
+      (arith, c.line_at-first.auto.parents, c.requires.1),
 )
 
 pub returns-then-not-placed : goal.returns-then-not-placed
 returns-then-not-placed c =
-    not_placed c.line_at_lem.ensures c.head_of.ensures
+    not_placed c.line_at-first.ensures c.head_of.ensures
     c.in-Is.is (sym c.placed.ensures ∙ not-true _ c.if-not-placed.true-raw)
 
 pub returns : goal.returns
 returns c =
-    listed c.line_at_lem.ensures c.head_of.ensures
+    listed c.line_at-first.ensures c.head_of.ensures
     c.in-Is.is (sym c.placed.ensures ∙ not-false _ c.if-not-placed.false-raw)

@@ -24,29 +24,29 @@ line_at-l-requires c = (
 
 pub shape_of-wtxids-then-m-eq0 : goal.shape_of-wtxids-then-m-eq0
 shape_of-wtxids-then-m-eq0 c =
-    c.line_at_lem.auto.1.1.0 ∙ c.loop-at.invariant.1
+    c.line_at-l.auto.wtxids ∙ c.loop-at.invariant.1
 
 pub shape_of-parents-then-m-eq0 : goal.shape_of-parents-then-m-eq0
 shape_of-parents-then-m-eq0 c =
-    c.line_at_lem.auto.1.1.1.0 ∙ c.loop-at.invariant.2
+    c.line_at-l.auto.parents ∙ c.loop-at.invariant.2
 
 pub returns-then-m-eq0 : goal.returns-then-m-eq0
 returns-then-m-eq0 c =
     scan_stop
-    (scan_on c.loop-at.invariant.4 c.line_at_lem.ensures
+    (scan_on c.loop-at.invariant.4 c.line_at-l.ensures
     c.meets-m.ensures)
     c.if-m-eq0.true
 
 pub loop-at-smaller : goal.loop-at-smaller
-loop-at-smaller c = omega (arith, c.line_at_lem.ensures.on, c.line_at_lem.ensures.inside)
+loop-at-smaller c = omega (arith, c.line_at-l.ensures.on, c.line_at-l.ensures.inside)
 
 pub loop-at-preserved : goal.loop-at-preserved
 loop-at-preserved c = (
-  c.line_at_lem.ensures.inside,
-  c.line_at_lem.auto.1.1.0 ∙ c.loop-at.invariant.1,
-  c.line_at_lem.auto.1.1.1.0 ∙ c.loop-at.invariant.2,
+  c.line_at-l.ensures.inside,
+  c.line_at-l.auto.wtxids ∙ c.loop-at.invariant.1,
+  c.line_at-l.auto.parents ∙ c.loop-at.invariant.2,
   c.if-m-eq0.false,
-  scan_on c.loop-at.invariant.4 c.line_at_lem.ensures
+  scan_on c.loop-at.invariant.4 c.line_at-l.ensures
       c.meets-m.ensures,
 )
 

@@ -20,11 +20,11 @@ shape_of-conns-in_default c = c.loop-at.invariant.0
 
 pub shape_of-wtxids-in_default : goal.shape_of-wtxids-in_default
 shape_of-wtxids-in_default c =
-    c.request_at-f.auto.1.1.0 ∙ c.loop-at.invariant.1
+    c.request_at-f.auto.wtxids ∙ c.loop-at.invariant.1
 
 pub shape_of-parents-in_default : goal.shape_of-parents-in_default
 shape_of-parents-in_default c =
-    c.request_at-f.auto.1.1.1.0 ∙ c.loop-at.invariant.2
+    c.request_at-f.auto.parents ∙ c.loop-at.invariant.2
 
 pub returns-in_default : goal.returns-in_default
 returns-in_default c = c.loop-at.invariant.3
@@ -34,11 +34,11 @@ shape_of-conns-then-is_wtxid c = c.loop-at.invariant.0
 
 pub shape_of-wtxids-then-is_wtxid : goal.shape_of-wtxids-then-is_wtxid
 shape_of-wtxids-then-is_wtxid c =
-    c.request_at-f.auto.1.1.0 ∙ c.loop-at.invariant.1
+    c.request_at-f.auto.wtxids ∙ c.loop-at.invariant.1
 
 pub shape_of-parents-then-is_wtxid : goal.shape_of-parents-then-is_wtxid
 shape_of-parents-then-is_wtxid c =
-    c.request_at-f.auto.1.1.1.0 ∙ c.loop-at.invariant.2
+    c.request_at-f.auto.parents ∙ c.loop-at.invariant.2
 
 pub returns-then-is_wtxid : goal.returns-then-is_wtxid
 returns-then-is_wtxid c = c.loop-at.invariant.3
@@ -48,11 +48,11 @@ shape_of-conns-then-not-quad_less c = c.loop-at.invariant.0
 
 pub shape_of-wtxids-then-not-quad_less : goal.shape_of-wtxids-then-not-quad_less
 shape_of-wtxids-then-not-quad_less c =
-    c.request_at-f.auto.1.1.0 ∙ c.loop-at.invariant.1
+    c.request_at-f.auto.wtxids ∙ c.loop-at.invariant.1
 
 pub shape_of-parents-then-not-quad_less : goal.shape_of-parents-then-not-quad_less
 shape_of-parents-then-not-quad_less c =
-    c.request_at-f.auto.1.1.1.0 ∙ c.loop-at.invariant.2
+    c.request_at-f.auto.parents ∙ c.loop-at.invariant.2
 
 pub returns-then-not-quad_less : goal.returns-then-not-quad_less
 returns-then-not-quad_less c = c.loop-at.invariant.3
@@ -61,8 +61,8 @@ pub skip-at-requires : goal.skip-at-requires
 skip-at-requires c = (
   c.request_at-f.ensures.inside,
   omega (arith, c.loop-at.invariant.0, c.requires.1),
-  omega (arith, c.request_at-f.auto.1.1.0, c.loop-at.invariant.1, c.requires.2),
-  omega (arith, c.request_at-f.auto.1.1.1.0, c.loop-at.invariant.2, c.requires.3),
+  omega (arith, c.request_at-f.auto.wtxids, c.loop-at.invariant.1, c.requires.2),
+  omega (arith, c.request_at-f.auto.parents, c.loop-at.invariant.2, c.requires.3),
 )
 
 pub loop-at-smaller : goal.loop-at-smaller
@@ -71,9 +71,9 @@ loop-at-smaller c =
 
 pub loop-at-preserved : goal.loop-at-preserved
 loop-at-preserved c = (
-  c.skip-at.auto.1.1.1.0 ∙ c.loop-at.invariant.0,
-  c.skip-at.auto.1.1.1.1.0 ∙ c.request_at-f.auto.1.1.0 ∙ c.loop-at.invariant.1,
-  c.skip-at.auto.1.1.1.1.1.0 ∙ c.request_at-f.auto.1.1.1.0 ∙ c.loop-at.invariant.2,
+  c.skip-at.auto.conns ∙ c.loop-at.invariant.0,
+  c.skip-at.auto.wtxids ∙ c.request_at-f.auto.wtxids ∙ c.loop-at.invariant.1,
+  c.skip-at.auto.parents ∙ c.request_at-f.auto.parents ∙ c.loop-at.invariant.2,
   below_on c.loop-at.invariant.3 c.request_at-f.ensures c.in-Is.is c.is_wtxid.ensures c.if-is_wtxid.false c.quad_less.ensures
       (not-false _ c.if-not-quad_less.false-raw) c.skip-at.ensures,
 )

@@ -16,7 +16,7 @@ returns-then-is_wtxid c =
 
 pub request_at-g-requires : goal.request_at-g-requires
 request_at-g-requires c =
-    (c.requires.1, omega (arith, c.request_at-f.auto.1.1.0, c.requires.3), omega (arith, c.request_at-f.auto.1.1.1.0, c.requires.4))
+    (c.requires.1, omega (arith, c.request_at-f.auto.wtxids, c.requires.3), omega (arith, c.request_at-f.auto.parents, c.requires.4))
 
 pub returns-in_default-back : goal.returns-in_default-back
 returns-in_default-back c =
@@ -26,17 +26,17 @@ pub pass_below-first-requires : goal.pass_below-first-requires
 pass_below-first-requires c = (
   c.request_at-f.ensures.inside,
   c.requires.2,
-  omega (arith, c.request_at-g.auto.1.1.0, c.request_at-f.auto.1.1.0, c.requires.3),
-  omega (arith, c.request_at-g.auto.1.1.1.0, c.request_at-f.auto.1.1.1.0, c.requires.4),
+  omega (arith, c.request_at-g.auto.wtxids, c.request_at-f.auto.wtxids, c.requires.3),
+  omega (arith, c.request_at-g.auto.parents, c.request_at-f.auto.parents, c.requires.4),
 )
 
 pub shape_of-wtxids-then-quad_less : goal.shape_of-wtxids-then-quad_less
 shape_of-wtxids-then-quad_less c =
-    c.pass_below-first.auto.1.1.1.1.1.0 ∙ c.request_at-g.auto.1.1.0 ∙ c.request_at-f.auto.1.1.0
+    c.pass_below-first.auto.wtxids ∙ c.request_at-g.auto.wtxids ∙ c.request_at-f.auto.wtxids
 
 pub shape_of-parents-then-quad_less : goal.shape_of-parents-then-quad_less
 shape_of-parents-then-quad_less c =
-    c.pass_below-first.auto.1.1.1.1.1.1.0 ∙ c.request_at-g.auto.1.1.1.0 ∙ c.request_at-f.auto.1.1.1.0
+    c.pass_below-first.auto.parents ∙ c.request_at-g.auto.parents ∙ c.request_at-f.auto.parents
 
 pub returns-then-quad_less : goal.returns-then-quad_less
 returns-then-quad_less c =
@@ -48,17 +48,17 @@ pub skip-second-requires : goal.skip-second-requires
 skip-second-requires c = (
   c.request_at-g.ensures.inside,
   c.requires.2,
-  omega (arith, c.request_at-g.auto.1.1.0, c.request_at-f.auto.1.1.0, c.requires.3),
-  omega (arith, c.request_at-g.auto.1.1.1.0, c.request_at-f.auto.1.1.1.0, c.requires.4),
+  omega (arith, c.request_at-g.auto.wtxids, c.request_at-f.auto.wtxids, c.requires.3),
+  omega (arith, c.request_at-g.auto.parents, c.request_at-f.auto.parents, c.requires.4),
 )
 
 pub shape_of-wtxids-then-quad_less-2 : goal.shape_of-wtxids-then-quad_less-2
 shape_of-wtxids-then-quad_less-2 c =
-    c.skip-second.auto.1.1.1.1.0 ∙ c.request_at-g.auto.1.1.0 ∙ c.request_at-f.auto.1.1.0
+    c.skip-second.auto.wtxids ∙ c.request_at-g.auto.wtxids ∙ c.request_at-f.auto.wtxids
 
 pub shape_of-parents-then-quad_less-2 : goal.shape_of-parents-then-quad_less-2
 shape_of-parents-then-quad_less-2 c =
-    c.skip-second.auto.1.1.1.1.1.0 ∙ c.request_at-g.auto.1.1.1.0 ∙ c.request_at-f.auto.1.1.1.0
+    c.skip-second.auto.parents ∙ c.request_at-g.auto.parents ∙ c.request_at-f.auto.parents
 
 pub returns-then-quad_less-2 : goal.returns-then-quad_less-2
 returns-then-quad_less-2 c =
@@ -71,17 +71,17 @@ side_by_side-b-requires c = (
   c.request_at-f.ensures.inside,
   c.request_at-g.ensures.inside,
   c.requires.2,
-  omega (arith, c.request_at-g.auto.1.1.0, c.request_at-f.auto.1.1.0, c.requires.3),
-  omega (arith, c.request_at-g.auto.1.1.1.0, c.request_at-f.auto.1.1.1.0, c.requires.4),
+  omega (arith, c.request_at-g.auto.wtxids, c.request_at-f.auto.wtxids, c.requires.3),
+  omega (arith, c.request_at-g.auto.parents, c.request_at-f.auto.parents, c.requires.4),
 )
 
 pub shape_of-wtxids-then-not-b : goal.shape_of-wtxids-then-not-b
 shape_of-wtxids-then-not-b c =
-    c.side_by_side-b.auto.1.1.1.1.1.1.0 ∙ c.request_at-g.auto.1.1.0 ∙ c.request_at-f.auto.1.1.0
+    c.side_by_side-b.auto.wtxids ∙ c.request_at-g.auto.wtxids ∙ c.request_at-f.auto.wtxids
 
 pub shape_of-parents-then-not-b : goal.shape_of-parents-then-not-b
 shape_of-parents-then-not-b c =
-    c.side_by_side-b.auto.1.1.1.1.1.1.1.0 ∙ c.request_at-g.auto.1.1.1.0 ∙ c.request_at-f.auto.1.1.1.0
+    c.side_by_side-b.auto.parents ∙ c.request_at-g.auto.parents ∙ c.request_at-f.auto.parents
 
 pub returns-then-not-b : goal.returns-then-not-b
 returns-then-not-b c =
@@ -92,11 +92,11 @@ returns-then-not-b c =
 
 pub shape_of-wtxids : goal.shape_of-wtxids
 shape_of-wtxids c =
-    c.side_by_side-b.auto.1.1.1.1.1.1.0 ∙ c.request_at-g.auto.1.1.0 ∙ c.request_at-f.auto.1.1.0
+    c.side_by_side-b.auto.wtxids ∙ c.request_at-g.auto.wtxids ∙ c.request_at-f.auto.wtxids
 
 pub shape_of-parents : goal.shape_of-parents
 shape_of-parents c =
-    c.side_by_side-b.auto.1.1.1.1.1.1.1.0 ∙ c.request_at-g.auto.1.1.1.0 ∙ c.request_at-f.auto.1.1.1.0
+    c.side_by_side-b.auto.parents ∙ c.request_at-g.auto.parents ∙ c.request_at-f.auto.parents
 
 pub returns : goal.returns
 returns c =

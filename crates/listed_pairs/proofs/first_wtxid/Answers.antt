@@ -13,25 +13,25 @@ line_at-l-requires c =
     (omega arith, omega (arith, c.loop-at.invariant.1, c.requires.1), omega (arith, c.loop-at.invariant.2, c.requires.2))
 
 pub shape_of-wtxids-then-wtxid_line : goal.shape_of-wtxids-then-wtxid_line
-shape_of-wtxids-then-wtxid_line c = c.line_at_lem.auto.1.1.0 ∙ c.loop-at.invariant.1
+shape_of-wtxids-then-wtxid_line c = c.line_at-l.auto.wtxids ∙ c.loop-at.invariant.1
 
 pub shape_of-parents-then-wtxid_line : goal.shape_of-parents-then-wtxid_line
 shape_of-parents-then-wtxid_line c =
-    c.line_at_lem.auto.1.1.1.0 ∙ c.loop-at.invariant.2
+    c.line_at-l.auto.parents ∙ c.loop-at.invariant.2
 
 pub returns-then-wtxid_line : goal.returns-then-wtxid_line
 returns-then-wtxid_line c =
-    search_found c.loop-at.invariant.3 c.line_at_lem.ensures c.wtxid_line.ensures c.loop-at.invariant.0 c.if-wtxid_line.true
+    search_found c.loop-at.invariant.3 c.line_at-l.ensures c.wtxid_line.ensures c.loop-at.invariant.0 c.if-wtxid_line.true
 
 pub loop-at-smaller : goal.loop-at-smaller
-loop-at-smaller c = omega (arith, c.line_at_lem.ensures.on, c.line_at_lem.ensures.inside)
+loop-at-smaller c = omega (arith, c.line_at-l.ensures.on, c.line_at-l.ensures.inside)
 
 pub loop-at-preserved : goal.loop-at-preserved
 loop-at-preserved c = (
-  c.line_at_lem.ensures.inside,
-  c.line_at_lem.auto.1.1.0 ∙ c.loop-at.invariant.1,
-  c.line_at_lem.auto.1.1.1.0 ∙ c.loop-at.invariant.2,
-  search_on c.loop-at.invariant.3 c.line_at_lem.ensures c.wtxid_line.ensures c.if-wtxid_line.false,
+  c.line_at-l.ensures.inside,
+  c.line_at-l.auto.wtxids ∙ c.loop-at.invariant.1,
+  c.line_at-l.auto.parents ∙ c.loop-at.invariant.2,
+  search_on c.loop-at.invariant.3 c.line_at-l.ensures c.wtxid_line.ensures c.if-wtxid_line.false,
 )
 
 pub shape_of-wtxids : goal.shape_of-wtxids

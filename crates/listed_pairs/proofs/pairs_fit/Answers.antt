@@ -19,10 +19,10 @@ loop-j-init c = (
 )
 
 pub shape_of-wtxids-then-text-i : goal.shape_of-wtxids-then-text-i
-shape_of-wtxids-then-text-i c = c.loop-j.invariant.2 ∙ c.first_wtxid-j.auto.1.1.0
+shape_of-wtxids-then-text-i c = c.loop-j.invariant.2 ∙ c.first_wtxid-j.auto.wtxids
 
 pub shape_of-parents-then-text-i : goal.shape_of-parents-then-text-i
-shape_of-parents-then-text-i c = c.loop-j.invariant.3 ∙ c.first_wtxid-j.auto.1.1.1.0
+shape_of-parents-then-text-i c = c.loop-j.invariant.3 ∙ c.first_wtxid-j.auto.parents
 
 pub returns-then-text-i : goal.returns-then-text-i
 returns-then-text-i c = front_end c.loop-j.invariant.5 (omega (arith, c.if-text-i.true))
@@ -32,17 +32,17 @@ compare-s-requires c = (
   omega (arith, c.if-text-i.false),
   omega (arith, c.loop-j-test.true),
   omega (arith, c.loop-j.invariant.4),
-  omega (arith, c.loop-j.invariant.2, c.first_wtxid-j.auto.1.1.0, c.requires.1),
-  omega (arith, c.loop-j.invariant.3, c.first_wtxid-j.auto.1.1.1.0, c.requires.2),
+  omega (arith, c.loop-j.invariant.2, c.first_wtxid-j.auto.wtxids, c.requires.1),
+  omega (arith, c.loop-j.invariant.3, c.first_wtxid-j.auto.parents, c.requires.2),
 )
 
 pub shape_of-wtxids-then-s-eq0 : goal.shape_of-wtxids-then-s-eq0
 shape_of-wtxids-then-s-eq0 c =
-    c.compare-s.auto.1.1.1.1.0 ∙ c.loop-j.invariant.2 ∙ c.first_wtxid-j.auto.1.1.0
+    c.compare-s.auto.wtxids ∙ c.loop-j.invariant.2 ∙ c.first_wtxid-j.auto.wtxids
 
 pub shape_of-parents-then-s-eq0 : goal.shape_of-parents-then-s-eq0
 shape_of-parents-then-s-eq0 c =
-    c.compare-s.auto.1.1.1.1.1.0 ∙ c.loop-j.invariant.3 ∙ c.first_wtxid-j.auto.1.1.1.0
+    c.compare-s.auto.parents ∙ c.loop-j.invariant.3 ∙ c.first_wtxid-j.auto.parents
 
 pub returns-then-s-eq0 : goal.returns-then-s-eq0
 returns-then-s-eq0 c =
@@ -50,11 +50,11 @@ returns-then-s-eq0 c =
 
 pub shape_of-wtxids-then-s-eq1 : goal.shape_of-wtxids-then-s-eq1
 shape_of-wtxids-then-s-eq1 c =
-    c.compare-s.auto.1.1.1.1.0 ∙ c.loop-j.invariant.2 ∙ c.first_wtxid-j.auto.1.1.0
+    c.compare-s.auto.wtxids ∙ c.loop-j.invariant.2 ∙ c.first_wtxid-j.auto.wtxids
 
 pub shape_of-parents-then-s-eq1 : goal.shape_of-parents-then-s-eq1
 shape_of-parents-then-s-eq1 c =
-    c.compare-s.auto.1.1.1.1.1.0 ∙ c.loop-j.invariant.3 ∙ c.first_wtxid-j.auto.1.1.1.0
+    c.compare-s.auto.parents ∙ c.loop-j.invariant.3 ∙ c.first_wtxid-j.auto.parents
 
 pub returns-then-s-eq1 : goal.returns-then-s-eq1
 returns-then-s-eq1 c =
@@ -70,17 +70,17 @@ loop-j-preserved c =
     let v : c.compare-s.result.verdict ≡ 2 = omega (arith, c.if-s-eq1.false, c.if-s-eq0.false, c.compare-s.ensures.bound) in (
       c.compare-s.ensures.inside,
       c.compare-s.ensures.inside2,
-      c.compare-s.auto.1.1.1.1.0 ∙ c.loop-j.invariant.2,
-      c.compare-s.auto.1.1.1.1.1.0 ∙ c.loop-j.invariant.3,
-      c.compare-s.auto.1.1.1.0 ∙ c.loop-j.invariant.4,
+      c.compare-s.auto.wtxids ∙ c.loop-j.invariant.2,
+      c.compare-s.auto.parents ∙ c.loop-j.invariant.3,
+      c.compare-s.auto.conns ∙ c.loop-j.invariant.4,
       pairs_on c.loop-j.invariant.5 c.compare-s.ensures v,
     )
 
 pub shape_of-wtxids : goal.shape_of-wtxids
-shape_of-wtxids c = c.loop-j.invariant.2 ∙ c.first_wtxid-j.auto.1.1.0
+shape_of-wtxids c = c.loop-j.invariant.2 ∙ c.first_wtxid-j.auto.wtxids
 
 pub shape_of-parents : goal.shape_of-parents
-shape_of-parents c = c.loop-j.invariant.3 ∙ c.first_wtxid-j.auto.1.1.1.0
+shape_of-parents c = c.loop-j.invariant.3 ∙ c.first_wtxid-j.auto.parents
 
 pub returns : goal.returns
 returns c = back_end c.loop-j.invariant.5 (omega (arith, c.loop-j-test.false))

@@ -13,7 +13,7 @@ returns-then-m-gt8 c =
 
 pub all_distinct-once-requires : goal.all_distinct-once-requires
 all_distinct-once-requires c =
-    omega (arith, c.if-m-gt8.false, c.gather-b.auto.1.1.1.1.1.0, c.gather-a.auto.1.1.1.1.1.0, c.requires.2)
+    omega (arith, c.if-m-gt8.false, c.gather-b.auto.conns, c.gather-a.auto.conns, c.requires.2)
 
 pub returns : goal.returns
 returns c =

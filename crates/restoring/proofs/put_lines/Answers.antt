@@ -18,27 +18,27 @@ pub line_at-l-requires : goal.line_at-l-requires
 line_at-l-requires c = (c.loop-at-test.true, omega (arith, c.loop-at.invariant.0), omega (arith, c.loop-at.invariant.1))
 
 pub slice_bounds-take_line-end : goal.slice_bounds-take_line-end
-slice_bounds-take_line-end c = sym (c.line_at_lem.auto.1.1.0 ∙ c.loop-at.invariant.0)
+slice_bounds-take_line-end c = sym (c.line_at-l.auto.wtxids ∙ c.loop-at.invariant.0)
 
 pub slice_bounds-take_line-end-in-loop-at : goal.slice_bounds-take_line-end-in-loop-at
 slice_bounds-take_line-end-in-loop-at c = sym
-    (c.line_at_lem.auto.1.1.1.0 ∙ c.loop-at.invariant.1)
+    (c.line_at-l.auto.parents ∙ c.loop-at.invariant.1)
 
 pub take_line-r-requires : goal.take_line-r-requires
 take_line-r-requires c =
     let inv = c.loop-at.invariant in
-    let l = c.line_at_lem in
+    let l = c.line_at-l in
     walked-room inv.2 c.requires l.ensures
-    (omega (arith, l.auto.1.1.0, inv.0)) (omega (arith, l.auto.1.1.1.0, inv.1))
+    (omega (arith, l.auto.wtxids, inv.0)) (omega (arith, l.auto.parents, inv.1))
 
 pub loop-at-smaller : goal.loop-at-smaller
-loop-at-smaller c = let l = c.line_at_lem in omega (arith, l.ensures.on, l.ensures.inside)
+loop-at-smaller c = let l = c.line_at-l in omega (arith, l.ensures.on, l.ensures.inside)
 
 pub loop-at-preserved : goal.loop-at-preserved
 loop-at-preserved c =
     let inv = c.loop-at.invariant in
-    let l = c.line_at_lem in
-    (l.auto.1.1.0 ∙ inv.0, l.auto.1.1.1.0 ∙ inv.1, walked_on inv.2 l.ensures c.take_line-r.ensures c.take_line-r.auto.0)
+    let l = c.line_at-l in
+    (l.auto.wtxids ∙ inv.0, l.auto.parents ∙ inv.1, walked_on inv.2 l.ensures c.take_line-r.ensures c.take_line-r.auto.s)
 
 pub shape_of-s : goal.shape_of-s
 shape_of-s c = c.loop-at.invariant.2.long

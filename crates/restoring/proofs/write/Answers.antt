@@ -16,21 +16,21 @@ line_at-first-requires c =
 
 pub write_from-requires : goal.write_from-requires
 write_from-requires c = readable c.requires
-    c.line_at_lem.ensures c.in-Head.is
+    c.line_at-first.ensures c.in-Head.is
 
 pub returns-in-Not : goal.returns-in-Not
 returns-in-Not c = first_not
-    c.line_at_lem.ensures c.requires.read c.in-Not.is
+    c.line_at-first.ensures c.requires.read c.in-Not.is
 
 pub returns-in-Head : goal.returns-in-Head
 returns-in-Head c =
-    all_written c.requires c.line_at_lem.ensures c.in-Head.is
+    all_written c.requires c.line_at-first.ensures c.in-Head.is
     c.write_from.ensures
 
 pub returns-in-Request : goal.returns-in-Request
 returns-in-Request c = first_request
-    c.line_at_lem.ensures c.requires.read c.in-Request.is
+    c.line_at-first.ensures c.requires.read c.in-Request.is
 
 pub returns-in-Candidate : goal.returns-in-Candidate
 returns-in-Candidate c = first_candidate
-    c.line_at_lem.ensures c.requires.read c.in-Candidate.is
+    c.line_at-first.ensures c.requires.read c.in-Candidate.is

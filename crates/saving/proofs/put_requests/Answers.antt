@@ -5,6 +5,9 @@ use Rattle.requests.proofs.Keeping.{kept_shown}
 use Rattle.saving.proofs.Walking.{walked_none, few_rows, row_ends, walked_more, walked_all}
 use Rattle.saving.proofs.put_requests.Goals as goal
 
+pub rows-n-requires : goal.rows-n-requires
+rows-n-requires c = let z = (kept_shown c.requires.0).sizes in omega arith
+
 pub loop-i-init : goal.loop-i-init
 loop-i-init c = walked_none _ _ _
 
@@ -32,23 +35,21 @@ pub put_candidates-at-requires : goal.put_candidates-at-requires
 put_candidates-at-requires c = let g = row_ends c.loop-i.invariant (omega (
   arith,
   c.rows-n.ensures.word,
-)) c.before.before.before.before.before.before.before.row_at.ensures _
-    c.before.before.before.before.before.before.key_of.ensures c.before.before.before.before.before.request-at.ensures
-    c.before.before.before.before.before.before.before.before.before.before.before.before.before.requires.0 in (
-      kept_shown
-          c.before.before.before.before.before.before.before.before.before.before.before.before.before.requires.0,
+)) c.row_at-r.ensures _
+    c.key_of-k.ensures c.request_at-q.ensures
+    c.requires.0 in (
+      kept_shown c.requires.0,
       omega arith,
-      c.before.before.before.before.before.request-at.ensures.spans.most,
+      c.request_at-q.ensures.spans.most,
       omega (
         arith,
         g,
-        c.before.before.before.put-request.ensures.0,
-        c.before.before.before.before.before.before.before.before.before.loop.invariant.near,
-        c.before.before.before.before.before.before.before.before.before.loop.invariant.inside,
-        c.before.before.before.before.before.request-at.ensures.spans.most,
-        few_rows
-            c.before.before.before.before.before.before.before.before.before.before.before.before.before.requires.0,
-        c.before.before.before.before.before.before.before.before.before.before.before.before.before.requires.1,
+        c.put_request-e.ensures.0,
+        c.loop-i.invariant.near,
+        c.loop-i.invariant.inside,
+        c.request_at-q.ensures.spans.most,
+        few_rows c.requires.0,
+        c.requires.1,
       ),
     )
 
@@ -71,11 +72,11 @@ loop-i-preserved c = walked_more c.loop-i.invariant (omega (
   arith,
   c.rows-n.ensures.word,
 ))
-    c.before.before.before.before.before.before.before.before.before.before.row_at.ensures _
-    c.before.before.before.before.before.before.before.before.before.key_of.ensures c.before.before.before.before.before.before.before.before.request-at.ensures
-    c.before.before.before.before.before.before.before.before.before.before.before.before.before.before.before.before.requires.0
-    c.before.before.before.before.before.before.put-request.ensures.0 c.before.before.put-candidates.ensures.0
-    c.before.before.before.before.before.before.put-request.ensures.1 c.before.before.put-candidates.ensures.1
+    c.row_at-r.ensures _
+    c.key_of-k.ensures c.request_at-q.ensures
+    c.requires.0
+    c.put_request-e.ensures.0 c.put_candidates-at.ensures.0
+    c.put_request-e.ensures.1 c.put_candidates-at.ensures.1
 
 pub shape_of-out : goal.shape_of-out
 shape_of-out c = c.loop-i.invariant.long

@@ -36,7 +36,7 @@ put_item-requires c =
 pub loop-i-preserved : goal.loop-i-preserved
 loop-i-preserved c = (
   omega arith,
-  c.put_item.auto.0 ∙ c.loop-i.invariant.1,
+  c.put_item.auto.items ∙ c.loop-i.invariant.1,
   one_more_lem
       c.loop-i.invariant.2 (omega arith) c.item_at.ensures
       (ap item_at c.in-Is.is) (c.put_item.ensures.is

@@ -38,7 +38,7 @@ pub loop-i-preserved : goal.loop-i-preserved
 unfolding keys_in
 loop-i-preserved c = (
   omega arith,
-  c.put_key.auto.0 ∙ c.loop-i.invariant.1,
+  c.put_key.auto.keys ∙ c.loop-i.invariant.1,
   one_more_lem
       c.loop-i.invariant.2 (omega arith) c.key_at.ensures
       (ap key_at c.in-Is.is) c.put_key.ensures.is,

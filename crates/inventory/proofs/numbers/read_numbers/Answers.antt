@@ -37,7 +37,7 @@ put-requires c =
 pub loop-i-preserved : goal.loop-i-preserved
 loop-i-preserved c = (
   omega arith,
-  c.put.auto.0 ∙ c.loop-i.invariant.1,
+  c.put.auto.s ∙ c.loop-i.invariant.1,
   one_more_lem
       c.loop-i.invariant.2 (omega arith) c.number_at.ensures
       (ap number_at c.in-Is.is) (number_put c.loop-i.numbers

@@ -62,9 +62,9 @@ loop-i-preserved c =
     let o = offer_is p z c.number_at.ensures
     (ap number_at c.in-Is-number_at.is) in (
       omega arith,
-      c.put_offer.auto.0
+      c.put_offer.auto.items
           ∙ c.loop-i.invariant.1,
-      c.put_offer.auto.1.0
+      c.put_offer.auto.priorities
           ∙ c.loop-i.invariant.2,
       one_more_lem c.loop-i.invariant.3 (omega arith) o refl
           (offer-put p z c.put_offer.ensures),

@@ -37,7 +37,7 @@ put_hash-requires c =
 pub loop-i-preserved : goal.loop-i-preserved
 loop-i-preserved c = (
   omega arith,
-  c.put_hash.auto.0 ∙ c.loop-i.invariant.1,
+  c.put_hash.auto.hashes ∙ c.loop-i.invariant.1,
   one_more_lem c.loop-i.invariant.2 (omega arith)
       (number_took hash_of c.hash_at.ensures) (ap hash_at c.in-Is.is)
       c.put_hash.ensures.is,

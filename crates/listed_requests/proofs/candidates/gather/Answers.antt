@@ -30,11 +30,11 @@ shape_of-conns-in_default c = c.loop-at.invariant.3
 
 pub shape_of-wtxids-in_default : goal.shape_of-wtxids-in_default
 shape_of-wtxids-in_default c =
-    c.line_at_lem.auto.1.1.0 ∙ c.loop-at.invariant.4
+    c.line_at-l.auto.wtxids ∙ c.loop-at.invariant.4
 
 pub shape_of-parents-in_default : goal.shape_of-parents-in_default
 shape_of-parents-in_default c =
-    c.line_at_lem.auto.1.1.1.0 ∙ c.loop-at.invariant.5
+    c.line_at-l.auto.parents ∙ c.loop-at.invariant.5
 
 pub returns-in_default : goal.returns-in_default
 returns-in_default c =
@@ -43,7 +43,7 @@ returns-in_default c =
       inside = c.loop-at.invariant.0;
       bound = omega (arith, c.loop-at.invariant.2);
       many = λ q y e. absurd (omega (arith, c.loop-at.invariant.2));
-      whole = λ q y h. all_gone c.loop-at.invariant.6 c.line_at_lem.ensures c.candidate_of.ensures c.in_default.is q y;
+      whole = λ q y h. all_gone c.loop-at.invariant.6 c.line_at-l.ensures c.candidate_of.ensures c.in_default.is q y;
     }
 
 pub shape_of-conns-then-i-ge8 : goal.shape_of-conns-then-i-ge8
@@ -51,11 +51,11 @@ shape_of-conns-then-i-ge8 c = c.loop-at.invariant.3
 
 pub shape_of-wtxids-then-i-ge8 : goal.shape_of-wtxids-then-i-ge8
 shape_of-wtxids-then-i-ge8 c =
-    c.line_at_lem.auto.1.1.0 ∙ c.loop-at.invariant.4
+    c.line_at-l.auto.wtxids ∙ c.loop-at.invariant.4
 
 pub shape_of-parents-then-i-ge8 : goal.shape_of-parents-then-i-ge8
 shape_of-parents-then-i-ge8 c =
-    c.line_at_lem.auto.1.1.1.0 ∙ c.loop-at.invariant.5
+    c.line_at-l.auto.parents ∙ c.loop-at.invariant.5
 
 pub returns-then-i-ge8 : goal.returns-then-i-ge8
 returns-then-i-ge8 c =
@@ -64,7 +64,7 @@ returns-then-i-ge8 c =
       inside = c.loop-at.invariant.0;
       bound = omega arith;
       many = λ q y e.
-          too_many c.loop-at.invariant.6 c.line_at_lem.ensures c.candidate_of.ensures c.in-Is.is
+          too_many c.loop-at.invariant.6 c.line_at-l.ensures c.candidate_of.ensures c.in-Is.is
           (omega (arith, c.loop-at.invariant.2, c.if-i-ge8.true)) q y;
       whole = λ q y h. absurd (omega arith);
     }
@@ -75,18 +75,18 @@ bounds-conns-i c =
 
 pub loop-at-smaller : goal.loop-at-smaller
 loop-at-smaller c =
-    omega (arith, c.line_at_lem.ensures.on, c.line_at_lem.ensures.inside)
+    omega (arith, c.line_at-l.ensures.on, c.line_at-l.ensures.inside)
 
 pub loop-at-preserved : goal.loop-at-preserved
 loop-at-preserved c = (
-  c.line_at_lem.ensures.inside,
-  omega (arith, c.loop-at.invariant.1, c.line_at_lem.ensures.on),
+  c.line_at-l.ensures.inside,
+  omega (arith, c.loop-at.invariant.1, c.line_at-l.ensures.on),
   omega (arith, c.if-i-ge8.false),
   simp length-set c.loop-at.invariant.3,
-  c.line_at_lem.auto.1.1.0 ∙ c.loop-at.invariant.4,
-  c.line_at_lem.auto.1.1.1.0 ∙ c.loop-at.invariant.5,
-  gone_more c.loop-at.invariant.6 c.line_at_lem.ensures c.candidate_of.ensures c.in-Is.is (omega (arith, c.loop-at.invariant.3, c.requires.2, c.if-i-ge8.false))
-      c.fits2.ensures,
+  c.line_at-l.auto.wtxids ∙ c.loop-at.invariant.4,
+  c.line_at-l.auto.parents ∙ c.loop-at.invariant.5,
+  gone_more c.loop-at.invariant.6 c.line_at-l.ensures c.candidate_of.ensures c.in-Is.is (omega (arith, c.loop-at.invariant.3, c.requires.2, c.if-i-ge8.false))
+      c.fits-fit.ensures,
 )
 
 pub shape_of-conns : goal.shape_of-conns

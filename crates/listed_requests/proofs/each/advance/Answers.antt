@@ -19,17 +19,17 @@ pub judge-g-requires : goal.judge-g-requires
 judge-g-requires c = (
   c.request_at-f.ensures.inside,
   c.requires.2,
-  omega (arith, c.request_at-f.auto.1.1.0, c.requires.3),
-  omega (arith, c.request_at-f.auto.1.1.1.0, c.requires.4),
+  omega (arith, c.request_at-f.auto.wtxids, c.requires.3),
+  omega (arith, c.request_at-f.auto.parents, c.requires.4),
 )
 
 pub shape_of-wtxids-then-not-g : goal.shape_of-wtxids-then-not-g
 shape_of-wtxids-then-not-g c =
-    c.judge-g.auto.1.1.1.1.0 ∙ c.request_at-f.auto.1.1.0
+    c.judge-g.auto.wtxids ∙ c.request_at-f.auto.wtxids
 
 pub shape_of-parents-then-not-g : goal.shape_of-parents-then-not-g
 shape_of-parents-then-not-g c =
-    c.judge-g.auto.1.1.1.1.1.0 ∙ c.request_at-f.auto.1.1.1.0
+    c.judge-g.auto.parents ∙ c.request_at-f.auto.parents
 
 pub returns-then-not-g : goal.returns-then-not-g
 returns-then-not-g c =
@@ -43,11 +43,11 @@ overflow_add-held c =
 
 pub shape_of-wtxids-then-limit-held : goal.shape_of-wtxids-then-limit-held
 shape_of-wtxids-then-limit-held c =
-    c.judge-g.auto.1.1.1.1.0 ∙ c.request_at-f.auto.1.1.0
+    c.judge-g.auto.wtxids ∙ c.request_at-f.auto.wtxids
 
 pub shape_of-parents-then-limit-held : goal.shape_of-parents-then-limit-held
 shape_of-parents-then-limit-held c =
-    c.judge-g.auto.1.1.1.1.1.0 ∙ c.request_at-f.auto.1.1.1.0
+    c.judge-g.auto.parents ∙ c.request_at-f.auto.parents
 
 pub returns-then-limit-held : goal.returns-then-limit-held
 returns-then-limit-held c =
@@ -62,11 +62,11 @@ overflow_add-taken c =
 
 pub shape_of-wtxids-then-places-taken : goal.shape_of-wtxids-then-places-taken
 shape_of-wtxids-then-places-taken c =
-    c.judge-g.auto.1.1.1.1.0 ∙ c.request_at-f.auto.1.1.0
+    c.judge-g.auto.wtxids ∙ c.request_at-f.auto.wtxids
 
 pub shape_of-parents-then-places-taken : goal.shape_of-parents-then-places-taken
 shape_of-parents-then-places-taken c =
-    c.judge-g.auto.1.1.1.1.1.0 ∙ c.request_at-f.auto.1.1.1.0
+    c.judge-g.auto.parents ∙ c.request_at-f.auto.parents
 
 pub returns-then-places-taken : goal.returns-then-places-taken
 returns-then-places-taken c =
@@ -77,11 +77,11 @@ returns-then-places-taken c =
 
 pub shape_of-wtxids : goal.shape_of-wtxids
 shape_of-wtxids c =
-    c.judge-g.auto.1.1.1.1.0 ∙ c.request_at-f.auto.1.1.0
+    c.judge-g.auto.wtxids ∙ c.request_at-f.auto.wtxids
 
 pub shape_of-parents : goal.shape_of-parents
 shape_of-parents c =
-    c.judge-g.auto.1.1.1.1.1.0 ∙ c.request_at-f.auto.1.1.1.0
+    c.judge-g.auto.parents ∙ c.request_at-f.auto.parents
 
 pub returns : goal.returns
 returns c =

@@ -29,11 +29,11 @@ advance-s-requires c =
 
 pub shape_of-wtxids-then-not-s : goal.shape_of-wtxids-then-not-s
 shape_of-wtxids-then-not-s c =
-    c.advance-s.auto.1.1.1.1.1.1.0 ∙ c.loop-at.invariant.1
+    c.advance-s.auto.wtxids ∙ c.loop-at.invariant.1
 
 pub shape_of-parents-then-not-s : goal.shape_of-parents-then-not-s
 shape_of-parents-then-not-s c =
-    c.advance-s.auto.1.1.1.1.1.1.1.0 ∙ c.loop-at.invariant.2
+    c.advance-s.auto.parents ∙ c.loop-at.invariant.2
 
 pub returns-then-not-s : goal.returns-then-not-s
 returns-then-not-s c =
@@ -46,9 +46,9 @@ loop-at-smaller c =
 pub loop-at-preserved : goal.loop-at-preserved
 loop-at-preserved c = (
   c.advance-s.ensures.inside,
-  c.advance-s.auto.1.1.1.1.1.1.0 ∙ c.loop-at.invariant.1,
-  c.advance-s.auto.1.1.1.1.1.1.1.0 ∙ c.loop-at.invariant.2,
-  c.advance-s.auto.1.1.1.1.1.0 ∙ c.loop-at.invariant.3,
+  c.advance-s.auto.wtxids ∙ c.loop-at.invariant.1,
+  c.advance-s.auto.parents ∙ c.loop-at.invariant.2,
+  c.advance-s.auto.conns ∙ c.loop-at.invariant.3,
   c.advance-s.ensures.held (not-false _ c.if-not-s.false),
   c.advance-s.ensures.taken (not-false _ c.if-not-s.false),
   pass_on c.loop-at.invariant.6 c.advance-s.ensures (not-false _ c.if-not-s.false),

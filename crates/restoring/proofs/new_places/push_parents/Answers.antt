@@ -33,7 +33,7 @@ loop-j-preserved c =
     < length (hashes_in c.args.list.now) =
     omega (arith, inv.1, c.loop-j-test.true) in
     let x = ap quad_number c.hash_quad-q.ensures.words_are ∙ number_quad _ ∙ c.hash_in-h.ensures in (
-      filled_more c.requires.0 inv.0 l x c.push_parent.auto.0
+      filled_more c.requires.0 inv.0 l x c.push_parent.auto.s
           c.push_parent.ensures,
       inv.1,
     )

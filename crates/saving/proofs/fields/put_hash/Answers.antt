@@ -7,7 +7,7 @@ pub slice_bounds-t-end : goal.slice_bounds-t-end
 slice_bounds-t-end c = omega (arith, hash_end _ c.put_hash-e.ensures, c.put_hash-e.auto)
 
 pub slice_bounds-put_text-end : goal.slice_bounds-put_text-end
-slice_bounds-put_text-end c = taken c.put_hash-e.result c.put_hash-e.new.0 (omega (
+slice_bounds-put_text-end c = taken c.put_hash-e.result c.put_hash-e.new.s (omega (
   arith,
   hash_end _
       c.put_hash-e.ensures,
@@ -17,7 +17,7 @@ slice_bounds-put_text-end c = taken c.put_hash-e.result c.put_hash-e.new.0 (omeg
 pub put_text-requires : goal.put_text-requires
 put_text-requires c = omega (
   arith,
-  taken c.put_hash-e.result c.put_hash-e.new.0 (omega (
+  taken c.put_hash-e.result c.put_hash-e.new.s (omega (
     arith,
     hash_end _
         c.put_hash-e.ensures,

@@ -7,7 +7,7 @@ pub slice_bounds-t-end : goal.slice_bounds-t-end
 slice_bounds-t-end c = omega (arith, number_end _ c.put_decimal-e.ensures, c.put_decimal-e.auto)
 
 pub slice_bounds-put_text-end : goal.slice_bounds-put_text-end
-slice_bounds-put_text-end c = taken c.put_decimal-e.result c.put_decimal-e.new.0 (omega (
+slice_bounds-put_text-end c = taken c.put_decimal-e.result c.put_decimal-e.new.s (omega (
   arith,
   number_end _
       c.put_decimal-e.ensures,
@@ -17,7 +17,7 @@ slice_bounds-put_text-end c = taken c.put_decimal-e.result c.put_decimal-e.new.0
 pub put_text-requires : goal.put_text-requires
 put_text-requires c = omega (
   arith,
-  taken c.put_decimal-e.result c.put_decimal-e.new.0 (omega (
+  taken c.put_decimal-e.result c.put_decimal-e.new.s (omega (
     arith,
     number_end _
         c.put_decimal-e.ensures,
