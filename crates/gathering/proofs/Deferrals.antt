@@ -14,7 +14,7 @@ use Rattle.ident.specs.Number.{top, Key}
 use Rattle.regions.specs.declared.Row.{Row}
 use Rattle.regions.specs.Rows.{row_size, row_words, read_row, quad_number}
 use Rattle.regions.specs.Regions.{Found, Holds}
-use Rattle.machine.specs.State.{Candidate, State, limits_of}
+use Rattle.machine.specs.State.{Candidate, limits_of}
 use Rattle.machine.specs.Table.{held_at}
 use Rattle.machine.specs.Announce.{victims, greatest, at_hash, announce_keyed}
 use Rattle.machine.specs.Typed.{Each}

@@ -1,5 +1,5 @@
 -- An announcement where L are held: the first of the victims goes, and the new candidate waits with the others.
-use Prim.Native.Nat.{ℕ, suc, ◌+◌, ◌≤◌, ◌<◌}
+use Prim.Native.Nat.{ℕ, suc, ◌+◌, ◌<◌}
 use mathlib.Core.Path.{◌≡◌, refl, sym, ap, subst, ◌∙◌}
 use mathlib.Core.Bool.{Bool, true, false, ◌||◌}
 use mathlib.Core.List.{List, [], ◌∷◌, ◌++◌}
@@ -14,18 +14,17 @@ use Rattle.ident.proofs.Places.{place_same as place-inj}
 use Rattle.regions.specs.declared.Row.{Row}
 use Rattle.regions.specs.Rows.{row_size, row_words, read_row, quad_number}
 use Rattle.regions.specs.Regions.{Found}
-use Rattle.machine.specs.Limits.{Limits, max_peer_announcements}
+use Rattle.machine.specs.Limits.{max_peer_announcements}
 use Rattle.machine.specs.State.{Candidate, Entry, State, Table, Answer, limits_of, on_table, with_candidates, owner_is}
 use Rattle.machine.specs.Table.{at, has, held, held_by, held_at, is_candidate}
-use Rattle.machine.specs.Announce.{without, push, cut, victims, greatest, anywhere, evicting, announce_at, announce_keyed}
-use Rattle.machine.specs.Sound.{Ordered, All, Filled, Sound}
+use Rattle.machine.specs.Announce.{without, push, cut, victims, greatest, anywhere, evicting, announce_keyed}
+use Rattle.machine.specs.Sound.{Ordered, All, Filled}
 use Rattle.machine.specs.Typed.{Each}
 use Rattle.machine.proofs.At.{at_other}
 use Rattle.machine.proofs.Table.{ordered-change, filled-change}
 use Rattle.machine.proofs.Tests.{or_left, or_right}
 use Rattle.store.specs.Flat.{row_of, rows_of}
 use Rattle.store.specs.Gather.{key_at, candidate_at}
-use Rattle.store.specs.Image.{Writes}
 use Rattle.store.specs.Shown.{Kept}
 use Rattle.requests.specs.Changes.{Makes}
 use Rattle.announcing.specs.Enters.{Crowded, Goes}
@@ -35,9 +34,9 @@ use Rattle.announcing.proofs.Entering.{fresh, cleared-sound, cleared-fresh, clea
 use Rattle.announcing.proofs.Giving.{victims-push, first_greatest, first_goes, next_first, one_less}
 use Rattle.announcing.proofs.Swapping.{change-swap}
 use Rattle.gathering.specs.Merges.{placed, gathered}
-use Rattle.gathering.specs.Waits.{pushes, Ready, Idle, waits, barred_beside}
+use Rattle.gathering.specs.Waits.{pushes, Ready, Idle, waits}
 use Rattle.gathering.specs.Aside.{space, PutIn, Aside, BarredIn, WaitsAt, RowIn}
-use Rattle.gathering.specs.Exchanges.{VictimsFrom, Full, Underway, Suits, SuitsIn, Instead, Swapped, Exchanged}
+use Rattle.gathering.specs.Exchanges.{Full, Suits, SuitsIn, Instead, Swapped, Exchanged}
 use Rattle.gathering.proofs.Waiting.{pushes_more, taken-barred, taken-evicting}
 use Rattle.gathering.proofs.Faring.{same_aside, each_more, aside_more}
 

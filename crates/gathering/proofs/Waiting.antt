@@ -57,7 +57,7 @@ count-pushes : (q : Key → ℕ → Bool) (n : ℕ) (es : List Entry) (t : Table
 unfolding pushes among
 count-pushes q n [] t a o = omega arith
 count-pushes q n (e ∷ es) t a o =
-    let o' = ordered-change e.key _ 0 t (λ r. refl) (omega arith) a.0.small o in
+    let o' : Ordered 0 (push e.key e.candidate t) = ordered-change e.key _ 0 t (λ r. refl) (omega arith) a.0.small o in
     omega (arith, count-pushes q n es (push e.key e.candidate t) a.1 o', one_more_lem q e.key e.candidate t a.0.small o)
 
 -- ---- what those that wait add to each count

@@ -1,5 +1,4 @@
 -- `gathering::deferred::listed_at` meets its contract.
-use Prim.Native.Nat.{◌-◌}
 use mathlib.Core.Path.{sym}
 use native.Mathlib.Omega.{arith}
 use Rattle.machine.proofs.Tests.{never}

@@ -1,5 +1,4 @@
 -- `gathering::going::cut_victims` meets its contract.
-use Prim.Native.Nat.{◌-◌}
 use mathlib.Core.Path.{◌≡◌}
 use native.Mathlib.Omega.{arith}
 use Rattle.gathering.proofs.Departing.{parting_none, parting_kept, parting_more, parting_done}
@@ -26,7 +25,7 @@ loop-i-preserved c = (
   omega (arith, c.loop-i-test.true),
   parting_more c.loop-i.invariant.1 (omega
       (arith, c.loop-i-test.true, c.requires.2))
-      c.read_row-y.ensures c.key_of.ensures c.cut.auto.0 c.cut.ensures,
+      c.read_row-y.ensures c.key_of.ensures c.cut.auto.s c.cut.ensures,
 )
 
 pub shape_of-s : goal.shape_of-s

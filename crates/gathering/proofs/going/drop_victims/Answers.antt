@@ -1,5 +1,4 @@
 -- `gathering::going::drop_victims` meets its contract.
-use Prim.Native.Nat.{◌-◌}
 use mathlib.Core.Path.{◌∙◌}
 use native.Mathlib.Omega.{arith}
 use Rattle.store.proofs.Frame.{sizes}
@@ -40,7 +39,7 @@ loop-i-smaller c = omega (arith, c.loop-i-test.true)
 
 pub loop-i-preserved : goal.loop-i-preserved
 loop-i-preserved c = dropping_more c.loop-i.invariant (omega
-    (arith, c.rows-n.ensures.word, c.loop-i-test.true)) c.drop_row-k.auto.0
+    (arith, c.rows-n.ensures.word, c.loop-i-test.true)) c.drop_row-k.auto.s
     c.drop_row-k.ensures
 
 pub drop_rows-requires : goal.drop_rows-requires
@@ -51,7 +50,7 @@ drop_rows-requires c = (
 )
 
 pub shape_of-s : goal.shape_of-s
-shape_of-s c = c.drop_rows.auto.0 ∙ c.loop-i.invariant.size
+shape_of-s c = c.drop_rows.auto.s ∙ c.loop-i.invariant.size
 
 pub returns : goal.returns
 returns c = gone_at_once c.requires.1
