@@ -83,7 +83,7 @@ due-before now x r h = rw (lt-leb x (place r.key) h) refl
 pub due_whole : (now x lo : ℕ) (t : Table) → x ≤ lo → Ordered lo t → due_from now x t ≡ due now t
 unfolding due_from due
 due_whole now x lo [] h o = refl
-due_whole now x lo (r ∷ t) h o = rw (le-leb x (place r.key) (omega (arith, o.0))) (ap (λ (l : List Due). due_of now r.key r.owner ++ l) (due_whole now x _ t (omega (arith, o.0))
+due_whole now x lo (r ∷ t) h o = rw (le-leb x (place r.key) (omega (arith, o.0))) (ap (λ (l : List Due). due_of now r.key r.owner ++ l) (due_whole now x (suc (place r.key)) t (omega (arith, o.0))
     o.2))
 
 -- the first one, and those after it
@@ -98,7 +98,7 @@ due_first now x lo [] d ds o l e = let z : ◌≡◌ {A = ℕ} 0 1 = cc in absur
 due_first now x lo (r ∷ t) d ds o l e =
     elim (due_cases now x r) [
       | inl z ↦
-          let f = due_first now x _ t d ds o.2 l.1 (sym (ap (λ (a : List Due). a ++ due_from now x t) z) ∙ e) in
+          let f = due_first now x (suc (place r.key)) t d ds o.2 l.1 (sym (ap (λ (a : List Due). a ++ due_from now x t) z) ∙ e) in
           record {
             low = omega (arith, f.low, o.0);
             typed = f.typed;

@@ -65,17 +65,17 @@ loop-j-preserved-then-bit-eq1 c = let d : c.loop-j.j - c.args.from + 1 ≤ c.loo
   (
     omega (
       arith,
-      c.before.before.before.before.before.before.before.before.before.before.before.before.loop.invariant.0,
+      c.loop-j.invariant.0,
     ),
     omega (
       arith,
-      c.before.before.before.before.before.before.before.before.before.before.before.loop-test.true,
+      c.loop-j-test.true,
     ),
   ),
-  c.before.before.before.before.consider.auto.s ∙ c.before.before.before.before.before.before.before.before.before.before.before.before.loop.invariant.1,
-  c.before.before.before.before.consider.auto.picks ∙ c.before.before.before.before.before.before.before.before.before.before.before.before.loop.invariant.2,
+  c.consider-w.auto.s ∙ c.loop-j.invariant.1,
+  c.consider-w.auto.picks ∙ c.loop-j.invariant.2,
   scans_more
-      c.before.before.before.before.before.before.before.before.before.before.before.before.loop.invariant.3 (λ st. picked (hashes_at (words c.before.before.before.before.before.before.before.before.before.before.before.before.before.before.before.before.args.slot.now) (c.before.before.before.before.before.before.before.before.before.before.before.before.loop.j + 1) (c.before.before.before.before.before.before.before.before.before.before.before.before.before.before.before.before.args.to - (c.before.before.before.before.before.before.before.before.before.before.before.before.loop.j + 1))) (c.before.before.before.before.before.before.before.before.before.before.before.before.loop.left / 2)) _ d c.before.before.before.before.before.before.before.before.before.before.if1.false c.before.before.before.before.consider.ensures (λ st l s m. bit-set (words c.before.before.before.before.before.before.before.before.before.before.before.before.before.before.before.before.args.slot.now) c.before.before.before.before.before.before.before.before.before.before.before.before.loop.j c.before.before.before.before.before.before.before.before.before.before.before.before.before.before.before.before.args.to c.before.before.before.before.before.before.before.before.before.before.before.before.loop.left c.before.before.before.before.before.before.before.before.before.before.before.loop-test.true c.before.before.before.before.before.before.before.txid-key.ensures c.before.before.before.before.before.before.before.before.parent_of.ensures c.before.before.before.before.before.before.before.before.before.if2.true),
+      c.loop-j.invariant.3 (λ st. picked (hashes_at (words c.args.slot.now) (c.loop-j.j + 1) (c.args.to - (c.loop-j.j + 1))) (c.loop-j.left / 2)) _ d c.if-w.false c.consider-w.ensures (λ st l s m. bit-set (words c.args.slot.now) c.loop-j.j c.args.to c.loop-j.left c.loop-j-test.true c.txid_key-k.ensures c.parent_of-h.ensures c.if-bit-eq1.true),
 )
 
 pub loop-j-smaller : goal.loop-j-smaller

@@ -29,35 +29,35 @@ pub ask_round-r-requires : goal.ask_round-r-requires
 ask_round-r-requires c = let late : c.args.clock < word = omega (
   arith,
   c.requires.1,
-) in let k = c.before.before.before.before.before.before.before.before.before.before.before.before.before.before.before.before.before.before.before.before.before.before.before.before.before.requires.0 in (
-  started none late c.before.before.before.before.before.before.before.before.before.before.before.before.before.before.before.set_apart.ensures c.before.before.before.before.before.before.before.begin.ensures c.before.before.before.before.before.before.before.before.before.before.before.before.before.before.before.before.before.before.before.before.before.held-places.ensures.word k.state k.sound k.writes,
-  c.before.before.before.before.before.before.before.before.before.before.before.before.before.before.before.before.before.before.before.before.before.before.before.before.before.requires.1,
+) in let k = c.requires.0 in (
+  started none late c.set_apart.ensures c.begin-v.ensures c.held_places-c.ensures.word k.state k.sound k.writes,
+  c.requires.1,
   omega (
     arith,
-    c.before.before.before.before.before.before.before.before.before.before.before.numbers.ensures,
-    c.before.before.before.before.before.before.before.begin.auto.picks,
+    c.numbers-picks.ensures,
+    c.begin-v.auto.picks,
   ),
-  rw (limit_is none late c.before.before.before.before.before.before.before.before.before.before.before.before.before.before.before.set_apart.ensures c.before.before.before.before.before.before.before.begin.ensures c.before.before.before.before.before.before.before.before.before.before.before.before.before.before.before.before.before.before.before.before.before.held-places.ensures.word k.state k.sound k.writes) c.before.before.before.before.before.before.before.before.before.before.before.before.before.before.before.before.before.before.before.before.before.before.before.before.before.requires.2,
-  c.before.before.before.before.before.before.before.begin.ensures.near,
+  rw (limit_is none late c.set_apart.ensures c.begin-v.ensures c.held_places-c.ensures.word k.state k.sound k.writes) c.requires.2,
+  c.begin-v.ensures.near,
 )
 
 pub put_back-requires : goal.put_back-requires
 put_back-requires c = let late : c.args.clock < word = omega (
   arith,
   c.requires.1,
-) in let k = c.before.before.before.before.before.before.before.before.before.before.before.before.before.before.before.before.before.before.before.before.before.before.before.before.before.before.before.before.before.before.before.before.before.requires.0 in parted-after none late
-    c.before.before.before.before.before.before.before.before.before.before.before.before.before.before.before.before.before.before.before.before.before.before.before.set_apart.ensures c.before.before.before.before.before.before.before.before.before.before.before.before.before.before.before.begin.ensures c.before.before.before.before.before.before.before.before.before.before.before.before.before.before.before.before.before.before.before.before.before.before.before.before.before.before.before.before.before.held-places.ensures.word k.state k.sound k.writes (let y = front_within (set-parted c.before.before.before.before.before.before.before.before.before.before.before.before.before.before.before.before.before.before.before.before.before.before.before.before.before.before.before.before.before.before.before.before.before.requires.0 c.before.before.before.before.before.before.before.before.before.before.before.before.before.before.before.before.before.before.before.before.before.before.before.set_apart.ensures c.before.before.before.before.before.before.before.before.before.before.before.before.before.before.before.before.before.before.before.before.before.before.before.before.before.before.before.before.before.held-places.ensures.word).apart in omega (
+) in let k = c.requires.0 in parted-after none late
+    c.set_apart.ensures c.begin-v.ensures c.held_places-c.ensures.word k.state k.sound k.writes (let y = front_within (set-parted c.requires.0 c.set_apart.ensures c.held_places-c.ensures.word).apart in omega (
       arith,
       y,
-      c.before.before.before.before.before.before.before.before.before.before.before.before.before.before.before.begin.auto.s,
-    )) c.before.before.before.before.before.before.before.ask-round.auto.0 refl (search rules) c.before.before.before.before.before.before.before.before.before.before.before.before.before.before.before.begin.auto.first c.before.before.before.before.before.before.before.ask-round.ensures
+      c.begin-v.auto.s,
+    )) c.ask_round-r.auto.s refl (search rules) c.begin-v.auto.first c.ask_round-r.ensures
 
 pub returns : goal.returns
 returns c = let late : c.args.clock < word = omega (
   arith,
   c.requires.1,
-) in λ st s o. plan_is none late c.before.before.before.before.before.before.before.before.before.before.before.before.before.before.before.before.before.before.before.before.before.before.before.before.before.before.set_apart.ensures c.before.before.before.before.before.before.before.before.before.before.before.before.before.before.before.before.before.before.begin.ensures c.before.before.before.before.before.before.before.before.before.before.before.before.before.before.before.before.before.before.before.before.before.before.before.before.before.before.before.before.before.before.before.before.held-places.ensures.word st s o (let y = front_within (set-parted c.before.before.before.before.before.before.before.before.before.before.before.before.before.before.before.before.before.before.before.before.before.before.before.before.before.before.before.before.before.before.before.before.before.before.before.before.requires.0 c.before.before.before.before.before.before.before.before.before.before.before.before.before.before.before.before.before.before.before.before.before.before.before.before.before.before.set_apart.ensures c.before.before.before.before.before.before.before.before.before.before.before.before.before.before.before.before.before.before.before.before.before.before.before.before.before.before.before.before.before.before.before.before.held-places.ensures.word).apart in omega (
+) in λ st s o. plan_is none late c.set_apart.ensures c.begin-v.ensures c.held_places-c.ensures.word st s o (let y = front_within (set-parted c.requires.0 c.set_apart.ensures c.held_places-c.ensures.word).apart in omega (
   arith,
   y,
-  c.before.before.before.before.before.before.before.before.before.before.before.before.before.before.before.before.before.before.begin.auto.s,
-)) c.before.before.before.before.before.before.before.before.before.before.ask-round.auto.0 refl (search rules) c.before.before.before.before.before.before.before.before.before.before.before.before.before.before.before.before.before.before.begin.auto.first c.before.before.before.before.before.before.before.before.before.before.ask-round.ensures c.before.before.put_back.ensures
+  c.begin-v.auto.s,
+)) c.ask_round-r.auto.s refl (search rules) c.begin-v.auto.first c.ask_round-r.ensures c.put_back.ensures

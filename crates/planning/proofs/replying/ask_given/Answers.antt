@@ -20,18 +20,18 @@ finish-requires c = let x = c.phase_given-w.ensures in let b = c.args.given.now 
   arith,
   c.type_inv.given i,
 )) in (
-  marked-after (some (given_keys b)) x c.before.before.before.before.before.before.before.before.before.before.before.before.before.before.requires.0,
+  marked-after (some (given_keys b)) x c.requires.0,
   omega (
     arith,
     x.most,
-    c.before.before.before.before.before.before.before.phase-given.auto.1.1.1.0,
-    c.before.before.before.before.before.before.before.before.before.before.before.before.before.before.requires.2,
+    c.phase_given-w.auto.picks,
+    c.requires.2,
   ),
   x.most,
   omega (
     arith,
-    few_chosen (some (given_keys b)) x (λ st s. typed) c.before.before.before.before.before.before.before.before.before.before.before.before.before.before.requires.0,
-    c.before.before.before.before.before.before.before.before.before.before.before.before.before.before.requires.3,
+    few_chosen (some (given_keys b)) x (λ st s. typed) c.requires.0,
+    c.requires.3,
   ),
 )
 

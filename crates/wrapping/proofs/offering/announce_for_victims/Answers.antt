@@ -21,7 +21,7 @@ settle-p-requires c = (
   c.requires.1,
   c.list_victims-m.ensures.1,
   omega (arith, c.list_victims-m.ensures.0, c.at_most-most.ensures.1),
-  omega (arith, c.list_victims-m.auto.top, c.clear.auto.s),
+  omega (arith, c.list_victims-m.auto.top, c.clear.auto.top),
   c.requires.3,
   omega (arith, c.requires.4),
 )

@@ -12,7 +12,7 @@ pub come_in-requires : goal.come_in-requires
 come_in-requires c = (
   collects_gathers c.collect-p.ensures
       c.requires.0,
-  omega (arith, c.collect-p.ensures.few, c.collect-p.auto.new, c.clear.auto.s),
+  omega (arith, c.collect-p.ensures.few, c.collect-p.auto.new, c.clear.auto.new),
 )
 
 pub announce_one-requires-then-next-count : goal.announce_one-requires-then-next-count

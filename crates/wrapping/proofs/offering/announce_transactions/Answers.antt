@@ -32,17 +32,17 @@ announce_part-i-requires-in-loop-i c = let peer : Peer c.args.n = record {
       c.requires.1;
   small = omega arith;
 } in
-    let typed : Each OfferTyped (offers_in c.before.before.before.before.before.before.before.before.before.before.before.before.before.before.args.items.now c.before.before.before.before.before.before.before.before.before.before.before.before.before.before.args.priorities.now) = offers-fit c.before.before.before.before.before.before.before.before.before.before.before.before.before.before.args.items.now c.before.before.before.before.before.before.before.before.before.before.before.before.before.before.args.priorities.now
-    (λ j. omega (arith, c.before.before.before.before.before.before.before.before.before.before.before.before.shared-slice-known.given j)) (λ j. omega (
+    let typed : Each OfferTyped (offers_in c.args.items.now c.args.priorities.now) = offers-fit c.args.items.now c.args.priorities.now
+    (λ j. omega (arith, c.type_inv.items j)) (λ j. omega (
       arith,
-      c.before.before.before.before.before.before.before.before.before.before.before.shared-slice-known2.given j,
+      c.type_inv.priorities j,
     )) in
-    let begun = batched_more (batched_start c.before.before.before.before.before.before.before.before.before.before.before.before.before.before.args.n c.before.before.before.before.before.before.before.before.before.before.before.before.before.before.args.clock c.before.before.before.before.before.before.before.before.before.before.before.before.before.before.args.preferred c.before.before.before.before.before.before.before.before.before.before.before.before.before.before.args.source (offers_in c.before.before.before.before.before.before.before.before.before.before.before.before.before.before.args.items.now c.before.before.before.before.before.before.before.before.before.before.before.before.before.before.args.priorities.now) c.before.before.before.before.before.before.before.before.before.before.before.before.before.before.args.s.now) peer c.before.before.before.before.before.before.before.before.before.before.before.before.before.before.requires.2 typed
-    c.before.before.before.before.before.before.before.before.before.overloaded.ensures c.before.before.before.before.before.announce-part.ensures c.before.before.before.before.before.announce-part.auto.s in (
-      batched_kept (c.before.before.loop.invariant.2 c.before.before.before.before.before.before.before.before.before.before.before.before.before.before.args.s.now c.before.before.before.before.before.before.before.before.before.overloaded.ensures begun) peer c.before.before.before.before.before.before.before.before.before.before.before.before.before.before.requires.2 typed c.before.before.before.before.before.before.before.before.before.before.before.before.before.before.requires.0,
-      c.before.before.before.before.before.before.before.before.before.before.before.before.before.before.requires.1,
-      c.before.before.before.before.before.before.before.before.before.before.before.before.before.before.requires.2,
-      omega (arith, c.before.loop-test.true, c.before.before.before.before.before.before.before.before.offers.ensures),
+    let begun = batched_more (batched_start c.args.n c.args.clock c.args.preferred c.args.source (offers_in c.args.items.now c.args.priorities.now) c.args.s.now) peer c.requires.2 typed
+    c.overloaded-late.ensures c.announce_part-i.ensures c.announce_part-i.auto.s in (
+      batched_kept (c.loop-i.invariant.2 c.args.s.now c.overloaded-late.ensures begun) peer c.requires.2 typed c.requires.0,
+      c.requires.1,
+      c.requires.2,
+      omega (arith, c.loop-i-test.true, c.offers-count.ensures),
     )
 
 pub loop-i-smaller : goal.loop-i-smaller
@@ -58,12 +58,12 @@ loop-i-preserved c = let peer : Peer c.args.n = record {
   positive = c.requires.1;
   small = omega arith;
 } in
-    let typed : Each OfferTyped (offers_in c.before.before.before.before.before.before.before.before.before.before.before.before.before.before.before.before.before.args.items.now c.before.before.before.before.before.before.before.before.before.before.before.before.before.before.before.before.before.args.priorities.now) = offers-fit c.before.before.before.before.before.before.before.before.before.before.before.before.before.before.before.before.before.args.items.now c.before.before.before.before.before.before.before.before.before.before.before.before.before.before.before.before.before.args.priorities.now
-    (λ j. omega (arith, c.before.before.before.before.before.before.before.before.before.before.before.before.before.before.before.shared-slice-known.given j)) (λ j. omega
-    (arith, c.before.before.before.before.before.before.before.before.before.before.before.before.before.before.shared-slice-known2.given j)) in (
-      c.before.before.announce-part2.auto.s ∙ c.before.before.before.before.before.loop.invariant.0,
-      c.before.before.announce-part2.ensures.inside,
-      λ u f b. batched_more (c.before.before.before.before.before.loop.invariant.2 u f b) peer c.before.before.before.before.before.before.before.before.before.before.before.before.before.before.before.before.before.requires.2 typed f c.before.before.announce-part2.ensures c.before.before.announce-part2.auto.s,
+    let typed : Each OfferTyped (offers_in c.args.items.now c.args.priorities.now) = offers-fit c.args.items.now c.args.priorities.now
+    (λ j. omega (arith, c.type_inv.items j)) (λ j. omega
+    (arith, c.type_inv.priorities j)) in (
+      c.announce_part-i-in-loop-i.auto.s ∙ c.loop-i.invariant.0,
+      c.announce_part-i-in-loop-i.ensures.inside,
+      λ u f b. batched_more (c.loop-i.invariant.2 u f b) peer c.requires.2 typed f c.announce_part-i-in-loop-i.ensures c.announce_part-i-in-loop-i.auto.s,
     )
 
 pub shape_of-s : goal.shape_of-s
@@ -74,17 +74,17 @@ returns c = let peer : Peer c.args.n = record {
   positive = c.requires.1;
   small = omega arith;
 } in
-    let typed : Each OfferTyped (offers_in c.before.before.before.before.before.before.before.before.before.before.before.before.before.args.items.now c.before.before.before.before.before.before.before.before.before.before.before.before.before.args.priorities.now) = offers-fit c.before.before.before.before.before.before.before.before.before.before.before.before.before.args.items.now c.before.before.before.before.before.before.before.before.before.before.before.before.before.args.priorities.now
-    (λ j. omega (arith, c.before.before.before.before.before.before.before.before.before.before.before.shared-slice-known.given j)) (λ j. omega (
+    let typed : Each OfferTyped (offers_in c.args.items.now c.args.priorities.now) = offers-fit c.args.items.now c.args.priorities.now
+    (λ j. omega (arith, c.type_inv.items j)) (λ j. omega (
       arith,
-      c.before.before.before.before.before.before.before.before.before.before.shared-slice-known2.given j,
+      c.type_inv.priorities j,
     )) in
-    let begun = batched_more (batched_start c.before.before.before.before.before.before.before.before.before.before.before.before.before.args.n c.before.before.before.before.before.before.before.before.before.before.before.before.before.args.clock c.before.before.before.before.before.before.before.before.before.before.before.before.before.args.preferred c.before.before.before.before.before.before.before.before.before.before.before.before.before.args.source (offers_in c.before.before.before.before.before.before.before.before.before.before.before.before.before.args.items.now c.before.before.before.before.before.before.before.before.before.before.before.before.before.args.priorities.now) c.before.before.before.before.before.before.before.before.before.before.before.before.before.args.s.now) peer
-    c.before.before.before.before.before.before.before.before.before.before.before.before.before.requires.2 typed
-    c.before.before.before.before.before.before.before.before.overloaded.ensures c.before.before.before.before.announce-part.ensures c.before.before.before.before.announce-part.auto.s in
-    batched_done (c.before.loop.invariant.2 c.before.before.before.before.before.before.before.before.before.before.before.before.before.args.s.now c.before.before.before.before.before.before.before.before.overloaded.ensures begun) (omega (
+    let begun = batched_more (batched_start c.args.n c.args.clock c.args.preferred c.args.source (offers_in c.args.items.now c.args.priorities.now) c.args.s.now) peer
+    c.requires.2 typed
+    c.overloaded-late.ensures c.announce_part-i.ensures c.announce_part-i.auto.s in
+    batched_done (c.loop-i.invariant.2 c.args.s.now c.overloaded-late.ensures begun) (omega (
       arith,
-      c.before.loop.invariant.1,
-      c.loop-test.false,
-      c.before.before.before.before.before.before.before.offers.ensures,
+      c.loop-i.invariant.1,
+      c.loop-i-test.false,
+      c.offers-count.ensures,
     ))

@@ -10,7 +10,7 @@ swap-p-requires c = (
   c.requires.2,
   c.requires.3,
   c.requires.4,
-  omega (arith, c.clear.auto.s),
+  omega (arith, c.clear.auto.new),
   c.clear.ensures,
   c.requires.5,
   c.requires.6,
@@ -34,7 +34,7 @@ come_in-requires c = (
     arith,
     c.swap-p.ensures.few,
     c.swap-p.auto.new,
-    c.clear.auto.s,
+    c.clear.auto.new,
   ),
 )
 
