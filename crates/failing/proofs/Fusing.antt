@@ -45,7 +45,7 @@ change_fuse k f g lo (r ∷ t) ff z o =
       | inl e ↦ rw e (fuse_keep k g (f (blank k)) (f (blank k)).candidates (place r.key) (r ∷ t) z refl (ap place (sym (ff (blank k)))) (ltb-true _ _ e) (omega arith, o.1, o.2))
       | inr e ↦ rw e (elim (test (eqb (place k) (place r.key))) [
         | inl d ↦ rw d (fuse_keep k g (f r) (f r).candidates (suc (place r.key)) t z refl (eqb-true _ _ d ∙ ap place (sym (ff r))) (omega (arith, eqb-true (place k) (place r.key) d)) o.2)
-        | inr d ↦ rw d (rw (e, d) (ap (λ (l : Table). r ∷ l) (change_fuse k f g _ t ff z o.2)))
+        | inr d ↦ rw d (rw (e, d) (ap (λ (l : Table). r ∷ l) (change_fuse k f g (suc (place r.key)) t ff z o.2)))
       ])
     ]
 
@@ -57,7 +57,7 @@ change_same k f g lo (r ∷ t) o q =
       | inl e ↦ rw e (ap (λ (x : Request). keep x x.candidates (r ∷ t)) (rw (at_absent k (place r.key) (r ∷ t) (ltb-true _ _ e) (omega arith, o.1, o.2)) at q))
       | inr e ↦ rw e (elim (test (eqb (place k) (place r.key))) [
         | inl d ↦ rw d (ap (λ (x : Request). keep x x.candidates t) (rw d at q))
-        | inr d ↦ rw d (ap (λ (l : Table). r ∷ l) (change_same k f g _ t o.2 (rw d at q)))
+        | inr d ↦ rw d (ap (λ (l : Table). r ∷ l) (change_same k f g (suc (place r.key)) t o.2 (rw d at q)))
       ])
     ]
 
@@ -72,6 +72,6 @@ change_none k f lo (r ∷ t) o a q =
       | inr e ↦ rw e (elim (test (eqb (place k) (place r.key))) [
         | inl d ↦ let z : f r ≡ r = rw d at q in
             rw d (ap (λ (x : Request). keep x x.candidates t) z ∙ keep_some r r.candidates t a.0)
-        | inr d ↦ rw d (ap (λ (l : Table). r ∷ l) (change_none k f _ t o.2 a.1 (rw d at q)))
+        | inr d ↦ rw d (ap (λ (l : Table). r ∷ l) (change_none k f (suc (place r.key)) t o.2 a.1 (rw d at q)))
       ])
     ]

@@ -1,5 +1,4 @@
 use mathlib.Core.Path.{sym, ◌∙◌}
-use borrow.Author.Tests.{not-true, not-false}
 use Rattle.ident.specs.Words.{key_num}
 use Rattle.machine.specs.Table.{at}
 use Rattle.failing.proofs.Leaving.{owner_of_lem, failed-refused, failed_done}
@@ -7,16 +6,16 @@ use Rattle.failing.proofs.failed.Goals as goal
 
 pub returns-then-not-releasable : goal.returns-then-not-releasable
 returns-then-not-releasable c = failed-refused (key_num c.args.k) c.args.n c.args.clock
-    (λ st s w. sym (c.releasable.ensures st s w) ∙ not-true c.releasable.result c.if-not-releasable.true-raw)
+    (λ st s w. sym (c.releasable.ensures st s w) ∙ c.if-not-releasable.true)
 
 pub leave_both-requires : goal.leave_both-requires
 leave_both-requires c = (
   c.requires,
   λ st s w. owner_of_lem c.args.n (at (key_num c.args.k)
-      st.table) (sym (c.releasable.ensures st s w) ∙ not-false c.releasable.result c.if-not-releasable.false-raw),
+      st.table) (sym (c.releasable.ensures st s w) ∙ c.if-not-releasable.false),
 )
 
 pub returns : goal.returns
 returns c = failed_done (key_num c.args.k) c.args.n
     c.args.clock (λ st s w. sym (c.releasable.ensures st s w) ∙
-    not-false c.releasable.result c.if-not-releasable.false-raw) c.leave_both.ensures
+    c.if-not-releasable.false) c.leave_both.ensures

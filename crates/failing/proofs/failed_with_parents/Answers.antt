@@ -1,7 +1,6 @@
 use Prim.Native.Nat.{◌<◌}
 use native.Mathlib.Omega.{arith}
 use mathlib.Core.Path.{refl}
-use borrow.Author.Tests.{not-true, not-false}
 use Rattle.ident.specs.Words.{key_num}
 use Rattle.ident.proofs.Words.{key-four, hash_below}
 use Rattle.machine.specs.Limits.{word}
@@ -12,7 +11,7 @@ pub returns-then-not-failed : goal.returns-then-not-failed
 returns-then-not-failed c = nothing-handed (key_num c.args.k)
     c.args.n
     c.args.clock
-    c.args.out.now (not-true c.failed.result c.if-not-failed.true-raw)
+    c.args.out.now c.if-not-failed.true
     c.failed.ensures
 
 pub announce_behind-requires : goal.announce_behind-requires
@@ -25,7 +24,7 @@ announce_behind-requires c =
           c.well_formed.1.0))
           c.args.n
           c.args.clock v
-          (not-false c.failed.result c.if-not-failed.false-raw)
+          c.if-not-failed.false
           c.failed.ensures
           c.requires.0,
       c.requires.1,
@@ -53,8 +52,7 @@ returns c =
     c.well_formed.1.0))
     c.args.n
     c.args.clock v
-    (not-false c.failed.result
-    c.if-not-failed.false-raw)
+    c.if-not-failed.false
     c.failed.ensures _
     (λ st s w. first_are _ c.parents_for-m.result _ refl
     c.parents_for-m.ensures.0

@@ -1,7 +1,6 @@
 use Prim.Native.Nat.{◌<◌}
 use native.Mathlib.Omega.{arith}
 use mathlib.Core.Path.{refl, sym, ◌∙◌}
-use borrow.Author.Tests.{not-true, not-false}
 use Rattle.ident.specs.Words.{hash_num, key_num}
 use Rattle.ident.proofs.Words.{key-four, hash_below}
 use Rattle.machine.specs.Limits.{word}
@@ -14,14 +13,14 @@ pub returns-then-not-enqueued_by : goal.returns-then-not-enqueued_by
 returns-then-not-enqueued_by c = nothing_released (key_num c.wtxid_key-k.result) (hash_num c.args.subject.0)
     c.args.n c.args.clock
     c.args.out.now c.wtxid_key-k.ensures
-    (λ st s w. sym (c.enqueued_by.ensures st s w) ∙ not-true c.enqueued_by.result c.if-not-enqueued_by.true-raw)
+    (λ st s w. sym (c.enqueued_by.ensures st s w) ∙ c.if-not-enqueued_by.true)
 
 pub leave_both-requires : goal.leave_both-requires
 leave_both-requires c = (
   c.requires.0,
   λ st s w. enqueued-owner c.args.n (at (key_num
       c.wtxid_key-k.result) st.table) (sym (c.enqueued_by.ensures st s w) ∙
-      not-false c.enqueued_by.result c.if-not-enqueued_by.false-raw),
+      c.if-not-enqueued_by.false),
 )
 
 pub announce_behind-requires : goal.announce_behind-requires
@@ -31,7 +30,7 @@ announce_behind-requires c =
       released_kept (key_num c.wtxid_key-k.result)
           (hash_below c.wtxid_key-k.result.hash
           (key-four c.wtxid_key-k.result
-          c.wtxid_key-k.type-inv))
+          c.wtxid_key-k.type_inv))
           c.args.n
           c.args.clock v
           c.leave_both.ensures
@@ -59,12 +58,11 @@ returns c =
     c.wtxid_key-k.result.hash
     (key-four
     c.wtxid_key-k.result
-    c.wtxid_key-k.type-inv))
+    c.wtxid_key-k.type_inv))
     c.args.n c.args.clock v c.leave_both.ensures (hash_num c.args.subject.0)
     c.wtxid_key-k.ensures
     (λ st s w. sym (c.enqueued_by.ensures st
-    s w) ∙ not-false c.enqueued_by.result
-    c.if-not-enqueued_by.false-raw) _
+    s w) ∙ c.if-not-enqueued_by.false) _
     (λ st s w. first_are _ c.parents_for-m.result _ refl
     c.parents_for-m.ensures.0
     (omega (arith, c.parents_for-m.auto)) _

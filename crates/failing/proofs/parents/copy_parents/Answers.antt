@@ -1,4 +1,4 @@
-use Prim.Native.Nat.{◌-◌, ◌*◌}
+use Prim.Native.Nat.{◌*◌}
 use native.Mathlib.Omega.{arith}
 use Rattle.ident.specs.Words.{hash_num, hash_bytes}
 use Rattle.failing.proofs.Copying.{copied_none, copied_more, copied_all}
