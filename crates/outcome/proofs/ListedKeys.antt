@@ -63,7 +63,7 @@ unfolding fail_each
 each_typed n clock [] p w a b = tt
 each_typed {m} {Q} {t} n clock (k ∷ ks) p w a b =
     let x = failed_with_parents m k n clock t in
-    let rest = each_typed n clock ks p w a.1 (bounded-failed_with_parents k n clock a.0 p w b) in
+    let rest = each_typed {t = x.table} n clock ks p w a.1 (bounded-failed_with_parents k n clock a.0 p w b) in
     each_append KeyTyped x.keys (fail_each m n clock ks x.table).keys (failed-keys k n clock a.0 b) rest
 
 claims-keys : {m : Limits} {Q : ℕ} {t : Table} (n : ℕ) (cs : List ℕ) (clock : ℕ) → Peer n → clock < word → Bounded m Q t → Each KeyTyped (failed_package_claims m n cs clock t).keys
@@ -93,7 +93,7 @@ unfolding not_found_each
 items-keys n clock [] p w a b = tt
 items-keys {m} {Q} {t} n clock (i ∷ l) p w a b =
     let x = not_found_one m n clock i t in
-    let rest = items-keys n clock l p w a.1 (bounded-not_found_one n clock i p w a.0 b) in
+    let rest = items-keys {t = x.table} n clock l p w a.1 (bounded-not_found_one n clock i p w a.0 b) in
     each_append KeyTyped x.keys (not_found_each m n clock l x.table).keys (one_keys n clock i a.0 b) rest
 
 pub missing-typed : (s : State) → Sound s → (n clock : ℕ) (l : List Item) → Peer n → clock < word → Each (λ (i : Item). i.hash < top) l

@@ -37,6 +37,6 @@ returns c =
     rw c.need-n.ensures
     (opened _ _ _ _ (sym c.sizes_taken.ensures ∙ not-false _ c.if-not-sizes_taken.false-raw)
     (omega (arith, c.need-n.ensures))
-    (bytes_front c.fill.new.0
+    (bytes_front c.fill.new.s
     (drop c.need-n.result c.args.s.now)
     (λ i. omega (arith, c.type_inv.s i))) c.fill.ensures)
