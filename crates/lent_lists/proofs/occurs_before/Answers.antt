@@ -17,9 +17,6 @@ pub loop-j-init : goal.loop-j-init
 unfolding elem
 loop-j-init c = (omega arith, refl)
 
-pub hash_in-g-requires : goal.hash_in-g-requires
-hash_in-g-requires c = omega (arith, c.loop-j-test.true, c.requires)
-
 pub returns-then-same_hash : goal.returns-then-same_hash
 returns-then-same_hash c =
     sym (elem-met _ _ c.args.i c.loop-j.j (omega arith) (omega (arith, c.requires))
@@ -31,8 +28,3 @@ loop-j-preserved c = (
   rw add-one (elem-passed _ _ c.loop-j.j (omega (arith, c.requires)) c.loop-j.invariant.1
       (same-as c.same_hash.ensures c.hash_in-g.ensures c.hash_in-h.ensures c.if-same_hash.false)),
 )
-
-pub returns : goal.returns
-returns c =
-    let e : c.loop-j.j ≡ c.args.i = omega arith in
-    sym (rw e at c.loop-j.invariant.1)

@@ -6,7 +6,7 @@ use Rattle.words.specs.Words.{words}
 use Rattle.words.proofs.Records.{length-recs}
 use Rattle.regions.specs.Rows.{quad_number}
 use Rattle.places.specs.Places.{place_size, place_key}
-use Rattle.regions.proofs.Order.{search_start, search_up, search_down, search_end}
+use Rattle.regions.proofs.Order.{search_start, search_up, search_down}
 use Rattle.places.proofs.Changes.{place-key_at}
 use Rattle.places.proofs.seek_place.Goals as goal
 
@@ -27,6 +27,3 @@ loop-lo-preserved c =
     let h = ltb-false (quad_number c.read_quad.result) (quad_number c.args.h) (sym c.quad_less.ensures ∙ c.if-quad_less.false) in
     search_down c.loop-lo.invariant m (omega arith) (omega arith)
     (rw (place-key_at (words c.args.s.now) c.args.n m (omega arith), ← c.read_quad.ensures) h)
-
-pub returns : goal.returns
-returns c = search_end c.loop-lo.invariant c.loop-lo-test.false

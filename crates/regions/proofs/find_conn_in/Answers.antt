@@ -1,12 +1,9 @@
 use native.Mathlib.Omega.{arith}
 use mathlib.Core.Path.{sym, ◌∙◌}
 use Rattle.words.specs.Words.{words}
-use Rattle.regions.proofs.Order.{passing_start, passing_more, passing_found, passing_end}
+use Rattle.regions.proofs.Order.{passing_more, passing_found}
 use Rattle.regions.proofs.Rows.{row-conn_at}
 use Rattle.regions.proofs.find_conn_in.Goals as goal
-
-pub loop-i-init : goal.loop-i-init
-loop-i-init c = passing_start _ _ _ _ c.requires.0
 
 pub returns-then-get-c : goal.returns-then-get-c
 returns-then-get-c c =
@@ -17,6 +14,3 @@ pub loop-i-preserved : goal.loop-i-preserved
 loop-i-preserved c =
     let e = row-conn_at (words c.args.s.now) c.args.to c.loop-i.i (omega arith) in
     passing_more c.loop-i.invariant (omega arith) (λ z. c.if-get-c.false (c.get.ensures ∙ sym e ∙ z))
-
-pub returns : goal.returns
-returns c = passing_end c.loop-i.invariant (omega arith)

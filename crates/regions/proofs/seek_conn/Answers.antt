@@ -3,7 +3,7 @@ use Prim.Native.Nat.{◌+◌, ◌-◌, ◌/◌}
 use Rattle.words.specs.Words.{words}
 use Rattle.words.proofs.Records.{length-recs}
 use Rattle.regions.specs.Rows.{conn_size, conn_key}
-use Rattle.regions.proofs.Order.{search_start, search_up, search_down, search_end}
+use Rattle.regions.proofs.Order.{search_start, search_up, search_down}
 use Rattle.regions.proofs.Rows.{conn-key_at}
 use Rattle.regions.proofs.seek_conn.Goals as goal
 
@@ -22,6 +22,3 @@ loop-lo-preserved c =
     let m = c.loop-lo.lo + (c.loop-lo.hi - c.loop-lo.lo) / 2 in
     let e = conn-key_at (words c.args.s.now) c.args.n m (omega arith) in
     search_down c.loop-lo.invariant m (omega arith) (omega arith) (rw (e, ← c.get.ensures) c.if-get-c.false)
-
-pub returns : goal.returns
-returns c = search_end c.loop-lo.invariant c.loop-lo-test.false

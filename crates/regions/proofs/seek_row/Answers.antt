@@ -6,7 +6,7 @@ use Rattle.words.specs.Words.{words}
 use Rattle.words.proofs.Records.{length-recs}
 use Rattle.regions.specs.Order.{one}
 use Rattle.regions.specs.Rows.{row_size, row_key, key_number}
-use Rattle.regions.proofs.Order.{search_start, search_up, search_down, search_end}
+use Rattle.regions.proofs.Order.{search_start, search_up, search_down}
 use Rattle.regions.proofs.Rows.{row-key_at}
 use Rattle.regions.proofs.seek_row.Goals as goal
 
@@ -27,6 +27,3 @@ loop-lo-preserved c =
     let h = rw c.key_at.ensures at (ltb-false (key_number c.key_at.result) (key_number c.args.k + one c.args.after)
     (sym c.falls_short.ensures ∙ c.if-falls_short.false)) in
     search_down c.loop-lo.invariant m (omega arith) (omega arith) (rw (row-key_at (words c.args.s.now) c.args.n m (omega arith)) h)
-
-pub returns : goal.returns
-returns c = search_end c.loop-lo.invariant c.loop-lo-test.false

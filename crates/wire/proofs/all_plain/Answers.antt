@@ -1,16 +1,9 @@
 -- `wire::all_plain` meets its contract.
-use mathlib.Core.Path.{refl}
 use native.Mathlib.Numerals.{add-one}
 use native.Mathlib.Omega.{arith}
 use Rattle.lent_lists.specs.Items.{items_in}
 use Rattle.wire.proofs.Answers.{plain_broken, plain-passed, plain_all}
 use Rattle.wire.proofs.all_plain.Goals as goal
-
-pub loop-i-init : goal.loop-i-init
-loop-i-init c = (omega arith, refl)
-
-pub item_at-item-requires : goal.item_at-item-requires
-item_at-item-requires c = omega (arith, c.items-n.ensures)
 
 pub returns-then-not-is_plain : goal.returns-then-not-is_plain
 returns-then-not-is_plain c =

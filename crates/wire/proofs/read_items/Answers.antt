@@ -1,14 +1,10 @@
 -- `wire::read_items` meets its contract.
-use mathlib.Core.Path.{◌≡◌}
 use native.Mathlib.Omega.{arith}
 use Rattle.wire.proofs.Filling.{read_none, read_turn}
 use Rattle.wire.proofs.read_items.Goals as goal
 
 pub loop-i-init : goal.loop-i-init
 loop-i-init c = (omega arith, omega arith, read_none _ _)
-
-pub read_item-requires : goal.read_item-requires
-read_item-requires c = (omega arith, omega arith)
 
 pub loop-i-preserved : goal.loop-i-preserved
 loop-i-preserved c = (
@@ -17,6 +13,3 @@ loop-i-preserved c = (
   read_turn c.args.p.now c.args.at c.loop-i.i c.args.list.now (omega arith)
       c.loop-i.invariant.2 c.read_item.ensures,
 )
-
-pub returns : goal.returns
-returns c = let e : c.loop-i.i ≡ c.args.n = omega arith in rw e at c.loop-i.invariant.2

@@ -1,15 +1,11 @@
 -- `wire::write_items` meets its contract.
-use mathlib.Core.Path.{◌∙◌}
 use native.Mathlib.Omega.{arith}
 use Rattle.lent_lists.specs.Items.{items_in}
-use Rattle.wire.proofs.Filling.{write_none, write_turn, write-all}
+use Rattle.wire.proofs.Filling.{write_none, write_turn}
 use Rattle.wire.proofs.write_items.Goals as goal
 
 pub loop-i-init : goal.loop-i-init
 loop-i-init c = (omega arith, omega arith, write_none (items_in c.args.items.now) c.args.s.now c.args.at)
-
-pub write_item-requires : goal.write_item-requires
-write_item-requires c = (omega (arith, c.requires), omega (arith, c.requires))
 
 pub loop-i-preserved : goal.loop-i-preserved
 loop-i-preserved c = (
@@ -18,7 +14,3 @@ loop-i-preserved c = (
   write_turn (items_in c.args.items.now) c.loop-i.i c.args.at c.args.s.now
       (omega (arith, c.requires)) (omega (arith, c.requires)) c.loop-i.invariant.2 c.write_item.ensures,
 )
-
-pub returns : goal.returns
-returns c =
-    c.loop-i.invariant.2 ∙ write-all (items_in c.args.items.now) c.loop-i.i c.args.s.now c.args.at (omega (arith, c.requires))

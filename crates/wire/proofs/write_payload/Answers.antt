@@ -2,15 +2,8 @@
 use native.Mathlib.Omega.{arith}
 use Rattle.lent_lists.specs.Items.{items_in}
 use Rattle.wire.proofs.Counts.{few_bytes}
-use Rattle.wire.proofs.Answers.{write-many, write_other, write-short, write_done}
+use Rattle.wire.proofs.Answers.{write-short, write_done}
 use Rattle.wire.proofs.write_payload.Goals as goal
-
-pub returns-then-n-gt-MAX_ITEMS : goal.returns-then-n-gt-MAX_ITEMS
-returns-then-n-gt-MAX_ITEMS c = write-many (items_in c.args.items.now) c.args.answer.now c.items-n.ensures c.if-n-gt-MAX_ITEMS.true
-
-pub returns-then-not-all_plain : goal.returns-then-not-all_plain
-returns-then-not-all_plain c =
-    write_other (items_in c.args.items.now) c.args.answer.now c.all_plain.ensures c.if-not-all_plain.true
 
 pub overflow_add-need : goal.overflow_add-need
 overflow_add-need c = omega (arith, few_bytes c.items-n.result (omega arith), c.count_bytes-at.ensures)
