@@ -26,7 +26,7 @@ RESULTS = ("u64", "bool")
 # `now` cannot be a parameter's name where a contract says `now (s .entry)`; `free` is a function of C's library.
 NAMES = {"s": "store", "clock": "now", "free": "room", "preferred_free": "preferred_room"}
 
-EXPORTED = re.compile(r'((?:^//[^\n]*\n)*)^#\[no_mangle\]\npub extern "C" fn (\w+)\(([^)]*)\)\s*(?:->\s*(\w+))?', re.M)
+EXPORTED = re.compile(r'((?:^//[^\n]*\n)*)^#\[unsafe\(no_mangle\)\]\npub extern "C" fn (\w+)\(([^)]*)\)\s*(?:->\s*(\w+))?', re.M)
 
 
 def parameters(function, text):

@@ -32,7 +32,7 @@ class Needs:
     """An expression of a buffer's need as the matrix writes it: L, Q, n for the length of the list that is given, numbers with their commas."""
 
     def __init__(self, text, limits):
-        self.tokens = re.findall(r"s \.limit|s \.places|length \w+|\w+|[()+*]", text)
+        self.tokens = re.findall(r"s\.limit|s\.places|length \w+|\w+|[()+*]", text)
         self.limits = limits
 
     def atom(self):
@@ -45,7 +45,7 @@ class Needs:
             return f"min({said(self.atom())}, {said(self.atom())})"
         if token.startswith("length "):
             return "n"
-        known = {"s .limit": "L", "s .places": "Q", **self.limits}
+        known = {"s.limit": "L", "s.places": "Q", **self.limits}
         return known[token] if token in known else int(token)
 
     def product(self):
@@ -85,9 +85,9 @@ def refusals(root):
     """By call: the numbers of the refusals that it can meet, and the need of its answer buffer ('' if it has none)."""
     text = read(root, "crates/machine/specs/Call.antt")
     limits = {name: int(n) for name, n in re.findall(r"^(\w+) = (\d+)$", read(root, "crates/machine/specs/Limits.antt"), re.M)}
-    taken = {role for role, value in re.findall(r"^placeTaken \(?(\w+).* s = (.*)$", text, re.M) if value != "false"}
-    places = {name for name, role in re.findall(r"^roleOf \(?(\w+).* = (\w+)", text, re.M) if role in taken}
-    places |= {name for name, value in re.findall(r"^takesPlace \((\w+).* = (.*)$", text, re.M) if value != "false"}
+    taken = {role for role, value in re.findall(r"^place_taken \(?(\w+).* s = (.*)$", text, re.M) if value != "false"}
+    places = {name for name, role in re.findall(r"^role_of \(?(\w+).* = (\w+)", text, re.M) if role in taken}
+    places |= {name for name, value in re.findall(r"^takes_place \((\w+).* = (.*)$", text, re.M) if value != "false"}
     found = {"open": ([2, 1], ""), "restore": ([11, 12, 1], "")}
     for name, form, rest in re.findall(r"^named \(?(\w+)[^=]*= (plain|keyed|entered) (.*)$", text, re.M):
         given = arguments(rest)

@@ -63,10 +63,10 @@ def needs(word, fields, state):
 
 class Driver:
     def __init__(self, specs=SPECS, big=False, extra=False, coverage=False):
-        self.program = m = anttrun.load(specs, coverage, ("specs.Table.ownedBy", "specs.Table.ownedAt"))
+        self.program = m = anttrun.load(specs, coverage, ("specs.Table.owned_by", "specs.Table.owned_at"))
         self.big, self.extra = big, extra
         self.state, self.planned, self.taken, self.arranged = None, NIL, NIL, NIL
-        self.step, self.part_of = m["specs.Step.step"].raw, m["specs.Claim.partOf"].raw
+        self.step, self.part_of = m["specs.Step.step"].raw, m["specs.Claim.part_of"].raw
         self.need = m["specs.Limits.need"].raw
         self.asks = {name: m["specs.Call." + name] for name, _ in CALLS.values()}
         self.open, self.on = m["specs.Call.Open"], m["specs.Call.On"]

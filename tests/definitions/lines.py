@@ -44,9 +44,9 @@ class Text:
     """Reads and writes the values of one loaded program."""
 
     def __init__(self, m):
-        ident = "Rattle·ident.specs."
-        self.kinds = {k: m[f"{ident}declared.Kind.the-variants.{n}"] for k, n in (("t", "Txid"), ("w", "Wtxid"))}
-        variant = f"{ident}declared.ItemKind.the-variants."
+        ident = "Rattle.ident.specs."
+        self.kinds = {k: m[f"{ident}declared.Kind.TheVariants.{n}"] for k, n in (("t", "Txid"), ("w", "Wtxid"))}
+        variant = f"{ident}declared.ItemKind.TheVariants."
         self.item_kinds = {k: m[variant + n] for k, n in (("t", "Transaction"), ("v", "WitnessTransaction"), ("w", "WTx"))}
         self.Other = m[variant + "Other"]
         self.Key, self.Item = m[ident + "Number.Key"], m[ident + "Number.Item"]
@@ -117,8 +117,8 @@ class Text:
                 requests[-1][1].append(self.Candidate(*(self.value(s, fields) for s in "NINBN")))
         head.pop()
         limit, places = self.value("N", head), self.value("N", head)
-        return self.State(limit=limit, places=places, table=[r.but(candidates=cs) for r, cs in requests], nextPoll=self.optional("N", head),
-                          knownCursor=self.optional("K", head), readyCursor=self.optional("K", head))
+        return self.State(limit=limit, places=places, table=[r.but(candidates=cs) for r, cs in requests], next_poll=self.optional("N", head),
+                          known_cursor=self.optional("K", head), ready_cursor=self.optional("K", head))
 
     def optional(self, shape, fields):
         if fields[-1] == b"none":
@@ -177,7 +177,7 @@ class Text:
             return text(value.value) if value else "none"
 
         before, self.written = self.written, {}
-        parts = [f"s,{s.limit},{s.places},{optional(s.nextPoll, str)},{optional(s.knownCursor, self.key)},{optional(s.readyCursor, self.key)}"]
+        parts = [f"s,{s.limit},{s.places},{optional(s.next_poll, str)},{optional(s.known_cursor, self.key)},{optional(s.ready_cursor, self.key)}"]
         for r in s.table:
             got = before.get(id(r)) or (r, self.request(r))
             self.written[id(r)] = got

@@ -8,7 +8,7 @@ from .values import attr
 from .strictness import LAZY_TAIL
 from .tokens import Unread, fail
 
-CHEAP = {"_+_", "_-_", "_*_", "min", "max", "not", "ltb", "leb", "eqb"}
+CHEAP = {"◌+◌", "◌-◌", "◌*◌", "min", "max", "not", "ltb", "leb", "eqb"}
 
 
 class Emit:

@@ -20,13 +20,13 @@ from .tokens import RESERVED, fail
 
 @dataclass
 class Op:
-    """An operator in scope: its name there, its parts (empty where a name begins or ends with `_`), its fixity."""
+    """An operator in scope: its name there, its parts (empty where a name begins or ends with `◌`), its fixity."""
     name: str
     assoc: str
     level: int
 
     def __post_init__(self):
-        self.parts = self.name.split("_")
+        self.parts = self.name.split("◌")
         self.words = [p for p in self.parts if p]
 
 
@@ -114,7 +114,7 @@ class Parser:
             return True
         if t.kind != "name" or t.text in RESERVED or t.text in self.ops.words:
             return False
-        return not (t.text.endswith("_") and t.text[:-1] in self.ops.infix)     # the `+_` of a section
+        return not (t.text.endswith("◌") and t.text[:-1] in self.ops.infix)     # the `+◌` of a section
 
     def application(self):
         if not self.starts_atom(self.peek()):
@@ -160,9 +160,9 @@ class Parser:
             return ("num", int(t.text.replace("_", ""), 0) if t.text[:1] == "0" and len(t.text) > 1 and not t.text.isdigit()
                     else int(t.text.replace("_", "")))
         if t.is_("("):
-            return self.parens(t)
+            return self.projected(self.parens(t))
         if t.is_("record"):
-            return self.record()
+            return self.projected(self.record())
         parts = [t.text]
         while True:     # a tight dot: a path, or projections of a name
             d = self.peek()
@@ -172,18 +172,28 @@ class Parser:
             self.next()
             parts.append(self.next().text)
 
+    def projected(self, e):
+        """A tight dot behind a bracket: (f x).a"""
+        while self.i + 1 < len(self.toks) and self.toks[self.i].kind == "dot" and self.toks[self.i].tight and self.toks[self.i + 1].tight:
+            self.next()
+            name = self.next()
+            if name.kind not in ("name", "num"):
+                fail(name, "a projection")
+            e = ("proj", e, name.text)
+        return e
+
     def parens(self, start):
         t = self.peek()
-        if t.kind == "name" and not t.plain and t.text.startswith("_") and t.text[1:] in self.ops.infix:
-            op = self.ops.infix[self.next().text[1:]]       # (_+ 1)
+        if t.kind == "name" and not t.plain and t.text.startswith("◌") and t.text[1:] in self.ops.infix:
+            op = self.ops.infix[self.next().text[1:]]       # (◌+ 1)
             right = self.expr(0)
             self.expect(")")
             x = ("name", ["«section»"], t)
             return ("lam", [x], ("app", ("name", [op.name], t), [x, right]))
         parts = [self.expr(0)]
         t = self.peek()
-        if t is not None and t.kind == "name" and t.text.endswith("_") and t.text[:-1] in self.ops.infix:
-            op = self.ops.infix[self.next().text[:-1]]      # (1 +_)
+        if t is not None and t.kind == "name" and t.text.endswith("◌") and t.text[:-1] in self.ops.infix:
+            op = self.ops.infix[self.next().text[:-1]]      # (1 +◌)
             self.expect(")")
             return ("app", ("name", [op.name], t), parts)
         if self.sees("→"):                                  # (n → ih)

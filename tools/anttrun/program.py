@@ -48,10 +48,10 @@ class Program(Resolver, Strictness):
 
     def __getitem__(self, name):
         """A definition (called with all its arguments), a constructor, or a record's maker, named as on a use line: of this crate
-        `m["specs.Base.place"]`, of another `m["Rattle·ident.specs.Number.place"]`, of the code
-        `m["Rattle·ident.specs.declared.Kind.the-variants.Txid"]`."""
+        `m["specs.Base.place"]`, of another `m["Rattle.ident.specs.Number.place"]`, of the code
+        `m["Rattle.ident.specs.declared.Kind.TheVariants.Txid"]`."""
         path, _, last = name.rpartition(".")
-        crate, module = self.find_module(path) if name.startswith("Rattle·") else (self.crate, path)
+        crate, module = self.find_module(path) if name.startswith("Rattle.") else (self.crate, path)
         if module.startswith("specs.declared."):
             own = {}
             self.use_declared(own, crate, module, [(last, last)], None)
@@ -152,7 +152,7 @@ class Program(Resolver, Strictness):
         for d in module.decls:
             self.declare(scope, d)
         for name, fixity in scope.fixities.items():
-            if "_" in name:
+            if "◌" in name:
                 scope.ops.add(name, fixity)
         for child in module.mods:
             self.scope(crate, f"{path}.{child}")
@@ -160,9 +160,9 @@ class Program(Resolver, Strictness):
 
     def find_module(self, path):
         """(crate, module) of a use line's path, or a library module's name."""
-        first, _, rest = path.partition(".")
-        if first.startswith("Rattle·"):
-            return (first.split("·")[1], rest)
+        first, *rest = path.split(".", 2)
+        if first == "Rattle" and path not in SUPPLIED and len(rest) == 2:
+            return tuple(rest)
         return path
 
     def use(self, scope, used):
@@ -183,10 +183,12 @@ class Program(Resolver, Strictness):
     # ------------------------------------------------------------ types that the code declares
 
     def use_declared(self, names, crate, path, wanted, tok):
-        """`specs.declared.T.{T}` and, for an enum, `specs.declared.T.the-variants.{V, ..}`."""
-        name, *rest = path.split(".")[2:]
+        """`specs.declared.T.{T}` and, for an enum, `specs.declared.T.TheVariants.{V, ..}`; the code's module stands before T."""
+        parts = path.split(".")[2:]
+        rest = [parts.pop()] if parts[-1] == "TheVariants" else []
+        name = parts[-1]
         kind = self.declared_type(crate, name)
-        known = {} if kind is None else kind.members if rest == ["the-variants"] else {name: kind}
+        known = {} if kind is None else kind.members if rest else {name: kind}
         for given, local in wanted or []:
             if given in known:
                 names[local] = known[given]

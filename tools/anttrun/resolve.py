@@ -36,7 +36,7 @@ class Resolver:
         if not result:
             fail(at, "a type that cannot be read")
         for t, d in depths(result):
-            entity = scope.names.get(f"_{t.text}_") if d == 0 else None
+            entity = scope.names.get(f"◌{t.text}◌") if d == 0 else None
             if isinstance(entity, Kind):
                 return entity.runs
             if isinstance(entity, Unknown):
@@ -51,8 +51,8 @@ class Resolver:
             if isinstance(entity, Kind):
                 return entity.runs
             fail(result[0], "a type that is not known here")
-        if isinstance(scope.names.get(f"{head}_"), Kind):
-            return scope.names[f"{head}_"].runs
+        if isinstance(scope.names.get(f"{head}◌"), Kind):
+            return scope.names[f"{head}◌"].runs
         if head in bound:
             return True
         fail(result[0], "a type that is not known")
@@ -109,7 +109,7 @@ class Resolver:
         d.selector = self.selects(d)
 
     def selects(self, d):
-        """(column, argument if true, argument if false), for a definition like if_then_else_."""
+        """(column, argument if true, argument if false), for a definition like if◌then◌else◌."""
         if len(d.clauses) != 2:
             return None
         found = {}

@@ -1,7 +1,7 @@
 """Which arguments a definition surely needs: they are computed before its call, others wait."""
 from .tokens import Unread
 
-LAZY_TAIL = {"_&&_": 1, "_||_": 1, "cond": 1}    # of these only so many arguments are surely needed
+LAZY_TAIL = {"◌&&◌": 1, "◌||◌": 1, "cond": 1}    # of these only so many arguments are surely needed
 
 
 class Strictness:

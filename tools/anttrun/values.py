@@ -278,52 +278,42 @@ def builtins(entries):
     return {name: Builtin(name, arity, text) for name, arity, text in entries}
 
 
-_LISTS = [("length", 1, "len({0})"), ("take", 2, "take({0}, {1})"), ("drop", 2, "drop({0}, {1})"), ("getD", 3, "get_d({0}, {1}, {2})"),
-          ("set", 3, "put({0}, {1}, {2})"), ("replicate", 2, "from_list([{1}] * {0})"), ("getElem?", 2, "get_elem({0}, {1})")]
+_PRELUDE = {
+    **builtins([
+        ("◌+◌", 2, "({0} + {1})"), ("◌*◌", 2, "({0} * {1})"), ("◌-◌", 2, "max({0} - {1}, 0)"), ("◌^◌", 2, "({0} ** {1})"),
+        ("◌/◌", 2, "div({0}, {1})"), ("◌%◌", 2, "mod({0}, {1})"), ("min", 2, "min({0}, {1})"), ("max", 2, "max({0}, {1})"),
+        ("pred", 1, "max({0} - 1, 0)"),
+        ("not", 1, "(not {0})"), ("xor", 2, "({0} is not {1})"), ("bool_eq", 2, "({0} is {1})"),
+        ("◌&&◌", 2, "({0} and {1})"), ("◌||◌", 2, "({0} or {1})"), ("cond", 3, "({1} if {0} else {2})"),
+        ("ltb", 2, "({0} < {1})"), ("leb", 2, "({0} <= {1})"), ("eqb", 2, "({0} == {1})"),
+        ("◌++◌", 2, "append({0}, {1})"), ("map", 2, "map_({0}, {1})"), ("reverse", 1, "reverse({0})"), ("foldr", 3, "foldr({0}, {1}, {2})"),
+        ("foldl", 3, "foldl({0}, {1}, {2})"), ("tail", 1, "drop(1, {0})"), ("head_or", 2, "get_d({0}, 0, {1})"),
+        ("length", 1, "len({0})"), ("take", 2, "take({0}, {1})"), ("drop", 2, "drop({0}, {1})"), ("get_or", 3, "get_d({0}, {1}, {2})"),
+        ("set", 3, "put({0}, {1}, {2})"), ("replicate", 2, "from_list([{1}] * {0})"), ("get", 2, "get_elem({0}, {1})")]),
+    "zero": Con("zero", 0, "0", "{0} == 0", []),
+    "suc": Con("suc", 1, "({0} + 1)", "{0} > 0", ["({0} - 1)"]),
+    "true": Con("true", 0, "True", "{0} is True", []), "false": Con("false", 0, "False", "{0} is False", []),
+    "[]": Con("[]", 0, "NIL", "{0} is NIL", []), "◌∷◌": Con("◌∷◌", 2, "Cons({0}, {1})", "{0} is not NIL", ["{0}.h", "{0}.t"]),
+    "ℕ": Kind("ℕ"), "Bool": Kind("Bool"), "List": Kind("List"),
+    **{n: Kind(n, False) for n in ("◌≤◌", "◌<◌", "◌≡◌", "◌≢◌", "◌↔◌", "◌⊎◌", "T", "when")},
+}
 
 SUPPLIED = {
-    "Prim.Native.Nat": {
-        **builtins([
-            ("_+_", 2, "({0} + {1})"), ("_*_", 2, "({0} * {1})"), ("_-_", 2, "max({0} - {1}, 0)"), ("_^_", 2, "({0} ** {1})"),
-            ("_/_", 2, "div({0}, {1})"), ("_%_", 2, "mod({0}, {1})"), ("min", 2, "min({0}, {1})"), ("max", 2, "max({0}, {1})"),
-            ("pred", 1, "max({0} - 1, 0)")]),
-        "zero": Con("zero", 0, "0", "{0} == 0", []),
-        "suc": Con("suc", 1, "({0} + 1)", "{0} > 0", ["({0} - 1)"]),
-        "ℕ": Kind("ℕ"), "_≤_": Kind("_≤_", False), "_<_": Kind("_<_", False),
-    },
-    "mathlib.Core.Bool": {
-        **builtins([("not", 1, "(not {0})"), ("xor", 2, "({0} is not {1})"), ("Bool·beq", 2, "({0} is {1})")]),
-        "_&&_": Builtin("_&&_", 2, "({0} and {1})"), "_||_": Builtin("_||_", 2, "({0} or {1})"), "cond": Builtin("cond", 3, "({1} if {0} else {2})"),
-        "true": Con("true", 0, "True", "{0} is True", []), "false": Con("false", 0, "False", "{0} is False", []),
-        "Bool": Kind("Bool"), "So": Kind("So", False),
-    },
-    "mathlib.Core.List": {
-        **builtins([("_++_", 2, "append({0}, {1})"), ("map", 2, "map_({0}, {1})"), ("reverse", 1, "reverse({0})"), ("foldr", 3, "foldr({0}, {1}, {2})"),
-                    ("foldl", 3, "foldl({0}, {1}, {2})"), ("tail", 1, "drop(1, {0})"), ("headD", 2, "get_d({0}, 0, {1})")]),
-        "[]": Con("[]", 0, "NIL", "{0} is NIL", []), "_∷_": Con("_∷_", 2, "Cons({0}, {1})", "{0} is not NIL", ["{0}.h", "{0}.t"]),
-        "List": Kind("List"),
-    },
-    "mathlib.Core.Option": {
-        **builtins([("Option·getD", 2, "option_get({0}, {1})"), ("Option·map", 2, "option_map({0}, {1})")]),
+    "Rattle.std.specs.Prelude": _PRELUDE,
+    "Rattle.std.proofs.Math.Option": {
+        **builtins([("option-get-or", 2, "option_get({0}, {1})"), ("option-map", 2, "option_map({0}, {1})")]),
         "none": Con("none", 0, "None", "{0} is None", []), "some": Con("some", 1, "Some({0})", "{0} is not None", ["{0}.value"]),
         "Option": Kind("Option"), "IsSome": Kind("IsSome", False),
     },
-    "lib.Dec": {
-        **builtins([("ltb", 2, "({0} < {1})"), ("leb", 2, "({0} <= {1})"), ("eqb", 2, "({0} == {1})")]),
-        "T": Kind("T", False), "when": Kind("when", False),
-    },
-    "lib.ListN": builtins(_LISTS),
-    "mathlib.Core.Path": {n: Kind(n, False) for n in ("_≡_", "Path")},
-    "mathlib.Core.Logic": {n: Kind(n, False) for n in ("_↔_", "_≢_", "_⊎_", "_∨₁_")},
-    # the prelude, open in every file
-    "Prim": {"Unit": Kind("Unit", False), "⊥": Kind("⊥", False), "¬_": Kind("¬_", False), "IsProp": Kind("IsProp", False),
+    # the prelude of antt, open in every file
+    "Prim": {"Unit": Kind("Unit", False), "⊥": Kind("⊥", False), "¬◌": Kind("¬◌", False), "IsProp": Kind("IsProp", False),
              "IsSet": Kind("IsSet", False), "Dec": Kind("Dec", False), "tt": Con("tt", 0, "()", "{0} == ()", [])},
 }
 
 FIXITIES = {
-    "_+_": ("infixl", 65), "_-_": ("infixl", 65), "_*_": ("infixl", 70), "_/_": ("infixl", 70), "_%_": ("infixl", 70), "_^_": ("infixr", 75),
-    "_&&_": ("infixl", 35), "_||_": ("infixl", 30), "_∷_": ("infixr", 67), "_++_": ("infixl", 65),
-    "_≤_": ("infix", 50), "_<_": ("infix", 50), "_≡_": ("infix", 4), "_↔_": ("infix", 1), "_≢_": ("infix", 4),
+    "◌+◌": ("infixl", 65), "◌-◌": ("infixl", 65), "◌*◌": ("infixl", 70), "◌/◌": ("infixl", 70), "◌%◌": ("infixl", 70), "◌^◌": ("infixr", 75),
+    "◌&&◌": ("infixl", 35), "◌||◌": ("infixl", 30), "◌∷◌": ("infixr", 67), "◌++◌": ("infixl", 65),
+    "◌≤◌": ("infix", 50), "◌<◌": ("infix", 50), "◌≡◌": ("infix", 4), "◌↔◌": ("infix", 1), "◌≢◌": ("infix", 4),
 }
 
 # What generated text may name.

@@ -1,4 +1,4 @@
-// Standard input parted into lines. A line is counted without its line feed; the last one may lack it.
+// The input parted into lines. A line is counted without its line feed; the last one may lack it.
 ghost use Rattle.std.specs.Prelude.{◌≤◌, length, ◌≡◌, if◌then◌else◌};
 ghost use Rattle.std.proofs.Math.Option.{none};
 ghost use Rattle.asking.specs.Calls.{line_of};
@@ -8,7 +8,7 @@ ghost use Rattle.keeping.specs.Lists.{kept_bytes, kept_lists, Ordered};
 ghost use Rattle.keeping.specs.Steps.{Stepped};
 ghost use Rattle.events.specs.Input.{started, OfHeld, Said, Took, TookAll, TookSome, Ended, Ran};
 
-use libc::{STDIN_FILENO, STDOUT_FILENO};
+use std::io::{Read, Write};
 
 // The longest line that is read, and the longest answer with its line feed.
 const LINE: usize = 65_536;
@@ -44,7 +44,7 @@ pub struct Kept {
 }
 
 #[derive(Clone, Copy)]
-struct Read {
+struct Taken {
     more: bool,
     kept: Kept,
 }
@@ -61,21 +61,29 @@ fn print(store: &mut [u8], lists: &mut [u8], line: &[u8], long: bool, out: &mut 
     answering::answers::answer_line(store, lists, line, out)
 }
 
-// Answers one line: the text with its line feed stands at the front of `out`, and so many bytes are written. Nothing is left to do where standard
+// Answers one line: the text with its line feed stands at the front of `out`, and so many bytes are written. Nothing is left to do where the
 // output takes no more.
-fn answer(store: &mut [u8], lists: &mut [u8], line: &[u8], long: bool, out: &mut [u8]) -> usize
+fn answer<W: Write>(
+    output: &mut W,
+    store: &mut [u8],
+    lists: &mut [u8],
+    line: &[u8],
+    long: bool,
+    out: &mut [u8],
+) -> usize
     requires { Ordered lists.old × (answer_room ≤ length out.old) × (length line.now ≤ line_room) }
     ensures { Said (if long then none else line_of line.now) lists.old lists.new store.old store.new out.new result }
 {
     let n = print(store, lists, line, long, out);
     out[n] = b'\n';
     let end = n + 1;
-    io::write_all(STDOUT_FILENO, &out[..end]);
+    let _ = output.write_all(&out[..end]);
     end
 }
 
 // One byte of the input.
-fn take(
+fn take<W: Write>(
+    output: &mut W,
     store: &mut [u8],
     lists: &mut [u8],
     line: &mut [u8],
@@ -90,7 +98,7 @@ fn take(
 {
     let len = kept.len;
     if b == b'\n' {
-        answer(store, lists, &line[..len], kept.long, out);
+        answer(output, store, lists, &line[..len], kept.long, out);
         return Kept {
             len: 0,
             long: false,
@@ -106,7 +114,8 @@ fn take(
     }
 }
 
-fn take_all(
+fn take_all<W: Write>(
+    output: &mut W,
     store: &mut [u8],
     lists: &mut [u8],
     line: &mut [u8],
@@ -122,38 +131,46 @@ fn take_all(
     let mut now = kept;
     let mut i = 0;
     while i < bytes.len() {
-        now = take(store, lists, line, out, now, bytes[i]);
+        now = take(output, store, lists, line, out, now, bytes[i]);
         i += 1;
     }
     now
 }
 
 // Reads once.
-fn read_some(
+fn read_some<R: Read, W: Write>(
+    input: &mut R,
+    output: &mut W,
     store: &mut [u8],
     lists: &mut [u8],
     line: &mut [u8],
     out: &mut [u8],
     kept: Kept,
-) -> Read
+) -> Taken
     requires { Ordered lists.old × (line_room ≤ length line.old) × (answer_room ≤ length out.old) × (kept.len ≤ line_room) }
     ensures ordered { Ordered lists.new × (result.kept.len ≤ line_room) }
     ensures took { OfHeld kept line.old store.old lists.old
         (λ p. TookSome p result.kept line.new store.new lists.new) }
 {
-    let mut bytes = io::buffer();
-    let got = libc::read(STDIN_FILENO, &mut bytes);
-    if got <= 0 {
-        return Read { more: false, kept };
+    let mut bytes = [0u8; 4096];
+    let n = input.read(&mut bytes).unwrap_or(0);
+    if n == 0 {
+        return Taken { more: false, kept };
     }
-    let n = io::count(got, &bytes);
-    let kept = take_all(store, lists, line, out, kept, &bytes[..n]);
-    Read { more: true, kept }
+    let kept = take_all(output, store, lists, line, out, kept, &bytes[..n]);
+    Taken { more: true, kept }
 }
 
 // Reads to the end of the input, and answers what is left of a line without its line feed. The turns are counted because a proved loop
 // ends: no run uses them up.
-fn read_lines(store: &mut [u8], lists: &mut [u8], line: &mut [u8], out: &mut [u8]) -> Kept
+fn read_lines<R: Read, W: Write>(
+    input: &mut R,
+    output: &mut W,
+    store: &mut [u8],
+    lists: &mut [u8],
+    line: &mut [u8],
+    out: &mut [u8],
+) -> Kept
     requires { Ordered lists.old × (kept_lists lists.old ≡ no_lists) × (line_room ≤ length line.old) × (answer_room ≤ length out.old) }
     ensures ordered { Ordered lists.new × (result.len ≤ line_room) }
     ensures took { TookSome (started store.old) result line.new store.new lists.new }
@@ -164,7 +181,7 @@ fn read_lines(store: &mut [u8], lists: &mut [u8], line: &mut [u8], out: &mut [u8
     };
     let mut turns = u64::MAX;
     while turns > 0 {
-        let read = read_some(store, lists, line, out, kept);
+        let read = read_some(input, output, store, lists, line, out, kept);
         kept = read.kept;
         if !read.more {
             return kept;
@@ -175,22 +192,36 @@ fn read_lines(store: &mut [u8], lists: &mut [u8], line: &mut [u8], out: &mut [u8
 }
 
 // The end of the input: a last line may lack its line feed.
-fn end(store: &mut [u8], lists: &mut [u8], line: &[u8], out: &mut [u8], kept: Kept)
+fn end<W: Write>(
+    output: &mut W,
+    store: &mut [u8],
+    lists: &mut [u8],
+    line: &[u8],
+    out: &mut [u8],
+    kept: Kept,
+)
     requires { Ordered lists.old × (line_room ≤ length line.now) × (answer_room ≤ length out.old) × (kept.len ≤ line_room) }
     ensures { OfHeld kept line.now store.old lists.old (λ p. Ended p store.new out.new) }
 {
     let len = kept.len;
     if 0 < len {
-        answer(store, lists, &line[..len], kept.long, out);
+        answer(output, store, lists, &line[..len], kept.long, out);
     }
 }
 
 // The whole input.
-pub fn run(store: &mut [u8], lists: &mut [u8], line: &mut [u8], out: &mut [u8])
+pub fn run<R: Read, W: Write>(
+    input: &mut R,
+    output: &mut W,
+    store: &mut [u8],
+    lists: &mut [u8],
+    line: &mut [u8],
+    out: &mut [u8],
+)
     requires { (length lists.old ≡ kept_bytes) × (line_room ≤ length line.old) × (answer_room ≤ length out.old) }
     ensures { Ran store.old store.new }
 {
     keeping::kept::empty(lists);
-    let last = read_lines(store, lists, line, out);
-    end(store, lists, line, out, last);
+    let last = read_lines(input, output, store, lists, line, out);
+    end(output, store, lists, line, out, last);
 }

@@ -8,10 +8,17 @@ mod input;
 // The bytes that a store needs for L = 100 and Q = 2, the most that a line may open.
 const STORE: usize = 22_976;
 
-fn main() {
+fn main(rt: HostRuntime) {
     let mut store = [0u8; STORE];
     let mut lists = input::list_buffer();
     let mut line = input::line_buffer();
     let mut out = input::out_buffer();
-    input::run(&mut store, &mut lists, &mut line, &mut out);
+    input::run(
+        &mut rt.stdin(),
+        &mut rt.stdout(),
+        &mut store,
+        &mut lists,
+        &mut line,
+        &mut out,
+    );
 }

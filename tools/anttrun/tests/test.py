@@ -9,11 +9,10 @@ sys.path.insert(0, os.path.dirname(os.path.dirname(HERE)))
 import anttrun
 
 FEATURES, MORE = "specs.Features.", "specs.More."
-HEAD = """use Prim.Native.Nat.{ℕ, suc, _+_}
-use mathlib.Core.Bool.{Bool, true, false}
+HEAD = """use Rattle.std.specs.Prelude.{ℕ, suc, ◌+◌, Bool, true, false}
 use lib.Odd.{odd-name}
 """
-DECLARED = "use Rattle·c·specs.specs.declared.Kind.the-variants."
+DECLARED = "use Rattle.c.specs.declared.Kind.TheVariants."
 REFUSED = {
     "an unknown name": "f : ℕ → ℕ\nf n = g n\n",
     "an unknown library name": "f : ℕ → ℕ\nf n = odd-name n\n",
@@ -23,12 +22,12 @@ REFUSED = {
     "no clause": "f : ℕ → ℕ\n",
     "an unknown record": "f : ℕ → ℕ\nf n = record { a = n }\n",
     "a constructor with too few fields": "f : ℕ → ℕ\nf suc = 1\n",
-    "an operator without fixity": "_⊗_ : ℕ → ℕ → ℕ\n_⊗_ a b = a\ng : ℕ → ℕ\ng n = n ⊗ n\n",
+    "an operator without fixity": "◌⊗◌ : ℕ → ℕ → ℕ\n◌⊗◌ a b = a\ng : ℕ → ℕ\ng n = n ⊗ n\n",
     "do": "f : ℕ → ℕ\nf n = do n\n",
     "an axiom": "axiom f : ℕ\n",
     "a name bound twice": "f : ℕ → ℕ → ℕ\nf n n = n\n",
     "a text": "f : ℕ → ℕ\nf n = \"a\"\n",
-    "a type that the code does not declare": "use Rattle·c·specs.specs.declared.Sort.{Sort}\n",
+    "a type that the code does not declare": "use Rattle.c.specs.declared.Sort.{Sort}\n",
     "a variant that the code does not declare": DECLARED + "{Block}\n",
     "a variant with too few fields": DECLARED + "{Other}\nf : ℕ → ℕ\nf Other = 1\n",
     "a variant with too many fields": DECLARED + "{Txid}\nf : ℕ → ℕ\nf (Txid n) = n\n",
@@ -41,10 +40,10 @@ def values(m):
         return m[FEATURES + name](*args)
 
     dot, box, held = m[FEATURES + "Dot"], m[FEATURES + "Box"], m[FEATURES + "Held"]
-    far, near = m["Rattle·beside.specs.declared.Kind.the-variants.Txid"], m["Rattle·features.specs.declared.Kind.the-variants.Txid"]
-    named, labelled = m["Rattle·beside.specs.declared.Choice.the-variants.Named"], m["Rattle·beside.specs.Beside.Labelled"]
+    far, near = m["Rattle.beside.specs.declared.Kind.TheVariants.Txid"], m["Rattle.features.specs.declared.Kind.TheVariants.Txid"]
+    named, labelled = m["Rattle.beside.specs.declared.Choice.TheVariants.Named"], m["Rattle.beside.specs.Beside.Labelled"]
     return [
-        (run("_⊓_", 3, 2), 2), (run("twice_", 4), 8),
+        (run("◌⊓◌", 3, 2), 2), (run("twice◌", 4), 8),
         (run("area", dot), 0), (run("area", box(3, 4)), 12), (run("area", held(held(box(2, 3), 1, 1), 4, 5)), 6), (run("area", held(dot, 4, 5)), 9),
         (run("precedence", 1), [19, 5, 3, 1, 0, 7, 0, 1000, 31]),
         (run("half", 9), 4), (run("half", 100_000), 50_000), (run("even", 10), True), (run("odd", 10), False),
@@ -57,11 +56,11 @@ def values(m):
         (run("found", [4, 5], 1), anttrun.Some(5)), (run("found", [4, 5], 2), None),
         (run("where-uses", [5, 1, 9, 2], 5), [1, 2]), (m[MORE + "size"]([1, 2]), 4),
         (anttrun.plain(m[MORE + "shape"](7)), ("Box", 7, 2)),
-        (m[MORE + "kindNum"](True), 0), (m[MORE + "kindNum"](False), 5),
-        (anttrun.plain(m[MORE + "moved"](m["Rattle·features.specs.declared.Point.Point"](across=1, up=[4]))), {"across": 2, "up": [4]}),
-        (m[MORE + "otherSize"](5), 105), (far == near, False), (m["Rattle·beside.specs.Beside.swap"](far).NAME, "Wtxid"),
-        (m["Rattle·beside.specs.Beside.weight"](named(far, 3)), 1003),
-        (anttrun.plain(m["Rattle·beside.specs.Beside.label"](labelled(kind=far, size=2))), {"kind": ("Wtxid",), "size": 2}),
+        (m[MORE + "kind_num"](True), 0), (m[MORE + "kind_num"](False), 5),
+        (anttrun.plain(m[MORE + "moved"](m["Rattle.features.specs.declared.Point.Point"](across=1, up=[4]))), {"across": 2, "up": [4]}),
+        (m[MORE + "other_size"](5), 105), (far == near, False), (m["Rattle.beside.specs.Beside.swap"](far).NAME, "Wtxid"),
+        (m["Rattle.beside.specs.Beside.weight"](named(far, 3)), 1003),
+        (anttrun.plain(m["Rattle.beside.specs.Beside.label"](labelled(kind=far, size=2))), {"kind": ("Wtxid",), "size": 2}),
         (sorted(n.split(".")[-1] for n, _ in m.skipped), ["Pairs", "refl-law"]),
     ]
 
