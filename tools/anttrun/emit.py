@@ -5,7 +5,7 @@ not surely needed.  Fields of constructors, records and tuples, and arguments of
 antt's definitions all end, so this order changes the cost of a run and never its result.
 """
 from .values import attr
-from .strictness import LAZY_TAIL
+from .strictness import CONDITIONALS, LAZY_TAIL
 from .tokens import Unread, fail
 
 CHEAP = {"◌+◌", "◌-◌", "◌*◌", "min", "max", "not", "ltb", "leb", "eqb"}
@@ -82,8 +82,9 @@ class Emit:
     def tail(self, e, env, ind):
         """Statements that return the value of e."""
         kind = e[0]
-        if kind == "g" and e[1].selector and len(e[2]) == e[1].arity:
-            c, a, b = (e[2][i] for i in e[1].selector)
+        chosen = kind == "g" and len(e[2]) == e[1].arity and e[1].selector or kind == "b" and e[1].name in CONDITIONALS and len(e[2]) == 3 and (0, 1, 2)
+        if chosen:
+            c, a, b = (e[2][i] for i in chosen)
             self.line(ind, f"if {self.value(c, env, ind)}:")
             self.branch(e[3], "true", ind + "    ")
             self.tail(a, dict(env), ind + "    ")

@@ -1,7 +1,8 @@
 """Which arguments a definition surely needs: they are computed before its call, others wait."""
 from .tokens import Unread
 
-LAZY_TAIL = {"◌&&◌": 1, "◌||◌": 1, "cond": 1}    # of these only so many arguments are surely needed
+LAZY_TAIL = {"◌&&◌": 1, "◌||◌": 1, "cond": 1, "if◌then◌else◌": 1}    # of these only so many arguments are surely needed
+CONDITIONALS = {"cond", "if◌then◌else◌"}
 
 
 class Strictness:
@@ -41,6 +42,9 @@ class Strictness:
                 if len(args) < d.arity or i >= d.arity or d.strict[i]:
                     out |= self.needs(a)
             return out
+        if kind == "b" and e[1].name in CONDITIONALS and len(e[2]) == 3:
+            c, a, b = map(self.needs, e[2])
+            return c | (a & b)
         if kind == "b":
             args = e[2][:LAZY_TAIL.get(e[1].name, len(e[2]))]
             return set().union(*map(self.needs, args)) if args else set()

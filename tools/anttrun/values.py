@@ -285,6 +285,7 @@ _PRELUDE = {
         ("pred", 1, "max({0} - 1, 0)"),
         ("not", 1, "(not {0})"), ("xor", 2, "({0} is not {1})"), ("bool_eq", 2, "({0} is {1})"),
         ("◌&&◌", 2, "({0} and {1})"), ("◌||◌", 2, "({0} or {1})"), ("cond", 3, "({1} if {0} else {2})"),
+        ("if◌then◌else◌", 3, "({1} if {0} else {2})"),
         ("ltb", 2, "({0} < {1})"), ("leb", 2, "({0} <= {1})"), ("eqb", 2, "({0} == {1})"),
         ("◌++◌", 2, "append({0}, {1})"), ("map", 2, "map_({0}, {1})"), ("reverse", 1, "reverse({0})"), ("foldr", 3, "foldr({0}, {1}, {2})"),
         ("foldl", 3, "foldl({0}, {1}, {2})"), ("tail", 1, "drop(1, {0})"), ("head_or", 2, "get_d({0}, 0, {1})"),
@@ -313,7 +314,7 @@ SUPPLIED = {
 FIXITIES = {
     "◌+◌": ("infixl", 65), "◌-◌": ("infixl", 65), "◌*◌": ("infixl", 70), "◌/◌": ("infixl", 70), "◌%◌": ("infixl", 70), "◌^◌": ("infixr", 75),
     "◌&&◌": ("infixl", 35), "◌||◌": ("infixl", 30), "◌∷◌": ("infixr", 67), "◌++◌": ("infixl", 65),
-    "◌≤◌": ("infix", 50), "◌<◌": ("infix", 50), "◌≡◌": ("infix", 4), "◌↔◌": ("infix", 1), "◌≢◌": ("infix", 4),
+    "◌≤◌": ("infix", 50), "◌<◌": ("infix", 50), "if◌then◌else◌": ("infix", 5), "◌≡◌": ("infix", 4), "◌↔◌": ("infix", 1), "◌≢◌": ("infix", 4),
 }
 
 # What generated text may name.

@@ -62,7 +62,7 @@ fn print(store: &mut [u8], lists: &mut [u8], line: &[u8], long: bool, out: &mut 
 }
 
 // Answers one line: the text with its line feed stands at the front of `out`, and so many bytes are written. Nothing is left to do where the
-// output takes no more.
+// output takes no more: `read_lines` asks whether it is closed.
 fn answer<W: Write>(
     output: &mut W,
     store: &mut [u8],
@@ -161,8 +161,7 @@ fn read_some<R: Read, W: Write>(
     Taken { more: true, kept }
 }
 
-// Reads to the end of the input, and answers what is left of a line without its line feed. The turns are counted because a proved loop
-// ends: no run uses them up.
+// Reads to the end of the input, or until the output is closed. The turns are counted because a proved loop ends: no run uses them up.
 fn read_lines<R: Read, W: Write>(
     input: &mut R,
     output: &mut W,
@@ -183,7 +182,7 @@ fn read_lines<R: Read, W: Write>(
     while turns > 0 {
         let read = read_some(input, output, store, lists, line, out, kept);
         kept = read.kept;
-        if !read.more {
+        if !read.more || output.flush().is_err() {
             return kept;
         }
         turns -= 1;

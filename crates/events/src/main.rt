@@ -4,21 +4,34 @@
 #![tactic(auto)]
 
 mod input;
+mod output;
+
+use output::Output;
+use std::process::ExitCode;
 
 // The bytes that a store needs for L = 100 and Q = 2, the most that a line may open.
 const STORE: usize = 22_976;
 
-fn main(rt: HostRuntime) {
+// What a shell tells of a program that SIGPIPE ended. The start of a program ignores that signal.
+const CLOSED: u8 = 141;
+
+fn main(rt: HostRuntime) -> ExitCode {
     let mut store = [0u8; STORE];
     let mut lists = input::list_buffer();
     let mut line = input::line_buffer();
     let mut out = input::out_buffer();
+    let mut output = Output::new(rt.stdout());
     input::run(
         &mut rt.stdin(),
-        &mut rt.stdout(),
+        &mut output,
         &mut store,
         &mut lists,
         &mut line,
         &mut out,
     );
+    if output.is_closed() {
+        ExitCode::from(CLOSED)
+    } else {
+        ExitCode::SUCCESS
+    }
 }

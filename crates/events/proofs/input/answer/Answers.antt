@@ -6,14 +6,14 @@ use Rattle.events.proofs.Bytewise.{fed}
 use Rattle.events.proofs.input.answer.Goals as goal
 
 pub print-n-requires : goal.print-n-requires
-print-n-requires c = (
+print-n-requires _ c = (
   c.requires.0,
   c.requires.1,
   c.requires.2,
 )
 
 pub bounds-out-n : goal.bounds-out-n
-bounds-out-n c = omega (
+bounds-out-n _ c = omega (
   arith,
   c.requires.1,
   room_of c.print-n.ensures.answered,
@@ -21,14 +21,14 @@ bounds-out-n c = omega (
 )
 
 pub overflow_add-end : goal.overflow_add-end
-overflow_add-end c = omega (
+overflow_add-end _ c = omega (
   arith,
   c.requires.1,
   room_of c.print-n.ensures.answered,
 )
 
 pub slice_bounds-write_all-end : goal.slice_bounds-write_all-end
-slice_bounds-write_all-end c = simp length-set (omega (
+slice_bounds-write_all-end _ c = simp length-set (omega (
   arith,
   c.requires.1,
   room_of c.print-n.ensures.answered,
@@ -36,7 +36,7 @@ slice_bounds-write_all-end c = simp length-set (omega (
 ))
 
 pub slice_bounds-write_all-end-2 : goal.slice_bounds-write_all-end-2
-slice_bounds-write_all-end-2 c = simp (length-take, length-set)
+slice_bounds-write_all-end-2 _ c = simp (length-take, length-set)
     (omega (
       arith,
       c.requires.1,
@@ -45,7 +45,7 @@ slice_bounds-write_all-end-2 c = simp (length-take, length-set)
     ))
 
 pub returns : goal.returns
-returns c = fed c.print-n.ensures
+returns _ c = fed c.print-n.ensures
     (omega (
       arith,
       c.requires.1,

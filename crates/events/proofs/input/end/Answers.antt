@@ -5,19 +5,19 @@ use Rattle.events.proofs.Bytewise.{ended-line, ended-empty}
 use Rattle.events.proofs.input.end.Goals as goal
 
 pub slice_bounds-answer-end : goal.slice_bounds-answer-end
-slice_bounds-answer-end c = simp length-take
+slice_bounds-answer-end _ c = simp length-take
     (omega (arith, c.requires.1, c.requires.3))
 
 pub answer-requires : goal.answer-requires
-answer-requires c = (
+answer-requires _ c = (
   c.requires.0,
   c.requires.2,
   simp length-take (omega (arith, c.requires.3)),
 )
 
 pub returns-then-len-gt0 : goal.returns-then-len-gt0
-returns-then-len-gt0 c p g = ended-line g c.if-len-gt0.true
+returns-then-len-gt0 _ c p g = ended-line g c.if-len-gt0.true
     c.answer.ensures
 
 pub returns-else-len-gt0 : goal.returns-else-len-gt0
-returns-else-len-gt0 c p g = ended-empty g (omega (arith, c.if-len-gt0.false))
+returns-else-len-gt0 _ c p g = ended-empty g (omega (arith, c.if-len-gt0.false))

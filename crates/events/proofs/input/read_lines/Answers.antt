@@ -6,7 +6,7 @@ use Rattle.events.proofs.Bytewise.{took_none, nothing_held, took_more}
 use Rattle.events.proofs.input.read_lines.Goals as goal
 
 pub loop-turns-init : goal.loop-turns-init
-loop-turns-init c = (
+loop-turns-init _ c = (
   refl,
   refl,
   refl,
@@ -21,7 +21,7 @@ loop-turns-init c = (
 )
 
 pub read_some-read-requires : goal.read_some-read-requires
-read_some-read-requires c = (
+read_some-read-requires _ c = (
   c.loop-turns.invariant.4,
   omega (
     arith,
@@ -37,44 +37,44 @@ read_some-read-requires c = (
 )
 
 pub shape_of-store-then-not-read : goal.shape_of-store-then-not-read
-shape_of-store-then-not-read c = omega (
+shape_of-store-then-not-read _ c = omega (
   arith,
   c.read_Some.auto,
   c.loop-turns.invariant.0,
 )
 
 pub shape_of-lists-then-not-read : goal.shape_of-lists-then-not-read
-shape_of-lists-then-not-read c = omega (
+shape_of-lists-then-not-read _ c = omega (
   arith,
   c.read_Some.auto,
   c.loop-turns.invariant.1,
 )
 
 pub shape_of-line-then-not-read : goal.shape_of-line-then-not-read
-shape_of-line-then-not-read c = omega (
+shape_of-line-then-not-read _ c = omega (
   arith,
   c.read_Some.auto,
   c.loop-turns.invariant.2,
 )
 
 pub shape_of-out-then-not-read : goal.shape_of-out-then-not-read
-shape_of-out-then-not-read c = omega (
+shape_of-out-then-not-read _ c = omega (
   arith,
   c.read_Some.auto,
   c.loop-turns.invariant.3,
 )
 
 pub returns-then-not-read : goal.returns-then-not-read
-returns-then-not-read c = let t = c.loop-turns.invariant.6 in (
+returns-then-not-read _ c = let t = c.loop-turns.invariant.6 in (
   c.read_Some.ensures.0,
   took_more t (c.read_Some.ensures.1 t.all.next t.all.held),
 )
 
 pub loop-turns-smaller : goal.loop-turns-smaller
-loop-turns-smaller c = omega (arith, c.loop-turns-test.true)
+loop-turns-smaller _ c = omega (arith, c.loop-turns-test.true)
 
 pub loop-turns-preserved : goal.loop-turns-preserved
-loop-turns-preserved c =
+loop-turns-preserved _ c =
     let t = c.loop-turns.invariant.6 in (
       omega (
         arith,
@@ -102,16 +102,16 @@ loop-turns-preserved c =
     )
 
 pub shape_of-store : goal.shape_of-store
-shape_of-store c = c.loop-turns.invariant.0
+shape_of-store _ c = c.loop-turns.invariant.0
 
 pub shape_of-lists : goal.shape_of-lists
-shape_of-lists c = c.loop-turns.invariant.1
+shape_of-lists _ c = c.loop-turns.invariant.1
 
 pub shape_of-line : goal.shape_of-line
-shape_of-line c = c.loop-turns.invariant.2
+shape_of-line _ c = c.loop-turns.invariant.2
 
 pub shape_of-out : goal.shape_of-out
-shape_of-out c = c.loop-turns.invariant.3
+shape_of-out _ c = c.loop-turns.invariant.3
 
 pub returns : goal.returns
-returns c = ((c.loop-turns.invariant.4, c.loop-turns.invariant.5), c.loop-turns.invariant.6)
+returns _ c = ((c.loop-turns.invariant.4, c.loop-turns.invariant.5), c.loop-turns.invariant.6)

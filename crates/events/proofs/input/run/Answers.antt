@@ -4,7 +4,7 @@ use Rattle.events.proofs.Bytewise.{ran}
 use Rattle.events.proofs.input.run.Goals as goal
 
 pub read_lines-last-requires : goal.read_lines-last-requires
-read_lines-last-requires c = (
+read_lines-last-requires _ c = (
   c.empty.ensures.order,
   c.empty.ensures.none,
   c.requires.1,
@@ -12,7 +12,7 @@ read_lines-last-requires c = (
 )
 
 pub end-requires : goal.end-requires
-end-requires c = (
+end-requires _ c = (
   c.read_lines-last.ensures.0.0,
   omega (
     arith,
@@ -28,7 +28,7 @@ end-requires c = (
 )
 
 pub shape_of-store : goal.shape_of-store
-shape_of-store c = omega (
+shape_of-store _ c = omega (
   arith,
   c.end.auto,
   c.read_lines-last.auto,
@@ -36,7 +36,7 @@ shape_of-store c = omega (
 )
 
 pub shape_of-lists : goal.shape_of-lists
-shape_of-lists c = omega (
+shape_of-lists _ c = omega (
   arith,
   c.end.auto,
   c.read_lines-last.auto,
@@ -44,7 +44,7 @@ shape_of-lists c = omega (
 )
 
 pub shape_of-line : goal.shape_of-line
-shape_of-line c = omega (
+shape_of-line _ c = omega (
   arith,
   c.end.auto,
   c.read_lines-last.auto,
@@ -52,7 +52,7 @@ shape_of-line c = omega (
 )
 
 pub shape_of-out : goal.shape_of-out
-shape_of-out c = omega (
+shape_of-out _ c = omega (
   arith,
   c.end.auto,
   c.read_lines-last.auto,
@@ -60,6 +60,6 @@ shape_of-out c = omega (
 )
 
 pub returns : goal.returns
-returns c = let t =
+returns _ c = let t =
     c.read_lines-last.ensures.1 in
     ran t (c.end.ensures t.all.next t.all.held)

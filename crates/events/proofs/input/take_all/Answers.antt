@@ -7,13 +7,13 @@ use Rattle.events.proofs.Bytewise.{took_none, took_one, take_next, took_whole}
 use Rattle.events.proofs.input.take_all.Goals as goal
 
 pub loop-i-init : goal.loop-i-init
-loop-i-init c = (refl, refl, refl, refl, c.requires.0, c.requires.3, omega arith, λ p g. took_none g)
+loop-i-init _ c = (refl, refl, refl, refl, c.requires.0, c.requires.3, omega arith, λ p g. took_none g)
 
 pub bounds-bytes-i : goal.bounds-bytes-i
-bounds-bytes-i c = omega (arith, c.loop-i-test.true)
+bounds-bytes-i _ c = omega (arith, c.loop-i-test.true)
 
 pub take-now-requires : goal.take-now-requires
-take-now-requires c = (
+take-now-requires _ c = (
   c.loop-i.invariant.4,
   omega (arith, c.requires.1, c.loop-i.invariant.2),
   omega (arith, c.requires.2, c.loop-i.invariant.3),
@@ -21,10 +21,10 @@ take-now-requires c = (
 )
 
 pub loop-i-smaller : goal.loop-i-smaller
-loop-i-smaller c = omega (arith, c.loop-i-test.true)
+loop-i-smaller _ c = omega (arith, c.loop-i-test.true)
 
 pub loop-i-preserved : goal.loop-i-preserved
-loop-i-preserved c = (
+loop-i-preserved _ c = (
   omega (
     arith,
     c.take-now.auto,
@@ -55,16 +55,16 @@ loop-i-preserved c = (
 )
 
 pub shape_of-store : goal.shape_of-store
-shape_of-store c = c.loop-i.invariant.0
+shape_of-store _ c = c.loop-i.invariant.0
 
 pub shape_of-lists : goal.shape_of-lists
-shape_of-lists c = c.loop-i.invariant.1
+shape_of-lists _ c = c.loop-i.invariant.1
 
 pub shape_of-line : goal.shape_of-line
-shape_of-line c = c.loop-i.invariant.2
+shape_of-line _ c = c.loop-i.invariant.2
 
 pub shape_of-out : goal.shape_of-out
-shape_of-out c = c.loop-i.invariant.3
+shape_of-out _ c = c.loop-i.invariant.3
 
 pub returns : goal.returns
-returns c = ((c.loop-i.invariant.4, c.loop-i.invariant.5), λ p g. took_whole c.loop-i.i (omega arith) (c.loop-i.invariant.7 p g))
+returns _ c = ((c.loop-i.invariant.4, c.loop-i.invariant.5), λ p g. took_whole c.loop-i.i (omega arith) (c.loop-i.invariant.7 p g))
