@@ -1,30 +1,23 @@
 -- A claim on the bytes, entry by entry: what is left of the list, from the table that stands, comes to the same as the whole list.
-use Prim.Native.Nat.{ℕ, ◌+◌, ◌*◌, ◌≤◌, ◌<◌}
+use Prim.Native.Nat.{ℕ, ◌+◌, ◌*◌, ◌≤◌}
 use mathlib.Core.Path.{◌≡◌, refl, sym, ap, subst, ◌∙◌}
 use mathlib.Core.Logic.{inl, inr}
-use mathlib.Core.Bool.{Bool, true, false}
+use mathlib.Core.Bool.{true, false}
 use mathlib.Core.List.{List, [], ◌∷◌, ◌++◌, append_assoc, append-nil}
 use native.Mathlib.Omega.{arith}
 use lib.ListN.{length, length-append}
-use Rattle.std.specs.Prelude.{if◌then◌else◌}
-use Rattle.ident.specs.Number.{top}
-use Rattle.words.specs.Words.{splice}
-use Rattle.words.proofs.Splice.{length-splice}
-use Rattle.machine.specs.Limits.{request_lifetime, latest_clock, word}
+use Rattle.machine.specs.Limits.{latest_clock}
 use Rattle.machine.specs.State.{Entry, Table, State, limits_of, on_table}
-use Rattle.machine.specs.Table.{one}
 use Rattle.machine.specs.Claim.{takes, claim}
 use Rattle.machine.specs.Sound.{Bounded, Sound}
 use Rattle.machine.specs.Call.{entry_bytes}
-use Rattle.machine.specs.Step.{entry_answer, entries_answer, written}
-use Rattle.machine.proofs.AnswerLengths.{length-entry_answer}
+use Rattle.machine.specs.Step.{entries_answer, written}
 use Rattle.machine.proofs.Claim.{takes-means, bounded-take}
 use Rattle.machine.proofs.Kept.{sound-table}
 use Rattle.machine.proofs.Tests.{test, by_test}
 use Rattle.machine.proofs.Owning.{one_most}
 use Rattle.store.specs.Image.{Writes}
 use Rattle.store.specs.Shown.{Kept}
-use Rattle.announcing.specs.Answers.{Answered}
 use Rattle.claiming.specs.Claiming.{taking, OneMore, Claims}
 use Rattle.claiming.proofs.Stored.{written_more, written_none}
 

@@ -1,5 +1,5 @@
 -- What the contracts of claim say: the declared entries as the machine's, and what becomes of one of them.
-use Rattle.std.specs.Prelude.{ℕ, zero, suc, ◌+◌, ◌*◌, ◌/◌, ◌%◌, ◌<◌, ◌≡◌, Bool, true, false, not, List, [], ◌∷◌, ◌++◌, eqb, length, get_or, take, drop, if◌then◌else◌}
+use Rattle.std.specs.Prelude.{ℕ, zero, suc, ◌+◌, ◌*◌, ◌/◌, ◌%◌, ◌<◌, ◌≡◌, Bool, false, not, List, [], ◌∷◌, ◌++◌, eqb, length, get_or, take, drop, if◌then◌else◌}
 use Rattle.ident.specs.declared.Hash.{Hash}
 use Rattle.ident.specs.declared.Kind.TheVariants.{Txid}
 use Rattle.ident.specs.declared.ItemKind.TheVariants.{Transaction}

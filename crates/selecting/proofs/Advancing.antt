@@ -2,18 +2,17 @@
 use Prim.Native.Nat.{ℕ, ◌+◌, ◌≤◌, ◌<◌}
 use mathlib.Core.Path.{◌≡◌, refl, sym, ap, subst, ◌∙◌}
 use mathlib.Core.Logic.{inl, inr}
-use mathlib.Core.Bool.{Bool, true, false}
+use mathlib.Core.Bool.{Bool}
 use mathlib.Core.List.{List, [], ◌∷◌, ◌++◌, map}
 use mathlib.Core.Option.{Option, none, some}
 use native.Mathlib.Omega.{arith}
 use lib.Dec.{ltb, leb}
-use lib.ListN.{length, get_or, set, length-append, get_or-append}
+use lib.ListN.{length, get_or, length-append, get_or-append}
 use lib.Seq.{get_or-set_same, get_or-set_other, get_or_at}
 use borrow.Author.Tests.{ltb-true, ltb-false}
 use Rattle.ident.specs.Number.{top, Key, txid}
 use Rattle.machine.specs.Limits.{latest_clock, max_request_checks}
 use Rattle.machine.specs.State.{Entry, Table, State, on_table, is_some}
-use Rattle.machine.specs.Table.{one}
 use Rattle.machine.specs.Plan as machine
 use Rattle.machine.specs.Plan.{add}
 use Rattle.machine.specs.Sound.{Sound}
@@ -29,7 +28,7 @@ use Rattle.cursors.specs.declared.Stored.{Stored}
 use Rattle.cursors.specs.InWords.{Stands}
 use Rattle.selecting.specs.declared.Scan.{Scan}
 use Rattle.choosing.specs.Choosing.{free_choice, Windows}
-use Rattle.selecting.specs.Selecting.{mark_all, until, selecting, Numbered, OneSelected, Marks, Scanning, Considers}
+use Rattle.selecting.specs.Selecting.{mark_all, until, selecting, Numbered, OneSelected, Marks, Considers}
 use Rattle.selecting.proofs.Considered.{consider-marked, mark_snoc, free_snoc}
 use Rattle.selecting.proofs.Picking.{pick_free, pick-sound}
 use Rattle.selecting.proofs.SameRows.{marking-rows, marked-rows, same_length, numbered_as}

@@ -1,15 +1,15 @@
 -- The end of a plan's scan: what is marked is given back, from the last selection to the first.
 use Prim.Native.Nat.{ℕ, zero, suc, ◌+◌, ◌≤◌, ◌<◌}
 use mathlib.Core.Path.{◌≡◌, refl, sym, ap, subst, ◌∙◌}
-use mathlib.Core.Bool.{Bool, true, false, not, ◌&&◌}
-use mathlib.Core.List.{List, [], ◌∷◌, ◌++◌}
+use mathlib.Core.Bool.{true}
+use mathlib.Core.List.{List, [], ◌∷◌}
 use native.Mathlib.Omega.{arith}
 use lib.ListN.{length, get_or, take}
 use lib.Seq.{take-suc, take_all}
 use borrow.Author.Tests.{eq-eqb}
 use Rattle.ident.specs.Number.{Key}
 use Rattle.regions.specs.declared.Row.{Row}
-use Rattle.machine.specs.State.{Request, Entry, Table, State, limits_of, on_table, owned_until, unowned}
+use Rattle.machine.specs.State.{Entry, Table, State, limits_of, on_table, owned_until, unowned}
 use Rattle.machine.specs.Table.{at, change}
 use Rattle.machine.specs.Fail.{releasable, unclaim}
 use Rattle.machine.specs.Sound.{Bounded, Ordered, Sound}
@@ -23,12 +23,11 @@ use Rattle.store.specs.Shown.{rows_in, Kept}
 use Rattle.store.proofs.Frame.{sizes}
 use Rattle.requests.specs.Changes.{OwnedBare, Makes}
 use Rattle.announcing.specs.Evicts.{entry_at}
-use Rattle.selecting.specs.Selecting.{marking, mark_all, until, Free, AllFree, Numbered, Marks, Marked, GivenBack}
+use Rattle.selecting.specs.Selecting.{marking, mark_all, until, Free, AllFree, Numbered, Marks}
 use Rattle.selecting.proofs.Marked.{ordered-marking}
 use Rattle.selecting.proofs.Unmarked.{Bare, bare, unmarked}
 use Rattle.selecting.proofs.Considered.{mark_snoc}
-use Rattle.selecting.proofs.Picking.{conn-at}
-use Rattle.selecting.proofs.SameRows.{marked-rows, same_length, numbered_as}
+use Rattle.selecting.proofs.SameRows.{marked-rows, numbered_as}
 
 -- ---- one selection
 

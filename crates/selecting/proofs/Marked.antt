@@ -3,20 +3,18 @@
 use Prim.Native.Nat.{ℕ, suc, ◌+◌, ◌≤◌, ◌<◌}
 use mathlib.Core.Path.{◌≡◌, refl, sym, ap, ◌∙◌}
 use mathlib.Core.Logic.{inl, inr}
-use mathlib.Core.Bool.{Bool, true, false, ◌&&◌}
-use mathlib.Core.List.{List, [], ◌∷◌, ◌++◌}
-use mathlib.Core.Option.{Option, none, some}
+use mathlib.Core.Bool.{Bool, ◌&&◌}
+use mathlib.Core.List.{List, [], ◌∷◌}
 use native.Mathlib.Omega.{arith}
 use lib.Dec.{ltb, leb, eqb}
 use lib.ListN.{length}
 use borrow.Author.Tests.{ltb-true, eq-eqb}
-use Rattle.std.specs.Prelude.{if◌then◌else◌}
 use Rattle.ident.specs.Number.{Key, place, top, txid, wtxid}
 use Rattle.ident.proofs.Places.{place_same as place-inj}
 use Rattle.machine.specs.Limits.{max_in_flight}
-use Rattle.machine.specs.State.{Candidate, Owner, Request, Table, Entry, blank, owned_until, is_none}
+use Rattle.machine.specs.State.{Candidate, Request, Table, Entry, blank, owned_until}
 use Rattle.machine.specs.Table.{at, keep, change, one, total, owner_in, owners, by, under, owned_by, owned_at}
-use Rattle.machine.specs.Plan.{chosen_by, chosen_at, able, or_else, least_in, least_at, choice}
+use Rattle.machine.specs.Plan.{chosen_by, chosen_at, able, least_in, least_at, choice}
 use Rattle.machine.specs.Sound.{Ordered}
 use Rattle.machine.proofs.Tests.{test}
 use Rattle.machine.proofs.Table.{at_absent, at_key, ordered-change}

@@ -1,7 +1,7 @@
 -- What a plan chooses for a hash that nobody owns can be made its owner.
 use Prim.Native.Nat.{ℕ, ◌+◌, ◌≤◌, ◌<◌}
 use mathlib.Core.Path.{◌≡◌, refl, sym, ap, subst, ◌∙◌}
-use mathlib.Core.Bool.{Bool, true, false, ◌&&◌}
+use mathlib.Core.Bool.{Bool, true, false}
 use mathlib.Core.List.{List, [], ◌∷◌}
 use mathlib.Core.Option.{Option, none, some}
 use native.Mathlib.Omega.{arith}
@@ -23,7 +23,6 @@ use Rattle.machine.proofs.Table.{lawful_at}
 use Rattle.machine.proofs.Tests.{by_test}
 use Rattle.machine.proofs.TakenExactly.{entry-itself as same_self}
 use Rattle.store.specs.Gather.{key_at, candidate_at}
-use Rattle.store.specs.Image.{Writes}
 use Rattle.requests.specs.declared.Window.{Window}
 use Rattle.requests.specs.Changes.{Makes, Tells}
 use Rattle.announcing.specs.Evicts.{entry_at}

@@ -11,10 +11,10 @@ use Rattle.ident.specs.Number.{Key, place}
 use Rattle.regions.specs.declared.Row.{Row}
 use Rattle.words.specs.Words.{words}
 use Rattle.machine.specs.Sweep.{round}
-use Rattle.machine.specs.State.{Entry, Table, State, on_table}
+use Rattle.machine.specs.State.{Entry, State, on_table}
 use Rattle.machine.specs.Table.{keys}
 use Rattle.machine.specs.Sound.{CursorFits, Sound}
-use Rattle.store.specs.Flat.{Flat, flat_of, rows_of}
+use Rattle.store.specs.Flat.{Flat, rows_of}
 use Rattle.store.specs.Gather.{key_at, gather}
 use Rattle.store.specs.Image.{Shows}
 use Rattle.store.specs.Shown.{rows_in}

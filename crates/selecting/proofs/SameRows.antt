@@ -1,8 +1,7 @@
 -- Selections marked leave the entry of every row as it was.
-use Prim.Native.Nat.{ℕ, suc, ◌≤◌, ◌<◌}
+use Prim.Native.Nat.{ℕ, suc, ◌≤◌}
 use mathlib.Core.Path.{◌≡◌, refl, sym, ap, subst, ◌∙◌}
 use mathlib.Core.Logic.{inl, inr}
-use mathlib.Core.Bool.{true, false}
 use mathlib.Core.List.{List, [], ◌∷◌, ◌++◌, map, map-append}
 use native.Mathlib.Omega.{arith}
 use lib.Dec.{ltb, eqb}
@@ -12,7 +11,7 @@ use Rattle.ident.specs.Number.{Key, place}
 use Rattle.regions.specs.declared.Row.{Row}
 use Rattle.regions.specs.Regions.{each}
 use Rattle.machine.specs.State.{Candidate, Request, Table, Entry, blank, owned_until, owner_is}
-use Rattle.machine.specs.Table.{at, keep, change, one}
+use Rattle.machine.specs.Table.{at, change, one}
 use Rattle.machine.specs.Sound.{Ordered}
 use Rattle.machine.proofs.Table.{at_absent}
 use Rattle.machine.proofs.Tests.{test}

@@ -1,6 +1,6 @@
 -- The end of a plan's scan: a selection that is disowned again leaves the table as it was.
-use Prim.Native.Nat.{ℕ, suc, ◌≤◌, ◌<◌}
-use mathlib.Core.Path.{◌≡◌, refl, sym, ap, subst, ◌∙◌}
+use Prim.Native.Nat.{ℕ, suc, ◌≤◌}
+use mathlib.Core.Path.{◌≡◌, refl, sym, ap, subst}
 use mathlib.Core.Logic.{inl, inr}
 use mathlib.Core.Bool.{Bool, true, false}
 use mathlib.Core.List.{List, [], ◌∷◌}
@@ -10,8 +10,8 @@ use lib.Dec.{ltb, eqb}
 use lib.ListN.{length}
 use borrow.Author.Tests.{ltb-true}
 use Rattle.ident.specs.declared.Kind.{Kind}
-use Rattle.ident.specs.Number.{top, Key, place}
-use Rattle.machine.specs.State.{Owner, Package, Request, Table, Entry, blank, owned_until, unowned, is_some}
+use Rattle.ident.specs.Number.{Key, place}
+use Rattle.machine.specs.State.{Owner, Package, Request, Table, Entry, blank, owned_until, unowned}
 use Rattle.machine.specs.Table.{at, change}
 use Rattle.machine.specs.Sound.{Packed, Lawful, Ordered}
 use Rattle.machine.proofs.Table.{at_absent}

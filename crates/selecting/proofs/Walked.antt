@@ -1,20 +1,18 @@
 -- A phase of a plan's scan, key by key.
 use Prim.Native.Nat.{ℕ, ◌+◌, ◌≤◌}
 use mathlib.Core.Path.{◌≡◌, refl, sym, ap, subst, ◌∙◌}
-use mathlib.Core.Logic.{inl, inr}
 use mathlib.Core.Bool.{Bool, true, false}
 use mathlib.Core.List.{List, [], ◌∷◌, ◌++◌, append_assoc, append-nil}
 use native.Mathlib.Omega.{arith}
 use lib.Dec.{leb}
 use lib.ListN.{length}
-use borrow.Author.Tests.{leb-true, leb-false}
+use borrow.Author.Tests.{leb-false}
 use Rattle.std.specs.Prelude.{if◌then◌else◌}
 use Rattle.ident.specs.Number.{Key}
 use Rattle.machine.specs.Limits.{max_request_checks}
 use Rattle.machine.specs.State.{Entry, Table, State}
 use Rattle.machine.specs.Plan as machine
 use Rattle.machine.specs.Sound.{Sound}
-use Rattle.machine.proofs.Tests.{test}
 use Rattle.store.specs.Shown.{Kept}
 use Rattle.selecting.specs.declared.Scan.{Scan}
 use Rattle.selecting.specs.Selecting.{Marks, Scanning, Considers}

@@ -1,5 +1,5 @@
 -- `selecting::phase::keys_given` meets its contract.
-use Prim.Native.Nat.{◌+◌, ◌-◌, ◌/◌, ◌<◌}
+use Prim.Native.Nat.{◌+◌, ◌/◌, ◌<◌}
 use mathlib.Core.Path.{refl, sym, ap, ◌∙◌}
 use mathlib.Core.List.{[], ◌∷◌}
 use native.Mathlib.Omega.{arith}

@@ -1,11 +1,8 @@
 -- `sending::witness::listed` meets its contract: none of the words passed is the connection.
-use Prim.Native.Nat.{◌-◌}
 use mathlib.Core.Path.{refl}
 use native.Mathlib.Omega.{arith}
-use lib.ListN.{length}
 use Rattle.words.specs.Words.{words}
 use Rattle.words.proofs.Words.{length-words}
-use Rattle.machine.specs.Claim.{elem}
 use Rattle.sending.proofs.Witnessed.{elem_found, elem_past, elem_none}
 use Rattle.sending.proofs.witness.listed.Goals as goal
 
