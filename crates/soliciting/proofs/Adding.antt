@@ -1,5 +1,5 @@
 -- The parents of a request that has just been opened, put in hash by hash.
-use Prim.Native.Nat.{ℕ, ◌+◌, ◌≤◌, ◌<◌}
+use Prim.Native.Nat.{ℕ, ◌+◌, ◌≤◌, ◌<◌, suc}
 use mathlib.Core.Path.{◌≡◌, refl, sym, ap, subst, ◌∙◌}
 use mathlib.Core.Logic.{inl, inr}
 use mathlib.Core.Bool.{true, false}
@@ -45,7 +45,7 @@ change_none k f lo (r ∷ t) o e h = elim (test (ltb (place k) (place r.key))) [
       absurd (none_here (subst (λ (x : Request). 1 ≤ length x.candidates) z h))
   | inr d ↦ rw d (elim (test (eqb (place k) (place r.key))) [
     | inl x ↦ rw x (ap (λ (y : Request). keep y y.candidates t) (rw x at e) ∙ keep_some r r.candidates t (rw x at h))
-    | inr x ↦ rw x (ap (λ (y : Table). r ∷ y) (change_none k f _ t o.2 (rw x at e) (rw x at h)))
+    | inr x ↦ rw x (ap (λ (y : Table). r ∷ y) (change_none k f (suc (place r.key)) t o.2 (rw x at e) (rw x at h)))
   ])
 ]
   where

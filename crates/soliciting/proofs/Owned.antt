@@ -1,11 +1,12 @@
 -- The owner and the stage of a request, as the code reads them.
-use Prim.Native.Nat.{ℕ, ◌+◌}
+use Prim.Native.Nat.{ℕ, ◌+◌, ◌≤◌, ◌<◌}
 use mathlib.Core.Path.{◌≡◌, refl, sym, ap, ◌∙◌}
+use mathlib.Core.Logic.{◌⊎◌, inl, inr}
 use mathlib.Core.Bool.{Bool, true, false, not, ◌&&◌, and-false}
 use mathlib.Core.Option.{Option, none, some}
 use native.Mathlib.Omega.{arith}
 use lib.Dec.{ltb, eqb}
-use borrow.Author.Tests.{le-ltb, eq-eqb, ne_eqb}
+use borrow.Author.Tests.{lt-ltb, le-ltb, eq-eqb, ne_eqb}
 use Rattle.machine.specs.State as machine
 use Rattle.machine.specs.State.{Owner, Package, is_none}
 use Rattle.machine.specs.Table.{one}
@@ -23,6 +24,13 @@ live_is n now (some o) = refl
 pub both_tests : {b t : Bool} {a n : ℕ} → a ≡ n → b ≡ t → b ≡ (eqb a n && t)
 both_tests {a = a} {n = n} e q = rw (eq-eqb a n e) q
 
+pub live_tests : {a n now d : ℕ} → a ≡ n → now < d → true ≡ (eqb a n && ltb now d)
+live_tests {a} {n} {now} {d} e l = rw (eq-eqb a n e, lt-ltb now d l) refl
+
+pub late_tests : {a n now d : ℕ} → (a ≡ n × d ≤ now) ⊎ (a ≡ n → ⊥) → (eqb a n && ltb now d) ≡ false
+late_tests {a} {n} {now} {d} (inl z) = rw (eq-eqb a n z.0, le-ltb now d z.1) refl
+late_tests {a} {n} {now} {d} (inr z) = rw (ne_eqb a n z) refl
+
 pub first_test : {b : Bool} {a n : ℕ} (t : Bool) → (a ≡ n → ⊥) → b ≡ eqb a n → b ≡ (eqb a n && t)
 first_test {a = a} {n = n} t e q = rw (ne_eqb a n e) (q ∙ ne_eqb a n e)
 
@@ -33,8 +41,8 @@ module _ {q : machine.Request} {r : Request} (f : RequestOf q r) (n now stage : 
   pub stage_read : b ≡ true → eqb r.stage stage ≡ (live_owner n now q.owner && eqb (stage_of q.info q.«package») stage)
   stage_read d = rw (live ∙ d) (ap (λ (x : ℕ). eqb x stage) f.stage)
 
-  pub not_live : b ≡ false → b ≡ (live_owner n now q.owner && eqb (stage_of q.info q.«package») stage)
-  not_live d = d ∙ rw (live ∙ d) refl
+  pub not_live : (eqb r.owner n && ltb now r.deadline) ≡ false → b ≡ (live_owner n now q.owner && eqb (stage_of q.info q.«package») stage)
+  not_live d = e ∙ d ∙ rw (live ∙ e ∙ d) refl
 
 -- ---- stages
 

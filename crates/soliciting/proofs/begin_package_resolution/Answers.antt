@@ -1,5 +1,4 @@
 -- `soliciting::begin_package_resolution` meets its contract.
-use borrow.Author.Tests.{not-true, not-false}
 use Rattle.ident.specs.Words.{hash_num}
 use Rattle.lent_lists.specs.Lists.{hashes_in}
 use Rattle.soliciting.proofs.Beginning.{begin-barred, begin-inside, begin_read, begin_other, begin_done}
@@ -8,29 +7,28 @@ use Rattle.soliciting.proofs.begin_package_resolution.Goals as goal
 pub returns-then-not-owned_at : goal.returns-then-not-owned_at
 returns-then-not-owned_at c =
     begin-barred c.args.n (hash_num c.args.subject.0) (hash_num c.args.combined) (hashes_in c.args.wtxids.now) c.args.clock c.owned_at.ensures
-    (not-true _ c.if-not-owned_at.true-raw)
+    c.if-not-owned_at.true
 
 pub same_package-requires : goal.same_package-requires
 same_package-requires c = (
   c.requires,
   begin-inside c.args.n (hash_num c.args.subject.0) (hash_num c.args.combined) (hashes_in c.args.wtxids.now) c.args.clock
-      c.owned_at.ensures (not-false _ c.if-not-owned_at.false-raw) c.seek-p.ensures c.requires,
+      c.owned_at.ensures c.if-not-owned_at.false c.seek-p.ensures c.requires,
 )
 
 pub returns-then-not-same_package : goal.returns-then-not-same_package
 returns-then-not-same_package c =
     let e = c.owned_at.ensures in
-    let d = not-false c.owned_at.result c.if-not-owned_at.false-raw in
+    let d = c.if-not-owned_at.false in
     begin_other c.args.n (hash_num c.args.subject.0) (hash_num c.args.combined) (hashes_in c.args.wtxids.now) c.args.clock e d
     (begin_read c.args.n (hash_num c.args.subject.0) (hash_num c.args.combined) (hashes_in c.args.wtxids.now) c.args.clock e d
-    c.seek-p.ensures c.same_package.ensures) (not-true _ c.if-not-same_package.true-raw)
+    c.seek-p.ensures c.same_package.ensures) c.if-not-same_package.true
 
 pub returns : goal.returns
 returns c =
     let e = c.owned_at.ensures in
-    let d = not-false c.owned_at.result
-    c.if-not-owned_at.false-raw in
+    let d = c.if-not-owned_at.false in
     begin_done c.args.n (hash_num c.args.subject.0) (hash_num c.args.combined) (hashes_in c.args.wtxids.now) c.args.clock e d
     (begin_read c.args.n (hash_num c.args.subject.0) (hash_num c.args.combined) (hashes_in c.args.wtxids.now) c.args.clock e d
     c.seek-p.ensures c.same_package.ensures)
-    (not-false _ c.if-not-same_package.false-raw) c.enqueue.ensures
+    c.if-not-same_package.false c.enqueue.ensures

@@ -1,9 +1,8 @@
 -- `soliciting::same_package` meets its contract.
-use Prim.Native.Nat.{◌-◌, ◌<◌}
+use Prim.Native.Nat.{◌<◌}
 use mathlib.Core.Path.{refl, sym, ◌∙◌}
 use native.Mathlib.Omega.{arith}
 use lib.ListN.{length}
-use borrow.Author.Tests.{not-true, not-false}
 use Rattle.ident.specs.Number.{wtxid}
 use Rattle.ident.specs.Words.{hash_num}
 use Rattle.lent_lists.specs.Lists.{hashes_in}
@@ -14,18 +13,16 @@ use Rattle.soliciting.proofs.same_package.Goals as goal
 
 pub returns-then-not-same_hash : goal.returns-then-not-same_hash
 returns-then-not-same_hash c = λ h small st s w p.
-    let start : tie.Start invariant-loop decreases-loop = c in
     let q = at (wtxid h) st.table in
-    other_hash (combined_of q.«package») (hash_num start.args.combined) (wtxids_of q.«package») (hashes_in start.args.wtxids.now)
-    (compared c.same_hash.ensures (c.combined_at-c.ensures h small st s w p) refl (not-true _ c.if-not-same_hash.true-raw))
+    other_hash (combined_of q.«package») (hash_num c.args.combined) (wtxids_of q.«package») (hashes_in c.args.wtxids.now)
+    (compared c.same_hash.ensures (c.combined_at-c.ensures h small st s w p) refl c.if-not-same_hash.true)
 
 pub returns-then-hashes-count : goal.returns-then-hashes-count
 returns-then-hashes-count c = λ h small st s w p.
-    let start : tie.Start invariant-loop decreases-loop = c in
     let q = at (wtxid h) st.table in
     let x = compared c.same_hash.ensures (c.combined_at-c.ensures h small st s w p) refl
-    (not-false _ c.if-not-same_hash.false-raw) in
-    other_length (combined_of q.«package») (hash_num start.args.combined) (wtxids_of q.«package») (hashes_in start.args.wtxids.now) x
+    c.if-not-same_hash.false in
+    other_length (combined_of q.«package») (hash_num c.args.combined) (wtxids_of q.«package») (hashes_in c.args.wtxids.now) x
     (λ e. c.if-hashes-count.true (c.hashes.ensures ∙ sym e ∙ sym (c.wtxids-count.ensures.1 h small st s w p)))
 
 pub loop-j-init : goal.loop-j-init
@@ -59,11 +56,11 @@ returns-then-not-same_hash-2 c = λ h small st s w p.
     ) in
     let x = compared c.same_hash.ensures
     (c.combined_at-c.ensures h small st s w p) refl
-    (not-false _ c.if-not-same_hash.false-raw) in
+    c.if-not-same_hash.false in
     other_wtxid (combined_of (at (wtxid h) st.table).«package»)
     (hash_num c.args.combined) a b x j
     (c.loop-j.invariant.1 h small st s w p) l g
-    (compared c.same_hash-in-loop-j.ensures (c.wtxid_at-a.ensures h small st s w p l) c.hash_in-b.ensures (not-true _ c.if-not-same_hash-2.true-raw))
+    (compared c.same_hash-in-loop-j.ensures (c.wtxid_at-a.ensures h small st s w p l) c.hash_in-b.ensures c.if-not-same_hash-2.true)
 
 pub overflow_add-j : goal.overflow_add-j
 overflow_add-j c = omega (arith, c.loop-j-test.true)
@@ -87,7 +84,7 @@ loop-j-preserved c = (
         c.hashes.ensures,
       ) in
       next_same a b j (c.loop-j.invariant.1 h small st s w p) l g
-      (compared c.same_hash-in-loop-j.ensures (c.wtxid_at-a.ensures h small st s w p l) c.hash_in-b.ensures (not-false _ c.if-not-same_hash-2.false-raw)),
+      (compared c.same_hash-in-loop-j.ensures (c.wtxid_at-a.ensures h small st s w p l) c.hash_in-b.ensures c.if-not-same_hash-2.false),
 )
 
 pub returns : goal.returns
@@ -97,7 +94,7 @@ returns c = λ h small st s w p.
     let b = hashes_in c.args.wtxids.now in
     let n = c.wtxids-count.ensures.1 h small st s w p in
     let x = compared c.same_hash.ensures (c.combined_at-c.ensures h small st s w p) refl
-    (not-false _ c.if-not-same_hash.false-raw) in
+    c.if-not-same_hash.false in
     all_same (combined_of (at (wtxid h) st.table).«package») (hash_num c.args.combined) a b x j
     (c.loop-j.invariant.1 h small st s w p) (omega (arith, n, c.loop-j.invariant.0, c.loop-j-test.false))
     (omega (arith, c.loop-j.invariant.0, c.loop-j-test.false, c.if-hashes-count.false, c.hashes.ensures))

@@ -2,7 +2,6 @@
 use Prim.Native.Nat.{◌-◌, ◌≤◌}
 use mathlib.Core.Path.{◌≡◌}
 use lib.ListN.{drop}
-use Rattle.ident.specs.Number.{wtxid}
 use Rattle.lent_lists.specs.Lists.{hashes_in}
 use Rattle.machine.specs.Package.{same_list}
 use Rattle.package_stages.specs.Changes.{wtxids_of, ReadAt}

@@ -1,7 +1,6 @@
 -- `soliciting::info::may_own` meets its contract.
-use mathlib.Core.Logic.{⊎_elim}
+use mathlib.Core.Logic.{inl, inr}
 use lib.Dec.{ltb}
-use borrow.Author.Tests.{eqb-true, eqb-false, not-true, not-false}
 use Rattle.ident.specs.Words.{hash_num}
 use Rattle.ident.proofs.Words.{hash-four, hash_below}
 use Rattle.machine.specs.Limits.{max_in_flight}
@@ -15,8 +14,10 @@ returns-then-a-ne0 c = λ st s w.
     let small = hash_below h (hash-four h c.well_formed.1.1.0) in
     let a = owner_at_lem st.table c.txid_key.ensures (c.request_at-a.ensures.is st s w) in
     let b = owner_at_lem st.table c.wtxid_key.ensures (c.request_at-b.ensures.is st s w) in
-    ⊎_elim (λ z. owned_first st s c.args.n (hash_num h) small a b z.taken (ltb (owned_by c.args.n st.table) max_in_flight))
-    (λ z. owned-second st s c.args.n (hash_num h) small a b (eqb-false _ 0 (not-true _ z.2.taken)) (ltb (owned_by c.args.n st.table) max_in_flight)) c.then-a-ne0.branch
+    elim c.then-a-ne0.either [
+      | inl z ↦ owned_first st s c.args.n (hash_num h) small a b z (ltb (owned_by c.args.n st.table) max_in_flight)
+      | inr z ↦ owned-second st s c.args.n (hash_num h) small a b z.1 (ltb (owned_by c.args.n st.table) max_in_flight)
+    ]
 
 pub returns : goal.returns
 returns c = λ st s w.
@@ -25,5 +26,5 @@ returns c = λ st s w.
     let a = owner_at_lem st.table c.txid_key.ensures
     (c.request_at-a.ensures.is st s w) in
     let b = owner_at_lem st.table c.wtxid_key.ensures (c.request_at-b.ensures.is st s w) in
-    owned_none st s c.args.n (hash_num h) small a b c.if-a-ne0.false (eqb-true _ 0 (not-false _ c.if-b-ne0.false-raw))
+    owned_none st s c.args.n (hash_num h) small a b c.if-a-ne0.false c.if-b-ne0.false
     (c.figures-f.ensures st s w).owned

@@ -1,6 +1,5 @@
 -- `soliciting::info::solicit_package_info` meets its contract.
 use native.Mathlib.Omega.{arith}
-use borrow.Author.Tests.{not-true, not-false}
 use Rattle.ident.specs.Words.{hash_num, key_num}
 use Rattle.lent_lists.specs.Lists.{hashes_in}
 use Rattle.machine.proofs.Fail.{Peer}
@@ -16,7 +15,7 @@ pub returns-then-not-may_own : goal.returns-then-not-may_own
 returns-then-not-may_own c =
     let small = subject_below c.args.subject c.well_formed.1.1.0 in
     solicit-barred c.args.n (hash_num c.args.subject.0) (hashes_in c.args.parents.now) c.args.clock (record { positive = c.requires.1; small = omega arith }) small
-    c.requires.2 c.may_own.ensures (not-true _ c.if-not-may_own.true-raw)
+    c.requires.2 c.may_own.ensures c.if-not-may_own.true
 
 pub announce_at-requires : goal.announce_at-requires
 announce_at-requires c = c.requires.0
@@ -29,7 +28,7 @@ holds-requires c =
     let peer : Peer n = record { positive = c.requires.1; small = omega arith } in
     let small = subject_below c.args.subject c.well_formed.1.1.0 in
     let may = c.may_own.ensures in
-    let y = not-false c.may_own.result c.if-not-may_own.false-raw in
+    let y = c.if-not-may_own.false in
     let key = c.wtxid_key-k in
     let a = as_soliciting n h c.args.clock (key_num key.result) (candidate_of c.soliciting.result) key.ensures
     c.soliciting.ensures c.announce_at.ensures in
@@ -43,12 +42,11 @@ returns-then-not-holds c =
     let peer : Peer n = record { positive = c.requires.1; small = omega arith } in
     let small = subject_below c.args.subject c.well_formed.1.1.0 in
     let may = c.may_own.ensures in
-    let y = not-false c.may_own.result
-    c.if-not-may_own.false-raw in
+    let y = c.if-not-may_own.false in
     let key = c.wtxid_key-k in
     let a = as_soliciting n h c.args.clock (key_num key.result) (candidate_of c.soliciting.result) key.ensures
     c.soliciting.ensures c.announce_at.ensures in
-    solicit-refused n h hs c.args.clock peer small c.requires.2 may y a (key_num key.result) key.ensures c.holds.ensures (not-true _ c.if-not-holds.true-raw)
+    solicit-refused n h hs c.args.clock peer small c.requires.2 may y a (key_num key.result) key.ensures c.holds.ensures c.if-not-holds.true
 
 pub own_flagged-requires : goal.own_flagged-requires
 own_flagged-requires c =
@@ -58,13 +56,12 @@ own_flagged-requires c =
     let peer : Peer n = record { positive = c.requires.1; small = omega arith } in
     let small = subject_below c.args.subject c.well_formed.1.1.0 in
     let may = c.may_own.ensures in
-    let y = not-false c.may_own.result
-    c.if-not-may_own.false-raw in
+    let y = c.if-not-may_own.false in
     let key = c.wtxid_key-k in
     let a = as_soliciting n h c.args.clock (key_num key.result) (candidate_of c.soliciting.result) key.ensures
     c.soliciting.ensures c.announce_at.ensures in
     let z = c.holds.ensures in
-    let d = not-false c.holds.result c.if-not-holds.false-raw in (
+    let d = c.if-not-holds.false in (
       may-keeps n h hs c.args.clock peer small c.requires.2 may y a (key_num key.result) key.ensures z d c.requires.4 c.requires.0,
       room_left n h hs c.args.clock peer small c.requires.2 may y a (key_num key.result) key.ensures z d c.requires.4 c.requires.0,
       c.requires.2,
@@ -78,14 +75,13 @@ add_parents-requires c =
     let peer : Peer n = record { positive = c.requires.1; small = omega arith } in
     let small = subject_below c.args.subject c.well_formed.1.1.0 in
     let may = c.may_own.ensures in
-    let y = not-false c.may_own.result
-    c.if-not-may_own.false-raw in
+    let y = c.if-not-may_own.false in
     let key = c.wtxid_key-k in
     let a = as_soliciting n h c.args.clock (key_num key.result)
     (candidate_of c.soliciting.result)
     key.ensures c.soliciting.ensures
     c.announce_at.ensures in
-    let d = not-false c.holds.result c.if-not-holds.false-raw in (
+    let d = c.if-not-holds.false in (
       opened-keeps n h hs c.args.clock peer small c.requires.2 may y a (key_num key.result) key.ensures c.holds.ensures d
           c.requires.4 c.own_flagged.ensures c.requires.0,
       c.requires.3,
@@ -93,22 +89,19 @@ add_parents-requires c =
 
 pub returns : goal.returns
 returns c =
-    let start : tie.Start =
-    c in
-    let n = start.args.n in
-    let h = hash_num start.args.subject.0 in
-    let hs = hashes_in start.args.parents.now in
-    let peer : Peer n = record { positive = start.pre.1; small = omega arith } in
-    let small = subject_below start.args.subject start.good.1.1.0 in
+    let n = c.args.n in
+    let h = hash_num c.args.subject.0 in
+    let hs = hashes_in c.args.parents.now in
+    let peer : Peer n = record { positive = c.requires.1; small = omega arith } in
+    let small = subject_below c.args.subject c.well_formed.1.1.0 in
     let may = c.may_own.ensures in
-    let y = not-false c.may_own.result
-    c.if-not-may_own.false-raw in
+    let y = c.if-not-may_own.false in
     let key = c.wtxid_key-k in
-    let a = as_soliciting n h start.args.clock (key_num key.result)
+    let a = as_soliciting n h c.args.clock (key_num key.result)
     (candidate_of c.soliciting.result)
     key.ensures c.soliciting.ensures
     c.announce_at.ensures in
-    let d = not-false c.holds.result c.if-not-holds.false-raw in
-    solicit_done n h hs start.args.clock peer small start.pre.2 may y a (key_num key.result) key.ensures
-    c.holds.ensures d start.pre.4 c.own_flagged.ensures
+    let d = c.if-not-holds.false in
+    solicit_done n h hs c.args.clock peer small c.requires.2 may y a (key_num key.result) key.ensures
+    c.holds.ensures d c.requires.4 c.own_flagged.ensures
     c.add_parents.ensures
