@@ -127,7 +127,7 @@ module _ (n lo : ℕ) (b : top ≤ lo) where
       let d' = bounded-parent_at (txid h) c a.0 (record { item = refl; positive = p.positive; connection = p.small; ready = w; priority = omega arith }) d in
       let f = fewer-parent_at m h c t a.0 d.ordered in
       fewer_then (by_test (Fewer n lo t) r.reply (λ e. fewer_then f (fewer-txid n lo h marked r.table b a.0 (λ q. refl))) (λ e. f))
-      (fewer-parents_from {t = if r.reply then mark (txid h) marked r.table else r.table} x now (suc i) hs p w a.1 (omega arith) (by_test (Bounded m Q) r.reply (λ e. bounded-mark h a.0 d') (λ e. d')))
+      (fewer-parents_from {t = if r.reply then mark (txid h) r.table else r.table} x now (suc i) hs p w a.1 (omega arith) (by_test (Bounded m Q) r.reply (λ e. bounded-mark h a.0 d') (λ e. d')))
 
   fewer-parents : {m : Limits} {Q : ℕ} {t : Table} (x now : ℕ) (hs : List ℕ) → Peer x → now < word → FewHashes hs → Bounded m Q t → Fewer n lo t (announce_parents m x now hs t).table
   unfolding announce_parents

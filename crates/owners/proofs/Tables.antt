@@ -137,7 +137,7 @@ module _ (h : ℕ) where
   table-names l lo [] o a = nobody_there
   table-names l lo (q ∷ t) o a =
       over_append h (rows_for q) (rows_of t)
-      ∙ (λ i. or_holding (request-names h q a.0 i) (table-names l _ t o.2 a.1 i))
+      ∙ (λ i. or_holding (request-names h q a.0 i) (table-names l (suc (place q.key)) t o.2 a.1 i))
       ∙ elim (test (eqb q.key.hash h)) [
         | inl e ↦ rw e (sym (at-hash q.key.kind q t (ap (λ (x : ℕ). record { kind = q.key.kind; hash = x }) (eqb-true q.key.hash h e)) l o.2))
         | inr e ↦ rw e (sym (elsewhere q t o.1 l (eqb-false q.key.hash h e)))

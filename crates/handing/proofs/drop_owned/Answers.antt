@@ -68,16 +68,9 @@ announce_each-requires c =
     )
 
 pub returns : goal.returns
-returns c = let v : c.args.clock < word = omega (
-  arith,
-  c.well_formed.1.1.1.0,
-) in
-    let small = hash_below c.before.before.before.before.before.before.before.before.before.before.before.before.before.before.before.before.before.before.before.before.before.before.before.before.args.k.hash (key-four c.before.before.before.before.before.before.before.before.before.before.before.before.before.before.before.before.before.before.before.before.before.before.before.before.args.k c.before.before.before.before.before.before.before.before.before.before.before.before.before.before.before.before.before.before.before.before.before.before.before.before.well_formed.1.0) in
-    dropped (key_num c.before.before.before.before.before.before.before.before.before.before.before.before.before.before.before.before.before.before.before.before.before.before.before.before.args.k) small c.before.before.before.before.before.before.before.before.before.before.before.before.before.before.before.before.before.before.before.before.before.before.before.before.args.n c.before.before.before.before.before.before.before.before.before.before.before.before.before.before.before.before.before.before.before.before.before.before.before.before.args.clock v
-    c.before.before.before.before.before.before.before.before.before.before.before.before.before.before.before.before.failed.ensures
-    c.before.before.before.before.before.before.before.before.before.before.before.before.before.before.before.before.before.before.before.before.before.before.before.before.requires.2 _ (λ st s w. first_are _
-    c.before.before.before.before.before.before.before.before.before.before.before.before.before.before.before.before.before.before.before.parents-for.result _ refl
-    c.before.before.before.before.before.before.before.before.before.before.before.before.before.before.before.before.before.before.before.parents-for.ensures.0 (omega
-    (arith, c.before.before.before.before.before.before.before.before.before.before.before.before.before.before.before.before.before.before.before.parents-for.auto)) _
-    (c.before.before.before.before.before.before.before.before.before.before.before.before.before.before.before.before.before.before.before.parents-for.ensures.1 st s w))
-    _ c.before.before.before.before.before.before.before.before.before.before.before.copy-conns.ensures.1 c.before.before.before.before.announce-each.ensures
+returns c =
+    let v : c.args.clock < word = omega (arith, c.well_formed.1.1.1.0) in
+    let small = hash_below c.args.k.hash (key-four c.args.k c.well_formed.1.0) in
+    dropped (key_num c.args.k) small c.args.n c.args.clock v c.failed.ensures
+    c.requires.2 _ (λ st s w. first_are _ c.parents_for-p.result _ refl c.parents_for-p.ensures.0 (omega (arith, c.parents_for-p.auto)) _
+    (c.parents_for-p.ensures.1 st s w)) _ c.copy_conns-q.ensures.1 c.announce_each.ensures

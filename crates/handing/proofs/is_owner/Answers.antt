@@ -24,4 +24,4 @@ returns-then-has_key c = λ st s w.
     c.args.k c.key_words-key.ensures l
     (c.row_at-r.ensures (flat_of st) c.row_at-r.result w)
     ((c.find_row-i.ensures.first (flat_of st) w).found c.if-i-rows.true)
-    (c.has_key_lem.ensures c.if-has_key.true)
+    (c.has_key.ensures c.if-has_key.true)

@@ -23,14 +23,13 @@ returns-then-not-releasable c = waits_not c.args.n
 pub ease-requires : goal.ease-requires
 ease-requires c = (
   c.requires.0,
-  λ st s w. sym (c.releasable.ensures st s w) ∙ not-false c.releasable.result c.if-not-releasable.false-raw,
+  λ st s w. sym (c.releasable.ensures st s w) ∙ c.if-not-releasable.false,
 )
 
 pub returns : goal.returns
 returns c = waits-eased c.args.n
     c.args.clock
     (key_num c.args.k)
-    (λ st s w. sym (c.releasable.ensures st s w) ∙ not-false c.releasable.result
-    c.if-not-releasable.false-raw) (λ st s w. c.is_silent.ensures
-    (not-false c.is_silent.result c.if-not-is_silent.false-raw) st s w)
+    (λ st s w. sym (c.releasable.ensures st s w) ∙ c.if-not-releasable.false) (λ st s w. c.is_silent.ensures
+    c.if-not-is_silent.false st s w)
     c.ease.ensures

@@ -88,7 +88,7 @@ pub overflow_add-p : goal.overflow_add-p
 overflow_add-p c = omega (
   arith,
   c.loop-p-test.true,
-  c.hashes-count.type-inv,
+  c.hashes-count.type_inv,
 )
 
 pub loop-p-smaller : goal.loop-p-smaller

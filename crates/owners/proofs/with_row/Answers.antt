@@ -25,4 +25,4 @@ returns c = λ o s. row_at _ c.args.r _ o
       ltb-false
           (quad_number c.args.r.hash) (quad_number c.args.h) (sym c.quad_less.ensures
           ∙ c.if-quad_less.false),
-    )) (c.either.ensures o _ s c.Named-by.ensures)
+    )) (c.either.ensures o _ s c.named_by-w.ensures)

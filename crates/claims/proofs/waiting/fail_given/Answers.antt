@@ -19,29 +19,27 @@ entry_at-g-requires c = omega (arith, c.entries-count.ensures, c.loop-i-test.tru
 
 pub fail_entry-c-requires : goal.fail_entry-c-requires
 fail_entry-c-requires c =
-    let start : tie.Start invariant-loop decreases-loop = c in
-    let a = start.args in
-    let peer : Peer a.n = record { positive = start.requires.1; small = omega arith } in
+    let a = c.args in
+    let peer : Peer a.n = record { positive = c.requires.1; small = omega arith } in
     let late : a.clock < word = omega arith in
     let v = c.loop-i.invariant in
     let inside : c.loop-i.i < length (entries_in a.items a.given.now) =
     omega (arith, c.entries-count.ensures, c.loop-i-test.true) in
     let given = somes_given a.items a.given.now in
-    let kept = start.requires.0 in (
+    let kept = c.requires.0 in (
       failed_kept v peer late kept,
-      start.requires.1,
-      failed-fits v peer late kept (ap length given) start.requires.2,
-      same_many (start.requires.3 kept.state kept.sound kept.writes),
-      failed-room v peer late kept (ap length given) start.requires.2 (hash_found c.entry_at-g.result.held (hash_num c.entry_at-g.result.hash)) inside
-          c.entry_at-g.ensures start.requires.3,
+      c.requires.1,
+      failed-fits v peer late kept (ap length given) c.requires.2,
+      same_many (c.requires.3 kept.state kept.sound kept.writes),
+      failed-room v peer late kept (ap length given) c.requires.2 (hash_found c.entry_at-g.result.held (hash_num c.entry_at-g.result.hash)) inside
+          c.entry_at-g.ensures c.requires.3,
       failed_few v peer late kept,
     )
 
 pub loop-i-preserved : goal.loop-i-preserved
 loop-i-preserved c =
-    let start : tie.Start invariant-loop decreases-loop = c in
-    let a = start.args in
-    let peer : Peer a.n = record { positive = start.requires.1; small = omega arith } in
+    let a = c.args in
+    let peer : Peer a.n = record { positive = c.requires.1; small = omega arith } in
     let late : a.clock < word = omega arith in
     let v = c.loop-i.invariant in
     let inside : c.loop-i.i < length (entries_in a.items a.given.now) = omega (
@@ -51,7 +49,7 @@ loop-i-preserved c =
     ) in
     failed_more v peer late (hash_found c.entry_at-g.result.held
     (hash_num c.entry_at-g.result.hash)) inside c.entry_at-g.ensures
-    start.requires.3 (omega (arith, c.fail_entry-c.auto)) (omega (arith, c.fail_entry-c.auto))
+    c.requires.3 (omega (arith, c.fail_entry-c.auto)) (omega (arith, c.fail_entry-c.auto))
     c.fail_entry-c.ensures
 
 pub shape_of-s : goal.shape_of-s

@@ -77,13 +77,13 @@ returns-then-is_claim c =
     c.if-is_claim.true)
     (hash_below c.key_of-k.result.hash
     (key-four c.key_of-k.result
-    c.key_of-k.type-inv))
+    c.key_of-k.type_inv))
     c.key_of-k.ensures
     _ _ refl refl c.requires.3
     c.requires.1
     c.requires.2 (hash_below
     c.combined_of-c.result (hash-four c.combined_of-c.result
-    c.combined_of-c.type-inv)) c.combined_of-c.ensures
+    c.combined_of-c.type_inv)) c.combined_of-c.ensures
     c.put_hash.ensures c.put_hash-then-is_claim.ensures
 
 pub returns-else-is_claim : goal.returns-else-is_claim

@@ -6,7 +6,7 @@ use lib.Dec.{ltb}
 use lib.ListN.{length}
 use Rattle.lent_lists.specs.Lists.{hashes_in}
 use Rattle.lent_lists.proofs.Given.{length-hashes}
-use Rattle.owners.proofs.Listed.{quad_is, ended, goes_on_lem, breaks, not-true, not-false}
+use Rattle.owners.proofs.Listed.{quad_is, ended, goes_on_lem, breaks}
 use Rattle.owners.proofs.list.ascends.Goals as goal
 
 pub loop-i-init : goal.loop-i-init
@@ -14,9 +14,6 @@ loop-i-init c = (omega arith, refl)
 
 pub overflow_add-i : goal.overflow_add-i
 overflow_add-i c = omega (arith, c.loop-i.invariant.0, length-hashes c.args.hashes.now)
-
-pub overflow_add-i : goal.overflow_add-i
-overflow_add-i c = omega (arith, c.loop-test.true)
 
 pub hash_in-requires : goal.hash_in-requires
 hash_in-requires c = omega (arith, c.loop-i-test.true, c.hashes-n.ensures)
@@ -33,7 +30,7 @@ returns-then-not-quad_less c = breaks (hashes_in c.args.hashes.now)
     (omega (arith, c.loop-i-test.true, c.hashes-n.ensures))
     c.loop-i.invariant.1
     (c.quad_less.ensures ∙ (λ i. ltb (quad_is c.hash_quad-a.ensures c.hash_in.ensures i)
-    (quad_is c.hash_quad-b.ensures c.hash_in-in-loop-i.ensures i))) (not-true c.quad_less.result c.if-not-quad_less.true-raw)
+    (quad_is c.hash_quad-b.ensures c.hash_in-in-loop-i.ensures i))) c.if-not-quad_less.true
 
 pub loop-i-smaller : goal.loop-i-smaller
 loop-i-smaller c = omega (arith, c.loop-i-test.true)
@@ -45,7 +42,7 @@ loop-i-preserved c = (
       (omega (arith, c.loop-i-test.true, c.hashes-n.ensures))
       c.loop-i.invariant.1
       (c.quad_less.ensures ∙ (λ i. ltb (quad_is c.hash_quad-a.ensures c.hash_in.ensures i)
-      (quad_is c.hash_quad-b.ensures c.hash_in-in-loop-i.ensures i))) (not-false c.quad_less.result c.if-not-quad_less.false-raw),
+      (quad_is c.hash_quad-b.ensures c.hash_in-in-loop-i.ensures i))) c.if-not-quad_less.false,
 )
 
 pub returns : goal.returns
