@@ -59,6 +59,7 @@ goes_on_lem hs i l e p t = e ∙ step hs i l ∙ ap (λ (x : Bool). x && ascendi
 
 pub breaks : (hs : List ℕ) (i : ℕ) {b : Bool} → i + 1 < length hs → ascending hs ≡ ascending (drop i hs) → b ≡ ltb (get_or hs i 0) (get_or hs (i + 1) 0) → b ≡ false → false ≡ ascending hs
 breaks hs i l e p t = sym (e ∙ step hs i l ∙ ap (λ (x : Bool). x && ascending (drop (i + 1) hs)) (sym p ∙ t))
+
 -- ---- the whole test
 
 pub too_many : (hs : List ℕ) → max_asked_hashes < length hs → true ≡ wrong_hashes hs

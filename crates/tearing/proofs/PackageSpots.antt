@@ -17,7 +17,7 @@ use Rattle.regions.specs.Rows.{quad_number}
 use Rattle.places.specs.declared.Head.{Head}
 use Rattle.places.specs.Places.{Place, head_of}
 use Rattle.machine.specs.State.{Package, Request, State, is_some}
-use Rattle.machine.specs.Table.{at, one}
+use Rattle.machine.specs.Table.{at}
 use Rattle.machine.specs.Sound.{Sound}
 use Rattle.machine.proofs.Tests.{never}
 use Rattle.store.specs.Flat.{Flat, places_of}

@@ -5,7 +5,6 @@ use mathlib.Core.Bool.{Bool, true, false}
 use mathlib.Core.List.{List, [], ◌∷◌, ◌++◌, map, append-nil}
 use native.Mathlib.Numerals.{add-one}
 use native.Mathlib.Omega.{arith}
-use lib.Dec.{leb}
 use lib.ListN.{length, take, drop, get_or, set, length-set, length-append, drop_of_length-le}
 use lib.Seq.{take_all, take-suc, set-get_or}
 use borrow.Author.Tests.{le-leb, lt-leb}
@@ -15,7 +14,7 @@ use Rattle.places.specs.Places.{Place, head_of, with_stage}
 use Rattle.machine.specs.Limits.{word}
 use Rattle.machine.specs.Table.{one}
 use Rattle.machine.specs.State.{Table, State, on_table}
-use Rattle.machine.specs.Package.{Torn, teardown}
+use Rattle.machine.specs.Package.{Torn}
 use Rattle.machine.specs.Sound.{Sound}
 use Rattle.store.specs.Flat.{Flat, tally}
 use Rattle.store.specs.Image.{Shows, Writes}

@@ -1,5 +1,5 @@
 -- The rows of packages' owners taken out, those beside them readied, in one pass from the front.
-use Prim.Native.Nat.{ℕ, zero, suc, ◌+◌, ◌-◌, ◌/◌, ◌%◌, ◌≤◌, ◌<◌}
+use Prim.Native.Nat.{ℕ, ◌+◌, ◌/◌, ◌%◌, ◌≤◌, ◌<◌}
 use mathlib.Core.Path.{◌≡◌, refl, sym, ap, subst, ◌∙◌}
 use mathlib.Core.Logic.{inl, inr}
 use mathlib.Core.Bool.{Bool, true, false}
@@ -7,9 +7,8 @@ use mathlib.Core.List.{List, [], ◌∷◌, ◌++◌, append_assoc, append-nil}
 use native.Mathlib.Nat.{add-zero}
 use native.Mathlib.Numerals.{add-one}
 use native.Mathlib.Omega.{arith}
-use lib.Dec.{eqb}
-use lib.ListN.{length, take, drop, get_or, set, length-append, length-drop, drop_of_length-le}
-use lib.Seq.{length-take-le, take_all, take-suc, drop-drop, drop-cons, get_or-drop}
+use lib.ListN.{length, take, drop, get_or, set, length-append, drop_of_length-le}
+use lib.Seq.{take_all, take-suc, drop-drop, drop-cons, get_or-drop}
 use borrow.Author.Tests.{eqb-true, eq-eqb, ne_eqb}
 use Rattle.ident.specs.Number.{top}
 use Rattle.regions.specs.declared.Conn.{Conn}
@@ -22,7 +21,7 @@ use Rattle.machine.specs.Sound.{Sound}
 use Rattle.machine.specs.Typed.{Each}
 use Rattle.machine.proofs.Tests.{test}
 use Rattle.store.specs.Counting.{unbump}
-use Rattle.store.specs.Flat.{Flat, flat_of, own_bit, rows_of, tally}
+use Rattle.store.specs.Flat.{Flat, own_bit, rows_of, tally}
 use Rattle.store.specs.FlatSound.{hash_at, owns, RowFits}
 use Rattle.store.specs.Image.{Shows, Writes}
 use Rattle.store.specs.Shown.{rows_in, with_rows, with_conns, Light, Turns, Tallies, Shown, Kept}

@@ -26,7 +26,6 @@ use Rattle.machine.proofs.Tests.{test, never}
 use Rattle.machine.proofs.At.{at_here, at_there}
 use Rattle.machine.proofs.KeptAtZero.{packed-owned as owned}
 use Rattle.store.specs.Flat.{bits_of, witness_bit, deadline_for, row_of, rows_for, rows_of, place_for, places_for, places_of}
-use Rattle.store.specs.FlatSound.{owns}
 use Rattle.store.specs.Gather.{key_at}
 use Rattle.store.proofs.Bits.{key_row, owns-row}
 use Rattle.store.proofs.Counts.{Distinct, DistinctIn, in_hasnt}

@@ -1,5 +1,5 @@
 -- teardown_package_claims: what it comes to in one pass over the table, over the rows and over the places.
-use Rattle.std.specs.Prelude.{ℕ, ◌+◌, ◌≤◌, ◌<◌, ◌≡◌, Bool, List, [], ◌∷◌, ◌++◌, map, leb, length, get_or, set, if◌then◌else◌}
+use Rattle.std.specs.Prelude.{ℕ, ◌+◌, ◌≤◌, ◌<◌, ◌≡◌, Bool, List, [], ◌∷◌, map, leb, length, get_or, set, if◌then◌else◌}
 use Rattle.ident.specs.Number.{top, wtxid}
 use Rattle.regions.specs.declared.Conn.{Conn}
 use Rattle.regions.specs.declared.Row.{Row}

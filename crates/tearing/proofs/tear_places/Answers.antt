@@ -1,5 +1,4 @@
 use native.Mathlib.Omega.{arith}
-use Prim.Native.Nat.{◌-◌}
 use mathlib.Core.Path.{◌∙◌}
 use Rattle.places.specs.Places.{blank}
 use Rattle.tearing.proofs.TearingPlaces.{marking_none, marking_more, marking_end}

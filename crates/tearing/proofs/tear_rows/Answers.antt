@@ -1,5 +1,4 @@
 use native.Mathlib.Omega.{arith}
-use Prim.Native.Nat.{◌-◌}
 use mathlib.Core.Path.{◌∙◌}
 use Rattle.store.proofs.Frame.{sizes}
 use Rattle.tearing.proofs.TearingRows.{tearing_none, tearing-rows, tearing-shown, tearing_more, tearing-cut, tearing_end}

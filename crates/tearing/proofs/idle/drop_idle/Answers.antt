@@ -1,6 +1,5 @@
 -- `tearing::idle::drop_idle` meets its contract.
 use native.Mathlib.Omega.{arith}
-use Prim.Native.Nat.{◌-◌}
 use mathlib.Core.Path.{◌∙◌}
 use Rattle.tearing.proofs.Sifting.{sifting_none, sifting_shown, sifting_conns, sifting_more, sifting_end}
 use Rattle.tearing.proofs.idle.drop_idle.Goals as goal

@@ -1,7 +1,7 @@
 use native.Mathlib.Omega.{arith}
 use mathlib.Core.Path.{sym, ◌∙◌}
 use lib.ListN.{get_or}
-use borrow.Author.Tests.{ltb-false, not-true, not-false}
+use borrow.Author.Tests.{ltb-false, not-true}
 use Rattle.regions.specs.Rows.{quad_number}
 use Rattle.places.specs.Places.{blank}
 use Rattle.machine.proofs.Tests.{never}
