@@ -3,7 +3,7 @@ use mathlib.Core.Path.{sym, ◌∙◌}
 use native.Mathlib.Nat.{pos_of_ne-zero}
 use native.Mathlib.Omega.{arith}
 use borrow.Author.Tests.{not-true, not-false}
-use Rattle.lines.proofs.Scans.{scan-empty, scan_not, scan_start, scan-zero, scan_stop, scan_step, scan_end, fits_below}
+use Rattle.lines.proofs.Scans.{scan-empty, scan_not, scan_start, scan-zero, scan_stop, scan_step, scan_end}
 use Rattle.lines.proofs.read.decimal.Goals as goal
 
 pub returns-then-f-eq0 : goal.returns-then-f-eq0
@@ -21,20 +21,6 @@ returns-then-a-eq0 c = sym (c.loop-i.invariant.1 ∙ scan-zero _ _ _ _ _ c.loop-
 pub returns-then-not-has_room : goal.returns-then-not-has_room
 returns-then-not-has_room c = sym (c.loop-i.invariant.1 ∙ scan_stop _ _ _ _ _ c.loop-i-test.true
     c.value-d.ensures (pos_of_ne-zero c.if-a-eq0.false) (sym c.has_room.ensures ∙ not-true _ c.if-not-has_room.true-raw))
-
-pub overflow_mul-a : goal.overflow_mul-a
-overflow_mul-a c = omega (
-  arith,
-  fits_below c.loop-i.a c.value-d.result
-      c.args.most (sym c.has_room.ensures ∙ not-false _ c.if-not-has_room.false-raw),
-)
-
-pub overflow_add-a : goal.overflow_add-a
-overflow_add-a c = omega (
-  arith,
-  fits_below c.loop-i.a c.value-d.result
-      c.args.most (sym c.has_room.ensures ∙ not-false _ c.if-not-has_room.false-raw),
-)
 
 pub loop-i-preserved : goal.loop-i-preserved
 loop-i-preserved c = (

@@ -4,7 +4,7 @@ use native.Mathlib.Nat.{pos_of_ne-zero}
 use native.Mathlib.Omega.{arith}
 use borrow.Author.Tests.{not-true, not-false}
 use Rattle.lines.proofs.Hashes.{quad_low}
-use Rattle.lines.proofs.Scans.{scan-empty, scan_not, scan_start, scan-zero, scan_stop, scan_step, scan_end, digit_room}
+use Rattle.lines.proofs.Scans.{scan-empty, scan_not, scan_start, scan-zero, scan_stop, scan_step, scan_end}
 use Rattle.lines.proofs.read.hash.Goals as goal
 
 pub returns-then-f-eq0 : goal.returns-then-f-eq0
@@ -26,9 +26,6 @@ pub returns-then-not-hash_has_room : goal.returns-then-not-hash_has_room
 returns-then-not-hash_has_room c = sym (c.loop-i.invariant.3 ∙ scan_stop _ _ _ _ _ c.loop-i-test.true
     c.value-d.ensures (c.loop-i.invariant.1 (pos_of_ne-zero c.if-first-eq0.false))
     (sym c.hash_has_room.ensures ∙ not-true _ c.if-not-hash_has_room.true-raw))
-
-pub with_digit-q-requires : goal.with_digit-q-requires
-with_digit-q-requires c = digit_room _ _ _ (sym c.hash_has_room.ensures ∙ not-false _ c.if-not-hash_has_room.false-raw)
 
 pub loop-i-preserved : goal.loop-i-preserved
 loop-i-preserved c =

@@ -1,13 +1,7 @@
 -- `lines::read::with_digit` meets its contract.
 use native.Mathlib.Omega.{arith}
-use Rattle.lines.proofs.Hashes.{room-w3, with-digit, digit_in}
+use Rattle.lines.proofs.Hashes.{room-w3, with-digit}
 use Rattle.lines.proofs.read.with_digit.Goals as goal
-
-pub overflow_add-result-2 : goal.overflow_add-result-2
-overflow_add-result-2 c = record { fits = digit_in c.args.q.w1 c.args.q.w0 (omega arith) }
-
-pub overflow_add-result-3 : goal.overflow_add-result-3
-overflow_add-result-3 c = record { fits = digit_in c.args.q.w2 c.args.q.w1 (omega arith) }
 
 pub overflow_mul-result-4 : goal.overflow_mul-result-4
 overflow_mul-result-4 c = omega (

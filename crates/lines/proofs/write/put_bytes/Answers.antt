@@ -1,7 +1,7 @@
 -- `lines::write::put_bytes` meets its contract. The loop's invariant: the first i bytes are written.
 use native.Mathlib.Omega.{arith}
 use lib.ListN.{length-set}
-use Rattle.lines.proofs.Writing.{wrote_none, wrote_next, wrote_all}
+use Rattle.lines.proofs.Writing.{wrote_none, wrote_next}
 use Rattle.lines.proofs.write.put_bytes.Goals as goal
 
 pub loop-i-init : goal.loop-i-init
@@ -13,9 +13,3 @@ loop-i-preserved c = (
   simp length-set c.loop-i.invariant.1,
   wrote_next c.args.t.now c.loop-i-test.true c.requires c.loop-i.invariant.2 c.loop-i.invariant.1,
 )
-
-pub shape_of-s : goal.shape_of-s
-shape_of-s c = c.loop-i.invariant.1
-
-pub returns : goal.returns
-returns c = wrote_all c.args.t.now c.loop-i-test.false c.loop-i.invariant.2
