@@ -1,8 +1,8 @@
 -- What a public call leaves: reply, answer buffer and store, one definition for all calls.
-use Rattle.std.specs.Prelude.{ℕ, Bool, true, false, ◌≡◌, List, [], eqb, length, if◌then◌else◌}
+use Rattle.std.specs.Prelude.{ℕ, Bool, ◌≡◌, List, [], eqb, length, if◌then◌else◌}
 use Rattle.words.specs.Words.{words, Decides}
 use Rattle.machine.specs.Call.{Buffer, Call, Open, Restore, On, refusal}
-use Rattle.machine.specs.Step.{Reply, Outcome, step_if}
+use Rattle.machine.specs.Step.{Reply, step_if}
 use Rattle.store.specs.Image.{SoundStore, stored}
 use Rattle.store.specs.Read.{state_of}
 

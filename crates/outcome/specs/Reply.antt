@@ -1,6 +1,5 @@
 -- What the answers of the public calls say, in document 01's numbers and values.
 use Rattle.std.specs.Prelude.{ℕ, ◌*◌, take, drop}
-use Rattle.machine.specs.Wrapper.{Sums}
 use Rattle.machine.specs.Call.{Buffer, key_bytes}
 use Rattle.machine.specs.Step.{Reply, Refused, Number, Keys, Left, Summed, Saved}
 use Rattle.lent_lists.specs.Lists.{keys_in}
