@@ -1,15 +1,13 @@
 -- Items and priorities given to a call: how many, each by its index, and their ranges.
-use Prim.Native.Nat.{ℕ, zero, suc, ◌+◌, ◌*◌, ◌/◌, ◌%◌, ◌≤◌, ◌<◌, ◌^◌}
+use Prim.Native.Nat.{ℕ, zero, suc, ◌+◌, ◌*◌, ◌/◌, ◌≤◌, ◌<◌, ◌^◌}
 use mathlib.Core.Path.{◌≡◌, refl, sym, ap, ◌∙◌}
 use mathlib.Core.List.{List, [], ◌∷◌}
 use native.Mathlib.Nat.{zero-add, suc-add}
 use native.Mathlib.Omega.{arith}
 use lib.ListN.{length, take, drop, get_or, length-drop}
 use lib.Seq.{length-take-le, get_or-take, get_or-drop, take-take, take-nil, drop-drop}
-use borrow.Author.Tests.{lt-ltb, le-ltb}
 use Rattle.ident.specs.declared.ItemKind.{ItemKind}
-use Rattle.ident.specs.declared.ItemKind.TheVariants.{Other}
-use Rattle.ident.specs.Number.{Item, top, item_kind_of}
+use Rattle.ident.specs.Number.{Item, top}
 use Rattle.ident.specs.Words.{hash_bytes}
 use Rattle.words.specs.Words.{number, recs, words}
 use Rattle.words.proofs.Digits.{number_below}
@@ -18,15 +16,7 @@ use Rattle.words.proofs.Words.{word_at}
 use Rattle.machine.specs.Limits.{word}
 use Rattle.machine.specs.Wrapper.{Offer}
 use Rattle.machine.specs.Typed.{Each, OfferTyped}
-use Rattle.lent_lists.specs.Items.{item_bytes, type_top, item_kind_in, item_in, items_in, paired, offers_in}
-
--- ---- a type's word
-
-pub kind_below : (w : ℕ) {k : ItemKind} → w < type_top → k ≡ item_kind_of w → k ≡ item_kind_in w
-kind_below w h e = rw (lt-ltb w type_top h) e
-
-pub kind_above : (w : ℕ) → type_top ≤ w → Other (w % type_top) ≡ item_kind_in w
-kind_above w h = rw (le-ltb w type_top h) refl
+use Rattle.lent_lists.specs.Items.{item_bytes, item_kind_in, item_in, items_in, paired, offers_in}
 
 -- ---- items
 
