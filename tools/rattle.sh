@@ -1,26 +1,34 @@
-# Sourced: what rt says to rattle, for checks and builds that rt has no command for. The crates that they need must have been proved (rt check): they are taken
-# from target/rlib.
-home=${RATTLE_HOME:-$(dirname "$(dirname "$(readlink -f "$(command -v rt)")")")}
-own=$home/on/$(uname -m)
-export home own
+# Sourced: what rt says to rattle, for checks that rt has no command for. The crates below must have been proved (rt check, rt lib or rt ci): they are taken
+# from their out/rlib.
+kit=${RATTLE_KIT:-$(dirname "$(dirname "$(readlink -f "$(command -v rt)")")")}
+export kit
 
-# Runs rattle on a crate with rt's words for it; the words given come last. From the repository's root.
-rattle_on() { # VERB NAME ROOTFILE [WORDS..]
-    local verb=$1 words=(--crate-name "$2" "$3" --extern "std=$own/rlib/std.rlib") d from
-    for d in $(sed -n "s/#.*//; s/^$2: *//p" crates.txt); do
-        from=$own
-        [ ! -d "crates/$d" ] || from=$PWD/target
-        words+=(--extern "$d=$from/rlib/$d.rlib")
+# The crates that a line of crates.txt lists.
+listed_of() { # NAME
+    sed -n "s/#.*//; s/^$1\( [^:]*\)\?: *//p" crates.txt
+}
+
+# Checks a crate with rt's words for it, whose files stand in the folder SOURCE; the words given come last. From the repository's root.
+rattle_check() { # NAME SOURCE [WORDS..]
+    local root=lib words d
+    [ -f "$2/src/lib.rt" ] || root=main
+    words=(--crate-name "$1" "src/$root.rt" --extern "std=$kit/rlibs/std.rlib" -L "dependency=$kit/rlibs")
+    ! grep -q "^$1 [^:]*staticlib" crates.txt || words+=(--crate-type staticlib)
+    for d in $(listed_of "$1"); do
+        if [ -d "crates/$d" ]; then
+            words+=(--extern "$d=$PWD/crates/$d/out/rlib/$d.rlib" -L "dependency=$PWD/crates/$d/out/rlib")
+        else
+            words+=(--extern "$d=$kit/rlibs/$d.rlib")
+        fi
     done
-    words+=(-L "dependency=$PWD/target/rlib" -L "dependency=$own/rlib" --antt-project "$home/logic/antt-project.json")
-    shift 3
-    "$own/bin/rattle" "$verb" "${words[@]}" "$@"
+    words+=(--antt-project "$kit/rattle/logic/antt-project.json" --logic-built "$kit/logic_built")
+    (cd "$2" && shift 2 && "$kit/bin/rattle" check "${words[@]}" "$@")
 }
 
 # The name of the folder in which this build of rattle keeps the modules that it has checked.
 modules_folder() { # ROOM
     mkdir -p "$1/probe/src"
     echo 'pub fn seven() -> usize { 7 }' >"$1/probe/src/lib.rt"
-    rattle_on check probe "$1/probe/src/lib.rt" --logic-built "$own/logic-built" --incremental "$1/probe/checked" >/dev/null 2>&1
+    rattle_check probe "$1/probe" --incremental "$1/probe/checked" >/dev/null 2>&1
     basename "$1"/probe/checked/antt-checked*
 }

@@ -1,5 +1,5 @@
 """apply.py COPY EDIT: the edit's replacements on a copy of its crate. Each 'old:' text must stand once in its file.
-apply.py: whether every edit of the repository fits its crate."""
+apply.py: whether every edit of the repository fits its crate, and each that the file `gate` lists names its fact."""
 import glob
 import os
 import sys
@@ -44,6 +44,12 @@ def all_fit():
                 replaced(os.path.join(ROOT, "crates", edit.split("/")[place]), os.path.join(ROOT, edit))
             except (ValueError, OSError) as error:
                 print(f"{edit}: {error}")
+                bad += 1
+    with open(os.path.join(ROOT, "tests/wrong/gate"), encoding="utf-8") as listed:
+        for name in listed.read().split():
+            path = os.path.join(ROOT, "tests/wrong", name + ".edit")
+            if not os.path.exists(path) or "\nfact: " not in open(path, encoding="utf-8").read():
+                print(f"tests/wrong/gate: {name} is no edit with a fact")
                 bad += 1
     print(f"wrong versions: {edits - bad} edits fit, {bad} do not")
     return bool(bad)

@@ -2,7 +2,7 @@
 function and names a fact of that function's own proof, and the functions differ. A proof rests on its function's body and on contracts, and on no other body:
 so the refusal of each is its own. An edit of a contract, a constant or a definition, or one with no fact, is checked alone; its line begins with `alone`, that
 of a batch with `bodies`.
-batches.py --others LOG COPY EDIT..: of a batch of bodies, the facts that were refused and are of none of its functions; there must be none."""
+batches.py --others LOG EDIT..: of a batch of bodies, the facts that were refused and are of none of its functions; there must be none."""
 import os
 import re
 import sys
@@ -54,20 +54,20 @@ def alone(edit):
     if len(bodies) != 1 or None in bodies:
         return None
     body = bodies.pop()
-    named = re.match(r"proofs/(.*)/Proof |(\S+) ", fact)
+    named = re.match(r"proofs/(.*)/(?:Answers|Invariants|Proof) |(\S+) ", fact)
     return body if named and re.split("/|::", named[1] or named[2])[-1] == body[1] else None
 
 
-def others(log, copy, edits):
+def others(log, edits):
     """The facts that were refused in a check of bodies and belong to other functions."""
     functions = {alone(edit)[1] for edit in edits}
-    met = facts.errors(edits[0], log, copy)
-    return [name for name in met if not re.search(rf"(?:/|::)({'|'.join(functions)})(?:/Proof\b|:\d|\s)", name)]
+    met = facts.errors(edits[0], facts.lines_of(log))
+    return [name for name in met if not re.search(rf"(?:/|::)({'|'.join(functions)})(?:/(?:Answers|Invariants|Proof)\b|:\d|\s)", name)]
 
 
 def main():
     if sys.argv[1:2] == ["--others"]:
-        found = others(sys.argv[2], sys.argv[3], sys.argv[4:])
+        found = others(sys.argv[2], sys.argv[3:])
         print("\n".join(found))
         return bool(found)
     batches = []        # of functions and edits

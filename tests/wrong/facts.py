@@ -1,15 +1,15 @@
-"""facts.py EDIT LOG [COPY]: where the prover refused an edit, in the copy of its crate. An edit may name the fact that it breaks, `fact: FILE NAME` or `fact: FILE NAME.FIELD`,
-or `fact: FUNCTION NEED` if the function has no proof of its own; then an error of the log must be that fact's own, not one that says that something
+"""facts.py EDIT LOG: where the prover refused an edit, by the log of the check. An edit may name the fact that it breaks, `fact: FILE NAME` or `fact: FILE NAME.FIELD`,
+or `fact: FUNCTION GOAL` if the function has no answers of its own; then an error of the log must be that fact's own, not one that says that something
 else was not admitted.
-facts.py: the same of every edit that rt ci has just tried, by its logs; each of them must name its fact."""
+facts.py --ci LOG: the same of every edit of crates/*/must-fail, by what rt ci said: the first error of each; each of them must name its fact."""
 import glob
 import os
 import re
 import sys
 
-ERROR = r"^\S*[/.]{}/((?:src|specs|proofs)/\S*?)(\.antt|\.rt):(\d+):(\d+): error: (?:`([^`]*)`)?(.*)"    # of the copy for an edit
+ERROR = re.compile(r"^(?:\./)?((?:src|specs|proofs)/\S*?)(\.antt|\.rt):(\d+):(\d+): error: (?:`([^`]*)`)?(.*)")
 FIELD = re.compile(r"(\S+) = $")
-UNPROVED = re.compile(r"^fn (\S+): no proof: .* does not close (.*)")
+UNPROVED = re.compile(r"^fn (\S+): no proof: .*did not prove (.*)")
 
 
 def parts(edit):
@@ -32,38 +32,43 @@ def before(path, line, column):
     return lines[line - 1][:column - 1] if line <= len(lines) else ""
 
 
-def errors(edit, log, copy=None):
-    """The names of the declarations with an error of their own, in order, each also with the field that the error stands at."""
-    crate, label = parts(edit)
-    error, names = re.compile(ERROR.format(re.escape(copy or label))), []
-    with open(log, encoding="utf-8", errors="replace") as file:
-        text = list(file)
-    for name, ending, line, column, declaration, rest in (match.groups() for match in map(error.match, text) if match):
+def errors(edit, text):
+    """The names of the declarations with an error of their own in the lines of a log, in order, each also with the field that the error stands at."""
+    crate, names = parts(edit)[0], []
+    for name, ending, line, column, declaration, rest in (match.groups() for match in map(ERROR.match, text) if match):
         if "was not admitted" in rest:
             continue
         names.append(f"{name} {declaration}" if declaration else f"{name}:{line}:{column}")
         field = FIELD.search(before(f"crates/{crate}/{name}{ending}", int(line), int(column)))
         if declaration and field:
             names.append(f"{name} {declaration}.{field[1]}")
-    for function, needs in (match.groups() for match in map(UNPROVED.match, text) if match):
-        names += [f"{function} {need}" for need in re.findall("`([^`]*)`", needs)]
+    for function, goals in (match.groups() for match in map(UNPROVED.match, text) if match):
+        names += [f"{function} {goal}" for goal in re.findall("`([^`]*)`", goals)]
     return names
 
 
-def judge(edit, log, copy=None):
+def lines_of(log):
+    with open(log, encoding="utf-8", errors="replace") as file:
+        return list(file)
+
+
+def judge(edit, text):
     """Whether an edit was refused at its fact, and what to say of it."""
-    fact, met = fact_of(edit), errors(edit, log, copy)
+    fact, met = fact_of(edit), errors(edit, text)
     first = met[0] if met else "no place"
     if fact and fact not in met:
         return False, f"refused, but not at {fact}; first at {first}"
     return True, fact or f"first at {first}"
 
 
-def all_tried():
-    edits, bad = sorted(glob.glob("crates/*/must-fail/*.edit")), []
+def by_ci(log):
+    edits, bad, said = sorted(glob.glob("crates/*/must-fail/*.edit")), [], {}
+    for line in lines_of(log):
+        found = re.match(r"(?:rt: )?must-fail (\S+)/(\S+)\.edit: refused, as it must be(?: \([^)]*\))?: (.*)", line)
+        if found:
+            said[found[1], found[2]] = [found[3]]
     for edit in edits:
-        log = "target/must-fail/{}/{}/.log".format(*parts(edit))
-        good, text = judge(edit, log) if os.path.exists(log) else (False, "not tried")
+        good, text = judge(edit, said[parts(edit)]) if parts(edit) in said else (False, "not refused")
         if not fact_of(edit):
             good, text = False, f"without a fact; {text}"
         if not good:
@@ -73,8 +78,8 @@ def all_tried():
 
 
 if __name__ == "__main__":
-    if len(sys.argv) == 1:
-        sys.exit(all_tried())
-    good, text = judge(*sys.argv[1:])
+    if sys.argv[1:2] == ["--ci"]:
+        sys.exit(by_ci(sys.argv[2]))
+    good, text = judge(sys.argv[1], lines_of(sys.argv[2]))
     print(text)
     sys.exit(not good)

@@ -39,36 +39,36 @@ read_some-read-requires _ c = (
 pub shape_of-store-then-not-read : goal.shape_of-store-then-not-read
 shape_of-store-then-not-read _ c = omega (
   arith,
-  c.read_Some.auto,
+  c.read_some-read.auto,
   c.loop-turns.invariant.0,
 )
 
 pub shape_of-lists-then-not-read : goal.shape_of-lists-then-not-read
 shape_of-lists-then-not-read _ c = omega (
   arith,
-  c.read_Some.auto,
+  c.read_some-read.auto,
   c.loop-turns.invariant.1,
 )
 
 pub shape_of-line-then-not-read : goal.shape_of-line-then-not-read
 shape_of-line-then-not-read _ c = omega (
   arith,
-  c.read_Some.auto,
+  c.read_some-read.auto,
   c.loop-turns.invariant.2,
 )
 
 pub shape_of-out-then-not-read : goal.shape_of-out-then-not-read
 shape_of-out-then-not-read _ c = omega (
   arith,
-  c.read_Some.auto,
+  c.read_some-read.auto,
   c.loop-turns.invariant.3,
 )
 
 pub returns-then-not-read : goal.returns-then-not-read
-returns-then-not-read _ c = let t = c.loop-turns.invariant.6 in (
-  c.read_Some.ensures.0,
-  took_more t (c.read_Some.ensures.1 t.all.next t.all.held),
-)
+returns-then-not-read _ c = let t = c.loop-turns.invariant.6 in record {
+  ordered = c.read_some-read.ensures.ordered;
+  took = took_more t (c.read_some-read.ensures.took t.all.next t.all.held);
+}
 
 pub loop-turns-smaller : goal.loop-turns-smaller
 loop-turns-smaller _ c = omega (arith, c.loop-turns-test.true)
@@ -78,27 +78,27 @@ loop-turns-preserved _ c =
     let t = c.loop-turns.invariant.6 in (
       omega (
         arith,
-        c.read_Some.auto,
+        c.read_some-read.auto,
         c.loop-turns.invariant.0,
       ),
       omega (
         arith,
-        c.read_Some.auto,
+        c.read_some-read.auto,
         c.loop-turns.invariant.1,
       ),
       omega (
         arith,
-        c.read_Some.auto,
+        c.read_some-read.auto,
         c.loop-turns.invariant.2,
       ),
       omega (
         arith,
-        c.read_Some.auto,
+        c.read_some-read.auto,
         c.loop-turns.invariant.3,
       ),
-      c.read_Some.ensures.0.0,
-      c.read_Some.ensures.0.1,
-      took_more t (c.read_Some.ensures.1 t.all.next t.all.held),
+      c.read_some-read.ensures.ordered.0,
+      c.read_some-read.ensures.ordered.1,
+      took_more t (c.read_some-read.ensures.took t.all.next t.all.held),
     )
 
 pub shape_of-store : goal.shape_of-store
@@ -114,4 +114,7 @@ pub shape_of-out : goal.shape_of-out
 shape_of-out _ c = c.loop-turns.invariant.3
 
 pub returns : goal.returns
-returns _ c = ((c.loop-turns.invariant.4, c.loop-turns.invariant.5), c.loop-turns.invariant.6)
+returns _ c = record {
+  ordered = (c.loop-turns.invariant.4, c.loop-turns.invariant.5);
+  took = c.loop-turns.invariant.6;
+}

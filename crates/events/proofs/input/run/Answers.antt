@@ -13,7 +13,7 @@ read_lines-last-requires _ c = (
 
 pub end-requires : goal.end-requires
 end-requires _ c = (
-  c.read_lines-last.ensures.0.0,
+  c.read_lines-last.ensures.ordered.0,
   omega (
     arith,
     c.requires.1,
@@ -24,7 +24,7 @@ end-requires _ c = (
     c.requires.2,
     c.read_lines-last.auto,
   ),
-  c.read_lines-last.ensures.0.1,
+  c.read_lines-last.ensures.ordered.1,
 )
 
 pub shape_of-store : goal.shape_of-store
@@ -61,5 +61,5 @@ shape_of-out _ c = omega (
 
 pub returns : goal.returns
 returns _ c = let t =
-    c.read_lines-last.ensures.1 in
+    c.read_lines-last.ensures.took in
     ran t (c.end.ensures t.all.next t.all.held)

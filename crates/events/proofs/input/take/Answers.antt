@@ -20,17 +20,17 @@ answer-requires _ c = (
 )
 
 pub returns-then-b-eq10 : goal.returns-then-b-eq10
-returns-then-b-eq10 _ c = (
-  (c.answer.ensures.order, omega arith),
-  λ p g. took_feed g
-      c.if-b-eq10.true refl refl c.answer.ensures,
-)
+returns-then-b-eq10 _ c = record {
+  ordered = (c.answer.ensures.order, omega arith);
+  took = λ p g. took_feed g
+      c.if-b-eq10.true refl refl c.answer.ensures;
+}
 
 pub returns-then-len-eq-LINE : goal.returns-then-len-eq-LINE
-returns-then-len-eq-LINE _ c = (
-  (c.requires.0, c.requires.3),
-  λ p g. took_over g c.if-b-eq10.false c.if-len-eq-LINE.true refl refl,
-)
+returns-then-len-eq-LINE _ c = record {
+  ordered = (c.requires.0, c.requires.3);
+  took = λ p g. took_over g c.if-b-eq10.false c.if-len-eq-LINE.true refl refl;
+}
 
 pub bounds-line-len : goal.bounds-line-len
 bounds-line-len _ c = omega (arith, c.requires.1, c.requires.3, c.if-len-eq-LINE.false)
@@ -39,8 +39,8 @@ pub overflow_add-result : goal.overflow_add-result
 overflow_add-result _ c = omega (arith, c.requires.3)
 
 pub returns : goal.returns
-returns _ c = (
-  (c.requires.0, omega (arith, c.if-len-eq-LINE.false, c.requires.3)),
-  λ p g. took_byte g
-      c.if-b-eq10.false (omega (arith, c.if-len-eq-LINE.false, c.requires.3)) c.requires.1 refl refl,
-)
+returns _ c = record {
+  ordered = (c.requires.0, omega (arith, c.if-len-eq-LINE.false, c.requires.3));
+  took = λ p g. took_byte g
+      c.if-b-eq10.false (omega (arith, c.if-len-eq-LINE.false, c.requires.3)) c.requires.1 refl refl;
+}

@@ -45,11 +45,11 @@ loop-i-preserved _ c = (
     c.take-now.auto,
     c.loop-i.invariant.3,
   ),
-  c.take-now.ensures.0.0,
-  c.take-now.ensures.0.1,
+  c.take-now.ensures.ordered.0,
+  c.take-now.ensures.ordered.1,
   omega arith,
   λ p g. let t = c.loop-i.invariant.7 p g in
-      took_one t (c.take-now.ensures.1 t.next t.held) (take_next
+      took_one t (c.take-now.ensures.took t.next t.held) (take_next
       c.args.bytes.now
       c.loop-i.i (omega arith)),
 )
@@ -67,4 +67,7 @@ pub shape_of-out : goal.shape_of-out
 shape_of-out _ c = c.loop-i.invariant.3
 
 pub returns : goal.returns
-returns _ c = ((c.loop-i.invariant.4, c.loop-i.invariant.5), λ p g. took_whole c.loop-i.i (omega arith) (c.loop-i.invariant.7 p g))
+returns _ c = record {
+  ordered = (c.loop-i.invariant.4, c.loop-i.invariant.5);
+  took = λ p g. took_whole c.loop-i.i (omega arith) (c.loop-i.invariant.7 p g);
+}
