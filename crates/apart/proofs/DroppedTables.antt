@@ -1,26 +1,24 @@
 -- The rows of a table without the owners whose time is over.
-use Prim.Native.Nat.{ℕ, suc, ◌+◌, ◌≤◌}
-use mathlib.Core.Path.{◌≡◌, refl, sym, ap, subst, ◌∙◌}
+use Prim.Native.Nat.{ℕ, ◌≤◌}
+use mathlib.Core.Path.{◌≡◌, refl, sym, ap, ◌∙◌}
 use mathlib.Core.Logic.{inl, inr}
 use mathlib.Core.Bool.{Bool, true, false, ◌&&◌}
 use mathlib.Core.List.{List, [], ◌∷◌, ◌++◌, map}
 use mathlib.Core.Option.{Option, none, some}
 use native.Mathlib.Omega.{arith}
 use lib.Dec.{leb, eqb}
-use lib.ListN.{length}
 use borrow.Author.Tests.{eqb-true, eqb-false, eq-eqb, ne_eqb}
 use Rattle.std.specs.Prelude.{if◌then◌else◌}
 use Rattle.regions.specs.declared.Row.{Row}
 use Rattle.regions.specs.Regions.{each}
 use Rattle.regions.specs.Rows.{quad_of}
 use Rattle.regions.proofs.Regions.{each_append}
-use Rattle.places.specs.Places.{Place}
 use Rattle.machine.specs.State.{Candidate, Owner, Request, Table, State, on_table, with_candidates, unowned, owner_is}
 use Rattle.machine.specs.Table.{keep, has, count_in}
 use Rattle.machine.specs.Announce.{without}
 use Rattle.machine.specs.Sound.{All, Sound}
 use Rattle.machine.proofs.Tests.{test, never, and_left}
-use Rattle.store.specs.Flat.{Flat, flat_of, own_bit, bits_of, witness_bit, deadline_for, row_of, rows_for, rows_of, places_for, places_of, tally}
+use Rattle.store.specs.Flat.{own_bit, bits_of, witness_bit, deadline_for, row_of, rows_for, rows_of, places_for, places_of, tally}
 use Rattle.store.specs.FlatSound.{owns}
 use Rattle.store.specs.Image.{Writes}
 use Rattle.store.proofs.Bits.{owns-row}

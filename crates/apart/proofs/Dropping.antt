@@ -2,7 +2,7 @@
 use Prim.Native.Nat.{ℕ, suc, ◌+◌, ◌≤◌, ◌<◌}
 use mathlib.Core.Path.{◌≡◌, refl, sym, ap, subst, ◌∙◌}
 use mathlib.Core.Logic.{inl, inr}
-use mathlib.Core.Bool.{Bool, true, false, not, ◌&&◌}
+use mathlib.Core.Bool.{Bool, true, false}
 use mathlib.Core.List.{List, [], ◌∷◌, ◌++◌, map}
 use mathlib.Core.Option.{Option, none, some}
 use native.Mathlib.Omega.{arith}
@@ -15,15 +15,15 @@ use Rattle.std.specs.Prelude.{if◌then◌else◌}
 use Rattle.ident.specs.Number.{top, Key, place, other, txid, wtxid}
 use Rattle.ident.proofs.Places.{place_same as place-inj}
 use Rattle.machine.specs.Limits.{Limits, word}
-use Rattle.machine.specs.State.{Candidate, Owner, Package, Request, Table, Answer, done, with_candidates, unowned, ready_at, owner_is, enqueued_in}
-use Rattle.machine.specs.Table.{at, keep, change, has, count_in, count, by_under}
+use Rattle.machine.specs.State.{Candidate, Owner, Request, Table, with_candidates, unowned, ready_at, owner_is}
+use Rattle.machine.specs.Table.{at, keep, change, has, count_in}
 use Rattle.machine.specs.Announce.{without}
-use Rattle.machine.specs.Fail.{Listed, left, leaves, releasable, failed, dedup, parents_from, announce_parents, parents_for}
+use Rattle.machine.specs.Fail.{Listed, left, failed, dedup, parents_from, announce_parents, parents_for}
 use Rattle.machine.specs.Plan.{Due, due_of, due, expire}
 use Rattle.machine.specs.Sound.{Ordered, All, Filled, OwnerFits, Bounded}
 use Rattle.machine.specs.Typed.{Each}
 use Rattle.machine.proofs.Alone.{Hold, hold_of, no_hold}
-use Rattle.machine.proofs.At.{KeepsKey, at_here, at_there, at_other, other_place}
+use Rattle.machine.proofs.At.{at_here, at_there, at_other, other_place}
 use Rattle.machine.proofs.Expired.{owned_once, failed_here, failed-elsewhere, owner_not as none_owned}
 use Rattle.machine.proofs.Fail.{bounded-failed}
 use Rattle.machine.proofs.Loosened.{left_key, owner_some as some-owned}

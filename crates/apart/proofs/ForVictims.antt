@@ -12,7 +12,7 @@ use borrow.Author.Tests.{lt-leb, le-leb, eqb-true, eqb-false}
 use Rattle.ident.specs.Number.{top, Key, place, txid, wtxid, key_of}
 use Rattle.ident.proofs.Places.{place_same as place-inj}
 use Rattle.machine.specs.Limits.{Limits, max_peer_announcements, word}
-use Rattle.machine.specs.State.{Candidate, Entry, Request, Table, State, Answer, limits_of, on_table, done, with_candidates, marked}
+use Rattle.machine.specs.State.{Candidate, Entry, Table, State, Answer, limits_of, on_table, done, with_candidates, marked}
 use Rattle.machine.specs.Table.{at, has, any, by, under, by_under, count, held, held_by, held_at, is_candidate}
 use Rattle.machine.specs.Announce.{without, push, cut, victims, greatest, anywhere, evicting, announce_at, announce_keyed, request_parent_at}
 use Rattle.machine.specs.Fail.{parent_of, mark}
@@ -30,7 +30,7 @@ use Rattle.announcing.specs.Answers.{one_parent}
 use Rattle.announcing.specs.Evicts.{entry_at}
 use Rattle.announcing.proofs.Deciding.{when-full}
 use Rattle.announcing.proofs.Swapping.{change-swap}
-use Rattle.gathering.specs.Waits.{pushes, waits, barred_beside}
+use Rattle.gathering.specs.Waits.{pushes, waits}
 use Rattle.gathering.specs.Aside.{Aside}
 use Rattle.gathering.specs.Exchanges.{Full, Underway, Instead, Swapped, Exchanged}
 use Rattle.gathering.proofs.Waiting.{barred-beside, held_beside, at_beside, pushes_more}
@@ -38,7 +38,7 @@ use Rattle.gathering.proofs.Exchanging.{cut-pushes, victims-pushes}
 use Rattle.apart.specs.declared.displacing.Reserve.{Reserve}
 use Rattle.apart.specs.Noting.{parent_in, hashes_at, Spent}
 use Rattle.apart.specs.Waiting.{parent_entries, marks, waiting, Beside}
-use Rattle.apart.specs.Displacing.{unlisted, Stock, Supplied, Supplies, FurtherAt, SwapsWith}
+use Rattle.apart.specs.Displacing.{unlisted, Supplied, Supplies, FurtherAt, SwapsWith}
 use Rattle.apart.proofs.Marking.{Else, count-marks, push-marks, sound-marks, marks_more, entry_of, entries-small, entries-else}
 use Rattle.apart.proofs.Alongside.{hashes_then, entries_then}
 use Rattle.apart.proofs.Spent.{victims-marks}

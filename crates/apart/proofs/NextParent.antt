@@ -2,15 +2,14 @@
 use Prim.Native.Nat.{ℕ, ◌+◌, ◌-◌, ◌≤◌, ◌<◌}
 use mathlib.Core.Path.{◌≡◌, sym, ap, subst, ◌∙◌}
 use mathlib.Core.Bool.{Bool, true, false, not}
-use mathlib.Core.List.{List, []}
-use mathlib.Core.Option.{Option, none, some}
+use mathlib.Core.List.{List}
+use mathlib.Core.Option.{none, some}
 use native.Mathlib.Omega.{arith}
 use borrow.Author.Tests.{not-true as off}
 use Rattle.std.specs.Prelude.{if◌then◌else◌}
 use Rattle.ident.specs.Number.{top}
 use Rattle.machine.specs.Limits.{word}
 use Rattle.machine.specs.State.{Table, State, Answer, limits_of, on_table}
-use Rattle.machine.specs.Table.{held}
 use Rattle.machine.specs.Announce.{greatest, victims, anywhere}
 use Rattle.machine.specs.Sound.{Sound}
 use Rattle.machine.proofs.Fail.{Peer}
@@ -27,7 +26,7 @@ use Rattle.apart.specs.declared.displacing.Reserve.{Reserve}
 use Rattle.apart.specs.declared.displacing.Further.{Further}
 use Rattle.apart.specs.Noting.{parent_in, Spent}
 use Rattle.apart.specs.Waiting.{Waits, LetIn, NextIn}
-use Rattle.apart.specs.Displacing.{unlisted, Stock, Lacks, Restocked, ShutOut, Unaided, Supplied, Supplies, FurtherIn, FurtherAlone, SwapsWith, SpentIn}
+use Rattle.apart.specs.Displacing.{unlisted, Lacks, Restocked, ShutOut, Unaided, Supplied, Supplies, FurtherIn, FurtherAlone, SwapsWith, SpentIn}
 use Rattle.apart.proofs.Alongside.{none_sound, none_writes, alone_by}
 use Rattle.apart.proofs.Spent.{spent_next, spent_left}
 use Rattle.apart.proofs.ForVictims.{supplied-spent, supplied-unlisted}

@@ -1,7 +1,7 @@
 -- One owner expires, where the places are set apart: with a place or without, and what is noted of all places.
-use Prim.Native.Nat.{ℕ, zero, suc, ◌+◌, ◌-◌, ◌*◌, ◌≤◌, ◌<◌}
+use Prim.Native.Nat.{ℕ, zero, suc, ◌+◌, ◌-◌, ◌≤◌, ◌<◌}
 use mathlib.Core.Path.{◌≡◌, refl, sym, ap, subst, ◌∙◌}
-use mathlib.Core.Logic.{◌⊎◌, inl, inr}
+use mathlib.Core.Logic.{inl, inr}
 use mathlib.Core.Bool.{Bool, true, false}
 use mathlib.Core.List.{List, [], ◌∷◌, ◌++◌, append_assoc, append-nil}
 use native.Mathlib.Omega.{arith}
@@ -13,11 +13,10 @@ use Rattle.ident.specs.declared.Kind.TheVariants.{Txid, Wtxid}
 use Rattle.ident.specs.Number.{top, Key, place, wtxid}
 use Rattle.places.specs.Places.{Place, list_most, blank}
 use Rattle.machine.specs.Limits.{word, max_places}
-use Rattle.machine.specs.State.{Package, Table, State, Answer, limits_of, on_table, owner_is, enqueued_in, is_some}
+use Rattle.machine.specs.State.{Table, State, Answer, limits_of, on_table, owner_is, enqueued_in}
 use Rattle.machine.specs.Table.{at}
 use Rattle.machine.specs.Announce.{victims, anywhere}
-use Rattle.machine.specs.Fail.{Listed, failed, dedup, parents_from, announce_parents, parents_for}
-use Rattle.machine.specs.Sound.{Sound}
+use Rattle.machine.specs.Fail.{Listed, failed, dedup, parents_from, announce_parents}
 use Rattle.machine.specs.Typed.{Each}
 use Rattle.machine.proofs.Fail.{bounded-failed}
 use Rattle.machine.proofs.Kept.{sound-table}
@@ -41,7 +40,7 @@ use Rattle.apart.specs.declared.noting.Bits.{Bits}
 use Rattle.apart.specs.declared.slots.Spot.{Spot}
 use Rattle.apart.specs.Bare.{bare_state}
 use Rattle.apart.specs.declared.lapsing.Progress.{Progress}
-use Rattle.apart.specs.Apart.{slot_bytes, Slot, with_notes, dying, plain, Room, Altered, Clear, ClearFrom, SpotHeld, SpotNone, SpotIn, Apart, Parted}
+use Rattle.apart.specs.Apart.{Slot, with_notes, dying, plain, Room, Altered, Clear, ClearFrom, SpotHeld, SpotNone, SpotIn, Apart, Parted}
 use Rattle.apart.specs.Noting.{picked, half_most, picked_in, Spent, Exhausted}
 use Rattle.apart.specs.Lapsing.{noted, ClearAt, nowhere, lapsed, LapsedTo, expire_at, PlaceExpired, ExpiredTo}
 use Rattle.apart.proofs.SlotWords.{plain-long}
@@ -49,7 +48,7 @@ use Rattle.apart.proofs.BareTable.{sound-bare}
 use Rattle.apart.proofs.BareChange.{failed-bare}
 use Rattle.apart.proofs.BarePlaces.{no_place, txid-free}
 use Rattle.apart.proofs.BareExpiry.{no-parents, bounded-after, places_unheld}
-use Rattle.apart.proofs.Overdue.{front_lent, front_is, rest_stays, slots_rest, none_packaged, filter_from, lapsed-sound}
+use Rattle.apart.proofs.Overdue.{front_lent, front_is, rest_stays, slots_rest, none_packaged, filter_from}
 use Rattle.apart.proofs.SpentStill.{victims-bare, spent-failed}
 
 -- ---- what the functions ask for

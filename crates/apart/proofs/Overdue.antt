@@ -1,24 +1,23 @@
 -- An owner whose time is over, where the places are set apart: what is read of its place, what failing and announcing make of the whole.
-use Prim.Native.Nat.{ℕ, zero, suc, ◌+◌, ◌-◌, ◌*◌, ◌≤◌, ◌<◌}
+use Prim.Native.Nat.{ℕ, zero, suc, ◌+◌, ◌-◌, ◌≤◌, ◌<◌}
 use mathlib.Core.Path.{◌≡◌, refl, sym, ap, subst, ◌∙◌}
 use mathlib.Core.Logic.{inl, inr}
-use mathlib.Core.Bool.{Bool, true, false, not, ◌||◌}
+use mathlib.Core.Bool.{Bool, true, false, ◌||◌}
 use mathlib.Core.List.{List, [], ◌∷◌, ◌++◌}
 use mathlib.Core.Option.{Option, none, some}
 use native.Mathlib.Omega.{arith}
-use lib.Dec.{ltb, eqb}
-use lib.ListN.{length, take, drop, get_or, set, length-set}
-use lib.Seq.{take_at, drop_at, length-take-le, map-set_same}
-use borrow.Author.Tests.{lt-ltb, ltb-true, eqb-true, eqb-false, eq-eqb, ne_eqb}
-use Rattle.ident.specs.declared.Kind.{Kind}
-use Rattle.ident.specs.declared.Kind.TheVariants.{Txid, Wtxid}
+use lib.Dec.{eqb}
+use lib.ListN.{length, take, drop, get_or, set}
+use lib.Seq.{take_at, drop_at, length-take-le}
+use borrow.Author.Tests.{lt-ltb, eq-eqb, ne_eqb}
+use Rattle.ident.specs.declared.Kind.TheVariants.{Wtxid}
 use Rattle.std.specs.Prelude.{if◌then◌else◌}
 use Rattle.ident.specs.Number.{top, Key, wtxid}
 use Rattle.words.specs.Words.{words}
 use Rattle.regions.specs.Regions.{Holds}
 use Rattle.places.specs.Places.{Place, list_most, place_size, blank, with_stage}
 use Rattle.machine.specs.Limits.{word}
-use Rattle.machine.specs.State.{Package, Request, Table, State, Answer, limits_of, on_table, owner_is, enqueued_in, is_some}
+use Rattle.machine.specs.State.{Package, Table, State, Answer, limits_of, on_table, owner_is, enqueued_in, is_some}
 use Rattle.machine.specs.Table.{at, one}
 use Rattle.machine.specs.Announce.{victims, anywhere}
 use Rattle.machine.specs.Fail.{Listed, failed, dedup, parents_from, announce_parents, parents_for}
@@ -31,7 +30,6 @@ use Rattle.machine.proofs.Tests.{test, never}
 use Rattle.store.specs.Flat.{places_of}
 use Rattle.store.specs.FlatSound.{PlacesAscend}
 use Rattle.store.specs.Image.{Writes}
-use Rattle.store.specs.Shown.{Kept}
 use Rattle.store.proofs.Missing.{each_at}
 use Rattle.package_stages.specs.Changes.{stage_of, has_place}
 use Rattle.package_stages.specs.Dead.{filter, live}
@@ -39,15 +37,15 @@ use Rattle.package_stages.proofs.Seeking.{place_in}
 use Rattle.announcing.specs.Answers.{Answered}
 use Rattle.apart.specs.declared.noting.Bits.{Bits}
 use Rattle.apart.specs.declared.slots.Spot.{Spot}
-use Rattle.apart.specs.Bare.{bare, bare_state, bare_listed, bare_answer, other_than}
+use Rattle.apart.specs.Bare.{bare, bare_state, bare_listed, other_than}
 use Rattle.apart.specs.Apart.{Slot, slot_words, dying, plain, Slots, SlotOf, Altered, SpotHeld, Apart}
 use Rattle.apart.specs.Noting.{hashes_at, picked_in, Noted}
 use Rattle.apart.specs.Lapsing.{nowhere, lapsed, LapsedTo, expire_at, PlaceExpired}
 use Rattle.apart.proofs.BareTable.{sound-bare}
 use Rattle.apart.proofs.BareChange.{failed-bare, enqueued_stays}
 use Rattle.apart.proofs.BareAnnounce.{parents_from-bare}
-use Rattle.apart.proofs.BarePlaces.{PlaceOf, place-whose, no_place, txid-free}
-use Rattle.apart.proofs.BareExpiry.{parents-beside, no-parents, dedup-distinct, bounded-after, places-enqueued, places_unheld, places-without}
+use Rattle.apart.proofs.BarePlaces.{PlaceOf, place-whose}
+use Rattle.apart.proofs.BareExpiry.{parents-beside, dedup-distinct, bounded-after, places-enqueued, places-without}
 use Rattle.apart.proofs.SlotWords.{plain_at, plain-long, plain-set}
 use Rattle.apart.proofs.Notes.{slot_all}
 use Rattle.apart.proofs.SpentStill.{victims-bare}

@@ -1,12 +1,12 @@
 -- The places set apart from a store, and put back: what the words are.
-use Prim.Native.Nat.{ℕ, zero, suc, ◌+◌, ◌-◌, ◌*◌, ◌/◌, ◌≤◌, ◌<◌}
+use Prim.Native.Nat.{ℕ, zero, suc, ◌+◌, ◌-◌, ◌*◌, ◌/◌, ◌≤◌}
 use mathlib.Core.Path.{◌≡◌, refl, sym, ap, subst, ◌∙◌}
 use mathlib.Core.List.{List, [], ◌∷◌, ◌++◌, append_assoc, append-nil}
 use native.Mathlib.Omega.{arith}
 use mathlib.Core.Bool.{true}
 use lib.Dec.{ltb}
 use borrow.Author.Tests.{lt-ltb}
-use lib.ListN.{length, take, drop, set, replicate-append-replicate, length-append, length-take, length-drop, replicate, length-replicate, drop_of_length-le, take-append-drop, length-map}
+use lib.ListN.{length, take, drop, set, replicate-append-replicate, length-append, length-take, length-drop, replicate, length-replicate, take-append-drop, length-map}
 use lib.Seq.{take_at, drop_at, drop-drop, take-take, length-take-le}
 use Rattle.words.specs.Words.{words, splice}
 use Rattle.words.proofs.Parts.{words-lent, words_back, words_take, words-drop}
@@ -18,19 +18,19 @@ use Rattle.regions.proofs.Regions.{length-padded, padded-fit, length_each}
 use Rattle.places.specs.Places.{Place, list_most, place_size, place_words}
 use Rattle.places.proofs.Places.{length-place}
 use Rattle.machine.specs.Limits.{need}
-use Rattle.machine.specs.State.{Table, State}
+use Rattle.machine.specs.State.{State}
 use Rattle.machine.specs.Sound.{Sound}
-use Rattle.store.specs.Flat.{Head, Flat, head_of, flat_of, rows_of, places_of, tally}
+use Rattle.store.specs.Flat.{Head, head_of, flat_of, rows_of, places_of, tally}
 use Rattle.store.specs.FlatSound.{PlacesAscend, StageFits, PlaceFits}
 use Rattle.machine.specs.Typed.{Each}
 use Rattle.store.specs.Image.{head_size, head_words, words_of, Shows, Writes}
 use Rattle.store.specs.Shown.{limit_in, Kept, places_at, held_places_at, Shown, with_places, Turns}
-use Rattle.store.proofs.Frame.{row_part, conn_part, place_part, framed, framed_is, sizes, shown, padded-nil as padded-none, cleared}
+use Rattle.store.proofs.Frame.{row_part, conn_part, place_part, framed_is, sizes, shown, padded-nil as padded-none, cleared}
 use Rattle.store.proofs.HeadWords.{head-length}
 use Rattle.store.proofs.ToFlat.{flat_sound}
 use Rattle.requests.proofs.Keeping.{sized_of, light_of}
 use Rattle.package_stages.specs.Dead.{filter, live}
-use Rattle.apart.specs.Bare.{bare, bare_state}
+use Rattle.apart.specs.Bare.{bare_state}
 use Rattle.apart.specs.Apart.{slot_bytes, bare_bytes, slot_words, at_rest, resting, plain, Apart}
 use Rattle.apart.proofs.BareTable.{rows-bare, places-bare}
 use Rattle.apart.proofs.SlotWords.{rest_each, plain_rest}

@@ -1,10 +1,10 @@
 -- Where no candidate can be evicted: a parent that is announced leaves it so, and with L held it comes in only if its connection has announced it.
 use Prim.Native.Nat.{ℕ, suc, ◌≤◌, ◌<◌}
-use mathlib.Core.Path.{◌≡◌, refl, sym, ap, subst, ◌∙◌}
+use mathlib.Core.Path.{◌≡◌, refl, ap, ◌∙◌}
 use mathlib.Core.Logic.{inl, inr}
 use mathlib.Core.Bool.{Bool, true, false, ◌||◌}
 use mathlib.Core.List.{List, [], ◌∷◌, ◌++◌}
-use mathlib.Core.Option.{Option, none, some}
+use mathlib.Core.Option.{Option}
 use native.Mathlib.Omega.{arith}
 use lib.Dec.{ltb, leb, eqb}
 use lib.ListN.{length}
@@ -12,9 +12,9 @@ use borrow.Author.Tests.{le-leb}
 use Rattle.std.specs.Prelude.{if◌then◌else◌}
 use Rattle.ident.specs.Number.{top, Key, place, txid, wtxid, other}
 use Rattle.machine.specs.Limits.{Limits, max_peer_announcements}
-use Rattle.machine.specs.State.{Candidate, Entry, Owner, Request, Table, Answer, refused, done, blank, with_candidates, marked, adopting, owner_is}
+use Rattle.machine.specs.State.{Candidate, Entry, Owner, Request, Table, Answer, refused, with_candidates, marked, owner_is}
 use Rattle.machine.specs.Table.{at, has, keep, change, held, held_by, held_at, is_candidate}
-use Rattle.machine.specs.Announce.{push, victims_in, victims, greatest, anywhere, at_hash, evicting, announce_at, adopt, adopted, request_parent_at}
+use Rattle.machine.specs.Announce.{victims_in, victims, greatest, anywhere, at_hash, evicting, announce_at, adopt, adopted, request_parent_at}
 use Rattle.machine.specs.Fail.{parent_of, mark}
 use Rattle.machine.specs.Sound.{Ordered}
 use Rattle.machine.proofs.Tests.{test, by_test, or_left, or_right}

@@ -1,5 +1,5 @@
 -- Where no candidate can be evicted, none can be once an owner has failed, nor where the packages are set apart.
-use Prim.Native.Nat.{ℕ, ◌+◌, ◌≤◌, ◌<◌}
+use Prim.Native.Nat.{ℕ, ◌≤◌, ◌<◌}
 use mathlib.Core.Path.{◌≡◌, refl, sym, ap, subst, ◌∙◌}
 use mathlib.Core.Logic.{inl, inr}
 use mathlib.Core.Bool.{Bool, true, false, ◌&&◌, ◌||◌}
@@ -8,10 +8,10 @@ use mathlib.Core.Option.{Option, none, some}
 use native.Mathlib.Omega.{arith}
 use lib.Dec.{eqb}
 use borrow.Author.Tests.{eqb-true, eqb-false, eq-eqb, ne_eqb}
-use Rattle.ident.specs.Number.{top, Key, place, other}
+use Rattle.ident.specs.Number.{top, Key, other}
 use Rattle.machine.specs.Limits.{Limits}
 use Rattle.machine.specs.State.{Candidate, Entry, Owner, Request, Table, Answer, blank, with_candidates, unowned, ready_at, owner_is}
-use Rattle.machine.specs.Table.{at, change, one, by_under, count_in, count, total}
+use Rattle.machine.specs.Table.{at, change, one, by_under, count_in}
 use Rattle.machine.specs.Announce.{without, victims_in, victims, anywhere}
 use Rattle.machine.specs.Fail.{releasable, left, leaves, failed}
 use Rattle.machine.specs.Sound.{All, Bounded}

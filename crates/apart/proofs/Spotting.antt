@@ -1,14 +1,13 @@
 -- The place of a hash among those that are set apart.
-use Prim.Native.Nat.{ℕ, zero, suc, ◌+◌, ◌-◌, ◌*◌, ◌≤◌, ◌<◌}
-use mathlib.Core.Path.{◌≡◌, refl, sym, ap, subst, ◌∙◌}
+use Prim.Native.Nat.{ℕ, zero, suc, ◌+◌, ◌-◌, ◌≤◌, ◌<◌}
+use mathlib.Core.Path.{◌≡◌, refl, sym, ap, ◌∙◌}
 use mathlib.Core.Logic.{inl, inr}
-use mathlib.Core.Bool.{Bool, true, false, not}
 use mathlib.Core.List.{List, [], ◌∷◌}
 use native.Mathlib.Nat.{le_refl}
 use native.Mathlib.Omega.{arith}
 use lib.Dec.{ltb}
-use lib.ListN.{length, take, drop, get_or, length-map, length-drop}
-use borrow.Author.Tests.{ltb-true, ltb-false, not-true, not-false}
+use lib.ListN.{length, take, drop, get_or, length-map}
+use borrow.Author.Tests.{ltb-true, ltb-false}
 use Rattle.ident.specs.declared.Kind.TheVariants.{Txid}
 use Rattle.ident.specs.Number.{Key, wtxid}
 use Rattle.words.specs.Words.{words, recs}
@@ -18,13 +17,11 @@ use Rattle.regions.specs.Rows.{quad_number, quad_of}
 use Rattle.regions.proofs.Order.{number_quad}
 use Rattle.places.specs.declared.Head.{Head}
 use Rattle.places.specs.Places.{Place, place_size, place_key, head_of, HeadAt}
-use Rattle.machine.proofs.Tests.{test, never}
+use Rattle.machine.proofs.Tests.{test}
 use Rattle.store.specs.FlatSound.{PlacesAscend}
 use Rattle.store.proofs.Window.{places-sorted}
 use Rattle.package_stages.specs.Records.{place_hashes}
-use Rattle.package_stages.specs.Dead.{live}
 use Rattle.package_stages.proofs.Seeking.{head-hash, head-stage, head-parents, hash_at_lem}
-use Rattle.apart.specs.declared.slots.Spot.{Spot}
 use Rattle.apart.specs.Apart.{Slot, at_rest, plain, Slots, HeadIn, SoughtIn, SpotIn}
 use Rattle.apart.proofs.SlotWords.{slot_sought, plain_at, plain-long}
 use Rattle.apart.proofs.Slotted.{rest_lent, first_head}

@@ -1,5 +1,5 @@
 -- An owner whose time is over, where the places are set apart.
-use Rattle.std.specs.Prelude.{ℕ, suc, ◌≤◌, ◌<◌, ◌≡◌, Bool, true, false, List, [], ◌∷◌, ◌++◌, eqb, length, take, get_or, set, if◌then◌else◌}
+use Rattle.std.specs.Prelude.{ℕ, suc, ◌≤◌, ◌<◌, ◌≡◌, true, List, [], ◌∷◌, ◌++◌, eqb, length, take, get_or, set, if◌then◌else◌}
 use Rattle.ident.specs.Number.{Key, place, wtxid}
 use Rattle.places.specs.Places.{blank}
 use Rattle.machine.specs.Limits.{Limits}

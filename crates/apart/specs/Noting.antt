@@ -1,5 +1,5 @@
 -- Parents of a place announced one by one, and which of them were kept noted as the bits of a number, the first the least.
-use Rattle.std.specs.Prelude.{ℕ, zero, suc, ◌+◌, ◌-◌, ◌*◌, ◌/◌, ◌%◌, ◌≤◌, ◌≡◌, Bool, true, List, [], ◌∷◌, ◌++◌, eqb, length, take, drop, get_or, if◌then◌else◌}
+use Rattle.std.specs.Prelude.{ℕ, zero, suc, ◌+◌, ◌*◌, ◌/◌, ◌%◌, ◌≤◌, ◌≡◌, Bool, true, List, [], ◌∷◌, ◌++◌, eqb, length, take, drop, if◌then◌else◌}
 use Rattle.ident.specs.Number.{Key, txid}
 use Rattle.regions.specs.Rows.{quad_number, read_quad}
 use Rattle.places.specs.Places.{list_most, place_size, parents_at}

@@ -2,23 +2,22 @@
 use Prim.Native.Nat.{ℕ, zero, suc, ◌+◌, ◌-◌, ◌≤◌, ◌<◌}
 use mathlib.Core.Path.{◌≡◌, refl, sym, ap, subst, ◌∙◌}
 use mathlib.Core.Logic.{inl, inr}
-use mathlib.Core.Bool.{Bool, true, false}
+use mathlib.Core.Bool.{true, false}
 use mathlib.Core.List.{List, [], ◌∷◌, ◌++◌}
 use native.Mathlib.Omega.{arith}
 use native.Mathlib.Numerals.{add-one}
 use lib.ListN.{length, take, drop, get_or, length-map}
 use Rattle.ident.specs.declared.Kind.{Kind}
 use Rattle.ident.specs.declared.Kind.TheVariants.{Txid, Wtxid}
-use Rattle.ident.specs.Number.{top, base, Key, place, wtxid}
+use Rattle.ident.specs.Number.{top, base, Key, place}
 use Rattle.places.specs.Places.{Place}
 use Rattle.machine.specs.Limits.{word}
 use Rattle.machine.specs.State.{Request, Table, State, limits_of, on_table, owner_is}
 use Rattle.machine.specs.Table.{at}
 use Rattle.machine.specs.Plan.{Due, expired}
-use Rattle.machine.specs.Sound.{Ordered, All, Lawful, Sound}
+use Rattle.machine.specs.Sound.{Ordered, All, Lawful}
 use Rattle.machine.proofs.At.{at_here, at_there}
 use Rattle.machine.proofs.Tests.{never}
-use Rattle.store.specs.Shown.{Kept}
 use Rattle.requests.specs.Changes.{Tells}
 use Rattle.package_stages.specs.Records.{place_hashes}
 use Rattle.apart.specs.Bare.{bare, bare_state}
@@ -31,7 +30,7 @@ use Rattle.apart.proofs.BareTable.{sound-bare}
 use Rattle.apart.proofs.OneOwner.{noted_none}
 use Rattle.apart.proofs.SpentStill.{victims-bare}
 use Rattle.failing.proofs.Leaving.{told}
-use Rattle.planning.specs.Expiring.{expire_one, due_from, DueNext, NextDue, ExpiredAll, ExpiresAll}
+use Rattle.planning.specs.Expiring.{expire_one, due_from, DueNext, NextDue, ExpiresAll}
 use Rattle.apart.proofs.Overdue.{front_lent}
 use Rattle.planning.specs.declared.expiring.Turn.{Turn}
 use Rattle.planning.proofs.BareDue.{due_from_bare}

@@ -2,25 +2,21 @@
 use Prim.Native.Nat.{ℕ, zero, suc, ◌+◌, ◌-◌, ◌*◌, ◌/◌, ◌%◌, ◌≤◌, ◌<◌}
 use mathlib.Core.Path.{◌≡◌, refl, sym, ap, subst, ◌∙◌}
 use mathlib.Core.Logic.{inl, inr}
-use mathlib.Core.Bool.{Bool, true, false, ◌&&◌}
-use mathlib.Core.List.{List, [], ◌∷◌, ◌++◌, append_assoc, append-nil}
+use mathlib.Core.Bool.{true, ◌&&◌}
+use mathlib.Core.List.{List, [], ◌∷◌, ◌++◌, append_assoc}
 use native.Mathlib.Omega.{arith}
-use native.Mathlib.Numerals.{add-one}
 use lib.Dec.{eqb}
 use lib.ListN.{length, take, drop, get_or, get_or-map}
-use lib.Seq.{drop-cons, drop-drop, get_or-drop, take_all, drop-length}
 use borrow.Author.Tests.{eq-eqb, ne_eqb, eqb-true}
 use Rattle.machine.proofs.Tests.{test, never}
 use Rattle.ident.specs.Number.{Key, txid}
 use Rattle.words.specs.Words.{words}
 use Rattle.places.specs.Places.{Place, list_most}
 use Rattle.machine.specs.State.{State}
-use Rattle.machine.specs.Plan as machine
-use Rattle.machine.specs.Typed.{Each}
 use Rattle.store.specs.Shown.{Kept}
 use Rattle.store.proofs.Missing.{each_at}
 use Rattle.apart.specs.declared.slots.Note.{Note}
-use Rattle.apart.specs.Apart.{Slot, plain, Slots, Loaded, NoteIn, ClearFrom}
+use Rattle.apart.specs.Apart.{Slot, plain, Loaded, NoteIn, ClearFrom}
 use Rattle.apart.specs.Noting.{parent_in, hashes_at, picked, picked_in, ParentsIn}
 use Rattle.apart.specs.Lapsing.{noted_of, noted, nowhere}
 use Rattle.apart.proofs.SlotWords.{plain-long}
@@ -28,9 +24,9 @@ use Rattle.apart.proofs.Notes.{hashes_next, hashes_none, slot_all}
 use Rattle.apart.proofs.Overdue.{front_lent, front_is, rest_stays, slots_rest}
 use Rattle.apart.proofs.OneOwner.{picked-clear, noted_none}
 use Rattle.selecting.specs.declared.Scan.{Scan}
-use Rattle.selecting.specs.Phasing.{Phasing, Roomy, Scans, Phased}
-use Rattle.planning.specs.Keeping.{Ahead, Short, PlaceScans, KeptScans, KeptPhased}
-use Rattle.selecting.proofs.Walked.{phasing_as, scans_start, scans_as, scans_for, scans_both, scans_full, Opened, phased}
+use Rattle.selecting.specs.Phasing.{Roomy, Scans}
+use Rattle.planning.specs.Keeping.{PlaceScans, KeptScans, KeptPhased}
+use Rattle.selecting.proofs.Walked.{phasing_as, scans_start, scans_as, scans_for, scans_full, Opened, phased}
 
 -- ---- bits
 

@@ -1,18 +1,16 @@
 -- A whole plan: the places set apart, expiry, two phases, the places put back.
-use Prim.Native.Nat.{ℕ, min, ◌+◌, ◌-◌, ◌*◌, ◌≤◌, ◌<◌}
+use Prim.Native.Nat.{ℕ, ◌-◌, ◌≤◌, ◌<◌}
 use mathlib.Core.Path.{◌≡◌, refl, sym, ap, subst, ◌∙◌}
-use mathlib.Core.List.{List, ◌++◌, map}
+use mathlib.Core.List.{List, ◌++◌}
 use mathlib.Core.Option.{Option, none, some}
 use native.Mathlib.Omega.{arith}
 use lib.ListN.{length, take, drop, length-map}
 use Rattle.ident.specs.Number.{Key}
-use Rattle.places.specs.Places.{Place, list_most}
-use Rattle.machine.specs.Limits.{word, max_places, max_request_checks}
+use Rattle.machine.specs.Limits.{word, max_places}
 use Rattle.machine.specs.State.{Table, State, on_table, with_ready_cursor}
-use Rattle.machine.specs.Table.{keys}
 use Rattle.machine.specs.Plan as machine
 use Rattle.machine.specs.Later.{next_look, time_of}
-use Rattle.machine.specs.Sound.{CursorFits, Sound}
+use Rattle.machine.specs.Sound.{Sound}
 use Rattle.machine.specs.Step.{entries_answer, written}
 use Rattle.machine.specs.Sweep.{round}
 use Rattle.machine.proofs.Plan.{bounded-expired, expired-keys, plan-cursor}
@@ -23,20 +21,19 @@ use Rattle.store.specs.Shown.{limit_in, held_places_in, Kept}
 use Rattle.store.proofs.Frame.{sizes}
 use Rattle.requests.specs.Changes.{Tells}
 use Rattle.apart.specs.Bare.{bare, bare_state}
-use Rattle.apart.specs.Apart.{at_rest, resting, plain, Room, Slots, Forgotten, Apart, Parted, Rested, SetApart, PutBack}
+use Rattle.apart.specs.Apart.{at_rest, resting, plain, Room, Forgotten, Apart, Parted, Rested, SetApart, PutBack}
 use Rattle.apart.specs.Lapsing.{noted}
 use Rattle.apart.proofs.SlotWords.{plain-long}
 use Rattle.apart.proofs.Forgetting.{forgotten_apart, forgotten_behind}
 use Rattle.apart.proofs.BareTable.{sound-bare, keys-bare}
 use Rattle.apart.proofs.BareChoice.{phase-bare}
 use Rattle.apart.proofs.Overdue.{front_lent, front_is, rest_stays, slots_rest}
-use Rattle.apart.proofs.OneOwner.{front_within}
 use Rattle.selecting.specs.declared.Scan.{Scan}
 use Rattle.planning.specs.declared.replying.Reply.{Reply}
 use Rattle.selecting.specs.Selecting.{Scanning}
 use Rattle.planning.specs.Expiring.{ExpiresAll}
 use Rattle.planning.specs.Keeping.{KeptPhased}
-use Rattle.planning.specs.Replying.{Fresh, Selects, Plans, asks, Asks, AsksOf, Begun, most_kept, BegunTo, Begins, SelectsOf, PlansOf}
+use Rattle.planning.specs.Replying.{Fresh, Selects, asks, Asks, AsksOf, Begun, BegunTo, Begins, SelectsOf, PlansOf}
 use Rattle.planning.proofs.Whole.{fresh-scan}
 
 -- ---- expiry and the first phase

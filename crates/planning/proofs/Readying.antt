@@ -9,10 +9,10 @@ use lib.Dec.{ltb, eqb}
 use lib.ListN.{length, take, drop, length-map}
 use Rattle.ident.specs.Number.{top, Key, place, other}
 use Rattle.machine.specs.Limits.{Limits, word}
-use Rattle.machine.specs.State.{Candidate, Request, Table, State, limits_of, on_table, ready_at}
+use Rattle.machine.specs.State.{Candidate, Table, State, on_table, ready_at}
 use Rattle.machine.specs.Table.{keep, change}
 use Rattle.machine.specs.Fail.{Listed}
-use Rattle.machine.specs.Plan.{Due, due, expired}
+use Rattle.machine.specs.Plan.{Due, due}
 use Rattle.machine.specs.Sound.{All, Filled, Bounded, Sound}
 use Rattle.machine.proofs.Change.{bounded-change}
 use Rattle.machine.proofs.Kept.{sound-table}
@@ -23,12 +23,12 @@ use Rattle.store.specs.Shown.{Kept}
 use Rattle.requests.specs.Changes.{Makes, Tells}
 use Rattle.handing.specs.Hands.{readied}
 use Rattle.handing.proofs.GivingBack.{shrinks_ready}
-use Rattle.apart.specs.Apart.{at_rest, resting, Apart}
+use Rattle.apart.specs.Apart.{at_rest, resting}
 use Rattle.apart.specs.Silent.{readied_both, ready_each, dropped_all, silenced, Placeless}
 use Rattle.apart.proofs.Dropping.{Keyed, due-keyed}
 use Rattle.apart.proofs.OneOwner.{noted_none}
 use Rattle.apart.proofs.Silence.{silent_is, silent-apart, placeless_each}
-use Rattle.planning.specs.Expiring.{due_here, due_from, DueNext, MadeReady, ExpiredAll, ExpiresAll}
+use Rattle.planning.specs.Expiring.{due_here, due_from, DueNext, MadeReady, ExpiresAll}
 use Rattle.planning.proofs.Overdue.{due_whole}
 
 -- ---- who is due stays so

@@ -1,15 +1,13 @@
 -- The second phase of a plan: from the first key to the answer.
-use Prim.Native.Nat.{ℕ, min, ◌+◌, ◌-◌, ◌≤◌, ◌<◌}
-use mathlib.Core.Path.{◌≡◌, sym, ap, subst, ◌∙◌}
-use mathlib.Core.Bool.{Bool}
-use mathlib.Core.List.{List, [], map}
+use Prim.Native.Nat.{ℕ, min, ◌+◌, ◌-◌, ◌≤◌}
+use mathlib.Core.Path.{◌≡◌, sym, ◌∙◌}
+use mathlib.Core.List.{List, map}
 use mathlib.Core.Option.{Option}
 use native.Mathlib.Omega.{arith}
 use lib.ListN.{length, get_or}
 use Rattle.ident.specs.Number.{Key}
-use Rattle.machine.specs.Limits.{word, max_request_checks}
+use Rattle.machine.specs.Limits.{max_request_checks}
 use Rattle.machine.specs.State.{Entry, State, on_table, with_ready_cursor}
-use Rattle.machine.specs.Step.{entries_answer, written}
 use Rattle.machine.specs.Table.{keys}
 use Rattle.machine.specs.Plan as machine
 use Rattle.machine.specs.Claim.{elem}
@@ -17,10 +15,8 @@ use Rattle.machine.specs.Sound.{Sound}
 use Rattle.machine.specs.Sweep.{round}
 use Rattle.machine.specs.Typed.{Each, KeyTyped}
 use Rattle.machine.proofs.Chosen.{sparse_phase, sparse_held, length-phase}
-use Rattle.machine.proofs.Plan.{bounded-expired, keys-typed, round-typed}
-use Rattle.machine.proofs.Kept.{sound-table}
+use Rattle.machine.proofs.Plan.{keys-typed, round-typed}
 use Rattle.machine.proofs.Tests.{never}
-use Rattle.machine.proofs.AnswerLengths.{length-sort_by_priority as sort-count}
 use Rattle.store.specs.Flat.{flat_of, rows_of}
 use Rattle.store.specs.Image.{Writes, Bytes}
 use Rattle.store.specs.Shown.{limit_in, Kept}
@@ -29,11 +25,10 @@ use Rattle.store.proofs.Stored.{written_bytes}
 use Rattle.announcing.specs.Evicts.{entry_at}
 use Rattle.cursors.specs.InWords.{Stands}
 use Rattle.selecting.specs.declared.Scan.{Scan}
-use Rattle.planning.specs.declared.replying.Reply.{Reply}
 use Rattle.selecting.specs.Selecting.{mark_all, until, Marks, Numbered, Scanning, Marked, GivenBack, RowsOfStore, EntriesPut}
 use Rattle.selecting.specs.Phasing.{Phased}
 use Rattle.selecting.specs.Ordering.{SortedRows}
-use Rattle.planning.specs.Replying.{Fresh, Closed, Begun, asks, Asks, AsksOf}
+use Rattle.planning.specs.Replying.{Fresh, Closed, Begun, AsksOf}
 use Rattle.selecting.proofs.GivingBack.{some_entry}
 use Rattle.selecting.proofs.SameRows.{marked-rows, numbered_as}
 

@@ -4,14 +4,14 @@ use Rattle.ident.specs.Number.{top, Key, place}
 use Rattle.ident.specs.Words.{key_num}
 use Rattle.regions.specs.declared.Row.{Row}
 use Rattle.machine.specs.Limits.{Limits}
-use Rattle.machine.specs.State.{Request, Table, State, limits_of, on_table}
+use Rattle.machine.specs.State.{Request, Table, State, on_table}
 use Rattle.machine.specs.Table.{at}
 use Rattle.machine.specs.Fail.{Listed, failed, announce_parents, parents_for}
 use Rattle.machine.specs.Plan.{Due, due_of, due, expired}
 use Rattle.machine.specs.Sound.{Sound}
 use Rattle.store.specs.Flat.{Flat}
 use Rattle.store.specs.Gather.{key_at}
-use Rattle.store.specs.Image.{Shows, Writes}
+use Rattle.store.specs.Image.{Shows}
 use Rattle.store.specs.Shown.{rows_in}
 use Rattle.requests.specs.Changes.{Makes, Tells}
 use Rattle.places.specs.Places.{Place}

@@ -1,5 +1,5 @@
 -- What the contracts of a plan say.
-use Rattle.std.specs.Prelude.{ℕ, ◌*◌, ◌≤◌, ◌<◌, ◌≡◌, List, [], length, take, drop}
+use Rattle.std.specs.Prelude.{ℕ, ◌*◌, ◌≤◌, ◌≡◌, List, length, take, drop}
 use Rattle.std.proofs.Math.Option.{Option, none}
 use Rattle.ident.specs.Number.{Key}
 use Rattle.places.specs.Places.{Place, list_most}

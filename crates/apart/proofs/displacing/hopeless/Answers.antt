@@ -1,5 +1,4 @@
 -- `apart::displacing::hopeless` meets its contract.
-use borrow.Author.Tests.{not-false}
 use Rattle.machine.proofs.Tests.{never}
 use Rattle.apart.proofs.displacing.hopeless.Goals as goal
 
@@ -7,4 +6,4 @@ pub returns-then-not-spent : goal.returns-then-not-spent
 returns-then-not-spent c = λ e. never e
 
 pub returns : goal.returns
-returns c = λ _. not-false c.args.spent c.if-not-spent.false-raw
+returns c = λ _. c.if-not-spent.false

@@ -1,5 +1,4 @@
 -- `apart::silent::drop_due` meets its contract.
-use Prim.Native.Nat.{◌-◌}
 use mathlib.Core.Path.{◌∙◌}
 use native.Mathlib.Omega.{arith}
 use Rattle.store.proofs.Frame.{sizes}

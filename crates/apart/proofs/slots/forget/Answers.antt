@@ -1,5 +1,4 @@
 -- `apart::slots::forget` meets its contract.
-use Prim.Native.Nat.{◌-◌}
 use mathlib.Core.Path.{refl, ◌∙◌}
 use native.Mathlib.Omega.{arith}
 use Rattle.apart.proofs.Forgetting.{forgetting_starts, forgetting_goes, forgetting_ends, room_within}

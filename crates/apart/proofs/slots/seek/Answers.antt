@@ -1,7 +1,7 @@
 -- `apart::slots::seek` meets its contract.
 use mathlib.Core.Path.{sym, ◌∙◌}
 use native.Mathlib.Omega.{arith}
-use borrow.Author.Tests.{ltb-true, ltb-false, not-true, not-false}
+use borrow.Author.Tests.{ltb-true, ltb-false}
 use Rattle.regions.specs.Rows.{quad_number}
 use Rattle.apart.proofs.Spotting.{sought_none, sought_first, sought_later}
 use Rattle.apart.proofs.slots.seek.Goals as goal
@@ -10,9 +10,9 @@ pub returns-then-n-eq0 : goal.returns-then-n-eq0
 returns-then-n-eq0 c = sought_none (omega (arith, c.if-n-eq0.true))
 
 pub returns-then-not-quad_less : goal.returns-then-not-quad_less
-returns-then-not-quad_less c = sought_first (omega (arith, c.if-n-eq0.false)) c.read_head-p.ensures (ltb-false (quad_number c.read_head-p.result.hash) (quad_number c.args.h) (sym c.quad_less.ensures ∙ not-true c.quad_less.result c.if-not-quad_less.true-raw))
+returns-then-not-quad_less c = sought_first (omega (arith, c.if-n-eq0.false)) c.read_head-p.ensures (ltb-false (quad_number c.read_head-p.result.hash) (quad_number c.args.h) (sym c.quad_less.ensures ∙ c.if-not-quad_less.true))
 
 pub returns : goal.returns
 returns c = sought_later (omega (arith, c.if-n-eq0.false)) c.read_head-p.ensures (ltb-true
     (quad_number c.read_head-p.result.hash) (quad_number c.args.h) (sym
-    c.quad_less.ensures ∙ not-false c.quad_less.result c.if-not-quad_less.false-raw)) c.seek_place.ensures
+    c.quad_less.ensures ∙ c.if-not-quad_less.false)) c.seek_place.ensures

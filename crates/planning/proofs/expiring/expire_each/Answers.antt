@@ -1,12 +1,10 @@
 -- `planning::expiring::expire_each` meets its contract.
-use Prim.Native.Nat.{◌-◌, ◌<◌}
+use Prim.Native.Nat.{◌<◌}
 use mathlib.Core.Path.{refl, ◌∙◌}
 use native.Mathlib.Omega.{arith}
 use borrow.Author.Tests.{not-true, not-false}
-use Rattle.ident.specs.Number.{place}
 use Rattle.ident.specs.Words.{key_num}
 use Rattle.machine.specs.Limits.{word}
-use Rattle.machine.specs.Table.{one}
 use Rattle.apart.proofs.OneOwner.{front_within, lent_kept}
 use Rattle.planning.proofs.AllExpired.{place-small, way-starts, way-parted, way-spent, way_goes, way-ends, lent_next}
 use Rattle.planning.proofs.expiring.expire_each.Goals as goal

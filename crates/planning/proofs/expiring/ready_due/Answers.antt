@@ -1,9 +1,8 @@
 -- `planning::expiring::ready_due` meets its contract.
-use Prim.Native.Nat.{◌-◌, ◌<◌}
+use Prim.Native.Nat.{◌<◌}
 use mathlib.Core.Path.{refl, ◌∙◌}
 use native.Mathlib.Omega.{arith}
 use borrow.Author.Tests.{not-true, not-false}
-use Rattle.ident.specs.Number.{place}
 use Rattle.ident.specs.Words.{key_num}
 use Rattle.machine.specs.Limits.{word}
 use Rattle.planning.proofs.AllExpired.{place-small}

@@ -1,5 +1,4 @@
 -- `planning::expiring::seek_due` meets its contract.
-use Prim.Native.Nat.{◌-◌}
 use mathlib.Core.Path.{refl, sym, ◌∙◌}
 use native.Mathlib.Omega.{arith}
 use Rattle.requests.proofs.Keeping.{kept_shown}

@@ -1,5 +1,4 @@
 -- `planning::kept::keys_kept` meets its contract.
-use Prim.Native.Nat.{◌-◌}
 use mathlib.Core.Path.{refl, ◌∙◌}
 use native.Mathlib.Omega.{arith}
 use Rattle.planning.proofs.Keepings.{kept_starts, kept_full, kept_goes, kept_done}

@@ -11,7 +11,7 @@ returns-then-not-is_transaction c =
     let a = c.args in
     let k = c.is_transaction in
     record {
-      entry = λ st s w. stays_other (words a.witnesses.now) st.table (entry_of a.e) (sym k.ensures ∙ not-true k.result c.if-not-is_transaction.true-raw);
+      entry = λ st s w. stays_other (words a.witnesses.now) st.table (entry_of a.e) (sym k.ensures ∙ c.if-not-is_transaction.true);
       known = c.requires.1;
     }
 
@@ -20,7 +20,7 @@ returns-then-not-marked c =
     let a = c.args in
     let m = c.marked in
     record {
-      entry = λ st s w. stays_unmarked (words a.witnesses.now) st.table (entry_of a.e) (sym (not-true m.result c.if-not-marked.true-raw) ∙ m.ensures st s w);
+      entry = λ st s w. stays_unmarked (words a.witnesses.now) st.table (entry_of a.e) (sym c.if-not-marked.true ∙ m.ensures st s w);
       known = c.requires.1;
     }
 
@@ -41,7 +41,7 @@ returns c =
     let l = c.look_up-asked in
     record {
       entry = λ st s w.
-          turns (words a.witnesses.now) st.table (entry_of a.e) (sym (not-false k.result c.if-not-is_transaction.false-raw) ∙ k.ensures)
-          (sym (not-false m.result c.if-not-marked.false-raw) ∙ m.ensures st s w) (sym (not-false l.result.listed c.if-not-asked.false) ∙ l.ensures.1);
+          turns (words a.witnesses.now) st.table (entry_of a.e) (sym c.if-not-is_transaction.false ∙ k.ensures)
+          (sym c.if-not-marked.false ∙ m.ensures st s w) (sym (not-false l.result.listed c.if-not-asked.false) ∙ l.ensures.1);
       known = looked_up (words a.witnesses.now) l.ensures.0 l.ensures.1;
     }

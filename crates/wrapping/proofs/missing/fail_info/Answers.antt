@@ -1,13 +1,12 @@
 -- `wrapping::missing::fail_info` meets its contract.
 use mathlib.Core.Path.{sym, ◌∙◌}
-use borrow.Author.Tests.{not-true, not-false}
 use Rattle.ident.specs.Words.{key_num}
 use Rattle.wrapping.proofs.Unfound.{info-unlisted, info-listed, info-room}
 use Rattle.wrapping.proofs.missing.fail_info.Goals as goal
 
 pub returns-then-not-info_owned : goal.returns-then-not-info_owned
 returns-then-not-info_owned c = info-unlisted (key_num c.args.k) c.args.n
-    c.args.clock _ (λ st s w. sym (c.info_owned.ensures st s w) ∙ not-true c.info_owned.result c.if-not-info_owned.true-raw)
+    c.args.clock _ (λ st s w. sym (c.info_owned.ensures st s w) ∙ c.if-not-info_owned.true)
 
 pub failed_with_parents-requires : goal.failed_with_parents-requires
 failed_with_parents-requires c = (
@@ -15,7 +14,7 @@ failed_with_parents-requires c = (
   c.requires.1,
   info-room (key_num c.args.k) c.args.n
       c.args.clock (λ st s w. sym (c.info_owned.ensures st s w) ∙
-      not-false c.info_owned.result c.if-not-info_owned.false-raw) c.args.out.now
+      c.if-not-info_owned.false) c.args.out.now
       c.requires.0 c.requires.2,
 )
 
@@ -24,5 +23,5 @@ returns c = info-listed (key_num c.args.k)
     c.args.n
     c.args.clock
     (λ st s w. sym (c.info_owned.ensures st s w) ∙
-    not-false c.info_owned.result c.if-not-info_owned.false-raw)
+    c.if-not-info_owned.false)
     c.failed_with_parents.ensures

@@ -1,6 +1,5 @@
 -- `wrapping::offering::announce_part` meets its contract.
 use native.Mathlib.Omega.{arith}
-use borrow.Author.Tests.{not-false}
 use Rattle.machine.specs.Typed.{Each, OfferTyped}
 use Rattle.machine.proofs.Fail.{Peer}
 use Rattle.lent_lists.specs.Items.{offers_in}
@@ -10,7 +9,7 @@ use Rattle.wrapping.proofs.offering.announce_part.Goals as goal
 
 pub announce_for_victims-next-requires : goal.announce_for_victims-next-requires
 announce_for_victims-next-requires c =
-    let z = c.displaces.ensures (not-false c.displaces.result c.if-not-displaces.false-raw) in (
+    let z = c.displaces.ensures c.if-not-displaces.false in (
       c.requires.0,
       z.0,
       z.1,

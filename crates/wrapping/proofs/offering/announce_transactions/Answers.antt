@@ -1,5 +1,4 @@
 -- `wrapping::offering::announce_transactions` meets its contract.
-use Prim.Native.Nat.{◌-◌}
 use mathlib.Core.Path.{refl, ◌∙◌}
 use native.Mathlib.Omega.{arith}
 use Rattle.machine.specs.Typed.{Each, OfferTyped}
