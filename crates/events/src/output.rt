@@ -2,7 +2,10 @@
 ghost use Rattle.std.specs.Prelude.{◌≡◌};
 
 use std::io;
-use std::io::{ErrorKind, Stdout, Write};
+use std::io::{ErrorKind, Print, Stdout, Write};
+
+// EPIPE of Linux.
+const BROKEN_PIPE: i32 = 32;
 
 #[derive(Drop)]
 pub struct Output {
@@ -23,16 +26,20 @@ impl Output {
     {
         self.closed
     }
+
+    // A pipe that its reader has closed takes nothing from then on. What an output that is full or was closed from the start does not take is lost.
+    fn note(&mut self, e: &io::Error) {
+        if e.raw_os_error() == Some(BROKEN_PIPE) {
+            self.closed = true;
+        }
+    }
 }
 
 impl Write for Output {
-    // A pipe that its reader has closed takes nothing from then on. What an output that is full or was closed from the start does not take is lost.
     fn write(&mut self, buf: &[u8]) -> io::Result<usize> {
-        let written = self.stdout.write(buf);
+        let written = self.stdout.write_some(buf);
         if let Err(e) = &written {
-            if e.kind() == ErrorKind::BrokenPipe {
-                self.closed = true;
-            }
+            self.note(e);
         }
         written
     }
@@ -43,5 +50,14 @@ impl Write for Output {
             return Err(io::Error::from(ErrorKind::BrokenPipe));
         }
         Ok(())
+    }
+
+    // Standard output's own: it asks for no kind of an error, which std has a table for.
+    fn write_all(&mut self, buf: &[u8]) -> io::Result<()> {
+        let written = Print::write_all(&self.stdout, buf);
+        if let Err(e) = &written {
+            self.note(e);
+        }
+        written
     }
 }
