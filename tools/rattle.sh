@@ -1,5 +1,5 @@
-# Sourced: what rt says to rattle, for checks that rt has no command for. The crates below must have been proved (rt check, rt lib or rt ci): they are taken
-# from their out/rlib.
+# Sourced: what rt says to rattle, for checks and builds that rt has no command for. The crates below must have been proved (rt check, rt lib or rt ci) as they
+# are: they are taken from their out/rlib.
 kit=${RATTLE_KIT:-$(dirname "$(dirname "$(readlink -f "$(command -v rt)")")")}
 export kit
 
@@ -8,9 +8,10 @@ listed_of() { # NAME
     sed -n "s/#.*//; s/^$1\( [^:]*\)\?: *//p" crates.txt
 }
 
-# Checks a crate with rt's words for it, whose files stand in the folder SOURCE; the words given come last. From the repository's root.
-rattle_check() { # NAME SOURCE [WORDS..]
-    local root=lib words d
+# Runs rattle on a crate with rt's words for it, whose files stand in the folder SOURCE; the words given come last. From the repository's root.
+rattle_on() { # VERB NAME SOURCE [WORDS..]
+    local verb=$1 root=lib words d
+    shift
     [ -f "$2/src/lib.rt" ] || root=main
     words=(--crate-name "$1" "src/$root.rt" --extern "std=$kit/rlibs/std.rlib" -L "dependency=$kit/rlibs")
     ! grep -q "^$1 [^:]*staticlib" crates.txt || words+=(--crate-type staticlib)
@@ -22,13 +23,13 @@ rattle_check() { # NAME SOURCE [WORDS..]
         fi
     done
     words+=(--antt-project "$kit/rattle/logic/antt-project.json" --logic-built "$kit/logic_built")
-    (cd "$2" && shift 2 && "$kit/bin/rattle" check "${words[@]}" "$@")
+    (cd "$2" && shift 2 && "$kit/bin/rattle" "$verb" "${words[@]}" "$@")
 }
 
 # The name of the folder in which this build of rattle keeps the modules that it has checked.
 modules_folder() { # ROOM
     mkdir -p "$1/probe/src"
     echo 'pub fn seven() -> usize { 7 }' >"$1/probe/src/lib.rt"
-    rattle_check probe "$1/probe" --incremental "$1/probe/checked" >/dev/null 2>&1
+    rattle_on check probe "$1/probe" --incremental "$1/probe/checked" >/dev/null 2>&1
     basename "$1"/probe/checked/antt-checked*
 }
