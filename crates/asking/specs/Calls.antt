@@ -3,7 +3,7 @@ use Rattle.std.specs.Prelude.{ℕ, ◌&&◌, List, [], ◌∷◌, leb, replicate
 use Rattle.std.proofs.Math.Option.{Option, none, some}
 use Rattle.ident.specs.Number.{Key, Item}
 use Rattle.machine.specs.Wrapper.{Offer}
-use Rattle.machine.specs.Call.{Buffer, Call, Open, On}
+use Rattle.machine.specs.Call.{Buffer, Open, On}
 use Rattle.machine.specs.Call.{Ask, Announce, RequestParent, Failed, Unclaim, Forget, ForgetKnown, TeardownPackageClaims, FailedPackageInfo, PackageInfoOwner}
 use Rattle.machine.specs.Call.{TransactionResponseCompleted, PollGate, Sum}
 use Rattle.machine.specs.Call.{Sweep, FailedWithParents, ReleasePackage, Disconnected, AnnounceTransactions}

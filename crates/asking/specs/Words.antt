@@ -5,14 +5,11 @@ use Rattle.asking.specs.declared.vocabulary.Word.{Word}
 use Rattle.asking.specs.declared.vocabulary.Word.TheVariants.{None as NoWord, Open as OpenWord, Sum as SumWord, Leave as LeaveWord, Inventory as InventoryWord}
 use Rattle.asking.specs.declared.vocabulary.Word.TheVariants.{Plan as PlanWord, Want as WantWord, Take as TakeWord, Missing as MissingWord, Send as SendWord, Part as PartWord}
 use Rattle.asking.specs.declared.vocabulary.Word.TheVariants.{Number as NumberOf, Keys as KeysOf, Hashes as HashesOf}
-use Rattle.asking.specs.declared.vocabulary.NumberWord.{NumberWord}
 use Rattle.asking.specs.declared.vocabulary.NumberWord.TheVariants.{Announce as AnnounceWord, RequestParent as ParentWord, Failed as FailedWord}
 use Rattle.asking.specs.declared.vocabulary.NumberWord.TheVariants.{Unclaim as UnclaimWord, Forget as ForgetWord, ForgetKnown as KnownWord, Teardown as TearWord}
 use Rattle.asking.specs.declared.vocabulary.NumberWord.TheVariants.{FailedPackageInfo as InfoWord, PackageInfoOwner as OwnerWord}
 use Rattle.asking.specs.declared.vocabulary.NumberWord.TheVariants.{ResponseCompleted as DoneWord, PollGate as PollWord}
-use Rattle.asking.specs.declared.vocabulary.KeysWord.{KeysWord}
 use Rattle.asking.specs.declared.vocabulary.KeysWord.TheVariants.{Sweep as SweepWord, FailedWithParents as FailWord, ReleasePackage as ReleaseWord}
-use Rattle.asking.specs.declared.vocabulary.HashesWord.{HashesWord}
 use Rattle.asking.specs.declared.vocabulary.HashesWord.TheVariants.{SolicitPackageInfo as SolicitWord, ClaimPackage as ClaimWord}
 use Rattle.asking.specs.declared.vocabulary.HashesWord.TheVariants.{BeginPackageResolution as BeginWord, AnnounceParents as ParentsWord, FailedPackageClaims as LostWord, OwnersOf as OwnersWord}
 

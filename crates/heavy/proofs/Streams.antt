@@ -6,7 +6,7 @@ use mathlib.Core.Option.{Option, none, some}
 use native.Mathlib.Omega.{arith}
 use lib.Dec.{eqb}
 use Rattle.ident.specs.Number.{Key}
-use Rattle.machine.specs.State.{Candidate, Owner, Request, Table}
+use Rattle.machine.specs.State.{Candidate, Owner, Table}
 use Rattle.machine.specs.Table.{one, count_in, total, by, owner_in, held_by, owned_by}
 use Rattle.heavy.specs.Counters.{times, Few}
 use Rattle.heavy.specs.Streams.{connections_of, connections_in, owners_of, owners_in}

@@ -1,5 +1,5 @@
 -- Which numbers come often in a list, found with a few counters: each has a name and a count.
-use Rattle.std.specs.Prelude.{ℕ, zero, suc, ◌+◌, ◌-◌, ◌≤◌, ◌≡◌, Bool, true, false, ◌&&◌, List, [], ◌∷◌, ltb, leb, eqb, length, get_or, set, if◌then◌else◌}
+use Rattle.std.specs.Prelude.{ℕ, suc, ◌+◌, ◌-◌, ◌≤◌, ◌≡◌, Bool, true, ◌&&◌, List, [], ◌∷◌, ltb, leb, eqb, length, get_or, set, if◌then◌else◌}
 
 -- how often x stands in a list
 unfoldable pub times : ℕ → List ℕ → ℕ

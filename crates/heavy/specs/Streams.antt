@@ -1,7 +1,7 @@
 -- A table's connections and owners, one after the other as a listing has them: the lists that the two passes go through.
 use Rattle.std.specs.Prelude.{ℕ, List, [], ◌∷◌, ◌++◌, map}
 use Rattle.std.proofs.Math.Option.{Option, none, some}
-use Rattle.machine.specs.State.{Candidate, Owner, Request, Table}
+use Rattle.machine.specs.State.{Candidate, Owner, Table}
 use Rattle.machine.specs.Listing.{Line, HeadLine, RequestLine, CandidateLine}
 
 abbrev pub connections_of : List Candidate → List ℕ

@@ -8,7 +8,7 @@ use lib.Dec.{lit≤}
 use lib.ListN.{length, take}
 use Rattle.ident.specs.Number.{Key, Item}
 use Rattle.words.specs.Words.{number, words}
-use Rattle.machine.specs.Call.{Ask, On, key_bytes}
+use Rattle.machine.specs.Call.{On, key_bytes}
 use Rattle.lent_lists.specs.Lists.{key_in, given_keys, keys_in}
 use Rattle.lent_lists.specs.Items.{item_bytes, item_in, items_in}
 use Rattle.machine.specs.Fields.{number_of, key_of, item_of, rest, taking}

@@ -9,10 +9,10 @@ use Rattle.ident.specs.Number.{Item}
 use Rattle.words.specs.Words.{number, recs}
 use Rattle.words.proofs.Records.{length-recs}
 use Rattle.machine.specs.Wrapper.{Offer}
-use Rattle.machine.specs.Call.{Ask, On}
+use Rattle.machine.specs.Call.{On}
 use Rattle.lent_lists.specs.Items.{item_bytes, item_in, paired, offers_in}
 use Rattle.machine.specs.Fields.{number_of, item_of, taking}
-use Rattle.reading.specs.Line.{Line, Asks}
+use Rattle.reading.specs.Line.{Asks}
 use Rattle.reading.specs.Lists.{offer_of, offer_then, offers_call}
 use Rattle.reading.specs.Given.{At, ElementRead, FieldRead}
 use Rattle.reading.proofs.Taking.{field_not, field_is}

@@ -13,7 +13,7 @@ use Rattle.std.specs.Prelude.{if◌then◌else◌}
 use Rattle.ident.specs.Number.{Item, is_plain}
 use Rattle.machine.specs.Call.{Open}
 use Rattle.machine.proofs.Tests.{test, by_test}
-use Rattle.machine.specs.Fields.{item_with, letter_kind, other_kind, other_of, type_of, hash_of, before, behind, item_of, rest, with_value, taking}
+use Rattle.machine.specs.Fields.{item_with, letter_kind, other_kind, type_of, hash_of, before, behind, item_of, rest, with_value, taking}
 use Rattle.reading.specs.Line.{Line, Asks}
 use Rattle.reading.specs.Given.{At, FieldRead}
 use Rattle.reading.proofs.Taking.{field_is}

@@ -10,10 +10,9 @@ use Rattle.ident.specs.declared.Kind.{Kind}
 use Rattle.ident.specs.declared.ItemKind.{ItemKind}
 use Rattle.ident.specs.Number.{Key, Item, top}
 use Rattle.machine.proofs.Tests.{by_test}
-use Rattle.machine.specs.Fields.{number_of, hash_of, kind_of, key_with, key_of, item_with, letter_kind, other_kind, type_of, before, behind, other_of, item_of, taking}
-use Rattle.reading.specs.Line.{Line}
+use Rattle.machine.specs.Fields.{number_of, hash_of, kind_of, key_with, key_of, item_with, letter_kind, other_kind, type_of, before, behind, item_of, taking}
 use Rattle.reading.specs.Lists.{offer_of, offer_then}
-use Rattle.reading.proofs.Bytes.{bytes, numeral_some}
+use Rattle.reading.proofs.Bytes.{numeral_some}
 use Rattle.reading.proofs.Elements.{Takes, takes_field}
 
 -- a comma and a digit

@@ -14,7 +14,7 @@ use Rattle.heavy.specs.Streams.{owners_of, line_connections, line_owners}
 use Rattle.listed_lines.specs.declared.line.LineAt.{LineAt}
 use Rattle.listed_lines.specs.Given.{line_in, lines_of_text, LineRead}
 use Rattle.listed_form.proofs.Forms.{no-line_left}
-use Rattle.listed_form.proofs.Stepping.{Parted, parted}
+use Rattle.listed_form.proofs.Stepping.{parted}
 use Rattle.listed_counts.specs.Passes.{stream, owner_number, added, Adds, names_added, counts_added, counted_added, Notes, Counts, NotesAll, CountsAll}
 
 -- ---- a line's number in front of the others

@@ -1,15 +1,13 @@
 -- The number that a line adds, and counters with one number more.
-use Prim.Native.Nat.{ℕ, suc, ◌+◌, ◌≤◌, ◌<◌}
+use Prim.Native.Nat.{ℕ, suc, ◌≤◌}
 use mathlib.Core.Path.{◌≡◌, refl, sym, ap, subst, ◌∙◌}
 use mathlib.Core.Bool.{Bool, true, false, not}
-use mathlib.Core.List.{List, [], ◌∷◌}
+use mathlib.Core.List.{List}
 use mathlib.Core.Option.{Option, none, some}
 use mathlib.Core.Logic.{inl, inr}
 use native.Mathlib.Omega.{arith}
-use lib.Dec.{ltb}
 use lib.ListN.{length}
 use borrow.Author.Tests.{ltb-true, ltb-false, not-true, not-false}
-use Rattle.std.specs.Prelude.{if◌then◌else◌}
 use Rattle.machine.proofs.Tests.{test}
 use Rattle.lines.specs.declared.read.MaybeNumber.{MaybeNumber}
 use Rattle.lines.specs.declared.read.MaybeNumber.TheVariants.{Not as NoNumber, Is as IsNumber}

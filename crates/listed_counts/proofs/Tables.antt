@@ -1,11 +1,10 @@
 -- What the passes tell of the table that the lines list.
-use Prim.Native.Nat.{ℕ, suc, ◌+◌, ◌*◌, ◌≤◌}
-use mathlib.Core.Path.{◌≡◌, refl, sym, ap, subst, ◌∙◌}
-use mathlib.Core.Bool.{Bool, true, false, ◌&&◌}
-use mathlib.Core.List.{List, [], ◌∷◌, ◌++◌}
+use Prim.Native.Nat.{ℕ, suc, ◌≤◌}
+use mathlib.Core.Path.{◌≡◌, refl, ap, subst}
+use mathlib.Core.Bool.{Bool, true, false}
+use mathlib.Core.List.{List, [], ◌∷◌}
 use mathlib.Core.Option.{Option, none, some}
 use native.Mathlib.Omega.{arith}
-use lib.Dec.{leb}
 use lib.ListN.{length, length-append}
 use borrow.Author.Tests.{leb-true}
 use Rattle.ident.specs.Number.{Key}
@@ -13,11 +12,10 @@ use Rattle.words.specs.Words.{Decides}
 use Rattle.machine.specs.Limits.{max_announcements}
 use Rattle.machine.specs.State.{Candidate, Owner, Table}
 use Rattle.machine.specs.Table.{count_in, total, any, held}
-use Rattle.machine.specs.Listing.{Line}
 use Rattle.machine.specs.SoundTest.{every, is_filled}
 use Rattle.machine.proofs.Tests.{and_left, and_right}
 use Rattle.heavy.specs.Counters.{none_above, sum, Few}
-use Rattle.heavy.specs.Streams.{connections_of, connections_in, owners_of, owners_in, line_connections, line_owners}
+use Rattle.heavy.specs.Streams.{connections_of, connections_in, owners_of, owners_in}
 use Rattle.heavy.proofs.Frequent.{heavy-decides}
 use Rattle.heavy.proofs.Streams.{held_few, few_held, owned_few, few_owned}
 use Rattle.heavy.proofs.ListedStreams.{lines-connections, lines-owners}

@@ -1,13 +1,13 @@
 -- From the first line and the lines behind it to the listing.
-use Prim.Native.Nat.{ℕ, ◌<◌, ◌≤◌}
+use Prim.Native.Nat.{ℕ, ◌≤◌}
 use mathlib.Core.Path.{◌≡◌, refl, sym, ap, ◌∙◌}
-use mathlib.Core.Bool.{Bool, true, false}
+use mathlib.Core.Bool.{true, false}
 use mathlib.Core.List.{List, [], ◌∷◌}
 use mathlib.Core.Option.{Option, none, some}
 use native.Mathlib.Omega.{arith}
 use lib.ListN.{length, drop, drop_of_length-le}
-use Rattle.machine.specs.State.{State, on_table, is_some}
-use Rattle.machine.specs.Listing.{Line, HeadLine, RequestLine, CandidateLine, short, text_lines, lines_in, one_more, state_of, tabled_from, read_in, read_listing}
+use Rattle.machine.specs.State.{on_table, is_some}
+use Rattle.machine.specs.Listing.{Line, HeadLine, RequestLine, CandidateLine, text_lines, lines_in, one_more, state_of, tabled_from, read_in, read_listing}
 use Rattle.machine.proofs.Tests.{never}
 use Rattle.listed_lines.specs.declared.line.Head as line-head
 use Rattle.listed_lines.specs.declared.line.HeadIn.{HeadIn}
@@ -16,9 +16,9 @@ use Rattle.listed_lines.specs.declared.line.LineAt.{LineAt}
 use Rattle.listed_lines.specs.Given.{head_state, head_line, line_in, lines_of_text, LineRead}
 use Rattle.listed_form.specs.declared.Met as code-met
 use Rattle.listed_form.specs.declared.Form.TheVariants.{Not as NoForm, Is as IsForm}
-use Rattle.listed_form.specs.Placed.{Met, Bad, Start, is_good, meets, placed, placed_from}
-use Rattle.listed_form.specs.Given.{met_of, Meets, head_only, HeadOf, Body, Reads, FormRead}
-use Rattle.listed_form.proofs.Placing.{placed-bad, one_step, Lists, placed-lists, placed_none}
+use Rattle.listed_form.specs.Placed.{Met, Bad, Start, placed, placed_from}
+use Rattle.listed_form.specs.Given.{met_of, Meets, head_only, HeadOf, Reads, FormRead}
+use Rattle.listed_form.proofs.Placing.{placed-bad, one_step, placed-lists, placed_none}
 use Rattle.listed_form.proofs.Meeting.{met-bad, met_start, met-good}
 
 -- ---- the scan

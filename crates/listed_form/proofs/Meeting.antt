@@ -1,9 +1,7 @@
 -- What a scan has met, in the code's words.
 use Prim.Native.Nat.{ℕ, ◌+◌, ◌<◌, ◌≤◌}
-use mathlib.Core.Path.{◌≡◌, refl, sym, ap, ◌∙◌}
+use mathlib.Core.Path.{◌≡◌, sym, ap, ◌∙◌}
 use mathlib.Core.Bool.{Bool, true, false}
-use mathlib.Core.List.{List, [], ◌∷◌}
-use mathlib.Core.Option.{Option, none, some}
 use mathlib.Core.Logic.{inl, inr}
 use native.Mathlib.Omega.{arith}
 use lib.Dec.{ltb, eqb}
@@ -14,17 +12,16 @@ use Rattle.std.specs.Prelude.{if◌then◌else◌}
 use Rattle.ident.specs.Number.{Key, top, place}
 use Rattle.regions.specs.Rows.{quad_number}
 use Rattle.machine.proofs.Tests.{test}
-use Rattle.machine.specs.Listing.{Line}
 use Rattle.listed_lines.specs.declared.line.Line as line-line
 use Rattle.listed_lines.specs.declared.line.Line.TheVariants.{Not, Head, Request, Candidate}
 use Rattle.listed_lines.specs.declared.line.Head as line-head
 use Rattle.listed_lines.specs.declared.line.Request as line-request
 use Rattle.listed_lines.specs.declared.line.Candidate as line-candidate
 use Rattle.listed_lines.specs.declared.line.HeadIn.TheVariants.{Not as NoHead, Is as IsHead}
-use Rattle.listed_lines.specs.Given.{head_line, line_in}
+use Rattle.listed_lines.specs.Given.{line_in}
 use Rattle.listed_form.specs.declared.Met as code-met
 use Rattle.listed_form.specs.Placed.{Met, Bad, Start, After, is_good, meets_key, meets_candidate, meets}
-use Rattle.listed_form.specs.Given.{met_as, met_of, Meets, head_only, HeadOf}
+use Rattle.listed_form.specs.Given.{met_of, Meets, head_only, HeadOf}
 
 -- ---- keys in order
 

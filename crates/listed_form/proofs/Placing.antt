@@ -1,16 +1,15 @@
 -- The scan of the lines says what the definition says of them.
-use mathlib.Core.Path.{◌≡◌, refl, sym, ap, ◌∙◌}
-use mathlib.Core.Bool.{Bool, true, false, not, ◌&&◌}
+use mathlib.Core.Path.{◌≡◌, refl, sym, ◌∙◌}
+use mathlib.Core.Bool.{Bool, true, false, not}
 use mathlib.Core.List.{List, [], ◌∷◌}
 use mathlib.Core.Option.{Option, none, some}
-use mathlib.Core.Logic.{inl, inr}
 use lib.Dec.{ltb}
 use Rattle.std.specs.Prelude.{if◌then◌else◌}
 use Rattle.ident.specs.Number.{Key, place}
-use Rattle.machine.specs.State.{Candidate, Request, Table, State, with_candidates, on_table, is_some}
-use Rattle.machine.specs.Listing.{Line, HeadLine, RequestLine, CandidateLine, Rest, falls, candidate_then, request_then, rest_of, tabled, tabled_from, state_of, one_more}
-use Rattle.machine.proofs.Tests.{test, never}
-use Rattle.listed_form.specs.Placed.{Met, Bad, Start, After, is_good, meets_key, meets_candidate, meets, placed, placed_from}
+use Rattle.machine.specs.State.{Candidate, Request, Table, State}
+use Rattle.machine.specs.Listing.{Line, HeadLine, RequestLine, CandidateLine, Rest, falls, candidate_then, request_then, rest_of, tabled, tabled_from, one_more}
+use Rattle.machine.proofs.Tests.{never}
+use Rattle.listed_form.specs.Placed.{Met, Bad, Start, After, meets_key, meets, placed, placed_from}
 
 -- ---- what is left of the definition behind a request, and behind the first line
 

@@ -1,7 +1,6 @@
 -- What the contracts of pass 1 say.
 use Rattle.std.specs.Prelude.{ℕ, ◌≤◌, ◌≡◌, List, [], eqb, length, drop, if◌then◌else◌}
 use Rattle.std.proofs.Math.Option.{Option, none, some}
-use Rattle.ident.specs.declared.Kind.{Kind}
 use Rattle.ident.specs.Number.{Key}
 use Rattle.regions.specs.Rows.{quad_number}
 use Rattle.machine.specs.State.{Table, State, on_table}

@@ -1,7 +1,6 @@
 -- A text's lines one after the other: each ends at its line feed.
-use Prim.Native.Nat.{ℕ, suc, ◌+◌, ◌-◌, ◌<◌, ◌≤◌}
-use mathlib.Core.Path.{◌≡◌, refl, sym, ap, ◌∙◌}
-use mathlib.Core.Bool.{true, false}
+use Prim.Native.Nat.{ℕ, ◌+◌, ◌-◌, ◌<◌}
+use mathlib.Core.Path.{◌≡◌, refl, ap, ◌∙◌}
 use mathlib.Core.List.{List, [], ◌∷◌}
 use mathlib.Core.Option.{Option, none, some}
 use mathlib.Core.Logic.{inl, inr}
@@ -9,12 +8,11 @@ use native.Mathlib.Omega.{arith}
 use lib.Dec.{eqb}
 use lib.ListN.{length, take, drop, length-drop}
 use lib.Seq.{drop-drop}
-use borrow.Author.Tests.{eqb-true, eqb-false, ne_eqb}
-use Rattle.std.specs.Prelude.{if◌then◌else◌}
+use borrow.Author.Tests.{eqb-true, eqb-false}
 use Rattle.machine.specs.Fields.{before, behind, fields}
 use Rattle.machine.specs.Listing.{Line, short, head_of, request_of, candidate_of, line_of, new_line, in_line, text_lines, one_more, lines_in, lines_from}
 use Rattle.machine.proofs.Tests.{test}
-use Rattle.machine.proofs.Parting.{take-before, before-nil, before-skip, before-met, behind-skip, behind-met, before-length}
+use Rattle.machine.proofs.Parting.{take-before, before-skip, before-met, behind-skip, behind-met, before-length}
 use Rattle.listed_lines.specs.declared.line.Line as line
 use Rattle.listed_lines.specs.declared.line.Line.TheVariants.{Not}
 use Rattle.listed_lines.specs.Given.{line_in, lines_of_text, LineRead}

@@ -1,6 +1,6 @@
 -- The fields of an owner, of a package and of the three lines, one after the other.
 use Prim.Native.Nat.{ℕ, ◌+◌, ◌<◌, ◌≤◌}
-use mathlib.Core.Path.{◌≡◌, refl, sym, ap, ◌∙◌}
+use mathlib.Core.Path.{◌≡◌, refl, ◌∙◌}
 use mathlib.Core.Bool.{Bool}
 use mathlib.Core.List.{List, []}
 use mathlib.Core.Option.{Option, none, some}
@@ -8,7 +8,7 @@ use lib.ListN.{length}
 use Rattle.ident.specs.Number.{Key, Item}
 use Rattle.machine.specs.State.{Owner, Package}
 use Rattle.machine.specs.Fields.{number_of, bool_of, hash_of, fields, rest, taking}
-use Rattle.machine.specs.Listing.{Line, HeadLine, RequestLine, CandidateLine, short, key_in, item_in, maybe_in, none_or, list_then, owner_then, package_then, head_of, request_of, request_with, candidate_of}
+use Rattle.machine.specs.Listing.{HeadLine, RequestLine, CandidateLine, short, key_in, item_in, maybe_in, none_or, list_then, owner_then, package_then, head_of, request_of, request_with, candidate_of}
 use Rattle.reading.specs.Given.{At}
 use Rattle.listed_lines.specs.Given.{Took, longest_list}
 use Rattle.listed_lines.proofs.Taking.{pass, stop, ending_end, ending_more}

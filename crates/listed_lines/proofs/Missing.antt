@@ -1,12 +1,11 @@
 -- What may be missing: a field that is `none`, or the thing itself.
 use Prim.Native.Nat.{ℕ, ◌+◌, ◌-◌, ◌<◌, ◌≤◌}
 use mathlib.Core.Path.{◌≡◌, refl, sym, ap, ◌∙◌}
-use mathlib.Core.Bool.{Bool, true, false}
+use mathlib.Core.Bool.{true, false}
 use mathlib.Core.List.{List, [], ◌∷◌}
 use mathlib.Core.Option.{Option, none, some}
 use native.Mathlib.Omega.{arith}
 use lib.ListN.{length, take, drop}
-use Rattle.std.specs.Prelude.{if◌then◌else◌}
 use Rattle.machine.specs.Fields.{before, same_text, rest, with_value, taking}
 use Rattle.machine.specs.Listing.{Line, none_text, present, maybe_in, none_or}
 use Rattle.lines.proofs.Splitting.{rest_field, rest_past}

@@ -8,8 +8,6 @@ use Rattle.regions.specs.Rows.{quad_number}
 use Rattle.machine.specs.State.{Candidate, Owner, Package, Request, State}
 use Rattle.machine.specs.Fields.{rest, elements_then, same_text}
 use Rattle.machine.specs.Listing.{Line, HeadLine, RequestLine, CandidateLine, none_text, request_with, short, text_lines, one_more, lines_from}
-use Rattle.lines.specs.declared.read.MaybeNumber.{MaybeNumber}
-use Rattle.lines.specs.declared.read.MaybeKey.{MaybeKey}
 use Rattle.lines.specs.Values.{number_in, key_in}
 use Rattle.reading.specs.Given.{At}
 use Rattle.listed_lines.specs.declared.pieces.MaybeNumberAt.{MaybeNumberAt}

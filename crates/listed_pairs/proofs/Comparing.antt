@@ -1,5 +1,5 @@
 -- The requests at two indices, and what is left of the test behind them.
-use Prim.Native.Nat.{ℕ, suc, ◌+◌, ◌<◌, ◌≤◌}
+use Prim.Native.Nat.{ℕ, ◌+◌, ◌<◌, ◌≤◌}
 use mathlib.Core.Path.{◌≡◌, refl, sym, ap, ◌∙◌}
 use mathlib.Core.Bool.{Bool, true, false, not, ◌&&◌}
 use mathlib.Core.List.{List, [], ◌∷◌, ◌++◌}
@@ -27,7 +27,7 @@ use Rattle.listed_requests.specs.declared.forms.Found.{Found}
 use Rattle.listed_pairs.specs.declared.Both.{Both}
 use Rattle.listed_pairs.specs.declared.Pair.{Pair}
 use Rattle.listed_requests.specs.Given.{NextRequest}
-use Rattle.listed_pairs.specs.Given.{Behind, FirstWtxid, Skips, PassesBelow, SideBySide, Facing, Left, Compared, PairsFit}
+use Rattle.listed_pairs.specs.Given.{FirstWtxid, Skips, PassesBelow, SideBySide, Facing, Left, Compared, PairsFit}
 use Rattle.listed_requests.proofs.Judging.{owner-if}
 use Rattle.listed_pairs.proofs.Facing.{weaken, from_first, first_few, others_few, no-txid, no-wtxid, front_first, back_first, both_first, same_wtxids}
 use Rattle.listed_pairs.proofs.Seeking.{txid-kind, wtxid-kind}

@@ -1,14 +1,13 @@
 -- Txid requests and Wtxid requests gone through together: what is left of the test of the two requests of each hash.
 use Prim.Native.Nat.{ℕ, suc, ◌+◌, ◌<◌, ◌≤◌}
 use mathlib.Core.Path.{◌≡◌, refl, sym, ap, ◌∙◌}
-use mathlib.Core.Bool.{Bool, true, false, not, ◌&&◌}
-use mathlib.Core.List.{List, [], ◌∷◌, ◌++◌, append-nil}
-use mathlib.Core.Option.{none}
+use mathlib.Core.Bool.{Bool, true, false, ◌&&◌}
+use mathlib.Core.List.{[], ◌∷◌, append-nil}
 use native.Mathlib.Omega.{arith}
 use Rattle.ident.specs.declared.Kind.{Kind}
 use Rattle.ident.specs.declared.Kind.TheVariants.{Txid, Wtxid}
 use Rattle.ident.specs.Number.{base, top, Key, place, wtxid}
-use Rattle.machine.specs.State.{Candidate, Request, Table, blank, is_some}
+use Rattle.machine.specs.State.{Request, Table, blank, is_some}
 use Rattle.machine.specs.Table.{at}
 use Rattle.machine.specs.Sound.{Ordered}
 use Rattle.machine.specs.SoundTest.{every}

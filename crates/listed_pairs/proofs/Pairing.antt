@@ -1,25 +1,24 @@
 -- Two requests of one hash, in the code's words.
-use Prim.Native.Nat.{ℕ, suc, ◌+◌, ◌<◌, ◌≤◌}
-use mathlib.Core.Path.{◌≡◌, refl, sym, ap, ◌∙◌}
-use mathlib.Core.Bool.{Bool, true, false, not, ◌&&◌}
-use mathlib.Core.List.{List, [], ◌∷◌, ◌++◌, map-append}
+use Prim.Native.Nat.{ℕ, ◌<◌, ◌≤◌}
+use mathlib.Core.Path.{◌≡◌, sym, ap, ◌∙◌}
+use mathlib.Core.Bool.{Bool, false, not, ◌&&◌}
+use mathlib.Core.List.{List, ◌++◌, map-append}
 use mathlib.Core.Logic.{inl, inr}
 use native.Mathlib.Omega.{arith}
-use lib.Dec.{leb, eqb, ltb}
+use lib.Dec.{leb}
 use lib.ListN.{length, take, length-append}
-use borrow.Author.Tests.{leb-true, leb-false, le-leb, lt-leb, ltb-true, ltb-false}
+use borrow.Author.Tests.{leb-true, leb-false, le-leb, lt-leb}
 use Rattle.ident.specs.Number.{Key}
 use Rattle.machine.specs.Limits.{max_alternates}
-use Rattle.machine.specs.State.{Candidate, Request, Table}
+use Rattle.machine.specs.State.{Candidate}
 use Rattle.machine.specs.SoundTest.{no_repeat}
 use Rattle.machine.specs.Listing.{Rest}
 use Rattle.machine.proofs.Tests.{test, never}
 use Rattle.heavy.specs.Streams.{connections_of}
 use Rattle.listed_lines.specs.declared.line.Request as line-request
-use Rattle.listed_form.specs.Given.{Body, requests_only}
+use Rattle.listed_form.specs.Given.{Body}
 use Rattle.listed_requests.specs.Parts.{few_once}
 use Rattle.listed_requests.specs.declared.candidates.Gathered.{Gathered}
-use Rattle.listed_pairs.specs.declared.Both.{Both}
 use Rattle.listed_requests.specs.Given.{most_gathered, Gathers}
 use Rattle.listed_pairs.specs.Given.{Skips, SideBySide}
 

@@ -1,5 +1,5 @@
 -- The first Wtxid request, sought line by line.
-use Prim.Native.Nat.{ℕ, suc, ◌+◌, ◌<◌, ◌≤◌}
+use Prim.Native.Nat.{ℕ, ◌+◌, ◌≤◌}
 use mathlib.Core.Path.{◌≡◌, refl, sym, ap, ◌∙◌}
 use mathlib.Core.Bool.{Bool, true, false}
 use mathlib.Core.List.{List, [], ◌∷◌}
@@ -23,7 +23,7 @@ use Rattle.listed_lines.specs.declared.line.LineAt.{LineAt}
 use Rattle.listed_lines.specs.declared.line.Request as line-request
 use Rattle.listed_lines.specs.declared.line.RequestIn.{RequestIn}
 use Rattle.listed_lines.specs.declared.line.RequestIn.TheVariants.{Not as NoRequest, Is as IsRequest}
-use Rattle.listed_lines.specs.Given.{request_in, line_in, LineRead}
+use Rattle.listed_lines.specs.Given.{line_in, LineRead}
 use Rattle.listed_form.specs.Given.{Body, requests_only}
 use Rattle.listed_form.proofs.Stepping.{after-candidate, after-request, no-bad-line, no-head-line, body_end}
 use Rattle.listed_requests.specs.Parts.{uncrowded}

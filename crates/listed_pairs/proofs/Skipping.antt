@@ -1,5 +1,5 @@
 -- Txid requests below a hash, passed one after the other.
-use Prim.Native.Nat.{ℕ, suc, ◌<◌, ◌≤◌}
+use Prim.Native.Nat.{ℕ, ◌≤◌}
 use mathlib.Core.Path.{◌≡◌, refl, sym, ap, ◌∙◌}
 use mathlib.Core.Bool.{Bool, true, false}
 use mathlib.Core.List.{List, ◌∷◌}
@@ -20,7 +20,7 @@ use Rattle.listed_requests.specs.Parts.{uncrowded, pairs_fit}
 use Rattle.listed_requests.specs.declared.forms.Found.{Found}
 use Rattle.listed_requests.specs.Given.{NextRequest}
 use Rattle.listed_requests.proofs.Crowds.{test_few}
-use Rattle.listed_pairs.specs.Given.{Skips, Passed, Below, PassesBelow}
+use Rattle.listed_pairs.specs.Given.{Skips, Below, PassesBelow}
 use Rattle.listed_pairs.proofs.Facing.{weaken, first_few, others_few, front_first}
 use Rattle.listed_pairs.proofs.Seeking.{txid-kind}
 

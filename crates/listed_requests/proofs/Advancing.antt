@@ -3,7 +3,6 @@ use Prim.Native.Nat.{ℕ, suc, ◌+◌, ◌<◌, ◌≤◌}
 use mathlib.Core.Path.{◌≡◌, refl, sym, ap, ◌∙◌}
 use mathlib.Core.Bool.{Bool, true, false, ◌&&◌}
 use mathlib.Core.List.{List, [], ◌∷◌}
-use mathlib.Core.Option.{Option, none, some}
 use native.Mathlib.Omega.{arith}
 use lib.Dec.{ltb, leb}
 use lib.ListN.{length}
@@ -11,11 +10,10 @@ use borrow.Author.Tests.{lt-ltb, le-leb, lt-leb}
 use Rattle.ident.specs.Number.{top, Key, place}
 use Rattle.machine.specs.Limits.{Limits, max_alternates}
 use Rattle.machine.specs.State.{Candidate, Request, Table, with_candidates}
-use Rattle.machine.specs.Table.{one, place_in}
-use Rattle.machine.specs.Listing.{Rest, RequestListed, TableListed}
+use Rattle.machine.specs.Table.{place_in}
+use Rattle.machine.specs.Listing.{Rest, TableListed}
 use Rattle.machine.proofs.Tests.{never}
 use Rattle.listed_lines.specs.declared.line.Request as line-request
-use Rattle.listed_lines.specs.declared.line.RequestIn.{RequestIn}
 use Rattle.listed_lines.specs.declared.line.RequestIn.TheVariants.{Not as NoRequest, Is as IsRequest}
 use Rattle.listed_lines.specs.Given.{package_if, request_in}
 use Rattle.listed_form.specs.Given.{Body, requests_only}
@@ -25,7 +23,7 @@ use Rattle.listed_requests.specs.declared.candidates.Gathered.{Gathered}
 use Rattle.listed_requests.specs.declared.forms.Found.{Found}
 use Rattle.listed_requests.specs.declared.each.Pass.{Pass}
 use Rattle.listed_requests.specs.declared.each.Step.{Step}
-use Rattle.listed_requests.specs.Given.{key_with, First, NextRequest, Judged, lowest, lowest_of, Begun, left_fits, place_for, Further, Stepped, EachFits}
+use Rattle.listed_requests.specs.Given.{key_with, NextRequest, Judged, lowest, lowest_of, Begun, left_fits, place_for, Stepped, EachFits}
 use Rattle.listed_requests.proofs.Passing.{local_is}
 
 -- ---- the test of a request with those behind it

@@ -13,7 +13,7 @@ use Rattle.ident.specs.declared.Kind.{Kind}
 use Rattle.ident.specs.declared.Kind.TheVariants.{Txid, Wtxid}
 use Rattle.ident.specs.Number.{base, top, Key, place, txid, wtxid}
 use Rattle.machine.specs.State.{Candidate, Owner, Request, Table, blank, is_some}
-use Rattle.machine.specs.Table.{at, one, count_in, total, count, owner_in, owners, under, by_under, held_at, owned_at}
+use Rattle.machine.specs.Table.{at, one, count_in, total, count, owner_in, under, by_under, held_at, owned_at}
 use Rattle.machine.specs.Claim.{elem}
 use Rattle.machine.specs.Sound.{Ordered}
 use Rattle.machine.specs.SoundTest.{no_repeat}

@@ -1,5 +1,5 @@
 -- Whether a candidate fits its request's key, in the code's words.
-use Prim.Native.Nat.{ℕ, ◌<◌, ◌≤◌}
+use Prim.Native.Nat.{ℕ, ◌<◌}
 use mathlib.Core.Path.{◌≡◌, refl, sym, ap, ◌∙◌}
 use mathlib.Core.Bool.{Bool, true, false, not, ◌&&◌}
 use mathlib.Core.List.{List, [], ◌∷◌, ◌++◌}
@@ -15,7 +15,7 @@ use Rattle.regions.specs.Rows.{quad_number}
 use Rattle.machine.specs.Limits.{word}
 use Rattle.machine.specs.State.{Candidate}
 use Rattle.machine.specs.SoundTest.{key_is, fits, all_fit}
-use Rattle.machine.proofs.Tests.{test, never}
+use Rattle.machine.proofs.Tests.{test}
 use Rattle.listed_lines.specs.declared.line.Candidate as line-candidate
 use Rattle.listed_lines.specs.Given.{candidate_in}
 use Rattle.listed_requests.specs.Given.{key_with, kind_is}

@@ -1,5 +1,5 @@
 -- The candidates of a request, gathered line by line.
-use Prim.Native.Nat.{ℕ, suc, ◌+◌, ◌<◌, ◌≤◌}
+use Prim.Native.Nat.{ℕ, ◌+◌, ◌<◌, ◌≤◌}
 use mathlib.Core.Path.{◌≡◌, refl, sym, ap, ◌∙◌}
 use mathlib.Core.Bool.{Bool, true, ◌&&◌}
 use mathlib.Core.List.{List, [], ◌∷◌, ◌++◌, append_assoc, append-nil, map-append}
@@ -9,7 +9,7 @@ use native.Mathlib.Omega.{arith}
 use lib.ListN.{length, take, set, length-append}
 use lib.Seq.{take-suc-set}
 use Rattle.ident.specs.Number.{Key}
-use Rattle.machine.specs.State.{Candidate, Request, Table, is_some}
+use Rattle.machine.specs.State.{Candidate, is_some}
 use Rattle.machine.specs.Listing.{Line, HeadLine, RequestLine, CandidateLine, Rest}
 use Rattle.machine.specs.SoundTest.{fits, all_fit}
 use Rattle.machine.proofs.Tests.{never}
@@ -19,10 +19,9 @@ use Rattle.listed_lines.specs.declared.line.Candidate as line-candidate
 use Rattle.listed_lines.specs.declared.line.CandidateIn.{CandidateIn}
 use Rattle.listed_lines.specs.declared.line.CandidateIn.TheVariants.{Not as NoCandidate, Is as IsCandidate}
 use Rattle.listed_lines.specs.Given.{candidate_in, line_in, LineRead}
-use Rattle.listed_form.specs.Given.{Body, requests_only}
+use Rattle.listed_form.specs.Given.{Body}
 use Rattle.listed_form.proofs.Stepping.{after-candidate, after-request, no-bad-line, no-head-line, body_end}
-use Rattle.listed_requests.specs.declared.candidates.Gathered.{Gathered}
-use Rattle.listed_requests.specs.Given.{candidate_only, CandidateOf, most_gathered, Whole, Gathers}
+use Rattle.listed_requests.specs.Given.{candidate_only, CandidateOf, most_gathered, Whole}
 use Rattle.listed_requests.proofs.Lines.{candidate_there, not_candidate}
 use Rattle.listed_requests.proofs.Fitting.{all_fit_none, all_fit_more}
 

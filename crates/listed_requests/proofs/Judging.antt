@@ -1,32 +1,31 @@
 -- One request by itself, in the code's words.
-use Prim.Native.Nat.{ℕ, suc, ◌+◌, ◌<◌, ◌≤◌}
+use Prim.Native.Nat.{ℕ, suc, ◌<◌, ◌≤◌}
 use mathlib.Core.Path.{◌≡◌, refl, sym, ap, ◌∙◌}
-use mathlib.Core.Bool.{Bool, true, false, not, ◌&&◌}
-use mathlib.Core.List.{List, [], ◌∷◌, ◌++◌}
+use mathlib.Core.Bool.{Bool, true, false, ◌&&◌}
+use mathlib.Core.List.{List, [], ◌∷◌}
 use mathlib.Core.Option.{Option, none, some}
 use native.Mathlib.Omega.{arith}
 use lib.Dec.{ltb, leb, eqb}
 use lib.ListN.{length, take}
-use borrow.Author.Tests.{lt-ltb, le-leb, lt-leb, eq-eqb, ne_eqb}
+use borrow.Author.Tests.{lt-ltb, le-leb, lt-leb, ne_eqb}
 use Rattle.ident.specs.declared.Kind.{Kind}
 use Rattle.ident.specs.declared.Kind.TheVariants.{Txid, Wtxid}
-use Rattle.ident.specs.Number.{top, Key}
+use Rattle.ident.specs.Number.{top}
 use Rattle.ident.specs.Words.{hash_bytes}
 use Rattle.words.specs.Words.{number}
 use Rattle.words.proofs.Records.{length-recs}
 use Rattle.machine.specs.Limits.{max_alternates, max_wtxids, max_parents, word}
-use Rattle.machine.specs.State.{Candidate, Owner, Package, Request, Table, with_candidates, is_some}
+use Rattle.machine.specs.State.{Candidate, Owner, Package, Request, with_candidates, is_some}
 use Rattle.machine.specs.Table.{has}
 use Rattle.machine.specs.Claim.{elem, same_kind}
-use Rattle.machine.specs.Listing.{Rest, Every, Whenever, HashesListed, OwnerListed, PackageListed, RequestListed}
-use Rattle.machine.specs.SoundTest.{hashes_fit, no_repeat, all_fit, owner_fits, package_fits, parents_fit, is_empty, is_packed, mark_fits, is_lawful, is_filled}
+use Rattle.machine.specs.Listing.{Every, Whenever, HashesListed, OwnerListed, PackageListed, RequestListed}
+use Rattle.machine.specs.SoundTest.{hashes_fit, no_repeat, all_fit, owner_fits, package_fits, parents_fit, is_empty, is_packed, mark_fits, is_lawful}
 use Rattle.machine.proofs.Tests.{never}
 use Rattle.heavy.specs.Streams.{connections_of}
 use Rattle.listed_lines.specs.declared.line.Request as line-request
 use Rattle.listed_lines.specs.declared.parts.Owner as parts-owner
 use Rattle.listed_lines.specs.Given.{hashes_of, owner_if, package_if, request_in}
-use Rattle.listed_form.specs.Given.{Body, requests_only}
-use Rattle.listed_requests.specs.Parts.{few_once, uncrowded, line_fits, one_fits}
+use Rattle.listed_requests.specs.Parts.{few_once, line_fits, one_fits}
 use Rattle.listed_requests.specs.declared.candidates.Gathered.{Gathered}
 use Rattle.listed_requests.specs.Given.{key_with, most_gathered, Gathers, packs, owner_among, LineFits, Judged}
 

@@ -1,16 +1,16 @@
 -- The requests one after the other: the test of them all, in one pass.
-use Prim.Native.Nat.{ℕ, suc, ◌+◌, ◌<◌, ◌≤◌}
-use mathlib.Core.Path.{◌≡◌, refl, sym, ap, ◌∙◌}
+use Prim.Native.Nat.{ℕ, suc, ◌+◌, ◌≤◌}
+use mathlib.Core.Path.{◌≡◌, refl, ap}
 use mathlib.Core.Bool.{Bool, true, false, ◌&&◌}
-use mathlib.Core.List.{List, [], ◌∷◌}
+use mathlib.Core.List.{[], ◌∷◌}
 use native.Mathlib.Omega.{arith}
 use lib.Dec.{ltb, leb}
 use lib.ListN.{length}
 use borrow.Author.Tests.{leb-true, le-leb}
 use Rattle.ident.specs.Number.{top, place}
 use Rattle.machine.specs.Limits.{Limits}
-use Rattle.machine.specs.State.{Candidate, Request, Table}
-use Rattle.machine.specs.Table.{any, count_in, total, count, held, place_in, places_held}
+use Rattle.machine.specs.State.{Request, Table}
+use Rattle.machine.specs.Table.{any, total, count, held, place_in, places_held}
 use Rattle.machine.specs.SoundTest.{is_lawful, is_ordered, every, is_filled}
 use Rattle.machine.proofs.Tests.{and_left, and_right}
 use Rattle.listed_requests.specs.Parts.{uncrowded, one_fits, local_fits, pass_fits}

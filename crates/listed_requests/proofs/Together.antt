@@ -4,25 +4,24 @@ use mathlib.Core.Path.{◌≡◌, refl, sym, ap, ◌∙◌}
 use mathlib.Core.Logic.{◌⊎◌, inl, inr}
 use mathlib.Core.Bool.{Bool, true, false, not, ◌&&◌}
 use mathlib.Core.List.{List, [], ◌∷◌, ◌++◌}
-use mathlib.Core.Option.{Option, none, some}
 use native.Mathlib.Omega.{arith}
 use lib.Dec.{leb, eqb}
-use lib.ListN.{length, length-append}
-use borrow.Author.Tests.{leb-true, le-leb}
+use lib.ListN.{length-append}
+use borrow.Author.Tests.{le-leb}
 use Rattle.ident.specs.declared.Kind.{Kind}
 use Rattle.ident.specs.declared.Kind.TheVariants.{Txid, Wtxid}
 use Rattle.ident.specs.Number.{top, Key, place, txid, wtxid}
 use Rattle.machine.specs.Limits.{Limits, max_peer_announcements, max_in_flight}
-use Rattle.machine.specs.State.{Candidate, Owner, Request, Table, State, blank, is_some, limits_of}
+use Rattle.machine.specs.State.{Candidate, Request, Table, State, blank, is_some, limits_of}
 use Rattle.machine.specs.Table.{at, one, count_in, count, held, by_under, held_at, held_by, owned_at, owned_by, places_held}
-use Rattle.machine.specs.Sound.{Ordered, All, Lawful, Bounded}
+use Rattle.machine.specs.Sound.{Ordered}
 use Rattle.machine.specs.SoundTest.{is_lawful, is_ordered, every, is_filled, every_in, every_one, crowd_fits, is_bounded, sizes_fit, poll_fits, cursor_fits, is_sound}
 use Rattle.machine.proofs.At.{at_here, at_there}
 use Rattle.machine.proofs.Table.{at_key, all_at}
 use Rattle.machine.proofs.Tests.{test, never, and_left, and_right}
 use Rattle.machine.proofs.SoundTest.{Test, test_and, test_iff, test-ordered, test-every, test-bounded, every_one_lem}
 use Rattle.listed_requests.specs.Parts.{head_fits, few_once, uncrowded, local_fits, pair_fits, paired_in, paired, pairs_fit, count_fits, counts_fit, together_fit}
-use Rattle.listed_requests.proofs.Crowds.{is, Once, Few, test_few, count-append, few_front, few_back, held_two, once_two, owned_two}
+use Rattle.listed_requests.proofs.Crowds.{is, Few, test_few, count-append, few_front, few_back, held_two, once_two, owned_two}
 
 -- ---- every request, with what stands at its key
 

@@ -1,12 +1,11 @@
 -- The test of a state (machine/specs/SoundTest) in the parts that passes over a listing's lines decide: the first line; each request by itself; a Txid request with
 -- the Wtxid request of its hash; how often a connection comes. proofs/Together: they come to the whole test.
-use Rattle.std.specs.Prelude.{ℕ, zero, suc, ◌+◌, Bool, true, false, not, ◌&&◌, List, [], ◌∷◌, ◌++◌, ltb, leb, length}
-use Rattle.std.proofs.Math.Option.{Option, none, some}
+use Rattle.std.specs.Prelude.{ℕ, suc, ◌+◌, Bool, true, not, ◌&&◌, List, [], ◌∷◌, ◌++◌, ltb, leb, length}
 use Rattle.ident.specs.declared.Kind.{Kind}
 use Rattle.ident.specs.declared.Kind.TheVariants.{Txid, Wtxid}
 use Rattle.ident.specs.Number.{top, Key, place, wtxid}
 use Rattle.machine.specs.Limits.{Limits, max_peer_announcements, max_in_flight}
-use Rattle.machine.specs.State.{Candidate, Owner, Request, Table, State, limits_of, is_some}
+use Rattle.machine.specs.State.{Candidate, Request, Table, State, limits_of, is_some}
 use Rattle.machine.specs.Table.{at, held, held_by, owned_by, place_in, places_held}
 use Rattle.machine.specs.SoundTest.{no_repeat, cursor_fits, poll_fits, is_packed, parents_fit, mark_fits, is_lawful, is_ordered, every, is_filled, every_one, sizes_fit}
 use Rattle.heavy.specs.Streams.{connections_of}

@@ -1,5 +1,5 @@
 -- The list of hashes that stands behind a line's other fields.
-use Prim.Native.Nat.{ℕ, ◌+◌, ◌*◌, ◌<◌, ◌≤◌}
+use Prim.Native.Nat.{ℕ, ◌+◌, ◌*◌, ◌≤◌}
 use mathlib.Core.Path.{◌≡◌, sym, ap, ◌∙◌}
 use mathlib.Core.List.{List}
 use mathlib.Core.Option.{some}
@@ -9,7 +9,7 @@ use lib.ListN.{length, take}
 use Rattle.ident.specs.Number.{top}
 use Rattle.ident.specs.Words.{hash_bytes}
 use Rattle.words.specs.Words.{number}
-use Rattle.machine.specs.Call.{Ask, On}
+use Rattle.machine.specs.Call.{On}
 use Rattle.lent_lists.specs.Lists.{hashes_in}
 use Rattle.machine.specs.Fields.{hash_of, rest, taking}
 use Rattle.reading.specs.declared.hashes.Hashes.TheVariants.{None, Are}

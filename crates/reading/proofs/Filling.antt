@@ -5,12 +5,11 @@ use mathlib.Core.Bool.{Bool, true, false}
 use mathlib.Core.List.{List, [], ◌∷◌}
 use mathlib.Core.Option.{Option, none, some}
 use native.Mathlib.Omega.{arith}
-use lib.Dec.{eqb}
 use lib.ListN.{length, drop, get_or}
 use lib.Seq.{drop-cons, drop-length}
 use borrow.Author.Tests.{eq-eqb, ne_eqb}
 use Rattle.ident.specs.Number.{Key, Item}
-use Rattle.machine.specs.Fields.{number_of, bool_of, hash_of, key_of, item_of, rest, taking, ending}
+use Rattle.machine.specs.Fields.{number_of, bool_of, hash_of, key_of, item_of, rest, ending}
 use Rattle.reading.specs.declared.forms.Values as forms
 use Rattle.reading.specs.declared.forms.ValuesAt.{ValuesAt}
 use Rattle.reading.specs.declared.forms.ValuesAt.TheVariants.{Not, Is}

@@ -12,7 +12,7 @@ use Rattle.places.specs.Places.{Place, PlaceShort}
 use Rattle.machine.specs.State.{Candidate, Package, Request, Table, State, with_candidates}
 use Rattle.machine.specs.Sound.{Lawful, Packed, All, Sound}
 use Rattle.machine.specs.Typed.{Each}
-use Rattle.machine.specs.Listing.{Line, Rest}
+use Rattle.machine.specs.Listing.{Rest}
 use Rattle.store.specs.Flat.{Flat, head_of, row_of, rows_for, rows_of, place_for, places_for, places_of}
 use Rattle.store.specs.Image.{Shows}
 use Rattle.store.proofs.Frame.{sizes, shown}

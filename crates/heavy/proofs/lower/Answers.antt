@@ -1,9 +1,8 @@
 -- `heavy::lower` meets its contract. The loop's invariant: the first i counts are lowered.
-use Prim.Native.Nat.{◌-◌}
 use mathlib.Core.Path.{refl, ◌∙◌}
 use native.Mathlib.Omega.{arith}
-use lib.ListN.{length, length-set}
-use Rattle.heavy.proofs.Seeking.{partly, partly_none, partly_all, partly_more}
+use lib.ListN.{length-set}
+use Rattle.heavy.proofs.Seeking.{partly_none, partly_all, partly_more}
 use Rattle.heavy.proofs.lower.Goals as goal
 
 pub loop-i-init : goal.loop-i-init

@@ -1,5 +1,4 @@
 -- `heavy::none_above` meets its contract. The loop's invariant: no count up to i is above.
-use Prim.Native.Nat.{◌-◌}
 use mathlib.Core.Path.{refl, sym, ◌∙◌}
 use native.Mathlib.Omega.{arith}
 use Rattle.heavy.proofs.Seeking.{none_end, one_here, none_here}

@@ -1,5 +1,4 @@
 -- `heavy::seek` meets its contract. The loop's invariant: the first x from i on is the first of all.
-use Prim.Native.Nat.{◌-◌}
 use native.Mathlib.Omega.{arith}
 use Rattle.heavy.proofs.Seeking.{index_end, index_here, index_past}
 use Rattle.heavy.proofs.seek.Goals as goal

@@ -1,8 +1,6 @@
 -- `listed_counts::count_lines` meets its contract. The loop's invariant: what is left of the lines, from the counts as they are, comes to the same as all of them.
-use Prim.Native.Nat.{◌-◌}
 use mathlib.Core.Path.{refl, sym, ◌∙◌}
 use native.Mathlib.Omega.{arith}
-use Rattle.heavy.specs.Counters.{sum}
 use Rattle.listed_counts.proofs.Numbers.{sum_more}
 use Rattle.listed_counts.proofs.Lines.{count-begin, count_on, count_end}
 use Rattle.listed_counts.proofs.count_lines.Goals as goal

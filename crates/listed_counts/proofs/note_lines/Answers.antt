@@ -1,8 +1,6 @@
 -- `listed_counts::note_lines` meets its contract. The loop's invariant: what is left of the lines, from the counters as they are, comes to the same as all of them.
-use Prim.Native.Nat.{◌-◌}
 use mathlib.Core.Path.{refl, sym, ◌∙◌}
 use native.Mathlib.Omega.{arith}
-use Rattle.heavy.specs.Counters.{sum}
 use Rattle.listed_counts.proofs.Numbers.{sum-noted}
 use Rattle.listed_counts.proofs.Lines.{note-begin, note_on, note_end}
 use Rattle.listed_counts.proofs.note_lines.Goals as goal

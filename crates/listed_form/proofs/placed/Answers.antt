@@ -1,5 +1,4 @@
 -- `listed_form::placed` meets its contract. The loop's invariant: the lines that are left, from what has been met, are placed where all of them are.
-use Prim.Native.Nat.{◌-◌}
 use mathlib.Core.Path.{refl, ◌∙◌}
 use native.Mathlib.Omega.{arith}
 use Rattle.listed_form.proofs.Forms.{scan-begin, scan_on, scan_stop, scan_end}

@@ -1,5 +1,4 @@
 -- `listed_pairs::below` meets its contract. The loop's invariant: the requests before the index come to nothing.
-use Prim.Native.Nat.{◌-◌}
 use mathlib.Core.Path.{refl, ◌∙◌}
 use native.Mathlib.Omega.{arith}
 use borrow.Author.Tests.{not-false}

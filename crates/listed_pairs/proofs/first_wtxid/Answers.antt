@@ -1,5 +1,4 @@
 -- `listed_pairs::first_wtxid` meets its contract. The loop's invariant: the requests before the index are Txid requests.
-use Prim.Native.Nat.{◌-◌}
 use mathlib.Core.Path.{refl, ◌∙◌}
 use native.Mathlib.Omega.{arith}
 use Rattle.listed_pairs.proofs.Seeking.{search-begin, search_on, search_found, search_end}

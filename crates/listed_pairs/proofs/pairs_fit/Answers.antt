@@ -1,5 +1,4 @@
 -- `listed_pairs::pairs_fit` meets its contract. The loop's invariant: the requests that are left pass where all of them do.
-use Prim.Native.Nat.{◌-◌}
 use mathlib.Core.Path.{◌≡◌, refl, ◌∙◌}
 use native.Mathlib.Omega.{arith}
 use Rattle.listed_pairs.proofs.Comparing.{pairs-begin, pairs_stop, pairs_done, pairs_on, front_end, back_end}

@@ -1,5 +1,4 @@
 -- `restoring::put_lines` meets its contract. The loop's invariant: with the lines before index at, the store has what those from there on do not bring.
-use Prim.Native.Nat.{◌-◌}
 use mathlib.Core.Path.{sym, ◌∙◌}
 use native.Mathlib.Omega.{arith}
 use Rattle.restoring.proofs.Walking.{walked_none, walked-room, walked_on, walked_all}

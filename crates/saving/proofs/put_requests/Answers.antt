@@ -1,5 +1,4 @@
 -- `saving::put_requests` meets its contract. The loop's invariant: the rows before i are done.
-use Prim.Native.Nat.{◌-◌}
 use native.Mathlib.Omega.{arith}
 use Rattle.requests.proofs.Keeping.{kept_shown}
 use Rattle.saving.proofs.Walking.{walked_none, few_rows, row_ends, walked_more, walked_all}

@@ -1,5 +1,4 @@
 -- `inventory::items::read_items` meets its contract. The loop's invariant: the first i items are read.
-use Prim.Native.Nat.{◌-◌}
 use mathlib.Core.Path.{◌≡◌, ap, ◌∙◌}
 use native.Mathlib.Omega.{arith}
 use Rattle.lent_lists.specs.Items.{item_bytes, item_in}

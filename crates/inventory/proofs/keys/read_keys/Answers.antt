@@ -1,5 +1,4 @@
 -- `inventory::keys::read_keys` meets its contract. The loop's invariant: the first i keys are read.
-use Prim.Native.Nat.{◌-◌}
 use mathlib.Core.Path.{◌≡◌, ap, ◌∙◌}
 use native.Mathlib.Omega.{arith}
 use Rattle.machine.specs.Call.{key_bytes}

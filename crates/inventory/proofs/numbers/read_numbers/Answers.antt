@@ -1,5 +1,4 @@
 -- `inventory::numbers::read_numbers` meets its contract. The loop's invariant: the first i numbers are read.
-use Prim.Native.Nat.{◌-◌}
 use mathlib.Core.Path.{◌≡◌, ap, ◌∙◌}
 use native.Mathlib.Omega.{arith}
 use Rattle.words.specs.Words.{number}

@@ -2,7 +2,6 @@
 use Prim.Native.Nat.{◌≤◌, ◌-◌}
 use mathlib.Core.Path.{◌≡◌}
 use lib.ListN.{length}
-use Rattle.words.specs.Words.{number}
 use Rattle.machine.specs.Fields.{number_of, taking}
 use Rattle.reading.specs.Given.{ElementsRead}
 use Rattle.inventory.specs.Given.{numbers_of}

@@ -1,5 +1,4 @@
 -- `inventory::offers::read_offers` meets its contract. The loop's invariant: the first i offers are read.
-use Prim.Native.Nat.{◌-◌}
 use mathlib.Core.Path.{◌≡◌, refl, ap, ◌∙◌}
 use native.Mathlib.Omega.{arith}
 use Rattle.reading.specs.Lists.{offer_then}

@@ -1,8 +1,7 @@
 -- `listed_requests::candidates::gather` meets its contract. The loop's invariant: the candidates before the index are gathered.
-use Prim.Native.Nat.{◌-◌}
 use mathlib.Core.Path.{refl, ◌∙◌}
 use native.Mathlib.Omega.{arith}
-use lib.ListN.{length, length-set}
+use lib.ListN.{length-set}
 use Rattle.listed_requests.specs.Given.{key_with}
 use Rattle.listed_requests.proofs.Gathering.{gone_none, gone_more, too_many, all_gone, text-gone}
 use Rattle.listed_requests.proofs.candidates.gather.Goals as goal

@@ -1,7 +1,5 @@
 -- `listed_requests::distinct::all_distinct` meets its contract.
-use Prim.Native.Nat.{◌-◌}
 use mathlib.Core.Path.{◌≡◌, sym, ◌∙◌}
-use mathlib.Core.Bool.{true}
 use native.Mathlib.Omega.{arith}
 use Rattle.listed_requests.proofs.Repeats.{none_repeats, distinct_on, repeated}
 use Rattle.listed_requests.proofs.distinct.all_distinct.Goals as goal

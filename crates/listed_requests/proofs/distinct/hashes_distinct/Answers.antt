@@ -1,7 +1,5 @@
 -- `listed_requests::distinct::hashes_distinct` meets its contract.
-use Prim.Native.Nat.{◌-◌}
 use mathlib.Core.Path.{◌≡◌, sym, ap, ◌∙◌}
-use mathlib.Core.Bool.{true}
 use native.Mathlib.Omega.{arith}
 use Rattle.machine.specs.SoundTest.{no_repeat}
 use Rattle.lent_lists.specs.Lists.{hashes_in}

@@ -1,10 +1,7 @@
 -- `listed_requests::distinct::stands` meets its contract.
-use Prim.Native.Nat.{◌-◌}
 use mathlib.Core.Path.{◌≡◌, sym}
-use mathlib.Core.Bool.{false}
 use native.Mathlib.Omega.{arith}
 use borrow.Author.Tests.{ne_eqb}
-use Rattle.machine.specs.Claim.{elem}
 use Rattle.listed_requests.proofs.Repeats.{none_elem, elem_here, elem_on}
 use Rattle.listed_requests.proofs.distinct.stands.Goals as goal
 

@@ -1,5 +1,4 @@
 -- `listed_requests::each::each_fits` meets its contract. The loop's invariant: the requests that are left pass where all of them do.
-use Prim.Native.Nat.{◌-◌}
 use mathlib.Core.Path.{refl, ◌∙◌}
 use native.Mathlib.Omega.{arith}
 use borrow.Author.Tests.{not-true, not-false}

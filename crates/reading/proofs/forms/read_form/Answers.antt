@@ -1,5 +1,4 @@
 -- `reading::forms::read_form` meets its contract.
-use Prim.Native.Nat.{◌-◌}
 use native.Mathlib.Omega.{arith}
 use Rattle.reading.proofs.Filling.{begun, stopped, further, whole}
 use Rattle.reading.proofs.forms.read_form.Goals as goal

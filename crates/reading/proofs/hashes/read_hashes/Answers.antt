@@ -1,5 +1,4 @@
 -- `reading::hashes::read_hashes` meets its contract. The loop's invariant: the first i hashes are read.
-use Prim.Native.Nat.{◌-◌}
 use mathlib.Core.Path.{◌≡◌, ap, ◌∙◌}
 use native.Mathlib.Omega.{arith}
 use Rattle.ident.specs.Words.{hash_bytes}

@@ -1,7 +1,7 @@
 -- `restoring::new_places::push_parents` meets its contract. The loop's invariant: the first j hashes are in.
 use native.Mathlib.Omega.{arith}
 use native.Mathlib.Nat.{le_refl}
-use Prim.Native.Nat.{ℕ, ◌-◌, ◌<◌}
+use Prim.Native.Nat.{ℕ, ◌<◌}
 use mathlib.Core.Path.{◌≡◌, ap, subst, ◌∙◌}
 use lib.ListN.{length, take}
 use lib.Seq.{take_all}

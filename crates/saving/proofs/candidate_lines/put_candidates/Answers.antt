@@ -1,5 +1,4 @@
 -- `saving::candidate_lines::put_candidates` meets its contract. The loop's invariant: the rows before i are done.
-use Prim.Native.Nat.{◌-◌}
 use mathlib.Core.Path.{◌≡◌, refl, ◌∙◌}
 use native.Mathlib.Omega.{arith}
 use Rattle.saving.proofs.Candidates.{rows_none, rows-laid}

@@ -1,5 +1,4 @@
 -- `saving::request_lines::next_hashes` meets its contract. The loop's invariant: the first j hashes are done.
-use Prim.Native.Nat.{◌-◌}
 use mathlib.Core.Path.{◌≡◌, refl, ◌∙◌}
 use native.Mathlib.Omega.{arith}
 use Rattle.machine.specs.State.{Request}
