@@ -3,21 +3,18 @@ use Prim.Native.Nat.{ℕ, ◌<◌}
 use native.Mathlib.Omega.{arith}
 use mathlib.Core.Path.{◌≡◌, refl, sym, ap, ◌∙◌}
 use mathlib.Core.Logic.{inl, inr}
-use mathlib.Core.Bool.{Bool, true, false, ◌||◌}
-use mathlib.Core.List.{List, [], ◌∷◌, ◌++◌, map}
+use mathlib.Core.Bool.{Bool, true, false}
+use mathlib.Core.List.{List, [], ◌∷◌, map}
 use mathlib.Core.Option.{Option, none, some}
 use lib.Dec.{eqb}
-use lib.ListN.{length}
 use borrow.Author.Tests.{eqb-true, eq-eqb, ne_eqb}
-use Rattle.std.specs.Prelude.{if◌then◌else◌}
 use Rattle.ident.specs.declared.Kind.{Kind}
 use Rattle.ident.specs.declared.Kind.TheVariants.{Txid, Wtxid}
 use Rattle.ident.specs.Number.{top, Key, place, txid, wtxid}
-use Rattle.regions.specs.declared.Row.{Row}
-use Rattle.machine.specs.State.{Candidate, Owner, Request, Table, Entry, State, owner_is, is_some, is_none}
+use Rattle.machine.specs.State.{Candidate, Owner, Request, Table, Entry, State, is_some, is_none}
 use Rattle.machine.specs.Table.{at, has, owned_at}
-use Rattle.machine.specs.Plan.{able, better, or_else, least_in, least_at, choice}
-use Rattle.machine.specs.Sound.{AllFit, OwnerFits, Lawful, All, Sound}
+use Rattle.machine.specs.Plan.{able, or_else, least_in, least_at, choice}
+use Rattle.machine.specs.Sound.{AllFit, OwnerFits, Lawful, Sound}
 use Rattle.machine.proofs.Change.{unowned_at}
 use Rattle.machine.proofs.Table.{at_key, lawful_at}
 use Rattle.machine.proofs.Tests.{test, never, or_true}
@@ -28,7 +25,7 @@ use Rattle.store.proofs.Bits.{key_row, owns-row, candidate-row}
 use Rattle.store.specs.Image.{Writes}
 use Rattle.requests.specs.Changes.{Spans}
 use Rattle.requests.proofs.Keeping.{from_at, to_at}
-use Rattle.announcing.specs.Evicts.{entry_at, part}
+use Rattle.announcing.specs.Evicts.{part}
 use Rattle.announcing.proofs.Victims.{window_part}
 use Rattle.choosing.specs.Choosing.{least_rows, any_owns, free_choice}
 

@@ -5,13 +5,12 @@ use mathlib.Core.Bool.{Bool, true, false, ◌||◌}
 use mathlib.Core.List.{List, [], ◌∷◌, map}
 use mathlib.Core.Option.{Option, none, some}
 use native.Mathlib.Omega.{arith}
-use lib.Dec.{ltb, leb, eqb}
+use lib.Dec.{leb}
 use lib.ListN.{length, get_or}
 use borrow.Author.Tests.{lt-ltb, le-ltb}
-use Rattle.std.specs.Prelude.{if◌then◌else◌}
 use Rattle.ident.specs.Number.{top, Key, place, txid, wtxid}
 use Rattle.regions.specs.declared.Row.{Row}
-use Rattle.machine.specs.State.{Candidate, Request, Table, State, is_some}
+use Rattle.machine.specs.State.{Candidate, Request, State, is_some}
 use Rattle.machine.specs.Table.{at}
 use Rattle.machine.specs.Later.{earlier, later, least_later, ready_times, any_ready, wait_in, wait_for, time_of}
 use Rattle.machine.specs.Sound.{AllFit, Sound}

@@ -1,8 +1,8 @@
 -- Owners that were written to an answer buffer, read back.
-use Prim.Native.Nat.{ℕ, zero, suc, ◌^◌, ◌<◌}
-use mathlib.Core.Path.{◌≡◌, refl, sym, ap, ◌∙◌}
+use Prim.Native.Nat.{ℕ, ◌<◌}
+use mathlib.Core.Path.{◌≡◌, refl, ap, ◌∙◌}
 use mathlib.Core.Logic.{inl, inr}
-use mathlib.Core.Bool.{true, ◌||◌}
+use mathlib.Core.Bool.{true}
 use mathlib.Core.List.{List, [], ◌∷◌, ◌++◌, append_assoc}
 use mathlib.Core.Option.{Option, none, some}
 use native.Mathlib.Omega.{arith}
@@ -14,9 +14,9 @@ use Rattle.ident.specs.Number.{Key, txid, wtxid}
 use Rattle.words.specs.Words.{number, digits, bytes_of}
 use Rattle.words.proofs.Digits.{length_digits, number_digits}
 use Rattle.machine.specs.Limits.{word}
-use Rattle.machine.specs.State.{Candidate, Owner, State, Table}
+use Rattle.machine.specs.State.{Candidate, Owner, State}
 use Rattle.machine.specs.Table.{at, has}
-use Rattle.machine.specs.Sound.{AllFit, OwnerFits, Lawful, Sound}
+use Rattle.machine.specs.Sound.{AllFit, OwnerFits, Sound}
 use Rattle.machine.specs.Owners.{Holding, holding_as, or_holding, holding_at, holdings}
 use Rattle.machine.specs.Call.{owner_bytes}
 use Rattle.machine.specs.Step.{holding_answer, holdings_answer, written}

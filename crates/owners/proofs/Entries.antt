@@ -1,16 +1,12 @@
 -- Owners as words: whom a row names, and the first of two.
 use Prim.Native.Nat.{ℕ, zero, suc, ◌+◌, ◌/◌, ◌%◌, ◌≤◌, ◌<◌}
 use mathlib.Core.Path.{◌≡◌, refl, sym, ap, subst, ◌∙◌}
-use mathlib.Core.Bool.{Bool, true, false}
 use mathlib.Core.List.{List, [], ◌∷◌}
 use mathlib.Core.Option.{Option, none, some}
 use native.Mathlib.Omega.{arith}
-use lib.Dec.{eqb}
 use lib.ListN.{get_or}
 use borrow.Author.Tests.{eq-eqb, ne_eqb}
-use Rattle.ident.specs.Number.{Key}
 use Rattle.regions.specs.declared.Row.{Row}
-use Rattle.machine.specs.State as machine
 use Rattle.machine.specs.Owners.{Holding, holding_as, or_holding}
 use Rattle.machine.specs.Step.{kind_number, holding_words}
 use Rattle.store.specs.Flat.{own_bit}

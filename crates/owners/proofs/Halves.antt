@@ -1,43 +1,39 @@
 -- The rows of Txid keys come first, then those of Wtxid keys, and in each half the hashes do not fall.
-use Prim.Native.Nat.{ℕ, suc, ◌+◌, ◌-◌, ◌^◌, ◌≤◌, ◌<◌}
+use Prim.Native.Nat.{ℕ, suc, ◌+◌, ◌-◌, ◌≤◌, ◌<◌}
 use mathlib.Core.Path.{◌≡◌, refl, sym, ap, subst, ◌∙◌}
 use mathlib.Core.Logic.{inl, inr}
-use mathlib.Core.Bool.{Bool, true, false, ◌||◌}
+use mathlib.Core.Bool.{false}
 use mathlib.Core.List.{List, [], ◌∷◌, ◌++◌, map}
-use mathlib.Core.Option.{Option, none, some}
 use native.Mathlib.Nat.{le_refl}
 use native.Mathlib.Omega.{arith}
 use lib.Dec.{leb, lit<}
 use lib.ListN.{length}
-use borrow.Author.Tests.{leb-true, eqb-true, eqb-false, eq-eqb, ne_eqb}
+use borrow.Author.Tests.{leb-true}
 use Rattle.ident.specs.declared.Kind.{Kind}
 use Rattle.ident.specs.declared.Kind.TheVariants.{Txid, Wtxid}
-use Rattle.std.specs.Prelude.{if◌then◌else◌}
-use Rattle.ident.specs.Number.{top, Key, base, place, txid, wtxid}
+use Rattle.ident.specs.Number.{top, Key, base, place, txid}
 use Rattle.words.specs.Words.{number}
 use Rattle.regions.specs.declared.Row.{Row}
 use Rattle.regions.specs.declared.Key.{Key as RowKey}
 use Rattle.regions.specs.Regions.{each}
 use Rattle.regions.specs.Order.{Bound, one as first}
 use Rattle.regions.specs.Rows.{key_number}
-use Rattle.machine.specs.State.{Candidate, Owner, Request, Table, State, owner_is}
-use Rattle.machine.specs.Table.{at, keys, has}
-use Rattle.machine.specs.Sound.{OwnerFits, Lawful, Filled, Ordered, All, Sound}
-use Rattle.machine.specs.Owners.{Holding, holding_as, or_holding, holding_at, keys_up_to}
-use Rattle.machine.proofs.Tests.{test, never}
-use Rattle.machine.proofs.At.{at_here, at_there}
-use Rattle.machine.proofs.Table.{at_absent}
+use Rattle.machine.specs.State.{Candidate, Request, Table, State}
+use Rattle.machine.specs.Table.{at, keys}
+use Rattle.machine.specs.Sound.{Lawful, Filled, Ordered, All, Sound}
+use Rattle.machine.specs.Owners.{or_holding, holding_at, keys_up_to}
+use Rattle.machine.proofs.Tests.{test}
 use Rattle.store.specs.Flat.{row_of, rows_for, rows_of, flat_of}
-use Rattle.store.specs.Gather.{key_at, owner_at, gather}
+use Rattle.store.specs.Gather.{gather}
 use Rattle.store.specs.Shown.{rows_in, row_numbers, Seek}
 use Rattle.store.proofs.Frame.{sizes}
-use Rattle.store.proofs.Bits.{key_row, owner-row}
+use Rattle.store.proofs.Bits.{key_row}
 use Rattle.store.proofs.Split.{above, above_ordered, each_append, rows_below}
 use Rattle.requests.proofs.Keeping.{rows_in_order, to_at}
 use Rattle.announcing.specs.Evicts.{part}
 use Rattle.sweeping.specs.Batches.{keys_over}
 use Rattle.sweeping.proofs.Rounds.{up_to, split, ordered_up, all_up, all_above, lower, upper, keys-rows}
-use Rattle.owners.specs.Walk.{row_hash, row_holding, holding_over, Rises, Parted, Halves}
+use Rattle.owners.specs.Walk.{row_hash, holding_over, Rises, Parted, Halves}
 use Rattle.owners.proofs.Rows.{over_append, rises_from}
 use Rattle.owners.proofs.Tables.{table-names}
 

@@ -1,8 +1,8 @@
 -- The walk from hash to hash: two indices, and what has been written and counted.
-use Prim.Native.Nat.{ℕ, zero, suc, ◌+◌, ◌-◌, ◌*◌, max, ◌≤◌, ◌<◌}
+use Prim.Native.Nat.{ℕ, zero, suc, ◌+◌, ◌*◌, max, ◌≤◌, ◌<◌}
 use mathlib.Core.Path.{◌≡◌, refl, sym, ap, subst, ◌∙◌}
 use mathlib.Core.Logic.{inl, inr}
-use mathlib.Core.Bool.{true, ◌&&◌}
+use mathlib.Core.Bool.{true}
 use mathlib.Core.List.{List, [], ◌∷◌, ◌++◌, map, append_assoc, append-nil}
 use mathlib.Core.Option.{Option}
 use native.Mathlib.Nat.{le_refl}
@@ -14,7 +14,7 @@ use lib.Seq.{take-suc, take_all}
 use borrow.Author.Tests.{ltb-true}
 use Rattle.ident.specs.Number.{top}
 use Rattle.words.specs.Words.{bytes_of, splice}
-use Rattle.words.proofs.Splice.{splice_more, length-splice}
+use Rattle.words.proofs.Splice.{splice_more}
 use Rattle.machine.specs.State.{State, Table}
 use Rattle.machine.specs.Table.{keys}
 use Rattle.machine.specs.Sound.{Sound}

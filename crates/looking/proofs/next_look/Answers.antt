@@ -3,7 +3,6 @@ use Prim.Native.Nat.{◌-◌}
 use native.Mathlib.Omega.{arith}
 use Rattle.store.specs.Flat.{flat_of, rows_of}
 use Rattle.store.specs.Gather.{gather}
-use Rattle.store.proofs.Frame.{sizes}
 use Rattle.requests.proofs.Keeping.{kept_shown}
 use Rattle.announcing.specs.Evicts.{part}
 use Rattle.looking.proofs.Looked.{looks_start, looks-row, looked_all}

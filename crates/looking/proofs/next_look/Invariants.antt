@@ -1,5 +1,5 @@
 -- `looking::next_look` meets its contract.
-use Prim.Native.Nat.{◌-◌, ◌≤◌}
+use Prim.Native.Nat.{◌≤◌}
 use Rattle.store.specs.Flat.{Flat}
 use Rattle.store.specs.Gather.{gather}
 use Rattle.store.specs.Image.{Shows}

@@ -1,6 +1,4 @@
 -- `owners::owners_of` meets its contract.
-use Prim.Native.Nat.{◌-◌}
-use mathlib.Core.Path.{ap}
 use native.Mathlib.Omega.{arith}
 use Rattle.requests.proofs.Keeping.{kept_shown}
 use Rattle.owners.proofs.Listed.{quad_is, quad_small}

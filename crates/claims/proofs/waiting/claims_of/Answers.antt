@@ -1,4 +1,3 @@
-use Prim.Native.Nat.{◌-◌}
 use native.Mathlib.Omega.{arith}
 use Rattle.store.specs.Flat.{flat_of}
 use Rattle.store.proofs.Frame.{sizes}

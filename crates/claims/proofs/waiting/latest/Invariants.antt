@@ -1,4 +1,3 @@
-use Prim.Native.Nat.{◌-◌}
 use Rattle.ident.specs.Words.{hash_num}
 use Rattle.lent_lists.specs.Lists.{hashes_in}
 use Rattle.claims.proofs.LastOnes.{NoneFrom}

@@ -1,9 +1,7 @@
 -- `owners::list::ascends` meets its contract.
-use Prim.Native.Nat.{◌-◌}
 use mathlib.Core.Path.{refl, sym, ◌∙◌}
 use native.Mathlib.Omega.{arith}
 use lib.Dec.{ltb}
-use lib.ListN.{length}
 use Rattle.lent_lists.specs.Lists.{hashes_in}
 use Rattle.lent_lists.proofs.Given.{length-hashes}
 use Rattle.owners.proofs.Listed.{quad_is, ended, goes_on_lem, breaks}
