@@ -27,7 +27,7 @@ put_owner-to-requires c =
 pub overflow_add-i : goal.overflow_add-i
 overflow_add-i c =
     let n = c.hashes-n in
-    omega (arith, c.loop-i-test.true, n.type-inv)
+    omega (arith, c.loop-i-test.true, n.type_inv)
 
 pub loop-i-smaller : goal.loop-i-smaller
 loop-i-smaller c = omega (arith, c.loop-i-test.true)

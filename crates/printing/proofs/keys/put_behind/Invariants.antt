@@ -9,7 +9,7 @@ use Rattle.printing.specs.Given.{behind}
 use Rattle.printing.proofs.keys.put_behind.Given as goal
 
 abbrev pub invariant-loop-i : goal.invariant-loop-i
-invariant-loop-i l = (i ≤ l.n) × (length l.to ≡ length l.initial.out) × (l.i ≤ l.at + 66 * i) × Wrote l.initial.out l.to l.at (behind (key_texts (keys_in i l.answer))) l.i
+invariant-loop-i l = (l.i ≤ l.n) × (length l.out ≡ length l.initial.out) × (l.to ≤ l.at + 66 * l.i) × Wrote l.initial.out l.out l.at (behind (key_texts (keys_in l.i l.answer))) l.to
 
 abbrev pub decreases-loop-i : goal.decreases-loop-i
-decreases-loop-i l = l.n - i
+decreases-loop-i l = l.n - l.i

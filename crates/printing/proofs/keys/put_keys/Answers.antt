@@ -21,7 +21,7 @@ loop-i-preserved c =
     let w = more_wrote c.requires.0
     c.args.answer.now (omega arith) c.loop-i.invariant.2
     c.loop-i.invariant.3 c.put_next-at.ensures in
-    (omega arith, c.put_next-at.auto.0 ∙ c.loop-i.invariant.1, w.0, w.1)
+    (omega arith, c.put_next-at.auto.out ∙ c.loop-i.invariant.1, w.0, w.1)
 
 pub shape_of-out : goal.shape_of-out
 shape_of-out c = c.loop-i.invariant.1
