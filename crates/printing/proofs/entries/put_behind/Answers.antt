@@ -1,5 +1,4 @@
 -- `printing::entries::put_behind` meets its contract. The loop's invariant: the first i entries are written.
-use Prim.Native.Nat.{◌-◌}
 use mathlib.Core.Path.{◌≡◌, refl}
 use native.Mathlib.Omega.{arith}
 use Rattle.printing.proofs.EntryLists.{no-entries, more_entries}

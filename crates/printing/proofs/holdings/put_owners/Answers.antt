@@ -1,5 +1,4 @@
 -- `printing::holdings::put_owners` meets its contract.
-use Prim.Native.Nat.{◌-◌}
 use native.Mathlib.Omega.{arith}
 use Rattle.lent_lists.specs.Lists.{hashes_in}
 use Rattle.owners.proofs.Listed.{quad_is}

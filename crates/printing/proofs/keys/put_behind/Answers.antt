@@ -1,8 +1,6 @@
 -- `printing::keys::put_behind` meets its contract.
-use Prim.Native.Nat.{◌-◌}
 use mathlib.Core.Path.{◌≡◌, refl}
 use native.Mathlib.Omega.{arith}
-use Rattle.printing.specs.Given.{behind}
 use Rattle.printing.proofs.Behind.{none_behind, more_behind}
 use Rattle.printing.proofs.keys.put_behind.Goals as goal
 

@@ -1,5 +1,4 @@
 -- `printing::keys::put_keys` meets its contract. The loop's invariant: the first i keys are written.
-use Prim.Native.Nat.{◌-◌}
 use mathlib.Core.Path.{◌≡◌, ◌∙◌}
 use native.Mathlib.Nat.{pos_of_ne-zero}
 use native.Mathlib.Omega.{arith}
