@@ -22,5 +22,5 @@ returns c =
     let n = c.need-n in
     rw n.ensures
     (restored _ _ c.requires _ (omega (arith, n.ensures))
-    (bytes_front c.write_from.new.1.1.1.0 (drop n.result c.args.s.now) (λ i. omega (arith, c.type_inv.s i)))
+    (bytes_front c.write_from.new.s (drop n.result c.args.s.now) (λ i. omega (arith, c.type_inv.s i)))
     (whole_written c.requires c.write_from.ensures))

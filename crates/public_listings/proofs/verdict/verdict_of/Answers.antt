@@ -10,8 +10,8 @@ returns-in_default c = no-form c.form_of.ensures c.in_default.is
 pub sound_lines-requires : goal.sound_lines-requires
 sound_lines-requires c = (
   form-inside c.form_of.ensures c.in-Is.is,
-  omega (arith, c.form_of.auto.1.0, c.hash_room-wtxids.ensures),
-  omega (arith, c.form_of.auto.1.1.0, c.hash_room-parents.ensures),
+  omega (arith, c.form_of.auto.wtxids, c.hash_room-wtxids.ensures),
+  omega (arith, c.form_of.auto.parents, c.hash_room-parents.ensures),
 )
 
 pub returns-then-not-sound_lines : goal.returns-then-not-sound_lines
