@@ -6,5 +6,5 @@ use Rattle.keeping.proofs.kept.empty.Goals as goal
 pub returns : goal.returns
 returns c = emptied c.requires
     c.put.ensures c.put-2.ensures
-    c.put-3.ensures (c.put-3.auto.0 ∙ c.put-2.auto.0 ∙
-    c.put.auto.0)
+    c.put-3.ensures (c.put-3.auto.s ∙ c.put-2.auto.s ∙
+    c.put.auto.s)

@@ -11,6 +11,6 @@ returns c = list_held c.args.answer.now
     c.requires.0
     c.requires.1
     c.requires.2
-    c.put.ensures c.put.auto.0
+    c.put.ensures c.put.auto.s
     (c.copy_slot.ensures ∙ ap (λ (j : ℕ). take j c.args.answer.now)
     (whole c.args.n)) refl
