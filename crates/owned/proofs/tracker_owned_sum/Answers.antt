@@ -3,17 +3,18 @@ use Rattle.crossing.proofs.Statuses.{sum-refused, sum_told, stays}
 use Rattle.owned.proofs.tracker_owned_sum.Goals as goal
 
 pub returns-in-Refused : goal.returns-in-Refused
-returns-in-Refused c = (
-  sum-refused c.args.s.now _ _ _ _ _
-      (sum_told c.args.s.now c.sum-f.ensures c.in-Refused.is),
-  (
+returns-in-Refused c = record {
+  leaves = sum-refused c.args.s.now _ _ _ _ _ (sum_told c.args.s.now c.sum-f.ensures c.in-Refused.is);
+  kept = (
     stays c.in-Refused.n c.args.held.now,
-    stays c.in-Refused.n
-        c.args.free.now,
-    stays c.in-Refused.n c.args.preferred-free.now,
+    stays c.in-Refused.n c.args.free.now,
+    stays c.in-Refused.n c.args.preferred_free.now,
     stays c.in-Refused.n c.args.permille.now,
-  ),
-)
+  );
+}
 
 pub returns-in-Are : goal.returns-in-Are
-returns-in-Are c = (sum_told c.args.s.now c.sum-f.ensures c.in-Are.is, (tt, tt, tt, tt))
+returns-in-Are c = record {
+  leaves = sum_told c.args.s.now c.sum-f.ensures c.in-Are.is;
+  kept = (tt, tt, tt, tt);
+}

@@ -8,7 +8,8 @@ use Rattle.owned.proofs.candidates.tracker_owned_announce.Goals as goal
 
 pub returns : goal.returns
 returns c =
-    let m = (makes c.candidate-c.result c.candidate-c.type-inv) in
-    owner-number m c.requires
-    (λ i. omega (arith, c.type_inv.s i)) c.announce-a.result _
-    c.announce-a.ensures c.hand_out.ensures (ap (λ x. On (Announce x)) c.candidate-c.ensures)
+    let m = (makes c.candidate-c.result c.candidate-c.type_inv) in
+    let o = owner-number m c.requires
+    (λ i. grind arith) c.announce-a.result _
+    c.announce-a.ensures c.hand_out.ensures (ap (λ x. On (Announce x)) c.candidate-c.ensures) in
+    record { hands_out = o.0; sound = o.1 }

@@ -9,7 +9,8 @@ returns c =
     let m = makes c.args.connection
     c.args.clock
     c.args.answer.now (omega arith) (omega arith) in
-    owner_departure m c.requires
-    (λ i. omega (arith, c.type_inv.s i))
+    let o = owner_departure m c.requires
+    (λ i. omega (arith, c.slice_known-1.given i))
     c.disconnected-d.result _ _ c.disconnected-d.ensures
-    c.hand_departure.ensures
+    c.hand_departure.ensures in
+    record { hands_departure = o.0; sound = o.1 }

@@ -9,9 +9,10 @@ use Rattle.owned.proofs.failures.tracker_owned_failed.Goals as goal
 pub returns : goal.returns
 returns c =
     let m = (makes c.key_given-k.result c.args.connection
-    c.args.clock c.key_given-k.type-inv (omega arith) (omega arith)) in
-    owner-number m c.requires
-    (λ i. omega (arith, c.type_inv.s i)) c.failed-a.result _
+    c.args.clock c.key_given-k.type_inv (omega arith) (omega arith)) in
+    let o = owner-number m c.requires
+    (λ i. omega (arith, c.slice_known-1.given i)) c.failed-a.result _
     c.failed-a.ensures c.hand_out.ensures
     (ap (λ x. On (Failed x c.args.connection
-    c.args.clock)) c.key_given-k.ensures)
+    c.args.clock)) c.key_given-k.ensures) in
+    record { hands_out = o.0; sound = o.1 }

@@ -12,12 +12,13 @@ returns c =
     c.args.connection
     c.args.clock
     c.args.answer.now
-    c.key_given-k.type-inv (omega arith) (omega arith)) in
-    owner-keys m c.requires
-    (λ i. omega (arith, c.type_inv.s i))
+    c.key_given-k.type_inv (omega arith) (omega arith)) in
+    let o = owner-keys m c.requires
+    (λ i. omega (arith, c.slice_known-1.given i))
     c.failed_with_parents-l.result _ c.failed_with_parents-l.ensures
     c.hand_count.ensures
     (ap (λ x. On (FailedWithParents x c.args.connection
     c.args.clock
     c.args.answer.now))
-    c.key_given-k.ensures)
+    c.key_given-k.ensures) in
+    record { hands_keys = o.0; sound = o.1 }

@@ -9,7 +9,8 @@ use Rattle.owned.proofs.failures.tracker_owned_forget.Goals as goal
 
 pub returns : goal.returns
 returns c =
-    let m = (makes c.key_given-k.result c.key_given-k.type-inv) in
-    owner_one m c.requires (λ i. omega (arith, c.type_inv.s i)) (forgets _)
+    let m = (makes c.key_given-k.result c.key_given-k.type_inv) in
+    let o = owner_one m c.requires (λ i. omega (arith, c.slice_known-1.given i)) (forgets _)
     c.forget.result c.forget.ensures c.status.ensures
-    (ap (λ x. On (Forget x)) c.key_given-k.ensures)
+    (ap (λ x. On (Forget x)) c.key_given-k.ensures) in
+    record { leaves = o.0; sound = o.1 }

@@ -10,10 +10,11 @@ returns c =
     let m = (makes c.args.connection _ _
     c.args.clock
     c.args.wtxids.now (omega arith)
-    (hash_below _ (hash-four _ c.hash_from_bytes.type-inv))
-    (hash_below _ (hash-four _ c.hash_from_bytes-d.type-inv)) (omega arith)
+    (hash_below _ (hash-four _ c.hash_from_bytes.type_inv))
+    (hash_below _ (hash-four _ c.hash_from_bytes-d.type_inv)) (omega arith)
     (λ i. omega (arith, c.type_inv.wtxids i))) in
-    owner-number m c.requires
-    (λ i. omega (arith, c.type_inv.s i)) c.claim_package-a.result _
+    let o = owner-number m c.requires
+    (λ i. omega (arith, c.slice_known-1.given i)) c.claim_package-a.result _
     c.claim_package-a.ensures c.hand_out.ensures
-    (rw (c.hash_from_bytes.ensures, c.hash_from_bytes-d.ensures))
+    (rw (c.hash_from_bytes.ensures, c.hash_from_bytes-d.ensures)) in
+    record { hands_out = o.0; sound = o.1 }

@@ -10,7 +10,8 @@ returns c =
     let a = c.args in
     let m = makes a.connection a.clock a.combined.now a.answer.now (omega arith) (omega arith)
     (λ i. omega (arith, c.type_inv.combined i)) in
-    owner-keys m c.requires
-    (λ i. omega (arith, c.type_inv.s i))
+    let o = owner-keys m c.requires
+    (λ i. omega (arith, c.slice_known-1.given i))
     c.failed_package_claims-l.result _ c.failed_package_claims-l.ensures
-    c.hand_count.ensures refl
+    c.hand_count.ensures refl in
+    record { hands_keys = o.0; sound = o.1 }

@@ -10,6 +10,7 @@ returns c =
     c.args.checked.now
     c.args.answer.now (omega arith)
     (λ i. omega (arith, c.type_inv.checked i)) in
-    owner-entries m c.requires
-    (λ i. omega (arith, c.type_inv.s i))
-    c.claim-l.result _ c.claim-l.ensures c.hand_count.ensures
+    let o = owner-entries m c.requires
+    (λ i. omega (arith, c.slice_known-1.given i))
+    c.claim-l.result _ c.claim-l.ensures c.hand_count.ensures in
+    record { hands_entries = o.0; sound = o.1 }

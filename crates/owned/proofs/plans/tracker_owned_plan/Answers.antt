@@ -8,7 +8,8 @@ pub returns : goal.returns
 returns c =
     let m = makes c.args.clock
     c.args.answer.now (omega arith) in
-    owner-plan m c.requires
-    (λ i. omega (arith, c.type_inv.s i))
+    let o = owner-plan m c.requires
+    (λ i. omega (arith, c.slice_known-1.given i))
     c.plan-p.result _ _ _ c.plan-p.ensures
-    c.hand_plan.ensures
+    c.hand_plan.ensures in
+    record { hands_plan = o.0; sound = o.1 }

@@ -10,7 +10,8 @@ returns c =
     c.args.given.now
     c.args.answer.now (omega arith)
     (λ i. omega (arith, c.type_inv.given i)) in
-    owner-plan m c.requires
-    (λ i. omega (arith, c.type_inv.s i))
+    let o = owner-plan m c.requires
+    (λ i. omega (arith, c.slice_known-1.given i))
     c.plan_given-p.result _ _ _ c.plan_given-p.ensures
-    c.hand_plan.ensures
+    c.hand_plan.ensures in
+    record { hands_plan = o.0; sound = o.1 }

@@ -8,6 +8,7 @@ use Rattle.owned.proofs.sweeps.tracker_owned_sweep.Goals as goal
 pub returns : goal.returns
 returns c =
     let m = (makes c.args.answer.now) in
-    owner-keys m c.requires
-    (λ i. omega (arith, c.type_inv.s i))
-    c.sweep-l.result _ c.sweep-l.ensures c.hand_count.ensures refl
+    let o = owner-keys m c.requires
+    (λ i. omega (arith, c.slice_known-1.given i))
+    c.sweep-l.result _ c.sweep-l.ensures c.hand_count.ensures refl in
+    record { hands_keys = o.0; sound = o.1 }

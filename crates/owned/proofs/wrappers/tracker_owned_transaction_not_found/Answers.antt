@@ -10,7 +10,8 @@ returns c =
     let a = c.args in
     let m = makes a.connection a.clock a.items.now a.answer.now (omega arith) (omega arith)
     (λ i. omega (arith, c.type_inv.items i)) in
-    owner-keys m c.requires
-    (λ i. omega (arith, c.type_inv.s i))
+    let o = owner-keys m c.requires
+    (λ i. omega (arith, c.slice_known-1.given i))
     c.transaction_not_found-l.result _ c.transaction_not_found-l.ensures
-    c.hand_count.ensures refl
+    c.hand_count.ensures refl in
+    record { hands_keys = o.0; sound = o.1 }

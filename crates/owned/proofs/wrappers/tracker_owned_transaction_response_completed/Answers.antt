@@ -9,9 +9,10 @@ use Rattle.owned.proofs.wrappers.tracker_owned_transaction_response_completed.Go
 pub returns : goal.returns
 returns c =
     let m = makes c.args.connection _ _ c.args.clock
-    (omega arith) (hash_below _ (hash-four _ c.hash_from_bytes-g.type-inv))
-    (hash_below _ (hash-four _ c.hash_from_bytes-h.type-inv)) (omega arith) in
-    owner_one m c.requires
-    (λ i. omega (arith, c.type_inv.s i)) (completes _ _ _ _)
+    (omega arith) (hash_below _ (hash-four _ c.hash_from_bytes-g.type_inv))
+    (hash_below _ (hash-four _ c.hash_from_bytes-h.type_inv)) (omega arith) in
+    let o = owner_one m c.requires
+    (λ i. omega (arith, c.slice_known-1.given i)) (completes _ _ _ _)
     c.transaction_response_completed.result c.transaction_response_completed.ensures c.status.ensures
-    (rw (c.hash_from_bytes-g.ensures, c.hash_from_bytes-h.ensures))
+    (rw (c.hash_from_bytes-g.ensures, c.hash_from_bytes-h.ensures)) in
+    record { leaves = o.0; sound = o.1 }
