@@ -1,7 +1,6 @@
 -- `owned::candidates::tracker_owned_announce_parents` meets its contract: that of the checked call, behind its sound test, and the store stays sound.
 use mathlib.Core.Path.{refl}
 use native.Mathlib.Omega.{arith}
-use borrow.Author.Rules.{rules}
 use Rattle.tracker.specs.Made.{announces-parents as makes}
 use Rattle.owned.proofs.Owner.{owner-keys}
 use Rattle.owned.proofs.candidates.tracker_owned_announce_parents.Goals as goal
@@ -14,6 +13,6 @@ returns c =
     c.args.answer.now (omega arith) (omega arith)
     (λ i. omega (arith, c.type_inv.parents i))) in
     let o = owner-keys m c.requires
-    (λ i. search rules)
+    (λ i. grind arith)
     c.announce_parents-l.result _ c.announce_parents-l.ensures c.hand_count.ensures refl in
     record { hands_keys = o.0; sound = o.1 }

@@ -10,6 +10,6 @@ pub returns : goal.returns
 returns c =
     let m = (makes c.candidate-c.result c.candidate-c.type_inv) in
     let o = owner-number m c.requires
-    (λ i. omega (arith, c.slice_known-1.given i)) c.request_parent-a.result _
+    (λ i. grind arith) c.request_parent-a.result _
     c.request_parent-a.ensures c.hand_out.ensures (ap (λ x. On (RequestParent x)) c.candidate-c.ensures) in
     record { hands_out = o.0; sound = o.1 }

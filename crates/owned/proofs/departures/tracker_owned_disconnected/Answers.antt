@@ -10,7 +10,7 @@ returns c =
     c.args.clock
     c.args.answer.now (omega arith) (omega arith) in
     let o = owner_departure m c.requires
-    (λ i. omega (arith, c.slice_known-1.given i))
+    (λ i. grind arith)
     c.disconnected-d.result _ _ c.disconnected-d.ensures
     c.hand_departure.ensures in
     record { hands_departure = o.0; sound = o.1 }

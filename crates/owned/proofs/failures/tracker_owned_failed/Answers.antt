@@ -11,7 +11,7 @@ returns c =
     let m = (makes c.key_given-k.result c.args.connection
     c.args.clock c.key_given-k.type_inv (omega arith) (omega arith)) in
     let o = owner-number m c.requires
-    (λ i. omega (arith, c.slice_known-1.given i)) c.failed-a.result _
+    (λ i. grind arith) c.failed-a.result _
     c.failed-a.ensures c.hand_out.ensures
     (ap (λ x. On (Failed x c.args.connection
     c.args.clock)) c.key_given-k.ensures) in

@@ -14,7 +14,7 @@ returns c =
     c.args.answer.now
     c.key_given-k.type_inv (omega arith) (omega arith)) in
     let o = owner-keys m c.requires
-    (λ i. omega (arith, c.slice_known-1.given i))
+    (λ i. grind arith)
     c.failed_with_parents-l.result _ c.failed_with_parents-l.ensures
     c.hand_count.ensures
     (ap (λ x. On (FailedWithParents x c.args.connection

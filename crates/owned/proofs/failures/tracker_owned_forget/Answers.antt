@@ -10,7 +10,7 @@ use Rattle.owned.proofs.failures.tracker_owned_forget.Goals as goal
 pub returns : goal.returns
 returns c =
     let m = (makes c.key_given-k.result c.key_given-k.type_inv) in
-    let o = owner_one m c.requires (λ i. omega (arith, c.slice_known-1.given i)) (forgets _)
+    let o = owner_one m c.requires (λ i. grind arith) (forgets _)
     c.forget.result c.forget.ensures c.status.ensures
     (ap (λ x. On (Forget x)) c.key_given-k.ensures) in
     record { leaves = o.0; sound = o.1 }

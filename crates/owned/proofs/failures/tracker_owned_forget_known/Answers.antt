@@ -11,7 +11,7 @@ pub returns : goal.returns
 returns c =
     let m = (makes c.key_given-k.result c.args.clock
     c.key_given-k.type_inv (omega arith)) in
-    let o = owner_one m c.requires (λ i. omega (arith, c.slice_known-1.given i))
+    let o = owner_one m c.requires (λ i. grind arith)
     (forgets_known _ _) c.forget_known.result c.forget_known.ensures c.status.ensures
     (ap (λ x. On (ForgetKnown x c.args.clock)) c.key_given-k.ensures) in
     record { leaves = o.0; sound = o.1 }

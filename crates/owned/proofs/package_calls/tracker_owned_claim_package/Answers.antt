@@ -14,7 +14,7 @@ returns c =
     (hash_below _ (hash-four _ c.hash_from_bytes-d.type_inv)) (omega arith)
     (λ i. omega (arith, c.type_inv.wtxids i))) in
     let o = owner-number m c.requires
-    (λ i. omega (arith, c.slice_known-1.given i)) c.claim_package-a.result _
+    (λ i. grind arith) c.claim_package-a.result _
     c.claim_package-a.ensures c.hand_out.ensures
     (rw (c.hash_from_bytes.ensures, c.hash_from_bytes-d.ensures)) in
     record { hands_out = o.0; sound = o.1 }

@@ -12,7 +12,7 @@ returns c =
     c.args.answer.now (omega arith)
     (hash_below _ (hash-four _ c.hash_from_bytes.type_inv)) (omega arith)) in
     let o = owner-keys m c.requires
-    (λ i. omega (arith, c.slice_known-1.given i))
+    (λ i. grind arith)
     c.release_package-l.result _ c.release_package-l.ensures c.hand_count.ensures
     (rw c.hash_from_bytes.ensures) in
     record { hands_keys = o.0; sound = o.1 }

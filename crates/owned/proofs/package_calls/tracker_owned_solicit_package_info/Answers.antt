@@ -12,6 +12,6 @@ returns c =
     (omega arith) (hash_below _ (hash-four _ c.hash_from_bytes.type_inv)) (omega arith)
     (λ i. omega (arith, c.type_inv.parents i))) in
     let o = owner-number m c.requires
-    (λ i. omega (arith, c.slice_known-1.given i)) c.solicit_package_info-a.result _
+    (λ i. grind arith) c.solicit_package_info-a.result _
     c.solicit_package_info-a.ensures c.hand_out.ensures (rw c.hash_from_bytes.ensures) in
     record { hands_out = o.0; sound = o.1 }

@@ -11,7 +11,7 @@ returns c =
     let m = makes a.connection a.clock a.combined.now a.answer.now (omega arith) (omega arith)
     (λ i. omega (arith, c.type_inv.combined i)) in
     let o = owner-keys m c.requires
-    (λ i. omega (arith, c.slice_known-1.given i))
+    (λ i. grind arith)
     c.failed_package_claims-l.result _ c.failed_package_claims-l.ensures
     c.hand_count.ensures refl in
     record { hands_keys = o.0; sound = o.1 }

@@ -9,6 +9,6 @@ pub returns : goal.returns
 returns c =
     let a = c.args in
     let m = makes a.clock (omega arith) in
-    let o = owner-number m c.requires (λ i. omega (arith, c.slice_known-1.given i))
+    let o = owner-number m c.requires (λ i. grind arith)
     c.teardown_package_claims-a.result _ c.teardown_package_claims-a.ensures c.hand_out.ensures refl in
     record { hands_out = o.0; sound = o.1 }

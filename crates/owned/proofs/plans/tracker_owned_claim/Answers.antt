@@ -11,6 +11,6 @@ returns c =
     c.args.answer.now (omega arith)
     (λ i. omega (arith, c.type_inv.checked i)) in
     let o = owner-entries m c.requires
-    (λ i. omega (arith, c.slice_known-1.given i))
+    (λ i. grind arith)
     c.claim-l.result _ c.claim-l.ensures c.hand_count.ensures in
     record { hands_entries = o.0; sound = o.1 }

@@ -9,7 +9,7 @@ returns c =
     let m = makes c.args.clock
     c.args.answer.now (omega arith) in
     let o = owner-plan m c.requires
-    (λ i. omega (arith, c.slice_known-1.given i))
+    (λ i. grind arith)
     c.plan-p.result _ _ _ c.plan-p.ensures
     c.hand_plan.ensures in
     record { hands_plan = o.0; sound = o.1 }

@@ -11,7 +11,7 @@ returns c =
     c.args.answer.now (omega arith)
     (λ i. omega (arith, c.type_inv.given i)) in
     let o = owner-plan m c.requires
-    (λ i. omega (arith, c.slice_known-1.given i))
+    (λ i. grind arith)
     c.plan_given-p.result _ _ _ c.plan_given-p.ensures
     c.hand_plan.ensures in
     record { hands_plan = o.0; sound = o.1 }

@@ -8,6 +8,6 @@ use Rattle.owned.proofs.sweeps.tracker_owned_poll_gate.Goals as goal
 pub returns : goal.returns
 returns c =
     let m = (makes c.args.clock (omega arith)) in
-    let o = owner-number m c.requires (λ i. omega (arith, c.slice_known-1.given i))
+    let o = owner-number m c.requires (λ i. grind arith)
     c.poll_gate-a.result _ c.poll_gate-a.ensures c.hand_out.ensures refl in
     record { hands_out = o.0; sound = o.1 }

@@ -9,6 +9,6 @@ pub returns : goal.returns
 returns c =
     let m = (makes c.args.answer.now) in
     let o = owner-keys m c.requires
-    (λ i. omega (arith, c.slice_known-1.given i))
+    (λ i. grind arith)
     c.sweep-l.result _ c.sweep-l.ensures c.hand_count.ensures refl in
     record { hands_keys = o.0; sound = o.1 }

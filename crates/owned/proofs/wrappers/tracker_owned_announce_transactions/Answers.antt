@@ -1,7 +1,6 @@
 -- `owned::wrappers::tracker_owned_announce_transactions` meets its contract: that of the checked call, behind its sound test, and the store stays sound.
 use mathlib.Core.Path.{refl}
 use native.Mathlib.Omega.{arith}
-use borrow.Author.Rules.{rules}
 use Rattle.tracker.specs.Made.{announces-transactions as makes}
 use Rattle.crossing.proofs.Replies.{announces-transactions}
 use Rattle.owned.proofs.Owner.{owner_one}
@@ -15,6 +14,6 @@ returns c =
     (omega arith) (omega arith) (λ i. omega (arith, c.type_inv.items i))
     (λ i. omega (arith, c.type_inv.priorities i)) in
     let o = owner_one m c.requires
-    (search rules) (announces-transactions _ _ _ _ _)
+    (λ i. grind arith) (announces-transactions _ _ _ _ _)
     c.announce_transactions-a.result c.announce_transactions-a.ensures c.status.ensures refl in
     record { leaves = o.0; sound = o.1 }

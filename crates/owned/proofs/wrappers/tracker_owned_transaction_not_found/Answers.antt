@@ -11,7 +11,7 @@ returns c =
     let m = makes a.connection a.clock a.items.now a.answer.now (omega arith) (omega arith)
     (λ i. omega (arith, c.type_inv.items i)) in
     let o = owner-keys m c.requires
-    (λ i. omega (arith, c.slice_known-1.given i))
+    (λ i. grind arith)
     c.transaction_not_found-l.result _ c.transaction_not_found-l.ensures
     c.hand_count.ensures refl in
     record { hands_keys = o.0; sound = o.1 }

@@ -12,7 +12,7 @@ returns c =
     (omega arith) (hash_below _ (hash-four _ c.hash_from_bytes-g.type_inv))
     (hash_below _ (hash-four _ c.hash_from_bytes-h.type_inv)) (omega arith) in
     let o = owner_one m c.requires
-    (λ i. omega (arith, c.slice_known-1.given i)) (completes _ _ _ _)
+    (λ i. grind arith) (completes _ _ _ _)
     c.transaction_response_completed.result c.transaction_response_completed.ensures c.status.ensures
     (rw (c.hash_from_bytes-g.ensures, c.hash_from_bytes-h.ensures)) in
     record { leaves = o.0; sound = o.1 }
