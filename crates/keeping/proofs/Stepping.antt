@@ -2,7 +2,7 @@
 use Prim.Native.Nat.{ℕ, ◌+◌, ◌*◌, ◌-◌, ◌/◌, ◌≤◌}
 use mathlib.Core.Path.{◌≡◌, refl, sym, ap, subst, ◌∙◌}
 use mathlib.Core.Bool.{Bool, true, false, not}
-use mathlib.Core.List.{List, ◌∷◌, ◌++◌}
+use mathlib.Core.List.{List, ◌++◌}
 use mathlib.Core.Option.{Option, none, some}
 use native.Mathlib.Omega.{arith}
 use lib.Dec.{eqb}
@@ -28,7 +28,6 @@ use Rattle.public_plans.specs.declared.Selection.TheVariants.{Chosen as Selected
 use Rattle.public_plans.specs.Entries.{entries_of, planned_of}
 use Rattle.public_plans.specs.Parts.{connections_in, PartIs}
 use Rattle.public_plans.proofs.Entered.{length_from, length-entries}
-use Rattle.machine.specs.Text.{decimal, joined}
 use Rattle.reading.specs.Line.{Line, Asks, Take, Send, Part}
 use Rattle.asking.specs.Calls.{answer_buffer}
 use Rattle.printing.specs.Replies.{refusal_text, unreadable, listed, entry_texts, selection_text, reply_text}
