@@ -23,7 +23,7 @@ TYPES = {
 SLICES = ("&[u8]", "&mut [u8]")
 RESULTS = ("u64", "bool")
 
-# `now` cannot be a parameter's name where a contract says `now (s .entry)`; `free` is a function of C's library.
+# `now` cannot be a parameter's name where a contract says `s.now`; `free` is a function of C's library.
 NAMES = {"s": "store", "clock": "now", "free": "room", "preferred_free": "preferred_room"}
 
 EXPORTED = re.compile(r'((?:^//[^\n]*\n)*)^#\[unsafe\(no_mangle\)\]\npub extern "C" fn (\w+)\(([^)]*)\)\s*(?:->\s*(\w+))?', re.M)

@@ -134,7 +134,7 @@ pub record TookAll (p : Reading) (xs : List ℕ) (k : Kept) (buffer store lists 
   pub reads : ReadsAll p xs next said
   pub held : Held k buffer store lists next
 
--- some bytes: which, no contract of libc::read says
+-- some bytes: which, no contract of a reader says
 pub record TookSome (p : Reading) (k : Kept) (buffer store lists : List ℕ) : Type 0 where
   pub bytes : List ℕ
   pub all : TookAll p bytes k buffer store lists
