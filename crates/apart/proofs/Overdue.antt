@@ -262,7 +262,8 @@ module _ {b f : List ℕ} {m : ℕ} {st : State} {xs : List Slot} (o : Apart b f
         lives_still : filter live (plain (lapsed r xs)) ≡ places_of (expire_at (limits_of st) now k n t).table
         lives_still = elim (test (eqb r.stage 3)) [
           | inl e ↦ rw e (o.lives ∙ sym (places-enqueued k n now small late o.sound.bounded own (enqueued_is ∙ e)))
-          | inr e ↦ rw e (ap (filter live) (plain-set xs r.at (dying q) ∙ ap (λ (y : Place). set ps r.at (with_stage 0 y)) (sym p_is)) ∙ dies-filter 0 ps r.at (blank 0 0) o.ascend h.inside ∙ rw (h.hash (blank 0 0), o.lives)
+          | inr e ↦ rw e (ap (filter live) (plain-set xs r.at (dying q) ∙ ap (λ (y : Place). set ps r.at (with_stage 0 y)) (sym p_is)) ∙ dies-filter 0 ps r.at (blank 0 0) o.ascend h.inside ∙
+              rw (h.hash (blank 0 0), o.lives)
               (sym (places-without k n now small late o.sound.bounded own (enqueued_is ∙ e) h.kind)))
         ]
 

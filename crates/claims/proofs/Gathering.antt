@@ -157,7 +157,8 @@ gathered_done {n} {b} {k₀} {keys} {s₀} {sums} {m} {i} g kept all = record {
 
 -- ---- the lists lent on
 
-pub claims-lent : {n : ℕ} {b : List ℕ} (keys sums : List ℕ) (m a : ℕ) → a ≡ m * hash_bytes → ClaimsNoted n b keys sums m → hash_bytes * max_in_flight ≤ length keys → hash_bytes * max_in_flight ≤ length sums
+pub claims-lent : {n : ℕ} {b : List ℕ} (keys sums : List ℕ) (m a : ℕ) → a ≡ m * hash_bytes → ClaimsNoted n b keys sums m → hash_bytes * max_in_flight ≤ length keys
+    → hash_bytes * max_in_flight ≤ length sums
     → Tells b (λ t. ClaimsAre n t (hashes_in (take (a - 0) (drop 0 keys))) (hashes_in (take (a - 0) (drop 0 sums))))
 claims-lent keys sums m a e c room-k room-s st s w = record {
   keys-are = hashes_first keys m a e (omega (arith, c.few)) ∙ c.keys-are st s w;

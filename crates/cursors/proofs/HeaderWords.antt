@@ -1,21 +1,39 @@
 -- Next poll and cursors in the words of the header: read, and written.
 use Prim.Native.Nat.{ℕ, zero, suc, ◌+◌, ◌≤◌, ◌<◌}
 use mathlib.Core.Path.{◌≡◌, refl, ap, ◌∙◌}
+use mathlib.Core.Bool.{not}
 use mathlib.Core.List.{List, [], ◌∷◌}
 use mathlib.Core.Option.{some}
 use native.Mathlib.Omega.{arith}
+use lib.Dec.{T as Holds, eqb}
 use lib.ListN.{length, get_or, set, length-set}
+use Rattle.ident.specs.declared.Kind.{Kind}
 use Rattle.ident.specs.declared.Kind.TheVariants.{Txid, Wtxid}
+use Rattle.ident.specs.declared.Key.{Key}
+use Rattle.ident.specs.Words.{key_num}
 use Rattle.words.specs.Words.{splice}
 use Rattle.words.proofs.Splice.{splice_more}
+use Rattle.regions.specs.declared.Key.{Key as RowKey}
+use Rattle.regions.specs.Rows.{quad_words}
 use Rattle.regions.proofs.Gap.{set_one}
-use Rattle.store.specs.Image.{poll_words}
-use Rattle.store.specs.Read.{cursor_is}
+use Rattle.requests.specs.Changes.{KeyWords}
+use Rattle.store.specs.Flat.{kind_bit}
+use Rattle.store.specs.Image.{cursor_tag, poll_words}
+use Rattle.store.specs.Read.{poll_is, cursor_is}
 use Rattle.cursors.specs.declared.MaybeTime.{MaybeTime}
 use Rattle.cursors.specs.declared.MaybeTime.TheVariants.{None, Is}
 use Rattle.cursors.specs.Numbers.{time_num}
+use Rattle.cursors.specs.InWords.{Stands}
 
 -- ---- tags
+
+pub tag_some : (tag : ℕ) → Holds (not (eqb tag 0)) → 0 < tag
+tag_some zero h = absurd h
+tag_some (suc n) h = omega arith
+
+pub poll-is : (tag time : ℕ) → (tag ≡ 0 → ⊥) → poll_is tag time ≡ some time
+poll-is zero time h = absurd (h refl)
+poll-is (suc n) time h = refl
 
 pub cursor-txid : (tag h : ℕ) → tag ≡ 1 → cursor_is tag h ≡ some (record { kind = Txid; hash = h })
 cursor-txid tag h e = ap (λ (t : ℕ). cursor_is t h) e
@@ -24,6 +42,15 @@ pub cursor-wtxid : (tag h : ℕ) → 0 < tag → (tag ≡ 1 → ⊥) → cursor_
 cursor-wtxid zero h l n = absurd (omega arith)
 cursor-wtxid (suc zero) h l n = absurd (n refl)
 cursor-wtxid (suc (suc t)) h l n = refl
+
+tag_is : (k : Kind) → kind_bit k + 1 ≡ cursor_tag k
+tag_is Txid = refl
+tag_is Wtxid = refl
+
+pub key-stands : (k : Key) (w : RowKey) → KeyWords k w → Stands (record { tag = w.kind + 1; hash = w.hash }) (some (key_num k))
+key-stands k w h =
+    let t : w.kind + 1 ≡ cursor_tag k.kind = ap (λ (n : ℕ). n + 1) h.kind ∙ tag_is k.kind in
+    (λ i. t i ∷ quad_words (h.hash i))
 
 -- the two words of a next poll
 pub poll-pair : (m : MaybeTime) → poll_words (time_num m) ≡ get_or (poll_words (time_num m)) 0 0 ∷ get_or (poll_words (time_num m)) 1 0 ∷ []

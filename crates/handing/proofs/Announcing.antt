@@ -46,7 +46,8 @@ typed_for m now hs (n ∷ ns) t f =
 pub bounded_for : {m : Limits} {Q : ℕ} {t : Table} (now : ℕ) (hs ns : List ℕ) → now < word → FewHashes hs → Peers ns → Bounded m Q t → Bounded m Q (announce_for m now hs ns t).table
 unfolding announce_for
 bounded_for now hs [] w f p b = b
-bounded_for {m} {Q} {t} now hs (n ∷ ns) w f p b = bounded_for {t = (announce_parents m n now hs t).table} now hs ns w f p.1 (bounded-parents n now hs (record { positive = p.0.0; small = p.0.1 }) w f b)
+bounded_for {m} {Q} {t} now hs (n ∷ ns) w f p b =
+    bounded_for {t = (announce_parents m n now hs t).table} now hs ns w f p.1 (bounded-parents n now hs (record { positive = p.0.0; small = p.0.1 }) w f b)
 
 -- ---- for one connection
 

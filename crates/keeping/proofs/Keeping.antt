@@ -121,11 +121,13 @@ list_held {p} {s} {p'} {v} u n long most inside put same copied e = record { fit
         let k = length-append v (drop (n * entry_bytes + entry_bytes - entry_bytes) (drop entry_bytes s)) in
         let d = length-drop (n * entry_bytes + entry_bytes - entry_bytes) (drop entry_bytes s) in
         let f = length-drop entry_bytes s in
-        ap length e ∙ length-append (take entry_bytes s) (v ++ drop (n * entry_bytes + entry_bytes - entry_bytes) (drop entry_bytes s)) ∙ omega (arith, k, d, f, front_long, copy-long, long, same, most)
+        ap length e ∙ length-append (take entry_bytes s) (v ++ drop (n * entry_bytes + entry_bytes - entry_bytes) (drop entry_bytes s))
+        ∙ omega (arith, k, d, f, front_long, copy-long, long, same, most)
 
     first_word : take 8 p' ≡ take 8 s
     first_word =
-        ap (take 8) e ∙ take-append-le 8 (take entry_bytes s) (v ++ drop (n * entry_bytes + entry_bytes - entry_bytes) (drop entry_bytes s)) (omega (arith, front_long)) ∙ take-take 8 entry_bytes s (lit≤ tt)
+        ap (take 8) e ∙ take-append-le 8 (take entry_bytes s) (v ++ drop (n * entry_bytes + entry_bytes - entry_bytes) (drop entry_bytes s)) (omega (arith, front_long))
+        ∙ take-take 8 entry_bytes s (lit≤ tt)
 
     count : count_in p' ≡ n
     count =

@@ -140,7 +140,8 @@ module _ {l b : List ℕ} {e : Effect} (o : Ordered l) {b' out out' : List ℕ} 
 
 -- ---- one connection's part
 
-pub part_fits : (n : ℕ) {p v : List ℕ} {end first count : ℕ} → Fits p → end ≡ count_in p * entry_bytes + entry_bytes → v ≡ take (end - entry_bytes) (drop entry_bytes p) → PartIs n (entries_in v) first count
+pub part_fits : (n : ℕ) {p v : List ℕ} {end first count : ℕ} → Fits p → end ≡ count_in p * entry_bytes + entry_bytes → v ≡ take (end - entry_bytes) (drop entry_bytes p)
+    → PartIs n (entries_in v) first count
     → (count ≤ most_entries) × (entry_bytes * (first + count) ≤ length v)
 part_fits n {p} {v} {end} f e c q =
     let l : length v ≡ count_in p * entry_bytes = ap length c ∙ length-take-le (end - entry_bytes) (drop entry_bytes p) (omega (arith, e, f.long, f.count, length-drop entry_bytes p)) ∙

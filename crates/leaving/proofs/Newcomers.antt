@@ -139,7 +139,8 @@ module _ (n lo : ℕ) (b : top ≤ lo) where
   fewer-announce_each now k hs [] w f a d = fewer_same
   fewer-announce_each {m} {Q} {t} now k hs (c ∷ cs) w f a d =
       let p : Peer c.connection = record { positive = f.0.positive; small = f.0.connection } in
-      fewer_then (fewer-parents c.connection now hs p w a d) (fewer-announce_each {t = (announce_parents m c.connection now hs t).table} now k hs cs w f.1 a (bounded-parents c.connection now hs p w a d))
+      fewer_then (fewer-parents c.connection now hs p w a d) (fewer-announce_each {t = (announce_parents m c.connection now hs t).table} now k hs cs w f.1 a
+      (bounded-parents c.connection now hs p w a d))
 
 -- ---- the key that it is dropped at
 

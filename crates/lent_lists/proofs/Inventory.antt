@@ -1,13 +1,15 @@
 -- Items and priorities given to a call: how many, each by its index, and their ranges.
-use Prim.Native.Nat.{ℕ, zero, suc, ◌+◌, ◌*◌, ◌/◌, ◌≤◌, ◌<◌, ◌^◌}
+use Prim.Native.Nat.{ℕ, zero, suc, ◌+◌, ◌*◌, ◌/◌, ◌%◌, ◌≤◌, ◌<◌, ◌^◌}
 use mathlib.Core.Path.{◌≡◌, refl, sym, ap, ◌∙◌}
 use mathlib.Core.List.{List, [], ◌∷◌}
 use native.Mathlib.Nat.{zero-add, suc-add}
 use native.Mathlib.Omega.{arith}
 use lib.ListN.{length, take, drop, get_or, length-drop}
 use lib.Seq.{length-take-le, get_or-take, get_or-drop, take-take, take-nil, drop-drop}
+use borrow.Author.Tests.{lt-ltb, le-ltb}
 use Rattle.ident.specs.declared.ItemKind.{ItemKind}
-use Rattle.ident.specs.Number.{Item, top}
+use Rattle.ident.specs.declared.ItemKind.TheVariants.{Other}
+use Rattle.ident.specs.Number.{Item, top, item_kind_of}
 use Rattle.ident.specs.Words.{hash_bytes}
 use Rattle.words.specs.Words.{number, recs, words}
 use Rattle.words.proofs.Digits.{number_below}
@@ -16,7 +18,15 @@ use Rattle.words.proofs.Words.{word_at}
 use Rattle.machine.specs.Limits.{word}
 use Rattle.machine.specs.Wrapper.{Offer}
 use Rattle.machine.specs.Typed.{Each, OfferTyped}
-use Rattle.lent_lists.specs.Items.{item_bytes, item_kind_in, item_in, items_in, paired, offers_in}
+use Rattle.lent_lists.specs.Items.{item_bytes, type_top, item_kind_in, item_in, items_in, paired, offers_in}
+
+-- ---- a type's word
+
+pub kind_below : (w : ℕ) {k : ItemKind} → w < type_top → k ≡ item_kind_of w → k ≡ item_kind_in w
+kind_below w h e = rw (lt-ltb w type_top h) e
+
+pub kind_above : (w : ℕ) → type_top ≤ w → Other (w % type_top) ≡ item_kind_in w
+kind_above w h = rw (le-ltb w type_top h) refl
 
 -- ---- items
 
@@ -30,7 +40,8 @@ drop-take (suc m) n [] = rw (suc-add, take-nil n)
 drop-take (suc m) n (x ∷ l) = rw suc-add (drop-take m n l)
 
 -- the item at an index, by its word and its hash
-pub item_is : (b : List ℕ) (i : ℕ) {k : ItemKind} {w h : ℕ} → i < length (items_in b) → w ≡ get_or (words b) (5 * i) 0 → k ≡ item_kind_in w → h ≡ number 256 (take hash_bytes (drop (item_bytes * i + 8) b))
+pub item_is : (b : List ℕ) (i : ℕ) {k : ItemKind} {w h : ℕ} → i < length (items_in b) → w ≡ get_or (words b) (5 * i) 0 → k ≡ item_kind_in w
+    → h ≡ number 256 (take hash_bytes (drop (item_bytes * i + 8) b))
     → (d : Item) → record { kind = k; hash = h } ≡ get_or (items_in b) i d
 unfolding item_in items_in
 item_is b i {k} {w} {h} l e f g d =

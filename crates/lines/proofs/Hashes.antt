@@ -70,6 +70,14 @@ pub quad_low : (d : ℕ) → quad_number (record { w0 = d; w1 = 0; w2 = 0; w3 = 
 unfolding four
 quad_low d = quad_four _ ∙ omega arith
 
+-- ---- a word with a digit of the word below fits
+
+pub digit_in : (w v : ℕ) → v < 2 ^ 64 → w % 2 ^ 60 * 16 + v / 2 ^ 60 < 2 ^ 64
+digit_in w v h =
+    let r : w % 2 ^ 60 < 2 ^ 60 = omega arith in
+    let d : v / 2 ^ 60 < 16 = omega arith in
+    omega arith
+
 -- ---- one digit fewer
 
 -- a word without its lowest digit, and with the lowest of the word above in the highest place
@@ -139,3 +147,11 @@ module _ (q : Quad) where
   pub quad_below : Small q → quad_number q < 16 ^ 64
   unfolding four
   quad_below s = let e : 16 ^ 64 ≡ 2 ^ 64 * (2 ^ 64 * (2 ^ 64 * 2 ^ 64)) = refl in rw (quad_four q, e) (above s.w0 (above s.w1 (above s.w2 s.w3)))
+
+-- ---- a word without its lowest digit fits
+
+pub shift_in : (w v : ℕ) → w < 2 ^ 64 → w / 16 + v % 16 * 2 ^ 60 < 2 ^ 64
+shift_in w v h =
+    let r : w / 16 < 2 ^ 60 = omega arith in
+    let d : v % 16 < 16 = omega arith in
+    omega arith

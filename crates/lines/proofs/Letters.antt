@@ -11,7 +11,9 @@ use lib.Seq.{take_all}
 use borrow.Author.Tests.{eq-eqb, ne_eqb}
 use Rattle.ident.specs.declared.Kind.{Kind}
 use Rattle.ident.specs.declared.ItemKind.{ItemKind}
+use Rattle.ident.specs.declared.ItemKind.TheVariants.{Other}
 use Rattle.std.specs.Prelude.{if◌then◌else◌}
+use Rattle.ident.specs.Number.{is_plain}
 use Rattle.machine.specs.Fields.{bool_of, kind_of, key_with, key_of, before, behind, item_with, letter_kind, other_kind, other_of, item_of, hash_of, type_of}
 use Rattle.lines.proofs.Scans.{scan-empty}
 use Rattle.machine.proofs.Parting.{take-before, before-length}
@@ -107,6 +109,13 @@ module _ (f : List ℕ) (h : length f ≡ 0 → ⊥) where
 
 -- ---- other items
 
+-- the type is of a kind that is named otherwise
+pub other_named : (o : Option ℕ) (n : ℕ) → o ≡ some n → is_plain (Other n) ≡ false → none ≡ other_kind o
+other_named o n e t = rw (e, t)
+
+pub other-kind : (o : Option ℕ) (n : ℕ) → o ≡ some n → is_plain (Other n) ≡ true → some (Other n) ≡ other_kind o
+other-kind o n e t = rw (e, t)
+
 module _ (f : List ℕ) (at : ℕ) (e : at ≡ 0 + length (before 58 f)) where
   pub other_at : at ≤ length f
   other_at = omega (arith, before-length 58 f)
@@ -126,5 +135,6 @@ module _ (f : List ℕ) (at : ℕ) (e : at ≡ 0 + length (before 58 f)) where
   pub other_no-hash : hash_of (take (length f - (at + 1)) (drop (at + 1) f)) ≡ none → none ≡ other_of f
   other_no-hash h = sym (parts ∙ with_no-hash (other_kind (type_of (take at f))) (sym (ap hash_of (lent_rest f (at + 1))) ∙ h))
 
-  pub other_is : {k : ItemKind} {q : ℕ} → other_kind (type_of (take at f)) ≡ some k → hash_of (take (length f - (at + 1)) (drop (at + 1) f)) ≡ some q → some (record { kind = k; hash = q }) ≡ other_of f
+  pub other_is : {k : ItemKind} {q : ℕ} → other_kind (type_of (take at f)) ≡ some k → hash_of (take (length f - (at + 1)) (drop (at + 1) f)) ≡ some q
+      → some (record { kind = k; hash = q }) ≡ other_of f
   other_is k h = sym (parts ∙ with_both k (sym (ap hash_of (lent_rest f (at + 1))) ∙ h))

@@ -1,7 +1,7 @@
 -- A field read byte by byte, the loop of every reader of numbers.
 use Prim.Native.Nat.{ℕ, suc, ◌+◌, ◌-◌, ◌*◌, ◌/◌, ◌<◌, ◌≤◌}
 use mathlib.Core.Path.{◌≡◌}
-use mathlib.Core.Bool.{true, false, ◌&&◌}
+use mathlib.Core.Bool.{Bool, true, false, ◌&&◌}
 use mathlib.Core.Logic.{inl, inr}
 use mathlib.Core.List.{List, [], ◌∷◌}
 use mathlib.Core.Option.{none, some}
@@ -10,8 +10,8 @@ use native.Mathlib.Omega.{arith}
 use lib.Dec.{ltb, leb}
 use lib.ListN.{length, drop, get_or, drop_of_length-le}
 use lib.Seq.{drop-cons}
-use borrow.Author.Tests.{lt-ltb, le-ltb, leb-true, leb-false}
-use Rattle.machine.proofs.Tests.{test}
+use borrow.Author.Tests.{lt-ltb, le-ltb, leb-true, leb-false, ltb-true}
+use Rattle.machine.proofs.Tests.{test, and_left, and_right}
 use Rattle.machine.specs.Fields.{digit_of, further, numeral_of}
 use Rattle.machine.proofs.Numerals.{further_step, further_stop, further_end, numeral_of_first, numeral_of_not, numeral_of-empty}
 
@@ -43,8 +43,17 @@ module _ (b m : ℕ) (f : List ℕ) (a i : ℕ) where
 
 -- ---- one more decimal digit below a limit
 
+pub no_digit : (d b : ℕ) (t : Bool) → b ≤ d → false ≡ (ltb d b && t)
+no_digit d b t h = rw (le-ltb d b h)
+
+pub fits_below : (a d most : ℕ) → (ltb d 10 && ltb (a * 10 + d) (most + 1)) ≡ true → a * 10 + d ≤ most
+fits_below a d most t = let l = ltb-true (a * 10 + d) (most + 1) (and_right (ltb d 10) _ t) in omega arith
+
 pub room : (a d most : ℕ) → 9 ≤ most → d < 10 → leb a ((most - d) / 10) ≡ (ltb d 10 && ltb (a * 10 + d) (most + 1))
 room a d most n h = elim (test (leb a ((most - d) / 10))) [
   | inl t ↦ let l = leb-true a ((most - d) / 10) t in rw (t, lt-ltb d 10 h, lt-ltb (a * 10 + d) (most + 1) (omega arith))
   | inr t ↦ let l = leb-false a ((most - d) / 10) t in rw (t, lt-ltb d 10 h, le-ltb (a * 10 + d) (most + 1) (omega arith))
 ]
+
+pub digit_room : (x d m : ℕ) → (ltb d 16 && ltb (x * 16 + d) m) ≡ true → (d < 16) × (x * 16 + d < m)
+digit_room x d m t = (ltb-true d 16 (and_left (ltb d 16) _ t), ltb-true (x * 16 + d) m (and_right (ltb d 16) _ t))

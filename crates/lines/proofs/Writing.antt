@@ -7,7 +7,7 @@ use native.Mathlib.Numerals.{add-one}
 use native.Mathlib.Omega.{arith}
 use lib.Dec.{lit<, lit≤}
 use lib.ListN.{length, take, set, get_or, take-append-drop, length-append}
-use lib.Seq.{set_split, take-suc}
+use lib.Seq.{set_split, take-suc, take_all}
 use Rattle.ident.specs.declared.Kind.{Kind}
 use Rattle.words.specs.Words.{splice}
 use Rattle.words.proofs.Splice.{length-splice, splice_more}
@@ -66,6 +66,9 @@ pub wrote_next : (t : List ℕ) {s₀ s : List ℕ} {a i : ℕ} → i < length t
 wrote_next t {s₀} {s} {a} {i} h r p e =
     let f : a + (i + 1) ≡ a + i + 1 = omega arith in
     rw (f, add-one i, take-suc t i 0 h) (wrote_more p (wrote-byte s (a + i) (get_or t i 0) (omega arith)) (omega arith))
+
+pub wrote_all : (t : List ℕ) {s₀ s : List ℕ} {a i : ℕ} → length t ≤ i → Wrote s₀ s a (take i t) (a + i) → Wrote s₀ s a t (a + i)
+wrote_all t {s₀} {s} {a} {i} g p = let e : take i t ≡ t = take_all i t g in record { bytes = p.bytes ∙ rw e; next = p.next ∙ rw e }
 
 -- ---- hashes
 

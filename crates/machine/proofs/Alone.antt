@@ -178,7 +178,8 @@ alone-parents_from : {m : Limits} {Q : ℕ} {t : Table} (n now i : ℕ) (hs : Li
 unfolding parents_from
 alone-parents_from n now i [] p w a l b = alone_same
 alone-parents_from {m} {Q} {t} n now i (h ∷ hs) p w a l b =
-    alone_then (alone_parented n now i h p w (omega arith) a.0 b) (alone-parents_from {t = parented m n now i h t} n now (suc i) hs p w a.1 (omega arith) (bounded_parented n now i h p w (omega arith) a.0 b))
+    alone_then (alone_parented n now i h p w (omega arith) a.0 b) (alone-parents_from {t = parented m n now i h t} n now (suc i) hs p w a.1 (omega arith)
+    (bounded_parented n now i h p w (omega arith) a.0 b))
 
 pub alone-parents : {m : Limits} {Q : ℕ} {t : Table} (n now : ℕ) (hs : List ℕ) → Peer n → now < word → FewHashes hs → Bounded m Q t → Alone t (announce_parents m n now hs t).table
 unfolding announce_parents

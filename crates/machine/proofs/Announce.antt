@@ -167,7 +167,8 @@ at_there k r t h = rw (ne_eqb (place k) (place r.key) (λ e. omega arith))
 pub victims_all : (p : Key → Bool) (lo : ℕ) (t : Table) → Ordered lo t → Each (Victim p lo t) (victims p t)
 unfolding victims
 victims_all p lo [] o = tt
-victims_all p lo (r ∷ t) o = each_append _ (if p r.key then victims_in r r.candidates else []) (victims p t) (here (p r.key) refl) (each_map _ _ (victims p t) there (victims_all p (suc (place r.key)) t o.2))
+victims_all p lo (r ∷ t) o =
+    each_append _ (if p r.key then victims_in r r.candidates else []) (victims p t) (here (p r.key) refl) (each_map _ _ (victims p t) there (victims_all p (suc (place r.key)) t o.2))
   where
     here' : p r.key ≡ true → (v : Entry) → InRequest r r.candidates v → Victim p lo (r ∷ t) v
     here' e v x = record {

@@ -140,4 +140,5 @@ bounded-take now a s w x b = bounded-own (owns-until a.key a.candidate.connectio
 pub bounded-claim : {m : Limits} {Q : ℕ} {t : Table} (now : ℕ) (l : List Entry) → now + request_lifetime < word → Each EntryTyped l → Bounded m Q t → Bounded m Q (claim now l t).table
 unfolding claim
 bounded-claim now [] w s b = b
-bounded-claim {m} {Q} {t} now (a ∷ l) w s b = bounded-claim {t = if takes now a t then change a.key (owned_until a.candidate.connection (now + request_lifetime)) t else t} now l w s.1 (by_test (Bounded m Q) (takes now a t) (λ e. bounded-take now a s.0.hash w (takes-means now a t e) b) (λ e. b))
+bounded-claim {m} {Q} {t} now (a ∷ l) w s b = bounded-claim {t = if takes now a t then change a.key (owned_until a.candidate.connection (now + request_lifetime)) t else t} now l w s.1
+    (by_test (Bounded m Q) (takes now a t) (λ e. bounded-take now a s.0.hash w (takes-means now a t e) b) (λ e. b))

@@ -65,7 +65,8 @@ length-fail_each_held n now [] p w s b = omega arith
 length-fail_each_held {m} {Q} {t} n now (k ∷ ks) p w s b =
     let a = failed_with_parents m k n now t in
     let l = loosened_failed_with_parents k n now s.0.small p w b in
-    let rest = length-fail_each_held {t = (failed_with_parents m k n now t).table} n now ks p w (each_map (HoldsPlace n t) (HoldsPlace n a.table) ks (holds_loosened l) s.1) (bounded-failed_with_parents k n now s.0.small p w b) in
+    let rest = length-fail_each_held {t = (failed_with_parents m k n now t).table} n now ks p w (each_map (HoldsPlace n t) (HoldsPlace n a.table) ks (holds_loosened l) s.1)
+    (bounded-failed_with_parents k n now s.0.small p w b) in
     omega (arith, length-append a.keys (fail_each m n now ks a.table).keys, failing_held k n now s.0.small p w b s.0.place, rest)
 
 -- ---- failed_package_claims: every key that is looked up has a package

@@ -159,7 +159,8 @@ unfolding announce_each
 alone-announce_each now k hs [] w f a b = alone_same
 alone-announce_each {m = m} {Q = Q} {t = t} now k hs (c ∷ cs) w f a b =
     let p : Peer c.connection = record { positive = f.0.positive; small = f.0.connection } in
-    alone_then (alone-parents c.connection now hs p w a b) (alone-announce_each {t = (announce_parents m c.connection now hs t).table} now k hs cs w f.1 a (bounded-parents c.connection now hs p w a b))
+    alone_then (alone-parents c.connection now hs p w a b) (alone-announce_each {t = (announce_parents m c.connection now hs t).table} now k hs cs w f.1 a
+    (bounded-parents c.connection now hs p w a b))
 
 pub loosened_drop_at_key : {m : Limits} {Q : ℕ} {t : Table} (n now : ℕ) (k : Key) → k.hash < top → now < word → Bounded m Q t → Loosened (owner_is n) t (drop_at_key m n now k t).table
 unfolding drop_at_key
@@ -220,7 +221,8 @@ pub length_handed_on : (n lo : ℕ) (t : Table) → Ordered lo t → All Lawful 
 unfolding keys_of handed_on total
 length_handed_on n lo [] o l = omega arith
 length_handed_on n lo (r ∷ t) o l =
-    let later : length (handed_on n (keys_of n t) (r ∷ t)) ≤ max_parents * places_held t = rw (handed_on_later n (keys_of n t) r t (keys_of_from n _ t o.2)) (length_handed_on n (suc (place r.key)) t o.2 l.1) in
+    let later : length (handed_on n (keys_of n t) (r ∷ t)) ≤ max_parents * places_held t = rw (handed_on_later n (keys_of n t) r t (keys_of_from n _ t o.2))
+    (length_handed_on n (suc (place r.key)) t o.2 l.1) in
     by_test (λ (ks : List Key). length (handed_on n ks (r ∷ t)) ≤ max_parents * places_held (r ∷ t)) (has n r.candidates)
     (λ e. omega (
       arith,

@@ -113,7 +113,13 @@ module _ (b m : ℕ) (two : 1 < b) (small : b ≤ 16) where
         let q : numeral_of b m (numeral b (suc k) (n / b)) ≡ some (n / b) = numeral_read k (n / b) (rest_below k h) (omega (arith, div-le_self n b)) in
         let z : 0 < b = omega arith in
         let p : 0 < n / b = (le-div_iff_mul-le z).1 (omega arith) in
-        rw (numeral_more b (suc k) n g, numeral_of_snoc b m (digit_text (n % b)) (numeral b (suc k) (n / b)) (n / b) q (follows-yes b m (n / b) (digit_text (n % b)) p (omega arith) (omega arith)), e, s)
+        rw (
+          numeral_more b (suc k) n g,
+          numeral_of_snoc b m (digit_text (n % b)) (numeral b (suc k) (n / b)) (n / b) q
+              (follows-yes b m (n / b) (digit_text (n % b)) p (omega arith) (omega arith)),
+          e,
+          s,
+        )
   ]
 
   -- ---- what is accepted is the one text of its value

@@ -136,7 +136,8 @@ same_length [] (y ∷ b) e = never e
 same_length (x ∷ a) [] e = never e
 same_length (x ∷ a) (y ∷ b) e = omega (arith, same_length a b (and_right (eqb x y) _ e))
 
-awaits-length : (c : ℕ) (ws : List ℕ) (k : Kind) (o : Option Owner) (i : Bool) (p : Option Package) (hs : List ℕ) → awaits c ws p ≡ true → Packed k o i p hs → (1 ≤ length ws) × (length ws ≤ max_wtxids)
+awaits-length : (c : ℕ) (ws : List ℕ) (k : Kind) (o : Option Owner) (i : Bool) (p : Option Package) (hs : List ℕ) → awaits c ws p ≡ true → Packed k o i p hs
+    → (1 ≤ length ws) × (length ws ≤ max_wtxids)
 awaits-length c ws k o i none hs e h = never e
 awaits-length c ws k o true (some p) hs e h = absurd h
 awaits-length c ws k o false (some p) hs e h =

@@ -47,7 +47,8 @@ bounded-due {m} {Q} {t} now d w a b = bounded-parents d.connection now _ a.peer 
 pub bounded-expire : {m : Limits} {Q : ℕ} {t : Table} (now : ℕ) (ds : List Due) → now < word → Each DueTyped ds → Bounded m Q t → Bounded m Q (expire m now ds t).table
 unfolding expire
 bounded-expire now [] w a b = b
-bounded-expire {m = m} {Q = Q} {t = t} now (d ∷ ds) w a b = bounded-expire {t = (announce_parents m d.connection now (parents_for d.connection (at d.key t)) (failed d.key d.connection now t).table).table} now ds w a.1 (bounded-due now d w a.0 b)
+bounded-expire {m = m} {Q = Q} {t = t} now (d ∷ ds) w a b =
+    bounded-expire {t = (announce_parents m d.connection now (parents_for d.connection (at d.key t)) (failed d.key d.connection now t).table).table} now ds w a.1 (bounded-due now d w a.0 b)
 
 pub bounded-expired : (now : ℕ) (s : State) → now < word → Sound s → Bounded (limits_of s) s.places (expired now s).table
 bounded-expired now s w g = bounded-expire now (due now s.table) w (due-typed now 0 s.table g.bounded.ordered g.bounded.lawful) g.bounded
@@ -110,7 +111,8 @@ unfolding expire
 expire-keys now [] w a b = tt
 expire-keys {m} {Q} {t} now (d ∷ ds) w a b =
     each_append KeyTyped (announce_parents m d.connection now (parents_for d.connection (at d.key t)) (failed d.key d.connection now t).table).keys _
-    (parents-keys m d.connection now _ _ (few_for d.connection (at d.key t) (lawful_at d.key t b.lawful))) (expire-keys {t = (announce_parents m d.connection now (parents_for d.connection (at d.key t)) (failed d.key d.connection now t).table).table} now ds w a.1 (bounded-due now d w a.0 b))
+    (parents-keys m d.connection now _ _ (few_for d.connection (at d.key t) (lawful_at d.key t b.lawful)))
+    (expire-keys {t = (announce_parents m d.connection now (parents_for d.connection (at d.key t)) (failed d.key d.connection now t).table).table} now ds w a.1 (bounded-due now d w a.0 b))
 
 -- the keys that a plan considers first: parents of the owners that are due
 pub expired-keys : (now : ℕ) (s : State) → now < word → Sound s → Each KeyTyped (expired now s).keys

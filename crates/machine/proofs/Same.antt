@@ -78,7 +78,8 @@ module _ {A : Type 0} (c : Request → A → A) (z : A) (nought : (k : Key) (a :
   unfolding walk
   walk-nothing lo [] o p = refl
   walk-nothing lo (r ∷ t) o p =
-      passes-head (suc (place r.key)) lo r t o (omega arith) (λ j s h. p j s) (walk c z t) ∙ walk-nothing (suc (place r.key)) t o.2 (λ j s. passes_tail (suc (place j)) lo r t o (λ i u h. p i u) j s (omega arith))
+      passes-head (suc (place r.key)) lo r t o (omega arith) (λ j s h. p j s) (walk c z t)
+      ∙ walk-nothing (suc (place r.key)) t o.2 (λ j s. passes_tail (suc (place j)) lo r t o (λ i u h. p i u) j s (omega arith))
 
   pub walk_same : (lo' lo : ℕ) (t' t : Table) → Ordered lo' t' → Ordered lo t → ((j : Key) → j.hash < top → (a : A) → c (at j t') a ≡ c (at j t) a) → walk c z t' ≡ walk c z t
   unfolding walk

@@ -36,7 +36,8 @@ pub bounded-offers : {m : Limits} {Q : ℕ} {t : Table} (n now : ℕ) (p v f : B
     → Bounded m Q (offers_from m n now p v f os t)
 unfolding offers_from
 bounded-offers n now p v f [] a w h b = b
-bounded-offers {m = m} {Q = Q} {t = t} n now p v f (o ∷ os) a w h b = bounded-offers {t = (announce m (offered n now p v f o) t).table} n now p v f os a w h.1 (bounded-announce (offered n now p v f o) a.positive (offered-typed n now p v f o a w h.0) b)
+bounded-offers {m = m} {Q = Q} {t = t} n now p v f (o ∷ os) a w h b =
+    bounded-offers {t = (announce m (offered n now p v f o) t).table} n now p v f os a w h.1 (bounded-announce (offered n now p v f o) a.positive (offered-typed n now p v f o a w h.0) b)
 
 pub bounded-announce_transactions : {m : Limits} {Q : ℕ} {t : Table} (n now : ℕ) (p v : Bool) (os : List Offer) → Peer n → now + request_lifetime < word → Each OfferTyped os → Bounded m Q t
     → Bounded m Q (announce_transactions m n now p v os t)

@@ -7,7 +7,8 @@ use Rattle.ident.specs.Number.{top, Key, Item, place, is_plain}
 use Rattle.machine.specs.Limits.{max_wtxids, max_parents, word}
 use Rattle.machine.specs.State.{Candidate, Owner, Package, Request, Table, State, on_table, with_candidates}
 use Rattle.machine.specs.Text.{decimal, hexadecimal, bool_text, kind_letter, item_kind_text, joined}
-use Rattle.machine.specs.Fields.{digit_of, number_of, type_of, hash_of, bool_of, kind_of, key_with, before, behind, item_with, letter_kind, other_kind, same_text, fields, taking, ending, elements_then}
+use Rattle.machine.specs.Fields.{digit_of, number_of, type_of, hash_of, bool_of, kind_of, key_with, before}
+use Rattle.machine.specs.Fields.{behind, item_with, letter_kind, other_kind, same_text, fields, taking, ending, elements_then}
 
 -- ---- hashes: how they are written, and what is read as one
 

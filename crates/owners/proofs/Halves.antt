@@ -141,9 +141,11 @@ module _ (st : State) (s : Sound st) {m n : ℕ} (long : n ≡ length (rows_of s
     txids = subst (Rises 0) (sym low) (rises-table Txid 0 (up_to last_key t) (ordered_up last_key 0 t o) (txids_up last_key t (omega (arith, top_some))));
     wtxids = subst (Rises 0) (sym high) (rises-table Wtxid 0 (above last_key t) (ordered_from top (top + 0) (above last_key t) (omega arith) after_last)
         (wtxids_from top (above last_key t) (le_refl top) after_last));
-    owner = λ h l. (λ i. or_holding (holding_over h (low i)) (holding_over h (high i))) ∙ sym (over_append h (rows_of (up_to last_key t)) (rows_of (above last_key t))) ∙ ap (holding_over h) (sym halves)
+    owner = λ h l. (λ i. or_holding (holding_over h (low i)) (holding_over h (high i))) ∙ sym (over_append h (rows_of (up_to last_key t)) (rows_of (above last_key t)))
+        ∙ ap (holding_over h) (sym halves)
         ∙ table-names h l 0 t o s.bounded.lawful;
-    keys-are = λ g. (λ i. keys_up_to g (low-keys i) + keys_up_to g (high-keys i)) ∙ up_tables g (up_to last_key t) (above last_key t) ∙ ap (λ (x : Table). keys_up_to g (keys x)) (sym (split last_key t));
+    keys-are = λ g. (λ i. keys_up_to g (low-keys i) + keys_up_to g (high-keys i)) ∙ up_tables g (up_to last_key t) (above last_key t)
+        ∙ ap (λ (x : Table). keys_up_to g (keys x)) (sym (split last_key t));
   }
 
 pub parts : {b : List ℕ} {m : ℕ} → Seek b (λ f. row_numbers f.rows) (rows_in b) (key_number first_wtxid + first false) m → Halves b m

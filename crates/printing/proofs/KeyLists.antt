@@ -56,7 +56,8 @@ more_of (j ∷ ks) k h = ap joined (texts-append (j ∷ ks) k) ∙ joined-append
 
 -- ---- a key in the buffer
 
-key-parts : (u : List ℕ) (i : ℕ) → key_bytes * i + key_bytes ≤ length u → key_at u i ≡ record { kind = kind_in (get_or (words u) (i * 5) 0); hash = number 256 (take hash_bytes (drop (i * 5 * 8 + 8) u)) }
+key-parts : (u : List ℕ) (i : ℕ) → key_bytes * i + key_bytes ≤ length u
+    → key_at u i ≡ record { kind = kind_in (get_or (words u) (i * 5) 0); hash = number 256 (take hash_bytes (drop (i * 5 * 8 + 8) u)) }
 unfolding key_in
 key-parts u i h =
     let e : 8 * (i * 5) ≡ key_bytes * i = omega arith in

@@ -74,7 +74,8 @@ owner-length (some a) =
     rw (texts-are a) (simp length-append (omega arith))
 
 module _ (u : Buffer) (i h : ℕ) (l : owner_bytes * i + owner_bytes ≤ length u) {s : List ℕ} {at : ℕ} where
-  pub wrote-nobody : {s' : List ℕ} {r t : ℕ} → t ≡ get_or (words u) (i * 3) 0 → t ≡ 0 → Wrote s s' at (44 ∷ none_text) r → Wrote s s' at (behind (owner_text (holding_in h (drop (owner_bytes * i) u)))) r
+  pub wrote-nobody : {s' : List ℕ} {r t : ℕ} → t ≡ get_or (words u) (i * 3) 0 → t ≡ 0 → Wrote s s' at (44 ∷ none_text) r
+      → Wrote s s' at (behind (owner_text (holding_in h (drop (owner_bytes * i) u)))) r
   wrote-nobody e z w = rw (words_are u i h l e refl refl ∙ no-tag h _ _ z, none_is) w
 
   pub wrote-owner : {t c d : ℕ} → t ≡ get_or (words u) (i * 3) 0 → c ≡ get_or (words u) (i * 3 + 1) 0 → d ≡ get_or (words u) (i * 3 + 2) 0 → (t ≡ 0 → ⊥) → at + owner_room ≤ length s

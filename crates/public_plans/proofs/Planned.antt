@@ -16,7 +16,8 @@ use Rattle.machine.specs.State.{Candidate, Entry, Table, State, is_none, limits_
 use Rattle.machine.specs.Table.{at, keys, owned_at}
 use Rattle.machine.specs.Sound.{Fits, AllFit, Bounded, Sound}
 use Rattle.machine.specs.Typed.{Each, KeyTyped, KeysTyped}
-use Rattle.machine.specs.Plan.{chosen_at, able, sooner, better, or_else, least_in, least_at, choice, Scan, start, add, consider, phase, insert_by_priority, sort_by_priority, asked_keys, expired, scanned, plan}
+use Rattle.machine.specs.Plan.{chosen_at, able, sooner, better, or_else, least_in, least_at, choice, Scan}
+use Rattle.machine.specs.Plan.{start, add, consider, phase, insert_by_priority, sort_by_priority, asked_keys, expired, scanned, plan}
 use Rattle.machine.specs.Later.{time_of}
 use Rattle.machine.specs.Call.{Buffer, Plan, On, entry_bytes, named, takes_place}
 use Rattle.machine.specs.Step.{Chosen, perform, entries_answer, written}

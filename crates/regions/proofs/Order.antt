@@ -197,6 +197,9 @@ pub record Passing (ks : List ℕ) (from to x i : ℕ) : Type 0 where
   pub most : i ≤ to
   pub none : (j : ℕ) → from ≤ j → j < i → get_or ks j 0 ≡ x → ⊥
 
+pub passing_start : (ks : List ℕ) (from to x : ℕ) → from ≤ to → Passing ks from to x from
+passing_start ks from to x h = record { least = omega arith; most = h; none = λ j a b. absurd (omega arith) }
+
 module _ {ks : List ℕ} {from to x i : ℕ} (p : Passing ks from to x i) where
   pub passing_more : i < to → (get_or ks i 0 ≡ x → ⊥) → Passing ks from to x (i + 1)
   passing_more h n = record {
@@ -211,3 +214,6 @@ module _ {ks : List ℕ} {from to x i : ℕ} (p : Passing ks from to x i) where
 
   pub passing_found : get_or ks i 0 ≡ x → First ks from to x i
   passing_found e = record { least = p.least; most = p.most; none = p.none; found = λ _. e }
+
+  pub passing_end : to ≤ i → First ks from to x i
+  passing_end h = record { least = p.least; most = p.most; none = p.none; found = λ l. absurd (omega arith) }

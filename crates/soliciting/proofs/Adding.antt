@@ -152,7 +152,8 @@ module _ (h : ℕ) (small : h < top) (hs : List ℕ) where
         pub added_repeat : elem x (take i hs) ≡ true → Added h hs s₀ s (i + 1)
         added_repeat e = record { inside = omega arith; long = v.long; adds = rw grown (adds_repeat h small (take i hs) x e v.adds) }
 
-        pub added_more : {s₁ : List ℕ} → elem x (take i hs) ≡ false → length s₁ ≡ length s → Makes s s₁ (λ t. TakesParent (at (wtxid h) t)) (change (wtxid h) (with_parent x)) → Added h hs s₀ s₁ (i + 1)
+        pub added_more : {s₁ : List ℕ} → elem x (take i hs) ≡ false → length s₁ ≡ length s → Makes s s₁ (λ t. TakesParent (at (wtxid h) t)) (change (wtxid h) (with_parent x))
+            → Added h hs s₀ s₁ (i + 1)
         added_more e z m = record {
           inside = omega arith;
           long = z ∙ v.long;

@@ -122,7 +122,8 @@ module _ (w : List ℕ) (l : head_size ≤ length w) (b : Below word w) (n c q :
   spare_is : slice 18 head_size w ≡ from 6 18 w
   spare_is = drop-take 18 6 w (omega arith) ∙ from_is 6 18 w (omega arith)
 
-  head_is : head_words (head_in w) n c q ≡ like (poll_is (get_or w 6 0) (get_or w 7 0)) (cursor_is (get_or w 8 0) (quad_number (read_quad (drop 9 w)))) (cursor_is (get_or w 13 0) (quad_number (read_quad (drop 14 w))))
+  head_is : head_words (head_in w) n c q ≡ like (poll_is (get_or w 6 0) (get_or w 7 0)) (cursor_is (get_or w 8 0) (quad_number (read_quad (drop 9 w))))
+      (cursor_is (get_or w 13 0) (quad_number (read_quad (drop 14 w))))
   unfolding head_in
   head_is = head-words (head_in w) n c q ∙ rw (known_is, ready_is)
 

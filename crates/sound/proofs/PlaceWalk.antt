@@ -78,7 +78,8 @@ rising lo (p ∷ []) d a i h = absurd (omega arith)
 rising lo (p ∷ q ∷ ps) d a zero h = a.1.0
 rising lo (p ∷ q ∷ ps) d a (suc i) h = rising (suc p.hash) (q ∷ ps) d a.1 i (omega arith)
 
-ascending : (lo : ℕ) (ps : List Place) (d : Place) → (0 < length ps → lo ≤ (get_or ps 0 d).hash) → ((i : ℕ) → suc i < length ps → (get_or ps i d).hash < (get_or ps (suc i) d).hash) → PlacesAscend lo ps
+ascending : (lo : ℕ) (ps : List Place) (d : Place) → (0 < length ps → lo ≤ (get_or ps 0 d).hash) → ((i : ℕ) → suc i < length ps → (get_or ps i d).hash < (get_or ps (suc i) d).hash)
+    → PlacesAscend lo ps
 ascending lo [] d a f = tt
 ascending lo (p ∷ ps) d a f = (a (omega arith), ascending (suc p.hash) ps d (λ h. f 0 (omega arith)) (λ i h. f (suc i) (omega arith)))
 

@@ -134,7 +134,8 @@ module _ (c : ℕ) (v w : List ℕ) (done last lo : ℕ) where
   unfolding recs
   tallied_none t z = record { left = z; named = tt }
 
-  module _ (i : ℕ) (t : List ℕ) (r : Row) (e : r ≡ read_row (take row_size (drop (row_size * i) w))) (s : Tallied (names c v) (recs row_size read_row i w) (recs conn_size read_conn c v) done last lo t) where
+  module _ (i : ℕ) (t : List ℕ) (r : Row) (e : r ≡ read_row (take row_size (drop (row_size * i) w)))
+      (s : Tallied (names c v) (recs row_size read_row i w) (recs conn_size read_conn c v) done last lo t) where
     rows_are : recs row_size read_row (i + 1) w ≡ recs row_size read_row i w ++ (r ∷ [])
     rows_are = rw e (recs_last row_size read_row i w)
 

@@ -113,7 +113,8 @@ row-decides r =
     test-decides _ (test_iff t (record { to = parts-plain r; from = plain-parts r }))
 
 -- the last test of a row behind another: keys that are neither less nor greater are equal
-pub follows-mark : (p r : Row) → ltb (key_number (key_of p)) (key_number (key_of r)) ≡ false → ltb (key_number (key_of r)) (key_number (key_of p)) ≡ false → Decides (eqb (mark_bit p) (mark_bit r)) (Follows p r)
+pub follows-mark : (p r : Row) → ltb (key_number (key_of p)) (key_number (key_of r)) ≡ false → ltb (key_number (key_of r)) (key_number (key_of p)) ≡ false
+    → Decides (eqb (mark_bit p) (mark_bit r)) (Follows p r)
 follows-mark p r a b =
     let e : place (key_at p) ≡ place (key_at r) = sym (row_number p) ∙ le_antisymm (ltb-false _ _ b) (ltb-false _ _ a) ∙ row_number r in
     elim (test (eqb (mark_bit p) (mark_bit r))) [
@@ -136,7 +137,8 @@ pub rows_iff : (s : List ℕ) (n : ℕ) {p : Row} → 0 < n → Below 256 s → 
 rows_iff s n {p} h b e =
     let w : List ℕ = words s in
     let g : Each RowRanges (recs row_size read_row n w) = each_recs RowRanges row_size read_row row-ranges n w (below_words s b) in
-    let q : recs row_size read_row n w ≡ read_row (take row_size (drop (row_size * 0) w)) ∷ rest row_size read_row n (0 + 1) w = sym (rest_all row_size read_row n w) ∙ rest_turn row_size read_row n 0 w h in
+    let q : recs row_size read_row n w ≡ read_row (take row_size (drop (row_size * 0) w)) ∷ rest row_size read_row n (0 + 1) w = sym (rest_all row_size read_row n w)
+    ∙ rest_turn row_size read_row n 0 w h in
     rw (e, q) (rows-sound _ _ (rw q at g))
 
 pub rows_none : (w : List ℕ) → RowsSound (recs row_size read_row 0 w)

@@ -66,7 +66,8 @@ module _ (x : ℕ) where
   unbump_there o (c ∷ cs) zero d b h e = rw (eq-eqb x c.conn (sym e))
   unbump_there o (c ∷ cs) (suc i) d b h e = rw (ne_eqb x c.conn (λ z. omega (arith, b 0 (omega arith))), unbump_there o cs i d (λ j l. b (suc j) (omega arith)) (omega arith) e)
 
-  retally_there : (o p : ℕ) (cs : List Conn) (i : ℕ) (d : Conn) → Below cs i → i < length cs → (get_or cs i d).conn ≡ x → retally x o p cs ≡ take i cs ++ (reowned o p (get_or cs i d) ∷ drop (suc i) cs)
+  retally_there : (o p : ℕ) (cs : List Conn) (i : ℕ) (d : Conn) → Below cs i → i < length cs → (get_or cs i d).conn ≡ x
+      → retally x o p cs ≡ take i cs ++ (reowned o p (get_or cs i d) ∷ drop (suc i) cs)
   unfolding retally
   retally_there o p [] i d b h e = absurd (omega arith)
   retally_there o p (c ∷ cs) zero d b h e = rw (eq-eqb x c.conn (sym e))

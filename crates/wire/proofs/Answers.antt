@@ -1,21 +1,25 @@
 -- What the two calls answer, by the tests that they make.
 use Prim.Native.Nat.{ℕ, suc, ◌+◌, ◌*◌, ◌≤◌, ◌<◌}
 use mathlib.Core.Path.{◌≡◌, sym, ap, subst, ◌∙◌}
+use mathlib.Core.Logic.{inl, inr}
 use mathlib.Core.Bool.{Bool, true, false, ◌&&◌}
 use mathlib.Core.List.{List}
+use mathlib.Core.Option.{none}
 use native.Mathlib.Omega.{arith}
+use lib.Dec.{leb}
 use lib.ListN.{length, drop, get_or, length-append, length-drop, drop_of_length-le}
 use lib.Seq.{drop-cons}
-use borrow.Author.Tests.{lt-ltb, le-ltb, le-leb}
+use borrow.Author.Tests.{lt-ltb, le-ltb, le-leb, lt-leb}
 use Rattle.ident.specs.Number.{Item, is_plain}
 use Rattle.words.specs.Words.{recs, splice}
 use Rattle.words.proofs.Records.{length-recs}
 use Rattle.machine.specs.Step.{written}
+use Rattle.machine.proofs.Tests.{test}
 use Rattle.lent_lists.specs.Items.{item_bytes, item_in}
 use Rattle.lent_lists.proofs.Inventory.{Low, low-drop}
 use Rattle.wire.specs.declared.Found.{Found}
-use Rattle.wire.specs.Payload.{max_items, wire_bytes, compact_size, wires_of, payload_of, wire_item, all_plain}
-use Rattle.wire.specs.Calls.{short_buffer, Refused, Bytes, items_answer, items_listed, Reads, Writes}
+use Rattle.wire.specs.Payload.{max_items, wire_bytes, compact_size, wires_of, payload_of, wire_item, items_of, all_plain}
+use Rattle.wire.specs.Calls.{bad_payload, short_buffer, Refused, Bytes, items_answer, items_listed, Reads, Writes}
 use Rattle.wire.specs.Steps.{Holds, Counted}
 use Rattle.wire.proofs.Filling.{write_both}
 use Rattle.wire.proofs.Records.{length_wires, answer_back, read_fits, read_plain}
@@ -43,6 +47,9 @@ plain_all l i h v = sym (v ∙ ap all_plain (drop_of_length-le l {i = i} h))
 pub counted : (p : List ℕ) {f g : Found} → Counted p f → f ≡ g → Counted p g
 counted p h e = subst (λ (x : Found). Counted p x) e h
 
+pub read_bad : (p u : List ℕ) → items_of p ≡ none → Reads p u u (Refused bad_payload)
+read_bad p u e = rw e
+
 pub read_short : {p : List ℕ} {n a : ℕ} (u : List ℕ) → Holds p n a → length u < n * item_bytes → Reads p u u (Refused short_buffer)
 read_short {p} {n} {a} u h l =
     let k : length (recs wire_bytes wire_item n (drop a p)) ≡ n = length-recs wire_bytes wire_item n (drop a p) in
@@ -64,6 +71,12 @@ read_done {p} {n} {a} u q h l e =
     rw (h.items, k, le-ltb (length u) (item_bytes * n) (omega arith), e, items_back n (drop a p) u d (low-drop a p q))
 
 -- ---- writing
+
+pub write-many : (l : List Item) (u : List ℕ) {n : ℕ} → n ≡ length l → max_items < n → Writes l u u (Refused bad_payload)
+write-many l u e h = rw (lt-leb (length l) max_items (omega arith))
+
+pub write_other : (l : List Item) (u : List ℕ) {r : Bool} → r ≡ all_plain l → r ≡ false → Writes l u u (Refused bad_payload)
+write_other l u e f = rw (sym e ∙ f) (elim (test (leb (length l) max_items)) [ inl t ↦ rw t | inr t ↦ rw t ])
 
 -- n items, the count in a bytes: what a list that can be written needs
 module _ (l : List Item) (u : List ℕ) {n a : ℕ} {r : Bool} (e : n ≡ length l) (m : n ≤ max_items) (p : r ≡ all_plain l) (q : r ≡ true) (f : a ≡ length (compact_size n)) where

@@ -139,3 +139,6 @@ matches {b} {n} {a} g h l =
 
 pub too_many : {b : List ℕ} {n a : ℕ} → Begins b n a → max_items < n → items_of b ≡ none
 too_many {b} {n} {a} g h = g.items ∙ after-many n (drop a b) h
+
+pub unmatched : {b : List ℕ} {n a : ℕ} → Begins b n a → (length b ≡ a + n * wire_bytes → ⊥) → items_of b ≡ none
+unmatched {b} {n} {a} g h = g.items ∙ after_other n (drop a b) (λ e. let d = length-drop a b in h (omega (arith, g.inside)))

@@ -6,7 +6,7 @@ use native.Mathlib.Nat.{add-zero}
 use native.Mathlib.Numerals.{add-one, towards_suc}
 use native.Mathlib.Omega.{arith}
 use lib.ListN.{length, take, drop, get_or, set, take-append-drop}
-use lib.Seq.{take-suc, take-take, drop-drop, length-take-le, sets-eq}
+use lib.Seq.{take-suc, take-take, drop-drop, length-take-le, take_all, sets-eq}
 use Rattle.ident.specs.declared.ItemKind.TheVariants.{Transaction}
 use Rattle.ident.specs.Number.{Item, type_of}
 use Rattle.ident.proofs.TypeNumbers.{type-kind}
@@ -149,6 +149,9 @@ write_turn l i a u₀ h f p q =
     let n = length-wire x in
     let more : wires_of (take i l) ++ wire_of x ≡ wires_of (take (i + 1) l) = sym (wires_more (take i l) x) ∙ ap wires_of (sym (take-suc l i d h) ∙ rw add-one) in
     q d ∙ ap (λ (s : List ℕ). splice s (a + i * wire_bytes) (wire_of x)) p ∙ splice_more u₀ a (a + i * wire_bytes) (wires_of (take i l)) (wire_of x) (omega arith) (omega arith) ∙ ap (splice u₀ a) more
+
+pub write-all : (l : List Item) (i : ℕ) (u : List ℕ) (a : ℕ) → length l ≤ i → splice u a (wires_of (take i l)) ≡ splice u a (wires_of l)
+write-all l i u a h = ap (λ (x : List Item). splice u a (wires_of x)) (take_all i l h)
 
 -- the count, and then the items
 pub write_both : (l : List Item) (u : List ℕ) {n a : ℕ} {u₁ u₂ : List ℕ} → n ≡ length l → a ≡ length (compact_size n) → a + wire_bytes * n ≤ length u → u₁ ≡ written (compact_size n) u

@@ -58,8 +58,12 @@ after_is : (n : ℕ) (b : List ℕ) (l : List Item) → items_after n b ≡ some
 after_is n b l e =
     elim (test (leb n max_items && eqb (length b) (wire_bytes * n))) [
       | inl t ↦
-          let q : some (recs wire_bytes wire_item n b) ≡ some l = rw t at e in
-          (leb-true n max_items (and_left (leb n max_items) (eqb (length b) (wire_bytes * n)) t), eqb-true (length b) (wire_bytes * n) (and_right (leb n max_items) (eqb (length b) (wire_bytes * n)) t), cc)
+          let q : some (recs wire_bytes wire_item n b) ≡ some l = rw t at e in (
+            leb-true n max_items (and_left (leb n max_items) (eqb (length b) (wire_bytes * n)) t),
+            eqb-true (length b) (wire_bytes * n)
+                (and_right (leb n max_items) (eqb (length b) (wire_bytes * n)) t),
+            cc,
+          )
       | inr t ↦ let q : none ≡ some l = rw t at e in not_some {x = none} refl q
     ]
 

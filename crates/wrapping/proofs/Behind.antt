@@ -45,7 +45,8 @@ abbrev afterwards : (Limits → Table → Listed) → State → State
 afterwards f st = on_table (f (limits_of st) st.table).table st
 
 pub listed_then : {s₀ s s₁ u₀ u v : List ℕ} {kept c a y : ℕ} (f g : Limits → Table → Listed) → KeysListed s₀ s u₀ u kept f → ((st : State) → Sound st → Sound (afterwards f st))
-    → a ≡ key_bytes * kept → y ≡ length u → KeysListed s s₁ (take (y - a) (drop a u)) v c g → KeysListed s₀ s₁ u₀ (take a u ++ (v ++ drop (y - a) (drop a u))) (kept + c) (λ m t. and_then (f m t) (g m))
+    → a ≡ key_bytes * kept → y ≡ length u → KeysListed s s₁ (take (y - a) (drop a u)) v c g
+    → KeysListed s₀ s₁ u₀ (take a u ++ (v ++ drop (y - a) (drop a u))) (kept + c) (λ m t. and_then (f m t) (g m))
 listed_then {s₀} {s} {s₁} {u₀} {u} {v} {kept} {c} {a} {y} f g l sound from end o = record {
   count = λ st x w. let ks = (f (limits_of st) st.table).keys in
       omega (arith, l.count st x w, o.count (afterwards f st) (sound st x) (l.table st x w), length-append ks (g (limits_of st) (afterwards f st).table).keys);

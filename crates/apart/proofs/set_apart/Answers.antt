@@ -21,4 +21,5 @@ put-requires-2 c = let l = room-enough c.requires.0
     c.requires.1 in search rules
 
 pub returns : goal.returns
-returns c = λ st s o. set_out c.args.s.now st s o (c.requires.1 ∙ ap bare_bytes (sizes o).limit) refl _ c.copy_slot.ensures c.clear.auto.s c.clear.ensures refl (search rules) c.put.ensures.word c.put-2.ensures.word
+returns c = λ st s o. set_out c.args.s.now st s o (c.requires.1 ∙ ap bare_bytes (sizes o).limit) refl _ c.copy_slot.ensures c.clear.auto.s c.clear.ensures refl (search rules)
+    c.put.ensures.word c.put-2.ensures.word

@@ -8,7 +8,8 @@ use Rattle.listed_counts.proofs.note_lines.Given as goal
 
 abbrev pub invariant-loop-at : goal.invariant-loop-at
 invariant-loop-at l =
-    (l.at ≤ length l.text) × (length l.names ≡ length l.initial.names) × (length l.counts ≡ length l.initial.counts) × (length l.wtxids ≡ length l.initial.wtxids) × (length l.parents ≡ length l.initial.parents)
+    (l.at ≤ length l.text) × (length l.names ≡ length l.initial.names) × (length l.counts ≡ length l.initial.counts) × (length l.wtxids ≡ length l.initial.wtxids)
+    × (length l.parents ≡ length l.initial.parents)
     × (l.from + sum l.counts ≤ l.at) × Noting l.text l.from l.owners l.initial.names l.initial.counts l.at l.names l.counts
 
 abbrev pub decreases-loop-at : goal.decreases-loop-at

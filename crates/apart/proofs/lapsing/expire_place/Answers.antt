@@ -36,7 +36,8 @@ announce_all-requires c = let x = c.requires.0 in let
     )
 
 pub returns : goal.returns
-returns c = λ st xs o h z own. let late : c.args.clock < word = omega arith in place-expired o h z c.args.n c.args.clock late (hash_below c.args.k.hash (key-four c.args.k c.well_formed.1.1.1.1.0)) own (c.lapse.ensures st xs o h
+returns c = λ st xs o h z own. let late : c.args.clock < word = omega arith in place-expired o h z c.args.n c.args.clock late
+    (hash_below c.args.k.hash (key-four c.args.k c.well_formed.1.1.1.1.0)) own (c.lapse.ensures st xs o h
     z) _ (c.load.ensures st.places xs nowhere (omega (
       arith,
       h.inside,

@@ -9,7 +9,8 @@ use Rattle.events.proofs.input.read_lines.Given as goal
 
 abbrev pub invariant-loop-turns : goal.invariant-loop-turns
 invariant-loop-turns _ l =
-    (length l.store ≡ length l.initial.store) × (length l.lists ≡ length l.initial.lists) × (length l.line ≡ length l.initial.line) × (length l.out ≡ length l.initial.out) × Ordered l.lists × (l.kept.len ≤ line_room)
+    (length l.store ≡ length l.initial.store) × (length l.lists ≡ length l.initial.lists) × (length l.line ≡ length l.initial.line) × (length l.out ≡ length l.initial.out) × Ordered l.lists
+    × (l.kept.len ≤ line_room)
     × TookSome (started l.initial.store) l.kept l.line l.store l.lists
 
 abbrev pub decreases-loop-turns : goal.decreases-loop-turns

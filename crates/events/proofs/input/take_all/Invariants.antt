@@ -9,7 +9,8 @@ use Rattle.events.proofs.input.take_all.Given as goal
 
 abbrev pub invariant-loop-i : goal.invariant-loop-i
 invariant-loop-i _ l =
-    (length l.store ≡ length l.initial.store) × (length l.lists ≡ length l.initial.lists) × (length l.line ≡ length l.initial.line) × (length l.out ≡ length l.initial.out) × Ordered l.lists × (l.now.len ≤ line_room) × (l.i ≤ length l.bytes)
+    (length l.store ≡ length l.initial.store) × (length l.lists ≡ length l.initial.lists) × (length l.line ≡ length l.initial.line) × (length l.out ≡ length l.initial.out) × Ordered l.lists
+    × (l.now.len ≤ line_room) × (l.i ≤ length l.bytes)
     × ((p : Reading) → Held l.initial.now l.initial.line l.initial.store l.initial.lists p → TookAll p (take l.i l.bytes) l.now l.line l.store l.lists)
 
 abbrev pub decreases-loop-i : goal.decreases-loop-i

@@ -18,5 +18,6 @@ pub row_at-r-requires : goal.row_at-r-requires
 row_at-r-requires c = (kept_shown c.requires, omega (arith, c.if-rows-i.false, c.rows.ensures))
 
 pub returns : goal.returns
-returns c = next_goes c.args.clock (one c.args.after) c.key_words-key.ensures c.seek_row-from.ensures c.seek_due-i.ensures (omega (arith, c.if-rows-i.false, c.rows.ensures)) c.row_at-r.result c.row_at-r.ensures c.key_of-j.result
+returns c = next_goes c.args.clock (one c.args.after) c.key_words-key.ensures c.seek_row-from.ensures c.seek_due-i.ensures (omega (arith, c.if-rows-i.false, c.rows.ensures))
+    c.row_at-r.result c.row_at-r.ensures c.key_of-j.result
     c.key_of-j.ensures c.requires

@@ -75,7 +75,8 @@ loop-j-preserved-then-bit-eq1 c = let d : c.loop-j.j - c.args.from + 1 ≤ c.loo
   c.consider-w.auto.s ∙ c.loop-j.invariant.1,
   c.consider-w.auto.picks ∙ c.loop-j.invariant.2,
   scans_more
-      c.loop-j.invariant.3 (λ st. picked (hashes_at (words c.args.slot.now) (c.loop-j.j + 1) (c.args.to - (c.loop-j.j + 1))) (c.loop-j.left / 2)) _ d c.if-w.false c.consider-w.ensures (λ st l s m. bit-set (words c.args.slot.now) c.loop-j.j c.args.to c.loop-j.left c.loop-j-test.true c.txid_key-k.ensures c.parent_of-h.ensures c.if-bit-eq1.true),
+      c.loop-j.invariant.3 (λ st. picked (hashes_at (words c.args.slot.now) (c.loop-j.j + 1) (c.args.to - (c.loop-j.j + 1))) (c.loop-j.left / 2)) _ d c.if-w.false c.consider-w.ensures
+      (λ st l s m. bit-set (words c.args.slot.now) c.loop-j.j c.args.to c.loop-j.left c.loop-j-test.true c.txid_key-k.ensures c.parent_of-h.ensures c.if-bit-eq1.true),
 )
 
 pub loop-j-smaller : goal.loop-j-smaller
@@ -91,7 +92,8 @@ loop-j-preserved c = let d : c.loop-j.j - c.args.from ≤ c.loop-j.j + 1 - c.arg
   c.loop-j.invariant.1,
   c.loop-j.invariant.2,
   scans_as c.loop-j.invariant.3 (λ
-      st. picked (hashes_at (words c.args.slot.now) (c.loop-j.j + 1) (c.args.to - (c.loop-j.j + 1))) (c.loop-j.left / 2)) _ d (λ st l s m. bit-clear (words c.args.slot.now) c.loop-j.j c.args.to c.loop-j.left c.loop-j-test.true c.if-bit-eq1.false),
+      st. picked (hashes_at (words c.args.slot.now) (c.loop-j.j + 1) (c.args.to - (c.loop-j.j + 1))) (c.loop-j.left / 2)) _ d
+      (λ st l s m. bit-clear (words c.args.slot.now) c.loop-j.j c.args.to c.loop-j.left c.loop-j-test.true c.if-bit-eq1.false),
 )
 
 pub shape_of-s : goal.shape_of-s
@@ -101,4 +103,5 @@ pub shape_of-picks : goal.shape_of-picks
 shape_of-picks c = c.loop-j.invariant.2
 
 pub returns : goal.returns
-returns c = scans_as c.loop-j.invariant.3 (λ st. []) _ (omega (arith, c.loop-j.invariant.0)) (λ st l s m. bits_done (words c.args.slot.now) c.loop-j.j c.args.to c.loop-j.left (omega (arith, c.loop-j-test.false)))
+returns c = scans_as c.loop-j.invariant.3 (λ st. []) _ (omega (arith, c.loop-j.invariant.0))
+    (λ st l s m. bits_done (words c.args.slot.now) c.loop-j.j c.args.to c.loop-j.left (omega (arith, c.loop-j-test.false)))

@@ -49,7 +49,8 @@ put_back-requires c = let late : c.args.clock < word = omega (
   arith,
   c.requires.1,
 ) in let k = c.requires.0
-    in parted-after (some (given_keys c.args.given.now)) late c.set_apart.ensures c.begin-v.ensures c.held_places-c.ensures.word k.state k.sound k.writes (let y = front_within (set-parted c.requires.0 c.set_apart.ensures c.held_places-c.ensures.word).apart in omega (
+    in parted-after (some (given_keys c.args.given.now)) late c.set_apart.ensures c.begin-v.ensures c.held_places-c.ensures.word k.state k.sound k.writes
+    (let y = front_within (set-parted c.requires.0 c.set_apart.ensures c.held_places-c.ensures.word).apart in omega (
       arith,
       y,
       c.begin-v.auto.s,
@@ -59,8 +60,9 @@ pub returns : goal.returns
 returns c = let late : c.args.clock < word = omega (
   arith,
   c.requires.1,
-) in λ st s o. plan_is (some (given_keys c.args.given.now)) late c.set_apart.ensures c.begin-v.ensures c.held_places-c.ensures.word st s o (let y = front_within (set-parted c.requires.0 c.set_apart.ensures c.held_places-c.ensures.word).apart in omega (
-  arith,
-  y,
-  c.begin-v.auto.s,
-)) c.ask_given-r.auto.s refl (search rules) c.begin-v.auto.first c.ask_given-r.ensures c.put_back.ensures
+) in λ st s o. plan_is (some (given_keys c.args.given.now)) late c.set_apart.ensures c.begin-v.ensures c.held_places-c.ensures.word st s o (let y =
+    front_within (set-parted c.requires.0 c.set_apart.ensures c.held_places-c.ensures.word).apart in omega (
+      arith,
+      y,
+      c.begin-v.auto.s,
+    )) c.ask_given-r.auto.s refl (search rules) c.begin-v.auto.first c.ask_given-r.ensures c.put_back.ensures

@@ -11,7 +11,8 @@ use Rattle.sound_rows.proofs.group.groups_fit.Given as goal
 
 abbrev pub invariant-loop-i : goal.invariant-loop-i
 invariant-loop-i l = (length l.slots ≡ conn_slots) × (l.i ≤ l.m) × (l.m ≤ l.j) × (l.j ≤ l.n)
-    × (RowsSound (recs row_size read_row l.n (words l.s)) → Iff (GroupsSound l.most (recs row_size read_row l.n (words l.s))) (GroupsSound l.most (rows_in (words l.s) l.i l.m ++ rows_in (words l.s) l.j l.n)))
+    × (RowsSound (recs row_size read_row l.n (words l.s)) → Iff (GroupsSound l.most (recs row_size read_row l.n (words l.s)))
+    (GroupsSound l.most (rows_in (words l.s) l.i l.m ++ rows_in (words l.s) l.j l.n)))
 
 abbrev pub decreases-loop-i : goal.decreases-loop-i
 decreases-loop-i l = (l.m + l.n) - (l.i + l.j)
