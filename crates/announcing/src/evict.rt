@@ -115,12 +115,10 @@ fn greatest_in(s: &[u8], from: usize, to: usize, best: Victim) -> Victim
     requires { Shown s.now × (from ≤ to) × (to ≤ rows_in s.now) }
     ensures { (f : Flat) → Shows s.now f → found result ≡ greatest_over (found best) (part from to f.rows) }
 {
-    let mut i = from;
     let mut v = best;
-    while i < to {
+    for i in from..to {
         let r = store::rows::row_at(s, i);
         v = greater(v, r);
-        i += 1;
     }
     v
 }
@@ -159,14 +157,12 @@ pub fn evictable(s: &[u8]) -> u64
     ensures { Tells s.now (λ t. result ≡ wrapper.evictable t) }
 {
     let n = store::head::rows(s);
-    let mut i = 0;
     let mut m = 0;
-    while i < n {
+    for i in 0..n {
         let r = store::rows::row_at(s, i);
         if !stays(r.bits) {
             m += 1;
         }
-        i += 1;
     }
     m
 }

@@ -42,8 +42,7 @@ pub fn announce_parents(s: &mut [u8], n: u64, clock: u64, parents: &[u8], out: &
     let count = lent_lists::hashes(parents);
     let mut kept = 0;
     let mut priority = 0;
-    let mut i = 0;
-    while i < count {
+    for i in 0..count {
         if !lent_lists::occurs_before(parents, i) {
             let h = lent_lists::hash_in(parents, i);
             if announce_parent(s, n, clock, h, priority) {
@@ -52,7 +51,6 @@ pub fn announce_parents(s: &mut [u8], n: u64, clock: u64, parents: &[u8], out: &
             }
             priority += 1;
         }
-        i += 1;
     }
     kept
 }

@@ -26,11 +26,9 @@ fn mark_parents(s: &mut [u8], slot: &[u8], from: usize, to: usize)
     requires { Kept s.old × (from ≤ to) × (to ≤ list_most) × (length slot.now ≡ slot_bytes) }
     ensures { Makes s.old s.new (λ t. Unit {0}) (marks (hashes_at (words slot.now) from (to - from))) }
 {
-    let mut j = from;
-    while j < to {
+    for j in from..to {
         let h = noting::parent_of(slot, j);
         requests::mark(s, ident::txid_key(ident::Txid(h)));
-        j += 1;
     }
 }
 

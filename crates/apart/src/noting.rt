@@ -94,8 +94,7 @@ fn announce_bits(
     let mut w = 1;
     let mut waiting = m;
     let mut reserve = v;
-    let mut j = from;
-    while j < to {
+    for j in from..to {
         let r = displacing::announce_further(
             s, slot, new, top, reserve, waiting, j, c, n, clock, together,
         );
@@ -103,7 +102,6 @@ fn announce_bits(
         waiting = r.waiting;
         reserve = r.reserve;
         w = w * 2;
-        j += 1;
     }
     Half {
         bits,

@@ -34,10 +34,8 @@ pub fn drop_due(s: &mut [u8], clock: u64)
 {
     let n = store::head::rows(s);
     let mut m = 0;
-    let mut i = 0;
-    while i < n {
+    for i in 0..n {
         m = drop_row(s, m, i, clock);
-        i += 1;
     }
     store::rows::drop_rows(s, m, n);
 }

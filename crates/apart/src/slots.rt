@@ -127,10 +127,8 @@ pub fn forget(s: &mut [u8], m: usize, first: &mut [u8], n: usize)
     requires { Room s.old first.old m n }
     ensures { Forgotten s.old s.new first.old first.new m n }
 {
-    let mut i = 0;
-    while i < n {
+    for i in 0..n {
         set_note(s, m, first, i, Note { low: 0, high: 0 });
-        i += 1;
     }
 }
 

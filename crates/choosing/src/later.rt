@@ -33,11 +33,9 @@ pub fn wait_in(s: &[u8], clock: u64, from: usize, to: usize) -> u64
     requires { Shown s.now × (from ≤ to) × (to ≤ rows_in s.now) }
     ensures { (f : Flat) → Shows s.now f → time_of result ≡ wait_in clock (map candidate_at (part from to f.rows)) }
 {
-    let mut i = to;
     let mut w = 0;
     let mut any = false;
-    while from < i {
-        i -= 1;
+    for i in (from..to).rev() {
         let r = store::rows::row_at(s, i);
         any = (r.ready <= clock) | any;
         w = earlier(later(clock, r.ready), w);

@@ -105,10 +105,8 @@ fn least_in(s: &[u8], clock: u64, from: usize, to: usize) -> Pick
     requires { Kept s.now × (from ≤ to) × (to ≤ rows_in s.now) }
     ensures { Least s.now clock from to result }
 {
-    let mut i = to;
     let mut v = nothing();
-    while from < i {
-        i -= 1;
+    for i in (from..to).rev() {
         let r = store::rows::row_at(s, i);
         v = with_row(s, clock, r, i, v);
     }
@@ -120,13 +118,11 @@ fn owned_in(s: &[u8], from: usize, to: usize) -> bool
     requires { Shown s.now × (from ≤ to) × (to ≤ rows_in s.now) }
     ensures { (f : Flat) → Shows s.now f → result ≡ any_owns (part from to f.rows) }
 {
-    let mut i = from;
-    while i < to {
+    for i in from..to {
         let r = store::rows::row_at(s, i);
         if r.bits / 8 % 2 == 1 {
             return true;
         }
-        i += 1;
     }
     false
 }

@@ -21,11 +21,9 @@ pub fn claim(s: &mut [u8], clock: u64, checked: &[crate::Entry], out: &mut [u8])
     ensures { Claims s.old s.new out.old out.new clock (map entry_of checked.now) result }
 {
     let mut n = 0;
-    let mut i = 0;
-    while i < checked.len() {
+    for i in 0..checked.len() {
         let e = entry_at(checked, i);
         n = entries::claim_next(s, clock, e, out, n);
-        i += 1;
     }
     n
 }

@@ -161,11 +161,9 @@ pub fn claim_bytes(s: &mut [u8], clock: u64, checked: &[u8], out: &mut [u8]) -> 
 {
     let count = entries(checked);
     let mut n = 0;
-    let mut i = 0;
-    while i < count {
+    for i in 0..count {
         let e = entry_in(checked, i);
         n = claim_next(s, clock, e, out, n);
-        i += 1;
     }
     n
 }

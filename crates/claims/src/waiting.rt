@@ -86,11 +86,9 @@ fn claims_of(s: &[u8], n: u64, keys: &mut [u8], sums: &mut [u8]) -> usize
 {
     let rows = store::head::rows(s);
     let mut m = 0;
-    let mut i = 0;
-    while i < rows {
+    for i in 0..rows {
         let r = store::rows::row_at(s, i);
         m = note_claim(s, n, r, keys, sums, m);
-        i += 1;
     }
     m
 }
@@ -107,9 +105,7 @@ fn latest(keys: &[u8], sums: &[u8], c: ident::Hash) -> Found
     requires { length (hashes_in sums.now) ≡ length (hashes_in keys.now) }
     ensures { key_found result.held (hash_num result.hash) ≡ last_among (hash_num c) (hashes_in keys.now) (hashes_in sums.now) }
 {
-    let mut j = lent_lists::hashes(keys);
-    while 0 < j {
-        j -= 1;
+    for j in (0..lent_lists::hashes(keys)).rev() {
         let x = lent_lists::hash_in(sums, j);
         if lent_lists::same_hash(x, c) {
             let hash = lent_lists::hash_in(keys, j);
@@ -246,11 +242,9 @@ fn fail_given(
 {
     let count = entries(given, items);
     let mut c = 0;
-    let mut i = 0;
-    while i < count {
+    for i in 0..count {
         let g = entry_at(given, items, i);
         c = fail_entry(s, n, g, clock, keys, sums, out, c);
-        i += 1;
     }
     c
 }

@@ -79,10 +79,8 @@ fn compact(s: &mut [u8], n: usize, p: Span) -> usize
     ensures { Compacted row_size row_words (stays p.conn p.from p.to) (words s.old) (words s.new) n result }
 {
     let mut m = 0;
-    let mut i = 0;
-    while i < n {
+    for i in 0..n {
         m = keep_row(s, m, i, p);
-        i += 1;
     }
     regions::truncate_rows(s, n, m);
     m

@@ -129,10 +129,8 @@ fn take_all<W: Write>(
         (λ p. TookAll p bytes.now result line.new store.new lists.new) }
 {
     let mut now = kept;
-    let mut i = 0;
-    while i < bytes.len() {
+    for i in 0..bytes.len() {
         now = take(output, store, lists, line, out, now, bytes[i]);
-        i += 1;
     }
     now
 }

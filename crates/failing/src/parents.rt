@@ -15,11 +15,9 @@ fn copy_parents(s: &[u8], i: usize, list: &mut [u8]) -> usize
     ensures { (result ≤ list_most) × ReadAt s.now i (λ q. first_hashes result list.new ≡ q.parents) }
 {
     let n = package_stages::parents(s, i);
-    let mut j = 0;
-    while j < n {
+    for j in 0..n {
         let h = package_stages::parent_at(s, i, j);
         ident::put_hash(list, j * ident::HASH_BYTES, h);
-        j += 1;
     }
     n
 }

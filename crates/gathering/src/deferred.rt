@@ -20,15 +20,13 @@ fn listed_at(top: &[u8], n: usize, h: ident::Hash) -> bool
     requires { (n ≤ list_space) × (length top.now ≡ 8 * (row_size * list_space)) }
     ensures { ListedAt (words top.now) n (hash_num h) result }
 {
-    let mut i = 0;
-    while i < n {
+    for i in 0..n {
         let x = regions::read_row(top, i);
         let q = x.hash;
         let g = requests::quad_hash(q);
         if lent_lists::same_hash(g, h) {
             return true;
         }
-        i += 1;
     }
     false
 }

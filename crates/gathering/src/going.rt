@@ -38,10 +38,8 @@ fn drop_victims(s: &mut [u8], top: &[u8], m: usize, d: usize)
     let v = regions::read_row(top, d - 1);
     let n = store::head::rows(s);
     let mut k = 0;
-    let mut i = 0;
-    while i < n {
+    for i in 0..n {
         k = drop_row(s, k, i, v);
-        i += 1;
     }
     store::rows::drop_rows(s, k, n);
 }
@@ -51,11 +49,9 @@ fn cut_victims(s: &mut [u8], top: &[u8], m: usize, d: usize)
     requires { Kept s.old × VictimsIn s.old (words top.now) m × (d ≤ m) × (m ≤ list_space) × (length top.now ≡ 8 * (row_size * list_space)) }
     ensures { Gone s.old s.new (words top.now) m d }
 {
-    let mut i = 0;
-    while i < d {
+    for i in 0..d {
         let y = regions::read_row(top, i);
         requests::cut(s, announcing::evict::key_of(y), y.conn);
-        i += 1;
     }
 }
 

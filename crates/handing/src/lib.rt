@@ -36,11 +36,9 @@ fn copy_conns(s: &[u8], k: ident::Key, conns: &mut [u8]) -> usize
     let w = requests::window_of(s, key);
     let from = w.from;
     let n = w.to - from;
-    let mut i = 0;
-    while i < n {
+    for i in 0..n {
         let r = store::rows::row_at(s, from + i);
         words::put(conns, i, r.conn);
-        i += 1;
     }
     n
 }
@@ -71,11 +69,9 @@ fn announce_each(
     ensures { KeysMerged s.old s.new u.old u.new n result (λ m t. announce_for m clock (hashes_in list.now) (conns_in q conns.now) t) }
 {
     let mut r = n;
-    let mut i = 0;
-    while i < q {
+    for i in 0..q {
         let x = words::get(conns, i);
         r = announce_for(s, x, clock, list, u, r);
-        i += 1;
     }
     r
 }

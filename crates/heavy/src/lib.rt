@@ -35,10 +35,8 @@ fn lowered_by_one(n: u64) -> u64
 fn lower(counts: &mut [u64])
     ensures { counts.new ≡ lowered counts.old }
 {
-    let mut i = 0;
-    while i < counts.len() {
+    for i in 0..counts.len() {
         counts[i] = lowered_by_one(counts[i]);
-        i += 1;
     }
 }
 
@@ -77,12 +75,10 @@ pub fn count(names: &[u64], counts: &mut [u64], x: u64)
 pub fn none_above(counts: &[u64], most: u64) -> bool
     ensures { result ≡ none_above most counts.now }
 {
-    let mut i = 0;
-    while i < counts.len() {
+    for i in 0..counts.len() {
         if most < counts[i] {
             return false;
         }
-        i += 1;
     }
     true
 }

@@ -43,14 +43,12 @@ fn read_items(line: &[u8], e: usize, n: usize, items: &mut [u8]) -> ListAt
     ensures { ListRead (taking item_of) line.now e n (items_of n items.new) result }
 {
     let mut to = e;
-    let mut i = 0;
-    while i < n {
+    for i in 0..n {
         let ItemAt::Is(kind, q, end) = item_at(line, to) else {
             return ListAt::Not;
         };
         put_item(items, i, kind, q);
         to = end;
-        i += 1;
     }
     ListAt::Is(to)
 }

@@ -44,14 +44,12 @@ fn read_keys(line: &[u8], e: usize, n: usize, keys: &mut [u8]) -> ListAt
     ensures { ListRead (taking key_of) line.now e n (keys_in n keys.new) result }
 {
     let mut to = e;
-    let mut i = 0;
-    while i < n {
+    for i in 0..n {
         let KeyAt::Is(kind, q, end) = key_at(line, to) else {
             return ListAt::Not;
         };
         put_key(keys, i, kind, q);
         to = end;
-        i += 1;
     }
     ListAt::Is(to)
 }

@@ -33,14 +33,12 @@ fn read_numbers(line: &[u8], e: usize, n: usize, numbers: &mut [u8]) -> ListAt
     ensures { ListRead (taking number_of) line.now e n (numbers_of n numbers.new) result }
 {
     let mut to = e;
-    let mut i = 0;
-    while i < n {
+    for i in 0..n {
         let NumberAt::Is(v, end) = number_at(line, to) else {
             return ListAt::Not;
         };
         words::put(numbers, i, v);
         to = end;
-        i += 1;
     }
     ListAt::Is(to)
 }

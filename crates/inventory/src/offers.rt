@@ -59,8 +59,7 @@ fn read_offers(line: &[u8], e: usize, n: usize, items: &mut [u8], priorities: &m
     ensures { ListRead offer_then line.now e n (offers_of n items.new priorities.new) result }
 {
     let mut to = e;
-    let mut i = 0;
-    while i < n {
+    for i in 0..n {
         let ItemAt::Is(kind, q, mid) = item_at(line, to) else {
             return ListAt::Not;
         };
@@ -69,7 +68,6 @@ fn read_offers(line: &[u8], e: usize, n: usize, items: &mut [u8], priorities: &m
         };
         put_offer(items, priorities, i, kind, q, p);
         to = end;
-        i += 1;
     }
     ListAt::Is(to)
 }

@@ -38,11 +38,9 @@ pub fn own_keys(s: &[u8], n: u64, out: &mut [u8]) -> usize
 {
     let rows = store::head::rows(s);
     let mut c = 0;
-    let mut i = 0;
-    while i < rows {
+    for i in 0..rows {
         let r = store::rows::row_at(s, i);
         c = put_own(out, c, n, r);
-        i += 1;
     }
     c
 }
@@ -133,10 +131,8 @@ fn drop_keys(s: &mut [u8], n: u64, clock: u64, out: &mut [u8], own: usize) -> us
         parents: 0,
         next: 0,
     };
-    let mut i = idle_keys(s, n, own);
-    while i < own {
+    for i in idle_keys(s, n, own)..own {
         p = take_turn(s, n, clock, out, own, i, p);
-        i += 1;
     }
     cut_listed(s, n, out, p.from, own);
     p.parents

@@ -71,8 +71,7 @@ fn decimal(f: &[u8], most: u64) -> MaybeNumber
     if 10 <= a {
         return MaybeNumber::Not;
     }
-    let mut i = 1;
-    while i < f.len() {
+    for i in 1..f.len() {
         let d = value(f[i]);
         if a == 0 {
             return MaybeNumber::Not;
@@ -81,7 +80,6 @@ fn decimal(f: &[u8], most: u64) -> MaybeNumber
             return MaybeNumber::Not;
         }
         a = a * 10 + d;
-        i += 1;
     }
     MaybeNumber::Is(a)
 }
@@ -135,8 +133,7 @@ pub fn hash(f: &[u8]) -> MaybeHash
         w2: 0,
         w3: 0,
     };
-    let mut i = 1;
-    while i < f.len() {
+    for i in 1..f.len() {
         let d = value(f[i]);
         if first == 0 {
             return MaybeHash::Not;
@@ -145,7 +142,6 @@ pub fn hash(f: &[u8]) -> MaybeHash
             return MaybeHash::Not;
         }
         q = with_digit(q, d);
-        i += 1;
     }
     MaybeHash::Is(q)
 }
@@ -290,12 +286,10 @@ pub fn same(s: &[u8], t: &[u8]) -> bool
     if s.len() != t.len() {
         return false;
     }
-    let mut i = 0;
-    while i < s.len() {
+    for i in 0..s.len() {
         if s[i] != t[i] {
             return false;
         }
-        i += 1;
     }
     true
 }

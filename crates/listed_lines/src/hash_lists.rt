@@ -50,14 +50,12 @@ fn hashes_at(line: &[u8], e: usize, n: usize, hashes: &mut [u8]) -> HashesAt
     ensures { Took (elements_then (taking hash_of) n []) line.now (rest line.now (e + 1)) (hashes_at n hashes.new result) }
 {
     let mut to = e;
-    let mut i = 0;
-    while i < n {
+    for i in 0..n {
         let HashAt::Is(q, end) = hash_at(line, to) else {
             return HashesAt::Not;
         };
         put_hash(hashes, i, q);
         to = end;
-        i += 1;
     }
     HashesAt::Is(to)
 }

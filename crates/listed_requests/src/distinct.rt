@@ -10,12 +10,10 @@ pub fn stands(list: &[u64], n: usize, x: u64) -> bool
     requires { n ≤ length list.now }
     ensures { result ≡ elem x (take n list.now) }
 {
-    let mut j = 0;
-    while j < n {
+    for j in 0..n {
         if list[j] == x {
             return true;
         }
-        j += 1;
     }
     false
 }
@@ -25,13 +23,11 @@ pub fn all_distinct(list: &[u64], n: usize) -> bool
     requires { n ≤ length list.now }
     ensures { result ≡ no_repeat (take n list.now) }
 {
-    let mut i = 0;
-    while i < n {
+    for i in 0..n {
         let x = list[i];
         if stands(list, i, x) {
             return false;
         }
-        i += 1;
     }
     true
 }
@@ -41,12 +37,10 @@ pub fn hashes_distinct(s: &[u8], n: usize) -> bool
     requires { hash_bytes * n ≤ length s.now }
     ensures { result ≡ no_repeat (hashes_of n s.now) }
 {
-    let mut i = 0;
-    while i < n {
+    for i in 0..n {
         if lent_lists::occurs_before(s, i) {
             return false;
         }
-        i += 1;
     }
     true
 }

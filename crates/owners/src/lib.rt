@@ -156,8 +156,7 @@ pub fn owners_of(s: &[u8], hashes: &[u8], out: &mut [u8]) -> u64
     let mut i = 0;
     let mut j = m;
     let mut passed: u64 = 0;
-    let mut p = 0;
-    while p < count {
+    for p in 0..count {
         let g = lent_lists::hash_in(hashes, p);
         let h = requests::hash_quad(g);
         let a = along(s, i, m, h);
@@ -168,7 +167,6 @@ pub fn owners_of(s: &[u8], hashes: &[u8], out: &mut [u8]) -> u64
         i = a.at;
         j = b.at;
         passed += a.keys + b.keys;
-        p += 1;
     }
     passed
 }

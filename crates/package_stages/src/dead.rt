@@ -37,10 +37,8 @@ fn compact(s: &mut [u8], n: usize) -> usize
     ensures { Compacted (words s.old) (words s.new) n result }
 {
     let mut m = 0;
-    let mut i = 0;
-    while i < n {
+    for i in 0..n {
         m = keep_live(s, m, i);
-        i += 1;
     }
     places::truncate_places(s, n, m);
     m

@@ -89,12 +89,10 @@ pub fn push_wtxids(s: &mut [u8], i: usize, list: &[u8])
     ensures { ListedIn s.old s.new i (hashes_in list.now) }
 {
     let n = lent_lists::hashes(list);
-    let mut j = 0;
-    while j < n {
+    for j in 0..n {
         let h = lent_lists::hash_in(list, j);
         let q = requests::hash_quad(h);
         push_wtxid(s, i, j, q);
-        j += 1;
     }
 }
 

@@ -72,8 +72,7 @@ fn owner_in(s: &[u8], from: usize, to: usize) -> Owner
     requires { Shown s.now × (from ≤ to) × (to ≤ rows_in s.now) }
     ensures { OwnerAmong s.now from to result }
 {
-    let mut i = from;
-    while i < to {
+    for i in from..to {
         let r = store::rows::row_at(s, i);
         if r.bits / 8 % 2 == 1 {
             return Owner {
@@ -81,7 +80,6 @@ fn owner_in(s: &[u8], from: usize, to: usize) -> Owner
                 deadline: r.deadline,
             };
         }
-        i += 1;
     }
     Owner {
         connection: 0,

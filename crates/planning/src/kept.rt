@@ -27,15 +27,13 @@ fn consider_bits(
 {
     let mut w = v;
     let mut left = bits;
-    let mut j = from;
-    while j < to {
+    for j in from..to {
         if w.full {
             return w;
         }
         let i = j;
         let bit = left % 2;
         left = left / 2;
-        j += 1;
         if bit == 1 {
             let h = apart::noting::parent_of(slot, i);
             let k = ident::txid_key(ident::Txid(h));
@@ -104,13 +102,11 @@ fn keys_kept(
     ensures { KeptScans s.old s.new first.now m e e picks.old picks.new clock v result }
 {
     let mut w = v;
-    let mut i = 0;
-    while i < e {
+    for i in 0..e {
         if w.full {
             return w;
         }
         w = consider_noted(s, m, first, i, clock, picks, w);
-        i += 1;
     }
     w
 }

@@ -105,11 +105,9 @@ fn put_behind(out: &mut [u8], at: usize, answer: &[u8], first: usize, n: usize) 
     ensures { (result ≤ at + entry_room * n) × Wrote out.old out.new at (behind (entry_texts (entries_from answer.now first n))) result }
 {
     let mut to = at;
-    let mut i = 0;
-    while i < n {
+    for i in 0..n {
         let from = put_bytes(out, to, b",");
         to = put_entry(out, from, answer, first + i);
-        i += 1;
     }
     to
 }

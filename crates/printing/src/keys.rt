@@ -52,10 +52,8 @@ fn put_keys(out: &mut [u8], answer: &[u8], n: usize) -> usize
         return put_bytes(out, 0, b"-");
     }
     let mut at = 0;
-    let mut i = 0;
-    while i < n {
+    for i in 0..n {
         at = put_next(out, at, answer, i);
-        i += 1;
     }
     at
 }
@@ -77,11 +75,9 @@ fn put_behind(out: &mut [u8], at: usize, answer: &[u8], n: usize) -> usize
     ensures { (result ≤ at + 66 * n) × Wrote out.old out.new at (behind (key_texts (keys_in n answer.now))) result }
 {
     let mut to = at;
-    let mut i = 0;
-    while i < n {
+    for i in 0..n {
         let from = put_bytes(out, to, b",");
         to = put_key(out, from, answer, i);
-        i += 1;
     }
     to
 }

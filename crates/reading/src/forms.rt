@@ -261,14 +261,12 @@ pub fn read_form(line: &[u8], e: usize, form: &[u8]) -> ValuesAt
 {
     let mut v = no_values();
     let mut to = e;
-    let mut i = 0;
-    while i < form.len() {
+    for i in 0..form.len() {
         let ValuesAt::Is(next, end) = take_field(line, to, form[i], v) else {
             return ValuesAt::Not;
         };
         v = next;
         to = end;
-        i += 1;
     }
     ValuesAt::Is(v, to)
 }

@@ -55,14 +55,12 @@ fn read_hashes(line: &[u8], e: usize, n: usize, hashes: &mut [u8]) -> ListAt
     ensures { ListRead (taking hash_of) line.now e n (hashes_of n hashes.new) result }
 {
     let mut to = e;
-    let mut i = 0;
-    while i < n {
+    for i in 0..n {
         let HashAt::Is(q, end) = hash_at(line, to) else {
             return ListAt::Not;
         };
         put_hash(hashes, i, q);
         to = end;
-        i += 1;
     }
     ListAt::Is(to)
 }

@@ -17,11 +17,9 @@ fn count_out_rows(s: &mut [u8], from: usize, to: usize)
     requires { Kept s.old × (from ≤ to) × (to ≤ rows_in s.old) }
     ensures { (st : State) → Sound st → Writes s.old st → Shorn s.new st (rows_of st.table) (remove_range from to (rows_of st.table)) }
 {
-    let mut i = from;
-    while i < to {
+    for i in from..to {
         let r = store::rows::row_at(s, i);
         store::counting::count_out(s, r.conn, r.bits / 8 % 2);
-        i += 1;
     }
 }
 

@@ -42,11 +42,9 @@ pub fn put_candidates(s: &[u8], out: &mut [u8], at: usize, from: usize, to: usiz
         × ((f : Flat) → Shows s.now f → Lays out.old out.new at (row_texts (part from to f.rows)) result) }
 {
     let mut e = at;
-    let mut i = from;
-    while i < to {
+    for i in from..to {
         let r = store::rows::row_at(s, i);
         e = put_candidate(out, e, r);
-        i += 1;
     }
     e
 }

@@ -20,11 +20,9 @@ fn next_wtxids(s: &[u8], out: &mut [u8], at: usize, i: usize, n: usize) -> usize
         × ReadAt s.now i (λ q. n ≡ length (wtxids_of q.«package») → Lays out.old out.new at (behind (hash_fields short (wtxids_of q.«package»))) result) }
 {
     let mut e = at;
-    let mut j = 0;
-    while j < n {
+    for j in 0..n {
         let h = package_stages::wtxid_at(s, i, j);
         e = next_hash(out, e, h);
-        j += 1;
     }
     e
 }
@@ -36,11 +34,9 @@ fn next_hashes(s: &[u8], out: &mut [u8], at: usize, i: usize, n: usize) -> usize
         × ReadAt s.now i (λ q. n ≡ length q.parents → Lays out.old out.new at (behind (hash_fields short q.parents)) result) }
 {
     let mut e = at;
-    let mut j = 0;
-    while j < n {
+    for j in 0..n {
         let h = package_stages::parent_at(s, i, j);
         e = next_hash(out, e, h);
-        j += 1;
     }
     e
 }

@@ -9,9 +9,7 @@ pub fn give_back(s: &mut [u8], picks: &[usize], n: usize)
     requires { Marked s.old picks.now n × (n ≤ length picks.now) }
     ensures { GivenBack s.old s.new picks.now n }
 {
-    let mut j = n;
-    while 0 < j {
-        j -= 1;
+    for j in (0..n).rev() {
         let i = picks[j];
         let r = store::rows::row_at(s, i);
         let k = announcing::evict::key_of(r);
@@ -24,12 +22,10 @@ pub fn put_entries(s: &[u8], numbers: &[usize], n: usize, out: &mut [u8])
     requires { Kept s.now × RowsOfStore s.now numbers.now n × (n ≤ length numbers.now) × (entry_bytes * n ≤ length out.old) }
     ensures { EntriesPut s.now numbers.now n out.old out.new }
 {
-    let mut j = 0;
-    while j < n {
+    for j in 0..n {
         let i = numbers[j];
         let r = store::rows::row_at(s, i);
         let e = claiming::entry_of(r);
         claiming::entries::put_entry(out, j, e);
-        j += 1;
     }
 }

@@ -55,14 +55,12 @@ fn keys_given(
 {
     let count = keys(given);
     let mut w = v;
-    let mut i = 0;
-    while i < count {
+    for i in 0..count {
         if w.full {
             return w;
         }
         let k = key_in(given, i);
         w = crate::consider(s, clock, k, picks, w);
-        i += 1;
     }
     w
 }

@@ -39,12 +39,10 @@ pub fn listed(list: &[u8], connection: u64) -> bool
     ensures { result ≡ elem connection (words list.now) }
 {
     let count = list.len() / 8;
-    let mut i = 0;
-    while i < count {
+    for i in 0..count {
         if words::get(list, i) == connection {
             return true;
         }
-        i += 1;
     }
     false
 }

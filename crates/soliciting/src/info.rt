@@ -79,13 +79,11 @@ fn add_parents(s: &mut [u8], h: ident::Hash, parents: &[u8])
     ensures { Makes s.old s.new (λ t. Opened (at (wtxid (hash_num h)) t)) (change (wtxid (hash_num h)) (given (dedup (hashes_in parents.now)))) }
 {
     let count = lent_lists::hashes(parents);
-    let mut i = 0;
-    while i < count {
+    for i in 0..count {
         if !lent_lists::occurs_before(parents, i) {
             let p = lent_lists::hash_in(parents, i);
             package_stages::add_parent(s, h, p);
         }
-        i += 1;
     }
 }
 

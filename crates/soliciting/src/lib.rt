@@ -64,14 +64,12 @@ fn same_package(s: &[u8], i: usize, combined: ident::Hash, wtxids: &[u8]) -> boo
     if lent_lists::hashes(wtxids) != count {
         return false;
     }
-    let mut j = 0;
-    while j < count {
+    for j in 0..count {
         let a = package_stages::wtxid_at(s, i, j);
         let b = lent_lists::hash_in(wtxids, j);
         if !lent_lists::same_hash(a, b) {
             return false;
         }
-        j += 1;
     }
     true
 }

@@ -45,12 +45,10 @@ fn has_hash(s: &[u8], a: usize, from: usize, to: usize, h: regions::Quad) -> boo
     requires { (from ≤ to) × (8 * (a + 4 * to) ≤ length s.now) }
     ensures { result ≡ elem (quad_number h) (hashes_in (words s.now) a from to) }
 {
-    let mut k = from;
-    while k < to {
+    for k in from..to {
         if same_hash(regions::read_quad(s, a + k * 4), h) {
             return true;
         }
-        k += 1;
     }
     false
 }
@@ -188,8 +186,7 @@ pub fn places_fit(s: &[u8], q: usize, rows: &[u8], n: usize) -> bool
 {
     let mut slots: [u16; 4096] = [0; 4096];
     let mut at = 0;
-    let mut i = 0;
-    while i < q {
+    for i in 0..q {
         let a = i * PLACE;
         let x = a * 8;
         let y = (a + PLACE) * 8;
@@ -200,7 +197,6 @@ pub fn places_fit(s: &[u8], q: usize, rows: &[u8], n: usize) -> bool
         if !place_follows(s, i) {
             return false;
         }
-        i += 1;
     }
     true
 }

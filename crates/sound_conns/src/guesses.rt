@@ -141,15 +141,13 @@ fn fill_first(s: &[u8], n: usize, lo: usize, guess: &mut [u16], mask: u64, way: 
     requires { (8 * (conn_size * n) ≤ length s.now) × (mask < 2 ^ 32) × (mask + 1 + mask / 4 < length guess.old) }
     ensures { length guess.new ≡ length guess.old }
 {
-    let mut i = lo;
-    while i < n {
+    for i in lo..n {
         let j = i - lo;
         if j >= MANY {
             return;
         }
         let at = slot(words::get(s, i * CONN), way, mask);
         guess[at] = j as u16;
-        i += 1;
     }
 }
 
@@ -173,14 +171,12 @@ fn fill_second(s: &[u8], n: usize, lo: usize, guess: &mut [u16], mask: u64, way:
     ensures { (result ≤ many) × (length guess.new ≡ length guess.old) }
 {
     let mut lost = 0;
-    let mut i = lo;
-    while i < n {
+    for i in lo..n {
         let j = i - lo;
         if j >= MANY {
             return lost;
         }
         lost += give_second(guess, mask, way, words::get(s, i * CONN), j);
-        i += 1;
     }
     lost
 }

@@ -62,14 +62,12 @@ fn entries_fit(s: &[u8], n: usize) -> bool
         held: 0,
         owned: 0,
     };
-    let mut i = 0;
-    while i < n {
+    for i in 0..n {
         let c = regions::read_conn(s, i);
         if !entry_fits(p, c) {
             return false;
         }
         p = c;
-        i += 1;
     }
     true
 }
@@ -90,15 +88,13 @@ fn charge_all(s: &[u8], n: usize, lo: usize, t: &mut [u32])
     ensures { Within (λ c j. Left [] c (get_or t.new j 0)) (recs conn_size read_conn n (words s.now)) lo (length t.old)
         × (length t.new ≡ length t.old) }
 {
-    let mut i = lo;
-    while i < n {
+    for i in lo..n {
         let j = i - lo;
         if j >= t.len() {
             return;
         }
         let c = regions::read_conn(s, i);
         t[j] = charge(c);
-        i += 1;
     }
 }
 
@@ -182,14 +178,12 @@ fn count_rows(
     ensures { Tallying result (names c (words conns.now)) (recs row_size read_row n (words rows.now))
         (recs conn_size read_conn c (words conns.now)) done last lo t.new × (length t.new ≡ length t.old) }
 {
-    let mut i = 0;
-    while i < n {
+    for i in 0..n {
         let r = regions::read_row(rows, i);
         let own = (r.bits / 8 % 2) as u32;
         if !take_row(conns, c, lo, t, guess, mask, way, done, last, r.conn, own) {
             return false;
         }
-        i += 1;
     }
     true
 }
@@ -198,8 +192,7 @@ fn count_rows(
 fn used_up(n: usize, lo: usize, t: &[u32]) -> bool
     ensures { Decides result ((j : ℕ) → j < length t.now → lo + j < n → get_or t.now j 0 ≡ 0) }
 {
-    let mut i = lo;
-    while i < n {
+    for i in lo..n {
         let j = i - lo;
         if j >= t.len() {
             return true;
@@ -207,7 +200,6 @@ fn used_up(n: usize, lo: usize, t: &[u32]) -> bool
         if t[j] != 0 {
             return false;
         }
-        i += 1;
     }
     true
 }

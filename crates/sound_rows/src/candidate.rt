@@ -45,8 +45,7 @@ pub fn rows_fit(s: &[u8], n: usize) -> bool
         return true;
     }
     let mut p = regions::read_row(s, 0);
-    let mut i = 0;
-    while i < n {
+    for i in 0..n {
         let r = regions::read_row(s, i);
         if !row_fits(r) {
             return false;
@@ -55,7 +54,6 @@ pub fn rows_fit(s: &[u8], n: usize) -> bool
             return false;
         }
         p = r;
-        i += 1;
     }
     true
 }

@@ -57,8 +57,7 @@ fn apart(s: &[u8], i: usize, a: usize, j: usize, b: usize) -> bool
     requires { (i ≤ a) × (8 * (row_size * a) ≤ length s.now) × (j ≤ b) × (8 * (row_size * b) ≤ length s.now) }
     ensures { Decides result (Apart (rows_in (words s.now) j b) (rows_in (words s.now) i a)) }
 {
-    let mut k = i;
-    while k < a {
+    for k in i..a {
         let r = regions::read_row(s, k);
         if regions::find_conn_in(s, k + 1, a, r.conn) < a {
             return false;
@@ -66,7 +65,6 @@ fn apart(s: &[u8], i: usize, a: usize, j: usize, b: usize) -> bool
         if regions::find_conn_in(s, j, b, r.conn) < b {
             return false;
         }
-        k += 1;
     }
     true
 }
@@ -77,11 +75,9 @@ pub fn owners(s: &[u8], from: usize, to: usize) -> u64
     ensures { (result ≡ count_rows owns (rows_in (words s.now) from to)) × (result ≤ to) }
 {
     let mut sum = 0;
-    let mut i = from;
-    while i < to {
+    for i in from..to {
         let r = regions::read_row(s, i);
         sum += r.bits / 8 % 2;
-        i += 1;
     }
     sum
 }

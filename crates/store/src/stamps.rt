@@ -39,11 +39,9 @@ pub fn ready_rows(s: &mut [u8], from: usize, to: usize, v: u64)
     requires { Shown s.old × (from ≤ to) × (to ≤ rows_in s.old) }
     ensures { Turns s.old s.new (λ f. with_rows (map_in (with_ready v) from to f.rows) f) }
 {
-    let mut i = from;
-    while i < to {
+    for i in from..to {
         let r = rows::row_at(s, i);
         rows::set_row(s, i, ready_row(r, v));
-        i += 1;
     }
 }
 
@@ -52,10 +50,8 @@ pub fn mark_rows(s: &mut [u8], from: usize, to: usize)
     requires { Shown s.old × (from ≤ to) × (to ≤ rows_in s.old) }
     ensures { Turns s.old s.new (λ f. with_rows (map_in marked_row from to f.rows) f) }
 {
-    let mut i = from;
-    while i < to {
+    for i in from..to {
         let r = rows::row_at(s, i);
         rows::set_row(s, i, marked_row(r));
-        i += 1;
     }
 }

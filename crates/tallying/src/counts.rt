@@ -53,10 +53,8 @@ fn collect(r: &mut [u8], n: usize) -> usize
     ensures { Settled (words r.old) (words r.new) n result }
 {
     let mut m = 0;
-    let mut j = 0;
-    while j < n {
+    for j in 0..n {
         m = count(r, m, j);
-        j += 1;
     }
     words::clear(r, m * CONN, (n - m) * CONN);
     m

@@ -20,8 +20,7 @@ fn fill(s: &mut [u8])
     ensures { Turns s.old s.new (λ f. with_conns (map entry_of f.rows) f) }
 {
     let n = store::head::rows(s);
-    let mut i = 0;
-    while i < n {
+    for i in 0..n {
         let r = store::rows::row_at(s, i);
         let c = regions::Conn {
             conn: r.conn,
@@ -29,7 +28,6 @@ fn fill(s: &mut [u8])
             owned: r.bits / 8 % 2,
         };
         store::conns::add_conn(s, i, c);
-        i += 1;
     }
 }
 

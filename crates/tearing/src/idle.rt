@@ -39,9 +39,7 @@ fn cut_conns(s: &mut [u8], m: usize)
     requires { Shown s.old × (m ≤ conns_in s.old) }
     ensures { Turns s.old s.new (λ f. with_conns (take m f.conns) f) }
 {
-    let mut n = store::head::conns(s);
-    while m < n {
-        n -= 1;
+    for n in (m..store::head::conns(s)).rev() {
         store::conns::drop_conn(s, n);
     }
 }
@@ -53,10 +51,8 @@ pub fn drop_idle(s: &mut [u8])
 {
     let n = store::head::conns(s);
     let mut m = 0;
-    let mut i = 0;
-    while i < n {
+    for i in 0..n {
         m = keep_busy(s, m, i);
-        i += 1;
     }
     cut_conns(s, m);
 }

@@ -81,10 +81,8 @@ fn tear_rows(s: &mut [u8], clock: u64)
 {
     let n = store::head::rows(s);
     let mut k = Stay { rows: 0, at: 0 };
-    let mut i = 0;
-    while i < n {
+    for i in 0..n {
         k = tear_row(s, k.rows, i, clock, k.at);
-        i += 1;
     }
     store::rows::drop_rows(s, k.rows, n);
     idle::drop_idle(s);
@@ -112,10 +110,8 @@ fn tear_places(s: &mut [u8]) -> usize
 {
     let n = store::head::held_places(s);
     let mut c = 0;
-    let mut i = 0;
-    while i < n {
+    for i in 0..n {
         c = tear_place(s, i, c);
-        i += 1;
     }
     package_stages::dead::drop_dead(s);
     c

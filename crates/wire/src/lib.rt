@@ -119,10 +119,8 @@ fn read_items(p: &[u8], at: usize, n: usize, list: &mut [u8])
     requires { (at + wire_bytes * n ≤ length p.now) × (item_bytes * n ≤ length list.old) }
     ensures { list.new ≡ written (items_answer (recs wire_bytes wire_item n (drop at p.now))) list.old }
 {
-    let mut i = 0;
-    while i < n {
+    for i in 0..n {
         read_item(p, at + i * WIRE_BYTES, list, i);
-        i += 1;
     }
 }
 
@@ -150,14 +148,12 @@ fn all_plain(items: &[u8]) -> bool
     ensures { result ≡ all_plain (items_in items.now) }
 {
     let n = lent_lists::items(items);
-    let mut i = 0;
-    while i < n {
+    for i in 0..n {
         let item = lent_lists::item_at(items, i);
         let kind = item.kind;
         if !ident::is_plain(kind) {
             return false;
         }
-        i += 1;
     }
     true
 }
@@ -215,10 +211,8 @@ fn write_items(items: &[u8], n: usize, s: &mut [u8], at: usize)
     requires { (n ≡ length (items_in items.now)) × (at + wire_bytes * n ≤ length s.old) }
     ensures { s.new ≡ splice s.old at (wires_of (items_in items.now)) }
 {
-    let mut i = 0;
-    while i < n {
+    for i in 0..n {
         write_item(items, i, s, at + i * WIRE_BYTES);
-        i += 1;
     }
 }
 

@@ -73,9 +73,7 @@ pub fn shift_up(s: &mut [u8], m: usize, d: usize)
     requires { (0 < d) × (8 * (m + d) ≤ length s.old) }
     ensures { words s.new ≡ up d (words s.old) 0 m }
 {
-    let mut k = m;
-    while 0 < k {
-        k -= 1;
+    for k in (0..m).rev() {
         let v = get(s, k);
         put(s, k + d, v);
     }
@@ -86,11 +84,9 @@ pub fn shift_down(s: &mut [u8], m: usize, d: usize)
     requires { 8 * (m + d) ≤ length s.old }
     ensures { words s.new ≡ down d (words s.old) 0 m }
 {
-    let mut k = 0;
-    while k < m {
+    for k in 0..m {
         let v = get(s, k + d);
         put(s, k, v);
-        k += 1;
     }
 }
 
@@ -99,10 +95,8 @@ pub fn clear(s: &mut [u8], a: usize, d: usize)
     requires { 8 * (a + d) ≤ length s.old }
     ensures { words s.new ≡ splice (words s.old) a (replicate d 0) }
 {
-    let mut k = 0;
-    while k < d {
+    for k in 0..d {
         put(s, a + k, 0);
-        k += 1;
     }
 }
 
@@ -112,10 +106,8 @@ pub fn is_zero(s: &[u8], a: usize, b: usize) -> bool
     ensures { Decides result (slice a b (words s.now) ≡ replicate (b - a) 0) }
 {
     let mut seen: u64 = 0;
-    let mut k = a;
-    while k < b {
+    for k in a..b {
         seen = seen | get(s, k);
-        k += 1;
     }
     seen == 0
 }

@@ -74,13 +74,11 @@ pub fn not_found_each(s: &mut [u8], n: u64, items: &[u8], clock: u64, out: &mut 
     let count = lent_lists::items(items);
     let y = out.len();
     let mut kept = 0;
-    let mut i = 0;
-    while i < count {
+    for i in 0..count {
         let item = lent_lists::item_at(items, i);
         let a = kept * KEY;
         let c = not_found_one(s, n, item, clock, &mut out[a..y]);
         kept += c;
-        i += 1;
     }
     kept
 }
