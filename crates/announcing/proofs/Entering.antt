@@ -12,7 +12,7 @@ use Rattle.ident.specs.declared.Kind.{Kind}
 use Rattle.ident.specs.declared.Kind.TheVariants.{Txid, Wtxid}
 use Rattle.ident.specs.Number.{top, Key}
 use Rattle.regions.specs.declared.Row.{Row}
-use Rattle.machine.specs.State.{Candidate, Owner, Table, State, Answer, on_table, limits_of, owner_is}
+use Rattle.machine.specs.State.{Candidate, Owner, Table, State, Answer, on_table, limits_of, refused, owner_is}
 use Rattle.machine.specs.Table.{at, has, any, held, is_candidate, by_under, count}
 use Rattle.machine.specs.Announce.{push, cut, announce_at}
 use Rattle.machine.specs.Sound.{OwnerFits, Ordered, Sound}
@@ -27,9 +27,8 @@ use Rattle.store.proofs.Counts.{held-rows}
 use Rattle.store.proofs.Frame.{sizes}
 use Rattle.requests.proofs.Holding.{either-kind}
 use Rattle.requests.specs.Changes.{Makes}
-use Rattle.announcing.specs.declared.keyed.Verdict.{Verdict}
 use Rattle.announcing.specs.Answers.{Answered}
-use Rattle.announcing.specs.Enters.{Goes, Decided}
+use Rattle.announcing.specs.Enters.{Goes, Entering, Replacing}
 
 -- ---- who is no candidate at a hash owns none of its requests
 
@@ -93,7 +92,7 @@ room_in st w h =
 
 -- ---- the answer
 
-module _ {b b' : List ℕ} (k : Key) (c : Candidate) (d : Verdict) (x : (st : State) → Sound st → Writes b st → Decided (limits_of st) k c st.table d) where
+module _ {b b' : List ℕ} (k : Key) (c : Candidate) where
   answered : {r : Bool} (g : Table → Table) → ((st : State) → Sound st → Writes b st → announce_at (limits_of st) k c st.table ≡ record { reply = r; table = g st.table })
       → ((st : State) → Sound st → Writes b st → Writes b' (on_table (g st.table) st)) → Answered b b' r (λ m t. announce_at m k c t)
   answered g e h = record {
@@ -101,13 +100,14 @@ module _ {b b' : List ℕ} (k : Key) (c : Candidate) (d : Verdict) (x : (st : St
     table = λ st s w. subst (λ (a : Answer). Writes b' (on_table a.table st)) (sym (e st s w)) (h st s w);
   }
 
-  module _ (e : d.enters ≡ true) where
-    pub answered-room : k.hash < top → d.victim.some ≡ false → Makes b b' (λ t. owner_is c.connection (at k t).owner ≡ false) (push k c) → Answered b b' true (λ m t. announce_at m k c t)
-    answered-room small v h = answered (push k c) (λ st s w. (x st s w).pushes e v) (λ st s w. h st s w (fresh st s k small c.connection ((x st s w).new e)))
+  pub answered-room : ((st : State) → Sound st → Writes b st → Entering (limits_of st) k c st.table) → k.hash < top → Makes b b' (λ t. owner_is c.connection (at k t).owner ≡ false) (push k c)
+      → Answered b b' true (λ m t. announce_at m k c t)
+  answered-room x small h = answered (push k c) (λ st s w. (x st s w).pushes) (λ st s w. h st s w (fresh st s k small c.connection (x st s w).new))
 
-    pub answered-evicting : d.victim.some ≡ true → Makes b b' (λ t. Unit {0}) (λ t. push k c (cut (key_at d.victim.row) d.victim.row.conn t)) → Answered b b' true (λ m t. announce_at m k c t)
-    answered-evicting v h = answered (λ t. push k c (cut (key_at d.victim.row) d.victim.row.conn t)) (λ st s w. (x st s w).evicts e v) (λ st s w. h st s w tt)
+  pub answered-evicting : (r : Row) → ((st : State) → Sound st → Writes b st → Replacing (limits_of st) k c st.table r) → Makes b b' (λ t. Unit {0}) (λ t. push k c (cut (key_at r) r.conn t))
+      → Answered b b' true (λ m t. announce_at m k c t)
+  answered-evicting r x h = answered (λ t. push k c (cut (key_at r) r.conn t)) (λ st s w. (x st s w).evicts) (λ st s w. h st s w tt)
 
-module _ {b : List ℕ} (k : Key) (c : Candidate) (d : Verdict) (x : (st : State) → Sound st → Writes b st → Decided (limits_of st) k c st.table d) where
-  pub answered_refusing : d.enters ≡ false → Answered b b false (λ m t. announce_at m k c t)
-  answered_refusing e = answered {b' = b} k c d x (λ t. t) (λ st s w. (x st s w).refuses e) (λ st s w. w)
+pub answered_refusing : {b : List ℕ} (k : Key) (c : Candidate) → ((st : State) → Sound st → Writes b st → announce_at (limits_of st) k c st.table ≡ refused st.table)
+    → Answered b b false (λ m t. announce_at m k c t)
+answered_refusing {b} k c x = answered {b' = b} k c (λ t. t) x (λ st s w. w)

@@ -1,7 +1,7 @@
 -- A scan of rows for the greatest victim: what each test shows, and what one row more does.
 use Prim.Native.Nat.{ℕ, zero, suc, ◌+◌, ◌-◌, ◌%◌, ◌≤◌, ◌<◌}
 use mathlib.Core.Path.{◌≡◌, refl, sym, ap, ◌∙◌}
-use mathlib.Core.Bool.{Bool, true, false, ◌&&◌, ◌||◌}
+use mathlib.Core.Bool.{Bool, true, false, ◌||◌}
 use mathlib.Core.List.{List}
 use mathlib.Core.Option.{Option, none, some}
 use native.Mathlib.Omega.{arith}
@@ -11,7 +11,8 @@ use lib.Seq.{drop-cons}
 use borrow.Author.Tests.{lt-ltb, le-ltb, ltb-true}
 use Rattle.ident.specs.declared.Kind.{Kind}
 use Rattle.ident.specs.declared.Kind.TheVariants.{Wtxid}
-use Rattle.std.specs.Prelude.{if◌then◌else◌}
+use Rattle.std.specs.Prelude as std
+use Rattle.std.specs.Prelude.{if◌then◌else◌, Some, None, is_some}
 use Rattle.ident.specs.Number.{place}
 use Rattle.regions.specs.declared.Row.{Row}
 use Rattle.regions.specs.declared.Key.{Key as RowKey}
@@ -21,8 +22,7 @@ use Rattle.machine.specs.Announce.{after}
 use Rattle.machine.proofs.Tests.{by_test, never, or_left}
 use Rattle.store.specs.Gather.{kind_is, key_at, candidate_at}
 use Rattle.store.proofs.Keys.{row_number}
-use Rattle.announcing.specs.declared.evict.Victim.{Victim}
-use Rattle.announcing.specs.Evicts.{entry_at, found, key_after, protected, greater, or_row, greatest_over, part}
+use Rattle.announcing.specs.Evicts.{entry_at, found, is_lower, key_after, protected, greater, or_row, greatest_over, part}
 
 -- ---- which of two rows comes after the other
 
@@ -64,24 +64,21 @@ module _ (a b : Row) where
 
 -- ---- one row more
 
-pub none_found : (v : Victim) → v.some ≡ false → found v ≡ none
-none_found v e = ap (λ (b : Bool). if b then some (entry_at v.row) else none) e
-
--- what a scan has found, as a flag and a row
-abbrev is : Bool → Row → Option Entry
-is b row = if b then some (entry_at row) else none
+pub none_found : (o : std.Option Row) → is_some o ≡ false → found o ≡ none
+none_found None e = refl
+none_found (Some r) e = never (sym e)
 
 -- a row that passes by its bits or its priority alone
-module _ (r row : Row) (b : Bool) {x : Bool} (ex : x ≡ (protected r.bits || (b && ltb r.prio row.prio))) where
-  pub row-passes : x ≡ true → is b row ≡ or_row (is b row) r
-  row-passes e = by_test (λ (o : Option Entry). is b row ≡ o) (protected r.bits) (λ _. refl) (λ n. less b (sym (rw n at ex) ∙ e))
+module _ (r : Row) (best : std.Option Row) {x : Bool} (ex : x ≡ (protected r.bits || is_lower r best)) where
+  pub row-passes : x ≡ true → found best ≡ or_row (found best) r
+  row-passes e = by_test (λ (o : Option Entry). found best ≡ o) (protected r.bits) (λ _. refl) (λ n. less best (sym (rw n at ex) ∙ e))
     where
-      less : (z : Bool) → (z && ltb r.prio row.prio) ≡ true → is z row ≡ some (greater (is z row) (entry_at r))
-      less false q = never q
-      less true q = rw (sym (prio-lower r row (ltb-true r.prio row.prio q)))
+      less : (o : std.Option Row) → is_lower r o ≡ true → found o ≡ some (greater (found o) (entry_at r))
+      less None q = never q
+      less (Some row) q = rw (sym (prio-lower r row (ltb-true r.prio row.prio q)))
 
   pub row-free : x ≡ false → false ≡ protected r.bits
-  row-free e = sym (or_left (protected r.bits) (b && ltb r.prio row.prio) (sym ex ∙ e))
+  row-free e = sym (or_left (protected r.bits) (is_lower r best) (sym ex ∙ e))
 
 module _ (r : Row) {x : Bool} (ex : x ≡ protected r.bits) where
   pub row_stays : x ≡ true → (o : Option Entry) → o ≡ or_row o r
@@ -90,16 +87,16 @@ module _ (r : Row) {x : Bool} (ex : x ≡ protected r.bits) where
   pub row_goes : x ≡ false → (o : Option Entry) → or_row o r ≡ some (greater o (entry_at r))
   row_goes e o = rw (sym ex ∙ e)
 
-  module _ (e : x ≡ false) (row : Row) where
-    pub first_row : (b : Bool) → b ≡ false → some (entry_at r) ≡ or_row (is b row) r
-    first_row b n = rw n (sym (row_goes e none))
+  module _ (e : x ≡ false) where
+    pub first_row : some (entry_at r) ≡ or_row none r
+    first_row = sym (row_goes e none)
 
-    module _ {a : Bool} (ea : a ≡ after (entry_at r) (entry_at row)) where
-      pub row_less : (b : Bool) → b ≡ true → a ≡ false → is b row ≡ or_row (is b row) r
-      row_less b n d = rw n (sym (row_goes e (some (entry_at row)) ∙ rw (sym ea ∙ d)))
+    module _ (row : Row) {a : Bool} (ea : a ≡ after (entry_at r) (entry_at row)) where
+      pub row_less : a ≡ false → some (entry_at row) ≡ or_row (some (entry_at row)) r
+      row_less d = sym (row_goes e (some (entry_at row)) ∙ rw (sym ea ∙ d))
 
-      pub row_more : (b : Bool) → b ≡ true → a ≡ true → some (entry_at r) ≡ or_row (is b row) r
-      row_more b n d = rw n (sym (row_goes e (some (entry_at row)) ∙ rw (sym ea ∙ d)))
+      pub row_more : a ≡ true → some (entry_at r) ≡ or_row (some (entry_at row)) r
+      row_more d = sym (row_goes e (some (entry_at row)) ∙ rw (sym ea ∙ d))
 
 -- ---- a part of a list of rows
 

@@ -1,20 +1,26 @@
 -- What the contracts of the scan for a victim say: the machine's entries, as rows have them.
-use Rattle.std.specs.Prelude.{ℕ, ◌-◌, ◌/◌, ◌%◌, Bool, true, false, ◌||◌, List, [], ◌∷◌, ltb, eqb, take, drop, if◌then◌else◌}
+use Rattle.std.specs.Prelude as std
+use Rattle.std.specs.Prelude.{Some, None, ℕ, ◌-◌, ◌/◌, ◌%◌, Bool, true, false, ◌||◌, List, [], ◌∷◌, ltb, eqb, take, drop, if◌then◌else◌}
 use Rattle.std.proofs.Math.Option.{Option, none, some}
 use Rattle.ident.specs.Number.{place}
 use Rattle.regions.specs.declared.Row.{Row}
 use Rattle.machine.specs.State.{Entry}
 use Rattle.machine.specs.Announce.{after}
 use Rattle.store.specs.Gather.{key_at, candidate_at}
-use Rattle.announcing.specs.declared.evict.Victim.{Victim}
 
 -- the candidate of a row, with its key
 abbrev pub entry_at : Row → Entry
 entry_at r = record { key = key_at r; candidate = candidate_at r }
 
 -- what a scan has found
-abbrev pub found : Victim → Option Entry
-found v = if v.some then some (entry_at v.row) else none
+abbrev pub found : std.Option Row → Option Entry
+found None = none
+found (Some r) = some (entry_at r)
+
+-- a row has a lower priority than what has been found
+abbrev pub is_lower : Row → std.Option Row → Bool
+is_lower r None = false
+is_lower r (Some best) = ltb r.prio best.prio
 
 -- a comes after b by "(key, connection)"
 abbrev pub key_after : Row → Row → Bool

@@ -1,6 +1,6 @@
 // Which announcement gives way to a preferred one: of the unpreferred candidates that do not own their request, the one with the
-// greatest (priority, key, connection) (document 01, "announce").
-ghost use Rattle.std.specs.Prelude.{◌≡◌, false, ◌&&◌, ◌||◌, ◌≤◌, ltb};
+// greatest (priority, key, connection) (document 01, "announce"). What a scan has found so far is a row, if there is one.
+ghost use Rattle.std.specs.Prelude.{◌≡◌, ◌||◌, ◌≤◌};
 ghost use Rattle.ident.specs.Words.{hash_num, key_num};
 ghost use Rattle.regions.specs.Rows.{key_of};
 ghost use Rattle.machine.specs.Announce as machine;
@@ -10,35 +10,7 @@ ghost use Rattle.store.specs.Gather.{kind_is, key_at};
 ghost use Rattle.store.specs.Image.{Shows};
 ghost use Rattle.store.specs.Shown.{rows_in, Shown, Kept};
 ghost use Rattle.requests.specs.Changes.{Tells};
-ghost use Rattle.announcing.specs.Evicts.{entry_at, found, key_after, protected, or_row, greatest_over, part};
-
-// What a scan has found so far: the row of a candidate, if there is one.
-#[derive(Clone, Copy)]
-pub struct Victim {
-    pub some: bool,
-    pub row: regions::Row,
-}
-
-// Nothing found.
-pub fn nobody() -> Victim
-    ensures { result.some ≡ false }
-{
-    let hash = regions::Quad {
-        w0: 0,
-        w1: 0,
-        w2: 0,
-        w3: 0,
-    };
-    let row = regions::Row {
-        hash,
-        conn: 0,
-        ready: 0,
-        prio: 0,
-        deadline: 0,
-        bits: 0,
-    };
-    Victim { some: false, row }
-}
+ghost use Rattle.announcing.specs.Evicts.{entry_at, found, is_lower, key_after, protected, or_row, greatest_over, part};
 
 // Whether a row's bits say that its candidate is preferred, or owns its request.
 pub fn stays(bits: u64) -> bool
@@ -49,20 +21,18 @@ pub fn stays(bits: u64) -> bool
 
 // Whether a row's bits or its priority alone tell that it is not greater than what has been found. Most rows of a scan end here, in one
 // branch: `|` and `&` have none.
-fn passed(best: Victim, r: regions::Row) -> bool
-    ensures { result ≡ (protected r.bits || (best.some && ltb r.prio best.row.prio)) }
+fn passed(best: Option<regions::Row>, r: regions::Row) -> bool
+    ensures { result ≡ (protected r.bits || is_lower r best) }
 {
-    let row = best.row;
-    stays(r.bits) | (best.some & (r.prio < row.prio))
+    stays(r.bits) | best.is_some_and(|row| r.prio < row.prio)
 }
 
 pub fn row_key(r: regions::Row) -> regions::Key
     ensures { result ≡ key_of r }
 {
-    let hash = r.hash;
     regions::Key {
         kind: r.bits % 2,
-        hash,
+        hash: r.hash,
     }
 }
 
@@ -95,36 +65,35 @@ pub fn after(a: regions::Row, b: regions::Row) -> bool
 }
 
 // The greater of what has been found and of one row more.
-fn greater(best: Victim, r: regions::Row) -> Victim
+fn greater(best: Option<regions::Row>, r: regions::Row) -> Option<regions::Row>
     ensures { found result ≡ or_row (found best) r }
 {
     if passed(best, r) {
         return best;
     }
-    if best.some {
-        let row = best.row;
+    if let Some(row) = best {
         if !after(r, row) {
             return best;
         }
     }
-    Victim { some: true, row: r }
+    Some(r)
 }
 
 // The greatest of what has been found and of the rows from .. to.
-fn greatest_in(s: &[u8], from: usize, to: usize, best: Victim) -> Victim
+fn greatest_in(s: &[u8], from: usize, to: usize, best: Option<regions::Row>) -> Option<regions::Row>
     requires { Shown s.now × (from ≤ to) × (to ≤ rows_in s.now) }
     ensures { (f : Flat) → Shows s.now f → found result ≡ greatest_over (found best) (part from to f.rows) }
 {
-    let mut v = best;
+    let mut greatest = best;
     for i in from..to {
         let r = store::rows::row_at(s, i);
-        v = greater(v, r);
+        greatest = greater(greatest, r);
     }
-    v
+    greatest
 }
 
 // The victim at a hash, under either kind.
-pub fn victim_at(s: &[u8], h: ident::Hash) -> Victim
+pub fn victim_at(s: &[u8], h: ident::Hash) -> Option<regions::Row>
     requires { Kept s.now }
     ensures { Tells s.now (λ t. found result ≡ machine.greatest (machine.victims (machine.at_hash (hash_num h)) t)) }
 {
@@ -138,17 +107,17 @@ pub fn victim_at(s: &[u8], h: ident::Hash) -> Victim
     });
     let x = requests::window_of(s, a);
     let y = requests::window_of(s, b);
-    let v = greatest_in(s, x.from, x.to, nobody());
-    greatest_in(s, y.from, y.to, v)
+    let victim = greatest_in(s, x.from, x.to, None);
+    greatest_in(s, y.from, y.to, victim)
 }
 
 // The victim of the whole table.
-pub fn victim_anywhere(s: &[u8]) -> Victim
+pub fn victim_anywhere(s: &[u8]) -> Option<regions::Row>
     requires { Kept s.now }
     ensures { Tells s.now (λ t. found result ≡ machine.greatest (machine.victims machine.anywhere t)) }
 {
     let n = store::head::rows(s);
-    greatest_in(s, 0, n, nobody())
+    greatest_in(s, 0, n, None)
 }
 
 // How many candidates of the table can be evicted, in one pass.
@@ -183,8 +152,8 @@ fn kind_of(b: u64) -> ident::Kind
 pub fn key_of(r: regions::Row) -> ident::Key
     ensures { key_num result ≡ key_at r }
 {
-    let q = r.hash;
-    let hash = requests::quad_hash(q);
-    let kind = kind_of(r.bits % 2);
-    ident::Key { kind, hash }
+    ident::Key {
+        kind: kind_of(r.bits % 2),
+        hash: requests::quad_hash(r.hash),
+    }
 }

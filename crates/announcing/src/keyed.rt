@@ -11,26 +11,18 @@ ghost use Rattle.store.specs.Image.{Writes};
 ghost use Rattle.store.specs.Shown.{Kept};
 ghost use Rattle.requests.specs.Changes.{candidate_of, Makes, Tells};
 ghost use Rattle.announcing.specs.Answers.{Answered};
-ghost use Rattle.announcing.specs.Enters.{Crowded, Goes, Decided};
+ghost use Rattle.announcing.specs.Enters.{Crowded, Goes, in_place_of, Decided};
 
 use crate::evict;
 use machine::limits::MAX_PEER_ANNOUNCEMENTS;
 
-// How an announcement fares: whether it comes in, and the candidate that gives way to it, if one has to.
+// How an announcement fares.
 #[derive(Clone, Copy)]
-pub struct Verdict {
-    pub enters: bool,
-    pub victim: evict::Victim,
-}
-
-fn refused() -> Verdict
-    ensures { result.enters ≡ false }
-{
-    let victim = evict::nobody();
-    Verdict {
-        enters: false,
-        victim,
-    }
+enum Verdict {
+    Refused,
+    Enters,
+    // It comes in, and the candidate of this row gives way to it.
+    Replaces(regions::Row),
 }
 
 // The connection has announced the hash, under either kind, or has as many announcements as it may.
@@ -41,8 +33,7 @@ fn barred(s: &[u8], h: ident::Hash, n: u64) -> bool
     if requests::is_candidate(s, h, n) {
         return true;
     }
-    let f = requests::figures(s, n);
-    f.held >= MAX_PEER_ANNOUNCEMENTS
+    requests::figures(s, n).held >= MAX_PEER_ANNOUNCEMENTS
 }
 
 // The hash has as many candidates as it may.
@@ -62,12 +53,12 @@ fn full(s: &[u8]) -> bool
 }
 
 // A preferred announcement comes in if there is one that gives way to it.
-fn in_place_of(v: evict::Victim) -> Verdict
-    ensures { (result.enters ≡ v.some) × (result.victim ≡ v) }
+fn in_place_of(victim: Option<regions::Row>) -> Verdict
+    ensures { result ≡ in_place_of victim }
 {
-    Verdict {
-        enters: v.some,
-        victim: v,
+    match victim {
+        None => Verdict::Refused,
+        Some(row) => Verdict::Replaces(row),
     }
 }
 
@@ -78,25 +69,21 @@ fn decide(s: &[u8], k: ident::Key, c: requests::Candidate) -> Verdict
 {
     let h = k.hash;
     if barred(s, h, c.connection) {
-        return refused();
+        return Verdict::Refused;
     }
     if crowded(s, h) {
         if c.preferred {
             return in_place_of(evict::victim_at(s, h));
         }
-        return refused();
+        return Verdict::Refused;
     }
     if full(s) {
         if c.preferred {
             return in_place_of(evict::victim_anywhere(s));
         }
-        return refused();
+        return Verdict::Refused;
     }
-    let victim = evict::nobody();
-    Verdict {
-        enters: true,
-        victim,
-    }
+    Verdict::Enters
 }
 
 // Whether announce_at would let c in.
@@ -104,8 +91,7 @@ pub fn would_announce(s: &[u8], k: ident::Key, c: requests::Candidate) -> bool
     requires { Kept s.now }
     ensures { (st : State) → Sound st → Writes s.now st → result ≡ (machine.announce_at (limits_of st) (key_num k) (candidate_of c) st.table).reply }
 {
-    let d = decide(s, k, c);
-    d.enters
+    !matches!(decide(s, k, c), Verdict::Refused)
 }
 
 // The candidate of the row r goes, and c comes in at k.
@@ -122,16 +108,10 @@ pub fn announce_at(s: &mut [u8], k: ident::Key, c: requests::Candidate) -> bool
     requires { Kept s.old }
     ensures { Answered s.old s.new result (λ m t. machine.announce_at m (key_num k) (candidate_of c) t) }
 {
-    let d = decide(s, k, c);
-    if !d.enters {
-        return false;
-    }
-    let v = d.victim;
-    if v.some {
-        let r = v.row;
-        replace(s, r, k, c);
-    } else {
-        requests::push(s, k, c);
+    match decide(s, k, c) {
+        Verdict::Refused => return false,
+        Verdict::Enters => requests::push(s, k, c),
+        Verdict::Replaces(row) => replace(s, row, k, c),
     }
     true
 }

@@ -3,11 +3,10 @@ use Prim.Native.Nat.{ℕ, ◌+◌, ◌-◌, ◌≤◌, ◌<◌}
 use mathlib.Core.Path.{◌≡◌, sym, ap, subst, ◌∙◌}
 use mathlib.Core.Bool.{Bool, true, false, not}
 use mathlib.Core.List.{List}
-use mathlib.Core.Option.{none, some}
 use native.Mathlib.Omega.{arith}
-use borrow.Author.Tests.{not-true as off}
-use Rattle.std.specs.Prelude.{if◌then◌else◌}
+use Rattle.std.specs.Prelude.{Option, is_some}
 use Rattle.ident.specs.Number.{top}
+use Rattle.regions.specs.declared.Row.{Row}
 use Rattle.machine.specs.Limits.{word}
 use Rattle.machine.specs.State.{Table, State, Answer, limits_of, on_table}
 use Rattle.machine.specs.Announce.{greatest, victims, anywhere}
@@ -16,11 +15,11 @@ use Rattle.machine.proofs.Fail.{Peer}
 use Rattle.machine.proofs.Tests.{never}
 use Rattle.store.specs.Image.{Writes}
 use Rattle.requests.specs.Changes.{Tells}
-use Rattle.announcing.specs.declared.evict.Victim.{Victim}
 use Rattle.announcing.specs.Answers.{Answered, one_parent}
-use Rattle.announcing.specs.Evicts.{entry_at, found}
+use Rattle.announcing.specs.Evicts.{found}
 use Rattle.announcing.specs.Falls.{most_listed, list_space, VictimsIn}
 use Rattle.announcing.proofs.Nobody.{none_greatest as nobody}
+use Rattle.announcing.proofs.Scanning.{none_found}
 use Rattle.apart.specs.declared.joining.Next.{Next}
 use Rattle.apart.specs.declared.displacing.Reserve.{Reserve}
 use Rattle.apart.specs.declared.displacing.Further.{Further}
@@ -51,14 +50,14 @@ module _ {b v : List ℕ} {d : ℕ} {q : Reserve} where
   }
 
   -- there are none
-  pub restocked_none : {v' : List ℕ} (x : Victim) {r : Reserve} → r ≡ unlisted (not x.some) → Tells b (λ (t : Table). found x ≡ greatest (victims anywhere t)) → Restocked b v v' d q r
-  restocked_none {v'} x i h = subst (Restocked b v v' d q) (sym i) (record {
+  pub restocked_none : {v' : List ℕ} (x : Option Row) {n : Bool} {r : Reserve} → is_some x ≡ not n → r ≡ unlisted n → Tells b (λ (t : Table). found x ≡ greatest (victims anywhere t))
+      → Restocked b v v' d q r
+  restocked_none {v'} x k i h = subst (Restocked b v v' d q) (sym i) (record {
     few = omega arith;
     stock = λ st s g r _. record {
       whole = λ l. absurd (omega arith);
       first = λ l. absurd (omega arith);
-      none_left = λ e. nobody (victims anywhere st.table)
-          (sym (h st s g) ∙ ap (λ (y : Bool). if y then some (entry_at x.row) else none) (off x.some e));
+      none_left = λ e. nobody (victims anywhere st.table) (sym (h st s g) ∙ none_found x (k ∙ ap not e));
     };
   })
 

@@ -69,8 +69,7 @@ fn restock(s: &[u8], top: &mut [u8], d: usize, left: usize, q: Reserve) -> Reser
     announcing::foremost::clear(top);
     let m = announcing::foremost::list_victims(s, top, left);
     if m == 0 {
-        let x = announcing::evict::victim_anywhere(s);
-        return nothing_listed(!x.some);
+        return nothing_listed(announcing::evict::victim_anywhere(s).is_none());
     }
     Reserve {
         count: m,

@@ -32,8 +32,20 @@ pub struct Pick {
 fn nothing() -> Pick
     ensures { (result.some ≡ false) × (result.wait ≡ 0) }
 {
-    let v = announcing::evict::nobody();
-    let row = v.row;
+    let hash = regions::Quad {
+        w0: 0,
+        w1: 0,
+        w2: 0,
+        w3: 0,
+    };
+    let row = regions::Row {
+        hash,
+        conn: 0,
+        ready: 0,
+        prio: 0,
+        deadline: 0,
+        bits: 0,
+    };
     Pick {
         some: false,
         row,

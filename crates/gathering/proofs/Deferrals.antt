@@ -10,6 +10,8 @@ use lib.Dec.{eqb}
 use lib.ListN.{length, take, get_or}
 use borrow.Author.Tests.{leb-true, leb-false}
 use lib.Seq.{take-suc}
+use Rattle.std.specs.Prelude as std
+use Rattle.std.specs.Prelude.{is_some}
 use Rattle.ident.specs.Number.{top, Key}
 use Rattle.regions.specs.declared.Row.{Row}
 use Rattle.regions.specs.Rows.{row_size, row_words, read_row, quad_number}
@@ -20,7 +22,6 @@ use Rattle.machine.specs.Announce.{victims, greatest, at_hash, announce_keyed}
 use Rattle.machine.specs.Typed.{Each}
 use Rattle.store.specs.Gather.{key_at}
 use Rattle.requests.specs.Changes.{Tells}
-use Rattle.announcing.specs.declared.evict.Victim.{Victim}
 use Rattle.announcing.specs.Enters.{Crowded}
 use Rattle.announcing.specs.Evicts.{found}
 use Rattle.announcing.specs.Falls.{list_space}
@@ -88,7 +89,7 @@ module _ {b w v : List ℕ} {d : ℕ} {k : Key} {c : Candidate} {y : Row} where
       };
     }
 
-    pub suited-crowded : {x : Bool} → Crowded b k.hash x → x ≡ true → (z : Victim) → Tells b (λ t. found z ≡ greatest (victims (at_hash k.hash) t)) → z.some ≡ false
+    pub suited-crowded : {x : Bool} → Crowded b k.hash x → x ≡ true → (z : std.Option Row) → Tells b (λ t. found z ≡ greatest (victims (at_hash k.hash) t)) → is_some z ≡ false
         → SuitedIn b w v d k c y 0
     suited-crowded q l z r e = record {
       most = omega arith;

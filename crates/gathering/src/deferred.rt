@@ -60,8 +60,7 @@ fn suits(
         return 0;
     }
     if announcing::keyed::crowded(s, h) {
-        let v = announcing::evict::victim_at(s, h);
-        if v.some {
+        if announcing::evict::victim_at(s, h).is_some() {
             return 2;
         }
         return 0;

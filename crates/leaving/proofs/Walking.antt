@@ -9,7 +9,6 @@ use lib.Seq.{get_or-append-add, get_or_at}
 use Rattle.ident.specs.Number.{top, Key, place, other}
 use Rattle.machine.specs.Limits.{word}
 use Rattle.machine.specs.State.{State, Table, limits_of, on_table}
-use Rattle.machine.specs.Table.{at}
 use Rattle.machine.specs.Fail.{Listed}
 use Rattle.machine.specs.Leave.{keys_of, drop_each, sort_keys}
 use Rattle.machine.specs.Sound.{Sound, Bounded}

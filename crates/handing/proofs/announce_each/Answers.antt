@@ -1,5 +1,5 @@
 use native.Mathlib.Omega.{arith}
-use Prim.Native.Nat.{◌-◌, ◌<◌}
+use Prim.Native.Nat.{◌<◌}
 use lib.ListN.{length}
 use Rattle.machine.specs.Limits.{word}
 use Rattle.machine.proofs.Fail.{FewHashes}
@@ -50,12 +50,6 @@ announce_for-r-requires c = let late : c.args.clock < word = omega arith in
           c.requires.4 c.requires.5
           c.loop-i.invariant c.get-x.result h g c.requires.0,
     )
-
-pub overflow_add-i : goal.overflow_add-i
-overflow_add-i c = omega (arith, c.loop-i-test.true)
-
-pub loop-i-smaller : goal.loop-i-smaller
-loop-i-smaller c = omega (arith, c.loop-i-test.true)
 
 pub loop-i-preserved : goal.loop-i-preserved
 loop-i-preserved c = let late : c.args.clock < word = omega arith in

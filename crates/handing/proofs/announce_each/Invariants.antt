@@ -1,4 +1,3 @@
-use Prim.Native.Nat.{◌-◌}
 use Rattle.lent_lists.specs.Lists.{hashes_in}
 use Rattle.handing.specs.Hands.{conns_in}
 use Rattle.handing.proofs.Announcing.{Handing}
@@ -6,6 +5,3 @@ use Rattle.handing.proofs.announce_each.Given as goal
 
 abbrev pub invariant-loop-i : goal.invariant-loop-i
 invariant-loop-i l = Handing l.clock (hashes_in l.list) (conns_in l.q l.conns) l.initial.s l.s l.initial.u l.u l.n l.r l.i
-
-abbrev pub decreases-loop-i : goal.decreases-loop-i
-decreases-loop-i l = l.q - l.i

@@ -33,12 +33,6 @@ row_at-r-requires c = (
 pub put-requires : goal.put-requires
 put-requires c = omega (arith, c.loop-i-test.true, c.loop-i.invariant.0.long, c.loop-i.invariant.1)
 
-pub overflow_add-i : goal.overflow_add-i
-overflow_add-i c = omega (arith, c.loop-i-test.true)
-
-pub loop-i-smaller : goal.loop-i-smaller
-loop-i-smaller c = omega (arith, c.loop-i-test.true)
-
 pub loop-i-preserved : goal.loop-i-preserved
 loop-i-preserved c = (
   copied_more c.row_at-r.result c.loop-i.invariant.0

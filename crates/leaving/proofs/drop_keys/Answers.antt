@@ -1,4 +1,4 @@
-use Prim.Native.Nat.{◌-◌, ◌<◌}
+use Prim.Native.Nat.{◌<◌}
 use native.Mathlib.Omega.{arith}
 use Rattle.machine.specs.Limits.{word}
 use Rattle.leaving.proofs.Walking.{going_kept}
@@ -28,12 +28,6 @@ take_turn-p-requires c = let kept = c.requires.0 in (
   c.requires.1,
   c.loop-i-test.true,
 )
-
-pub overflow_add-i : goal.overflow_add-i
-overflow_add-i c = omega (arith, c.loop-i-test.true)
-
-pub loop-i-smaller : goal.loop-i-smaller
-loop-i-smaller c = omega (arith, c.loop-i-test.true)
 
 pub loop-i-preserved : goal.loop-i-preserved
 loop-i-preserved c = λ st s w. c.take_turn-p.ensures st

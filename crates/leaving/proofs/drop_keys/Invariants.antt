@@ -1,4 +1,3 @@
-use Prim.Native.Nat.{◌-◌}
 use Rattle.machine.specs.State.{State}
 use Rattle.machine.specs.Sound.{Sound}
 use Rattle.store.specs.Image.{Writes}
@@ -7,6 +6,3 @@ use Rattle.leaving.proofs.drop_keys.Given as goal
 
 abbrev pub invariant-loop-i : goal.invariant-loop-i
 invariant-loop-i l = ((st : State) → Sound st → Writes l.initial.s st → Going l.n l.clock st l.initial.out l.s l.out l.own l.p.from l.i l.p.parents)
-
-abbrev pub decreases-loop-i : goal.decreases-loop-i
-decreases-loop-i l = l.own - l.i

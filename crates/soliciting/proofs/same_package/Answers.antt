@@ -62,12 +62,6 @@ returns-then-not-same_hash-2 c = λ h small st s w p.
     (c.loop-j.invariant.1 h small st s w p) l g
     (compared c.same_hash-in-loop-j.ensures (c.wtxid_at-a.ensures h small st s w p l) c.hash_in-b.ensures c.if-not-same_hash-2.true)
 
-pub overflow_add-j : goal.overflow_add-j
-overflow_add-j c = omega (arith, c.loop-j-test.true)
-
-pub loop-j-smaller : goal.loop-j-smaller
-loop-j-smaller c = omega (arith, c.loop-j-test.true)
-
 pub loop-j-preserved : goal.loop-j-preserved
 loop-j-preserved c = (
   omega (arith, c.loop-j-test.true),

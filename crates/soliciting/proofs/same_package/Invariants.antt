@@ -1,5 +1,5 @@
 -- `soliciting::same_package` meets its contract.
-use Prim.Native.Nat.{◌-◌, ◌≤◌}
+use Prim.Native.Nat.{◌≤◌}
 use mathlib.Core.Path.{◌≡◌}
 use lib.ListN.{drop}
 use Rattle.lent_lists.specs.Lists.{hashes_in}
@@ -9,6 +9,3 @@ use Rattle.soliciting.proofs.same_package.Given as goal
 
 abbrev pub invariant-loop-j : goal.invariant-loop-j
 invariant-loop-j l = (l.j ≤ l.count) × ReadAt l.s l.i (λ q. same_list (drop l.j (wtxids_of q.«package»)) (drop l.j (hashes_in l.wtxids)) ≡ same_list (wtxids_of q.«package») (hashes_in l.wtxids))
-
-abbrev pub decreases-loop-j : goal.decreases-loop-j
-decreases-loop-j l = l.count - l.j

@@ -14,12 +14,6 @@ tear_place-c-requires c = (
   c.loop-i.invariant.less,
 )
 
-pub overflow_add-i : goal.overflow_add-i
-overflow_add-i c = omega (arith, c.loop-i-test.true)
-
-pub loop-i-smaller : goal.loop-i-smaller
-loop-i-smaller c = omega (arith, c.loop-i-test.true)
-
 pub loop-i-preserved : goal.loop-i-preserved
 loop-i-preserved c = marking_more c.loop-i.invariant (blank 0 0)
     (omega (arith, c.held_places-n.ensures.word, c.loop-i-test.true)) c.tear_place-c.auto.s

@@ -1,4 +1,4 @@
-use Prim.Native.Nat.{◌-◌, ◌≤◌}
+use Prim.Native.Nat.{◌≤◌}
 use mathlib.Core.Path.{◌≡◌}
 use Rattle.store.specs.Flat.{Flat}
 use Rattle.store.specs.Image.{Shows}
@@ -6,7 +6,4 @@ use Rattle.announcing.specs.Evicts.{found, greatest_over, part}
 use Rattle.announcing.proofs.evict.greatest_in.Given as goal
 
 abbrev pub invariant-loop-i : goal.invariant-loop-i
-invariant-loop-i l = (l.i ≤ l.to) × ((f : Flat) → Shows l.s f → greatest_over (found l.v) (part l.i l.to f.rows) ≡ greatest_over (found l.initial.v) (part l.initial.i l.to f.rows))
-
-abbrev pub decreases-loop-i : goal.decreases-loop-i
-decreases-loop-i l = l.to - l.i
+invariant-loop-i l = (l.i ≤ l.to) × ((f : Flat) → Shows l.s f → greatest_over (found l.greatest) (part l.i l.to f.rows) ≡ greatest_over (found l.initial.greatest) (part l.initial.i l.to f.rows))

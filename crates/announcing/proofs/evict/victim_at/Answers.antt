@@ -1,13 +1,13 @@
+use mathlib.Core.Path.{refl}
 use Rattle.ident.specs.Number.{txid, wtxid}
 use Rattle.ident.specs.Words.{hash_num}
 use Rattle.store.specs.Flat.{flat_of}
 use Rattle.requests.proofs.Keeping.{kept_shown, from_at, to_at}
-use Rattle.announcing.proofs.Scanning.{none_found}
 use Rattle.announcing.proofs.Victims.{found_at_hash}
 use Rattle.announcing.proofs.evict.victim_at.Goals as goal
 
-pub greatest_in-v-requires : goal.greatest_in-v-requires
-greatest_in-v-requires c = (kept_shown c.requires, c.window_of-x.ensures.order, c.window_of-x.ensures.most)
+pub greatest_in-victim-requires : goal.greatest_in-victim-requires
+greatest_in-victim-requires c = (kept_shown c.requires, c.window_of-x.ensures.order, c.window_of-x.ensures.most)
 
 pub greatest_in-requires : goal.greatest_in-requires
 greatest_in-requires c = (kept_shown c.requires, c.window_of-y.ensures.order, c.window_of-y.ensures.most)
@@ -19,6 +19,6 @@ returns c = λ st s w.
     let b = c.key_words-b.ensures in
     let x = c.window_of-x.ensures in
     let y = c.window_of-y.ensures in
-    found_at_hash h a.small st.table s.bounded.ordered s.bounded.lawful (none_found c.nobody.result c.nobody.ensures)
-    (from_at st s (txid h) a.small a.number (x.from_is st s w)) (to_at st s (txid h) a.small a.number (x.to_is st s w)) (c.greatest_in-v.ensures (flat_of st) w)
+    found_at_hash h a.small st.table s.bounded.ordered s.bounded.lawful refl
+    (from_at st s (txid h) a.small a.number (x.from_is st s w)) (to_at st s (txid h) a.small a.number (x.to_is st s w)) (c.greatest_in-victim.ensures (flat_of st) w)
     (from_at st s (wtxid h) b.small b.number (y.from_is st s w)) (to_at st s (wtxid h) b.small b.number (y.to_is st s w)) (c.greatest_in.ensures (flat_of st) w)

@@ -10,4 +10,4 @@ returns-then-is_candidate c = λ st s w. barred_first (c.is_candidate.ensures st
 
 pub returns : goal.returns
 returns c = λ st s w. barred-second (c.is_candidate.ensures st s w) c.if-is_candidate.false
-    (ap (leb max_peer_announcements) (c.figures-f.ensures st s w).held)
+    (ap (leb max_peer_announcements) (c.figures.ensures st s w).held)

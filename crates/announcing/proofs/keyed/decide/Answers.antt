@@ -1,19 +1,13 @@
-use mathlib.Core.Path.{refl, sym, ◌∙◌}
-use mathlib.Core.Bool.{true}
+use mathlib.Core.Path.{sym, ◌∙◌}
 use Rattle.ident.specs.Words.{key_num}
 use Rattle.machine.specs.State.{limits_of}
 use Rattle.machine.specs.Announce.{at_hash, anywhere}
 use Rattle.requests.specs.Changes.{candidate_of}
-use Rattle.announcing.proofs.Deciding.{when-barred, when-crowded, when-crowded_out, when-full, when-full_out, refusing, entering, replacing}
+use Rattle.announcing.proofs.Deciding.{when-barred, when-crowded, when-crowded_out, when-full, when-full_out, entering, replacing}
 use Rattle.announcing.proofs.keyed.decide.Goals as goal
 
 pub returns-then-barred : goal.returns-then-barred
-returns-then-barred c = λ st s w.
-    let m = limits_of st in
-    let k = key_num c.args.k in
-    let x = candidate_of c.args.c in
-    let t = st.table in
-    refusing m k x t (when-barred m k x t (sym (c.barred.ensures st s w) ∙ c.if-barred.true)) c.refused.result c.refused.ensures
+returns-then-barred c = λ st s w. when-barred (limits_of st) (key_num c.args.k) (candidate_of c.args.c) st.table (sym (c.barred.ensures st s w) ∙ c.if-barred.true)
 
 pub returns-then-c : goal.returns-then-c
 returns-then-c c = λ st s w.
@@ -22,17 +16,13 @@ returns-then-c c = λ st s w.
     let x = candidate_of c.args.c in
     let t = st.table in
     let b = (sym (c.barred.ensures st s w) ∙ c.if-barred.false) in
-    replacing m k x t (at_hash k.hash) s.bounded.ordered b (when-crowded m k x t b (sym (c.crowded.ensures st s w) ∙ c.if-crowded.true)
-    c.if-c.true) c.victim_at.result (c.victim_at.ensures st s w) c.in_place_of.result c.in_place_of.ensures.0 c.in_place_of.ensures.1
+    rw c.in_place_of.ensures (replacing m k x t (at_hash k.hash) s.bounded.ordered b
+    (when-crowded m k x t b (sym (c.crowded.ensures st s w) ∙ c.if-crowded.true) c.if-c.true) c.victim_at.result (c.victim_at.ensures st s w))
 
 pub returns-then-crowded : goal.returns-then-crowded
 returns-then-crowded c = λ st s w.
-    let m = limits_of st in
-    let k = key_num c.args.k in
-    let x = candidate_of c.args.c in
-    let t = st.table in
-    refusing m k x t (when-crowded_out m k x t (sym (c.barred.ensures st s w) ∙ c.if-barred.false)
-    (sym (c.crowded.ensures st s w) ∙ c.if-crowded.true) c.if-c.false) c.refused-then-crowded.result c.refused-then-crowded.ensures
+    when-crowded_out (limits_of st) (key_num c.args.k) (candidate_of c.args.c) st.table (sym (c.barred.ensures st s w) ∙ c.if-barred.false)
+    (sym (c.crowded.ensures st s w) ∙ c.if-crowded.true) c.if-c.false
 
 pub returns-then-c-2 : goal.returns-then-c-2
 returns-then-c-2 c = λ st s w.
@@ -41,27 +31,17 @@ returns-then-c-2 c = λ st s w.
     let x = candidate_of c.args.c in
     let t = st.table in
     let b = (sym (c.barred.ensures st s w) ∙ c.if-barred.false) in
-    replacing m k x t anywhere s.bounded.ordered b
+    rw c.in_place_of-then-c-2.ensures (replacing m k x t anywhere s.bounded.ordered b
     (when-full m k x t b (sym (c.crowded.ensures st s w) ∙ c.if-crowded.false)
-    (sym (c.full.ensures st s w) ∙ c.if-full.true) c.if-c-2.true) c.victim_anywhere.result
-    (c.victim_anywhere.ensures st s w) c.in_place_of-then-c-2.result c.in_place_of-then-c-2.ensures.0 c.in_place_of-then-c-2.ensures.1
+    (sym (c.full.ensures st s w) ∙ c.if-full.true) c.if-c-2.true) c.victim_anywhere.result (c.victim_anywhere.ensures st s w))
 
 pub returns-then-full : goal.returns-then-full
 returns-then-full c = λ st s w.
-    let m = limits_of st in
-    let k = key_num c.args.k in
-    let x = candidate_of c.args.c in
-    let t = st.table in
-    refusing m k x t (when-full_out m k x t (sym (c.barred.ensures st s w) ∙ c.if-barred.false)
+    when-full_out (limits_of st) (key_num c.args.k) (candidate_of c.args.c) st.table (sym (c.barred.ensures st s w) ∙ c.if-barred.false)
     (sym (c.crowded.ensures st s w) ∙ c.if-crowded.false)
-    (sym (c.full.ensures st s w) ∙ c.if-full.true) c.if-c-2.false) c.refused-then-full.result c.refused-then-full.ensures
+    (sym (c.full.ensures st s w) ∙ c.if-full.true) c.if-c-2.false
 
 pub returns : goal.returns
 returns c = λ st s w.
-    let m = limits_of st in
-    let k = key_num c.args.k in
-    let x = candidate_of c.args.c in
-    let t = st.table in
-    entering m k x t (sym (c.barred.ensures st s w) ∙ c.if-barred.false)
+    entering (limits_of st) (key_num c.args.k) (candidate_of c.args.c) st.table (sym (c.barred.ensures st s w) ∙ c.if-barred.false)
     (sym (c.crowded.ensures st s w) ∙ c.if-crowded.false) (sym (c.full.ensures st s w) ∙ c.if-full.false)
-    (record { enters = true; victim = c.nobody-victim.result }) refl c.nobody-victim.ensures

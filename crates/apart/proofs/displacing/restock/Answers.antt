@@ -14,7 +14,7 @@ list_victims-m-requires c = (
 )
 
 pub returns-then-m-eq0 : goal.returns-then-m-eq0
-returns-then-m-eq0 c = restocked_none c.victim_anywhere-x.result c.nothing_listed.ensures c.victim_anywhere-x.ensures
+returns-then-m-eq0 c = restocked_none c.victim_anywhere.result c.is_none.ensures c.nothing_listed.ensures c.victim_anywhere.ensures
 
 pub returns : goal.returns
 returns c = restocked_listed c.lacking.ensures c.if-not-lacking.false

@@ -1,9 +1,5 @@
-use Prim.Native.Nat.{◌-◌}
 use Rattle.claims.proofs.Gathering.{Gathered}
 use Rattle.claims.proofs.waiting.claims_of.Given as goal
 
 abbrev pub invariant-loop-i : goal.invariant-loop-i
 invariant-loop-i l = Gathered l.n l.s l.initial.keys l.keys l.initial.sums l.sums l.m l.i
-
-abbrev pub decreases-loop-i : goal.decreases-loop-i
-decreases-loop-i l = l.rows - l.i

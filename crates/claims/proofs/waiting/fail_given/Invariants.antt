@@ -1,10 +1,6 @@
-use Prim.Native.Nat.{◌-◌}
 use Rattle.claims.specs.Awaited.{entries_in}
 use Rattle.claims.proofs.Listing.{Failed}
 use Rattle.claims.proofs.waiting.fail_given.Given as goal
 
 abbrev pub invariant-loop-i : goal.invariant-loop-i
 invariant-loop-i l = Failed l.initial.s l.s l.initial.out l.out l.n l.clock (entries_in l.items l.given) l.i l.c
-
-abbrev pub decreases-loop-i : goal.decreases-loop-i
-decreases-loop-i l = l.count - l.i

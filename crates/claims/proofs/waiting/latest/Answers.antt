@@ -9,9 +9,6 @@ use Rattle.claims.proofs.waiting.latest.Goals as goal
 pub loop-j-init : goal.loop-j-init
 loop-j-init c = none_yet _ _ _ c.hashes-j.ensures
 
-pub overflow_sub-j : goal.overflow_sub-j
-overflow_sub-j c = omega (arith, c.loop-j-test.true)
-
 pub hash_in-x-requires : goal.hash_in-x-requires
 hash_in-x-requires c = omega (arith, c.loop-j-test.true, c.loop-j.invariant.most, c.requires)
 
@@ -23,9 +20,6 @@ returns-then-same_hash c = found_here (c.loop-j.j - 1) c.loop-j.invariant
     c.requires (omega (arith, c.loop-j-test.true))
     (ap (λ (z : ℕ). eqb z (hash_num c.args.c)) (sym c.hash_in-x.ensures) ∙
     sym c.same_hash.ensures ∙ c.if-same_hash.true) c.hash_in-hash.ensures
-
-pub loop-j-smaller : goal.loop-j-smaller
-loop-j-smaller c = omega (arith, c.loop-j-test.true)
 
 pub loop-j-preserved : goal.loop-j-preserved
 loop-j-preserved c = none_more (c.loop-j.j - 1) c.loop-j.invariant c.requires

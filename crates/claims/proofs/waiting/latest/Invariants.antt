@@ -5,6 +5,3 @@ use Rattle.claims.proofs.waiting.latest.Given as goal
 
 abbrev pub invariant-loop-j : goal.invariant-loop-j
 invariant-loop-j l = NoneFrom (hash_num l.c) (hashes_in l.keys) (hashes_in l.sums) l.j
-
-abbrev pub decreases-loop-j : goal.decreases-loop-j
-decreases-loop-j l = l.j

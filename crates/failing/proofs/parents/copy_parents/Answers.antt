@@ -26,12 +26,6 @@ put_hash-requires c = omega (
   c.loop-j.invariant.long,
 )
 
-pub overflow_add-j : goal.overflow_add-j
-overflow_add-j c = omega (arith, c.parents-n.ensures.0, c.loop-j-test.true)
-
-pub loop-j-smaller : goal.loop-j-smaller
-loop-j-smaller c = omega (arith, c.loop-j-test.true)
-
 pub loop-j-preserved : goal.loop-j-preserved
 loop-j-preserved c = copied_more (hash_num c.parent_at-h.result) (c.loop-j.j * hash_bytes)
     c.loop-j.invariant c.loop-j-test.true

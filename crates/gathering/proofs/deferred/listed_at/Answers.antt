@@ -14,12 +14,6 @@ read_row-x-requires c = omega (arith, c.requires.0, c.requires.1, c.loop-i-test.
 pub returns-then-same_hash : goal.returns-then-same_hash
 returns-then-same_hash c = λ e. never (sym e)
 
-pub overflow_add-i : goal.overflow_add-i
-overflow_add-i c = omega (arith, c.loop-i-test.true)
-
-pub loop-i-smaller : goal.loop-i-smaller
-loop-i-smaller c = omega (arith, c.loop-i-test.true)
-
 pub loop-i-preserved : goal.loop-i-preserved
 loop-i-preserved c = (
   omega (arith, c.loop-i-test.true),

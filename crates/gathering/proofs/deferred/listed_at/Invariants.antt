@@ -1,5 +1,5 @@
 -- `gathering::deferred::listed_at` meets its contract.
-use Prim.Native.Nat.{◌-◌, ◌≤◌}
+use Prim.Native.Nat.{◌≤◌}
 use Rattle.ident.specs.Words.{hash_num}
 use Rattle.words.specs.Words.{words}
 use Rattle.gathering.proofs.Deferrals.{Passed}
@@ -7,6 +7,3 @@ use Rattle.gathering.proofs.deferred.listed_at.Given as goal
 
 abbrev pub invariant-loop-i : goal.invariant-loop-i
 invariant-loop-i l = (l.i ≤ l.n) × Passed (words l.top) (hash_num l.h) l.i
-
-abbrev pub decreases-loop-i : goal.decreases-loop-i
-decreases-loop-i l = l.n - l.i

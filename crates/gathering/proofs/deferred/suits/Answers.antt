@@ -1,4 +1,5 @@
 -- `gathering::deferred::suits` meets its contract.
+use mathlib.Core.Path.{sym, ◌∙◌}
 use native.Mathlib.Omega.{arith}
 use borrow.Author.Tests.{not-false, ne_eqb}
 use Rattle.gathering.proofs.Deferrals.{suited-alone, suited-barred, suited-crowded, suited_in}
@@ -23,14 +24,14 @@ pub returns-then-barred : goal.returns-then-barred
 returns-then-barred c = suited-barred (not-false c.args.c.preferred
     c.if-not-c.false) c.listed_at.ensures c.if-listed_at.false c.barred.ensures c.if-barred.true
 
-pub returns-then-v : goal.returns-then-v
-returns-then-v c = suited-alone
+pub returns-then-is_some : goal.returns-then-is_some
+returns-then-is_some c = suited-alone
 
 pub returns-then-crowded : goal.returns-then-crowded
 returns-then-crowded c = suited-crowded (not-false c.args.c.preferred
     c.if-not-c.false) c.listed_at.ensures
-    c.if-listed_at.false c.crowded.ensures c.if-crowded.true c.victim_at-v.result
-    c.victim_at-v.ensures c.if-v.false
+    c.if-listed_at.false c.crowded.ensures c.if-crowded.true c.victim_at.result
+    c.victim_at.ensures (sym c.is_some.ensures ∙ c.if-is_some.false)
 
 pub returns-then-y-c : goal.returns-then-y-c
 returns-then-y-c c = suited-alone

@@ -14,12 +14,6 @@ pub cut-requires : goal.cut-requires
 cut-requires c = parting_kept c.loop-i.invariant.1 c.requires.0
     c.requires.1
 
-pub overflow_add-i : goal.overflow_add-i
-overflow_add-i c = omega (arith, c.loop-i-test.true)
-
-pub loop-i-smaller : goal.loop-i-smaller
-loop-i-smaller c = omega (arith, c.loop-i-test.true)
-
 pub loop-i-preserved : goal.loop-i-preserved
 loop-i-preserved c = (
   omega (arith, c.loop-i-test.true),

@@ -9,9 +9,6 @@ conns-n-requires c = omega (arith, c.requires.0.sizes)
 pub loop-n-init : goal.loop-n-init
 loop-n-init c = cutting_none _ c.requires.1 c.conns-n.ensures.word
 
-pub overflow_sub-n : goal.overflow_sub-n
-overflow_sub-n c = omega (arith, c.loop-n-test.true)
-
 pub drop_conn-requires : goal.drop_conn-requires
 drop_conn-requires c = (
   cutting-shown c.loop-n.invariant c.requires.0,
@@ -22,9 +19,6 @@ drop_conn-requires c = (
     c.loop-n-test.true,
   ),
 )
-
-pub loop-n-smaller : goal.loop-n-smaller
-loop-n-smaller c = omega (arith, c.loop-n-test.true)
 
 pub loop-n-preserved : goal.loop-n-preserved
 loop-n-preserved c = cutting_more c.loop-n.invariant (omega (arith, c.loop-n-test.true))

@@ -4,6 +4,3 @@ use Rattle.tearing.proofs.idle.cut_conns.Given as goal
 
 abbrev pub invariant-loop-n : goal.invariant-loop-n
 invariant-loop-n l = Cutting l.initial.s l.s l.m l.n
-
-abbrev pub decreases-loop-n : goal.decreases-loop-n
-decreases-loop-n l = l.n

@@ -22,12 +22,6 @@ keep_busy-m-requires c = (
   ),
 )
 
-pub overflow_add-i : goal.overflow_add-i
-overflow_add-i c = omega (arith, c.loop-i-test.true)
-
-pub loop-i-smaller : goal.loop-i-smaller
-loop-i-smaller c = omega (arith, c.loop-i-test.true)
-
 pub loop-i-preserved : goal.loop-i-preserved
 loop-i-preserved c = sifting_more c.loop-i.invariant
     (omega (arith, c.conns-n.ensures.word, c.loop-i-test.true)) c.keep_busy-m.auto.s
