@@ -16,12 +16,11 @@ use Rattle.machine.specs.Limits.{max_in_flight}
 use Rattle.machine.specs.State.{Candidate, Table, Entry}
 use Rattle.machine.specs.Table.{owned_by}
 use Rattle.machine.specs.Plan.{able, chosen_by, sooner, better, or_else}
-use Rattle.machine.proofs.Tests.{test, never}
+use Rattle.machine.proofs.Tests.{test}
 use Rattle.store.specs.FlatSound.{owns}
 use Rattle.store.specs.Gather.{candidate_at}
 use Rattle.announcing.specs.Evicts.{entry_at, part}
-use Rattle.choosing.specs.declared.Pick.{Pick}
-use Rattle.choosing.specs.Choosing.{with_row, least_rows, any_owns, Found}
+use Rattle.choosing.specs.Choosing.{with_row, least_rows, any_owns}
 
 -- ---- which of two rows comes sooner
 
@@ -66,38 +65,26 @@ module _ (now : ℕ) (t : Table) (r : Row) where
 
 -- ---- the better of a row and of what has been found
 
--- what has been found, as a flag and a row
-abbrev pub is : Bool → Row → Option Entry
-is b row = if b then some (entry_at row) else none
+pub better_first : (r : Row) → some (entry_at r) ≡ better (entry_at r) none
+unfolding better
+better_first r = refl
 
-pub found_none : (rs : List Row) (v : Pick) → v.some ≡ false → Found rs v
-found_none rs v e = λ d. never (sym e ∙ d)
-
-pub is_none : (row : Row) (b : Bool) → b ≡ false → is b row ≡ none
-is_none row b e = rw e refl
-
-module _ (r row : Row) (b : Bool) where
-  pub better_first : b ≡ false → some (entry_at r) ≡ better (entry_at r) (is b row)
+module _ (r row : Row) {x : Bool} (f : x ≡ sooner (candidate_at row) (candidate_at r)) where
+  pub better_found : x ≡ true → some (entry_at row) ≡ better (entry_at r) (some (entry_at row))
   unfolding better
-  better_first e = rw e refl
+  better_found d = rw (sym f ∙ d) refl
 
-  module _ (e : b ≡ true) {x : Bool} (f : x ≡ sooner (candidate_at row) (candidate_at r)) where
-    pub better_found : x ≡ true → is b row ≡ better (entry_at r) (is b row)
-    unfolding better
-    better_found d = rw (e, sym f ∙ d) refl
+  pub better-row : x ≡ false → some (entry_at r) ≡ better (entry_at r) (some (entry_at row))
+  unfolding better
+  better-row d = rw (sym f ∙ d) refl
 
-    pub better-row : x ≡ false → some (entry_at r) ≡ better (entry_at r) (is b row)
-    unfolding better
-    better-row d = rw (e, sym f ∙ d) refl
+pub else_first : (r : Row) (o : Option Entry) {v : Option Entry} → v ≡ better (entry_at r) o → v ≡ or_else (some (entry_at r)) o
+unfolding or_else
+else_first r o e = e
 
-module _ (r : Row) (b : Bool) (o : Option Entry) where
-  pub else_first : {v : Option Entry} → b ≡ true → v ≡ better (entry_at r) o → v ≡ or_else (is b r) o
-  unfolding or_else
-  else_first e f = rw e f
-
-  pub else-second : b ≡ false → o ≡ or_else (is b r) o
-  unfolding or_else
-  else-second e = rw e refl
+pub else-second : (o : Option Entry) → o ≡ or_else none o
+unfolding or_else
+else-second o = refl
 
 -- ---- one row more
 

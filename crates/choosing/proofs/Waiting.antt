@@ -1,77 +1,53 @@
 -- A scan of rows for the time at which one is ready, and what the rows of a key say of it.
-use Prim.Native.Nat.{ℕ, zero, suc, min, ◌+◌, ◌-◌, ◌≤◌, ◌<◌}
+use Prim.Native.Nat.{ℕ, ◌+◌, ◌-◌, ◌≤◌, ◌<◌}
 use mathlib.Core.Path.{◌≡◌, refl, sym, ap, ◌∙◌}
 use mathlib.Core.Bool.{Bool, true, false, ◌||◌}
 use mathlib.Core.List.{List, [], ◌∷◌, map}
-use mathlib.Core.Option.{Option, none, some}
+use mathlib.Core.Option.{Option, none}
 use native.Mathlib.Omega.{arith}
 use lib.Dec.{leb}
 use lib.ListN.{length, get_or}
-use borrow.Author.Tests.{lt-ltb, le-ltb}
+use Rattle.std.specs.Prelude as rust
 use Rattle.ident.specs.Number.{top, Key, place, txid, wtxid}
 use Rattle.regions.specs.declared.Row.{Row}
 use Rattle.machine.specs.State.{Candidate, Request, State, is_some}
 use Rattle.machine.specs.Table.{at}
-use Rattle.machine.specs.Later.{earlier, later, least_later, ready_times, any_ready, wait_in, wait_for, time_of}
+use Rattle.machine.specs.Later.{earlier, later, least_later, ready_times, any_ready, wait_in, wait_for}
 use Rattle.machine.specs.Sound.{AllFit, Sound}
-use Rattle.machine.proofs.Later.{earlier_none}
 use Rattle.store.specs.Flat.{row_of, rows_for, rows_of}
 use Rattle.store.specs.Gather.{candidate_at}
 use Rattle.store.specs.Image.{Writes}
 use Rattle.store.proofs.Bits.{candidate-row}
 use Rattle.requests.specs.Changes.{Spans}
 use Rattle.announcing.specs.Evicts.{part}
-use Rattle.choosing.specs.Choosing.{free_wait}
+use Rattle.choosing.specs.Choosing.{option_of, free_wait}
 use Rattle.choosing.proofs.Scanned.{part_more}
 use Rattle.choosing.proofs.Keyed.{here, l, hash-owned, hash-free}
-
--- ---- times as numbers
-
-pub time_some : (n : ℕ) → (n ≡ 0 → ⊥) → time_of n ≡ some n
-time_some zero h = absurd (h refl)
-time_some (suc n) h = refl
-
-module _ (a b : ℕ) where
-  pub earlier-alone : b ≡ 0 → time_of a ≡ earlier (time_of a) (time_of b)
-  earlier-alone e = rw e (sym (earlier_none (time_of a)))
-
-  module _ (p : a ≡ 0 → ⊥) (q : b ≡ 0 → ⊥) where
-    pub earlier-second : b < a → time_of b ≡ earlier (time_of a) (time_of b)
-    earlier-second l = let z : b ≡ min a b = omega arith in rw (time_some a p, time_some b q) (ap some z)
-
-    pub earlier_first : a ≤ b → time_of a ≡ earlier (time_of a) (time_of b)
-    earlier_first l = let z : a ≡ min a b = omega arith in rw (time_some a p, time_some b q) (ap some z)
-
-pub later-time : (now x : ℕ) → now < x → time_of x ≡ later now x
-later-time now x h = rw (lt-ltb now x h) (time_some x (λ e. omega (arith, e)))
-
-pub later_none : (now x : ℕ) → x ≤ now → none ≡ later now x
-later_none now x h = rw (le-ltb now x h) refl
 
 -- ---- a scan from the last row to the first
 
 -- what the rows rs have come to: whether one is ready, and the least of those that are later
-pub record Waits (now : ℕ) (rs : List Row) (any : Bool) (w : ℕ) : Type 0 where
+pub record Waits (now : ℕ) (rs : List Row) (any : Bool) (w : rust.Option ℕ) : Type 0 where
   pub ready : any ≡ any_ready now (map candidate_at rs)
-  pub least : time_of w ≡ least_later now (ready_times (map candidate_at rs))
+  pub least : option_of w ≡ least_later now (ready_times (map candidate_at rs))
 
 module _ (now : ℕ) (rs : List Row) (to : ℕ) where
-  pub waits_none : (i : ℕ) → to ≤ i → Waits now (part i to rs) false 0
+  pub waits_none : (i : ℕ) → to ≤ i → Waits now (part i to rs) false rust.None
   unfolding any_ready least_later
   waits_none i h = let z : to - i ≡ 0 = omega arith in rw z (record { ready = refl; least = refl })
 
-  pub waits-row : {r : Row} (d : Row) {j : ℕ} (i : ℕ) → j ≡ i + 1 → i < to → to ≤ length rs → r ≡ get_or rs i d → {any : Bool} {w v : ℕ} {o : Option ℕ}
-      → Waits now (part j to rs) any w → o ≡ later now r.ready → time_of v ≡ earlier o (time_of w) → Waits now (part i to rs) (leb r.ready now || any) v
+  pub waits-row : {r : Row} (d : Row) {j : ℕ} (i : ℕ) → j ≡ i + 1 → i < to → to ≤ length rs → r ≡ get_or rs i d → {any : Bool} {w v : rust.Option ℕ} {o : Option ℕ}
+      → Waits now (part j to rs) any w → o ≡ later now r.ready → option_of v ≡ earlier o (option_of w) → Waits now (part i to rs) (leb r.ready now || any) v
   unfolding any_ready least_later candidate_at
   waits-row {r} d i e m h f {any} k q g =
       rw (part_more rs i to d m h, ← f, ← e)
       (record { ready = ap (λ (b : Bool). leb r.ready now || b) k.ready; least = g ∙ rw (q, k.least) refl })
 
-module _ {now : ℕ} (rs : List Row) (to : ℕ) {i from : ℕ} {any : Bool} {w : ℕ} (k : Waits now (part i to rs) any w) (all : i ≡ from) where
+module _ {now : ℕ} (rs : List Row) (to : ℕ) {i from : ℕ} {any : Bool} {w : rust.Option ℕ} (k : Waits now (part i to rs) any w) (all : i ≡ from) where
   pub waits-ready : any ≡ true → none ≡ wait_in now (map candidate_at (part from to rs))
   waits-ready e = rw (← all) (rw (sym k.ready ∙ e) refl)
 
-  pub waits_till : any ≡ false → time_of w ≡ wait_in now (map candidate_at (part from to rs))
+  pub waits_till : any ≡ false → option_of w ≡ wait_in now (map candidate_at (part from to rs))
   waits_till e = rw (← all) (rw (sym k.ready ∙ e) k.least)
 
 -- ---- the rows of a key
@@ -90,7 +66,7 @@ window-wait now st s w k small num sp e =
 -- ---- a hash
 
 module _ (now : ℕ) (st : State) (s : Sound st) (h : ℕ) (small : h < top) where
-  pub wait-owned : (k : Key) → k.hash ≡ h → {x : Bool} → x ≡ is_some (at k st.table).owner → x ≡ true → {v : ℕ} → v ≡ 0 → time_of v ≡ free_wait now st.table (txid h)
+  pub wait-owned : (k : Key) → k.hash ≡ h → {x : Bool} → x ≡ is_some (at k st.table).owner → x ≡ true → {v : rust.Option ℕ} → v ≡ rust.None → option_of v ≡ free_wait now st.table (txid h)
   wait-owned k e f d z = rw (hash-owned now st s h small k e f d, z) refl
 
   pub wait-free : {x y : Bool} → x ≡ is_some (at (txid h) st.table).owner → y ≡ is_some (at (wtxid h) st.table).owner → x ≡ false → y ≡ false → {o a b : Option ℕ}

@@ -1,5 +1,6 @@
 -- What the contracts of choosing say: the machine's choice, as rows have it.
-use Rattle.std.specs.Prelude.{ℕ, ◌<◌, ◌≡◌, Bool, true, false, ◌||◌, List, [], ◌∷◌, eqb, length, get_or, if◌then◌else◌}
+use Rattle.std.specs.Prelude as rust
+use Rattle.std.specs.Prelude.{ℕ, ◌<◌, ◌≡◌, Bool, true, false, ◌||◌, List, [], ◌∷◌, eqb, length, get_or, IfSome, if◌then◌else◌}
 use Rattle.std.proofs.Math.Option.{Option, none, some}
 use Rattle.ident.specs.declared.Kind.{Kind}
 use Rattle.ident.specs.declared.Kind.TheVariants.{Txid, Wtxid}
@@ -8,7 +9,7 @@ use Rattle.regions.specs.declared.Row.{Row}
 use Rattle.machine.specs.State.{Candidate, Table, Entry}
 use Rattle.machine.specs.Table.{owned_at}
 use Rattle.machine.specs.Plan.{able, better, or_else, choice}
-use Rattle.machine.specs.Later.{wait_for, time_of}
+use Rattle.machine.specs.Later.{wait_for}
 use Rattle.store.specs.Flat.{Flat, rows_of}
 use Rattle.store.specs.FlatSound.{owns}
 use Rattle.store.specs.Gather.{candidate_at}
@@ -17,10 +18,17 @@ use Rattle.requests.specs.declared.Window.{Window}
 use Rattle.requests.specs.Changes.{Spans, Tells}
 use Rattle.announcing.specs.Evicts.{entry_at, part}
 use Rattle.choosing.specs.declared.Pick.{Pick}
+use Rattle.choosing.specs.declared.Chosen.{Chosen}
+
+-- the machine's option of an option in the code
+abbrev pub option_of : {A : Type 0} → rust.Option A → Option A
+option_of rust.None = none
+option_of (rust.Some x) = some x
 
 -- what a scan has found
-abbrev pub picked : Pick → Option Entry
-picked v = if v.some then some (entry_at v.row) else none
+abbrev pub picked : rust.Option Pick → Option Entry
+picked rust.None = none
+picked (rust.Some v) = some (entry_at v.row)
 
 -- one row in front of those whose choice is o
 abbrev pub with_row : (Candidate → Bool) → Row → Option Entry → Option Entry
@@ -52,24 +60,24 @@ pub record Stood (rs : List Row) (i : ℕ) (r : Row) : Type 0 where
   pub row_is : (d : Row) → r ≡ get_or rs i d
 
 -- what has been found stands where it says
-abbrev pub Found : List Row → Pick → Type 0
-Found rs v = v.some ≡ true → Stood rs v.at v.row
+abbrev pub Found : List Row → rust.Option Pick → Type 0
+Found rs v = IfSome v (λ p. Stood rs p.at p.row)
 
 -- the better of the i-th row and of what was found
-pub record Better (r : Row) (i : ℕ) (best v : Pick) : Type 0 where
+pub record Better (r : Row) (i : ℕ) (best v : rust.Option Pick) : Type 0 where
   pub is : picked v ≡ better (entry_at r) (picked best)
   pub found : (rs : List Row) → Stood rs i r → Found rs best → Found rs v
 
-pub record Either (a b v : Pick) : Type 0 where
+pub record Either (a b v : rust.Option Pick) : Type 0 where
   pub is : picked v ≡ or_else (picked a) (picked b)
   pub found : (rs : List Row) → Found rs a → Found rs b → Found rs v
 
-pub record WithRow (b : List ℕ) (now : ℕ) (r : Row) (i : ℕ) (best v : Pick) : Type 0 where
+pub record WithRow (b : List ℕ) (now : ℕ) (r : Row) (i : ℕ) (best v : rust.Option Pick) : Type 0 where
   pub is : Tells b (λ t. picked v ≡ with_row (able now t []) r (picked best))
   pub found : (rs : List Row) → Stood rs i r → Found rs best → Found rs v
 
 -- the least of the rows from .. to
-pub record Least (b : List ℕ) (now from to : ℕ) (v : Pick) : Type 0 where
+pub record Least (b : List ℕ) (now from to : ℕ) (v : rust.Option Pick) : Type 0 where
   pub is : Tells b (λ t. picked v ≡ least_rows (able now t []) (part from to (rows_of t)))
   pub found : (f : Flat) → Shows b f → Found f.rows v
 
@@ -84,12 +92,12 @@ pub record Windows (b : List ℕ) (h : ℕ) (x y : Window) : Type 0 where
   pub as_wtxid : WindowAs b Wtxid h y
 
 -- what is chosen for such a hash
-pub record Choice (b : List ℕ) (now : ℕ) (x y : Window) (v : Pick) : Type 0 where
-  pub is : (h : ℕ) → Windows b h x y → Tells b (λ t. picked v ≡ free_choice now t (txid h))
-  pub found : (f : Flat) → Shows b f → Found f.rows v
-  pub wait : (h : ℕ) → Windows b h x y → Tells b (λ t. time_of v.wait ≡ free_wait now t (txid h))
+pub record Choice (b : List ℕ) (now : ℕ) (x y : Window) (v : Chosen) : Type 0 where
+  pub is : (h : ℕ) → Windows b h x y → Tells b (λ t. picked v.pick ≡ free_choice now t (txid h))
+  pub found : (f : Flat) → Shows b f → Found f.rows v.pick
+  pub wait : (h : ℕ) → Windows b h x y → Tells b (λ t. option_of v.wait ≡ free_wait now t (txid h))
 
 -- for the hash h
-pub record Chooses (b : List ℕ) (now h : ℕ) (v : Pick) : Type 0 where
-  pub is : Tells b (λ t. picked v ≡ free_choice now t (txid h))
-  pub wait : Tells b (λ t. time_of v.wait ≡ free_wait now t (txid h))
+pub record Chooses (b : List ℕ) (now h : ℕ) (v : Chosen) : Type 0 where
+  pub is : Tells b (λ t. picked v.pick ≡ free_choice now t (txid h))
+  pub wait : Tells b (λ t. option_of v.wait ≡ free_wait now t (txid h))

@@ -1,44 +1,42 @@
-// When a key's candidates are ready (document 02, request c). A time is a number, and 0 stands for none: a time later than now is 1 or more.
+// When a key's candidates are ready (document 02, request c).
 ghost use Rattle.std.specs.Prelude.{◌≡◌, map, ◌≤◌};
 ghost use Rattle.machine.specs.Later as machine;
-ghost use Rattle.machine.specs.Later.{time_of, wait_in};
+ghost use Rattle.machine.specs.Later.{wait_in};
 ghost use Rattle.store.specs.Flat.{Flat};
 ghost use Rattle.store.specs.Gather.{candidate_at};
 ghost use Rattle.store.specs.Image.{Shows};
 ghost use Rattle.store.specs.Shown.{rows_in, Shown};
 ghost use Rattle.announcing.specs.Evicts.{part};
+ghost use Rattle.choosing.specs.Choosing.{option_of};
 
 // The lesser of two times, where there are any.
-pub fn earlier(a: u64, b: u64) -> u64
-    ensures { time_of result ≡ machine.earlier (time_of a) (time_of b) }
+pub fn earlier(a: Option<u64>, b: Option<u64>) -> Option<u64>
+    ensures { option_of result ≡ machine.earlier (option_of a) (option_of b) }
 {
-    if a == 0 {
-        return b;
+    match (a, b) {
+        (Some(x), Some(y)) => Some(x.min(y)),
+        _ => a.or(b),
     }
-    if b == 0 {
-        return a;
-    }
-    if b < a { b } else { a }
 }
 
 // The time t, if it is later than the clock.
-pub fn later(clock: u64, t: u64) -> u64
-    ensures { time_of result ≡ machine.later clock t }
+pub fn later(clock: u64, t: u64) -> Option<u64>
+    ensures { option_of result ≡ machine.later clock t }
 {
-    if clock < t { t } else { 0 }
+    (clock < t).then_some(t)
 }
 
 // The earliest ready time among the rows from .. to, where none of them is ready.
-pub fn wait_in(s: &[u8], clock: u64, from: usize, to: usize) -> u64
+pub fn wait_in(s: &[u8], clock: u64, from: usize, to: usize) -> Option<u64>
     requires { Shown s.now × (from ≤ to) × (to ≤ rows_in s.now) }
-    ensures { (f : Flat) → Shows s.now f → time_of result ≡ wait_in clock (map candidate_at (part from to f.rows)) }
+    ensures { (f : Flat) → Shows s.now f → option_of result ≡ wait_in clock (map candidate_at (part from to f.rows)) }
 {
-    let mut w = 0;
+    let mut w = None;
     let mut any = false;
     for i in (from..to).rev() {
         let r = store::rows::row_at(s, i);
         any = (r.ready <= clock) | any;
         w = earlier(later(clock, r.ready), w);
     }
-    if any { 0 } else { w }
+    if any { None } else { w }
 }

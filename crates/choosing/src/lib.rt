@@ -4,7 +4,7 @@
 // The rows of a key are scanned from the last to the first, so that what has been found is the choice among the rows from here on.
 #![tactic(auto)]
 
-ghost use Rattle.std.specs.Prelude.{◌≡◌, false, [], ◌≤◌};
+ghost use Rattle.std.specs.Prelude.{◌≡◌, [], ◌≤◌};
 ghost use Rattle.ident.specs.Words.{hash_num};
 ghost use Rattle.machine.specs.Plan as machine;
 ghost use Rattle.store.specs.Flat.{Flat, rows_of};
@@ -19,39 +19,18 @@ use machine::limits::MAX_PEER_IN_FLIGHT;
 
 pub mod later;
 
-// What a scan has found: the row of a candidate, if there is one, and its number. And when one is ready, where none is; 0 for no time.
+// A row that a scan has found, and its number.
 #[derive(Clone, Copy)]
 pub struct Pick {
-    pub some: bool,
     pub row: regions::Row,
     pub at: usize,
-    pub wait: u64,
 }
 
-// Nothing found.
-fn nothing() -> Pick
-    ensures { (result.some ≡ false) × (result.wait ≡ 0) }
-{
-    let hash = regions::Quad {
-        w0: 0,
-        w1: 0,
-        w2: 0,
-        w3: 0,
-    };
-    let row = regions::Row {
-        hash,
-        conn: 0,
-        ready: 0,
-        prio: 0,
-        deadline: 0,
-        bits: 0,
-    };
-    Pick {
-        some: false,
-        row,
-        at: 0,
-        wait: 0,
-    }
+// The row of the candidate that is chosen, if there is one. And when one is ready, where none is.
+#[derive(Clone, Copy)]
+pub struct Chosen {
+    pub pick: Option<Pick>,
+    pub wait: Option<u64>,
 }
 
 // ---- one row
@@ -81,25 +60,17 @@ fn able(s: &[u8], clock: u64, r: regions::Row) -> bool
 }
 
 // The sooner of the row r, which is the i-th, and of what has been found; the row, where neither is.
-fn better(r: regions::Row, i: usize, best: Pick) -> Pick
+fn better(r: regions::Row, i: usize, best: Option<Pick>) -> Option<Pick>
     ensures { Better r i best result }
 {
-    if best.some {
-        let row = best.row;
-        if sooner(row, r) {
-            return best;
-        }
-    }
-    Pick {
-        some: true,
-        row: r,
-        at: i,
-        wait: 0,
+    match best {
+        Some(found) if sooner(found.row, r) => best,
+        _ => Some(Pick { row: r, at: i }),
     }
 }
 
 // One row more, in front of those that were scanned.
-fn with_row(s: &[u8], clock: u64, r: regions::Row, i: usize, best: Pick) -> Pick
+fn with_row(s: &[u8], clock: u64, r: regions::Row, i: usize, best: Option<Pick>) -> Option<Pick>
     requires { Kept s.now }
     ensures { WithRow s.now clock r i best result }
 {
@@ -113,11 +84,11 @@ fn with_row(s: &[u8], clock: u64, r: regions::Row, i: usize, best: Pick) -> Pick
 // ---- the rows of a key
 
 // The choice among the rows from .. to.
-fn least_in(s: &[u8], clock: u64, from: usize, to: usize) -> Pick
+fn least_in(s: &[u8], clock: u64, from: usize, to: usize) -> Option<Pick>
     requires { Kept s.now × (from ≤ to) × (to ≤ rows_in s.now) }
     ensures { Least s.now clock from to result }
 {
-    let mut v = nothing();
+    let mut v = None;
     for i in (from..to).rev() {
         let r = store::rows::row_at(s, i);
         v = with_row(s, clock, r, i, v);
@@ -142,39 +113,33 @@ fn owned_in(s: &[u8], from: usize, to: usize) -> bool
 // ---- a hash
 
 // The first, unless the second is sooner or alone.
-fn either(a: Pick, b: Pick) -> Pick
+fn either(a: Option<Pick>, b: Option<Pick>) -> Option<Pick>
     ensures { Either a b result }
 {
-    if a.some {
-        let r = a.row;
-        return better(r, a.at, b);
+    match a {
+        Some(p) => better(p.row, p.at, b),
+        None => b,
     }
-    b
 }
 
 // What a plan chooses for the hash whose rows stand in x as Txid and in y as Wtxid, if nobody owns it. Where no row of a key is ready, when one will be.
-pub fn choose_within(s: &[u8], clock: u64, x: requests::Window, y: requests::Window) -> Pick
+pub fn choose_within(s: &[u8], clock: u64, x: requests::Window, y: requests::Window) -> Chosen
     requires { Kept s.now × ((x.from ≤ x.to) × (x.to ≤ rows_in s.now)) × ((y.from ≤ y.to) × (y.to ≤ rows_in s.now)) }
     ensures { Choice s.now clock x y result }
 {
-    if owned_in(s, x.from, x.to) {
-        return nothing();
-    }
-    if owned_in(s, y.from, y.to) {
-        return nothing();
+    if owned_in(s, x.from, x.to) || owned_in(s, y.from, y.to) {
+        return Chosen {
+            pick: None,
+            wait: None,
+        };
     }
     let p = least_in(s, clock, x.from, x.to);
     let q = least_in(s, clock, y.from, y.to);
-    let v = either(p, q);
     let a = later::wait_in(s, clock, x.from, x.to);
     let b = later::wait_in(s, clock, y.from, y.to);
-    let wait = later::earlier(a, b);
-    let row = v.row;
-    Pick {
-        some: v.some,
-        row,
-        at: v.at,
-        wait,
+    Chosen {
+        pick: either(p, q),
+        wait: later::earlier(a, b),
     }
 }
 
@@ -188,7 +153,7 @@ pub fn window_as(s: &[u8], kind: ident::Kind, h: ident::Hash) -> requests::Windo
 }
 
 // What a plan chooses for the hash h, if nobody owns it.
-pub fn choose_free(s: &[u8], clock: u64, h: ident::Hash) -> Pick
+pub fn choose_free(s: &[u8], clock: u64, h: ident::Hash) -> Chosen
     requires { Kept s.now }
     ensures { Chooses s.now clock (hash_num h) result }
 {

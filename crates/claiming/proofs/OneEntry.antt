@@ -4,7 +4,7 @@ use mathlib.Core.Path.{◌≡◌, refl, sym, ap, ◌∙◌}
 use mathlib.Core.Logic.{inl, inr}
 use mathlib.Core.Bool.{Bool, true, false}
 use mathlib.Core.List.{List}
-use mathlib.Core.Option.{none}
+use mathlib.Core.Option.{Option, none, some}
 use native.Mathlib.Omega.{arith}
 use lib.Dec.{eqb}
 use Rattle.ident.specs.Number.{top, txid}
@@ -27,7 +27,6 @@ use Rattle.announcing.specs.Answers.{Answered}
 use Rattle.announcing.specs.Evicts.{entry_at}
 use Rattle.choosing.specs.Choosing.{free_choice}
 use Rattle.claiming.specs.Claiming.{taking, OneMore}
-use Rattle.choosing.proofs.Scanned.{is}
 
 -- ---- whether it is taken
 
@@ -35,11 +34,11 @@ pub takes_is : (now : ℕ) (a : Entry) (t : Table) → takes now a t ≡ is_choi
 unfolding takes choice
 takes_is now a t = elim (test (eqb (owned_at a.key.hash t) 0)) [ inl d ↦ rw d refl | inr d ↦ rw d refl ]
 
-module _ (now : ℕ) (a : Entry) (t : Table) (b : Bool) (row : Row) (e : is b row ≡ free_choice now t (txid a.key.hash)) where
-  pub same_taken : b ≡ true → {c : Entry} {x : Bool} → c ≡ entry_at row → x ≡ same_entry a c → x ≡ takes now a t
-  same_taken d f q = q ∙ ap (same_entry a) f ∙ sym (takes_is now a t ∙ ap (is_choice a) (sym e) ∙ rw d refl)
+module _ (now : ℕ) (a : Entry) (t : Table) {o : Option Entry} (e : o ≡ free_choice now t (txid a.key.hash)) where
+  pub same_taken : {c : Entry} {x : Bool} → o ≡ some c → x ≡ same_entry a c → x ≡ takes now a t
+  same_taken d q = q ∙ sym (takes_is now a t ∙ ap (is_choice a) (sym e) ∙ rw d refl)
 
-  pub none_taken : b ≡ false → false ≡ takes now a t
+  pub none_taken : o ≡ none → false ≡ takes now a t
   none_taken d = sym (takes_is now a t ∙ ap (is_choice a) (sym e) ∙ rw d refl)
 
 -- ---- what becomes of the bytes

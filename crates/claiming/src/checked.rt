@@ -21,9 +21,8 @@ pub fn claim(s: &mut [u8], clock: u64, checked: &[crate::Entry], out: &mut [u8])
     ensures { Claims s.old s.new out.old out.new clock (map entry_of checked.now) result }
 {
     let mut n = 0;
-    for i in 0..checked.len() {
-        let e = entry_at(checked, i);
-        n = entries::claim_next(s, clock, e, out, n);
+    for e in checked {
+        n = entries::claim_next(s, clock, *e, out, n);
     }
     n
 }

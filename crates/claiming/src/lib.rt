@@ -135,13 +135,10 @@ fn takes(s: &[u8], clock: u64, e: Entry) -> bool
     ensures { Tells s.now (λ t. result ≡ machine.takes clock (entry_of e) t) }
 {
     let k = e.key;
-    let h = k.hash;
-    let p = choosing::choose_free(s, clock, h);
-    if p.some {
-        let row = p.row;
-        return same_entry(e, entry_of(row));
+    match choosing::choose_free(s, clock, k.hash).pick {
+        Some(p) => same_entry(e, entry_of(p.row)),
+        None => false,
     }
-    false
 }
 
 // Its connection becomes the owner, if the entry is taken.

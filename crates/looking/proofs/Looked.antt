@@ -2,7 +2,7 @@
 use Prim.Native.Nat.{ℕ, ◌+◌, ◌-◌, ◌/◌, ◌%◌, ◌≤◌, ◌<◌}
 use mathlib.Core.Path.{◌≡◌, refl, sym, ap, subst, ◌∙◌}
 use mathlib.Core.Logic.{inl, inr}
-use mathlib.Core.Bool.{Bool, true, false}
+use mathlib.Core.Bool.{true, false}
 use mathlib.Core.List.{List, [], ◌∷◌, ◌++◌, map}
 use mathlib.Core.Option.{Option, none, some}
 use native.Mathlib.Omega.{arith}
@@ -10,11 +10,12 @@ use lib.Dec.{eqb}
 use lib.ListN.{length, get_or}
 use lib.Seq.{take_all}
 use borrow.Author.Tests.{eq-eqb, ne_eqb, eqb-true, not-true, not-false}
+use Rattle.std.specs.Prelude as rust
 use Rattle.std.specs.Prelude.{if◌then◌else◌}
 use Rattle.ident.specs.Number.{place}
 use Rattle.regions.specs.declared.Row.{Row}
 use Rattle.machine.specs.State.{Candidate, Owner, Request, Table, State}
-use Rattle.machine.specs.Later.{earlier, later, least_later, ready_times, times_in, times, next_look, time_of}
+use Rattle.machine.specs.Later.{earlier, later, least_later, ready_times, times_in, times, next_look}
 use Rattle.machine.specs.Sound.{Sound}
 use Rattle.machine.proofs.Tests.{test, never}
 use Rattle.machine.proofs.Later.{earlier_none, least_append, none_some}
@@ -24,6 +25,7 @@ use Rattle.store.proofs.Regather.{bare, gather-table}
 use Rattle.announcing.specs.Evicts.{part}
 use Rattle.sweeping.specs.Batches.{last_row}
 use Rattle.sweeping.proofs.Rounds.{part_more, part_none}
+use Rattle.choosing.specs.Choosing.{option_of}
 use Rattle.looking.specs.declared.Look.{Look}
 use Rattle.looking.specs.Looking.{deadline_of, Looks, LooksAt}
 
@@ -44,46 +46,36 @@ next_cons now r t = least_append now (times_in r.owner r.candidates) (times t)
 
 -- ---- a key that is done
 
-owned_is : (b : Bool) (d : ℕ) {x : Option ℕ} → b ≡ true → x ≡ (if b then some d else none) → x ≡ some d
-owned_is b d e f = f ∙ rw e refl
-
-free_is : (b : Bool) (d : ℕ) {x : Option ℕ} → b ≡ false → x ≡ (if b then some d else none) → x ≡ none
-free_is b d e f = f ∙ rw e refl
-
 module _ (now : ℕ) (v : Look) where
-  pub settled-owned : {o p : Option ℕ} → v.owned ≡ true → o ≡ later now v.due → p ≡ earlier o (time_of v.rest) → (t : Table) → LooksAt now t v → p ≡ next_look now t
-  settled-owned e f g [] l = absurd (none_some (owned_is v.owned v.due e l.owner))
-  settled-owned e f g (r ∷ t) l =
-      let x = own-times now r.owner r.candidates v.due (owned_is v.owned v.due e l.owner) in
+  pub settled-owned : (d : ℕ) {o p : Option ℕ} → v.due ≡ rust.Some d → o ≡ later now d → p ≡ earlier o (option_of v.rest) → (t : Table) → LooksAt now t v → p ≡ next_look now t
+  settled-owned d e f g [] l = absurd (none_some (l.owner ∙ ap option_of e))
+  settled-owned d e f g (r ∷ t) l =
+      let x = own-times now r.owner r.candidates d (l.owner ∙ ap option_of e) in
       g ∙ (λ i. earlier (f i) (l.rest i)) ∙ ap (λ (y : Option ℕ). earlier y (next_look now t)) (sym x) ∙ sym (next_cons now r t)
 
-  pub settled-free : {p : Option ℕ} → v.owned ≡ false → p ≡ earlier (time_of v.free) (time_of v.rest) → (t : Table) → LooksAt now t v → p ≡ next_look now t
+  pub settled-free : {p : Option ℕ} → v.due ≡ rust.None → p ≡ earlier (option_of v.free) (option_of v.rest) → (t : Table) → LooksAt now t v → p ≡ next_look now t
   unfolding least_later times
   settled-free e g [] l = g ∙ (λ i. earlier (l.free i) (l.rest i))
   settled-free e g (r ∷ t) l =
-      let x = free-times now r.owner r.candidates (free_is v.owned v.due e l.owner) in
+      let x = free-times now r.owner r.candidates (l.owner ∙ ap option_of e) in
       g ∙ (λ i. earlier (l.free i) (l.rest i)) ∙ ap (λ (y : Option ℕ). earlier y (next_look now t)) (sym x) ∙ sym (next_cons now r t)
 
-pub looks_none : (now : ℕ) → Looks now none [] [] (record { owned = false; due = 0; free = 0; rest = 0 })
-unfolding least_later times
-looks_none now = record { owner = refl; free = refl; rest = refl }
-
-pub looks-closed : (now : ℕ) (t : Table) {n : ℕ} → time_of n ≡ next_look now t → Looks now none [] t (record { owned = false; due = 0; free = 0; rest = n })
+pub looks_none : (now : ℕ) (t : Table) (n : rust.Option ℕ) → option_of n ≡ next_look now t → Looks now none [] t (record { due = rust.None; free = rust.None; rest = n })
 unfolding least_later
-looks-closed now t e = record { owner = refl; free = refl; rest = e }
+looks_none now t n e = record { owner = refl; free = refl; rest = e }
 
 -- ---- one row more of a key
 
-module _ (now : ℕ) (v : Look) (r : Row) {p : Option ℕ} (f : ℕ) (late : p ≡ later now r.ready) (least : time_of f ≡ earlier p (time_of v.free)) (o : Option Owner) (cs : List Candidate)
+module _ (now : ℕ) (v : Look) (r : Row) {p : Option ℕ} (f : rust.Option ℕ) (late : p ≡ later now r.ready) (least : option_of f ≡ earlier p (option_of v.free)) (o : Option Owner) (cs : List Candidate)
     (t : Table) (l : Looks now o cs t v) where
-  free_more : time_of f ≡ least_later now (ready_times (candidate_at r ∷ cs))
+  free_more : option_of f ≡ least_later now (ready_times (candidate_at r ∷ cs))
   unfolding least_later candidate_at
   free_more = least ∙ (λ i. earlier (late i) (l.free i))
 
-  pub row-owns : r.bits / 8 % 2 ≡ 1 → Looks now (owner_at r o) (candidate_at r ∷ cs) t (record { owned = true; due = r.deadline; free = f; rest = v.rest })
+  pub row-owns : r.bits / 8 % 2 ≡ 1 → Looks now (owner_at r o) (candidate_at r ∷ cs) t (record { due = rust.Some r.deadline; free = f; rest = v.rest })
   row-owns e = record { owner = rw (eq-eqb (r.bits / 8 % 2) 1 e) refl; free = free_more; rest = l.rest }
 
-  pub row-waits : (r.bits / 8 % 2 ≡ 1 → ⊥) → Looks now (owner_at r o) (candidate_at r ∷ cs) t (record { owned = v.owned; due = v.due; free = f; rest = v.rest })
+  pub row-waits : (r.bits / 8 % 2 ≡ 1 → ⊥) → Looks now (owner_at r o) (candidate_at r ∷ cs) t (record { due = v.due; free = f; rest = v.rest })
   row-waits e = record { owner = rw (ne_eqb (r.bits / 8 % 2) 1 e) l.owner; free = free_more; rest = l.rest }
 
 -- ---- one row more of the rows

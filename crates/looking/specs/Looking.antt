@@ -1,8 +1,9 @@
 -- What the contracts of the next look say: what the rows from here on have come to.
-use Rattle.std.specs.Prelude.{ℕ, ◌≡◌, List, [], ◌∷◌, if◌then◌else◌}
+use Rattle.std.specs.Prelude.{ℕ, ◌≡◌, List, [], ◌∷◌}
 use Rattle.std.proofs.Math.Option.{Option, none, some}
 use Rattle.machine.specs.State.{Candidate, Owner, Table}
-use Rattle.machine.specs.Later.{least_later, ready_times, next_look, time_of}
+use Rattle.machine.specs.Later.{least_later, ready_times, next_look}
+use Rattle.choosing.specs.Choosing.{option_of}
 use Rattle.looking.specs.declared.Look.{Look}
 
 abbrev pub deadline_of : Option Owner → Option ℕ
@@ -11,9 +12,9 @@ deadline_of (some o) = some o.deadline
 
 -- the key at hand has the owner o and the candidates cs so far; the requests behind it are t
 pub record Looks (now : ℕ) (o : Option Owner) (cs : List Candidate) (t : Table) (v : Look) : Type 0 where
-  pub owner : deadline_of o ≡ (if v.owned then some v.due else none)
-  pub free : time_of v.free ≡ least_later now (ready_times cs)
-  pub rest : time_of v.rest ≡ next_look now t
+  pub owner : deadline_of o ≡ option_of v.due
+  pub free : option_of v.free ≡ least_later now (ready_times cs)
+  pub rest : option_of v.rest ≡ next_look now t
 
 -- the key at hand is the first of these requests
 abbrev pub LooksAt : ℕ → Table → Look → Type 0

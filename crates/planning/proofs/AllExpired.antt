@@ -32,7 +32,8 @@ use Rattle.apart.proofs.SpentStill.{victims-bare}
 use Rattle.failing.proofs.Leaving.{told}
 use Rattle.planning.specs.Expiring.{expire_one, due_from, DueNext, NextDue, ExpiresAll}
 use Rattle.apart.proofs.Overdue.{front_lent}
-use Rattle.planning.specs.declared.expiring.Turn.{Turn}
+use Rattle.std.specs.Prelude as rust
+use Rattle.planning.specs.declared.expiring.Overdue.{Overdue}
 use Rattle.planning.proofs.BareDue.{due_from_bare}
 use Rattle.planning.proofs.Overdue.{due_cases, due_first, Expiring, expiring_start, expiring_end, expiring_more}
 
@@ -153,5 +154,5 @@ way-ends {b = b} {f = f} {m} {now = now} {x} {q} l a d = record {
 }
 
 -- what is found in the front that is lent is found in the front
-pub lent_next : (b : List ℕ) (m : ℕ) {now x : ℕ} {w : Turn} → NextDue (take (m - 0) (drop 0 b)) now x w → NextDue (take m b) now x w
+pub lent_next : (b : List ℕ) (m : ℕ) {now x : ℕ} {w : rust.Option Overdue} → NextDue (take (m - 0) (drop 0 b)) now x w → NextDue (take m b) now x w
 lent_next b m {now} {x} {w} n = subst (λ (z : List ℕ). NextDue z now x w) (front_lent b m) n

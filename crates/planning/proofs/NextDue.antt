@@ -27,7 +27,10 @@ use Rattle.store.proofs.Keys.{row_number}
 use Rattle.requests.specs.Changes.{KeyWords}
 use Rattle.requests.proofs.Keeping.{rows_in_order}
 use Rattle.apart.specs.Silent.{is_due}
-use Rattle.planning.specs.Expiring.{due_from, row_due, due_rows, SeekDue, NextDue}
+use Rattle.planning.specs.Expiring.{due_from, row_due, due_rows, SeekDue, BeginsAt, DueNext, NextDue}
+use Rattle.planning.specs.declared.expiring.Overdue.{Overdue}
+use Rattle.std.specs.Prelude as rust
+use Rattle.std.proofs.lemmas.Option.{none-some, same_Some}
 use Rattle.selecting.proofs.InOrder.{mapped_at}
 use Rattle.planning.proofs.Overdue.{First, due_first}
 use Rattle.planning.proofs.RowsDue.{table-rows, rows_from, rows_next, rows_over}
@@ -35,62 +38,71 @@ use Rattle.planning.proofs.RowsDue.{table-rows, rows_from, rows_next, rows_over}
 row_said : (now x : ℕ) (r : Row) → x ≤ place (key_at r) → is_due now r ≡ true → row_due now x r ≡ record { key = key_at r; connection = r.conn } ∷ []
 row_said now x r h e = rw (le-leb x (place (key_at r)) h, e) refl
 
-module _ {b : List ℕ} (now : ℕ) {k : Given} (e : ℕ) {key : RowKey} {from r : ℕ} (w : KeyWords k key) (q : Seek b (λ f. row_numbers f.rows) (rows_in b) (key_number key + e) from) (z :
-    SeekDue b now from r) where
-  abbrev x : ℕ
-  x = place (key_num k) + e
+pub all_rows : (b : List ℕ) → BeginsAt b 0 0
+all_rows b = record {
+  few = omega arith;
+  bound = λ st s o. record { most = omega arith; below = λ j h. absurd (omega arith); above = λ j h l. omega arith };
+}
 
-  module _ (st : State) (s : Sound st) (o : Writes b st) where
+pub behind-key : {b : List ℕ} {k : Given} {key : RowKey} {from : ℕ} → KeyWords k key → Seek b (λ f. row_numbers f.rows) (rows_in b) (key_number key + 1) from → BeginsAt b (place (key_num k) + 1) from
+behind-key {k = k} {key} w q = record {
+  few = q.most;
+  bound = λ st s o.
+      let e : key_number key + 1 ≡ place (key_num k) + 1 = omega (arith, w.number) in
+      rw e at (q.bound (flat_of st) o (rows_in_order st s));
+}
+
+module _ {b : List ℕ} (now : ℕ) {x from : ℕ} {o : rust.Option Row} (q : BeginsAt b x from) (z : SeekDue b now from o) where
+  module _ (st : State) (s : Sound st) (w : Writes b st) where
     abbrev rows : List Row
     rows = rows_of st.table
 
-    bound : Bound (row_numbers rows) (key_number key + e) from
-    bound = q.bound (flat_of st) o (rows_in_order st s)
-
-    left : due_from now x st.table ≡ due_rows now x (drop r rows)
+    left : due_from now x st.table ≡ due_rows now x (drop z.at rows)
     left =
+        let bound = q.bound st s w in
         sym (table-rows now x st.table s.bounded.lawful (distinct_in st.table s.bounded.once))
-        ∙ rows_from now x from rows (λ j h l. omega (arith, bound.below j h, w.number))
-        ∙ z.none (flat_of st) x o
+        ∙ rows_from now x from rows (λ j h l. bound.below j h)
+        ∙ z.passed (flat_of st) x w
 
-    pub due_none : rows_in b ≤ r → due_from now x st.table ≡ []
-    due_none h = left ∙ rows_over now x r rows (omega (arith, h, (sizes o).rows))
+    due_none : rows_in b ≤ z.at → due_from now x st.table ≡ []
+    due_none h = left ∙ rows_over now x z.at rows (omega (arith, h, (sizes w).rows))
 
-    module _ (h : r < rows_in b) (row : Row) (is : row ≡ get_or rows r row) where
-      late : x ≤ place (key_at (get_or rows r row))
+    module _ (row : Row) (found : o ≡ rust.Some row) where
+      is : row ≡ get_or rows z.at row
+      is = z.stands row found (flat_of st) row w
+
+      late : x ≤ place (key_at row)
       late =
-          let l : r < length rows = omega (arith, h, (sizes o).rows) in
-          let n = bound.above r z.least (simp length-map (omega arith)) in
-          let m = mapped_at (λ r. key_number (key_of r)) rows r row 0 l in
-          omega (arith, n, m, row_number (get_or rows r row), w.number)
+          let l : z.at < length rows = omega (arith, z.inside row found, (sizes w).rows) in
+          let n = (q.bound st s w).above z.at z.least (simp length-map (omega arith)) in
+          let m = mapped_at (λ r. key_number (key_of r)) rows z.at row 0 l in
+          let y : place (key_at (get_or rows z.at row)) ≡ place (key_at row) = ap (λ (r : Row). place (key_at r)) (sym is) in
+          omega (arith, n, m, row_number (get_or rows z.at row), y)
 
-      head : due_from now x st.table ≡ record { key = key_at row; connection = row.conn } ∷ due_rows now x (drop (r + 1) rows)
+      head : due_from now x st.table ≡ record { key = key_at row; connection = row.conn } ∷ due_rows now x (drop (z.at + 1) rows)
       head =
-          left ∙ rows_next now x row r rows (omega (arith, h, (sizes o).rows))
-          ∙ ap (λ (l : List Due). l ++ due_rows now x (drop (r + 1) rows)) (row_said now x (get_or rows r row) late (z.found (flat_of st) row o h))
-          ∙ ap (λ (a : Row). record { key = key_at a; connection = a.conn } ∷ due_rows now x (drop (r + 1) rows)) (sym is)
+          left ∙ rows_next now x row z.at rows (omega (arith, z.inside row found, (sizes w).rows))
+          ∙ ap (λ (a : Row). row_due now x a ++ due_rows now x (drop (z.at + 1) rows)) (sym is)
+          ∙ ap (λ (l : List Due). l ++ due_rows now x (drop (z.at + 1) rows)) (row_said now x row late (z.due row found))
 
-      pub due-head : First now 0 st.table (record { key = key_at row; connection = row.conn }) (due_rows now x (drop (r + 1) rows))
+      due-head : First now 0 st.table (record { key = key_at row; connection = row.conn }) (due_rows now x (drop (z.at + 1) rows))
       due-head = due_first now x 0 st.table _ _ s.bounded.ordered s.bounded.lawful head
 
-      pub due_one : due_from now x st.table ≡ record { key = key_at row; connection = row.conn } ∷ due_from now (suc (place (key_at row))) st.table
+      due_one : due_from now x st.table ≡ record { key = key_at row; connection = row.conn } ∷ due_from now (suc (place (key_at row))) st.table
       due_one = head ∙ ap (λ (l : List Due). record { key = key_at row; connection = row.conn } ∷ l) (sym due-head.rest)
 
-  -- ---- what a turn answers
+  -- ---- what is answered
 
-  pub next_ends : rows_in b ≤ r → NextDue b now x (record { more = false; key = k; conn = 0 })
-  next_ends h = record { ends = λ e. λ st s o. due_none st s o h; goes = λ e. never e }
+  pub next_ends : o ≡ rust.None → NextDue b now x rust.None
+  next_ends e = record { ends = λ d st s w. due_none st s w (z.none e); goes = λ w d. absurd (none-some w d) }
 
-  module _ (h : r < rows_in b) (row : Row) (is : (f : Flat) (d : Row) → Shows b f → row ≡ get_or f.rows r d) where
-    pub next_goes : (j : Given) → key_num j ≡ key_at row → Kept b → NextDue b now x (record { more = true; key = j; conn = row.conn })
-    next_goes j e p = record {
-      ends = λ z. never (sym z);
-      goes = λ z. record {
-        first = λ st s o. subst (λ (a : Key). due_from now x st.table ≡ record { key = a; connection = row.conn } ∷ due_from now (suc (place a)) st.table) (sym e)
-            (due_one st s o h row (is (flat_of st) row o));
-        from = subst (λ (a : Key). x ≤ place a) (ap key_at (sym (is (flat_of p.state) row p.writes)) ∙ sym e) (late p.state p.sound p.writes h row (is (flat_of p.state) row
-            p.writes));
-        small = subst (λ (a : Key). a.hash < top) (sym e) (due-head p.state p.sound p.writes h row (is (flat_of p.state) row p.writes)).typed.key;
-        positive = let g = due-head p.state p.sound p.writes h row (is (flat_of p.state) row p.writes) in omega (arith, g.typed.peer.positive);
-      };
-    }
+  pub next_goes : (row : Row) → o ≡ rust.Some row → (j : Given) → key_num j ≡ key_at row → Kept b → NextDue b now x (rust.Some (record { key = j; connection = row.conn }))
+  next_goes row found j e p = record {
+    ends = λ d. absurd (none-some _ (sym d));
+    goes = λ v d.
+        let g = due-head p.state p.sound p.writes row found in
+        let f = late p.state p.sound p.writes row found in
+        subst (λ (y : Overdue). DueNext b now x (key_num y.key) y.connection) (same_Some _ _ d)
+        (subst (λ (k : Key). DueNext b now x k row.conn) (sym e)
+        (record { first = λ st s w. due_one st s w row found; from = f; small = g.typed.key; positive = let y = g.typed.peer.positive in omega (arith, y) }));
+  }

@@ -1,5 +1,5 @@
 -- A whole plan: the places set apart, expiry, two phases, the places put back.
-use Prim.Native.Nat.{ℕ, ◌-◌, ◌≤◌, ◌<◌}
+use Prim.Native.Nat.{ℕ, zero, suc, ◌-◌, ◌≤◌, ◌<◌}
 use mathlib.Core.Path.{◌≡◌, refl, sym, ap, subst, ◌∙◌}
 use mathlib.Core.List.{List, ◌++◌}
 use mathlib.Core.Option.{Option, none, some}
@@ -10,6 +10,9 @@ use Rattle.machine.specs.Limits.{word, max_places}
 use Rattle.machine.specs.State.{Table, State, on_table, with_ready_cursor}
 use Rattle.machine.specs.Plan as machine
 use Rattle.machine.specs.Later.{next_look, time_of}
+use Rattle.machine.proofs.Later.{look-later}
+use Rattle.std.specs.Prelude as rust
+use Rattle.choosing.specs.Choosing.{option_of}
 use Rattle.machine.specs.Sound.{Sound}
 use Rattle.machine.specs.Step.{entries_answer, written}
 use Rattle.machine.specs.Sweep.{round}
@@ -184,8 +187,19 @@ module _ {b b' u u' : List ℕ} {now : ℕ} (asked : Option (List Key)) {r : Rep
   pub plan_kept : Kept b → Kept b'
   plan_kept k = record { state = (machine.plan now asked k.state).state; sound = sound-plan k.state k.sound; writes = (h k.state k.sound k.writes).state }
 
-  pub plan_next : (n : ℕ) → Tells b' (λ t. time_of n ≡ next_look now t) → PlansOf b b' u u' now asked (record { count = r.count; considered = r.considered; next = n })
+  pub plan_next : (n : rust.Option ℕ) → Tells b' (λ t. option_of n ≡ next_look now t) → PlansOf b b' u u' now asked (record { count = r.count; considered = r.considered; next = n })
   unfolding machine.plan
   plan_next n f st s w =
       let g = h st s w in
       record { count = g.count; entries = g.entries; considered = g.considered; next = f _ (sound-plan st s) g.state; state = g.state }
+
+-- the next look as a number, 0 for none: a time later than now is no 0
+module _ (now : ℕ) where
+  look-number : (t : Table) (n : rust.Option ℕ) → option_of n ≡ next_look now t → time_of (rust.unwrap_or n 0) ≡ next_look now t
+  look-number t rust.None e = e
+  look-number t (rust.Some zero) e = let h = (look-later now 0 t (sym e)).later in absurd (omega (arith, h))
+  look-number t (rust.Some (suc n)) e = e
+
+  pub next-number : (asked : Option (List Key)) (st : State) (n : rust.Option ℕ) → option_of n ≡ (machine.plan now asked st).next → time_of (rust.unwrap_or n 0) ≡ (machine.plan now asked st).next
+  unfolding machine.plan
+  next-number asked st n e = look-number _ n e

@@ -1,24 +1,27 @@
 -- What the contracts of a plan's expired owners say.
-use Rattle.std.specs.Prelude.{ℕ, suc, ◌≤◌, ◌<◌, ◌≡◌, true, false, List, [], ◌∷◌, ◌++◌, leb, length, get_or, drop, if◌then◌else◌}
+use Rattle.std.specs.Prelude.{ℕ, suc, ◌+◌, ◌≤◌, ◌<◌, ◌≡◌, true, false, List, [], ◌∷◌, ◌++◌, leb, length, get_or, drop, if◌then◌else◌}
+use Rattle.std.specs.Prelude as rust
 use Rattle.ident.specs.Number.{top, Key, place}
 use Rattle.ident.specs.Words.{key_num}
 use Rattle.regions.specs.declared.Row.{Row}
+use Rattle.regions.specs.Order.{Bound}
 use Rattle.machine.specs.Limits.{Limits}
 use Rattle.machine.specs.State.{Request, Table, State, on_table}
 use Rattle.machine.specs.Table.{at}
 use Rattle.machine.specs.Fail.{Listed, failed, announce_parents, parents_for}
 use Rattle.machine.specs.Plan.{Due, due_of, due, expired}
 use Rattle.machine.specs.Sound.{Sound}
-use Rattle.store.specs.Flat.{Flat}
+use Rattle.store.specs.Flat.{Flat, rows_of}
 use Rattle.store.specs.Gather.{key_at}
-use Rattle.store.specs.Image.{Shows}
-use Rattle.store.specs.Shown.{rows_in}
+use Rattle.store.specs.Image.{Shows, Writes}
+use Rattle.store.specs.Shown.{rows_in, row_numbers}
 use Rattle.requests.specs.Changes.{Makes, Tells}
 use Rattle.places.specs.Places.{Place}
 use Rattle.apart.specs.Apart.{Slot, resting, ClearFrom, Apart}
 use Rattle.apart.specs.Lapsing.{noted}
 use Rattle.apart.specs.Silent.{ready_each, is_due}
-use Rattle.planning.specs.declared.expiring.Turn.{Turn}
+use Rattle.ident.specs.declared.Key.{Key as Given}
+use Rattle.planning.specs.declared.expiring.Overdue.{Overdue}
 
 -- one owner whose time is over: it fails, and its parents are announced for it
 abbrev pub expire_one : Limits → ℕ → Key → ℕ → Table → Listed
@@ -41,12 +44,15 @@ unfoldable pub due_rows : ℕ → ℕ → List Row → List Due
 due_rows now x [] = []
 due_rows now x (r ∷ rs) = row_due now x r ++ due_rows now x rs
 
--- r is the first of the rows from `from` on whose owner's time is over, or how many rows there are
-pub record SeekDue (b : List ℕ) (now from r : ℕ) : Type 0 where
-  pub least : from ≤ r
-  pub most : r ≤ rows_in b
-  pub none : (f : Flat) (x : ℕ) → Shows b f → due_rows now x (drop from f.rows) ≡ due_rows now x (drop r f.rows)
-  pub found : (f : Flat) (d : Row) → Shows b f → r < rows_in b → is_due now (get_or f.rows r d) ≡ true
+-- o is the first of the rows from `from` on whose owner's time is over, if there is one: it stands at `at`, which is else how many rows there are
+pub record SeekDue (b : List ℕ) (now from : ℕ) (o : rust.Option Row) : Type 0 where
+  pub at : ℕ
+  pub least : from ≤ at
+  pub passed : (f : Flat) (x : ℕ) → Shows b f → due_rows now x (drop from f.rows) ≡ due_rows now x (drop at f.rows)
+  pub none : o ≡ rust.None → rows_in b ≤ at
+  pub inside : (r : Row) → o ≡ rust.Some r → at < rows_in b
+  pub due : (r : Row) → o ≡ rust.Some r → is_due now r ≡ true
+  pub stands : (r : Row) → o ≡ rust.Some r → (f : Flat) (d : Row) → Shows b f → r ≡ get_or f.rows at d
 
 -- one is due at the place x or later, the first at k with the connection n
 pub record DueNext (b : List ℕ) (now x : ℕ) (k : Key) (n : ℕ) : Type 0 where
@@ -55,10 +61,20 @@ pub record DueNext (b : List ℕ) (now x : ℕ) (k : Key) (n : ℕ) : Type 0 whe
   pub small : k.hash < top
   pub positive : 1 ≤ n
 
+-- where the keys behind k begin; all keys, where there is none
+abbrev pub behind : rust.Option Given → ℕ
+behind rust.None = 0
+behind (rust.Some k) = place (key_num k) + 1
+
+-- where the keys from the place x on begin among the rows
+pub record BeginsAt (b : List ℕ) (x from : ℕ) : Type 0 where
+  pub few : from ≤ rows_in b
+  pub bound : (st : State) → Sound st → Writes b st → Bound (row_numbers (rows_of st.table)) x from
+
 -- the first that is due at the place x or later, if there is one
-pub record NextDue (b : List ℕ) (now x : ℕ) (w : Turn) : Type 0 where
-  pub ends : w.more ≡ false → Tells b (λ t. due_from now x t ≡ [])
-  pub goes : w.more ≡ true → DueNext b now x (key_num w.key) w.conn
+pub record NextDue (b : List ℕ) (now x : ℕ) (o : rust.Option Overdue) : Type 0 where
+  pub ends : o ≡ rust.None → Tells b (λ t. due_from now x t ≡ [])
+  pub goes : (w : Overdue) → o ≡ rust.Some w → DueNext b now x (key_num w.key) w.connection
 
 -- ---- all that are due, where there are no places
 

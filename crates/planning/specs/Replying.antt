@@ -6,13 +6,13 @@ use Rattle.places.specs.Places.{Place, list_most}
 use Rattle.machine.specs.Limits.{max_places}
 use Rattle.machine.specs.State.{Entry, State, on_table, with_ready_cursor}
 use Rattle.machine.specs.Plan as machine
-use Rattle.machine.specs.Later.{time_of}
 use Rattle.machine.specs.Sound.{Sound}
 use Rattle.machine.specs.Typed.{Each, KeyTyped}
 use Rattle.machine.specs.Step.{entries_answer, written}
 use Rattle.store.specs.Image.{Writes}
 use Rattle.apart.specs.Bare.{bare, bare_state}
 use Rattle.apart.specs.Apart.{resting, Apart}
+use Rattle.choosing.specs.Choosing.{option_of}
 use Rattle.cursors.specs.InWords.{Stands}
 use Rattle.selecting.specs.declared.Scan.{Scan}
 use Rattle.planning.specs.declared.replying.Reply.{Reply}
@@ -41,7 +41,7 @@ pub record Plans (now : ℕ) (asked : Option (List Key)) (st : State) (b' u u' :
   pub count : r.count ≡ length (machine.plan now asked st).entries
   pub entries : u' ≡ written (entries_answer (machine.plan now asked st).entries) u
   pub considered : r.considered ≡ (machine.plan now asked st).considered
-  pub next : time_of r.next ≡ (machine.plan now asked st).next
+  pub next : option_of r.next ≡ (machine.plan now asked st).next
   pub state : Writes b' (machine.plan now asked st).state
 
 -- ---- the second phase

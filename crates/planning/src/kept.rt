@@ -31,14 +31,11 @@ fn consider_bits(
         if w.full {
             return w;
         }
-        let i = j;
-        let bit = left % 2;
-        left = left / 2;
-        if bit == 1 {
-            let h = apart::noting::parent_of(slot, i);
-            let k = ident::txid_key(ident::Txid(h));
-            w = selecting::consider(s, clock, k, picks, w);
+        if left % 2 == 1 {
+            let h = apart::noting::parent_of(slot, j);
+            w = selecting::consider(s, clock, ident::txid_key(ident::Txid(h)), picks, w);
         }
+        left /= 2;
     }
     w
 }

@@ -11,12 +11,12 @@ ghost use Rattle.planning.specs.Replying.{Begins, SelectsOf, PlansOf};
 
 use crate::{expiring, kept, replying};
 
-// How many entries a plan has, how many keys it considered, and when to look again; 0 for no time (document 02, request c).
+// How many entries a plan has, how many keys it considered, and when to look again (document 02, request c).
 #[derive(Clone, Copy)]
 pub struct Planned {
     pub count: usize,
     pub considered: u64,
-    pub next: u64,
+    pub next: Option<u64>,
 }
 
 // Every owner that is due expires, and the parents kept are considered. The c places of the store are set apart.
@@ -76,11 +76,10 @@ pub fn plan_round(s: &mut [u8], clock: u64, out: &mut [u8]) -> Planned
     ensures { PlansOf s.old s.new out.old out.new clock none result }
 {
     let r = select_round(s, clock, out);
-    let next = looking::next_look(s, clock);
     Planned {
         count: r.count,
         considered: r.considered,
-        next,
+        next: looking::next_look(s, clock),
     }
 }
 
@@ -90,10 +89,9 @@ pub fn plan_given(s: &mut [u8], clock: u64, given: &[u8], out: &mut [u8]) -> Pla
     ensures { PlansOf s.old s.new out.old out.new clock (some (given_keys given.now)) result }
 {
     let r = select_given(s, clock, given, out);
-    let next = looking::next_look(s, clock);
     Planned {
         count: r.count,
         considered: r.considered,
-        next,
+        next: looking::next_look(s, clock),
     }
 }

@@ -20,7 +20,6 @@ use Rattle.regions.proofs.Order.{number_quad}
 use Rattle.requests.specs.Changes.{Words}
 use Rattle.machine.specs.State.{Candidate, Entry}
 use Rattle.machine.specs.Later.{time_of}
-use Rattle.choosing.proofs.Waiting.{time_some}
 use Rattle.claiming.specs.Claiming.{entry_from, entries_from}
 use Rattle.machine.specs.Text.{hash_digits, decimal_digits, decimal, hexadecimal, bool_text, key_text, item_kind_text, item_text, joined}
 use Rattle.lines.specs.Text.{Wrote}
@@ -85,6 +84,10 @@ wrote_other {n = n} e h p q w =
 time-length : (o : Option ℕ) → length (time_text o) ≤ decimal_digits
 time-length none = omega arith
 time-length (some n) = length-numeral 10 decimal_digits n
+
+time_some : (n : ℕ) → (n ≡ 0 → ⊥) → time_of n ≡ some n
+time_some zero h = absurd (h refl)
+time_some (suc n) h = refl
 
 -- a time: `none` for 0
 module _ {s s' : List ℕ} {a r : ℕ} (n : ℕ) where

@@ -1,6 +1,6 @@
 -- plan: what it needs, and what it leaves, of whatever answers as the machine plans.
 use Prim.Native.Nat.{ℕ, min, ◌+◌, ◌*◌, ◌<◌}
-use mathlib.Core.Path.{◌≡◌, refl, sym, ap, subst, ◌∙◌}
+use mathlib.Core.Path.{◌≡◌, refl, subst, ◌∙◌}
 use mathlib.Core.Bool.{Bool, true}
 use mathlib.Core.List.{List, [], ◌∷◌, ◌++◌}
 use mathlib.Core.Option.{Option, none, some}
@@ -9,18 +9,19 @@ use lib.Dec.{eqb, leb, lit<}
 use lib.ListN.{length, take, drop}
 use Rattle.ident.specs.declared.ItemKind.{ItemKind}
 use Rattle.ident.specs.declared.ItemKind.TheVariants.{Transaction, WitnessTransaction, WTx, Other}
-use Rattle.std.specs.Prelude.{if◌then◌else◌}
-use Rattle.ident.specs.Number.{Key, txid, wtxid, key_of, kind_of, key_as, type_of, is_plain, top}
+use Rattle.ident.specs.Number.{Key, txid, wtxid, kind_of, key_as, type_of, is_plain, top}
 use Rattle.machine.specs.Limits.{Limits, max_request_checks, word}
-use Rattle.machine.specs.State.{Candidate, Entry, Table, State, is_none, limits_of}
+use Rattle.machine.specs.State.{Candidate, Entry, Table, State, is_none}
 use Rattle.machine.specs.Table.{at, keys, owned_at}
 use Rattle.machine.specs.Sound.{Fits, AllFit, Bounded, Sound}
 use Rattle.machine.specs.Typed.{Each, KeyTyped, KeysTyped}
 use Rattle.machine.specs.Plan.{chosen_at, able, sooner, better, or_else, least_in, least_at, choice, Scan}
-use Rattle.machine.specs.Plan.{start, add, consider, phase, insert_by_priority, sort_by_priority, asked_keys, expired, scanned, plan}
+use Rattle.machine.specs.Plan.{start, add, consider, phase, insert_by_priority, sort_by_priority, asked_keys, expired, plan}
+use Rattle.std.specs.Prelude.{unwrap_or}
 use Rattle.machine.specs.Later.{time_of}
+use Rattle.planning.proofs.Planned.{next-number}
 use Rattle.machine.specs.Call.{Buffer, Plan, On, entry_bytes, named, takes_place}
-use Rattle.machine.specs.Step.{Chosen, perform, entries_answer, written}
+use Rattle.machine.specs.Step.{Chosen, perform}
 use Rattle.machine.proofs.Tests.{by_test}
 use Rattle.machine.proofs.Table.{at_key, lawful_at}
 use Rattle.machine.proofs.Announce.{each_append}
@@ -139,11 +140,11 @@ module _ (clock : ℕ) (asked : Option (List Key)) where
   pub plans_done : {u : Buffer} {b : List ℕ} (v : SoundStore b) → clock < word → KeysTyped asked → {t : ℕ}
       → t ≡ in_turn [] (clock ∷ []) 0 (length u) (entry_bytes * min (max_request_checks + 1) v.state.limit) → t ≡ 0 → {m : ℕ} → Lent b m
       → {p : List ℕ} → Bytes (p ++ drop m b) → {u' : List ℕ} {r : Planned} → ((s : State) → Sound s → Writes (take m b) s → Plans clock asked s p u u' r)
-      → Does (On (Plan clock asked u)) b (record { reply = Chosen r.considered (entries_from u' 0 r.count) (time_of r.next); buffer = u'; store = p ++ drop m b })
+      → Does (On (Plan clock asked u)) b (record { reply = Chosen r.considered (entries_from u' 0 r.count) (time_of (unwrap_or r.next 0)); buffer = u'; store = p ++ drop m b })
   unfolding named perform
   plans_done {u} v w k q z e {p} h {u'} {r} f =
       let s = v.state in
       let g = f s v.sound (front_writes v e) in
       let l = (plan clock asked s).entries in
       let is : entries_from u' 0 r.count ≡ l = (λ i. entries_from (g.entries i) 0 (g.count i)) ∙ entries_back l u (plan_whole clock asked s w v.sound k) in
-      does_front v e (Plan clock asked u) (passes (plans u) v q z) p h _ u' (λ i. Chosen (g.considered i) (is i) (g.next i)) g.entries g.state
+      does_front v e (Plan clock asked u) (passes (plans u) v q z) p h _ u' (λ i. Chosen (g.considered i) (is i) (next-number clock asked s r.next g.next i)) g.entries g.state

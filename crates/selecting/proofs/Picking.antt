@@ -7,6 +7,7 @@ use mathlib.Core.Option.{Option, none, some}
 use native.Mathlib.Omega.{arith}
 use lib.Dec.{eqb}
 use lib.ListN.{set}
+use Rattle.std.specs.Prelude as rust
 use Rattle.ident.specs.Number.{top, Key, txid, wtxid}
 use Rattle.regions.specs.declared.Row.{Row}
 use Rattle.machine.specs.Limits.{request_lifetime, latest_clock}
@@ -27,6 +28,7 @@ use Rattle.requests.specs.declared.Window.{Window}
 use Rattle.requests.specs.Changes.{Makes, Tells}
 use Rattle.announcing.specs.Evicts.{entry_at}
 use Rattle.choosing.specs.declared.Pick.{Pick}
+use Rattle.choosing.specs.declared.Chosen.{Chosen}
 use Rattle.choosing.specs.Choosing.{free_choice, Windows, Choice}
 use Rattle.selecting.specs.Selecting.{marking, until, Free, OneSelected}
 use Rattle.claiming.proofs.OneEntry.{takes_is}
@@ -100,8 +102,8 @@ pub conn-at : (r : Row) → r.conn ≡ (candidate_at r).connection
 unfolding candidate_at
 conn-at r = refl
 
-module _ {b : List ℕ} (now : ℕ) {x y : Window} (v : Pick) (c : Choice b now x y v) (n : ℕ) where
-  pub select_none : v.some ≡ false → (p : List ℕ) → OneSelected b b p p now x y n n
+module _ {b : List ℕ} (now : ℕ) {x y : Window} (v : Chosen) (c : Choice b now x y v) (n : ℕ) where
+  pub select_none : v.pick ≡ rust.None → (p : List ℕ) → OneSelected b b p p now x y n n
   select_none d p = record {
     pick = none;
     number = 0;
@@ -112,19 +114,19 @@ module _ {b : List ℕ} (now : ℕ) {x y : Window} (v : Pick) (c : Choice b now 
     numbers = refl;
   }
 
-  pub select_some : {b' : List ℕ} {k : Key} {m : ℕ} → v.some ≡ true → k ≡ key_at v.row → m ≡ (candidate_at v.row).connection
+  pub select_some : {b' : List ℕ} (i : Pick) {k : Key} {m : ℕ} → v.pick ≡ rust.Some i → k ≡ key_at i.row → m ≡ (candidate_at i.row).connection
       → Makes b b' (λ t. (has m (at k t).candidates ≡ true) × ((at k t).owner ≡ none)) (change k (owned_until m (now + request_lifetime)))
-      → {p p' : List ℕ} → p' ≡ set p n v.at → OneSelected b b' p p' now x y n (n + 1)
-  select_some {b'} {k} {m} d e f g {p} {p'} q = record {
-    pick = some (entry_at v.row);
-    number = v.at;
+      → {p p' : List ℕ} → p' ≡ set p n i.at → OneSelected b b' p p' now x y n (n + 1)
+  select_some {b'} i {k} {m} d e f g {p} {p'} q = record {
+    pick = some (entry_at i.row);
+    number = i.at;
     chosen = said;
     table = λ h z st s w. let a = said h z st s w in
-        (rw (e, f) at g) st s w ((pick_takes s now h z.as_txid.small (entry_at v.row) a).held, pick-unowned s now h z.as_txid.small (entry_at v.row) a);
-    stands = λ f w. let g = c.found f w d in record { inside = g.inside; entry_is = λ r. ap entry_at (sym (g.row_is r)) };
+        (rw (e, f) at g) st s w ((pick_takes s now h z.as_txid.small (entry_at i.row) a).held, pick-unowned s now h z.as_txid.small (entry_at i.row) a);
+    stands = λ f w. let g = rw d at (c.found f w) in record { inside = g.inside; entry_is = λ r. ap entry_at (sym (g.row_is r)) };
     count = refl;
     numbers = q;
   }
     where
-      said : (h : ℕ) → Windows b h x y → Tells b (λ t. some (entry_at v.row) ≡ free_choice now t (txid h))
+      said : (h : ℕ) → Windows b h x y → Tells b (λ t. some (entry_at i.row) ≡ free_choice now t (txid h))
       said h z st s w = sym (rw d refl) ∙ c.is h z st s w

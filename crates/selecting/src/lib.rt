@@ -40,15 +40,12 @@ fn select_within(
     requires { Kept s.old × ((x.from ≤ x.to) × (x.to ≤ rows_in s.old)) × ((y.from ≤ y.to) × (y.to ≤ rows_in s.old)) × (clock ≤ latest_clock) × (n < length picks.old) }
     ensures { OneSelected s.old s.new picks.old picks.new clock x y n result }
 {
-    let p = choosing::choose_within(s, clock, x, y);
-    if !p.some {
+    let Some(p) = choosing::choose_within(s, clock, x, y).pick else {
         return n;
-    }
-    let row = p.row;
-    let at = p.at;
-    let k = announcing::evict::key_of(row);
-    requests::own(s, k, row.conn, clock + REQUEST_LIFETIME);
-    picks[n] = at;
+    };
+    let k = announcing::evict::key_of(p.row);
+    requests::own(s, k, p.row.conn, clock + REQUEST_LIFETIME);
+    picks[n] = p.at;
     n + 1
 }
 

@@ -1,23 +1,21 @@
 -- `choosing::better` meets its contract.
-use Rattle.choosing.proofs.Scanned.{better_first, better_found, better-row}
+use Rattle.choosing.proofs.Scanned.{better_found, better-row, better_first}
 use Rattle.choosing.proofs.better.Goals as goal
 
-pub returns-then-sooner : goal.returns-then-sooner
-returns-then-sooner c = record {
-  is = better_found c.args.r c.args.best.row c.args.best.some
-      c.if-best.true c.sooner.ensures c.if-sooner.true;
-  found = λ rs h g. g;
+pub returns-in-Some : goal.returns-in-Some
+returns-in-Some c = record {
+  is = rw c.in-Some.is (better_found c.args.r c.in-Some.found.row c.sooner.ensures c.if-sooner.true);
+  found = λ rs h g. rw c.in-Some.is at g;
 }
 
-pub returns-else-sooner : goal.returns-else-sooner
-returns-else-sooner c = record {
-  is = better-row c.args.r c.args.best.row c.args.best.some
-      c.if-best.true c.sooner.ensures c.if-sooner.false;
-  found = λ rs h g e. h;
+pub returns-in_default : goal.returns-in_default
+returns-in_default c = record {
+  is = rw c.in-Some.is (better-row c.args.r c.in-Some.found.row c.sooner.ensures c.if-sooner.false);
+  found = λ rs h g. h;
 }
 
-pub returns-else-best : goal.returns-else-best
-returns-else-best c = record {
-  is = better_first c.args.r c.args.best.row c.args.best.some c.if-best.false;
-  found = λ rs h g e. h;
+pub returns-in_default-2 : goal.returns-in_default-2
+returns-in_default-2 c = record {
+  is = rw c.in_default.is (better_first c.args.r);
+  found = λ rs h g. h;
 }

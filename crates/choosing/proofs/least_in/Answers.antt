@@ -9,23 +9,19 @@ use Rattle.store.proofs.Frame.{sizes}
 use Rattle.requests.proofs.Keeping.{kept_shown}
 use Rattle.announcing.specs.Evicts.{part}
 use Rattle.choosing.specs.Choosing.{least_rows}
-use Rattle.choosing.proofs.Scanned.{is_none, found_none, least_none, least_step}
+use Rattle.choosing.proofs.Scanned.{least_none, least_step}
 use Rattle.choosing.proofs.least_in.Goals as goal
 
 pub loop-i-init : goal.loop-i-init
 loop-i-init c = (
   c.requires.1,
   omega arith,
-  λ st s w. is_none c.nothing-v.result.row c.nothing-v.result.some c.nothing-v.ensures.0 ∙ least_none (rows_of st.table)
-      (machine.able c.args.clock st.table []) c.args.to c.args.to (omega arith),
-  λ f w. found_none f.rows c.nothing-v.result c.nothing-v.ensures.0,
+  λ st s w. least_none (rows_of st.table) (machine.able c.args.clock st.table []) c.args.to c.args.to (omega arith),
+  λ f w. tt,
 )
 
 pub row_at-r-requires : goal.row_at-r-requires
 row_at-r-requires c = (kept_shown c.requires.0, omega arith)
-
-pub with_row-v-requires : goal.with_row-v-requires
-with_row-v-requires c = c.requires.0
 
 pub loop-i-preserved : goal.loop-i-preserved
 loop-i-preserved c = (

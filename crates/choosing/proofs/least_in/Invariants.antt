@@ -1,5 +1,5 @@
 -- `choosing::least_in` meets its contract.
-use Prim.Native.Nat.{◌-◌, ◌≤◌}
+use Prim.Native.Nat.{◌≤◌}
 use mathlib.Core.Path.{◌≡◌}
 use mathlib.Core.List.{[]}
 use Rattle.machine.specs.Plan as machine
@@ -13,6 +13,3 @@ use Rattle.choosing.proofs.least_in.Given as goal
 abbrev pub invariant-loop-i : goal.invariant-loop-i
 invariant-loop-i l = (l.from ≤ l.i) × (l.i ≤ l.to) × Tells l.s (λ t. picked l.v ≡ least_rows (machine.able l.clock t []) (part l.i l.to (rows_of t)))
     × ((f : Flat) → Shows l.s f → Found f.rows l.v)
-
-abbrev pub decreases-loop-i : goal.decreases-loop-i
-decreases-loop-i l = l.i - l.from

@@ -1,5 +1,5 @@
 -- `choosing::owned_in` meets its contract.
-use Prim.Native.Nat.{◌-◌, ◌≤◌}
+use Prim.Native.Nat.{◌≤◌}
 use mathlib.Core.Path.{◌≡◌}
 use Rattle.store.specs.Flat.{Flat}
 use Rattle.store.specs.Image.{Shows}
@@ -9,6 +9,3 @@ use Rattle.choosing.proofs.owned_in.Given as goal
 
 abbrev pub invariant-loop-i : goal.invariant-loop-i
 invariant-loop-i l = (l.i ≤ l.to) × ((f : Flat) → Shows l.s f → any_owns (part l.i l.to f.rows) ≡ any_owns (part l.initial.i l.to f.rows))
-
-abbrev pub decreases-loop-i : goal.decreases-loop-i
-decreases-loop-i l = l.to - l.i

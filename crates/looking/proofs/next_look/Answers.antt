@@ -1,12 +1,20 @@
 -- `looking::next_look` meets its contract.
-use Prim.Native.Nat.{◌-◌}
+use Prim.Native.Nat.{ℕ, ◌+◌, ◌-◌}
 use native.Mathlib.Omega.{arith}
 use Rattle.store.specs.Flat.{flat_of, rows_of}
 use Rattle.store.specs.Gather.{gather}
 use Rattle.requests.proofs.Keeping.{kept_shown}
 use Rattle.announcing.specs.Evicts.{part}
+use mathlib.Core.Path.{◌≡◌, refl}
+use mathlib.Core.List.{[]}
+use mathlib.Core.Option.{none}
+use Rattle.machine.specs.Later.{next_look, least_later, times}
 use Rattle.looking.proofs.Looked.{looks_start, looks-row, looked_all}
 use Rattle.looking.proofs.next_look.Goals as goal
+
+start : (now : ℕ) → none ≡ next_look now []
+unfolding least_later times
+start now = refl
 
 pub rows-n-requires : goal.rows-n-requires
 rows-n-requires c = let z = (kept_shown c.requires).sizes.long in omega (arith, z)
@@ -14,8 +22,8 @@ rows-n-requires c = let z = (kept_shown c.requires).sizes.long in omega (arith, 
 pub loop-i-init : goal.loop-i-init
 loop-i-init c = (
   omega arith,
-  λ f w. looks_start c.args.clock c.rows-n.result f.rows c.rows-n.result c.nothing-v.result (omega arith)
-      (c.nothing-v.ensures c.args.clock),
+  λ f w. looks_start c.args.clock c.rows-n.result f.rows c.rows-n.result c.before_rows-v.result (omega arith)
+      (c.before_rows-v.ensures c.args.clock [] (start c.args.clock)),
 )
 
 pub row_at-r-requires : goal.row_at-r-requires
@@ -31,9 +39,10 @@ loop-i-preserved c = (
       let n = c.rows-n.result in
       let j = c.loop-i.i in
       let r = c.row_at-r.result in
+      let e : j - 1 + 1 ≡ j = omega arith in
       looks-row c.args.clock n f.rows r (j - 1) (omega arith) (omega arith)
       (omega (arith, c.rows-n.ensures.field f w)) (c.row_at-r.ensures f r w) c.turn-v.result
-      (c.turn-v.ensures (part j n f.rows) (c.ends_key-ends.ensures f w) (c.loop-i.invariant.1 f w)),
+      (c.turn-v.ensures (part j n f.rows) (rw e at (c.ends_key-ends.ensures f w)) (c.loop-i.invariant.1 f w)),
 )
 
 pub returns : goal.returns

@@ -9,6 +9,3 @@ use Rattle.looking.proofs.next_look.Given as goal
 
 abbrev pub invariant-loop-i : goal.invariant-loop-i
 invariant-loop-i l = (l.i ≤ l.n) × ((f : Flat) → Shows l.s f → LooksAt l.clock (gather (part l.i l.n f.rows)) l.v)
-
-abbrev pub decreases-loop-i : goal.decreases-loop-i
-decreases-loop-i l = l.i

@@ -2,8 +2,8 @@
 use Rattle.looking.proofs.Looked.{settled-owned, settled-free}
 use Rattle.looking.proofs.settled.Goals as goal
 
-pub returns-then-v : goal.returns-then-v
-returns-then-v c = settled-owned c.args.clock c.args.v c.if-v.true c.later-t.ensures c.earlier.ensures
+pub returns-in-Some : goal.returns-in-Some
+returns-in-Some c = settled-owned c.args.clock c.args.v c.in-Some.due c.in-Some.is c.later.ensures c.earlier.ensures
 
-pub returns : goal.returns
-returns c = settled-free c.args.clock c.args.v c.if-v.false c.earlier-2.ensures
+pub returns-in-None : goal.returns-in-None
+returns-in-None c = settled-free c.args.clock c.args.v c.in-None.is c.earlier-in-None.ensures

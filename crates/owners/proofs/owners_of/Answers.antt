@@ -82,16 +82,6 @@ overflow_add-passed-in-loop-p c =
       k.sized.limit,
     )
 
-pub overflow_add-p : goal.overflow_add-p
-overflow_add-p c = omega (
-  arith,
-  c.loop-p-test.true,
-  c.hashes-count.type_inv,
-)
-
-pub loop-p-smaller : goal.loop-p-smaller
-loop-p-smaller c = omega (arith, c.loop-p-test.true)
-
 pub loop-p-preserved : goal.loop-p-preserved
 loop-p-preserved c =
     let given = c.requires in

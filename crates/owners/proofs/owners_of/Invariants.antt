@@ -6,6 +6,3 @@ use Rattle.owners.proofs.owners_of.Given as goal
 
 abbrev pub invariant-loop-p : goal.invariant-loop-p
 invariant-loop-p l = Walking l.s (hashes_in l.hashes) l.m l.initial.out l.out l.i l.j l.passed l.p
-
-abbrev pub decreases-loop-p : goal.decreases-loop-p
-decreases-loop-p l = l.count - l.p

@@ -62,7 +62,7 @@ pub fn plan(s: &mut [u8], clock: u64, answer: &mut [u8]) -> Selection
     }
     let n = refusals::need_of(s);
     let r = planning::plan::plan_round(&mut s[..n], clock, answer);
-    Selection::Chosen(r.considered, r.count as u64, r.next)
+    Selection::Chosen(r.considered, r.count as u64, r.next.unwrap_or(0))
 }
 
 pub fn plan_given(s: &mut [u8], clock: u64, given: &[u8], answer: &mut [u8]) -> Selection
@@ -76,5 +76,5 @@ pub fn plan_given(s: &mut [u8], clock: u64, given: &[u8], answer: &mut [u8]) -> 
     }
     let n = refusals::need_of(s);
     let r = planning::plan::plan_given(&mut s[..n], clock, given, answer);
-    Selection::Chosen(r.considered, r.count as u64, r.next)
+    Selection::Chosen(r.considered, r.count as u64, r.next.unwrap_or(0))
 }

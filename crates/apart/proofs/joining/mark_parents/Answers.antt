@@ -14,12 +14,6 @@ parent_of-h-requires c = (omega (arith, c.loop-j-test.true, c.requires.2), c.req
 pub mark-requires : goal.mark-requires
 mark-requires c = marking_kept c.loop-j.invariant.2 c.requires.0
 
-pub overflow_add-j : goal.overflow_add-j
-overflow_add-j c = omega (arith, c.loop-j-test.true)
-
-pub loop-j-smaller : goal.loop-j-smaller
-loop-j-smaller c = omega (arith, c.loop-j-test.true)
-
 pub loop-j-preserved : goal.loop-j-preserved
 loop-j-preserved c = (
   (omega (arith, c.loop-j.invariant.0), omega (arith, c.loop-j-test.true)),

@@ -8,6 +8,3 @@ use Rattle.apart.proofs.joining.mark_parents.Given as goal
 
 abbrev pub invariant-loop-j : goal.invariant-loop-j
 invariant-loop-j l = ((l.from ≤ l.j) × (l.j ≤ l.to)) × (length l.s ≡ length l.initial.s) × MarkedSoFar l.initial.s l.s (words l.slot) l.from l.to l.j
-
-abbrev pub decreases-loop-j : goal.decreases-loop-j
-decreases-loop-j l = l.to - l.j

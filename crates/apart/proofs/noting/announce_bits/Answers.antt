@@ -65,12 +65,6 @@ overflow_mul-w c = let x = weight-most (c.loop-j.j - c.args.from) (omega (
       c.loop-j.invariant.4,
     )
 
-pub overflow_add-j : goal.overflow_add-j
-overflow_add-j c = omega (arith, c.loop-j-test.true)
-
-pub loop-j-smaller : goal.loop-j-smaller
-loop-j-smaller c = omega (arith, c.loop-j-test.true)
-
 pub loop-j-preserved : goal.loop-j-preserved
 loop-j-preserved c = (
   (

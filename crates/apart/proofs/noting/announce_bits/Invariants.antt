@@ -13,6 +13,3 @@ invariant-loop-j l =
     × (length l.top ≡ length l.initial.top)
     × (l.reserve.count ≤ list_space) × Way (words l.slot) l.n l.clock l.from l.to l.initial.s (words l.initial.new) (words l.initial.top) l.m l.initial.reserve l.s (words l.new)
     (words l.top) l.waiting l.reserve l.j l.bits l.w
-
-abbrev pub decreases-loop-j : goal.decreases-loop-j
-decreases-loop-j l = l.to - l.j

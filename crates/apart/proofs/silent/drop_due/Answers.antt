@@ -25,12 +25,6 @@ drop_row-m-requires c = (
   ),
 )
 
-pub overflow_add-i : goal.overflow_add-i
-overflow_add-i c = omega (arith, c.loop-i-test.true)
-
-pub loop-i-smaller : goal.loop-i-smaller
-loop-i-smaller c = omega (arith, c.loop-i-test.true)
-
 pub loop-i-preserved : goal.loop-i-preserved
 loop-i-preserved c = dropping_more c.loop-i.invariant
     (omega (arith, c.rows-n.ensures.word, c.loop-i-test.true)) c.drop_row-m.auto.s

@@ -6,6 +6,3 @@ use Rattle.apart.proofs.silent.drop_due.Given as goal
 
 abbrev pub invariant-loop-i : goal.invariant-loop-i
 invariant-loop-i l = Dropping l.initial.s l.s (is_due l.clock) l.i l.m
-
-abbrev pub decreases-loop-i : goal.decreases-loop-i
-decreases-loop-i l = l.n - l.i

@@ -10,12 +10,6 @@ loop-i-init c = (omega arith, refl, refl, forgetting_starts)
 pub set_note-requires : goal.set_note-requires
 set_note-requires c = room_within c.loop-i-test.true c.requires c.loop-i.invariant.1 c.loop-i.invariant.2
 
-pub overflow_add-i : goal.overflow_add-i
-overflow_add-i c = omega (arith, c.loop-i-test.true)
-
-pub loop-i-smaller : goal.loop-i-smaller
-loop-i-smaller c = omega (arith, c.loop-i-test.true)
-
 pub loop-i-preserved : goal.loop-i-preserved
 loop-i-preserved c = (
   omega (arith, c.loop-i-test.true),

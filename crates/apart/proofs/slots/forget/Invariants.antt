@@ -7,6 +7,3 @@ use Rattle.apart.proofs.slots.forget.Given as goal
 
 abbrev pub invariant-loop-i : goal.invariant-loop-i
 invariant-loop-i l = (l.i ≤ l.n) × (length l.s ≡ length l.initial.s) × (length l.first ≡ length l.initial.first) × ForgottenTo l.initial.s l.s l.initial.first l.first l.m l.i
-
-abbrev pub decreases-loop-i : goal.decreases-loop-i
-decreases-loop-i l = l.n - l.i

@@ -2,7 +2,7 @@
 use Prim.Native.Nat.{◌-◌}
 use native.Mathlib.Omega.{arith}
 use Rattle.store.proofs.Frame.{sizes}
-use Rattle.choosing.proofs.Waiting.{waits_none, waits-row, waits-ready, waits_till}
+use Rattle.choosing.proofs.Waiting.{waits_none, waits-row}
 use Rattle.choosing.proofs.later.wait_in.Goals as goal
 
 pub loop-i-init : goal.loop-i-init
@@ -22,9 +22,3 @@ loop-i-preserved c = (
       (omega (arith, c.requires.2)) (c.row_at-r.ensures f c.row_at-r.result w)
       (c.loop-i.invariant.2 f w) c.later.ensures c.earlier-w.ensures,
 )
-
-pub returns-then-any : goal.returns-then-any
-returns-then-any c = λ f w. waits-ready f.rows c.args.to (c.loop-i.invariant.2 f w) (omega arith) c.if-any.true
-
-pub returns-else-any : goal.returns-else-any
-returns-else-any c = λ f w. waits_till f.rows c.args.to (c.loop-i.invariant.2 f w) (omega arith) c.if-any.false

@@ -1,5 +1,5 @@
 -- `choosing::later::wait_in` meets its contract.
-use Prim.Native.Nat.{◌-◌, ◌≤◌}
+use Prim.Native.Nat.{◌≤◌}
 use Rattle.store.specs.Flat.{Flat}
 use Rattle.store.specs.Image.{Shows}
 use Rattle.announcing.specs.Evicts.{part}
@@ -8,6 +8,3 @@ use Rattle.choosing.proofs.later.wait_in.Given as goal
 
 abbrev pub invariant-loop-i : goal.invariant-loop-i
 invariant-loop-i l = (l.from ≤ l.i) × (l.i ≤ l.to) × ((f : Flat) → Shows l.s f → Waits l.clock (part l.i l.to f.rows) l.any l.w)
-
-abbrev pub decreases-loop-i : goal.decreases-loop-i
-decreases-loop-i l = l.i - l.from

@@ -1,17 +1,20 @@
 -- `claiming::checked::claim` meets its contract.
+use Rattle.std.proofs.lemmas.List.{get_or_default}
+use Rattle.claiming.specs.Claiming.{no_entry}
 use Rattle.claiming.proofs.Listed.{reached_start, reached_done, reached-asks, reached_more}
 use Rattle.claiming.proofs.checked.claim.Goals as goal
 
-pub loop-i-init : goal.loop-i-init
-loop-i-init c = reached_start c.args.clock c.args.checked.now c.args.s.now c.args.out.now
+pub loop-e-init : goal.loop-e-init
+loop-e-init c = reached_start c.args.clock c.args.checked.now c.args.s.now c.args.out.now
 
 pub claim_next-n-requires : goal.claim_next-n-requires
-claim_next-n-requires c = reached-asks c.loop-i.invariant c.loop-i-test.true c.requires.0 c.requires.1 c.requires.2
+claim_next-n-requires c = reached-asks c.loop-e.invariant c.loop-e-test.true c.requires.0 c.requires.1 c.requires.2
 
-pub loop-i-preserved : goal.loop-i-preserved
-loop-i-preserved c =
+pub loop-e-preserved : goal.loop-e-preserved
+loop-e-preserved c =
     let x = c.claim_next-n in
-    reached_more c.loop-i.invariant c.loop-i-test.true c.requires.0 c.requires.1 c.requires.2 c.entry_at-e.result c.entry_at-e.ensures x.auto.s x.auto.out x.ensures
+    let l = c.args.checked.now in
+    reached_more c.loop-e.invariant c.loop-e-test.true c.requires.0 c.requires.1 c.requires.2 _ (get_or_default l c.loop-e.e-index _ no_entry c.loop-e-test.true) x.auto.s x.auto.out x.ensures
 
 pub returns : goal.returns
-returns c = reached_done c.loop-i.invariant c.loop-i-test.false
+returns c = reached_done c.loop-e.invariant c.loop-e-test.false

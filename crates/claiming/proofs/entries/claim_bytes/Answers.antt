@@ -30,14 +30,6 @@ claim_next-n-requires c =
     let all = c.entries-count.ensures in
     (turning_kept v c.requires.0, c.requires.1, omega (arith, less, all, v.few, v.buffer-long, c.requires.2))
 
-pub overflow_add-i : goal.overflow_add-i
-overflow_add-i c = omega (arith, c.loop-i-test.true)
-
-pub loop-i-smaller : goal.loop-i-smaller
-loop-i-smaller c =
-    let less = c.loop-i-test.true in
-    omega (arith, less, c.entries-count.ensures)
-
 pub loop-i-preserved : goal.loop-i-preserved
 loop-i-preserved c =
     let less = c.loop-i-test.true in

@@ -9,6 +9,3 @@ use Rattle.claiming.proofs.entries.claim_bytes.Given as goal
 abbrev pub invariant-loop-i : goal.invariant-loop-i
 invariant-loop-i l = (l.i ≤ length l.checked / entry_bytes) × Turning l.clock (entries_in l.checked)
     (entries_from l.checked l.i (length l.checked / entry_bytes - l.i)) l.initial.s l.s l.initial.out l.out l.n l.i
-
-abbrev pub decreases-loop-i : goal.decreases-loop-i
-decreases-loop-i l = length l.checked / entry_bytes - l.i

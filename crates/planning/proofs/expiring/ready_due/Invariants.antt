@@ -2,14 +2,13 @@
 use Prim.Native.Nat.{◌+◌, ◌-◌, ◌≤◌}
 use mathlib.Core.Path.{◌≡◌}
 use lib.ListN.{length}
-use Rattle.ident.specs.Number.{top, place}
-use Rattle.ident.specs.Words.{key_num}
-use Rattle.machine.specs.Table.{one}
+use Rattle.ident.specs.Number.{top}
 use Rattle.planning.proofs.Readying.{ReadyWay}
+use Rattle.planning.specs.Expiring.{behind}
 use Rattle.planning.proofs.expiring.ready_due.Given as goal
 
-abbrev pub invariant-loop-w : goal.invariant-loop-w
-invariant-loop-w l = (length l.s ≡ length l.initial.s) × (place (key_num l.k) + one l.after ≤ top + top) × ReadyWay l.initial.s l.s l.clock (place (key_num l.k) + one l.after)
+abbrev pub invariant-loop-due : goal.invariant-loop-due
+invariant-loop-due l = (length l.s ≡ length l.initial.s) × (behind l.last ≤ top + top) × ReadyWay l.initial.s l.s l.clock (behind l.last)
 
-abbrev pub decreases-loop-w : goal.decreases-loop-w
-decreases-loop-w l = top + top + 1 - (place (key_num l.k) + one l.after)
+abbrev pub decreases-loop-due : goal.decreases-loop-due
+decreases-loop-due l = top + top + 1 - behind l.last

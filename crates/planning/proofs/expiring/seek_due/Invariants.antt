@@ -1,5 +1,5 @@
 -- `planning::expiring::seek_due` meets its contract.
-use Prim.Native.Nat.{ℕ, ◌-◌, ◌≤◌}
+use Prim.Native.Nat.{ℕ}
 use mathlib.Core.Path.{◌≡◌}
 use lib.ListN.{drop}
 use Rattle.store.specs.Flat.{Flat}
@@ -8,7 +8,4 @@ use Rattle.planning.specs.Expiring.{due_rows}
 use Rattle.planning.proofs.expiring.seek_due.Given as goal
 
 abbrev pub invariant-loop-i : goal.invariant-loop-i
-invariant-loop-i l = ((l.from ≤ l.i) × (l.i ≤ l.n)) × ((f : Flat) (x : ℕ) → Shows l.s f → due_rows l.clock x (drop l.from f.rows) ≡ due_rows l.clock x (drop l.i f.rows))
-
-abbrev pub decreases-loop-i : goal.decreases-loop-i
-decreases-loop-i l = l.n - l.i
+invariant-loop-i l = (f : Flat) (x : ℕ) → Shows l.s f → due_rows l.clock x (drop l.from f.rows) ≡ due_rows l.clock x (drop l.i f.rows)

@@ -7,6 +7,7 @@ use Rattle.words.specs.Words.{words}
 use Rattle.apart.specs.Noting.{hashes_at, picked}
 use Rattle.selecting.proofs.Walked.{scans_start, scans_as, scans_full, scans_more}
 use Rattle.planning.proofs.Keepings.{bit-set, bit-clear, bits_done}
+use Rattle.planning.proofs.kept.consider_bits.Goals.{then-left-eq1, else-left-eq1}
 use Rattle.planning.proofs.kept.consider_bits.Goals as goal
 
 pub loop-j-init : goal.loop-j-init
@@ -25,9 +26,6 @@ shape_of-picks-then-w c = c.loop-j.invariant.2
 
 pub returns-then-w : goal.returns-then-w
 returns-then-w c = scans_full c.loop-j.invariant.3 (λ st. []) _ (omega (arith, c.loop-j.invariant.0)) c.if-w.true
-
-pub overflow_add-j : goal.overflow_add-j
-overflow_add-j c = omega (arith, c.loop-j-test.true)
 
 pub parent_of-h-requires : goal.parent_of-h-requires
 parent_of-h-requires c = (
@@ -54,47 +52,29 @@ consider-w-requires c = let x = c.loop-j.invariant.3 in (
   ),
 )
 
-pub loop-j-smaller-then-bit-eq1 : goal.loop-j-smaller-then-bit-eq1
-loop-j-smaller-then-bit-eq1 c = omega (arith, c.loop-j-test.true)
-
-pub loop-j-preserved-then-bit-eq1 : goal.loop-j-preserved-then-bit-eq1
-loop-j-preserved-then-bit-eq1 c = let d : c.loop-j.j - c.args.from + 1 ≤ c.loop-j.j + 1 - c.args.from = omega (
-  arith,
-  c.loop-j.invariant.0,
-) in (
-  (
-    omega (
-      arith,
-      c.loop-j.invariant.0,
-    ),
-    omega (
-      arith,
-      c.loop-j-test.true,
-    ),
-  ),
-  c.consider-w.auto.s ∙ c.loop-j.invariant.1,
-  c.consider-w.auto.picks ∙ c.loop-j.invariant.2,
-  scans_more
-      c.loop-j.invariant.3 (λ st. picked (hashes_at (words c.args.slot.now) (c.loop-j.j + 1) (c.args.to - (c.loop-j.j + 1))) (c.loop-j.left / 2)) _ d c.if-w.false c.consider-w.ensures
-      (λ st l s m. bit-set (words c.args.slot.now) c.loop-j.j c.args.to c.loop-j.left c.loop-j-test.true c.txid_key-k.ensures c.parent_of-h.ensures c.if-bit-eq1.true),
-)
-
-pub loop-j-smaller : goal.loop-j-smaller
-loop-j-smaller c = omega (arith, c.loop-j-test.true)
-
 pub loop-j-preserved : goal.loop-j-preserved
-loop-j-preserved c = let d : c.loop-j.j - c.args.from ≤ c.loop-j.j + 1 - c.args.from = omega (arith, c.loop-j.invariant.0) in (
-  (
-    omega (arith, c.loop-j.invariant.0),
-    omega
-        (arith, c.loop-j-test.true),
-  ),
-  c.loop-j.invariant.1,
-  c.loop-j.invariant.2,
-  scans_as c.loop-j.invariant.3 (λ
-      st. picked (hashes_at (words c.args.slot.now) (c.loop-j.j + 1) (c.args.to - (c.loop-j.j + 1))) (c.loop-j.left / 2)) _ d
-      (λ st l s m. bit-clear (words c.args.slot.now) c.loop-j.j c.args.to c.loop-j.left c.loop-j-test.true c.if-bit-eq1.false),
-)
+loop-j-preserved c =
+    let w = words c.args.slot.now in
+    let j = c.loop-j.j in
+    let to = c.args.to in
+    let left = c.loop-j.left in
+    let at : (c.args.from ≤ j + 1) × (j + 1 ≤ to) = (omega (arith, c.loop-j.invariant.0), omega (arith, c.loop-j-test.true)) in
+    elim c.if-left-eq1.branch [
+      | then-left-eq1 k ↦ rw (k.s-is, k.picks-is, k.w-is) (
+        at,
+        k.consider-w.auto.s ∙ c.loop-j.invariant.1,
+        k.consider-w.auto.picks ∙ c.loop-j.invariant.2,
+        scans_more c.loop-j.invariant.3 (λ st. picked (hashes_at w (j + 1) (to - (j + 1))) (left / 2)) _ (omega (arith, c.loop-j.invariant.0)) c.if-w.false k.consider-w.ensures
+            (λ st l s m. bit-set w j to left c.loop-j-test.true k.txid_key.ensures k.parent_of-h.ensures k.if-left-eq1.true),
+      )
+      | else-left-eq1 k ↦ rw (k.s-is, k.picks-is, k.w-is) (
+        at,
+        c.loop-j.invariant.1,
+        c.loop-j.invariant.2,
+        scans_as c.loop-j.invariant.3 (λ st. picked (hashes_at w (j + 1) (to - (j + 1))) (left / 2)) _ (omega (arith, c.loop-j.invariant.0))
+            (λ st l s m. bit-clear w j to left c.loop-j-test.true k.if-left-eq1.false),
+      )
+    ]
 
 pub shape_of-s : goal.shape_of-s
 shape_of-s c = c.loop-j.invariant.1

@@ -35,12 +35,6 @@ consider_noted-w-requires c = let x = c.loop-i.invariant.3.ahead in (
   omega (arith, x.near, c.loop-i-test.true, c.requires.5),
 )
 
-pub overflow_add-i : goal.overflow_add-i
-overflow_add-i c = omega (arith, c.loop-i-test.true)
-
-pub loop-i-smaller : goal.loop-i-smaller
-loop-i-smaller c = omega (arith, c.loop-i-test.true)
-
 pub loop-i-preserved : goal.loop-i-preserved
 loop-i-preserved c = (
   omega (arith, c.loop-i-test.true),

@@ -1,5 +1,5 @@
 -- `planning::kept::keys_kept` meets its contract.
-use Prim.Native.Nat.{◌-◌, ◌≤◌}
+use Prim.Native.Nat.{◌≤◌}
 use mathlib.Core.Path.{◌≡◌}
 use lib.ListN.{length}
 use Rattle.planning.specs.Keeping.{KeptScans}
@@ -8,6 +8,3 @@ use Rattle.planning.proofs.kept.keys_kept.Given as goal
 abbrev pub invariant-loop-i : goal.invariant-loop-i
 invariant-loop-i l = (l.i ≤ l.e) × (length l.s ≡ length l.initial.s) × (length l.picks ≡ length l.initial.picks)
     × KeptScans l.initial.s l.s l.first l.m l.e l.i l.initial.picks l.picks l.clock l.initial.w l.w
-
-abbrev pub decreases-loop-i : goal.decreases-loop-i
-decreases-loop-i l = l.e - l.i

@@ -7,12 +7,12 @@ use Rattle.selecting.specs.Phasing.{given_keys}
 use Rattle.planning.proofs.Planned.{plan_kept, plan_next}
 use Rattle.planning.proofs.plan.plan_given.Goals as goal
 
-pub next_look-next-requires : goal.next_look-next-requires
-next_look-next-requires c =
+pub next_look-requires : goal.next_look-requires
+next_look-requires c =
     let late : c.args.clock < word = omega (arith, c.requires.1) in
     plan_kept (some (given_keys c.args.given.now)) late c.select_given-r.ensures c.requires.0
 
 pub returns : goal.returns
 returns c =
     let late : c.args.clock < word = omega (arith, c.requires.1) in
-    plan_next (some (given_keys c.args.given.now)) late c.select_given-r.ensures c.next_look-next.result c.next_look-next.ensures
+    plan_next (some (given_keys c.args.given.now)) late c.select_given-r.ensures c.next_look.result c.next_look.ensures

@@ -6,12 +6,12 @@ use Rattle.machine.specs.Limits.{word}
 use Rattle.planning.proofs.Planned.{plan_kept, plan_next}
 use Rattle.planning.proofs.plan.plan_round.Goals as goal
 
-pub next_look-next-requires : goal.next_look-next-requires
-next_look-next-requires c =
+pub next_look-requires : goal.next_look-requires
+next_look-requires c =
     let late : c.args.clock < word = omega (arith, c.requires.1) in
     plan_kept none late c.select_round-r.ensures c.requires.0
 
 pub returns : goal.returns
 returns c =
     let late : c.args.clock < word = omega (arith, c.requires.1) in
-    plan_next none late c.select_round-r.ensures c.next_look-next.result c.next_look-next.ensures
+    plan_next none late c.select_round-r.ensures c.next_look.result c.next_look.ensures

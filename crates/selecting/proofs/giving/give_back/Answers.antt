@@ -10,9 +10,6 @@ use Rattle.selecting.proofs.giving.give_back.Goals as goal
 pub loop-j-init : goal.loop-j-init
 loop-j-init c = (omega arith, refl, λ now st l s m. back_start m)
 
-pub overflow_sub-j : goal.overflow_sub-j
-overflow_sub-j c = omega (arith, c.loop-j-test.true)
-
 pub offset_bounds-picks-j : goal.offset_bounds-picks-j
 offset_bounds-picks-j c = omega (arith, c.loop-j.invariant.0, c.loop-j-test.true, c.requires.1, c.well_formed.1.0)
 
@@ -37,9 +34,6 @@ disown-requires c =
     let less : j < c.args.n = omega
     (arith, c.loop-j.invariant.0, c.loop-j-test.true) in
     back_kept w.sound w.marks j next less g
-
-pub loop-j-smaller : goal.loop-j-smaller
-loop-j-smaller c = omega (arith, c.loop-j-test.true)
 
 pub loop-j-preserved : goal.loop-j-preserved
 loop-j-preserved c = (

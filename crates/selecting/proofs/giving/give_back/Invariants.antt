@@ -11,6 +11,3 @@ use Rattle.selecting.proofs.giving.give_back.Given as goal
 
 abbrev pub invariant-loop-j : goal.invariant-loop-j
 invariant-loop-j l = (l.j ≤ l.n) × (length l.s ≡ length l.initial.s) × ((now : ℕ) (st : State) (es : List Entry) → Sound st → Marks now st es l.initial.s l.picks l.n → Back now st es l.s l.j)
-
-abbrev pub decreases-loop-j : goal.decreases-loop-j
-decreases-loop-j l = l.j

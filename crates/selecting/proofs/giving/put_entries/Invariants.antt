@@ -14,6 +14,3 @@ abbrev pub invariant-loop-j : goal.invariant-loop-j
 invariant-loop-j l = (l.j ≤ l.n) × (length l.out ≡ length l.initial.out)
     × ((f : Flat) (es : List Entry) → Shows l.s f → l.n ≡ length es → ((k : ℕ) (d : Entry) → k < l.n → Numbered f.rows (get_or l.numbers k 0) (get_or es k d)) → l.out ≡ written
     (entries_answer (take l.j es)) l.initial.out)
-
-abbrev pub decreases-loop-j : goal.decreases-loop-j
-decreases-loop-j l = l.n - l.j

@@ -47,16 +47,6 @@ consider-w-requires c =
       omega (arith, x.near, less, c.keys-count.ensures, c.requires.4),
     )
 
-pub overflow_add-i : goal.overflow_add-i
-overflow_add-i c = omega (arith, c.loop-i-test.true)
-
-pub loop-i-smaller : goal.loop-i-smaller
-loop-i-smaller c = omega (
-  arith,
-  c.loop-i-test.true,
-  c.keys-count.ensures,
-)
-
 pub loop-i-preserved : goal.loop-i-preserved
 loop-i-preserved c =
     let b = c.args.given.now in

@@ -8,6 +8,3 @@ use Rattle.sending.proofs.witness.listed.Given as goal
 
 abbrev pub invariant-loop-i : goal.invariant-loop-i
 invariant-loop-i l = (l.i ≤ length l.list / 8) × (elem l.connection (words l.list) ≡ elem l.connection (drop l.i (words l.list)))
-
-abbrev pub decreases-loop-i : goal.decreases-loop-i
-decreases-loop-i l = length l.list / 8 - l.i

@@ -82,16 +82,6 @@ overflow_add-kept c =
     c.not_found_one-c.ensures in
     omega (arith, turned_fits next peer late hashed c.requires.0 c.requires.2)
 
-pub overflow_add-i : goal.overflow_add-i
-overflow_add-i c = omega (arith, c.loop-i-test.true)
-
-pub loop-i-smaller : goal.loop-i-smaller
-loop-i-smaller c = omega (
-  arith,
-  c.loop-i-test.true,
-  c.items-count.ensures,
-)
-
 pub loop-i-preserved : goal.loop-i-preserved
 loop-i-preserved c =
     let a = c.args in

@@ -24,6 +24,7 @@ returns c =
     let a = c.args in
     let q = sized _ _ _ _ c.of_clock_and_buffer-refusal.ensures
     (c.plan_needs-needs.ensures w) in
-    plans_done _ none w (omega arith) tt q c.if-refusal-ne0.false
+    rw c.unwrap_or.ensures
+    (plans_done _ none w (omega arith) tt q c.if-refusal-ne0.false
     c.need_of-n.ensures (λ i. omega (arith, c.type_inv.s i))
-    c.plan_round-r.ensures
+    c.plan_round-r.ensures)

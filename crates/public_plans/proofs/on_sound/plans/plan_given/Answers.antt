@@ -26,8 +26,9 @@ returns c =
     let a = c.args in
     let q = sized _ _ _ _ c.of_clock_and_buffer-refusal.ensures
     (c.plan_needs-needs.ensures w) in
-    plans_done _ (some (given_keys a.given.now)) w (omega arith)
+    rw c.unwrap_or.ensures
+    (plans_done _ (some (given_keys a.given.now)) w (omega arith)
     (given_typed a.given.now
     (λ i. omega (arith, c.type_inv.given i))) q
     c.if-refusal-ne0.false c.need_of-n.ensures
-    (λ i. omega (arith, c.type_inv.s i)) c.plan_given-r.ensures
+    (λ i. omega (arith, c.type_inv.s i)) c.plan_given-r.ensures)
