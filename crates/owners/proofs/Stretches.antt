@@ -6,6 +6,7 @@ use mathlib.Core.Option.{Option, none}
 use native.Mathlib.Nat.{le_refl}
 use native.Mathlib.Omega.{arith}
 use lib.ListN.{length, get_or}
+use Rattle.std.specs.Prelude as rust
 use Rattle.regions.specs.declared.Row.{Row}
 use Rattle.machine.specs.Table.{keys, one}
 use Rattle.machine.specs.Owners.{Holding, or_holding, keys_up_to}
@@ -22,7 +23,7 @@ use Rattle.owners.specs.Walk.{Says, row_hash, row_holding, holding_over, Rises, 
 use Rattle.owners.proofs.Rows.{or_none, or_assoc, over_lower, up_lower, rises_from, over_above, up_above}
 
 -- the rows before i are done: what is left comes to the same as all of them, from what has been found
-pub record Gone (rs : List Row) (from to h i n : ℕ) (v : Owner) : Type 0 where
+pub record Gone (rs : List Row) (from to h i n : ℕ) (v : rust.Option Owner) : Type 0 where
   pub counts : (g : ℕ) → h ≤ g → keys_up_to g (keys_over from to rs) ≡ n + keys_up_to g (keys_over i to rs)
   pub passes : (g : ℕ) → h < g → holding_over g (part from to rs) ≡ holding_over g (part i to rs)
   pub rises : Rises 0 (part from to rs) → Rises 0 (part i to rs)
@@ -30,10 +31,10 @@ pub record Gone (rs : List Row) (from to h i n : ℕ) (v : Owner) : Type 0 where
   pub says : Says v found
   pub rest : or_holding found (holding_over h (part i to rs)) ≡ holding_over h (part from to rs)
 
-gone_start : (rs : List Row) (from to h : ℕ) (v : Owner) → Says v none → Gone rs from to h from 0 v
+gone_start : (rs : List Row) (from to h : ℕ) (v : rust.Option Owner) → Says v none → Gone rs from to h from 0 v
 gone_start rs from to h v e = record { counts = λ g l. omega arith; passes = λ g l. refl; rises = λ a. a; found = none; says = e; rest = refl }
 
-module _ {rs : List Row} {from to h i n : ℕ} {v : Owner} (k : Gone rs from to h i n v) where
+module _ {rs : List Row} {from to h i n : ℕ} {v : rust.Option Owner} (k : Gone rs from to h i n v) where
   gone_done : to ≤ i → Stretched rs from to h (record { at = i; keys = n; owner = v })
   unfolding keys_up_to holding_over
   gone_done l = record {
@@ -60,7 +61,7 @@ module _ {rs : List Row} {from to h i n : ℕ} {v : Owner} (k : Gone rs from to 
         above : Rises 0 (part from to rs) → Rises (row_hash r) (part i to rs)
         above a = subst (Rises (row_hash r)) (sym front) (le_refl _, (subst (Rises 0) front (k.rises a)).1)
 
-    gone_more : row_hash r ≤ h → {w : Owner} → ((o : Option Holding) → Says v o → Says w (or_holding o (row_holding h r))) → {x : ℕ} → x ≡ one (last_row r (part (i + 1) to rs))
+    gone_more : row_hash r ≤ h → {w : rust.Option Owner} → ((o : Option Holding) → Says v o → Says w (or_holding o (row_holding h r))) → {x : ℕ} → x ≡ one (last_row r (part (i + 1) to rs))
         → Gone rs from to h (i + 1) (n + x) w
     unfolding holding_over
     gone_more p q {x} z = record {
@@ -74,18 +75,21 @@ module _ {rs : List Row} {from to h i n : ℕ} {v : Owner} (k : Gone rs from to 
 
 -- ---- the loop's invariant
 
-pub record Going (b : List ℕ) (from to h i n : ℕ) (v : Owner) : Type 0 where
+pub record Going (b : List ℕ) (from to h i n : ℕ) (v : rust.Option Owner) : Type 0 where
   pub least : from ≤ i
   pub most : i ≤ to
   pub few : n + from ≤ i
   pub is : (f : Flat) → Shows b f → Gone f.rows from to h i n v
 
-pub going_start : (b : List ℕ) (from to h : ℕ) (v : Owner) → from ≤ to → Says v none → Going b from to h from 0 v
+pub going_start : (b : List ℕ) (from to h : ℕ) (v : rust.Option Owner) → from ≤ to → Says v none → Going b from to h from 0 v
 going_start b from to h v l e = record { least = le_refl from; most = l; few = omega arith; is = λ f w. gone_start f.rows from to h v e }
 
-module _ {b : List ℕ} {from to h i n : ℕ} {v : Owner} (k : Going b from to h i n v) where
-  pub going_done : to ≤ i → Along b from to h (record { at = i; keys = n; owner = v })
-  going_done l = record { least = k.least; most = k.most; few = k.few; is = λ f w. gone_done (k.is f w) l }
+module _ {b : List ℕ} {from to h i n : ℕ} {v : rust.Option Owner} (k : Going b from to h i n v) where
+  pub going_done : to ≤ i → Along b from to h (record { at = to; keys = n; owner = v })
+  going_done l =
+      let e : i ≡ to = omega (arith, k.most) in
+      subst (λ (x : ℕ). Along b from to h (record { at = x; keys = n; owner = v })) e
+      (record { least = k.least; most = k.most; few = k.few; is = λ f w. gone_done (k.is f w) l })
 
   module _ (l : i < to) (m : to ≤ rows_in b) {r : Row} (e : (f : Flat) (d : Row) → Shows b f → r ≡ get_or f.rows i d) where
     fits : (f : Flat) → Shows b f → to ≤ length f.rows
@@ -94,6 +98,6 @@ module _ {b : List ℕ} {from to h i n : ℕ} {v : Owner} (k : Going b from to h
     pub going_past : h < row_hash r → Along b from to h (record { at = i; keys = n; owner = v })
     going_past p = record { least = k.least; most = k.most; few = k.few; is = λ f w. gone_past (k.is f w) l (fits f w) (e f r w) p }
 
-    pub going_more : row_hash r ≤ h → {w : Owner} → ((o : Option Holding) → Says v o → Says w (or_holding o (row_holding h r))) → {x : ℕ} → x ≤ 1
+    pub going_more : row_hash r ≤ h → {w : rust.Option Owner} → ((o : Option Holding) → Says v o → Says w (or_holding o (row_holding h r))) → {x : ℕ} → x ≤ 1
         → ((f : Flat) → Shows b f → x ≡ one (last_row r (part (i + 1) to f.rows))) → Going b from to h (i + 1) (n + x) w
     going_more p q s z = record { least = omega (arith, k.least); most = omega arith; few = omega (arith, k.few); is = λ f w. gone_more (k.is f w) l (fits f w) (e f r w) p q (z f w) }

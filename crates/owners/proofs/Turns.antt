@@ -12,6 +12,7 @@ use lib.Dec.{ltb}
 use lib.ListN.{length, take, get_or, length-map, length-take}
 use lib.Seq.{take-suc, take_all}
 use borrow.Author.Tests.{ltb-true}
+use Rattle.std.specs.Prelude as rust
 use Rattle.ident.specs.Number.{top}
 use Rattle.words.specs.Words.{bytes_of, splice}
 use Rattle.words.proofs.Splice.{splice_more}
@@ -31,7 +32,7 @@ use Rattle.announcing.specs.Evicts.{part}
 use Rattle.sweeping.specs.Batches.{keys_over}
 use Rattle.owners.specs.declared.Owner.{Owner}
 use Rattle.owners.specs.declared.Stretch.{Stretch}
-use Rattle.owners.specs.Walk.{Says, holding_over, Rises, Stretched, Along, Parted, Halves, OwnersListed}
+use Rattle.owners.specs.Walk.{owner_words, Says, holding_over, Rises, Stretched, Along, Parted, Halves, OwnersListed}
 
 -- ---- a list that ascends
 
@@ -128,8 +129,8 @@ module _ {t : Table} {hs : List ℕ} {m n : ℕ} {u₀ u : List ℕ} {i j c p : 
     past z lz = rw e (climbs hs asc z p lz l)
 
     -- the owner of the hash
-    owner : {w : Owner} → ((o q : Option Holding) → Says x.owner o → Says y.owner q → Says w (or_holding o q)) → Says w (holding_at t h)
-    owner {w} f =
+    owner : (w : rust.Option Owner) → ((o q : Option Holding) → Says x.owner o → Says y.owner q → Says w (or_holding o q)) → Says w (holding_at t h)
+    owner w f =
         subst (Says w) ((λ z. or_holding (k.left h past z) (k.right h past z)) ∙ d.owner h small)
         (f (holding_over h (part i m (rows_of t))) (holding_over h (part j n (rows_of t))) (a.names k.left_rises) (b.names k.right_rises))
 
@@ -139,10 +140,10 @@ module _ {t : Table} {hs : List ℕ} {m n : ℕ} {u₀ u : List ℕ} {i j c p : 
     more_up : (g : ℕ) → UpTo (p + 1) hs g → (h ≤ g) × UpTo p hs g
     more_up g f = (rw e (f p (omega arith)), λ z lz. f z (omega arith))
 
-    turn_more : {w : Owner} → ((o q : Option Holding) → Says x.owner o → Says y.owner q → Says w (or_holding o q)) → {u' : List ℕ}
-        → u' ≡ splice u (owner_bytes * p) (bytes_of (w.tag ∷ w.connection ∷ w.deadline ∷ [])) → owner_bytes * length hs ≤ length u₀
+    turn_more : (w : rust.Option Owner) → ((o q : Option Holding) → Says x.owner o → Says y.owner q → Says w (or_holding o q)) → {u' : List ℕ}
+        → u' ≡ splice u (owner_bytes * p) (bytes_of (owner_words w)) → owner_bytes * length hs ≤ length u₀
         → Turn t hs m n u₀ u' x.at y.at (c + (x.keys + y.keys)) (p + 1)
-    turn_more {w} f {u'} z room = record {
+    turn_more w f {u'} z room = record {
       left = λ g s. let r = more_past g s in sym (a.passes g r.0) ∙ k.left g r.1;
       right = λ g s. let r = more_past g s in sym (b.passes g r.0) ∙ k.right g r.1;
       left_rises = a.rises k.left_rises;
@@ -161,7 +162,7 @@ module _ {t : Table} {hs : List ℕ} {m n : ℕ} {u₀ u : List ℕ} {i j c p : 
 
         stored : u' ≡ written (holdings_answer (holdings (take (p + 1) hs) t)) u₀
         stored = z
-            ∙ ap (λ (v : List ℕ). splice u (owner_bytes * p) (bytes_of v)) (owner f)
+            ∙ ap (λ (v : List ℕ). splice u (owner_bytes * p) (bytes_of v)) (owner w f)
             ∙ (λ v. splice (k.bytes v) (owner_bytes * sym long v) (holding_answer (holding_at t h)))
             ∙ written_more done (holding_at t h) u₀ (omega (arith, long))
             ∙ ap (λ (v : List (Option Holding)). written (holdings_answer v) u₀) (ap (λ (v : ℕ). done ++ (holding_at t v ∷ [])) e ∙ sym (one_more_lem t hs p l))
@@ -206,17 +207,17 @@ walking_start b hs m u k = record {
 
 module _ {b hs : List ℕ} {m : ℕ} {u₀ u : List ℕ} {i j c p : ℕ} (k : Walking b hs m u₀ u i j c p) (asc : ascending hs ≡ true) where
   pub walking_more : Halves b m → p < length hs → {h : ℕ} → h ≡ get_or hs p 0 → h < top → {x y : Stretch} → Along b i m h x → Along b j (rows_in b) h y
-      → {w : Owner} → ((o q : Option Holding) → Says x.owner o → Says y.owner q → Says w (or_holding o q)) → {u' : List ℕ}
-      → u' ≡ splice u (owner_bytes * p) (bytes_of (w.tag ∷ w.connection ∷ w.deadline ∷ [])) → length u' ≡ length u → owner_bytes * length hs ≤ length u₀
+      → (w : rust.Option Owner) → ((o q : Option Holding) → Says x.owner o → Says y.owner q → Says w (or_holding o q)) → {u' : List ℕ}
+      → u' ≡ splice u (owner_bytes * p) (bytes_of (owner_words w)) → length u' ≡ length u → owner_bytes * length hs ≤ length u₀
       → Walking b hs m u₀ u' x.at y.at (c + (x.keys + y.keys)) (p + 1)
-  walking_more d l e small a z f q r room = record {
+  walking_more d l e small a z w f q r room = record {
     inside = omega arith;
     first = a.most;
     second_least = omega (arith, k.second_least, z.least);
     second = z.most;
     long = r ∙ k.long;
     few = omega (arith, k.few, a.few, z.few);
-    is = λ st s w. turn_more (k.is st s w) asc (d.is st s w) l e small (a.is (flat_of st) w) (z.is (flat_of st) w) f q room;
+    is = λ st s o. turn_more (k.is st s o) asc (d.is st s o) l e small (a.is (flat_of st) o) (z.is (flat_of st) o) w f q room;
   }
 
   pub walking_done : length hs ≤ p → OwnersListed b hs u₀ u c

@@ -1,12 +1,13 @@
 -- What the contracts of the walk along the rows say.
-use Rattle.std.specs.Prelude.{ℕ, ◌+◌, ◌≤◌, ◌<◌, ◌≡◌, List, [], ◌∷◌, eqb, if◌then◌else◌}
+use Rattle.std.specs.Prelude as rust
+use Rattle.std.specs.Prelude.{ℕ, suc, ◌+◌, ◌≤◌, ◌<◌, ◌≡◌, List, [], ◌∷◌, eqb, if◌then◌else◌}
 use Rattle.std.proofs.Math.Option.{Option, none}
 use Rattle.ident.specs.Number.{top}
 use Rattle.regions.specs.declared.Row.{Row}
 use Rattle.machine.specs.State.{Table}
 use Rattle.machine.specs.Table.{keys}
 use Rattle.machine.specs.Owners.{Holding, holding_as, or_holding, holding_at, holdings, keys_up_to, passed}
-use Rattle.machine.specs.Step.{holding_words, holdings_answer, written}
+use Rattle.machine.specs.Step.{kind_number, holding_words, holdings_answer, written}
 use Rattle.store.specs.Flat.{Flat, rows_of}
 use Rattle.store.specs.Gather.{key_at, owner_at}
 use Rattle.store.specs.Image.{Shows}
@@ -17,9 +18,14 @@ use Rattle.sweeping.specs.Batches.{keys_over}
 use Rattle.owners.specs.declared.Owner.{Owner}
 use Rattle.owners.specs.declared.Stretch.{Stretch}
 
+-- the words of an owner in an answer, and of none
+abbrev pub owner_words : rust.Option Owner → List ℕ
+owner_words rust.None = 0 ∷ 0 ∷ 0 ∷ []
+owner_words (rust.Some v) = suc (kind_number v.kind) ∷ v.connection ∷ v.deadline ∷ []
+
 -- v has the words of what is answered of a hash
-abbrev pub Says : Owner → Option Holding → Type 0
-Says v o = (v.tag ∷ v.connection ∷ v.deadline ∷ []) ≡ holding_words o
+abbrev pub Says : rust.Option Owner → Option Holding → Type 0
+Says v o = owner_words v ≡ holding_words o
 
 -- ---- the owner of a hash, as rows name it
 

@@ -13,15 +13,12 @@ const OWNER_BYTES: usize = 24;
 fn ascends(hashes: &[u8]) -> bool
     ensures { result ≡ ascending (hashes_in hashes.now) }
 {
-    let n = lent_lists::hashes(hashes);
-    let mut i = 0;
-    while i + 1 < n {
-        let a = requests::hash_quad(lent_lists::hash_in(hashes, i));
-        let b = requests::hash_quad(lent_lists::hash_in(hashes, i + 1));
+    for i in 1..lent_lists::hashes(hashes) {
+        let a = requests::hash_quad(lent_lists::hash_in(hashes, i - 1));
+        let b = requests::hash_quad(lent_lists::hash_in(hashes, i));
         if !regions::quad_less(a, b) {
             return false;
         }
-        i += 1;
     }
     true
 }
@@ -30,10 +27,7 @@ fn ascends(hashes: &[u8]) -> bool
 pub fn wrong(hashes: &[u8]) -> bool
     ensures { result ≡ wrong_hashes (hashes_in hashes.now) }
 {
-    if MAX_ASKED_HASHES < lent_lists::hashes(hashes) {
-        return true;
-    }
-    !ascends(hashes)
+    MAX_ASKED_HASHES < lent_lists::hashes(hashes) || !ascends(hashes)
 }
 
 // The bytes that their answer needs.

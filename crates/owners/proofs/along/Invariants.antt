@@ -1,11 +1,7 @@
 -- `owners::along` meets its contract.
-use Prim.Native.Nat.{◌-◌}
 use Rattle.regions.specs.Rows.{quad_number}
 use Rattle.owners.proofs.Stretches.{Going}
 use Rattle.owners.proofs.along.Given as goal
 
 abbrev pub invariant-loop-i : goal.invariant-loop-i
 invariant-loop-i l = Going l.s l.from l.to (quad_number l.h) l.i l.keys l.owner
-
-abbrev pub decreases-loop-i : goal.decreases-loop-i
-decreases-loop-i l = l.to - l.i

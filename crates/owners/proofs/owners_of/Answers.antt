@@ -1,6 +1,7 @@
 -- `owners::owners_of` meets its contract.
 use native.Mathlib.Omega.{arith}
 use Rattle.requests.proofs.Keeping.{kept_shown}
+use Rattle.owners.proofs.Entries.{first_is}
 use Rattle.owners.proofs.Listed.{quad_is, quad_small}
 use Rattle.owners.proofs.Turns.{walking_start, walking_more, walking_done}
 use Rattle.owners.proofs.owners_of.Goals as goal
@@ -14,8 +15,8 @@ first_wtxid-m-requires c = c.requires.0
 pub loop-p-init : goal.loop-p-init
 loop-p-init c = walking_start _ _ _ _ c.first_wtxid-m.ensures
 
-pub hash_in-g-requires : goal.hash_in-g-requires
-hash_in-g-requires c = omega (arith, c.loop-p-test.true, c.hashes-count.ensures)
+pub hash_in-requires : goal.hash_in-requires
+hash_in-requires c = omega (arith, c.loop-p-test.true, c.hashes-count.ensures)
 
 pub along-a-requires : goal.along-a-requires
 along-a-requires c = (
@@ -92,8 +93,8 @@ loop-p-preserved c =
     walking_more c.loop-p.invariant given.1
     c.first_wtxid-m.ensures
     (omega (arith, taken, c.hashes-count.ensures))
-    (quad_is quad c.hash_in-g.ensures) (quad_small quad)
-    c.along-a.ensures second c.either.ensures
+    (quad_is quad c.hash_in.ensures) (quad_small quad)
+    c.along-a.ensures second c.or.result (λ o q x y. rw c.or.ensures (first_is _ _ o q x y))
     c.put_owner.ensures
     (omega (arith, c.put_owner.auto)) given.2
 

@@ -1,5 +1,4 @@
 -- `owners::owners_of` meets its contract.
-use Prim.Native.Nat.{◌-◌}
 use Rattle.lent_lists.specs.Lists.{hashes_in}
 use Rattle.owners.proofs.Turns.{Walking}
 use Rattle.owners.proofs.owners_of.Given as goal

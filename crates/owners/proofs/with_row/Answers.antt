@@ -4,7 +4,7 @@ use native.Mathlib.Omega.{arith}
 use borrow.Author.Tests.{ltb-true, ltb-false}
 use Rattle.regions.specs.Rows.{quad_number}
 use Rattle.owners.proofs.Rows.{hash_is}
-use Rattle.owners.proofs.Entries.{row_below, row_at}
+use Rattle.owners.proofs.Entries.{first_is, row_below, row_at}
 use Rattle.owners.proofs.with_row.Goals as goal
 
 pub returns-then-quad_less : goal.returns-then-quad_less
@@ -25,4 +25,4 @@ returns c = λ o s. row_at _ c.args.r _ o
       ltb-false
           (quad_number c.args.r.hash) (quad_number c.args.h) (sym c.quad_less.ensures
           ∙ c.if-quad_less.false),
-    )) (c.either.ensures o _ s c.named_by-w.ensures)
+    )) (rw c.or.ensures (first_is c.args.v c.named_by.result o _ s c.named_by.ensures))
