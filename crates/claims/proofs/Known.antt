@@ -7,6 +7,8 @@ use mathlib.Core.Option.{Option, none, some}
 use native.Mathlib.Omega.{arith}
 use lib.Dec.{ltb, eqb}
 use borrow.Author.Tests.{eq-eqb, ne_eqb, le-ltb}
+use Rattle.std.specs.Option.{option_eq, is_some as is_some_of}
+use Rattle.std.specs.Prelude.{Some, None}
 use Rattle.ident.specs.Number.{Key}
 use Rattle.machine.specs.Limits.{Limits, word, max_parents}
 use Rattle.machine.specs.State.{Owner, Package, Request, Table, State, on_table, limits_of, enqueued_in, is_some}
@@ -23,71 +25,60 @@ use Rattle.store.specs.Image.{Writes}
 use Rattle.store.specs.Shown.{Kept}
 use Rattle.requests.specs.Changes.{Makes, Tells}
 use Rattle.package_stages.specs.declared.Request.{Request as Read}
-use Rattle.package_stages.specs.Changes.{owner_num, deadline_num, stage_of, RequestOf}
+use Rattle.package_stages.specs.contracts.StagePartialEq.TheImpl.{eq-value}
+use Rattle.package_stages.specs.declared.Owner.{Owner as OwnerRead}
+use Rattle.package_stages.specs.declared.Stage.TheVariants.{Enqueued}
+use Rattle.package_stages.specs.Changes.{owner_as, RequestOf}
+use Rattle.package_stages.proofs.Read.{staged}
 use Rattle.announcing.specs.Answers.{KeysListed}
-use Rattle.failing.proofs.Releasing.{stage_read}
+use Rattle.failing.proofs.Releasing.{owner-some, owner-none, owner-named, enqueued-is}
 use Rattle.claims.specs.Changes.{Becomes}
 
 -- ---- what guards a request
 
-alive_is : (v : ℕ) (o : Option Owner) → ltb v (deadline_num o) ≡ alive v o
-alive_is v none = le-ltb v 0 (omega arith)
-alive_is v (some o) = refl
-
-staged : (i : Bool) (p : Option Package) → (stage_of i p ≡ 0 → ⊥) → (is_some p || i) ≡ true
-staged i (some p) h = refl
-staged true none h = refl
-staged false none h = absurd (h refl)
-
-unstaged : (i : Bool) (p : Option Package) → stage_of i p ≡ 0 → (is_some p || i) ≡ false
-unstaged i (some p) h = absurd (omega arith)
-unstaged true none h = absurd (omega arith)
-unstaged false none h = refl
+placed_either : (i : Bool) (p : Option Package) → (is_some p || i) ≡ (i || is_some p)
+placed_either true (some p) = refl
+placed_either true none = refl
+placed_either false (some p) = refl
+placed_either false none = refl
 
 module _ {q : Request} {r : Read} (x : RequestOf q r) (v : ℕ) where
-  enqueued_is : eqb r.stage 3 ≡ enqueued_in q.«package»
-  enqueued_is = ap (λ (m : ℕ). eqb m 3) x.stage ∙ stage_read q.info q.«package»
-
-  pub guarded-enqueued : r.stage ≡ 3 → true ≡ guarded v q
+  pub guarded-enqueued : true ≡ option_eq eq-value.it r.stage (Some Enqueued) → true ≡ guarded v q
   unfolding guarded
-  guarded-enqueued e = rw (sym enqueued_is ∙ eq-eqb r.stage 3 e)
+  guarded-enqueued e = rw (sym (enqueued-is x e))
 
-  pub guarded_in_time : (r.stage ≡ 3 → ⊥) → (r.stage ≡ 0 → ⊥) → ltb v r.deadline ≡ guarded v q
-  unfolding guarded
-  guarded_in_time e h = rw (sym enqueued_is ∙ ne_eqb r.stage 3 e, staged q.info q.«package» (λ z. h (x.stage ∙ z))) (ap (ltb v) x.deadline ∙ alive_is v q.owner)
+  module _ (n : false ≡ option_eq eq-value.it r.stage (Some Enqueued)) where
+    pub guarded_in_time : is_some_of r.stage ≡ true → {b : Bool} → b ≡ alive v (owner_as r.owner) → b ≡ guarded v q
+    unfolding guarded
+    guarded_in_time h e = rw (sym (enqueued-is x n), placed_either q.info q.«package», sym (staged x) ∙ h) (e ∙ ap (alive v) x.owner)
 
-  pub guarded_not : (r.stage ≡ 3 → ⊥) → r.stage ≡ 0 → false ≡ guarded v q
-  unfolding guarded
-  guarded_not e z = rw (sym enqueued_is ∙ ne_eqb r.stage 3 e, unstaged q.info q.«package» (sym x.stage ∙ z))
+    pub guarded_not : is_some_of r.stage ≡ false → false ≡ guarded v q
+    unfolding guarded
+    guarded_not h = rw (sym (enqueued-is x n), placed_either q.info q.«package», sym (staged x) ∙ h)
 
 -- ---- the parents of a request, announced for its owner
-
-handed_to : (m : Limits) (v n : ℕ) (o : Option Owner) (r : Request) (t : Table) → n ≡ owner_num o → (n ≡ 0 → ⊥) → (announce_parents m n v (parents_for n r) t).table ≡ owner_parents m v o r t
-handed_to m v n none r t e h = absurd (h e)
-handed_to m v n (some o) r t e h = rw e
-
-handed_none : (m : Limits) (v : ℕ) (o : Option Owner) (r : Request) (t : Table) → r.owner ≡ o → Lawful r → owner_num o ≡ 0 → t ≡ owner_parents m v o r t
-handed_none m v none r t e l z = refl
-handed_none m v (some o) r t e l z =
-    let p = owner-peer o.connection r l (rw e (eq-eqb o.connection o.connection refl)) in
-    absurd (omega (arith, p.positive))
 
 pub room-keys : (l u : ℕ) → l ≤ max_parents → key_bytes * max_parents ≤ u → key_bytes * l ≤ u
 room-keys l u few room = omega arith
 
 module _ {b : List ℕ} (k : Key) (v : ℕ) {r : Read} (x : Tells b (λ t. RequestOf (at k t) r)) where
-  pub hand_none : r.owner ≡ 0 → Becomes b b (λ m t. owner_parents m v (at k t).owner (at k t) t)
-  hand_none z st s w =
-      let q = at k st.table in
-      subst (λ (t : Table). Writes b (on_table t st)) (handed_none (limits_of st) v q.owner q st.table refl (lawful_at k st.table s.bounded.lawful) (sym (x st s w).owner ∙ z)) w
+  pub named_positive : Kept b → {o : OwnerRead} → r.owner ≡ Some o → 1 ≤ o.connection
+  named_positive c {o} z =
+      let p = owner-peer o.connection (at k c.state.table) (lawful_at k c.state.table c.sound.bounded.lawful) (owner-named (x c.state c.sound c.writes) z) in
+      omega (arith, p.positive)
 
-  pub hand_some : (r.owner ≡ 0 → ⊥) → {b' u u' : List ℕ} {c : ℕ} (hs : List ℕ) → Tells b (λ t. hs ≡ parents_for r.owner (at k t))
-      → KeysListed b b' u u' c (λ m t. announce_parents m r.owner v hs t)
+  pub hand_none : r.owner ≡ None → Becomes b b (λ m t. owner_parents m v (at k t).owner (at k t) t)
+  hand_none z st s w =
+      subst (λ (o : Option Owner). Writes b (on_table (owner_parents (limits_of st) v o (at k st.table) st.table) st)) (sym (owner-none (x st s w) z)) w
+
+  pub hand_some : {o : OwnerRead} → r.owner ≡ Some o → {b' u u' : List ℕ} {c : ℕ} (hs : List ℕ) → Tells b (λ t. hs ≡ parents_for o.connection (at k t))
+      → KeysListed b b' u u' c (λ m t. announce_parents m o.connection v hs t)
       → Becomes b b' (λ m t. owner_parents m v (at k t).owner (at k t) t)
-  hand_some z {b'} hs h l st s w =
+  hand_some {o} z {b'} hs h l st s w =
       let q = at k st.table in
       subst (λ (t : Table). Writes b' (on_table t st))
-      (ap (λ (x : List ℕ). (announce_parents (limits_of st) r.owner v x st.table).table) (h st s w) ∙ handed_to (limits_of st) v r.owner q.owner q st.table (x st s w).owner z)
+      (ap (λ (y : List ℕ). (announce_parents (limits_of st) o.connection v y st.table).table) (h st s w)
+      ∙ ap (λ (z : Option Owner). owner_parents (limits_of st) v z q st.table) (sym (owner-some (x st s w) z)))
       (l.table st s w)
 
 -- ---- the whole

@@ -2,7 +2,7 @@
 use Prim.Native.Nat.{ℕ, ◌+◌, ◌-◌, ◌*◌, ◌≤◌, ◌<◌}
 use mathlib.Core.Path.{◌≡◌, refl, sym, ap, subst, ◌∙◌}
 use mathlib.Core.Logic.{inl, inr}
-use mathlib.Core.Bool.{true, false}
+use mathlib.Core.Bool.{Bool, true, false}
 use mathlib.Core.List.{List, [], ◌∷◌, ◌++◌, map, map-append, append_assoc, append-nil}
 use mathlib.Core.Option.{Option, none, some}
 use native.Mathlib.Nat.{add-zero}
@@ -35,7 +35,7 @@ use Rattle.store.specs.Image.{Writes}
 use Rattle.store.specs.Shown.{Kept}
 use Rattle.requests.specs.Changes.{Tells}
 use Rattle.package_stages.specs.declared.Request.{Request as Read}
-use Rattle.package_stages.specs.Changes.{closed, RequestOf}
+use Rattle.package_stages.specs.Changes.{closed, owner_as, RequestOf}
 use Rattle.lent_lists.proofs.Answer.{written_none, keys-append as keys_both}
 use Rattle.announcing.specs.Answers.{KeysListed}
 use Rattle.failing.proofs.Leaving.{told}
@@ -293,15 +293,9 @@ failed_done {b₀} {b} {u₀} {u} {n} {v} {os} {i} {c} cs f h e =
 
 -- ---- one claim
 
-module _ {h n : ℕ} (t : Table) {k : Key} (e : k ≡ wtxid h) {r : Read} (x : RequestOf (at k t) r) (some-n : 1 ≤ n) where
-  owner-reads : eqb r.owner n ≡ owner_is n (at (wtxid h) t).owner
-  owner-reads = owner-is x n some-n ∙ ap (λ (j : Key). owner_is n (at j t).owner) e
-
-  pub not_owner : (r.owner ≡ n → ⊥) → owner_is n (at (wtxid h) t).owner ≡ false
-  not_owner z = sym owner-reads ∙ ne_eqb r.owner n z
-
-  pub the-owner : r.owner ≡ n → owner_is n (at (wtxid h) t).owner ≡ true
-  the-owner z = sym owner-reads ∙ eq-eqb r.owner n z
+-- whether n owns the request at the Wtxid key with hash h
+pub owner-reads : {h : ℕ} (n : ℕ) (t : Table) {k : Key} → k ≡ wtxid h → {r : Read} → RequestOf (at k t) r → {b : Bool} → b ≡ owner_is n (owner_as r.owner) → b ≡ owner_is n (at (wtxid h) t).owner
+owner-reads n t e x d = owner-is x n d ∙ ap (λ (j : Key). owner_is n (at j t).owner) e
 
 pub part_room : (u : List ℕ) (c x y : ℕ) → x ≡ c * key_bytes → y ≡ length u → key_bytes * (c + (max_parents + 1)) ≤ length u → key_bytes * (max_parents + 1) ≤ length (take (y - x) (drop x u))
 part_room u c x y ex ey room =

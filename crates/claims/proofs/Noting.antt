@@ -9,7 +9,8 @@ use native.Mathlib.Omega.{arith}
 use lib.Dec.{eqb}
 use lib.ListN.{length}
 use borrow.Author.Tests.{eqb-true, eq-eqb, ne_eqb}
-use Rattle.std.specs.Prelude.{if◌then◌else◌}
+use Rattle.std.specs.Option.{option_eq}
+use Rattle.std.specs.Prelude.{if◌then◌else◌, Some}
 use Rattle.ident.specs.Number.{Key, place}
 use Rattle.regions.specs.declared.Row.{Row}
 use Rattle.regions.specs.Regions.{each}
@@ -24,7 +25,10 @@ use Rattle.store.specs.FlatSound.{owns}
 use Rattle.store.specs.Gather.{key_at}
 use Rattle.store.proofs.Bits.{key_row, conn-row, owns-row}
 use Rattle.store.proofs.Counts.{DistinctIn, distinct_in}
+use Rattle.package_stages.specs.contracts.StagePartialEq.TheImpl.{eq-value}
 use Rattle.package_stages.specs.declared.Request.{Request as Read}
+use Rattle.package_stages.specs.declared.Stage.TheVariants.{Awaiting}
+use Rattle.package_stages.proofs.Read.{stage-is}
 use Rattle.package_stages.specs.Changes.{stage_of, has_place, RequestOf}
 use Rattle.package_stages.specs.Dead.{filter}
 use Rattle.claims.specs.Awaited.{awaiting, is_claim, claims_in, is_claim_row, claim_of}
@@ -63,10 +67,10 @@ module _ (n : ℕ) (r : Row) where
   pub row-free : r.conn ≡ n → (own_bit r ≡ 1 → ⊥) → (t : Table) → false ≡ is_claim_row n t r
   row-free c e t = rw (eq-eqb r.conn n c, ne_eqb (own_bit r) 1 e)
 
-  pub row_staged : r.conn ≡ n → own_bit r ≡ 1 → {k : Key} (t : Table) {q : Read} → k ≡ key_at r → RequestOf (at k t) q → eqb q.stage 2 ≡ is_claim_row n t r
+  pub row_staged : r.conn ≡ n → own_bit r ≡ 1 → {k : Key} (t : Table) {q : Read} → k ≡ key_at r → RequestOf (at k t) q → option_eq eq-value.it q.stage (Some Awaiting) ≡ is_claim_row n t r
   row_staged c e {k} t {q} j x =
       rw (eq-eqb r.conn n c, eq-eqb (own_bit r) 1 e)
-      (ap (λ (m : ℕ). eqb m 2) x.stage ∙ stage-awaiting (at k t).info (at k t).«package» ∙ ap (λ (z : Key). awaiting (at z t).«package») j)
+      (stage-is x Awaiting ∙ stage-awaiting (at k t).info (at k t).«package» ∙ ap (λ (z : Key). awaiting (at z t).«package») j)
 
 -- ---- the rows of a table
 

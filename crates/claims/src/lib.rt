@@ -11,7 +11,7 @@ ghost use Rattle.requests.specs.Changes.{Tells};
 ghost use Rattle.claims.specs.Changes.{Becomes};
 
 use lent_lists::{KEYS, LIST};
-use places::ENQUEUED;
+use package_stages::Stage;
 
 pub mod waiting;
 
@@ -21,10 +21,7 @@ fn guarded(s: &[u8], k: ident::Key, clock: u64) -> bool
     ensures { Tells s.now (λ t. result ≡ machine.guarded clock (at (key_num k) t)) }
 {
     let r = package_stages::request_at(s, k);
-    if r.stage == ENQUEUED {
-        return true;
-    }
-    r.stage != 0 && clock < r.deadline
+    r.stage == Some(Stage::Enqueued) || r.stage.is_some() && r.is_alive(clock)
 }
 
 // Announces the parents beside the flag or package of the request at k for its owner, if it has one.
@@ -33,13 +30,13 @@ fn hand_on(s: &mut [u8], k: ident::Key, clock: u64)
     ensures { Becomes s.old s.new (λ m t. machine.owner_parents m clock (at (key_num k) t).owner (at (key_num k) t) t) }
 {
     let r = package_stages::request_at(s, k);
-    // owner 0 is none
-    if r.owner != 0 {
+    if let Some(owner) = r.owner {
+        let n = owner.connection;
         let mut list = [0; LIST];
-        let m = failing::parents::parents_for(s, k, r.owner, &mut list);
+        let m = failing::parents::parents_for(s, k, n, &mut list);
         let e = m * ident::HASH_BYTES;
         let mut kept = [0; KEYS];
-        announcing::parents::announce_parents(s, r.owner, clock, &list[0..e], &mut kept);
+        announcing::parents::announce_parents(s, n, clock, &list[0..e], &mut kept);
     }
 }
 

@@ -21,7 +21,7 @@ ghost use Rattle.announcing.specs.Answers.{KeysListed};
 ghost use Rattle.claims.specs.Awaited.{awaiting, is_claim_row, Noted, ClaimsNoted, last_among, key_found, ClaimsAre, ListedOn, entries_in, given_in, hash_found, last_of, ClaimsFit};
 
 use lent_lists::{KEY, LIST};
-use places::AWAITING;
+use package_stages::Stage;
 
 // The item type of a package's transactions (BIP 331).
 const MSG_PKGTXNS: u32 = 6;
@@ -39,7 +39,7 @@ fn is_claim(s: &[u8], n: u64, r: regions::Row) -> bool
     }
     let k = announcing::evict::key_of(r);
     let q = package_stages::request_at(s, k);
-    q.stage == AWAITING
+    q.stage == Some(Stage::Awaiting)
 }
 
 // The combined hash of the package of the request at the Wtxid key with hash h, where it is Awaiting.
@@ -47,11 +47,9 @@ fn combined_of(s: &[u8], h: ident::Hash) -> ident::Hash
     requires { Kept s.now }
     ensures { Tells s.now (λ t. awaiting (at (wtxid (hash_num h)) t).«package» ≡ true → hash_num result ≡ combined_of (at (wtxid (hash_num h)) t).«package») }
 {
-    let p = package_stages::seek(s, h);
-    if p.held {
-        package_stages::combined_at(s, p.at)
-    } else {
-        h
+    match package_stages::seek(s, h) {
+        Ok(i) => package_stages::combined_at(s, i),
+        Err(_) => h,
     }
 }
 
@@ -126,7 +124,7 @@ fn fail_claim(s: &mut [u8], n: u64, h: ident::Hash, clock: u64, out: &mut [u8], 
 {
     let k = ident::wtxid_key(ident::Wtxid(h));
     let q = package_stages::request_at(s, k);
-    if q.owner != n {
+    if !q.is_owned_by(n) {
         return c;
     }
     let x = c * KEY;

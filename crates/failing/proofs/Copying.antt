@@ -1,18 +1,15 @@
 -- The parents of a place, copied one by one; and which request's they are.
 use Prim.Native.Nat.{ℕ, zero, suc, ◌+◌, ◌*◌, ◌≤◌, ◌<◌}
 use mathlib.Core.Path.{◌≡◌, refl, sym, ap, ◌∙◌}
-use mathlib.Core.Bool.{Bool, true, false, ◌&&◌, ◌||◌}
+use mathlib.Core.Bool.{true, false, and-false}
 use mathlib.Core.List.{List, [], ◌∷◌, ◌++◌}
-use mathlib.Core.Option.{Option, none, some}
 use native.Mathlib.Numerals.{add-one}
 use native.Mathlib.Omega.{arith}
 use lib.Dec.{lit<}
 use lib.ListN.{length, take, drop, get_or, set}
 use lib.Seq.{take-suc, take_all, set_at}
-use borrow.Author.Tests.{eq-eqb, ne_eqb}
 use Rattle.ident.specs.declared.Kind.{Kind}
-use Rattle.ident.specs.declared.Kind.TheVariants.{Txid, Wtxid}
-use Rattle.std.specs.Prelude.{if◌then◌else◌}
+use Rattle.ident.specs.declared.Kind.TheVariants.{Wtxid}
 use Rattle.ident.specs.Number.{top, Key, wtxid}
 use Rattle.ident.specs.Words.{hash_bytes}
 use Rattle.words.specs.Words.{number, digits, recs, splice}
@@ -20,17 +17,15 @@ use Rattle.words.proofs.Digits.{length_digits, number_digits}
 use Rattle.words.proofs.Splice.{length-splice}
 use Rattle.words.proofs.Records.{length-recs, recs-add, recs-set}
 use Rattle.places.specs.Places.{list_most}
-use Rattle.machine.specs.State.{Package, Request, State, owner_is, is_some}
+use Rattle.machine.specs.State.{Request, State, owner_is}
 use Rattle.machine.specs.Table.{at}
 use Rattle.machine.specs.Fail.{parents_for}
 use Rattle.machine.specs.Sound.{Hashes, Sound}
 use Rattle.machine.proofs.Tests.{never}
-use Rattle.machine.proofs.Table.{lawful_at}
-use Rattle.package_stages.specs.declared.Request.{Request as Read}
-use Rattle.package_stages.specs.Changes.{stage_of, has_place, RequestOf, PlaceSpot, ReadAt}
-use Rattle.package_stages.proofs.Seeking.{txid-stage}
+use Rattle.machine.proofs.Table.{lawful_at, at_key}
+use Rattle.package_stages.specs.Changes.{has_place, PlaceSpot, ReadAt}
+use Rattle.package_stages.proofs.Seeking.{holding}
 use Rattle.failing.specs.Changes.{first_hashes}
-use Rattle.failing.proofs.Releasing.{owner-is}
 
 -- ---- one hash more
 
@@ -94,57 +89,25 @@ copied_all {b} {i} {m} {u₀} {u} {j} c l count x y st s w p =
 
 -- ---- whose parents they are
 
-stage-place : (i : Bool) (p : Option Package) → (stage_of i p ≡ 0 → ⊥) → (i || is_some p) ≡ true
-stage-place true p h = refl
-stage-place false (some p) h = refl
-stage-place false none h = absurd (h refl)
-
-stage_none : (i : Bool) (p : Option Package) → stage_of i p ≡ 0 → (i || is_some p) ≡ false
-stage_none true (some p) h = absurd (omega arith)
-stage_none true none h = absurd (omega arith)
-stage_none false (some p) h = absurd (omega arith)
-stage_none false none h = refl
-
-not_txid : (x : Kind) → (x ≡ Txid → ⊥) → x ≡ Wtxid
-not_txid Txid h = absurd (h refl)
-not_txid Wtxid h = refl
-
 no-hashes : (u : List ℕ) → first_hashes 0 u ≡ []
 unfolding recs
 no-hashes u = refl
 
-module _ {q : Request} {r : Read} (x : RequestOf q r) (n : ℕ) (h : 1 ≤ n) (u : List ℕ) where
-  pub others-parents : (r.owner ≡ n → ⊥) → first_hashes 0 u ≡ parents_for n q
-  others-parents e =
-      no-hashes u ∙ sym (ap (λ (b : Bool). if b && (q.info || is_some q.«package») then q.parents else []) (sym (owner-is x n h) ∙ ne_eqb r.owner n e))
+module _ (q : Request) (n : ℕ) (u : List ℕ) where
+  pub others-parents : false ≡ owner_is n q.owner → first_hashes 0 u ≡ parents_for n q
+  others-parents e = rw (sym e) (no-hashes u)
 
-  pub placeless : r.owner ≡ n → r.stage ≡ 0 → first_hashes 0 u ≡ parents_for n q
-  placeless e z =
-      let o : owner_is n q.owner ≡ true = sym (owner-is x n h) ∙ eq-eqb r.owner n e in
-      let p : (q.info || is_some q.«package») ≡ false = stage_none q.info q.«package» (sym x.stage ∙ z) in
-      no-hashes u ∙ sym (ap (λ (b : Bool). if b && (q.info || is_some q.«package») then q.parents else []) o ∙ ap (λ (b : Bool). if b then q.parents else []) p)
+  pub placeless : has_place q ≡ false → first_hashes 0 u ≡ parents_for n q
+  placeless e = rw (e, and-false (owner_is n q.owner)) (no-hashes u)
 
-  parents_all : r.owner ≡ n → (r.stage ≡ 0 → ⊥) → parents_for n q ≡ q.parents
-  parents_all e z =
-      let o : owner_is n q.owner ≡ true = sym (owner-is x n h) ∙ eq-eqb r.owner n e in
-      let p : (q.info || is_some q.«package») ≡ true = stage-place q.info q.«package» (λ y. z (x.stage ∙ y)) in
-      ap (λ (b : Bool). if b && (q.info || is_some q.«package») then q.parents else []) o ∙ ap (λ (b : Bool). if b then q.parents else []) p
+module _ (st : State) (s : Sound st) (k : Key) (small : k.hash < top) (z : has_place (at k st.table) ≡ true) where
+  key-is : wtxid k.hash ≡ k
+  key-is =
+      let e : k.kind ≡ Wtxid = sym (ap (λ (j : Key). j.kind) (at_key k 0 st.table small s.bounded.ordered)) ∙ (holding (at k st.table) (lawful_at k st.table s.bounded.lawful) z).kind in
+      ap (λ (j : Kind). record { kind = j; hash = k.hash }) (sym e)
 
-module _ (st : State) (s : Sound st) (k : Key) (small : k.hash < top) {r : Read} (x : RequestOf (at k st.table) r) (z : r.stage ≡ 0 → ⊥) {i : ℕ} {held : Bool}
-    (p : PlaceSpot st.table k.hash i held) where
-  kind-is : k.kind ≡ Wtxid
-  kind-is = not_txid k.kind (λ e. z (x.stage ∙ txid-stage st s k small e))
+  pub must-hold : {i : ℕ} → PlaceSpot st.table k.hash i false → ⊥
+  must-hold p = never (p.held_is ∙ ap (λ (j : Key). has_place (at j st.table)) key-is ∙ z)
 
-  key-is : k ≡ wtxid k.hash
-  key-is = ap (λ (j : Kind). record { kind = j; hash = k.hash }) kind-is
-
-  pub must-hold : held ≡ false → ⊥
-  must-hold e =
-      let q = at k st.table in
-      let there : has_place q ≡ true = stage-place q.info q.«package» (λ y. z (x.stage ∙ y)) in
-      never (sym e ∙ p.held_is ∙ ap (λ (j : Key). has_place (at j st.table)) (sym key-is) ∙ there)
-
-  pub its-parents : (n : ℕ) → 1 ≤ n → r.owner ≡ n → held ≡ true → (u : List ℕ) (m : ℕ) → (PlaceSpot st.table k.hash i true → first_hashes m u ≡ (at (wtxid k.hash) st.table).parents)
-      → first_hashes m u ≡ parents_for n (at k st.table)
-  its-parents n h e y u m f =
-      f (record { bound = p.bound; held_is = sym y ∙ p.held_is }) ∙ ap (λ (j : Key). (at j st.table).parents) (sym key-is) ∙ sym (parents_all x n h u e z)
+  pub its-parents : (n : ℕ) → true ≡ owner_is n (at k st.table).owner → (u : List ℕ) (m : ℕ) → first_hashes m u ≡ (at (wtxid k.hash) st.table).parents → first_hashes m u ≡ parents_for n (at k st.table)
+  its-parents n e u m f = rw (sym e, z) (f ∙ ap (λ (j : Key). (at j st.table).parents) key-is)

@@ -1,4 +1,4 @@
--- release_package: its test, and its answer.
+-- release_package: its answer.
 use Prim.Native.Nat.{ℕ, ◌<◌}
 use mathlib.Core.Path.{◌≡◌, refl, sym, ap, subst, ◌∙◌}
 use mathlib.Core.Bool.{Bool, true, false, ◌&&◌}
@@ -23,40 +23,8 @@ use Rattle.store.specs.Image.{Writes}
 use Rattle.store.specs.Shown.{Kept}
 use Rattle.lent_lists.proofs.Answer.{written_none}
 use Rattle.requests.specs.Changes.{Makes, Tells}
-use Rattle.package_stages.specs.declared.Request.{Request as Read}
-use Rattle.package_stages.specs.Changes.{RequestOf}
 use Rattle.announcing.specs.Answers.{KeysListed}
 use Rattle.failing.specs.Changes.{led}
-use Rattle.failing.proofs.PackageInfo.{manned_is}
-use Rattle.failing.proofs.Releasing.{stage_read}
-
--- ---- the test
-
-both_yes : (a : Bool) {b : Bool} → b ≡ true → a ≡ (a && b)
-both_yes true e = sym e
-both_yes false e = refl
-
-both_no : (a : Bool) {b : Bool} → b ≡ false → false ≡ (a && b)
-both_no true e = sym e
-both_no false e = refl
-
--- "package only with an owner"
-package_manned : (j : Kind) (o : Option Owner) (hs : List ℕ) (i : Bool) (p : Option Package) → Packed j o i p hs → enqueued_in p ≡ true → is_some o ≡ true
-package_manned j o hs true (some p) k e = absurd k
-package_manned j o hs false (some p) k e = k.0
-package_manned j o hs i none k e = never e
-
-module _ {q : Request} {r : Read} (l : Lawful q) (x : RequestOf q r) (n : ℕ) where
-  enqueued_is : eqb r.stage 3 ≡ enqueued_in q.«package»
-  enqueued_is = ap (λ (m : ℕ). eqb m 3) x.stage ∙ stage_read q.info q.«package»
-
-  pub enqueued-owned : r.stage ≡ 3 → eqb r.owner n ≡ enqueued_by n q
-  enqueued-owned e =
-      let p : enqueued_in q.«package» ≡ true = sym enqueued_is ∙ eq-eqb r.stage 3 e in
-      ap (λ (m : ℕ). eqb m n) x.owner ∙ manned_is n q.owner (package_manned q.key.kind q.owner q.parents q.info q.«package» l.packed p) ∙ both_yes (owner_is n q.owner) p
-
-  pub not_enqueued : (r.stage ≡ 3 → ⊥) → eqb r.stage 3 ≡ enqueued_by n q
-  not_enqueued e = ne_eqb r.stage 3 e ∙ both_no (owner_is n q.owner) (sym enqueued_is ∙ ne_eqb r.stage 3 e)
 
 pub enqueued-owner : (n : ℕ) (r : Request) → enqueued_by n r ≡ true → owner_is n r.owner ≡ true
 enqueued-owner n r e = and_left (owner_is n r.owner) (enqueued_in r.«package») e

@@ -21,36 +21,29 @@ use Rattle.machine.proofs.Fail.{shrinks_unowned}
 use Rattle.store.specs.Image.{Writes}
 use Rattle.store.specs.Shown.{Kept}
 use Rattle.requests.specs.Changes.{Makes}
-use Rattle.package_stages.specs.Changes.{owner_num}
 use Rattle.failing.proofs.Fusing.{change_fuse, change_none}
-use Rattle.failing.proofs.Releasing.{positive}
 
 -- ---- the owner
 
-pub owner-named : (o : Option Owner) {n : ℕ} → n ≡ owner_num o → (n ≡ 0 → ⊥) → owner_is n o ≡ true
-owner-named none e h = absurd (h e)
-owner-named (some o) {n} e h = eq-eqb o.connection n (sym e)
-
 -- who has no owner has nothing to clear
-unowned_same : (q : Request) (j : Kind) (k : Key) (o : Option Owner) (i : Bool) (p : Option Package) (hs : List ℕ) → owner_num o ≡ 0 → OwnerFits o q.candidates
-    → AllFit k q.candidates → Packed j o i p hs
+unowned_same : (q : Request) (j : Kind) (o : Option Owner) (i : Bool) (p : Option Package) (hs : List ℕ) → o ≡ none → Packed j o i p hs
     → unowned q ≡ record { key = q.key; candidates = q.candidates; owner = o; info = i; «package» = p; parents = hs; fallback = q.fallback }
-unowned_same q j k (some o) i p hs e w f x = absurd (omega (arith, positive o.connection k q.candidates w.0 f))
-unowned_same q j k none true (some p) hs e w f x = absurd x
-unowned_same q j k none true none hs e w f x = never x.0
-unowned_same q j k none false (some p) hs e w f x = never x.0
-unowned_same q j k none false none hs e w f x = rw x
+unowned_same q j (some o) i p hs e x = absurd cc
+unowned_same q j none true (some p) hs e x = absurd x
+unowned_same q j none true none hs e x = never x.0
+unowned_same q j none false (some p) hs e x = never x.0
+unowned_same q j none false none hs e x = rw x
 
 kept_free : (k : Key) (r : Request) (cs : List Candidate) → r.owner ≡ none → (kept k r cs).owner ≡ none
 kept_free k r [] e = refl
 kept_free k r (c ∷ cs) e = e
 
 module _ (st : State) (s : Sound st) (k : Key) where
-  pub nothing_released : {n : ℕ} → n ≡ owner_num (at k st.table).owner → n ≡ 0 → {b : List ℕ} → Writes b st → Writes b (on_table (change k unowned st.table) st)
-  nothing_released e z {b} w =
+  pub nothing_released : (at k st.table).owner ≡ none → {b : List ℕ} → Writes b st → Writes b (on_table (change k unowned st.table) st)
+  nothing_released e {b} w =
       let q = at k st.table in
       let l = lawful_at k st.table s.bounded.lawful in
-      let same : unowned q ≡ q = unowned_same q q.key.kind q.key q.owner q.info q.«package» q.parents (sym e ∙ z) l.owner l.candidates l.packed in
+      let same : unowned q ≡ q = unowned_same q q.key.kind q.owner q.info q.«package» q.parents e l.packed in
       subst (λ (t : Table). Writes b (on_table t st)) (sym (change_none k unowned 0 st.table s.bounded.ordered s.bounded.filled same)) w
 
   released_free : (at k (change k unowned st.table)).owner ≡ none

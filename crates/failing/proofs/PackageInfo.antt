@@ -1,12 +1,14 @@
--- Who is asked for package info, from the numbers that a request is read as.
+-- Who is asked for package info, from what is read of a request.
 use Prim.Native.Nat.{ℕ, ◌≤◌, ◌<◌}
 use mathlib.Core.Path.{◌≡◌, refl, sym, ap, subst, ◌∙◌}
-use mathlib.Core.Bool.{Bool, true, false, ◌&&◌}
+use mathlib.Core.Bool.{Bool, true, false, not}
 use mathlib.Core.List.{List}
 use mathlib.Core.Option.{Option, none, some}
 use native.Mathlib.Omega.{arith}
 use lib.Dec.{eqb}
 use borrow.Author.Tests.{eq-eqb, ne_eqb, lt-ltb, le-ltb}
+use Rattle.std.specs.Option.{option_eq}
+use Rattle.std.specs.Prelude.{Some, None}
 use Rattle.ident.specs.declared.Kind.{Kind}
 use Rattle.ident.specs.Number.{Key}
 use Rattle.machine.specs.State.{Owner, Package, Request, Table, Answer, on_table, owner_is, is_some}
@@ -18,7 +20,12 @@ use Rattle.machine.proofs.Tests.{never}
 use Rattle.store.specs.Image.{Writes}
 use Rattle.requests.specs.Changes.{Tells}
 use Rattle.package_stages.specs.declared.Request.{Request as Read}
-use Rattle.package_stages.specs.Changes.{owner_num, deadline_num, stage_of, RequestOf}
+use Rattle.package_stages.specs.contracts.StagePartialEq.TheImpl.{eq-value}
+use Rattle.package_stages.specs.declared.Owner.{Owner as OwnerRead}
+use Rattle.package_stages.specs.declared.Stage.TheVariants.{Flagged}
+use Rattle.package_stages.specs.Changes.{stage_of, RequestOf}
+use Rattle.package_stages.proofs.Read.{stage-is}
+use Rattle.failing.proofs.Releasing.{owner-some, owner-none}
 use Rattle.announcing.specs.Answers.{Answered}
 
 -- "never both": the flag is stage 1
@@ -28,60 +35,43 @@ info_read j o hs true none k = refl
 info_read j o hs false (some p) k = ne_eqb (stage_of false (some p)) 1 (λ e. omega arith)
 info_read j o hs false none k = refl
 
--- "flag .. only with an owner"
-info_manned : (j : Kind) (o : Option Owner) (hs : List ℕ) (i : Bool) (p : Option Package) → Packed j o i p hs → i ≡ true → is_some o ≡ true
-info_manned j o hs true (some p) k e = absurd k
-info_manned j o hs true none k e = k.0
-info_manned j o hs false p k e = never e
+not-not : (b : Bool) → not b ≡ false → b ≡ true
+not-not true e = refl
+not-not false e = never (sym e)
 
-pub manned_is : (n : ℕ) (o : Option Owner) → is_some o ≡ true → eqb (owner_num o) n ≡ owner_is n o
-manned_is n none e = never e
-manned_is n (some o) e = refl
+not-yes : (b : Bool) → not b ≡ true → b ≡ false
+not-yes true e = never e
+not-yes false e = refl
 
 module _ {q : Request} {r : Read} (l : Lawful q) (x : RequestOf q r) where
-  info_is : eqb r.stage 1 ≡ q.info
-  info_is = ap (λ (m : ℕ). eqb m 1) x.stage ∙ info_read q.key.kind q.owner q.parents q.info q.«package» l.packed
+  pub info-is : {b : Bool} → b ≡ option_eq eq-value.it r.stage (Some Flagged) → b ≡ q.info
+  info-is e = e ∙ stage-is x Flagged ∙ info_read q.key.kind q.owner q.parents q.info q.«package» l.packed
 
-  flagged : r.stage ≡ 1 → q.info ≡ true
-  flagged e = sym info_is ∙ eq-eqb r.stage 1 e
+  -- the code asks whether the stage is another
+  pub flagged : {b : Bool} → b ≡ not (option_eq eq-value.it r.stage (Some Flagged)) → b ≡ false → true ≡ q.info
+  flagged e z = sym (not-not _ (sym e ∙ z)) ∙ info-is refl
 
-  plain : (r.stage ≡ 1 → ⊥) → q.info ≡ false
-  plain e = sym info_is ∙ ne_eqb r.stage 1 e
-
-  -- ---- the owner in time
-
-  no_flag : (v : ℕ) (o : Option Owner) → 0 ≡ info_owner_of v false o
-  no_flag v none = refl
-  no_flag v (some o) = refl
-
-  in_time : (v : ℕ) (o : Option Owner) → v < deadline_num o → owner_num o ≡ info_owner_of v true o
-  in_time v none h = refl
-  in_time v (some o) h = rw (lt-ltb v o.deadline h)
-
-  too-late : (v : ℕ) (o : Option Owner) → deadline_num o ≤ v → 0 ≡ info_owner_of v true o
-  too-late v none h = refl
-  too-late v (some o) h = rw (le-ltb v o.deadline h)
+  pub plain : {b : Bool} → b ≡ not (option_eq eq-value.it r.stage (Some Flagged)) → b ≡ true → false ≡ q.info
+  plain e z = sym (not-yes _ (sym e ∙ z)) ∙ info-is refl
 
   module _ (v : ℕ) where
-    pub asked-nobody : (r.stage ≡ 1 → ⊥) → 0 ≡ info_owner_of v q.info q.owner
-    asked-nobody e = no_flag v q.owner ∙ ap (λ (i : Bool). info_owner_of v i q.owner) (sym (plain e))
+    pub asked-plain : false ≡ q.info → 0 ≡ info_owner_of v q.info q.owner
+    asked-plain e = go q.owner ∙ ap (λ (i : Bool). info_owner_of v i q.owner) e
+      where
+        go : (o : Option Owner) → 0 ≡ info_owner_of v false o
+        go none = refl
+        go (some o) = refl
 
-    pub asked-owner : r.stage ≡ 1 → v < r.deadline → r.owner ≡ info_owner_of v q.info q.owner
-    asked-owner e h = x.owner ∙ in_time v q.owner (omega (arith, x.deadline)) ∙ ap (λ (i : Bool). info_owner_of v i q.owner) (sym (flagged e))
+    -- ---- the owner in time
 
-    pub asked-late : r.stage ≡ 1 → r.deadline ≤ v → 0 ≡ info_owner_of v q.info q.owner
-    asked-late e h = too-late v q.owner (omega (arith, x.deadline)) ∙ ap (λ (i : Bool). info_owner_of v i q.owner) (sym (flagged e))
+    pub asked-owner : true ≡ q.info → {o : OwnerRead} → r.owner ≡ Some o → v < o.deadline → o.connection ≡ info_owner_of v q.info q.owner
+    asked-owner e {o} d h = rw (sym e, owner-some x d, lt-ltb v o.deadline h)
 
-  -- ---- the test of failed_package_info
+    pub asked-late : true ≡ q.info → {o : OwnerRead} → r.owner ≡ Some o → o.deadline ≤ v → 0 ≡ info_owner_of v q.info q.owner
+    asked-late e {o} d h = rw (sym e, owner-some x d, le-ltb v o.deadline h)
 
-  module _ (n : ℕ) where
-    pub flag-owned : r.stage ≡ 1 → eqb r.owner n ≡ info_owned n q
-    flag-owned e =
-        ap (λ (m : ℕ). eqb m n) x.owner ∙ manned_is n q.owner (info_manned q.key.kind q.owner q.parents q.info q.«package» l.packed (flagged e))
-        ∙ ap (λ (i : Bool). i && owner_is n q.owner) (sym (flagged e))
-
-    pub flag-missing : (r.stage ≡ 1 → ⊥) → eqb r.stage 1 ≡ info_owned n q
-    flag-missing e = ne_eqb r.stage 1 e ∙ ap (λ (i : Bool). i && owner_is n q.owner) (sym (plain e))
+    pub asked-nobody : true ≡ q.info → r.owner ≡ None → 0 ≡ info_owner_of v q.info q.owner
+    asked-nobody e d = rw (sym e, owner-none x d)
 
 pub owner_told : (k : Key) (v : ℕ) (t : Table) {m : ℕ} → m ≡ info_owner_of v (at k t).info (at k t).owner → m ≡ package_info_owner k v t
 unfolding package_info_owner

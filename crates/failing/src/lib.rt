@@ -18,7 +18,7 @@ ghost use Rattle.announcing.specs.Answers.{Answered, KeysListed};
 ghost use Rattle.failing.specs.Changes.{led};
 
 use lent_lists::{KEY, LIST};
-use places::{ENQUEUED, FLAG};
+use package_stages::Stage;
 
 pub mod parents;
 
@@ -27,12 +27,8 @@ pub fn releasable(s: &[u8], k: ident::Key, n: u64) -> bool
     requires { Kept s.now }
     ensures { Tells s.now (λ t. result ≡ machine.releasable n (at (key_num k) t)) }
 {
-    // owner 0 is none
-    if n == 0 {
-        return false;
-    }
     let r = package_stages::request_at(s, k);
-    r.owner == n && r.stage != ENQUEUED
+    r.is_owned_by(n) && r.stage != Some(Stage::Enqueued)
 }
 
 // Flag, package and parents of the request at k go; a Txid key has none.
@@ -115,9 +111,8 @@ fn release(s: &mut [u8], k: ident::Key)
     ensures { Makes s.old s.new (λ t. Unit {0}) (change (key_num k) unowned) }
 {
     let r = package_stages::request_at(s, k);
-    // owner 0 is none
-    if r.owner != 0 {
-        clear(s, k, r.owner);
+    if let Some(owner) = r.owner {
+        clear(s, k, owner.connection);
     }
 }
 
@@ -138,10 +133,13 @@ pub fn package_info_owner(s: &[u8], k: ident::Key, clock: u64) -> u64
     ensures { Tells s.now (λ t. result ≡ package_info_owner (key_num k) clock t) }
 {
     let r = package_stages::request_at(s, k);
-    if r.stage != FLAG {
+    if r.stage != Some(Stage::Flagged) {
         return 0;
     }
-    if clock < r.deadline { r.owner } else { 0 }
+    match r.owner {
+        Some(owner) if clock < owner.deadline => owner.connection,
+        _ => 0,
+    }
 }
 
 // Whether the connection n is asked for package info of the request at k.
@@ -150,7 +148,7 @@ pub fn info_owned(s: &[u8], k: ident::Key, n: u64) -> bool
     ensures { Tells s.now (λ t. result ≡ info_owned n (at (key_num k) t)) }
 {
     let r = package_stages::request_at(s, k);
-    r.stage == FLAG && r.owner == n
+    r.stage == Some(Stage::Flagged) && r.is_owned_by(n)
 }
 
 // failed, where the connection n is asked for package info.
@@ -207,7 +205,7 @@ fn enqueued_by(s: &[u8], k: ident::Key, n: u64) -> bool
     ensures { Tells s.now (λ t. result ≡ enqueued_by n (at (key_num k) t)) }
 {
     let r = package_stages::request_at(s, k);
-    r.stage == ENQUEUED && r.owner == n
+    r.is_owned_by(n) && r.stage == Some(Stage::Enqueued)
 }
 
 // An Enqueued package of the connection n is given up: n leaves the hash, and the parents are announced for it. Lists in `out` the key

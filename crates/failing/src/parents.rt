@@ -28,17 +28,14 @@ pub fn parents_for(s: &[u8], k: ident::Key, n: u64, list: &mut [u8]) -> usize
     ensures { (result ≤ list_most) × Tells s.now (λ t. first_hashes result list.new ≡ machine.parents_for n (at (key_num k) t)) }
 {
     let r = package_stages::request_at(s, k);
-    if r.owner != n {
+    if !r.is_owned_by(n) {
         return 0;
     }
-    if r.stage == 0 {
+    if r.stage.is_none() {
         return 0;
     }
-    let h = k.hash;
-    let p = package_stages::seek(s, h);
-    if p.held {
-        copy_parents(s, p.at, list)
-    } else {
-        0
+    match package_stages::seek(s, k.hash) {
+        Ok(i) => copy_parents(s, i, list),
+        Err(_) => 0,
     }
 }

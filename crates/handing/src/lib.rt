@@ -119,7 +119,7 @@ fn search_owner(s: &[u8], k: ident::Key, n: u64) -> Seen
 {
     let r = package_stages::request_at(s, k);
     Seen {
-        owner: r.owner == n,
+        owner: r.is_owned_by(n),
         next: r.to,
     }
 }

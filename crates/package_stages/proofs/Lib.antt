@@ -1,4 +1,5 @@
 pub mod Lending
+pub mod Read
 pub mod Seeking
 pub mod Owners
 pub mod Placing

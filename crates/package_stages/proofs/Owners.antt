@@ -1,7 +1,7 @@
 -- The owner of a request, read from its rows.
 use Prim.Native.Nat.{ℕ, zero, suc, ◌+◌, ◌-◌, ◌/◌, ◌%◌, ◌≤◌, ◌<◌}
 use mathlib.Core.Path.{◌≡◌, refl, sym, ap, subst, ◌∙◌}
-use mathlib.Core.Logic.{◌⊎◌, inl, inr}
+use mathlib.Core.Logic.{inl, inr}
 use mathlib.Core.Bool.{true, false}
 use mathlib.Core.List.{List, [], ◌∷◌, ◌++◌, map}
 use mathlib.Core.Option.{Option, none, some}
@@ -10,6 +10,8 @@ use lib.Dec.{eqb}
 use lib.ListN.{length, get_or, length-append, length-map, get_or-append, get_or-map}
 use lib.Seq.{get_or-append-add, get_or_at}
 use borrow.Author.Tests.{eqb-true, eq-eqb}
+use Rattle.std.specs.Prelude as rust
+use Rattle.std.specs.Prelude.{Some, None}
 use Rattle.ident.specs.declared.ItemKind.TheVariants.{Transaction}
 use Rattle.ident.specs.Number.{Key}
 use Rattle.regions.specs.declared.Row.{Row}
@@ -18,16 +20,13 @@ use Rattle.machine.specs.Table.{at, has, one}
 use Rattle.machine.specs.Sound.{Sound, OwnerFits}
 use Rattle.machine.proofs.Table.{lawful_at}
 use Rattle.machine.proofs.Tests.{test, order}
-use Rattle.store.specs.Flat.{Flat, deadline_for, own_bit, row_of, rows_for, rows_of}
-use Rattle.store.specs.Image.{Shows}
+use Rattle.store.specs.Flat.{Flat, flat_of, deadline_for, own_bit, row_of, rows_for, rows_of}
+use Rattle.store.specs.Image.{Shows, Writes}
 use Rattle.store.proofs.Bits.{own_row, conn-row}
 use Rattle.store.proofs.RowsAt.{among}
 use Rattle.store.proofs.Split.{rows_below, rows_above, rows_at}
-use Rattle.package_stages.specs.Changes.{owner_num, deadline_num, OwnerRow, NoOwnerRow}
-
-pub record OwnerIs (o : Option Owner) (n v : ℕ) : Type 0 where
-  pub connection : n ≡ owner_num o
-  pub deadline : v ≡ deadline_num o
+use Rattle.package_stages.specs.declared.Owner.{Owner as OwnerRead}
+use Rattle.package_stages.specs.Changes.{owner_as, OwnerRow, NoOwnerRow, OwnerAmong}
 
 -- ---- one row
 
@@ -36,13 +35,13 @@ unfolding row_of
 deadline-row q c = refl
 
 -- the row of who owns the request
-owning : (q : Request) (c : Candidate) {n v : ℕ} → own_bit (row_of q c) ≡ 1 → n ≡ (row_of q c).conn → v ≡ (row_of q c).deadline → OwnerIs q.owner n v
-owning q c {n} {v} e a b = go q.owner (sym (own_row q c) ∙ e) (a ∙ conn-row q c) (b ∙ deadline-row q c)
+owning : (q : Request) (c : Candidate) (r : OwnerRead) → own_bit (row_of q c) ≡ 1 → r.connection ≡ (row_of q c).conn → r.deadline ≡ (row_of q c).deadline → owner_as (Some r) ≡ q.owner
+owning q c r e a b = go q.owner (sym (own_row q c) ∙ e) (a ∙ conn-row q c) (b ∙ deadline-row q c)
   where
-    go : (o : Option Owner) → one (owner_is c.connection o) ≡ 1 → n ≡ c.connection → v ≡ deadline_for c.connection o → OwnerIs o n v
+    go : (o : Option Owner) → one (owner_is c.connection o) ≡ 1 → r.connection ≡ c.connection → r.deadline ≡ deadline_for c.connection o → owner_as (Some r) ≡ o
     go none e a b = absurd (omega arith)
     go (some o) e a b = elim (test (eqb o.connection c.connection)) [
-      | inl t ↦ record { connection = a ∙ sym (eqb-true o.connection c.connection t); deadline = rw t at b }
+      | inl t ↦ rw (a ∙ sym (eqb-true o.connection c.connection t), rw t at b)
       | inr t ↦ let z : one (eqb o.connection c.connection) ≡ 0 = ap one t in absurd (omega arith)
     ]
 
@@ -81,30 +80,41 @@ module _ (A : List Row) (q : Request) (cs : List Candidate) (C : List Row) (d : 
       ap one (eq-eqb o.connection f.one.connection (sym f.is)) in
       n j (omega arith) (omega arith) (ap own_bit row ∙ bit)
 
-  window-owner : OwnerFits q.owner cs → {n v : ℕ} → OwnerRow (A ++ (map (row_of q) cs ++ C)) d (length A) (length A + length cs) n v ⊎ NoOwnerRow (A ++ (map (row_of q) cs ++ C)) d (length A)
-      (length A + length cs) n v → OwnerIs q.owner n v
-  window-owner h (inl w) =
+  window-owner : {o : OwnerRead} → OwnerRow (A ++ (map (row_of q) cs ++ C)) d (length A) (length A + length cs) o → owner_as (Some o) ≡ q.owner
+  window-owner {o} w =
       let e = in_window w.index w.least w.most nobody in
-      owning q (get_or cs (w.index - length A) nobody) (sym (ap own_bit e) ∙ w.owns) (w.connection ∙ ap (λ (r : Row). r.conn) e) (w.deadline ∙ ap (λ (r : Row). r.deadline) e)
-  window-owner h {n} {v} (inr w) = go q.owner refl h
-    where
-      go : (o : Option Owner) → q.owner ≡ o → OwnerFits o cs → OwnerIs o n v
-      go none e h = record { connection = w.connection; deadline = w.deadline }
-      go (some o) e h = absurd (owner-row o e h.0 w.free)
+      owning q (get_or cs (w.index - length A) nobody) o (sym (ap own_bit e) ∙ w.owns) (w.connection ∙ ap (λ (r : Row). r.conn) e) (w.deadline ∙ ap (λ (r : Row). r.deadline) e)
 
-module _ (st : State) (s : Sound st) (k : Key) {from to : ℕ} (e : from ≡ length (rows_below k st.table)) (g : to ≡ length (rows_below k st.table ++ rows_for (at k st.table))) (d : Row) where
-  -- the rows of a key name the owner of its request
-  pub owner-is : {n v : ℕ} → OwnerRow (rows_of st.table) d from to n v ⊎ NoOwnerRow (rows_of st.table) d from to n v → OwnerIs (at k st.table).owner n v
+  window-free : OwnerFits q.owner cs → NoOwnerRow (A ++ (map (row_of q) cs ++ C)) d (length A) (length A + length cs) → none ≡ q.owner
+  window-free h w = go q.owner refl h
+    where
+      go : (o : Option Owner) → q.owner ≡ o → OwnerFits o cs → none ≡ o
+      go none e h = refl
+      go (some o) e h = absurd (owner-row o e h.0 w)
+
+module _ (st : State) (s : Sound st) (k : Key) {from to : ℕ} (e : from ≡ length (rows_below k st.table)) (g : to ≡ length (rows_below k st.table ++ rows_for (at k st.table))) where
+  abbrev q : Request
+  q = at k st.table
+
+  abbrev before : List Row
+  before = rows_below k st.table
+
+  abbrev d : Row
+  d = row_of q nobody
+
+  end : to ≡ length before + length q.candidates
   unfolding rows_for
-  owner-is {n} {v} w =
-      let t = st.table in
-      let q = at k t in
-      let A = rows_below k t in
-      let u : to ≡ length A + length q.candidates = omega (arith, length-append A (map (row_of q) q.candidates), length-map q.candidates (row_of q)) in
-      window-owner A q q.candidates (rows_above k t) d (lawful_at k t s.bounded.lawful).owner
-      (subst (λ (rs : List Row). OwnerRow rs d (length A) (length A + length q.candidates) n v ⊎ NoOwnerRow rs d (length A) (length A + length q.candidates) n v)
-      (rows_at k 0 t s.bounded.ordered)
-      (rw (e, u) at w))
+  end = omega (arith, length-append before (map (row_of q) q.candidates), length-map q.candidates (row_of q))
+
+  -- the rows of a key name the owner of its request
+  pub owner-is : {b : List ℕ} → Writes b st → (r : rust.Option OwnerRead) → OwnerAmong b from to r → owner_as r ≡ q.owner
+  unfolding rows_for
+  owner-is w None f =
+      window-free before q q.candidates (rows_above k st.table) d (lawful_at k st.table s.bounded.lawful).owner
+      (subst (λ (rs : List Row). NoOwnerRow rs d (length before) (length before + length q.candidates)) (rows_at k 0 st.table s.bounded.ordered) (rw (e, end) at (f (flat_of st) d w)))
+  owner-is w (Some o) f =
+      window-owner before q q.candidates (rows_above k st.table) d
+      (subst (λ (rs : List Row). OwnerRow rs d (length before) (length before + length q.candidates) o) (rows_at k 0 st.table s.bounded.ordered) (rw (e, end) at (f (flat_of st) d w)))
 
 -- ---- the loop over rows: none of from .. i owns
 

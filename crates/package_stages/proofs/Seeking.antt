@@ -1,5 +1,5 @@
 -- The place of a hash: where a search stops, and what the request at its Wtxid key has there.
-use Prim.Native.Nat.{ℕ, zero, suc, ◌≤◌, ◌<◌}
+use Prim.Native.Nat.{ℕ, zero, suc, ◌+◌, ◌≤◌, ◌<◌}
 use mathlib.Core.Path.{◌≡◌, refl, sym, ap, ◌∙◌}
 use mathlib.Core.Logic.{inl, inr}
 use mathlib.Core.Bool.{Bool, true, false, not, ◌||◌}
@@ -11,31 +11,35 @@ use lib.Dec.{ltb}
 use lib.ListN.{length, get_or, length-map}
 use lib.Seq.{get_or_at}
 use borrow.Author.Tests.{ltb-true, ltb-false}
+use Rattle.ident.specs.declared.Hash.{Hash}
 use Rattle.ident.specs.declared.Kind.{Kind}
 use Rattle.ident.specs.declared.Kind.TheVariants.{Txid, Wtxid}
 use Rattle.ident.specs.Number.{top, Key, wtxid}
+use Rattle.ident.specs.Words.{hash_num}
 use Rattle.regions.specs.declared.Quad.{Quad}
 use Rattle.regions.specs.Order.{Bound}
 use Rattle.regions.specs.Rows.{quad_number, quad_of}
 use Rattle.regions.proofs.Order.{number_quad}
 use Rattle.places.specs.declared.Head.{Head}
-use Rattle.places.specs.Places.{Place, list_most, head_of}
+use Rattle.places.specs.Places.{Place, list_most, head_of, blank}
 use Rattle.machine.specs.State.{Owner, Package, Request, State, is_some}
-use Rattle.machine.specs.Table.{at}
+use Rattle.machine.specs.Table.{at, one}
 use Rattle.machine.specs.Sound.{Sound, Packed, Lawful}
 use Rattle.machine.proofs.Table.{at_key, lawful_at}
 use Rattle.machine.proofs.Tests.{test, never}
-use Rattle.store.specs.Flat.{flat_of, rows_of, place_for, places_for, places_of}
+use Rattle.store.specs.Flat.{Flat, flat_of, rows_of, place_for, places_for, places_of}
 use Rattle.store.specs.FlatSound.{StageFits, PlaceFits}
-use Rattle.store.specs.Image.{Writes}
-use Rattle.store.specs.Shown.{Seek}
+use Rattle.store.specs.Image.{Shows, Writes}
+use Rattle.store.specs.Shown.{held_places_in, Kept, Seek}
 use Rattle.store.proofs.Bounds.{bound_same}
+use Rattle.store.proofs.Frame.{sizes}
 use Rattle.store.proofs.Missing.{each_at}
 use Rattle.store.proofs.Split.{places_below, places_above, places-at}
 use Rattle.store.proofs.ToFlat.{flat_sound}
 use Rattle.store.proofs.Window.{places-sorted, places_from, place_found, place-missing}
+use Rattle.requests.specs.Changes.{Words}
 use Rattle.package_stages.specs.Records.{place_hashes}
-use Rattle.package_stages.specs.Changes.{stage_of, wtxids_of, combined_of, has_place}
+use Rattle.package_stages.specs.Changes.{stage_of, wtxids_of, combined_of, has_place, SpotOf}
 
 -- ---- a request and its place
 
@@ -91,6 +95,15 @@ stage-free false none e = refl
 
 pub no-stage : (q : Request) → has_place q ≡ false → stage_of q.info q.«package» ≡ 0
 no-stage q e = stage-free q.info q.«package» e
+
+pub stage-few : (i : Bool) (p : Option Package) → stage_of i p ≤ 3
+stage-few i (some p) = go p.enqueued
+  where
+    go : (e : Bool) → 2 + one e ≤ 3
+    go true = omega arith
+    go false = omega arith
+stage-few true none = omega arith
+stage-few false none = omega arith
 
 -- "flag or package .. only on Wtxid keys"
 pub txid-stage : (st : State) → Sound st → (k : Key) → k.hash < top → k.kind ≡ Txid → stage_of (at k st.table).info (at k st.table).«package» ≡ 0
@@ -172,6 +185,24 @@ module _ (st : State) (s : Sound st) (h : ℕ) where
         let t = st.table in
         ap (λ (l : List Place). get_or l i d) (places-at k 0 t s.bounded.ordered ∙ ap (λ (l : List Place). places_below k t ++ (l ++ places_above k t)) (place_held (at k t) e))
         ∙ get_or_at (places_below k t) (place_in (at k t)) (places_above k t) d i (sym spot_is)
+
+-- the search stops at a place: it is that of h, unless its hash comes after h
+pub spot_within : {b : List ℕ} {h : Hash} {q : Quad} {i : ℕ} {p : Head} {after : Bool} → Kept b → Words h q → Seek b (λ f. place_hashes f.places) (held_places_in b) (quad_number q) i
+    → i < held_places_in b → ((f : Flat) (d : Place) → Shows b f → p ≡ head_of (get_or f.places i d)) → after ≡ ltb (quad_number q) (quad_number p.hash)
+    → SpotOf b (hash_num h) i (not after)
+spot_within {b} {h} {q} {i} {p} kept u k l reads e = record {
+  small = u.small;
+  most = k.most;
+  inside = λ e. l;
+  is = λ st s w.
+      let n = hash_num h in
+      let z = sizes w in
+      let d = blank 0 0 in
+      let bd = sought_at st s n u.words_are w k in
+      let x = ap quad_number u.words_are ∙ number_quad n in
+      let y = head-hash _ (reads (flat_of st) d w) in
+      record { bound = bd; held_is = tested st s n u.small bd d (omega arith) (e ∙ ap (λ (m : ℕ). ltb m (quad_number p.hash)) x ∙ ap (ltb n) y) };
+}
 
 -- ---- how long the lists are
 

@@ -1,5 +1,7 @@
 -- What the contracts say of one request: its owner and stage, its place, and how flag, package and parents change.
-use Rattle.std.specs.Prelude.{ℕ, ◌+◌, ◌≤◌, ◌<◌, ◌≡◌, ◌⊎◌, Bool, true, false, ◌||◌, List, [], ◌∷◌, ◌++◌, length, get_or}
+use Rattle.std.specs.Prelude.{ℕ, ◌+◌, ◌≤◌, ◌<◌, ◌≡◌, Bool, true, false, ◌||◌, Result, Ok, Err, List, [], ◌∷◌, ◌++◌, length, get_or}
+use Rattle.std.specs.Prelude as rust
+use Rattle.std.specs.Prelude.{Some, None}
 use Rattle.std.proofs.Math.Option.{Option, none, some}
 use Rattle.ident.specs.Number.{top, Key, place, wtxid}
 use Rattle.regions.specs.declared.Row.{Row}
@@ -14,18 +16,22 @@ use Rattle.store.specs.Shown.{held_places_in}
 use Rattle.requests.specs.Changes.{Spans, Tells}
 use Rattle.package_stages.specs.declared.Request.{Request}
 use Rattle.package_stages.specs.declared.Owner.{Owner as OwnerRead}
+use Rattle.package_stages.specs.declared.Stage.{Stage}
+use Rattle.package_stages.specs.declared.Stage.TheVariants.{Flagged, Awaiting, Enqueued}
 use Rattle.package_stages.specs.Records.{place_hashes}
 
--- ---- a request in numbers
+-- ---- a request as it is read
 
--- 0 stands for none: no connection is 0
-abbrev pub owner_num : Option Owner → ℕ
-owner_num none = 0
-owner_num (some o) = o.connection
+abbrev pub owner_as : rust.Option OwnerRead → Option Owner
+owner_as None = none
+owner_as (Some o) = some (record { connection = o.connection; deadline = o.deadline })
 
-abbrev pub deadline_num : Option Owner → ℕ
-deadline_num none = 0
-deadline_num (some o) = o.deadline
+-- the word of a place that has the stage; 0 is none
+abbrev pub stage_word : rust.Option Stage → ℕ
+stage_word None = 0
+stage_word (Some Flagged) = 1
+stage_word (Some Awaiting) = 2
+stage_word (Some Enqueued) = 3
 
 -- 0 neither flag nor package, 1 flag, 2 Awaiting, 3 Enqueued
 abbrev pub stage_of : Bool → Option Package → ℕ
@@ -46,9 +52,8 @@ abbrev pub has_place : machine.Request → Bool
 has_place q = q.info || is_some q.«package»
 
 pub record RequestOf (q : machine.Request) (r : Request) : Type 0 where
-  pub owner : r.owner ≡ owner_num q.owner
-  pub deadline : r.deadline ≡ deadline_num q.owner
-  pub stage : r.stage ≡ stage_of q.info q.«package»
+  pub owner : owner_as r.owner ≡ q.owner
+  pub stage : stage_word r.stage ≡ stage_of q.info q.«package»
   pub mark : r.mark ≡ q.fallback
 
 pub record RequestAt (b : List ℕ) (k : Key) (r : Request) : Type 0 where
@@ -58,22 +63,21 @@ pub record RequestAt (b : List ℕ) (k : Key) (r : Request) : Type 0 where
 -- ---- the owner among rows
 
 -- one of the rows from .. to owns its request, and names the owner
-pub record OwnerRow (rs : List Row) (d : Row) (from to n v : ℕ) : Type 0 where
+pub record OwnerRow (rs : List Row) (d : Row) (from to : ℕ) (o : OwnerRead) : Type 0 where
   pub index : ℕ
   pub least : from ≤ index
   pub most : index < to
   pub owns : own_bit (get_or rs index d) ≡ 1
-  pub connection : n ≡ (get_or rs index d).conn
-  pub deadline : v ≡ (get_or rs index d).deadline
+  pub connection : o.connection ≡ (get_or rs index d).conn
+  pub deadline : o.deadline ≡ (get_or rs index d).deadline
 
 -- none of them does
-pub record NoOwnerRow (rs : List Row) (d : Row) (from to n v : ℕ) : Type 0 where
-  pub free : (j : ℕ) → from ≤ j → j < to → own_bit (get_or rs j d) ≡ 1 → ⊥
-  pub connection : n ≡ 0
-  pub deadline : v ≡ 0
+abbrev pub NoOwnerRow : List Row → Row → ℕ → ℕ → Type 0
+NoOwnerRow rs d from to = (j : ℕ) → from ≤ j → j < to → own_bit (get_or rs j d) ≡ 1 → ⊥
 
-abbrev pub OwnerAmong : List ℕ → ℕ → ℕ → OwnerRead → Type 0
-OwnerAmong b from to r = (f : Flat) (d : Row) → Shows b f → OwnerRow f.rows d from to r.connection r.deadline ⊎ NoOwnerRow f.rows d from to r.connection r.deadline
+abbrev pub OwnerAmong : List ℕ → ℕ → ℕ → rust.Option OwnerRead → Type 0
+OwnerAmong b from to None = (f : Flat) (d : Row) → Shows b f → NoOwnerRow f.rows d from to
+OwnerAmong b from to (Some o) = (f : Flat) (d : Row) → Shows b f → OwnerRow f.rows d from to o
 
 -- ---- where the place of a hash stands
 
@@ -87,6 +91,11 @@ pub record SpotOf (b : List ℕ) (h i : ℕ) (held : Bool) : Type 0 where
   pub most : i ≤ held_places_in b
   pub inside : held ≡ true → i < held_places_in b
   pub is : Tells b (λ t. PlaceSpot t h i held)
+
+-- what a search for the hash h answers: its place, or where that would be
+abbrev pub Sought : List ℕ → ℕ → Result ℕ ℕ → Type 0
+Sought b h (Ok i) = SpotOf b h i true
+Sought b h (Err i) = SpotOf b h i false
 
 -- P holds of every request whose place is the i-th
 abbrev pub ReadAt : List ℕ → ℕ → (machine.Request → Type 0) → Type 0

@@ -9,13 +9,14 @@ ghost use Rattle.std.proofs.Math.Option.{some};
 ghost use Rattle.ident.specs.Number.{wtxid};
 ghost use Rattle.ident.specs.Words.{hash_num, key_num};
 ghost use Rattle.lent_lists.specs.Lists.{hashes_in};
-ghost use Rattle.machine.specs.State.{Package};
+ghost use Rattle.machine.specs.State.{Package, owner_is};
 ghost use Rattle.machine.specs.Table.{at, change};
+ghost use Rattle.machine.specs.Leave.{alive};
 ghost use Rattle.machine.specs.Package.{packaged};
 ghost use Rattle.places.specs.Places.{list_most};
 ghost use Rattle.store.specs.Shown.{rows_in, places_in, held_places_in, Kept, Shown};
 ghost use Rattle.requests.specs.Changes.{Tells, Makes};
-ghost use Rattle.package_stages.specs.Changes.{stage_of, wtxids_of, combined_of, OwnerAmong, RequestAt, SpotOf, ReadAt, OwnedPlain, flagged, TakesParent, with_parent, FlagOnly, begun, closed};
+ghost use Rattle.package_stages.specs.Changes.{stage_word, stage_of, wtxids_of, combined_of, OwnerAmong, RequestAt, Sought, ReadAt, OwnedPlain, flagged, TakesParent, with_parent, FlagOnly, begun, closed};
 
 use machine::limits::MAX_PARENTS;
 use places::{AWAITING, ENQUEUED, FLAG};
@@ -25,84 +26,106 @@ pub mod flat;
 
 // ---- where the place of a hash stands
 
-#[derive(Clone, Copy)]
-pub struct Spot {
-    pub at: usize,
-    pub held: bool,
-}
-
-// Where the place of the Wtxid key with hash h stands, or would; and whether the request has one.
-pub fn seek(s: &[u8], h: ident::Hash) -> Spot
+// Where the place of the Wtxid key with hash h stands, or would stand if the request had one.
+pub fn seek(s: &[u8], h: ident::Hash) -> Result<usize, usize>
     requires { Kept s.now }
-    ensures { SpotOf s.now (hash_num h) result.at result.held }
+    ensures { Sought s.now (hash_num h) result }
 {
     let q = requests::hash_quad(h);
     let at = flat::seek_place(s, q);
     if at < store::head::held_places(s) {
         let p = store::package_places::place_at(s, at);
         let x = p.hash;
-        let after = regions::quad_less(q, x);
-        Spot { at, held: !after }
-    } else {
-        Spot { at, held: false }
+        if !regions::quad_less(q, x) {
+            return Ok(at);
+        }
     }
+    Err(at)
 }
 
 // ---- the request at a key
 
-// Its rows are from .. to. Owner 0 is none. Stage: 0 neither flag nor package, 1 flag, 2 Awaiting, 3 Enqueued.
+// How far a request with a flag or a package has come.
+#[derive(Clone, Copy, PartialEq, Eq, Debug)]
+pub enum Stage {
+    Flagged,
+    Awaiting,
+    Enqueued,
+}
+
+// The stage that the word of a place stands for; 0 is none.
+fn stage_in(word: u64) -> Option<Stage>
+    ensures { word ≤ 3 → stage_word result ≡ word }
+{
+    match word {
+        FLAG => Some(Stage::Flagged),
+        AWAITING => Some(Stage::Awaiting),
+        ENQUEUED => Some(Stage::Enqueued),
+        _ => None,
+    }
+}
+
+#[derive(Clone, Copy)]
+pub struct Owner {
+    pub connection: u64,
+    pub deadline: u64,
+}
+
+// Its rows are from .. to.
 #[derive(Clone, Copy)]
 pub struct Request {
     pub from: usize,
     pub to: usize,
-    pub owner: u64,
-    pub deadline: u64,
-    pub stage: u64,
+    pub owner: Option<Owner>,
+    pub stage: Option<Stage>,
     pub mark: bool,
 }
 
-#[derive(Clone, Copy)]
-struct Owner {
-    connection: u64,
-    deadline: u64,
+impl Request {
+    ghost use Rattle.package_stages.specs.Changes.{owner_as};
+
+    pub fn is_owned_by(&self, n: u64) -> bool
+        ensures { result ≡ owner_is n (owner_as self.now.owner) }
+    {
+        self.owner.is_some_and(|o| o.connection == n)
+    }
+
+    // Whether it has an owner, whose deadline is still to come.
+    pub fn is_alive(&self, clock: u64) -> bool
+        ensures { result ≡ alive clock (owner_as self.now.owner) }
+    {
+        self.owner.is_some_and(|o| clock < o.deadline)
+    }
 }
 
-// Whom the rows from .. to name as owner; zeros, if nobody.
-fn owner_in(s: &[u8], from: usize, to: usize) -> Owner
+// Whom the rows from .. to name as owner.
+fn owner_in(s: &[u8], from: usize, to: usize) -> Option<Owner>
     requires { Shown s.now × (from ≤ to) × (to ≤ rows_in s.now) }
     ensures { OwnerAmong s.now from to result }
 {
     for i in from..to {
         let r = store::rows::row_at(s, i);
         if r.bits / 8 % 2 == 1 {
-            return Owner {
+            return Some(Owner {
                 connection: r.conn,
                 deadline: r.deadline,
-            };
+            });
         }
     }
-    Owner {
-        connection: 0,
-        deadline: 0,
-    }
+    None
 }
 
-fn stage_at(s: &[u8], k: ident::Key) -> u64
+fn stage_at(s: &[u8], k: ident::Key) -> Option<Stage>
     requires { Kept s.now }
-    ensures { Tells s.now (λ t. result ≡ stage_of (at (key_num k) t).info (at (key_num k) t).«package») }
+    ensures { Tells s.now (λ t. stage_word result ≡ stage_of (at (key_num k) t).info (at (key_num k) t).«package») }
 {
-    let t = k.kind;
-    match t {
-        ident::Kind::Txid => 0,
+    match k.kind {
+        ident::Kind::Txid => None,
         ident::Kind::Wtxid => {
-            let h = k.hash;
-            let p = seek(s, h);
-            if p.held {
-                let x = store::package_places::place_at(s, p.at);
-                x.stage
-            } else {
-                0
-            }
+            let Ok(i) = seek(s, k.hash) else {
+                return None;
+            };
+            stage_in(store::package_places::place_at(s, i).stage)
         }
     }
 }
@@ -115,14 +138,13 @@ pub fn request_at(s: &[u8], k: ident::Key) -> Request
     let w = requests::window_of(s, key);
     let from = w.from;
     let to = w.to;
-    let o = owner_in(s, from, to);
+    let owner = owner_in(s, from, to);
     let stage = stage_at(s, k);
     let m = requests::mark_in(s, from, to);
     Request {
         from,
         to,
-        owner: o.connection,
-        deadline: o.deadline,
+        owner,
         stage,
         mark: m == 1,
     }
@@ -180,9 +202,9 @@ pub fn open_info(s: &mut [u8], h: ident::Hash)
     requires { Kept s.old × (held_places_in s.old < places_in s.old) }
     ensures { Makes s.old s.new (λ t. OwnedPlain (at (wtxid (hash_num h)) t)) (change (wtxid (hash_num h)) flagged) }
 {
-    let p = seek(s, h);
+    let (Ok(i) | Err(i)) = seek(s, h);
     let q = requests::hash_quad(h);
-    store::package_places::open_place(s, p.at, q, FLAG);
+    store::package_places::open_place(s, i, q, FLAG);
 }
 
 // Puts a hash behind the parents of the request, which are fewer than 100.
@@ -190,9 +212,7 @@ pub fn add_parent(s: &mut [u8], h: ident::Hash, parent: ident::Hash)
     requires { Kept s.old }
     ensures { Makes s.old s.new (λ t. TakesParent (at (wtxid (hash_num h)) t)) (change (wtxid (hash_num h)) (with_parent (hash_num parent))) }
 {
-    let p = seek(s, h);
-    if p.held {
-        let i = p.at;
+    if let Ok(i) = seek(s, h) {
         let n = parents(s, i);
         let q = requests::hash_quad(parent);
         if n < MAX_PARENTS {
@@ -207,9 +227,7 @@ pub fn claim(s: &mut [u8], h: ident::Hash, combined: ident::Hash, list: &[u8])
     ensures { Makes s.old s.new (λ t. FlagOnly (at (wtxid (hash_num h)) t))
         (change (wtxid (hash_num h)) (packaged (record { combined = hash_num combined; wtxids = hashes_in list.now; enqueued = false }))) }
 {
-    let p = seek(s, h);
-    if p.held {
-        let i = p.at;
+    if let Ok(i) = seek(s, h) {
         let x = store::package_places::place_at(s, i);
         let q = requests::hash_quad(combined);
         if x.stage == FLAG {
@@ -225,9 +243,8 @@ pub fn enqueue(s: &mut [u8], h: ident::Hash)
     requires { Kept s.old }
     ensures { (p : Package) → Makes s.old s.new (λ t. (at (wtxid (hash_num h)) t).«package» ≡ some p) (change (wtxid (hash_num h)) (packaged (begun p))) }
 {
-    let p = seek(s, h);
-    if p.held {
-        store::package_places::set_stage(s, p.at, ENQUEUED);
+    if let Ok(i) = seek(s, h) {
+        store::package_places::set_stage(s, i, ENQUEUED);
     }
 }
 
@@ -236,8 +253,7 @@ pub fn close(s: &mut [u8], h: ident::Hash)
     requires { Kept s.old }
     ensures { Makes s.old s.new (λ t. Unit {0}) (change (wtxid (hash_num h)) closed) }
 {
-    let p = seek(s, h);
-    if p.held {
-        store::package_places::close_place(s, p.at);
+    if let Ok(i) = seek(s, h) {
+        store::package_places::close_place(s, i);
     }
 }

@@ -36,8 +36,8 @@ use Rattle.machine.specs.Listing.{
 use Rattle.machine.specs.Listing.{HeadLine, RequestLine, CandidateLine}
 use Rattle.machine.proofs.Tests.{test}
 use Rattle.store.specs.Gather.{kind_is, key_at, item_kind_as, candidate_at}
-use Rattle.package_stages.specs.Changes.{owner_num, deadline_num, stage_of, wtxids_of, combined_of, has_place}
-use Rattle.saving.specs.Laid.{behind, line_text, owner_texts, place_texts}
+use Rattle.package_stages.specs.Changes.{stage_of, wtxids_of, combined_of, has_place}
+use Rattle.saving.specs.Laid.{behind, line_text, place_texts}
 use Rattle.saving.proofs.Texts.{joined-behind, behind_both, behind-cons, behind_one}
 
 -- ---- lines of five fields
@@ -78,27 +78,6 @@ pub request-line : (y : Request) → line_text (RequestLine (with_candidates [] 
 unfolding line_text request_fields
 request-line y = parts (key_field short y.key) (bool_text y.info) (bool_text y.fallback) (maybe_fields owner_fields y.owner) (maybe_fields (package_fields short) y.«package»)
     (list_fields short y.parents)
-
--- ---- the owner in numbers
-
--- a candidate's connection is positive
-candidate-positive : (k : Key) (n : ℕ) (cs : List Candidate) → AllFit k cs → has n cs ≡ true → 0 < n
-unfolding has
-candidate-positive k n [] f e = absurd (let o : ◌≡◌ {A = ℕ} 0 1 = cc in omega arith)
-candidate-positive k n (c ∷ cs) f e = elim (test (eqb c.connection n)) [
-  | inl d ↦ omega (arith, eqb-true c.connection n d, f.0.positive)
-  | inr d ↦ candidate-positive k n cs f.1 (sym (or-false (has n cs) d) ∙ e)
-]
-  where
-    or-false : {a : Bool} (b : Bool) → a ≡ false → (a || b) ≡ b
-    or-false b z = rw z
-
-pub owner-texts : (y : Request) → Lawful y → owner_texts (owner_num y.owner) (deadline_num y.owner) ≡ maybe_fields owner_fields y.owner
-owner-texts y l = go y.owner l.owner
-  where
-    go : (o : Option Owner) → OwnerFits o y.candidates → owner_texts (owner_num o) (deadline_num o) ≡ maybe_fields owner_fields o
-    go none f = refl
-    go (some o) f = let p = candidate-positive y.key o.connection y.candidates l.candidates f.0 in rw (ne_eqb o.connection 0 (λ z. omega arith))
 
 -- ---- the stage in numbers
 

@@ -1,36 +1,45 @@
 -- The package and the parents of a request, read from its place.
 use Prim.Native.Nat.{ℕ, ◌+◌, ◌≤◌, ◌<◌}
 use mathlib.Core.Path.{◌≡◌, refl, sym, ap, subst, ◌∙◌}
-use mathlib.Core.Bool.{Bool, true}
+use mathlib.Core.Bool.{Bool, true, false}
 use mathlib.Core.List.{List, [], ◌∷◌, ◌++◌}
+use mathlib.Core.Option.{Option}
 use native.Mathlib.Numerals.{add-one}
 use native.Mathlib.Omega.{arith}
 use lib.Dec.{eqb}
 use lib.ListN.{length, take, get_or}
 use lib.Seq.{take-suc, take_all}
+use Rattle.std.specs.Option.{option_eq}
+use Rattle.std.specs.Prelude as rust
+use Rattle.std.specs.Prelude.{Some}
 use Rattle.ident.specs.declared.Kind.TheVariants.{Wtxid}
 use Rattle.ident.specs.declared.Key.{Key as IdentKey}
 use Rattle.ident.specs.Number.{Key, top, wtxid}
 use Rattle.ident.specs.Words.{hash_num, key_num}
 use Rattle.regions.specs.declared.Key.{Key as RowKey}
 use Rattle.regions.specs.Rows.{quad_number}
-use Rattle.machine.specs.State.{Request, State, with_candidates}
+use Rattle.machine.specs.State.{Owner, Request, State, with_candidates}
 use Rattle.machine.specs.Table.{at}
 use Rattle.machine.specs.Sound.{Sound}
 use Rattle.machine.specs.Text.{decimal, hexadecimal, bool_text}
-use Rattle.machine.specs.Listing.{short, none_text, maybe_fields, key_field, hash_fields, list_fields, package_fields, RequestLine}
+use Rattle.machine.specs.Listing.{short, none_text, maybe_fields, key_field, hash_fields, list_fields, owner_fields, package_fields, RequestLine}
 use Rattle.machine.proofs.Table.{at_key, lawful_at}
+use Rattle.machine.proofs.Tests.{never}
 use Rattle.store.specs.Image.{Writes}
 use Rattle.store.specs.Shown.{held_places_in, Kept}
 use Rattle.store.specs.Gather.{kind_is}
 use Rattle.regions.proofs.Order.{number_quad}
 use Rattle.requests.specs.Changes.{KeyWords, Tells}
 use Rattle.package_stages.specs.declared.Request.{Request as RequestRead}
-use Rattle.package_stages.specs.Changes.{stage_of, wtxids_of, combined_of, has_place, PlaceSpot, SpotOf, ReadAt, RequestAt}
-use Rattle.saving.specs.Laid.{Lays, behind, owner_texts, place_texts, line_text}
+use Rattle.package_stages.specs.contracts.StagePartialEq.TheImpl.{eq-value}
+use Rattle.package_stages.specs.declared.Stage.{Stage}
+use Rattle.package_stages.specs.declared.Stage.TheVariants.{Flagged, Awaiting, Enqueued}
+use Rattle.package_stages.proofs.Read.{stage-is, stage-eq}
+use Rattle.package_stages.specs.Changes.{owner_as, stage_word, stage_of, wtxids_of, combined_of, has_place, PlaceSpot, SpotOf, ReadAt, RequestAt}
+use Rattle.saving.specs.Laid.{Lays, behind, place_texts, line_text}
 use Rattle.saving.proofs.Laying.{lays_as, lays_more, lays_none}
 use Rattle.saving.proofs.Texts.{behind_both, behind-cons, behind_one, bit-kind}
-use Rattle.saving.proofs.Lines.{request-line, owner-texts, flag_is, bare-place, staged_kind, no-package, the-package}
+use Rattle.saving.proofs.Lines.{request-line, flag_is, bare-place, staged_kind, no-package, the-package}
 
 -- ---- hashes one behind the other
 
@@ -86,20 +95,36 @@ module _ {b : List ℕ} {i : ℕ} {u u₁ u₂ : List ℕ} {a e r n : ℕ} where
       lays_as (ap (λ (m : ℕ). (44 ∷ decimal m) ++ behind (hash_fields short y.parents)) z ∙ sym (behind-cons (decimal (length y.parents)) (hash_fields short y.parents)))
       (lays_more p (l k small st s w x z))
 
+pub flagged_stage : (a : Stage) → true ≡ eq-value.it a Flagged → stage_word (Some a) < 2
+flagged_stage Flagged e = omega arith
+flagged_stage Awaiting e = never (sym e)
+flagged_stage Enqueued e = never (sym e)
+
+pub package_stage : (a : Stage) → false ≡ eq-value.it a Flagged → 2 ≤ stage_word (Some a)
+package_stage Flagged e = never e
+package_stage Awaiting e = omega arith
+package_stage Enqueued e = omega arith
+
+-- a stage is a word above 0
+pub staged_word : (a : Stage) → stage_word (Some a) ≡ 0 → ⊥
+staged_word Flagged e = omega arith
+staged_word Awaiting e = omega arith
+staged_word Enqueued e = omega arith
+
 module _ {b : List ℕ} {i : ℕ} {u : List ℕ} {a stage : ℕ} where
   pub none_laid : {u' : List ℕ} {r : ℕ} → stage < 2 → Lays u u' a (44 ∷ none_text) r
       → ReadAt b i (λ q. stage ≡ stage_of q.info q.«package» → Lays u u' a (behind (maybe_fields (package_fields short) q.«package»)) r)
   none_laid h p k small st s w x z = lays_as (no-package (at (wtxid k) st.table) h z) p
 
-  pub package-laid : {u₁ u₂ u₃ u₄ : List ℕ} {e₁ e₂ e₃ r n : ℕ} (c : ℕ) → 2 ≤ stage → ReadAt b i (λ q. c ≡ combined_of q.«package») → ReadAt b i (λ q. n ≡ length (wtxids_of q.«package»))
+  pub package-laid : {u₁ u₂ u₃ u₄ : List ℕ} {e₁ e₂ e₃ r n : ℕ} {enqueued : Bool} (c : ℕ) → 2 ≤ stage → enqueued ≡ eqb stage 3 → ReadAt b i (λ q. c ≡ combined_of q.«package») → ReadAt b i (λ q. n ≡ length (wtxids_of q.«package»))
       → Lays u u₁ a (44 ∷ hexadecimal c) e₁ → Lays u₁ u₂ e₁ (44 ∷ decimal n) e₂
       → ReadAt b i (λ q. n ≡ length (wtxids_of q.«package») → Lays u₂ u₃ e₂ (behind (hash_fields short (wtxids_of q.«package»))) e₃)
-      → Lays u₃ u₄ e₃ (44 ∷ bool_text (eqb stage 3)) r
+      → Lays u₃ u₄ e₃ (44 ∷ bool_text enqueued) r
       → ReadAt b i (λ q. stage ≡ stage_of q.info q.«package» → Lays u u₄ a (behind (maybe_fields (package_fields short) q.«package»)) r)
-  package-laid c h cc' nn p₁ p₂ p₃ p₄ k small st s w x z =
+  package-laid c h en cc' nn p₁ p₂ p₃ p₄ k small st s w x z =
       let y = at (wtxid k) st.table in
       let m = nn k small st s w x in
-      lays_as (the-package y.info y.«package» h z (cc' k small st s w x) m) (lays_more p₁ (lays_more p₂ (lays_more (p₃ k small st s w x m) p₄)))
+      lays_as (the-package y.info y.«package» h z (cc' k small st s w x) m) (lays_more p₁ (lays_more p₂ (lays_more (p₃ k small st s w x m) (lays_as (ap (λ (e : Bool). 44 ∷ bool_text e) en) p₄))))
 
 -- ---- both, of the request at a key
 
@@ -148,8 +173,9 @@ module _ {b : List ℕ} (k : Key) (stage : ℕ) (is : Tells b (λ t. stage ≡ s
 -- ---- the line
 
 module _ {b : List ℕ} {k : IdentKey} {q : RequestRead} (x : RequestAt b (key_num k) q) {w : RowKey} (kw : KeyWords k w) {u u₁ u₂ u₃ u₄ u₅ u₆ : List ℕ} {a e₁ e₂ e₃ e₄ e₅ r : ℕ}
-    (p₁ : Lays u u₁ a (key_field short (record { kind = kind_is w.kind; hash = quad_number w.hash })) e₁) (p₂ : Lays u₁ u₂ e₁ (behind (owner_texts q.owner q.deadline)) e₂)
-    (p₃ : Lays u₂ u₃ e₂ (44 ∷ bool_text (eqb q.stage 1)) e₃) (p₄ : Tells b (λ t. Lays u₃ u₄ e₃ (behind (place_texts (at (key_num k) t))) e₄))
+    {flag : Bool} (flag-is : flag ≡ option_eq eq-value.it q.stage (Some Flagged))
+    (p₁ : Lays u u₁ a (key_field short (record { kind = kind_is w.kind; hash = quad_number w.hash })) e₁) (p₂ : Lays u₁ u₂ e₁ (behind (maybe_fields owner_fields (owner_as q.owner))) e₂)
+    (p₃ : Lays u₂ u₃ e₂ (44 ∷ bool_text flag) e₃) (p₄ : Tells b (λ t. Lays u₃ u₄ e₃ (behind (place_texts (at (key_num k) t))) e₄))
     (p₅ : Lays u₄ u₅ e₄ (44 ∷ bool_text q.mark) e₅) (p₆ : Lays u₅ u₆ e₅ (10 ∷ []) r) where
   pub request-laid : Tells b (λ t. Lays u u₆ a (line_text (RequestLine (with_candidates [] (at (key_num k) t)))) r)
   request-laid st s v =
@@ -160,7 +186,7 @@ module _ {b : List ℕ} {k : IdentKey} {q : RequestRead} (x : RequestAt b (key_n
       let hash : quad_number w.hash ≡ hash_num k.hash = ap quad_number kw.hash ∙ number_quad (hash_num k.hash) in
       let key : key_num k ≡ y.key = sym (at_key (key_num k) 0 st.table kw.small s.bounded.ordered) in
       let c₁ = lays_as ((λ i. key_field short (record { kind = kind i; hash = hash i })) ∙ ap (key_field short) key) p₁ in
-      let c₂ = lays_as ((λ i. behind (owner_texts (f.owner i) (f.deadline i))) ∙ ap behind (owner-texts y l)) p₂ in
-      let c₃ = lays_as (ap (λ (z : ℕ). 44 ∷ bool_text (eqb z 1)) f.stage ∙ ap (λ (z : Bool). 44 ∷ bool_text z) (flag_is y l)) p₃ in
+      let c₂ = lays_as (ap (λ (o : Option Owner). behind (maybe_fields owner_fields o)) f.owner) p₂ in
+      let c₃ = lays_as (ap (λ (z : Bool). 44 ∷ bool_text z) (flag-is ∙ stage-is f Flagged ∙ flag_is y l)) p₃ in
       let c₅ = lays_as (ap (λ (z : Bool). 44 ∷ bool_text z) f.mark) p₅ in
       lays_as (sym (request-line y)) (lays_more c₁ (lays_more c₂ (lays_more c₃ (lays_more (p₄ st s v) (lays_more c₅ p₆)))))

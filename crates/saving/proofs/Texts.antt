@@ -3,7 +3,7 @@ use Prim.Native.Nat.{ℕ, zero, suc, ◌+◌, ◌-◌, ◌≤◌}
 use mathlib.Core.Path.{◌≡◌, refl, sym, ap, ◌∙◌}
 use mathlib.Core.Bool.{Bool, true, false}
 use mathlib.Core.List.{List, [], ◌∷◌, ◌++◌, append_assoc, append-nil}
-use mathlib.Core.Option.{Option, some}
+use mathlib.Core.Option.{Option, none, some}
 use native.Mathlib.Omega.{arith}
 use lib.ListN.{length}
 use borrow.Author.Tests.{ne_eqb}
@@ -17,7 +17,8 @@ use Rattle.regions.specs.declared.Quad.{Quad}
 use Rattle.regions.specs.Rows.{quad_number}
 use Rattle.regions.proofs.Order.{number_quad}
 use Rattle.machine.specs.Text.{joined, decimal, hexadecimal, bool_text, kind_letter, item_kind_text}
-use Rattle.machine.specs.Listing.{short, none_text, maybe_field, key_field, item_field}
+use Rattle.machine.specs.Listing.{short, none_text, maybe_field, maybe_fields, key_field, item_field, owner_fields}
+use Rattle.machine.specs.State.{Owner}
 use Rattle.store.specs.Flat.{kind_bit}
 use Rattle.store.specs.Gather.{kind_is, item_kind_as}
 use Rattle.store.specs.Read.{cursor_is}
@@ -27,7 +28,7 @@ use Rattle.cursors.specs.declared.MaybeTime.TheVariants.{None, Is}
 use Rattle.cursors.specs.declared.Stored.{Stored}
 use Rattle.cursors.specs.Numbers.{time_num}
 use Rattle.cursors.specs.InWords.{stored_key}
-use Rattle.saving.specs.Laid.{Lays, behind, owner_texts}
+use Rattle.saving.specs.Laid.{Lays, behind}
 use Rattle.saving.proofs.Laying.{lays_as, lays_more}
 
 -- ---- texts behind others
@@ -87,8 +88,8 @@ module _ {s s' : List ℕ} {a r : ℕ} where
 
   -- ---- an owner
 
-  pub no-owner : {n : ℕ} (d : ℕ) → n ≡ 0 → Lays s s' a (44 ∷ none_text) r → Lays s s' a (behind (owner_texts n d)) r
-  no-owner d e p = rw (e, behind_one none_text) p
+  pub no-owner : {o : Option Owner} → o ≡ none → Lays s s' a (44 ∷ none_text) r → Lays s s' a (behind (maybe_fields owner_fields o)) r
+  no-owner e p = rw (e, behind_one none_text) p
 
 -- ---- keys, items, hashes
 
@@ -124,8 +125,9 @@ module _ {s s₁ s₂ : List ℕ} {a e r : ℕ} where
   pub next_hash-laid : {h : Hash} {q : Quad} → Words h q → Lays s s₁ a (44 ∷ []) e → Lays s₁ s₂ e (hexadecimal (quad_number q)) r → Lays s s₂ a (44 ∷ hexadecimal (hash_num h)) r
   next_hash-laid v p q = lays_more p (rw (hash_is v) at q)
 
-  pub owner-laid : {n : ℕ} (d : ℕ) → (n ≡ 0 → ⊥) → Lays s s₁ a (44 ∷ decimal n) e → Lays s₁ s₂ e (44 ∷ decimal d) r → Lays s s₂ a (behind (owner_texts n d)) r
-  owner-laid {n} d f p q = rw (ne_eqb n 0 f, behind-cons (decimal n) (decimal d ∷ []), behind_one (decimal d)) (lays_more p q)
+  pub owner-laid : {o : Option Owner} (w : Owner) → o ≡ some w → Lays s s₁ a (44 ∷ decimal w.connection) e → Lays s₁ s₂ e (44 ∷ decimal w.deadline) r
+      → Lays s s₂ a (behind (maybe_fields owner_fields o)) r
+  owner-laid w f p q = rw (f, behind-cons (decimal w.connection) (decimal w.deadline ∷ []), behind_one (decimal w.deadline)) (lays_more p q)
 
 pub item-laid : {s s₁ s₂ s₃ : List ℕ} {a e₁ e₂ r : ℕ} (k : ItemKind) (h : ℕ) → Lays s s₁ a (44 ∷ []) e₁ → Lays s₁ s₂ e₁ (item_kind_text k) e₂ → Lays s₂ s₃ e₂ (hexadecimal h) r
     → Lays s s₃ a (44 ∷ item_field short (record { kind = k; hash = h })) r

@@ -74,10 +74,6 @@ behind (t ∷ ts) = 44 ∷ (t ++ behind ts)
 unfoldable pub line_text : Line → List ℕ
 line_text l = joined (line_fields short l) ++ (10 ∷ [])
 
--- an owner in numbers: connection 0 stands for none
-abbrev pub owner_texts : ℕ → ℕ → List (List ℕ)
-owner_texts n d = if eqb n 0 then none_text ∷ [] else decimal n ∷ decimal d ∷ []
-
 -- package and parents of a request
 abbrev pub place_texts : Request → List (List ℕ)
 place_texts r = maybe_fields (package_fields short) r.«package» ++ list_fields short r.parents

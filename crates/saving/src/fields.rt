@@ -7,8 +7,9 @@ ghost use Rattle.ident.specs.Words.{hash_num};
 ghost use Rattle.regions.specs.Rows.{quad_number};
 ghost use Rattle.store.specs.Gather.{kind_is, item_kind_as};
 ghost use Rattle.machine.specs.Text.{decimal_digits, decimal, hash_digits, hexadecimal, bool_text, kind_letter, item_kind_text};
-ghost use Rattle.machine.specs.Listing.{short, key_field};
-ghost use Rattle.saving.specs.Laid.{Lays, farthest, number_room, hash_room, key_room, owner_room, behind, owner_texts};
+ghost use Rattle.machine.specs.Listing.{short, maybe_fields, key_field, owner_fields};
+ghost use Rattle.package_stages.specs.Changes.{owner_as};
+ghost use Rattle.saving.specs.Laid.{Lays, farthest, number_room, hash_room, key_room, owner_room, behind};
 
 use lines::write::put_bytes;
 
@@ -104,14 +105,14 @@ pub fn next_bool(out: &mut [u8], at: usize, b: bool) -> usize
     put_text(out, at, b",0")
 }
 
-// An owner and its deadline; connection 0 is no owner.
-pub fn next_owner(out: &mut [u8], at: usize, n: u64, deadline: u64) -> usize
+// An owner and its deadline, if there is one.
+pub fn next_owner(out: &mut [u8], at: usize, owner: Option<package_stages::Owner>) -> usize
     requires { at + owner_room ≤ farthest }
-    ensures { (result ≤ at + owner_room) × Lays out.old out.new at (behind (owner_texts n deadline)) result }
+    ensures { (result ≤ at + owner_room) × Lays out.old out.new at (behind (maybe_fields owner_fields (owner_as owner))) result }
 {
-    if n == 0 {
+    let Some(owner) = owner else {
         return put_text(out, at, b",none");
-    }
-    let e = next_number(out, at, n);
-    next_number(out, e, deadline)
+    };
+    let e = next_number(out, at, owner.connection);
+    next_number(out, e, owner.deadline)
 }

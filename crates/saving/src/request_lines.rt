@@ -1,5 +1,5 @@
 // The line of a request: key, owner, flag, package, parents, mark.
-ghost use Rattle.std.specs.Prelude.{◌≡◌, ◌+◌, ◌≤◌, ◌<◌, [], length};
+ghost use Rattle.std.specs.Prelude.{◌≡◌, ◌+◌, ◌≤◌, ◌<◌, [], length, Some};
 ghost use Rattle.ident.specs.Words.{key_num};
 ghost use Rattle.places.specs.Places.{list_most};
 ghost use Rattle.machine.specs.State.{with_candidates};
@@ -7,11 +7,11 @@ ghost use Rattle.machine.specs.Table.{at as the};
 ghost use Rattle.machine.specs.Listing.{short, hash_fields, list_fields, maybe_fields, package_fields, RequestLine};
 ghost use Rattle.store.specs.Shown.{held_places_in, Kept};
 ghost use Rattle.requests.specs.Changes.{Tells};
-ghost use Rattle.package_stages.specs.Changes.{stage_of, wtxids_of, ReadAt, RequestAt};
+ghost use Rattle.package_stages.specs.Changes.{stage_word, stage_of, wtxids_of, ReadAt, RequestAt};
 ghost use Rattle.saving.specs.Laid.{Lays, farthest, hashes_room, package_room, parents_room, place_room, request_room, behind, place_texts, line_text};
 
 use crate::fields::{next_bool, next_hash, next_number, next_owner, put_key, put_text};
-use places::{AWAITING, ENQUEUED, FLAG};
+use package_stages::Stage;
 
 // The n wtxids of the i-th place, each behind a comma.
 fn next_wtxids(s: &[u8], out: &mut [u8], at: usize, i: usize, n: usize) -> usize
@@ -52,12 +52,12 @@ fn next_parents(s: &[u8], out: &mut [u8], at: usize, i: usize) -> usize
 }
 
 // The package of the i-th place, whose request has this stage.
-fn next_package(s: &[u8], out: &mut [u8], at: usize, i: usize, stage: u64) -> usize
+fn next_package(s: &[u8], out: &mut [u8], at: usize, i: usize, stage: Stage) -> usize
     requires { Kept s.now × (i < held_places_in s.now) × (at + package_room ≤ farthest) }
     ensures { (result ≤ at + package_room)
-        × ReadAt s.now i (λ q. stage ≡ stage_of q.info q.«package» → Lays out.old out.new at (behind (maybe_fields (package_fields short) q.«package»)) result) }
+        × ReadAt s.now i (λ q. stage_word (Some stage) ≡ stage_of q.info q.«package» → Lays out.old out.new at (behind (maybe_fields (package_fields short) q.«package»)) result) }
 {
-    if stage < AWAITING {
+    if stage == Stage::Flagged {
         return put_text(out, at, b",none");
     }
     let c = package_stages::combined_at(s, i);
@@ -65,7 +65,7 @@ fn next_package(s: &[u8], out: &mut [u8], at: usize, i: usize, stage: u64) -> us
     let e = next_hash(out, at, c);
     let e = next_number(out, e, n as u64);
     let e = next_wtxids(s, out, e, i, n);
-    next_bool(out, e, stage == ENQUEUED)
+    next_bool(out, e, stage == Stage::Enqueued)
 }
 
 // Package and parents of the request at k, which has this stage.
@@ -79,13 +79,12 @@ fn next_place(
     requires { Kept s.now × RequestAt s.now (key_num k) q × (at + place_room ≤ farthest) }
     ensures { (result ≤ at + place_room) × Tells s.now (λ t. Lays out.old out.new at (behind (place_texts (the (key_num k) t))) result) }
 {
-    let stage = q.stage;
-    if stage == 0 {
+    let Some(stage) = q.stage else {
         return put_text(out, at, b",none,0");
-    }
-    let h = k.hash;
-    let p = package_stages::seek(s, h);
-    let i = p.at;
+    };
+    let Ok(i) = package_stages::seek(s, k.hash) else {
+        unreachable!("a request with a stage has a place");
+    };
     let e = next_package(s, out, at, i, stage);
     next_parents(s, out, e, i)
 }
@@ -103,8 +102,8 @@ pub fn put_request(
 {
     let w = requests::key_words(k);
     let e = put_key(out, at, w);
-    let e = next_owner(out, e, q.owner, q.deadline);
-    let e = next_bool(out, e, q.stage == FLAG);
+    let e = next_owner(out, e, q.owner);
+    let e = next_bool(out, e, q.stage == Some(Stage::Flagged));
     let e = next_place(s, out, e, k, q);
     let e = next_bool(out, e, q.mark);
     put_text(out, e, b"\n")

@@ -1,4 +1,4 @@
--- The owner and the stage of a request, as the code reads them.
+-- The stages of a request, in numbers.
 use Prim.Native.Nat.{ℕ, ◌+◌, ◌≤◌, ◌<◌}
 use mathlib.Core.Path.{◌≡◌, refl, sym, ap, ◌∙◌}
 use mathlib.Core.Logic.{◌⊎◌, inl, inr}
@@ -7,44 +7,18 @@ use mathlib.Core.Option.{Option, none, some}
 use native.Mathlib.Omega.{arith}
 use lib.Dec.{ltb, eqb}
 use borrow.Author.Tests.{lt-ltb, le-ltb, eq-eqb, ne_eqb}
+use Rattle.std.specs.Option.{option_eq}
+use Rattle.std.specs.Prelude.{Some}
 use Rattle.machine.specs.State as machine
-use Rattle.machine.specs.State.{Owner, Package, is_none}
+use Rattle.machine.specs.State.{Owner, Package, is_none, owner_is}
 use Rattle.machine.specs.Table.{one}
+use Rattle.machine.specs.Leave.{alive}
 use Rattle.machine.specs.Package.{live_owner}
 use Rattle.package_stages.specs.declared.Request.{Request}
-use Rattle.package_stages.specs.Changes.{owner_num, deadline_num, stage_of, RequestOf}
-
--- ---- an owner whose deadline is still to come
-
-live_is : (n now : ℕ) (o : Option Owner) → (eqb (owner_num o) n && ltb now (deadline_num o)) ≡ live_owner n now o
-live_is n now none = rw (le-ltb now 0 (omega arith)) (and-false (eqb 0 n))
-live_is n now (some o) = refl
-
--- the two tests, as the code makes them
-pub both_tests : {b t : Bool} {a n : ℕ} → a ≡ n → b ≡ t → b ≡ (eqb a n && t)
-both_tests {a = a} {n = n} e q = rw (eq-eqb a n e) q
-
-pub live_tests : {a n now d : ℕ} → a ≡ n → now < d → true ≡ (eqb a n && ltb now d)
-live_tests {a} {n} {now} {d} e l = rw (eq-eqb a n e, lt-ltb now d l) refl
-
-pub late_tests : {a n now d : ℕ} → (a ≡ n × d ≤ now) ⊎ (a ≡ n → ⊥) → (eqb a n && ltb now d) ≡ false
-late_tests {a} {n} {now} {d} (inl z) = rw (eq-eqb a n z.0, le-ltb now d z.1) refl
-late_tests {a} {n} {now} {d} (inr z) = rw (ne_eqb a n z) refl
-
-pub first_test : {b : Bool} {a n : ℕ} (t : Bool) → (a ≡ n → ⊥) → b ≡ eqb a n → b ≡ (eqb a n && t)
-first_test {a = a} {n = n} t e q = rw (ne_eqb a n e) (q ∙ ne_eqb a n e)
-
-module _ {q : machine.Request} {r : Request} (f : RequestOf q r) (n now stage : ℕ) {b : Bool} (e : b ≡ (eqb r.owner n && ltb now r.deadline)) where
-  live : live_owner n now q.owner ≡ b
-  live = sym (rw (f.owner, f.deadline) at e ∙ live_is n now q.owner)
-
-  pub stage_read : b ≡ true → eqb r.stage stage ≡ (live_owner n now q.owner && eqb (stage_of q.info q.«package») stage)
-  stage_read d = rw (live ∙ d) (ap (λ (x : ℕ). eqb x stage) f.stage)
-
-  pub not_live : (eqb r.owner n && ltb now r.deadline) ≡ false → b ≡ (live_owner n now q.owner && eqb (stage_of q.info q.«package») stage)
-  not_live d = e ∙ d ∙ rw (live ∙ e ∙ d) refl
-
--- ---- stages
+use Rattle.package_stages.specs.contracts.StagePartialEq.TheImpl.{eq-value}
+use Rattle.package_stages.specs.declared.Stage.{Stage}
+use Rattle.package_stages.specs.Changes.{owner_as, stage_word, stage_of, RequestOf}
+use Rattle.package_stages.proofs.Read.{stage-is}
 
 pub flag_is : (i : Bool) (p : Option Package) → eqb (stage_of i p) 1 ≡ (i && is_none p)
 flag_is i (some p) = ne_eqb (2 + one p.enqueued) 1 (λ e. omega arith) ∙ sym (and-false i)

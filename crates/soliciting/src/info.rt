@@ -41,7 +41,7 @@ fn may_own(s: &[u8], n: u64, h: ident::Hash) -> bool
 {
     let a = package_stages::request_at(s, ident::txid_key(ident::Txid(h)));
     let b = package_stages::request_at(s, ident::wtxid_key(ident::Wtxid(h)));
-    if a.owner != 0 || b.owner != 0 {
+    if a.owner.is_some() || b.owner.is_some() {
         return false;
     }
     let f = requests::figures(s, n);

@@ -1,7 +1,7 @@
 // The package calls on the bytes of a sound store (document 01, "claim_package", "begin_package_resolution").
 #![tactic(auto)]
 
-ghost use Rattle.std.specs.Prelude.{◌≡◌, ◌<◌, ◌&&◌, eqb};
+ghost use Rattle.std.specs.Prelude.{◌≡◌, ◌<◌, ◌&&◌, eqb, Some};
 ghost use Rattle.ident.specs.Number.{wtxid};
 ghost use Rattle.ident.specs.Words.{hash_num};
 ghost use Rattle.lent_lists.specs.Lists.{hashes_in};
@@ -9,23 +9,23 @@ ghost use Rattle.machine.specs.Table.{at};
 ghost use Rattle.machine.specs.Package as machine;
 ghost use Rattle.store.specs.Shown.{held_places_in, Kept};
 ghost use Rattle.requests.specs.Changes.{Tells};
-ghost use Rattle.package_stages.specs.Changes.{stage_of, wtxids_of, combined_of, ReadAt};
+ghost use Rattle.package_stages.specs.Changes.{stage_word, stage_of, wtxids_of, combined_of, ReadAt};
 ghost use Rattle.announcing.specs.Answers.{Answered};
 
 use machine::limits::MAX_WTXIDS;
-use places::{AWAITING, FLAG};
+use package_stages::Stage;
 
 pub mod info;
 
 // Whether the request at the Wtxid key of `subject` has the stage, and n owns it with the deadline still to come.
-fn owned_at(s: &[u8], n: u64, subject: ident::Wtxid, clock: u64, stage: u64) -> bool
+fn owned_at(s: &[u8], n: u64, subject: ident::Wtxid, clock: u64, stage: Stage) -> bool
     requires { Kept s.now }
     ensures { Tells s.now (λ t. result ≡ (machine.live_owner n clock (at (wtxid (hash_num subject.0)) t).owner && eqb
-        (stage_of (at (wtxid (hash_num subject.0)) t).info (at (wtxid (hash_num subject.0)) t).«package») stage)) }
+        (stage_of (at (wtxid (hash_num subject.0)) t).info (at (wtxid (hash_num subject.0)) t).«package») (stage_word (Some stage)))) }
 {
     let k = ident::wtxid_key(subject);
     let r = package_stages::request_at(s, k);
-    r.owner == n && clock < r.deadline && r.stage == stage
+    r.is_owned_by(n) && r.is_alive(clock) && r.stage == Some(stage)
 }
 
 // The flag becomes a package, Awaiting, with 1 to 100 wtxids.
@@ -44,7 +44,7 @@ pub fn claim_package(
     if count == 0 || count > MAX_WTXIDS {
         return false;
     }
-    if !owned_at(s, n, subject, clock, FLAG) {
+    if !owned_at(s, n, subject, clock, Stage::Flagged) {
         return false;
     }
     package_stages::claim(s, subject.0, combined, wtxids);
@@ -86,11 +86,13 @@ pub fn begin_package_resolution(
     requires { Kept s.old }
     ensures { Answered s.old s.new result (λ m t. machine.begin_resolution n (hash_num subject.0) (hash_num combined) (hashes_in wtxids.now) clock t) }
 {
-    if !owned_at(s, n, subject, clock, AWAITING) {
+    if !owned_at(s, n, subject, clock, Stage::Awaiting) {
         return false;
     }
-    let p = package_stages::seek(s, subject.0);
-    if !same_package(s, p.at, combined, wtxids) {
+    let Ok(i) = package_stages::seek(s, subject.0) else {
+        unreachable!("a request with a stage has a place");
+    };
+    if !same_package(s, i, combined, wtxids) {
         return false;
     }
     package_stages::enqueue(s, subject.0);

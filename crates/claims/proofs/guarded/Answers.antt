@@ -1,16 +1,14 @@
-use mathlib.Core.Path.{ap, ◌∙◌}
-use mathlib.Core.Bool.{not}
-use borrow.Author.Tests.{eq-eqb}
+use mathlib.Core.Path.{refl, sym, ◌∙◌}
 use Rattle.claims.proofs.Known.{guarded-enqueued, guarded_in_time, guarded_not}
 use Rattle.claims.proofs.guarded.Goals as goal
 
-pub returns-then-r-eq-ENQUEUED : goal.returns-then-r-eq-ENQUEUED
-returns-then-r-eq-ENQUEUED c = λ st s w. guarded-enqueued (c.request_at-r.ensures.is st s w) c.args.clock c.if-r-eq-ENQUEUED.true
+pub returns-then-eq : goal.returns-then-eq
+returns-then-eq c = λ st s w. c.if-eq.true ∙ guarded-enqueued (c.request_at-r.ensures.is st s w) c.args.clock (sym c.if-eq.true ∙ c.eq.ensures)
 
-pub returns-then-r-ne0 : goal.returns-then-r-ne0
-returns-then-r-ne0 c = λ st s w. guarded_in_time (c.request_at-r.ensures.is st s w) c.args.clock
-    c.if-r-eq-ENQUEUED.false c.if-r-ne0.true
+pub returns-then-is_some : goal.returns-then-is_some
+returns-then-is_some c = λ st s w.
+    guarded_in_time (c.request_at-r.ensures.is st s w) c.args.clock (sym c.if-eq.false ∙ c.eq.ensures) (sym c.is_some.ensures ∙ c.if-is_some.true) c.is_alive.ensures
 
-pub returns-else-r-ne0 : goal.returns-else-r-ne0
-returns-else-r-ne0 c = λ st s w. ap not (eq-eqb _ 0 c.if-r-ne0.false) ∙ guarded_not (c.request_at-r.ensures.is st s w)
-    c.args.clock c.if-r-eq-ENQUEUED.false c.if-r-ne0.false
+pub returns-else-is_some : goal.returns-else-is_some
+returns-else-is_some c = λ st s w.
+    c.if-is_some.false ∙ guarded_not (c.request_at-r.ensures.is st s w) c.args.clock (sym c.if-eq.false ∙ c.eq.ensures) (sym c.is_some.ensures ∙ c.if-is_some.false)

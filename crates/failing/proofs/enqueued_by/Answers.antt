@@ -1,12 +1,13 @@
-use Rattle.ident.specs.Words.{key_num}
-use Rattle.machine.proofs.Table.{lawful_at}
-use Rattle.failing.proofs.Enqueued.{enqueued-owned, not_enqueued}
+use mathlib.Core.Path.{sym, ◌∙◌}
+use Rattle.failing.proofs.Releasing.{owner-is, enqueued-is}
 use Rattle.failing.proofs.enqueued_by.Goals as goal
 
-pub returns-then-r-eq-ENQUEUED : goal.returns-then-r-eq-ENQUEUED
-returns-then-r-eq-ENQUEUED c = λ st s w. enqueued-owned (lawful_at (key_num c.args.k) st.table s.bounded.lawful)
-    (c.request_at-r.ensures.is st s w) c.args.n c.if-r-eq-ENQUEUED.true
+pub returns-then-is_owned_by : goal.returns-then-is_owned_by
+returns-then-is_owned_by c = λ st s w.
+    let x = c.request_at-r.ensures.is st s w in
+    rw (sym (owner-is x c.args.n c.is_owned_by.ensures) ∙ c.if-is_owned_by.true) (enqueued-is x c.eq.ensures)
 
-pub returns-else-r-eq-ENQUEUED : goal.returns-else-r-eq-ENQUEUED
-returns-else-r-eq-ENQUEUED c = λ st s w. not_enqueued (lawful_at (key_num c.args.k) st.table s.bounded.lawful) (c.request_at-r.ensures.is st s w)
-    c.args.n c.if-r-eq-ENQUEUED.false
+pub returns-else-is_owned_by : goal.returns-else-is_owned_by
+returns-else-is_owned_by c = λ st s w.
+    let x = c.request_at-r.ensures.is st s w in
+    rw (sym (owner-is x c.args.n c.is_owned_by.ensures) ∙ c.if-is_owned_by.false) c.if-is_owned_by.false

@@ -1,12 +1,18 @@
+use mathlib.Core.Path.{sym, ◌∙◌}
 use Rattle.ident.specs.Words.{key_num}
 use Rattle.machine.proofs.Table.{lawful_at}
-use Rattle.failing.proofs.PackageInfo.{flag-owned, flag-missing}
+use Rattle.failing.proofs.PackageInfo.{info-is}
+use Rattle.failing.proofs.Releasing.{owner-is}
 use Rattle.failing.proofs.info_owned.Goals as goal
 
-pub returns-then-r-eq-FLAG : goal.returns-then-r-eq-FLAG
-returns-then-r-eq-FLAG c = λ st s w. flag-owned (lawful_at (key_num c.args.k) st.table s.bounded.lawful)
-    (c.request_at-r.ensures.is st s w) c.args.n c.if-r-eq-FLAG.true
+pub returns-then-eq : goal.returns-then-eq
+returns-then-eq c = λ st s w.
+    let x = c.request_at-r.ensures.is st s w in
+    let l = lawful_at (key_num c.args.k) st.table s.bounded.lawful in
+    rw (sym (info-is l x c.eq.ensures) ∙ c.if-eq.true) (owner-is x c.args.n c.is_owned_by.ensures)
 
-pub returns-else-r-eq-FLAG : goal.returns-else-r-eq-FLAG
-returns-else-r-eq-FLAG c = λ st s w. flag-missing (lawful_at (key_num c.args.k) st.table s.bounded.lawful) (c.request_at-r.ensures.is st s w)
-    c.args.n c.if-r-eq-FLAG.false
+pub returns-else-eq : goal.returns-else-eq
+returns-else-eq c = λ st s w.
+    let x = c.request_at-r.ensures.is st s w in
+    let l = lawful_at (key_num c.args.k) st.table s.bounded.lawful in
+    rw (sym (info-is l x c.eq.ensures) ∙ c.if-eq.false) c.if-eq.false

@@ -1,19 +1,30 @@
+use mathlib.Core.Path.{refl, sym, ap, ◌∙◌}
+use mathlib.Core.Bool.{not}
 use Rattle.ident.specs.Words.{key_num}
 use Rattle.machine.proofs.Table.{lawful_at}
-use Rattle.failing.proofs.PackageInfo.{asked-nobody, asked-owner, asked-late, owner_told}
+use Rattle.failing.proofs.PackageInfo.{flagged, plain, asked-plain, asked-owner, asked-late, asked-nobody, owner_told}
 use Rattle.failing.proofs.package_info_owner.Goals as goal
 
-pub returns-then-r-ne-FLAG : goal.returns-then-r-ne-FLAG
-returns-then-r-ne-FLAG c = λ st s w. owner_told (key_num c.args.k) c.args.clock st.table
-    (asked-nobody (lawful_at (key_num c.args.k) st.table s.bounded.lawful) (c.request_at-r.ensures.is st s w)
-    c.args.clock c.if-r-ne-FLAG.true)
+pub returns-then-ne : goal.returns-then-ne
+returns-then-ne c = λ st s w.
+    let l = lawful_at (key_num c.args.k) st.table s.bounded.lawful in
+    let x = c.request_at-r.ensures.is st s w in
+    owner_told (key_num c.args.k) c.args.clock st.table (asked-plain l x c.args.clock (plain l x c.ne.ensures c.if-ne.true))
 
-pub returns-then-clock-r : goal.returns-then-clock-r
-returns-then-clock-r c = λ st s w. owner_told (key_num c.args.k) c.args.clock
-    st.table (asked-owner (lawful_at (key_num c.args.k) st.table s.bounded.lawful)
-    (c.request_at-r.ensures.is st s w) c.args.clock c.if-r-ne-FLAG.false c.if-clock-r.true)
+pub returns-in-Some : goal.returns-in-Some
+returns-in-Some c = λ st s w.
+    let l = lawful_at (key_num c.args.k) st.table s.bounded.lawful in
+    let x = c.request_at-r.ensures.is st s w in
+    owner_told (key_num c.args.k) c.args.clock st.table (asked-owner l x c.args.clock (flagged l x c.ne.ensures c.if-ne.false) c.in-Some.is c.if-clock-owner.true)
 
-pub returns-else-clock-r : goal.returns-else-clock-r
-returns-else-clock-r c = λ st s w. owner_told (key_num c.args.k) c.args.clock
-    st.table (asked-late (lawful_at (key_num c.args.k) st.table s.bounded.lawful)
-    (c.request_at-r.ensures.is st s w) c.args.clock c.if-r-ne-FLAG.false c.if-clock-r.false)
+pub returns-in_default : goal.returns-in_default
+returns-in_default c = λ st s w.
+    let l = lawful_at (key_num c.args.k) st.table s.bounded.lawful in
+    let x = c.request_at-r.ensures.is st s w in
+    owner_told (key_num c.args.k) c.args.clock st.table (asked-late l x c.args.clock (flagged l x c.ne.ensures c.if-ne.false) c.in-Some.is c.if-clock-owner.false)
+
+pub returns-in_default-2 : goal.returns-in_default-2
+returns-in_default-2 c = λ st s w.
+    let l = lawful_at (key_num c.args.k) st.table s.bounded.lawful in
+    let x = c.request_at-r.ensures.is st s w in
+    owner_told (key_num c.args.k) c.args.clock st.table (asked-nobody l x c.args.clock (flagged l x c.ne.ensures c.if-ne.false) c.in_default.is)

@@ -1,15 +1,14 @@
-use native.Mathlib.Omega.{arith}
-use Rattle.ident.specs.Words.{key_num}
-use Rattle.failing.proofs.Releasing.{never-zero, not_owned, owned_staged}
+use mathlib.Core.Path.{refl, sym, ap, ◌∙◌}
+use mathlib.Core.Bool.{not}
+use Rattle.failing.proofs.Releasing.{owner-is, enqueued-is}
 use Rattle.failing.proofs.releasable.Goals as goal
 
-pub returns-then-n-eq0 : goal.returns-then-n-eq0
-returns-then-n-eq0 c = λ st s w. never-zero st s (key_num c.args.k) c.args.n c.if-n-eq0.true
+pub returns-then-is_owned_by : goal.returns-then-is_owned_by
+returns-then-is_owned_by c = λ st s w.
+    let x = c.request_at-r.ensures.is st s w in
+    rw (sym (owner-is x c.args.n c.is_owned_by.ensures) ∙ c.if-is_owned_by.true) (c.ne.ensures ∙ ap not (enqueued-is x refl))
 
-pub returns-then-r-n : goal.returns-then-r-n
-returns-then-r-n c = λ st s w. owned_staged (c.request_at-r.ensures.is st s w) c.args.n
-    (omega (arith, c.if-n-eq0.false)) c.if-r-n.true
-
-pub returns-else-r-n : goal.returns-else-r-n
-returns-else-r-n c = λ st s w. not_owned (c.request_at-r.ensures.is st s w) c.args.n (omega (arith, c.if-n-eq0.false))
-    c.if-r-n.false
+pub returns-else-is_owned_by : goal.returns-else-is_owned_by
+returns-else-is_owned_by c = λ st s w.
+    let x = c.request_at-r.ensures.is st s w in
+    rw (sym (owner-is x c.args.n c.is_owned_by.ensures) ∙ c.if-is_owned_by.false) c.if-is_owned_by.false

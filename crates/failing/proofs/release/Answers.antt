@@ -1,11 +1,11 @@
+use mathlib.Core.Path.{refl, sym, ap, ◌∙◌}
 use Rattle.ident.specs.Words.{key_num}
-use Rattle.machine.specs.Table.{at}
-use Rattle.failing.proofs.Forgetting.{owner-named, nothing_released}
+use Rattle.failing.proofs.Releasing.{owner-named, owner-none}
+use Rattle.failing.proofs.Forgetting.{nothing_released}
 use Rattle.failing.proofs.release.Goals as goal
 
-pub returns-then-r-ne0 : goal.returns-then-r-ne0
-returns-then-r-ne0 c = λ st s w u. c.clear.ensures st s w (owner-named (at (key_num c.args.k)
-    st.table).owner (c.request_at-r.ensures.is st s w).owner c.if-r-ne0.true)
+pub returns-in-Some : goal.returns-in-Some
+returns-in-Some c = λ st s w u. c.clear.ensures st s w (owner-named (c.request_at-r.ensures.is st s w) c.in-Some.is)
 
-pub returns-else-r-ne0 : goal.returns-else-r-ne0
-returns-else-r-ne0 c = λ st s w u. nothing_released st s (key_num c.args.k) (c.request_at-r.ensures.is st s w).owner c.if-r-ne0.false w
+pub returns-in_default : goal.returns-in_default
+returns-in_default c = λ st s w u. nothing_released st s (key_num c.args.k) (owner-none (c.request_at-r.ensures.is st s w) c.in_default.is) w

@@ -1,5 +1,5 @@
 use native.Mathlib.Omega.{arith}
-use mathlib.Core.Path.{◌≡◌, sym, ap, ◌∙◌}
+use mathlib.Core.Path.{◌≡◌, refl, sym, ap, ◌∙◌}
 use lib.ListN.{length}
 use Rattle.ident.specs.Number.{wtxid}
 use Rattle.ident.specs.Words.{hash_num}
@@ -15,12 +15,12 @@ use Rattle.package_stages.proofs.Placing.{parent-added}
 use Rattle.package_stages.proofs.add_parent.Goals as goal
 
 pub parents-n-requires : goal.parents-n-requires
-parents-n-requires c = (c.requires, c.seek-p.ensures.inside c.if-p.true)
+parents-n-requires c = (c.requires, c.in-Ok.ensures.inside refl)
 
 pub push_parent-requires : goal.push_parent-requires
 push_parent-requires c = (
   kept_shown c.requires,
-  c.seek-p.ensures.inside c.if-p.true,
+  c.in-Ok.ensures.inside refl,
   c.if-n-lt-MAX_PARENTS.true,
 )
 
@@ -28,26 +28,28 @@ pub returns-then-n-lt-MAX_PARENTS : goal.returns-then-n-lt-MAX_PARENTS
 returns-then-n-lt-MAX_PARENTS c = λ st s w o.
     let h = hash_num c.args.h in
     let n = hash_num c.args.parent in
-    let p = c.seek-p.ensures.is st s w in
+    let z = c.in-Ok.ensures in
+    let p = z.is st s w in
     let q = at (wtxid h) st.table in
     let d = blank 0 0 in
-    let e = sym p.held_is ∙ c.if-p.true in
-    let there = its-place st s h c.seek-p.ensures.small p.bound e d in
+    let e = sym p.held_is in
+    let there = its-place st s h z.small p.bound e d in
     let x : quad_number c.hash_quad-q.result ≡ n = ap quad_number c.hash_quad-q.ensures.words_are ∙ number_quad n in
-    let count = c.parents-n.ensures.1 h c.seek-p.ensures.small st s w
+    let count = c.parents-n.ensures.1 h z.small st s w
     (record { bound = p.bound; held_is = sym e }) in
-    parent-added st s h c.seek-p.ensures.small p.bound n e d
+    parent-added st s h z.small p.bound n e d
     (rw x at (c.push_parent.ensures (flat_of st) d (ap (λ (y : Place). length y.parents) there ∙ sym count) w))
 
 pub returns-else-n-lt-MAX_PARENTS : goal.returns-else-n-lt-MAX_PARENTS
 returns-else-n-lt-MAX_PARENTS c = λ st s w o.
     let h = hash_num c.args.h in
-    let p = c.seek-p.ensures.is st s w in
-    let e = sym p.held_is ∙ c.if-p.true in
-    let count = c.parents-n.ensures.1 h c.seek-p.ensures.small st s w (record { bound = p.bound; held_is = sym e }) in
+    let z = c.in-Ok.ensures in
+    let p = z.is st s w in
+    let e = sym p.held_is in
+    let count = c.parents-n.ensures.1 h z.small st s w (record { bound = p.bound; held_is = sym e }) in
     absurd (omega (arith, o.few, c.if-n-lt-MAX_PARENTS.false))
 
-pub returns-else-p : goal.returns-else-p
-returns-else-p c = λ st s w o.
-    let p = c.seek-p.ensures.is st s w in
-    never (sym c.if-p.false ∙ p.held_is ∙ o.held)
+pub returns-in_default : goal.returns-in_default
+returns-in_default c = λ st s w o.
+    let p = c.in_default.ensures.is st s w in
+    never (p.held_is ∙ o.held)

@@ -1,6 +1,6 @@
 use native.Mathlib.Omega.{arith}
 use Prim.Native.Nat.{◌<◌}
-use mathlib.Core.Path.{◌≡◌, sym, ap, ◌∙◌}
+use mathlib.Core.Path.{◌≡◌, refl, sym, ap, ◌∙◌}
 use mathlib.Core.List.{[]}
 use lib.ListN.{length, get_or}
 use Rattle.ident.specs.Number.{wtxid}
@@ -20,16 +20,16 @@ use Rattle.package_stages.proofs.Placing.{claimed, flag_held, flag-stage}
 use Rattle.package_stages.proofs.Filling.{no-wtxids, listed-shown, listed-inside, turned_shown, turned_inside, set_thrice}
 use Rattle.package_stages.proofs.claim.Goals as goal
 
-pub seek-p-requires : goal.seek-p-requires
-seek-p-requires c = c.requires.0
+pub seek-requires : goal.seek-requires
+seek-requires c = c.requires.0
 
 pub place_at-x-requires : goal.place_at-x-requires
-place_at-x-requires c = (kept_shown c.requires.0, c.seek-p.ensures.inside c.if-p.true)
+place_at-x-requires c = (kept_shown c.requires.0, c.in-Ok.ensures.inside refl)
 
 pub push_wtxids-requires : goal.push_wtxids-requires
 push_wtxids-requires c = (
   no-wtxids c.requires.0
-      (c.seek-p.ensures.inside c.if-p.true)
+      (c.in-Ok.ensures.inside refl)
       c.place_at-x.ensures c.if-x-eq-FLAG.true,
   c.requires.1,
 )
@@ -37,8 +37,7 @@ push_wtxids-requires c = (
 pub set_combined-requires : goal.set_combined-requires
 set_combined-requires c =
     let k = no-wtxids c.requires.0
-    (c.seek-p.ensures.inside
-    c.if-p.true) c.place_at-x.ensures
+    (c.in-Ok.ensures.inside refl) c.place_at-x.ensures
     c.if-x-eq-FLAG.true in
     (listed-shown k (blank 0 0) c.push_wtxids.ensures, listed-inside k (blank 0 0) c.push_wtxids.ensures)
 
@@ -46,13 +45,12 @@ pub set_stage-requires : goal.set_stage-requires
 set_stage-requires c =
     let d = blank 0 0 in
     let k = no-wtxids c.requires.0
-    (c.seek-p.ensures.inside
-    c.if-p.true)
+    (c.in-Ok.ensures.inside refl)
     c.place_at-x.ensures
     c.if-x-eq-FLAG.true in
     let x = listed-shown k d c.push_wtxids.ensures in
     let y = listed-inside k d c.push_wtxids.ensures in
-    let i = c.seek-p.result.at in
+    let i = c.in-Ok.i in
     let g = with_combined (quad_number c.hash_quad-q.result) in
     let turn = c.set_combined.ensures d in
     (turned_shown x i g d turn, turned_inside x i g d turn y)
@@ -63,20 +61,19 @@ returns-then-x-eq-FLAG c = λ st s w o.
     let n = hash_num c.args.combined in
     let hs = hashes_in c.args.list.now in
     let d = blank 0 0 in
-    let i = c.seek-p.result.at in
+    let i = c.in-Ok.i in
     let ps = places_of st.table in
-    let small = c.seek-p.ensures.small in
-    let p = c.seek-p.ensures.is st s w in
+    let small = c.in-Ok.ensures.small in
+    let p = c.in-Ok.ensures.is st s w in
     let q = c.hash_quad-q.result in
     let z = sizes w in
     let l : i < length ps =
     omega (
       arith,
-      c.seek-p.ensures.inside
-          c.if-p.true,
+      c.in-Ok.ensures.inside refl,
     ) in
     let there = its-place st s h small p.bound
-    (sym p.held_is ∙ c.if-p.true) d in
+    (sym p.held_is) d in
     let none_yet : (get_or ps i d).wtxids ≡ [] = ap (λ (x : Place). x.wtxids) there ∙ ap wtxids_of o.bare in
     let x : quad_number q ≡ n = ap quad_number c.hash_quad-q.ensures.words_are ∙
     number_quad n in
@@ -88,11 +85,11 @@ pub returns-else-x-eq-FLAG : goal.returns-else-x-eq-FLAG
 returns-else-x-eq-FLAG c = λ st s w o.
     let h = hash_num c.args.h in
     let d = blank 0 0 in
-    let p = c.seek-p.ensures.is st s w in
-    let there = its-place st s h c.seek-p.ensures.small p.bound (sym p.held_is ∙ c.if-p.true) d in
+    let p = c.in-Ok.ensures.is st s w in
+    let there = its-place st s h c.in-Ok.ensures.small p.bound (sym p.held_is) d in
     absurd (c.if-x-eq-FLAG.false (head-stage _ (c.place_at-x.ensures (flat_of st) d w) ∙ ap (λ (x : Place). x.stage) there ∙ flag-stage (at (wtxid h) st.table) o))
 
-pub returns-else-p : goal.returns-else-p
-returns-else-p c = λ st s w o.
-    let p = c.seek-p.ensures.is st s w in
-    never (sym c.if-p.false ∙ p.held_is ∙ flag_held (at (wtxid (hash_num c.args.h)) st.table) o)
+pub returns-in_default : goal.returns-in_default
+returns-in_default c = λ st s w o.
+    let p = c.in_default.ensures.is st s w in
+    never (p.held_is ∙ flag_held (at (wtxid (hash_num c.args.h)) st.table) o)

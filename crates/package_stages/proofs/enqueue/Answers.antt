@@ -1,4 +1,4 @@
-use mathlib.Core.Path.{sym, ◌∙◌}
+use mathlib.Core.Path.{refl, sym, ◌∙◌}
 use Rattle.ident.specs.Number.{wtxid}
 use Rattle.ident.specs.Words.{hash_num}
 use Rattle.places.specs.Places.{blank}
@@ -10,16 +10,15 @@ use Rattle.package_stages.proofs.Placing.{packed_held, stage-set}
 use Rattle.package_stages.proofs.enqueue.Goals as goal
 
 pub set_stage-requires : goal.set_stage-requires
-set_stage-requires c = (kept_shown c.requires, c.seek-p.ensures.inside c.if-p.true)
+set_stage-requires c = (kept_shown c.requires, c.in-Ok.ensures.inside refl)
 
-pub returns-then-p : goal.returns-then-p
-returns-then-p c = λ x st s w e.
-    let h = hash_num c.args.h in
-    let p = c.seek-p.ensures.is st s w in
-    stage-set st s h c.seek-p.ensures.small p.bound x e (sym p.held_is ∙ c.if-p.true) (blank 0 0)
-    (c.set_stage.ensures (blank 0 0) (flat_of st) w)
+pub returns-in-Ok : goal.returns-in-Ok
+returns-in-Ok c = λ x st s w e.
+    let z = c.in-Ok.ensures in
+    let p = z.is st s w in
+    stage-set st s (hash_num c.args.h) z.small p.bound x e (sym p.held_is) (blank 0 0) (c.set_stage.ensures (blank 0 0) (flat_of st) w)
 
-pub returns-else-p : goal.returns-else-p
-returns-else-p c = λ x st s w e.
-    let p = c.seek-p.ensures.is st s w in
-    never (sym c.if-p.false ∙ p.held_is ∙ packed_held (at (wtxid (hash_num c.args.h)) st.table) x e)
+pub returns-in_default : goal.returns-in_default
+returns-in_default c = λ x st s w e.
+    let p = c.in_default.ensures.is st s w in
+    never (p.held_is ∙ packed_held (at (wtxid (hash_num c.args.h)) st.table) x e)

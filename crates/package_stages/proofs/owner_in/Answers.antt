@@ -1,6 +1,5 @@
 use native.Mathlib.Omega.{arith}
-use mathlib.Core.Path.{refl, sym, ap, ◌∙◌}
-use mathlib.Core.Logic.{inl, inr}
+use mathlib.Core.Path.{sym, ap, ◌∙◌}
 use Rattle.regions.specs.declared.Row.{Row}
 use Rattle.store.specs.Flat.{own_bit}
 use Rattle.package_stages.proofs.Owners.{unowned_more}
@@ -15,17 +14,17 @@ row_at-r-requires c = (c.requires.0, omega (arith, c.loop-i-test.true, c.require
 pub returns-then-r-eq1 : goal.returns-then-r-eq1
 returns-then-r-eq1 c = λ f d h.
     let e = c.row_at-r.ensures f d h in
-    inl (record {
+    record {
       index = c.loop-i.i;
       least = c.loop-i.invariant.least;
       most = c.loop-i-test.true;
       owns = sym (ap own_bit e) ∙ c.if-r-eq1.true;
       connection = ap (λ (r : Row). r.conn) e;
       deadline = ap (λ (r : Row). r.deadline) e;
-    })
+    }
 
 pub loop-i-preserved : goal.loop-i-preserved
 loop-i-preserved c = unowned_more c.loop-i.invariant c.loop-i-test.true c.row_at-r.ensures c.if-r-eq1.false
 
 pub returns : goal.returns
-returns c = λ f d h. inr (record { free = λ j p q z. c.loop-i.invariant.free f d h j p (omega (arith, c.loop-i-test.false)) z; connection = refl; deadline = refl })
+returns c = λ f d h j p q z. c.loop-i.invariant.free f d h j p (omega (arith, c.loop-i-test.false)) z

@@ -1,9 +1,6 @@
-use Prim.Native.Nat.{◌-◌}
 use Rattle.package_stages.proofs.Owners.{Unowned}
 use Rattle.package_stages.proofs.owner_in.Given as goal
 
 abbrev pub invariant-loop-i : goal.invariant-loop-i
 invariant-loop-i l = Unowned l.s l.from l.to l.i
 
-abbrev pub decreases-loop-i : goal.decreases-loop-i
-decreases-loop-i l = l.to - l.i

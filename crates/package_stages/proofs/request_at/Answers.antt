@@ -11,8 +11,8 @@ use Rattle.requests.proofs.Pushing.{mark_of}
 use Rattle.package_stages.proofs.Owners.{nobody, owner-is}
 use Rattle.package_stages.proofs.request_at.Goals as goal
 
-pub owner_in-o-requires : goal.owner_in-o-requires
-owner_in-o-requires c = (kept_shown c.requires, c.window_of-w.ensures.order, c.window_of-w.ensures.most)
+pub owner_in-owner-requires : goal.owner_in-owner-requires
+owner_in-owner-requires c = (kept_shown c.requires, c.window_of-w.ensures.order, c.window_of-w.ensures.most)
 
 pub mark_in-m-requires : goal.mark_in-m-requires
 mark_in-m-requires c = (kept_shown c.requires, c.window_of-w.ensures.most)
@@ -29,10 +29,8 @@ returns c =
           let d = row_of (at k st.table) nobody in
           let from = from_at st s k key.small key.number (win.from_is st s w) in
           let to = to_at st s k key.small key.number (win.to_is st s w) in
-          let o = owner-is st s k from to d (c.owner_in-o.ensures (flat_of st) d w) in
           record {
-            owner = o.connection;
-            deadline = o.deadline;
+            owner = owner-is st s k from to w _ c.owner_in-owner.ensures;
             stage = c.stage_at-stage.ensures st s w;
             mark = ap (λ (x : ℕ). eqb x 1) (c.mark_in-m.ensures.is (flat_of st) d w ∙ mark_of st s k d from to) ∙ bit_one (at k st.table).fallback;
           };

@@ -11,7 +11,7 @@ use Rattle.machine.proofs.Tests.{never}
 use Rattle.store.specs.Flat.{flat_of, places_of}
 use Rattle.store.proofs.Frame.{sizes}
 use Rattle.requests.proofs.Keeping.{kept_shown}
-use Rattle.package_stages.proofs.Seeking.{head-hash, sought_at, tested, missing}
+use Rattle.package_stages.proofs.Seeking.{sought_at, missing, spot_within}
 use Rattle.package_stages.proofs.seek.Goals as goal
 
 pub seek_place-at-requires : goal.seek_place-at-requires
@@ -23,26 +23,15 @@ held_places-requires c = let z = kept_shown c.requires in omega (arith, z.sizes.
 pub place_at-p-requires : goal.place_at-p-requires
 place_at-p-requires c = (kept_shown c.requires, omega (arith, c.held_places.ensures.word, c.if-at-held_places.true))
 
-pub returns-then-at-held_places : goal.returns-then-at-held_places
-returns-then-at-held_places c = record {
-  small = c.hash_quad-q.ensures.small;
-  most = c.seek_place-at.ensures.most;
-  inside = λ e. omega (arith, c.held_places.ensures.word, c.if-at-held_places.true);
-  is = λ st s w.
-      let h = hash_num c.args.h in
-      let z = sizes w in
-      let d = blank 0 0 in
-      let bd = sought_at st s h c.hash_quad-q.ensures.words_are w c.seek_place-at.ensures in
-      let l : c.seek_place-at.result < length (places_of st.table) =
-      omega (arith, c.held_places.ensures.word, c.if-at-held_places.true) in
-      let x = ap quad_number c.hash_quad-q.ensures.words_are ∙ number_quad h in
-      let y = head-hash _ (c.place_at-p.ensures (flat_of st) d w) in
-      record {
-        bound = bd;
-        held_is = tested st s h c.hash_quad-q.ensures.small bd d l (c.quad_less-after.ensures ∙
-            ap (λ (n : ℕ). ltb n (quad_number c.place_at-p.result.hash)) x ∙ ap (ltb h) y);
-      };
-}
+pub returns-then-not-quad_less : goal.returns-then-not-quad_less
+returns-then-not-quad_less c =
+    let l = spot_within c.requires c.hash_quad-q.ensures c.seek_place-at.ensures (omega (arith, c.held_places.ensures.word, c.if-at-held_places.true)) c.place_at-p.ensures c.quad_less.ensures in
+    rw c.if-not-quad_less.true at l
+
+pub returns-else-not-quad_less : goal.returns-else-not-quad_less
+returns-else-not-quad_less c =
+    let l = spot_within c.requires c.hash_quad-q.ensures c.seek_place-at.ensures (omega (arith, c.held_places.ensures.word, c.if-at-held_places.true)) c.place_at-p.ensures c.quad_less.ensures in
+    rw c.if-not-quad_less.false at l
 
 pub returns-else-at-held_places : goal.returns-else-at-held_places
 returns-else-at-held_places c = record {

@@ -13,7 +13,7 @@ pub same_package-requires : goal.same_package-requires
 same_package-requires c = (
   c.requires,
   begin-inside c.args.n (hash_num c.args.subject.0) (hash_num c.args.combined) (hashes_in c.args.wtxids.now) c.args.clock
-      c.owned_at.ensures c.if-not-owned_at.false c.seek-p.ensures c.requires,
+      c.owned_at.ensures c.if-not-owned_at.false c.in-Ok.ensures c.requires,
 )
 
 pub returns-then-not-same_package : goal.returns-then-not-same_package
@@ -22,7 +22,7 @@ returns-then-not-same_package c =
     let d = c.if-not-owned_at.false in
     begin_other c.args.n (hash_num c.args.subject.0) (hash_num c.args.combined) (hashes_in c.args.wtxids.now) c.args.clock e d
     (begin_read c.args.n (hash_num c.args.subject.0) (hash_num c.args.combined) (hashes_in c.args.wtxids.now) c.args.clock e d
-    c.seek-p.ensures c.same_package.ensures) c.if-not-same_package.true
+    c.in-Ok.ensures c.same_package.ensures) c.if-not-same_package.true
 
 pub returns : goal.returns
 returns c =
@@ -30,5 +30,5 @@ returns c =
     let d = c.if-not-owned_at.false in
     begin_done c.args.n (hash_num c.args.subject.0) (hash_num c.args.combined) (hashes_in c.args.wtxids.now) c.args.clock e d
     (begin_read c.args.n (hash_num c.args.subject.0) (hash_num c.args.combined) (hashes_in c.args.wtxids.now) c.args.clock e d
-    c.seek-p.ensures c.same_package.ensures)
+    c.in-Ok.ensures c.same_package.ensures)
     c.if-not-same_package.false c.enqueue.ensures

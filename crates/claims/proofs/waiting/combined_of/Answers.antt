@@ -1,4 +1,4 @@
-use mathlib.Core.Path.{sym, ◌∙◌}
+use mathlib.Core.Path.{refl, sym, ◌∙◌}
 use Rattle.ident.specs.Number.{wtxid}
 use Rattle.ident.specs.Words.{hash_num}
 use Rattle.machine.specs.Table.{at}
@@ -7,13 +7,12 @@ use Rattle.claims.proofs.Noting.{awaiting-place}
 use Rattle.claims.proofs.waiting.combined_of.Goals as goal
 
 pub combined_at-requires : goal.combined_at-requires
-combined_at-requires c = (c.requires, c.seek-p.ensures.inside c.if-p.true)
+combined_at-requires c = (c.requires, c.in-Ok.ensures.inside refl)
 
-pub returns-then-p : goal.returns-then-p
-returns-then-p c = λ st s w a.
-    let p = c.seek-p.ensures.is st s w in
-    c.combined_at.ensures (hash_num c.args.h) c.seek-p.ensures.small st s w
-    (record { bound = p.bound; held_is = sym c.if-p.true ∙ p.held_is })
+pub returns-in-Ok : goal.returns-in-Ok
+returns-in-Ok c = λ st s w a.
+    let z = c.in-Ok.ensures in
+    c.combined_at.ensures (hash_num c.args.h) z.small st s w (z.is st s w)
 
-pub returns-else-p : goal.returns-else-p
-returns-else-p c = λ st s w a. never (sym c.if-p.false ∙ (c.seek-p.ensures.is st s w).held_is ∙ awaiting-place (at (wtxid (hash_num c.args.h)) st.table) a)
+pub returns-in-Err : goal.returns-in-Err
+returns-in-Err c = λ st s w a. never ((c.in-Err.ensures.is st s w).held_is ∙ awaiting-place (at (wtxid (hash_num c.args.h)) st.table) a)

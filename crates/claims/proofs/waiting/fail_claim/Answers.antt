@@ -1,19 +1,19 @@
-use mathlib.Core.Path.{refl, ap}
+use mathlib.Core.Path.{refl, sym, ap, ◌∙◌}
 use native.Mathlib.Omega.{arith}
 use Rattle.ident.specs.Number.{Key, wtxid}
 use Rattle.ident.specs.Words.{hash_num, key_num}
 use Rattle.machine.specs.State.{limits_of}
 use Rattle.machine.specs.Package.{failed_with_parents}
-use Rattle.claims.proofs.Listing.{listed_on, nothing_on, same_on, fails-nothing, fails_few, not_owner, the-owner, part_room}
+use Rattle.claims.proofs.Listing.{listed_on, nothing_on, same_on, fails-nothing, fails_few, owner-reads, part_room}
 use Rattle.claims.proofs.waiting.fail_claim.Goals as goal
 
-pub returns-then-q-n : goal.returns-then-q-n
-returns-then-q-n c = nothing_on _ c.args.c
+pub returns-then-not-is_owned_by : goal.returns-then-not-is_owned_by
+returns-then-not-is_owned_by c = nothing_on _ c.args.c
     (λ m t. failed_with_parents m (wtxid (hash_num c.args.h))
     c.args.n c.args.clock t) (λ st s w. fails-nothing
     (limits_of st) (wtxid (hash_num c.args.h)) c.args.n
-    c.args.clock st.table (not_owner st.table c.wtxid_key-k.ensures
-    (c.request_at-q.ensures.is st s w) c.requires.1 c.if-q-n.true))
+    c.args.clock st.table (sym (owner-reads c.args.n st.table c.wtxid_key-k.ensures
+    (c.request_at-q.ensures.is st s w) c.is_owned_by.ensures) ∙ c.if-not-is_owned_by.true))
 
 pub failed_with_parents-r-requires : goal.failed_with_parents-r-requires
 failed_with_parents-r-requires c = (
@@ -22,10 +22,11 @@ failed_with_parents-r-requires c = (
   part_room c.args.out.now
       c.args.c _ _ refl refl (c.requires.3
       c.requires.0.state c.requires.0.sound
-      c.requires.0.writes (the-owner _ c.wtxid_key-k.ensures
+      c.requires.0.writes (sym (owner-reads c.args.n _ c.wtxid_key-k.ensures
       (c.request_at-q.ensures.is c.requires.0.state
-      c.requires.0.sound c.requires.0.writes)
-      c.requires.1 c.if-q-n.false)),
+      c.requires.0.sound
+      c.requires.0.writes)
+      c.is_owned_by.ensures) ∙ c.if-not-is_owned_by.false)),
 )
 
 pub overflow_add-result : goal.overflow_add-result

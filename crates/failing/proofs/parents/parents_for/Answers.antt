@@ -1,46 +1,48 @@
 use native.Mathlib.Omega.{arith}
-use Rattle.ident.specs.Words.{key_num}
-use Rattle.ident.specs.Words.{hash_num}
+use mathlib.Core.Path.{refl, sym, ap, ◌∙◌}
+use mathlib.Core.Bool.{not}
+use Rattle.ident.specs.Words.{hash_num, key_num}
+use Rattle.machine.specs.Table.{at}
+use Rattle.package_stages.proofs.Read.{staged}
 use Rattle.failing.proofs.Copying.{others-parents, placeless, must-hold, its-parents}
+use Rattle.failing.proofs.Releasing.{owner-is}
 use Rattle.failing.proofs.parents.parents_for.Goals as goal
 
-pub returns-then-r-n : goal.returns-then-r-n
-returns-then-r-n c = (
+pub returns-then-not-is_owned_by : goal.returns-then-not-is_owned_by
+returns-then-not-is_owned_by c = (
   omega arith,
-  λ st s w. others-parents (c.request_at-r.ensures.is st s w) c.args.n
-      c.requires.1 c.args.list.now c.if-r-n.true,
+  λ st s w.
+      let x = c.request_at-r.ensures.is st s w in
+      others-parents (at (key_num c.args.k) st.table) c.args.n c.args.list.now (sym c.if-not-is_owned_by.true ∙ owner-is x c.args.n c.is_owned_by.ensures),
 )
 
-pub returns-then-r-eq0 : goal.returns-then-r-eq0
-returns-then-r-eq0 c = (
+pub returns-then-is_none : goal.returns-then-is_none
+returns-then-is_none c = (
   omega arith,
-  λ st s w. placeless (c.request_at-r.ensures.is st s w) c.args.n
-      c.requires.1 c.args.list.now c.if-r-n.false c.if-r-eq0.true,
+  λ st s w.
+      let x = c.request_at-r.ensures.is st s w in
+      placeless (at (key_num c.args.k) st.table) c.args.n c.args.list.now (sym (staged x) ∙ c.is_none.ensures ∙ ap not c.if-is_none.true),
 )
 
 pub copy_parents-requires : goal.copy_parents-requires
-copy_parents-requires c = (
-  c.requires.0,
-  c.seek-p.ensures.inside c.if-p.true,
-  c.requires.2,
-)
+copy_parents-requires c = (c.requires.0, c.in-Ok.ensures.inside refl, c.requires.2)
 
-pub returns-then-p : goal.returns-then-p
-returns-then-p c = (
+pub returns-in-Ok : goal.returns-in-Ok
+returns-in-Ok c = (
   c.copy_parents.ensures.0,
-  λ st s w. its-parents st s (key_num c.args.k)
-      c.seek-p.ensures.small (c.request_at-r.ensures.is st s w)
-      c.if-r-eq0.false (c.seek-p.ensures.is st s w)
-      c.args.n
-      c.requires.1
-      c.if-r-n.false c.if-p.true _ c.copy_parents.result
-      (c.copy_parents.ensures.1 (hash_num c.args.k.hash)
-      c.seek-p.ensures.small st s w),
+  λ st s w.
+      let x = c.request_at-r.ensures.is st s w in
+      let z = c.in-Ok.ensures in
+      let h = sym (staged x) ∙ c.is_none.ensures ∙ ap not c.if-is_none.false in
+      its-parents st s (key_num c.args.k) z.small h c.args.n (sym c.if-not-is_owned_by.false ∙ owner-is x c.args.n c.is_owned_by.ensures) _ _ (c.copy_parents.ensures.1 (hash_num c.args.k.hash) z.small st s w (z.is st s w)),
 )
 
-pub returns-else-p : goal.returns-else-p
-returns-else-p c = (
+pub returns-in-Err : goal.returns-in-Err
+returns-in-Err c = (
   omega arith,
-  λ st s w. absurd (must-hold st s (key_num c.args.k) c.seek-p.ensures.small
-      (c.request_at-r.ensures.is st s w) c.if-r-eq0.false (c.seek-p.ensures.is st s w) c.if-p.false),
+  λ st s w.
+      let x = c.request_at-r.ensures.is st s w in
+      let z = c.in-Err.ensures in
+      let h = sym (staged x) ∙ c.is_none.ensures ∙ ap not c.if-is_none.false in
+      absurd (must-hold st s (key_num c.args.k) z.small h (z.is st s w)),
 )

@@ -1,13 +1,17 @@
 -- `saving::request_lines::next_package` meets its contract.
+use mathlib.Core.Path.{sym, ◌∙◌}
 use native.Mathlib.Omega.{arith}
-use Rattle.saving.proofs.Places.{none_laid, package-laid}
+use Rattle.std.specs.Prelude.{Some}
+use Rattle.package_stages.specs.declared.Stage.TheVariants.{Enqueued}
+use Rattle.package_stages.proofs.Read.{stage-eq}
+use Rattle.saving.proofs.Places.{flagged_stage, package_stage, none_laid, package-laid}
 use Rattle.saving.proofs.request_lines.next_package.Goals as goal
 
 pub put_text-requires : goal.put_text-requires
 put_text-requires c = omega (arith, c.requires.2)
 
-pub returns-then-stage-lt-AWAITING : goal.returns-then-stage-lt-AWAITING
-returns-then-stage-lt-AWAITING c = (omega (arith, c.put_text.ensures.next), none_laid c.if-stage-lt-AWAITING.true c.put_text.ensures)
+pub returns-then-eq : goal.returns-then-eq
+returns-then-eq c = (omega (arith, c.put_text.ensures.next), none_laid (flagged_stage c.args.stage (sym c.if-eq.true ∙ c.eq.ensures)) c.put_text.ensures)
 
 pub combined_at-c-requires : goal.combined_at-c-requires
 combined_at-c-requires c = (c.requires.0, c.requires.1)
@@ -55,10 +59,7 @@ returns c = (
     c.next_wtxids-e.ensures.0,
     c.next_bool.ensures.0,
   ),
-  package-laid _ (omega (
-    arith,
-    c.if-stage-lt-AWAITING.false,
-  ))
+  package-laid _ (package_stage c.args.stage (sym c.if-eq.false ∙ c.eq.ensures)) (c.eq-2.ensures ∙ stage-eq (Some c.args.stage) Enqueued)
       c.combined_at-c.ensures
       c.wtxids-n.ensures.1
       c.next_hash-e.ensures.1

@@ -65,6 +65,7 @@ returns c = (
   request-laid
       c.requires.1
       c.key_words-w.ensures
+      c.eq.ensures
       c.put_key-e.ensures.1
       c.next_owner-e.ensures.1 c.next_bool-e.ensures.1
       c.next_place-e.ensures.1
