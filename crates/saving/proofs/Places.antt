@@ -167,9 +167,6 @@ module _ {b : List ℕ} (k : Key) (stage : ℕ) (is : Tells b (λ t. stage ≡ s
         sym (behind_both (maybe_fields (package_fields short) q.«package») (list_fields short q.parents)) in
         lays_as (v (at (wtxid k.hash) st.table) ∙ ap (λ (q : Request). behind (place_texts q)) here) x
 
-  pub spot_inside : Kept b → (stage ≡ 0 → ⊥) → {i : ℕ} {held : Bool} → SpotOf b k.hash i held → i < held_places_in b
-  spot_inside c z p = p.inside (spot_held p.small z c.state c.sound c.writes p)
-
 -- ---- the line
 
 module _ {b : List ℕ} {k : IdentKey} {q : RequestRead} (x : RequestAt b (key_num k) q) {w : RowKey} (kw : KeyWords k w) {u u₁ u₂ u₃ u₄ u₅ u₆ : List ℕ} {a e₁ e₂ e₃ e₄ e₅ r : ℕ}

@@ -3,4 +3,3 @@ use Rattle.package_stages.proofs.owner_in.Given as goal
 
 abbrev pub invariant-loop-i : goal.invariant-loop-i
 invariant-loop-i l = Unowned l.s l.from l.to l.i
-
