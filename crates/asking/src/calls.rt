@@ -10,8 +10,8 @@ ghost use Rattle.reading.specs.Given.{FormRead, WholeRead};
 ghost use Rattle.asking.specs.Given.{asked_line};
 
 use crate::vocabulary::{HashesWord, KeysWord, NumberWord, Word};
-use reading::fields::{NumberAt, number_at};
-use reading::forms::{Values, ValuesAt, Whole, read_form, read_whole};
+use reading::fields::{Parsed, number_at};
+use reading::forms::{Values, read_form, read_whole};
 
 // What a line asks for. A list stands behind the comma at an index: it is read where its call is carried out.
 #[derive(Clone, Copy)]
@@ -36,10 +36,10 @@ pub enum Asked {
 fn opening(line: &[u8], e: usize) -> Asked
     ensures { asked_line line.now result ≡ open_of (rest line.now (e + 1)) }
 {
-    let NumberAt::Is(l, to) = number_at(line, e) else {
+    let Some(Parsed { value: l, end: to }) = number_at(line, e) else {
         return Asked::Unreadable;
     };
-    let NumberAt::Is(q, end) = number_at(line, to) else {
+    let Some(Parsed { value: q, end }) = number_at(line, to) else {
         return Asked::Unreadable;
     };
     if end < line.len() {
@@ -64,7 +64,7 @@ fn summing(line: &[u8], e: usize) -> Asked
 }
 
 // The fields behind the comma at index e, in the form of the word.
-fn number_values(line: &[u8], e: usize, w: NumberWord) -> Whole
+fn number_values(line: &[u8], e: usize, w: NumberWord) -> Option<Values>
     ensures { WholeRead line.now e (number_form w) result }
 {
     match w {
@@ -85,13 +85,13 @@ fn number_values(line: &[u8], e: usize, w: NumberWord) -> Whole
 fn number_call(line: &[u8], e: usize, w: NumberWord) -> Asked
     ensures { asked_line line.now result ≡ number_call w (rest line.now (e + 1)) }
 {
-    let Whole::Is(v) = number_values(line, e, w) else {
+    let Some(v) = number_values(line, e, w) else {
         return Asked::Unreadable;
     };
     Asked::Number(w, v)
 }
 
-fn keys_values(line: &[u8], e: usize, w: KeysWord) -> Whole
+fn keys_values(line: &[u8], e: usize, w: KeysWord) -> Option<Values>
     ensures { WholeRead line.now e (keys_form w) result }
 {
     match w {
@@ -104,7 +104,7 @@ fn keys_values(line: &[u8], e: usize, w: KeysWord) -> Whole
 fn keys_call(line: &[u8], e: usize, w: KeysWord) -> Asked
     ensures { asked_line line.now result ≡ keys_call w (rest line.now (e + 1)) }
 {
-    let Whole::Is(v) = keys_values(line, e, w) else {
+    let Some(v) = keys_values(line, e, w) else {
         return Asked::Unreadable;
     };
     Asked::Keys(w, v)
@@ -113,7 +113,7 @@ fn keys_call(line: &[u8], e: usize, w: KeysWord) -> Asked
 fn leave_call(line: &[u8], e: usize) -> Asked
     ensures { asked_line line.now result ≡ leave_call (rest line.now (e + 1)) }
 {
-    let Whole::Is(v) = read_whole(line, e, b"cn") else {
+    let Some(v) = read_whole(line, e, b"cn") else {
         return Asked::Unreadable;
     };
     Asked::Leaving(v)
@@ -122,13 +122,13 @@ fn leave_call(line: &[u8], e: usize) -> Asked
 fn inventory_call(line: &[u8], e: usize) -> Asked
     ensures { asked_line line.now result ≡ inventory_call (rest line.now (e + 1)) }
 {
-    let ValuesAt::Is(v, end) = read_form(line, e, b"cnps") else {
+    let Some(Parsed { value: v, end }) = read_form(line, e, b"cnps") else {
         return Asked::Unreadable;
     };
     Asked::Offers(v, end)
 }
 
-fn hashes_values(line: &[u8], e: usize, w: HashesWord) -> ValuesAt
+fn hashes_values(line: &[u8], e: usize, w: HashesWord) -> Option<Parsed<Values>>
     ensures { FormRead line.now e (hashes_form w) result }
 {
     match w {
@@ -144,7 +144,7 @@ fn hashes_values(line: &[u8], e: usize, w: HashesWord) -> ValuesAt
 fn hashes_call(line: &[u8], e: usize, w: HashesWord) -> Asked
     ensures { asked_line line.now result ≡ hashes_call w (rest line.now (e + 1)) }
 {
-    let ValuesAt::Is(v, end) = hashes_values(line, e, w) else {
+    let Some(Parsed { value: v, end }) = hashes_values(line, e, w) else {
         return Asked::Unreadable;
     };
     Asked::Hashes(w, v, end)
@@ -153,7 +153,7 @@ fn hashes_call(line: &[u8], e: usize, w: HashesWord) -> Asked
 fn plan_line(line: &[u8], e: usize) -> Asked
     ensures { asked_line line.now result ≡ plan_line (rest line.now (e + 1)) }
 {
-    let Whole::Is(v) = read_whole(line, e, b"n") else {
+    let Some(v) = read_whole(line, e, b"n") else {
         return Asked::Unreadable;
     };
     Asked::Planning(v)
@@ -162,7 +162,7 @@ fn plan_line(line: &[u8], e: usize) -> Asked
 fn want_line(line: &[u8], e: usize) -> Asked
     ensures { asked_line line.now result ≡ want_line (rest line.now (e + 1)) }
 {
-    let ValuesAt::Is(v, end) = read_form(line, e, b"n") else {
+    let Some(Parsed { value: v, end }) = read_form(line, e, b"n") else {
         return Asked::Unreadable;
     };
     Asked::Wanting(v, end)
@@ -171,7 +171,7 @@ fn want_line(line: &[u8], e: usize) -> Asked
 fn take_line(line: &[u8], e: usize) -> Asked
     ensures { asked_line line.now result ≡ take_line (rest line.now (e + 1)) }
 {
-    let Whole::Is(v) = read_whole(line, e, b"n") else {
+    let Some(v) = read_whole(line, e, b"n") else {
         return Asked::Unreadable;
     };
     Asked::Taking(v)
@@ -180,7 +180,7 @@ fn take_line(line: &[u8], e: usize) -> Asked
 fn missing_line(line: &[u8], e: usize) -> Asked
     ensures { asked_line line.now result ≡ missing_line (rest line.now (e + 1)) }
 {
-    let ValuesAt::Is(v, end) = read_form(line, e, b"cn") else {
+    let Some(Parsed { value: v, end }) = read_form(line, e, b"cn") else {
         return Asked::Unreadable;
     };
     Asked::Missing(v, end)
@@ -189,7 +189,7 @@ fn missing_line(line: &[u8], e: usize) -> Asked
 fn part_line(line: &[u8], e: usize) -> Asked
     ensures { asked_line line.now result ≡ part_line (rest line.now (e + 1)) }
 {
-    let Whole::Is(v) = read_whole(line, e, b"c") else {
+    let Some(v) = read_whole(line, e, b"c") else {
         return Asked::Unreadable;
     };
     Asked::Parting(v)

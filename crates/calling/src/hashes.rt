@@ -12,7 +12,7 @@ ghost use Rattle.printing.specs.Answers.{Keeping};
 use asking::vocabulary::HashesWord;
 use printing::numbers::{number, unreadable};
 use reading::forms::Values;
-use reading::hashes::{Hashes, hash_buffer, hash_of, read_list};
+use reading::hashes::{hash_buffer, hash_of, read_list};
 
 fn carry_out(store: &mut [u8], out: &mut [u8], w: HashesWord, v: Values, hashes: &[u8]) -> usize
     requires { answer_room ≤ length out.old }
@@ -62,7 +62,7 @@ pub fn answer_hashes(
     ensures { Keeping (list_call (hashes_ask w (values_of v)) (rest line.now (e + 1))) store.old store.new out.old out.new result }
 {
     let mut hashes = hash_buffer();
-    let Hashes::Are(n) = read_list(line, e, &mut hashes) else {
+    let Some(n) = read_list(line, e, &mut hashes) else {
         return unreadable(out);
     };
     carry_out(store, out, w, v, &hashes[..n])

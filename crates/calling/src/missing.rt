@@ -9,7 +9,6 @@ ghost use Rattle.reading.specs.Given.{values_of};
 ghost use Rattle.printing.specs.Given.{line_room, answer_room, Carried};
 ghost use Rattle.printing.specs.Answers.{Keeping};
 
-use inventory::items::Items;
 use printing::keys::listing;
 use printing::numbers::unreadable;
 use reading::forms::Values;
@@ -44,7 +43,7 @@ pub fn answer_missing(store: &mut [u8], line: &[u8], out: &mut [u8], v: Values, 
     ensures { Keeping (item_list_call (missing_ask (values_of v)) (rest line.now (e + 1))) store.old store.new out.old out.new result }
 {
     let mut items = inventory::items::item_buffer();
-    let Items::Are(n) = inventory::items::read_list(line, e, &mut items) else {
+    let Some(n) = inventory::items::read_list(line, e, &mut items) else {
         return unreadable(out);
     };
     let m = n * lent_lists::ITEM;

@@ -7,7 +7,6 @@ ghost use Rattle.reading.specs.Given.{values_of};
 ghost use Rattle.printing.specs.Given.{line_room, answer_room};
 ghost use Rattle.printing.specs.Answers.{Keeping};
 
-use inventory::offers::Offers;
 use printing::numbers::{number, unreadable};
 use reading::forms::Values;
 
@@ -18,7 +17,7 @@ pub fn answer_offers(store: &mut [u8], line: &[u8], out: &mut [u8], v: Values, e
 {
     let mut items = inventory::offers::item_buffer();
     let mut priorities = inventory::offers::priority_buffer();
-    let Offers::Are(n) = inventory::offers::read_list(line, e, &mut items, &mut priorities) else {
+    let Some(n) = inventory::offers::read_list(line, e, &mut items, &mut priorities) else {
         return unreadable(out);
     };
     let k = n * lent_lists::ITEM;

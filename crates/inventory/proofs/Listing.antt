@@ -16,9 +16,7 @@ use Rattle.reading.specs.Line.{Line, Asks, Send, Reader, list_then}
 use Rattle.reading.specs.Lists.{key_list_call, item_list_call, send_line}
 use Rattle.reading.proofs.Elements.{NoList}
 use Rattle.reading.proofs.Stored.{all_stored}
-use Rattle.inventory.specs.declared.keys.Keys.TheVariants.{None as NoKeys, Are as AreKeys}
-use Rattle.inventory.specs.declared.items.Items.TheVariants.{None as NoItems, Are as AreItems}
-use Rattle.inventory.specs.declared.numbers.Numbers.TheVariants.{None as NoNumbers, Are as AreNumbers}
+use Rattle.std.specs.Prelude.{None, Some}
 use Rattle.inventory.specs.Given.{most_listed, listed_room, KeysGiven, items_of, ItemsGiven, most_numbers, number_room, number_bytes, numbers_of, NumbersGiven}
 
 -- the list is xs, whatever it is for
@@ -38,26 +36,26 @@ unfolding words
 numbers-stored n b s = all_stored number_bytes (number 256) n b (lit≤ tt) s
 
 module _ {l : List ℕ} {e : ℕ} {b : List ℕ} where
-  pub no_keys : NoList (taking key_of) l e → KeysGiven l e b NoKeys
+  pub no_keys : NoList (taking key_of) l e → KeysGiven l e b None
   unfolding key_list_call
   no_keys g = record { is = λ ask. g (λ ks. Asks (On (ask ks))) }
 
-  pub keys-are : {n : ℕ} → n ≤ most_listed → listed_room ≤ length b → IsList (taking key_of) l e (keys_in n b) → KeysGiven l e b (AreKeys n)
+  pub keys-are : {n : ℕ} → n ≤ most_listed → listed_room ≤ length b → IsList (taking key_of) l e (keys_in n b) → KeysGiven l e b (Some n)
   unfolding key_list_call
   keys-are {n} f s g = record { is = record { few = f; is = λ ask. g (λ ks. Asks (On (ask ks))) ∙ ap (λ (ks : List Key). some (Asks (On (ask ks)))) (sym (keys-stored n b f s)) } }
 
-  pub no_items : NoList (taking item_of) l e → ItemsGiven l e b NoItems
+  pub no_items : NoList (taking item_of) l e → ItemsGiven l e b None
   unfolding item_list_call
   no_items g = record { is = λ ask. g (λ is. Asks (On (ask is))) }
 
-  pub items-are : {n : ℕ} → n ≤ most_listed → listed_room ≤ length b → IsList (taking item_of) l e (items_of n b) → ItemsGiven l e b (AreItems n)
+  pub items-are : {n : ℕ} → n ≤ most_listed → listed_room ≤ length b → IsList (taking item_of) l e (items_of n b) → ItemsGiven l e b (Some n)
   unfolding item_list_call
   items-are {n} f s g = record { is = record { few = f; is = λ ask. g (λ is. Asks (On (ask is))) ∙ ap (λ (is : List Item). some (Asks (On (ask is)))) (sym (items-stored n b (omega arith))) } }
 
-  pub no-numbers : NoList (taking number_of) l e → NumbersGiven l e b NoNumbers
+  pub no-numbers : NoList (taking number_of) l e → NumbersGiven l e b None
   unfolding send_line
   no-numbers g = record { is = g Send }
 
-  pub numbers-are : {n : ℕ} → n ≤ most_numbers → number_room ≤ length b → IsList (taking number_of) l e (numbers_of n b) → NumbersGiven l e b (AreNumbers n)
+  pub numbers-are : {n : ℕ} → n ≤ most_numbers → number_room ≤ length b → IsList (taking number_of) l e (numbers_of n b) → NumbersGiven l e b (Some n)
   unfolding send_line
   numbers-are {n} f s g = record { is = record { few = f; is = g Send ∙ ap (λ (ns : List ℕ). some (Send ns)) (sym (numbers-stored n b (omega arith))) } }

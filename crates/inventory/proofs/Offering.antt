@@ -17,7 +17,7 @@ use Rattle.reading.specs.Lists.{offer_of, offer_then, offers_call}
 use Rattle.reading.specs.Given.{At, ElementRead, FieldRead}
 use Rattle.reading.proofs.Taking.{field_not, field_is}
 use Rattle.reading.proofs.Elements.{NoList}
-use Rattle.inventory.specs.declared.offers.Offers.TheVariants.{None, Are}
+use Rattle.std.specs.Prelude.{None, Some}
 use Rattle.inventory.specs.Given.{most_offers, item_room, priority_room, items_of, number_bytes, numbers_of, offers_of, OfferPut, OffersGiven}
 use Rattle.inventory.proofs.Plain.{plain-item}
 use Rattle.inventory.proofs.Listing.{IsList, items-stored, numbers-stored}
@@ -71,6 +71,6 @@ module _ {l : List ℕ} {e : ℕ} {b c : List ℕ} where
   unfolding offers_call
   no-offers g = record { is = λ ask. g (λ os. Asks (On (ask os))) }
 
-  pub offers-are : {n : ℕ} → n ≤ most_offers → item_room ≤ length b → priority_room ≤ length c → IsList offer_then l e (offers_of n b c) → OffersGiven l e b c (Are n)
+  pub offers-are : {n : ℕ} → n ≤ most_offers → item_room ≤ length b → priority_room ≤ length c → IsList offer_then l e (offers_of n b c) → OffersGiven l e b c (Some n)
   unfolding offers_call
   offers-are {n} f i j g = record { is = record { few = f; is = λ ask. g (λ os. Asks (On (ask os))) ∙ ap (λ (os : List Offer). some (Asks (On (ask os)))) (sym (offers-stored n b c f i j)) } }

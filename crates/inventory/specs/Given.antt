@@ -1,5 +1,6 @@
 -- What the contracts of the readers of lists say.
 use Rattle.std.specs.Prelude.{ℕ, ◌+◌, ◌*◌, ◌≤◌, ◌≡◌, true, List, take}
+use Rattle.std.specs.Prelude as answer
 use Rattle.std.proofs.Math.Option.{Option, none, some}
 use Rattle.ident.specs.declared.ItemKind.{ItemKind}
 use Rattle.ident.specs.Number.{Item, is_plain}
@@ -12,14 +13,6 @@ use Rattle.machine.specs.Fields.{rest}
 use Rattle.reading.specs.Line.{Line, Asks, Send}
 use Rattle.reading.specs.Lists.{key_list_call, item_list_call, offers_call, send_line}
 use Rattle.reading.specs.Given.{Stored}
-use Rattle.inventory.specs.declared.keys.Keys.{Keys}
-use Rattle.inventory.specs.declared.keys.Keys.TheVariants.{None as NoKeys, Are as AreKeys}
-use Rattle.inventory.specs.declared.items.Items.{Items}
-use Rattle.inventory.specs.declared.items.Items.TheVariants.{None as NoItems, Are as AreItems}
-use Rattle.inventory.specs.declared.numbers.Numbers.{Numbers}
-use Rattle.inventory.specs.declared.numbers.Numbers.TheVariants.{None as NoNumbers, Are as AreNumbers}
-use Rattle.inventory.specs.declared.offers.Offers.{Offers}
-use Rattle.inventory.specs.declared.offers.Offers.TheVariants.{None as NoOffers, Are as AreOffers}
 
 -- ---- a list that a call takes
 
@@ -48,11 +41,11 @@ listed_room = 873800
 abbrev pub KeysHeld : List ℕ → ℕ → List ℕ → ℕ → Type 0
 KeysHeld l e b m = Held key_list_call l e most_listed m (given_keys (take (m * key_bytes) b))
 
-abbrev pub KeysAs : List ℕ → ℕ → List ℕ → Keys → Type 0
-KeysAs l e b NoKeys = Unlisted key_list_call l e
-KeysAs l e b (AreKeys m) = KeysHeld l e b m
+abbrev pub KeysAs : List ℕ → ℕ → List ℕ → answer.Option ℕ → Type 0
+KeysAs l e b answer.None = Unlisted key_list_call l e
+KeysAs l e b (answer.Some m) = KeysHeld l e b m
 
-pub record KeysGiven (l : List ℕ) (e : ℕ) (b : List ℕ) (r : Keys) : Type 0 where
+pub record KeysGiven (l : List ℕ) (e : ℕ) (b : List ℕ) (r : answer.Option ℕ) : Type 0 where
   pub is : KeysAs l e b r
 
 -- the first n items of bytes
@@ -66,11 +59,11 @@ pub record ItemPut (b b' : List ℕ) (i : ℕ) (k : ItemKind) (h : ℕ) : Type 0
 abbrev pub ItemsHeld : List ℕ → ℕ → List ℕ → ℕ → Type 0
 ItemsHeld l e b m = Held item_list_call l e most_listed m (items_in (take (m * item_bytes) b))
 
-abbrev pub ItemsAs : List ℕ → ℕ → List ℕ → Items → Type 0
-ItemsAs l e b NoItems = Unlisted item_list_call l e
-ItemsAs l e b (AreItems m) = ItemsHeld l e b m
+abbrev pub ItemsAs : List ℕ → ℕ → List ℕ → answer.Option ℕ → Type 0
+ItemsAs l e b answer.None = Unlisted item_list_call l e
+ItemsAs l e b (answer.Some m) = ItemsHeld l e b m
 
-pub record ItemsGiven (l : List ℕ) (e : ℕ) (b : List ℕ) (r : Items) : Type 0 where
+pub record ItemsGiven (l : List ℕ) (e : ℕ) (b : List ℕ) (r : answer.Option ℕ) : Type 0 where
   pub is : ItemsAs l e b r
 
 -- ---- numbers
@@ -94,11 +87,11 @@ pub record NumbersHeld (l : List ℕ) (e : ℕ) (b : List ℕ) (m : ℕ) : Type 
   pub few : m ≤ most_numbers
   pub is : send_line (rest l (e + 1)) ≡ some (Send (words (take (m * number_bytes) b)))
 
-abbrev pub NumbersAs : List ℕ → ℕ → List ℕ → Numbers → Type 0
-NumbersAs l e b NoNumbers = send_line (rest l (e + 1)) ≡ none
-NumbersAs l e b (AreNumbers m) = NumbersHeld l e b m
+abbrev pub NumbersAs : List ℕ → ℕ → List ℕ → answer.Option ℕ → Type 0
+NumbersAs l e b answer.None = send_line (rest l (e + 1)) ≡ none
+NumbersAs l e b (answer.Some m) = NumbersHeld l e b m
 
-pub record NumbersGiven (l : List ℕ) (e : ℕ) (b : List ℕ) (r : Numbers) : Type 0 where
+pub record NumbersGiven (l : List ℕ) (e : ℕ) (b : List ℕ) (r : answer.Option ℕ) : Type 0 where
   pub is : NumbersAs l e b r
 
 -- ---- items with their priorities
@@ -124,9 +117,9 @@ pub record OfferPut (b b' c c' : List ℕ) (i : ℕ) (k : ItemKind) (h p : ℕ) 
 abbrev pub OffersHeld : List ℕ → ℕ → List ℕ → List ℕ → ℕ → Type 0
 OffersHeld l e b c m = Held offers_call l e most_offers m (offers_in (take (m * item_bytes) b) (take (m * number_bytes) c))
 
-abbrev pub OffersAs : List ℕ → ℕ → List ℕ → List ℕ → Offers → Type 0
-OffersAs l e b c NoOffers = Unlisted offers_call l e
-OffersAs l e b c (AreOffers m) = OffersHeld l e b c m
+abbrev pub OffersAs : List ℕ → ℕ → List ℕ → List ℕ → answer.Option ℕ → Type 0
+OffersAs l e b c answer.None = Unlisted offers_call l e
+OffersAs l e b c (answer.Some m) = OffersHeld l e b c m
 
-pub record OffersGiven (l : List ℕ) (e : ℕ) (b c : List ℕ) (r : Offers) : Type 0 where
+pub record OffersGiven (l : List ℕ) (e : ℕ) (b c : List ℕ) (r : answer.Option ℕ) : Type 0 where
   pub is : OffersAs l e b c r

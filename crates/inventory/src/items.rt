@@ -7,20 +7,14 @@ ghost use Rattle.reading.specs.Given.{longest_line, ListRead};
 ghost use Rattle.inventory.specs.Given.{most_listed, listed_room, items_of, ItemPut, ItemsGiven};
 
 use lent_lists::ITEM;
-use reading::fields::{ItemAt, NumberAt, item_at, number_at};
-use reading::hashes::{ListAt, hash_of};
+use lines::read::Named;
+use reading::fields::{item_at, number_at};
+use reading::hashes::hash_of;
 
 // The most items that a line of 65,536 bytes can hold: each takes a comma, a letter and a digit or more.
 const ITEMS: usize = 21_845;
 
 const STORED: usize = ITEMS * ITEM;
-
-// The items of a line, or that it has none: how many stand in the bytes.
-#[derive(Clone, Copy)]
-pub enum Items {
-    None,
-    Are(usize),
-}
 
 pub fn item_buffer() -> [u8; STORED]
     ensures { length result ≡ listed_room }
@@ -29,47 +23,41 @@ pub fn item_buffer() -> [u8; STORED]
 }
 
 // The i-th item.
-pub fn put_item(items: &mut [u8], i: usize, kind: ident::ItemKind, q: regions::Quad)
+pub fn put_item(items: &mut [u8], i: usize, item: Named<ident::ItemKind>)
     requires { item_bytes * i + item_bytes ≤ length items.old }
-    ensures { ItemPut items.old items.new i kind (quad_number q) }
+    ensures { ItemPut items.old items.new i item.kind (quad_number item.hash) }
 {
-    words::put(items, i * 5, ident::item_type(kind) as u64);
-    ident::put_hash(items, i * ITEM + 8, hash_of(q));
+    words::put(items, i * 5, ident::item_type(item.kind) as u64);
+    ident::put_hash(items, i * ITEM + 8, hash_of(item.hash));
 }
 
-// The n items whose fields stand behind the comma at index e.
-fn read_items(line: &[u8], e: usize, n: usize, items: &mut [u8]) -> ListAt
+// The n items whose fields stand behind the comma at index e, and where the last ends.
+fn read_items(line: &[u8], e: usize, n: usize, items: &mut [u8]) -> Option<usize>
     requires { (n ≤ most_listed) × (listed_room ≤ length items.old) }
     ensures { ListRead (taking item_of) line.now e n (items_of n items.new) result }
 {
     let mut to = e;
     for i in 0..n {
-        let ItemAt::Is(kind, q, end) = item_at(line, to) else {
-            return ListAt::Not;
-        };
-        put_item(items, i, kind, q);
-        to = end;
+        let item = item_at(line, to)?;
+        put_item(items, i, item.value);
+        to = item.end;
     }
-    ListAt::Is(to)
+    Some(to)
 }
 
-// The list behind the comma at index e, the line's last fields.
-pub fn read_list(line: &[u8], e: usize, items: &mut [u8]) -> Items
+// The list behind the comma at index e, the line's last fields: how many items stand in the bytes.
+pub fn read_list(line: &[u8], e: usize, items: &mut [u8]) -> Option<usize>
     requires { (length line.now ≤ longest_line) × (listed_room ≤ length items.old) }
     ensures { ItemsGiven line.now e items.new result }
 {
-    let NumberAt::Is(count, to) = number_at(line, e) else {
-        return Items::None;
-    };
-    if 21_845 < count {
-        return Items::None;
+    let count = number_at(line, e)?;
+    if 21_845 < count.value {
+        return None;
     }
-    let n = count as usize;
-    let ListAt::Is(end) = read_items(line, to, n, items) else {
-        return Items::None;
-    };
+    let n = count.value as usize;
+    let end = read_items(line, count.end, n, items)?;
     if end < line.len() {
-        return Items::None;
+        return None;
     }
-    Items::Are(n)
+    Some(n)
 }

@@ -1,6 +1,6 @@
 // A list of keys, 40 bytes each: a word that is 0 for Txid and 1 for Wtxid, then the hash.
 ghost use Rattle.std.specs.Prelude.{◌+◌, ◌*◌, ◌≤◌, ◌≡◌, length};
-ghost use Rattle.regions.specs.Rows.{quad_number};
+ghost use Rattle.lines.specs.Values.{named_key};
 ghost use Rattle.machine.specs.Call.{key_bytes};
 ghost use Rattle.lent_lists.specs.Lists.{key_in, keys_in};
 ghost use Rattle.machine.specs.Fields.{key_of, taking};
@@ -8,20 +8,14 @@ ghost use Rattle.reading.specs.Given.{longest_line, Stored, ListRead};
 ghost use Rattle.inventory.specs.Given.{most_listed, listed_room, KeysGiven};
 
 use lent_lists::KEY;
-use reading::fields::{KeyAt, NumberAt, key_at, number_at};
-use reading::hashes::{ListAt, hash_of};
+use lines::read::Named;
+use reading::fields::{key_at, number_at};
+use reading::hashes::hash_of;
 
 // The most keys that a line of 65,536 bytes can hold: each takes a comma, a letter and a digit or more.
 const KEYS: usize = 21_845;
 
 const STORED: usize = KEYS * KEY;
-
-// The keys of a line, or that it has none: how many stand in the bytes.
-#[derive(Clone, Copy)]
-pub enum Keys {
-    None,
-    Are(usize),
-}
 
 pub fn key_buffer() -> [u8; STORED]
     ensures { length result ≡ listed_room }
@@ -30,47 +24,42 @@ pub fn key_buffer() -> [u8; STORED]
 }
 
 // The i-th key.
-fn put_key(keys: &mut [u8], i: usize, kind: ident::Kind, q: regions::Quad)
+fn put_key(keys: &mut [u8], i: usize, key: Named<ident::Kind>)
     requires { key_bytes * i + key_bytes ≤ length keys.old }
-    ensures { Stored key_bytes key_in keys.old keys.new i (record { kind = kind; hash = quad_number q }) }
+    ensures { Stored key_bytes key_in keys.old keys.new i (named_key key) }
 {
-    let hash = hash_of(q);
+    let kind = key.kind;
+    let hash = hash_of(key.hash);
     lent_lists::put_key(keys, i, ident::Key { kind, hash });
 }
 
-// The n keys whose fields stand behind the comma at index e.
-fn read_keys(line: &[u8], e: usize, n: usize, keys: &mut [u8]) -> ListAt
+// The n keys whose fields stand behind the comma at index e, and where the last ends.
+fn read_keys(line: &[u8], e: usize, n: usize, keys: &mut [u8]) -> Option<usize>
     requires { (n ≤ most_listed) × (listed_room ≤ length keys.old) }
     ensures { ListRead (taking key_of) line.now e n (keys_in n keys.new) result }
 {
     let mut to = e;
     for i in 0..n {
-        let KeyAt::Is(kind, q, end) = key_at(line, to) else {
-            return ListAt::Not;
-        };
-        put_key(keys, i, kind, q);
-        to = end;
+        let key = key_at(line, to)?;
+        put_key(keys, i, key.value);
+        to = key.end;
     }
-    ListAt::Is(to)
+    Some(to)
 }
 
-// The list behind the comma at index e, the line's last fields.
-pub fn read_list(line: &[u8], e: usize, keys: &mut [u8]) -> Keys
+// The list behind the comma at index e, the line's last fields: how many keys stand in the bytes.
+pub fn read_list(line: &[u8], e: usize, keys: &mut [u8]) -> Option<usize>
     requires { (length line.now ≤ longest_line) × (listed_room ≤ length keys.old) }
     ensures { KeysGiven line.now e keys.new result }
 {
-    let NumberAt::Is(count, to) = number_at(line, e) else {
-        return Keys::None;
-    };
-    if 21_845 < count {
-        return Keys::None;
+    let count = number_at(line, e)?;
+    if 21_845 < count.value {
+        return None;
     }
-    let n = count as usize;
-    let ListAt::Is(end) = read_keys(line, to, n, keys) else {
-        return Keys::None;
-    };
+    let n = count.value as usize;
+    let end = read_keys(line, count.end, n, keys)?;
     if end < line.len() {
-        return Keys::None;
+        return None;
     }
-    Keys::Are(n)
+    Some(n)
 }

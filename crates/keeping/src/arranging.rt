@@ -17,7 +17,6 @@ ghost use Rattle.keeping.specs.Lists.{list_in, Fits, Ordered};
 ghost use Rattle.keeping.specs.Steps.{Stepped};
 
 use crate::kept::{ENTRY, LIST};
-use inventory::numbers::Numbers;
 use printing::buffers::answer_buffer;
 use printing::numbers::{refusal, unreadable};
 
@@ -48,7 +47,7 @@ pub fn answer_send(store: &[u8], lists: &mut [u8], line: &[u8], out: &mut [u8], 
     ensures { Stepped (send_line (rest line.now (e + 1))) lists.old lists.new store.now store.now out.old out.new result }
 {
     let mut witnesses = inventory::numbers::number_buffer();
-    let Numbers::Are(n) = inventory::numbers::read_list(line, e, &mut witnesses) else {
+    let Some(n) = inventory::numbers::read_list(line, e, &mut witnesses) else {
         return unreadable(out);
     };
     let m = n * inventory::numbers::NUMBER;

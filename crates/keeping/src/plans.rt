@@ -15,7 +15,6 @@ ghost use Rattle.keeping.specs.Lists.{list_in, Fits, Ordered};
 ghost use Rattle.keeping.specs.Steps.{Stepped};
 
 use crate::kept::{ENTRY, LIST};
-use inventory::keys::Keys;
 use printing::buffers::answer_buffer;
 use printing::numbers::unreadable;
 use reading::forms::Values;
@@ -55,7 +54,7 @@ pub fn answer_want(
         out.old out.new result }
 {
     let mut keys = inventory::keys::key_buffer();
-    let Keys::Are(n) = inventory::keys::read_list(line, e, &mut keys) else {
+    let Some(n) = inventory::keys::read_list(line, e, &mut keys) else {
         return unreadable(out);
     };
     let m = n * lent_lists::KEY;

@@ -1,42 +1,39 @@
--- What the readers' answers say.
-use Rattle.std.specs.Prelude.{ℕ, Bool}
-use Rattle.std.proofs.Math.Option.{Option, none, some}
+-- What the readers' answers say: the value of a field as the definitions of machine/specs/Fields give it.
+use Rattle.std.specs.Prelude.{ℕ, Bool, Option, None, Some}
+use Rattle.std.proofs.Math.Option as math
+use Rattle.std.proofs.Math.Option.{none, some}
+use Rattle.ident.specs.declared.Kind.{Kind}
 use Rattle.ident.specs.declared.ItemKind.{ItemKind}
 use Rattle.ident.specs.Number.{Key, Item}
+use Rattle.regions.specs.declared.Quad.{Quad}
 use Rattle.regions.specs.Rows.{quad_number}
-use Rattle.lines.specs.declared.read.MaybeNumber.{MaybeNumber}
-use Rattle.lines.specs.declared.read.MaybeNumber.TheVariants.{Not as NoNumber, Is as IsNumber}
-use Rattle.lines.specs.declared.read.MaybeHash.{MaybeHash}
-use Rattle.lines.specs.declared.read.MaybeHash.TheVariants.{Not as NoHash, Is as IsHash}
-use Rattle.lines.specs.declared.read.MaybeBool.{MaybeBool}
-use Rattle.lines.specs.declared.read.MaybeBool.TheVariants.{Not as NoBool, Is as IsBool}
-use Rattle.lines.specs.declared.read.MaybeKey.{MaybeKey}
-use Rattle.lines.specs.declared.read.MaybeKey.TheVariants.{Not as NoKey, Is as IsKey}
-use Rattle.lines.specs.declared.read.MaybeItem.{MaybeItem}
-use Rattle.lines.specs.declared.read.MaybeItem.TheVariants.{Not as NoItem, Is as IsItem}
-use Rattle.lines.specs.declared.read.MaybeItemKind.{MaybeItemKind}
-use Rattle.lines.specs.declared.read.MaybeItemKind.TheVariants.{Not as NoKind, Is as IsKind}
+use Rattle.lines.specs.declared.read.Named.{Named}
 
-abbrev pub number_in : MaybeNumber → Option ℕ
-number_in NoNumber = none
-number_in (IsNumber n) = some n
+-- the value that f says an answer's stands for, if it has one
+abbrev pub value_in : {T A : Type 0} → (T → A) → Option T → math.Option A
+value_in f None = none
+value_in f (Some x) = some (f x)
 
-abbrev pub hash_in : MaybeHash → Option ℕ
-hash_in NoHash = none
-hash_in (IsHash q) = some (quad_number q)
+abbrev pub number_in : Option ℕ → math.Option ℕ
+number_in o = value_in (λ n. n) o
 
-abbrev pub bool_in : MaybeBool → Option Bool
-bool_in NoBool = none
-bool_in (IsBool b) = some b
+abbrev pub hash_in : Option Quad → math.Option ℕ
+hash_in o = value_in quad_number o
 
-abbrev pub key_in : MaybeKey → Option Key
-key_in NoKey = none
-key_in (IsKey k q) = some (record { kind = k; hash = quad_number q })
+abbrev pub bool_in : Option Bool → math.Option Bool
+bool_in o = value_in (λ b. b) o
 
-abbrev pub item_kind_in : MaybeItemKind → Option ItemKind
-item_kind_in NoKind = none
-item_kind_in (IsKind k) = some k
+abbrev pub named_key : Named Kind → Key
+named_key n = record { kind = n.kind; hash = quad_number n.hash }
 
-abbrev pub item_in : MaybeItem → Option Item
-item_in NoItem = none
-item_in (IsItem k q) = some (record { kind = k; hash = quad_number q })
+abbrev pub key_in : Option (Named Kind) → math.Option Key
+key_in o = value_in named_key o
+
+abbrev pub item_kind_in : Option ItemKind → math.Option ItemKind
+item_kind_in o = value_in (λ k. k) o
+
+abbrev pub named_item : Named ItemKind → Item
+named_item n = record { kind = n.kind; hash = quad_number n.hash }
+
+abbrev pub item_in : Option (Named ItemKind) → math.Option Item
+item_in o = value_in named_item o

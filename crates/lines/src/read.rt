@@ -3,47 +3,15 @@ ghost use Rattle.std.specs.Prelude.{◌≡◌, ◌&&◌, ◌+◌, ◌*◌, ◌<�
 ghost use Rattle.regions.specs.Rows.{quad_number};
 ghost use Rattle.ident.specs.Number.{top};
 ghost use Rattle.machine.specs.Fields.{numeral_of, number_of, type_of, hash_of, bool_of, kind_of, key_of, letter_kind, other_kind, other_of, item_of, same_text, before};
-ghost use Rattle.lines.specs.Values.{number_in, hash_in, bool_in, key_in, item_kind_in, item_in};
-ghost use Rattle.ident.specs.Words.{maybe_kind};
+ghost use Rattle.lines.specs.Values.{value_in, number_in, hash_in, bool_in, key_in, item_kind_in, item_in};
 
 use crate::digits::value;
 
-// What a field may be.
+// A hash as plain words with the kind that it is named by: a key's, which is an ident::Kind, or an item's, an ident::ItemKind.
 #[derive(Clone, Copy)]
-pub enum MaybeNumber {
-    Not,
-    Is(u64),
-}
-
-#[derive(Clone, Copy)]
-pub enum MaybeHash {
-    Not,
-    Is(regions::Quad),
-}
-
-#[derive(Clone, Copy)]
-pub enum MaybeBool {
-    Not,
-    Is(bool),
-}
-
-#[derive(Clone, Copy)]
-pub enum MaybeKey {
-    Not,
-    Is(ident::Kind, regions::Quad),
-}
-
-#[derive(Clone, Copy)]
-pub enum MaybeItem {
-    Not,
-    Is(ident::ItemKind, regions::Quad),
-}
-
-// The kind that an item's letter or an other item's type stands for.
-#[derive(Clone, Copy)]
-pub enum MaybeItemKind {
-    Not,
-    Is(ident::ItemKind),
+pub struct Named<K> {
+    pub kind: K,
+    pub hash: regions::Quad,
 }
 
 // ---- Numbers
@@ -60,31 +28,31 @@ fn has_room(a: u64, d: u64, most: u64) -> bool
 }
 
 // A decimal number that is at most `most`.
-fn decimal(f: &[u8], most: u64) -> MaybeNumber
+fn decimal(f: &[u8], most: u64) -> Option<u64>
     requires { 9 ≤ most }
     ensures { number_in result ≡ numeral_of 10 (most + 1) f.now }
 {
     if f.len() == 0 {
-        return MaybeNumber::Not;
+        return None;
     }
     let mut a = value(f[0]);
     if 10 <= a {
-        return MaybeNumber::Not;
+        return None;
     }
     for i in 1..f.len() {
         let d = value(f[i]);
         if a == 0 {
-            return MaybeNumber::Not;
+            return None;
         }
         if !has_room(a, d, most) {
-            return MaybeNumber::Not;
+            return None;
         }
         a = a * 10 + d;
     }
-    MaybeNumber::Is(a)
+    Some(a)
 }
 
-pub fn number(f: &[u8]) -> MaybeNumber
+pub fn number(f: &[u8]) -> Option<u64>
     ensures { number_in result ≡ number_of f.now }
 {
     decimal(f, u64::MAX)
@@ -117,15 +85,15 @@ fn with_digit(q: regions::Quad, d: u64) -> regions::Quad
     }
 }
 
-pub fn hash(f: &[u8]) -> MaybeHash
+pub fn hash(f: &[u8]) -> Option<regions::Quad>
     ensures { hash_in result ≡ hash_of f.now }
 {
     if f.len() == 0 {
-        return MaybeHash::Not;
+        return None;
     }
     let first = value(f[0]);
     if 16 <= first {
-        return MaybeHash::Not;
+        return None;
     }
     let mut q = regions::Quad {
         w0: first,
@@ -136,123 +104,100 @@ pub fn hash(f: &[u8]) -> MaybeHash
     for i in 1..f.len() {
         let d = value(f[i]);
         if first == 0 {
-            return MaybeHash::Not;
+            return None;
         }
         if !hash_has_room(q, d) {
-            return MaybeHash::Not;
+            return None;
         }
         q = with_digit(q, d);
     }
-    MaybeHash::Is(q)
+    Some(q)
 }
 
 // ---- Bools, keys, items
 
-pub fn boolean(f: &[u8]) -> MaybeBool
+#[tactic(auto, unfolding(machine::specs::Fields::bool_of))]
+pub fn boolean(f: &[u8]) -> Option<bool>
     ensures { bool_in result ≡ bool_of f.now }
 {
-    if f.len() != 1 {
-        return MaybeBool::Not;
+    let &[digit] = f else {
+        return None;
+    };
+    match digit {
+        b'0' => Some(false),
+        b'1' => Some(true),
+        _ => None,
     }
-    if f[0] == b'0' {
-        return MaybeBool::Is(false);
-    }
-    if f[0] == b'1' {
-        return MaybeBool::Is(true);
-    }
-    MaybeBool::Not
 }
 
-fn kind(c: u8) -> ident::MaybeKind
-    ensures { maybe_kind result ≡ kind_of c }
+fn kind(c: u8) -> Option<ident::Kind>
+    ensures { value_in (λ k. k) result ≡ kind_of c }
 {
-    if c == b't' {
-        return ident::MaybeKind::Is(ident::Kind::Txid);
+    match c {
+        b't' => Some(ident::Kind::Txid),
+        b'w' => Some(ident::Kind::Wtxid),
+        _ => None,
     }
-    if c == b'w' {
-        return ident::MaybeKind::Is(ident::Kind::Wtxid);
-    }
-    ident::MaybeKind::None
 }
 
-pub fn key(f: &[u8]) -> MaybeKey
+#[tactic(auto, unfolding(machine::specs::Fields::key_of))]
+pub fn key(f: &[u8]) -> Option<Named<ident::Kind>>
     ensures { key_in result ≡ key_of f.now }
 {
-    if f.len() == 0 {
-        return MaybeKey::Not;
-    }
-    let ident::MaybeKind::Is(k) = kind(f[0]) else {
-        return MaybeKey::Not;
-    };
-    let MaybeHash::Is(q) = hash(&f[1..]) else {
-        return MaybeKey::Not;
-    };
-    MaybeKey::Is(k, q)
+    let (&letter, digits) = f.split_first()?;
+    let kind = kind(letter)?;
+    let hash = hash(digits)?;
+    Some(Named { kind, hash })
 }
 
-fn letter_kind(c: u8) -> MaybeItemKind
+fn letter_kind(c: u8) -> Option<ident::ItemKind>
     ensures { item_kind_in result ≡ letter_kind c }
 {
-    if c == b't' {
-        return MaybeItemKind::Is(ident::ItemKind::Transaction);
+    match c {
+        b't' => Some(ident::ItemKind::Transaction),
+        b'v' => Some(ident::ItemKind::WitnessTransaction),
+        b'w' => Some(ident::ItemKind::WTx),
+        _ => None,
     }
-    if c == b'v' {
-        return MaybeItemKind::Is(ident::ItemKind::WitnessTransaction);
-    }
-    if c == b'w' {
-        return MaybeItemKind::Is(ident::ItemKind::WTx);
-    }
-    MaybeItemKind::Not
 }
 
 // The kind of an other item, of which f is the type.
-fn other_kind(f: &[u8]) -> MaybeItemKind
+fn other_kind(f: &[u8]) -> Option<ident::ItemKind>
     ensures { item_kind_in result ≡ other_kind (type_of f.now) }
 {
-    let MaybeNumber::Is(n) = decimal(f, 0xffff_ffff) else {
-        return MaybeItemKind::Not;
-    };
+    let n = decimal(f, 0xffff_ffff)?;
     let k = ident::ItemKind::Other(n as u32);
     if !ident::is_plain(k) {
-        return MaybeItemKind::Not;
+        return None;
     }
-    MaybeItemKind::Is(k)
+    Some(k)
 }
 
 // An other item, of which f is what stands behind the letter.
-fn other_item(f: &[u8]) -> MaybeItem
+#[tactic(auto, unfolding(machine::specs::Fields::behind))]
+fn other_item(f: &[u8]) -> Option<Named<ident::ItemKind>>
     ensures { item_in result ≡ other_of f.now }
 {
     let at = find(f, 0, b':');
     if at == f.len() {
-        return MaybeItem::Not;
+        return None;
     }
-    let MaybeItemKind::Is(k) = other_kind(&f[..at]) else {
-        return MaybeItem::Not;
-    };
-    let from = at + 1;
-    let MaybeHash::Is(q) = hash(&f[from..]) else {
-        return MaybeItem::Not;
-    };
-    MaybeItem::Is(k, q)
+    let kind = other_kind(&f[..at])?;
+    let hash = hash(&f[at + 1..])?;
+    Some(Named { kind, hash })
 }
 
-pub fn item(f: &[u8]) -> MaybeItem
+#[tactic(auto, unfolding(machine::specs::Fields::item_of))]
+pub fn item(f: &[u8]) -> Option<Named<ident::ItemKind>>
     ensures { item_in result ≡ item_of f.now }
 {
-    if f.len() == 0 {
-        return MaybeItem::Not;
+    let (&letter, digits) = f.split_first()?;
+    if letter == b'o' {
+        return other_item(digits);
     }
-    if f[0] == b'o' {
-        return other_item(&f[1..]);
-    }
-    let MaybeItemKind::Is(k) = letter_kind(f[0]) else {
-        return MaybeItem::Not;
-    };
-    let MaybeHash::Is(q) = hash(&f[1..]) else {
-        return MaybeItem::Not;
-    };
-    MaybeItem::Is(k, q)
+    let kind = letter_kind(letter)?;
+    let hash = hash(digits)?;
+    Some(Named { kind, hash })
 }
 
 // ---- Fields

@@ -9,8 +9,7 @@ use native.Mathlib.Omega.{arith}
 use lib.ListN.{length}
 use borrow.Author.Tests.{ltb-true, ltb-false, not-true, not-false}
 use Rattle.machine.proofs.Tests.{test}
-use Rattle.lines.specs.declared.read.MaybeNumber.{MaybeNumber}
-use Rattle.lines.specs.declared.read.MaybeNumber.TheVariants.{Not as NoNumber, Is as IsNumber}
+use Rattle.std.specs.Prelude as answer
 use Rattle.lines.specs.Values.{number_in}
 use Rattle.listed_lines.specs.declared.line.Line as line-line
 use Rattle.listed_lines.specs.declared.line.Line.TheVariants.{Not, Head, Request, Candidate}
@@ -26,57 +25,57 @@ use Rattle.listed_counts.specs.Passes.{owner_number, added, Adds, names_added, c
 
 -- ---- what a line adds
 
-module _ {o : Bool} {l : line-line.Line} {r : MaybeNumber} where
+module _ {o : Bool} {l : line-line.Line} {r : answer.Option ℕ} where
   adds : {x : line-line.Line} → l ≡ x → ((ws ps : List ℕ) → number_in r ≡ added o (line_in ws ps x)) → Adds o l r
   adds e h = record { is = λ ws ps. h ws ps ∙ sym (ap (λ (y : line-line.Line). added o (line_in ws ps y)) e) }
 
-pub adds_not : (o : Bool) {l : line-line.Line} → l ≡ Not → Adds o l NoNumber
+pub adds_not : (o : Bool) {l : line-line.Line} → l ≡ Not → Adds o l answer.None
 adds_not true e = adds e (λ ws ps. refl)
 adds_not false e = adds e (λ ws ps. refl)
 
-pub adds-head : (o : Bool) {l : line-line.Line} {h : line-head.Head} → l ≡ Head h → Adds o l NoNumber
+pub adds-head : (o : Bool) {l : line-line.Line} {h : line-head.Head} → l ≡ Head h → Adds o l answer.None
 adds-head true e = adds e (λ ws ps. refl)
 adds-head false e = adds e (λ ws ps. refl)
 
-pub adds-owner : {l : line-line.Line} {q : line-request.Request} {r : MaybeNumber} → l ≡ Request q → number_in r ≡ owner_number (owner_of q.owner) → Adds true l r
+pub adds-owner : {l : line-line.Line} {q : line-request.Request} {r : answer.Option ℕ} → l ≡ Request q → number_in r ≡ owner_number (owner_of q.owner) → Adds true l r
 adds-owner e h = adds e (λ ws ps. h)
 
-pub adds-no-owner : {l : line-line.Line} {q : line-candidate.Candidate} → l ≡ Candidate q → Adds true l NoNumber
+pub adds-no-owner : {l : line-line.Line} {q : line-candidate.Candidate} → l ≡ Candidate q → Adds true l answer.None
 adds-no-owner e = adds e (λ ws ps. refl)
 
-pub adds-no-connection : {l : line-line.Line} {q : line-request.Request} → l ≡ Request q → Adds false l NoNumber
+pub adds-no-connection : {l : line-line.Line} {q : line-request.Request} → l ≡ Request q → Adds false l answer.None
 adds-no-connection e = adds e (λ ws ps. refl)
 
-pub adds-connection : {l : line-line.Line} {q : line-candidate.Candidate} → l ≡ Candidate q → Adds false l (IsNumber q.connection)
+pub adds-connection : {l : line-line.Line} {q : line-candidate.Candidate} → l ≡ Candidate q → Adds false l (answer.Some q.connection)
 adds-connection e = adds e (λ ws ps. refl)
 
-pub adds_as : {o p : Bool} {l : line-line.Line} {r : MaybeNumber} → o ≡ p → Adds p l r → Adds o l r
+pub adds_as : {o p : Bool} {l : line-line.Line} {r : answer.Option ℕ} → o ≡ p → Adds p l r → Adds o l r
 adds_as {l = l} {r = r} e a = subst (λ (b : Bool). Adds b l r) (sym e) a
 
 module _ (o : parts-owner.Owner) where
-  pub no-owner : not o.held ≡ true → number_in NoNumber ≡ owner_number (owner_of o)
+  pub no-owner : not o.held ≡ true → number_in answer.None ≡ owner_number (owner_of o)
   no-owner e = ap (λ (h : Bool). owner_number (owner_if h o.connection o.deadline)) (sym (not-true o.held e))
 
-  pub an-owner : not o.held ≡ false → number_in (IsNumber o.connection) ≡ owner_number (owner_of o)
+  pub an-owner : not o.held ≡ false → number_in (answer.Some o.connection) ≡ owner_number (owner_of o)
   an-owner e = ap (λ (h : Bool). owner_number (owner_if h o.connection o.deadline)) (sym (not-false o.held e))
 
 -- ---- one number more, or none
 
-module _ {n : MaybeNumber} (ns ks : List ℕ) where
-  pub notes_none : n ≡ NoNumber → Notes n ns ks ns ks
-  notes_none e = record { names = ap (λ (m : MaybeNumber). names_added (number_in m) ns ks) (sym e); counts = ap (λ (m : MaybeNumber). counts_added (number_in m) ns ks) (sym e) }
+module _ {n : answer.Option ℕ} (ns ks : List ℕ) where
+  pub notes_none : n ≡ answer.None → Notes n ns ks ns ks
+  notes_none e = record { names = ap (λ (m : answer.Option ℕ). names_added (number_in m) ns ks) (sym e); counts = ap (λ (m : answer.Option ℕ). counts_added (number_in m) ns ks) (sym e) }
 
-  pub notes_some : {x : ℕ} {ns' ks' : List ℕ} → n ≡ IsNumber x → counters.Notes ns ks ns' ks' x → Notes n ns ks ns' ks'
+  pub notes_some : {x : ℕ} {ns' ks' : List ℕ} → n ≡ answer.Some x → counters.Notes ns ks ns' ks' x → Notes n ns ks ns' ks'
   notes_some e h = record {
-    names = h.names ∙ ap (λ (m : MaybeNumber). names_added (number_in m) ns ks) (sym e);
-    counts = h.counts ∙ ap (λ (m : MaybeNumber). counts_added (number_in m) ns ks) (sym e);
+    names = h.names ∙ ap (λ (m : answer.Option ℕ). names_added (number_in m) ns ks) (sym e);
+    counts = h.counts ∙ ap (λ (m : answer.Option ℕ). counts_added (number_in m) ns ks) (sym e);
   }
 
-  pub counts_none : n ≡ NoNumber → Counts n ns ks ks
-  counts_none e = record { counts = ap (λ (m : MaybeNumber). counted_added (number_in m) ns ks) (sym e) }
+  pub counts_none : n ≡ answer.None → Counts n ns ks ks
+  counts_none e = record { counts = ap (λ (m : answer.Option ℕ). counted_added (number_in m) ns ks) (sym e) }
 
-  pub counts_some : {x : ℕ} {ks' : List ℕ} → n ≡ IsNumber x → ks' ≡ counted_with x ns ks → Counts n ns ks ks'
-  counts_some e h = record { counts = h ∙ ap (λ (m : MaybeNumber). counted_added (number_in m) ns ks) (sym e) }
+  pub counts_some : {x : ℕ} {ks' : List ℕ} → n ≡ answer.Some x → ks' ≡ counted_with x ns ks → Counts n ns ks ks'
+  counts_some e h = record { counts = h ∙ ap (λ (m : answer.Option ℕ). counted_added (number_in m) ns ks) (sym e) }
 
 -- ---- the counts in all grow by one at most
 
@@ -98,14 +97,14 @@ module _ (ns ks : List ℕ) (e : length ns ≡ length ks) where
     | inr t ↦ rw t (omega arith)
   ]
 
-  pub sum-noted : {n : MaybeNumber} {ns' ks' : List ℕ} → Notes n ns ks ns' ks' → sum ks' ≤ suc (sum ks)
+  pub sum-noted : {n : answer.Option ℕ} {ns' ks' : List ℕ} → Notes n ns ks ns' ks' → sum ks' ≤ suc (sum ks)
   sum-noted {n} h = rw h.counts (by (number_in n))
     where
       by : (o : Option ℕ) → sum (counts_added o ns ks) ≤ suc (sum ks)
       by none = omega arith
       by (some x) = sum_with x
 
-  pub sum_more : {n : MaybeNumber} {ks' : List ℕ} → Counts n ns ks ks' → sum ks' ≤ suc (sum ks)
+  pub sum_more : {n : answer.Option ℕ} {ks' : List ℕ} → Counts n ns ks ks' → sum ks' ≤ suc (sum ks)
   sum_more {n} h = rw h.counts (by (number_in n))
     where
       by : (o : Option ℕ) → sum (counted_added o ns ks) ≤ suc (sum ks)

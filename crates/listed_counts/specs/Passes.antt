@@ -1,5 +1,6 @@
 -- What the contracts of the passes over a listing's lines say. A pass goes through the candidates' connections, or through the owners.
 use Rattle.std.specs.Prelude.{ℕ, suc, ◌+◌, ◌*◌, ◌≤◌, ◌≡◌, Bool, true, false, List, length, drop}
+use Rattle.std.specs.Prelude as answer
 use Rattle.std.proofs.Math.Option.{Option, none, some}
 use Rattle.words.specs.Words.{Decides}
 use Rattle.machine.specs.Limits.{max_announcements, max_peer_announcements, max_in_flight}
@@ -7,7 +8,6 @@ use Rattle.machine.specs.State.{Owner, Table}
 use Rattle.machine.specs.Table.{held, held_by, owned_by}
 use Rattle.machine.specs.Listing.{Line, HeadLine, RequestLine, CandidateLine}
 use Rattle.machine.specs.SoundTest.{every, is_filled}
-use Rattle.lines.specs.declared.read.MaybeNumber.{MaybeNumber}
 use Rattle.lines.specs.Values.{number_in}
 use Rattle.heavy.specs.Counters.{names_with, counts_with, names_of, counted_with, counts_of, sum, Few}
 use Rattle.heavy.specs.Streams.{line_connections, line_owners}
@@ -43,7 +43,7 @@ abbrev pub added : Bool → Option Line → Option ℕ
 added true l = line_owner l
 added false l = line_connection l
 
-pub record Adds (owners : Bool) (l : line-line.Line) (r : MaybeNumber) : Type 0 where
+pub record Adds (owners : Bool) (l : line-line.Line) (r : answer.Option ℕ) : Type 0 where
   pub is : (ws ps : List ℕ) → number_in r ≡ added owners (line_in ws ps l)
 
 -- ---- counters with one number more, if there is one
@@ -60,11 +60,11 @@ abbrev pub counted_added : Option ℕ → List ℕ → List ℕ → List ℕ
 counted_added none ns ks = ks
 counted_added (some x) ns ks = counted_with x ns ks
 
-pub record Notes (n : MaybeNumber) (ns ks ns' ks' : List ℕ) : Type 0 where
+pub record Notes (n : answer.Option ℕ) (ns ks ns' ks' : List ℕ) : Type 0 where
   pub names : ns' ≡ names_added (number_in n) ns ks
   pub counts : ks' ≡ counts_added (number_in n) ns ks
 
-pub record Counts (n : MaybeNumber) (ns ks ks' : List ℕ) : Type 0 where
+pub record Counts (n : answer.Option ℕ) (ns ks ks' : List ℕ) : Type 0 where
   pub counts : ks' ≡ counted_added (number_in n) ns ks
 
 -- ---- a pass over the lines from an index on, if these are all of a form

@@ -10,49 +10,48 @@ ghost use Rattle.heavy.specs.Counters.{sum};
 ghost use Rattle.listed_lines.specs.Given.{list_room, owner_of};
 ghost use Rattle.listed_counts.specs.Passes.{owner_number, Adds, Notes, Counts, NotesAll, CountsAll, Fresh, Verdict, LightRead};
 
-use lines::read::MaybeNumber;
 use listed_lines::line::{Line, line_at};
 use listed_lines::parts::Owner;
 
 // ---- the number that a line adds
 
-fn owner_number(o: Owner) -> MaybeNumber
+fn owner_number(o: Owner) -> Option<u64>
     ensures { number_in result ≡ owner_number (owner_of o) }
 {
     if !o.held {
-        return MaybeNumber::Not;
+        return None;
     }
-    MaybeNumber::Is(o.connection)
+    Some(o.connection)
 }
 
 // The owner of a request's line.
-fn owner_in(l: Line) -> MaybeNumber
+fn owner_in(l: Line) -> Option<u64>
     ensures { Adds true l result }
 {
     match l {
-        Line::Not => MaybeNumber::Not,
-        Line::Head(_) => MaybeNumber::Not,
+        Line::Not => None,
+        Line::Head(_) => None,
         Line::Request(r) => {
             let o = r.owner;
             owner_number(o)
         }
-        Line::Candidate(_) => MaybeNumber::Not,
+        Line::Candidate(_) => None,
     }
 }
 
 // The connection of a candidate's line.
-fn connection_in(l: Line) -> MaybeNumber
+fn connection_in(l: Line) -> Option<u64>
     ensures { Adds false l result }
 {
     match l {
-        Line::Not => MaybeNumber::Not,
-        Line::Head(_) => MaybeNumber::Not,
-        Line::Request(_) => MaybeNumber::Not,
-        Line::Candidate(c) => MaybeNumber::Is(c.connection),
+        Line::Not => None,
+        Line::Head(_) => None,
+        Line::Request(_) => None,
+        Line::Candidate(c) => Some(c.connection),
     }
 }
 
-fn added(l: Line, owners: bool) -> MaybeNumber
+fn added(l: Line, owners: bool) -> Option<u64>
     ensures { Adds owners l result }
 {
     if owners {
@@ -63,21 +62,21 @@ fn added(l: Line, owners: bool) -> MaybeNumber
 
 // ---- one number more, if there is one
 
-fn note_number(names: &mut [u64], counts: &mut [u64], n: MaybeNumber)
+fn note_number(names: &mut [u64], counts: &mut [u64], n: Option<u64>)
     requires { (length names.old ≡ length counts.old) × (sum counts.old < 2 ^ 63) }
     ensures { Notes n names.old counts.old names.new counts.new }
 {
-    let MaybeNumber::Is(x) = n else {
+    let Some(x) = n else {
         return;
     };
     heavy::note(names, counts, x);
 }
 
-fn count_number(names: &[u64], counts: &mut [u64], n: MaybeNumber)
+fn count_number(names: &[u64], counts: &mut [u64], n: Option<u64>)
     requires { (length names.now ≡ length counts.old) × (sum counts.old < 2 ^ 63) }
     ensures { Counts n names.now counts.old counts.new }
 {
-    let MaybeNumber::Is(x) = n else {
+    let Some(x) = n else {
         return;
     };
     heavy::count(names, counts, x);

@@ -9,7 +9,7 @@ ghost use Rattle.reading.specs.Given.{Stored};
 ghost use Rattle.listed_lines.specs.Given.{Took, longest_list, list_room, hashes_at, list_at};
 
 use ident::HASH_BYTES;
-use reading::fields::{HashAt, NumberAt, hash_at, number_at};
+use reading::fields::{Parsed, hash_at, number_at};
 use reading::hashes::hash_of;
 
 const LONGEST: usize = 100;
@@ -51,7 +51,7 @@ fn hashes_at(line: &[u8], e: usize, n: usize, hashes: &mut [u8]) -> HashesAt
 {
     let mut to = e;
     for i in 0..n {
-        let HashAt::Is(q, end) = hash_at(line, to) else {
+        let Some(Parsed { value: q, end: end }) = hash_at(line, to) else {
             return HashesAt::Not;
         };
         put_hash(hashes, i, q);
@@ -65,7 +65,13 @@ pub fn list_at(line: &[u8], e: usize, least: u64, hashes: &mut [u8]) -> ListAt
     requires { list_room ≤ length hashes.old }
     ensures { Took (list_then short least longest_list) line.now (rest line.now (e + 1)) (list_at hashes.new result) }
 {
-    let NumberAt::Is(count, to) = number_at(line, e) else {
+    let Some(
+        Parsed {
+            value: count,
+            end: to,
+        },
+    ) = number_at(line, e)
+    else {
         return ListAt::Not;
     };
     if count < least {

@@ -9,16 +9,17 @@ use crate::parts::{OwnerAt, PackageAt, owner_at, package_at};
 use crate::pieces::{
     MaybeKeyAt, MaybeNumberAt, first_key, first_number, maybe_key_at, maybe_number_at,
 };
-use reading::fields::{BoolAt, ItemAt, KeyAt, NumberAt, bool_at, item_at, number_at};
+use lines::read::Named;
+use reading::fields::{Parsed, bool_at, item_at, number_at};
 
 // The first line: L, Q, next poll and cursors.
 #[derive(Clone, Copy)]
 pub struct Head {
     pub limit: u64,
     pub places: u64,
-    pub poll: lines::read::MaybeNumber,
-    pub known: lines::read::MaybeKey,
-    pub ready: lines::read::MaybeKey,
+    pub poll: Option<u64>,
+    pub known: Option<Named<ident::Kind>>,
+    pub ready: Option<Named<ident::Kind>>,
 }
 
 // A request without its candidates; of its parents how many.
@@ -81,10 +82,22 @@ pub struct LineAt {
 fn read_head(line: &[u8]) -> HeadIn
     ensures { head_of short (fields line.now) ≡ head_line result }
 {
-    let NumberAt::Is(limit, a) = first_number(line) else {
+    let Some(
+        Parsed {
+            value: limit,
+            end: a,
+        },
+    ) = first_number(line)
+    else {
         return HeadIn::Not;
     };
-    let NumberAt::Is(places, b) = number_at(line, a) else {
+    let Some(
+        Parsed {
+            value: places,
+            end: b,
+        },
+    ) = number_at(line, a)
+    else {
         return HeadIn::Not;
     };
     let MaybeNumberAt::Is(poll, c) = maybe_number_at(line, b) else {
@@ -112,13 +125,25 @@ fn read_request(line: &[u8], wtxids: &mut [u8], parents: &mut [u8]) -> RequestIn
     requires { (list_room ≤ length wtxids.old) × (list_room ≤ length parents.old) }
     ensures { request_of short (fields line.now) ≡ request_line wtxids.new parents.new result }
 {
-    let KeyAt::Is(kind, hash, a) = first_key(line) else {
+    let Some(
+        Parsed {
+            value: Named { kind, hash },
+            end: a,
+        },
+    ) = first_key(line)
+    else {
         return RequestIn::Not;
     };
     let OwnerAt::Is(owner, b) = owner_at(line, a) else {
         return RequestIn::Not;
     };
-    let BoolAt::Is(info, c) = bool_at(line, b) else {
+    let Some(
+        Parsed {
+            value: info,
+            end: c,
+        },
+    ) = bool_at(line, b)
+    else {
         return RequestIn::Not;
     };
     let PackageAt::Is(packed, d) = package_at(line, c, wtxids) else {
@@ -127,7 +152,13 @@ fn read_request(line: &[u8], wtxids: &mut [u8], parents: &mut [u8]) -> RequestIn
     let ListAt::Is(n, e) = list_at(line, d, 0, parents) else {
         return RequestIn::Not;
     };
-    let BoolAt::Is(mark, f) = bool_at(line, e) else {
+    let Some(
+        Parsed {
+            value: mark,
+            end: f,
+        },
+    ) = bool_at(line, e)
+    else {
         return RequestIn::Not;
     };
     if f < line.len() {
@@ -147,19 +178,49 @@ fn read_request(line: &[u8], wtxids: &mut [u8], parents: &mut [u8]) -> RequestIn
 fn read_candidate(line: &[u8]) -> CandidateIn
     ensures { candidate_of short (fields line.now) ≡ candidate_line result }
 {
-    let NumberAt::Is(connection, a) = first_number(line) else {
+    let Some(
+        Parsed {
+            value: connection,
+            end: a,
+        },
+    ) = first_number(line)
+    else {
         return CandidateIn::Not;
     };
-    let ItemAt::Is(kind, hash, b) = item_at(line, a) else {
+    let Some(
+        Parsed {
+            value: Named { kind, hash },
+            end: b,
+        },
+    ) = item_at(line, a)
+    else {
         return CandidateIn::Not;
     };
-    let NumberAt::Is(ready, c) = number_at(line, b) else {
+    let Some(
+        Parsed {
+            value: ready,
+            end: c,
+        },
+    ) = number_at(line, b)
+    else {
         return CandidateIn::Not;
     };
-    let BoolAt::Is(preferred, d) = bool_at(line, c) else {
+    let Some(
+        Parsed {
+            value: preferred,
+            end: d,
+        },
+    ) = bool_at(line, c)
+    else {
         return CandidateIn::Not;
     };
-    let NumberAt::Is(priority, e) = number_at(line, d) else {
+    let Some(
+        Parsed {
+            value: priority,
+            end: e,
+        },
+    ) = number_at(line, d)
+    else {
         return CandidateIn::Not;
     };
     if e < line.len() {

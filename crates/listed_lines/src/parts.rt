@@ -6,7 +6,7 @@ ghost use Rattle.listed_lines.specs.Given.{Took, list_room, owner_at, package_at
 
 use crate::hash_lists::{ListAt, list_at};
 use crate::pieces::none_at;
-use reading::fields::{BoolAt, HashAt, NumberAt, bool_at, hash_at, number_at};
+use reading::fields::{Parsed, bool_at, hash_at, number_at};
 
 // The connection that is asked and until when, if there is one.
 #[derive(Clone, Copy)]
@@ -53,10 +53,22 @@ pub fn owner_at(line: &[u8], e: usize) -> OwnerAt
             none,
         );
     }
-    let NumberAt::Is(connection, a) = number_at(line, e) else {
+    let Some(
+        Parsed {
+            value: connection,
+            end: a,
+        },
+    ) = number_at(line, e)
+    else {
         return OwnerAt::Not;
     };
-    let NumberAt::Is(deadline, b) = number_at(line, a) else {
+    let Some(
+        Parsed {
+            value: deadline,
+            end: b,
+        },
+    ) = number_at(line, a)
+    else {
         return OwnerAt::Not;
     };
     OwnerAt::Is(
@@ -96,13 +108,25 @@ pub fn package_at(line: &[u8], e: usize, wtxids: &mut [u8]) -> PackageAt
             none,
         );
     }
-    let HashAt::Is(combined, a) = hash_at(line, e) else {
+    let Some(
+        Parsed {
+            value: combined,
+            end: a,
+        },
+    ) = hash_at(line, e)
+    else {
         return PackageAt::Not;
     };
     let ListAt::Is(n, b) = list_at(line, a, 1, wtxids) else {
         return PackageAt::Not;
     };
-    let BoolAt::Is(enqueued, c) = bool_at(line, b) else {
+    let Some(
+        Parsed {
+            value: enqueued,
+            end: c,
+        },
+    ) = bool_at(line, b)
+    else {
         return PackageAt::Not;
     };
     PackageAt::Is(

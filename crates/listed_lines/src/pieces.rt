@@ -5,40 +5,36 @@ ghost use Rattle.machine.specs.Listing.{short, key_in, maybe_in};
 ghost use Rattle.reading.specs.Given.{number_at, key_at};
 ghost use Rattle.listed_lines.specs.Given.{Took, NoneAt, maybe_number_at, maybe_key_at};
 
-use lines::read::{MaybeKey, MaybeNumber, field_end};
-use reading::fields::{KeyAt, NumberAt, key_at, number_at};
+use lines::read::{Named, field_end};
+use reading::fields::{Parsed, key_at, number_at};
 
 // A field that may be `none`, with the index where it ends: not readable, or what it has.
 #[derive(Clone, Copy)]
 pub enum MaybeNumberAt {
     Not,
-    Is(MaybeNumber, usize),
+    Is(Option<u64>, usize),
 }
 
 #[derive(Clone, Copy)]
 pub enum MaybeKeyAt {
     Not,
-    Is(MaybeKey, usize),
+    Is(Option<Named<ident::Kind>>, usize),
 }
 
-pub fn first_number(line: &[u8]) -> NumberAt
+pub fn first_number(line: &[u8]) -> Option<Parsed<u64>>
     ensures { Took (taking number_of) line.now (fields line.now) (number_at result) }
 {
     let to = field_end(line, 0);
-    let MaybeNumber::Is(n) = lines::read::number(&line[..to]) else {
-        return NumberAt::Not;
-    };
-    NumberAt::Is(n, to)
+    let value = lines::read::number(&line[..to])?;
+    Some(Parsed { value, end: to })
 }
 
-pub fn first_key(line: &[u8]) -> KeyAt
+pub fn first_key(line: &[u8]) -> Option<Parsed<Named<ident::Kind>>>
     ensures { Took (taking (key_in short)) line.now (fields line.now) (key_at result) }
 {
     let to = field_end(line, 0);
-    let MaybeKey::Is(k, q) = lines::read::key(&line[..to]) else {
-        return KeyAt::Not;
-    };
-    KeyAt::Is(k, q, to)
+    let value = lines::read::key(&line[..to])?;
+    Some(Parsed { value, end: to })
 }
 
 // Where the field behind the comma at index e ends, if it is `none`; 0 if it is not.
@@ -61,12 +57,12 @@ pub fn maybe_number_at(line: &[u8], e: usize) -> MaybeNumberAt
 {
     let none = none_at(line, e);
     if 0 < none {
-        return MaybeNumberAt::Is(MaybeNumber::Not, none);
+        return MaybeNumberAt::Is(None, none);
     }
-    let NumberAt::Is(n, to) = number_at(line, e) else {
+    let Some(Parsed { value: n, end: to }) = number_at(line, e) else {
         return MaybeNumberAt::Not;
     };
-    MaybeNumberAt::Is(MaybeNumber::Is(n), to)
+    MaybeNumberAt::Is(Some(n), to)
 }
 
 pub fn maybe_key_at(line: &[u8], e: usize) -> MaybeKeyAt
@@ -74,10 +70,10 @@ pub fn maybe_key_at(line: &[u8], e: usize) -> MaybeKeyAt
 {
     let none = none_at(line, e);
     if 0 < none {
-        return MaybeKeyAt::Is(MaybeKey::Not, none);
+        return MaybeKeyAt::Is(None, none);
     }
-    let KeyAt::Is(k, q, to) = key_at(line, e) else {
+    let Some(Parsed { value: k, end: to }) = key_at(line, e) else {
         return MaybeKeyAt::Not;
     };
-    MaybeKeyAt::Is(MaybeKey::Is(k, q), to)
+    MaybeKeyAt::Is(Some(k), to)
 }

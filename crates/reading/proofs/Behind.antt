@@ -12,7 +12,7 @@ use Rattle.words.specs.Words.{number}
 use Rattle.machine.specs.Call.{On}
 use Rattle.lent_lists.specs.Lists.{hashes_in}
 use Rattle.machine.specs.Fields.{hash_of, rest, taking}
-use Rattle.reading.specs.declared.hashes.Hashes.TheVariants.{None, Are}
+use Rattle.std.specs.Prelude.{None, Some}
 use Rattle.reading.specs.Line.{Line, Asks, list_then}
 use Rattle.reading.specs.Lists.{list_call}
 use Rattle.reading.specs.Given.{most_hashes, stored_bytes, hashes_of, HashesGiven}
@@ -34,7 +34,7 @@ module _ {l : List ℕ} {e : ℕ} {b : List ℕ} where
   no-hashes g = record { is = λ ask. g (λ hs. Asks (On (ask hs))) }
 
   pub hashes-are : {n : ℕ} → n ≤ most_hashes → stored_bytes ≤ length b → ((line : List ℕ → Line) → list_then (taking hash_of) line (rest l (e + 1)) ≡ some (line (hashes_of n b)))
-      → HashesGiven l e b (Are (n * hash_bytes))
+      → HashesGiven l e b (Some (n * hash_bytes))
   unfolding list_call
   hashes-are {n} f s g =
       record {

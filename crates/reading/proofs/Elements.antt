@@ -7,8 +7,7 @@ use native.Mathlib.Nat.{mul-suc}
 use native.Mathlib.Omega.{arith}
 use lib.ListN.{length}
 use Rattle.machine.specs.Fields.{number_of, rest, taking, ending, elements_then}
-use Rattle.reading.specs.declared.hashes.ListAt.{ListAt}
-use Rattle.reading.specs.declared.hashes.ListAt.TheVariants.{Not, Is}
+use Rattle.std.specs.Prelude as Rust
 use Rattle.reading.specs.Line.{Line, Reader, list_then}
 use Rattle.reading.specs.Given.{At, then_of, ElementRead, FieldRead, ElementsRead, ElementsAs, ListRead}
 use Rattle.reading.proofs.Taking.{field_not, field_is, ending_end, ending_more}
@@ -101,17 +100,17 @@ module _ {A : Type 0} (read : Reader A) {l : List ℕ} {e : ℕ} {o : Option (At
     pub too_long : {w : ℕ} → Takes read w → length l < w * a.value → NoList read l e
     too_long t m line = counted line ∙ too_few t a.value [] (whole line) (rest l (a.end + 1)) (omega (arith, bytes_rest l a.end, m))
 
-    module _ {n : ℕ} (x : n ≡ a.value) {xs : List A} {r : ListAt} (q : ListRead read l a.end n xs r) where
+    module _ {n : ℕ} (x : n ≡ a.value) {xs : List A} {r : Rust.Option ℕ} (q : ListRead read l a.end n xs r) where
       to_list : (line : List A → Line) → list_then read line (rest l (e + 1)) ≡ behind-count line read n (rest l (a.end + 1))
       to_list line = counted line ∙ ap (λ (m : ℕ). behind-count line read m (rest l (a.end + 1))) (sym x)
 
-      as_read : {r' : ListAt} → r ≡ r' → ElementsAs read l a.end n xs r'
+      as_read : {r' : Rust.Option ℕ} → r ≡ r' → ElementsAs read l a.end n xs r'
       as_read h = subst (ElementsAs read l a.end n xs) h q.is
 
-      pub no-list : r ≡ Not → NoList read l e
+      pub no-list : r ≡ Rust.None → NoList read l e
       no-list h line = to_list line ∙ as_read h (whole line)
 
-      module _ {to : ℕ} (h : r ≡ Is to) where
+      module _ {to : ℕ} (h : r ≡ Rust.Some to) where
         to_end : (line : List A → Line) → list_then read line (rest l (e + 1)) ≡ whole line xs (rest l (to + 1))
         to_end line =
             let z : n - n ≡ 0 = omega arith in

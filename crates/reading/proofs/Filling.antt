@@ -1,23 +1,21 @@
 -- The fields of a form, one after the other.
 use Prim.Native.Nat.{ℕ, suc, ◌+◌, ◌<◌, ◌≤◌}
 use mathlib.Core.Path.{◌≡◌, refl, sym, ap, subst, ◌∙◌}
-use mathlib.Core.Bool.{Bool, true, false}
+use mathlib.Core.Logic.{◌⊎◌, inl, inr}
+use Rattle.std.specs.Prelude.{◌≢◌}
 use mathlib.Core.List.{List, [], ◌∷◌}
 use mathlib.Core.Option.{Option, none, some}
 use native.Mathlib.Omega.{arith}
 use lib.ListN.{length, drop, get_or}
 use lib.Seq.{drop-cons, drop-length}
-use borrow.Author.Tests.{eq-eqb, ne_eqb}
-use Rattle.ident.specs.Number.{Key, Item}
-use Rattle.machine.specs.Fields.{number_of, bool_of, hash_of, key_of, item_of, rest, ending}
+use borrow.Author.Tests.{ne_eqb}
+use Rattle.machine.specs.Fields.{number_of, bool_of, hash_of, key_of, item_of, rest, taking, ending}
+use Rattle.std.specs.Prelude as Rust
+use Rattle.reading.specs.declared.fields.Parsed.{Parsed}
 use Rattle.reading.specs.declared.forms.Values as forms
-use Rattle.reading.specs.declared.forms.ValuesAt.{ValuesAt}
-use Rattle.reading.specs.declared.forms.ValuesAt.TheVariants.{Not, Is}
-use Rattle.reading.specs.declared.forms.Whole.{Whole}
-use Rattle.reading.specs.declared.forms.Whole.TheVariants.{Not as NoWhole, Is as IsWhole}
 use Rattle.reading.specs.Line.{Line}
-use Rattle.reading.specs.Forms.{Values, blank, Then, key_field, item_field, is_hash, is_bool, put_key, put_item, put_hash, put_number, put_bool, plain_then, field_then, form_then}
-use Rattle.reading.specs.Given.{At, FieldRead, values_of, then_values, PlainTaken, FieldTaken, FormRead, whole_line, WholeRead}
+use Rattle.reading.specs.Forms.{Values, blank, Then, key_field, item_field, hash_field, combined_field, preferred_field, source_field, put_key, put_item, put_hash, put_number, put_bool, plain_then, field_then, form_then}
+use Rattle.reading.specs.Given.{FieldRead, parsed_in, values_of, then_values, FieldTaken, FormRead, whole_line, WholeRead}
 use Rattle.reading.proofs.Taking.{field_not, field_is, ending_end, ending_more}
 
 -- ---- one field
@@ -26,57 +24,39 @@ use Rattle.reading.proofs.Taking.{field_not, field_is, ending_end, ending_more}
 moved : (l : List ℕ) (k : Then) (e : ℕ) {v w : Values} → w ≡ v → k v (rest l (e + 1)) ≡ k w (rest l (e + 1))
 moved l k e h = ap (λ (x : Values). k x (rest l (e + 1))) (sym h)
 
-module _ {l : List ℕ} {e f : ℕ} {v : Values} where
-  module _ (g : true ≡ is_bool f) {o : Option (At Bool)} (p : FieldRead bool_of l e o) where
-    pub no_bool : o ≡ none → PlainTaken l e f v Not
-    unfolding plain_then
-    no_bool n = record { is = λ k. rw (← g) (field_not p (λ x. k (put_bool f v x)) n) }
+-- what is made of a field, by its letter
+module _ {f : ℕ} (v : Values) where
+  pub key-field : f ≡ key_field → (k : Then) (fs : List (List ℕ)) → field_then f v k fs ≡ taking key_of (λ x. k (put_key v x)) fs
+  unfolding field_then
+  key-field e k fs = rw e
 
-    pub bool_is : {a : At Bool} {w : forms.Values} → o ≡ some a → values_of w ≡ put_bool f v a.value → PlainTaken l e f v (Is w a.end)
-    unfolding plain_then
-    bool_is {a} {w} n h = record { is = λ k. rw (← g) (field_is p (λ x. k (put_bool f v x)) n ∙ moved l k a.end h) }
+  pub item-field : f ≡ item_field → (k : Then) (fs : List (List ℕ)) → field_then f v k fs ≡ taking item_of (λ x. k (put_item v x)) fs
+  unfolding field_then
+  item-field e k fs = rw e
 
-  module _ (g : false ≡ is_bool f) {o : Option (At ℕ)} (p : FieldRead number_of l e o) where
-    pub no_number : o ≡ none → PlainTaken l e f v Not
-    unfolding plain_then
-    no_number n = record { is = λ k. rw (← g) (field_not p (λ x. k (put_number f v x)) n) }
+  pub hash-field : (f ≡ hash_field) ⊎ (f ≡ combined_field) → (k : Then) (fs : List (List ℕ)) → field_then f v k fs ≡ taking hash_of (λ x. k (put_hash f v x)) fs
+  unfolding field_then
+  hash-field (inl e) k fs = rw e
+  hash-field (inr e) k fs = rw e
 
-    pub number_is : {a : At ℕ} {w : forms.Values} → o ≡ some a → values_of w ≡ put_number f v a.value → PlainTaken l e f v (Is w a.end)
-    unfolding plain_then
-    number_is {a} {w} n h = record { is = λ k. rw (← g) (field_is p (λ x. k (put_number f v x)) n ∙ moved l k a.end h) }
+  pub bool-field : (f ≡ preferred_field) ⊎ (f ≡ source_field) → (k : Then) (fs : List (List ℕ)) → field_then f v k fs ≡ taking bool_of (λ x. k (put_bool f v x)) fs
+  unfolding field_then plain_then
+  bool-field (inl e) k fs = rw e
+  bool-field (inr e) k fs = rw e
 
-  module _ (g : f ≡ key_field) {o : Option (At Key)} (p : FieldRead key_of l e o) where
-    pub no_key : o ≡ none → FieldTaken l e f v Not
-    unfolding field_then
-    no_key n = record { is = λ k. rw (eq-eqb f key_field g) (field_not p (λ x. k (put_key v x)) n) }
+  pub number-field : f ≢ key_field → f ≢ item_field → ((f ≡ hash_field) ⊎ (f ≡ combined_field) → ⊥) → ((f ≡ preferred_field) ⊎ (f ≡ source_field) → ⊥) → (k : Then) (fs : List (List ℕ)) → field_then f v k fs ≡ taking number_of (λ x. k (put_number f v x)) fs
+  unfolding field_then plain_then
+  number-field a b c d k fs =
+      rw (ne_eqb f key_field a, ne_eqb f item_field b, ne_eqb f hash_field (λ e. c (inl e)), ne_eqb f combined_field (λ e. c (inr e)), ne_eqb f preferred_field (λ e. d (inl e)), ne_eqb f source_field (λ e. d (inr e)))
 
-    pub key-is : {a : At Key} {w : forms.Values} → o ≡ some a → values_of w ≡ put_key v a.value → FieldTaken l e f v (Is w a.end)
-    unfolding field_then
-    key-is {a} {w} n h = record { is = λ k. rw (eq-eqb f key_field g) (field_is p (λ x. k (put_key v x)) n ∙ moved l k a.end h) }
+-- a field of the letter f that `read` reads, which `put` puts among the values
+module _ {T A : Type 0} (view : T → A) (read : List ℕ → Option A) (put : A → Values) {l : List ℕ} {e f : ℕ} {v : Values} (g : (k : Then) (fs : List (List ℕ)) → field_then f v k fs ≡ taking read (λ x. k (put x)) fs)
+    {o : Rust.Option (Parsed T)} (p : FieldRead read l e (parsed_in view o)) where
+  pub no_field : o ≡ Rust.None → FieldTaken l e f v Rust.None
+  no_field n = record { is = λ k. g k _ ∙ field_not p (λ x. k (put x)) (ap (parsed_in view) n) }
 
-  module _ (d : f ≡ key_field → ⊥) where
-    module _ (g : f ≡ item_field) {o : Option (At Item)} (p : FieldRead item_of l e o) where
-      pub no_item : o ≡ none → FieldTaken l e f v Not
-      unfolding field_then
-      no_item n = record { is = λ k. rw (ne_eqb f key_field d, eq-eqb f item_field g) (field_not p (λ x. k (put_item v x)) n) }
-
-      pub item_is : {a : At Item} {w : forms.Values} → o ≡ some a → values_of w ≡ put_item v a.value → FieldTaken l e f v (Is w a.end)
-      unfolding field_then
-      item_is {a} {w} n h = record { is = λ k. rw (ne_eqb f key_field d, eq-eqb f item_field g) (field_is p (λ x. k (put_item v x)) n ∙ moved l k a.end h) }
-
-    module _ (d' : f ≡ item_field → ⊥) where
-      module _ (g : true ≡ is_hash f) {o : Option (At ℕ)} (p : FieldRead hash_of l e o) where
-        pub no-hash : o ≡ none → FieldTaken l e f v Not
-        unfolding field_then
-        no-hash n = record { is = λ k. rw (ne_eqb f key_field d, ne_eqb f item_field d', ← g) (field_not p (λ x. k (put_hash f v x)) n) }
-
-        pub hash_is : {a : At ℕ} {w : forms.Values} → o ≡ some a → values_of w ≡ put_hash f v a.value → FieldTaken l e f v (Is w a.end)
-        unfolding field_then
-        hash_is {a} {w} n h = record { is = λ k. rw (ne_eqb f key_field d, ne_eqb f item_field d', ← g) (field_is p (λ x. k (put_hash f v x)) n ∙ moved l k a.end h) }
-
-      pub plain-field : false ≡ is_hash f → {r : ValuesAt} → PlainTaken l e f v r → FieldTaken l e f v r
-      unfolding field_then
-      plain-field g p = record { is = λ k. rw (ne_eqb f key_field d, ne_eqb f item_field d', ← g) (p.is k) }
+  pub field_taken : {x : Parsed T} {r : Parsed forms.Values} → o ≡ Rust.Some x → values_of r.value ≡ put (view x.value) → r.end ≡ x.end → FieldTaken l e f v (Rust.Some r)
+  field_taken {x} {r} n h d = record { is = λ k. g k _ ∙ field_is p (λ y. k (put y)) (ap (parsed_in view) n) ∙ rw d (moved l k x.end h) }
 
 -- ---- the loop over the letters
 
@@ -102,7 +82,7 @@ drop_none : (i : ℕ) (form : List ℕ) → length form ≤ i → i ≤ length f
 drop_none i form h g = let e : i ≡ length form = omega arith in rw e (drop-length form)
 
 module _ {l : List ℕ} {e : ℕ} {form : List ℕ} {i : ℕ} {v : forms.Values} {to : ℕ} (b : Begun l e form i v to) where
-  module _ (h : i < length form) {r : ValuesAt} (t : FieldTaken l to (get_or form i 0) (values_of v) r) where
+  module _ (h : i < length form) {r : Rust.Option (Parsed forms.Values)} (t : FieldTaken l to (get_or form i 0) (values_of v) r) where
     turn : (k : Then) → form_then form blank k (rest l (e + 1)) ≡ then_values l (λ w. form_then (drop (i + 1) form) w k) r
     turn k =
         b.is k
@@ -110,53 +90,53 @@ module _ {l : List ℕ} {e : ℕ} {form : List ℕ} {i : ℕ} {v : forms.Values}
         ∙ form_next (get_or form i 0) (drop (i + 1) form) (values_of v) k (rest l (to + 1))
         ∙ t.is (λ w. form_then (drop (i + 1) form) w k)
 
-    pub stopped : r ≡ Not → FormRead l e form Not
+    pub stopped : r ≡ Rust.None → FormRead l e form Rust.None
     stopped g = record { is = λ k. turn k ∙ ap (then_values l (λ w. form_then (drop (i + 1) form) w k)) g }
 
-    pub further : {w : forms.Values} {end : ℕ} → r ≡ Is w end → Begun l e form (i + 1) w end
+    pub further : {w : forms.Values} {end : ℕ} → r ≡ Rust.Some (record { value = w; end = end }) → Begun l e form (i + 1) w end
     further g = record { is = λ k. turn k ∙ ap (then_values l (λ w. form_then (drop (i + 1) form) w k)) g }
 
-  pub whole : length form ≤ i → i ≤ length form → FormRead l e form (Is v to)
+  pub whole : length form ≤ i → i ≤ length form → FormRead l e form (Rust.Some (record { value = v; end = to }))
   whole h g = record { is = λ k. b.is k ∙ ap (λ (x : List ℕ). form_then x (values_of v) k (rest l (to + 1))) (drop_none i form h g) ∙ form_none (values_of v) k (rest l (to + 1)) }
 
 -- ---- the line's last fields
 
-module _ {l : List ℕ} {e : ℕ} {form : List ℕ} {r : ValuesAt} (p : FormRead l e form r) where
+module _ {l : List ℕ} {e : ℕ} {form : List ℕ} {r : Rust.Option (Parsed forms.Values)} (p : FormRead l e form r) where
   abbrev last : (Values → Line) → Then
   last line v = ending (some (line v))
 
-  pub no_whole : r ≡ Not → WholeRead l e form NoWhole
+  pub no_whole : r ≡ Rust.None → WholeRead l e form Rust.None
   no_whole g = record { is = λ line. p.is (last line) ∙ ap (then_values l (last line)) g }
 
-  module _ {v : forms.Values} {end : ℕ} (g : r ≡ Is v end) where
+  module _ {v : forms.Values} {end : ℕ} (g : r ≡ Rust.Some (record { value = v; end = end })) where
     to_end : (line : Values → Line) → form_then form blank (last line) (rest l (e + 1)) ≡ last line (values_of v) (rest l (end + 1))
     to_end line = p.is (last line) ∙ ap (then_values l (last line)) g
 
-    pub longer : end < length l → WholeRead l e form NoWhole
+    pub longer : end < length l → WholeRead l e form Rust.None
     longer h = record { is = λ line. to_end line ∙ ending_more l end _ h }
 
-    pub whole_is : length l ≤ end → WholeRead l e form (IsWhole v)
+    pub whole_is : length l ≤ end → WholeRead l e form (Rust.Some v)
     whole_is h = record { is = λ line. to_end line ∙ ending_end l end _ h }
 
 -- what they make
-module _ {l : List ℕ} {e : ℕ} {form : List ℕ} {r : Whole} (p : WholeRead l e form r) (line : Values → Line) where
-  pub line_not : r ≡ NoWhole → none ≡ form_then form blank (λ v. ending (some (line v))) (rest l (e + 1))
+module _ {l : List ℕ} {e : ℕ} {form : List ℕ} {r : Rust.Option forms.Values} (p : WholeRead l e form r) (line : Values → Line) where
+  pub line_not : r ≡ Rust.None → none ≡ form_then form blank (λ v. ending (some (line v))) (rest l (e + 1))
   line_not g = sym (p.is line ∙ ap (whole_line line) g)
 
-  pub line_is : {v : forms.Values} → r ≡ IsWhole v → some (line (values_of v)) ≡ form_then form blank (λ v. ending (some (line v))) (rest l (e + 1))
+  pub line_is : {v : forms.Values} → r ≡ Rust.Some v → some (line (values_of v)) ≡ form_then form blank (λ v. ending (some (line v))) (rest l (e + 1))
   line_is g = sym (p.is line ∙ ap (whole_line line) g)
 
 -- the fields of a form, and what follows them
-module _ {l : List ℕ} {e : ℕ} {form : List ℕ} {r : ValuesAt} (p : FormRead l e form r) (k : Then) where
-  pub fields_not : r ≡ Not → none ≡ form_then form blank k (rest l (e + 1))
+module _ {l : List ℕ} {e : ℕ} {form : List ℕ} {r : Rust.Option (Parsed forms.Values)} (p : FormRead l e form r) (k : Then) where
+  pub fields_not : r ≡ Rust.None → none ≡ form_then form blank k (rest l (e + 1))
   fields_not g = sym (p.is k ∙ ap (then_values l k) g)
 
-  pub fields-are : {v : forms.Values} {end : ℕ} → r ≡ Is v end → k (values_of v) (rest l (end + 1)) ≡ form_then form blank k (rest l (e + 1))
+  pub fields-are : {v : forms.Values} {end : ℕ} → r ≡ Rust.Some (record { value = v; end = end }) → k (values_of v) (rest l (end + 1)) ≡ form_then form blank k (rest l (e + 1))
   fields-are g = sym (p.is k ∙ ap (then_values l k) g)
 
 -- the form of a word that is known
-pub formed : {W : Type 0} (form : W → List ℕ) {x y : W} {l : List ℕ} {e : ℕ} {r : ValuesAt} → x ≡ y → FormRead l e (form y) r → FormRead l e (form x) r
+pub formed : {W : Type 0} (form : W → List ℕ) {x y : W} {l : List ℕ} {e : ℕ} {r : Rust.Option (Parsed forms.Values)} → x ≡ y → FormRead l e (form y) r → FormRead l e (form x) r
 formed {W} form {x} {y} {l} {e} {r} g p = subst (λ (w : W). FormRead l e (form w) r) (sym g) p
 
-pub whole_formed : {W : Type 0} (form : W → List ℕ) {x y : W} {l : List ℕ} {e : ℕ} {r : Whole} → x ≡ y → WholeRead l e (form y) r → WholeRead l e (form x) r
+pub whole_formed : {W : Type 0} (form : W → List ℕ) {x y : W} {l : List ℕ} {e : ℕ} {r : Rust.Option forms.Values} → x ≡ y → WholeRead l e (form y) r → WholeRead l e (form x) r
 whole_formed {W} form {x} {y} {l} {e} {r} g p = subst (λ (w : W). WholeRead l e (form w) r) (sym g) p

@@ -1,14 +1,22 @@
 -- Fields of a line taken one after the other.
 use Prim.Native.Nat.{ℕ, ◌+◌, ◌-◌, ◌<◌, ◌≤◌}
-use mathlib.Core.Path.{◌≡◌, refl, ap, ◌∙◌}
+use mathlib.Core.Path.{◌≡◌, refl, sym, ap, ◌∙◌}
+use mathlib.Core.Logic.{inl, inr}
 use mathlib.Core.List.{List, [], ◌∷◌}
 use mathlib.Core.Option.{Option, none, some}
 use native.Mathlib.Omega.{arith}
+use lib.Dec.{leb}
 use lib.ListN.{length, take, drop}
+use borrow.Author.Tests.{leb-true, leb-false}
+use Rattle.std.specs.Prelude as Rust
+use Rattle.machine.proofs.Parting.{take-before}
+use Rattle.machine.proofs.Tests.{test}
+use Rattle.lines.specs.Values.{value_in}
 use Rattle.machine.specs.Fields.{before, rest, with_value, taking, ending}
 use Rattle.lines.proofs.Splitting.{rest_field, rest_past}
 use Rattle.reading.specs.Line.{Line, Reader}
-use Rattle.reading.specs.Given.{At, then_of, ElementRead, FieldRead}
+use Rattle.reading.specs.declared.fields.Parsed.{Parsed}
+use Rattle.reading.specs.Given.{At, then_of, ElementRead, FieldRead, text_at, FieldParsed, parsed_in}
 
 taking_none : {A : Type 0} (read : List ℕ → Option A) (k : A → List (List ℕ) → Option Line) → taking read k [] ≡ none
 unfolding taking
@@ -31,6 +39,20 @@ module _ {A : Type 0} (read : List ℕ → Option A) (l : List ℕ) (e : ℕ) wh
 
     pub taking_is : {v : A} → read (take (to - (e + 1)) (drop (e + 1) l)) ≡ some v → FieldRead read l e (some (record { value = v; end = to }))
     taking_is n = record { is = λ k. step k ∙ ap (λ (o : Option A). with_value o (λ v. k v (rest l (to + 1)))) n }
+
+-- ---- a field as its reader answers it
+
+-- the field's bytes, as they are lent
+pub text_lent : (l : List ℕ) (e to : ℕ) → to ≡ e + 1 + length (text_at l e) → take (to - (e + 1)) (drop (e + 1) l) ≡ text_at l e
+text_lent l e to g = let n : to - (e + 1) ≡ length (text_at l e) = omega arith in rw n (take-before 44 (drop (e + 1) l))
+
+module _ {T A : Type 0} (f : T → A) (read : List ℕ → Option A) {Answers : List ℕ → Rust.Option T → Type 0} (says : (s : List ℕ) (r : Rust.Option T) → Answers s r → value_in f r ≡ read s) {l : List ℕ} {e : ℕ} where
+  pub field_parsed : (r : Rust.Option (Parsed T)) → FieldParsed Answers l e r → FieldRead read l e (parsed_in f r)
+  field_parsed Rust.None p = elim (test (leb (length l) e)) [
+    | inl t ↦ taking_past read l e (leb-true (length l) e t)
+    | inr t ↦ let h = leb-false (length l) e t in taking_not read l e h refl (rw (text_lent l e _ refl) (sym (says (text_at l e) Rust.None (p.is h))))
+  ]
+  field_parsed (Rust.Some x) p = taking_is read l e p.is.0 p.is.1 (rw (text_lent l e x.end p.is.1) (sym (says (text_at l e) (Rust.Some x.value) p.is.2)))
 
 -- ---- where the line ends
 

@@ -1,34 +1,23 @@
 -- What the contracts of the readers say.
-use Rattle.std.specs.Prelude.{ℕ, ◌+◌, ◌-◌, ◌≤◌, ◌≡◌, Bool, List, [], ◌∷◌, ◌++◌, take}
-use Rattle.std.proofs.Math.Option.{Option, none, some}
+use Rattle.std.specs.Prelude.{ℕ, ◌+◌, ◌-◌, ◌<◌, ◌≤◌, ◌≡◌, Bool, List, [], ◌∷◌, ◌++◌, length, take, drop, Option, None, Some}
+use Rattle.std.proofs.Math.Option as math
+use Rattle.std.proofs.Math.Option.{none, some}
 use Rattle.ident.specs.Number.{Key, Item}
 use Rattle.ident.specs.Words.{hash_bytes}
 use Rattle.words.specs.Words.{number, recs}
 use Rattle.regions.specs.Rows.{quad_number}
 use Rattle.machine.specs.Call.{Ask, On}
 use Rattle.lent_lists.specs.Lists.{hashes_in}
-use Rattle.machine.specs.Fields.{rest, taking, ending, elements_then}
-use Rattle.reading.specs.declared.fields.NumberAt.{NumberAt}
-use Rattle.reading.specs.declared.fields.NumberAt.TheVariants.{Not as NoNumber, Is as IsNumber}
-use Rattle.reading.specs.declared.fields.BoolAt.{BoolAt}
-use Rattle.reading.specs.declared.fields.BoolAt.TheVariants.{Not as NoBool, Is as IsBool}
-use Rattle.reading.specs.declared.fields.HashAt.{HashAt}
-use Rattle.reading.specs.declared.fields.HashAt.TheVariants.{Not as NoHash, Is as IsHash}
-use Rattle.reading.specs.declared.fields.KeyAt.{KeyAt}
-use Rattle.reading.specs.declared.fields.KeyAt.TheVariants.{Not as NoKey, Is as IsKey}
-use Rattle.reading.specs.declared.fields.ItemAt.{ItemAt}
-use Rattle.reading.specs.declared.fields.ItemAt.TheVariants.{Not as NoItem, Is as IsItem}
+use Rattle.machine.specs.Fields.{before, rest, taking, ending, elements_then}
+use Rattle.lines.specs.Values.{value_in, named_key, named_item}
+use Rattle.lines.specs.declared.read.Named.{Named}
+use Rattle.ident.specs.declared.Kind.{Kind}
+use Rattle.ident.specs.declared.ItemKind.{ItemKind}
+use Rattle.regions.specs.declared.Quad.{Quad}
+use Rattle.reading.specs.declared.fields.Parsed.{Parsed}
 use Rattle.reading.specs.declared.forms.Values as forms
-use Rattle.reading.specs.declared.forms.ValuesAt.{ValuesAt}
-use Rattle.reading.specs.declared.forms.ValuesAt.TheVariants.{Not as NoValues, Is as IsValues}
-use Rattle.reading.specs.declared.forms.Whole.{Whole}
-use Rattle.reading.specs.declared.forms.Whole.TheVariants.{Not as NoWhole, Is as IsWhole}
-use Rattle.reading.specs.declared.hashes.ListAt.{ListAt}
-use Rattle.reading.specs.declared.hashes.ListAt.TheVariants.{Not as NoList, Is as IsList}
-use Rattle.reading.specs.declared.hashes.Hashes.{Hashes}
-use Rattle.reading.specs.declared.hashes.Hashes.TheVariants.{None as NoHashes, Are as AreHashes}
 use Rattle.reading.specs.Line.{Line, Asks, Reader}
-use Rattle.reading.specs.Forms.{Values, blank, Then, plain_then, field_then, form_then}
+use Rattle.reading.specs.Forms.{Values, blank, Then, field_then, form_then}
 use Rattle.reading.specs.Lists.{list_call}
 
 -- ---- fields
@@ -38,36 +27,47 @@ pub record At (A : Type 0) : Type 0 where
   pub value : A
   pub end : ℕ
 
-abbrev pub number_at : NumberAt → Option (At ℕ)
-number_at NoNumber = none
-number_at (IsNumber n e) = some (record { value = n; end = e })
+-- the bytes of the field behind the comma at index e
+abbrev pub text_at : List ℕ → ℕ → List ℕ
+text_at l e = before 44 (drop (e + 1) l)
 
-abbrev pub bool_at : BoolAt → Option (At Bool)
-bool_at NoBool = none
-bool_at (IsBool b e) = some (record { value = b; end = e })
+abbrev pub Answered : {T : Type 0} → (List ℕ → Option T → Type 0) → List ℕ → ℕ → Option (Parsed T) → Type 0
+Answered Answers l e None = e < length l → Answers (text_at l e) None
+Answered Answers l e (Some p) = (e < length l) × (p.end ≡ e + 1 + length (text_at l e)) × Answers (text_at l e) (Some p.value)
 
-abbrev pub hash_at : HashAt → Option (At ℕ)
-hash_at NoHash = none
-hash_at (IsHash q e) = some (record { value = quad_number q; end = e })
+-- the field behind the comma at index e is what a reader answers of its bytes; `Answers f r`: the reader may answer r of f
+pub record FieldParsed {T : Type 0} (Answers : List ℕ → Option T → Type 0) (l : List ℕ) (e : ℕ) (r : Option (Parsed T)) : Type 0 where
+  pub is : Answered Answers l e r
 
-abbrev pub key_at : KeyAt → Option (At Key)
-key_at NoKey = none
-key_at (IsKey k q e) = some (record { value = record { kind = k; hash = quad_number q }; end = e })
+-- what an answer says, by the value that f says its own stands for
+abbrev pub parsed_in : {T A : Type 0} → (T → A) → Option (Parsed T) → math.Option (At A)
+parsed_in f o = value_in (λ p. record { value = f p.value; end = p.end }) o
 
-abbrev pub item_at : ItemAt → Option (At Item)
-item_at NoItem = none
-item_at (IsItem k q e) = some (record { value = record { kind = k; hash = quad_number q }; end = e })
+abbrev pub number_at : Option (Parsed ℕ) → math.Option (At ℕ)
+number_at o = parsed_in (λ n. n) o
+
+abbrev pub bool_at : Option (Parsed Bool) → math.Option (At Bool)
+bool_at o = parsed_in (λ b. b) o
+
+abbrev pub hash_at : Option (Parsed Quad) → math.Option (At ℕ)
+hash_at o = parsed_in quad_number o
+
+abbrev pub key_at : Option (Parsed (Named Kind)) → math.Option (At Key)
+key_at o = parsed_in named_key o
+
+abbrev pub item_at : Option (Parsed (Named ItemKind)) → math.Option (At Item)
+item_at o = parsed_in named_item o
 
 -- what k makes of the value and of the fields behind it
-abbrev pub then_of : {A : Type 0} → List ℕ → (A → List (List ℕ) → Option Line) → Option (At A) → Option Line
+abbrev pub then_of : {A : Type 0} → List ℕ → (A → List (List ℕ) → math.Option Line) → math.Option (At A) → math.Option Line
 then_of l k none = none
 then_of l k (some a) = k a.value (rest l (a.end + 1))
 
 -- what stands behind the comma at index e, which `read` says to be o: a field, or several
-pub record ElementRead {A : Type 0} (read : Reader A) (l : List ℕ) (e : ℕ) (o : Option (At A)) : Type 0 where
-  pub is : (k : A → List (List ℕ) → Option Line) → read k (rest l (e + 1)) ≡ then_of l k o
+pub record ElementRead {A : Type 0} (read : Reader A) (l : List ℕ) (e : ℕ) (o : math.Option (At A)) : Type 0 where
+  pub is : (k : A → List (List ℕ) → math.Option Line) → read k (rest l (e + 1)) ≡ then_of l k o
 
-abbrev pub FieldRead : {A : Type 0} → (List ℕ → Option A) → List ℕ → ℕ → Option (At A) → Type 0
+abbrev pub FieldRead : {A : Type 0} → (List ℕ → math.Option A) → List ℕ → ℕ → math.Option (At A) → Type 0
 FieldRead read l e o = ElementRead (taking read) l e o
 
 -- ---- forms
@@ -87,29 +87,23 @@ values_of v = record {
 }
 
 -- what k makes of the values and of the fields behind them
-abbrev pub then_values : List ℕ → Then → ValuesAt → Option Line
-then_values l k NoValues = none
-then_values l k (IsValues v e) = k (values_of v) (rest l (e + 1))
+abbrev pub then_values : List ℕ → Then → Option (Parsed forms.Values) → math.Option Line
+then_values l k o = then_of l k (parsed_in values_of o)
 
--- one field more, of the letter f: a bool or a number
-pub record PlainTaken (l : List ℕ) (e f : ℕ) (v : Values) (r : ValuesAt) : Type 0 where
-  pub is : (k : Then) → plain_then f v k (rest l (e + 1)) ≡ then_values l k r
-
--- of any letter
-pub record FieldTaken (l : List ℕ) (e f : ℕ) (v : Values) (r : ValuesAt) : Type 0 where
+-- one field more, of the letter f
+pub record FieldTaken (l : List ℕ) (e f : ℕ) (v : Values) (r : Option (Parsed forms.Values)) : Type 0 where
   pub is : (k : Then) → field_then f v k (rest l (e + 1)) ≡ then_values l k r
 
 -- the fields of a form behind the comma at index e
-pub record FormRead (l : List ℕ) (e : ℕ) (form : List ℕ) (r : ValuesAt) : Type 0 where
+pub record FormRead (l : List ℕ) (e : ℕ) (form : List ℕ) (r : Option (Parsed forms.Values)) : Type 0 where
   pub is : (k : Then) → form_then form blank k (rest l (e + 1)) ≡ then_values l k r
 
 -- what `line` makes of the values
-abbrev pub whole_line : (Values → Line) → Whole → Option Line
-whole_line line NoWhole = none
-whole_line line (IsWhole v) = some (line (values_of v))
+abbrev pub whole_line : (Values → Line) → Option forms.Values → math.Option Line
+whole_line line o = value_in (λ v. line (values_of v)) o
 
 -- the fields of a form, and nothing behind them
-pub record WholeRead (l : List ℕ) (e : ℕ) (form : List ℕ) (r : Whole) : Type 0 where
+pub record WholeRead (l : List ℕ) (e : ℕ) (form : List ℕ) (r : Option forms.Values) : Type 0 where
   pub is : (line : Values → Line) → form_then form blank (λ v. ending (some (line v))) (rest l (e + 1)) ≡ whole_line line r
 
 -- ---- lists
@@ -119,14 +113,14 @@ longest_line = 65536
 
 -- of the n elements behind the comma at index e the first i are those of xs; the last field of these ends at index to
 pub record ElementsRead {A : Type 0} (read : Reader A) (l : List ℕ) (e n to i : ℕ) (xs : List A) : Type 0 where
-  pub is : (k : List A → List (List ℕ) → Option Line) → elements_then read n [] k (rest l (e + 1)) ≡ elements_then read (n - i) xs k (rest l (to + 1))
+  pub is : (k : List A → List (List ℕ) → math.Option Line) → elements_then read n [] k (rest l (e + 1)) ≡ elements_then read (n - i) xs k (rest l (to + 1))
 
-abbrev pub ElementsAs : {A : Type 0} → Reader A → List ℕ → ℕ → ℕ → List A → ListAt → Type 0
-ElementsAs {A} read l e n xs NoList = (k : List A → List (List ℕ) → Option Line) → elements_then read n [] k (rest l (e + 1)) ≡ none
-ElementsAs read l e n xs (IsList to) = ElementsRead read l e n to n xs
+abbrev pub ElementsAs : {A : Type 0} → Reader A → List ℕ → ℕ → ℕ → List A → Option ℕ → Type 0
+ElementsAs {A} read l e n xs None = (k : List A → List (List ℕ) → math.Option Line) → elements_then read n [] k (rest l (e + 1)) ≡ none
+ElementsAs read l e n xs (Some to) = ElementsRead read l e n to n xs
 
 -- the n elements behind the comma at index e
-pub record ListRead {A : Type 0} (read : Reader A) (l : List ℕ) (e n : ℕ) (xs : List A) (r : ListAt) : Type 0 where
+pub record ListRead {A : Type 0} (read : Reader A) (l : List ℕ) (e n : ℕ) (xs : List A) (r : Option ℕ) : Type 0 where
   pub is : ElementsAs read l e n xs r
 
 -- x stands in the bytes as one record more, behind i others
@@ -151,9 +145,9 @@ pub record HashesHeld (l : List ℕ) (e : ℕ) (b : List ℕ) (m : ℕ) : Type 0
   pub inside : m ≤ stored_bytes
   pub is : (ask : List ℕ → Ask) → list_call ask (rest l (e + 1)) ≡ some (Asks (On (ask (hashes_in (take m b)))))
 
-abbrev pub HashesAs : List ℕ → ℕ → List ℕ → Hashes → Type 0
-HashesAs l e b NoHashes = (ask : List ℕ → Ask) → list_call ask (rest l (e + 1)) ≡ none
-HashesAs l e b (AreHashes m) = HashesHeld l e b m
+abbrev pub HashesAs : List ℕ → ℕ → List ℕ → Option ℕ → Type 0
+HashesAs l e b None = (ask : List ℕ → Ask) → list_call ask (rest l (e + 1)) ≡ none
+HashesAs l e b (Some m) = HashesHeld l e b m
 
-pub record HashesGiven (l : List ℕ) (e : ℕ) (b : List ℕ) (r : Hashes) : Type 0 where
+pub record HashesGiven (l : List ℕ) (e : ℕ) (b : List ℕ) (r : Option ℕ) : Type 0 where
   pub is : HashesAs l e b r

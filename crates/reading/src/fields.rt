@@ -1,106 +1,71 @@
 // A line's fields one after the other, each found behind the comma that ends the one before it.
+ghost use Rattle.std.specs.Prelude.{◌≡◌};
+ghost use Rattle.std.specs.Fn.{FnOnceReturnsAt};
 ghost use Rattle.machine.specs.Fields.{number_of, bool_of, hash_of, key_of, item_of};
-ghost use Rattle.reading.specs.Given.{FieldRead, number_at, bool_at, hash_at, key_at, item_at};
+ghost use Rattle.reading.specs.Given.{FieldParsed, FieldRead, number_at, bool_at, hash_at, key_at, item_at};
 
-// A field as a value, with the index where it ends.
+use lines::read::{Named, field_end};
+
+// What a part of a line says, and the index where that part ends.
 #[derive(Clone, Copy)]
-pub enum NumberAt {
-    Not,
-    Is(u64, usize),
+pub struct Parsed<T> {
+    pub value: T,
+    pub end: usize,
 }
 
-#[derive(Clone, Copy)]
-pub enum BoolAt {
-    Not,
-    Is(bool, usize),
+impl<T> Parsed<T> {
+    pub fn map<U, F: FnOnce(T) -> U>(self, f: F) -> Parsed<U>
+        requires { F.pre f self.value }
+        ensures value { F.post f self.value result.value }
+        ensures end { result.end ≡ self.end }
+    {
+        Parsed {
+            value: f(self.value),
+            end: self.end,
+        }
+    }
 }
 
-#[derive(Clone, Copy)]
-pub enum HashAt {
-    Not,
-    Is(regions::Quad, usize),
+// The field behind the comma at index e, as `parse` reads it; a line that ends there has none.
+fn field_at<T, F: FnOnce(&[u8]) -> Option<T>>(line: &[u8], e: usize, parse: F) -> Option<Parsed<T>>
+    requires { F.IsAlwaysCallable parse }
+    ensures { FieldParsed (FnOnceReturnsAt F.FnOnce parse) line.now e result }
+{
+    if line.len() <= e {
+        return None;
+    }
+    let from = e + 1;
+    let end = field_end(line, from);
+    let value = parse(&line[from..end])?;
+    Some(Parsed { value, end })
 }
 
-#[derive(Clone, Copy)]
-pub enum KeyAt {
-    Not,
-    Is(ident::Kind, regions::Quad, usize),
-}
-
-#[derive(Clone, Copy)]
-pub enum ItemAt {
-    Not,
-    Is(ident::ItemKind, regions::Quad, usize),
-}
-
-// Each reads the field behind the comma at index e; a line that ends there has none.
-
-pub fn number_at(line: &[u8], e: usize) -> NumberAt
+pub fn number_at(line: &[u8], e: usize) -> Option<Parsed<u64>>
     ensures { FieldRead number_of line.now e (number_at result) }
 {
-    if line.len() <= e {
-        return NumberAt::Not;
-    }
-    let from = e + 1;
-    let to = lines::read::field_end(line, from);
-    let lines::read::MaybeNumber::Is(n) = lines::read::number(&line[from..to]) else {
-        return NumberAt::Not;
-    };
-    NumberAt::Is(n, to)
+    field_at(line, e, lines::read::number)
 }
 
-pub fn bool_at(line: &[u8], e: usize) -> BoolAt
+pub fn bool_at(line: &[u8], e: usize) -> Option<Parsed<bool>>
     ensures { FieldRead bool_of line.now e (bool_at result) }
 {
-    if line.len() <= e {
-        return BoolAt::Not;
-    }
-    let from = e + 1;
-    let to = lines::read::field_end(line, from);
-    let lines::read::MaybeBool::Is(b) = lines::read::boolean(&line[from..to]) else {
-        return BoolAt::Not;
-    };
-    BoolAt::Is(b, to)
+    field_at(line, e, lines::read::boolean)
 }
 
-pub fn hash_at(line: &[u8], e: usize) -> HashAt
+pub fn hash_at(line: &[u8], e: usize) -> Option<Parsed<regions::Quad>>
     ensures { FieldRead hash_of line.now e (hash_at result) }
 {
-    if line.len() <= e {
-        return HashAt::Not;
-    }
-    let from = e + 1;
-    let to = lines::read::field_end(line, from);
-    let lines::read::MaybeHash::Is(q) = lines::read::hash(&line[from..to]) else {
-        return HashAt::Not;
-    };
-    HashAt::Is(q, to)
+    field_at(line, e, lines::read::hash)
 }
 
-pub fn key_at(line: &[u8], e: usize) -> KeyAt
+pub fn key_at(line: &[u8], e: usize) -> Option<Parsed<Named<ident::Kind>>>
     ensures { FieldRead key_of line.now e (key_at result) }
 {
-    if line.len() <= e {
-        return KeyAt::Not;
-    }
-    let from = e + 1;
-    let to = lines::read::field_end(line, from);
-    let lines::read::MaybeKey::Is(k, q) = lines::read::key(&line[from..to]) else {
-        return KeyAt::Not;
-    };
-    KeyAt::Is(k, q, to)
+    field_at(line, e, lines::read::key)
 }
 
-pub fn item_at(line: &[u8], e: usize) -> ItemAt
+pub fn item_at(line: &[u8], e: usize) -> Option<Parsed<Named<ident::ItemKind>>>
     ensures { FieldRead item_of line.now e (item_at result) }
 {
-    if line.len() <= e {
-        return ItemAt::Not;
-    }
-    let from = e + 1;
-    let to = lines::read::field_end(line, from);
-    let lines::read::MaybeItem::Is(k, q) = lines::read::item(&line[from..to]) else {
-        return ItemAt::Not;
-    };
-    ItemAt::Is(k, q, to)
+    field_at(line, e, lines::read::item)
 }

@@ -1,13 +1,13 @@
 // Forms: the fields of a line in their order, a letter each. k: key, i: item, h: hash, m: combined hash, c: connection, n: now, r: ready,
 // q: priority, p: preferred, s: whether a wtxid source exists.
-ghost use Rattle.std.specs.Prelude.{◌≡◌, eqb, if◌then◌else◌};
+ghost use Rattle.std.specs.Prelude.{◌≡◌};
 ghost use Rattle.regions.specs.Rows.{quad_number};
-ghost use Rattle.reading.specs.Forms.{blank, put_key, put_item, put_hash, put_number, put_bool, is_hash, is_bool};
-ghost use Rattle.reading.specs.Given.{values_of, PlainTaken, FieldTaken, FormRead, WholeRead};
+ghost use Rattle.lines.specs.Values.{named_key, named_item};
+ghost use Rattle.reading.specs.Forms.{blank, put_key, put_item, put_hash, put_number, put_bool};
+ghost use Rattle.reading.specs.Given.{values_of, FieldTaken, FormRead, WholeRead};
 
-use crate::fields::{
-    BoolAt, HashAt, ItemAt, KeyAt, NumberAt, bool_at, hash_at, item_at, key_at, number_at,
-};
+use crate::fields::{Parsed, bool_at, hash_at, item_at, key_at, number_at};
+use lines::read::Named;
 
 // The values of a line's fields, hashes as plain words; an item's hash is `hash`. What a form does not name is zero.
 #[derive(Clone, Copy)]
@@ -24,37 +24,20 @@ pub struct Values {
     pub source: bool,
 }
 
-// The values with the index where the last field ends.
-#[derive(Clone, Copy)]
-pub enum ValuesAt {
-    Not,
-    Is(Values, usize),
-}
-
-// The values of a line's last fields.
-#[derive(Clone, Copy)]
-pub enum Whole {
-    Not,
-    Is(Values),
-}
-
 fn no_values() -> Values
     ensures { values_of result ≡ blank }
 {
-    let hash = regions::Quad {
+    let zero = regions::Quad {
         w0: 0,
         w1: 0,
         w2: 0,
         w3: 0,
     };
-    let combined = hash;
-    let kind = ident::Kind::Txid;
-    let item = ident::ItemKind::Transaction;
     Values {
-        kind,
-        item,
-        hash,
-        combined,
+        kind: ident::Kind::Txid,
+        item: ident::ItemKind::Transaction,
+        hash: zero,
+        combined: zero,
         connection: 0,
         clock: 0,
         ready: 0,
@@ -64,91 +47,32 @@ fn no_values() -> Values
     }
 }
 
-fn with_key(v: Values, kind: ident::Kind, hash: regions::Quad) -> Values
-    ensures { values_of result ≡ put_key (values_of v) (record { kind = kind; hash = quad_number hash }) }
+fn with_key(v: Values, key: Named<ident::Kind>) -> Values
+    ensures { values_of result ≡ put_key (values_of v) (named_key key) }
 {
-    let item = v.item;
-    let combined = v.combined;
+    let Named { kind, hash } = key;
+    Values { kind, hash, ..v }
+}
+
+fn with_item(v: Values, item: Named<ident::ItemKind>) -> Values
+    ensures { values_of result ≡ put_item (values_of v) (named_item item) }
+{
+    let hash = item.hash;
     Values {
-        kind,
-        item,
+        item: item.kind,
         hash,
-        combined,
-        connection: v.connection,
-        clock: v.clock,
-        ready: v.ready,
-        priority: v.priority,
-        preferred: v.preferred,
-        source: v.source,
+        ..v
     }
-}
-
-fn with_item(v: Values, item: ident::ItemKind, hash: regions::Quad) -> Values
-    ensures { values_of result ≡ put_item (values_of v) (record { kind = item; hash = quad_number hash }) }
-{
-    let kind = v.kind;
-    let combined = v.combined;
-    Values {
-        kind,
-        item,
-        hash,
-        combined,
-        connection: v.connection,
-        clock: v.clock,
-        ready: v.ready,
-        priority: v.priority,
-        preferred: v.preferred,
-        source: v.source,
-    }
-}
-
-// The new value of a field whose letter is g, of what the letter f stands for.
-fn hash_if(f: u8, g: u8, new: regions::Quad, old: regions::Quad) -> regions::Quad
-    ensures { quad_number result ≡ if eqb f g then quad_number new else quad_number old }
-{
-    if f == g {
-        return new;
-    }
-    old
-}
-
-fn number_if(f: u8, g: u8, new: u64, old: u64) -> u64
-    ensures { result ≡ if eqb f g then new else old }
-{
-    if f == g {
-        return new;
-    }
-    old
-}
-
-fn bool_if(f: u8, g: u8, new: bool, old: bool) -> bool
-    ensures { result ≡ if eqb f g then new else old }
-{
-    if f == g {
-        return new;
-    }
-    old
 }
 
 // The hash, or the combined hash.
 fn with_hash(v: Values, f: u8, q: regions::Quad) -> Values
     ensures { values_of result ≡ put_hash f (values_of v) (quad_number q) }
 {
-    let kind = v.kind;
-    let item = v.item;
-    let hash = hash_if(f, b'h', q, v.hash);
-    let combined = hash_if(f, b'm', q, v.combined);
-    Values {
-        kind,
-        item,
-        hash,
-        combined,
-        connection: v.connection,
-        clock: v.clock,
-        ready: v.ready,
-        priority: v.priority,
-        preferred: v.preferred,
-        source: v.source,
+    match f {
+        b'h' => Values { hash: q, ..v },
+        b'm' => Values { combined: q, ..v },
+        _ => v,
     }
 }
 
@@ -156,25 +80,12 @@ fn with_hash(v: Values, f: u8, q: regions::Quad) -> Values
 fn with_number(v: Values, f: u8, n: u64) -> Values
     ensures { values_of result ≡ put_number f (values_of v) n }
 {
-    let kind = v.kind;
-    let item = v.item;
-    let hash = v.hash;
-    let combined = v.combined;
-    let connection = number_if(f, b'c', n, v.connection);
-    let clock = number_if(f, b'n', n, v.clock);
-    let ready = number_if(f, b'r', n, v.ready);
-    let priority = number_if(f, b'q', n, v.priority);
-    Values {
-        kind,
-        item,
-        hash,
-        combined,
-        connection,
-        clock,
-        ready,
-        priority,
-        preferred: v.preferred,
-        source: v.source,
+    match f {
+        b'c' => Values { connection: n, ..v },
+        b'n' => Values { clock: n, ..v },
+        b'r' => Values { ready: n, ..v },
+        b'q' => Values { priority: n, ..v },
+        _ => v,
     }
 }
 
@@ -182,104 +93,47 @@ fn with_number(v: Values, f: u8, n: u64) -> Values
 fn with_bool(v: Values, f: u8, b: bool) -> Values
     ensures { values_of result ≡ put_bool f (values_of v) b }
 {
-    let kind = v.kind;
-    let item = v.item;
-    let hash = v.hash;
-    let combined = v.combined;
-    let preferred = bool_if(f, b'p', b, v.preferred);
-    let source = bool_if(f, b's', b, v.source);
-    Values {
-        kind,
-        item,
-        hash,
-        combined,
-        connection: v.connection,
-        clock: v.clock,
-        ready: v.ready,
-        priority: v.priority,
-        preferred,
-        source,
+    match f {
+        b'p' => Values { preferred: b, ..v },
+        b's' => Values { source: b, ..v },
+        _ => v,
     }
 }
 
-fn is_hash(f: u8) -> bool
-    ensures { result ≡ is_hash f }
-{
-    (f == b'h') | (f == b'm')
-}
-
-fn is_bool(f: u8) -> bool
-    ensures { result ≡ is_bool f }
-{
-    (f == b'p') | (f == b's')
-}
-
-// The field behind the comma at index e, which is of the letter f: a bool or a number.
-fn take_plain(line: &[u8], e: usize, f: u8, v: Values) -> ValuesAt
-    ensures { PlainTaken line.now e f (values_of v) result }
-{
-    if is_bool(f) {
-        let BoolAt::Is(b, to) = bool_at(line, e) else {
-            return ValuesAt::Not;
-        };
-        return ValuesAt::Is(with_bool(v, f, b), to);
-    }
-    let NumberAt::Is(n, to) = number_at(line, e) else {
-        return ValuesAt::Not;
-    };
-    ValuesAt::Is(with_number(v, f, n), to)
-}
-
-// Of any letter.
-fn take_field(line: &[u8], e: usize, f: u8, v: Values) -> ValuesAt
+// The field behind the comma at index e, which is of the letter f, among the values.
+fn take_field(line: &[u8], e: usize, f: u8, v: Values) -> Option<Parsed<Values>>
     ensures { FieldTaken line.now e f (values_of v) result }
 {
-    if f == b'k' {
-        let KeyAt::Is(k, q, to) = key_at(line, e) else {
-            return ValuesAt::Not;
-        };
-        return ValuesAt::Is(with_key(v, k, q), to);
+    match f {
+        b'k' => Some(key_at(line, e)?.map(|k| with_key(v, k))),
+        b'i' => Some(item_at(line, e)?.map(|i| with_item(v, i))),
+        b'h' | b'm' => Some(hash_at(line, e)?.map(|q| with_hash(v, f, q))),
+        b'p' | b's' => Some(bool_at(line, e)?.map(|b| with_bool(v, f, b))),
+        _ => Some(number_at(line, e)?.map(|n| with_number(v, f, n))),
     }
-    if f == b'i' {
-        let ItemAt::Is(k, q, to) = item_at(line, e) else {
-            return ValuesAt::Not;
-        };
-        return ValuesAt::Is(with_item(v, k, q), to);
-    }
-    if is_hash(f) {
-        let HashAt::Is(q, to) = hash_at(line, e) else {
-            return ValuesAt::Not;
-        };
-        return ValuesAt::Is(with_hash(v, f, q), to);
-    }
-    take_plain(line, e, f, v)
 }
 
 // The fields of a form, behind the comma at index e.
-pub fn read_form(line: &[u8], e: usize, form: &[u8]) -> ValuesAt
+pub fn read_form(line: &[u8], e: usize, form: &[u8]) -> Option<Parsed<Values>>
     ensures { FormRead line.now e form.now result }
 {
-    let mut v = no_values();
-    let mut to = e;
-    for i in 0..form.len() {
-        let ValuesAt::Is(next, end) = take_field(line, to, form[i], v) else {
-            return ValuesAt::Not;
-        };
-        v = next;
-        to = end;
+    let mut taken = Parsed {
+        value: no_values(),
+        end: e,
+    };
+    for &f in form {
+        taken = take_field(line, taken.end, f, taken.value)?;
     }
-    ValuesAt::Is(v, to)
+    Some(taken)
 }
 
 // The fields of a form, the line's last, behind the comma at index e.
-pub fn read_whole(line: &[u8], e: usize, form: &[u8]) -> Whole
+pub fn read_whole(line: &[u8], e: usize, form: &[u8]) -> Option<Values>
     ensures { WholeRead line.now e form.now result }
 {
-    let ValuesAt::Is(v, end) = read_form(line, e, form) else {
-        return Whole::Not;
-    };
-    if end < line.len() {
-        return Whole::Not;
+    let taken = read_form(line, e, form)?;
+    if taken.end < line.len() {
+        return None;
     }
-    Whole::Is(v)
+    Some(taken.value)
 }

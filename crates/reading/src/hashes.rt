@@ -6,27 +6,13 @@ ghost use Rattle.machine.specs.Fields.{hash_of, taking};
 ghost use Rattle.regions.specs.Rows.{quad_number};
 ghost use Rattle.reading.specs.Given.{longest_line, most_hashes, stored_bytes, hashes_of, Stored, ListRead, HashesGiven};
 
-use crate::fields::{HashAt, NumberAt, hash_at, number_at};
+use crate::fields::{hash_at, number_at};
 use ident::HASH_BYTES;
 
 // The most hashes that a line of 65,536 bytes can hold: each takes a comma and a digit or more.
 const HASHES: usize = 32_768;
 
 const STORED: usize = HASHES * HASH_BYTES;
-
-// A list that was read, with the index where its last field ends.
-#[derive(Clone, Copy)]
-pub enum ListAt {
-    Not,
-    Is(usize),
-}
-
-// The list of hashes of a line, or that it has none: how many bytes hold it.
-#[derive(Clone, Copy)]
-pub enum Hashes {
-    None,
-    Are(usize),
-}
 
 pub fn hash_buffer() -> [u8; STORED]
     ensures { length result ≡ stored_bytes }
@@ -49,39 +35,33 @@ fn put_hash(hashes: &mut [u8], i: usize, q: regions::Quad)
     ident::put_hash(hashes, i * HASH_BYTES, hash_of(q));
 }
 
-// The n hashes whose fields stand behind the comma at index e.
-fn read_hashes(line: &[u8], e: usize, n: usize, hashes: &mut [u8]) -> ListAt
+// The n hashes whose fields stand behind the comma at index e, and where the last ends.
+fn read_hashes(line: &[u8], e: usize, n: usize, hashes: &mut [u8]) -> Option<usize>
     requires { (n ≤ most_hashes) × (stored_bytes ≤ length hashes.old) }
     ensures { ListRead (taking hash_of) line.now e n (hashes_of n hashes.new) result }
 {
     let mut to = e;
     for i in 0..n {
-        let HashAt::Is(q, end) = hash_at(line, to) else {
-            return ListAt::Not;
-        };
-        put_hash(hashes, i, q);
-        to = end;
+        let hash = hash_at(line, to)?;
+        put_hash(hashes, i, hash.value);
+        to = hash.end;
     }
-    ListAt::Is(to)
+    Some(to)
 }
 
-// The list behind the comma at index e, the line's last fields.
-pub fn read_list(line: &[u8], e: usize, hashes: &mut [u8]) -> Hashes
+// The list behind the comma at index e, the line's last fields: how many bytes hold it.
+pub fn read_list(line: &[u8], e: usize, hashes: &mut [u8]) -> Option<usize>
     requires { (length line.now ≤ longest_line) × (stored_bytes ≤ length hashes.old) }
     ensures { HashesGiven line.now e hashes.new result }
 {
-    let NumberAt::Is(count, to) = number_at(line, e) else {
-        return Hashes::None;
-    };
-    if 32_768 < count {
-        return Hashes::None;
+    let count = number_at(line, e)?;
+    if 32_768 < count.value {
+        return None;
     }
-    let n = count as usize;
-    let ListAt::Is(end) = read_hashes(line, to, n, hashes) else {
-        return Hashes::None;
-    };
+    let n = count.value as usize;
+    let end = read_hashes(line, count.end, n, hashes)?;
     if end < line.len() {
-        return Hashes::None;
+        return None;
     }
-    Hashes::Are(n * HASH_BYTES)
+    Some(n * HASH_BYTES)
 }

@@ -12,8 +12,8 @@ use Rattle.words.specs.Words.{words}
 use Rattle.regions.specs.declared.Quad.{Quad}
 use Rattle.regions.specs.Regions.{each}
 use Rattle.regions.specs.Rows.{quad_number}
-use Rattle.lines.specs.declared.read.MaybeKey as lines-key
-use Rattle.lines.specs.declared.read.MaybeKey.TheVariants.{Not as NoKey, Is as IsKey}
+use Rattle.std.specs.Prelude as answer
+use Rattle.lines.specs.declared.read.Named.{Named}
 use Rattle.lines.specs.Values.{number_in, key_in}
 use Rattle.machine.specs.Step.{empty}
 use Rattle.store.specs.Flat.{tally}
@@ -30,22 +30,22 @@ use Rattle.restoring.specs.Given.{bare}
 
 -- ---- a cursor
 
-module _ {r : Stored} {m : lines-key.MaybeKey} where
-  pub stands_none : m ≡ NoKey → Stands r none → Stands r (key_in m)
+module _ {r : Stored} {m : answer.Option (Named Kind)} where
+  pub stands_none : m ≡ answer.None → Stands r none → Stands r (key_in m)
   stands_none e h = subst (Stands r) (sym (ap key_in e)) h
 
-  pub stands-key : {k : Kind} {q : Quad} {h : ℕ} → m ≡ IsKey k q → h ≡ quad_number q → Stands r (some (record { kind = k; hash = h })) → Stands r (key_in m)
+  pub stands-key : {k : Kind} {q : Quad} {h : ℕ} → m ≡ answer.Some (record { kind = k; hash = q }) → h ≡ quad_number q → Stands r (some (record { kind = k; hash = h })) → Stands r (key_in m)
   stands-key {k} e g h = subst (Stands r) (ap (λ (n : ℕ). some (record { kind = k; hash = n })) g ∙ sym (ap key_in e)) h
 
 -- a key that was read, as the tracker has it
-as_key : lines-key.MaybeKey → MaybeKey
-as_key NoKey = None
-as_key (IsKey k q) = Is (record { kind = k; hash = record { words = q.w0 ∷ q.w1 ∷ q.w2 ∷ q.w3 ∷ [] } })
+as_key : answer.Option (Named Kind) → MaybeKey
+as_key answer.None = None
+as_key (answer.Some n) = Is (record { kind = n.kind; hash = record { words = n.hash.w0 ∷ n.hash.w1 ∷ n.hash.w2 ∷ n.hash.w3 ∷ [] } })
 
-same_key_lem : (m : lines-key.MaybeKey) → maybe_key_num (as_key m) ≡ key_in m
+same_key_lem : (m : answer.Option (Named Kind)) → maybe_key_num (as_key m) ≡ key_in m
 unfolding quad_number as_key
-same_key_lem NoKey = refl
-same_key_lem (IsKey k q) = refl
+same_key_lem answer.None = refl
+same_key_lem (answer.Some n) = refl
 
 -- ---- the header
 

@@ -9,25 +9,25 @@ ghost use Rattle.listed_lines.specs.Given.{head_state};
 ghost use Rattle.restoring.specs.Given.{bare};
 
 use cursors::{Fields, MaybeTime, Stored};
-use lines::read::{MaybeKey, MaybeNumber};
+use lines::read::Named;
 use listed_lines::line::Head;
 
-fn time_of(m: MaybeNumber) -> MaybeTime
+fn time_of(m: Option<u64>) -> MaybeTime
     ensures { time_num result ≡ number_in m }
 {
     match m {
-        MaybeNumber::Not => MaybeTime::None,
-        MaybeNumber::Is(n) => MaybeTime::Is(n),
+        None => MaybeTime::None,
+        Some(n) => MaybeTime::Is(n),
     }
 }
 
-fn stored_of(m: MaybeKey) -> Stored
+fn stored_of(m: Option<Named<ident::Kind>>) -> Stored
     ensures { Stands result (key_in m) }
 {
     match m {
-        MaybeKey::Not => cursors::no_cursor(),
-        MaybeKey::Is(kind, q) => {
-            let hash = requests::quad_hash(q);
+        None => cursors::no_cursor(),
+        Some(Named { kind, hash }) => {
+            let hash = requests::quad_hash(hash);
             cursors::key_stored(ident::Key { kind, hash })
         }
     }

@@ -3,4 +3,4 @@ use Rattle.listed_counts.proofs.Numbers.{notes_some}
 use Rattle.listed_counts.proofs.note_number.Goals as goal
 
 pub returns : goal.returns
-returns c = notes_some _ _ c.in-Is.is c.note.ensures
+returns c = notes_some _ _ c.in-Some.is c.note.ensures

@@ -10,4 +10,4 @@ returns-in_default c = fields_not c.hashes_values.ensures (λ v. list_call (hash
 
 pub returns : goal.returns
 unfolding hashes_call
-returns c = fields-are c.hashes_values.ensures (λ v. list_call (hashes_ask c.args.w v)) c.in-Is.is
+returns c = fields-are c.hashes_values.ensures (λ v. list_call (hashes_ask c.args.w v)) c.in-Some.is

@@ -10,4 +10,4 @@ returns-in_default c = fields_not c.read_form.ensures (λ v. offers_call (invent
 
 pub returns : goal.returns
 unfolding inventory_call
-returns c = fields-are c.read_form.ensures (λ v. offers_call (inventory_ask v)) c.in-Is.is
+returns c = fields-are c.read_form.ensures (λ v. offers_call (inventory_ask v)) c.in-Some.is

@@ -11,4 +11,4 @@ returns-in_default c = line_not c.keys_values.ensures (λ v. Asks (On (keys_ask 
 
 pub returns : goal.returns
 unfolding keys_call
-returns c = line_is c.keys_values.ensures (λ v. Asks (On (keys_ask c.args.w v))) c.in-Is.is
+returns c = line_is c.keys_values.ensures (λ v. Asks (On (keys_ask c.args.w v))) c.in-Some.is

@@ -11,4 +11,4 @@ returns-in_default c = line_not c.read_whole.ensures (λ v. Asks (On (leave_ask 
 
 pub returns : goal.returns
 unfolding leave_call
-returns c = line_is c.read_whole.ensures (λ v. Asks (On (leave_ask v))) c.in-Is.is
+returns c = line_is c.read_whole.ensures (λ v. Asks (On (leave_ask v))) c.in-Some.is

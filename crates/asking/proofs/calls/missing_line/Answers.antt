@@ -10,4 +10,4 @@ returns-in_default c = fields_not c.read_form.ensures (λ v. item_list_call (mis
 
 pub returns : goal.returns
 unfolding missing_line
-returns c = fields-are c.read_form.ensures (λ v. item_list_call (missing_ask v)) c.in-Is.is
+returns c = fields-are c.read_form.ensures (λ v. item_list_call (missing_ask v)) c.in-Some.is

@@ -11,4 +11,4 @@ returns-in_default c = line_not c.number_values.ensures (λ v. Asks (On (number_
 
 pub returns : goal.returns
 unfolding number_call
-returns c = line_is c.number_values.ensures (λ v. Asks (On (number_ask c.args.w v))) c.in-Is.is
+returns c = line_is c.number_values.ensures (λ v. Asks (On (number_ask c.args.w v))) c.in-Some.is

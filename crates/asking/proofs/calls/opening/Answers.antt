@@ -9,28 +9,28 @@ returns-in_default c = no-limit c.number_at.ensures (ap number_at c.in_default.i
 
 pub returns-in_default-number_at : goal.returns-in_default-number_at
 returns-in_default-number_at c =
-    no-places c.number_at.ensures (ap number_at c.in-Is.is) c.number_at-2.ensures
+    no-places c.number_at.ensures (ap number_at c.in-Some.is) c.number_at-2.ensures
     (ap number_at c.in_default-number_at.is)
 
 pub returns-then-end-line : goal.returns-then-end-line
 returns-then-end-line c =
-    more_fields c.number_at.ensures (ap number_at c.in-Is.is)
-    c.number_at-2.ensures (ap number_at c.in-Is-number_at.is) c.if-end-line.true
+    more_fields c.number_at.ensures (ap number_at c.in-Some.is)
+    c.number_at-2.ensures (ap number_at c.in-Some-number_at.is) c.if-end-line.true
 
 pub returns-then-l-gt100 : goal.returns-then-l-gt100
 returns-then-l-gt100 c =
     limit_above c.number_at.ensures
-    (ap number_at c.in-Is.is) c.number_at-2.ensures
-    (ap number_at c.in-Is-number_at.is) c.if-end-line.false c.if-l-gt100.true
+    (ap number_at c.in-Some.is) c.number_at-2.ensures
+    (ap number_at c.in-Some-number_at.is) c.if-end-line.false c.if-l-gt100.true
 
 pub returns-then-q-gt2 : goal.returns-then-q-gt2
 returns-then-q-gt2 c =
     places-above c.number_at.ensures
-    (ap number_at c.in-Is.is) c.number_at-2.ensures
-    (ap number_at c.in-Is-number_at.is) c.if-end-line.false c.if-l-gt100.false c.if-q-gt2.true
+    (ap number_at c.in-Some.is) c.number_at-2.ensures
+    (ap number_at c.in-Some-number_at.is) c.if-end-line.false c.if-l-gt100.false c.if-q-gt2.true
 
 pub returns : goal.returns
 returns c =
     opening_is c.number_at.ensures
-    (ap number_at c.in-Is.is) c.number_at-2.ensures
-    (ap number_at c.in-Is-number_at.is) c.if-end-line.false c.if-l-gt100.false c.if-q-gt2.false
+    (ap number_at c.in-Some.is) c.number_at-2.ensures
+    (ap number_at c.in-Some-number_at.is) c.if-end-line.false c.if-l-gt100.false c.if-q-gt2.false

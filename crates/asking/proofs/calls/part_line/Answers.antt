@@ -10,4 +10,4 @@ returns-in_default c = line_not c.read_whole.ensures (λ v. Part v.connection) c
 
 pub returns : goal.returns
 unfolding part_line
-returns c = line_is c.read_whole.ensures (λ v. Part v.connection) c.in-Is.is
+returns c = line_is c.read_whole.ensures (λ v. Part v.connection) c.in-Some.is

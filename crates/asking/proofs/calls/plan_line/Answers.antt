@@ -11,4 +11,4 @@ returns-in_default c = line_not c.read_whole.ensures (λ v. Asks (On (plan_ask v
 
 pub returns : goal.returns
 unfolding plan_line
-returns c = line_is c.read_whole.ensures (λ v. Asks (On (plan_ask v))) c.in-Is.is
+returns c = line_is c.read_whole.ensures (λ v. Asks (On (plan_ask v))) c.in-Some.is

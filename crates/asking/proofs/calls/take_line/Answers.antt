@@ -10,4 +10,4 @@ returns-in_default c = line_not c.read_whole.ensures (λ v. Take v.now) c.in_def
 
 pub returns : goal.returns
 unfolding take_line
-returns c = line_is c.read_whole.ensures (λ v. Take v.now) c.in-Is.is
+returns c = line_is c.read_whole.ensures (λ v. Take v.now) c.in-Some.is

@@ -10,4 +10,4 @@ returns-in_default c = fields_not c.read_form.ensures (λ v. key_list_call (want
 
 pub returns : goal.returns
 unfolding want_line
-returns c = fields-are c.read_form.ensures (λ v. key_list_call (want_ask v)) c.in-Is.is
+returns c = fields-are c.read_form.ensures (λ v. key_list_call (want_ask v)) c.in-Some.is

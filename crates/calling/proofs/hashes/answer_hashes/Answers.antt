@@ -15,10 +15,10 @@ returns-in_default c = keeps_unread (no-hashes c.read_list.ensures c.in_default.
     (values_of c.args.v))) refl c.unreadable.ensures
 
 pub slice_bounds-hashes-end : goal.slice_bounds-hashes-end
-slice_bounds-hashes-end c = let h = hashes_held c.read_list.ensures c.in-Are.is in omega (arith, h.inside)
+slice_bounds-hashes-end c = let h = hashes_held c.read_list.ensures c.in-Some.is in omega (arith, h.inside)
 
 pub slice_bounds-carry_out-end : goal.slice_bounds-carry_out-end
-slice_bounds-carry_out-end c = let h = hashes_held c.read_list.ensures c.in-Are.is in
+slice_bounds-carry_out-end c = let h = hashes_held c.read_list.ensures c.in-Some.is in
     simp length-take (omega (
       arith,
       h.inside,
@@ -29,7 +29,7 @@ slice_bounds-carry_out-end c = let h = hashes_held c.read_list.ensures c.in-Are.
 pub returns : goal.returns
 returns c =
     let h = hashes_held c.read_list.ensures
-    c.in-Are.is in
+    c.in-Some.is in
     keeps-call (sym (h.is (hashes_ask c.args.w
     (values_of c.args.v))))
     (hashes_unplanned c.args.w

@@ -14,13 +14,13 @@ returns-in_default c = keeps_unread (no_items c.read_list.ensures c.in_default.i
     (missing_ask (values_of c.args.v))) refl c.unreadable.ensures
 
 pub overflow_mul-m : goal.overflow_mul-m
-overflow_mul-m c = let h = items_held c.read_list.ensures c.in-Are.is in omega (arith, h.few)
+overflow_mul-m c = let h = items_held c.read_list.ensures c.in-Some.is in omega (arith, h.few)
 
 pub slice_bounds-items-end : goal.slice_bounds-items-end
-slice_bounds-items-end c = let h = items_held c.read_list.ensures c.in-Are.is in omega (arith, h.few)
+slice_bounds-items-end c = let h = items_held c.read_list.ensures c.in-Some.is in omega (arith, h.few)
 
 pub slice_bounds-carry_out-end : goal.slice_bounds-carry_out-end
-slice_bounds-carry_out-end c = let h = items_held c.read_list.ensures c.in-Are.is in
+slice_bounds-carry_out-end c = let h = items_held c.read_list.ensures c.in-Some.is in
     simp length-take (omega (
       arith,
       h.few,
@@ -30,7 +30,7 @@ slice_bounds-carry_out-end c = let h = items_held c.read_list.ensures c.in-Are.i
 
 pub returns : goal.returns
 returns c = let h = items_held c.read_list.ensures
-    c.in-Are.is in keeps-call (sym (h.is
+    c.in-Some.is in keeps-call (sym (h.is
     (missing_ask (values_of c.args.v))))
     (missing_unplanned (values_of c.args.v) _)
     c.carry_out.ensures

@@ -16,16 +16,16 @@ returns-in_default c = keeps_unread (no-offers c.read_list.ensures c.in_default.
     c.unreadable.ensures
 
 pub overflow_mul-k : goal.overflow_mul-k
-overflow_mul-k c = let h = offers_held c.read_list.ensures c.in-Are.is in omega (arith, h.few)
+overflow_mul-k c = let h = offers_held c.read_list.ensures c.in-Some.is in omega (arith, h.few)
 
 pub overflow_mul-m : goal.overflow_mul-m
-overflow_mul-m c = let h = offers_held c.read_list.ensures c.in-Are.is in omega (arith, h.few)
+overflow_mul-m c = let h = offers_held c.read_list.ensures c.in-Some.is in omega (arith, h.few)
 
 pub slice_bounds-items-end : goal.slice_bounds-items-end
-slice_bounds-items-end c = let h = offers_held c.read_list.ensures c.in-Are.is in omega (arith, h.few)
+slice_bounds-items-end c = let h = offers_held c.read_list.ensures c.in-Some.is in omega (arith, h.few)
 
 pub slice_bounds-announce_transactions-end : goal.slice_bounds-announce_transactions-end
-slice_bounds-announce_transactions-end c = let h = offers_held c.read_list.ensures c.in-Are.is in
+slice_bounds-announce_transactions-end c = let h = offers_held c.read_list.ensures c.in-Some.is in
     simp length-take (omega (
       arith,
       h.few,
@@ -34,11 +34,11 @@ slice_bounds-announce_transactions-end c = let h = offers_held c.read_list.ensur
     ))
 
 pub slice_bounds-priorities-end : goal.slice_bounds-priorities-end
-slice_bounds-priorities-end c = let h = offers_held c.read_list.ensures c.in-Are.is in omega (arith, h.few)
+slice_bounds-priorities-end c = let h = offers_held c.read_list.ensures c.in-Some.is in omega (arith, h.few)
 
 pub slice_bounds-announce_transactions-end-2 : goal.slice_bounds-announce_transactions-end-2
 slice_bounds-announce_transactions-end-2 c = let h =
-    offers_held c.read_list.ensures c.in-Are.is in
+    offers_held c.read_list.ensures c.in-Some.is in
     simp length-take (omega (
       arith,
       h.few,
@@ -49,6 +49,6 @@ slice_bounds-announce_transactions-end-2 c = let h =
 pub returns : goal.returns
 returns c =
     let h = offers_held c.read_list.ensures
-    c.in-Are.is in
+    c.in-Some.is in
     keeps-call (sym (h.is (inventory_ask (values_of c.args.v)))) (offers_unplanned (values_of c.args.v) _)
     (carried _ c.announce_transactions-a.ensures refl (c.number.ensures.text _))

@@ -17,11 +17,8 @@ loop-i-init c = (
       (none_stored item_bytes item_in c.args.items.now),
 )
 
-pub shape_of-items-in_default : goal.shape_of-items-in_default
-shape_of-items-in_default c = c.loop-i.invariant.1
-
-pub returns-in_default : goal.returns-in_default
-returns-in_default c = record { is = no-element c.loop-i.invariant.2 (omega arith) c.item_at.ensures (ap item_at c.in_default.is) }
+pub returns-in_err-item : goal.returns-in_err-item
+returns-in_err-item c = rw c.from_residual.ensures (record { is = no-element c.loop-i.invariant.2 (omega arith) c.item_at.ensures (ap item_at c.in_err-item.was) })
 
 pub put_item-requires : goal.put_item-requires
 put_item-requires c =
@@ -38,8 +35,8 @@ loop-i-preserved c = (
   c.put_item.auto.items ∙ c.loop-i.invariant.1,
   one_more_lem
       c.loop-i.invariant.2 (omega arith) c.item_at.ensures
-      (ap item_at c.in-Is.is) (c.put_item.ensures.is
-      (plain-item c.item_at.ensures (ap item_at c.in-Is.is))).is,
+      (ap item_at c.in_ok-item.was) (c.put_item.ensures.is
+      (plain-item c.item_at.ensures (ap item_at c.in_ok-item.was))).is,
 )
 
 pub shape_of-items : goal.shape_of-items

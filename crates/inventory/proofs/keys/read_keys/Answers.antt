@@ -18,11 +18,8 @@ loop-i-init c = (
       (none_stored key_bytes key_in c.args.keys.now),
 )
 
-pub shape_of-keys-in_default : goal.shape_of-keys-in_default
-shape_of-keys-in_default c = c.loop-i.invariant.1
-
-pub returns-in_default : goal.returns-in_default
-returns-in_default c = record { is = no-element c.loop-i.invariant.2 (omega arith) c.key_at.ensures (ap key_at c.in_default.is) }
+pub returns-in_err-key : goal.returns-in_err-key
+returns-in_err-key c = rw c.from_residual.ensures (record { is = no-element c.loop-i.invariant.2 (omega arith) c.key_at.ensures (ap key_at c.in_err-key.was) })
 
 pub put_key-requires : goal.put_key-requires
 put_key-requires c =
@@ -40,7 +37,7 @@ loop-i-preserved c = (
   c.put_key.auto.keys ∙ c.loop-i.invariant.1,
   one_more_lem
       c.loop-i.invariant.2 (omega arith) c.key_at.ensures
-      (ap key_at c.in-Is.is) c.put_key.ensures.is,
+      (ap key_at c.in_ok-key.was) c.put_key.ensures.is,
 )
 
 pub shape_of-keys : goal.shape_of-keys

@@ -8,24 +8,24 @@ use Rattle.inventory.proofs.Sizes.{key-takes}
 use Rattle.inventory.proofs.Listing.{no_keys, keys-are}
 use Rattle.inventory.proofs.keys.read_list.Goals as goal
 
-pub returns-in_default : goal.returns-in_default
-returns-in_default c = no_keys (no-count (taking key_of) c.number_at.ensures (ap number_at c.in_default.is))
+pub returns-in_err-count : goal.returns-in_err-count
+returns-in_err-count c = rw c.from_residual.ensures (no_keys (no-count (taking key_of) c.number_at.ensures (ap number_at c.in_err-count.was)))
 
 pub returns-then-count-gt21845 : goal.returns-then-count-gt21845
 returns-then-count-gt21845 c =
-    no_keys (too_long (taking key_of) c.number_at.ensures (ap number_at c.in-Is.is) key-takes
+    no_keys (too_long (taking key_of) c.number_at.ensures (ap number_at c.in_ok-count.was) key-takes
     (omega (arith, c.requires.0, c.if-count-gt21845.true)))
 
-pub returns-in_default-read_keys : goal.returns-in_default-read_keys
-returns-in_default-read_keys c =
-    no_keys (no-list (taking key_of) c.number_at.ensures
-    (ap number_at c.in-Is.is) refl c.read_keys.ensures c.in_default-read_keys.is)
+pub returns-in_err-end : goal.returns-in_err-end
+returns-in_err-end c =
+    rw c.from_residual-in_err-end.ensures (no_keys (no-list (taking key_of) c.number_at.ensures
+    (ap number_at c.in_ok-count.was) refl c.read_keys.ensures c.in_err-end.was))
 
 pub returns-then-end-line : goal.returns-then-end-line
 returns-then-end-line c =
     no_keys (more_fields (taking key_of) c.number_at.ensures
-    (ap number_at c.in-Is.is) refl c.read_keys.ensures
-    c.in-Is-read_keys.is c.if-end-line.true)
+    (ap number_at c.in_ok-count.was) refl c.read_keys.ensures
+    c.in_ok-end.was c.if-end-line.true)
 
 pub returns : goal.returns
 returns c =
@@ -36,5 +36,5 @@ returns c =
       c.requires.1,
     ))
     (list_is (taking key_of) c.number_at.ensures
-    (ap number_at c.in-Is.is) refl c.read_keys.ensures
-    c.in-Is-read_keys.is c.if-end-line.false)
+    (ap number_at c.in_ok-count.was) refl c.read_keys.ensures
+    c.in_ok-end.was c.if-end-line.false)

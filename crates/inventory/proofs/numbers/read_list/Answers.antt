@@ -8,24 +8,24 @@ use Rattle.inventory.proofs.Sizes.{number-takes}
 use Rattle.inventory.proofs.Listing.{no-numbers, numbers-are}
 use Rattle.inventory.proofs.numbers.read_list.Goals as goal
 
-pub returns-in_default : goal.returns-in_default
-returns-in_default c = no-numbers (no-count (taking number_of) c.number_at.ensures (ap number_at c.in_default.is))
+pub returns-in_err-count : goal.returns-in_err-count
+returns-in_err-count c = rw c.from_residual.ensures (no-numbers (no-count (taking number_of) c.number_at.ensures (ap number_at c.in_err-count.was)))
 
 pub returns-then-count-gt32768 : goal.returns-then-count-gt32768
 returns-then-count-gt32768 c =
-    no-numbers (too_long (taking number_of) c.number_at.ensures (ap number_at c.in-Is.is) number-takes
+    no-numbers (too_long (taking number_of) c.number_at.ensures (ap number_at c.in_ok-count.was) number-takes
     (omega (arith, c.requires.0, c.if-count-gt32768.true)))
 
-pub returns-in_default-read_numbers : goal.returns-in_default-read_numbers
-returns-in_default-read_numbers c =
-    no-numbers (no-list (taking number_of) c.number_at.ensures
-    (ap number_at c.in-Is.is) refl c.read_numbers.ensures c.in_default-read_numbers.is)
+pub returns-in_err-end : goal.returns-in_err-end
+returns-in_err-end c =
+    rw c.from_residual-in_err-end.ensures (no-numbers (no-list (taking number_of) c.number_at.ensures
+    (ap number_at c.in_ok-count.was) refl c.read_numbers.ensures c.in_err-end.was))
 
 pub returns-then-end-line : goal.returns-then-end-line
 returns-then-end-line c =
     no-numbers (more_fields (taking number_of) c.number_at.ensures
-    (ap number_at c.in-Is.is) refl
-    c.read_numbers.ensures c.in-Is-read_numbers.is c.if-end-line.true)
+    (ap number_at c.in_ok-count.was) refl
+    c.read_numbers.ensures c.in_ok-end.was c.if-end-line.true)
 
 pub returns : goal.returns
 returns c =
@@ -36,5 +36,5 @@ returns c =
       c.requires.1,
     ))
     (list_is (taking number_of) c.number_at.ensures
-    (ap number_at c.in-Is.is) refl
-    c.read_numbers.ensures c.in-Is-read_numbers.is c.if-end-line.false)
+    (ap number_at c.in_ok-count.was) refl
+    c.read_numbers.ensures c.in_ok-end.was c.if-end-line.false)

@@ -18,11 +18,8 @@ loop-i-init c = (
       (none_stored number_bytes (number 256) c.args.numbers.now),
 )
 
-pub shape_of-numbers-in_default : goal.shape_of-numbers-in_default
-shape_of-numbers-in_default c = c.loop-i.invariant.1
-
-pub returns-in_default : goal.returns-in_default
-returns-in_default c = record { is = no-element c.loop-i.invariant.2 (omega arith) c.number_at.ensures (ap number_at c.in_default.is) }
+pub returns-in_err-number : goal.returns-in_err-number
+returns-in_err-number c = rw c.from_residual.ensures (record { is = no-element c.loop-i.invariant.2 (omega arith) c.number_at.ensures (ap number_at c.in_err-number.was) })
 
 pub put-requires : goal.put-requires
 put-requires c =
@@ -39,7 +36,7 @@ loop-i-preserved c = (
   c.put.auto.s ∙ c.loop-i.invariant.1,
   one_more_lem
       c.loop-i.invariant.2 (omega arith) c.number_at.ensures
-      (ap number_at c.in-Is.is) (number_put c.loop-i.numbers
+      (ap number_at c.in_ok-number.was) (number_put c.loop-i.numbers
       c.loop-i.i _
       (omega (
         arith,

@@ -8,6 +8,6 @@ returns c =
     record {
       item = c.put_item.ensures;
       priority = number_put c.args.priorities.now
-          c.args.i c.args.p
+          c.args.i c.args.priority
           (omega arith) (omega arith) c.put.ensures.bytes;
     }

@@ -8,25 +8,25 @@ use Rattle.inventory.proofs.Sizes.{offer-takes}
 use Rattle.inventory.proofs.Offering.{no-offers, offers-are}
 use Rattle.inventory.proofs.offers.read_list.Goals as goal
 
-pub returns-in_default : goal.returns-in_default
-returns-in_default c = no-offers (no-count offer_then c.number_at.ensures (ap number_at c.in_default.is))
+pub returns-in_err-count : goal.returns-in_err-count
+returns-in_err-count c = rw c.from_residual.ensures (no-offers (no-count offer_then c.number_at.ensures (ap number_at c.in_err-count.was)))
 
 pub returns-then-count-gt13107 : goal.returns-then-count-gt13107
 returns-then-count-gt13107 c =
-    no-offers (too_long offer_then c.number_at.ensures (ap number_at c.in-Is.is) offer-takes
+    no-offers (too_long offer_then c.number_at.ensures (ap number_at c.in_ok-count.was) offer-takes
     (omega (arith, c.requires.0, c.if-count-gt13107.true)))
 
-pub returns-in_default-read_offers : goal.returns-in_default-read_offers
-returns-in_default-read_offers c =
-    no-offers (no-list offer_then c.number_at.ensures
-    (ap number_at c.in-Is.is) refl
-    c.read_offers.ensures c.in_default-read_offers.is)
+pub returns-in_err-end : goal.returns-in_err-end
+returns-in_err-end c =
+    rw c.from_residual-in_err-end.ensures (no-offers (no-list offer_then c.number_at.ensures
+    (ap number_at c.in_ok-count.was) refl
+    c.read_offers.ensures c.in_err-end.was))
 
 pub returns-then-end-line : goal.returns-then-end-line
 returns-then-end-line c =
     no-offers (more_fields offer_then c.number_at.ensures
-    (ap number_at c.in-Is.is) refl
-    c.read_offers.ensures c.in-Is-read_offers.is c.if-end-line.true)
+    (ap number_at c.in_ok-count.was) refl
+    c.read_offers.ensures c.in_ok-end.was c.if-end-line.true)
 
 pub returns : goal.returns
 returns c =
@@ -42,5 +42,5 @@ returns c =
       c.requires.2,
     ))
     (list_is offer_then c.number_at.ensures
-    (ap number_at c.in-Is.is) refl
-    c.read_offers.ensures c.in-Is-read_offers.is c.if-end-line.false)
+    (ap number_at c.in_ok-count.was) refl
+    c.read_offers.ensures c.in_ok-end.was c.if-end-line.false)

@@ -16,28 +16,16 @@ loop-i-init c = (
       (none_yet c.args.items.now c.args.priorities.now),
 )
 
-pub shape_of-items-in_default : goal.shape_of-items-in_default
-shape_of-items-in_default c = c.loop-i.invariant.1
+pub returns-in_err-item : goal.returns-in_err-item
+returns-in_err-item c = rw c.from_residual.ensures (record { is = no-element c.loop-i.invariant.3 (omega arith) (no_item c.item_at.ensures (ap item_at c.in_err-item.was)) refl })
 
-pub shape_of-priorities-in_default : goal.shape_of-priorities-in_default
-shape_of-priorities-in_default c = c.loop-i.invariant.2
-
-pub returns-in_default : goal.returns-in_default
-returns-in_default c = record { is = no-element c.loop-i.invariant.3 (omega arith) (no_item c.item_at.ensures (ap item_at c.in_default.is)) refl }
-
-pub shape_of-items-in_default-number_at : goal.shape_of-items-in_default-number_at
-shape_of-items-in_default-number_at c = c.loop-i.invariant.1
-
-pub shape_of-priorities-in_default-number_at : goal.shape_of-priorities-in_default-number_at
-shape_of-priorities-in_default-number_at c = c.loop-i.invariant.2
-
-pub returns-in_default-number_at : goal.returns-in_default-number_at
-returns-in_default-number_at c =
-    record {
+pub returns-in_err-priority : goal.returns-in_err-priority
+returns-in_err-priority c =
+    rw c.from_residual-in_err-priority.ensures (record {
       is = no-element c.loop-i.invariant.3 (omega arith)
-          (no-priority c.item_at.ensures (ap item_at c.in-Is.is) c.number_at.ensures
-          (ap number_at c.in_default-number_at.is)) refl;
-    }
+          (no-priority c.item_at.ensures (ap item_at c.in_ok-item.was) c.number_at.ensures
+          (ap number_at c.in_err-priority.was)) refl;
+    })
 
 pub put_offer-requires : goal.put_offer-requires
 put_offer-requires c = (
@@ -57,9 +45,9 @@ put_offer-requires c = (
 pub loop-i-preserved : goal.loop-i-preserved
 loop-i-preserved c =
     let p = c.item_at.ensures in
-    let z = ap item_at c.in-Is.is in
+    let z = ap item_at c.in_ok-item.was in
     let o = offer_is p z c.number_at.ensures
-    (ap number_at c.in-Is-number_at.is) in (
+    (ap number_at c.in_ok-priority.was) in (
       omega arith,
       c.put_offer.auto.items
           ∙ c.loop-i.invariant.1,

@@ -14,13 +14,13 @@ returns-in_default c = step_unread c.requires.0 (no-numbers
     c.read_list.ensures c.in_default.is) refl c.unreadable.ensures
 
 pub overflow_mul-m : goal.overflow_mul-m
-overflow_mul-m c = let h = numbers_held c.read_list.ensures c.in-Are.is in omega (arith, h.few)
+overflow_mul-m c = let h = numbers_held c.read_list.ensures c.in-Some.is in omega (arith, h.few)
 
 pub slice_bounds-witnesses-end : goal.slice_bounds-witnesses-end
-slice_bounds-witnesses-end c = let h = numbers_held c.read_list.ensures c.in-Are.is in omega (arith, h.few)
+slice_bounds-witnesses-end c = let h = numbers_held c.read_list.ensures c.in-Some.is in omega (arith, h.few)
 
 pub slice_bounds-arrange_taken-end : goal.slice_bounds-arrange_taken-end
-slice_bounds-arrange_taken-end c = let h = numbers_held c.read_list.ensures c.in-Are.is in
+slice_bounds-arrange_taken-end c = let h = numbers_held c.read_list.ensures c.in-Some.is in
     simp length-take (omega (
       arith,
       h.few,
@@ -30,4 +30,4 @@ slice_bounds-arrange_taken-end c = let h = numbers_held c.read_list.ensures c.in
 
 pub returns : goal.returns
 returns c = let h = numbers_held c.read_list.ensures
-    c.in-Are.is in step_is (sym h.is) c.arrange_taken.ensures
+    c.in-Some.is in step_is (sym h.is) c.arrange_taken.ensures

@@ -17,13 +17,13 @@ returns-in_default c = step_unread c.requires.0
     (want_ask (values_of c.args.v))) refl c.unreadable.ensures
 
 pub overflow_mul-m : goal.overflow_mul-m
-overflow_mul-m c = let h = keys_held c.read_list.ensures c.in-Are.is in omega (arith, h.few)
+overflow_mul-m c = let h = keys_held c.read_list.ensures c.in-Some.is in omega (arith, h.few)
 
 pub slice_bounds-keys-end : goal.slice_bounds-keys-end
-slice_bounds-keys-end c = let h = keys_held c.read_list.ensures c.in-Are.is in omega (arith, h.few)
+slice_bounds-keys-end c = let h = keys_held c.read_list.ensures c.in-Some.is in omega (arith, h.few)
 
 pub slice_bounds-plan_given-end : goal.slice_bounds-plan_given-end
-slice_bounds-plan_given-end c = let h = keys_held c.read_list.ensures c.in-Are.is in
+slice_bounds-plan_given-end c = let h = keys_held c.read_list.ensures c.in-Some.is in
     simp length-take (omega (
       arith,
       h.few,
@@ -33,6 +33,6 @@ slice_bounds-plan_given-end c = let h = keys_held c.read_list.ensures c.in-Are.i
 
 pub returns : goal.returns
 returns c = let h = keys_held c.read_list.ensures
-    c.in-Are.is in step_is (sym (h.is (want_ask (values_of
+    c.in-Some.is in step_is (sym (h.is (want_ask (values_of
     c.args.v))))
     c.plan_given.ensures

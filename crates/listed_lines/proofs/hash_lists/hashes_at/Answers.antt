@@ -38,7 +38,7 @@ loop-i-preserved c = (
   omega arith,
   c.put_hash.auto.hashes ∙ c.loop-i.invariant.1,
   one_more_lem c.loop-i.invariant.2 (omega arith)
-      (number_took hash_of c.hash_at.ensures) (ap hash_at c.in-Is.is)
+      (number_took hash_of c.hash_at.ensures) (ap hash_at c.in-Some.is)
       c.put_hash.ensures.is,
 )
 

@@ -11,20 +11,20 @@ pub returns-in_default : goal.returns-in_default
 returns-in_default c = no_length _ (number_took number_of c.number_at.ensures) (ap number_at c.in_default.is)
 
 pub returns-then-count-least : goal.returns-then-count-least
-returns-then-count-least c = too_short _ (number_took number_of c.number_at.ensures) (ap number_at c.in-Is.is) c.if-count-least.true
+returns-then-count-least c = too_short _ (number_took number_of c.number_at.ensures) (ap number_at c.in-Some.is) c.if-count-least.true
 
 pub returns-then-count-gt100 : goal.returns-then-count-gt100
-returns-then-count-gt100 c = too_long _ (number_took number_of c.number_at.ensures) (ap number_at c.in-Is.is) c.if-count-gt100.true
+returns-then-count-gt100 c = too_long _ (number_took number_of c.number_at.ensures) (ap number_at c.in-Some.is) c.if-count-gt100.true
 
 pub returns-in_default-hashes_at : goal.returns-in_default-hashes_at
 returns-in_default-hashes_at c =
     no-hashes _ (number_took number_of c.number_at.ensures)
-    (ap number_at c.in-Is.is) c.if-count-least.false
+    (ap number_at c.in-Some.is) c.if-count-least.false
     c.if-count-gt100.false refl c.hashes_at.ensures (ap (hashes_at _ _) c.in_default-hashes_at.is)
 
 pub returns : goal.returns
 returns c =
     hashes-are _ (number_took number_of c.number_at.ensures)
-    (ap number_at c.in-Is.is)
+    (ap number_at c.in-Some.is)
     c.if-count-least.false c.if-count-gt100.false refl
-    c.hashes_at.ensures (ap (hashes_at _ _) c.in-Is-hashes_at.is)
+    c.hashes_at.ensures (ap (hashes_at _ _) c.in-Is.is)

@@ -11,43 +11,43 @@ returns-in_default c = candidate_1 c.first_number.ensures (ap number_at c.in_def
 
 pub returns-in_default-item_at : goal.returns-in_default-item_at
 returns-in_default-item_at c =
-    candidate_2 c.first_number.ensures (ap number_at c.in-Is.is)
+    candidate_2 c.first_number.ensures (ap number_at c.in-Some.is)
     (item_took c.item_at.ensures) (ap item_at c.in_default-item_at.is)
 
 pub returns-in_default-number_at : goal.returns-in_default-number_at
 returns-in_default-number_at c =
     candidate_3 c.first_number.ensures
-    (ap number_at c.in-Is.is) (item_took c.item_at.ensures)
-    (ap item_at c.in-Is-item_at.is)
+    (ap number_at c.in-Some.is) (item_took c.item_at.ensures)
+    (ap item_at c.in-Some-item_at.is)
     (number_took number_of c.number_at.ensures) (ap number_at c.in_default-number_at.is)
 
 pub returns-in_default-bool_at : goal.returns-in_default-bool_at
 returns-in_default-bool_at c =
-    candidate_4 c.first_number.ensures (ap number_at c.in-Is.is) (item_took c.item_at.ensures)
-    (ap item_at c.in-Is-item_at.is)
-    (number_took number_of c.number_at.ensures) (ap number_at c.in-Is-number_at.is)
+    candidate_4 c.first_number.ensures (ap number_at c.in-Some.is) (item_took c.item_at.ensures)
+    (ap item_at c.in-Some-item_at.is)
+    (number_took number_of c.number_at.ensures) (ap number_at c.in-Some-number_at.is)
     (bool_took c.bool_at.ensures) (ap bool_at c.in_default-bool_at.is)
 
 pub returns-in_default-number_at-2 : goal.returns-in_default-number_at-2
 returns-in_default-number_at-2 c =
-    candidate_5 c.first_number.ensures (ap number_at c.in-Is.is)
-    (item_took c.item_at.ensures) (ap item_at c.in-Is-item_at.is)
-    (number_took number_of c.number_at.ensures) (ap number_at c.in-Is-number_at.is)
-    (bool_took c.bool_at.ensures) (ap bool_at c.in-Is-bool_at.is)
+    candidate_5 c.first_number.ensures (ap number_at c.in-Some.is)
+    (item_took c.item_at.ensures) (ap item_at c.in-Some-item_at.is)
+    (number_took number_of c.number_at.ensures) (ap number_at c.in-Some-number_at.is)
+    (bool_took c.bool_at.ensures) (ap bool_at c.in-Some-bool_at.is)
     (number_took number_of c.number_at-2.ensures) (ap number_at c.in_default-number_at-2.is)
 
 pub returns-then-e-line : goal.returns-then-e-line
 returns-then-e-line c =
-    candidate_more c.first_number.ensures (ap number_at c.in-Is.is)
-    (item_took c.item_at.ensures) (ap item_at c.in-Is-item_at.is)
-    (number_took number_of c.number_at.ensures) (ap number_at c.in-Is-number_at.is)
-    (bool_took c.bool_at.ensures) (ap bool_at c.in-Is-bool_at.is)
-    (number_took number_of c.number_at-2.ensures) (ap number_at c.in-Is-number_at-2.is) c.if-e-line.true
+    candidate_more c.first_number.ensures (ap number_at c.in-Some.is)
+    (item_took c.item_at.ensures) (ap item_at c.in-Some-item_at.is)
+    (number_took number_of c.number_at.ensures) (ap number_at c.in-Some-number_at.is)
+    (bool_took c.bool_at.ensures) (ap bool_at c.in-Some-bool_at.is)
+    (number_took number_of c.number_at-2.ensures) (ap number_at c.in-Some-number_at-2.is) c.if-e-line.true
 
 pub returns : goal.returns
 returns c =
-    candidate_is c.first_number.ensures (ap number_at c.in-Is.is)
-    (item_took c.item_at.ensures) (ap item_at c.in-Is-item_at.is)
-    (number_took number_of c.number_at.ensures) (ap number_at c.in-Is-number_at.is)
-    (bool_took c.bool_at.ensures) (ap bool_at c.in-Is-bool_at.is)
-    (number_took number_of c.number_at-2.ensures) (ap number_at c.in-Is-number_at-2.is) c.if-e-line.false
+    candidate_is c.first_number.ensures (ap number_at c.in-Some.is)
+    (item_took c.item_at.ensures) (ap item_at c.in-Some-item_at.is)
+    (number_took number_of c.number_at.ensures) (ap number_at c.in-Some-number_at.is)
+    (bool_took c.bool_at.ensures) (ap bool_at c.in-Some-bool_at.is)
+    (number_took number_of c.number_at-2.ensures) (ap number_at c.in-Some-number_at-2.is) c.if-e-line.false

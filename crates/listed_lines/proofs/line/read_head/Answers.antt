@@ -12,43 +12,43 @@ returns-in_default c = head_1 c.first_number.ensures (ap number_at c.in_default.
 
 pub returns-in_default-number_at : goal.returns-in_default-number_at
 returns-in_default-number_at c =
-    head_2 c.first_number.ensures (ap number_at c.in-Is.is)
+    head_2 c.first_number.ensures (ap number_at c.in-Some.is)
     (number_took number_of c.number_at.ensures) (ap number_at c.in_default-number_at.is)
 
 pub returns-in_default-maybe_number_at : goal.returns-in_default-maybe_number_at
 returns-in_default-maybe_number_at c =
     head_3 c.first_number.ensures
-    (ap number_at c.in-Is.is)
-    (number_took number_of c.number_at.ensures) (ap number_at c.in-Is-number_at.is)
+    (ap number_at c.in-Some.is)
+    (number_took number_of c.number_at.ensures) (ap number_at c.in-Some-number_at.is)
     c.maybe_number_at.ensures (ap maybe_number_at c.in_default-maybe_number_at.is)
 
 pub returns-in_default-maybe_key_at : goal.returns-in_default-maybe_key_at
 returns-in_default-maybe_key_at c =
-    head_4 c.first_number.ensures (ap number_at c.in-Is.is) (number_took number_of c.number_at.ensures)
-    (ap number_at c.in-Is-number_at.is)
-    c.maybe_number_at.ensures (ap maybe_number_at c.in-Is-maybe_number_at.is) c.maybe_key_at.ensures
+    head_4 c.first_number.ensures (ap number_at c.in-Some.is) (number_took number_of c.number_at.ensures)
+    (ap number_at c.in-Some-number_at.is)
+    c.maybe_number_at.ensures (ap maybe_number_at c.in-Is.is) c.maybe_key_at.ensures
     (ap maybe_key_at c.in_default-maybe_key_at.is)
 
 pub returns-in_default-maybe_key_at-2 : goal.returns-in_default-maybe_key_at-2
 returns-in_default-maybe_key_at-2 c =
-    head_5 c.first_number.ensures (ap number_at c.in-Is.is)
-    (number_took number_of c.number_at.ensures) (ap number_at c.in-Is-number_at.is)
-    c.maybe_number_at.ensures (ap maybe_number_at c.in-Is-maybe_number_at.is)
+    head_5 c.first_number.ensures (ap number_at c.in-Some.is)
+    (number_took number_of c.number_at.ensures) (ap number_at c.in-Some-number_at.is)
+    c.maybe_number_at.ensures (ap maybe_number_at c.in-Is.is)
     c.maybe_key_at.ensures (ap maybe_key_at c.in-Is-maybe_key_at.is)
     c.maybe_key_at-2.ensures (ap maybe_key_at c.in_default-maybe_key_at-2.is)
 
 pub returns-then-e-line : goal.returns-then-e-line
 returns-then-e-line c =
-    head_more c.first_number.ensures (ap number_at c.in-Is.is)
-    (number_took number_of c.number_at.ensures) (ap number_at c.in-Is-number_at.is)
-    c.maybe_number_at.ensures (ap maybe_number_at c.in-Is-maybe_number_at.is) c.maybe_key_at.ensures
+    head_more c.first_number.ensures (ap number_at c.in-Some.is)
+    (number_took number_of c.number_at.ensures) (ap number_at c.in-Some-number_at.is)
+    c.maybe_number_at.ensures (ap maybe_number_at c.in-Is.is) c.maybe_key_at.ensures
     (ap maybe_key_at c.in-Is-maybe_key_at.is)
     c.maybe_key_at-2.ensures (ap maybe_key_at c.in-Is-maybe_key_at-2.is) c.if-e-line.true
 
 pub returns : goal.returns
 returns c =
-    head_is c.first_number.ensures (ap number_at c.in-Is.is)
-    (number_took number_of c.number_at.ensures) (ap number_at c.in-Is-number_at.is)
-    c.maybe_number_at.ensures (ap maybe_number_at c.in-Is-maybe_number_at.is) c.maybe_key_at.ensures
+    head_is c.first_number.ensures (ap number_at c.in-Some.is)
+    (number_took number_of c.number_at.ensures) (ap number_at c.in-Some-number_at.is)
+    c.maybe_number_at.ensures (ap maybe_number_at c.in-Is.is) c.maybe_key_at.ensures
     (ap maybe_key_at c.in-Is-maybe_key_at.is)
     c.maybe_key_at-2.ensures (ap maybe_key_at c.in-Is-maybe_key_at-2.is) c.if-e-line.false

@@ -11,22 +11,22 @@ returns-in_default c = request_1 c.first_key.ensures (ap key_at c.in_default.is)
 
 pub returns-in_default-owner_at : goal.returns-in_default-owner_at
 returns-in_default-owner_at c =
-    request_2 c.first_key.ensures (ap key_at c.in-Is.is) c.owner_at.ensures
+    request_2 c.first_key.ensures (ap key_at c.in-Some.is) c.owner_at.ensures
     (ap owner_at c.in_default-owner_at.is)
 
 pub returns-in_default-bool_at : goal.returns-in_default-bool_at
 returns-in_default-bool_at c =
     request_3 c.first_key.ensures
-    (ap key_at c.in-Is.is) c.owner_at.ensures
-    (ap owner_at c.in-Is-owner_at.is)
+    (ap key_at c.in-Some.is) c.owner_at.ensures
+    (ap owner_at c.in-Is.is)
     (bool_took c.bool_at.ensures) (ap bool_at c.in_default-bool_at.is)
 
 pub returns-in_default-package_at : goal.returns-in_default-package_at
 returns-in_default-package_at c =
-    request_4 c.first_key.ensures (ap key_at c.in-Is.is)
-    c.owner_at.ensures (ap owner_at c.in-Is-owner_at.is)
+    request_4 c.first_key.ensures (ap key_at c.in-Some.is)
+    c.owner_at.ensures (ap owner_at c.in-Is.is)
     (bool_took c.bool_at.ensures)
-    (ap bool_at c.in-Is-bool_at.is) c.package_at.ensures (ap (package_at _) c.in_default-package_at.is)
+    (ap bool_at c.in-Some-bool_at.is) c.package_at.ensures (ap (package_at _) c.in_default-package_at.is)
 
 pub list_at-requires : goal.list_at-requires
 list_at-requires c =
@@ -34,35 +34,35 @@ list_at-requires c =
 
 pub returns-in_default-list_at : goal.returns-in_default-list_at
 returns-in_default-list_at c =
-    request_5 c.first_key.ensures (ap key_at c.in-Is.is) c.owner_at.ensures
-    (ap owner_at c.in-Is-owner_at.is)
-    (bool_took c.bool_at.ensures) (ap bool_at c.in-Is-bool_at.is) c.package_at.ensures
+    request_5 c.first_key.ensures (ap key_at c.in-Some.is) c.owner_at.ensures
+    (ap owner_at c.in-Is.is)
+    (bool_took c.bool_at.ensures) (ap bool_at c.in-Some-bool_at.is) c.package_at.ensures
     (ap (package_at _) c.in-Is-package_at.is)
     c.list_at.ensures (ap (list_at _) c.in_default-list_at.is)
 
 pub returns-in_default-bool_at-2 : goal.returns-in_default-bool_at-2
 returns-in_default-bool_at-2 c =
-    request_6 c.first_key.ensures (ap key_at c.in-Is.is)
-    c.owner_at.ensures (ap owner_at c.in-Is-owner_at.is)
-    (bool_took c.bool_at.ensures) (ap bool_at c.in-Is-bool_at.is)
+    request_6 c.first_key.ensures (ap key_at c.in-Some.is)
+    c.owner_at.ensures (ap owner_at c.in-Is.is)
+    (bool_took c.bool_at.ensures) (ap bool_at c.in-Some-bool_at.is)
     c.package_at.ensures (ap (package_at _) c.in-Is-package_at.is)
     c.list_at.ensures (ap (list_at _) c.in-Is-list_at.is)
     (bool_took c.bool_at-2.ensures) (ap bool_at c.in_default-bool_at-2.is)
 
 pub returns-then-f-line : goal.returns-then-f-line
 returns-then-f-line c =
-    request_more c.first_key.ensures (ap key_at c.in-Is.is)
-    c.owner_at.ensures (ap owner_at c.in-Is-owner_at.is)
-    (bool_took c.bool_at.ensures) (ap bool_at c.in-Is-bool_at.is) c.package_at.ensures
+    request_more c.first_key.ensures (ap key_at c.in-Some.is)
+    c.owner_at.ensures (ap owner_at c.in-Is.is)
+    (bool_took c.bool_at.ensures) (ap bool_at c.in-Some-bool_at.is) c.package_at.ensures
     (ap (package_at _) c.in-Is-package_at.is)
     c.list_at.ensures (ap (list_at _) c.in-Is-list_at.is) (bool_took c.bool_at-2.ensures)
-    (ap bool_at c.in-Is-bool_at-2.is) c.if-f-line.true
+    (ap bool_at c.in-Some-bool_at-2.is) c.if-f-line.true
 
 pub returns : goal.returns
 returns c =
-    request_is c.first_key.ensures (ap key_at c.in-Is.is)
-    c.owner_at.ensures (ap owner_at c.in-Is-owner_at.is)
-    (bool_took c.bool_at.ensures) (ap bool_at c.in-Is-bool_at.is) c.package_at.ensures
+    request_is c.first_key.ensures (ap key_at c.in-Some.is)
+    c.owner_at.ensures (ap owner_at c.in-Is.is)
+    (bool_took c.bool_at.ensures) (ap bool_at c.in-Some-bool_at.is) c.package_at.ensures
     (ap (package_at _) c.in-Is-package_at.is)
     c.list_at.ensures (ap (list_at _) c.in-Is-list_at.is) (bool_took c.bool_at-2.ensures)
-    (ap bool_at c.in-Is-bool_at-2.is) c.if-f-line.false
+    (ap bool_at c.in-Some-bool_at-2.is) c.if-f-line.false

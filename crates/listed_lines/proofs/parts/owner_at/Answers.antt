@@ -21,12 +21,12 @@ pub returns-in_default-number_at : goal.returns-in_default-number_at
 returns-in_default-number_at c =
     something owner_then c.none_at-none.ensures (omega (arith, c.if-none-gt0.false))
     owner-empty
-    (no-deadline (number_took number_of c.number_at.ensures) (ap number_at c.in-Is.is)
+    (no-deadline (number_took number_of c.number_at.ensures) (ap number_at c.in-Some.is)
     (number_took number_of c.number_at-2.ensures) (ap number_at c.in_default-number_at.is))
 
 pub returns : goal.returns
 returns c =
     something owner_then c.none_at-none.ensures
     (omega (arith, c.if-none-gt0.false)) owner-empty
-    (owner-is (number_took number_of c.number_at.ensures) (ap number_at c.in-Is.is)
-    (number_took number_of c.number_at-2.ensures) (ap number_at c.in-Is-number_at.is))
+    (owner-is (number_took number_of c.number_at.ensures) (ap number_at c.in-Some.is)
+    (number_took number_of c.number_at-2.ensures) (ap number_at c.in-Some-number_at.is))

@@ -23,18 +23,18 @@ returns-in_default-list_at c =
     something (package_then short) c.none_at-none.ensures
     (omega (arith, c.if-none-gt0.false)) package-empty
     (no-wtxids (number_took hash_of c.hash_at.ensures)
-    (ap hash_at c.in-Is.is) c.list_at.ensures (ap (list_at _) c.in_default-list_at.is))
+    (ap hash_at c.in-Some.is) c.list_at.ensures (ap (list_at _) c.in_default-list_at.is))
 
 pub returns-in_default-bool_at : goal.returns-in_default-bool_at
 returns-in_default-bool_at c =
     something (package_then short) c.none_at-none.ensures (omega (arith, c.if-none-gt0.false)) package-empty
-    (no-stage (number_took hash_of c.hash_at.ensures) (ap hash_at c.in-Is.is)
-    c.list_at.ensures (ap (list_at _) c.in-Is-list_at.is)
+    (no-stage (number_took hash_of c.hash_at.ensures) (ap hash_at c.in-Some.is)
+    c.list_at.ensures (ap (list_at _) c.in-Is.is)
     (bool_took c.bool_at.ensures) (ap bool_at c.in_default-bool_at.is))
 
 pub returns : goal.returns
 returns c =
     something (package_then short) c.none_at-none.ensures (omega (arith, c.if-none-gt0.false)) package-empty
-    (package_is (number_took hash_of c.hash_at.ensures) (ap hash_at c.in-Is.is)
-    c.list_at.ensures (ap (list_at _) c.in-Is-list_at.is)
-    (bool_took c.bool_at.ensures) (ap bool_at c.in-Is-bool_at.is))
+    (package_is (number_took hash_of c.hash_at.ensures) (ap hash_at c.in-Some.is)
+    c.list_at.ensures (ap (list_at _) c.in-Is.is)
+    (bool_took c.bool_at.ensures) (ap bool_at c.in-Some-bool_at.is))

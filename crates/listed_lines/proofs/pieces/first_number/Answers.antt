@@ -11,12 +11,12 @@ use Rattle.listed_lines.proofs.pieces.first_number.Goals as goal
 pub slice_bounds-number-end : goal.slice_bounds-number-end
 slice_bounds-number-end c = simp length-take (omega (arith, end_most 44 c.args.line.now 0 (omega arith) c.field_end-to.ensures))
 
-pub returns-in_default : goal.returns-in_default
-returns-in_default c =
+pub returns-in_err-value : goal.returns-in_err-value
+returns-in_err-value c = rw c.from_residual.ensures (
     first_not number_of c.args.line.now c.field_end-to.ensures
-    (sym c.number.ensures ∙ ap number_in c.in_default.is)
+    (sym c.number.ensures ∙ ap number_in c.in_err-value.was))
 
 pub returns : goal.returns
 returns c =
     first_is number_of c.args.line.now c.field_end-to.ensures
-    (sym c.number.ensures ∙ ap number_in c.in-Is.is)
+    (sym c.number.ensures ∙ ap number_in c.in_ok-value.was)

@@ -18,4 +18,4 @@ returns-in_default c =
 pub returns : goal.returns
 returns c =
     maybe_is (key_in short) c.none_at-none.ensures (omega (arith, c.if-none-gt0.false))
-    (key_took c.key_at.ensures) (ap key_at c.in-Is.is)
+    (key_took c.key_at.ensures) (ap key_at c.in-Some.is)

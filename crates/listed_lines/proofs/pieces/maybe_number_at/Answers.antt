@@ -18,4 +18,4 @@ returns-in_default c =
 pub returns : goal.returns
 returns c =
     maybe_is number_of c.none_at-none.ensures (omega (arith, c.if-none-gt0.false))
-    (number_took number_of c.number_at.ensures) (ap number_at c.in-Is.is)
+    (number_took number_of c.number_at.ensures) (ap number_at c.in-Some.is)

@@ -1,25 +1,8 @@
 -- `reading::fields::bool_at` meets its contract.
-use mathlib.Core.Path.{sym, ap, ◌∙◌}
-use native.Mathlib.Omega.{arith}
+use borrow.Author.Rules.{rules}
 use Rattle.machine.specs.Fields.{bool_of}
-use Rattle.lines.specs.Values.{bool_in}
-use Rattle.machine.proofs.Parting.{end_most}
-use Rattle.reading.proofs.Taking.{taking_past, taking_not, taking_is}
+use Rattle.reading.proofs.Taking.{field_parsed}
 use Rattle.reading.proofs.fields.bool_at.Goals as goal
 
-pub returns-then-line-e : goal.returns-then-line-e
-returns-then-line-e c = taking_past bool_of c.args.line.now c.args.e c.if-line-e.true
-
-pub slice_bounds-boolean-end : goal.slice_bounds-boolean-end
-slice_bounds-boolean-end c = omega (arith, end_most 44 c.args.line.now _ (omega arith) c.field_end-to.ensures)
-
-pub returns-in_default : goal.returns-in_default
-returns-in_default c =
-    taking_not bool_of c.args.line.now c.args.e
-    c.if-line-e.false c.field_end-to.ensures (sym c.boolean.ensures ∙ ap bool_in c.in_default.is)
-
 pub returns : goal.returns
-returns c =
-    taking_is bool_of c.args.line.now c.args.e
-    c.if-line-e.false c.field_end-to.ensures
-    (sym c.boolean.ensures ∙ ap bool_in c.in-Is.is)
+returns c = field_parsed _ bool_of (λ s r p. search rules) c.field_at.result c.field_at.ensures

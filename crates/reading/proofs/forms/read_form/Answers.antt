@@ -1,24 +1,16 @@
--- `reading::forms::read_form` meets its contract.
+-- `reading::forms::read_form` meets its contract. The loop's invariant: the fields of the letters so far are read, and come to what was taken.
 use native.Mathlib.Omega.{arith}
 use Rattle.reading.proofs.Filling.{begun, stopped, further, whole}
 use Rattle.reading.proofs.forms.read_form.Goals as goal
 
-pub loop-i-init : goal.loop-i-init
-loop-i-init c = (omega arith, omega arith, begun _ _ _ c.no_values-v.ensures)
+pub loop-f-init : goal.loop-f-init
+loop-f-init c = begun _ _ _ c.no_values.ensures
 
-pub returns-in_default : goal.returns-in_default
-returns-in_default c = stopped c.loop-i.invariant.2 (omega arith) c.take_field.ensures c.in_default.is
+pub returns-in_err-taken : goal.returns-in_err-taken
+returns-in_err-taken c = rw c.from_residual.ensures (stopped c.loop-f.invariant (omega arith) c.take_field.ensures c.in_err-taken.was)
 
-pub overflow_add-i : goal.overflow_add-i
-overflow_add-i c = omega (arith, c.loop-i-test.true, c.loop-i.invariant.1)
-
-pub loop-i-preserved : goal.loop-i-preserved
-loop-i-preserved c = (
-  omega arith,
-  c.loop-i.invariant.1,
-  further c.loop-i.invariant.2 (omega arith)
-      c.take_field.ensures c.in-Is.is,
-)
+pub loop-f-preserved : goal.loop-f-preserved
+loop-f-preserved c = further c.loop-f.invariant (omega arith) c.take_field.ensures c.in_ok-taken.was
 
 pub returns : goal.returns
-returns c = whole c.loop-i.invariant.2 (omega arith) c.loop-i.invariant.0
+returns c = whole c.loop-f.invariant (omega arith) (omega arith)

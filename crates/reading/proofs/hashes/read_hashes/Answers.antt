@@ -17,11 +17,8 @@ loop-i-init c = (
       (none_stored hash_bytes (number 256) c.args.hashes.now),
 )
 
-pub shape_of-hashes-in_default : goal.shape_of-hashes-in_default
-shape_of-hashes-in_default c = c.loop-i.invariant.1
-
-pub returns-in_default : goal.returns-in_default
-returns-in_default c = record { is = no-element c.loop-i.invariant.2 (omega arith) c.hash_at.ensures (ap hash_at c.in_default.is) }
+pub returns-in_err-hash : goal.returns-in_err-hash
+returns-in_err-hash c = rw c.from_residual.ensures (record { is = no-element c.loop-i.invariant.2 (omega arith) c.hash_at.ensures (ap hash_at c.in_err-hash.was) })
 
 pub put_hash-requires : goal.put_hash-requires
 put_hash-requires c =
@@ -33,7 +30,7 @@ loop-i-preserved c = (
   c.put_hash.auto.hashes ∙ c.loop-i.invariant.1,
   one_more_lem
       c.loop-i.invariant.2 (omega arith) c.hash_at.ensures
-      (ap hash_at c.in-Is.is) c.put_hash.ensures.is,
+      (ap hash_at c.in_ok-hash.was) c.put_hash.ensures.is,
 )
 
 pub shape_of-hashes : goal.shape_of-hashes

@@ -2,8 +2,8 @@
 use Rattle.restoring.proofs.Headers.{stands_none, stands-key}
 use Rattle.restoring.proofs.head_fields.stored_of.Goals as goal
 
-pub returns-in-Not : goal.returns-in-Not
-returns-in-Not c = stands_none c.in-Not.is c.no_cursor.ensures
+pub returns-in-None : goal.returns-in-None
+returns-in-None c = stands_none c.in-None.is c.no_cursor.ensures
 
-pub returns-in-Is : goal.returns-in-Is
-returns-in-Is c = stands-key c.in-Is.is c.quad_hash-hash.ensures c.key_stored.ensures
+pub returns-in-Some : goal.returns-in-Some
+returns-in-Some c = stands-key c.in-Some.is c.quad_hash-hash.ensures c.key_stored.ensures

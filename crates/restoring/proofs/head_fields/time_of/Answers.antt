@@ -3,8 +3,8 @@ use mathlib.Core.Path.{sym, ap}
 use Rattle.lines.specs.Values.{number_in}
 use Rattle.restoring.proofs.head_fields.time_of.Goals as goal
 
-pub returns-in-Not : goal.returns-in-Not
-returns-in-Not c = sym (ap number_in c.in-Not.is)
+pub returns-in-None : goal.returns-in-None
+returns-in-None c = sym (ap number_in c.in-None.is)
 
-pub returns-in-Is : goal.returns-in-Is
-returns-in-Is c = sym (ap number_in c.in-Is.is)
+pub returns-in-Some : goal.returns-in-Some
+returns-in-Some c = sym (ap number_in c.in-Some.is)

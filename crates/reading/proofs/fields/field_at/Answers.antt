@@ -1,0 +1,18 @@
+-- `reading::fields::field_at` meets its contract.
+use borrow.Author.Rules.{rules}
+use native.Mathlib.Omega.{arith}
+use Rattle.machine.proofs.Parting.{end_most}
+use Rattle.reading.proofs.Taking.{text_lent}
+use Rattle.reading.proofs.fields.field_at.Goals as goal
+
+pub returns-then-line-e : goal.returns-then-line-e
+returns-then-line-e g c = record { is = λ h. absurd (omega (arith, h, c.if-line-e.true)) }
+
+pub slice_bounds-parse-end : goal.slice_bounds-parse-end
+slice_bounds-parse-end g c = search (rules, end_most 44 c.args.line.now _ (omega arith) c.field_end-end.ensures)
+
+pub returns-in_err-value : goal.returns-in_err-value
+returns-in_err-value g c = rw c.from_residual.ensures (record { is = λ h. (_, c.in_err-value.ensures, text_lent _ _ _ c.field_end-end.ensures) })
+
+pub returns : goal.returns
+returns g c = record { is = (c.if-line-e.false, c.field_end-end.ensures, (_, c.in_ok-value.ensures, text_lent _ _ _ c.field_end-end.ensures)) }
