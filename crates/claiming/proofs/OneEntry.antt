@@ -8,7 +8,6 @@ use mathlib.Core.Option.{Option, none, some}
 use native.Mathlib.Omega.{arith}
 use lib.Dec.{eqb}
 use Rattle.ident.specs.Number.{top, txid}
-use Rattle.regions.specs.declared.Row.{Row}
 use Rattle.machine.specs.Limits.{request_lifetime}
 use Rattle.machine.specs.State.{Entry, Table, State, owned_until}
 use Rattle.machine.specs.Table.{at, has, change, owned_at}
@@ -24,7 +23,6 @@ use Rattle.machine.proofs.Tests.{test}
 use Rattle.store.specs.Image.{Writes}
 use Rattle.requests.specs.Changes.{Makes, Tells}
 use Rattle.announcing.specs.Answers.{Answered}
-use Rattle.announcing.specs.Evicts.{entry_at}
 use Rattle.choosing.specs.Choosing.{free_choice}
 use Rattle.claiming.specs.Claiming.{taking, OneMore}
 

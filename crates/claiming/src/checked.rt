@@ -1,19 +1,11 @@
 // The checked list of a claim (document 01, module 5): a lent list of records, each entry handed by value to the claim of one entry.
-ghost use Rattle.std.specs.Prelude.{◌≡◌, map, ◌*◌, ◌<◌, ◌≤◌, length};
+ghost use Rattle.std.specs.Prelude.{map, ◌*◌, ◌≤◌, length};
 ghost use Rattle.machine.specs.Call.{entry_bytes};
 ghost use Rattle.machine.specs.Limits.{latest_clock};
 ghost use Rattle.store.specs.Shown.{Kept};
-ghost use Rattle.claiming.specs.Claiming.{entry_of, nth_entry, Claims};
+ghost use Rattle.claiming.specs.Claiming.{entry_of, Claims};
 
 use crate::entries;
-
-// The i-th entry of the list.
-pub fn entry_at(list: &[crate::Entry], i: usize) -> crate::Entry
-    requires { i < length list.now }
-    ensures { result ≡ nth_entry list.now i }
-{
-    list[i]
-}
 
 // Claims the entries of the list, in order, and writes those that are taken into the answer. Answers how many.
 pub fn claim(s: &mut [u8], clock: u64, checked: &[crate::Entry], out: &mut [u8]) -> usize

@@ -1,20 +1,21 @@
 -- One connection's part of an arranged list, found by two searches.
-use Prim.Native.Nat.{ℕ, zero, suc, ◌+◌, ◌-◌, ◌/◌, ◌<◌, ◌≤◌}
-use mathlib.Core.Path.{◌≡◌, refl, sym, ap}
+use Prim.Native.Nat.{ℕ, zero, suc, max, ◌+◌, ◌-◌, ◌<◌, ◌≤◌}
+use mathlib.Core.Path.{◌≡◌, refl, sym, ap, ◌∙◌}
 use mathlib.Core.Logic.{inl, inr}
-use mathlib.Core.Bool.{true, false}
+use mathlib.Core.Bool.{Bool, true, false}
 use mathlib.Core.List.{List, [], ◌∷◌, map}
 use native.Mathlib.Omega.{arith}
 use borrow.Author.Tests.{ltb-true, ltb-false, leb-true, leb-false, eq-eqb, ne_eqb, lt-ltb, le-ltb}
 use lib.Dec.{ltb, leb}
 use lib.ListN.{length, get_or, take, drop}
-use Rattle.regions.specs.Order.{Bound, Sought, one}
+use Rattle.std.specs.List.Sorted.{IsNonDecreasingBy, IsPartitionPoint}
+use Rattle.regions.specs.Order.{Sorted, Bound, Sought, one}
 use Rattle.machine.specs.State as machine
 use Rattle.machine.specs.Claim.{part_of}
 use Rattle.machine.proofs.Tests.{test}
 use Rattle.claiming.specs.declared.Entry.{Entry}
-use Rattle.claiming.specs.Claiming.{entry_of, nth_entry}
-use Rattle.sending.specs.Parts.{connections_of, greater, Parted}
+use Rattle.claiming.specs.Claiming.{entry_of, no_entry}
+use Rattle.sending.specs.Parts.{connections_of, Parted}
 
 -- ---- the searches
 
@@ -25,34 +26,35 @@ at_most c n = elim (test (leb c n)) [
   | inr t ↦ rw t (sym (le-ltb c (n + 1) (omega (arith, leb-false c n t))))
 ]
 
-pub greater-second : (e a : ℕ) → e < a → a ≡ greater e a
-greater-second e a h = rw (lt-ltb e a h) refl
+connection_at : (l : List Entry) (i : ℕ) (d : Entry) → i < length l → get_or (connections_of l) i 0 ≡ (get_or l i d).connection
+connection_at [] i d h = absurd (omega arith)
+connection_at (e ∷ l) zero d h = refl
+connection_at (e ∷ l) (suc i) d h = connection_at l i d (omega arith)
 
-pub greater_first : (e a : ℕ) → a ≤ e → e ≡ greater e a
-greater_first e a h = rw (le-ltb e a h) refl
-
-pub greater-within : (e a m : ℕ) → e ≤ m → a ≤ m → (a ≤ greater e a) × (greater e a ≤ m)
-greater-within e a m p q = elim (test (ltb e a)) [
-  | inl t ↦ rw t (omega arith, q)
-  | inr t ↦ rw t (omega (arith, ltb-false e a t), p)
-]
-
-pub connection_at : (l : List Entry) (i : ℕ) → i < length l → get_or (connections_of l) i 0 ≡ (nth_entry l i).connection
-connection_at [] i h = absurd (omega arith)
-connection_at (e ∷ l) zero h = refl
-connection_at (e ∷ l) (suc i) h = connection_at l i (omega arith)
-
-pub length-connections : (l : List Entry) → length (connections_of l) ≡ length l
+length-connections : (l : List Entry) → length (connections_of l) ≡ length l
 length-connections [] = refl
 length-connections (e ∷ l) = ap suc (length-connections l)
 
--- the middle of lo .. hi
-module _ (lo hi : ℕ) (h : lo < hi) where
-  pub middle_low : lo ≤ lo + (hi - lo) / 2
-  middle_low = omega arith
+by-connection : (l : List Entry) → Sorted (connections_of l) → IsNonDecreasingBy (λ (e : Entry). e.connection) l
+unfolding Sorted
+by-connection l s i j d h g =
+    let n = length-connections l in
+    omega (arith, s i j h (omega arith), connection_at l i d (omega arith), connection_at l j d g)
 
-  pub middle_high : lo + (hi - lo) / 2 < hi
-  middle_high = omega arith
+-- where a test against x changes in an arranged list
+pub sought : (l : List Entry) (x a : ℕ) (p : Entry → Bool) → ((e : Entry) → p e ≡ ltb e.connection x) → a ≤ length l
+    → (IsNonDecreasingBy (λ (e : Entry). e.connection) l → IsPartitionPoint (λ y. p y ≡ true) (λ y. p y ≡ false) l a) → Sought (connections_of l) (length l) x a
+sought l x a p t m f = record {
+  most = m;
+  bound = λ s.
+      let g = f (by-connection l s) in
+      let n = length-connections l in
+      record {
+        most = omega arith;
+        below = λ k h. omega (arith, connection_at l k no_entry (omega arith), ltb-true (get_or l k no_entry).connection x (sym (t (get_or l k no_entry)) ∙ g.0 k no_entry (omega arith) h));
+        above = λ k h o. omega (arith, connection_at l k no_entry (omega arith), ltb-false (get_or l k no_entry).connection x (sym (t (get_or l k no_entry)) ∙ g.1 k no_entry h (omega arith)));
+      };
+}
 
 -- ---- the part
 
@@ -102,11 +104,11 @@ module _ (n : ℕ) (l : List Entry) {a b : ℕ} (p : Bound (connections_of l) (n
     | inr t ↦ ltb-false b a t
   ]
 
-  found : Only n l a (greater b a - a)
+  found : Only n l a (max b a - a)
   found =
       let long = length-connections l in
       let le = in_order in
-      let e : greater b a ≡ b = sym (greater_first b a le) in
+      let e : max b a ≡ b = omega arith in
       rw e (record {
         most = omega (arith, q.most);
         before = λ k h f. omega (arith, p.below k h);
@@ -115,10 +117,10 @@ module _ (n : ℕ) (l : List Entry) {a b : ℕ} (p : Bound (connections_of l) (n
       })
 
 pub parted : (n : ℕ) (l : List Entry) (a b : ℕ) → Sought (connections_of l) (length l) (n + one false) a → Sought (connections_of l) (length l) (n + one true) b
-    → Parted n l (take (greater b a - a) (drop a l))
+    → Parted n l (take (max b a - a) (drop a l))
 parted n l a b x y = record {
   first = a;
-  count = greater b a - a;
+  count = max b a - a;
   part = refl;
-  arranged = λ s. only_part n l a (greater b a - a) (found n l (x.bound s) (y.bound s));
+  arranged = λ s. only_part n l a (max b a - a) (found n l (x.bound s) (y.bound s));
 }

@@ -1,5 +1,5 @@
 -- What the contracts of Sending say of one connection's part of an arranged list.
-use Rattle.std.specs.Prelude.{ℕ, ◌≡◌, List, map, ltb, take, drop, if◌then◌else◌}
+use Rattle.std.specs.Prelude.{ℕ, ◌≡◌, List, map, take, drop}
 use Rattle.regions.specs.Order.{Sorted}
 use Rattle.machine.specs.Claim.{part_of}
 use Rattle.claiming.specs.declared.Entry.{Entry}
@@ -7,9 +7,6 @@ use Rattle.claiming.specs.Claiming.{entry_of}
 
 abbrev pub connections_of : List Entry → List ℕ
 connections_of l = map (λ (e : Entry). e.connection) l
-
-abbrev pub greater : ℕ → ℕ → ℕ
-greater e a = if ltb e a then a else e
 
 -- "one connection's requests are handed back as that part of the arranged list": p is a part of l, and if l is "arranged by ascending
 -- connection" it is the connection n's

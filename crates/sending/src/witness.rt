@@ -29,8 +29,7 @@ fn marked(s: &[u8], k: ident::Key) -> bool
     requires { Kept s.now }
     ensures { Tells s.now (λ t. result ≡ (at (key_num k) t).fallback) }
 {
-    let key = requests::key_words(k);
-    let w = requests::window_of(s, key);
+    let w = requests::window_of(s, requests::key_words(k));
     requests::mark_in(s, w.from, w.to) == 1
 }
 
@@ -55,22 +54,16 @@ fn look_up(list: &[u8], known: Known, connection: u64) -> Known
     if known.connection == connection {
         return known;
     }
-    let found = listed(list, connection);
     Known {
         connection,
-        listed: found,
+        listed: listed(list, connection),
     }
 }
 
 fn is_transaction(k: ident::ItemKind) -> bool
     ensures { result ≡ is_transaction k }
 {
-    match k {
-        ident::ItemKind::Transaction => true,
-        ident::ItemKind::WitnessTransaction => false,
-        ident::ItemKind::WTx => false,
-        ident::ItemKind::Other(_) => false,
-    }
+    matches!(k, ident::ItemKind::Transaction)
 }
 
 // The entry as it is sent. Only a t item is looked up: any other stays what it is.
@@ -78,13 +71,7 @@ fn for_witness(s: &[u8], witnesses: &[u8], known: Known, e: claiming::Entry) -> 
     requires { Kept s.now × Holds witnesses.now known }
     ensures { Turned s.now witnesses.now (entry_of e) result }
 {
-    let key = e.key;
-    let item = e.item;
-    let kind = item.kind;
-    if !is_transaction(kind) {
-        return Sent { entry: e, known };
-    }
-    if !marked(s, key) {
+    if !is_transaction(e.item.kind) || !marked(s, e.key) {
         return Sent { entry: e, known };
     }
     let asked = look_up(witnesses, known, e.connection);
@@ -94,21 +81,12 @@ fn for_witness(s: &[u8], witnesses: &[u8], known: Known, e: claiming::Entry) -> 
             known: asked,
         };
     }
-    let hash = item.hash;
-    let turned = ident::Item {
+    let item = ident::Item {
         kind: ident::ItemKind::WitnessTransaction,
-        hash,
-    };
-    let entry = claiming::Entry {
-        key,
-        connection: e.connection,
-        item: turned,
-        ready: e.ready,
-        preferred: e.preferred,
-        priority: e.priority,
+        hash: e.item.hash,
     };
     Sent {
-        entry,
+        entry: claiming::Entry { item, ..e },
         known: asked,
     }
 }
@@ -128,7 +106,6 @@ pub fn put_turned(
 {
     let e = claiming::entries::entry_in(list, j);
     let sent = for_witness(s, witnesses, known, e);
-    let entry = sent.entry;
-    claiming::entries::put_entry(out, i, entry);
+    claiming::entries::put_entry(out, i, sent.entry);
     sent.known
 }

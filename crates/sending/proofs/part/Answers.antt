@@ -1,6 +1,24 @@
 -- `sending::part` meets its contract: two searches, by proofs/Parting.
-use Rattle.sending.proofs.Parting.{parted}
+use Prim.Native.Nat.{◌+◌}
+use mathlib.Core.Path.{refl}
+use borrow.Author.Rules.{rules}
+use lib.Dec.{ltb, leb}
+use native.Mathlib.Nat.{add-zero}
+use Rattle.std.proofs.lemmas.List.Sorted.{IsPartitionedBy-leb, IsPartitionedBy-ltb, IsPartitionPoint-from_clause}
+use Rattle.claiming.specs.declared.Entry.{Entry}
+use Rattle.sending.proofs.Parting.{at_most, sought, parted}
 use Rattle.sending.proofs.part.Goals as goal
 
 pub returns : goal.returns
-returns c = rw c.no_less-e.ensures (parted c.args.connection c.args.list.now _ _ c.seek-a.ensures c.seek-b.ensures)
+returns c =
+    let l = c.args.list.now in
+    let n = c.args.connection in
+    let first = c.partition_point-first in
+    let end = c.partition_point-end in
+    let below = λ (e : Entry). ltb e.connection n in
+    let within = λ (e : Entry). leb e.connection n in
+    rw c.max.ensures (parted n l first.result end.result
+    (sought l (n + 0) first.result below (λ e. rw add-zero refl) first.ensures.bound
+    (λ s. IsPartitionPoint-from_clause below l first.result first.ensures.partitioned (IsPartitionedBy-ltb (λ e. e.connection) l n s) (λ x r f k. search rules)))
+    (sought l (n + 1) end.result within (λ e. at_most e.connection n) end.ensures.bound
+    (λ s. IsPartitionPoint-from_clause within l end.result end.ensures.partitioned (IsPartitionedBy-leb (λ e. e.connection) l n s) (λ x r f k. search rules))))

@@ -4,25 +4,22 @@ use borrow.Author.Tests.{not-true, not-false}
 use Rattle.words.specs.Words.{words}
 use Rattle.claiming.specs.Claiming.{entry_of}
 use Rattle.sending.proofs.Witnessed.{looked_up, stays_other, stays_unmarked, stays_unlisted, turns}
+use Rattle.sending.proofs.witness.for_witness.Goals.{then-not-is_transaction-via-then-not-is_transaction, then-not-is_transaction-via-else-not-is_transaction+then-not-marked}
 use Rattle.sending.proofs.witness.for_witness.Goals as goal
 
 pub returns-then-not-is_transaction : goal.returns-then-not-is_transaction
 returns-then-not-is_transaction c =
     let a = c.args in
-    let k = c.is_transaction in
-    record {
-      entry = λ st s w. stays_other (words a.witnesses.now) st.table (entry_of a.e) (sym k.ensures ∙ c.if-not-is_transaction.true);
-      known = c.requires.1;
-    }
-
-pub returns-then-not-marked : goal.returns-then-not-marked
-returns-then-not-marked c =
-    let a = c.args in
-    let m = c.marked in
-    record {
-      entry = λ st s w. stays_unmarked (words a.witnesses.now) st.table (entry_of a.e) (sym c.if-not-marked.true ∙ m.ensures st s w);
-      known = c.requires.1;
-    }
+    elim c.then-not-is_transaction.branch [
+      | then-not-is_transaction-via-then-not-is_transaction k ↦ record {
+        entry = λ st s w. stays_other (words a.witnesses.now) st.table (entry_of a.e) (sym c.is_transaction.ensures ∙ k.if-not-is_transaction.true);
+        known = c.requires.1;
+      }
+      | then-not-is_transaction-via-else-not-is_transaction+then-not-marked k ↦ record {
+        entry = λ st s w. stays_unmarked (words a.witnesses.now) st.table (entry_of a.e) (sym k.if-not-marked.true ∙ k.marked.ensures st s w);
+        known = c.requires.1;
+      }
+    ]
 
 pub returns-then-not-asked : goal.returns-then-not-asked
 returns-then-not-asked c =

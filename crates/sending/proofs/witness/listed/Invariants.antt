@@ -1,5 +1,5 @@
 -- `sending::witness::listed` meets its contract: none of the words passed is the connection.
-use Prim.Native.Nat.{◌-◌, ◌/◌, ◌≤◌}
+use Prim.Native.Nat.{◌/◌, ◌≤◌}
 use mathlib.Core.Path.{◌≡◌}
 use lib.ListN.{length, drop}
 use Rattle.words.specs.Words.{words}
