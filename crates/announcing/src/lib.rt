@@ -18,7 +18,7 @@ pub fn announce(s: &mut [u8], c: requests::Candidate) -> bool
     requires { Kept s.old }
     ensures { Answered s.old s.new result (λ m t. machine.announce m (candidate_of c) t) }
 {
-    let ident::MaybeKey::Is(key) = ident::key_of(c.item) else {
+    let Some(key) = ident::key_of(c.item) else {
         return false;
     };
     keyed::announce_at(s, key, c)
@@ -28,7 +28,7 @@ pub fn request_parent(s: &mut [u8], c: requests::Candidate) -> bool
     requires { Kept s.old }
     ensures { Answered s.old s.new result (λ m t. machine.request_parent m (candidate_of c) t) }
 {
-    let ident::MaybeKey::Is(key) = ident::key_of(c.item) else {
+    let Some(key) = ident::key_of(c.item) else {
         return false;
     };
     parent::request_parent_at(s, key, c)

@@ -15,7 +15,7 @@ pub fn announce_parent(s: &mut [u8], n: u64, clock: u64, h: ident::Hash, priorit
     requires { Kept s.old × (1 ≤ n) }
     ensures { Answered s.old s.new result (λ m t. one_parent m n clock (hash_num h) priority t) }
 {
-    let k = ident::txid_key(ident::Txid(h));
+    let k = ident::Key::from(ident::Txid(h));
     let item = ident::Item {
         kind: ident::ItemKind::Transaction,
         hash: h,
@@ -46,7 +46,7 @@ pub fn announce_parents(s: &mut [u8], n: u64, clock: u64, parents: &[u8], out: &
         if !lent_lists::occurs_before(parents, i) {
             let h = lent_lists::hash_in(parents, i);
             if announce_parent(s, n, clock, h, priority) {
-                lent_lists::put_key(out, kept, ident::txid_key(ident::Txid(h)));
+                lent_lists::put_key(out, kept, ident::Key::from(ident::Txid(h)));
                 kept += 1;
             }
             priority += 1;

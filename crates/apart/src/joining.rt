@@ -28,7 +28,7 @@ fn mark_parents(s: &mut [u8], slot: &[u8], from: usize, to: usize)
 {
     for j in from..to {
         let h = noting::parent_of(slot, j);
-        requests::mark(s, ident::txid_key(ident::Txid(h)));
+        requests::mark(s, ident::Key::from(ident::Txid(h)));
     }
 }
 

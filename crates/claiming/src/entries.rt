@@ -48,7 +48,7 @@ fn put_item(u: &mut [u8], w: usize, connection: u64, item: ident::Item)
     let kind = item.kind;
     let hash = item.hash;
     words::put(u, w, connection);
-    words::put(u, w + 1, ident::item_type(kind) as u64);
+    words::put(u, w + 1, u32::from(kind) as u64);
     ident::put_hash(u, w * 8 + 16, hash);
 }
 
@@ -102,7 +102,7 @@ fn kind_of(w: u64) -> ident::Kind
 fn item_kind(w: u64) -> ident::ItemKind
     ensures { result ≡ item_kind_of (w % 4294967296) }
 {
-    ident::item_kind((w % 4294967296) as u32)
+    ident::ItemKind::from((w % 4294967296) as u32)
 }
 
 // The key from the word w on.

@@ -122,7 +122,7 @@ fn fail_claim(s: &mut [u8], n: u64, h: ident::Hash, clock: u64, out: &mut [u8], 
         → key_bytes * (c + (max_parents + 1)) ≤ length out.old) × (c ≤ (max_parents + 1) * max_places) }
     ensures { ListedOn s.old s.new out.old out.new c result (λ m t. failed_with_parents m (wtxid (hash_num h)) n clock t) }
 {
-    let k = ident::wtxid_key(ident::Wtxid(h));
+    let k = ident::Key::from(ident::Wtxid(h));
     let q = package_stages::request_at(s, k);
     if !q.is_owned_by(n) {
         return c;

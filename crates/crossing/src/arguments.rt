@@ -15,8 +15,8 @@ pub fn candidate(
 ) -> requests::Candidate
     ensures { candidate_of result ≡ candidate_in connection item_type hash.now ready preferred priority }
 {
-    let kind = ident::item_kind(item_type);
-    let hash = ident::hash_from_bytes(hash);
+    let kind = ident::ItemKind::from(item_type);
+    let hash = ident::Hash::from(hash);
     let item = ident::Item { kind, hash };
     requests::Candidate {
         connection,
@@ -42,6 +42,6 @@ pub fn key_given(kind: u64, hash: &[u8; 32]) -> ident::Key
     ensures { key_num result ≡ key_given kind hash.now }
 {
     let kind = kind_given(kind);
-    let hash = ident::hash_from_bytes(hash);
+    let hash = ident::Hash::from(hash);
     ident::Key { kind, hash }
 }

@@ -24,8 +24,8 @@ pub enum MaybeTime {
 #[derive(Clone, Copy)]
 pub struct Cursors {
     pub next: MaybeTime,
-    pub known: ident::MaybeKey,
-    pub ready: ident::MaybeKey,
+    pub known: Option<ident::Key>,
+    pub ready: Option<ident::Key>,
 }
 
 // ---- the words of the header
@@ -160,14 +160,14 @@ fn stored_key(c: Stored) -> ident::Key
     ident::Key { kind, hash }
 }
 
-fn key_in(c: Stored) -> ident::MaybeKey
+fn key_in(c: Stored) -> Option<ident::Key>
     ensures { maybe_key_num result ≡ stored_key c }
 {
     let tag = c.tag;
     if tag == 0 {
-        return ident::MaybeKey::None;
+        return None;
     }
-    ident::MaybeKey::Is(stored_key(c))
+    Some(stored_key(c))
 }
 
 pub fn no_cursor() -> Stored
@@ -191,10 +191,10 @@ pub fn key_stored(k: ident::Key) -> Stored
     Stored { tag, hash }
 }
 
-fn stored_of(m: ident::MaybeKey) -> Stored
+fn stored_of(m: Option<ident::Key>) -> Stored
     ensures { Stands result (maybe_key_num m) }
 {
-    let ident::MaybeKey::Is(k) = m else {
+    let Some(k) = m else {
         return no_cursor();
     };
     key_stored(k)
@@ -261,7 +261,7 @@ pub fn poll_gate(c: &mut Cursors, clock: u64) -> bool
 
 // ---- the known cursor
 
-pub fn set_known(c: &mut Cursors, k: ident::MaybeKey)
+pub fn set_known(c: &mut Cursors, k: Option<ident::Key>)
     ensures { numbers_of c.new ≡ with_known (maybe_key_num k) (numbers_of c.old) }
 {
     c.known = k;

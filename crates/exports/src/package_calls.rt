@@ -20,7 +20,7 @@ pub extern "C" fn tracker_solicit_package_info(
     ensures { HandsOut (On (SolicitPackageInfo connection (hash_given hash.now) (hashes_in parents.now) clock))
         s.old s.new result reply.old reply.new }
 {
-    let subject = ident::Wtxid(ident::hash_from_bytes(hash));
+    let subject = ident::Wtxid(ident::Hash::from(hash));
     let a = public_packages::package_info::solicit_package_info(
         s, connection, subject, parents, clock,
     );
@@ -42,8 +42,8 @@ pub extern "C" fn tracker_claim_package(
     ensures { HandsOut (On (ClaimPackage connection (hash_given hash.now) (hash_given combined.now) (hashes_in wtxids.now) clock))
         s.old s.new result reply.old reply.new }
 {
-    let subject = ident::Wtxid(ident::hash_from_bytes(hash));
-    let d = ident::hash_from_bytes(combined);
+    let subject = ident::Wtxid(ident::Hash::from(hash));
+    let d = ident::Hash::from(combined);
     let a = public_packages::package_calls::claim_package(s, connection, subject, d, wtxids, clock);
     hand_out(a, reply)
 }
@@ -63,8 +63,8 @@ pub extern "C" fn tracker_begin_package_resolution(
     ensures { HandsOut (On (BeginPackageResolution connection (hash_given hash.now) (hash_given combined.now) (hashes_in wtxids.now) clock))
         s.old s.new result reply.old reply.new }
 {
-    let subject = ident::Wtxid(ident::hash_from_bytes(hash));
-    let d = ident::hash_from_bytes(combined);
+    let subject = ident::Wtxid(ident::Hash::from(hash));
+    let d = ident::Hash::from(combined);
     let a = public_packages::package_calls::begin_package_resolution(
         s, connection, subject, d, wtxids, clock,
     );
@@ -85,7 +85,7 @@ pub extern "C" fn tracker_release_package(
     ensures { HandsKeys (On (ReleasePackage connection (hash_given hash.now) clock answer.old))
         s.old s.new answer.new result count.old count.new }
 {
-    let subject = ident::Wtxid(ident::hash_from_bytes(hash));
+    let subject = ident::Wtxid(ident::Hash::from(hash));
     let l = public_packages::package_calls::release_package(s, connection, subject, clock, answer);
     hand_count(l, count)
 }

@@ -38,8 +38,8 @@ pub extern "C" fn tracker_transaction_response_completed(
 ) -> u64
     ensures { Leaves (On (TransactionResponseCompleted connection (hash_given txid.now) (hash_given wtxid.now) clock)) s.old s.new (numbered result 1) }
 {
-    let g = ident::hash_from_bytes(txid);
-    let h = ident::hash_from_bytes(wtxid);
+    let g = ident::Hash::from(txid);
+    let h = ident::Hash::from(wtxid);
     let x = ident::Txid(g);
     let w = ident::Wtxid(h);
     status(public_plans::wrappers::transaction_response_completed(s, connection, x, w, clock))

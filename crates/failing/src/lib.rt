@@ -220,7 +220,7 @@ pub fn release_package(
     requires { Kept s.old × (1 ≤ n) × (key_bytes * (max_parents + 1) ≤ length out.old) }
     ensures { KeysListed s.old s.new out.old out.new result (λ m t. release_package m n (hash_num subject.0) clock t) }
 {
-    let k = ident::wtxid_key(subject);
+    let k = ident::Key::from(subject);
     if !enqueued_by(s, k, n) {
         return 0;
     }

@@ -107,13 +107,13 @@ pub fn set_aside(s: &[u8], new: &mut [u8], m: usize, c: requests::Candidate) -> 
     let h = item.hash;
     match kind {
         ident::ItemKind::Transaction => {
-            return set_aside_at(s, new, m, ident::txid_key(ident::Txid(h)), c);
+            return set_aside_at(s, new, m, ident::Key::from(ident::Txid(h)), c);
         }
         ident::ItemKind::WitnessTransaction => {
-            return set_aside_at(s, new, m, ident::txid_key(ident::Txid(h)), c);
+            return set_aside_at(s, new, m, ident::Key::from(ident::Txid(h)), c);
         }
         ident::ItemKind::WTx => {
-            return set_aside_at(s, new, m, ident::wtxid_key(ident::Wtxid(h)), c);
+            return set_aside_at(s, new, m, ident::Key::from(ident::Wtxid(h)), c);
         }
         ident::ItemKind::Other(_) => {
             return 0;

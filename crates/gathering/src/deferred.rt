@@ -120,13 +120,13 @@ pub fn defer(
     let h = item.hash;
     match kind {
         ident::ItemKind::Transaction => {
-            return defer_at(s, new, d, top, m, ident::txid_key(ident::Txid(h)), c);
+            return defer_at(s, new, d, top, m, ident::Key::from(ident::Txid(h)), c);
         }
         ident::ItemKind::WitnessTransaction => {
-            return defer_at(s, new, d, top, m, ident::txid_key(ident::Txid(h)), c);
+            return defer_at(s, new, d, top, m, ident::Key::from(ident::Txid(h)), c);
         }
         ident::ItemKind::WTx => {
-            return defer_at(s, new, d, top, m, ident::wtxid_key(ident::Wtxid(h)), c);
+            return defer_at(s, new, d, top, m, ident::Key::from(ident::Wtxid(h)), c);
         }
         ident::ItemKind::Other(_) => {
             return 0;

@@ -97,13 +97,13 @@ pub fn exchange(
     let h = item.hash;
     match kind {
         ident::ItemKind::Transaction => {
-            return exchange_at(s, new, d, top, m, p, ident::txid_key(ident::Txid(h)), c);
+            return exchange_at(s, new, d, top, m, p, ident::Key::from(ident::Txid(h)), c);
         }
         ident::ItemKind::WitnessTransaction => {
-            return exchange_at(s, new, d, top, m, p, ident::txid_key(ident::Txid(h)), c);
+            return exchange_at(s, new, d, top, m, p, ident::Key::from(ident::Txid(h)), c);
         }
         ident::ItemKind::WTx => {
-            return exchange_at(s, new, d, top, m, p, ident::wtxid_key(ident::Wtxid(h)), c);
+            return exchange_at(s, new, d, top, m, p, ident::Key::from(ident::Wtxid(h)), c);
         }
         ident::ItemKind::Other(_) => {
             return 0;

@@ -34,8 +34,8 @@ pub fn waits_at(new: &[u8], m: usize, h: ident::Hash) -> bool
     requires { (8 * (row_size * m) ≤ length new.now) × (m ≤ space) }
     ensures { WaitsAt (words new.now) m (hash_num h) result }
 {
-    let a = requests::key_words(ident::txid_key(ident::Txid(h)));
-    let b = requests::key_words(ident::wtxid_key(ident::Wtxid(h)));
+    let a = requests::key_words(ident::Key::from(ident::Txid(h)));
+    let b = requests::key_words(ident::Key::from(ident::Wtxid(h)));
     has_key(new, m, a) || has_key(new, m, b)
 }
 

@@ -11,10 +11,12 @@ use Rattle.words.proofs.Digits.{length_digits, number_digits}
 use Rattle.words.proofs.Words.{length-words, number-words, digits-words, length-bytes, put_first, put_next}
 use Rattle.words.proofs.Splice.{splice_whole, splice_back}
 use Rattle.ident.specs.declared.Hash.{Hash}
-use Rattle.ident.specs.declared.Order.{Order}
+use Rattle.std.specs.declared.cmp.Ordering.{Ordering}
+use Rattle.std.specs.declared.cmp.Ordering.TheVariants.{Less, Equal, Greater}
 use Rattle.ident.specs.Number.{top}
 use Rattle.ident.specs.Words.{hash_bytes, hash_num}
-use Rattle.ident.specs.Compare.{order_of, then_of}
+use Rattle.ident.specs.Compare.{high_first}
+use Rattle.std.specs.Ordering.{nat_cmp, ordering_then}
 use Rattle.ident.proofs.Compare.{by_digit}
 use Rattle.ident.proofs.Words.{Four}
 
@@ -80,23 +82,23 @@ unfolding number
 number_one b d = omega arith
 
 by_four : (b w x y z w' x' y' z' : ℕ) → w < b → x < b → y < b → w' < b → x' < b → y' < b
-    → then_of (then_of (then_of (order_of z z') (order_of y y')) (order_of x x')) (order_of w w') ≡ order_of (number b (w ∷ x ∷ y ∷ z ∷ [])) (number b (w' ∷ x' ∷ y' ∷ z' ∷ []))
+    → ordering_then (ordering_then (ordering_then (nat_cmp z z') (nat_cmp y y')) (nat_cmp x x')) (nat_cmp w w') ≡ nat_cmp (number b (w ∷ x ∷ y ∷ z ∷ [])) (number b (w' ∷ x' ∷ y' ∷ z' ∷ []))
 by_four b w x y z w' x' y' z' gw gx gy gw' gx' gy' =
-    let e : order_of z z' ≡ order_of (number b (z ∷ [])) (number b (z' ∷ [])) = rw (number_one b z, number_one b z') in
-    ap (λ (o : Order). then_of (then_of (then_of o (order_of y y')) (order_of x x')) (order_of w w')) e ∙
-    ap (λ (o : Order). then_of (then_of o (order_of x x')) (order_of w w')) (by_digit b y y' (z ∷ []) (z' ∷ []) gy gy') ∙
-    ap (λ (o : Order). then_of o (order_of w w')) (by_digit b x x' (y ∷ z ∷ []) (y' ∷ z' ∷ []) gx gx') ∙
+    let e : nat_cmp z z' ≡ nat_cmp (number b (z ∷ [])) (number b (z' ∷ [])) = rw (number_one b z, number_one b z') in
+    ap (λ (o : Ordering). ordering_then (ordering_then (ordering_then o (nat_cmp y y')) (nat_cmp x x')) (nat_cmp w w')) e ∙
+    ap (λ (o : Ordering). ordering_then (ordering_then o (nat_cmp x x')) (nat_cmp w w')) (by_digit b y y' (z ∷ []) (z' ∷ []) gy gy') ∙
+    ap (λ (o : Ordering). ordering_then o (nat_cmp w w')) (by_digit b x x' (y ∷ z ∷ []) (y' ∷ z' ∷ []) gx gx') ∙
     by_digit b w w' (x ∷ y ∷ z ∷ []) (x' ∷ y' ∷ z' ∷ []) gw gw'
 
 -- the number of a hash is that of its four words
 pub hash-words : (h : Hash) → Four h → hash_num h ≡ number (2 ^ 64) (get_or h.words 0 0 ∷ get_or h.words 1 0 ∷ get_or h.words 2 0 ∷ get_or h.words 3 0 ∷ [])
 hash-words h f = ap (number (2 ^ 64)) (four-list h.words f.four)
 
-abbrev at : Hash → Hash → ℕ → Order
-at a b i = order_of (get_or a.words i 0) (get_or b.words i 0)
+abbrev at : Hash → Hash → ℕ → Ordering
+at a b i = nat_cmp (get_or a.words i 0) (get_or b.words i 0)
 
--- as `cmp_hash` computes it: from the most significant word down
-pub by_words : (a b : Hash) → Four a → Four b → then_of (then_of (then_of (at a b 3) (at a b 2)) (at a b 1)) (at a b 0) ≡ order_of (hash_num a) (hash_num b)
+-- as the order of hashes computes it: from the most significant word down
+pub by_words : (a b : Hash) → Four a → Four b → ordering_then (ordering_then (ordering_then (at a b 3) (at a b 2)) (at a b 1)) (at a b 0) ≡ nat_cmp (hash_num a) (hash_num b)
 by_words a b f g =
     let s : List ℕ = a.words in
     let t : List ℕ = b.words in
@@ -106,3 +108,22 @@ by_words a b f g =
       hash-words a f,
       hash-words b g,
     )
+
+-- the same, as lists turned round: as the code answers it
+pub by_words_back : (a b : Hash) → length a.words ≡ 4 → length b.words ≡ 4 → ordering_then (ordering_then (ordering_then (at a b 3) (at a b 2)) (at a b 1)) (at a b 0) ≡ high_first a.words b.words
+by_words_back a b f g = flat (at a b 3) (at a b 2) (at a b 1) (at a b 0) ∙ rw (four-list a.words f, four-list b.words g)
+  where
+    flat : (o p q r : Ordering) → ordering_then (ordering_then (ordering_then o p) q) r ≡ ordering_then o (ordering_then p (ordering_then q (ordering_then r Equal)))
+    flat Equal Equal Equal Equal = refl
+    flat Equal Equal Equal Less = refl
+    flat Equal Equal Equal Greater = refl
+    flat Equal Equal Less r = refl
+    flat Equal Equal Greater r = refl
+    flat Equal Less q r = refl
+    flat Equal Greater q r = refl
+    flat Less p q r = refl
+    flat Greater p q r = refl
+
+-- the order of hashes is that of their numbers
+pub by_number : (a b : Hash) → Four a → Four b → high_first a.words b.words ≡ nat_cmp (hash_num a) (hash_num b)
+by_number a b f g = sym (by_words_back a b f.four g.four) ∙ by_words a b f g

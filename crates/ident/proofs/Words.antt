@@ -1,5 +1,10 @@
 -- What the number of a hash says of its words: it is below `top`, and it decides them.
-use mathlib.Core.Path.{◌≡◌, sym, ◌∙◌, ap}
+use mathlib.Core.Path.{◌≡◌, refl, sym, ◌∙◌, ap}
+use mathlib.Core.Bool.{Bool, true, false}
+use lib.Dec.{eqb}
+use borrow.Author.Tests.{eqb-true, eqb-false}
+use Rattle.std.specs.Prelude.{nat_eq}
+use Rattle.std.specs.Cmp.Lexicographic.{pointwise, same_text, other_text}
 use Prim.Native.Nat.{ℕ, zero, suc, ◌<◌, ◌^◌}
 use mathlib.Core.List.{List, [], ◌∷◌}
 use lib.Dec.{lit<}
@@ -20,7 +25,7 @@ use Rattle.ident.specs.contracts.Hash as T
 use Rattle.ident.proofs.Hash.TheLaws as T'
 use Rattle.ident.specs.contracts.Key as K
 use Rattle.ident.proofs.Key.TheLaws as K'
-use Rattle.words.specs.Words.{digits}
+use Rattle.words.specs.Words.{number, digits}
 use Rattle.words.proofs.Digits.{number_below, digits_number}
 
 -- ---- a value of the declared type has four words of 64 bits
@@ -54,6 +59,16 @@ hash_same a b f g e = ap (λ (w : List ℕ). record { words = w }) (sym (again a
   where
     again : (h : Hash) → Four h → digits (2 ^ 64) 4 (hash_num h) ≡ h.words
     again h f = rw f.four at (digits_number (2 ^ 64) (lit< tt) h.words (λ i _. f.fits i))
+
+-- and so the code's `==` on hashes is that of their numbers
+pub same_number : (a b : Hash) → Four a → Four b → pointwise nat_eq a.words b.words ≡ eqb (hash_num a) (hash_num b)
+same_number a b f g = both _ _ refl refl
+  where
+    both : (x y : Bool) → x ≡ pointwise nat_eq a.words b.words → y ≡ eqb (hash_num a) (hash_num b) → x ≡ y
+    both true true d e = refl
+    both false false d e = refl
+    both true false d e = absurd (eqb-false (hash_num a) (hash_num b) (sym e) (ap (λ (w : List ℕ). number (2 ^ 64) w) (same_text a.words b.words d)))
+    both false true d e = absurd (other_text a.words b.words d (ap (λ (h : Hash). h.words) (hash_same a b f g (eqb-true (hash_num a) (hash_num b) (sym e)))))
 
 -- keys of one number are one key
 pub key_same : (a b : Key) → Four a.hash → Four b.hash → key_num a ≡ key_num b → a ≡ b

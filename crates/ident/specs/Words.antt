@@ -1,15 +1,12 @@
 -- The numbers that the declared types stand for: of a hash, of a key, of an item.
-use Rattle.std.specs.Prelude.{ℕ, ◌^◌}
+use Rattle.std.specs.Prelude.{ℕ, ◌^◌, Some, None}
+use Rattle.std.specs.Prelude as Std
 use Rattle.std.proofs.Math.Option.{Option, none, some}
 use Rattle.words.specs.Words.{number}
 use Rattle.ident.specs.declared.Kind.{Kind}
 use Rattle.ident.specs.declared.Hash.{Hash}
 use Rattle.ident.specs.declared.Key.{Key}
 use Rattle.ident.specs.declared.Item.{Item}
-use Rattle.ident.specs.declared.MaybeKind.{MaybeKind}
-use Rattle.ident.specs.declared.MaybeKind.TheVariants.{None as KNone, Is as KIs}
-use Rattle.ident.specs.declared.MaybeKey.{MaybeKey}
-use Rattle.ident.specs.declared.MaybeKey.TheVariants.{None, Is}
 use Rattle.ident.specs.Number as N
 
 -- "32 bytes"
@@ -27,10 +24,10 @@ abbrev pub item_num : Item → N.Item
 item_num i = record { kind = i.kind; hash = hash_num i.hash }
 
 -- what may be missing
-abbrev pub maybe_kind : MaybeKind → Option Kind
-maybe_kind KNone = none
-maybe_kind (KIs k) = some k
+abbrev pub maybe_kind : Std.Option Kind → Option Kind
+maybe_kind None = none
+maybe_kind (Some k) = some k
 
-abbrev pub maybe_key_num : MaybeKey → Option N.Key
+abbrev pub maybe_key_num : Std.Option Key → Option N.Key
 maybe_key_num None = none
-maybe_key_num (Is k) = some (key_num k)
+maybe_key_num (Some k) = some (key_num k)

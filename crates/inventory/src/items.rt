@@ -27,7 +27,7 @@ pub fn put_item(items: &mut [u8], i: usize, item: Named<ident::ItemKind>)
     requires { item_bytes * i + item_bytes ≤ length items.old }
     ensures { ItemPut items.old items.new i item.kind (quad_number item.hash) }
 {
-    words::put(items, i * 5, ident::item_type(item.kind) as u64);
+    words::put(items, i * 5, u32::from(item.kind) as u64);
     ident::put_hash(items, i * ITEM + 8, hash_of(item.hash));
 }
 

@@ -9,9 +9,6 @@ use lib.Dec.{eqb}
 use lib.ListN.{length, take, drop, get_or, length-drop}
 use lib.Seq.{length-take-le, get_or-take, get_or-drop}
 use borrow.Author.Tests.{eq-eqb, ne_eqb}
-use Rattle.ident.specs.declared.Order.{Order}
-use Rattle.ident.specs.declared.Order.TheVariants.{Less, Equal, Greater}
-use Rattle.ident.specs.Compare.{order_of}
 use Rattle.ident.specs.Number.{top}
 use Rattle.ident.specs.Words.{hash_bytes}
 use Rattle.ident.proofs.Compare.{three, is-less, is_more, is_same}
@@ -58,17 +55,3 @@ unfolding elem
 elem-passed x [] j l n e = absurd (omega arith)
 elem-passed x (g ∷ hs) zero l n e = rw e
 elem-passed x (g ∷ hs) (suc j) l n e = rw (or_left (eqb g x) (elem x (take j hs)) n) (elem-passed x hs j (omega arith) (or_right (eqb g x) (elem x (take j hs)) n) e)
-
--- ---- two hashes, by their order
-
-abbrev pub is_equal : Order → Bool
-is_equal Less = false
-is_equal Equal = true
-is_equal Greater = false
-
-pub equal_is : (m n : ℕ) (o : Order) → o ≡ order_of m n → is_equal o ≡ eqb m n
-equal_is m n o e =
-    ap is_equal e
-    ∙ ⊎_elim (λ l. ap is_equal (is-less m n l) ∙ sym (ne_eqb m n (λ q. omega arith)))
-    (⊎_elim (λ l. ap is_equal (is_more m n l) ∙ sym (ne_eqb m n (λ q. omega arith))) (λ q. ap is_equal (is_same m n q) ∙ sym (eq-eqb m n q)))
-    (three m n)

@@ -30,12 +30,7 @@ pub fn hash_in(s: &[u8], i: usize) -> ident::Hash
 pub fn same_hash(a: ident::Hash, b: ident::Hash) -> bool
     ensures { result ≡ eqb (hash_num a) (hash_num b) }
 {
-    let o = ident::cmp_hash(a, b);
-    match o {
-        ident::Order::Less => false,
-        ident::Order::Equal => true,
-        ident::Order::Greater => false,
-    }
+    a == b
 }
 
 // Whether the i-th hash is one of those before it.
@@ -81,7 +76,7 @@ fn kind_in(w: u64) -> ident::ItemKind
     ensures { result ≡ item_kind_in w }
 {
     if w < TYPES {
-        return ident::item_kind(w as u32);
+        return ident::ItemKind::from(w as u32);
     }
     ident::ItemKind::Other((w % TYPES) as u32)
 }

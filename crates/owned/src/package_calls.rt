@@ -21,7 +21,7 @@ pub extern "C" fn tracker_owned_solicit_package_info(
         s.old s.new result reply.old reply.new }
     ensures sound { SoundStore s.new }
 {
-    let subject = ident::Wtxid(ident::hash_from_bytes(hash));
+    let subject = ident::Wtxid(ident::Hash::from(hash));
     let a = public_packages::on_sound::package_info::solicit_package_info(
         s, connection, subject, parents, clock,
     );
@@ -45,8 +45,8 @@ pub extern "C" fn tracker_owned_claim_package(
         s.old s.new result reply.old reply.new }
     ensures sound { SoundStore s.new }
 {
-    let subject = ident::Wtxid(ident::hash_from_bytes(hash));
-    let d = ident::hash_from_bytes(combined);
+    let subject = ident::Wtxid(ident::Hash::from(hash));
+    let d = ident::Hash::from(combined);
     let a = public_packages::on_sound::package_calls::claim_package(
         s, connection, subject, d, wtxids, clock,
     );
@@ -70,8 +70,8 @@ pub extern "C" fn tracker_owned_begin_package_resolution(
         s.old s.new result reply.old reply.new }
     ensures sound { SoundStore s.new }
 {
-    let subject = ident::Wtxid(ident::hash_from_bytes(hash));
-    let d = ident::hash_from_bytes(combined);
+    let subject = ident::Wtxid(ident::Hash::from(hash));
+    let d = ident::Hash::from(combined);
     let a = public_packages::on_sound::package_calls::begin_package_resolution(
         s, connection, subject, d, wtxids, clock,
     );
@@ -94,7 +94,7 @@ pub extern "C" fn tracker_owned_release_package(
         s.old s.new answer.new result count.old count.new }
     ensures sound { SoundStore s.new }
 {
-    let subject = ident::Wtxid(ident::hash_from_bytes(hash));
+    let subject = ident::Wtxid(ident::Hash::from(hash));
     let l = public_packages::on_sound::package_calls::release_package(
         s, connection, subject, clock, answer,
     );

@@ -41,8 +41,8 @@ pub extern "C" fn tracker_owned_transaction_response_completed(
     ensures leaves { Leaves (On (TransactionResponseCompleted connection (hash_given txid.now) (hash_given wtxid.now) clock)) s.old s.new (numbered result 1) }
     ensures sound { SoundStore s.new }
 {
-    let g = ident::hash_from_bytes(txid);
-    let h = ident::hash_from_bytes(wtxid);
+    let g = ident::Hash::from(txid);
+    let h = ident::Hash::from(wtxid);
     let x = ident::Txid(g);
     let w = ident::Wtxid(h);
     crossing::status(

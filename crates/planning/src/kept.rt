@@ -33,7 +33,7 @@ fn consider_bits(
         }
         if left % 2 == 1 {
             let h = apart::noting::parent_of(slot, j);
-            w = selecting::consider(s, clock, ident::txid_key(ident::Txid(h)), picks, w);
+            w = selecting::consider(s, clock, ident::Key::from(ident::Txid(h)), picks, w);
         }
         left /= 2;
     }

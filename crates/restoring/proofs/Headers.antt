@@ -5,8 +5,7 @@ use mathlib.Core.List.{List, [], ◌∷◌}
 use mathlib.Core.Option.{none, some}
 use lib.ListN.{length}
 use Rattle.ident.specs.declared.Kind.{Kind}
-use Rattle.ident.specs.declared.MaybeKey.{MaybeKey}
-use Rattle.ident.specs.declared.MaybeKey.TheVariants.{None, Is}
+use Rattle.ident.specs.declared.Key.{Key}
 use Rattle.ident.specs.Words.{maybe_key_num}
 use Rattle.words.specs.Words.{words}
 use Rattle.regions.specs.declared.Quad.{Quad}
@@ -38,9 +37,9 @@ module _ {r : Stored} {m : answer.Option (Named Kind)} where
   stands-key {k} e g h = subst (Stands r) (ap (λ (n : ℕ). some (record { kind = k; hash = n })) g ∙ sym (ap key_in e)) h
 
 -- a key that was read, as the tracker has it
-as_key : answer.Option (Named Kind) → MaybeKey
-as_key answer.None = None
-as_key (answer.Some n) = Is (record { kind = n.kind; hash = record { words = n.hash.w0 ∷ n.hash.w1 ∷ n.hash.w2 ∷ n.hash.w3 ∷ [] } })
+as_key : answer.Option (Named Kind) → answer.Option Key
+as_key answer.None = answer.None
+as_key (answer.Some n) = answer.Some (record { kind = n.kind; hash = record { words = n.hash.w0 ∷ n.hash.w1 ∷ n.hash.w2 ∷ n.hash.w3 ∷ [] } })
 
 same_key_lem : (m : answer.Option (Named Kind)) → maybe_key_num (as_key m) ≡ key_in m
 unfolding quad_number as_key

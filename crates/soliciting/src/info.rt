@@ -39,8 +39,8 @@ fn may_own(s: &[u8], n: u64, h: ident::Hash) -> bool
     requires { Kept s.now }
     ensures { Tells s.now (λ t. result ≡ (eqb (owned_at (hash_num h) t) 0 && ltb (owned_by n t) max_in_flight)) }
 {
-    let a = package_stages::request_at(s, ident::txid_key(ident::Txid(h)));
-    let b = package_stages::request_at(s, ident::wtxid_key(ident::Wtxid(h)));
+    let a = package_stages::request_at(s, ident::Key::from(ident::Txid(h)));
+    let b = package_stages::request_at(s, ident::Key::from(ident::Wtxid(h)));
     if a.owner.is_some() || b.owner.is_some() {
         return false;
     }
@@ -56,7 +56,7 @@ pub fn would_solicit(s: &[u8], n: u64, subject: ident::Wtxid, clock: u64) -> boo
     if !may_own(s, n, subject.0) {
         return false;
     }
-    let k = ident::wtxid_key(subject);
+    let k = ident::Key::from(subject);
     if requests::holds(s, k, n) {
         return true;
     }
@@ -68,7 +68,7 @@ fn own_flagged(s: &mut [u8], n: u64, h: ident::Hash, clock: u64)
     requires { Keeps s.old (MayOwn n (hash_num h)) × (held_places_in s.old < places_in s.old) × (clock ≤ latest_clock) }
     ensures { Makes s.old s.new (MayOwn n (hash_num h)) (change (wtxid (hash_num h)) (machine.solicited n (clock + request_lifetime) [])) }
 {
-    let k = ident::wtxid_key(ident::Wtxid(h));
+    let k = ident::Key::from(ident::Wtxid(h));
     requests::own(s, k, n, clock + REQUEST_LIFETIME);
     package_stages::open_info(s, h);
 }
@@ -101,7 +101,7 @@ pub fn solicit_package_info(
     if !may_own(s, n, subject.0) {
         return false;
     }
-    let k = ident::wtxid_key(subject);
+    let k = ident::Key::from(subject);
     announcing::keyed::announce_at(s, k, soliciting(n, subject.0, clock));
     if !requests::holds(s, k, n) {
         return false;

@@ -23,7 +23,7 @@ fn owned_at(s: &[u8], n: u64, subject: ident::Wtxid, clock: u64, stage: Stage) -
     ensures { Tells s.now (λ t. result ≡ (machine.live_owner n clock (at (wtxid (hash_num subject.0)) t).owner && eqb
         (stage_of (at (wtxid (hash_num subject.0)) t).info (at (wtxid (hash_num subject.0)) t).«package») (stage_word (Some stage)))) }
 {
-    let k = ident::wtxid_key(subject);
+    let k = ident::Key::from(subject);
     let r = package_stages::request_at(s, k);
     r.is_owned_by(n) && r.is_alive(clock) && r.stage == Some(stage)
 }

@@ -180,7 +180,7 @@ fn write_item(items: &[u8], i: usize, s: &mut [u8], a: usize)
     let item = lent_lists::item_at(items, i);
     let kind = item.kind;
     let hash = item.hash;
-    put_type(s, a, ident::item_type(kind));
+    put_type(s, a, u32::from(kind));
     ident::put_hash(s, a + 4, hash);
 }
 

@@ -21,6 +21,6 @@ pub fn transaction_response_completed(
     requires { Kept s.old }
     ensures { Makes s.old s.new (λ t. Unit {0}) (machine.response_completed n (hash_num x.0) (hash_num w.0) clock) }
 {
-    failing::failed(s, ident::txid_key(x), n, clock);
-    failing::failed(s, ident::wtxid_key(w), n, clock);
+    failing::failed(s, ident::Key::from(x), n, clock);
+    failing::failed(s, ident::Key::from(w), n, clock);
 }

@@ -48,17 +48,17 @@ fn not_found_one(s: &mut [u8], n: u64, item: ident::Item, clock: u64, out: &mut 
     let h = item.hash;
     match kind {
         ident::ItemKind::Transaction => {
-            return fail_listed(s, ident::txid_key(ident::Txid(h)), n, clock, out);
+            return fail_listed(s, ident::Key::from(ident::Txid(h)), n, clock, out);
         }
         ident::ItemKind::WitnessTransaction => {
-            return fail_listed(s, ident::txid_key(ident::Txid(h)), n, clock, out);
+            return fail_listed(s, ident::Key::from(ident::Txid(h)), n, clock, out);
         }
         ident::ItemKind::WTx => {
-            return fail_listed(s, ident::wtxid_key(ident::Wtxid(h)), n, clock, out);
+            return fail_listed(s, ident::Key::from(ident::Wtxid(h)), n, clock, out);
         }
         ident::ItemKind::Other(t) => {
             if t == MSG_ANCPKGINFO {
-                return fail_info(s, ident::wtxid_key(ident::Wtxid(h)), n, clock, out);
+                return fail_info(s, ident::Key::from(ident::Wtxid(h)), n, clock, out);
             }
             return 0;
         }

@@ -15,5 +15,5 @@ returns-in_default c =
 
 pub returns : goal.returns
 returns c =
-    subst (λ k. Answered c.args.s.now c.announce_at.new.s c.announce_at.result (λ m t. announce_keyed m k (candidate_of c.args.c) t)) c.in-Is.ensures
-    (announces.keyed c.args.s.now c.announce_at.new.s c.announce_at.result (key_num c.in-Is.key) (candidate_of c.args.c) c.announce_at.ensures)
+    subst (λ k. Answered c.args.s.now c.announce_at.new.s c.announce_at.result (λ m t. announce_keyed m k (candidate_of c.args.c) t)) c.in-Some.ensures
+    (announces.keyed c.args.s.now c.announce_at.new.s c.announce_at.result (key_num c.in-Some.key) (candidate_of c.args.c) c.announce_at.ensures)

@@ -15,5 +15,5 @@ returns-in_default c =
 
 pub returns : goal.returns
 returns c =
-    subst (λ k. Answered c.args.s.now c.request_parent_at.new.s c.request_parent_at.result (λ m t. request_parent_keyed m k (candidate_of c.args.c) t)) c.in-Is.ensures
-    (requests.keyed c.args.s.now c.request_parent_at.new.s c.request_parent_at.result (key_num c.in-Is.key) (candidate_of c.args.c) c.request_parent_at.ensures)
+    subst (λ k. Answered c.args.s.now c.request_parent_at.new.s c.request_parent_at.result (λ m t. request_parent_keyed m k (candidate_of c.args.c) t)) c.in-Some.ensures
+    (requests.keyed c.args.s.now c.request_parent_at.new.s c.request_parent_at.result (key_num c.in-Some.key) (candidate_of c.args.c) c.request_parent_at.ensures)

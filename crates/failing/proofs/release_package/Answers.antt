@@ -10,16 +10,16 @@ use Rattle.failing.proofs.Enqueued.{enqueued-owner, nothing_released, released_k
 use Rattle.failing.proofs.release_package.Goals as goal
 
 pub returns-then-not-enqueued_by : goal.returns-then-not-enqueued_by
-returns-then-not-enqueued_by c = nothing_released (key_num c.wtxid_key-k.result) (hash_num c.args.subject.0)
+returns-then-not-enqueued_by c = nothing_released (key_num c.from-k.result) (hash_num c.args.subject.0)
     c.args.n c.args.clock
-    c.args.out.now c.wtxid_key-k.ensures
+    c.args.out.now c.from-k.ensures
     (λ st s w. sym (c.enqueued_by.ensures st s w) ∙ c.if-not-enqueued_by.true)
 
 pub leave_both-requires : goal.leave_both-requires
 leave_both-requires c = (
   c.requires.0,
   λ st s w. enqueued-owner c.args.n (at (key_num
-      c.wtxid_key-k.result) st.table) (sym (c.enqueued_by.ensures st s w) ∙
+      c.from-k.result) st.table) (sym (c.enqueued_by.ensures st s w) ∙
       c.if-not-enqueued_by.false),
 )
 
@@ -27,10 +27,10 @@ pub announce_behind-requires : goal.announce_behind-requires
 announce_behind-requires c =
     let v : c.args.clock < word =
     omega (arith, c.well_formed.1.1.1.0) in (
-      released_kept (key_num c.wtxid_key-k.result)
-          (hash_below c.wtxid_key-k.result.hash
-          (key-four c.wtxid_key-k.result
-          c.wtxid_key-k.type_inv))
+      released_kept (key_num c.from-k.result)
+          (hash_below c.from-k.result.hash
+          (key-four c.from-k.result
+          c.from-k.type_inv))
           c.args.n
           c.args.clock v
           c.leave_both.ensures
@@ -53,14 +53,14 @@ returns c =
       c.well_formed.1.1.1.0,
     ) in
     released_handed (key_num
-    c.wtxid_key-k.result)
+    c.from-k.result)
     (hash_below
-    c.wtxid_key-k.result.hash
+    c.from-k.result.hash
     (key-four
-    c.wtxid_key-k.result
-    c.wtxid_key-k.type_inv))
+    c.from-k.result
+    c.from-k.type_inv))
     c.args.n c.args.clock v c.leave_both.ensures (hash_num c.args.subject.0)
-    c.wtxid_key-k.ensures
+    c.from-k.ensures
     (λ st s w. sym (c.enqueued_by.ensures st
     s w) ∙ c.if-not-enqueued_by.false) _
     (λ st s w. first_are _ c.parents_for-m.result _ refl

@@ -7,13 +7,13 @@ use Rattle.wrapping.proofs.transaction_response_completed.Goals as goal
 
 pub failed-requires-2 : goal.failed-requires-2
 failed-requires-2 c =
-    let k = c.txid_key.result in
-    after_kept (key_num k) (hash_below k.hash (key-four k c.txid_key.type_inv)) c.args.n c.args.clock (omega arith)
+    let k = c.from.result in
+    after_kept (key_num k) (hash_below k.hash (key-four k c.from.type_inv)) c.args.n c.args.clock (omega arith)
     c.failed.ensures c.requires
 
 pub returns : goal.returns
 returns c =
-    let k = c.txid_key.result in
-    both_failed (key_num k) (hash_below k.hash (key-four k c.txid_key.type_inv)) c.args.n c.args.clock
-    (omega arith) c.failed.ensures _ _ _ c.txid_key.ensures
-    c.wtxid_key.ensures c.failed-2.ensures
+    let k = c.from.result in
+    both_failed (key_num k) (hash_below k.hash (key-four k c.from.type_inv)) c.args.n c.args.clock
+    (omega arith) c.failed.ensures _ _ _ c.from.ensures
+    c.from-2.ensures c.failed-2.ensures

@@ -94,7 +94,7 @@ loop-i-preserved c =
             | then-announce_parent z ↦
                 turned_as w.s-is (w.out-is ∙ z.out-is) (w.kept-is ∙ z.kept-is) w.priority-is
                 (turned_more v inside _ w.hash_in-h.ensures peer late few new
-                w.announce_parent.auto.s w.announce_parent.ensures z.if-announce_parent.true c.requires.3 (keyed _ _ z.txid_key.ensures z.put_key.ensures))
+                w.announce_parent.auto.s w.announce_parent.ensures z.if-announce_parent.true c.requires.3 (keyed _ _ z.from.ensures z.put_key.ensures))
             | else-announce_parent z ↦
                 turned_as w.s-is (w.out-is ∙ z.out-is) (w.kept-is ∙ z.kept-is) w.priority-is
                 (turned_left v inside _ w.hash_in-h.ensures peer late few new w.announce_parent.auto.s w.announce_parent.ensures z.if-announce_parent.false)

@@ -21,7 +21,7 @@ loop-j-preserved c = (
   marking_goes c.loop-j.invariant.2
       c.loop-j-test.true (hash_below c.parent_of-h.result
       (hash-four c.parent_of-h.result c.parent_of-h.type_inv))
-      c.parent_of-h.ensures c.txid_key.ensures c.mark.ensures,
+      c.parent_of-h.ensures c.from.ensures c.mark.ensures,
 )
 
 pub shape_of-s : goal.shape_of-s

@@ -8,5 +8,5 @@ returns c = item-put c.args.w
     c.args.connection _
     (item_num c.args.item)
     c.requires
-    c.item_type.ensures c.put.ensures
+    c.from.ensures c.put.ensures
     c.put-2.ensures c.put_hash.ensures

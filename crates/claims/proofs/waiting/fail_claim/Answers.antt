@@ -12,7 +12,7 @@ returns-then-not-is_owned_by c = nothing_on _ c.args.c
     (λ m t. failed_with_parents m (wtxid (hash_num c.args.h))
     c.args.n c.args.clock t) (λ st s w. fails-nothing
     (limits_of st) (wtxid (hash_num c.args.h)) c.args.n
-    c.args.clock st.table (sym (owner-reads c.args.n st.table c.wtxid_key-k.ensures
+    c.args.clock st.table (sym (owner-reads c.args.n st.table c.from-k.ensures
     (c.request_at-q.ensures.is st s w) c.is_owned_by.ensures) ∙ c.if-not-is_owned_by.true))
 
 pub failed_with_parents-r-requires : goal.failed_with_parents-r-requires
@@ -22,7 +22,7 @@ failed_with_parents-r-requires c = (
   part_room c.args.out.now
       c.args.c _ _ refl refl (c.requires.3
       c.requires.0.state c.requires.0.sound
-      c.requires.0.writes (sym (owner-reads c.args.n _ c.wtxid_key-k.ensures
+      c.requires.0.writes (sym (owner-reads c.args.n _ c.from-k.ensures
       (c.request_at-q.ensures.is c.requires.0.state
       c.requires.0.sound
       c.requires.0.writes)
@@ -38,7 +38,7 @@ overflow_add-result c = omega (
       c.requires.0.sound
       c.requires.0.writes,
   fails_few (limits_of c.requires.0.state) (key_num
-      c.wtxid_key-k.result)
+      c.from-k.result)
       c.args.n
       c.args.clock
       c.requires.0.state
@@ -46,7 +46,7 @@ overflow_add-result c = omega (
 )
 
 pub returns : goal.returns
-returns c = same_on (λ m t. failed_with_parents m (key_num c.wtxid_key-k.result)
+returns c = same_on (λ m t. failed_with_parents m (key_num c.from-k.result)
     c.args.n
     c.args.clock t)
     (λ m t. failed_with_parents m (wtxid (hash_num c.args.h))
@@ -54,9 +54,9 @@ returns c = same_on (λ m t. failed_with_parents m (key_num c.wtxid_key-k.result
     c.args.clock t)
     (λ m t. ap (λ (k : Key). failed_with_parents m k c.args.n
     c.args.clock t)
-    c.wtxid_key-k.ensures)
+    c.from-k.ensures)
     (listed_on _ c.args.c _ _ refl refl
-    (λ m t. failed_with_parents m (key_num c.wtxid_key-k.result)
+    (λ m t. failed_with_parents m (key_num c.from-k.result)
     c.args.n
     c.args.clock t)
     c.failed_with_parents-r.ensures)

@@ -2,4 +2,4 @@
 use Rattle.crossing.proofs.arguments.candidate.Goals as goal
 
 pub returns : goal.returns
-returns c = rw (c.item_kind-kind.ensures, c.hash_from_bytes-hash.ensures)
+returns c = rw (c.from-kind.ensures, c.from-hash.ensures)

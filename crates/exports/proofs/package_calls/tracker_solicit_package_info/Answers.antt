@@ -5,4 +5,4 @@ use Rattle.exports.proofs.package_calls.tracker_solicit_package_info.Goals as go
 pub returns : goal.returns
 returns c =
     hands_out c.solicit_package_info-a.result _ c.solicit_package_info-a.ensures c.hand_out.ensures
-    (rw c.hash_from_bytes.ensures)
+    (rw c.from.ensures)

@@ -6,15 +6,15 @@ use Rattle.gathering.proofs.deferred.defer.Goals as goal
 
 pub returns-in-Transaction : goal.returns-in-Transaction
 returns-in-Transaction c = deferred_keyed (key-t (hash_num c.args.c.item.hash)
-    c.in-Transaction.is c.txid_key.ensures) c.defer_at.ensures
+    c.in-Transaction.is c.from.ensures) c.defer_at.ensures
 
 pub returns-in-WitnessTransaction : goal.returns-in-WitnessTransaction
 returns-in-WitnessTransaction c = deferred_keyed (key-v (hash_num c.args.c.item.hash)
-    c.in-WitnessTransaction.is c.txid_key-in-WitnessTransaction.ensures) c.defer_at-in-WitnessTransaction.ensures
+    c.in-WitnessTransaction.is c.from-in-WitnessTransaction.ensures) c.defer_at-in-WitnessTransaction.ensures
 
 pub returns-in-WTx : goal.returns-in-WTx
 returns-in-WTx c = deferred_keyed (key-w (hash_num c.args.c.item.hash)
-    c.in-WTx.is c.wtxid_key.ensures) c.defer_at-in-WTx.ensures
+    c.in-WTx.is c.from-in-WTx.ensures) c.defer_at-in-WTx.ensures
 
 pub returns-in-Other : goal.returns-in-Other
 returns-in-Other c = deferred_keyed (key_other (hash_num c.args.c.item.hash) c.in-Other.is) deferred_none

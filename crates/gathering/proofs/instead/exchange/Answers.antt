@@ -6,17 +6,17 @@ use Rattle.gathering.proofs.instead.exchange.Goals as goal
 
 pub returns-in-Transaction : goal.returns-in-Transaction
 returns-in-Transaction c = exchanged_keyed (key-t (hash_num c.args.c.item.hash)
-    c.in-Transaction.is c.txid_key.ensures)
+    c.in-Transaction.is c.from.ensures)
     c.exchange_at.ensures
 
 pub returns-in-WitnessTransaction : goal.returns-in-WitnessTransaction
 returns-in-WitnessTransaction c = exchanged_keyed (key-v (hash_num c.args.c.item.hash)
-    c.in-WitnessTransaction.is c.txid_key-in-WitnessTransaction.ensures)
+    c.in-WitnessTransaction.is c.from-in-WitnessTransaction.ensures)
     c.exchange_at-in-WitnessTransaction.ensures
 
 pub returns-in-WTx : goal.returns-in-WTx
 returns-in-WTx c = exchanged_keyed (key-w (hash_num c.args.c.item.hash)
-    c.in-WTx.is c.wtxid_key.ensures)
+    c.in-WTx.is c.from-in-WTx.ensures)
     c.exchange_at-in-WTx.ensures
 
 pub returns-in-Other : goal.returns-in-Other

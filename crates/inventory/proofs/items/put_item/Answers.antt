@@ -12,11 +12,11 @@ pub returns : goal.returns
 returns c =
     let q = c.args.item.hash in
     let t : type_of c.args.item.kind < type_top = omega
-    (arith, c.item_type.ensures) in
+    (arith, c.from.ensures) in
     let u = quad_below q (omega arith) (omega arith) (omega arith) (omega arith) in
     item-put c.args.items.now
     c.args.i
     c.args.item.kind (quad_number q) t u
     c.requires
-    c.item_type.ensures c.hash_of.ensures
+    c.from.ensures c.hash_of.ensures
     c.put.ensures.bytes c.put_hash.ensures

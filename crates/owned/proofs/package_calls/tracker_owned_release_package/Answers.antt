@@ -10,9 +10,9 @@ returns c =
     let m = (makes c.args.connection _
     c.args.clock
     c.args.answer.now (omega arith)
-    (hash_below _ (hash-four _ c.hash_from_bytes.type_inv)) (omega arith)) in
+    (hash_below _ (hash-four _ c.from.type_inv)) (omega arith)) in
     let o = owner-keys m c.requires
     (λ i. grind arith)
     c.release_package-l.result _ c.release_package-l.ensures c.hand_count.ensures
-    (rw c.hash_from_bytes.ensures) in
+    (rw c.from.ensures) in
     record { hands_keys = o.0; sound = o.1 }

@@ -9,9 +9,9 @@ pub returns : goal.returns
 returns c =
     let m = (makes c.args.connection _
     c.args.clock c.args.parents.now
-    (omega arith) (hash_below _ (hash-four _ c.hash_from_bytes.type_inv)) (omega arith)
+    (omega arith) (hash_below _ (hash-four _ c.from.type_inv)) (omega arith)
     (λ i. omega (arith, c.type_inv.parents i))) in
     let o = owner-number m c.requires
     (λ i. grind arith) c.solicit_package_info-a.result _
-    c.solicit_package_info-a.ensures c.hand_out.ensures (rw c.hash_from_bytes.ensures) in
+    c.solicit_package_info-a.ensures c.hand_out.ensures (rw c.from.ensures) in
     record { hands_out = o.0; sound = o.1 }

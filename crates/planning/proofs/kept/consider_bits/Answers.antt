@@ -65,7 +65,7 @@ loop-j-preserved c =
         k.consider-w.auto.s ∙ c.loop-j.invariant.1,
         k.consider-w.auto.picks ∙ c.loop-j.invariant.2,
         scans_more c.loop-j.invariant.3 (λ st. picked (hashes_at w (j + 1) (to - (j + 1))) (left / 2)) _ (omega (arith, c.loop-j.invariant.0)) c.if-w.false k.consider-w.ensures
-            (λ st l s m. bit-set w j to left c.loop-j-test.true k.txid_key.ensures k.parent_of-h.ensures k.if-left-eq1.true),
+            (λ st l s m. bit-set w j to left c.loop-j-test.true k.from.ensures k.parent_of-h.ensures k.if-left-eq1.true),
       )
       | else-left-eq1 k ↦ rw (k.s-is, k.picks-is, k.w-is) (
         at,

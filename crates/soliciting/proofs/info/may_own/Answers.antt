@@ -13,8 +13,8 @@ pub returns-then-is_some : goal.returns-then-is_some
 returns-then-is_some c = λ st s w.
     let h = c.args.h in
     let small = hash_below h (hash-four h c.well_formed.1.1.0) in
-    let a = read-at st.table c.txid_key.ensures (c.request_at-a.ensures.is st s w) in
-    let b = read-at st.table c.wtxid_key.ensures (c.request_at-b.ensures.is st s w) in
+    let a = read-at st.table c.from.ensures (c.request_at-a.ensures.is st s w) in
+    let b = read-at st.table c.from-2.ensures (c.request_at-b.ensures.is st s w) in
     elim c.then-is_some.branch [
       | then-is_some-via-then-is_some x ↦ owned_first st s c.args.n (hash_num h) small a b (sym x.if-is_some.ensures) (ltb (owned_by c.args.n st.table) max_in_flight)
       | then-is_some-via-else-is_some+then-is_some-2 x ↦ owned-second st s c.args.n (hash_num h) small a b (sym x.if-is_some-2.ensures) (ltb (owned_by c.args.n st.table) max_in_flight)
@@ -24,8 +24,8 @@ pub returns : goal.returns
 returns c = λ st s w.
     let h = c.args.h in
     let small = hash_below h (hash-four h c.well_formed.1.1.0) in
-    let a = read-at st.table c.txid_key.ensures
+    let a = read-at st.table c.from.ensures
     (c.request_at-a.ensures.is st s w) in
-    let b = read-at st.table c.wtxid_key.ensures (c.request_at-b.ensures.is st s w) in
+    let b = read-at st.table c.from-2.ensures (c.request_at-b.ensures.is st s w) in
     owned_none st s c.args.n (hash_num h) small a b (sym c.if-is_some.ensures) (sym c.if-is_some-2.ensures)
     (c.figures-f.ensures st s w).owned

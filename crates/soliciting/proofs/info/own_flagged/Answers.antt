@@ -17,7 +17,7 @@ open_info-requires c =
     let g = c.requires.0 in
     let small = hash_below h (hash-four h c.well_formed.1.1.0) in
     let m = g.holds in
-    let key = c.wtxid_key-k in (
+    let key = c.from-k in (
       owned_kept g.state g.sound c.args.n (hash_num h) c.args.clock small c.requires.2 m (key_num key.result) key.ensures
           c.own.ensures g.writes,
       owned-place g.state g.sound c.args.n (hash_num h) c.args.clock small c.requires.2 m (key_num
@@ -28,6 +28,6 @@ pub returns : goal.returns
 returns c = λ st s w m.
     let h = c.args.h in
     let small = hash_below h (hash-four h c.well_formed.1.1.0) in
-    let key = c.wtxid_key-k in
+    let key = c.from-k in
     opened-writes st s c.args.n (hash_num h) c.args.clock small c.requires.2 m (key_num key.result) key.ensures
     c.own.ensures w c.open_info.ensures

@@ -29,7 +29,7 @@ holds-requires c =
     let small = subject_below c.args.subject c.well_formed.1.1.0 in
     let may = c.may_own.ensures in
     let y = c.if-not-may_own.false in
-    let key = c.wtxid_key-k in
+    let key = c.from-k in
     let a = as_soliciting n h c.args.clock (key_num key.result) (candidate_of c.soliciting.result) key.ensures
     c.soliciting.ensures c.announce_at.ensures in
     announced_kept n h hs c.args.clock peer small c.requires.2 may y a c.requires.0
@@ -43,7 +43,7 @@ returns-then-not-holds c =
     let small = subject_below c.args.subject c.well_formed.1.1.0 in
     let may = c.may_own.ensures in
     let y = c.if-not-may_own.false in
-    let key = c.wtxid_key-k in
+    let key = c.from-k in
     let a = as_soliciting n h c.args.clock (key_num key.result) (candidate_of c.soliciting.result) key.ensures
     c.soliciting.ensures c.announce_at.ensures in
     solicit-refused n h hs c.args.clock peer small c.requires.2 may y a (key_num key.result) key.ensures c.holds.ensures c.if-not-holds.true
@@ -57,7 +57,7 @@ own_flagged-requires c =
     let small = subject_below c.args.subject c.well_formed.1.1.0 in
     let may = c.may_own.ensures in
     let y = c.if-not-may_own.false in
-    let key = c.wtxid_key-k in
+    let key = c.from-k in
     let a = as_soliciting n h c.args.clock (key_num key.result) (candidate_of c.soliciting.result) key.ensures
     c.soliciting.ensures c.announce_at.ensures in
     let z = c.holds.ensures in
@@ -76,7 +76,7 @@ add_parents-requires c =
     let small = subject_below c.args.subject c.well_formed.1.1.0 in
     let may = c.may_own.ensures in
     let y = c.if-not-may_own.false in
-    let key = c.wtxid_key-k in
+    let key = c.from-k in
     let a = as_soliciting n h c.args.clock (key_num key.result)
     (candidate_of c.soliciting.result)
     key.ensures c.soliciting.ensures
@@ -96,7 +96,7 @@ returns c =
     let small = subject_below c.args.subject c.well_formed.1.1.0 in
     let may = c.may_own.ensures in
     let y = c.if-not-may_own.false in
-    let key = c.wtxid_key-k in
+    let key = c.from-k in
     let a = as_soliciting n h c.args.clock (key_num key.result)
     (candidate_of c.soliciting.result)
     key.ensures c.soliciting.ensures

@@ -16,7 +16,7 @@ returns-then-not-may_own c = λ hs st s w.
 pub returns-then-holds : goal.returns-then-holds
 returns-then-holds c = λ hs st s w.
     let n = c.args.n in
-    let here = ap (λ (k : Key). has n (at k st.table).candidates) c.wtxid_key-k.ensures in
+    let here = ap (λ (k : Key). has n (at k st.table).candidates) c.from-k.ensures in
     reply_held (limits_of st) n (hash_num c.args.subject.0) hs c.args.clock st.table
     (sym (c.may_own.ensures st s w) ∙ c.if-not-may_own.false) (sym here ∙ sym (c.holds.ensures st s w) ∙ c.if-holds.true)
 
@@ -24,9 +24,9 @@ pub returns : goal.returns
 returns c = λ hs st s w.
     let n = c.args.n in
     let h = hash_num c.args.subject.0 in
-    let here = ap (λ (k : Key). has n (at k st.table).candidates) c.wtxid_key-k.ensures in
+    let here = ap (λ (k : Key). has n (at k st.table).candidates) c.from-k.ensures in
     c.would_announce.ensures st s w
-    ∙ ap (λ (k : Key). (announce_at (limits_of st) k (candidate_of c.soliciting.result) st.table).reply) c.wtxid_key-k.ensures
+    ∙ ap (λ (k : Key). (announce_at (limits_of st) k (candidate_of c.soliciting.result) st.table).reply) c.from-k.ensures
     ∙ ap (λ (x : Candidate). (announce_at (limits_of st) (wtxid h) x st.table).reply) c.soliciting.ensures
     ∙ reply_new (limits_of st) n h hs c.args.clock st.table (sym (c.may_own.ensures st s w) ∙
     c.if-not-may_own.false) (sym here ∙ sym (c.holds.ensures st s w) ∙ c.if-holds.false)

@@ -17,7 +17,7 @@ returns-in-Transaction c = one_keyed c.args.n
     (hash_num c.args.item.hash)
     c.args.item.kind _
     (key-t (hash_num c.args.item.hash)
-    c.in-Transaction.is c.txid_key.ensures)
+    c.in-Transaction.is c.from.ensures)
     c.fail_listed.ensures
 
 pub fail_listed-requires-in-WitnessTransaction : goal.fail_listed-requires-in-WitnessTransaction
@@ -33,7 +33,7 @@ returns-in-WitnessTransaction c = one_keyed c.args.n
     (hash_num c.args.item.hash)
     c.args.item.kind _
     (key-v (hash_num c.args.item.hash)
-    c.in-WitnessTransaction.is c.txid_key-in-WitnessTransaction.ensures)
+    c.in-WitnessTransaction.is c.from-in-WitnessTransaction.ensures)
     c.fail_listed-in-WitnessTransaction.ensures
 
 pub fail_listed-requires-in-WTx : goal.fail_listed-requires-in-WTx
@@ -49,7 +49,7 @@ returns-in-WTx c = one_keyed c.args.n
     (hash_num c.args.item.hash)
     c.args.item.kind _
     (key-w (hash_num c.args.item.hash)
-    c.in-WTx.is c.wtxid_key.ensures)
+    c.in-WTx.is c.from-in-WTx.ensures)
     c.fail_listed-in-WTx.ensures
 
 pub returns-then-t-eq-MSG_ANCPKGINFO : goal.returns-then-t-eq-MSG_ANCPKGINFO
@@ -57,7 +57,7 @@ returns-then-t-eq-MSG_ANCPKGINFO c = one_info c.args.n
     c.args.clock
     (hash_num c.args.item.hash) _ _
     c.in-Other.is c.if-t-eq-MSG_ANCPKGINFO.true
-    c.wtxid_key-then-t-eq-MSG_ANCPKGINFO.ensures c.fail_info.ensures
+    c.from-then-t-eq-MSG_ANCPKGINFO.ensures c.fail_info.ensures
 
 pub returns-in-Other : goal.returns-in-Other
 returns-in-Other c = one_other c.args.n c.args.clock

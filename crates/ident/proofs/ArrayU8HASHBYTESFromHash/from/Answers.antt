@@ -1,9 +1,9 @@
--- `ident::hash_to_bytes` meets its contract.
+-- The bytes of a hash have its number.
 use mathlib.Core.Path.{refl}
 use Rattle.ident.specs.Words.{hash_num}
 use Rattle.ident.proofs.Words.{hash-four, hash_below}
 use Rattle.ident.proofs.WordByWord.{written}
-use Rattle.ident.proofs.hash_to_bytes.Goals as goal
+use Rattle.ident.proofs.ArrayU8HASHBYTESFromHash.from.Goals as goal
 
 pub returns : goal.returns
 returns c =
