@@ -10,11 +10,11 @@ use Rattle.ident.specs.declared.Hash.{Hash}
 use Rattle.ident.specs.Words.{hash_bytes, hash_num}
 use Rattle.ident.proofs.Words.{Four, hash_same}
 
--- b is what `hash_to_bytes` answers of h, and r what `hash_from_bytes` answers of b
+-- b are the bytes that are made from the hash h, and r is the hash that is made from b
 pub hash_again : (h r : Hash) (b : List ℕ) → Four h → Four r → number 256 b ≡ hash_num h → hash_num r ≡ number 256 b → r ≡ h
 hash_again h r b f g e e' = hash_same r h g f (e' ∙ e)
 
--- h is what `hash_from_bytes` answers of b, and c what `hash_to_bytes` answers of h
+-- h is the hash that is made from the bytes b, and c are the bytes that are made from h
 pub bytes_again : (b c : List ℕ) (h : Hash) → length b ≡ hash_bytes → length c ≡ hash_bytes → ((i : ℕ) → get_or b i 0 < 256) → ((i : ℕ) → get_or c i 0 < 256)
     → hash_num h ≡ number 256 b → number 256 c ≡ hash_num h → c ≡ b
 bytes_again b c h l m f g e e' = sym (again c m g) ∙ ap (digits 256 hash_bytes) (e' ∙ e) ∙ again b l f

@@ -1,8 +1,8 @@
 -- Numbers and their digits, in any base.
 use Prim.Native.Nat.{ℕ, zero, suc, ◌+◌, ◌*◌, ◌/◌, ◌%◌, ◌^◌, ◌≤◌, ◌<◌}
-use mathlib.Core.Path.{◌≡◌, refl, sym, ap, ◌∙◌}
+use mathlib.Core.Path.{◌≡◌, refl, ap, ◌∙◌}
 use mathlib.Core.List.{List, [], ◌∷◌, ◌++◌}
-use native.Mathlib.Nat.{suc-add, mul-le-mul_left, pow-zero, pow-suc, pow-succ', one-mul, mul-add, mul_assoc, add_assoc, add-zero, add-suc}
+use native.Mathlib.Nat.{suc-add, mul-le-mul_left, pow-zero, pow-suc, pow-succ', one-mul, mul-add, mul_assoc, add_assoc, add-suc}
 use native.Mathlib.Nat.{zero-add, mod-add-div, mod-eq_of_lt, div-eq_of_lt, add-mul-mod_self_left, add-mul-div_left, div-lt_iff_lt-mul}
 use native.Mathlib.Omega.{arith}
 use lib.ListN.{length, take, drop, get_or}

@@ -1,9 +1,9 @@
 use borrow.Author.Rules.{rules}
 use native.Mathlib.Omega.{arith}
-use Prim.Native.Nat.{◌+◌, ◌-◌, ◌≤◌}
+use Prim.Native.Nat.{◌+◌, ◌≤◌}
 use mathlib.Core.Path.{◌≡◌, sym}
 use lib.ListN.{length}
-use Rattle.words.specs.Words.{words, up}
+use Rattle.words.specs.Words.{words}
 use Rattle.words.proofs.Words.{length-words}
 use Rattle.words.proofs.Moves.{up_none, up_turn}
 use Rattle.words.proofs.shift_up.Goals as goal
