@@ -35,7 +35,7 @@ use Rattle.announcing.proofs.GoneTogether.{cuts_more, cuts-sound, cuts_left, cut
 use Rattle.announcing.proofs.GoneBy.{each_front}
 use Rattle.gathering.specs.Waits.{pushes, Ready, waits, barred_beside}
 use Rattle.gathering.specs.Aside.{space, PutIn, Aside, RowIn}
-use Rattle.gathering.specs.Deferring.{Owing, left_by, Suited, Owed}
+use Rattle.gathering.specs.Deferring.{Owing, left_by, ShutOut, Suited, Owed}
 use Rattle.gathering.proofs.Waiting.{ordered-pushes, pushes_more, waits_not, taken-barred, taken-crowded, taken-evicting}
 use Rattle.gathering.proofs.Faring.{each_more, aside_more}
 use Rattle.gathering.proofs.Exchanging.{cut-pushes, aside_still, victims-pushes}
@@ -152,15 +152,9 @@ module _ {b w v : List ℕ} {n d m : ℕ} {st : State} (f : Owing b w v n d m st
 -- ---- an announcement that changes nothing
 
 module _ {b w v : List ℕ} {d m : ℕ} {st : State} {c : Candidate} (f : Owing b w v c.connection d m st) where
-  pub owed_not : {x : Option Key} {r : ℕ} → r ≡ 0 → (announce_keyed (limits_of st) x c (pushes f.entries (left_by f))).table ≡ pushes f.entries (left_by f)
-      → Owed b w v (d + r) m x c st f.entries (left_by f)
-  owed_not {x} {r} e q =
-      let n : d ≡ d + r = omega arith in
-      subst (λ (i : ℕ). Owed b w v i m x c st f.entries (left_by f)) n (record { owing = f; same = q })
-
   -- it is barred, or there are eight at its hash of whom none can be evicted
-  pub out_same : (k : Key) → k.hash < top → Each (λ (y : Row). eqb (key_at y).hash k.hash ≡ false) (take d f.listed.rows) → {y : Row} → c.preferred ≡ true
-      → Suited (limits_of st) st.table f.entries k c y 0 → (announce_at (limits_of st) k c (pushes f.entries (left_by f))).table ≡ pushes f.entries (left_by f)
+  pub out_same : (k : Key) → k.hash < top → Each (λ (y : Row). eqb (key_at y).hash k.hash ≡ false) (take d f.listed.rows) → c.preferred ≡ true
+      → ShutOut (limits_of st) st.table f.entries k c → (announce_at (limits_of st) k c (pushes f.entries (left_by f))).table ≡ pushes f.entries (left_by f)
   unfolding evicting greatest
   out_same k small e p s =
       let l = limits_of st in
@@ -168,7 +162,7 @@ module _ {b w v : List ℕ} {d m : ℕ} {st : State} {c : Candidate} (f : Owing 
       let o = (left_sound f).bounded.ordered in
       elim (test (barred_beside f.entries k c.connection (left_by f))) [
         | inl z ↦ taken-barred l c f.entries (left_by f) a o k z
-        | inr z ↦ elim (s.out refl) [
+        | inr z ↦ elim s.either [
           | inl i ↦ taken-barred l c f.entries (left_by f) a o k (barred_same f k e ∙ i)
           | inr i ↦
               let none_there : victims (at_hash k.hash) (pushes f.entries (left_by f)) ≡ [] =
@@ -205,12 +199,12 @@ module _ {b w v : List ℕ} {d m : ℕ} {st : State} (c : Candidate) (f : Owing 
         each_front (λ (x : Row). eqb (key_at x).hash k.hash ≡ false) (take d f.listed.rows) (y ∷ [])
         (subst (Each (λ (x : Row). eqb (key_at x).hash k.hash ≡ false)) one_more_lem e)
 
-    module _ (p : c.preferred ≡ true) (x : Suited (limits_of st) st.table f.entries k c y 1) where
+    module _ (p : c.preferred ≡ true) (x : Suited (limits_of st) st.table f.entries k c y) where
       abbrev new : Entry
       new = record { key = k; candidate = c }
 
       free : barred_beside f.entries k c.connection (left_by f) ≡ false
-      free = barred_same f k split.0 ∙ x.free refl
+      free = barred_same f k split.0 ∙ x.free
 
       -- the machine evicts it, and the order of what is done does not matter
       table_is : (announce_keyed (limits_of st) (some k) c (pushes f.entries (left_by f))).table ≡ pushes (f.entries ++ (new ∷ [])) (cuts (take (d + 1) f.listed.rows) st.table)
@@ -220,13 +214,13 @@ module _ {b w v : List ℕ} {d m : ℕ} {st : State} (c : Candidate) (f : Owing 
           let s = left_sound f in
           let left = drop (suc d) f.listed.rows in
           let full : leb st.limit (held u + length f.entries) ≡ true = le-leb st.limit (held u + length f.entries) (omega (arith, left_held f, f.aside.count)) in
-          let room : leb (limits_of st).alternates (held_at k.hash u) ≡ false = lt-leb (limits_of st).alternates (held_at k.hash u) (omega (arith, at_same f k split.0, x.room refl)) in
+          let room : leb (limits_of st).alternates (held_at k.hash u) ≡ false = lt-leb (limits_of st).alternates (held_at k.hash u) (omega (arith, at_same f k split.0, x.room)) in
           let goes : greatest (victims anywhere (pushes f.entries u)) ≡ some (entry_at y) =
           ap greatest (victims-pushes f.entries u f.preferred) ∙ first_greatest (on_table u st) s y left here in
           let small-y = (first_goes (on_table u st) s y left here).small in
           ap (λ (a : Answer). a.table) (taken-evicting (limits_of st) c f.entries u f.aside.ready s.bounded.ordered k free room full p
           ∙ ap (λ (o : Option Entry). evicting o k c (pushes f.entries u)) goes)
-          ∙ ap (push k c) (cut-pushes (key_at y) y.conn small-y c.connection f.entries u f.aside.ready (x.apart refl) s.bounded.ordered s.bounded.filled)
+          ∙ ap (push k c) (cut-pushes (key_at y) y.conn small-y c.connection f.entries u f.aside.ready x.apart s.bounded.ordered s.bounded.filled)
           ∙ sym (pushes_more f.entries new (cut (key_at y) y.conn u))
           ∙ ap (pushes (f.entries ++ (new ∷ []))) (sym (ap (λ (vs : List Row). cuts vs st.table) one_more_lem ∙ cuts_more (take d f.listed.rows) y st.table))
 
@@ -235,12 +229,12 @@ module _ {b w v : List ℕ} {d m : ℕ} {st : State} (c : Candidate) (f : Owing 
       owed_in {w'} {z} mine sp row put =
           let es = f.entries in
           let unknown : is_candidate c.connection k.hash st.table ≡ false = or_left (is_candidate c.connection k.hash st.table) (waits k.hash es)
-          (or_left (is_candidate c.connection k.hash st.table || waits k.hash es) (leb max_peer_announcements (held_by c.connection st.table + length es)) (x.free refl)) in
+          (or_left (is_candidate c.connection k.hash st.table || waits k.hash es) (leb max_peer_announcements (held_by c.connection st.table + length es)) (x.free)) in
           let i = fresh st f.sound k small c.connection unknown in
           let P : List Entry → Row → Type 0 = λ l r. (waits (key_at r).hash l ≡ false) × (eqb r.conn c.connection ≡ false) in
           let apart : Each (P (es ++ (new ∷ []))) (take d f.listed.rows ++ (y ∷ [])) =
           Each-both (P (es ++ (new ∷ []))) (take d f.listed.rows) (y ∷ []) (later (take d f.listed.rows) f.apart split.0)
-          ((waits_more (key_at y).hash es new (x.apart refl) (eqb-sym k.hash (key_at y).hash ∙ split.1.0), mine), tt) in
+          ((waits_more (key_at y).hash es new x.apart (eqb-sym k.hash (key_at y).hash ∙ split.1.0), mine), tt) in
           record {
             owing = record {
               sound = f.sound;

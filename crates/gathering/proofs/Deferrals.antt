@@ -28,10 +28,12 @@ use Rattle.announcing.specs.Falls.{list_space}
 use Rattle.announcing.proofs.Nobody.{none_greatest}
 use Rattle.announcing.proofs.Scanning.{none_found}
 use Rattle.announcing.proofs.GoneBy.{each_front}
+use Rattle.gathering.specs.declared.beside.Fare.{Fare}
+use Rattle.gathering.specs.declared.beside.Fare.TheVariants.{Nothing, Waits, Alone}
 use Rattle.gathering.specs.Waits.{waits}
 use Rattle.gathering.specs.Aside.{space, PutIn, BarredIn, WaitsAt, RowIn}
-use Rattle.gathering.specs.Deferring.{ListedAt, Suited, SuitedIn, Deferred}
-use Rattle.gathering.proofs.Deferral.{owed_not, out_same, owed_in}
+use Rattle.gathering.specs.Deferring.{ListedAt, SuitsNot, SuitsToo, SuitedIn, Deferred}
+use Rattle.gathering.proofs.Deferral.{out_same, owed_in}
 
 -- ---- the rows listed, one after the other
 
@@ -63,90 +65,73 @@ passed_all {v} {h} {i} {n} p e _ rows l z = subst (λ (j : ℕ). Each (λ (y : R
 -- ---- how it fares
 
 module _ {b w v : List ℕ} {d : ℕ} {k : Key} {c : Candidate} {y : Row} where
-  pub suited-alone : SuitedIn b w v d k c y 2
-  suited-alone = record {
-    most = omega arith;
-    spare = λ e. absurd (omega arith);
-    preferred = λ e. absurd (omega arith);
-    other = λ e. absurd (omega arith);
-    elsewhere = λ e. absurd (omega arith);
-    suited = λ st s g es a. record { out = λ e. absurd (omega arith); free = λ e. absurd (omega arith); room = λ e. absurd (omega arith); apart = λ e. absurd (omega arith) };
+  pub suited-alone : SuitedIn b w v d k c y Alone
+  suited-alone = record { nothing = λ e. cc; waits = λ e. cc }
+
+module _ {b w v : List ℕ} {d : ℕ} {k : Key} {c : Candidate} {y : Row} (p : c.preferred ≡ true) {l : Bool} (at : ListedAt v (d + 1) k.hash l) (n : l ≡ false) where
+  pub suited-barred : {r : Bool} → BarredIn b w d k c.connection r → r ≡ true → SuitedIn b w v d k c y Nothing
+  suited-barred q e = record {
+    nothing = λ _. record { preferred = p; elsewhere = subst (ListedAt v (d + 1) k.hash) n at; out = λ st s g es a. record { either = inl (sym (q st s g es a) ∙ e) } };
+    waits = λ i. cc;
   }
 
-  module _ (p : c.preferred ≡ true) {l : Bool} (at : ListedAt v (d + 1) k.hash l) (n : l ≡ false) where
-    pub suited-barred : {r : Bool} → BarredIn b w d k c.connection r → r ≡ true → SuitedIn b w v d k c y 0
-    suited-barred q e = record {
-      most = omega arith;
-      spare = λ e. absurd (omega arith);
-      preferred = λ _. p;
-      other = λ e. absurd (omega arith);
-      elsewhere = λ _. subst (ListedAt v (d + 1) k.hash) n at;
-      suited = λ st s g es a. record {
-        out = λ _. inl (sym (q st s g es a) ∙ e);
-        free = λ e. absurd (omega arith);
-        room = λ e. absurd (omega arith);
-        apart = λ e. absurd (omega arith);
-      };
-    }
-
-    pub suited-crowded : {x : Bool} → Crowded b k.hash x → x ≡ true → (z : std.Option Row) → Tells b (λ t. found z ≡ greatest (victims (at_hash k.hash) t)) → is_some z ≡ false
-        → SuitedIn b w v d k c y 0
-    suited-crowded q l z r e = record {
-      most = omega arith;
-      spare = λ e. absurd (omega arith);
-      preferred = λ _. p;
-      other = λ e. absurd (omega arith);
-      elsewhere = λ _. subst (ListedAt v (d + 1) k.hash) n at;
-      suited = λ st s g es a. record {
-        out = λ _. inr (
+  pub suited-crowded : {x : Bool} → Crowded b k.hash x → x ≡ true → (z : std.Option Row) → Tells b (λ t. found z ≡ greatest (victims (at_hash k.hash) t)) → is_some z ≡ false
+      → SuitedIn b w v d k c y Nothing
+  suited-crowded q l z r e = record {
+    nothing = λ _. record {
+      preferred = p;
+      elsewhere = subst (ListedAt v (d + 1) k.hash) n at;
+      out = λ st s g es a. record {
+        either = inr (
           leb-true (limits_of st).alternates (held_at k.hash st.table)
               (sym (q st s g) ∙ l),
           none_greatest (victims (at_hash k.hash) st.table) (sym (r st s g) ∙ none_found z e),
         );
-        free = λ e. absurd (omega arith);
-        room = λ e. absurd (omega arith);
-        apart = λ e. absurd (omega arith);
       };
-    }
+    };
+    waits = λ i. cc;
+  }
 
-    pub suited_in : {r x z : Bool} {h : ℕ} → d < space → BarredIn b w d k c.connection r → r ≡ false → Crowded b k.hash x → x ≡ false
-        → eqb y.conn c.connection ≡ false → h ≡ quad_number y.hash → WaitsAt w d h z → z ≡ false → SuitedIn b w v d k c y 1
-    unfolding key_at
-    suited_in l q e crowd few mine i wait u = record {
-      most = omega arith;
-      spare = λ _. l;
-      preferred = λ _. p;
-      other = λ _. mine;
-      elsewhere = λ _. subst (ListedAt v (d + 1) k.hash) n at;
+  pub suited_in : {r x z : Bool} {h : ℕ} → d < space → BarredIn b w d k c.connection r → r ≡ false → Crowded b k.hash x → x ≡ false
+      → eqb y.conn c.connection ≡ false → h ≡ quad_number y.hash → WaitsAt w d h z → z ≡ false → SuitedIn b w v d k c y Waits
+  unfolding key_at
+  suited_in l q e crowd few mine i wait u = record {
+    nothing = λ j. cc;
+    waits = λ _. record {
+      spare = l;
+      preferred = p;
+      other = mine;
+      elsewhere = subst (ListedAt v (d + 1) k.hash) n at;
       suited = λ st s g es a. record {
-        out = λ e. absurd (omega arith);
-        free = λ _. sym (q st s g es a) ∙ e;
-        room = λ _. leb-false (limits_of st).alternates (held_at k.hash st.table) (sym (crowd st s g) ∙ few);
-        apart = λ _. ap (λ (j : ℕ). waits j es) (sym i) ∙ sym (wait c.connection st.table s.bounded.ordered es a) ∙ u;
+        free = sym (q st s g es a) ∙ e;
+        room = leb-false (limits_of st).alternates (held_at k.hash st.table) (sym (crowd st s g) ∙ few);
+        apart = ap (λ (j : ℕ). waits j es) (sym i) ∙ sym (wait c.connection st.table s.bounded.ordered es a) ∙ u;
       };
-    }
+    };
+  }
 
 -- ---- what is done with it
 
 module _ {b w v : List ℕ} {d m : ℕ} {c : Candidate} where
-  pub deferred_used : {x : Option Key} → Deferred b w w v d m x c 2
-  deferred_used = record { most = omega arith; spare = λ e. absurd (omega arith); owed = λ h. absurd (omega arith); alone = λ _. refl }
-
-  pub deferred_none : Deferred b w w v d m none c 0
+  pub deferred_none : Deferred b w w v d m none c Nothing
   unfolding announce_keyed
-  deferred_none = record { most = omega arith; spare = λ e. absurd (omega arith); owed = λ _ st f. owed_not f refl refl; alone = λ e. absurd (omega arith) }
+  deferred_none = record { nothing = λ _ st f. record { owing = f; same = refl }; waits = λ e. cc; alone = λ _. refl }
+
+  pub deferred_alone : {x : Option Key} → Deferred b w w v d m x c Alone
+  deferred_alone = record { nothing = λ e. cc; waits = λ e. cc; alone = λ _. refl }
 
   module _ {k : Key} {y : Row} (small : k.hash < top) (l : d < m) where
-    pub deferred_not : {r : ℕ} → SuitedIn b w v d k c y r → (r ≡ 1 → ⊥) → Deferred b w w v d m (some k) c r
+    pub deferred_not : {r : Fare} → SuitedIn b w v d k c y r → (r ≡ Waits → ⊥) → Deferred b w w v d m (some k) c r
     unfolding announce_keyed
-    deferred_not {r} s n = record {
-      most = s.most;
-      spare = λ e. absurd (n e);
-      owed = λ h st f.
-          let z : r ≡ 0 = omega (arith, n) in
-          owed_not f z (out_same f k small (fewer f.listed.rows (omega (arith, f.listed.count)) (s.elsewhere h refl f.listed.rows (omega (arith, f.listed.count)) f.listed.holds))
-          (s.preferred h)
-          (subst (λ (i : ℕ). Suited (limits_of st) st.table f.entries k c y i) z (s.suited st f.sound f.writes f.entries f.aside)));
+    deferred_not x n = record {
+      nothing = λ e st f.
+          let s : SuitsNot b w v d k c = x.nothing e in
+          record {
+            owing = f;
+            same = out_same f k small (fewer f.listed.rows (omega (arith, f.listed.count)) (s.elsewhere refl f.listed.rows (omega (arith, f.listed.count)) f.listed.holds)) s.preferred
+                (s.out st f.sound f.writes f.entries f.aside);
+          };
+      waits = λ e. absurd (n e);
       alone = λ _. refl;
     }
       where
@@ -157,16 +142,20 @@ module _ {b w v : List ℕ} {d m : ℕ} {c : Candidate} where
             (each_front (λ (x : Row). eqb (key_at x).hash k.hash ≡ false) (take d rows) (get_or rows d y ∷ [])
             (subst (Each (λ (x : Row). eqb (key_at x).hash k.hash ≡ false)) (ap (λ (i : ℕ). take i rows) q ∙ take-suc rows d y g) e)).0
 
-    pub deferred_in : {w' : List ℕ} {z : Row} {r : ℕ} → Found row_size row_words v read_row d y → SuitedIn b w v d k c y r → r ≡ 1 → RowIn b k c z → PutIn w w' d z
-        → Deferred b w w' v d m (some k) c 1
-    deferred_in {w'} {z} {r} found-y s e row put = record {
-      most = omega arith;
-      spare = λ _. (s.spare e, l);
-      owed = λ _ st f.
-          owed_in c f l y found-y k small (s.elsewhere (omega arith) refl f.listed.rows (omega (arith, f.listed.count)) f.listed.holds) (s.preferred (omega arith))
-          (subst (λ (i : ℕ). Suited (limits_of st) st.table f.entries k c y i) e (s.suited st f.sound f.writes f.entries f.aside)) (s.other e) (s.spare e) row put;
-      alone = λ i. absurd (omega arith);
-    }
+    pub deferred_in : {w' : List ℕ} {z : Row} → Found row_size row_words v read_row d y → SuitedIn b w v d k c y Waits → RowIn b k c z → PutIn w w' d z
+        → Deferred b w w' v d m (some k) c Waits
+    deferred_in {w'} {z} found-y x row put =
+        let s : SuitsToo b w v d k c y = x.waits refl in
+        record {
+          nothing = λ e. cc;
+          waits = λ _. record {
+            spare = (s.spare, l);
+            owed = λ st f.
+                owed_in c f l y found-y k small (s.elsewhere refl f.listed.rows (omega (arith, f.listed.count)) f.listed.holds) s.preferred
+                (s.suited st f.sound f.writes f.entries f.aside) s.other s.spare row put;
+          };
+          alone = λ e. cc;
+        }
 
-pub deferred_keyed : {b w w' v : List ℕ} {d m : ℕ} {x y : Option Key} {c : Candidate} {r : ℕ} → x ≡ y → Deferred b w w' v d m x c r → Deferred b w w' v d m y c r
+pub deferred_keyed : {b w w' v : List ℕ} {d m : ℕ} {x y : Option Key} {c : Candidate} {r : Fare} → x ≡ y → Deferred b w w' v d m x c r → Deferred b w w' v d m y c r
 deferred_keyed {b} {w} {w'} {v} {d} {m} {x} {y} {c} {r} e a = subst (λ (k : Option Key). Deferred b w w' v d m k c r) e a

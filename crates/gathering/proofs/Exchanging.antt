@@ -34,11 +34,13 @@ use Rattle.announcing.proofs.Entering.{fresh, cleared-sound, cleared-fresh, clea
 use Rattle.announcing.proofs.Giving.{victims-push, first_greatest, first_goes, next_first, one_less}
 use Rattle.announcing.proofs.Swapping.{change-swap}
 use Rattle.gathering.specs.Merges.{placed, gathered}
+use Rattle.gathering.specs.declared.beside.Fare.{Fare}
+use Rattle.gathering.specs.declared.beside.Fare.TheVariants.{Nothing, Waits, Alone}
 use Rattle.gathering.specs.Waits.{pushes, Ready, Idle, waits}
 use Rattle.gathering.specs.Aside.{space, PutIn, Aside, BarredIn, WaitsAt, RowIn}
-use Rattle.gathering.specs.Exchanges.{Full, Suits, SuitsIn, Instead, Swapped, Exchanged}
+use Rattle.gathering.specs.Exchanges.{Full, Suits, SuitsToo, SuitsIn, Instead, Swapped, Exchanged}
 use Rattle.gathering.proofs.Waiting.{pushes_more, taken-barred, taken-evicting}
-use Rattle.gathering.proofs.Faring.{same_aside, each_more, aside_more}
+use Rattle.gathering.proofs.Faring.{each_more, aside_more}
 
 -- ---- a candidate goes at another hash than those that wait
 
@@ -110,34 +112,34 @@ module _ (c : Candidate) {b w v : List ℕ} {d p m : ℕ} {st : State} (f : Full
   pub after_kept : {b' : List ℕ} {j : Key} → j ≡ key_at y → Makes b b' (λ u. (has y.conn (at j u).candidates ≡ true) × (owner_is y.conn (at j u).owner ≡ false)) (cut j y.conn) → Kept b'
   after_kept q h = cleared_kept st f.sound y gives-way (cut-writes st f.sound y gives-way q h f.writes)
 
-  module _ {k : Key} (small : k.hash < top) (x : Suits (limits_of st) t es k c y 1) where
+  module _ {k : Key} (small : k.hash < top) (x : Suits (limits_of st) t es k c y) where
     abbrev b₁ : Entry
     b₁ = record { key = k; candidate = c }
 
     unknown : is_candidate c.connection k.hash t ≡ false
     unknown = or_left (is_candidate c.connection k.hash t) (waits k.hash es)
-        (or_left (is_candidate c.connection k.hash t || waits k.hash es) (leb max_peer_announcements (held_by c.connection t + length es)) (x.free refl))
+        (or_left (is_candidate c.connection k.hash t || waits k.hash es) (leb max_peer_announcements (held_by c.connection t + length es)) x.free)
 
     -- the machine evicts it, and the order of what is done does not matter
     table_is : (announce_keyed (limits_of st) (some k) c (pushes es t)).table ≡ pushes (es ++ (b₁ ∷ [])) after
     unfolding announce_keyed evicting candidate_at
     table_is =
-        let e = taken-evicting (limits_of st) c es t f.aside.ready f.sound.bounded.ordered k (x.free refl) (lt-leb (limits_of st).alternates (held_at k.hash t) (x.room refl))
-        (le-leb st.limit (held t + length es) (omega (arith, f.whole, f.aside.count))) (x.preferred refl) in
+        let e = taken-evicting (limits_of st) c es t f.aside.ready f.sound.bounded.ordered k x.free (lt-leb (limits_of st).alternates (held_at k.hash t) x.room)
+        (le-leb st.limit (held t + length es) (omega (arith, f.whole, f.aside.count))) x.preferred in
         let g : greatest (victims anywhere (pushes es t)) ≡ some (entry_at y) = ap greatest (victims-pushes es t f.preferred) ∙ first_greatest st f.sound y left here in
         ap (λ (a : Answer). a.table) (e ∙ ap (λ (o : Option Entry). evicting o k c (pushes es t)) g)
-        ∙ ap (push k c) (cut-pushes (key_at y) y.conn gives-way.small c.connection es t f.aside.ready (x.apart refl) f.sound.bounded.ordered f.sound.bounded.filled)
+        ∙ ap (push k c) (cut-pushes (key_at y) y.conn gives-way.small c.connection es t f.aside.ready x.apart f.sound.bounded.ordered f.sound.bounded.filled)
         ∙ sym (pushes_more es b₁ after)
 
     -- it is the machine's victim that goes
     instead_of : Instead (limits_of st) t es k c (es ++ (b₁ ∷ [])) after
     instead_of = record {
       row = y;
-      free = x.free refl;
-      room = x.room refl;
+      free = x.free;
+      room = x.room;
       greatest_is = first_greatest st f.sound y left here;
       small = gives-way.small;
-      apart = x.apart refl;
+      apart = x.apart;
       last = refl;
       rest = refl;
     }
@@ -156,8 +158,8 @@ module _ (c : Candidate) {b w v : List ℕ} {d p m : ℕ} {st : State} (f : Full
             sound = s';
             writes = g;
             entries = es ++ (b₁ ∷ []);
-            aside = aside_more k c (aside_still (key_at y) y.conn gives-way.small f.aside (x.apart refl)) small sp i (row (on_table after st) s' g i) put;
-            preferred = each_more (λ (a : Entry). a.candidate.preferred ≡ true) es b₁ f.preferred (x.preferred refl);
+            aside = aside_more k c (aside_still (key_at y) y.conn gives-way.small f.aside x.apart) small sp i (row (on_table after st) s' g i) put;
+            preferred = each_more (λ (a : Entry). a.candidate.preferred ≡ true) es b₁ f.preferred x.preferred;
             whole = omega (arith, one_less st f.sound y left here, f.whole);
             victims = record {
               rows = f.victims.rows;
@@ -173,107 +175,66 @@ module _ (c : Candidate) {b w v : List ℕ} {d p m : ℕ} {st : State} (f : Full
 
 -- ---- nobody goes
 
-module _ {b w v : List ℕ} {d p m : ℕ} {st : State} {c : Candidate} (f : Full b w v c.connection d p m st) {r : ℕ} (e : r ≡ 0) where
-  pub swapped_not : {x : Option Key} → (announce_keyed (limits_of st) x c (pushes f.entries st.table)).table ≡ pushes f.entries st.table
-      → Swapped b w v (d + r) (p + r) m x c st f.entries
-  swapped_not q =
-      let n : p ≡ p + r = omega arith in
-      record {
-        table = st.table;
-        full = record {
-          sound = f.sound;
-          writes = f.writes;
-          entries = f.entries;
-          aside = same_aside f.aside e;
-          preferred = f.preferred;
-          whole = omega (arith, f.whole);
-          victims = record {
-            rows = f.victims.rows;
-            count = f.victims.count;
-            holds = f.victims.holds;
-            first = subst (λ (i : ℕ). Foremost (drop i f.victims.rows) (rows_of st.table)) n f.victims.first;
-          };
-        };
-        same = q;
-        enters = λ h. absurd (omega (arith, f.aside.count));
-        stays = λ _. (refl, refl);
-      }
+pub swapped_not : {b w v : List ℕ} {d p m : ℕ} {st : State} {c : Candidate} (f : Full b w v c.connection d p m st) {x : Option Key}
+    → (announce_keyed (limits_of st) x c (pushes f.entries st.table)).table ≡ pushes f.entries st.table → Swapped b w v d p m x c st f.entries
+swapped_not {st = st} f q = record { table = st.table; full = f; same = q; enters = λ h. absurd (omega (arith, f.aside.count)); stays = λ _. (refl, refl) }
 
 -- ---- what a call does with one announcement
 
-pub suits-alone : {b w : List ℕ} {d : ℕ} {k : Key} {c : Candidate} {y : Row} → SuitsIn b w d k c y 2
-suits-alone = record {
-  most = omega arith;
-  spare = λ e. absurd (omega arith);
-  suits = λ st s g es a. record {
-    barred = λ e. absurd (omega arith);
-    free = λ e. absurd (omega arith);
-    room = λ e. absurd (omega arith);
-    preferred = λ e. absurd (omega arith);
-    apart = λ e. absurd (omega arith);
-  };
-}
+pub suits-barred : {b w : List ℕ} {d : ℕ} {k : Key} {c : Candidate} {y : Row} {r : Bool} → BarredIn b w d k c.connection r → r ≡ true → SuitsIn b w d k c y Nothing
+suits-barred {b} {w} {d} {k} {c} q e = record { nothing = λ _. subst (BarredIn b w d k c.connection) e q; waits = λ i. cc }
 
-pub suits-barred : {b w : List ℕ} {d : ℕ} {k : Key} {c : Candidate} {y : Row} {r : Bool} → BarredIn b w d k c.connection r → r ≡ true → SuitsIn b w d k c y 0
-suits-barred q e = record {
-  most = omega arith;
-  spare = λ e. absurd (omega arith);
-  suits = λ st s g es a. record {
-    barred = λ _. sym (q st s g es a) ∙ e;
-    free = λ e. absurd (omega arith);
-    room = λ e. absurd (omega arith);
-    preferred = λ e. absurd (omega arith);
-    apart = λ e. absurd (omega arith);
-  };
-}
+pub suits-alone : {b w : List ℕ} {d : ℕ} {k : Key} {c : Candidate} {y : Row} → SuitsIn b w d k c y Alone
+suits-alone = record { nothing = λ e. cc; waits = λ e. cc }
 
 pub suits_in : {b w : List ℕ} {d : ℕ} {k : Key} {c : Candidate} {y : Row} {r x z : Bool} {h : ℕ} → d < space → c.preferred ≡ true → BarredIn b w d k c.connection r → r ≡ false
     → Crowded b k.hash x → x ≡ false → h ≡ quad_number y.hash → WaitsAt w d h z → z ≡ false
-    → SuitsIn b w d k c y 1
+    → SuitsIn b w d k c y Waits
 unfolding key_at
 suits_in {b} {w} {d} {k} {c} {y} {r} l p q e crowd few i wait u = record {
-  most = omega arith;
-  spare = λ _. l;
-  suits = λ st s g es a. record {
-    barred = λ e. absurd (omega arith);
-    free = λ _. sym (q st s g es a) ∙ e;
-    room = λ _. leb-false (limits_of st).alternates (held_at k.hash st.table) (sym (crowd st s g) ∙ few);
-    preferred = λ _. p;
-    apart = λ _. ap (λ (j : ℕ). waits j es) (sym i) ∙ sym (wait c.connection st.table s.bounded.ordered es a) ∙ u;
+  nothing = λ j. cc;
+  waits = λ _. record {
+    spare = l;
+    suits = λ st s g es a. record {
+      free = sym (q st s g es a) ∙ e;
+      room = leb-false (limits_of st).alternates (held_at k.hash st.table) (sym (crowd st s g) ∙ few);
+      preferred = p;
+      apart = ap (λ (j : ℕ). waits j es) (sym i) ∙ sym (wait c.connection st.table s.bounded.ordered es a) ∙ u;
+    };
   };
 }
 
 module _ {b w v : List ℕ} {d p m : ℕ} {c : Candidate} where
-  pub exchanged_used : {x : Option Key} → Exchanged b b w w v d p m x c 2
-  exchanged_used = record { most = omega arith; spare = λ e. absurd (omega arith); swapped = λ h. absurd (omega arith); alone = λ _. (refl, refl) }
-
-  pub exchanged_none : Exchanged b b w w v d p m none c 0
+  pub exchanged_none : Exchanged b b w w v d p m none c Nothing
   unfolding announce_keyed
-  exchanged_none = record { most = omega arith; spare = λ e. absurd (omega arith); swapped = λ _ st f. swapped_not f refl refl; alone = λ e. absurd (omega arith) }
+  exchanged_none = record { nothing = λ _ st f. swapped_not f refl; waits = λ e. cc; alone = λ _. (refl, refl) }
+
+  pub exchanged_alone : {x : Option Key} → Exchanged b b w w v d p m x c Alone
+  exchanged_alone = record { nothing = λ e. cc; waits = λ e. cc; alone = λ _. (refl, refl) }
 
   module _ {k : Key} {y : Row} where
-    pub exchanged_not : {r : ℕ} → SuitsIn b w d k c y r → (r ≡ 1 → ⊥) → Exchanged b b w w v d p m (some k) c r
+    pub exchanged_not : {r : Fare} → SuitsIn b w d k c y r → (r ≡ Waits → ⊥) → Exchanged b b w w v d p m (some k) c r
     unfolding announce_keyed
-    exchanged_not {r} s n = record {
-      most = s.most;
-      spare = λ e. absurd (n e);
-      swapped = λ h st f.
-          let z : r ≡ 0 = omega (arith, n) in
-          swapped_not f z (taken-barred (limits_of st) c f.entries st.table f.aside.ready f.sound.bounded.ordered k
-          ((s.suits st f.sound f.writes f.entries f.aside).barred z));
+    exchanged_not s n = record {
+      nothing = λ e st f.
+          swapped_not f (taken-barred (limits_of st) c f.entries st.table f.aside.ready f.sound.bounded.ordered k (sym (s.nothing e st f.sound f.writes f.entries f.aside)));
+      waits = λ e. absurd (n e);
       alone = λ _. (refl, refl);
     }
 
-    pub exchanged_in : {b' w' : List ℕ} {j : Key} {z : Row} {r : ℕ} → k.hash < top → p < m → Found row_size row_words v read_row p y → SuitsIn b w d k c y r → r ≡ 1 → j ≡ key_at y
+    pub exchanged_in : {b' w' : List ℕ} {j : Key} {z : Row} → k.hash < top → p < m → Found row_size row_words v read_row p y → SuitsIn b w d k c y Waits → j ≡ key_at y
         → Makes b b' (λ u. (has y.conn (at j u).candidates ≡ true) × (owner_is y.conn (at j u).owner ≡ false)) (cut j y.conn) → RowIn b' k c z → PutIn w w' d z
-        → Exchanged b b' w w' v d p m (some k) c 1
-    exchanged_in {b'} {w'} {j} {z} {r} small l found s e q h row put = record {
-      most = omega arith;
-      spare = λ _. (s.spare e, l);
-      swapped = λ _ st f. swapped_in c f l y found small (subst (λ (i : ℕ). Suits (limits_of st) st.table f.entries k c y i) e (s.suits st f.sound f.writes f.entries f.aside))
-          (s.spare e) q h row put;
-      alone = λ i. absurd (omega arith);
-    }
+        → Exchanged b b' w w' v d p m (some k) c Waits
+    exchanged_in small l found x q h row put =
+        let s : SuitsToo b w d k c y = x.waits refl in
+        record {
+          nothing = λ e. cc;
+          waits = λ _. record {
+            spare = (s.spare, l);
+            swapped = λ st f. swapped_in c f l y found small (s.suits st f.sound f.writes f.entries f.aside) s.spare q h row put;
+          };
+          alone = λ e. cc;
+        }
 
-pub exchanged_keyed : {b b' w w' v : List ℕ} {d p m : ℕ} {x y : Option Key} {c : Candidate} {r : ℕ} → x ≡ y → Exchanged b b' w w' v d p m x c r → Exchanged b b' w w' v d p m y c r
+pub exchanged_keyed : {b b' w w' v : List ℕ} {d p m : ℕ} {x y : Option Key} {c : Candidate} {r : Fare} → x ≡ y → Exchanged b b' w w' v d p m x c r → Exchanged b b' w w' v d p m y c r
 exchanged_keyed {b} {b'} {w} {w'} {v} {d} {p} {m} {x} {y} {c} {r} e a = subst (λ (k : Option Key). Exchanged b b' w w' v d p m k c r) e a

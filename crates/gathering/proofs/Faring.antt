@@ -23,8 +23,10 @@ use Rattle.machine.proofs.Tests.{test, or_left, or_true}
 use Rattle.store.specs.Flat.{row_of}
 use Rattle.announcing.proofs.Entering.{fresh}
 use Rattle.gathering.specs.Merges.{placed, gathered}
-use Rattle.gathering.specs.Waits.{pushes, Ready, waits, barred_beside, full_beside}
-use Rattle.gathering.specs.Aside.{space, PutIn, Aside, Fares, FaresIn, RowIn, Enters, Joined, SetAside}
+use Rattle.gathering.specs.declared.beside.Fare.{Fare}
+use Rattle.gathering.specs.declared.beside.Fare.TheVariants.{Nothing, Waits}
+use Rattle.gathering.specs.Waits.{Ready, waits, barred_beside, full_beside}
+use Rattle.gathering.specs.Aside.{space, PutIn, Aside, Joins, Fares, FaresIn, RowIn, Enters, Joined, SetAside}
 use Rattle.gathering.proofs.Waiting.{taken-barred, taken_out, taken_in}
 use Rattle.gathering.proofs.InOrder.{sorted-gathered, gathered_more}
 use Rattle.gathering.proofs.Looking.{few_rows}
@@ -46,17 +48,6 @@ module _ (es : List Entry) (k : Key) (n : ℕ) (t : Table) {m : ℕ} (e : length
 
 -- ---- how it fares
 
-module _ (m : Limits) (t : Table) (es : List Entry) (k : Key) (c : Candidate) where
-  pub fares-alone : Fares m t es k c 2
-  fares-alone = record {
-    stays = λ e. absurd (omega arith);
-    joins = λ e. absurd (omega arith);
-    idle = λ e. absurd (omega arith);
-    room = λ e. absurd (omega arith);
-    free = λ e. absurd (omega arith);
-    roomy = λ e. absurd (omega arith);
-  }
-
 module _ (st : State) (s : Sound st) (k : Key) (c : Candidate) (small : k.hash < top) {es : List Entry} {w : List ℕ} {d : ℕ} (a : Aside c.connection st.table es w d) where
   abbrev m : Limits
   m = limits_of st
@@ -67,37 +58,24 @@ module _ (st : State) (s : Sound st) (k : Key) (c : Candidate) (small : k.hash <
   abbrev Barred : Bool
   Barred = barred_beside es k c.connection t
 
-  stay : (announce_keyed m (some k) c (pushes es t)).table ≡ pushes es t → Fares m t es k c 0
-  unfolding announce_keyed
-  stay e = record {
-    stays = λ _. e;
-    joins = λ q. absurd (omega arith);
-    idle = λ q. absurd (omega arith);
-    room = λ q. absurd (omega arith);
-    free = λ q. absurd (omega arith);
-    roomy = λ q. absurd (omega arith);
-  }
+  pub fares-barred : {r : Bool} → r ≡ Barred → r ≡ true → Fares m t es k c Nothing
+  fares-barred q e = taken-barred m c es t a.ready s.bounded.ordered k (sym q ∙ e)
 
-  pub fares-barred : {r : Bool} → r ≡ Barred → r ≡ true → Fares m t es k c 0
-  unfolding announce_keyed
-  fares-barred q e = stay (taken-barred m c es t a.ready s.bounded.ordered k (sym q ∙ e))
-
-  out : full_beside m es k t ≡ true → c.preferred ≡ false → Fares m t es k c 0
-  unfolding announce_keyed
+  out : full_beside m es k t ≡ true → c.preferred ≡ false → Fares m t es k c Nothing
   out f p =
       elim (test Barred) [
         | inl b ↦ fares-barred refl b
-        | inr b ↦ stay (taken_out m c es t a.ready s.bounded.ordered k b f p)
+        | inr b ↦ taken_out m c es t a.ready s.bounded.ordered k b f p
       ]
 
   -- L announcements are held, or eight at the hash
-  pub fares-full : {r : Bool} → r ≡ leb st.limit (held t + d) → r ≡ true → c.preferred ≡ false → Fares m t es k c 0
+  pub fares-full : {r : Bool} → r ≡ leb st.limit (held t + d) → r ≡ true → c.preferred ≡ false → Fares m t es k c Nothing
   fares-full q e p = out (or_true (leb m.alternates (held_at k.hash t)) _ (ap (λ (i : ℕ). leb st.limit (held t + i)) a.count ∙ sym q ∙ e)) p
 
-  pub fares-crowded : {x : Bool} → x ≡ leb m.alternates (held_at k.hash t) → x ≡ true → c.preferred ≡ false → Fares m t es k c 0
+  pub fares-crowded : {x : Bool} → x ≡ leb m.alternates (held_at k.hash t) → x ≡ true → c.preferred ≡ false → Fares m t es k c Nothing
   fares-crowded q e p = out (ap (λ (b : Bool). b || leb st.limit (held t + length es)) (sym q ∙ e)) p
 
-  pub fares_in : {f b x : Bool} → f ≡ leb st.limit (held t + d) → f ≡ false → b ≡ Barred → b ≡ false → x ≡ leb m.alternates (held_at k.hash t) → x ≡ false → Fares m t es k c 1
+  pub fares_in : {f b x : Bool} → f ≡ leb st.limit (held t + d) → f ≡ false → b ≡ Barred → b ≡ false → x ≡ leb m.alternates (held_at k.hash t) → x ≡ false → Fares m t es k c Waits
   fares_in {f} {b} {x} qf ef qb eb qx ex =
       let full : leb st.limit (held t + length es) ≡ false = ap (λ (i : ℕ). leb st.limit (held t + i)) a.count ∙ sym qf ∙ ef in
       let crowd : leb m.alternates (held_at k.hash t) ≡ false = sym qx ∙ ex in
@@ -106,12 +84,11 @@ module _ (st : State) (s : Sound st) (k : Key) (c : Candidate) (small : k.hash <
       let apart = or_left (is_candidate c.connection k.hash t || waits k.hash es) (leb max_peer_announcements (held_by c.connection t + length es)) free in
       let new = or_left (is_candidate c.connection k.hash t) (waits k.hash es) apart in
       record {
-        stays = λ e. absurd (omega arith);
-        joins = λ _. taken_in m c es t a.ready s.bounded.ordered k free spare;
-        idle = λ _. fresh st s k small c.connection new;
-        room = λ _. leb-false st.limit (held t + length es) full;
-        free = λ _. free;
-        roomy = λ _. spare;
+        joins = taken_in m c es t a.ready s.bounded.ordered k free spare;
+        idle = fresh st s k small c.connection new;
+        room = leb-false st.limit (held t + length es) full;
+        free = free;
+        roomy = spare;
       }
 
 -- ---- who waits then
@@ -119,9 +96,6 @@ module _ (st : State) (s : Sound st) (k : Key) (c : Candidate) (small : k.hash <
 pub each_more : (P : Entry → Type 0) (l : List Entry) (b : Entry) → Each P l → P b → Each P (l ++ (b ∷ []))
 each_more P [] b h r = (r, tt)
 each_more P (x ∷ l) b h r = (h.0, each_more P l b h.1 r)
-
-pub same_aside : {n : ℕ} {t : Table} {es : List Entry} {w : List ℕ} {d r : ℕ} → Aside n t es w d → r ≡ 0 → Aside n t es w (d + r)
-same_aside a e = record { ready = a.ready; idle = a.idle; count = omega (arith, a.count); rows = a.rows }
 
 -- one more, whose row is put in its place
 pub aside_more : (k : Key) (c : Candidate) {t : Table} {es : List Entry} {w w' : List ℕ} {d : ℕ} → Aside c.connection t es w d → {y : Row} → k.hash < top → d < space
@@ -138,47 +112,50 @@ aside_more k c {t} {es} {w} {w'} {d} a {y} small l i e p =
     }
 
 module _ {m : Limits} {t : Table} {es : List Entry} {c : Candidate} {w : List ℕ} {d : ℕ} (a : Aside c.connection t es w d) where
-  pub joined_none : {r : ℕ} → r ≡ 0 → Joined m t es w (d + r) none c
+  pub joined_none : Joined m t es w d none c
   unfolding announce_keyed
-  joined_none e = record { entries = es; aside = same_aside a e; table = refl; room = λ h. omega (arith, a.count); enters = λ h. absurd (omega (arith, a.count)) }
+  joined_none = record { entries = es; aside = a; table = refl; room = λ h. omega (arith, a.count); enters = λ h. absurd (omega (arith, a.count)) }
 
-  pub joined_not : {k : Key} {r : ℕ} → r ≡ 0 → Fares m t es k c r → Joined m t es w (d + r) (some k) c
+  pub joined_not : {k : Key} → Fares m t es k c Nothing → Joined m t es w d (some k) c
   unfolding announce_keyed
-  joined_not e f = record { entries = es; aside = same_aside a e; table = f.stays e; room = λ h. omega (arith, a.count); enters = λ h. absurd (omega (arith, a.count)) }
+  joined_not f = record { entries = es; aside = a; table = f; room = λ h. omega (arith, a.count); enters = λ h. absurd (omega (arith, a.count)) }
 
-  pub joined_in : {k : Key} {w' : List ℕ} {y : Row} → k.hash < top → d < space → Fares m t es k c 1 → y ≡ row_of (at k t) c → PutIn w w' d y → Joined m t es w' (d + 1) (some k) c
+  pub joined_in : {k : Key} {w' : List ℕ} {y : Row} → k.hash < top → d < space → Joins m t es k c → y ≡ row_of (at k t) c → PutIn w w' d y → Joined m t es w' (d + 1) (some k) c
   unfolding announce_keyed
   joined_in {k} {w'} {y} small l f e p =
       let b : Entry = record { key = k; candidate = c } in
       record {
         entries = es ++ (b ∷ []);
-        aside = aside_more k c a small l (f.idle refl) e p;
-        table = f.joins refl;
-        room = λ h. omega (arith, f.room refl, a.count);
+        aside = aside_more k c a small l f.idle e p;
+        table = f.joins;
+        room = λ h. omega (arith, f.room, a.count);
         enters = λ h j q.
             let z : k ≡ j = cc in
-            subst (λ (i : Key). Enters m t es i c (es ++ (b ∷ []))) z (record { free = f.free refl; roomy = f.roomy refl; last = refl });
+            subst (λ (i : Key). Enters m t es i c (es ++ (b ∷ []))) z (record { free = f.free; roomy = f.roomy; last = refl });
       }
 
 -- ---- what a call does with one announcement
 
 module _ {b w : List ℕ} {m : ℕ} {k : Key} {c : Candidate} where
-  pub set_not : {r : ℕ} → FaresIn b w m k c r → (r ≡ 1 → ⊥) → SetAside b w w m (some k) c r
-  set_not f n = record { most = f.most; joined = λ l st s g es a. joined_not a (omega (arith, n)) (f.fares st s g es a); spare = f.spare; alone = λ _. refl; out = λ _. refl }
-
-  pub set_in : {w' : List ℕ} {r : ℕ} {y : Row} → k.hash < top → FaresIn b w m k c r → r ≡ 1 → RowIn b k c y → PutIn w w' m y → SetAside b w w' m (some k) c 1
-  set_in {w'} {r} {y} small f e q p = record {
-    most = omega arith;
-    joined = λ l st s g es a.
-        let h : Fares (limits_of st) st.table es k c 1 = subst (λ (i : ℕ). Fares (limits_of st) st.table es k c i) e (f.fares st s g es a) in
-        joined_in a small (f.spare e) h (q st s g (h.idle refl)) p;
-    spare = λ _. f.spare e;
-    alone = λ z. absurd (omega arith);
-    out = λ z. absurd (omega arith);
+  pub set_not : {r : Fare} → FaresIn b w m k c r → (r ≡ Waits → ⊥) → SetAside b w w m (some k) c r
+  set_not f n = record {
+    nothing = λ e. record { same = refl; joined = λ st s g es a. joined_not a (subst (Fares (limits_of st) st.table es k c) e (f.fares st s g es a)) };
+    waits = λ e. absurd (n e);
+    alone = λ _. refl;
   }
 
-pub set_none : {b w : List ℕ} {m : ℕ} {c : Candidate} → SetAside b w w m none c 0
-set_none = record { most = omega arith; joined = λ l st s g es a. joined_none a refl; spare = λ e. absurd (omega arith); alone = λ _. refl; out = λ _. refl }
+  pub set_in : {w' : List ℕ} {y : Row} → k.hash < top → FaresIn b w m k c Waits → RowIn b k c y → PutIn w w' m y → SetAside b w w' m (some k) c Waits
+  set_in {w'} {y} small f q p = record {
+    nothing = λ e. cc;
+    waits = λ _. record {
+      spare = f.spare refl;
+      joined = λ st s g es a. let h : Joins (limits_of st) st.table es k c = f.fares st s g es a in joined_in a small (f.spare refl) h (q st s g h.idle) p;
+    };
+    alone = λ e. cc;
+  }
 
-pub set-keyed : {b w w' : List ℕ} {m : ℕ} {x y : Option Key} {c : Candidate} {r : ℕ} → x ≡ y → SetAside b w w' m x c r → SetAside b w w' m y c r
+pub set_none : {b w : List ℕ} {m : ℕ} {c : Candidate} → SetAside b w w m none c Nothing
+set_none = record { nothing = λ _. record { same = refl; joined = λ st s g es a. joined_none a }; waits = λ e. cc; alone = λ _. refl }
+
+pub set-keyed : {b w w' : List ℕ} {m : ℕ} {x y : Option Key} {c : Candidate} {r : Fare} → x ≡ y → SetAside b w w' m x c r → SetAside b w w' m y c r
 set-keyed {b} {w} {w'} {m} {x} {y} {c} {r} e a = subst (λ (k : Option Key). SetAside b w w' m k c r) e a

@@ -1,5 +1,5 @@
 -- Rows that wait in a region of their own, beside the store, and what comes of an announcement beside them.
-use Rattle.std.specs.Prelude.{ℕ, ◌+◌, ◌≤◌, ◌<◌, ◌≡◌, Bool, false, ◌||◌, List, [], ◌∷◌, ◌++◌, eqb, length}
+use Rattle.std.specs.Prelude.{ℕ, ◌+◌, ◌≤◌, ◌<◌, ◌≡◌, Bool, false, ◌||◌, List, [], ◌∷◌, ◌++◌, eqb, length, ⊤}
 use Rattle.std.proofs.Math.Option.{Option, some}
 use Rattle.ident.specs.Number.{Key}
 use Rattle.regions.specs.declared.Row.{Row}
@@ -15,6 +15,8 @@ use Rattle.machine.specs.Typed.{Each}
 use Rattle.store.specs.Flat.{row_of}
 use Rattle.store.specs.Image.{Writes}
 use Rattle.store.specs.Shown.{row_numbers}
+use Rattle.gathering.specs.declared.beside.Fare.{Fare}
+use Rattle.gathering.specs.declared.beside.Fare.TheVariants.{Nothing, Waits, Alone}
 use Rattle.gathering.specs.Merges.{number_of, placed, gathered}
 use Rattle.gathering.specs.Waits.{pushes, Ready, Idle, waits, barred_beside, full_beside}
 
@@ -63,19 +65,23 @@ BarredIn b w m k n r = (st : State) → Sound st → Writes b st → Beside w m 
 
 -- ---- an announcement beside those that wait
 
--- 0: it changes nothing; 1: it can wait with them; by any other number it is to be announced by itself
-pub record Fares (m : Limits) (t : Table) (es : List Entry) (k : Key) (c : Candidate) (r : ℕ) : Type 0 where
-  pub stays : r ≡ 0 → (announce_at m k c (pushes es t)).table ≡ pushes es t
-  pub joins : r ≡ 1 → (announce_at m k c (pushes es t)).table ≡ pushes (es ++ (record { key = k; candidate = c } ∷ [])) t
-  pub idle : r ≡ 1 → owner_is c.connection (at k t).owner ≡ false
-  pub room : r ≡ 1 → held t + length es < m.announcements
-  pub free : r ≡ 1 → barred_beside es k c.connection t ≡ false
-  pub roomy : r ≡ 1 → full_beside m es k t ≡ false
+-- c comes in at k behind es, since nothing bars it and nothing has to give way
+pub record Joins (m : Limits) (t : Table) (es : List Entry) (k : Key) (c : Candidate) : Type 0 where
+  pub joins : (announce_at m k c (pushes es t)).table ≡ pushes (es ++ (record { key = k; candidate = c } ∷ [])) t
+  pub idle : owner_is c.connection (at k t).owner ≡ false
+  pub room : held t + length es < m.announcements
+  pub free : barred_beside es k c.connection t ≡ false
+  pub roomy : full_beside m es k t ≡ false
+
+-- what a fare says of the table; one that is to be announced by itself may do anything
+abbrev pub Fares : Limits → Table → List Entry → Key → Candidate → Fare → Type 0
+Fares m t es k c Nothing = (announce_at m k c (pushes es t)).table ≡ pushes es t
+Fares m t es k c Waits = Joins m t es k c
+Fares m t es k c Alone = ⊤
 
 -- whoever waits, and whatever sound state the bytes b write
-pub record FaresIn (b w : List ℕ) (m : ℕ) (k : Key) (c : Candidate) (r : ℕ) : Type 0 where
-  pub most : r ≤ 2
-  pub spare : r ≡ 1 → m < space
+pub record FaresIn (b w : List ℕ) (m : ℕ) (k : Key) (c : Candidate) (r : Fare) : Type 0 where
+  pub spare : r ≡ Waits → m < space
   pub fares : (st : State) → Sound st → Writes b st → Beside w m c.connection st.table (λ es. Fares (limits_of st) st.table es k c r)
 
 -- the row of a candidate that is to wait
@@ -96,13 +102,23 @@ pub record Joined (m : Limits) (t : Table) (es : List Entry) (w : List ℕ) (d :
   pub room : held t + length es ≤ m.announcements → held t + d ≤ m.announcements
   pub enters : length es < d → (k : Key) → x ≡ some k → Enters m t es k c entries
 
--- r of 0 or 1: r more wait than the m before; by 2 nothing is done
-pub record SetAside (b w w' : List ℕ) (m : ℕ) (x : Option Key) (c : Candidate) (r : ℕ) : Type 0 where
-  pub most : r ≤ 2
-  pub joined : r ≤ 1 → (st : State) → Sound st → Writes b st → (es : List Entry) → Aside c.connection st.table es w m → Joined (limits_of st) st.table es w' (m + r) x c
-  pub spare : r ≡ 1 → m < space
-  pub alone : r ≡ 2 → w' ≡ w
-  pub out : r ≡ 0 → w' ≡ w
+-- whoever waited, m of them: d wait then
+abbrev pub JoinedIn : List ℕ → List ℕ → List ℕ → ℕ → ℕ → Option Key → Candidate → Type 0
+JoinedIn b w w' m d x c = (st : State) → Sound st → Writes b st → (es : List Entry) → Aside c.connection st.table es w m → Joined (limits_of st) st.table es w' d x c
+
+pub record SetAsideNot (b w w' : List ℕ) (m : ℕ) (x : Option Key) (c : Candidate) : Type 0 where
+  pub same : w' ≡ w
+  pub joined : JoinedIn b w w' m m x c
+
+pub record SetAsideToo (b w w' : List ℕ) (m : ℕ) (x : Option Key) (c : Candidate) : Type 0 where
+  pub spare : m < space
+  pub joined : JoinedIn b w w' m (m + 1) x c
+
+-- one that is to be announced by itself is not announced
+pub record SetAside (b w w' : List ℕ) (m : ℕ) (x : Option Key) (c : Candidate) (r : Fare) : Type 0 where
+  pub nothing : r ≡ Nothing → SetAsideNot b w w' m x c
+  pub waits : r ≡ Waits → SetAsideToo b w w' m x c
+  pub alone : r ≡ Alone → w' ≡ w
 
 -- ---- they come in
 

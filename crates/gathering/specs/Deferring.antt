@@ -16,6 +16,8 @@ use Rattle.store.specs.Flat.{rows_of}
 use Rattle.store.specs.Gather.{key_at}
 use Rattle.store.specs.Image.{Writes}
 use Rattle.announcing.specs.Falls.{list_space, cuts, VictimRows}
+use Rattle.gathering.specs.declared.beside.Fare.{Fare}
+use Rattle.gathering.specs.declared.beside.Fare.TheVariants.{Nothing, Waits, Alone}
 use Rattle.gathering.specs.Waits.{pushes, waits, barred_beside}
 use Rattle.gathering.specs.Aside.{space, Aside, Beside}
 
@@ -42,33 +44,51 @@ left_by {b} {w} {v} {n} {d} {m} {st} x = cuts (take d x.listed.rows) st.table
 abbrev pub ListedAt : List ℕ → ℕ → ℕ → Bool → Type 0
 ListedAt v n h r = r ≡ false → (rows : List Row) → n ≤ length rows → Holds row_size row_words list_space rows v → Each (λ (y : Row). eqb (key_at y).hash h ≡ false) (take n rows)
 
--- 0: it changes nothing, as it is barred or there are eight at its hash of whom none can be evicted; 1: it comes in if the candidate of the row y
--- goes for it; by any other number it is to be announced by itself
-pub record Suited (m : Limits) (t : Table) (es : List Entry) (k : Key) (c : Candidate) (y : Row) (r : ℕ) : Type 0 where
-  pub out : r ≡ 0 → (barred_beside es k c.connection t ≡ true) ⊎ ((m.alternates ≤ held_at k.hash t) × (victims (at_hash k.hash) t ≡ []))
-  pub free : r ≡ 1 → barred_beside es k c.connection t ≡ false
-  pub room : r ≡ 1 → held_at k.hash t < m.alternates
-  pub apart : r ≡ 1 → waits (key_at y).hash es ≡ false
+-- it changes nothing, as it is barred or there are eight at its hash of whom none can be evicted
+pub record ShutOut (m : Limits) (t : Table) (es : List Entry) (k : Key) (c : Candidate) : Type 0 where
+  pub either : (barred_beside es k c.connection t ≡ true) ⊎ ((m.alternates ≤ held_at k.hash t) × (victims (at_hash k.hash) t ≡ []))
 
-pub record SuitedIn (b w v : List ℕ) (d : ℕ) (k : Key) (c : Candidate) (y : Row) (r : ℕ) : Type 0 where
-  pub most : r ≤ 2
-  pub spare : r ≡ 1 → d < space
-  pub preferred : r ≤ 1 → c.preferred ≡ true
-  pub other : r ≡ 1 → eqb y.conn c.connection ≡ false
-  pub elsewhere : r ≤ 1 → ListedAt v (d + 1) k.hash false
-  pub suited : (st : State) → Sound st → Writes b st → Beside w d c.connection st.table (λ es. Suited (limits_of st) st.table es k c y r)
+-- it comes in if the candidate of the row y goes for it
+pub record Suited (m : Limits) (t : Table) (es : List Entry) (k : Key) (c : Candidate) (y : Row) : Type 0 where
+  pub free : barred_beside es k c.connection t ≡ false
+  pub room : held_at k.hash t < m.alternates
+  pub apart : waits (key_at y).hash es ≡ false
+
+-- whoever waits, and whatever sound state the bytes b write; the candidate is preferred, and no victim that is to go is at its hash
+pub record SuitsNot (b w v : List ℕ) (d : ℕ) (k : Key) (c : Candidate) : Type 0 where
+  pub preferred : c.preferred ≡ true
+  pub elsewhere : ListedAt v (d + 1) k.hash false
+  pub out : (st : State) → Sound st → Writes b st → Beside w d c.connection st.table (λ es. ShutOut (limits_of st) st.table es k c)
+
+pub record SuitsToo (b w v : List ℕ) (d : ℕ) (k : Key) (c : Candidate) (y : Row) : Type 0 where
+  pub spare : d < space
+  pub preferred : c.preferred ≡ true
+  pub other : eqb y.conn c.connection ≡ false
+  pub elsewhere : ListedAt v (d + 1) k.hash false
+  pub suited : (st : State) → Sound st → Writes b st → Beside w d c.connection st.table (λ es. Suited (limits_of st) st.table es k c y)
+
+pub record SuitedIn (b w v : List ℕ) (d : ℕ) (k : Key) (c : Candidate) (y : Row) (r : Fare) : Type 0 where
+  pub nothing : r ≡ Nothing → SuitsNot b w v d k c
+  pub waits : r ≡ Waits → SuitsToo b w v d k c y
 
 -- what stands once c was announced
 pub record Owed (b w v : List ℕ) (d m : ℕ) (x : Option Key) (c : Candidate) (st : State) (es : List Entry) (t : Table) : Type 0 where
   pub owing : Owing b w v c.connection d m st
   pub same : (announce_keyed (limits_of st) x c (pushes es t)).table ≡ pushes owing.entries (left_by owing)
 
--- r of 0 or 1: r more wait than the d before, and r victims more are to go; by 2 nothing is done
-pub record Deferred (b w w' v : List ℕ) (d m : ℕ) (x : Option Key) (c : Candidate) (r : ℕ) : Type 0 where
-  pub most : r ≤ 2
-  pub spare : r ≡ 1 → (d < space) × (d < m)
-  pub owed : r ≤ 1 → (st : State) → (f : Owing b w v c.connection d m st) → Owed b w' v (d + r) m x c st f.entries (left_by f)
-  pub alone : r ≡ 2 → w' ≡ w
+-- whoever waited, d of them: e wait then, and as many victims are to go
+abbrev pub OwedIn : List ℕ → List ℕ → List ℕ → List ℕ → ℕ → ℕ → ℕ → Option Key → Candidate → Type 0
+OwedIn b w w' v d e m x c = (st : State) → (f : Owing b w v c.connection d m st) → Owed b w' v e m x c st f.entries (left_by f)
+
+pub record DeferredToo (b w w' v : List ℕ) (d m : ℕ) (x : Option Key) (c : Candidate) : Type 0 where
+  pub spare : (d < space) × (d < m)
+  pub owed : OwedIn b w w' v d (d + 1) m x c
+
+-- one that is to be announced by itself is not announced
+pub record Deferred (b w w' v : List ℕ) (d m : ℕ) (x : Option Key) (c : Candidate) (r : Fare) : Type 0 where
+  pub nothing : r ≡ Nothing → OwedIn b w w' v d d m x c
+  pub waits : r ≡ Waits → DeferredToo b w w' v d m x c
+  pub alone : r ≡ Alone → w' ≡ w
 
 -- ---- the first d of the m victims listed go
 

@@ -1,5 +1,5 @@
 -- Where L announcements are held: one that comes in waits beside the store, and the first of the victims goes for it.
-use Rattle.std.specs.Prelude.{ℕ, ◌+◌, ◌≤◌, ◌<◌, ◌≡◌, true, false, List, [], ◌∷◌, ◌++◌, length, drop}
+use Rattle.std.specs.Prelude.{ℕ, ◌+◌, ◌<◌, ◌≡◌, true, false, List, [], ◌∷◌, ◌++◌, length, drop}
 use Rattle.std.proofs.Math.Option.{Option, some}
 use Rattle.ident.specs.Number.{top, Key}
 use Rattle.regions.specs.declared.Row.{Row}
@@ -16,8 +16,10 @@ use Rattle.store.specs.Gather.{key_at}
 use Rattle.store.specs.Image.{Writes}
 use Rattle.announcing.specs.Evicts.{entry_at}
 use Rattle.announcing.specs.Falls.{list_space, Foremost}
+use Rattle.gathering.specs.declared.beside.Fare.{Fare}
+use Rattle.gathering.specs.declared.beside.Fare.TheVariants.{Nothing, Waits, Alone}
 use Rattle.gathering.specs.Waits.{pushes, waits, barred_beside}
-use Rattle.gathering.specs.Aside.{space, Aside, Beside}
+use Rattle.gathering.specs.Aside.{space, Aside, Beside, BarredIn}
 
 -- m rows stand in the words v; from the p-th on they are the first that give way of the rows rs
 pub record VictimsFrom (v : List ℕ) (m p : ℕ) (rs : List Row) : Type 0 where
@@ -43,18 +45,22 @@ pub record Underway (b w v : List ℕ) (n d p m : ℕ) : Type 0 where
 
 -- ---- an announcement at k beside those that wait, for which the candidate of the row y would go
 
--- 0: it changes nothing; 1: it comes in; by any other number it is to be announced by itself
-pub record Suits (m : Limits) (t : Table) (es : List Entry) (k : Key) (c : Candidate) (y : Row) (r : ℕ) : Type 0 where
-  pub barred : r ≡ 0 → barred_beside es k c.connection t ≡ true
-  pub free : r ≡ 1 → barred_beside es k c.connection t ≡ false
-  pub room : r ≡ 1 → held_at k.hash t < m.alternates
-  pub preferred : r ≡ 1 → c.preferred ≡ true
-  pub apart : r ≡ 1 → waits (key_at y).hash es ≡ false
+-- it comes in
+pub record Suits (m : Limits) (t : Table) (es : List Entry) (k : Key) (c : Candidate) (y : Row) : Type 0 where
+  pub free : barred_beside es k c.connection t ≡ false
+  pub room : held_at k.hash t < m.alternates
+  pub preferred : c.preferred ≡ true
+  pub apart : waits (key_at y).hash es ≡ false
 
-pub record SuitsIn (b w : List ℕ) (d : ℕ) (k : Key) (c : Candidate) (y : Row) (r : ℕ) : Type 0 where
-  pub most : r ≤ 2
-  pub spare : r ≡ 1 → d < space
-  pub suits : (st : State) → Sound st → Writes b st → Beside w d c.connection st.table (λ es. Suits (limits_of st) st.table es k c y r)
+-- whoever waits, and whatever sound state the bytes b write
+pub record SuitsToo (b w : List ℕ) (d : ℕ) (k : Key) (c : Candidate) (y : Row) : Type 0 where
+  pub spare : d < space
+  pub suits : (st : State) → Sound st → Writes b st → Beside w d c.connection st.table (λ es. Suits (limits_of st) st.table es k c y)
+
+-- it changes nothing where it is barred
+pub record SuitsIn (b w : List ℕ) (d : ℕ) (k : Key) (c : Candidate) (y : Row) (r : Fare) : Type 0 where
+  pub nothing : r ≡ Nothing → BarredIn b w d k c.connection true
+  pub waits : r ≡ Waits → SuitsToo b w d k c y
 
 -- c comes in at k behind es for the candidate of a row, the greatest that can be evicted in the table t: they are then `entries`, and `left` is left of t
 pub record Instead (m : Limits) (t : Table) (es : List Entry) (k : Key) (c : Candidate) (entries : List Entry) (left : Table) : Type 0 where
@@ -75,9 +81,16 @@ pub record Swapped (b w v : List ℕ) (d p m : ℕ) (x : Option Key) (c : Candid
   pub enters : length es < d → (k : Key) → x ≡ some k → Instead (limits_of st) st.table es k c full.entries table
   pub stays : d ≡ length es → (full.entries ≡ es) × (table ≡ st.table)
 
--- r of 0 or 1: r more wait than the d before, and r victims more have gone; by 2 nothing is done
-pub record Exchanged (b b' w w' v : List ℕ) (d p m : ℕ) (x : Option Key) (c : Candidate) (r : ℕ) : Type 0 where
-  pub most : r ≤ 2
-  pub spare : r ≡ 1 → (d < space) × (p < m)
-  pub swapped : r ≤ 1 → (st : State) → (f : Full b w v c.connection d p m st) → Swapped b' w' v (d + r) (p + r) m x c st f.entries
-  pub alone : r ≡ 2 → (b' ≡ b) × (w' ≡ w)
+-- whoever waited, d of them: d' wait then, and the victims have gone up to the p'-th
+abbrev pub SwappedIn : List ℕ → List ℕ → List ℕ → List ℕ → List ℕ → (d d' p p' m : ℕ) → Option Key → Candidate → Type 0
+SwappedIn b b' w w' v d d' p p' m x c = (st : State) → (f : Full b w v c.connection d p m st) → Swapped b' w' v d' p' m x c st f.entries
+
+pub record ExchangedToo (b b' w w' v : List ℕ) (d p m : ℕ) (x : Option Key) (c : Candidate) : Type 0 where
+  pub spare : (d < space) × (p < m)
+  pub swapped : SwappedIn b b' w w' v d (d + 1) p (p + 1) m x c
+
+-- for one that is to be announced by itself nothing is done
+pub record Exchanged (b b' w w' v : List ℕ) (d p m : ℕ) (x : Option Key) (c : Candidate) (r : Fare) : Type 0 where
+  pub nothing : r ≡ Nothing → SwappedIn b b' w w' v d d p p m x c
+  pub waits : r ≡ Waits → ExchangedToo b b' w w' v d p m x c
+  pub alone : r ≡ Alone → (b' ≡ b) × (w' ≡ w)

@@ -20,6 +20,17 @@ use machine::limits::MAX_PEER_ANNOUNCEMENTS;
 // As many rows can wait.
 pub const SPACE: usize = 512;
 
+// How an announcement fares beside those that wait.
+#[derive(Clone, Copy)]
+pub enum Fare {
+    // It changes nothing.
+    Nothing,
+    // It waits with them.
+    Waits,
+    // It is to be announced by itself.
+    Alone,
+}
+
 // With the m that wait L announcements are held.
 pub fn full(s: &[u8], m: usize) -> bool
     requires { Kept s.now × (m ≤ space) }
@@ -44,32 +55,31 @@ pub fn barred(s: &[u8], new: &[u8], m: usize, k: ident::Key, n: u64) -> bool
     region::waits_at(new, m, h)
 }
 
-// How the announcement c at k fares beside the m that wait: 0 it changes nothing, 1 it can wait, 2 it is to be announced by itself.
-// The tests that need no search come first.
-fn fares(s: &[u8], new: &[u8], m: usize, k: ident::Key, c: requests::Candidate) -> usize
+// How the announcement c at k fares beside the m that wait. The tests that need no search come first.
+fn fares(s: &[u8], new: &[u8], m: usize, k: ident::Key, c: requests::Candidate) -> Fare
     requires { Kept s.now × (8 * (row_size * m) ≤ length new.now) × (m ≤ space) }
     ensures { FaresIn s.now (words new.now) m (key_num k) (candidate_of c) result }
 {
     if m >= SPACE {
-        return 2;
+        return Fare::Alone;
     }
     if full(s, m) {
         if c.preferred {
-            return 2;
+            return Fare::Alone;
         }
-        return 0;
+        return Fare::Nothing;
     }
     if barred(s, new, m, k, c.connection) {
-        return 0;
+        return Fare::Nothing;
     }
     let h = k.hash;
     if announcing::keyed::crowded(s, h) {
         if c.preferred {
-            return 2;
+            return Fare::Alone;
         }
-        return 0;
+        return Fare::Nothing;
     }
-    1
+    Fare::Waits
 }
 
 // The row of c, which is to wait under the key k.
@@ -83,22 +93,22 @@ pub fn waiting_row(s: &[u8], k: ident::Key, c: requests::Candidate) -> regions::
     requests::new_row(key, c, mark)
 }
 
-// Announces c at k beside the m that wait. Answers how many more wait then, or 2 if c is to be announced by itself.
-fn set_aside_at(s: &[u8], new: &mut [u8], m: usize, k: ident::Key, c: requests::Candidate) -> usize
+// Announces c at k beside the m that wait, unless it is to be announced by itself.
+fn set_aside_at(s: &[u8], new: &mut [u8], m: usize, k: ident::Key, c: requests::Candidate) -> Fare
     requires { Kept s.now × (8 * (row_size * space) ≤ length new.old) × (m ≤ space) }
     ensures { SetAside s.now (words new.old) (words new.new) m (some (key_num k)) (candidate_of c) result }
 {
-    let r = fares(s, new, m, k, c);
-    if r != 1 {
-        return r;
+    match fares(s, new, m, k, c) {
+        Fare::Waits => {
+            region::put_in(new, m, waiting_row(s, k, c));
+            Fare::Waits
+        }
+        fare => fare,
     }
-    let y = waiting_row(s, k, c);
-    region::put_in(new, m, y);
-    1
 }
 
 // The same at the key of c's item. An item of any other kind than t, v and w has no key.
-pub fn set_aside(s: &[u8], new: &mut [u8], m: usize, c: requests::Candidate) -> usize
+pub fn set_aside(s: &[u8], new: &mut [u8], m: usize, c: requests::Candidate) -> Fare
     requires { Kept s.now × (8 * (row_size * space) ≤ length new.old) × (m ≤ space) }
     ensures { SetAside s.now (words new.old) (words new.new) m (key_of (item_num c.item)) (candidate_of c) result }
 {
@@ -116,7 +126,7 @@ pub fn set_aside(s: &[u8], new: &mut [u8], m: usize, c: requests::Candidate) -> 
             return set_aside_at(s, new, m, ident::Key::from(ident::Wtxid(h)), c);
         }
         ident::ItemKind::Other(_) => {
-            return 0;
+            return Fare::Nothing;
         }
     }
 }

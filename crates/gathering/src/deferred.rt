@@ -12,7 +12,7 @@ ghost use Rattle.announcing.specs.Falls.{list_space};
 ghost use Rattle.gathering.specs.Aside.{space};
 ghost use Rattle.gathering.specs.Deferring.{ListedAt, SuitedIn, Deferred};
 
-use crate::beside::SPACE;
+use crate::beside::{Fare, SPACE};
 use crate::{beside, region};
 
 // Whether one of the first n rows listed is at the hash h.
@@ -31,9 +31,8 @@ fn listed_at(top: &[u8], n: usize, h: ident::Hash) -> bool
     false
 }
 
-// How the announcement c at k fares beside the d that wait, if the candidate of the row y, the next of the victims, goes for it: 0 it changes
-// nothing, 1 it can wait, 2 it is to be announced by itself. At the hash of a victim that is to go the store says too much, and so do the
-// counts of the connection if the victim is its own.
+// How the announcement c at k fares beside the d that wait, if the candidate of the row y, the next of the victims, goes for
+// it. At the hash of a victim that is to go the store says too much, and so do the counts of the connection if the victim is its own.
 fn suits(
     s: &[u8],
     new: &[u8],
@@ -42,42 +41,42 @@ fn suits(
     k: ident::Key,
     c: requests::Candidate,
     y: regions::Row,
-) -> usize
+) -> Fare
     requires { Kept s.now × (8 * (row_size * space) ≤ length new.now) × (d ≤ space) × (d < list_space) × (length top.now ≡ 8 * (row_size * list_space)) }
     ensures { SuitedIn s.now (words new.now) (words top.now) d (key_num k) (candidate_of c) y result }
 {
     if d >= SPACE {
-        return 2;
+        return Fare::Alone;
     }
     if !c.preferred {
-        return 2;
+        return Fare::Alone;
     }
     let h = k.hash;
     if listed_at(top, d + 1, h) {
-        return 2;
+        return Fare::Alone;
     }
     if beside::barred(s, new, d, k, c.connection) {
-        return 0;
+        return Fare::Nothing;
     }
     if announcing::keyed::crowded(s, h) {
         if announcing::evict::victim_at(s, h).is_some() {
-            return 2;
+            return Fare::Alone;
         }
-        return 0;
+        return Fare::Nothing;
     }
     if y.conn == c.connection {
-        return 2;
+        return Fare::Alone;
     }
     let q = y.hash;
     let v = requests::quad_hash(q);
     if region::waits_at(new, d, v) {
-        return 2;
+        return Fare::Alone;
     }
-    1
+    Fare::Waits
 }
 
-// Announces c at k beside the d that wait, for the d-th of the m victims listed in `top`. Answers how many more wait then and are to go, or
-// 2 if c is to be announced by itself.
+// Announces c at k beside the d that wait, for the d-th of the m victims listed in `top`. If it waits, that one is to go; it may
+// have to be announced by itself.
 fn defer_at(
     s: &[u8],
     new: &mut [u8],
@@ -86,21 +85,21 @@ fn defer_at(
     m: usize,
     k: ident::Key,
     c: requests::Candidate,
-) -> usize
+) -> Fare
     requires { Kept s.now × (8 * (row_size * space) ≤ length new.old) × (length top.now ≡ 8 * (row_size * list_space)) × (d ≤ space) × (m ≤ list_space) }
     ensures { Deferred s.now (words new.old) (words new.new) (words top.now) d m (some (key_num k)) (candidate_of c) result }
 {
     if d >= m {
-        return 2;
+        return Fare::Alone;
     }
     let y = regions::read_row(top, d);
-    let r = suits(s, new, d, top, k, c, y);
-    if r != 1 {
-        return r;
+    match suits(s, new, d, top, k, c, y) {
+        Fare::Waits => {
+            region::put_in(new, d, beside::waiting_row(s, k, c));
+            Fare::Waits
+        }
+        fare => fare,
     }
-    let z = beside::waiting_row(s, k, c);
-    region::put_in(new, d, z);
-    1
 }
 
 // The same at the key of c's item. An item of any other kind than t, v and w has no key.
@@ -111,7 +110,7 @@ pub fn defer(
     top: &[u8],
     m: usize,
     c: requests::Candidate,
-) -> usize
+) -> Fare
     requires { Kept s.now × (8 * (row_size * space) ≤ length new.old) × (length top.now ≡ 8 * (row_size * list_space)) × (d ≤ space) × (m ≤ list_space) }
     ensures { Deferred s.now (words new.old) (words new.new) (words top.now) d m (key_of (item_num c.item)) (candidate_of c) result }
 {
@@ -129,7 +128,7 @@ pub fn defer(
             return defer_at(s, new, d, top, m, ident::Key::from(ident::Wtxid(h)), c);
         }
         ident::ItemKind::Other(_) => {
-            return 0;
+            return Fare::Nothing;
         }
     }
 }

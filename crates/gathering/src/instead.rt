@@ -11,11 +11,11 @@ ghost use Rattle.announcing.specs.Falls.{list_space};
 ghost use Rattle.gathering.specs.Aside.{space};
 ghost use Rattle.gathering.specs.Exchanges.{Underway, SuitsIn, Exchanged};
 
-use crate::beside::SPACE;
+use crate::beside::{Fare, SPACE};
 use crate::{beside, region};
 
-// How the announcement c at k fares beside the d that wait, if the candidate of the row y goes for it: 0 it changes nothing, 1 it can
-// wait, 2 it is to be announced by itself. At the hash of one that waits nobody goes: the mark of their request could be lost.
+// How the announcement c at k fares beside the d that wait, if the candidate of the row y goes for it. At the hash of
+// one that waits nobody goes: the mark of their request could be lost.
 fn suits(
     s: &[u8],
     new: &[u8],
@@ -23,33 +23,33 @@ fn suits(
     k: ident::Key,
     c: requests::Candidate,
     y: regions::Row,
-) -> usize
+) -> Fare
     requires { Kept s.now × (8 * (row_size * space) ≤ length new.now) × (d ≤ space) }
     ensures { SuitsIn s.now (words new.now) d (key_num k) (candidate_of c) y result }
 {
     if d >= SPACE {
-        return 2;
+        return Fare::Alone;
     }
     if !c.preferred {
-        return 2;
+        return Fare::Alone;
     }
     if beside::barred(s, new, d, k, c.connection) {
-        return 0;
+        return Fare::Nothing;
     }
     let h = k.hash;
     if announcing::keyed::crowded(s, h) {
-        return 2;
+        return Fare::Alone;
     }
     let q = y.hash;
     let v = requests::quad_hash(q);
     if region::waits_at(new, d, v) {
-        return 2;
+        return Fare::Alone;
     }
-    1
+    Fare::Waits
 }
 
-// Announces c at k beside the d that wait, for the p-th of the m victims listed in `top`. Answers how many more wait then and have gone, or
-// 2 if c is to be announced by itself.
+// Announces c at k beside the d that wait, for the p-th of the m victims listed in `top`. If it waits, that one has gone; it may
+// have to be announced by itself.
 fn exchange_at(
     s: &mut [u8],
     new: &mut [u8],
@@ -59,23 +59,23 @@ fn exchange_at(
     p: usize,
     k: ident::Key,
     c: requests::Candidate,
-) -> usize
+) -> Fare
     requires { Underway s.old (words new.old) (words top.now) c.connection d p m × (8 * (row_size * space) ≤ length new.old) × (length top.now ≡ 8 * (row_size * list_space))
         × (d ≤ space) × (m ≤ list_space) }
     ensures { Exchanged s.old s.new (words new.old) (words new.new) (words top.now) d p m (some (key_num k)) (candidate_of c) result }
 {
     if p >= m {
-        return 2;
+        return Fare::Alone;
     }
     let y = regions::read_row(top, p);
-    let r = suits(s, new, d, k, c, y);
-    if r != 1 {
-        return r;
+    match suits(s, new, d, k, c, y) {
+        Fare::Waits => {
+            requests::cut(s, announcing::evict::key_of(y), y.conn);
+            region::put_in(new, d, beside::waiting_row(s, k, c));
+            Fare::Waits
+        }
+        fare => fare,
     }
-    requests::cut(s, announcing::evict::key_of(y), y.conn);
-    let z = beside::waiting_row(s, k, c);
-    region::put_in(new, d, z);
-    1
 }
 
 // The same at the key of c's item. An item of any other kind than t, v and w has no key.
@@ -87,7 +87,7 @@ pub fn exchange(
     m: usize,
     p: usize,
     c: requests::Candidate,
-) -> usize
+) -> Fare
     requires { Underway s.old (words new.old) (words top.now) c.connection d p m × (8 * (row_size * space) ≤ length new.old) × (length top.now ≡ 8 * (row_size * list_space))
         × (d ≤ space) × (m ≤ list_space) }
     ensures { Exchanged s.old s.new (words new.old) (words new.new) (words top.now) d p m (key_of (item_num c.item)) (candidate_of c) result }
@@ -106,7 +106,7 @@ pub fn exchange(
             return exchange_at(s, new, d, top, m, p, ident::Key::from(ident::Wtxid(h)), c);
         }
         ident::ItemKind::Other(_) => {
-            return 0;
+            return Fare::Nothing;
         }
     }
 }

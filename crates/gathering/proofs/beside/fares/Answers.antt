@@ -2,24 +2,22 @@
 use native.Mathlib.Omega.{arith}
 use Rattle.ident.specs.Words.{key_num}
 use Rattle.ident.proofs.Words.{key-four, hash_below}
-use Rattle.machine.specs.State.{limits_of}
 use Rattle.requests.specs.Changes.{candidate_of}
-use Rattle.gathering.proofs.Faring.{fares-alone, fares-full, fares-barred, fares-crowded, fares_in}
+use Rattle.gathering.proofs.Faring.{fares-full, fares-barred, fares-crowded, fares_in}
 use Rattle.gathering.proofs.beside.fares.Goals as goal
 
 pub returns-then-m-ge-SPACE : goal.returns-then-m-ge-SPACE
-returns-then-m-ge-SPACE c = record { most = omega arith; spare = λ e. absurd (omega arith); fares = λ st s w es a. fares-alone (limits_of st) st.table es _ _ }
+returns-then-m-ge-SPACE c = record { spare = λ e. cc; fares = λ st s w es a. tt }
 
 pub returns-then-c : goal.returns-then-c
-returns-then-c c = record { most = omega arith; spare = λ e. absurd (omega arith); fares = λ st s w es a. fares-alone (limits_of st) st.table es _ _ }
+returns-then-c c = record { spare = λ e. cc; fares = λ st s w es a. tt }
 
 pub returns-then-full : goal.returns-then-full
 returns-then-full c =
     let k = c.args.k in
     let small = hash_below k.hash (key-four k c.well_formed.1.1.1.0) in
     record {
-      most = omega arith;
-      spare = λ e. absurd (omega arith);
+      spare = λ e. cc;
       fares = λ st s w es a. fares-full st s (key_num k) (candidate_of
           c.args.c) small a (c.full.ensures st s w) c.if-full.true c.if-c.false;
     }
@@ -29,22 +27,20 @@ returns-then-barred c =
     let k = c.args.k in
     let small = hash_below k.hash (key-four k c.well_formed.1.1.1.0) in
     record {
-      most = omega arith;
-      spare = λ e. absurd (omega arith);
+      spare = λ e. cc;
       fares = λ st s w es a. fares-barred st s (key_num k) (candidate_of
           c.args.c) small a (c.barred.ensures st s w es a) c.if-barred.true;
     }
 
 pub returns-then-c-2 : goal.returns-then-c-2
-returns-then-c-2 c = record { most = omega arith; spare = λ e. absurd (omega arith); fares = λ st s w es a. fares-alone (limits_of st) st.table es _ _ }
+returns-then-c-2 c = record { spare = λ e. cc; fares = λ st s w es a. tt }
 
 pub returns-then-crowded : goal.returns-then-crowded
 returns-then-crowded c =
     let k = c.args.k in
     let small = hash_below k.hash (key-four k c.well_formed.1.1.1.0) in
     record {
-      most = omega arith;
-      spare = λ e. absurd (omega arith);
+      spare = λ e. cc;
       fares = λ st s w es a. fares-crowded st s (key_num k) (candidate_of c.args.c) small a
           (c.crowded.ensures st s w) c.if-crowded.true c.if-c-2.false;
     }
@@ -54,7 +50,6 @@ returns c =
     let k = c.args.k in
     let small = hash_below k.hash (key-four k c.well_formed.1.1.1.0) in
     record {
-      most = omega arith;
       spare = λ e. omega (arith, c.if-m-ge-SPACE.false);
       fares = λ st s w es a. fares_in st s (key_num k) (candidate_of c.args.c) small a
           (c.full.ensures st s w) c.if-full.false (c.barred.ensures st s w

@@ -1,17 +1,15 @@
 -- `gathering::deferred::defer_at` meets its contract.
+use mathlib.Core.Path.{refl}
 use native.Mathlib.Omega.{arith}
 use Rattle.ident.proofs.Words.{key-four, hash_below}
-use Rattle.gathering.proofs.Deferrals.{deferred_used, deferred_not, deferred_in}
+use Rattle.gathering.proofs.Deferrals.{deferred_not, deferred_in}
 use Rattle.gathering.proofs.deferred.defer_at.Goals as goal
-
-pub returns-then-d-m : goal.returns-then-d-m
-returns-then-d-m c = deferred_used
 
 pub read_row-y-requires : goal.read_row-y-requires
 read_row-y-requires c = omega (arith, c.if-d-m.false, c.requires.2, c.requires.4)
 
-pub suits-r-requires : goal.suits-r-requires
-suits-r-requires c = (
+pub suits-requires : goal.suits-requires
+suits-requires c = (
   c.requires.0,
   c.requires.1,
   c.requires.3,
@@ -19,23 +17,13 @@ suits-r-requires c = (
   c.requires.2,
 )
 
-pub returns-then-r-ne1 : goal.returns-then-r-ne1
-returns-then-r-ne1 c = deferred_not (hash_below c.args.k.hash (key-four
-    c.args.k c.well_formed.1.1.1.1.1.0)) (omega
-    (arith, c.if-d-m.false)) c.suits-r.ensures c.if-r-ne1.true
+pub returns-in_default : goal.returns-in_default
+returns-in_default c = deferred_not (hash_below c.args.k.hash (key-four c.args.k c.well_formed.1.1.1.1.1.0)) (omega (arith, c.if-d-m.false)) c.suits.ensures
+    c.in_default.not-Waits
 
 pub put_in-requires : goal.put_in-requires
-put_in-requires c = omega (
-  arith,
-  c.suits-r.ensures.spare
-      c.if-r-ne1.false,
-  c.requires.1,
-)
+put_in-requires c = omega (arith, (c.in-Waits.ensures.waits refl).spare, c.requires.1)
 
-pub returns : goal.returns
-returns c = deferred_in (hash_below c.args.k.hash (key-four
-    c.args.k
-    c.well_formed.1.1.1.1.1.0)) (omega
-    (arith, c.if-d-m.false)) c.read_row-y.ensures
-    c.suits-r.ensures c.if-r-ne1.false c.waiting_row-z.ensures
-    c.put_in.ensures
+pub returns-in-Waits : goal.returns-in-Waits
+returns-in-Waits c = deferred_in (hash_below c.args.k.hash (key-four c.args.k c.well_formed.1.1.1.1.1.0)) (omega (arith, c.if-d-m.false)) c.read_row-y.ensures
+    c.in-Waits.ensures c.waiting_row.ensures c.put_in.ensures

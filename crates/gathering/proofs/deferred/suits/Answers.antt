@@ -2,14 +2,8 @@
 use mathlib.Core.Path.{sym, ◌∙◌}
 use native.Mathlib.Omega.{arith}
 use borrow.Author.Tests.{not-false, ne_eqb}
-use Rattle.gathering.proofs.Deferrals.{suited-alone, suited-barred, suited-crowded, suited_in}
+use Rattle.gathering.proofs.Deferrals.{suited-barred, suited-crowded, suited_in}
 use Rattle.gathering.proofs.deferred.suits.Goals as goal
-
-pub returns-then-d-ge-SPACE : goal.returns-then-d-ge-SPACE
-returns-then-d-ge-SPACE c = suited-alone
-
-pub returns-then-not-c : goal.returns-then-not-c
-returns-then-not-c c = suited-alone
 
 pub overflow_add-d : goal.overflow_add-d
 overflow_add-d c = omega (arith, c.requires.3)
@@ -17,27 +11,15 @@ overflow_add-d c = omega (arith, c.requires.3)
 pub listed_at-requires : goal.listed_at-requires
 listed_at-requires c = (omega (arith, c.requires.3), c.requires.4)
 
-pub returns-then-listed_at : goal.returns-then-listed_at
-returns-then-listed_at c = suited-alone
-
 pub returns-then-barred : goal.returns-then-barred
 returns-then-barred c = suited-barred (not-false c.args.c.preferred
     c.if-not-c.false) c.listed_at.ensures c.if-listed_at.false c.barred.ensures c.if-barred.true
-
-pub returns-then-is_some : goal.returns-then-is_some
-returns-then-is_some c = suited-alone
 
 pub returns-then-crowded : goal.returns-then-crowded
 returns-then-crowded c = suited-crowded (not-false c.args.c.preferred
     c.if-not-c.false) c.listed_at.ensures
     c.if-listed_at.false c.crowded.ensures c.if-crowded.true c.victim_at.result
     c.victim_at.ensures (sym c.is_some.ensures ∙ c.if-is_some.false)
-
-pub returns-then-y-c : goal.returns-then-y-c
-returns-then-y-c c = suited-alone
-
-pub returns-then-waits_at : goal.returns-then-waits_at
-returns-then-waits_at c = suited-alone
 
 pub returns : goal.returns
 returns c = suited_in (not-false c.args.c.preferred c.if-not-c.false)

@@ -1,23 +1,11 @@
 -- `gathering::instead::suits` meets its contract.
 use native.Mathlib.Omega.{arith}
 use borrow.Author.Tests.{not-false}
-use Rattle.gathering.proofs.Exchanging.{suits-alone, suits-barred, suits_in}
+use Rattle.gathering.proofs.Exchanging.{suits-barred, suits_in}
 use Rattle.gathering.proofs.instead.suits.Goals as goal
-
-pub returns-then-d-ge-SPACE : goal.returns-then-d-ge-SPACE
-returns-then-d-ge-SPACE c = suits-alone
-
-pub returns-then-not-c : goal.returns-then-not-c
-returns-then-not-c c = suits-alone
 
 pub returns-then-barred : goal.returns-then-barred
 returns-then-barred c = suits-barred c.barred.ensures c.if-barred.true
-
-pub returns-then-crowded : goal.returns-then-crowded
-returns-then-crowded c = suits-alone
-
-pub returns-then-waits_at : goal.returns-then-waits_at
-returns-then-waits_at c = suits-alone
 
 pub returns : goal.returns
 returns c = suits_in (omega (arith, c.if-d-ge-SPACE.false))
