@@ -1,14 +1,12 @@
 -- Parents that wait beside the store: one more waits, they come in, one is announced where none waits.
 use Prim.Native.Nat.{ℕ, ◌+◌, ◌-◌, ◌≤◌, ◌<◌}
 use mathlib.Core.Path.{◌≡◌, refl, sym, ap, subst, ◌∙◌}
-use mathlib.Core.Logic.{inl, inr}
 use mathlib.Core.Bool.{Bool, true, false, ◌||◌}
 use mathlib.Core.List.{List, [], ◌∷◌, ◌++◌}
 use mathlib.Core.Option.{some}
 use native.Mathlib.Omega.{arith}
-use lib.Dec.{leb, eqb}
+use lib.Dec.{leb}
 use lib.ListN.{length}
-use borrow.Author.Tests.{eqb-true, eqb-false}
 use Rattle.ident.specs.Number.{top, Key, txid, wtxid, key_of}
 use Rattle.machine.specs.Limits.{Limits, max_peer_announcements, word}
 use Rattle.machine.specs.State.{Candidate, Entry, Table, State, Answer, limits_of, on_table, done}
@@ -19,7 +17,7 @@ use Rattle.machine.specs.Sound.{Fits, Sound, Bounded}
 use Rattle.machine.proofs.Announce.{bounded-announce_at}
 use Rattle.machine.proofs.Fail.{Peer, bounded-parent_at, bounded-mark}
 use Rattle.machine.proofs.Kept.{sound-table}
-use Rattle.machine.proofs.Tests.{test, by_test, or_left, or_right}
+use Rattle.machine.proofs.Tests.{by_test, never, or_left, or_right}
 use Rattle.store.specs.Image.{Writes}
 use Rattle.store.specs.Shown.{Kept}
 use Rattle.store.proofs.Counts.{held-rows}
@@ -27,6 +25,8 @@ use Rattle.requests.specs.Changes.{Makes}
 use Rattle.requests.proofs.Holding.{either-kind}
 use Rattle.requests.proofs.Keeping.{sized_of}
 use Rattle.announcing.specs.Answers.{Answered, one_parent}
+use Rattle.gathering.specs.declared.beside.Fare.{Fare}
+use Rattle.gathering.specs.declared.beside.Fare.TheVariants.{Waits as Waiting}
 use Rattle.gathering.specs.Merges.{gathered}
 use Rattle.gathering.specs.Waits.{pushes, waits}
 use Rattle.gathering.specs.Aside.{Empty, Aside, Joined, Enters, SetAside, Gathers, ComeIn}
@@ -103,7 +103,7 @@ module _ (z : List ℕ) (n now i d : ℕ) {h : ℕ} (is : parent_in z (i + d) �
       ap (parent_entries n now i) hashes_then ∙ entries_more n now i (hashes_at z i d) h ∙ ap (λ (j : ℕ). waiting z n now i d ++ (entry_of n now h (i + j) ∷ [])) (hashes-long z i d)
 
 module _ {z : List ℕ} {n now : ℕ} {b w : List ℕ} {i d : ℕ} {st : State} {t : Table} (v : Beside z n now b w i d st t) (p : Peer n) (late : now < word) (short : i + d < word) {h : ℕ}
-    (is : parent_in z (i + d) ≡ h) (low : h < top) {w' : List ℕ} (a : SetAside b w w' d (some (txid h)) (parent_of n now h (i + d)) 1) where
+    (is : parent_in z (i + d) ≡ h) (low : h < top) {w' : List ℕ} (a : SetAside b w w' d (some (txid h)) (parent_of n now h (i + d)) Waiting) where
   abbrev m : Limits
   m = limits_of st
 
@@ -127,7 +127,7 @@ module _ {z : List ℕ} {n now : ℕ} {b w : List ℕ} {i d : ℕ} {st : State} 
   u = marks hs (pushes es v.base)
 
   joined : Joined m v.base es w' (d + 1) (some (txid h)) c
-  joined = a.joined (omega arith) (on_table v.base st) v.sound v.writes es v.aside
+  joined = (a.waits refl).joined (on_table v.base st) v.sound v.writes es v.aside
 
   enters : Enters m v.base es (txid h) c joined.entries
   enters = joined.enters (omega (arith, v.aside.count)) (txid h) refl
@@ -218,15 +218,15 @@ alone_next {st = st} {t = t} v p late short low is a =
 -- ---- what a call does with the next one
 
 module _ {z : List ℕ} {n now : ℕ} {b w : List ℕ} {j d h : ℕ} (p : Peer n) (late : now < word) (short : j < word) (less : d ≤ j) (low : h < top) (is : h ≡ parent_in z j) where
-  pub waits_with : {w' : List ℕ} {k : Candidate} {r : ℕ} → k ≡ parent_of n now h j → SetAside b w w' d (key_of k.item) k r → WaitsWith z n now b w w' j d (eqb r 1)
-  waits_with {w'} {k} {r} q a = record {
-    joins = λ e st t v.
+  pub waits_with : {w' : List ℕ} {k : Candidate} {r : Fare} → k ≡ parent_of n now h j → SetAside b w w' d (key_of k.item) k r → r ≡ Waiting → WaitsWith z n now b w w' j d true
+  waits_with {w'} {k} {r} q a e = record {
+    joins = λ _ st t v.
         let f : j - d + d ≡ j = omega arith in
         let g : SetAside b w w' d (some (txid h)) (parent_of n now h j) r = subst (λ (x : Candidate). SetAside b w w' d (key_of x.item) x r) q a in
-        let one : SetAside b w w' d (some (txid h)) (parent_of n now h j) 1 = subst (SetAside b w w' d (some (txid h)) (parent_of n now h j)) (eqb-true r 1 e) g in
+        let one : SetAside b w w' d (some (txid h)) (parent_of n now h j) Waiting = subst (SetAside b w w' d (some (txid h)) (parent_of n now h j)) e g in
         subst (λ (i : ℕ). NextAt z n now b w' i st t (record { kept = true; waiting = d + 1 })) f
-        (waits-too v p late (omega arith) (ap (parent_in z) f ∙ sym is) low (subst (λ (i : ℕ). SetAside b w w' d (some (txid h)) (parent_of n now h i) 1) (sym f) one));
-    alone = λ e. elim (test (eqb r 0)) [ inl x ↦ a.out (eqb-true r 0 x) | inr x ↦ a.alone (omega (arith, a.most, eqb-false r 0 x, eqb-false r 1 e)) ];
+        (waits-too v p late (omega arith) (ap (parent_in z) f ∙ sym is) low (subst (λ (i : ℕ). SetAside b w w' d (some (txid h)) (parent_of n now h i) Waiting) (sym f) one));
+    alone = λ e. never (sym e);
   }
 
   pub next_alone : {b₁ b₂ w₁ w₂ : List ℕ} {r : Bool} → w₁ ≡ w → LetIn z n now b b₁ w₁ w₂ j d → Answered b₁ b₂ r (λ m t. one_parent m n now h j t)

@@ -1,14 +1,13 @@
 -- Parents that come in for a victim each: one more waits, and the first of those listed goes.
 use Prim.Native.Nat.{ℕ, suc, ◌+◌, ◌-◌, ◌≤◌, ◌<◌}
 use mathlib.Core.Path.{◌≡◌, refl, sym, ap, subst, ◌∙◌}
-use mathlib.Core.Logic.{inl, inr}
 use mathlib.Core.Bool.{Bool, true, false, ◌||◌}
 use mathlib.Core.List.{List, [], ◌∷◌, ◌++◌}
 use mathlib.Core.Option.{Option, some}
 use native.Mathlib.Omega.{arith}
-use lib.Dec.{ltb, leb, eqb}
+use lib.Dec.{ltb, leb}
 use lib.ListN.{length}
-use borrow.Author.Tests.{lt-leb, le-leb, eqb-true, eqb-false}
+use borrow.Author.Tests.{lt-leb, le-leb}
 use Rattle.ident.specs.Number.{top, Key, place, txid, wtxid, key_of}
 use Rattle.ident.proofs.Places.{place_same as place-inj}
 use Rattle.machine.specs.Limits.{Limits, max_peer_announcements, word}
@@ -22,7 +21,7 @@ use Rattle.machine.proofs.Announce.{bounded-announce_at}
 use Rattle.machine.proofs.Fail.{Peer}
 use Rattle.machine.proofs.Kept.{sound-table}
 use Rattle.machine.proofs.Table.{ordered-change, filled-change}
-use Rattle.machine.proofs.Tests.{test, or_left, or_right, never}
+use Rattle.machine.proofs.Tests.{or_left, or_right, never}
 use Rattle.store.specs.Gather.{key_at, candidate_at}
 use Rattle.store.specs.Image.{Writes}
 use Rattle.requests.proofs.Holding.{either-kind}
@@ -30,6 +29,8 @@ use Rattle.announcing.specs.Answers.{one_parent}
 use Rattle.announcing.specs.Evicts.{entry_at}
 use Rattle.announcing.proofs.Deciding.{when-full}
 use Rattle.announcing.proofs.Swapping.{change-swap}
+use Rattle.gathering.specs.declared.beside.Fare.{Fare}
+use Rattle.gathering.specs.declared.beside.Fare.TheVariants.{Nothing, Waits, Alone}
 use Rattle.gathering.specs.Waits.{pushes, waits}
 use Rattle.gathering.specs.Aside.{Aside}
 use Rattle.gathering.specs.Exchanges.{Full, Underway, Instead, Swapped, Exchanged}
@@ -103,7 +104,7 @@ module _ {z : List ℕ} {n now : ℕ} {b w v : List ℕ} {i d : ℕ} {st : State
   }
 
   module _ (p : Peer n) (late : now < word) (short : i + d < word) {h : ℕ} (is : parent_in z (i + d) ≡ h) (low : h < top) {b' w' : List ℕ}
-      (a : Exchanged b b' w w' v d q.gone q.count (some (txid h)) (parent_of n now h (i + d)) 1) where
+      (a : Exchanged b b' w w' v d q.gone q.count (some (txid h)) (parent_of n now h (i + d)) Waits) where
     abbrev c : Candidate
     c = parent_of n now h (i + d)
 
@@ -115,7 +116,7 @@ module _ {z : List ℕ} {n now : ℕ} {b w v : List ℕ} {i d : ℕ} {st : State
     u = marks hs all
 
     swapped : Swapped b' w' v (d + 1) (q.gone + 1) q.count (some (txid h)) c (on_table base st) es
-    swapped = a.swapped (omega arith) (on_table base st) supplied-full
+    swapped = (a.waits refl).swapped (on_table base st) supplied-full
 
     abbrev base' : Table
     base' = swapped.table
@@ -226,23 +227,25 @@ module _ {z : List ℕ} {n now : ℕ} {b w v : List ℕ} {i d : ℕ} {st : State
         }
 
   -- where it changes nothing the table stays, though the bytes may be others
-  pub swaps_not : {b' w' : List ℕ} {h k : ℕ} → Exchanged b b' w w' v d q.gone q.count (some (txid h)) (parent_of n now h k) 0 → Beside z n now b' w' i d st t
+  pub swaps_not : {b' w' : List ℕ} {h k : ℕ} → Exchanged b b' w w' v d q.gone q.count (some (txid h)) (parent_of n now h k) Nothing → Beside z n now b' w' i d st t
   swaps_not {b'} {w'} a =
-      let s = a.swapped (omega arith) (on_table base st) supplied-full in
+      let s = a.nothing refl (on_table base st) supplied-full in
       let e = s.stays (omega (arith, x.beside.aside.count)) in
-      let o : d + 0 ≡ d = omega arith in
       record {
         base = base;
         sound = x.beside.sound;
         writes = subst (λ (f : Table). Writes b' (on_table f st)) e.1 s.full.writes;
-        aside = subst (λ (f : Table). Aside n f es w' d) e.1 (subst (λ (f : List Entry). Aside n s.table f w' d) e.0
-            (subst (λ (f : ℕ). Aside n s.table s.full.entries w' f) o s.full.aside));
+        aside = subst (λ (f : Table). Aside n f es w' d) e.1 (subst (λ (f : List Entry). Aside n s.table f w' d) e.0 s.full.aside);
         room = x.beside.room;
         together = x.beside.together;
         table = x.beside.table;
       }
 
 -- ---- what a call does with the next one
+
+exchanged : {b b' w w' v : List ℕ} {d p m n now h j : ℕ} {k : Candidate} {r : Fare} → k ≡ parent_of n now h j → Exchanged b b' w w' v d p m (key_of k.item) k r
+    → Exchanged b b' w w' v d p m (some (txid h)) (parent_of n now h j) r
+exchanged {b} {b'} {w} {w'} {v} {d} {p} {m} {r = r} e a = subst (λ (c : Candidate). Exchanged b b' w w' v d p m (key_of c.item) c r) e a
 
 pub supplies_underway : {z : List ℕ} {n now : ℕ} {b w v : List ℕ} {i d : ℕ} {q : Reserve} → q.gone < q.count → Supplies z n now b w v i d q → {o : ℕ} → o ≡ n → Underway b w v o d q.gone
     q.count
@@ -260,26 +263,31 @@ module _ {z : List ℕ} {n now : ℕ} {b w v : List ℕ} {j d : ℕ} {q : Reserv
   }
 
   module _ (p : Peer n) (late : now < word) (short : j < word) (less : d ≤ j) {h : ℕ} (low : h < top) (is : h ≡ parent_in z j) (l : q.gone < q.count) where
-    pub swaps_with : {b' w' : List ℕ} {k : Candidate} {r : ℕ} → k ≡ parent_of n now h j → Exchanged b b' w w' v d q.gone q.count (key_of k.item) k r
-        → SwapsWith z n now b b' w w' v j d q (eqb r 1)
-    swaps_with {b'} {w'} {k} {r} same a = record {
+    pub swaps_with : {b' w' : List ℕ} {k : Candidate} {r : Fare} → k ≡ parent_of n now h j → Exchanged b b' w w' v d q.gone q.count (key_of k.item) k r → r ≡ Waits
+        → SwapsWith z n now b b' w w' v j d q true
+    swaps_with {b'} {w'} {k} {r} same a e = record {
       some = λ _. l;
-      joins = λ e st t x.
+      joins = λ _ st t x.
           let f : j - d + d ≡ j = omega arith in
-          let one : Exchanged b b' w w' v d q.gone q.count (some (txid h)) (parent_of n now h j) 1 = subst (Exchanged b b' w w' v d q.gone q.count (some (txid h))
-          (parent_of n now h j)) (eqb-true r 1 e) exchanged in
+          let one : Exchanged b b' w w' v d q.gone q.count (some (txid h)) (parent_of n now h j) Waits = subst (Exchanged b b' w w' v d q.gone q.count (some (txid h))
+          (parent_of n now h j)) e (exchanged same a) in
           subst (λ (i : ℕ). FurtherAt z n now b' w' v i st t (record { kept = true; waiting = d + 1; reserve = record { count = q.count; gone = q.gone + 1; spent = false } })) f
-          (swaps_too x l p late (omega arith) (ap (parent_in z) f ∙ sym is) low (subst (λ (i : ℕ). Exchanged b b' w w' v d q.gone q.count (some (txid h)) (parent_of n now h i) 1) (sym f) one));
-      alone = λ e st t x. supplied-unlisted v (left e st t x) q.spent (supplied-spent x);
+          (swaps_too x l p late (omega arith) (ap (parent_in z) f ∙ sym is) low (subst (λ (i : ℕ). Exchanged b b' w w' v d q.gone q.count (some (txid h)) (parent_of n now h i) Waits) (sym f) one));
+      alone = λ e. never (sym e);
+    }
+
+    pub swaps_not_with : {b' w' : List ℕ} {k : Candidate} (r : Fare) → k ≡ parent_of n now h j → Exchanged b b' w w' v d q.gone q.count (key_of k.item) k r → (r ≡ Waits → ⊥)
+        → SwapsWith z n now b b' w w' v j d q false
+    swaps_not_with {b'} {w'} {k} r same a n' = record {
+      some = λ e. never e;
+      joins = λ e. never e;
+      alone = λ _ st t x. supplied-unlisted v (left r (exchanged same a) n' st t x) q.spent (supplied-spent x);
     }
       where
-        exchanged : Exchanged b b' w w' v d q.gone q.count (some (txid h)) (parent_of n now h j) r
-        exchanged = subst (λ (c : Candidate). Exchanged b b' w w' v d q.gone q.count (key_of c.item) c r) same a
-
-        left : eqb r 1 ≡ false → (st : State) (t : Table) → Supplied z n now b w v (j - d) d st t q → Beside z n now b' w' (j - d) d st t
-        left e st t x =
-            elim (test (eqb r 0)) [
-              | inl o ↦ swaps_not x l (subst (Exchanged b b' w w' v d q.gone q.count (some (txid h)) (parent_of n now h j)) (eqb-true r 0 o) exchanged)
-              | inr o ↦ let g = a.alone (omega (arith, a.most, eqb-false r 0 o, eqb-false r 1 e)) in
-                  subst (λ (f : List ℕ). Beside z n now f w' (j - d) d st t) (sym g.0) (subst (λ (f : List ℕ). Beside z n now b f (j - d) d st t) (sym g.1) x.beside)
-            ]
+        left : (r : Fare) → Exchanged b b' w w' v d q.gone q.count (some (txid h)) (parent_of n now h j) r → (r ≡ Waits → ⊥) → (st : State) (t : Table) → Supplied z n now b w v (j - d) d st t q
+            → Beside z n now b' w' (j - d) d st t
+        left Nothing g m st t x = swaps_not x l g
+        left Waits g m st t x = absurd (m refl)
+        left Alone g m st t x =
+            let e = g.alone refl in
+            subst (λ (f : List ℕ). Beside z n now f w' (j - d) d st t) (sym e.0) (subst (λ (f : List ℕ). Beside z n now b f (j - d) d st t) (sym e.1) x.beside)

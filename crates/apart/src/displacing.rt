@@ -13,6 +13,7 @@ ghost use Rattle.apart.specs.Waiting.{Waits};
 ghost use Rattle.apart.specs.Displacing.{unlisted, Lacks, Restocked, ShutOut, Unaided, Supplies, FurtherIn, FurtherAlone, SwapsWith, SpentIn};
 
 use crate::{joining, noting};
+use gathering::beside::Fare;
 
 // What is known of the victims: so many are listed, and the first of these have gone. spent: nobody can be evicted.
 #[derive(Clone, Copy)]
@@ -99,7 +100,10 @@ fn swap_with(
     }
     let h = noting::parent_of(slot, j);
     let c = joining::offered(h, n, clock, j as u64);
-    gathering::instead::exchange(s, new, m, top, q.count, q.gone, c) == 1
+    matches!(
+        gathering::instead::exchange(s, new, m, top, q.count, q.gone, c),
+        Fare::Waits
+    )
 }
 
 // Whether L are held and the connection n has not announced the hash h: it comes in only for a victim.

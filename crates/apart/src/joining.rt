@@ -13,6 +13,7 @@ ghost use Rattle.apart.specs.Noting.{hashes_at};
 ghost use Rattle.apart.specs.Waiting.{marks, Waits, LetIn, WaitsWith, NextIn};
 
 use crate::noting;
+use gathering::beside::Fare;
 
 // Whether a parent was kept, and how many wait after it.
 #[derive(Clone, Copy)]
@@ -81,7 +82,7 @@ fn wait_with(
     }
     let h = noting::parent_of(slot, j);
     let c = offered(h, n, clock, j as u64);
-    gathering::beside::set_aside(s, new, m, c) == 1
+    matches!(gathering::beside::set_aside(s, new, m, c), Fare::Waits)
 }
 
 // Announces the j-th parent for the connection n beside the m that wait: it waits with them, or else they come in first.

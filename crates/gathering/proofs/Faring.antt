@@ -24,7 +24,7 @@ use Rattle.store.specs.Flat.{row_of}
 use Rattle.announcing.proofs.Entering.{fresh}
 use Rattle.gathering.specs.Merges.{placed, gathered}
 use Rattle.gathering.specs.declared.beside.Fare.{Fare}
-use Rattle.gathering.specs.declared.beside.Fare.TheVariants.{Nothing, Waits}
+use Rattle.gathering.specs.declared.beside.Fare.TheVariants.{Nothing, Waits, Alone}
 use Rattle.gathering.specs.Waits.{Ready, waits, barred_beside, full_beside}
 use Rattle.gathering.specs.Aside.{space, PutIn, Aside, Joins, Fares, FaresIn, RowIn, Enters, Joined, SetAside}
 use Rattle.gathering.proofs.Waiting.{taken-barred, taken_out, taken_in}
@@ -153,6 +153,12 @@ module _ {b w : List ℕ} {m : ℕ} {k : Key} {c : Candidate} where
     };
     alone = λ e. cc;
   }
+
+-- one that doesn't wait leaves the region
+pub set-same : {b w w' : List ℕ} {m : ℕ} {x : Option Key} {c : Candidate} (r : Fare) → SetAside b w w' m x c r → (r ≡ Waits → ⊥) → w' ≡ w
+set-same Nothing a n = (a.nothing refl).same
+set-same Waits a n = absurd (n refl)
+set-same Alone a n = a.alone refl
 
 pub set_none : {b w : List ℕ} {m : ℕ} {c : Candidate} → SetAside b w w m none c Nothing
 set_none = record { nothing = λ _. record { same = refl; joined = λ st s g es a. joined_none a }; waits = λ e. cc; alone = λ _. refl }

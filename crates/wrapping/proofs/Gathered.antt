@@ -1,13 +1,10 @@
 -- Offers collected beside the store, one after the other, and announced together.
 use Prim.Native.Nat.{ℕ, ◌+◌, ◌≤◌, ◌<◌}
 use mathlib.Core.Path.{◌≡◌, refl, sym, ap, subst, ◌∙◌}
-use mathlib.Core.Logic.{inl, inr}
 use mathlib.Core.Bool.{Bool}
 use mathlib.Core.List.{List, []}
 use native.Mathlib.Omega.{arith}
-use lib.Dec.{eqb}
 use lib.ListN.{length, get_or}
-use borrow.Author.Tests.{eqb-true, eqb-false}
 use Rattle.ident.specs.declared.ItemKind.TheVariants.{WTx}
 use Rattle.ident.specs.Number.{key_of}
 use Rattle.machine.specs.Limits.{request_lifetime, word}
@@ -18,19 +15,20 @@ use Rattle.machine.specs.Sound.{Sound}
 use Rattle.machine.specs.Typed.{Each, OfferTyped}
 use Rattle.machine.proofs.Fail.{Peer}
 use Rattle.machine.proofs.Kept.{sound-table}
-use Rattle.machine.proofs.Tests.{test}
 use Rattle.machine.proofs.Wrapper.{bounded-offers}
 use Rattle.store.specs.Image.{Writes}
 use Rattle.store.specs.Shown.{Kept}
 use Rattle.store.proofs.Counts.{held-rows}
 use Rattle.requests.proofs.Keeping.{sized_of}
 use Rattle.announcing.specs.Answers.{Answered}
+use Rattle.gathering.specs.declared.beside.Fare.{Fare}
+use Rattle.gathering.specs.declared.beside.Fare.TheVariants.{Nothing, Waits, Alone}
 use Rattle.gathering.specs.Merges.{gathered}
 use Rattle.gathering.specs.Waits.{pushes}
-use Rattle.gathering.specs.Aside.{space, Empty, SetAside, Gathers, ComeIn}
+use Rattle.gathering.specs.Aside.{space, Empty, JoinedIn, SetAside, Gathers, ComeIn}
 use Rattle.wrapping.specs.declared.offering.Terms.{Terms}
 use Rattle.claims.specs.Changes.{Becomes}
-use Rattle.wrapping.specs.Batches.{between, announced, Offers, Collected, Collects}
+use Rattle.wrapping.specs.Batches.{between, announced, Offers, Collects}
 use Rattle.wrapping.proofs.Parts.{between_none, announced-join, announced_one, each_between, offers_none}
 
 -- an offer to read lists with
@@ -57,42 +55,42 @@ collects_start a os {i} e l = record {
   };
 }
 
-module _ {b w : List ℕ} {a : Terms} {os : List Offer} {i j d : ℕ} (x : Collects b w a os i j d) (l : j < length os) {c : Candidate} (q : Offers a os j c) {w' : List ℕ} {r : ℕ}
+module _ {b w : List ℕ} {a : Terms} {os : List Offer} {i j d : ℕ} (x : Collects b w a os i j d) (l : j < length os) {c : Candidate} (q : Offers a os j c) {w' : List ℕ} {r : Fare}
     (y : SetAside b w w' d (key_of c.item) c r) where
   one_aside : SetAside b w w' d (key_of (made a os j).item) (made a os j) r
   one_aside = subst (λ (k : Candidate). SetAside b w w' d (key_of k.item) k r) (q an_offer) y
 
-  -- one offer more, which is collected or changes nothing
-  pub collects_more : (r ≡ 2 → ⊥) → Collects b w' a os i (j + 1) (d + r)
-  collects_more n = record {
+  -- one offer more
+  grown : {e : ℕ} → JoinedIn b w w' d e (key_of (made a os j).item) (made a os j) → e ≤ space → Collects b w' a os i (j + 1) e
+  grown k few = record {
     from = omega (arith, x.from);
     inside = omega arith;
-    few = most y.spare y.most;
-    collected = λ st s g. grown st s g (x.collected st s g);
+    few = few;
+    collected = λ st s g.
+        let m = limits_of st in
+        let t = st.table in
+        let z = x.collected st s g in
+        let k = k st s g z.entries z.aside in
+        record {
+          entries = k.entries;
+          aside = k.aside;
+          room = k.room (omega (arith, z.room, z.aside.count));
+          table =
+              sym (announced-join a m os t i j (j + 1) x.from (omega arith)) ∙ announced_one a m os (announced a (between i j os) m t) j an_offer l
+              ∙ ap (λ (u : Table). (announce m (made a os j) u).table) z.table ∙ k.table;
+        };
   }
-    where
-      most : (r ≡ 1 → d < space) → r ≤ 2 → d + r ≤ space
-      most h k = elim (test (eqb r 1)) [
-        | inl e ↦ omega (arith, h (eqb-true r 1 e), eqb-true r 1 e)
-        | inr e ↦ omega (arith, eqb-false r 1 e, n, x.few)
-      ]
 
-      grown : (st : State) → Sound st → Writes b st → Collected (limits_of st) a (between i j os) st.table w d → Collected (limits_of st) a (between i (j + 1) os) st.table w' (d + r)
-      grown st s g z =
-          let m = limits_of st in
-          let t = st.table in
-          let k = one_aside.joined (omega (arith, n, y.most)) st s g z.entries z.aside in
-          record {
-            entries = k.entries;
-            aside = k.aside;
-            room = k.room (omega (arith, z.room, z.aside.count));
-            table =
-                sym (announced-join a m os t i j (j + 1) x.from (omega arith)) ∙ announced_one a m os (announced a (between i j os) m t) j an_offer l
-                ∙ ap (λ (u : Table). (announce m (made a os j) u).table) z.table ∙ k.table;
-          }
+  -- it changes nothing
+  pub collects_not : r ≡ Nothing → Collects b w' a os i (j + 1) d
+  collects_not e = grown (one_aside.nothing e).joined x.few
+
+  -- it waits with them
+  pub collects_more : r ≡ Waits → Collects b w' a os i (j + 1) (d + 1)
+  collects_more e = let z = one_aside.waits e in grown z.joined (omega (arith, z.spare))
 
   -- one that is to be announced by itself
-  pub collects_same : r ≡ 2 → Collects b w' a os i j d
+  pub collects_same : r ≡ Alone → Collects b w' a os i j d
   collects_same e = subst (λ (v : List ℕ). Collects b v a os i j d) (sym (y.alone e)) x
 
 -- ---- coming in

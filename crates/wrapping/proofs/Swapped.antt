@@ -1,13 +1,12 @@
 -- Offers announced where L is held, one after the other: those that come in wait, and as many victims go.
 use Prim.Native.Nat.{ℕ, ◌+◌, ◌≤◌, ◌<◌}
 use mathlib.Core.Path.{◌≡◌, refl, sym, ap, subst, ◌∙◌}
-use mathlib.Core.Logic.{inl, inr}
 use mathlib.Core.Bool.{true, ◌&&◌}
 use mathlib.Core.List.{List, [], ◌∷◌}
 use native.Mathlib.Omega.{arith}
 use lib.Dec.{ltb, eqb}
 use lib.ListN.{length}
-use borrow.Author.Tests.{ltb-true, eqb-true, eqb-false}
+use borrow.Author.Tests.{ltb-true, eqb-true}
 use Rattle.ident.specs.Number.{key_of}
 use Rattle.machine.specs.Limits.{Limits, request_lifetime, word}
 use Rattle.machine.specs.State.{Candidate, State, Table, limits_of, on_table}
@@ -17,23 +16,25 @@ use Rattle.machine.specs.Wrapper.{Offer, offered, offers_from}
 use Rattle.machine.specs.Sound.{Sound}
 use Rattle.machine.specs.Typed.{Each, OfferTyped}
 use Rattle.machine.proofs.Fail.{Peer}
-use Rattle.machine.proofs.Tests.{test, and_left, and_right}
+use Rattle.machine.proofs.Tests.{and_left, and_right}
 use Rattle.store.specs.Flat.{rows_of}
 use Rattle.store.specs.Image.{Writes}
 use Rattle.store.specs.Shown.{Kept}
 use Rattle.announcing.specs.Falls.{fallen, cuts, VictimsIn, Evictable}
 use Rattle.announcing.proofs.Nobody.{nobody-listed, nobody-keyed}
+use Rattle.gathering.specs.declared.beside.Fare.{Fare}
+use Rattle.gathering.specs.declared.beside.Fare.TheVariants.{Nothing, Waits, Alone}
 use Rattle.gathering.specs.Merges.{gathered}
 use Rattle.gathering.specs.Waits.{pushes}
 use Rattle.gathering.specs.Aside.{space, Empty, Gathers, ComeIn}
-use Rattle.gathering.specs.Deferring.{Owing, left_by, Deferred, Gone}
+use Rattle.gathering.specs.Deferring.{Owing, left_by, OwedIn, Deferred, Gone}
 use Rattle.gathering.proofs.Deferral.{left_sound, left_held, left_fallen, left_aside}
 use Rattle.gathering.proofs.Exchanging.{victims-pushes}
 use Rattle.gathering.proofs.Waiting.{held_beside}
 use Rattle.wrapping.specs.declared.offering.Terms.{Terms}
 use Rattle.claims.specs.Changes.{Becomes}
 use Rattle.wrapping.specs.Batches.{between, announced, Announced, Offers}
-use Rattle.wrapping.specs.Swaps.{Whole, Standing, Swaps, Went, Settled}
+use Rattle.wrapping.specs.Swaps.{Whole, Swaps, Went, Settled}
 use Rattle.wrapping.proofs.Parts.{between_none, announced-join, announced_one, offers_none}
 use Rattle.wrapping.proofs.Gathered.{an_offer, made, part_kept, part_join}
 
@@ -70,40 +71,40 @@ announced-nobody a (o ∷ os) m t p l e =
     ap (λ (u : Table). announced a os m u) (nobody-keyed m c t p l e (key_of c.item)) ∙ announced-nobody a os m t p l e
 
 module _ {b w v : List ℕ} {m : ℕ} {a : Terms} {os : List Offer} {i j d : ℕ} (x : Swaps b w v m a os i j d) where
-  module _ (l : j < length os) {c : Candidate} (q : Offers a os j c) {w' : List ℕ} {r : ℕ} (y : Deferred b w w' v d m (key_of c.item) c r) where
+  module _ (l : j < length os) {c : Candidate} (q : Offers a os j c) {w' : List ℕ} {r : Fare} (y : Deferred b w w' v d m (key_of c.item) c r) where
     one_deferred : Deferred b w w' v d m (key_of (made a os j).item) (made a os j) r
     one_deferred = subst (λ (k : Candidate). Deferred b w w' v d m (key_of k.item) k r) (q an_offer) y
 
-    -- one offer more, which comes in or changes nothing
-    pub swaps_more : (r ≡ 2 → ⊥) → Swaps b w' v m a os i (j + 1) (d + r)
-    swaps_more n = record {
+    -- one offer more
+    grown : {e : ℕ} → OwedIn b w w' v d e m (key_of (made a os j).item) (made a os j) → e ≤ space → e ≤ m → Swaps b w' v m a os i (j + 1) e
+    grown o few less = record {
       from = omega (arith, x.from);
       inside = omega arith;
-      few = most space x.few (λ e. (y.spare e).0);
-      less = most m x.less (λ e. (y.spare e).1);
-      standing = λ st s g. grown st (x.standing st s g);
+      few = few;
+      less = less;
+      standing = λ st s g.
+          let u = limits_of st in
+          let t = st.table in
+          let z = x.standing st s g in
+          let k = o st z.owing in
+          record {
+            owing = k.owing;
+            same =
+                sym (announced-join a u os t i j (j + 1) x.from (omega arith)) ∙ announced_one a u os (announced a (between i j os) u t) j an_offer l
+                ∙ ap (λ (p : Table). (announce u (made a os j) p).table) z.same ∙ k.same;
+          };
     }
-      where
-        most : (k : ℕ) → d ≤ k → (r ≡ 1 → d < k) → d + r ≤ k
-        most k f h = elim (test (eqb r 1)) [
-          | inl e ↦ omega (arith, h (eqb-true r 1 e), eqb-true r 1 e)
-          | inr e ↦ omega (arith, eqb-false r 1 e, n, y.most)
-        ]
 
-        grown : (st : State) → Standing b w v m d a (between i j os) st → Standing b w' v m (d + r) a (between i (j + 1) os) st
-        grown st z =
-            let u = limits_of st in
-            let t = st.table in
-            let k = one_deferred.owed (omega (arith, n, y.most)) st z.owing in
-            record {
-              owing = k.owing;
-              same =
-                  sym (announced-join a u os t i j (j + 1) x.from (omega arith)) ∙ announced_one a u os (announced a (between i j os) u t) j an_offer l
-                  ∙ ap (λ (p : Table). (announce u (made a os j) p).table) z.same ∙ k.same;
-            }
+    -- it changes nothing
+    pub swaps_not : r ≡ Nothing → Swaps b w' v m a os i (j + 1) d
+    swaps_not e = grown (one_deferred.nothing e) x.few x.less
+
+    -- it comes in
+    pub swaps_more : r ≡ Waits → Swaps b w' v m a os i (j + 1) (d + 1)
+    swaps_more e = let z = one_deferred.waits e in grown z.owed (omega (arith, z.spare.0)) (omega (arith, z.spare.1))
 
     -- one that is to be announced by itself
-    pub swaps_same : r ≡ 2 → Swaps b w' v m a os i j d
+    pub swaps_same : r ≡ Alone → Swaps b w' v m a os i j d
     swaps_same e = subst (λ (p : List ℕ). Swaps b p v m a os i j d) (sym (y.alone e)) x
 
   -- ---- the victims go, and those that wait come in

@@ -15,6 +15,7 @@ ghost use Rattle.claims.specs.Changes.{Becomes};
 ghost use Rattle.wrapping.specs.Batches.{between, announced, Offers, Collects, Announced};
 ghost use Rattle.wrapping.specs.Swaps.{Whole, Swaps, Went, Settled};
 
+use gathering::beside::Fare;
 use gathering::region::ROOM;
 use machine::limits::{MAX_PEER_IN_FLIGHT, SOURCE_DELAY};
 
@@ -135,22 +136,22 @@ fn collect(
     ensures { Collects s.now (words new.new) a (offers_in items.now priorities.now) first result.next result.waiting }
 {
     let count = lent_lists::offers(items, priorities);
-    let mut i = first;
     let mut m = 0;
-    while i < count {
+    for i in first..count {
         let c = offered_at(a, items, priorities, i);
-        let more = gathering::beside::set_aside(s, new, m, c);
-        if more == 2 {
-            return Part {
-                next: i,
-                waiting: m,
-            };
+        match gathering::beside::set_aside(s, new, m, c) {
+            Fare::Nothing => {}
+            Fare::Waits => m += 1,
+            Fare::Alone => {
+                return Part {
+                    next: i,
+                    waiting: m,
+                };
+            }
         }
-        m += more;
-        i += 1;
     }
     Part {
-        next: i,
+        next: count,
         waiting: m,
     }
 }
@@ -250,22 +251,22 @@ fn swap(
     ensures { Swaps s.now (words new.new) (words top.now) m a (offers_in items.now priorities.now) first result.next result.waiting }
 {
     let count = lent_lists::offers(items, priorities);
-    let mut i = first;
     let mut d = 0;
-    while i < count {
+    for i in first..count {
         let c = offered_at(a, items, priorities, i);
-        let more = gathering::deferred::defer(s, new, d, top, m, c);
-        if more == 2 {
-            return Part {
-                next: i,
-                waiting: d,
-            };
+        match gathering::deferred::defer(s, new, d, top, m, c) {
+            Fare::Nothing => {}
+            Fare::Waits => d += 1,
+            Fare::Alone => {
+                return Part {
+                    next: i,
+                    waiting: d,
+                };
+            }
         }
-        d += more;
-        i += 1;
     }
     Part {
-        next: i,
+        next: count,
         waiting: d,
     }
 }

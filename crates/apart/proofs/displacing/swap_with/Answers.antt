@@ -3,7 +3,7 @@ use mathlib.Core.Path.{ap}
 use native.Mathlib.Omega.{arith}
 use Rattle.ident.proofs.Words.{hash-four, hash_below}
 use Rattle.machine.specs.State.{Candidate}
-use Rattle.apart.proofs.ForVictims.{supplies_underway, swaps_none, swaps_with}
+use Rattle.apart.proofs.ForVictims.{supplies_underway, swaps_none, swaps_with, swaps_not_with}
 use Rattle.apart.proofs.displacing.swap_with.Goals as goal
 
 pub returns-then-q : goal.returns-then-q
@@ -19,8 +19,8 @@ exchange-requires c = (
   c.requires.4,
 )
 
-pub returns : goal.returns
-returns c = swaps_with (record {
+pub returns-in-Waits : goal.returns-in-Waits
+returns-in-Waits c = swaps_with (record {
   positive = c.requires.1;
   small = omega
       arith;
@@ -29,4 +29,16 @@ returns c = swaps_with (record {
     c.parent_of-h.result (hash-four c.parent_of-h.result
     c.parent_of-h.type_inv)) c.parent_of-h.ensures (omega
     (arith, c.if-q.false)) c.offered-c.ensures
-    c.exchange.ensures
+    c.exchange.ensures c.in-Waits.is
+
+pub returns-in_default : goal.returns-in_default
+returns-in_default c = swaps_not_with (record {
+  positive = c.requires.1;
+  small = omega
+      arith;
+}) (omega arith) (omega (arith, c.requires.3))
+    c.requires.2 (hash_below
+    c.parent_of-h.result (hash-four c.parent_of-h.result
+    c.parent_of-h.type_inv)) c.parent_of-h.ensures (omega
+    (arith, c.if-q.false)) c.exchange.result c.offered-c.ensures
+    c.exchange.ensures c.in_default.not-Waits

@@ -1,5 +1,4 @@
 -- `apart::silent::drop_due` meets its contract.
-use Prim.Native.Nat.{◌-◌}
 use Rattle.announcing.proofs.DroppingRows.{Dropping}
 use Rattle.apart.specs.Silent.{is_due}
 use Rattle.apart.proofs.silent.drop_due.Given as goal

@@ -1,5 +1,5 @@
 -- `apart::slots::forget` meets its contract.
-use Prim.Native.Nat.{◌-◌, ◌≤◌}
+use Prim.Native.Nat.{◌≤◌}
 use mathlib.Core.Path.{◌≡◌}
 use lib.ListN.{length}
 use Rattle.apart.proofs.Forgetting.{ForgottenTo}

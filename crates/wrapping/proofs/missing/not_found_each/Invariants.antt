@@ -1,6 +1,4 @@
 -- `wrapping::missing::not_found_each` meets its contract.
-use Prim.Native.Nat.{◌-◌}
-use lib.ListN.{length}
 use Rattle.lent_lists.specs.Items.{items_in}
 use Rattle.wrapping.proofs.Unfound.{Turned}
 use Rattle.wrapping.proofs.missing.not_found_each.Given as goal

@@ -1,5 +1,4 @@
 -- `wrapping::offering::collect` meets its contract.
-use Prim.Native.Nat.{◌-◌}
 use mathlib.Core.Path.{◌≡◌}
 use lib.ListN.{length}
 use Rattle.words.specs.Words.{words}
@@ -9,6 +8,3 @@ use Rattle.wrapping.proofs.offering.collect.Given as goal
 
 abbrev pub invariant-loop-i : goal.invariant-loop-i
 invariant-loop-i l = Collects l.s (words l.new) l.a (offers_in l.items l.priorities) l.first l.i l.m × (length l.new ≡ length l.initial.new)
-
-abbrev pub decreases-loop-i : goal.decreases-loop-i
-decreases-loop-i l = length (offers_in l.items l.priorities) - l.i

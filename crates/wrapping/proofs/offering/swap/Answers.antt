@@ -1,11 +1,12 @@
 -- `wrapping::offering::swap` meets its contract.
 use Prim.Native.Nat.{◌<◌}
-use mathlib.Core.Path.{refl, ◌∙◌}
+use mathlib.Core.Path.{◌≡◌, refl, ◌∙◌}
 use native.Mathlib.Omega.{arith}
 use lib.ListN.{length}
 use Rattle.lent_lists.specs.Items.{offers_in}
-use Rattle.wrapping.proofs.Swapped.{swaps_start, swaps_more, swaps_same}
+use Rattle.wrapping.proofs.Swapped.{swaps_start, swaps_not, swaps_more, swaps_same}
 use Rattle.wrapping.proofs.offering.swap.Goals as goal
+use Rattle.wrapping.proofs.offering.swap.Goals.{in-Nothing, in-Waits}
 
 pub loop-i-init : goal.loop-i-init
 loop-i-init c = (
@@ -18,8 +19,8 @@ loop-i-init c = (
 pub offered_at-c-requires : goal.offered_at-c-requires
 offered_at-c-requires c = (c.requires.7, omega (arith, c.loop-i-test.true, c.offers-count.ensures))
 
-pub defer-more-requires : goal.defer-more-requires
-defer-more-requires c = (
+pub defer-requires : goal.defer-requires
+defer-requires c = (
   c.requires.0,
   omega (arith, c.requires.5, c.loop-i.invariant.1),
   c.requires.4,
@@ -27,40 +28,32 @@ defer-more-requires c = (
   omega (arith, c.requires.3),
 )
 
-pub shape_of-new-then-more-eq2 : goal.shape_of-new-then-more-eq2
-shape_of-new-then-more-eq2 c = c.defer-more.auto.new ∙ c.loop-i.invariant.1
+pub shape_of-new-in-Alone : goal.shape_of-new-in-Alone
+shape_of-new-in-Alone c = c.defer.auto.new ∙ c.loop-i.invariant.1
 
-pub returns-then-more-eq2 : goal.returns-then-more-eq2
-returns-then-more-eq2 c =
+pub returns-in-Alone : goal.returns-in-Alone
+returns-in-Alone c =
     let inside : c.loop-i.i < length (offers_in
     c.args.items.now
     c.args.priorities.now) = omega
     (arith, c.loop-i-test.true, c.offers-count.ensures) in
     swaps_same c.loop-i.invariant.0 inside c.offered_at-c.ensures
-    c.defer-more.ensures c.if-more-eq2.true
-
-pub overflow_add-d : goal.overflow_add-d
-overflow_add-d c = omega (arith, c.loop-i.invariant.0.few, c.defer-more.ensures.most)
-
-pub overflow_add-i : goal.overflow_add-i
-overflow_add-i c = omega (arith, c.loop-i-test.true)
-
-pub loop-i-smaller : goal.loop-i-smaller
-loop-i-smaller c = omega (arith, c.loop-i-test.true, c.offers-count.ensures)
+    c.defer.ensures c.in-Alone.is
 
 pub loop-i-preserved : goal.loop-i-preserved
 loop-i-preserved c =
-    let inside : c.loop-i.i < length (offers_in
-    c.args.items.now
-    c.args.priorities.now) = omega
-    (arith, c.loop-i-test.true, c.offers-count.ensures) in (
-      swaps_more c.loop-i.invariant.0 inside c.offered_at-c.ensures
-          c.defer-more.ensures c.if-more-eq2.false,
-      c.defer-more.auto.new ∙ c.loop-i.invariant.1,
+    let inside : c.loop-i.i < length (offers_in c.args.items.now c.args.priorities.now) = omega (arith, c.loop-i-test.true, c.offers-count.ensures) in
+    let v = c.loop-i.invariant.0 in
+    let e = c.defer.ensures in (
+      elim c.match-defer.branch [
+        | in-Nothing w ↦ rw w.d-is (swaps_not v inside c.offered_at-c.ensures e w.in-Nothing.is)
+        | in-Waits w ↦ rw w.d-is (swaps_more v inside c.offered_at-c.ensures e w.in-Waits.is)
+      ],
+      c.defer.auto.new ∙ c.loop-i.invariant.1,
     )
 
 pub shape_of-new : goal.shape_of-new
 shape_of-new c = c.loop-i.invariant.1
 
 pub returns : goal.returns
-returns c = c.loop-i.invariant.0
+returns c = let e : c.offers-count.result ≡ c.loop-i.i = omega arith in rw e c.loop-i.invariant.0

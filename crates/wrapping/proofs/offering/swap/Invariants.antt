@@ -1,5 +1,4 @@
 -- `wrapping::offering::swap` meets its contract.
-use Prim.Native.Nat.{◌-◌}
 use mathlib.Core.Path.{◌≡◌}
 use lib.ListN.{length}
 use Rattle.words.specs.Words.{words}
@@ -9,6 +8,3 @@ use Rattle.wrapping.proofs.offering.swap.Given as goal
 
 abbrev pub invariant-loop-i : goal.invariant-loop-i
 invariant-loop-i l = Swaps l.s (words l.new) (words l.top) l.m l.a (offers_in l.items l.priorities) l.first l.i l.d × (length l.new ≡ length l.initial.new)
-
-abbrev pub decreases-loop-i : goal.decreases-loop-i
-decreases-loop-i l = length (offers_in l.items l.priorities) - l.i
