@@ -140,13 +140,13 @@ pub fn request_at(s: &[u8], k: ident::Key) -> Request
     let to = w.to;
     let owner = owner_in(s, from, to);
     let stage = stage_at(s, k);
-    let m = requests::mark_in(s, from, to);
+    let mark = requests::mark_in(s, from, to);
     Request {
         from,
         to,
         owner,
         stage,
-        mark: m == 1,
+        mark,
     }
 }
 

@@ -8,4 +8,5 @@ pub mod Readying
 pub mod Adopting
 pub mod AtHash
 pub mod Holding
+pub mod Finding
 pub mod Shearing

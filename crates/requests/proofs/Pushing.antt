@@ -1,12 +1,15 @@
 -- One candidate more, in the records and in bytes.
-use Prim.Native.Nat.{ℕ, ◌+◌, ◌*◌, ◌≤◌, ◌<◌}
+use Prim.Native.Nat.{ℕ, ◌+◌, ◌*◌, ◌%◌, ◌≤◌, ◌<◌}
 use mathlib.Core.Path.{◌≡◌, refl, sym, ap, ◌∙◌}
-use mathlib.Core.Bool.{false}
+use mathlib.Core.Bool.{Bool, true, false}
+use mathlib.Core.Logic.{inl, inr}
 use mathlib.Core.List.{List, [], ◌∷◌, ◌++◌, map, append-nil}
 use native.Mathlib.Omega.{arith}
 use lib.ListN.{length, length-append}
 use lib.Seq.{get_or_at}
-use borrow.Author.Tests.{lt-ltb, le-ltb}
+use lib.Dec.{eqb}
+use borrow.Author.Tests.{lt-ltb, le-ltb, eqb-true, eqb-false}
+use mir.Val.{bool_byte}
 use Rattle.ident.specs.Number.{top, Key}
 use Rattle.regions.specs.declared.Quad.{Quad}
 use Rattle.regions.specs.declared.Row.{Row}
@@ -17,10 +20,11 @@ use Rattle.machine.specs.Table.{at, one}
 use Rattle.machine.specs.Announce.{push}
 use Rattle.machine.specs.Sound.{Sound, Filled, All}
 use Rattle.machine.proofs.Table.{all_at, at_key}
+use Rattle.machine.proofs.Tests.{test}
 use Rattle.store.specs.Flat.{flat_of, kind_bit, witness_bit, own_bit, row_of, rows_of, rows_for, bump, tally}
 use Rattle.store.specs.Image.{Shows, Writes}
 use Rattle.store.specs.Shown.{conns_in, limit_in, Shown, with_rows, with_conns}
-use Rattle.store.proofs.Bits.{own_row, mark-row, conn-row}
+use Rattle.store.proofs.Bits.{own_row, mark-row, conn-row, bit_one}
 use Rattle.store.proofs.Entries.{tally-length}
 use Rattle.store.proofs.Frame.{sizes, shown, length-insert}
 use Rattle.store.proofs.RowsAt.{tally-insert, push-rows, push_places}
@@ -43,6 +47,10 @@ row_new q c eh ek ew ep o em =
     let z : one (owner_is c.connection q.owner) ≡ 0 = ap one o in
     row_as c.connection c.ready c.priority eh (sym (idle c.connection q.owner o)) (omega arith)
 
+pub byte_one : (b : Bool) → bool_byte b ≡ one b
+byte_one true = refl
+byte_one false = refl
+
 -- a key's request is under the key
 module _ (st : State) (s : Sound st) (k : Key) (small : k.hash < top) where
   pub its-hash : quad_of k.hash ≡ quad_of (at k st.table).key.hash
@@ -59,6 +67,10 @@ Unmarked r = r.candidates ≡ [] → r.fallback ≡ false
 implied : (t : Table) → All Filled t → All Unmarked t
 implied [] a = tt
 implied (r ∷ t) a = ((λ e. absurd (omega (arith, a.0, ap length e))), implied t a.1)
+
+-- a bit, as a test and back
+pub one_bit : (n : ℕ) → one (eqb (n % 2) 1) ≡ n % 2
+one_bit n = elim (test (eqb (n % 2) 1)) [ inl e ↦ rw e (sym (eqb-true (n % 2) 1 e)) | inr e ↦ let z = eqb-false (n % 2) 1 e in rw e (omega arith) ]
 
 module _ (st : State) (s : Sound st) (k : Key) where
   abbrev t : Table
@@ -80,6 +92,9 @@ module _ (st : State) (s : Sound st) (k : Key) where
           let g : rows_of t ≡ rows_below k t ++ (row_of (at k t) c ∷ (map (row_of (at k t)) cs ++ rows_above k t)) =
           rows_at k 0 t s.bounded.ordered ∙ ap (λ (l : List Candidate). rows_below k t ++ (map (row_of (at k t)) l ++ rows_above k t)) z in
           rw (lt-ltb from to l, g, e, get_or_at (rows_below k t) (row_of (at k t) c) (map (row_of (at k t)) cs ++ rows_above k t) d (length (rows_below k t)) refl) (mark-row (at k t) c)
+
+  pub its-mark : (d : Row) {from to : ℕ} {m : Bool} → from ≡ length (rows_below k t) → to ≡ length (rows_below k t ++ rows_for (at k t)) → one m ≡ mark_in from to d (rows_of t) → m ≡ (at k t).fallback
+  its-mark d {m = m} e f z = sym (bit_one m) ∙ ap (λ (n : ℕ). eqb n 1) (z ∙ mark_of d e f) ∙ bit_one (at k t).fallback
 
 -- ---- the row is in, then it is counted
 

@@ -1,5 +1,6 @@
 -- What the contracts of the changes of one request say.
 use Rattle.std.specs.Prelude.{ℕ, ◌+◌, ◌/◌, ◌%◌, ◌≤◌, ◌<◌, ◌≡◌, Bool, true, false, List, ltb, get_or, if◌then◌else◌}
+use Rattle.std.specs.Prelude.{Option, Some, None}
 use Rattle.std.proofs.Math.Option.{none}
 use Rattle.ident.specs.declared.Hash.{Hash}
 use Rattle.ident.specs.declared.ItemKind.{ItemKind}
@@ -48,23 +49,35 @@ pub record Spans (b : List ℕ) (x from to : ℕ) : Type 0 where
   pub from_is : (st : State) → Sound st → Writes b st → Bound (row_numbers (rows_of st.table)) x from
   pub to_is : (st : State) → Sound st → Writes b st → Bound (row_numbers (rows_of st.table)) (x + 1) to
 
--- the row at is the first of the connection n among the rows of the key whose number is x, which are those before end
-pub record Spotted (b : List ℕ) (x n at end : ℕ) : Type 0 where
+-- the row at is the first of the connection n among the rows of the key whose number is x
+pub record Found (b : List ℕ) (x n at : ℕ) : Type 0 where
   pub from : ℕ
-  pub spans : Spans b x from end
-  pub met : Met b from end n at
+  pub to : ℕ
+  pub spans : Spans b x from to
+  pub met : Met b from to n at
+  pub inside : at < to
+
+-- none of them is the connection's
+pub record Missing (b : List ℕ) (x n : ℕ) : Type 0 where
+  pub from : ℕ
+  pub to : ℕ
+  pub spans : Spans b x from to
+  pub met : Met b from to n to
+
+abbrev pub FoundAmong : List ℕ → ℕ → ℕ → Option ℕ → Type 0
+FoundAmong b x n None = Missing b x n
+FoundAmong b x n (Some i) = Found b x n i
 
 -- the mark of the first of the rows from .. to, or 0
 abbrev pub mark_in : ℕ → ℕ → Row → List Row → ℕ
 mark_in from to d rs = if ltb from to then mark_bit (get_or rs from d) else 0
 
-pub record MarkIn (b : List ℕ) (from to r : ℕ) : Type 0 where
-  pub small : r ≤ 1
-  pub is : (f : Flat) (d : Row) → Shows b f → r ≡ mark_in from to d f.rows
+abbrev pub MarkIn : List ℕ → ℕ → ℕ → Bool → Type 0
+MarkIn b from to r = (f : Flat) (d : Row) → Shows b f → one r ≡ mark_in from to d f.rows
 
 -- the row of a candidate that does not own its request
-abbrev pub RowFor : RowKey → Candidate → ℕ → Row → Type 0
-RowFor k c m r = (q : Request) → k.hash ≡ quad_of q.key.hash → k.kind ≡ kind_bit q.key.kind → owner_is c.connection q.owner ≡ false → m ≡ one q.fallback → r ≡ row_of q (candidate_of c)
+abbrev pub RowFor : RowKey → Candidate → Bool → Row → Type 0
+RowFor k c m r = (q : Request) → k.hash ≡ quad_of q.key.hash → k.kind ≡ kind_bit q.key.kind → owner_is c.connection q.owner ≡ false → m ≡ q.fallback → r ≡ row_of q (candidate_of c)
 
 -- the item bit of a candidate that adopts another's item, or keeps its own
 abbrev pub witness_as : Bool → ItemKind → ℕ → ℕ

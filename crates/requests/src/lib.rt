@@ -4,7 +4,7 @@
 // asks that the bytes write some sound state, and room where a row is added.
 #![tactic(auto)]
 
-ghost use Rattle.std.specs.Prelude.{◌≡◌, min, ◌+◌, ◌-◌, ◌≤◌, ◌<◌, map, length, true, false};
+ghost use Rattle.std.specs.Prelude.{◌≡◌, ◌+◌, ◌-◌, ◌≤◌, ◌<◌, map, length, true, false};
 ghost use Rattle.std.proofs.Math.Option.{none};
 ghost use Rattle.ident.specs.Words.{hash_num, key_num};
 ghost use Rattle.machine.specs.Limits.{max_announcements};
@@ -15,7 +15,7 @@ ghost use Rattle.machine.specs.Announce as machine;
 ghost use Rattle.machine.specs.Fail as fail;
 ghost use Rattle.store.specs.Flat.{kind_bit, witness_bit};
 ghost use Rattle.store.specs.Shown.{limit_in, rows_in, Kept, Shown};
-ghost use Rattle.requests.specs.Changes.{candidate_of, Words, KeyWords, Spans, Spotted, MarkIn, RowFor, witness_as, RowAdopting, OwnedBare, FiguresOf, Makes, Tells};
+ghost use Rattle.requests.specs.Changes.{candidate_of, Words, KeyWords, Spans, FoundAmong, MarkIn, RowFor, witness_as, RowAdopting, OwnedBare, FiguresOf, Makes, Tells};
 
 pub mod whole;
 
@@ -77,38 +77,30 @@ fn witness_bit(k: ident::ItemKind) -> u64
     }
 }
 
-fn bit(b: bool) -> u64
-    ensures { (result ≡ one b) × (result ≤ 1) }
-{
-    if b { 1 } else { 0 }
-}
-
 pub fn key_words(k: ident::Key) -> regions::Key
     ensures { KeyWords k result }
 {
-    let h = k.hash;
-    let t = k.kind;
-    let hash = hash_quad(h);
-    let kind = kind_bit(t);
-    regions::Key { kind, hash }
+    regions::Key {
+        kind: kind_bit(k.kind),
+        hash: hash_quad(k.hash),
+    }
 }
 
 // The row of a candidate that does not own its request.
-pub fn new_row(k: regions::Key, c: Candidate, mark: u64) -> regions::Row
-    requires { (k.kind ≤ 1) × (mark ≤ 1) }
+pub fn new_row(k: regions::Key, c: Candidate, mark: bool) -> regions::Row
+    requires { k.kind ≤ 1 }
     ensures { RowFor k c mark result }
 {
-    let item = c.item;
-    let t = item.kind;
-    let hash = k.hash;
-    let bits = k.kind + 2 * witness_bit(t) + 4 * bit(c.preferred) + 16 * mark;
     regions::Row {
-        hash,
+        hash: k.hash,
         conn: c.connection,
         ready: c.ready,
         prio: c.priority,
         deadline: 0,
-        bits,
+        bits: k.kind
+            + 2 * witness_bit(c.item.kind)
+            + 4 * u64::from(c.preferred)
+            + 16 * u64::from(mark),
     }
 }
 
@@ -123,34 +115,22 @@ pub fn window_of(s: &[u8], k: regions::Key) -> Window
     Window { from, to }
 }
 
-// The mark of the request whose rows are from .. to: that of its first row.
-pub fn mark_in(s: &[u8], from: usize, to: usize) -> u64
+// Whether the request whose rows are from .. to has the mark: its first row has it.
+pub fn mark_in(s: &[u8], from: usize, to: usize) -> bool
     requires { Shown s.now × (to ≤ rows_in s.now) }
     ensures { MarkIn s.now from to result }
 {
-    if from < to {
-        let r = store::rows::row_at(s, from);
-        r.bits / 16 % 2
-    } else {
-        0
-    }
+    from < to && store::rows::row_at(s, from).bits / 16 % 2 == 1
 }
 
-// Where the row of a connection stands among those of a key; `end`, if it has none there.
-#[derive(Clone, Copy)]
-pub struct Spot {
-    pub at: usize,
-    pub end: usize,
-}
-
-pub fn spot_of(s: &[u8], k: regions::Key, n: u64) -> Spot
+// Where the row of a connection stands among those of a key, if it has one there.
+fn find_row(s: &[u8], k: regions::Key, n: u64) -> Option<usize>
     requires { Kept s.now }
-    ensures { Spotted s.now (key_number k) n result.at result.end }
+    ensures { FoundAmong s.now (key_number k) n result }
 {
     let w = window_of(s, k);
-    let end = w.to;
-    let at = store::rows::find_row(s, w.from, end, n);
-    Spot { at, end }
+    let i = store::rows::find_row(s, w.from, w.to, n);
+    if i < w.to { Some(i) } else { None }
 }
 
 // Whether the connection n is a candidate of the request at k.
@@ -158,9 +138,7 @@ pub fn holds(s: &[u8], k: ident::Key, n: u64) -> bool
     requires { Kept s.now }
     ensures { Tells s.now (λ t. result ≡ has n (at (key_num k) t).candidates) }
 {
-    let key = key_words(k);
-    let p = spot_of(s, key, n);
-    p.at < p.end
+    find_row(s, key_words(k), n).is_some()
 }
 
 // ---- a connection
@@ -199,14 +177,8 @@ pub fn candidates_at(s: &[u8], h: ident::Hash) -> usize
     requires { Kept s.now }
     ensures { Tells s.now (λ t. result ≡ held_at (hash_num h) t) }
 {
-    let a = ident::Key {
-        kind: ident::Kind::Txid,
-        hash: h,
-    };
-    let b = ident::Key {
-        kind: ident::Kind::Wtxid,
-        hash: h,
-    };
+    let a = ident::txid_key(ident::Txid(h));
+    let b = ident::wtxid_key(ident::Wtxid(h));
     candidates_of(s, a) + candidates_of(s, b)
 }
 
@@ -215,14 +187,8 @@ pub fn is_candidate(s: &[u8], h: ident::Hash, n: u64) -> bool
     requires { Kept s.now }
     ensures { Tells s.now (λ t. result ≡ is_candidate n (hash_num h) t) }
 {
-    let a = ident::Key {
-        kind: ident::Kind::Txid,
-        hash: h,
-    };
-    let b = ident::Key {
-        kind: ident::Kind::Wtxid,
-        hash: h,
-    };
+    let a = ident::txid_key(ident::Txid(h));
+    let b = ident::wtxid_key(ident::Wtxid(h));
     holds(s, a, n) || holds(s, b, n)
 }
 
@@ -246,22 +212,13 @@ pub fn cut(s: &mut [u8], k: ident::Key, n: u64)
     requires { Kept s.old }
     ensures { Makes s.old s.new (λ t. (has n (at (key_num k) t).candidates ≡ true) × (owner_is n (at (key_num k) t).owner ≡ false)) (machine.cut (key_num k) n) }
 {
-    let key = key_words(k);
-    let p = spot_of(s, key, n);
-    let i = p.at;
-    if i < p.end {
+    if let Some(i) = find_row(s, key_words(k), n) {
         store::rows::drop_row(s, i);
         store::counting::count_out(s, n, 0);
     }
 }
 
 // ---- a candidate that adopts what another brings
-
-fn least(a: u64, b: u64) -> u64
-    ensures { result ≡ min a b }
-{
-    if a < b { a } else { b }
-}
 
 fn witness_as(same: bool, k: ident::ItemKind, bits: u64) -> u64
     ensures { (result ≡ witness_as same k bits) × (result ≤ 1) }
@@ -273,17 +230,12 @@ fn witness_as(same: bool, k: ident::ItemKind, bits: u64) -> u64
 fn adopted_row(r: regions::Row, c: Candidate, same: bool) -> regions::Row
     ensures { RowAdopting same c r result }
 {
-    let hash = r.hash;
-    let item = c.item;
-    let t = item.kind;
-    let w = witness_as(same, t, r.bits);
+    let w = witness_as(same, c.item.kind, r.bits);
     regions::Row {
-        hash,
-        conn: r.conn,
-        ready: least(r.ready, c.ready),
-        prio: least(r.prio, c.priority),
-        deadline: r.deadline,
+        ready: r.ready.min(c.ready),
+        prio: r.prio.min(c.priority),
         bits: r.bits % 2 + 2 * w + 4 + 8 * (r.bits / 8 % 2) + 16 * (r.bits / 16 % 2),
+        ..r
     }
 }
 
@@ -292,10 +244,7 @@ pub fn adopt(s: &mut [u8], k: ident::Key, c: Candidate, same: bool)
     requires { Kept s.old }
     ensures { Makes s.old s.new (λ t. has c.connection (at (key_num k) t).candidates ≡ true) (machine.adopted same (key_num k) (candidate_of c)) }
 {
-    let key = key_words(k);
-    let p = spot_of(s, key, c.connection);
-    let i = p.at;
-    if i < p.end {
+    if let Some(i) = find_row(s, key_words(k), c.connection) {
         let r = store::rows::row_at(s, i);
         store::rows::set_row(s, i, adopted_row(r, c, same));
     }
@@ -308,28 +257,20 @@ fn owned_row(r: regions::Row, deadline: u64) -> regions::Row
     requires { r.bits < 32 }
     ensures { result ≡ with_deadline deadline (with_bits (r.bits + 8) r) }
 {
-    let hash = r.hash;
     regions::Row {
-        hash,
-        conn: r.conn,
-        ready: r.ready,
-        prio: r.prio,
         deadline,
         bits: r.bits + 8,
+        ..r
     }
 }
 
 fn unowned_row(r: regions::Row) -> regions::Row
     ensures { result ≡ with_deadline 0 (with_bits (r.bits - 8) r) }
 {
-    let hash = r.hash;
     regions::Row {
-        hash,
-        conn: r.conn,
-        ready: r.ready,
-        prio: r.prio,
         deadline: 0,
-        bits: store::counting::less(r.bits, 8),
+        bits: r.bits.saturating_sub(8),
+        ..r
     }
 }
 
@@ -338,10 +279,7 @@ pub fn own(s: &mut [u8], k: ident::Key, n: u64, deadline: u64)
     requires { Kept s.old }
     ensures { Makes s.old s.new (λ t. (has n (at (key_num k) t).candidates ≡ true) × ((at (key_num k) t).owner ≡ none)) (change (key_num k) (owned_until n deadline)) }
 {
-    let key = key_words(k);
-    let p = spot_of(s, key, n);
-    let i = p.at;
-    if i < p.end {
+    if let Some(i) = find_row(s, key_words(k), n) {
         let r = store::rows::row_at(s, i);
         store::rows::set_row(s, i, owned_row(r, deadline));
         store::counting::recount(s, n, 0, 1);
@@ -353,10 +291,7 @@ pub fn disown(s: &mut [u8], k: ident::Key, n: u64)
     requires { Kept s.old }
     ensures { Makes s.old s.new (λ t. OwnedBare n (at (key_num k) t)) (change (key_num k) unowned) }
 {
-    let key = key_words(k);
-    let p = spot_of(s, key, n);
-    let i = p.at;
-    if i < p.end {
+    if let Some(i) = find_row(s, key_words(k), n) {
         let r = store::rows::row_at(s, i);
         store::rows::set_row(s, i, unowned_row(r));
         store::counting::recount(s, n, 1, 0);

@@ -30,7 +30,7 @@ fn marked(s: &[u8], k: ident::Key) -> bool
     ensures { Tells s.now (λ t. result ≡ (at (key_num k) t).fallback) }
 {
     let w = requests::window_of(s, requests::key_words(k));
-    requests::mark_in(s, w.from, w.to) == 1
+    requests::mark_in(s, w.from, w.to)
 }
 
 // Whether the connection is one of the list, which has a word for each.

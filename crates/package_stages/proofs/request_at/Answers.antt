@@ -1,21 +1,19 @@
 use Prim.Native.Nat.{ℕ}
-use mathlib.Core.Path.{ap, subst, ◌∙◌}
-use lib.Dec.{eqb}
+use mathlib.Core.Path.{subst}
 use Rattle.ident.specs.Words.{key_num}
 use Rattle.machine.specs.Table.{at}
 use Rattle.store.specs.Flat.{flat_of, row_of}
-use Rattle.store.proofs.Bits.{bit_one}
 use Rattle.requests.specs.Changes.{Spans}
 use Rattle.requests.proofs.Keeping.{kept_shown, from_at, to_at}
-use Rattle.requests.proofs.Pushing.{mark_of}
+use Rattle.requests.proofs.Pushing.{its-mark}
 use Rattle.package_stages.proofs.Owners.{nobody, owner-is}
 use Rattle.package_stages.proofs.request_at.Goals as goal
 
 pub owner_in-owner-requires : goal.owner_in-owner-requires
 owner_in-owner-requires c = (kept_shown c.requires, c.window_of-w.ensures.order, c.window_of-w.ensures.most)
 
-pub mark_in-m-requires : goal.mark_in-m-requires
-mark_in-m-requires c = (kept_shown c.requires, c.window_of-w.ensures.most)
+pub mark_in-mark-requires : goal.mark_in-mark-requires
+mark_in-mark-requires c = (kept_shown c.requires, c.window_of-w.ensures.most)
 
 pub returns : goal.returns
 returns c =
@@ -32,6 +30,6 @@ returns c =
           record {
             owner = owner-is st s k from to w _ c.owner_in-owner.ensures;
             stage = c.stage_at-stage.ensures st s w;
-            mark = ap (λ (x : ℕ). eqb x 1) (c.mark_in-m.ensures.is (flat_of st) d w ∙ mark_of st s k d from to) ∙ bit_one (at k st.table).fallback;
+            mark = its-mark st s k d from to (c.mark_in-mark.ensures (flat_of st) d w);
           };
     }

@@ -13,7 +13,7 @@ returns c = λ q d e.
     let m : w ≡ witness_as c.args.same k.item.kind (row_of q d).bits =
     c.witness_as-w.ensures.0 ∙
     ap (λ (a : Row). witness_as c.args.same k.item.kind a.bits) e in
-    rw (c.least.ensures, c.least-2.ensures)
+    rw (c.min.ensures, c.min-2.ensures)
     (ap (λ (a : Row). record {
       hash = a.hash;
       conn = a.conn;

@@ -8,7 +8,7 @@ use Rattle.store.specs.Flat.{flat_of, rows_of}
 use Rattle.store.proofs.Frame.{sizes}
 use Rattle.requests.specs.Changes.{candidate_of}
 use Rattle.requests.proofs.Keeping.{kept_shown, conns_in_order, from_at, to_at}
-use Rattle.requests.proofs.Pushing.{its-hash, its-kind, mark_of, added-shown, pushed}
+use Rattle.requests.proofs.Pushing.{its-hash, its-kind, its-mark, added-shown, pushed}
 use Rattle.requests.proofs.push.Goals as goal
 
 pub mark_in-mark-requires : goal.mark_in-mark-requires
@@ -37,9 +37,8 @@ returns c = λ st s w o.
     let key = c.key_words-key.ensures in
     let from = from_at st s k key.small key.number (c.window_of-w.ensures.from_is st s w) in
     let to = to_at st s k key.small key.number (c.window_of-w.ensures.to_is st s w) in
-    let m = c.mark_in-mark.ensures.is
-    (flat_of st) c.new_row-r.result w ∙
-    mark_of st s k c.new_row-r.result from to in
+    let d = c.new_row-r.result in
+    let m = its-mark st s k d from to (c.mark_in-mark.ensures (flat_of st) d w) in
     let r = c.new_row-r.ensures (at k st.table) (key.hash ∙ its-hash st s k key.small)
     (key.kind ∙ its-kind st s k key.small) o m in
     pushed st s k (candidate_of c.args.c) to r o refl

@@ -4,7 +4,7 @@ use Rattle.ident.specs.Words.{key_num}
 use Rattle.machine.specs.Table.{at}
 use Rattle.store.specs.Flat.{flat_of}
 use Rattle.requests.proofs.Keeping.{kept_shown, from_at, to_at}
-use Rattle.requests.proofs.Pushing.{its-hash, its-kind, mark_of}
+use Rattle.requests.proofs.Pushing.{its-hash, its-kind, its-mark}
 use Rattle.gathering.proofs.beside.waiting_row.Goals as goal
 
 pub mark_in-mark-requires : goal.mark_in-mark-requires
@@ -16,5 +16,5 @@ returns c = λ st s w o.
     let key = c.key_words-key.ensures in
     let from = from_at st s k key.small key.number (c.window_of-w.ensures.from_is st s w) in
     let to = to_at st s k key.small key.number (c.window_of-w.ensures.to_is st s w) in
-    let m = c.mark_in-mark.ensures.is (flat_of st) c.new_row.result w ∙ mark_of st s k c.new_row.result from to in
+    let m = its-mark st s k c.new_row.result from to (c.mark_in-mark.ensures (flat_of st) c.new_row.result w) in
     c.new_row.ensures (at k st.table) (key.hash ∙ its-hash st s k key.small) (key.kind ∙ its-kind st s k key.small) o m

@@ -1,13 +1,9 @@
 -- `sending::witness::marked` meets its contract.
-use Prim.Native.Nat.{ℕ}
-use mathlib.Core.Path.{ap, ◌∙◌}
-use lib.Dec.{eqb}
 use Rattle.ident.specs.Words.{key_num}
 use Rattle.machine.specs.Table.{at}
 use Rattle.store.specs.Flat.{row_of, flat_of}
-use Rattle.store.proofs.Bits.{bit_one}
 use Rattle.requests.proofs.Keeping.{kept_shown, from_at, to_at}
-use Rattle.requests.proofs.Pushing.{mark_of}
+use Rattle.requests.proofs.Pushing.{its-mark}
 use Rattle.claiming.specs.Claiming.{entry_of, no_entry}
 use Rattle.sending.proofs.witness.marked.Goals as goal
 
@@ -22,4 +18,4 @@ returns c = λ st s w.
     let d = row_of (at k st.table) (entry_of no_entry).candidate in
     let from = from_at st s k key.small key.number (win.from_is st s w) in
     let to = to_at st s k key.small key.number (win.to_is st s w) in
-    ap (λ (x : ℕ). eqb x 1) (c.mark_in.ensures.is (flat_of st) d w ∙ mark_of st s k d from to) ∙ bit_one (at k st.table).fallback
+    its-mark st s k d from to (c.mark_in.ensures (flat_of st) d w)
