@@ -60,21 +60,13 @@ pub fn quad_hash(q: regions::Quad) -> ident::Hash
 fn kind_bit(k: ident::Kind) -> u64
     ensures { (result ≡ kind_bit k) × (result ≤ 1) }
 {
-    match k {
-        ident::Kind::Txid => 0,
-        ident::Kind::Wtxid => 1,
-    }
+    u64::from(k == ident::Kind::Wtxid)
 }
 
 fn witness_bit(k: ident::ItemKind) -> u64
     ensures { (result ≡ witness_bit k) × (result ≤ 1) }
 {
-    match k {
-        ident::ItemKind::Transaction => 0,
-        ident::ItemKind::WitnessTransaction => 1,
-        ident::ItemKind::WTx => 0,
-        ident::ItemKind::Other(_) => 0,
-    }
+    u64::from(k == ident::ItemKind::WitnessTransaction)
 }
 
 pub fn key_words(k: ident::Key) -> regions::Key
@@ -177,8 +169,8 @@ pub fn candidates_at(s: &[u8], h: ident::Hash) -> usize
     requires { Kept s.now }
     ensures { Tells s.now (λ t. result ≡ held_at (hash_num h) t) }
 {
-    let a = ident::txid_key(ident::Txid(h));
-    let b = ident::wtxid_key(ident::Wtxid(h));
+    let a = ident::Key::from(ident::Txid(h));
+    let b = ident::Key::from(ident::Wtxid(h));
     candidates_of(s, a) + candidates_of(s, b)
 }
 
@@ -187,8 +179,8 @@ pub fn is_candidate(s: &[u8], h: ident::Hash, n: u64) -> bool
     requires { Kept s.now }
     ensures { Tells s.now (λ t. result ≡ is_candidate n (hash_num h) t) }
 {
-    let a = ident::txid_key(ident::Txid(h));
-    let b = ident::wtxid_key(ident::Wtxid(h));
+    let a = ident::Key::from(ident::Txid(h));
+    let b = ident::Key::from(ident::Wtxid(h));
     holds(s, a, n) || holds(s, b, n)
 }
 

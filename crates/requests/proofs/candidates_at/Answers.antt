@@ -7,5 +7,5 @@ use Rattle.requests.proofs.candidates_at.Goals as goal
 pub returns : goal.returns
 returns c = λ st s w.
     let h = c.args.h in
-    rw (c.candidates_of.ensures.1 st s w, c.candidates_of-2.ensures.1 st s w, c.txid_key-a.ensures, c.wtxid_key-b.ensures)
+    rw (c.candidates_of.ensures.1 st s w, c.candidates_of-2.ensures.1 st s w, c.from-a.ensures, c.from-b.ensures)
     (sym (held-at (hash_num h) (hash_below h (hash-four h c.well_formed.1.0)) st.table s.bounded.ordered))

@@ -7,10 +7,10 @@ pub returns-then-holds : goal.returns-then-holds
 returns-then-holds c = λ st s w.
     let h = c.args.h in
     candidate_first c.args.n (hash_num h) (hash_below h (hash-four h c.well_formed.1.0)) st.table s.bounded.ordered
-    (at_key_lem c.args.n st.table c.txid_key-a.ensures (c.holds.ensures st s w)) c.if-holds.true
+    (at_key_lem c.args.n st.table c.from-a.ensures (c.holds.ensures st s w)) c.if-holds.true
 
 pub returns-else-holds : goal.returns-else-holds
 returns-else-holds c = λ st s w.
     let h = c.args.h in
     candidate-second c.args.n (hash_num h) (hash_below h (hash-four h c.well_formed.1.0)) st.table s.bounded.ordered
-    (at_key_lem c.args.n st.table c.txid_key-a.ensures (c.holds.ensures st s w)) c.if-holds.false (at_key_lem c.args.n st.table c.wtxid_key-b.ensures (c.holds-else-holds.ensures st s w))
+    (at_key_lem c.args.n st.table c.from-a.ensures (c.holds.ensures st s w)) c.if-holds.false (at_key_lem c.args.n st.table c.from-b.ensures (c.holds-else-holds.ensures st s w))
