@@ -4,16 +4,30 @@
 // of as many owners which come more than 100 times.
 #![tactic(auto)]
 
-ghost use Rattle.std.specs.Prelude.{◌≡◌, true, false, ◌≤◌, ◌<◌, ◌^◌, length};
+ghost use Rattle.std.specs.Prelude.{◌≡◌, Bool, true, false, ◌<◌, ◌^◌, length};
 ghost use Rattle.lines.specs.Values.{number_in};
 ghost use Rattle.heavy.specs.Counters.{sum};
-ghost use Rattle.listed_lines.specs.Given.{list_room, owner_of};
-ghost use Rattle.listed_counts.specs.Passes.{owner_number, Adds, Notes, Counts, NotesAll, CountsAll, Fresh, Verdict, LightRead};
+ghost use Rattle.listed_lines.specs.Given.{owner_of};
+ghost use Rattle.listed_counts.specs.Passes.{owner_number, Adds, Notes, Counts, NotesAll, CountsAll, Verdict, LightRead};
 
-use listed_lines::line::{Line, line_at};
+use listed_lines::cursor::{Lines, Lists};
+use listed_lines::line::Line;
 use listed_lines::parts::Owner;
 
 // ---- the number that a line adds
+
+// What a pass counts: the owners, or the candidates' connections.
+trait Counted {
+    ghost owners: { Bool };
+
+    // That of a line, if it has one.
+    fn number_of(l: Line) -> Option<u64>
+        ensures { Adds owners l result };
+}
+
+struct Owners;
+
+struct Connections;
 
 fn owner_number(o: Owner) -> Option<u64>
     ensures { number_in result ≡ owner_number (owner_of o) }
@@ -24,40 +38,26 @@ fn owner_number(o: Owner) -> Option<u64>
     Some(o.connection)
 }
 
-// The owner of a request's line.
-fn owner_in(l: Line) -> Option<u64>
-    ensures { Adds true l result }
-{
-    match l {
-        Line::Not => None,
-        Line::Head(_) => None,
-        Line::Request(r) => {
-            let o = r.owner;
-            owner_number(o)
+impl Counted for Owners {
+    ghost owners = { true };
+
+    fn number_of(l: Line) -> Option<u64> {
+        match l {
+            Line::Request(r) => owner_number(r.owner),
+            _ => None,
         }
-        Line::Candidate(_) => None,
     }
 }
 
-// The connection of a candidate's line.
-fn connection_in(l: Line) -> Option<u64>
-    ensures { Adds false l result }
-{
-    match l {
-        Line::Not => None,
-        Line::Head(_) => None,
-        Line::Request(_) => None,
-        Line::Candidate(c) => Some(c.connection),
-    }
-}
+impl Counted for Connections {
+    ghost owners = { false };
 
-fn added(l: Line, owners: bool) -> Option<u64>
-    ensures { Adds owners l result }
-{
-    if owners {
-        return owner_in(l);
+    fn number_of(l: Line) -> Option<u64> {
+        match l {
+            Line::Candidate(c) => Some(c.connection),
+            _ => None,
+        }
     }
-    connection_in(l)
 }
 
 // ---- one number more, if there is one
@@ -82,135 +82,57 @@ fn count_number(names: &[u64], counts: &mut [u64], n: Option<u64>)
     heavy::count(names, counts, x);
 }
 
-// ---- the passes over the lines from an index on
+// ---- the passes over the lines
 
-fn note_lines(
-    text: &[u8],
-    from: usize,
-    owners: bool,
+fn note_lines<N: Counted>(
+    mut lines: Lines,
     names: &mut [u64],
     counts: &mut [u64],
-    wtxids: &mut [u8],
-    parents: &mut [u8],
+    lists: &mut Lists,
 )
-    requires { (from ≤ length text.now) × (list_room ≤ length wtxids.old) × (list_room ≤ length parents.old) × (length names.old ≡ length counts.old) × (sum counts.old ≡ 0) }
-    ensures { NotesAll text.now from owners names.old counts.old names.new }
+    requires { (length names.old ≡ length counts.old) × (sum counts.old ≡ 0) }
+    ensures { NotesAll lines.entry.text.now lines.entry.at N.owners names.old counts.old names.new }
 {
-    let mut at = from;
-    while at < text.len() {
-        let l = line_at(text, at, wtxids, parents);
-        at = l.end;
-        let line = l.line;
-        let n = added(line, owners);
-        note_number(names, counts, n);
+    while let Some(line) = lines.next(lists) {
+        note_number(names, counts, N::number_of(line));
     }
 }
 
-fn count_lines(
-    text: &[u8],
-    from: usize,
-    owners: bool,
-    names: &[u64],
-    counts: &mut [u64],
-    wtxids: &mut [u8],
-    parents: &mut [u8],
-)
-    requires { (from ≤ length text.now) × (list_room ≤ length wtxids.old) × (list_room ≤ length parents.old) × (length names.now ≡ length counts.old) × (sum counts.old ≡ 0) }
-    ensures { CountsAll text.now from owners names.now counts.old counts.new }
+fn count_lines<N: Counted>(mut lines: Lines, names: &[u64], counts: &mut [u64], lists: &mut Lists)
+    requires { (length names.now ≡ length counts.old) × (sum counts.old ≡ 0) }
+    ensures { CountsAll lines.entry.text.now lines.entry.at N.owners names.now counts.old counts.new }
 {
-    let mut at = from;
-    while at < text.len() {
-        let l = line_at(text, at, wtxids, parents);
-        at = l.end;
-        let line = l.line;
-        let n = added(line, owners);
-        count_number(names, counts, n);
+    while let Some(line) = lines.next(lists) {
+        count_number(names, counts, N::number_of(line));
     }
 }
 
-// Whether no number comes more than `most` times: named in one pass, counted in another.
-fn none_often(
-    text: &[u8],
-    from: usize,
-    owners: bool,
-    most: u64,
-    names: &mut [u64],
-    counts: &mut [u64],
-    again: &mut [u64],
-    wtxids: &mut [u8],
-    parents: &mut [u8],
-) -> bool
-    requires { (from ≤ length text.now) × (list_room ≤ length wtxids.old) × (list_room ≤ length parents.old) × Fresh names.old counts.old again.old }
-    ensures { Verdict text.now from owners most (length counts.old) result }
+fn counters<const K: usize>() -> [u64; K]
+    requires { K < 2 ^ 60 }
+    ensures { (length result ≡ K) × (sum result ≡ 0) }
 {
-    note_lines(text, from, owners, names, counts, wtxids, parents);
-    count_lines(text, from, owners, names, again, wtxids, parents);
-    heavy::none_above(again, most)
+    [0; K]
 }
 
-// ---- counters
-
-fn connection_counters() -> [u64; 19]
-    ensures { (length result ≡ 19) × (sum result ≡ 0) }
+// Whether no number comes more than `most` times: named in one pass, counted in another, with K counters.
+fn none_often<N: Counted, const K: usize>(lines: Lines, most: u64, lists: &mut Lists) -> bool
+    requires { K < 2 ^ 60 }
+    ensures { Verdict lines.entry.text.now lines.entry.at N.owners most K result }
 {
-    [0u64; 19]
+    let mut names = counters::<K>();
+    let mut counts = counters::<K>();
+    note_lines::<N>(lines, &mut names, &mut counts, lists);
+    let mut again = counters::<K>();
+    count_lines::<N>(lines, &names, &mut again, lists);
+    heavy::none_above(&again, most)
 }
 
-fn owner_counters() -> [u64; 999]
-    ensures { (length result ≡ 999) × (sum result ≡ 0) }
+// Of the requests that the lines list: whether no connection is that of more than 5,000 candidates, and none owns more than 100 requests.
+pub fn light(lines: Lines, lists: &mut Lists) -> bool
+    ensures { LightRead lines.entry.text.now lines.entry.at result }
 {
-    [0u64; 999]
-}
-
-// Whether no connection is that of more than 5,000 candidates.
-fn connections_few(text: &[u8], from: usize, wtxids: &mut [u8], parents: &mut [u8]) -> bool
-    requires { (from ≤ length text.now) × (list_room ≤ length wtxids.old) × (list_room ≤ length parents.old) }
-    ensures { Verdict text.now from false 5000 19 result }
-{
-    let mut names = connection_counters();
-    let mut counts = connection_counters();
-    let mut again = connection_counters();
-    none_often(
-        text,
-        from,
-        false,
-        5_000,
-        &mut names,
-        &mut counts,
-        &mut again,
-        wtxids,
-        parents,
-    )
-}
-
-// Whether none owns more than 100 requests.
-fn owners_few(text: &[u8], from: usize, wtxids: &mut [u8], parents: &mut [u8]) -> bool
-    requires { (from ≤ length text.now) × (list_room ≤ length wtxids.old) × (list_room ≤ length parents.old) }
-    ensures { Verdict text.now from true 100 999 result }
-{
-    let mut names = owner_counters();
-    let mut counts = owner_counters();
-    let mut again = owner_counters();
-    none_often(
-        text,
-        from,
-        true,
-        100,
-        &mut names,
-        &mut counts,
-        &mut again,
-        wtxids,
-        parents,
-    )
-}
-
-// Both, of the requests that the lines from an index on list. Lists of hashes pass through the lent bytes.
-pub fn light(text: &[u8], from: usize, wtxids: &mut [u8], parents: &mut [u8]) -> bool
-    requires { (from ≤ length text.now) × (list_room ≤ length wtxids.old) × (list_room ≤ length parents.old) }
-    ensures { LightRead text.now from result }
-{
-    if !connections_few(text, from, wtxids, parents) {
+    if !none_often::<Connections, 19>(lines, 5_000, lists) {
         return false;
     }
-    owners_few(text, from, wtxids, parents)
+    none_often::<Owners, 999>(lines, 100, lists)
 }

@@ -1,39 +1,29 @@
 -- What the contracts of pass 1 say.
-use Rattle.std.specs.Prelude.{ℕ, ◌≤◌, ◌≡◌, List, [], eqb, length, drop, if◌then◌else◌}
-use Rattle.std.proofs.Math.Option.{Option, none, some}
-use Rattle.ident.specs.Number.{Key}
+use Rattle.std.specs.Prelude.{ℕ, ◌≤◌, ◌≡◌, List, [], length, drop, Option, Some, None}
+use Rattle.std.proofs.Math.Option.{none, some}
 use Rattle.regions.specs.Rows.{quad_number}
 use Rattle.machine.specs.State.{Table, State, on_table}
-use Rattle.machine.specs.Listing.{Line, HeadLine, RequestLine, CandidateLine, Rest, rest_of, read_listing}
+use Rattle.machine.specs.Listing.{Line, Rest, rest_of, read_listing}
+use Rattle.listed_lines.specs.declared.cursor.Lines.{Lines}
 use Rattle.listed_lines.specs.declared.line.Line as line-line
 use Rattle.listed_lines.specs.declared.line.Head as line-head
-use Rattle.listed_lines.specs.declared.line.HeadIn.{HeadIn}
-use Rattle.listed_lines.specs.Given.{head_state, head_line, line_in, lines_of_text}
+use Rattle.listed_lines.specs.Given.{head_state, line_in, lines_of_text}
 use Rattle.listed_form.specs.declared.Met as code-met
-use Rattle.listed_form.specs.declared.Form.{Form}
-use Rattle.listed_form.specs.declared.Form.TheVariants.{Not as NoForm, Is as IsForm}
+use Rattle.listed_form.specs.declared.Met.TheVariants.{Start as MetNone, After as MetKey}
 use Rattle.listed_form.specs.Placed.{Met, Bad, Start, After, meets}
 
 -- what the scan has met, in the code's words
-abbrev pub met_as : ℕ → Key → Met
-met_as n k = if eqb n 0 then Bad else if eqb n 1 then Start else After k
-
 abbrev pub met_of : code-met.Met → Met
-met_of m = met_as m.stage (record { kind = m.kind; hash = quad_number m.hash })
+met_of MetNone = Start
+met_of (MetKey k h) = After (record { kind = k; hash = quad_number h })
+
+abbrev pub met_if : Option code-met.Met → Met
+met_if None = Bad
+met_if (Some m) = met_of m
 
 -- one line more, whatever lists it has
-pub record Meets (m : code-met.Met) (l : line-line.Line) (r : code-met.Met) : Type 0 where
-  pub is : (ws ps : List ℕ) → met_of r ≡ meets (met_of m) (line_in ws ps l)
-
--- a line as the first one
-abbrev pub head_only : Option Line → Option Line
-head_only none = none
-head_only (some (HeadLine s)) = some (HeadLine s)
-head_only (some (RequestLine r)) = none
-head_only (some (CandidateLine c)) = none
-
-pub record HeadOf (l : line-line.Line) (r : HeadIn) : Type 0 where
-  pub is : (ws ps : List ℕ) → head_line r ≡ head_only (line_in ws ps l)
+pub record Meets (m : code-met.Met) (l : line-line.Line) (r : Option code-met.Met) : Type 0 where
+  pub is : (ws ps : List ℕ) → met_if r ≡ meets (met_of m) (line_in ws ps l)
 
 -- the lines of the text from index e on list q: candidates of a request before them, and requests
 pub record Body (b : List ℕ) (e : ℕ) (q : Rest) : Type 0 where
@@ -52,9 +42,10 @@ pub record Reads (b : List ℕ) (h : line-head.Head) (e : ℕ) : Type 0 where
   pub head : state ≡ on_table state.table (head_state h)
   pub body : Body b e (requests_only state.table)
 
-abbrev pub FormAs : List ℕ → Form → Type 0
-FormAs b NoForm = read_listing b ≡ none
-FormAs b (IsForm h e) = Reads b h e
+-- the first line, and the lines behind it; none of a text that lists no state
+abbrev pub FormAs : List ℕ → Option (line-head.Head × Lines) → Type 0
+FormAs b None = read_listing b ≡ none
+FormAs b (Some p) = (p.1.text.now ≡ b) × Reads b p.0 p.1.at
 
-pub record FormRead (b : List ℕ) (r : Form) : Type 0 where
+pub record FormRead (b : List ℕ) (r : Option (line-head.Head × Lines)) : Type 0 where
   pub is : FormAs b r

@@ -4,41 +4,21 @@
 // where the definition reads a state (`read_listing`, machine/specs/Listing), and which lines list it.
 #![tactic(auto)]
 
-ghost use Rattle.std.specs.Prelude.{◌≡◌, ◌≤◌, ltb, length, drop};
+ghost use Rattle.std.specs.Prelude.{◌≡◌, ◌≤◌, ltb, drop};
 ghost use Rattle.ident.specs.Number.{place};
 ghost use Rattle.regions.specs.Rows.{quad_number};
-ghost use Rattle.listed_lines.specs.Given.{list_room, lines_of_text};
-ghost use Rattle.listed_form.specs.Placed.{Bad, Start, meets_key, meets_candidate, placed_from};
-ghost use Rattle.listed_form.specs.Given.{met_of, Meets, HeadOf, FormRead};
+ghost use Rattle.listed_lines.specs.Given.{lines_of_text};
+ghost use Rattle.listed_form.specs.Placed.{Start, meets_key, meets_candidate, placed_from};
+ghost use Rattle.listed_form.specs.Given.{met_of, met_if, Meets, FormRead};
 
-use listed_lines::line::{Head, HeadIn, Line, line_at};
+use listed_lines::cursor::{Lines, Lists};
+use listed_lines::line::{Head, Line};
 
-// What a scan of the lines has met: 0 a line that may not stand there, 1 no request yet, 2 a request of this key, the last one.
+// What a scan of the lines has met: no request yet, or the key of the last one.
 #[derive(Clone, Copy)]
-pub struct Met {
-    pub stage: u64,
-    pub kind: ident::Kind,
-    pub hash: regions::Quad,
-}
-
-// A text that is no listing; or its first line, and the index behind that.
-#[derive(Clone, Copy)]
-pub enum Form {
-    Not,
-    Is(Head, usize),
-}
-
-fn at_stage(stage: u64) -> Met
-    ensures { result.stage ≡ stage }
-{
-    let kind = ident::Kind::Txid;
-    let hash = regions::Quad {
-        w0: 0,
-        w1: 0,
-        w2: 0,
-        w3: 0,
-    };
-    Met { stage, kind, hash }
+pub enum Met {
+    Start,
+    After(ident::Kind, regions::Quad),
 }
 
 // Whether the key of kind k and hash h comes before that of kind l and hash g.
@@ -57,102 +37,63 @@ pub fn comes_before(k: ident::Kind, h: regions::Quad, l: ident::Kind, g: regions
     }
 }
 
-fn meets_key(m: Met, kind: ident::Kind, hash: regions::Quad) -> Met
-    ensures { met_of result ≡ meets_key (met_of m) (record { kind = kind; hash = quad_number hash }) }
+fn meets_key(m: Met, kind: ident::Kind, hash: regions::Quad) -> Option<Met>
+    ensures { met_if result ≡ meets_key (met_of m) (record { kind = kind; hash = quad_number hash }) }
 {
-    if m.stage == 0 {
-        return at_stage(0);
+    if let Met::After(last, number) = m {
+        if comes_before(kind, hash, last, number) {
+            return None;
+        }
     }
-    if m.stage == 1 {
-        return Met {
-            stage: 2,
-            kind,
-            hash,
-        };
-    }
-    let last = m.kind;
-    let number = m.hash;
-    if comes_before(kind, hash, last, number) {
-        return at_stage(0);
-    }
-    Met {
-        stage: 2,
-        kind,
-        hash,
+    Some(Met::After(kind, hash))
+}
+
+fn meets_candidate(m: Met) -> Option<Met>
+    ensures { met_if result ≡ meets_candidate (met_of m) }
+{
+    match m {
+        Met::Start => None,
+        Met::After(_, _) => Some(m),
     }
 }
 
-fn meets_candidate(m: Met) -> Met
-    ensures { met_of result ≡ meets_candidate (met_of m) }
-{
-    if m.stage <= 1 {
-        return at_stage(0);
-    }
-    m
-}
-
-fn meets(m: Met, l: Line) -> Met
+// One line more, if it may stand there.
+fn meets(m: Met, l: Line) -> Option<Met>
     ensures { Meets m l result }
 {
     match l {
-        Line::Not => at_stage(0),
-        Line::Head(_) => at_stage(0),
-        Line::Request(r) => {
-            let kind = r.kind;
-            let hash = r.hash;
-            meets_key(m, kind, hash)
-        }
+        Line::Not => None,
+        Line::Head(_) => None,
+        Line::Request(r) => meets_key(m, r.kind, r.hash),
         Line::Candidate(_) => meets_candidate(m),
     }
 }
 
-// The first line, if it is one.
-fn head_of(l: Line) -> HeadIn
-    ensures { HeadOf l result }
+// Whether the lines are placed, and no key falls.
+fn placed(mut lines: Lines, lists: &mut Lists) -> bool
+    ensures { result ≡ placed_from Start (lines_of_text (drop lines.entry.at lines.entry.text.now)) }
 {
-    match l {
-        Line::Not => HeadIn::Not,
-        Line::Head(h) => HeadIn::Is(h),
-        Line::Request(_) => HeadIn::Not,
-        Line::Candidate(_) => HeadIn::Not,
-    }
-}
-
-// Whether the lines from an index on are placed, and no key falls.
-fn placed(text: &[u8], from: usize, wtxids: &mut [u8], parents: &mut [u8]) -> bool
-    requires { (from ≤ length text.now) × (list_room ≤ length wtxids.old) × (list_room ≤ length parents.old) }
-    ensures { result ≡ placed_from Start (lines_of_text (drop from text.now)) }
-{
-    let mut m = at_stage(1);
-    let mut at = from;
-    while at < text.len() {
-        let l = line_at(text, at, wtxids, parents);
-        at = l.end;
-        let line = l.line;
-        m = meets(m, line);
-        if m.stage == 0 {
+    let mut met = Met::Start;
+    while let Some(line) = lines.next(lists) {
+        let Some(m) = meets(met, line) else {
             return false;
-        }
+        };
+        met = m;
     }
     true
 }
 
-// Whether a text is a listing. Lists of hashes pass through the lent bytes.
-pub fn form_of(text: &[u8], wtxids: &mut [u8], parents: &mut [u8]) -> Form
-    requires { (list_room ≤ length wtxids.old) × (list_room ≤ length parents.old) }
+// The first line of a listing, and the lines behind it; none if the text is no listing.
+pub fn form_of<'a>(text: &'a [u8], lists: &mut Lists) -> Option<(Head, Lines<'a>)>
     ensures { FormRead text.now result }
 {
-    if text.len() == 0 {
-        return Form::Not;
-    }
-    let first = line_at(text, 0, wtxids, parents);
-    let e = first.end;
-    let line = first.line;
-    let HeadIn::Is(h) = head_of(line) else {
-        return Form::Not;
+    let mut lines = Lines { text, at: 0 };
+    let line = lines.next(lists)?;
+    let Line::Head(head) = line else {
+        return None;
     };
-    if !placed(text, e, wtxids, parents) {
-        return Form::Not;
+    if !placed(lines, lists) {
+        return None;
     }
-    Form::Is(h, e)
+    Some((head, lines))
 }

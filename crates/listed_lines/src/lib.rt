@@ -4,6 +4,7 @@
 // are stored in lent bytes, 32 bytes each; all else is answered by value. Nothing is asked of the text.
 #![tactic(auto)]
 
+pub mod cursor;
 pub mod hash_lists;
 pub mod line;
 pub mod parts;

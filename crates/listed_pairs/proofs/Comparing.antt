@@ -7,6 +7,7 @@ use native.Mathlib.Omega.{arith}
 use lib.Dec.{ltb}
 use lib.ListN.{length}
 use borrow.Author.Tests.{ltb-true, ltb-false}
+use Rattle.std.specs.Prelude.{Some, None}
 use Rattle.ident.specs.declared.Kind.{Kind}
 use Rattle.ident.specs.declared.Kind.TheVariants.{Txid, Wtxid}
 use Rattle.ident.specs.Number.{base, top, place}
@@ -18,14 +19,11 @@ use Rattle.machine.specs.Sound.{Ordered}
 use Rattle.machine.specs.SoundTest.{every}
 use Rattle.machine.specs.Listing.{Rest}
 use Rattle.listed_lines.specs.declared.line.Request as line-request
-use Rattle.listed_lines.specs.declared.line.RequestIn.TheVariants.{Not as NoRequest, Is as IsRequest}
 use Rattle.listed_lines.specs.Given.{request_in}
 use Rattle.listed_form.specs.Given.{Body, requests_only}
 use Rattle.listed_form.proofs.Stepping.{body_end}
 use Rattle.listed_requests.specs.Parts.{few_once, uncrowded, pair_fits, pairs_fit}
-use Rattle.listed_requests.specs.declared.forms.Found.{Found}
-use Rattle.listed_pairs.specs.declared.Both.{Both}
-use Rattle.listed_pairs.specs.declared.Pair.{Pair}
+use Rattle.listed_pairs.specs.declared.Pair.TheVariants.{Unfit, Done, Next}
 use Rattle.listed_requests.specs.Given.{NextRequest}
 use Rattle.listed_pairs.specs.Given.{FirstWtxid, Skips, PassesBelow, SideBySide, Facing, Left, Compared, PairsFit}
 use Rattle.listed_requests.proofs.Judging.{owner-if}
@@ -36,67 +34,25 @@ use Rattle.listed_pairs.proofs.Skipping.{few_in}
 abbrev most : ℕ
 most = max_alternates
 
--- ---- the three answers
-
-module _ {b : List ℕ} {i j : ℕ} (h : i ≤ length b) (k : j ≤ length b) where
-  halts : ((p q : Table) → Facing b i j p q → pairs_fit most q p ≡ true) → Compared b i j (record { verdict = 1; first = i; second = j })
-  halts z = record {
-    on = omega arith;
-    on2 = omega arith;
-    less = λ e. absurd (omega arith);
-    inside = h;
-    inside2 = k;
-    no = λ e. absurd (omega arith);
-    done = λ e. z;
-    is = λ e. absurd (omega arith);
-    bound = omega arith;
-  }
-
-  refuses : ((p q : Table) → Facing b i j p q → pairs_fit most q p ≡ false) → Compared b i j (record { verdict = 0; first = i; second = j })
-  refuses z = record {
-    on = omega arith;
-    on2 = omega arith;
-    less = λ e. absurd (omega arith);
-    inside = h;
-    inside2 = k;
-    no = λ e. z;
-    done = λ e. absurd (omega arith);
-    is = λ e. absurd (omega arith);
-    bound = omega arith;
-  }
-
-moves : {b : List ℕ} {i j e d : ℕ} → i ≤ e → j ≤ d → i + j < e + d → e ≤ length b → d ≤ length b → ((p q : Table) → Facing b i j p q → Left b e d (pairs_fit most q p))
-    → Compared b i j (record { verdict = 2; first = e; second = d })
-moves a c l h k z = record {
-  on = a;
-  on2 = c;
-  less = λ e. l;
-  inside = h;
-  inside2 = k;
-  no = λ e. absurd (omega arith);
-  done = λ e. absurd (omega arith);
-  is = λ e. z;
-  bound = omega arith;
-}
-
 -- ---- no Txid request
 
-module _ {b : List ℕ} {i j : ℕ} {ws ps : List ℕ} {f : Found} (h : i ≤ length b) (k : j ≤ length b) where
-  pub no_front : NextRequest b i ws ps f → f.line ≡ NoRequest → Compared b i j (record { verdict = 1; first = i; second = j })
-  no_front n e = halts h k (λ p q a. absurd (n.none e p a.front))
+module _ {b : List ℕ} {i j : ℕ} {ws ps : List ℕ} {e d to : ℕ} where
+  pub no_front : i < length b → NextRequest b i ws ps None to → Compared b i j Done e d
+  no_front h n = record { is = λ p q a. absurd (n.missing refl h p a.front) }
 
-  pub no_back : NextRequest b j ws ps f → f.line ≡ NoRequest → Compared b i j (record { verdict = 1; first = i; second = j })
-  no_back n e = halts h k (λ p q a. absurd (n.none e q a.back))
+  pub no_back : j < length b → NextRequest b j ws ps None to → Compared b i j Done e d
+  no_back h n = record { is = λ p q a. absurd (n.missing refl h q a.back) }
 
-  pub wtxid_front : NextRequest b i ws ps f → {r : line-request.Request} → f.line ≡ IsRequest r → {x : Bool} → x ≡ same_kind r.kind Wtxid → x ≡ true
-      → Compared b i j (record { verdict = 1; first = i; second = j })
-  wtxid_front n {r} e d g = halts h k (λ p q a.
-      let v = n.is r e p a.front in
-      let z = v.parts in
-      let o = rw z at a.ordered in
-      let x = with_candidates v.candidates (request_in ws ps r) in
-      let t : place x.key ≡ top + x.key.hash = ap (λ (y : Kind). base y + x.key.hash) (wtxid-kind r.kind (sym d ∙ g)) in
-      ap (pairs_fit most q) z ∙ no-txid most q (place x.key) (x ∷ v.table) (omega arith) (from_first x v.table o))
+  pub wtxid_front : {r : line-request.Request} → NextRequest b i ws ps (Some r) to → {x : Bool} → x ≡ same_kind r.kind Wtxid → x ≡ true → Compared b i j Done e d
+  wtxid_front {r} n d g = record {
+    is = λ p q a.
+        let v = n.takes.is p a.front in
+        let z = v.parts in
+        let o = rw z at a.ordered in
+        let x = with_candidates v.candidates (request_in ws ps r) in
+        let t : place x.key ≡ top + x.key.hash = ap (λ (y : Kind). base y + x.key.hash) (wtxid-kind r.kind (sym d ∙ g)) in
+        ap (pairs_fit most q) z ∙ no-txid most q (place x.key) (x ∷ v.table) (omega arith) (from_first x v.table o);
+  }
 
 -- ---- both
 
@@ -114,18 +70,21 @@ record Met (b : List ℕ) (e d : ℕ) (front back : List Candidate → Request) 
   pub few : every (uncrowded most) (front cs ∷ s) ≡ true
   pub fewer : every (uncrowded most) (back ds ∷ u) ≡ true
 
-module _ {b : List ℕ} {i j : ℕ} {ws ps ws' ps' : List ℕ} {f g : Found} (n : NextRequest b i ws ps f) (m : NextRequest b j ws' ps' g) {r w : line-request.Request} (e : f.line ≡ IsRequest r)
-    (d : g.line ≡ IsRequest w) {x : Bool} (x-is : x ≡ same_kind r.kind Wtxid) (txid : x ≡ false) where
+moves : {b : List ℕ} {i j e d : ℕ} → i ≤ e → j ≤ d → i + j < e + d → ((p q : Table) → Facing b i j p q → Left b e d (pairs_fit most q p)) → Compared b i j Next e d
+moves a c l z = record { is = record { on = a; on2 = c; less = l; is = z } }
+
+module _ {b : List ℕ} {i j : ℕ} {ws ps ws' ps' : List ℕ} {r w : line-request.Request} {f g : ℕ} (n : NextRequest b i ws ps (Some r) f) (m : NextRequest b j ws' ps' (Some w) g) {x : Bool}
+    (x-is : x ≡ same_kind r.kind Wtxid) (txid : x ≡ false) where
   abbrev front : List Candidate → Request
   front cs = with_candidates cs (request_in ws ps r)
 
   abbrev back : List Candidate → Request
   back cs = with_candidates cs (request_in ws' ps' w)
 
-  meet : (p q : Table) → Facing b i j p q → Met b f.end g.end front back p q
+  meet : (p q : Table) → Facing b i j p q → Met b f g front back p q
   meet p q a =
-      let v = n.is r e p a.front in
-      let y = m.is w d q a.back in
+      let v = n.takes.is p a.front in
+      let y = m.takes.is q a.back in
       let z = v.parts in
       let t = y.parts in
       record {
@@ -147,13 +106,13 @@ module _ {b : List ℕ} {i j : ℕ} {ws ps ws' ps' : List ℕ} {f g : Found} (n 
   is-txid = txid-kind r.kind (sym x-is ∙ txid)
 
   -- the test with the two in front
-  with_both : {p q : Table} (t : Met b f.end g.end front back p q) → pairs_fit most q p ≡ pairs_fit most (back t.ds ∷ t.u) (front t.cs ∷ t.s)
+  with_both : {p q : Table} (t : Met b f g front back p q) → pairs_fit most q p ≡ pairs_fit most (back t.ds ∷ t.u) (front t.cs ∷ t.s)
   with_both {p} {q} t = ap (pairs_fit most q) t.first ∙ ap (λ (y : Table). pairs_fit most y (front t.cs ∷ t.s)) t.second
 
-  pub front_less : j ≤ length b → {y : Bool} → y ≡ ltb (quad_number r.hash) (quad_number w.hash) → y ≡ true → {to : ℕ} → PassesBelow b f.end to (quad_number w.hash)
-      → Compared b i j (record { verdict = 2; first = to; second = j })
-  front_less k {y} y-is y-true {to} s =
-      moves (omega (arith, n.on, s.on)) (omega arith) (omega (arith, n.on, s.on)) s.inside k (λ p q a.
+  pub front_less : {y : Bool} → y ≡ ltb (quad_number r.hash) (quad_number w.hash) → y ≡ true → {to : ℕ} → PassesBelow b f to (quad_number w.hash)
+      → Compared b i j Next to j
+  front_less {y} y-is y-true {to} s =
+      moves (omega (arith, n.takes.on, s.on)) (omega arith) (omega (arith, n.takes.on, s.on)) (λ p q a.
       let t = meet p q a in
       let l = ltb-true (quad_number r.hash) (quad_number w.hash) (sym y-is ∙ y-true) in
       let z = s.is (record { candidates = t.cs; table = t.s }) t.body (few_in (front t.cs) t.s t.few) (weaken t.s (omega arith) t.ordered.2)
@@ -166,10 +125,10 @@ module _ {b : List ℕ} {i j : ℕ} {ws ps ws' ps' : List ℕ} {f g : Found} (n 
             ∙ z.same (back t.ds) t.u t.above refl ∙ sym (ap (λ (y : Table). pairs_fit most y z.table) t.second);
       })
 
-  pub back_less : i ≤ length b → {y : Bool} → y ≡ ltb (quad_number w.hash) (quad_number r.hash) → y ≡ true → {to : ℕ} → Skips b g.end to
-      → Compared b i j (record { verdict = 2; first = i; second = to })
-  back_less h {y} y-is y-true {to} s =
-      moves (omega arith) (omega (arith, m.on, s.on)) (omega (arith, m.on, s.on)) h s.inside (λ p q a.
+  pub back_less : {y : Bool} → y ≡ ltb (quad_number w.hash) (quad_number r.hash) → y ≡ true → {to : ℕ} → Skips b g to
+      → Compared b i j Next i to
+  back_less {y} y-is y-true {to} s =
+      moves (omega arith) (omega (arith, m.takes.on, s.on)) (omega (arith, m.takes.on, s.on)) (λ p q a.
       let t = meet p q a in
       let l = ltb-true (quad_number w.hash) (quad_number r.hash) (sym y-is ∙ y-true) in
       record {
@@ -187,32 +146,32 @@ module _ {b : List ℕ} {i j : ℕ} {ws ps ws' ps' : List ℕ} {f g : Found} (n 
       })
 
   module _ {y z : Bool} (y-is : y ≡ ltb (quad_number r.hash) (quad_number w.hash)) (y-no : y ≡ false) (z-is : z ≡ ltb (quad_number w.hash) (quad_number r.hash)) (z-no : z ≡ false)
-      {o : Both} (v : SideBySide b f.end r g.end w o) where
+      {fit : Bool} {e d : ℕ} (v : SideBySide b f r g w fit e d) where
     same-hash : quad_number r.hash ≡ quad_number w.hash
     same-hash =
         let l = ltb-false (quad_number r.hash) (quad_number w.hash) (sym y-is ∙ y-no) in
         let k = ltb-false (quad_number w.hash) (quad_number r.hash) (sym z-is ∙ z-no) in
         omega arith
 
-    fit_is : (cs ds : List Candidate) (s u : Table) → Body b f.end (record { candidates = cs; table = s }) → Body b g.end (record { candidates = ds; table = u })
-        → o.fit ≡ pair_fits most (front cs) (back ds)
+    fit_is : (cs ds : List Candidate) (s u : Table) → Body b f (record { candidates = cs; table = s }) → Body b g (record { candidates = ds; table = u })
+        → fit ≡ pair_fits most (front cs) (back ds)
     unfolding pair_fits
     fit_is cs ds s u a c =
         v.is (record { candidates = cs; table = s }) (record { candidates = ds; table = u }) a c
         ∙ ap (λ (t : Bool). few_once most (cs ++ ds) && not (t && w.owner.held)) (sym (owner-if r.owner.held r.owner.connection r.owner.deadline))
         ∙ ap (λ (t : Bool). few_once most (cs ++ ds) && not (is_some (front cs).owner && t)) (sym (owner-if w.owner.held w.owner.connection w.owner.deadline))
 
-    left_is : {p q : Table} (t : Met b f.end g.end front back p q) → pairs_fit most q p ≡ (o.fit && pairs_fit most t.u t.s)
+    left_is : {p q : Table} (t : Met b f g front back p q) → pairs_fit most q p ≡ (fit && pairs_fit most t.u t.s)
     left_is t =
         with_both t ∙ both_first most (front t.cs) t.s (back t.ds) t.u t.ordered t.above is-txid same-hash
         ∙ ap (λ (a : Bool). a && pairs_fit most t.u t.s) (sym (fit_is t.cs t.ds t.s t.u t.body t.body2))
 
-    pub not_together : i ≤ length b → j ≤ length b → o.fit ≡ false → Compared b i j (record { verdict = 0; first = i; second = j })
-    not_together h k c = refuses h k (λ p q a. let t = meet p q a in left_is t ∙ ap (λ (a : Bool). a && pairs_fit most t.u t.s) c)
+    pub not_together : {e' d' : ℕ} → fit ≡ false → Compared b i j Unfit e' d'
+    not_together c = record { is = λ p q a. let t = meet p q a in left_is t ∙ ap (λ (a : Bool). a && pairs_fit most t.u t.s) c }
 
-    pub fit-together : o.fit ≡ true → Compared b i j (record { verdict = 2; first = o.first; second = o.second })
+    pub fit-together : fit ≡ true → Compared b i j Next e d
     fit-together c =
-        moves (omega (arith, n.on, v.on)) (omega (arith, m.on, v.on2)) (omega (arith, n.on, v.on, m.on, v.on2)) v.inside v.inside2 (λ p q a.
+        moves (omega (arith, n.takes.on, v.on)) (omega (arith, m.takes.on, v.on2)) (omega (arith, n.takes.on, v.on, m.takes.on, v.on2)) (λ p q a.
         let t = meet p q a in
         record {
           p = t.s;
@@ -246,18 +205,18 @@ pairs-begin v = record {
 }
 
 module _ {b : List ℕ} {from i j : ℕ} (u : Underway b from i j) where
-  module _ {s : Pair} (c : Compared b i j s) where
-    pub pairs_stop : s.verdict ≡ 0 → PairsFit b from false
-    pairs_stop e = record { is = λ t y o f. let a = u.is t y o f in sym (a.same ∙ c.no e a.p a.q a.facing) }
+  module _ {e d : ℕ} where
+    pub pairs_stop : Compared b i j Unfit e d → PairsFit b from false
+    pairs_stop c = record { is = λ t y o f. let a = u.is t y o f in sym (a.same ∙ c.is a.p a.q a.facing) }
 
-    pub pairs_done : s.verdict ≡ 1 → PairsFit b from true
-    pairs_done e = record { is = λ t y o f. let a = u.is t y o f in sym (a.same ∙ c.done e a.p a.q a.facing) }
+    pub pairs_done : Compared b i j Done e d → PairsFit b from true
+    pairs_done c = record { is = λ t y o f. let a = u.is t y o f in sym (a.same ∙ c.is a.p a.q a.facing) }
 
-    pub pairs_on : s.verdict ≡ 2 → Underway b from s.first s.second
-    pairs_on e = record {
+    pub pairs_on : Compared b i j Next e d → Underway b from e d
+    pairs_on c = record {
       is = λ t y o f.
           let a = u.is t y o f in
-          let z = c.is e a.p a.q a.facing in
+          let z = c.is.is a.p a.q a.facing in
           record { p = z.p; q = z.q; facing = z.facing; same = a.same ∙ z.same };
     }
 

@@ -10,7 +10,7 @@ use Rattle.ident.specs.declared.Kind.{Kind}
 use Rattle.ident.specs.declared.Kind.TheVariants.{Txid, Wtxid}
 use Rattle.ident.specs.Number.{base, top, place, wtxid}
 use Rattle.machine.specs.Limits.{max_alternates}
-use Rattle.machine.specs.State.{Candidate, Request, Table, with_candidates, is_some}
+use Rattle.machine.specs.State.{Candidate, Request, Table, with_candidates}
 use Rattle.machine.specs.Table.{at}
 use Rattle.machine.specs.Claim.{same_kind}
 use Rattle.machine.specs.Sound.{Ordered}
@@ -18,34 +18,13 @@ use Rattle.machine.specs.SoundTest.{every}
 use Rattle.machine.specs.Listing.{Line, HeadLine, RequestLine, CandidateLine, Rest}
 use Rattle.machine.proofs.At.{at_there}
 use Rattle.machine.proofs.Tests.{never}
-use Rattle.listed_lines.specs.declared.line.Line as line-line
 use Rattle.listed_lines.specs.declared.line.LineAt.{LineAt}
-use Rattle.listed_lines.specs.declared.line.Request as line-request
-use Rattle.listed_lines.specs.declared.line.RequestIn.{RequestIn}
-use Rattle.listed_lines.specs.declared.line.RequestIn.TheVariants.{Not as NoRequest, Is as IsRequest}
 use Rattle.listed_lines.specs.Given.{line_in, LineRead}
 use Rattle.listed_form.specs.Given.{Body, requests_only}
 use Rattle.listed_form.proofs.Stepping.{after-candidate, after-request, no-bad-line, no-head-line, body_end}
 use Rattle.listed_requests.specs.Parts.{uncrowded}
-use Rattle.listed_requests.specs.Given.{request_only, RequestOf}
 use Rattle.listed_pairs.specs.Given.{wtxid_only, WtxidLine, Behind, FirstWtxid}
-use Rattle.listed_requests.proofs.Lines.{request_there, not_request}
 use Rattle.listed_pairs.proofs.Facing.{weaken, others_few}
-
--- ---- a line
-
-module _ {l : line-line.Line} {r : RequestIn} (f : RequestOf l r) where
-  pub no-wtxid-line : r ≡ NoRequest → WtxidLine l false
-  no-wtxid-line e = record { is = λ ws ps. none_there (line_in ws ps l) (not_request f e ws ps) }
-    where
-      none_there : (x : Option Line) → request_only x ≡ none → false ≡ wtxid_only x
-      none_there none d = refl
-      none_there (some (HeadLine s)) d = refl
-      none_there (some (RequestLine q)) d = never (sym (ap is_some d))
-      none_there (some (CandidateLine c)) d = refl
-
-  pub request-line : {q : line-request.Request} {b : Bool} → r ≡ IsRequest q → b ≡ same_kind q.kind Wtxid → WtxidLine l b
-  request-line e d = record { is = λ ws ps. d ∙ sym (ap wtxid_only (request_there f e ws ps)) }
 
 -- ---- underway
 
@@ -98,8 +77,8 @@ module _ {b : List ℕ} {from i : ℕ} (u : Searched b from i) where
             let w = after-candidate p a.body c d in
             record { left = record { candidates = w.candidates; table = a.left.table }; body = w.body; ordered = a.ordered; few = a.few; same = a.same }
 
-    pub search_found : i ≤ length b → x ≡ true → FirstWtxid b from i
-    search_found h e = record { inside = h; is = λ t y o f. found t (u.is t y o f) (line_in ws ps l.line) refl (sym (z.is ws ps) ∙ e) }
+    pub search_found : x ≡ true → FirstWtxid b from i
+    search_found e = record { is = λ t y o f. found t (u.is t y o f) (line_in ws ps l.line) refl (sym (z.is ws ps) ∙ e) }
       where
         above : (r : Request) (cs : List Candidate) (s t : Table) → r.key.kind ≡ Wtxid → t ≡ with_candidates cs r ∷ s → Ordered 0 t → Ordered top t
         above r cs s t k d o =
@@ -127,9 +106,8 @@ module _ {b : List ℕ} {from i : ℕ} (u : Searched b from i) where
                 go : (cs : List Candidate) (s : Table) → cs ≡ [] → Body b i (record { candidates = cs; table = s }) → Body b i (requests_only s)
                 go cs s g y = rw g at y
 
-  pub search_end : i ≤ length b → length b ≤ i → FirstWtxid b from i
-  search_end h g = record {
-    inside = h;
+  pub search_end : length b ≤ i → FirstWtxid b from i
+  search_end g = record {
     is = λ t y o f.
         let a = u.is t y o f in
         let e = body_end a.body g in

@@ -14,31 +14,28 @@ use Rattle.machine.specs.State.{Request, Table, with_candidates}
 use Rattle.machine.specs.Claim.{same_kind}
 use Rattle.machine.specs.SoundTest.{every}
 use Rattle.listed_lines.specs.declared.line.Request as line-request
-use Rattle.listed_lines.specs.declared.line.RequestIn.TheVariants.{Is as IsRequest}
 use Rattle.listed_lines.specs.Given.{request_in}
 use Rattle.listed_requests.specs.Parts.{uncrowded, pairs_fit}
-use Rattle.listed_requests.specs.declared.forms.Found.{Found}
-use Rattle.listed_requests.specs.Given.{NextRequest}
+use Rattle.listed_requests.specs.Given.{TakesRequest}
 use Rattle.listed_requests.proofs.Crowds.{test_few}
 use Rattle.listed_pairs.specs.Given.{Skips, Below, PassesBelow}
 use Rattle.listed_pairs.proofs.Facing.{weaken, first_few, others_few, front_first}
 use Rattle.listed_pairs.proofs.Seeking.{txid-kind}
 
-pub below_none : (b : List ℕ) (from k : ℕ) → from ≤ length b → Below b from from k
-below_none b from k h = record { on = omega arith; inside = h; is = λ p y o f. record { table = p; body = y; ordered = o; few = f; same = λ w u a e. refl } }
+pub below_none : (b : List ℕ) (from k : ℕ) → Below b from from k
+below_none b from k = record { on = omega arith; is = λ p y o f. record { table = p; body = y; ordered = o; few = f; same = λ w u a e. refl } }
 
 pub few_in : (q : Request) (t : Table) → every (uncrowded max_alternates) (q ∷ t) ≡ true → length q.candidates ≤ max_alternates
 few_in q t h = ((test_few max_alternates q.candidates).holds (first_few max_alternates q t h)).few
 
 -- one more
-pub below_on : {b : List ℕ} {from i k : ℕ} → Below b from i k → {ws ps : List ℕ} {f : Found} → NextRequest b i ws ps f → {r : line-request.Request} → f.line ≡ IsRequest r
-    → {x : Bool} → x ≡ same_kind r.kind Wtxid → x ≡ false → {y : Bool} → y ≡ ltb (quad_number r.hash) k → y ≡ true → {e : ℕ} → Skips b f.end e → Below b from e k
-below_on {b} {from} {i} {k} a {ws} {ps} {f} n {r} d x-is x-no y-is y-yes {e} s = record {
+pub below_on : {b : List ℕ} {from i k : ℕ} → Below b from i k → {ws ps : List ℕ} {r : line-request.Request} {to : ℕ} → TakesRequest b i ws ps r to
+    → {x : Bool} → x ≡ same_kind r.kind Wtxid → x ≡ false → {y : Bool} → y ≡ ltb (quad_number r.hash) k → y ≡ true → {e : ℕ} → Skips b to e → Below b from e k
+below_on {b} {from} {i} {k} a {ws} {ps} {r} n x-is x-no y-is y-yes {e} s = record {
   on = omega (arith, a.on, n.on, s.on);
-  inside = s.inside;
   is = λ p y o c.
       let z = a.is p y o c in
-      let v = n.is r d z.table z.body in
+      let v = n.is z.table z.body in
       let t = v.parts in
       let q = with_candidates v.candidates (request_in ws ps r) in
       let o' = rw t at z.ordered in
@@ -56,4 +53,4 @@ below_on {b} {from} {i} {k} a {ws} {ps} {f} n {r} d x-is x-no y-is y-yes {e} s =
 }
 
 pub then_below : {b : List ℕ} {from i e k : ℕ} → Skips b from i → Below b i e k → PassesBelow b from e k
-then_below s a = record { on = omega (arith, s.on, a.on); inside = a.inside; is = λ q y h o f. a.is q.table (s.is q y h) o f }
+then_below s a = record { on = omega (arith, s.on, a.on); is = λ q y h o f. a.is q.table (s.is q y h) o f }

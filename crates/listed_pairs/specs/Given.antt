@@ -14,8 +14,8 @@ use Rattle.listed_lines.specs.declared.line.Line as line-line
 use Rattle.listed_lines.specs.declared.line.Request as line-request
 use Rattle.listed_lines.specs.Given.{line_in}
 use Rattle.listed_form.specs.Given.{Body, requests_only}
-use Rattle.listed_pairs.specs.declared.Both.{Both}
 use Rattle.listed_pairs.specs.declared.Pair.{Pair}
+use Rattle.listed_pairs.specs.declared.Pair.TheVariants.{Unfit, Done, Next}
 use Rattle.listed_requests.specs.Parts.{few_once, uncrowded, pairs_fit}
 
 -- ---- the first Wtxid request
@@ -38,7 +38,6 @@ pub record Behind (b : List ℕ) (j : ℕ) (t : Table) : Type 0 where
   pub same : (h : ℕ) → at (wtxid h) t ≡ at (wtxid h) table
 
 pub record FirstWtxid (b : List ℕ) (from j : ℕ) : Type 0 where
-  pub inside : j ≤ length b
   pub is : (t : Table) → Body b from (requests_only t) → Ordered 0 t → every (uncrowded max_alternates) t ≡ true → Behind b j t
 
 -- ---- two requests
@@ -46,7 +45,6 @@ pub record FirstWtxid (b : List ℕ) (from j : ℕ) : Type 0 where
 -- the candidates of a request, which are few, end at index e
 pub record Skips (b : List ℕ) (from e : ℕ) : Type 0 where
   pub on : from ≤ e
-  pub inside : e ≤ length b
   pub is : (q : Rest) → Body b from q → length q.candidates ≤ max_alternates → Body b e (requests_only q.table)
 
 -- of the requests p those before index e come to nothing beside Wtxid requests from hash k on
@@ -59,23 +57,19 @@ pub record Passed (b : List ℕ) (e k : ℕ) (p : Table) : Type 0 where
 
 pub record Below (b : List ℕ) (from e k : ℕ) : Type 0 where
   pub on : from ≤ e
-  pub inside : e ≤ length b
   pub is : (p : Table) → Body b from (requests_only p) → Ordered 0 p → every (uncrowded max_alternates) p ≡ true → Passed b e k p
 
 pub record PassesBelow (b : List ℕ) (from e k : ℕ) : Type 0 where
   pub on : from ≤ e
-  pub inside : e ≤ length b
   pub is : (q : Rest) → Body b from q → length q.candidates ≤ max_alternates → Ordered 0 q.table → every (uncrowded max_alternates) q.table ≡ true → Passed b e k q.table
 
--- the requests of two lines with the candidates that are listed from two indices on
-pub record SideBySide (b : List ℕ) (from : ℕ) (r : line-request.Request) (to : ℕ) (w : line-request.Request) (g : Both) : Type 0 where
-  pub on : from ≤ g.first
-  pub inside : g.first ≤ length b
-  pub on2 : to ≤ g.second
-  pub inside2 : g.second ≤ length b
-  pub is : (q p : Rest) → Body b from q → Body b to p → g.fit ≡ (few_once max_alternates (q.candidates ++ p.candidates) && not (r.owner.held && w.owner.held))
-  pub first : (q p : Rest) → Body b from q → Body b to p → g.fit ≡ true → Body b g.first (requests_only q.table)
-  pub second : (q p : Rest) → Body b from q → Body b to p → g.fit ≡ true → Body b g.second (requests_only p.table)
+-- the requests of two lines with the candidates that are listed from two indices on; these end at e and d
+pub record SideBySide (b : List ℕ) (from : ℕ) (r : line-request.Request) (to : ℕ) (w : line-request.Request) (fit : Bool) (e d : ℕ) : Type 0 where
+  pub on : from ≤ e
+  pub on2 : to ≤ d
+  pub is : (q p : Rest) → Body b from q → Body b to p → fit ≡ (few_once max_alternates (q.candidates ++ p.candidates) && not (r.owner.held && w.owner.held))
+  pub first : (q p : Rest) → Body b from q → Body b to p → fit ≡ true → Body b e (requests_only q.table)
+  pub second : (q p : Rest) → Body b from q → Body b to p → fit ≡ true → Body b d (requests_only p.table)
 
 -- requests p from index i on and Wtxid requests q from index j on: what is left of the test
 pub record Facing (b : List ℕ) (i j : ℕ) (p q : Table) : Type 0 where
@@ -92,16 +86,20 @@ pub record Left (b : List ℕ) (i j : ℕ) (x : Bool) : Type 0 where
   pub facing : Facing b i j p q
   pub same : x ≡ pairs_fit max_alternates q p
 
-pub record Compared (b : List ℕ) (i j : ℕ) (s : Pair) : Type 0 where
-  pub on : i ≤ s.first
-  pub on2 : j ≤ s.second
-  pub less : s.verdict ≡ 2 → i + j < s.first + s.second
-  pub inside : s.first ≤ length b
-  pub inside2 : s.second ≤ length b
-  pub no : s.verdict ≡ 0 → (p q : Table) → Facing b i j p q → pairs_fit max_alternates q p ≡ false
-  pub done : s.verdict ≡ 1 → (p q : Table) → Facing b i j p q → pairs_fit max_alternates q p ≡ true
-  pub is : s.verdict ≡ 2 → (p q : Table) → Facing b i j p q → Left b s.first s.second (pairs_fit max_alternates q p)
-  pub bound : s.verdict ≤ 2
+-- the test goes on at e and d
+pub record GoesOn (b : List ℕ) (i j e d : ℕ) : Type 0 where
+  pub on : i ≤ e
+  pub on2 : j ≤ d
+  pub less : i + j < e + d
+  pub is : (p q : Table) → Facing b i j p q → Left b e d (pairs_fit max_alternates q p)
+
+abbrev pub ComparedAs : List ℕ → ℕ → ℕ → ℕ → ℕ → Pair → Type 0
+ComparedAs b i j e d Unfit = (p q : Table) → Facing b i j p q → pairs_fit max_alternates q p ≡ false
+ComparedAs b i j e d Done = (p q : Table) → Facing b i j p q → pairs_fit max_alternates q p ≡ true
+ComparedAs b i j e d Next = GoesOn b i j e d
+
+pub record Compared (b : List ℕ) (i j : ℕ) (r : Pair) (e d : ℕ) : Type 0 where
+  pub is : ComparedAs b i j e d r
 
 pub record PairsFit (b : List ℕ) (from : ℕ) (r : Bool) : Type 0 where
   pub is : (t : Table) → Body b from (requests_only t) → Ordered 0 t → every (uncrowded max_alternates) t ≡ true → r ≡ pairs_fit max_alternates t t

@@ -1,253 +1,165 @@
-// A hash under both kinds: its Txid request and its Wtxid request together. Two indices go through the listing, one among the Txid requests and one among the
+// A hash under both kinds: its Txid request and its Wtxid request together. Two walks go through the listing, one among the Txid requests and one among the
 // Wtxid requests; keys ascend, so each request is met once by each.
 #![tactic(auto)]
 
 ghost use Rattle.std.specs.Prelude.{◌≡◌, ◌<◌, ◌≤◌, length};
 ghost use Rattle.regions.specs.Rows.{quad_number};
-ghost use Rattle.listed_lines.specs.Given.{list_room};
 ghost use Rattle.listed_requests.specs.Given.{most_gathered};
 ghost use Rattle.listed_pairs.specs.Given.{WtxidLine, FirstWtxid, Skips, Below, PassesBelow, SideBySide, Compared, PairsFit};
 
-use listed_lines::line::{Line, Request, RequestIn, line_at};
+use listed_lines::cursor::{Lines, Lists};
+use listed_lines::line::{Line, Request};
 use listed_requests::candidates::gather;
 use listed_requests::distinct::all_distinct;
-use listed_requests::forms::{request_at, request_of};
+use listed_requests::forms::next_request;
 use listed_requests::lawful::is_wtxid;
 
-// Whether two requests fit together; the indices behind them.
+// Of two requests: they do not fit together; no Txid request is left; the next two are to be compared.
 #[derive(Clone, Copy)]
-pub struct Both {
-    pub fit: bool,
-    pub first: usize,
-    pub second: usize,
-}
-
-// 0: two requests do not fit together; 1: no Txid request is left; 2: go on from these indices.
-#[derive(Clone, Copy)]
-pub struct Pair {
-    pub verdict: u64,
-    pub first: usize,
-    pub second: usize,
+pub enum Pair {
+    Unfit,
+    Done,
+    Next,
 }
 
 // Whether a line is that of a Wtxid request.
 fn wtxid_line(l: Line) -> bool
     ensures { WtxidLine l result }
 {
-    let RequestIn::Is(r) = request_of(l) else {
-        return false;
-    };
-    let kind = r.kind;
-    is_wtxid(kind)
+    match l {
+        Line::Request(r) => is_wtxid(r.kind),
+        _ => false,
+    }
 }
 
-// Where the first Wtxid request is listed, or the end.
-fn first_wtxid(text: &[u8], from: usize, wtxids: &mut [u8], parents: &mut [u8]) -> usize
-    requires { (from ≤ length text.now) × (list_room ≤ length wtxids.old) × (list_room ≤ length parents.old) }
-    ensures { FirstWtxid text.now from result }
+// The lines from that of the first Wtxid request on.
+fn first_wtxid<'a>(lines: Lines<'a>, lists: &mut Lists) -> Lines<'a>
+    ensures same { result.text ≡ lines.entry.text }
+    ensures first { FirstWtxid lines.entry.text.now lines.entry.at result.at }
 {
-    let mut at = from;
-    while at < text.len() {
-        let l = line_at(text, at, wtxids, parents);
-        let end = l.end;
-        let line = l.line;
+    let mut here = lines;
+    let mut behind = lines;
+    while let Some(line) = behind.next(lists) {
         if wtxid_line(line) {
-            return at;
+            return here;
         }
-        at = end;
+        here = behind;
     }
-    at
+    here
 }
 
-// The index behind the candidates of a request.
-fn skip(
-    text: &[u8],
-    from: usize,
-    r: Request,
-    conns: &mut [u64],
-    wtxids: &mut [u8],
-    parents: &mut [u8],
-) -> usize
-    requires { (from ≤ length text.now) × (most_gathered ≤ length conns.old) × (list_room ≤ length wtxids.old) × (list_room ≤ length parents.old) }
-    ensures { Skips text.now from result }
+// Passes the candidates of a request.
+fn skip(lines: &mut Lines, r: Request, conns: &mut [u64], lists: &mut Lists)
+    requires { most_gathered ≤ length conns.old }
+    ensures same { lines.new.text ≡ lines.old.text }
+    ensures skips { Skips lines.old.text.now lines.old.at lines.new.at }
 {
-    let kind = r.kind;
-    let hash = r.hash;
-    let g = gather(text, from, kind, hash, 0, conns, wtxids, parents);
-    g.end
+    let _ = gather(lines, r.kind, r.hash, 0, conns, lists);
 }
 
-// The first request from an index on that is a Wtxid request or whose hash is k at least, or the end.
-fn below(
-    text: &[u8],
-    from: usize,
-    k: regions::Quad,
-    conns: &mut [u64],
-    wtxids: &mut [u8],
-    parents: &mut [u8],
-) -> usize
-    requires { (from ≤ length text.now) × (most_gathered ≤ length conns.old) × (list_room ≤ length wtxids.old) × (list_room ≤ length parents.old) }
-    ensures { Below text.now from result (quad_number k) }
+// Passes the Txid requests whose hash is below k.
+fn below(lines: &mut Lines, k: regions::Quad, conns: &mut [u64], lists: &mut Lists)
+    requires { most_gathered ≤ length conns.old }
+    ensures same { lines.new.text ≡ lines.old.text }
+    ensures below { Below lines.old.text.now lines.old.at lines.new.at (quad_number k) }
 {
-    let mut at = from;
-    while at < text.len() {
-        let f = request_at(text, at, wtxids, parents);
-        let end = f.end;
-        let line = f.line;
-        let RequestIn::Is(r) = line else {
-            return at;
-        };
-        let kind = r.kind;
-        if is_wtxid(kind) {
-            return at;
+    let mut behind = *lines;
+    while let Some(r) = next_request(&mut behind, lists) {
+        if is_wtxid(r.kind) {
+            return;
         }
-        let h = r.hash;
-        if !regions::quad_less(h, k) {
-            return at;
+        if !regions::quad_less(r.hash, k) {
+            return;
         }
-        at = skip(text, end, r, conns, wtxids, parents);
+        skip(&mut behind, r, conns, lists);
+        *lines = behind;
     }
-    at
 }
 
 // The same, from the candidates of a request on. A long line of the Wtxid request with hash k is not read again for each of them.
-fn pass_below(
-    text: &[u8],
-    from: usize,
-    r: Request,
-    k: regions::Quad,
-    conns: &mut [u64],
-    wtxids: &mut [u8],
-    parents: &mut [u8],
-) -> usize
-    requires { (from ≤ length text.now) × (most_gathered ≤ length conns.old) × (list_room ≤ length wtxids.old) × (list_room ≤ length parents.old) }
-    ensures { PassesBelow text.now from result (quad_number k) }
+fn pass_below(lines: &mut Lines, r: Request, k: regions::Quad, conns: &mut [u64], lists: &mut Lists)
+    requires { most_gathered ≤ length conns.old }
+    ensures same { lines.new.text ≡ lines.old.text }
+    ensures passes { PassesBelow lines.old.text.now lines.old.at lines.new.at (quad_number k) }
 {
-    let at = skip(text, from, r, conns, wtxids, parents);
-    below(text, at, k, conns, wtxids, parents)
+    skip(lines, r, conns, lists);
+    below(lines, k, conns, lists);
 }
 
-// Two requests of one hash, whose candidates are listed from two indices on.
+// Whether two requests of one hash, whose candidates come next, fit together. Passes the candidates.
 fn side_by_side(
-    text: &[u8],
-    from: usize,
+    front: &mut Lines,
     r: Request,
-    to: usize,
+    back: &mut Lines,
     w: Request,
     conns: &mut [u64],
-    wtxids: &mut [u8],
-    parents: &mut [u8],
-) -> Both
-    requires { (from ≤ length text.now) × (to ≤ length text.now) × (most_gathered ≤ length conns.old) × (list_room ≤ length wtxids.old) × (list_room ≤ length parents.old) }
-    ensures { SideBySide text.now from r to w result }
+    lists: &mut Lists,
+) -> bool
+    requires { (back.old.text ≡ front.old.text) × (most_gathered ≤ length conns.old) }
+    ensures same { (front.new.text ≡ front.old.text) × (back.new.text ≡ back.old.text) }
+    ensures together { SideBySide front.old.text.now front.old.at r back.old.at w result front.new.at back.new.at }
 {
-    let kind = r.kind;
-    let hash = r.hash;
-    let a = gather(text, from, kind, hash, 0, conns, wtxids, parents);
-    let n = a.count;
-    let first = a.end;
-    if 8 < n {
-        return Both {
-            fit: false,
-            first,
-            second: to,
-        };
-    }
-    let other = w.kind;
-    let same = w.hash;
-    let b = gather(text, to, other, same, n, conns, wtxids, parents);
-    let m = b.count;
-    let second = b.end;
-    if 8 < m {
-        return Both {
-            fit: false,
-            first,
-            second,
-        };
-    }
-    let once = all_distinct(conns, m);
-    let o = r.owner;
-    let p = w.owner;
-    let fit = once & !(o.held & p.held);
-    Both { fit, first, second }
-}
-
-fn pair_at(verdict: u64, first: usize, second: usize) -> Pair
-    ensures { result ≡ record { verdict = verdict; first = first; second = second } }
-{
-    Pair {
-        verdict,
-        first,
-        second,
-    }
-}
-
-// The requests that are listed at two indices: a Txid request, unless none is left, and a Wtxid request.
-fn compare(
-    text: &[u8],
-    i: usize,
-    j: usize,
-    conns: &mut [u64],
-    wtxids: &mut [u8],
-    parents: &mut [u8],
-) -> Pair
-    requires { (i < length text.now) × (j < length text.now) × (most_gathered ≤ length conns.old) × (list_room ≤ length wtxids.old) × (list_room ≤ length parents.old) }
-    ensures { Compared text.now i j result }
-{
-    let f = request_at(text, i, wtxids, parents);
-    let from = f.end;
-    let front = f.line;
-    let RequestIn::Is(r) = front else {
-        return pair_at(1, i, j);
+    let Some(a) = gather(front, r.kind, r.hash, 0, conns, lists) else {
+        return false;
     };
-    let kind = r.kind;
-    if is_wtxid(kind) {
-        return pair_at(1, i, j);
-    }
-    let g = request_at(text, j, wtxids, parents);
-    let to = g.end;
-    let back = g.line;
-    let RequestIn::Is(w) = back else {
-        return pair_at(1, i, j);
+    let Some(b) = gather(back, w.kind, w.hash, a.count, conns, lists) else {
+        return false;
     };
-    let h = r.hash;
-    let k = w.hash;
-    if regions::quad_less(h, k) {
-        let first = pass_below(text, from, r, k, conns, wtxids, parents);
-        return pair_at(2, first, j);
-    }
-    if regions::quad_less(k, h) {
-        let second = skip(text, to, w, conns, wtxids, parents);
-        return pair_at(2, i, second);
-    }
-    let b = side_by_side(text, from, r, to, w, conns, wtxids, parents);
-    if !b.fit {
-        return pair_at(0, i, j);
-    }
-    pair_at(2, b.first, b.second)
+    let once = all_distinct(conns, b.count);
+    once & !(r.owner.held & w.owner.held)
 }
 
-// Whether the two requests of each hash that are listed from an index on fit together, where each request fits by itself.
-pub fn pairs_fit(text: &[u8], from: usize, wtxids: &mut [u8], parents: &mut [u8]) -> bool
-    requires { (from ≤ length text.now) × (list_room ≤ length wtxids.old) × (list_room ≤ length parents.old) }
-    ensures { PairsFit text.now from result }
+// The requests that come next: a Txid request, unless none is left, and a Wtxid request. Passes the lesser one, and those that fit together.
+fn compare(front: &mut Lines, back: &mut Lines, conns: &mut [u64], lists: &mut Lists) -> Pair
+    requires { (back.old.text ≡ front.old.text) × (front.old.at < length front.old.text.now) × (back.old.at < length back.old.text.now) × (most_gathered ≤ length conns.old) }
+    ensures same { (front.new.text ≡ front.old.text) × (back.new.text ≡ back.old.text) }
+    ensures compared { Compared front.old.text.now front.old.at back.old.at result front.new.at back.new.at }
+{
+    let mut first = *front;
+    let Some(r) = next_request(&mut first, lists) else {
+        return Pair::Done;
+    };
+    if is_wtxid(r.kind) {
+        return Pair::Done;
+    }
+    let mut second = *back;
+    let Some(w) = next_request(&mut second, lists) else {
+        return Pair::Done;
+    };
+    if regions::quad_less(r.hash, w.hash) {
+        pass_below(&mut first, r, w.hash, conns, lists);
+        *front = first;
+        return Pair::Next;
+    }
+    if regions::quad_less(w.hash, r.hash) {
+        skip(&mut second, w, conns, lists);
+        *back = second;
+        return Pair::Next;
+    }
+    if !side_by_side(&mut first, r, &mut second, w, conns, lists) {
+        return Pair::Unfit;
+    }
+    *front = first;
+    *back = second;
+    Pair::Next
+}
+
+// Whether the two requests of each hash that the lines list fit together, where each request fits by itself.
+pub fn pairs_fit(lines: Lines, lists: &mut Lists) -> bool
+    ensures { PairsFit lines.entry.text.now lines.entry.at result }
 {
     let mut conns = [0u64; 8];
-    let mut i = from;
-    let mut j = first_wtxid(text, from, wtxids, parents);
-    while j < text.len() {
-        if text.len() <= i {
+    let mut front = lines;
+    let mut back = first_wtxid(lines, lists);
+    while !back.is_empty() {
+        if front.is_empty() {
             return true;
         }
-        let s = compare(text, i, j, &mut conns, wtxids, parents);
-        if s.verdict == 0 {
-            return false;
+        match compare(&mut front, &mut back, &mut conns, lists) {
+            Pair::Unfit => return false,
+            Pair::Done => return true,
+            Pair::Next => {}
         }
-        if s.verdict == 1 {
-            return true;
-        }
-        i = s.first;
-        j = s.second;
     }
     true
 }

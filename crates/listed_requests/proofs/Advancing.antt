@@ -7,23 +7,20 @@ use native.Mathlib.Omega.{arith}
 use lib.Dec.{ltb, leb}
 use lib.ListN.{length}
 use borrow.Author.Tests.{lt-ltb, le-leb, lt-leb}
+use Rattle.std.specs.Prelude.{Some, None}
 use Rattle.ident.specs.Number.{top, Key, place}
 use Rattle.machine.specs.Limits.{Limits, max_alternates}
 use Rattle.machine.specs.State.{Candidate, Request, Table, with_candidates}
 use Rattle.machine.specs.Table.{place_in}
-use Rattle.machine.specs.Listing.{Rest, TableListed}
+use Rattle.machine.specs.Listing.{Rest, RequestListed, TableListed}
 use Rattle.machine.proofs.Tests.{never}
 use Rattle.listed_lines.specs.declared.line.Request as line-request
-use Rattle.listed_lines.specs.declared.line.RequestIn.TheVariants.{Not as NoRequest, Is as IsRequest}
 use Rattle.listed_lines.specs.Given.{package_if, request_in}
 use Rattle.listed_form.specs.Given.{Body, requests_only}
 use Rattle.listed_form.proofs.Stepping.{body_end}
 use Rattle.listed_requests.specs.Parts.{one_fits, local_fits, pass_fits}
-use Rattle.listed_requests.specs.declared.candidates.Gathered.{Gathered}
-use Rattle.listed_requests.specs.declared.forms.Found.{Found}
 use Rattle.listed_requests.specs.declared.each.Pass.{Pass}
-use Rattle.listed_requests.specs.declared.each.Step.{Step}
-use Rattle.listed_requests.specs.Given.{key_with, NextRequest, Judged, lowest, lowest_of, Begun, left_fits, place_for, Stepped, EachFits}
+use Rattle.listed_requests.specs.Given.{key_with, NextRequest, Judged, lowest_of, left_fits, place_for, Stepped, EachFits}
 use Rattle.listed_requests.proofs.Passing.{local_is}
 
 -- ---- the test of a request with those behind it
@@ -78,95 +75,87 @@ place_if : (i b : Bool) (c : ℕ) (ws : List ℕ) (e : Bool) → place_in i (pac
 place_if i true c ws e = refl
 place_if i false c ws e = refl
 
-module _ {b : List ℕ} {at : ℕ} {ws ps : List ℕ} {f : Found} (n : NextRequest b at ws ps f) (L Q : ℕ) (p : Pass) where
-  abbrev stopped : Step
-  stopped = record { good = false; pass = p; end = f.end }
+abbrev limits : ℕ → Limits
+limits L = record { announcements = L; alternates = max_alternates }
 
-  abbrev limits : Limits
-  limits = record { announcements = L; alternates = max_alternates }
+-- the request is not in order, not lawful, or over a limit
+stops : {b : List ℕ} {at L Q end : ℕ} {p : Pass} → ((t : Table) → Body b at (requests_only t) → TableListed t → left_fits L Q p t ≡ false) → Stepped b at L Q p None end
+stops z = record { goes_on = tt; stops = λ e. z }
 
-  -- the request is not in order, not lawful, or over a limit
-  stops : ((t : Table) → Body b at (requests_only t) → TableListed t → left_fits L Q p t ≡ false) → Stepped b at L Q p stopped
-  stops z = record { on = n.on; inside = n.inside; held = λ e. never e; taken = λ e. never e; none = λ e. z; is = λ e. never e }
+module _ {b : List ℕ} {at : ℕ} {ws ps : List ℕ} (L Q : ℕ) (p : Pass) where
+  pub no-request : {to end : ℕ} → NextRequest b at ws ps None to → at < length b → Stepped b at L Q p None end
+  no-request n h = stops (λ t y l. absurd (n.missing refl h t y))
 
-  pub no-request : f.line ≡ NoRequest → Stepped b at L Q p stopped
-  no-request e = stops (λ t y l. absurd (n.none e t y))
-
-  module _ {r : line-request.Request} (e : f.line ≡ IsRequest r) where
+  module _ {r : line-request.Request} {to : ℕ} (n : NextRequest b at ws ps (Some r) to) where
     abbrev asked : List Candidate → Request
     asked cs = with_candidates cs (request_in ws ps r)
 
     -- of the request in front
-    stops_at : ((cs : List Candidate) (t : Table) → Body b f.end (record { candidates = cs; table = t }) → TableListed (asked cs ∷ t)
-        → pass_fits limits Q (lowest_of p) p.held p.taken (asked cs ∷ t) ≡ false) → Stepped b at L Q p stopped
+    stops_at : {end : ℕ} → ((cs : List Candidate) (t : Table) → Body b to (record { candidates = cs; table = t }) → TableListed (asked cs ∷ t)
+        → pass_fits (limits L) Q (lowest_of p) p.held p.taken (asked cs ∷ t) ≡ false) → Stepped b at L Q p None end
     stops_at z = stops (λ t y l.
-        let v = n.is r e t y in
+        let v = n.takes.is t y in
         let d = v.parts in
         ap (left_fits L Q p) d ∙ z v.candidates v.table v.body (rw d at l))
 
-    pub stops-order : {x : Bool} → x ≡ leb (lowest_of p) (place (key_with r.kind r.hash)) → x ≡ false → Stepped b at L Q p stopped
-    stops-order d g = stops_at (λ cs t y l. not-above limits Q (lowest_of p) p.held p.taken (asked cs) t (sym d ∙ g))
+    pub stops-order : {x : Bool} {end : ℕ} → x ≡ leb (lowest_of p) (place (key_with r.kind r.hash)) → x ≡ false → Stepped b at L Q p None end
+    stops-order d g = stops_at (λ cs t y l. not-above (limits L) Q (lowest_of p) p.held p.taken (asked cs) t (sym d ∙ g))
 
-    module _ {g : Gathered} (j : Judged b f.end ps r g) where
-      fit_is : (cs : List Candidate) (t : Table) → Body b f.end (record { candidates = cs; table = t }) → TableListed (asked cs ∷ t) → g.fit ≡ one_fits max_alternates (asked cs)
-      fit_is cs t y l = j.is ws (record { candidates = cs; table = t }) y (record { key = l.1.key; owner = l.1.owner; packed = l.1.packed; parents = l.1.parents })
+    listed_one : (cs : List Candidate) (t : Table) → TableListed (asked cs ∷ t) → RequestListed (request_in ws ps r)
+    listed_one cs t l = record { key = l.1.key; owner = l.1.owner; packed = l.1.packed; parents = l.1.parents }
 
-      pub stops_one : g.fit ≡ false → Stepped b at L Q p stopped
-      stops_one d = stops_at (λ cs t y l. not_one limits Q (lowest_of p) p.held p.taken (asked cs) t (sym (fit_is cs t y l) ∙ d))
+    pub stops_one : {end : ℕ} → Judged b to ps r None end → Stepped b at L Q p None end
+    stops_one j = stops_at (λ cs t y l. not_one (limits L) Q (lowest_of p) p.held p.taken (asked cs) t (j.unlawful refl ws (record { candidates = cs; table = t }) y (listed_one cs t l)))
 
-      module _ (fit : g.fit ≡ true) where
-        counted : (cs : List Candidate) (t : Table) → Body b f.end (record { candidates = cs; table = t }) → g.count ≡ length cs
-        counted cs t y = j.count (record { candidates = cs; table = t }) y fit
+    module _ {m end : ℕ} (j : Judged b to ps r (Some m) end) where
+      fit_is : (cs : List Candidate) (t : Table) → Body b to (record { candidates = cs; table = t }) → TableListed (asked cs ∷ t) → one_fits max_alternates (asked cs) ≡ true
+      fit_is cs t y l = j.lawful.is ws (record { candidates = cs; table = t }) y (listed_one cs t l)
 
-        pub stops_held : {held : ℕ} → held ≡ p.held + g.count → L < held → Stepped b at L Q p stopped
-        stops_held d h = stops_at (λ cs t y l. not_announced limits Q (lowest_of p) p.held p.taken (asked cs) t (lt-leb (p.held + length cs) L (omega (arith, counted cs t y))))
+      counted : (cs : List Candidate) (t : Table) → Body b to (record { candidates = cs; table = t }) → m ≡ length cs
+      counted cs t y = j.lawful.count (record { candidates = cs; table = t }) y
 
-        place_is : (cs : List Candidate) → place_in (asked cs).info (asked cs).«package» ≡ place_for r.info r.packed.held
-        place_is cs = place_if r.info r.packed.held _ _ r.packed.enqueued
+      pub stops_held : {held : ℕ} → held ≡ p.held + m → L < held → Stepped b at L Q p None end
+      stops_held d h = stops_at (λ cs t y l. not_announced (limits L) Q (lowest_of p) p.held p.taken (asked cs) t (lt-leb (p.held + length cs) L (omega (arith, counted cs t y))))
 
-        module _ {taken k : ℕ} (more : k ≡ place_for r.info r.packed.held) (s : taken ≡ p.taken + k) where
-          pub stops-taken : Q < taken → Stepped b at L Q p stopped
-          stops-taken h = stops_at (λ cs t y l.
-              not_placed limits Q (lowest_of p) p.held p.taken (asked cs) t (lt-leb (p.taken + place_in (asked cs).info (asked cs).«package») Q (omega (arith, place_is cs))))
+      place_is : (cs : List Candidate) → place_in (asked cs).info (asked cs).«package» ≡ place_for r.info r.packed.held
+      place_is cs = place_if r.info r.packed.held _ _ r.packed.enqueued
 
-          pub goes_on_lem : {held : ℕ} {x : Bool} → x ≡ leb (lowest_of p) (place (key_with r.kind r.hash)) → x ≡ true → held ≡ p.held + g.count → held ≤ L → taken ≤ Q
-              → Stepped b at L Q p (record { good = true; pass = record { started = true; kind = r.kind; hash = r.hash; held = held; taken = taken }; end = g.end })
-          goes_on_lem {held} {x} d o a u v = record {
-            on = omega (arith, n.on, j.on);
-            inside = j.inside;
-            held = λ e. u;
-            taken = λ e. v;
-            none = λ e. never (sym e);
-            is = λ c t y l.
-                let w = n.is r e t y in
+      module _ {taken k : ℕ} (more : k ≡ place_for r.info r.packed.held) (s : taken ≡ p.taken + k) where
+        pub stops-taken : Q < taken → Stepped b at L Q p None end
+        stops-taken h = stops_at (λ cs t y l.
+            not_placed (limits L) Q (lowest_of p) p.held p.taken (asked cs) t (lt-leb (p.taken + place_in (asked cs).info (asked cs).«package») Q (omega (arith, place_is cs))))
+
+        pub goes_on_lem : {held : ℕ} {x : Bool} → x ≡ leb (lowest_of p) (place (key_with r.kind r.hash)) → x ≡ true → held ≡ p.held + m → held ≤ L → taken ≤ Q
+            → Stepped b at L Q p (Some (record { last = Some (r.kind, r.hash); held = held; taken = taken })) end
+        goes_on_lem {held} {x} d o a u v = record {
+          goes_on = record {
+            on = omega (arith, n.takes.on, j.on);
+            held = u;
+            taken = v;
+            is = λ t y l.
+                let w = n.takes.is t y in
                 let z = w.parts in
                 let i = rw z at l in
                 record {
                   table = w.table;
-                  body = j.body (record { candidates = w.candidates; table = w.table }) w.body fit;
+                  body = j.lawful.body (record { candidates = w.candidates; table = w.table }) w.body;
                   listed = i.3;
                   same = ap (left_fits L Q p) z ∙ same w.candidates w.table w.body i;
                 };
-          }
-            where
-              same : (cs : List Candidate) (t : Table) → Body b f.end (record { candidates = cs; table = t }) → TableListed (asked cs ∷ t)
-                  → pass_fits limits Q (lowest_of p) p.held p.taken (asked cs ∷ t) ≡ pass_fits limits Q (suc (place (key_with r.kind r.hash))) held taken t
-              same cs t y l =
-                  let q = asked cs in
-                  let h : p.held + length cs ≡ held = omega (arith, counted cs t y) in
-                  let k : p.taken + place_in q.info q.«package» ≡ taken = omega (arith, place_is cs) in
-                  all_right limits Q (lowest_of p) p.held p.taken q t (sym d ∙ o) (lt-ltb q.key.hash top l.1.key) (sym (fit_is cs t y l) ∙ fit)
-                  (le-leb (p.held + length cs) L (omega arith)) (le-leb (p.taken + place_in q.info q.«package») Q (omega arith))
-                  ∙ ap (λ (i : ℕ). pass_fits limits Q (suc (place q.key)) i (p.taken + place_in q.info q.«package») t) h
-                  ∙ ap (λ (i : ℕ). pass_fits limits Q (suc (place q.key)) held i t) k
-
--- ---- the key's order
-
-pub first_key : (p : Pass) (k : Key) → p.started ≡ false → true ≡ leb (lowest_of p) (place k)
-first_key p k e = sym (ap (λ (x : Bool). leb (lowest x (key_with p.kind p.hash)) (place k)) e ∙ le-leb 0 (place k) (omega arith))
-
-pub next_key : (p : Pass) (k : Key) {x : Bool} → p.started ≡ true → x ≡ ltb (place (key_with p.kind p.hash)) (place k) → x ≡ leb (lowest_of p) (place k)
-next_key p k e d = d ∙ sym (ap (λ (x : Bool). leb (lowest x (key_with p.kind p.hash)) (place k)) e)
+          };
+          stops = λ e. never (sym e);
+        }
+          where
+            same : (cs : List Candidate) (t : Table) → Body b to (record { candidates = cs; table = t }) → TableListed (asked cs ∷ t)
+                → pass_fits (limits L) Q (lowest_of p) p.held p.taken (asked cs ∷ t) ≡ pass_fits (limits L) Q (suc (place (key_with r.kind r.hash))) held taken t
+            same cs t y l =
+                let q = asked cs in
+                let h : p.held + length cs ≡ held = omega (arith, counted cs t y) in
+                let k : p.taken + place_in q.info q.«package» ≡ taken = omega (arith, place_is cs) in
+                all_right (limits L) Q (lowest_of p) p.held p.taken q t (sym d ∙ o) (lt-ltb q.key.hash top l.1.key) (fit_is cs t y l)
+                (le-leb (p.held + length cs) L (omega arith)) (le-leb (p.taken + place_in q.info q.«package») Q (omega arith))
+                ∙ ap (λ (i : ℕ). pass_fits (limits L) Q (suc (place q.key)) i (p.taken + place_in q.info q.«package») t) h
+                ∙ ap (λ (i : ℕ). pass_fits (limits L) Q (suc (place q.key)) held i t) k
 
 -- ---- all of them
 
@@ -180,29 +169,20 @@ pub record Rested (b : List ℕ) (L Q : ℕ) (t : Table) (p : Pass) (at : ℕ) :
 pub record Underway (b : List ℕ) (from L Q : ℕ) (p : Pass) (at : ℕ) : Type 0 where
   pub is : (t : Table) → Body b from (requests_only t) → TableListed t → Rested b L Q t p at
 
-pub pass-begin : (b : List ℕ) (from L Q : ℕ) {p : Pass} → Begun p → Underway b from L Q p from
-pass-begin b from L Q {p} e = record { is = λ t y l. record { table = t; body = y; listed = l; same = local_is limit Q t ∙ sym (begun t) } }
-  where
-    limit : Limits
-    limit = record { announcements = L; alternates = max_alternates }
-
-    begun : (t : Table) → left_fits L Q p t ≡ pass_fits limit Q 0 0 0 t
-    begun t =
-        ap (λ (x : Bool). pass_fits limit Q (lowest x (key_with p.kind p.hash)) p.held p.taken t) e.first
-        ∙ ap (λ (n : ℕ). pass_fits limit Q 0 n p.taken t) e.held ∙ ap (λ (n : ℕ). pass_fits limit Q 0 0 n t) e.taken
+pub pass-begin : (b : List ℕ) (from L Q : ℕ) → Underway b from L Q (record { last = None; held = 0; taken = 0 }) from
+pass-begin b from L Q = record { is = λ t y l. record { table = t; body = y; listed = l; same = local_is (limits L) Q t } }
 
 module _ {b : List ℕ} {from L Q : ℕ} {p : Pass} {at : ℕ} (u : Underway b from L Q p at) where
-  module _ {s : Step} (z : Stepped b at L Q p s) where
-    pub pass_on : s.good ≡ true → Underway b from L Q s.pass s.end
-    pass_on e = record {
-      is = λ t y l.
-          let a = u.is t y l in
-          let w = z.is e a.table a.body a.listed in
-          record { table = w.table; body = w.body; listed = w.listed; same = a.same ∙ w.same };
-    }
+  pub pass_on : {s : Pass} {end : ℕ} → Stepped b at L Q p (Some s) end → Underway b from L Q s end
+  pass_on z = record {
+    is = λ t y l.
+        let a = u.is t y l in
+        let w = z.goes_on.is a.table a.body a.listed in
+        record { table = w.table; body = w.body; listed = w.listed; same = a.same ∙ w.same };
+  }
 
-    pub pass_stop : s.good ≡ false → EachFits b from L Q false
-    pass_stop e = record { is = λ t y l. let a = u.is t y l in sym (a.same ∙ z.none e a.table a.body a.listed) }
+  pub pass_stop : {end : ℕ} → Stepped b at L Q p None end → EachFits b from L Q false
+  pass_stop z = record { is = λ t y l. let a = u.is t y l in sym (a.same ∙ z.stops refl a.table a.body a.listed) }
 
   pub pass_end : length b ≤ at → EachFits b from L Q true
   pass_end h = record {

@@ -8,6 +8,7 @@ use native.Mathlib.Omega.{arith}
 use lib.Dec.{ltb, leb, eqb}
 use lib.ListN.{length, take}
 use borrow.Author.Tests.{lt-ltb, le-leb, lt-leb, ne_eqb}
+use Rattle.std.specs.Prelude.{Some, None}
 use Rattle.ident.specs.declared.Kind.{Kind}
 use Rattle.ident.specs.declared.Kind.TheVariants.{Txid, Wtxid}
 use Rattle.ident.specs.Number.{top}
@@ -18,13 +19,14 @@ use Rattle.machine.specs.Limits.{max_alternates, max_wtxids, max_parents, word}
 use Rattle.machine.specs.State.{Candidate, Owner, Package, Request, with_candidates, is_some}
 use Rattle.machine.specs.Table.{has}
 use Rattle.machine.specs.Claim.{elem, same_kind}
-use Rattle.machine.specs.Listing.{Every, Whenever, HashesListed, OwnerListed, PackageListed, RequestListed}
+use Rattle.machine.specs.Listing.{Rest, Every, Whenever, HashesListed, OwnerListed, PackageListed, RequestListed}
 use Rattle.machine.specs.SoundTest.{hashes_fit, no_repeat, all_fit, owner_fits, package_fits, parents_fit, is_empty, is_packed, mark_fits, is_lawful}
 use Rattle.machine.proofs.Tests.{never}
 use Rattle.heavy.specs.Streams.{connections_of}
 use Rattle.listed_lines.specs.declared.line.Request as line-request
 use Rattle.listed_lines.specs.declared.parts.Owner as parts-owner
 use Rattle.listed_lines.specs.Given.{hashes_of, owner_if, package_if, request_in}
+use Rattle.listed_form.specs.Given.{Body}
 use Rattle.listed_requests.specs.Parts.{few_once, line_fits, one_fits}
 use Rattle.listed_requests.specs.declared.candidates.Gathered.{Gathered}
 use Rattle.listed_requests.specs.Given.{key_with, most_gathered, Gathers, packs, owner_among, LineFits, Judged}
@@ -217,39 +219,43 @@ module _ (ws ps : List ℕ) (r : line-request.Request) (l : RequestListed (reque
 -- ---- the answer
 
 module _ {b : List ℕ} {from : ℕ} {ps : List ℕ} {r : line-request.Request} {f : Bool} (t : LineFits ps r f) where
-  pub judged_line : f ≡ false → from ≤ length b → Judged b from ps r (record { count = 0; fit = false; end = from })
-  judged_line e h = record {
+  pub judged_line : f ≡ false → Judged b from ps r None from
+  judged_line e = record {
     on = omega arith;
-    inside = h;
-    bound = omega arith;
-    is = λ ws q y l. bad-line ws ps r l q.candidates (sym (t.is ws l) ∙ e);
-    count = λ q y d. never d;
-    body = λ q y d. never d;
+    lawful = tt;
+    unlawful = λ d ws q y l. sym (bad-line ws ps r l q.candidates (sym (t.is ws l) ∙ e));
   }
 
-  module _ {w w' : List ℕ} {g : Gathered} (a : Gathers b from (key_with r.kind r.hash) 0 w w' g) where
-    pub judged_many : most_gathered < g.count → Judged b from ps r (record { count = g.count; fit = false; end = g.end })
-    judged_many h = record {
+  module _ {w w' : List ℕ} {end : ℕ} where
+    pub judged_many : Gathers b from (key_with r.kind r.hash) 0 w w' None end → Judged b from ps r None end
+    judged_many a = record {
       on = a.on;
-      inside = a.inside;
-      bound = a.bound;
-      is = λ ws q y l. too_many ws ps r l q.candidates (omega (arith, a.many q y (omega (arith, a.bound))));
-      count = λ q y d. never d;
-      body = λ q y d. never d;
+      lawful = tt;
+      unlawful = λ d ws q y l. sym (too_many ws ps r l q.candidates (omega (arith, a.many refl q y)));
     }
 
-    pub judged_few : {n o : Bool} → f ≡ true → g.count ≤ most_gathered → n ≡ no_repeat (take g.count w') → o ≡ owner_among r.owner.held r.owner.connection (take g.count w')
-        → Judged b from ps r (record { count = g.count; fit = ((g.fit && n) && o) && ltb 0 g.count; end = g.end })
-    judged_few {n} {o} e h once owner = record {
-      on = a.on;
-      inside = a.inside;
-      bound = a.bound;
-      is = λ ws q y l.
-          let v = a.whole q y h in
+    module _ {g : Gathered} (a : Gathers b from (key_with r.kind r.hash) 0 w w' (Some g) end) {n o : Bool} (e : f ≡ true) (once : n ≡ no_repeat (take g.count w'))
+        (owner : o ≡ owner_among r.owner.held r.owner.connection (take g.count w')) where
+      one_fit : (ws : List ℕ) (q : Rest) → Body b from q → RequestListed (request_in ws ps r)
+          → (((g.fit && n) && o) && ltb 0 g.count) ≡ one_fits max_alternates (with_candidates q.candidates (request_in ws ps r))
+      one_fit ws q y l =
+          let v = a.all.whole q y in
           let z : g.count ≡ length q.candidates = omega (arith, v.count) in
           ap (λ (x : ℕ). ((g.fit && n) && o) && ltb 0 x) z
-          ∙ few_are ws ps r l q.candidates (sym (t.is ws l) ∙ e) (omega (arith, v.count)) v.fit (once ∙ ap no_repeat v.connections)
-          (owner ∙ ap (owner_among r.owner.held r.owner.connection) v.connections);
-      count = λ q y d. omega (arith, (a.whole q y h).count);
-      body = λ q y d. (a.whole q y h).body;
-    }
+          ∙ few_are ws ps r l q.candidates (sym (t.is ws l) ∙ e) (omega (arith, v.count, a.all.bound)) v.fit (once ∙ ap no_repeat v.connections)
+          (owner ∙ ap (owner_among r.owner.held r.owner.connection) v.connections)
+
+      pub judged-unfit : (((g.fit && n) && o) && ltb 0 g.count) ≡ false → Judged b from ps r None end
+      judged-unfit d = record { on = a.on; lawful = tt; unlawful = λ z ws q y l. sym (one_fit ws q y l) ∙ d }
+
+      pub judged_fit : (((g.fit && n) && o) && ltb 0 g.count) ≡ true → Judged b from ps r (Some g.count) end
+      judged_fit d = record {
+        on = a.on;
+        lawful = record {
+          bound = a.all.bound;
+          is = λ ws q y l. sym (one_fit ws q y l) ∙ d;
+          count = λ q y. omega (arith, (a.all.whole q y).count);
+          body = λ q y. (a.all.whole q y).body;
+        };
+        unlawful = λ z. never (sym z);
+      }

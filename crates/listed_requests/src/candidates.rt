@@ -3,18 +3,18 @@ ghost use Rattle.std.specs.Prelude.{◌≡◌, ◌≤◌, eqb, length};
 ghost use Rattle.ident.specs.Number.{kind_of};
 ghost use Rattle.regions.specs.Rows.{quad_number};
 ghost use Rattle.machine.specs.SoundTest.{fits};
-ghost use Rattle.listed_lines.specs.Given.{list_room, candidate_in};
+ghost use Rattle.listed_lines.specs.Given.{candidate_in};
 ghost use Rattle.listed_requests.specs.Given.{key_with, kind_is, most_gathered, Gathers};
 
-use crate::forms::candidate_of;
-use listed_lines::line::{Candidate, CandidateIn, line_at};
+use crate::forms::next_candidate;
+use listed_lines::cursor::{Lines, Lists};
+use listed_lines::line::Candidate;
 
-// How many connections there are with those of the request, 9 for more than 8; whether each of its candidates fits; the index behind them.
+// How many connections there are with those of the request; whether each of its candidates fits.
 #[derive(Clone, Copy)]
 pub struct Gathered {
     pub count: usize,
     pub fit: bool,
-    pub end: usize,
 }
 
 pub fn same_quad(a: regions::Quad, b: regions::Quad) -> bool
@@ -62,49 +62,28 @@ fn fits(c: Candidate, kind: ident::Kind, hash: regions::Quad) -> bool
     same_quad(h, hash)
 }
 
-// The candidates that are listed from an index on, of a request with this key: their connections are put behind n others.
+// The candidates that come next, of a request with this key: their connections are put behind n others. None if they are more than eight then.
 pub fn gather(
-    text: &[u8],
-    from: usize,
+    lines: &mut Lines,
     kind: ident::Kind,
     hash: regions::Quad,
     n: usize,
     conns: &mut [u64],
-    wtxids: &mut [u8],
-    parents: &mut [u8],
-) -> Gathered
-    requires { (from ≤ length text.now) × (n ≤ most_gathered) × (most_gathered ≤ length conns.old) × (list_room ≤ length wtxids.old) × (list_room ≤ length parents.old) }
-    ensures { Gathers text.now from (key_with kind hash) n conns.old conns.new result }
+    lists: &mut Lists,
+) -> Option<Gathered>
+    requires { (n ≤ most_gathered) × (most_gathered ≤ length conns.old) }
+    ensures same { lines.new.text ≡ lines.old.text }
+    ensures gathers { Gathers lines.old.text.now lines.old.at (key_with kind hash) n conns.old conns.new result lines.new.at }
 {
-    let mut at = from;
-    let mut i = n;
+    let mut count = n;
     let mut fit = true;
-    while at < text.len() {
-        let l = line_at(text, at, wtxids, parents);
-        let end = l.end;
-        let line = l.line;
-        let CandidateIn::Is(c) = candidate_of(line) else {
-            return Gathered {
-                count: i,
-                fit,
-                end: at,
-            };
-        };
-        if 8 <= i {
-            return Gathered {
-                count: 9,
-                fit,
-                end: at,
-            };
+    while let Some(c) = next_candidate(lines, lists) {
+        if 8 <= count {
+            return None;
         }
-        conns[i] = c.connection;
+        conns[count] = c.connection;
         fit = fit & fits(c, kind, hash);
-        i += 1;
-        at = end;
+        count += 1;
     }
-    Gathered {
-        count: i,
-        fit,
-        end: at,
-    }
+    Some(Gathered { count, fit })
 }

@@ -1,62 +1,30 @@
 // The requests of a listing one after the other: their order, each of them by itself, how many announcements and places they hold.
-ghost use Rattle.std.specs.Prelude.{◌≡◌, false, ◌<◌, ◌≤◌, leb, length};
+ghost use Rattle.std.specs.Prelude.{◌≡◌, ◌<◌, ◌≤◌, leb, length};
 ghost use Rattle.ident.specs.Number.{place};
 ghost use Rattle.machine.specs.Limits.{max_announcements, max_places};
-ghost use Rattle.listed_lines.specs.Given.{list_room};
-ghost use Rattle.listed_requests.specs.Given.{key_with, most_gathered, lowest_of, Begun, place_for, Within, Stepped, EachFits};
+ghost use Rattle.listed_requests.specs.Given.{key_with, most_gathered, lowest_of, place_for, Within, Stepped, EachFits};
 
-use crate::forms::request_at;
+use crate::forms::next_request;
 use crate::lawful::judge;
 use listed_form::comes_before;
-use listed_lines::line::RequestIn;
+use listed_lines::cursor::{Lines, Lists};
 
 // The key of the last request, if there was one; announcements and places that are held up to it.
 #[derive(Clone, Copy)]
 pub struct Pass {
-    pub started: bool,
-    pub kind: ident::Kind,
-    pub hash: regions::Quad,
+    pub last: Option<(ident::Kind, regions::Quad)>,
     pub held: u64,
     pub taken: u64,
-}
-
-// Whether a request passed; what is known behind it; the index behind it.
-#[derive(Clone, Copy)]
-pub struct Step {
-    pub good: bool,
-    pub pass: Pass,
-    pub end: usize,
-}
-
-fn begin() -> Pass
-    ensures { Begun result }
-{
-    let kind = ident::Kind::Txid;
-    let hash = regions::Quad {
-        w0: 0,
-        w1: 0,
-        w2: 0,
-        w3: 0,
-    };
-    Pass {
-        started: false,
-        kind,
-        hash,
-        held: 0,
-        taken: 0,
-    }
 }
 
 // Whether a key comes after the last one.
 fn rises(p: Pass, kind: ident::Kind, hash: regions::Quad) -> bool
     ensures { result ≡ leb (lowest_of p) (place (key_with kind hash)) }
 {
-    if !p.started {
-        return true;
+    match p.last {
+        None => true,
+        Some((k, h)) => comes_before(k, h, kind, hash),
     }
-    let k = p.kind;
-    let h = p.hash;
-    comes_before(k, h, kind, hash)
 }
 
 fn place_of(info: bool, packed: bool) -> u64
@@ -71,91 +39,52 @@ fn place_of(info: bool, packed: bool) -> u64
     0
 }
 
-fn stopped(p: Pass, end: usize) -> Step
-    ensures { result ≡ record { good = false; pass = p; end = end } }
-{
-    Step {
-        good: false,
-        pass: p,
-        end,
-    }
-}
-
-// The request at an index.
+// The next request: what is known behind it, if it passes.
 fn advance(
-    text: &[u8],
-    at: usize,
+    lines: &mut Lines,
     p: Pass,
     limit: u64,
     places: u64,
     conns: &mut [u64],
-    wtxids: &mut [u8],
-    parents: &mut [u8],
-) -> Step
-    requires { (at < length text.now) × Within limit places p × (most_gathered ≤ length conns.old) × (list_room ≤ length wtxids.old) × (list_room ≤ length parents.old) }
-    ensures { Stepped text.now at limit places p result }
+    lists: &mut Lists,
+) -> Option<Pass>
+    requires { (lines.old.at < length lines.old.text.now) × Within limit places p × (most_gathered ≤ length conns.old) }
+    ensures same { lines.new.text ≡ lines.old.text }
+    ensures step { Stepped lines.old.text.now lines.old.at limit places p result lines.new.at }
 {
-    let f = request_at(text, at, wtxids, parents);
-    let end = f.end;
-    let line = f.line;
-    let RequestIn::Is(r) = line else {
-        return stopped(p, end);
-    };
-    let kind = r.kind;
-    let hash = r.hash;
-    if !rises(p, kind, hash) {
-        return stopped(p, end);
+    let r = next_request(lines, lists)?;
+    if !rises(p, r.kind, r.hash) {
+        return None;
     }
-    let info = r.info;
-    let package = r.packed;
-    let packed = package.held;
-    let g = judge(text, end, r, conns, wtxids, parents);
-    if !g.fit {
-        return stopped(p, end);
-    }
-    let held = p.held + g.count as u64;
+    let count = judge(lines, r, conns, lists)?;
+    let held = p.held + count as u64;
     if limit < held {
-        return stopped(p, end);
+        return None;
     }
-    let taken = p.taken + place_of(info, packed);
+    let taken = p.taken + place_of(r.info, r.packed.held);
     if places < taken {
-        return stopped(p, end);
+        return None;
     }
-    Step {
-        good: true,
-        pass: Pass {
-            started: true,
-            kind,
-            hash,
-            held,
-            taken,
-        },
-        end: g.end,
-    }
+    let last = Some((r.kind, r.hash));
+    Some(Pass { last, held, taken })
 }
 
-// Whether each request that is listed from an index on is in order, lawful, with few candidates, and all of them are within L and Q.
-pub fn each_fits(
-    text: &[u8],
-    from: usize,
-    limit: u64,
-    places: u64,
-    wtxids: &mut [u8],
-    parents: &mut [u8],
-) -> bool
-    requires { (from ≤ length text.now) × (limit ≤ max_announcements) × (places ≤ max_places) × (list_room ≤ length wtxids.old) × (list_room ≤ length parents.old) }
-    ensures { EachFits text.now from limit places result }
+// Whether each request that the lines list is in order, lawful, with few candidates, and all of them are within L and Q.
+pub fn each_fits(mut lines: Lines, limit: u64, places: u64, lists: &mut Lists) -> bool
+    requires { (limit ≤ max_announcements) × (places ≤ max_places) }
+    ensures { EachFits lines.entry.text.now lines.entry.at limit places result }
 {
     let mut conns = [0u64; 8];
-    let mut p = begin();
-    let mut at = from;
-    while at < text.len() {
-        let s = advance(text, at, p, limit, places, &mut conns, wtxids, parents);
-        if !s.good {
+    let mut pass = Pass {
+        last: None,
+        held: 0,
+        taken: 0,
+    };
+    while !lines.is_empty() {
+        let Some(next) = advance(&mut lines, pass, limit, places, &mut conns, lists) else {
             return false;
-        }
-        at = s.end;
-        p = s.pass;
+        };
+        pass = next;
     }
     true
 }

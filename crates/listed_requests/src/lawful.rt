@@ -6,8 +6,9 @@ ghost use Rattle.machine.specs.SoundTest.{mark_fits};
 ghost use Rattle.listed_lines.specs.Given.{list_room};
 ghost use Rattle.listed_requests.specs.Given.{most_gathered, packs, owner_among, LineFits, Judged};
 
-use crate::candidates::{Gathered, gather};
+use crate::candidates::gather;
 use crate::distinct::{all_distinct, hashes_distinct, stands};
+use listed_lines::cursor::{Lines, Lists};
 use listed_lines::line::Request;
 use listed_lines::parts::Owner;
 
@@ -86,40 +87,22 @@ fn line_fits(r: Request, parents: &[u8]) -> bool
     packs(kind, owned, info, packed, n)
 }
 
-// A request, whose candidates are listed from an index on.
-pub fn judge(
-    text: &[u8],
-    from: usize,
-    r: Request,
-    conns: &mut [u64],
-    wtxids: &mut [u8],
-    parents: &mut [u8],
-) -> Gathered
-    requires { (from ≤ length text.now) × (most_gathered ≤ length conns.old) × (list_room ≤ length wtxids.old) × (list_room ≤ length parents.old) }
-    ensures { Judged text.now from parents.old r result }
+// A request, whose candidates come next: how many it has, if it is lawful.
+pub fn judge(lines: &mut Lines, r: Request, conns: &mut [u64], lists: &mut Lists) -> Option<usize>
+    requires { most_gathered ≤ length conns.old }
+    ensures same { lines.new.text ≡ lines.old.text }
+    ensures judged { Judged lines.old.text.now lines.old.at lists.old.parents r result lines.new.at }
 {
-    if !line_fits(r, parents) {
-        return Gathered {
-            count: 0,
-            fit: false,
-            end: from,
-        };
+    if !line_fits(r, &lists.parents) {
+        return None;
     }
-    let kind = r.kind;
-    let hash = r.hash;
-    let g = gather(text, from, kind, hash, 0, conns, wtxids, parents);
+    let g = gather(lines, r.kind, r.hash, 0, conns, lists)?;
     let count = g.count;
-    let end = g.end;
-    if 8 < count {
-        return Gathered {
-            count,
-            fit: false,
-            end,
-        };
-    }
-    let o = r.owner;
     let once = all_distinct(conns, count);
-    let owner = owner_stands(o, conns, count);
+    let owner = owner_stands(r.owner, conns, count);
     let fit = g.fit & once & owner & (0 < count);
-    Gathered { count, fit, end }
+    if !fit {
+        return None;
+    }
+    Some(count)
 }

@@ -7,6 +7,7 @@ ghost use Rattle.outcome.specs.Reply.{reply_of, text_of};
 ghost use Rattle.public_listings.specs.Verdicts.{Whole};
 
 use crate::verdict::{Verdict, verdict_of};
+use listed_lines::cursor::Lines;
 use listed_lines::line::Head;
 use outcome::{Answer, Listing, RETURNED, need, refusals};
 
@@ -38,7 +39,7 @@ fn restore_from(s: &mut [u8], text: &[u8], h: Head, from: usize) -> Answer
     if s.len() < n {
         return Answer::Refused(refusals::SHORT_STORE);
     }
-    restoring::write_from(text, h, from, &mut s[..n]);
+    restoring::write_from(h, Lines { text, at: from }, &mut s[..n]);
     Answer::Number(RETURNED)
 }
 

@@ -4,6 +4,7 @@ use mathlib.Core.Path.{◌≡◌, refl, sym, ap, subst, ◌∙◌}
 use mathlib.Core.Bool.{Bool, true, false}
 use mathlib.Core.List.{List, [], ◌∷◌, ◌++◌, map, append_assoc, append-nil}
 use mathlib.Core.Option.{Option, none, some}
+use Rattle.std.specs.Prelude.{Option as Maybe, Some, None}
 use native.Mathlib.Omega.{arith}
 use lib.ListN.{length, length-append}
 use Rattle.regions.specs.declared.Row.{Row}
@@ -24,14 +25,18 @@ use Rattle.listed_lines.specs.declared.line.LineAt.{LineAt}
 use Rattle.listed_lines.specs.Given.{list_room, request_in, candidate_in, line_in, LineRead}
 use Rattle.listed_form.specs.Given.{Body, requests_only}
 use Rattle.listed_form.proofs.Stepping.{no-bad-line, no-head-line, after-candidate, after-request, body_end}
-use Rattle.restoring.specs.Given.{request_after, rows_more, places_more, LineRoom, TakesLine, bare, untallied, Headed}
+use Rattle.restoring.specs.Given.{request_after, row_under, rows_more, places_more, LineRoom, TakesLine, bare, untallied, Headed}
 
 -- the rows that lines still bring: candidates of the last request r, then the requests behind them
-abbrev rows_left : line-request.Request → Rest → List Row
-rows_left r q = map (row_of (request_in [] [] r)) q.candidates ++ rows_of q.table
+abbrev rows_under : Maybe line-request.Request → List Candidate → List Row
+rows_under r [] = []
+rows_under r (c ∷ cs) = row_under r c ++ rows_under r cs
+
+abbrev rows_left : Maybe line-request.Request → Rest → List Row
+rows_left r q = rows_under r q.candidates ++ rows_of q.table
 
 -- with the lines before index at, the bytes b have what the lines from there on do not bring
-pub record Underway (text b : List ℕ) (at : ℕ) (r : line-request.Request) (st : State) : Type 0 where
+pub record Underway (text b : List ℕ) (at : ℕ) (r : Maybe line-request.Request) (st : State) : Type 0 where
   pub rest : Rest
   pub body : Body text at rest
   pub lawful : All Lawful rest.table
@@ -41,10 +46,10 @@ pub record Underway (text b : List ℕ) (at : ℕ) (r : line-request.Request) (s
   pub all_rows : rows ++ rows_left r rest ≡ rows_of st.table
   pub all_places : places ++ places_of rest.table ≡ places_of st.table
 
-pub begun : {text b : List ℕ} {from : ℕ} (r : line-request.Request) (st : State) → Sound st → Body text from (requests_only st.table) → Shows b (bare st) → Underway text b from r st
+pub begun : {text b : List ℕ} {from : ℕ} (r : Maybe line-request.Request) (st : State) → Sound st → Body text from (requests_only st.table) → Shows b (bare st) → Underway text b from r st
 begun r st s y h = record { rest = requests_only st.table; body = y; lawful = s.bounded.lawful; rows = []; places = []; shows = h; all_rows = refl; all_places = refl }
 
-pub ended : {text b : List ℕ} {at : ℕ} {r : line-request.Request} {st : State} → Underway text b at r st → length text ≤ at → Shows b (untallied st)
+pub ended : {text b : List ℕ} {at : ℕ} {r : Maybe line-request.Request} {st : State} → Underway text b at r st → length text ≤ at → Shows b (untallied st)
 unfolding each
 ended {b = b} {r = r} {st = st} u l =
     let e = body_end u.body l in
@@ -55,7 +60,7 @@ ended {b = b} {r = r} {st = st} u l =
 -- ---- one line
 
 -- what a line brings, and what then is left
-pub record Step (text ws ps : List ℕ) (end : ℕ) (r : line-request.Request) (l : line-line.Line) (q : Rest) : Type 0 where
+pub record Step (text ws ps : List ℕ) (end : ℕ) (r : Maybe line-request.Request) (l : line-line.Line) (q : Rest) : Type 0 where
   pub rest : Rest
   pub body : Body text end rest
   pub lawful : All Lawful rest.table
@@ -64,14 +69,14 @@ pub record Step (text ws ps : List ℕ) (end : ℕ) (r : line-request.Request) (
   pub short : Each PlaceShort (places_more ws ps l)
 
 -- the rows of a request have its key, owner and mark
-same_rows : (ws ps : List ℕ) (q : line-request.Request) (cs : List Candidate) → rows_for (with_candidates cs (request_in ws ps q)) ≡ map (row_of (request_in [] [] q)) cs
+same_rows : (ws ps : List ℕ) (q : line-request.Request) (cs : List Candidate) → rows_for (with_candidates cs (request_in ws ps q)) ≡ rows_under (Some q) cs
 unfolding rows_for
 same_rows ws ps q cs = alike cs
   where
     one : (c : Candidate) → row_of (with_candidates cs (request_in ws ps q)) c ≡ row_of (request_in [] [] q) c
     one c = unfold row_of in refl
 
-    alike : (ds : List Candidate) → map (row_of (with_candidates cs (request_in ws ps q))) ds ≡ map (row_of (request_in [] [] q)) ds
+    alike : (ds : List Candidate) → map (row_of (with_candidates cs (request_in ws ps q))) ds ≡ rows_under (Some q) ds
     alike [] = refl
     alike (d ∷ ds) = (λ i. one d i ∷ alike ds i)
 
@@ -104,7 +109,7 @@ first_places : (r : Request) (t : Table) → places_of (r ∷ t) ≡ places_for 
 unfolding each
 first_places r t = refl
 
-module _ {text ws ps : List ℕ} {at : ℕ} {l : LineAt} (p : LineRead text at ws ps l) {q : Rest} (y : Body text at q) (lawful : All Lawful q.table) (r : line-request.Request) where
+module _ {text ws ps : List ℕ} {at : ℕ} {l : LineAt} (p : LineRead text at ws ps l) {q : Rest} (y : Body text at q) (lawful : All Lawful q.table) (r : Maybe line-request.Request) where
   by_line : (m : line-line.Line) → l.line ≡ m → Step text ws ps l.end r m q
   by_line NoLine e = no-bad-line p y (ap (line_in ws ps) e)
   by_line (IsHead h) e = no-head-line p y (ap (line_in ws ps) e)
@@ -117,7 +122,7 @@ module _ {text ws ps : List ℕ} {at : ℕ} {l : LineAt} (p : LineRead text at w
         rest = record { candidates = cs; table = d.table };
         body = d.body;
         lawful = a.1;
-        rows = ap (λ (z : List Candidate). map (row_of (request_in [] [] r)) z ++ rows_of q.table) d.first ∙ ap rows_of d.parts ∙ first_rows w d.table
+        rows = ap (λ (z : List Candidate). rows_under r z ++ rows_of q.table) d.first ∙ ap rows_of d.parts ∙ first_rows w d.table
             ∙ ap (λ (z : List Row). z ++ rows_of d.table) (same_rows ws ps x cs);
         places = ap places_of d.parts ∙ first_places w d.table ∙ ap (λ (z : List Place). z ++ places_of d.table) (same_places (request_in ws ps x) cs);
         short = subst (Each PlaceShort) (same_places (request_in ws ps x) cs) (lawful-short w a.0);
@@ -128,7 +133,7 @@ module _ {text ws ps : List ℕ} {at : ℕ} {l : LineAt} (p : LineRead text at w
         rest = record { candidates = d.candidates; table = q.table };
         body = d.body;
         lawful = lawful;
-        rows = ap (λ (z : List Candidate). map (row_of (request_in [] [] r)) z ++ rows_of q.table) d.parts;
+        rows = ap (λ (z : List Candidate). rows_under r z ++ rows_of q.table) d.parts ∙ append_assoc (row_under r (candidate_in c)) (rows_under r d.candidates) (rows_of q.table);
         places = refl;
         short = tt;
       }
@@ -138,7 +143,7 @@ module _ {text ws ps : List ℕ} {at : ℕ} {l : LineAt} (p : LineRead text at w
 
 -- ---- room for it, and the store with it
 
-module _ {text b ws ps : List ℕ} {at : ℕ} {r : line-request.Request} {st : State} (s : Sound st) (u : Underway text b at r st) {l : LineAt} (p : LineRead text at ws ps l) where
+module _ {text b ws ps : List ℕ} {at : ℕ} {r : Maybe line-request.Request} {st : State} (s : Sound st) (u : Underway text b at r st) {l : LineAt} (p : LineRead text at ws ps l) where
   abbrev d : Step text ws ps l.end r l.line u.rest
   d = step p u.body u.lawful r
 
@@ -170,8 +175,8 @@ module _ {text b ws ps : List ℕ} {at : ℕ} {r : line-request.Request} {st : S
         s.bounded.room,
       )
 
-  pub line-room : list_room ≤ length ws → list_room ≤ length ps → LineRoom b ws ps r l.line
-  line-room lw lp =
+  pub line-room : LineRoom b ws ps r l.line
+  line-room =
       let z = sizes u.shows in
       record {
         is_shown = shown u.shows (record {
@@ -184,11 +189,9 @@ module _ {text b ws ps : List ℕ} {at : ℕ} {r : line-request.Request} {st : S
         rows = omega (arith, few_rows, z.rows, z.limit);
         places = omega (arith, few_places, z.held-places, z.places);
         short = d.short;
-        wtxids = lw;
-        parents = lp;
       }
 
-  pub line_taken : {b' : List ℕ} {r' : line-request.Request} → TakesLine b b' ws ps r l.line r' → Underway text b' l.end r' st
+  pub line_taken : {b' : List ℕ} {r' : Maybe line-request.Request} → TakesLine b b' ws ps r l.line r' → Underway text b' l.end r' st
   line_taken {b'} {r'} t =
       let m = rows_more r l.line in
       let n = places_more ws ps l.line in
@@ -199,26 +202,26 @@ module _ {text b ws ps : List ℕ} {at : ℕ} {r : line-request.Request} {st : S
         rows = u.rows ++ m;
         places = u.places ++ n;
         shows = t.turns _ u.shows;
-        all_rows = ap (λ (x : line-request.Request). (u.rows ++ m) ++ rows_left x d.rest) t.after ∙ append_assoc u.rows m (rows_left (request_after r l.line) d.rest)
+        all_rows = ap (λ (x : Maybe line-request.Request). (u.rows ++ m) ++ rows_left x d.rest) t.after ∙ append_assoc u.rows m (rows_left (request_after r l.line) d.rest)
             ∙ ap (λ (x : List Row). u.rows ++ x) (sym d.rows) ∙ u.all_rows;
         all_places = append_assoc u.places n (places_of d.rest.table) ∙ ap (λ (x : List Place). u.places ++ x) (sym d.places) ∙ u.all_places;
       }
 
 -- ---- the loop's invariant
 
-pub record Walked (text b₀ b : List ℕ) (from at : ℕ) (r : line-request.Request) : Type 0 where
+pub record Walked (text b₀ b : List ℕ) (from at : ℕ) (r : Maybe line-request.Request) : Type 0 where
   pub inside : at ≤ length text
   pub long : length b ≡ length b₀
   pub under : (st : State) → Sound st → Body text from (requests_only st.table) → Shows b₀ (bare st) → Underway text b at r st
 
-pub walked_none : {text b : List ℕ} {from : ℕ} (r : line-request.Request) → from ≤ length text → Walked text b b from from r
+pub walked_none : {text b : List ℕ} {from : ℕ} (r : Maybe line-request.Request) → from ≤ length text → Walked text b b from from r
 walked_none r l = record { inside = l; long = refl; under = λ st s y h. begun r st s y h }
 
-module _ {text b₀ b : List ℕ} {from at : ℕ} {r : line-request.Request} (w : Walked text b₀ b from at r) where
-  pub walked-room : Headed text from b₀ → {ws ps : List ℕ} {l : LineAt} → LineRead text at ws ps l → list_room ≤ length ws → list_room ≤ length ps → LineRoom b ws ps r l.line
-  walked-room h p lw lp = line-room h.sound (w.under h.state h.sound h.body h.shows) p lw lp
+module _ {text b₀ b : List ℕ} {from at : ℕ} {r : Maybe line-request.Request} (w : Walked text b₀ b from at r) where
+  pub walked-room : Headed text from b₀ → {ws ps : List ℕ} {l : LineAt} → LineRead text at ws ps l → LineRoom b ws ps r l.line
+  walked-room h p = line-room h.sound (w.under h.state h.sound h.body h.shows) p
 
-  pub walked_on : {b' ws ps : List ℕ} {l : LineAt} {r' : line-request.Request} → LineRead text at ws ps l → TakesLine b b' ws ps r l.line r' → length b' ≡ length b
+  pub walked_on : {b' ws ps : List ℕ} {l : LineAt} {r' : Maybe line-request.Request} → LineRead text at ws ps l → TakesLine b b' ws ps r l.line r' → length b' ≡ length b
       → Walked text b₀ b' from l.end r'
   walked_on p t n = record { inside = p.inside; long = n ∙ w.long; under = λ st s y h. line_taken s (w.under st s y h) p t }
 

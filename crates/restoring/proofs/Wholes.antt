@@ -18,6 +18,7 @@ use Rattle.store.proofs.Counts.{held-rows, places-rows}
 use Rattle.listed_lines.specs.declared.line.Head as line-head
 use Rattle.listed_lines.specs.declared.line.Request as line-request
 use Rattle.listed_lines.specs.declared.line.Candidate as line-candidate
+use Rattle.listed_lines.specs.declared.line.Line as line-line
 use Rattle.listed_lines.specs.declared.line.Line.TheVariants.{Not as NoLine, Head as IsHead, Request as IsRequest, Candidate as IsCandidate}
 use Rattle.listed_lines.specs.declared.line.LineAt.{LineAt}
 use Rattle.listed_lines.specs.Given.{head_state, request_in, candidate_in, line_in, lines_of_text, LineRead}
@@ -73,10 +74,10 @@ no-state : read_listing [] ≡ none
 unfolding read_in text_lines lines_in
 no-state = refl
 
--- a text that lists a state has a byte
-pub some_text : (b : List ℕ) {st : State} → read_listing b ≡ some st → 0 < length b
-some_text [] e = never (ap is_some (sym no-state ∙ e))
-some_text (c ∷ b) e = omega arith
+-- a text that lists a state has a line
+pub some_line : (b : List ℕ) {st : State} {X : Type 0} → read_listing b ≡ some st → length b ≤ 0 → X
+some_line [] e h = never (ap is_some (sym no-state ∙ e))
+some_line (c ∷ b) e h = absurd (omega arith)
 
 -- a request's line and a candidate's are no first lines
 no-request : (r : Request) (o : Option (List Line)) → state_of (one_more (some (RequestLine r)) o) ≡ none
@@ -99,14 +100,19 @@ module _ {b ws ps : List ℕ} {l : LineAt} (p : LineRead b 0 ws ps l) {st : Stat
   by_first : (x : Option Line) → line_in ws ps l.line ≡ x → state_of (one_more x (lines_of_text (drop l.end b))) ≡ some st
   by_first x g = ap (λ (y : Option Line). state_of (one_more y (lines_of_text (drop l.end b)))) (sym g) ∙ first_line
 
-  pub first_not : {X : Type 0} → l.line ≡ NoLine → X
-  first_not g = never (ap is_some (by_first none (ap (line_in ws ps) g)))
-
-  pub first_request : {X : Type 0} {q : line-request.Request} → l.line ≡ IsRequest q → X
-  first_request {q = q} g = never (ap is_some (sym (no-request (request_in ws ps q) (lines_of_text (drop l.end b))) ∙ by_first (some (RequestLine (request_in ws ps q))) (ap (line_in ws ps) g)))
-
-  pub first_candidate : {X : Type 0} {c : line-candidate.Candidate} → l.line ≡ IsCandidate c → X
-  first_candidate {c = c} g = never (ap is_some (sym (no-candidate (candidate_in c) (lines_of_text (drop l.end b))) ∙ by_first (some (CandidateLine (candidate_in c))) (ap (line_in ws ps) g)))
+  -- the first line of a text that lists a state is of the first form
+  pub first_other : {X : Type 0} → ((h : line-head.Head) → l.line ≡ IsHead h → ⊥) → X
+  first_other {X} other = by_line l.line refl
+    where
+      by_line : (m : line-line.Line) → l.line ≡ m → X
+      by_line NoLine g = never (ap is_some (by_first none (ap (line_in ws ps) g)))
+      by_line (IsHead h) g = absurd (other h g)
+      by_line (IsRequest q) g =
+          let r = request_in ws ps q in
+          never (ap is_some (sym (no-request r (lines_of_text (drop l.end b))) ∙ by_first (some (RequestLine r)) (ap (line_in ws ps) g)))
+      by_line (IsCandidate c) g =
+          let d = candidate_in c in
+          never (ap is_some (sym (no-candidate d (lines_of_text (drop l.end b))) ∙ by_first (some (CandidateLine d)) (ap (line_in ws ps) g)))
 
   pub first_is : {h : line-head.Head} → l.line ≡ IsHead h → First b h l.end st
   first_is {h} g = at_lines (lines_of_text (drop l.end b)) refl (by_first (some (HeadLine (head_state h))) (ap (line_in ws ps) g))

@@ -1,9 +1,10 @@
 -- What the contracts say: how the lines of a listing come into a store, as lists of records.
 use Rattle.std.specs.Prelude.{ℕ, ◌+◌, ◌≤◌, ◌<◌, ◌≡◌, List, [], ◌∷◌, ◌++◌, length, get_or, set}
+use Rattle.std.specs.Prelude.{Option as Maybe, Some, None}
 use Rattle.std.proofs.Math.Option.{Option, none, some}
 use Rattle.regions.specs.declared.Row.{Row}
 use Rattle.places.specs.Places.{Place, PlaceShort, with_parents}
-use Rattle.machine.specs.State.{Package, Request, State, on_table}
+use Rattle.machine.specs.State.{Candidate, Package, Request, State, on_table}
 use Rattle.machine.specs.Sound.{Sound}
 use Rattle.machine.specs.Table.{one}
 use Rattle.machine.specs.Typed.{Each}
@@ -15,7 +16,7 @@ use Rattle.listed_lines.specs.declared.line.Head as line-head
 use Rattle.listed_lines.specs.declared.line.Request as line-request
 use Rattle.listed_lines.specs.declared.line.Line as line-line
 use Rattle.listed_lines.specs.declared.line.Line.TheVariants.{Not as NoLine, Head as IsHead, Request as IsRequest, Candidate as IsCandidate}
-use Rattle.listed_lines.specs.Given.{list_room, head_state, request_in, candidate_in}
+use Rattle.listed_lines.specs.Given.{head_state, request_in, candidate_in}
 use Rattle.listed_form.specs.Given.{Body, requests_only}
 
 -- ---- a place
@@ -55,17 +56,22 @@ pub record PlaceRoom (b : List ℕ) (r : Request) : Type 0 where
 
 -- ---- one line: what it adds to rows and places. A candidate's row is that of the last request
 
-abbrev pub request_after : line-request.Request → line-line.Line → line-request.Request
+abbrev pub request_after : Maybe line-request.Request → line-line.Line → Maybe line-request.Request
 request_after r NoLine = r
 request_after r (IsHead h) = r
-request_after r (IsRequest q) = q
+request_after r (IsRequest q) = Some q
 request_after r (IsCandidate c) = r
 
-abbrev pub rows_more : line-request.Request → line-line.Line → List Row
+-- the row of a candidate, if there is a request
+abbrev pub row_under : Maybe line-request.Request → Candidate → List Row
+row_under None c = []
+row_under (Some r) c = row_of (request_in [] [] r) c ∷ []
+
+abbrev pub rows_more : Maybe line-request.Request → line-line.Line → List Row
 rows_more r NoLine = []
 rows_more r (IsHead h) = []
 rows_more r (IsRequest q) = []
-rows_more r (IsCandidate c) = row_of (request_in [] [] r) (candidate_in c) ∷ []
+rows_more r (IsCandidate c) = row_under r (candidate_in c)
 
 -- the wtxids of the line stand in the bytes ws, its parents in ps
 abbrev pub places_more : List ℕ → List ℕ → line-line.Line → List Place
@@ -78,15 +84,13 @@ abbrev pub grown : List Row → List Place → Flat → Flat
 grown rs ps f = record { head = f.head; rows = f.rows ++ rs; conns = f.conns; places = f.places ++ ps }
 
 -- there is room for what a line adds
-pub record LineRoom (b ws ps : List ℕ) (r : line-request.Request) (l : line-line.Line) : Type 0 where
+pub record LineRoom (b ws ps : List ℕ) (r : Maybe line-request.Request) (l : line-line.Line) : Type 0 where
   pub is_shown : Shown b
   pub rows : rows_in b + length (rows_more r l) ≤ limit_in b
   pub places : held_places_in b + length (places_more ws ps l) ≤ places_in b
   pub short : Each PlaceShort (places_more ws ps l)
-  pub wtxids : list_room ≤ length ws
-  pub parents : list_room ≤ length ps
 
-pub record TakesLine (b b' ws ps : List ℕ) (r : line-request.Request) (l : line-line.Line) (q : line-request.Request) : Type 0 where
+pub record TakesLine (b b' ws ps : List ℕ) (r : Maybe line-request.Request) (l : line-line.Line) (q : Maybe line-request.Request) : Type 0 where
   pub after : q ≡ request_after r l
   pub turns : Turns b b' (grown (rows_more r l) (places_more ws ps l))
 

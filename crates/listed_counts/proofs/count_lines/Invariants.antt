@@ -1,15 +1,15 @@
 -- `listed_counts::count_lines` meets its contract. The loop's invariant: what is left of the lines, from the counts as they are, comes to the same as all of them.
-use Prim.Native.Nat.{◌+◌, ◌-◌, ◌≤◌}
+use Prim.Native.Nat.{◌-◌, ◌≤◌}
 use mathlib.Core.Path.{◌≡◌}
 use lib.ListN.{length}
 use Rattle.heavy.specs.Counters.{sum}
 use Rattle.listed_counts.proofs.Lines.{Counting}
 use Rattle.listed_counts.proofs.count_lines.Given as goal
 
-abbrev pub invariant-loop-at : goal.invariant-loop-at
-invariant-loop-at l =
-    (l.at ≤ length l.text) × (length l.counts ≡ length l.initial.counts) × (length l.wtxids ≡ length l.initial.wtxids) × (length l.parents ≡ length l.initial.parents)
-    × (l.from + sum l.counts ≤ l.at) × Counting l.text l.from l.owners l.names l.initial.counts l.at l.counts
+abbrev pub invariant-loop-line : goal.invariant-loop-line
+invariant-loop-line g l =
+    (l.lines.text ≡ l.initial.lines.text) × (sum l.counts ≤ l.lines.at)
+    × Counting l.lines.text.now l.initial.lines.at g.N.Counted.owners l.names l.initial.counts l.lines.at l.counts
 
-abbrev pub decreases-loop-at : goal.decreases-loop-at
-decreases-loop-at l = length l.text - l.at
+abbrev pub decreases-loop-line : goal.decreases-loop-line
+decreases-loop-line g l = length l.lines.text.now - l.lines.at

@@ -1,4 +1,4 @@
--- `listed_pairs::below` meets its contract. The loop's invariant: the requests before the index come to nothing.
+-- `listed_pairs::below` meets its contract. The loop's invariant: the requests that were passed come to nothing.
 use Prim.Native.Nat.{◌-◌}
 use mathlib.Core.Path.{◌≡◌}
 use lib.ListN.{length}
@@ -6,9 +6,8 @@ use Rattle.regions.specs.Rows.{quad_number}
 use Rattle.listed_pairs.specs.Given.{Below}
 use Rattle.listed_pairs.proofs.below.Given as goal
 
-abbrev pub invariant-loop-at : goal.invariant-loop-at
-invariant-loop-at l =
-    (length l.conns ≡ length l.initial.conns) × (length l.wtxids ≡ length l.initial.wtxids) × (length l.parents ≡ length l.initial.parents) × Below l.text l.from l.at (quad_number l.k)
+abbrev pub invariant-loop-r : goal.invariant-loop-r
+invariant-loop-r l = (l.lines ≡ l.behind) × (l.lines.text ≡ l.initial.lines.text) × Below l.lines.text.now l.initial.lines.at l.lines.at (quad_number l.k)
 
-abbrev pub decreases-loop-at : goal.decreases-loop-at
-decreases-loop-at l = length l.text - l.at
+abbrev pub decreases-loop-r : goal.decreases-loop-r
+decreases-loop-r l = length l.behind.text.now - l.behind.at

@@ -1,13 +1,12 @@
 -- `listed_pairs::pairs_fit` meets its contract. The loop's invariant: the requests that are left pass where all of them do.
-use Prim.Native.Nat.{◌≤◌, ◌-◌, ◌+◌}
+use Prim.Native.Nat.{◌-◌, ◌+◌}
 use mathlib.Core.Path.{◌≡◌}
 use lib.ListN.{length}
 use Rattle.listed_pairs.proofs.Comparing.{Underway}
 use Rattle.listed_pairs.proofs.pairs_fit.Given as goal
 
-abbrev pub invariant-loop-j : goal.invariant-loop-j
-invariant-loop-j l =
-    (l.i ≤ length l.text) × (l.j ≤ length l.text) × (length l.wtxids ≡ length l.initial.wtxids) × (length l.parents ≡ length l.initial.parents) × (length l.conns ≡ 8) × Underway l.text l.from l.i l.j
+abbrev pub invariant-loop-front : goal.invariant-loop-front
+invariant-loop-front l = (l.front.text ≡ l.lines.text) × (l.back.text ≡ l.lines.text) × Underway l.lines.text.now l.lines.at l.front.at l.back.at
 
-abbrev pub decreases-loop-j : goal.decreases-loop-j
-decreases-loop-j l = (length l.text - l.i) + (length l.text - l.j)
+abbrev pub decreases-loop-front : goal.decreases-loop-front
+decreases-loop-front l = (length l.lines.text.now - l.front.at) + (length l.lines.text.now - l.back.at)

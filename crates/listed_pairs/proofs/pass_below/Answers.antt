@@ -2,6 +2,5 @@
 use Rattle.listed_pairs.proofs.Skipping.{then_below}
 use Rattle.listed_pairs.proofs.pass_below.Goals as goal
 
-pub returns : goal.returns
-returns c =
-    then_below c.skip-at.ensures c.below.ensures
+pub returns-clause-passes : goal.returns-clause-passes
+returns-clause-passes c = then_below c.skip.ensures.skips (rw c.skip.ensures.same at c.below.ensures.below)

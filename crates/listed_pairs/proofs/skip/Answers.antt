@@ -2,5 +2,5 @@
 use Rattle.listed_pairs.proofs.Pairing.{skips}
 use Rattle.listed_pairs.proofs.skip.Goals as goal
 
-pub returns : goal.returns
-returns c = skips c.gather-g.ensures
+pub returns-clause-skips : goal.returns-clause-skips
+returns-clause-skips c = skips c.gather.ensures.gathers

@@ -22,12 +22,6 @@ add_conn-requires c = (
       c.loop-i-test.true).1,
 )
 
-pub overflow_add-i : goal.overflow_add-i
-overflow_add-i c = omega (arith, c.loop-i-test.true)
-
-pub loop-i-smaller : goal.loop-i-smaller
-loop-i-smaller c = omega (arith, c.loop-i-test.true)
-
 pub loop-i-preserved : goal.loop-i-preserved
 loop-i-preserved c = filling_more c.requires.0
     c.loop-i.invariant c.loop-i-test.true

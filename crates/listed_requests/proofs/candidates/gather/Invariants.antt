@@ -1,4 +1,4 @@
--- `listed_requests::candidates::gather` meets its contract. The loop's invariant: the candidates before the index are gathered.
+-- `listed_requests::candidates::gather` meets its contract. The loop's invariant: the candidates of the lines that were taken are gathered.
 use Prim.Native.Nat.{◌≤◌, ◌-◌}
 use mathlib.Core.Path.{◌≡◌}
 use lib.ListN.{length}
@@ -6,11 +6,10 @@ use Rattle.listed_requests.specs.Given.{key_with, most_gathered}
 use Rattle.listed_requests.proofs.Gathering.{Gone}
 use Rattle.listed_requests.proofs.candidates.gather.Given as goal
 
-abbrev pub invariant-loop-at : goal.invariant-loop-at
-invariant-loop-at l =
-    (l.at ≤ length l.text) × (l.from ≤ l.at) × (l.i ≤ most_gathered) × (length l.conns ≡ length l.initial.conns) × (length l.wtxids ≡ length l.initial.wtxids)
-    × (length l.parents ≡ length l.initial.parents)
-    × Gone l.text l.from (key_with l.kind l.hash) l.n l.initial.conns l.conns l.i l.fit l.at
+abbrev pub invariant-loop-c : goal.invariant-loop-c
+invariant-loop-c l =
+    (l.lines.text ≡ l.initial.lines.text) × (l.initial.lines.at ≤ l.lines.at) × (l.count ≤ most_gathered)
+    × Gone l.lines.text.now l.initial.lines.at (key_with l.kind l.hash) l.n l.initial.conns l.conns l.count l.fit l.lines.at
 
-abbrev pub decreases-loop-at : goal.decreases-loop-at
-decreases-loop-at l = length l.text - l.at
+abbrev pub decreases-loop-c : goal.decreases-loop-c
+decreases-loop-c l = length l.lines.text.now - l.lines.at

@@ -5,10 +5,10 @@ use lib.ListN.{length}
 use Rattle.listed_requests.proofs.Advancing.{Underway}
 use Rattle.listed_requests.proofs.each.each_fits.Given as goal
 
-abbrev pub invariant-loop-at : goal.invariant-loop-at
-invariant-loop-at l =
-    (l.at ≤ length l.text) × (length l.wtxids ≡ length l.initial.wtxids) × (length l.parents ≡ length l.initial.parents) × (length l.conns ≡ 8) × (l.p.held ≤ l.limit) × (l.p.taken ≤ l.places)
-    × Underway l.text l.from l.limit l.places l.p l.at
+abbrev pub invariant-loop-lines : goal.invariant-loop-lines
+invariant-loop-lines l =
+    (l.lines.text ≡ l.initial.lines.text) × (l.pass.held ≤ l.limit) × (l.pass.taken ≤ l.places)
+    × Underway l.lines.text.now l.initial.lines.at l.limit l.places l.pass l.lines.at
 
-abbrev pub decreases-loop-at : goal.decreases-loop-at
-decreases-loop-at l = length l.text - l.at
+abbrev pub decreases-loop-lines : goal.decreases-loop-lines
+decreases-loop-lines l = length l.lines.text.now - l.lines.at

@@ -1,12 +1,11 @@
 -- `listed_requests::each::rises` meets its contract.
-use borrow.Author.Tests.{not-true, not-false}
-use Rattle.listed_requests.specs.Given.{key_with}
-use Rattle.listed_requests.proofs.Advancing.{first_key, next_key}
+use mathlib.Core.Path.{sym, ◌∙◌}
+use native.Mathlib.Omega.{arith}
+use borrow.Author.Tests.{le-leb}
 use Rattle.listed_requests.proofs.each.rises.Goals as goal
 
-pub returns-then-not-p : goal.returns-then-not-p
-returns-then-not-p c = first_key c.args.p (key_with c.args.kind c.args.hash) (not-true _ c.if-not-p.true)
+pub returns-in-None : goal.returns-in-None
+returns-in-None c = rw c.in-None.is (sym (le-leb 0 _ (omega arith)))
 
-pub returns : goal.returns
-returns c =
-    next_key c.args.p (key_with c.args.kind c.args.hash) (not-false _ c.if-not-p.false) c.comes_before.ensures
+pub returns-in-Some : goal.returns-in-Some
+returns-in-Some c = rw c.in-Some.is c.comes_before.ensures

@@ -11,7 +11,7 @@ returns-then-not-sizes_taken c = bad-sizes (sym c.sizes_taken.ensures ∙ not-tr
 pub each_fits-requires : goal.each_fits-requires
 each_fits-requires c =
     let g = sym c.sizes_taken.ensures ∙ not-false _ c.if-not-sizes_taken.false-raw in
-    (c.requires.0, taken-limit c.args.h.limit c.args.h.places g, taken_places c.args.h.limit c.args.h.places g, c.requires.1, c.requires.2)
+    (taken-limit c.args.h.limit c.args.h.places g, taken_places c.args.h.limit c.args.h.places g)
 
 pub returns-then-not-each_fits : goal.returns-then-not-each_fits
 returns-then-not-each_fits c = bad_local c.each_fits.ensures (not-true _ c.if-not-each_fits.true-raw)

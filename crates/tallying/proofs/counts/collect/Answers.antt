@@ -15,12 +15,6 @@ count-m-requires c = (
   collecting_more c.loop-j.invariant.0 c.requires.1 c.loop-j-test.true,
 )
 
-pub overflow_add-j : goal.overflow_add-j
-overflow_add-j c = omega (arith, c.requires.0, c.loop-j-test.true)
-
-pub loop-j-smaller : goal.loop-j-smaller
-loop-j-smaller c = omega (arith, c.loop-j-test.true)
-
 pub loop-j-preserved : goal.loop-j-preserved
 loop-j-preserved c = (
   collecting_next c.loop-j.invariant.0 c.loop-j-test.true c.count-m.ensures.0

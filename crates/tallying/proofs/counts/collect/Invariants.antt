@@ -8,6 +8,3 @@ use Rattle.tallying.proofs.counts.collect.Given as goal
 
 abbrev pub invariant-loop-j : goal.invariant-loop-j
 invariant-loop-j l = Collecting (words l.initial.r) (words l.r) l.n l.m l.j × (length l.r ≡ length l.initial.r)
-
-abbrev pub decreases-loop-j : goal.decreases-loop-j
-decreases-loop-j l = l.n - l.j

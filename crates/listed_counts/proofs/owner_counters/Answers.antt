@@ -1,8 +1,0 @@
--- `listed_counts::owner_counters` meets its contract.
-use mathlib.Core.Path.{refl}
-use Rattle.heavy.specs.Counters.{sum}
-use Rattle.listed_counts.proofs.owner_counters.Goals as goal
-
-pub returns : goal.returns
-unfolding sum
-returns c = (refl, refl)

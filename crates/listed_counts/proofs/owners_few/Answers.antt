@@ -1,7 +1,0 @@
--- `listed_counts::owners_few` meets its contract.
-use Rattle.listed_counts.proofs.Tables.{verdict_with}
-use Rattle.listed_counts.proofs.owners_few.Goals as goal
-
-pub returns : goal.returns
-returns c =
-    verdict_with c.owner_counters-counts.ensures.0 c.none_often.ensures
