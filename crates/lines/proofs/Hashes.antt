@@ -1,17 +1,17 @@
 -- Hashes digit by digit: one more hexadecimal digit, one fewer.
 use Prim.Native.Nat.{ℕ, ◌+◌, ◌*◌, ◌/◌, ◌%◌, ◌^◌, ◌<◌, ◌≤◌}
-use mathlib.Core.Path.{◌≡◌, refl, sym, ◌∙◌}
-use mathlib.Core.Bool.{false, ◌&&◌}
-use mathlib.Core.Logic.{inl, inr}
+use mathlib.Core.Path.{◌≡◌, refl, sym, ap, ◌∙◌}
+use mathlib.Core.Bool.{false}
+use mathlib.Core.Option.{none, some}
 use native.Mathlib.Nat.{pos_of_ne-zero}
 use native.Mathlib.Omega.{arith}
 use lib.Dec.{ltb}
-use borrow.Author.Tests.{lt-ltb, le-ltb, ltb-true, ltb-false}
+use borrow.Author.Tests.{lt-ltb, le-ltb}
 use Rattle.ident.specs.Number.{top}
 use Rattle.regions.specs.declared.Quad.{Quad}
 use Rattle.regions.specs.Rows.{quad_number}
 use Rattle.regions.proofs.Order.{Small, four, quad_four}
-use Rattle.machine.proofs.Tests.{test}
+use Rattle.lines.specs.Values.{with_digit}
 
 -- 2^256, a digit at a time
 top_digits : top ≡ 2 ^ 64 * (2 ^ 64 * (2 ^ 64 * 2 ^ 60)) * 16
@@ -41,30 +41,32 @@ module _ (q : Quad) (s : Small q) (d : ℕ) (h : d < 16) where
   unfolding four
   no_room l = rw (quad_four q, top_digits) (with_above d (below q.w0 (below q.w1 (below q.w2 l))))
 
-  pub room_is : ltb q.w3 (2 ^ 60) ≡ (ltb d 16 && ltb (quad_number q * 16 + d) top)
-  room_is = elim (test (ltb q.w3 (2 ^ 60))) [
-    | inl t ↦ rw (t, lt-ltb d 16 h, lt-ltb (quad_number q * 16 + d) top (room_for (ltb-true q.w3 (2 ^ 60) t)))
-    | inr t ↦ rw (t, lt-ltb d 16 h, le-ltb (quad_number q * 16 + d) top (no_room (ltb-false q.w3 (2 ^ 60) t)))
-  ]
+  pub hash_full : 2 ^ 60 ≤ q.w3 → none ≡ with_digit 16 top (quad_number q) d
+  hash_full l = rw (lt-ltb d 16 h, le-ltb (quad_number q * 16 + d) top (no_room l))
 
-  pub room-w3 : quad_number q * 16 + d < top → q.w3 < 2 ^ 60
-  room-w3 l = elim (test (ltb q.w3 (2 ^ 60))) [
-    | inl t ↦ ltb-true q.w3 (2 ^ 60) t
-    | inr t ↦ let g = no_room (ltb-false q.w3 (2 ^ 60) t) in absurd (omega arith)
-  ]
+  room-is : q.w3 < 2 ^ 60 → with_digit 16 top (quad_number q) d ≡ some (quad_number q * 16 + d)
+  room-is l = rw (lt-ltb d 16 h, lt-ltb (quad_number q * 16 + d) top (room_for l))
 
 -- a word takes a digit from below, and hands its highest on
 carry : (w x d : ℕ) → (w % 2 ^ 60 * 16 + d) + 2 ^ 64 * (x * 16 + w / 2 ^ 60) ≡ (w + 2 ^ 64 * x) * 16 + d
 carry w x d = omega arith
 
-pub with-digit : (q : Quad) (d : ℕ) →
+with-digit : (q : Quad) (d : ℕ) →
     quad_number (record { w0 = q.w0 % 2 ^ 60 * 16 + d; w1 = q.w1 % 2 ^ 60 * 16 + q.w0 / 2 ^ 60; w2 = q.w2 % 2 ^ 60 * 16 + q.w1 / 2 ^ 60; w3 = q.w3 * 16 + q.w2 / 2 ^ 60 })
     ≡ quad_number q * 16 + d
 unfolding four
 with-digit q d =
     quad_four _ ∙ rw (carry q.w2 q.w3 (q.w1 / 2 ^ 60), carry q.w1 (q.w2 + 2 ^ 64 * q.w3) (q.w0 / 2 ^ 60), carry q.w0 (q.w1 + 2 ^ 64 * (q.w2 + 2 ^ 64 * q.w3)) d, quad_four q)
 
--- ---- a hash of one digit
+pub has_room : (q : Quad) → Small q → (d : ℕ) → d < 16 → q.w3 < 2 ^ 60 →
+    some (quad_number (record { w0 = q.w0 % 2 ^ 60 * 16 + d; w1 = q.w1 % 2 ^ 60 * 16 + q.w0 / 2 ^ 60; w2 = q.w2 % 2 ^ 60 * 16 + q.w1 / 2 ^ 60; w3 = q.w3 * 16 + q.w2 / 2 ^ 60 }))
+    ≡ with_digit 16 top (quad_number q) d
+has_room q s d h l = ap some (with-digit q d) ∙ sym (room-is q s d h l)
+
+pub no_digit : (m n d : ℕ) → 16 ≤ d → none ≡ with_digit 16 m n d
+no_digit m n d h = rw (le-ltb d 16 h)
+
+-- ---- a hash of no digit
 
 pub quad_low : (d : ℕ) → quad_number (record { w0 = d; w1 = 0; w2 = 0; w3 = 0 }) ≡ d
 unfolding four

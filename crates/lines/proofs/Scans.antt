@@ -1,59 +1,103 @@
--- A field read byte by byte, the loop of every reader of numbers.
-use Prim.Native.Nat.{ℕ, suc, ◌+◌, ◌-◌, ◌*◌, ◌/◌, ◌<◌, ◌≤◌}
-use mathlib.Core.Path.{◌≡◌}
+-- A field read digit by digit.
+use Prim.Native.Nat.{ℕ, suc, ◌+◌, ◌*◌, ◌<◌, ◌≤◌}
+use mathlib.Core.Path.{◌≡◌, refl, sym, ◌∙◌}
 use mathlib.Core.Bool.{Bool, true, false, ◌&&◌}
 use mathlib.Core.Logic.{inl, inr}
 use mathlib.Core.List.{List, [], ◌∷◌}
-use mathlib.Core.Option.{none, some}
+use mathlib.Core.Option.{Option, none, some}
 use native.Mathlib.Numerals.{add-one}
 use native.Mathlib.Omega.{arith}
-use lib.Dec.{ltb, leb}
+use lib.Dec.{ltb}
 use lib.ListN.{length, drop, get_or, drop_of_length-le}
 use lib.Seq.{drop-cons}
-use borrow.Author.Tests.{lt-ltb, le-ltb, leb-true, leb-false, ltb-true}
+use borrow.Author.Tests.{lt-ltb, le-ltb, ltb-true, ltb-false}
 use Rattle.machine.proofs.Tests.{test, and_left, and_right}
-use Rattle.machine.specs.Fields.{digit_of, further, numeral_of}
+use Rattle.machine.specs.Fields.{digit_of, follows, further, numeral_of}
+use Rattle.lines.specs.Values.{with_digit}
 use Rattle.machine.proofs.Numerals.{further_step, further_stop, further_end, numeral_of_first, numeral_of_not, numeral_of-empty}
 
 pub scan-empty : (b m : ℕ) (f : List ℕ) → length f ≡ 0 → numeral_of b m f ≡ none
 scan-empty b m [] e = numeral_of-empty b m
 scan-empty b m (c ∷ f) e = absurd (omega arith)
 
-pub scan_not : (b m : ℕ) (f : List ℕ) (d : ℕ) → 0 < length f → d ≡ digit_of (get_or f 0 0) → b ≤ d → numeral_of b m f ≡ none
-scan_not b m [] d l e h = absurd (omega arith)
-scan_not b m (c ∷ f) d l e h = numeral_of_not b m c f (omega arith)
+-- ---- one digit more
 
-pub scan_start : (b m : ℕ) (f : List ℕ) (d : ℕ) → 0 < length f → d ≡ digit_of (get_or f 0 0) → d < b → numeral_of b m f ≡ further b m d (drop 1 f)
-scan_start b m [] d l e h = absurd (omega arith)
-scan_start b m (c ∷ f) d l e h = rw e (numeral_of_first b m c f (omega arith))
+digit-added : (b m n d : ℕ) → (ltb d b && ltb (n * b + d) m) ≡ true → (d < b) × (n * b + d < m)
+digit-added b m n d t = (ltb-true d b (and_left (ltb d b) _ t), ltb-true (n * b + d) m (and_right (ltb d b) _ t))
 
-module _ (b m : ℕ) (f : List ℕ) (a i : ℕ) where
-  pub scan_end : length f ≤ i → further b m a (drop i f) ≡ some a
-  scan_end h = rw (drop_of_length-le f h) (further_end b m a)
-
-  module _ (h : i < length f) {d : ℕ} (e : d ≡ digit_of (get_or f i 0)) where
-    pub scan-zero : a ≡ 0 → further b m a (drop i f) ≡ none
-    scan-zero z = rw (drop-cons f i 0 h) (further_stop b m a (get_or f i 0) (drop (suc i) f) (rw (le-ltb 0 a (omega arith))))
-
-    pub scan_stop : 0 < a → (ltb d b && ltb (a * b + d) m) ≡ false → further b m a (drop i f) ≡ none
-    scan_stop p t = rw (drop-cons f i 0 h) (further_stop b m a (get_or f i 0) (drop (suc i) f) (rw (lt-ltb 0 a p, ← e) t))
-
-    pub scan_step : 0 < a → (ltb d b && ltb (a * b + d) m) ≡ true → further b m a (drop i f) ≡ further b m (a * b + d) (drop (i + 1) f)
-    scan_step p t = rw (drop-cons f i 0 h, add-one, e) (further_step b m a (get_or f i 0) (drop (suc i) f) (rw (lt-ltb 0 a p, ← e) t))
-
--- ---- one more decimal digit below a limit
-
-pub no_digit : (d b : ℕ) (t : Bool) → b ≤ d → false ≡ (ltb d b && t)
-no_digit d b t h = rw (le-ltb d b h)
-
-pub fits_below : (a d most : ℕ) → (ltb d 10 && ltb (a * 10 + d) (most + 1)) ≡ true → a * 10 + d ≤ most
-fits_below a d most t = let l = ltb-true (a * 10 + d) (most + 1) (and_right (ltb d 10) _ t) in omega arith
-
-pub room : (a d most : ℕ) → 9 ≤ most → d < 10 → leb a ((most - d) / 10) ≡ (ltb d 10 && ltb (a * 10 + d) (most + 1))
-room a d most n h = elim (test (leb a ((most - d) / 10))) [
-  | inl t ↦ let l = leb-true a ((most - d) / 10) t in rw (t, lt-ltb d 10 h, lt-ltb (a * 10 + d) (most + 1) (omega arith))
-  | inr t ↦ let l = leb-false a ((most - d) / 10) t in rw (t, lt-ltb d 10 h, le-ltb (a * 10 + d) (most + 1) (omega arith))
+refused : (b m n d : ℕ) → none ≡ with_digit b m n d → (ltb d b && ltb (n * b + d) m) ≡ false
+refused b m n d e = elim (test (ltb d b && ltb (n * b + d) m)) [
+  | inl t ↦ absurd (none-some_lem (n * b + d) (rw t at e))
+  | inr t ↦ t
 ]
+  where
+    none-some_lem : (x : ℕ) → ◌≡◌ {A = Option ℕ} none (some x) → ⊥
+    none-some_lem x z = cc
 
-pub digit_room : (x d m : ℕ) → (ltb d 16 && ltb (x * 16 + d) m) ≡ true → (d < 16) × (x * 16 + d < m)
-digit_room x d m t = (ltb-true d 16 (and_left (ltb d 16) _ t), ltb-true (x * 16 + d) m (and_right (ltb d 16) _ t))
+added : (b m n d x : ℕ) → some x ≡ with_digit b m n d → ((ltb d b && ltb (n * b + d) m) ≡ true) × (x ≡ n * b + d)
+added b m n d x e = elim (test (ltb d b && ltb (n * b + d) m)) [
+  | inl t ↦ (t, same_some (rw t at e))
+  | inr t ↦ absurd (some-none_lem (rw t at e))
+]
+  where
+    same_some : ◌≡◌ {A = Option ℕ} (some x) (some (n * b + d)) → x ≡ n * b + d
+    same_some z = cc
+
+    some-none_lem : ◌≡◌ {A = Option ℕ} (some x) none → ⊥
+    some-none_lem z = cc
+
+clash : true ≡ false → ⊥
+clash e = cc
+
+-- ---- the loop of the reader of numbers and hashes
+
+module _ (b m : ℕ) {f r : List ℕ} where
+  module _ {c : ℕ} (g : f ≡ c ∷ r) where
+    pub first_none : b ≤ 16 → 16 ≡ digit_of c → none ≡ numeral_of b m f
+    first_none h e = rw g (sym (numeral_of_not b m c r (omega arith)))
+
+    module _ (l : b ≤ m) {z d : ℕ} (e : d ≡ digit_of c) (o : z ≡ 0) where
+      below_limit : d < b → (ltb d b && ltb (z * b + d) m) ≡ true
+      below_limit h = rw (o, lt-ltb d b h, lt-ltb (0 * b + d) m (omega arith))
+
+      pub first_refused : none ≡ with_digit b m z d → none ≡ numeral_of b m f
+      first_refused w = elim (test (ltb d b)) [
+        | inl t ↦ let u : ◌≡◌ {A = Bool} true false = sym (below_limit (ltb-true d b t)) ∙ refused b m z d w in absurd (clash u)
+        | inr t ↦ let u = ltb-false d b t in rw g (sym (numeral_of_not b m c r (omega arith)))
+      ]
+
+      pub first_read : {n : ℕ} → some n ≡ with_digit b m z d → (n ≡ d) × (numeral_of b m f ≡ further b m n r)
+      first_read {n} w =
+          let p = added b m z d n w in
+          let h = digit-added b m z d p.0 in
+          let q : n ≡ d = omega (arith, rw o at p.1) in
+          (q, rw (g, q, e) (numeral_of_first b m c r (omega (arith, h.0))))
+
+module _ (b m : ℕ) (f r : List ℕ) (a i : ℕ) where
+  module _ (v : numeral_of b m f ≡ further b m a (drop i r)) where
+    pub all_read : length r ≤ i → some a ≡ numeral_of b m f
+    all_read h = sym (v ∙ rw (drop_of_length-le r h) (further_end b m a))
+
+    module _ (h : i < length r) where
+      stops : follows b m a (get_or r i 0) ≡ false → none ≡ numeral_of b m f
+      stops t = sym (v ∙ rw (drop-cons r i 0 h) (further_stop b m a (get_or r i 0) (drop (suc i) r) t))
+
+      pub zero_first : a ≡ 0 → none ≡ numeral_of b m f
+      zero_first z = stops (rw (le-ltb 0 a (omega arith)))
+
+      pub next_none : b ≤ 16 → 16 ≡ digit_of (get_or r i 0) → none ≡ numeral_of b m f
+      next_none l e = stops (rw (le-ltb (digit_of (get_or r i 0)) b (omega arith)) (and-false (ltb 0 a)))
+        where
+          and-false : (p : Bool) → (p && false) ≡ false
+          and-false true = refl
+          and-false false = refl
+
+      module _ (o : 0 < a) {d : ℕ} (e : d ≡ digit_of (get_or r i 0)) where
+        pub next_refused : none ≡ with_digit b m a d → none ≡ numeral_of b m f
+        next_refused w = stops (rw (lt-ltb 0 a o, ← e) (refused b m a d w))
+
+        pub next_read : {n : ℕ} → some n ≡ with_digit b m a d → (0 < n) × (numeral_of b m f ≡ further b m n (drop (i + 1) r))
+        next_read {n} w =
+            let p = added b m a d n w in
+            let u = digit-added b m a d p.0 in
+            (grind (arith, u.0, p.1), v ∙ rw (drop-cons r i 0 h, add-one, p.1, e) (further_step b m a (get_or r i 0) (drop (suc i) r) (rw (lt-ltb 0 a o, ← e) p.0)))

@@ -1,13 +1,14 @@
 -- Text written into bytes, and text behind text.
-use Prim.Native.Nat.{ℕ, suc, ◌+◌, ◌/◌, ◌%◌, ◌^◌, ◌<◌, ◌≤◌}
+use Prim.Native.Nat.{ℕ, suc, ◌+◌, ◌-◌, ◌/◌, ◌%◌, ◌^◌, ◌<◌, ◌≤◌}
 use mathlib.Core.Path.{◌≡◌, refl, sym, ap, ◌∙◌}
 use mathlib.Core.List.{List, [], ◌∷◌, ◌++◌}
 use native.Mathlib.Nat.{lt_of_lt_of_le, add-zero}
 use native.Mathlib.Numerals.{add-one}
 use native.Mathlib.Omega.{arith}
 use lib.Dec.{lit<, lit≤}
-use lib.ListN.{length, take, set, get_or, take-append-drop, length-append}
-use lib.Seq.{set_split, take-suc, take_all}
+use lib.ListN.{length, set, take-append-drop, length-append}
+use lib.Seq.{set_split, drop-drop}
+use borrow.Rule.Slice.PartMut.{put_mid}
 use Rattle.ident.specs.declared.Kind.{Kind}
 use Rattle.words.specs.Words.{splice}
 use Rattle.words.proofs.Splice.{length-splice, splice_more}
@@ -55,20 +56,17 @@ module _ (b k : ℕ) (two : 1 < b) (small : b ≤ 16) (s : List ℕ) (a n : ℕ)
 pub decimal-fits : {n : ℕ} → n < 2 ^ 64 → n < 10 ^ 20
 decimal-fits h = lt_of_lt_of_le h (lit≤ tt)
 
--- ---- bytes, one after the other
+-- ---- bytes
 
+-- copied into a part of the bytes
+pub wrote_part : (s : List ℕ) (a : ℕ) (t : List ℕ) {x : List ℕ} → x ≡ t → Wrote s (put_mid a (a + length t - a) s x) a t (a + length t)
+unfolding splice
+wrote_part s a t e = let n : a + length t - a ≡ length t = omega arith in record { bytes = rw (e, n, drop-drop) refl; next = refl }
+
+-- none yet
 pub wrote_none : (s : List ℕ) (a : ℕ) → Wrote s s a [] (a + 0)
 unfolding splice
 wrote_none s a = record { bytes = sym (rw (add-zero a) (take-append-drop a s)); next = refl }
-
-pub wrote_next : (t : List ℕ) {s₀ s : List ℕ} {a i : ℕ} → i < length t → a + length t ≤ length s₀ → Wrote s₀ s a (take i t) (a + i) → length s ≡ length s₀
-    → Wrote s₀ (set s (a + i) (get_or t i 0)) a (take (i + 1) t) (a + (i + 1))
-wrote_next t {s₀} {s} {a} {i} h r p e =
-    let f : a + (i + 1) ≡ a + i + 1 = omega arith in
-    rw (f, add-one i, take-suc t i 0 h) (wrote_more p (wrote-byte s (a + i) (get_or t i 0) (omega arith)) (omega arith))
-
-pub wrote_all : (t : List ℕ) {s₀ s : List ℕ} {a i : ℕ} → length t ≤ i → Wrote s₀ s a (take i t) (a + i) → Wrote s₀ s a t (a + i)
-wrote_all t {s₀} {s} {a} {i} g p = let e : take i t ≡ t = take_all i t g in record { bytes = p.bytes ∙ rw e; next = p.next ∙ rw e }
 
 -- ---- hashes
 

@@ -1,26 +1,20 @@
 // Decimal and hexadecimal digits: the value of a byte and the byte of a value, one function each way, by comparison and plain arithmetic (document 02,
 // request f). No table of digits is kept; machine/specs/Digits says which bytes are digits, with what value, and each value's digit.
-ghost use Rattle.std.specs.Prelude.{◌≡◌, ◌<◌};
+ghost use Rattle.std.specs.Prelude.{◌≡◌, ◌<◌, unwrap_or, IfSome};
 ghost use Rattle.machine.specs.Fields.{digit_of};
 ghost use Rattle.machine.specs.Text.{digit_text};
 
-// The digit of a byte, 16 for a byte that is none.
-pub fn value(c: u8) -> u64
-    ensures { result ≡ digit_of c }
+// The digit of a byte; the definition gives 16 for a byte that is none.
+#[tactic(auto, unfolding(machine::specs::Fields::digit_of))]
+pub fn value(c: u8) -> Option<u64>
+    ensures digit { unwrap_or result 16 ≡ digit_of c }
+    ensures below { IfSome result (λ d. d < 16) }
 {
-    if c < b'0' {
-        return 16;
+    match c {
+        b'0'..=b'9' => Some((c - b'0') as u64),
+        b'a'..=b'f' => Some((c - b'a') as u64 + 10),
+        _ => None,
     }
-    if c <= b'9' {
-        return (c - b'0') as u64;
-    }
-    if c < b'a' {
-        return 16;
-    }
-    if c <= b'f' {
-        return (c - b'a') as u64 + 10;
-    }
-    16
 }
 
 // The byte of a digit below 16.

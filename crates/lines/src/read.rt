@@ -1,9 +1,10 @@
 // Fields of a line, each a part of its bytes, as values.
-ghost use Rattle.std.specs.Prelude.{◌≡◌, ◌&&◌, ◌+◌, ◌*◌, ◌<◌, ◌≤◌, ltb, length, drop};
+ghost use Rattle.std.specs.Prelude.{ℕ, ◌≡◌, ◌+◌, ◌^◌, ◌≤◌, length, drop};
+ghost use lib.Dec.{lit≤};
 ghost use Rattle.regions.specs.Rows.{quad_number};
 ghost use Rattle.ident.specs.Number.{top};
 ghost use Rattle.machine.specs.Fields.{numeral_of, number_of, type_of, hash_of, bool_of, kind_of, key_of, letter_kind, other_kind, other_of, item_of, same_text, before};
-ghost use Rattle.lines.specs.Values.{value_in, number_in, hash_in, bool_in, key_in, item_kind_in, item_in};
+ghost use Rattle.lines.specs.Values.{value_in, with_digit, sixteen-top, number_in, hash_in, bool_in, key_in, item_kind_in, item_in};
 
 use crate::digits::value;
 
@@ -14,104 +15,138 @@ pub struct Named<K> {
     pub hash: regions::Quad,
 }
 
-// ---- Numbers
+// ---- Numbers and hashes
 
-// Whether d is a decimal digit, and a number that ends in it, behind the digits of a, is at most `most`.
-fn has_room(a: u64, d: u64, most: u64) -> bool
-    requires { 9 ≤ most }
-    ensures { result ≡ (ltb d 10 && ltb (a * 10 + d) (most + 1)) }
-{
-    if 10 <= d {
-        return false;
-    }
-    a <= (most - d) / 10
+// A number that is read digit by digit, the highest first.
+trait Numeral: Copy {
+    ghost number: { Self → ℕ };
+
+    ghost base: { ℕ };
+
+    ghost limit: { ℕ };
+
+    fn zero() -> Self
+        ensures { number result ≡ 0 };
+
+    // The number with one digit more, if there is such a digit in its base, and the number stays below its limit.
+    fn with_digit(self, digit: u64) -> Option<Self>
+        ensures { value_in number result ≡ with_digit base limit (number self) digit };
+
+    ghost base_in: { base ≤ 16 };
+
+    ghost limit_in: { base ≤ limit };
 }
 
-// A decimal number that is at most `most`.
-fn decimal(f: &[u8], most: u64) -> Option<u64>
-    requires { 9 ≤ most }
-    ensures { number_in result ≡ numeral_of 10 (most + 1) f.now }
+impl Numeral for u64 {
+    ghost number = { λ n. n };
+
+    ghost base = { 10 };
+
+    ghost limit = { 2 ^ 64 };
+
+    ghost base_in = { lit≤ tt };
+
+    ghost limit_in = { lit≤ tt };
+
+    fn zero() -> Self {
+        0
+    }
+
+    fn with_digit(self, digit: u64) -> Option<Self> {
+        if 10 <= digit {
+            return None;
+        }
+        self.checked_mul(10)?.checked_add(digit)
+    }
+}
+
+// The type of an item.
+impl Numeral for u32 {
+    ghost number = { λ n. n };
+
+    ghost base = { 10 };
+
+    ghost limit = { 2 ^ 32 };
+
+    ghost base_in = { lit≤ tt };
+
+    ghost limit_in = { lit≤ tt };
+
+    fn zero() -> Self {
+        0
+    }
+
+    fn with_digit(self, digit: u64) -> Option<Self> {
+        let n = u64::from(self).with_digit(digit)?;
+        u32::try_from(n).ok()
+    }
+}
+
+// The weight of a word's highest hexadecimal digit.
+pub const HIGH_DIGIT: u64 = 0x1000_0000_0000_0000;
+
+impl Numeral for regions::Quad {
+    ghost number = { quad_number };
+
+    ghost base = { 16 };
+
+    ghost limit = { top };
+
+    ghost base_in = { lit≤ tt };
+
+    ghost limit_in = { sixteen-top };
+
+    fn zero() -> Self {
+        regions::Quad {
+            w0: 0,
+            w1: 0,
+            w2: 0,
+            w3: 0,
+        }
+    }
+
+    fn with_digit(self, digit: u64) -> Option<Self> {
+        if 16 <= digit {
+            return None;
+        }
+        if HIGH_DIGIT <= self.w3 {
+            return None;
+        }
+        Some(regions::Quad {
+            w0: self.w0 % HIGH_DIGIT * 16 + digit,
+            w1: self.w1 % HIGH_DIGIT * 16 + self.w0 / HIGH_DIGIT,
+            w2: self.w2 % HIGH_DIGIT * 16 + self.w1 / HIGH_DIGIT,
+            w3: self.w3 * 16 + self.w2 / HIGH_DIGIT,
+        })
+    }
+}
+
+// What the digits of f write; no digit follows a leading zero.
+fn digits_of<N: Numeral>(f: &[u8]) -> Option<N>
+    ensures { value_in N.number result ≡ numeral_of N.base N.limit f.now }
 {
-    if f.len() == 0 {
-        return None;
-    }
-    let mut a = value(f[0]);
-    if 10 <= a {
-        return None;
-    }
-    for i in 1..f.len() {
-        let d = value(f[i]);
-        if a == 0 {
+    let (&first, rest) = f.split_first()?;
+    let first = value(first)?;
+    let mut n = N::zero().with_digit(first)?;
+    for &c in rest {
+        if first == 0 {
             return None;
         }
-        if !has_room(a, d, most) {
-            return None;
-        }
-        a = a * 10 + d;
+        n = n.with_digit(value(c)?)?;
     }
-    Some(a)
+    Some(n)
 }
 
 pub fn number(f: &[u8]) -> Option<u64>
     ensures { number_in result ≡ number_of f.now }
 {
-    decimal(f, u64::MAX)
-}
-
-// ---- Hashes
-
-// The weight of a word's highest hexadecimal digit.
-pub const HIGH_DIGIT: u64 = 0x1000_0000_0000_0000;
-
-// Whether d is a hexadecimal digit, and four words hold a number that ends in it, behind the digits of q.
-fn hash_has_room(q: regions::Quad, d: u64) -> bool
-    ensures { result ≡ (ltb d 16 && ltb (quad_number q * 16 + d) top) }
-{
-    if 16 <= d {
-        return false;
-    }
-    q.w3 < HIGH_DIGIT
-}
-
-fn with_digit(q: regions::Quad, d: u64) -> regions::Quad
-    requires { (d < 16) × (quad_number q * 16 + d < top) }
-    ensures { quad_number result ≡ quad_number q * 16 + d }
-{
-    regions::Quad {
-        w0: q.w0 % HIGH_DIGIT * 16 + d,
-        w1: q.w1 % HIGH_DIGIT * 16 + q.w0 / HIGH_DIGIT,
-        w2: q.w2 % HIGH_DIGIT * 16 + q.w1 / HIGH_DIGIT,
-        w3: q.w3 * 16 + q.w2 / HIGH_DIGIT,
-    }
+    digits_of(f)
 }
 
 pub fn hash(f: &[u8]) -> Option<regions::Quad>
     ensures { hash_in result ≡ hash_of f.now }
 {
-    if f.len() == 0 {
-        return None;
-    }
-    let first = value(f[0]);
-    if 16 <= first {
-        return None;
-    }
-    let mut q = regions::Quad {
-        w0: first,
-        w1: 0,
-        w2: 0,
-        w3: 0,
-    };
-    for i in 1..f.len() {
-        let d = value(f[i]);
-        if first == 0 {
-            return None;
-        }
-        if !hash_has_room(q, d) {
-            return None;
-        }
-        q = with_digit(q, d);
-    }
-    Some(q)
+    digits_of(f)
 }
 
 // ---- Bools, keys, items
@@ -165,8 +200,7 @@ fn letter_kind(c: u8) -> Option<ident::ItemKind>
 fn other_kind(f: &[u8]) -> Option<ident::ItemKind>
     ensures { item_kind_in result ≡ other_kind (type_of f.now) }
 {
-    let n = decimal(f, 0xffff_ffff)?;
-    let k = ident::ItemKind::Other(n as u32);
+    let k = ident::ItemKind::Other(digits_of(f)?);
     if !ident::is_plain(k) {
         return None;
     }
@@ -228,13 +262,5 @@ pub fn field_end(line: &[u8], from: usize) -> usize
 pub fn same(s: &[u8], t: &[u8]) -> bool
     ensures { result ≡ same_text s.now t.now }
 {
-    if s.len() != t.len() {
-        return false;
-    }
-    for i in 0..s.len() {
-        if s[i] != t[i] {
-            return false;
-        }
-    }
-    true
+    s == t
 }

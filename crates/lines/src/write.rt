@@ -66,12 +66,9 @@ pub fn put_bytes(s: &mut [u8], a: usize, t: &[u8]) -> usize
     requires { a + length t.now ≤ length s.old }
     ensures { Wrote s.old s.new a t.now result }
 {
-    let mut i = 0;
-    while i < t.len() {
-        s[a + i] = t[i];
-        i += 1;
-    }
-    a + i
+    let end = a + t.len();
+    s[a..end].copy_from_slice(t);
+    end
 }
 
 fn kind_letter(k: ident::Kind) -> u8
