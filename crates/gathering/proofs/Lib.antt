@@ -7,7 +7,6 @@ pub mod Raising
 pub mod InOrder
 pub mod Looking
 pub mod Faring
-pub mod ItemKeys
 pub mod Arriving
 pub mod Exchanging
 pub mod Deferral

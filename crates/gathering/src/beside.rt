@@ -112,21 +112,8 @@ pub fn set_aside(s: &[u8], new: &mut [u8], m: usize, c: requests::Candidate) -> 
     requires { Kept s.now × (8 * (row_size * space) ≤ length new.old) × (m ≤ space) }
     ensures { SetAside s.now (words new.old) (words new.new) m (key_of (item_num c.item)) (candidate_of c) result }
 {
-    let item = c.item;
-    let kind = item.kind;
-    let h = item.hash;
-    match kind {
-        ident::ItemKind::Transaction => {
-            return set_aside_at(s, new, m, ident::Key::from(ident::Txid(h)), c);
-        }
-        ident::ItemKind::WitnessTransaction => {
-            return set_aside_at(s, new, m, ident::Key::from(ident::Txid(h)), c);
-        }
-        ident::ItemKind::WTx => {
-            return set_aside_at(s, new, m, ident::Key::from(ident::Wtxid(h)), c);
-        }
-        ident::ItemKind::Other(_) => {
-            return Fare::Nothing;
-        }
-    }
+    let Some(k) = ident::key_of(c.item) else {
+        return Fare::Nothing;
+    };
+    set_aside_at(s, new, m, k, c)
 }

@@ -114,21 +114,8 @@ pub fn defer(
     requires { Kept s.now × (8 * (row_size * space) ≤ length new.old) × (length top.now ≡ 8 * (row_size * list_space)) × (d ≤ space) × (m ≤ list_space) }
     ensures { Deferred s.now (words new.old) (words new.new) (words top.now) d m (key_of (item_num c.item)) (candidate_of c) result }
 {
-    let item = c.item;
-    let kind = item.kind;
-    let h = item.hash;
-    match kind {
-        ident::ItemKind::Transaction => {
-            return defer_at(s, new, d, top, m, ident::Key::from(ident::Txid(h)), c);
-        }
-        ident::ItemKind::WitnessTransaction => {
-            return defer_at(s, new, d, top, m, ident::Key::from(ident::Txid(h)), c);
-        }
-        ident::ItemKind::WTx => {
-            return defer_at(s, new, d, top, m, ident::Key::from(ident::Wtxid(h)), c);
-        }
-        ident::ItemKind::Other(_) => {
-            return Fare::Nothing;
-        }
-    }
+    let Some(k) = ident::key_of(c.item) else {
+        return Fare::Nothing;
+    };
+    defer_at(s, new, d, top, m, k, c)
 }

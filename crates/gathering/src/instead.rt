@@ -92,21 +92,8 @@ pub fn exchange(
         × (d ≤ space) × (m ≤ list_space) }
     ensures { Exchanged s.old s.new (words new.old) (words new.new) (words top.now) d p m (key_of (item_num c.item)) (candidate_of c) result }
 {
-    let item = c.item;
-    let kind = item.kind;
-    let h = item.hash;
-    match kind {
-        ident::ItemKind::Transaction => {
-            return exchange_at(s, new, d, top, m, p, ident::Key::from(ident::Txid(h)), c);
-        }
-        ident::ItemKind::WitnessTransaction => {
-            return exchange_at(s, new, d, top, m, p, ident::Key::from(ident::Txid(h)), c);
-        }
-        ident::ItemKind::WTx => {
-            return exchange_at(s, new, d, top, m, p, ident::Key::from(ident::Wtxid(h)), c);
-        }
-        ident::ItemKind::Other(_) => {
-            return Fare::Nothing;
-        }
-    }
+    let Some(k) = ident::key_of(c.item) else {
+        return Fare::Nothing;
+    };
+    exchange_at(s, new, d, top, m, p, k, c)
 }

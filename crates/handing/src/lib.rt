@@ -2,7 +2,7 @@
 // candidate that is left.
 #![tactic(auto)]
 
-ghost use Rattle.std.specs.Prelude.{◌≡◌, ◌*◌, ◌≤◌, true, false, [], length};
+ghost use Rattle.std.specs.Prelude.{◌≡◌, ◌*◌, ◌≤◌, true, false, is_some, [], length};
 ghost use Rattle.ident.specs.Words.{key_num};
 ghost use Rattle.regions.specs.Rows.{key_number, key_of as row_key_of};
 ghost use Rattle.machine.specs.Limits.{max_alternates, max_parents};
@@ -104,11 +104,7 @@ struct Seen {
 fn has_key(r: regions::Row, k: regions::Key) -> bool
     ensures { result ≡ true → key_number (row_key_of r) ≡ key_number k }
 {
-    let hash = r.hash;
-    let x = regions::Key {
-        kind: r.bits % 2,
-        hash,
-    };
+    let x = announcing::evict::row_key(r);
     !regions::key_less(x, k) & !regions::key_less(k, x)
 }
 
@@ -125,13 +121,14 @@ fn search_owner(s: &[u8], k: ident::Key, n: u64) -> Seen
 }
 
 // The same by the first row of n from `guess` on, if that is one of the key: where keys are asked for in order, that row is the next one of n.
-fn is_owner(s: &[u8], k: ident::Key, n: u64, guess: usize) -> Seen
+fn is_owner(s: &[u8], k: ident::Key, n: u64, guess: Option<usize>) -> Seen
     requires { Kept s.now × (1 ≤ n) }
     ensures { Tells s.now (λ t. result.owner ≡ owner_is n (at (key_num k) t).owner) }
 {
     let rows = store::head::rows(s);
-    if guess < rows {
-        let i = store::rows::find_row(s, guess, rows, n);
+    let from = guess.unwrap_or(rows);
+    if from < rows {
+        let i = store::rows::find_row(s, from, rows, n);
         if i < rows {
             let r = store::rows::row_at(s, i);
             let key = requests::key_words(k);
@@ -186,29 +183,22 @@ fn ease(s: &mut [u8], k: ident::Key, n: u64, clock: u64)
     failing::leave(s, o, n, clock);
 }
 
-// Whether a key waits, and the row from which to look for the next row of its connection.
-#[derive(Clone, Copy)]
-pub struct Rest {
-    pub waits: bool,
-    pub next: usize,
-}
-
-// Whether n may wait to be cut at k: it does not own the request there, or has nothing to announce and gives it back.
-pub fn waits(s: &mut [u8], k: ident::Key, n: u64, clock: u64, guess: usize) -> Rest
+// Whether n may wait to be cut at k: it does not own the request there, or has nothing to announce and gives it back. If so, the row from
+// which to look for its next row.
+pub fn waits(s: &mut [u8], k: ident::Key, n: u64, clock: u64, guess: Option<usize>) -> Option<usize>
     requires { Kept s.old × (1 ≤ n) }
-    ensures { Waits n clock (key_num k) s.old s.new result.waits }
+    ensures { Waits n clock (key_num k) s.old s.new (is_some result) }
 {
     let seen = is_owner(s, k, n, guess);
-    let next = seen.next;
     if !seen.owner {
-        return Rest { waits: true, next };
+        return Some(seen.next);
     }
     if !is_silent(s, k, n) {
-        return Rest { waits: false, next };
+        return None;
     }
     if !failing::releasable(s, k, n) {
-        return Rest { waits: false, next };
+        return None;
     }
     ease(s, k, n, clock);
-    Rest { waits: true, next }
+    Some(seen.next)
 }

@@ -54,16 +54,14 @@ pub struct Left {
     pub parents: usize,
 }
 
-// Which of its keys is the first that waits to be cut, how many parents' keys are listed, and the row from which to look for its next row.
+// Which of its keys is the first that waits to be cut, how many parents' keys are listed, and the row from which to look for its next
+// row; none once rows have moved.
 #[derive(Clone, Copy)]
 struct Progress {
     from: usize,
     parents: usize,
-    next: usize,
+    next: Option<usize>,
 }
-
-// No row: there are at most 100,000. (Rows have moved, and the next one is to be searched.)
-const NOWHERE: usize = 100_000;
 
 // Cuts the candidates of n under the keys from .. to of `out`.
 fn cut_listed(s: &mut [u8], n: u64, out: &[u8], from: usize, to: usize)
@@ -92,13 +90,9 @@ fn take_turn(
         → Going n clock st u₀ s.new out.new own result.from (i + 1) result.parents }
 {
     let k = lent_lists::key_at(out, i);
-    let w = handing::waits(s, k, n, clock, p.next);
-    if w.waits {
-        return Progress {
-            from: p.from,
-            parents: p.parents,
-            next: w.next,
-        };
+    let next = handing::waits(s, k, n, clock, p.next);
+    if next.is_some() {
+        return Progress { next, ..p };
     }
     cut_listed(s, n, out, p.from, i);
     let x = own * KEY;
@@ -107,7 +101,7 @@ fn take_turn(
     Progress {
         from: i + 1,
         parents,
-        next: NOWHERE,
+        next: None,
     }
 }
 
@@ -129,7 +123,7 @@ fn drop_keys(s: &mut [u8], n: u64, clock: u64, out: &mut [u8], own: usize) -> us
     let mut p = Progress {
         from: 0,
         parents: 0,
-        next: 0,
+        next: Some(0),
     };
     for i in idle_keys(s, n, own)..own {
         p = take_turn(s, n, clock, out, own, i, p);

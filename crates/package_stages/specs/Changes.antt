@@ -26,6 +26,11 @@ abbrev pub owner_as : rust.Option OwnerRead → Option Owner
 owner_as None = none
 owner_as (Some o) = some (record { connection = o.connection; deadline = o.deadline })
 
+-- the connection of an owner; 0 stands for none: no connection is 0
+abbrev pub owner_num : Option Owner → ℕ
+owner_num none = 0
+owner_num (some o) = o.connection
+
 -- the word of a place that has the stage; 0 is none
 abbrev pub stage_word : rust.Option Stage → ℕ
 stage_word None = 0

@@ -26,25 +26,7 @@ pub mod packaged;
 fn ready_row(r: regions::Row, clock: u64) -> regions::Row
     ensures { result ≡ with_ready clock r }
 {
-    let hash = r.hash;
-    regions::Row {
-        hash,
-        conn: r.conn,
-        ready: clock,
-        prio: r.prio,
-        deadline: r.deadline,
-        bits: r.bits,
-    }
-}
-
-// Puts the i-th row, r, at m, which is not behind it.
-fn keep_row(s: &mut [u8], m: usize, i: usize, r: regions::Row)
-    requires { Shown s.old × (m ≤ i) × (i < rows_in s.old) × ((f : Flat) (d : Row) → Shows s.old f → r ≡ get_or f.rows i d) }
-    ensures { Turns s.old s.new (λ f. with_rows (set f.rows m r) f) }
-{
-    if m < i {
-        store::rows::set_row(s, m, r);
-    }
+    regions::Row { ready: clock, ..r }
 }
 
 // How many rows stay of those looked at, and where the place of the last one stands, or would.
@@ -60,12 +42,13 @@ fn tear_row(s: &mut [u8], m: usize, i: usize, clock: u64, guess: usize) -> Stay
     ensures { RowTorn s.old s.new clock m i result.rows }
 {
     let r = store::rows::row_at(s, i);
-    let p = packaged::find(s, r, guess);
-    let at = p.at;
-    if !p.held {
-        keep_row(s, m, i, r);
-        return Stay { rows: m + 1, at };
-    }
+    let at = match packaged::find(s, r, guess) {
+        Ok(at) => at,
+        Err(at) => {
+            announcing::dropping::keep_row(s, m, i, r);
+            return Stay { rows: m + 1, at };
+        }
+    };
     if r.bits / 8 % 2 == 1 {
         idle::count_off(s, r.conn, 1);
         return Stay { rows: m, at };

@@ -1,6 +1,6 @@
 // Whether the request of a row has a package. Rows and places are both in the order of hashes: where rows are asked for in their order, a
 // place is looked for where the one before was found or one behind, and searched only if it is at neither.
-ghost use Rattle.std.specs.Prelude.{◌≡◌, ℕ, ◌-◌, ◌≤◌, ◌<◌, true, List, ltb, get_or};
+ghost use Rattle.std.specs.Prelude.{◌≡◌, ℕ, ◌-◌, ◌≤◌, ◌<◌, true, List, ltb, is_ok, get_or};
 ghost use Rattle.regions.specs.declared.Conn.{Conn};
 ghost use Rattle.regions.specs.declared.Row.{Row};
 ghost use Rattle.regions.specs.Rows.{quad_number};
@@ -76,13 +76,6 @@ fn seek_near(s: &[u8], q: regions::Quad, guess: usize) -> usize
     package_stages::flat::seek_place(s, q)
 }
 
-// Whether a request has a package, and where its place stands, or would.
-#[derive(Clone, Copy)]
-pub struct Found {
-    pub held: bool,
-    pub at: usize,
-}
-
 // Whether the place at i is a package's, and of the hash q.
 fn is_package(s: &[u8], q: regions::Quad, i: usize) -> bool
     requires { Shown s.now × Seek s.now (λ f. place_hashes f.places) (held_places_in s.now) (quad_number q) i }
@@ -99,19 +92,19 @@ fn is_package(s: &[u8], q: regions::Quad, i: usize) -> bool
     false
 }
 
-// Whether the request of the row r has a package.
-pub fn find(s: &[u8], r: regions::Row, guess: usize) -> Found
+// Where the place of the package of the row r's request stands; or, if it has none, where the place would stand or what was guessed.
+pub fn find(s: &[u8], r: regions::Row, guess: usize) -> Result<usize, usize>
     requires { Shown s.now }
-    ensures { (st : State) (xs : List Row) (cs : List Conn) → Sound st → Ebbs s.now st xs cs → hash_at r < top → result.held ≡ packaged_row st.table r }
+    ensures { (st : State) (xs : List Row) (cs : List Conn) → Sound st → Ebbs s.now st xs cs → hash_at r < top → is_ok result ≡ packaged_row st.table r }
 {
     if r.bits % 2 == 0 {
-        return Found {
-            held: false,
-            at: guess,
-        };
+        return Err(guess);
     }
     let q = r.hash;
     let at = seek_near(s, q, guess);
-    let held = is_package(s, q, at);
-    Found { held, at }
+    if is_package(s, q, at) {
+        Ok(at)
+    } else {
+        Err(at)
+    }
 }

@@ -1,3 +1,4 @@
+pub mod ItemKeys
 pub mod Completing
 pub mod Parts
 pub mod Gathered

@@ -11,7 +11,7 @@ pub rows-rows-requires : goal.rows-rows-requires
 rows-rows-requires c = omega (arith, sizes c.requires.0.writes)
 
 pub find_row-i-requires : goal.find_row-i-requires
-find_row-i-requires c = (kept_shown c.requires.0, omega (arith, c.if-guess-rows.true), omega (arith, c.rows-rows.ensures.word))
+find_row-i-requires c = (kept_shown c.requires.0, omega (arith, c.if-from-rows.true), omega (arith, c.rows-rows.ensures.word))
 
 pub row_at-r-requires : goal.row_at-r-requires
 row_at-r-requires c = (kept_shown c.requires.0, omega (arith, c.rows-rows.ensures.word, c.if-i-rows.true))

@@ -1,3 +1,4 @@
+use mathlib.Core.Path.{sym, ◌∙◌}
 use Prim.Native.Nat.{◌<◌}
 use native.Mathlib.Omega.{arith}
 use Rattle.ident.specs.Words.{key_num}
@@ -10,22 +11,22 @@ pub key_at-k-requires : goal.key_at-k-requires
 key_at-k-requires c = let late : c.args.clock < word = omega (arith, c.well_formed.1.1.0) in
     omega (arith, keys-inside c.requires.0.going late, c.requires.2)
 
-pub waits-w-requires : goal.waits-w-requires
-waits-w-requires c = (going_kept c.requires.0.going, c.requires.1)
+pub waits-next-requires : goal.waits-next-requires
+waits-next-requires c = (going_kept c.requires.0.going, c.requires.1)
 
-pub returns-then-w : goal.returns-then-w
-returns-then-w c = λ st u₀ g.
+pub returns-then-is_some : goal.returns-then-is_some
+returns-then-is_some c = λ st u₀ g.
     let late : c.args.clock < word =
     omega (arith, c.well_formed.1.1.0) in
     turn_rests g late (key_num c.key_at-k.result) c.requires.2
-    c.key_at-k.ensures c.waits-w.ensures c.if-w.true
+    c.key_at-k.ensures c.waits-next.ensures (sym c.is_some.ensures ∙ c.if-is_some.true)
 
 pub cut_listed-requires : goal.cut_listed-requires
 cut_listed-requires c = let late : c.args.clock < word =
     omega (arith, c.well_formed.1.1.0) in (
       still_kept c.requires.0.going late (key_num
           c.key_at-k.result) c.requires.2
-          c.key_at-k.ensures c.waits-w.ensures c.if-w.false,
+          c.key_at-k.ensures c.waits-next.ensures (sym c.is_some.ensures ∙ c.if-is_some.false),
       omega (
         arith,
         keys-inside c.requires.0.going late,
@@ -55,8 +56,8 @@ drop_owned-parents-requires c = let late : c.args.clock < word =
     (key_num c.key_at-k.result)
     c.requires.2
     c.key_at-k.ensures
-    c.waits-w.ensures
-    c.if-w.false c.cut_listed.ensures
+    c.waits-next.ensures
+    (sym c.is_some.ensures ∙ c.if-is_some.false) c.cut_listed.ensures
     c.requires.1
 
 pub returns : goal.returns
@@ -68,6 +69,6 @@ returns c = λ st u₀ g.
     turn_owned g late (key_num c.key_at-k.result)
     c.requires.2
     c.key_at-k.ensures
-    c.waits-w.ensures
-    c.if-w.false
+    c.waits-next.ensures
+    (sym c.is_some.ensures ∙ c.if-is_some.false)
     c.cut_listed.ensures c.drop_owned-parents.ensures

@@ -1,6 +1,6 @@
 -- `wrapping::missing::not_found_one` meets its contract.
 use Rattle.ident.specs.Words.{hash_num}
-use Rattle.gathering.proofs.ItemKeys.{key-t, key-v, key-w}
+use Rattle.wrapping.proofs.ItemKeys.{key-t, key-v, key-w}
 use Rattle.wrapping.proofs.Unfound.{one_room, one_keyed, one_info, one_other}
 use Rattle.wrapping.proofs.missing.not_found_one.Goals as goal
 
