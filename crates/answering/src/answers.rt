@@ -31,9 +31,10 @@ pub fn answer_line(store: &mut [u8], lists: &mut [u8], line: &[u8], out: &mut [u
     requires { Ordered lists.old × (answer_room ≤ length out.old) × (length line.now ≤ line_room) }
     ensures { Stepped (line_of line.now) lists.old lists.new store.old store.new out.old out.new result }
 {
-    let asked = asking::calls::call_of(line);
+    let Some(asked) = asking::calls::call_of(line) else {
+        return unreadable(out);
+    };
     match asked {
-        Asked::Unreadable => unreadable(out),
         Asked::Opening(l, q) => answer_open(store, lists, out, l, q),
         Asked::Summing => calling::numbers::answer_sum(store, out),
         Asked::Leaving(v) => calling::departures::answer_leaving(store, out, v),

@@ -1,5 +1,6 @@
 -- Which line the fields behind a word are (docs/EVENTS.md, "Words"); none for a line of no listed form.
 use Rattle.std.specs.Prelude.{ℕ, ◌&&◌, List, [], ◌∷◌, leb, replicate, if◌then◌else◌}
+use Rattle.std.specs.Prelude as answer
 use Rattle.std.proofs.Math.Option.{Option, none, some}
 use Rattle.ident.specs.Number.{Key, Item}
 use Rattle.machine.specs.Wrapper.{Offer}
@@ -11,7 +12,7 @@ use Rattle.machine.specs.Call.{SolicitPackageInfo, ClaimPackage, BeginPackageRes
 use Rattle.machine.specs.Call.{Plan, TransactionNotFound}
 use Rattle.machine.specs.Fields.{number_of, fields, taking, ending}
 use Rattle.asking.specs.declared.vocabulary.Word.{Word}
-use Rattle.asking.specs.declared.vocabulary.Word.TheVariants.{None as NoWord, Open as OpenWord, Sum as SumWord, Leave as LeaveWord, Inventory as InventoryWord}
+use Rattle.asking.specs.declared.vocabulary.Word.TheVariants.{Open as OpenWord, Sum as SumWord, Leave as LeaveWord, Inventory as InventoryWord}
 use Rattle.asking.specs.declared.vocabulary.Word.TheVariants.{Plan as PlanWord, Want as WantWord, Take as TakeWord, Missing as MissingWord, Send as SendWord, Part as PartWord}
 use Rattle.asking.specs.declared.vocabulary.Word.TheVariants.{Number as NumberOf, Keys as KeysOf, Hashes as HashesOf}
 use Rattle.asking.specs.declared.vocabulary.NumberWord.{NumberWord}
@@ -188,7 +189,6 @@ missing_line fs = form_then missing_form blank (λ v. item_list_call (missing_as
 -- ---- the whole line
 
 abbrev pub line_with : Word → List (List ℕ) → Option Line
-line_with NoWord fs = none
 line_with OpenWord fs = open_of fs
 line_with SumWord fs = ending (some (Asks (On Sum))) fs
 line_with LeaveWord fs = leave_call fs
@@ -203,9 +203,14 @@ line_with (NumberOf w) fs = number_call w fs
 line_with (KeysOf w) fs = keys_call w fs
 line_with (HashesOf w) fs = hashes_call w fs
 
+-- none where the first field is no word
+abbrev pub line_named : answer.Option Word → List (List ℕ) → Option Line
+line_named answer.None fs = none
+line_named (answer.Some w) fs = line_with w fs
+
 unfoldable pub called : List (List ℕ) → Option Line
 called [] = none
-called (w ∷ fs) = line_with (word_of w) fs
+called (w ∷ fs) = line_named (word_of w) fs
 
 unfoldable pub line_of : List ℕ → Option Line
 line_of line = called (fields line)

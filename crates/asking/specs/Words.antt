@@ -1,8 +1,8 @@
 -- The words of event lines (docs/EVENTS.md, "Words"): the first field of a line.
-use Rattle.std.specs.Prelude.{ℕ, List, [], ◌∷◌, if◌then◌else◌}
+use Rattle.std.specs.Prelude.{ℕ, List, [], ◌∷◌, if◌then◌else◌, Option, None, Some}
 use Rattle.machine.specs.Fields.{same_text}
 use Rattle.asking.specs.declared.vocabulary.Word.{Word}
-use Rattle.asking.specs.declared.vocabulary.Word.TheVariants.{None as NoWord, Open as OpenWord, Sum as SumWord, Leave as LeaveWord, Inventory as InventoryWord}
+use Rattle.asking.specs.declared.vocabulary.Word.TheVariants.{Open as OpenWord, Sum as SumWord, Leave as LeaveWord, Inventory as InventoryWord}
 use Rattle.asking.specs.declared.vocabulary.Word.TheVariants.{Plan as PlanWord, Want as WantWord, Take as TakeWord, Missing as MissingWord, Send as SendWord, Part as PartWord}
 use Rattle.asking.specs.declared.vocabulary.Word.TheVariants.{Number as NumberOf, Keys as KeysOf, Hashes as HashesOf}
 use Rattle.asking.specs.declared.vocabulary.NumberWord.TheVariants.{Announce as AnnounceWord, RequestParent as ParentWord, Failed as FailedWord}
@@ -32,15 +32,15 @@ send_text = 115 ∷ 101 ∷ 110 ∷ 100 ∷ []
 abbrev pub part_text : List ℕ
 part_text = 112 ∷ 97 ∷ 114 ∷ 116 ∷ []
 
-unfoldable pub plan_word : List ℕ → Word
+unfoldable pub plan_word : List ℕ → Option Word
 plan_word f =
-    if same_text f plan_text then PlanWord
-    else if same_text f want_text then WantWord
-    else if same_text f take_text then TakeWord
-    else if same_text f nfd_text then MissingWord
-    else if same_text f send_text then SendWord
-    else if same_text f part_text then PartWord
-    else NoWord
+    if same_text f plan_text then Some PlanWord
+    else if same_text f want_text then Some WantWord
+    else if same_text f take_text then Some TakeWord
+    else if same_text f nfd_text then Some MissingWord
+    else if same_text f send_text then Some SendWord
+    else if same_text f part_text then Some PartWord
+    else None
 
 -- `sol`, `clm`, `beg`, `kin`, `lost`, `whose`
 abbrev pub sol_text : List ℕ
@@ -61,14 +61,14 @@ lost_text = 108 ∷ 111 ∷ 115 ∷ 116 ∷ []
 abbrev pub whose_text : List ℕ
 whose_text = 119 ∷ 104 ∷ 111 ∷ 115 ∷ 101 ∷ []
 
-unfoldable pub hashes_word : List ℕ → Word
+unfoldable pub hashes_word : List ℕ → Option Word
 hashes_word f =
-    if same_text f sol_text then HashesOf SolicitWord
-    else if same_text f clm_text then HashesOf ClaimWord
-    else if same_text f beg_text then HashesOf BeginWord
-    else if same_text f kin_text then HashesOf ParentsWord
-    else if same_text f lost_text then HashesOf LostWord
-    else if same_text f whose_text then HashesOf OwnersWord
+    if same_text f sol_text then Some (HashesOf SolicitWord)
+    else if same_text f clm_text then Some (HashesOf ClaimWord)
+    else if same_text f beg_text then Some (HashesOf BeginWord)
+    else if same_text f kin_text then Some (HashesOf ParentsWord)
+    else if same_text f lost_text then Some (HashesOf LostWord)
+    else if same_text f whose_text then Some (HashesOf OwnersWord)
     else plan_word f
 
 -- `swp`, `fail`, `rel`, `gone`, `inv`
@@ -87,13 +87,13 @@ gone_text = 103 ∷ 111 ∷ 110 ∷ 101 ∷ []
 abbrev pub inv_text : List ℕ
 inv_text = 105 ∷ 110 ∷ 118 ∷ []
 
-unfoldable pub keys_word : List ℕ → Word
+unfoldable pub keys_word : List ℕ → Option Word
 keys_word f =
-    if same_text f swp_text then KeysOf SweepWord
-    else if same_text f fail_text then KeysOf FailWord
-    else if same_text f rel_text then KeysOf ReleaseWord
-    else if same_text f gone_text then LeaveWord
-    else if same_text f inv_text then InventoryWord
+    if same_text f swp_text then Some (KeysOf SweepWord)
+    else if same_text f fail_text then Some (KeysOf FailWord)
+    else if same_text f rel_text then Some (KeysOf ReleaseWord)
+    else if same_text f gone_text then Some LeaveWord
+    else if same_text f inv_text then Some InventoryWord
     else hashes_word f
 
 -- `known`, `tear`, `info`, `who`, `done`, `poll`
@@ -115,14 +115,14 @@ done_text = 100 ∷ 111 ∷ 110 ∷ 101 ∷ []
 abbrev pub poll_text : List ℕ
 poll_text = 112 ∷ 111 ∷ 108 ∷ 108 ∷ []
 
-unfoldable pub package_word : List ℕ → Word
+unfoldable pub package_word : List ℕ → Option Word
 package_word f =
-    if same_text f known_text then NumberOf KnownWord
-    else if same_text f tear_text then NumberOf TearWord
-    else if same_text f info_text then NumberOf InfoWord
-    else if same_text f who_text then NumberOf OwnerWord
-    else if same_text f done_text then NumberOf DoneWord
-    else if same_text f poll_text then NumberOf PollWord
+    if same_text f known_text then Some (NumberOf KnownWord)
+    else if same_text f tear_text then Some (NumberOf TearWord)
+    else if same_text f info_text then Some (NumberOf InfoWord)
+    else if same_text f who_text then Some (NumberOf OwnerWord)
+    else if same_text f done_text then Some (NumberOf DoneWord)
+    else if same_text f poll_text then Some (NumberOf PollWord)
     else keys_word f
 
 -- `ann`, `par`, `bad`, `off`, `drop`
@@ -141,13 +141,13 @@ off_text = 111 ∷ 102 ∷ 102 ∷ []
 abbrev pub drop_text : List ℕ
 drop_text = 100 ∷ 114 ∷ 111 ∷ 112 ∷ []
 
-unfoldable pub request_word : List ℕ → Word
+unfoldable pub request_word : List ℕ → Option Word
 request_word f =
-    if same_text f ann_text then NumberOf AnnounceWord
-    else if same_text f par_text then NumberOf ParentWord
-    else if same_text f bad_text then NumberOf FailedWord
-    else if same_text f off_text then NumberOf UnclaimWord
-    else if same_text f drop_text then NumberOf ForgetWord
+    if same_text f ann_text then Some (NumberOf AnnounceWord)
+    else if same_text f par_text then Some (NumberOf ParentWord)
+    else if same_text f bad_text then Some (NumberOf FailedWord)
+    else if same_text f off_text then Some (NumberOf UnclaimWord)
+    else if same_text f drop_text then Some (NumberOf ForgetWord)
     else package_word f
 
 -- `open`, `sum`
@@ -157,8 +157,8 @@ open_text = 111 ∷ 112 ∷ 101 ∷ 110 ∷ []
 abbrev pub sum_text : List ℕ
 sum_text = 115 ∷ 117 ∷ 109 ∷ []
 
-unfoldable pub word_of : List ℕ → Word
+unfoldable pub word_of : List ℕ → Option Word
 word_of f =
-    if same_text f open_text then OpenWord
-    else if same_text f sum_text then SumWord
+    if same_text f open_text then Some OpenWord
+    else if same_text f sum_text then Some SumWord
     else request_word f

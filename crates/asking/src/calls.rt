@@ -7,16 +7,15 @@ ghost use Rattle.asking.specs.Calls.{open_of, number_form, number_call, keys_for
 ghost use Rattle.asking.specs.Calls.{plan_line, want_line, take_line, missing_line, part_line, line_with, line_of};
 ghost use Rattle.reading.specs.Line.{Asks};
 ghost use Rattle.reading.specs.Given.{FormRead, WholeRead};
-ghost use Rattle.asking.specs.Given.{asked_line};
+ghost use Rattle.asking.specs.Given.{asked_in};
 
-use crate::vocabulary::{HashesWord, KeysWord, NumberWord, Word};
+use crate::vocabulary::{HashesWord, KeysWord, NumberWord, Word, word_of};
 use reading::fields::{Parsed, number_at};
 use reading::forms::{Values, read_form, read_whole};
 
-// What a line asks for. A list stands behind the comma at an index: it is read where its call is carried out.
+// What a readable line asks for. A list stands behind the comma at an index: it is read where its call is carried out.
 #[derive(Clone, Copy)]
 pub enum Asked {
-    Unreadable,
     Opening(u64, u64),
     Summing,
     Leaving(Values),
@@ -33,34 +32,30 @@ pub enum Asked {
 }
 
 // An opening, whose fields stand behind the comma at index e.
-fn opening(line: &[u8], e: usize) -> Asked
-    ensures { asked_line line.now result ≡ open_of (rest line.now (e + 1)) }
+fn opening(line: &[u8], e: usize) -> Option<Asked>
+    ensures { asked_in line.now result ≡ open_of (rest line.now (e + 1)) }
 {
-    let Some(Parsed { value: l, end: to }) = number_at(line, e) else {
-        return Asked::Unreadable;
-    };
-    let Some(Parsed { value: q, end }) = number_at(line, to) else {
-        return Asked::Unreadable;
-    };
-    if end < line.len() {
-        return Asked::Unreadable;
+    let limit = number_at(line, e)?;
+    let places = number_at(line, limit.end)?;
+    if places.end < line.len() {
+        return None;
     }
-    if 100 < l {
-        return Asked::Unreadable;
+    if 100 < limit.value {
+        return None;
     }
-    if 2 < q {
-        return Asked::Unreadable;
+    if 2 < places.value {
+        return None;
     }
-    Asked::Opening(l, q)
+    Some(Asked::Opening(limit.value, places.value))
 }
 
-fn summing(line: &[u8], e: usize) -> Asked
-    ensures { asked_line line.now result ≡ ending (some (Asks (On Sum))) (rest line.now (e + 1)) }
+fn summing(line: &[u8], e: usize) -> Option<Asked>
+    ensures { asked_in line.now result ≡ ending (some (Asks (On Sum))) (rest line.now (e + 1)) }
 {
     if e < line.len() {
-        return Asked::Unreadable;
+        return None;
     }
-    Asked::Summing
+    Some(Asked::Summing)
 }
 
 // The fields behind the comma at index e, in the form of the word.
@@ -82,13 +77,11 @@ fn number_values(line: &[u8], e: usize, w: NumberWord) -> Option<Values>
     }
 }
 
-fn number_call(line: &[u8], e: usize, w: NumberWord) -> Asked
-    ensures { asked_line line.now result ≡ number_call w (rest line.now (e + 1)) }
+fn number_call(line: &[u8], e: usize, w: NumberWord) -> Option<Asked>
+    ensures { asked_in line.now result ≡ number_call w (rest line.now (e + 1)) }
 {
-    let Some(v) = number_values(line, e, w) else {
-        return Asked::Unreadable;
-    };
-    Asked::Number(w, v)
+    let v = number_values(line, e, w)?;
+    Some(Asked::Number(w, v))
 }
 
 fn keys_values(line: &[u8], e: usize, w: KeysWord) -> Option<Values>
@@ -101,31 +94,25 @@ fn keys_values(line: &[u8], e: usize, w: KeysWord) -> Option<Values>
     }
 }
 
-fn keys_call(line: &[u8], e: usize, w: KeysWord) -> Asked
-    ensures { asked_line line.now result ≡ keys_call w (rest line.now (e + 1)) }
+fn keys_call(line: &[u8], e: usize, w: KeysWord) -> Option<Asked>
+    ensures { asked_in line.now result ≡ keys_call w (rest line.now (e + 1)) }
 {
-    let Some(v) = keys_values(line, e, w) else {
-        return Asked::Unreadable;
-    };
-    Asked::Keys(w, v)
+    let v = keys_values(line, e, w)?;
+    Some(Asked::Keys(w, v))
 }
 
-fn leave_call(line: &[u8], e: usize) -> Asked
-    ensures { asked_line line.now result ≡ leave_call (rest line.now (e + 1)) }
+fn leave_call(line: &[u8], e: usize) -> Option<Asked>
+    ensures { asked_in line.now result ≡ leave_call (rest line.now (e + 1)) }
 {
-    let Some(v) = read_whole(line, e, b"cn") else {
-        return Asked::Unreadable;
-    };
-    Asked::Leaving(v)
+    let v = read_whole(line, e, b"cn")?;
+    Some(Asked::Leaving(v))
 }
 
-fn inventory_call(line: &[u8], e: usize) -> Asked
-    ensures { asked_line line.now result ≡ inventory_call (rest line.now (e + 1)) }
+fn inventory_call(line: &[u8], e: usize) -> Option<Asked>
+    ensures { asked_in line.now result ≡ inventory_call (rest line.now (e + 1)) }
 {
-    let Some(Parsed { value: v, end }) = read_form(line, e, b"cnps") else {
-        return Asked::Unreadable;
-    };
-    Asked::Offers(v, end)
+    let taken = read_form(line, e, b"cnps")?;
+    Some(Asked::Offers(taken.value, taken.end))
 }
 
 fn hashes_values(line: &[u8], e: usize, w: HashesWord) -> Option<Parsed<Values>>
@@ -141,66 +128,53 @@ fn hashes_values(line: &[u8], e: usize, w: HashesWord) -> Option<Parsed<Values>>
     }
 }
 
-fn hashes_call(line: &[u8], e: usize, w: HashesWord) -> Asked
-    ensures { asked_line line.now result ≡ hashes_call w (rest line.now (e + 1)) }
+fn hashes_call(line: &[u8], e: usize, w: HashesWord) -> Option<Asked>
+    ensures { asked_in line.now result ≡ hashes_call w (rest line.now (e + 1)) }
 {
-    let Some(Parsed { value: v, end }) = hashes_values(line, e, w) else {
-        return Asked::Unreadable;
-    };
-    Asked::Hashes(w, v, end)
+    let taken = hashes_values(line, e, w)?;
+    Some(Asked::Hashes(w, taken.value, taken.end))
 }
 
-fn plan_line(line: &[u8], e: usize) -> Asked
-    ensures { asked_line line.now result ≡ plan_line (rest line.now (e + 1)) }
+fn plan_line(line: &[u8], e: usize) -> Option<Asked>
+    ensures { asked_in line.now result ≡ plan_line (rest line.now (e + 1)) }
 {
-    let Some(v) = read_whole(line, e, b"n") else {
-        return Asked::Unreadable;
-    };
-    Asked::Planning(v)
+    let v = read_whole(line, e, b"n")?;
+    Some(Asked::Planning(v))
 }
 
-fn want_line(line: &[u8], e: usize) -> Asked
-    ensures { asked_line line.now result ≡ want_line (rest line.now (e + 1)) }
+fn want_line(line: &[u8], e: usize) -> Option<Asked>
+    ensures { asked_in line.now result ≡ want_line (rest line.now (e + 1)) }
 {
-    let Some(Parsed { value: v, end }) = read_form(line, e, b"n") else {
-        return Asked::Unreadable;
-    };
-    Asked::Wanting(v, end)
+    let taken = read_form(line, e, b"n")?;
+    Some(Asked::Wanting(taken.value, taken.end))
 }
 
-fn take_line(line: &[u8], e: usize) -> Asked
-    ensures { asked_line line.now result ≡ take_line (rest line.now (e + 1)) }
+fn take_line(line: &[u8], e: usize) -> Option<Asked>
+    ensures { asked_in line.now result ≡ take_line (rest line.now (e + 1)) }
 {
-    let Some(v) = read_whole(line, e, b"n") else {
-        return Asked::Unreadable;
-    };
-    Asked::Taking(v)
+    let v = read_whole(line, e, b"n")?;
+    Some(Asked::Taking(v))
 }
 
-fn missing_line(line: &[u8], e: usize) -> Asked
-    ensures { asked_line line.now result ≡ missing_line (rest line.now (e + 1)) }
+fn missing_line(line: &[u8], e: usize) -> Option<Asked>
+    ensures { asked_in line.now result ≡ missing_line (rest line.now (e + 1)) }
 {
-    let Some(Parsed { value: v, end }) = read_form(line, e, b"cn") else {
-        return Asked::Unreadable;
-    };
-    Asked::Missing(v, end)
+    let taken = read_form(line, e, b"cn")?;
+    Some(Asked::Missing(taken.value, taken.end))
 }
 
-fn part_line(line: &[u8], e: usize) -> Asked
-    ensures { asked_line line.now result ≡ part_line (rest line.now (e + 1)) }
+fn part_line(line: &[u8], e: usize) -> Option<Asked>
+    ensures { asked_in line.now result ≡ part_line (rest line.now (e + 1)) }
 {
-    let Some(v) = read_whole(line, e, b"c") else {
-        return Asked::Unreadable;
-    };
-    Asked::Parting(v)
+    let v = read_whole(line, e, b"c")?;
+    Some(Asked::Parting(v))
 }
 
 // The line of a word, whose fields stand behind the comma at index e.
-fn call_with(line: &[u8], e: usize, w: Word) -> Asked
-    ensures { asked_line line.now result ≡ line_with w (rest line.now (e + 1)) }
+fn call_with(line: &[u8], e: usize, w: Word) -> Option<Asked>
+    ensures { asked_in line.now result ≡ line_with w (rest line.now (e + 1)) }
 {
     match w {
-        Word::None => Asked::Unreadable,
         Word::Open => opening(line, e),
         Word::Sum => summing(line, e),
         Word::Leave => leave_call(line, e),
@@ -209,7 +183,7 @@ fn call_with(line: &[u8], e: usize, w: Word) -> Asked
         Word::Want => want_line(line, e),
         Word::Take => take_line(line, e),
         Word::Missing => missing_line(line, e),
-        Word::Send => Asked::Sending(e),
+        Word::Send => Some(Asked::Sending(e)),
         Word::Part => part_line(line, e),
         Word::Number(x) => number_call(line, e, x),
         Word::Keys(x) => keys_call(line, e, x),
@@ -217,11 +191,11 @@ fn call_with(line: &[u8], e: usize, w: Word) -> Asked
     }
 }
 
-// What a line asks for.
-pub fn call_of(line: &[u8]) -> Asked
-    ensures { asked_line line.now result ≡ line_of line.now }
+// What a line asks for, if it is readable.
+pub fn call_of(line: &[u8]) -> Option<Asked>
+    ensures { asked_in line.now result ≡ line_of line.now }
 {
     let e = lines::read::field_end(line, 0);
-    let w = crate::vocabulary::word_of(&line[..e]);
+    let w = word_of(&line[..e])?;
     call_with(line, e, w)
 }

@@ -1,14 +1,13 @@
 // The words of event lines: the first field, compared with fixed byte strings.
-ghost use Rattle.std.specs.Prelude.{◌≡◌, if◌then◌else◌};
+ghost use Rattle.std.specs.Prelude.{◌≡◌, if◌then◌else◌, Some};
 ghost use Rattle.machine.specs.Fields.{same_text};
 ghost use Rattle.asking.specs.Words.{word_of, request_word, package_word, keys_word, hashes_word, plan_word};
 
 use lines::read::same;
 
-// A call by its word. None: no word of a call that this program has.
+// A call by its word.
 #[derive(Clone, Copy)]
 pub enum Word {
-    None,
     Open,
     Sum,
     Leave,
@@ -60,19 +59,19 @@ pub enum HashesWord {
 }
 
 // The word w where the field is its text, and else the word that was found otherwise.
-fn named(f: &[u8], text: &[u8], w: Word, otherwise: Word) -> Word
-    ensures { result ≡ if same_text f.now text.now then w else otherwise }
+fn named(f: &[u8], text: &[u8], w: Word, otherwise: Option<Word>) -> Option<Word>
+    ensures { result ≡ if same_text f.now text.now then Some w else otherwise }
 {
     if same(f, text) {
-        return w;
+        return Some(w);
     }
     otherwise
 }
 
-fn plan_word(f: &[u8]) -> Word
+fn plan_word(f: &[u8]) -> Option<Word>
     ensures { result ≡ plan_word f.now }
 {
-    let mut w = Word::None;
+    let mut w = None;
     w = named(f, b"part", Word::Part, w);
     w = named(f, b"send", Word::Send, w);
     w = named(f, b"nfd", Word::Missing, w);
@@ -81,7 +80,7 @@ fn plan_word(f: &[u8]) -> Word
     named(f, b"plan", Word::Plan, w)
 }
 
-fn hashes_word(f: &[u8]) -> Word
+fn hashes_word(f: &[u8]) -> Option<Word>
     ensures { result ≡ hashes_word f.now }
 {
     let mut w = plan_word(f);
@@ -98,7 +97,7 @@ fn hashes_word(f: &[u8]) -> Word
     named(f, b"sol", Word::Hashes(HashesWord::SolicitPackageInfo), w)
 }
 
-fn keys_word(f: &[u8]) -> Word
+fn keys_word(f: &[u8]) -> Option<Word>
     ensures { result ≡ keys_word f.now }
 {
     let mut w = hashes_word(f);
@@ -109,7 +108,7 @@ fn keys_word(f: &[u8]) -> Word
     named(f, b"swp", Word::Keys(KeysWord::Sweep), w)
 }
 
-fn package_word(f: &[u8]) -> Word
+fn package_word(f: &[u8]) -> Option<Word>
     ensures { result ≡ package_word f.now }
 {
     let mut w = keys_word(f);
@@ -121,7 +120,7 @@ fn package_word(f: &[u8]) -> Word
     named(f, b"known", Word::Number(NumberWord::ForgetKnown), w)
 }
 
-fn request_word(f: &[u8]) -> Word
+fn request_word(f: &[u8]) -> Option<Word>
     ensures { result ≡ request_word f.now }
 {
     let mut w = package_word(f);
@@ -132,7 +131,8 @@ fn request_word(f: &[u8]) -> Word
     named(f, b"ann", Word::Number(NumberWord::Announce), w)
 }
 
-pub fn word_of(f: &[u8]) -> Word
+// The word that the field is, if it is one.
+pub fn word_of(f: &[u8]) -> Option<Word>
     ensures { result ≡ word_of f.now }
 {
     let mut w = request_word(f);

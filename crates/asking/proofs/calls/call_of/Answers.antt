@@ -9,7 +9,10 @@ use Rattle.asking.proofs.calls.call_of.Goals as goal
 pub slice_bounds-word_of-end : goal.slice_bounds-word_of-end
 slice_bounds-word_of-end c = simp length-take (omega (arith, end_most 44 c.args.line.now 0 (omega arith) c.field_end-e.ensures))
 
+pub returns-in_err-w : goal.returns-in_err-w
+returns-in_err-w c = rw c.from_residual.ensures (worded c.args.line.now c.field_end-e.result c.field_end-e.ensures c.in_err-w.ensures)
+
 pub returns : goal.returns
 returns c =
     c.call_with.ensures ∙ worded c.args.line.now c.field_end-e.result c.field_end-e.ensures
-    c.word_of-w.ensures
+    c.in_ok-w.ensures

@@ -5,9 +5,6 @@ use Rattle.machine.specs.Fields.{rest}
 use Rattle.asking.proofs.Worded.{with_word}
 use Rattle.asking.proofs.calls.call_with.Goals as goal
 
-pub returns-in-None : goal.returns-in-None
-returns-in-None c = with_word (rest c.args.line.now (c.args.e + 1)) c.in-None.is refl
-
 pub returns-in-Open : goal.returns-in-Open
 returns-in-Open c = with_word (rest c.args.line.now (c.args.e + 1)) c.in-Open.is c.opening.ensures
 

@@ -5,10 +5,10 @@ use Rattle.reading.proofs.Filling.{line_not, line_is}
 use Rattle.asking.specs.Calls.{leave_ask, leave_call}
 use Rattle.asking.proofs.calls.leave_call.Goals as goal
 
-pub returns-in_default : goal.returns-in_default
+pub returns-in_err-v : goal.returns-in_err-v
 unfolding leave_call
-returns-in_default c = line_not c.read_whole.ensures (λ v. Asks (On (leave_ask v))) c.in_default.is
+returns-in_err-v c = rw c.from_residual.ensures (line_not c.read_whole.ensures (λ v. Asks (On (leave_ask v))) c.in_err-v.was)
 
 pub returns : goal.returns
 unfolding leave_call
-returns c = line_is c.read_whole.ensures (λ v. Asks (On (leave_ask v))) c.in-Some.is
+returns c = line_is c.read_whole.ensures (λ v. Asks (On (leave_ask v))) c.in_ok-v.was

@@ -5,10 +5,10 @@ use Rattle.reading.proofs.Filling.{line_not, line_is}
 use Rattle.asking.specs.Calls.{number_ask, number_call}
 use Rattle.asking.proofs.calls.number_call.Goals as goal
 
-pub returns-in_default : goal.returns-in_default
+pub returns-in_err-v : goal.returns-in_err-v
 unfolding number_call
-returns-in_default c = line_not c.number_values.ensures (λ v. Asks (On (number_ask c.args.w v))) c.in_default.is
+returns-in_err-v c = rw c.from_residual.ensures (line_not c.number_values.ensures (λ v. Asks (On (number_ask c.args.w v))) c.in_err-v.was)
 
 pub returns : goal.returns
 unfolding number_call
-returns c = line_is c.number_values.ensures (λ v. Asks (On (number_ask c.args.w v))) c.in-Some.is
+returns c = line_is c.number_values.ensures (λ v. Asks (On (number_ask c.args.w v))) c.in_ok-v.was

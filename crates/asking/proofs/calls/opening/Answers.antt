@@ -4,33 +4,33 @@ use Rattle.reading.specs.Given.{number_at}
 use Rattle.asking.proofs.Openings.{no-limit, no-places, more_fields, limit_above, places-above, opening_is}
 use Rattle.asking.proofs.calls.opening.Goals as goal
 
-pub returns-in_default : goal.returns-in_default
-returns-in_default c = no-limit c.number_at.ensures (ap number_at c.in_default.is)
+pub returns-in_err-limit : goal.returns-in_err-limit
+returns-in_err-limit c = rw c.from_residual.ensures (no-limit c.number_at.ensures (ap number_at c.in_err-limit.was))
 
-pub returns-in_default-number_at : goal.returns-in_default-number_at
-returns-in_default-number_at c =
-    no-places c.number_at.ensures (ap number_at c.in-Some.is) c.number_at-2.ensures
-    (ap number_at c.in_default-number_at.is)
+pub returns-in_err-places : goal.returns-in_err-places
+returns-in_err-places c = rw c.from_residual-in_err-places.ensures (
+    no-places c.number_at.ensures (ap number_at c.in_ok-limit.was) c.number_at-2.ensures
+    (ap number_at c.in_err-places.was))
 
-pub returns-then-end-line : goal.returns-then-end-line
-returns-then-end-line c =
-    more_fields c.number_at.ensures (ap number_at c.in-Some.is)
-    c.number_at-2.ensures (ap number_at c.in-Some-number_at.is) c.if-end-line.true
+pub returns-then-places-line : goal.returns-then-places-line
+returns-then-places-line c =
+    more_fields c.number_at.ensures (ap number_at c.in_ok-limit.was)
+    c.number_at-2.ensures (ap number_at c.in_ok-places.was) c.if-places-line.true
 
-pub returns-then-l-gt100 : goal.returns-then-l-gt100
-returns-then-l-gt100 c =
+pub returns-then-limit-gt100 : goal.returns-then-limit-gt100
+returns-then-limit-gt100 c =
     limit_above c.number_at.ensures
-    (ap number_at c.in-Some.is) c.number_at-2.ensures
-    (ap number_at c.in-Some-number_at.is) c.if-end-line.false c.if-l-gt100.true
+    (ap number_at c.in_ok-limit.was) c.number_at-2.ensures
+    (ap number_at c.in_ok-places.was) c.if-places-line.false c.if-limit-gt100.true
 
-pub returns-then-q-gt2 : goal.returns-then-q-gt2
-returns-then-q-gt2 c =
+pub returns-then-places-gt2 : goal.returns-then-places-gt2
+returns-then-places-gt2 c =
     places-above c.number_at.ensures
-    (ap number_at c.in-Some.is) c.number_at-2.ensures
-    (ap number_at c.in-Some-number_at.is) c.if-end-line.false c.if-l-gt100.false c.if-q-gt2.true
+    (ap number_at c.in_ok-limit.was) c.number_at-2.ensures
+    (ap number_at c.in_ok-places.was) c.if-places-line.false c.if-limit-gt100.false c.if-places-gt2.true
 
 pub returns : goal.returns
 returns c =
     opening_is c.number_at.ensures
-    (ap number_at c.in-Some.is) c.number_at-2.ensures
-    (ap number_at c.in-Some-number_at.is) c.if-end-line.false c.if-l-gt100.false c.if-q-gt2.false
+    (ap number_at c.in_ok-limit.was) c.number_at-2.ensures
+    (ap number_at c.in_ok-places.was) c.if-places-line.false c.if-limit-gt100.false c.if-places-gt2.false
