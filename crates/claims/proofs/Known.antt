@@ -5,18 +5,16 @@ use mathlib.Core.Bool.{Bool, true, false, ◌||◌}
 use mathlib.Core.List.{List}
 use mathlib.Core.Option.{Option, none, some}
 use native.Mathlib.Omega.{arith}
-use lib.Dec.{ltb, eqb}
-use borrow.Author.Tests.{eq-eqb, ne_eqb, le-ltb}
 use Rattle.std.specs.Option.{option_eq, is_some as is_some_of}
 use Rattle.std.specs.Prelude.{Some, None}
 use Rattle.ident.specs.Number.{Key}
-use Rattle.machine.specs.Limits.{Limits, word, max_parents}
-use Rattle.machine.specs.State.{Owner, Package, Request, Table, State, on_table, limits_of, enqueued_in, is_some}
+use Rattle.machine.specs.Limits.{word, max_parents}
+use Rattle.machine.specs.State.{Owner, Package, Request, Table, State, on_table, limits_of, is_some}
 use Rattle.machine.specs.Table.{at}
 use Rattle.machine.specs.Call.{key_bytes}
 use Rattle.machine.specs.Fail.{announce_parents, parents_for, forget}
 use Rattle.machine.specs.Leave.{alive, guarded, owner_parents, forget_known}
-use Rattle.machine.specs.Sound.{Lawful, Sound}
+use Rattle.machine.specs.Sound.{Sound}
 use Rattle.machine.proofs.Table.{lawful_at}
 use Rattle.machine.proofs.Fail.{owner-peer}
 use Rattle.machine.proofs.Kept.{sound-table}

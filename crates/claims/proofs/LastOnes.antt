@@ -21,7 +21,7 @@ use Rattle.machine.proofs.Tests.{test, never, and_left, and_right}
 use Rattle.package_stages.specs.Changes.{combined_of}
 use Rattle.package_stages.specs.Dead.{filter}
 use Rattle.package_stages.proofs.Seeking.{holding}
-use Rattle.claims.specs.Awaited.{awaiting, is_claim, claims_in, hash_of, sum_of, last_among, key_found, ClaimsAre}
+use Rattle.claims.specs.Awaited.{awaiting, is_claim, claims_in, hash_of, sum_of, last_among, ClaimsAre}
 use Rattle.claims.proofs.Noting.{awaiting-place}
 
 -- ---- the machine's
@@ -108,8 +108,8 @@ module _ {c : ℕ} {hs xs : List ℕ} {j : ℕ} (i : ℕ) (v : NoneFrom c hs xs 
   pub none_more : eqb (get_or xs i 0) c ≡ false → NoneFrom c hs xs i
   none_more n = record { most = omega (arith, v.most); is = step_is ∙ rw n }
 
-  pub found_here : {h : ℕ} → eqb (get_or xs i 0) c ≡ true → h ≡ get_or hs i 0 → key_found true h ≡ last_among c hs xs
+  pub found_here : {h : ℕ} → eqb (get_or xs i 0) c ≡ true → h ≡ get_or hs i 0 → some (wtxid h) ≡ last_among c hs xs
   found_here {h} y q = sym (later_wins c i hs xs (wtxid h) (step_is ∙ rw (y, q)))
 
-pub found_none : {c : ℕ} {hs xs : List ℕ} {j : ℕ} (h : ℕ) → NoneFrom c hs xs j → j ≤ 0 → key_found false h ≡ last_among c hs xs
-found_none {c} {hs} {xs} {j} h v z = let e : j ≡ 0 = omega arith in sym (rw e at v.is)
+pub found_none : {c : ℕ} {hs xs : List ℕ} {j : ℕ} → NoneFrom c hs xs j → j ≤ 0 → none ≡ last_among c hs xs
+found_none {c} {hs} {xs} {j} v z = let e : j ≡ 0 = omega arith in sym (rw e at v.is)

@@ -8,10 +8,8 @@ use mathlib.Core.Option.{Option, none, some}
 use native.Mathlib.Nat.{add-zero}
 use native.Mathlib.Numerals.{add-one}
 use native.Mathlib.Omega.{arith}
-use lib.Dec.{eqb}
 use lib.ListN.{length, take, drop, get_or, length-append, length-drop, length-map, drop_of_length-le, take-append-drop}
 use lib.Seq.{take_at, drop_at, take_all, drop-drop, take-suc}
-use borrow.Author.Tests.{eq-eqb, ne_eqb}
 use Rattle.ident.specs.Number.{Key, wtxid}
 use Rattle.machine.specs.Limits.{Limits, word, max_parents, max_places}
 use Rattle.machine.specs.State.{Table, State, on_table, limits_of, owner_is}

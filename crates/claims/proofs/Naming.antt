@@ -8,6 +8,10 @@ use mathlib.Core.Option.{Option, none, some}
 use native.Mathlib.Omega.{arith}
 use lib.Dec.{eqb}
 use lib.ListN.{length, take, get_or, length-map}
+use Rattle.std.specs.Prelude as std
+use Rattle.std.specs.Bool.{then_some}
+use Rattle.ident.specs.declared.Hash.{Hash}
+use Rattle.ident.specs.Words.{hash_num}
 use Rattle.ident.specs.declared.ItemKind.{ItemKind}
 use Rattle.ident.specs.declared.ItemKind.TheVariants.{Other}
 use Rattle.ident.specs.Number.{Key, Item}
@@ -22,7 +26,7 @@ use Rattle.machine.proofs.Tests.{test, never}
 use Rattle.machine.proofs.Failing.{HoldsPlace, holds_claims}
 use Rattle.lent_lists.specs.Lists.{hashes_in}
 use Rattle.lent_lists.specs.Items.{items_in}
-use Rattle.claims.specs.Awaited.{last_among, ClaimsAre, package_named, entries_in, given_in, hash_found, last_of}
+use Rattle.claims.specs.Awaited.{ClaimsAre, package_named, entries_in, given_in, hash_found, last_of}
 use Rattle.claims.proofs.LastOnes.{last_given}
 
 -- ---- the hashes given
@@ -127,20 +131,14 @@ pub entries-hashes : (items : Bool) (b : List ℕ) → items ≡ false → lengt
 entries-hashes true b e = never (sym e)
 entries-hashes false b e = sym (length-map (hashes_in b) some)
 
-named_held : (i : Item) {held : Bool} → held ≡ is_type msg_pkg_txns i.kind → hash_found held i.hash ≡ package_named i
-named_held i e = elim (test (is_type msg_pkg_txns i.kind)) [ inl d ↦ rw (e, d) | inr d ↦ rw (e, d) ]
+named_held : (i : Item) (h : Hash) {held : Bool} → held ≡ is_type msg_pkg_txns i.kind → hash_num h ≡ i.hash → hash_found (then_some held h) ≡ package_named i
+named_held i h e q = elim (test (is_type msg_pkg_txns i.kind)) [ inl d ↦ rw (e, d) (ap some q) | inr d ↦ rw (e, d) ]
 
-pub entry-item : (items : Bool) (b : List ℕ) (i : ℕ) (x : Item) {held : Bool} → items ≡ true → i < length (entries_in items b) → ((d : Item) → x ≡ get_or (items_in b) i d)
-    → held ≡ is_type msg_pkg_txns x.kind → hash_found held x.hash ≡ get_or (entries_in items b) i none
-entry-item true b i x e h is q = named_held x q ∙ ap package_named (is x) ∙ named_at package_named (items_in b) i x (omega (arith, entries-items true b refl))
-entry-item false b i x e h is q = never e
+pub entry-item : (items : Bool) (b : List ℕ) (i : ℕ) (x : Item) (h : Hash) {held : Bool} {r : std.Option Hash} → items ≡ true → i < length (entries_in items b) → ((d : Item) → x ≡ get_or (items_in b) i d)
+    → held ≡ is_type msg_pkg_txns x.kind → hash_num h ≡ x.hash → r ≡ then_some held h → hash_found r ≡ get_or (entries_in items b) i none
+entry-item true b i x h e l is q s t = ap hash_found t ∙ named_held x h q s ∙ ap package_named (is x) ∙ named_at package_named (items_in b) i x (omega (arith, entries-items true b refl))
+entry-item false b i x h e l is q s t = never e
 
-pub entry-hash : (items : Bool) (b : List ℕ) (i : ℕ) {h : ℕ} → items ≡ false → i < length (entries_in items b) → h ≡ get_or (hashes_in b) i 0 → hash_found true h ≡ get_or (entries_in items b) i none
+pub entry-hash : (items : Bool) (b : List ℕ) (i : ℕ) {h : ℕ} → items ≡ false → i < length (entries_in items b) → h ≡ get_or (hashes_in b) i 0 → some h ≡ get_or (entries_in items b) i none
 entry-hash true b i e l q = never (sym e)
 entry-hash false b i e l q = ap some q ∙ named_at some (hashes_in b) i 0 (omega (arith, entries-hashes false b refl))
-
-pub held_last : {b : Bool} (h : ℕ) (hs xs : List ℕ) → b ≡ true → last_among h hs xs ≡ last_of (hash_found b h) hs xs
-held_last h hs xs e = rw e
-
-pub unheld_last : {b : Bool} (h : ℕ) (hs xs : List ℕ) → b ≡ false → last_of (hash_found b h) hs xs ≡ none
-unheld_last h hs xs e = rw e

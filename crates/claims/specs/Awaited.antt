@@ -1,7 +1,10 @@
 -- failed_package_claims: the claims of a connection in the table, in rows and in lists of hashes; keys listed behind others.
-use Rattle.std.specs.Prelude.{ℕ, ◌+◌, ◌*◌, ◌≤◌, ◌⊎◌, ◌≡◌, Bool, true, false, not, ◌&&◌, List, [], ◌∷◌, ◌++◌, map, eqb, length, take, drop, if◌then◌else◌}
+use Rattle.std.specs.Prelude as std
+use Rattle.std.specs.Prelude.{Some, None, ℕ, ◌+◌, ◌*◌, ◌≤◌, ◌⊎◌, ◌≡◌, Bool, true, false, not, ◌&&◌, List, [], ◌∷◌, ◌++◌, map, eqb, length, take, drop, if◌then◌else◌}
 use Rattle.std.proofs.Math.Option.{Option, none, some}
+use Rattle.ident.specs.declared.Hash.{Hash}
 use Rattle.ident.specs.Number.{Key, Item, wtxid}
+use Rattle.ident.specs.Words.{hash_num}
 use Rattle.regions.specs.declared.Row.{Row}
 use Rattle.machine.specs.Limits.{Limits, max_in_flight, max_parents, msg_pkg_txns}
 use Rattle.machine.specs.State.{Package, Request, Table, State, limits_of, on_table, owner_is, is_some}
@@ -71,9 +74,9 @@ last_among c (h ∷ hs) (x ∷ xs) =
     else if eqb x c then some (wtxid h)
     else none
 
-abbrev pub key_found : Bool → ℕ → Option Key
-key_found true h = some (wtxid h)
-key_found false h = none
+abbrev pub key_found : std.Option Hash → Option Key
+key_found None = none
+key_found (Some h) = some (wtxid (hash_num h))
 
 -- the claims of n, noted in the hashes hs and xs
 pub record ClaimsAre (n : ℕ) (t : Table) (hs xs : List ℕ) : Type 0 where
@@ -93,9 +96,9 @@ abbrev pub given_in : Bool → List ℕ → List ℕ
 given_in true b = packages_in (items_in b)
 given_in false b = hashes_in b
 
-abbrev pub hash_found : Bool → ℕ → Option ℕ
-hash_found true h = some h
-hash_found false h = none
+abbrev pub hash_found : std.Option Hash → Option ℕ
+hash_found None = none
+hash_found (Some h) = some (hash_num h)
 
 abbrev pub last_of : Option ℕ → List ℕ → List ℕ → Option Key
 last_of none hs xs = none

@@ -91,29 +91,18 @@ fn claims_of(s: &[u8], n: u64, keys: &mut [u8], sums: &mut [u8]) -> usize
     m
 }
 
-// A hash, if it is held: that of a claim's key, or one that is given.
-#[derive(Clone, Copy)]
-struct Found {
-    hash: ident::Hash,
-    held: bool,
-}
-
 // The last claim noted with the combined hash c: of two, that at the greater key.
-fn latest(keys: &[u8], sums: &[u8], c: ident::Hash) -> Found
+fn latest(keys: &[u8], sums: &[u8], c: ident::Hash) -> Option<ident::Hash>
     requires { length (hashes_in sums.now) ≡ length (hashes_in keys.now) }
-    ensures { key_found result.held (hash_num result.hash) ≡ last_among (hash_num c) (hashes_in keys.now) (hashes_in sums.now) }
+    ensures { key_found result ≡ last_among (hash_num c) (hashes_in keys.now) (hashes_in sums.now) }
 {
     for j in (0..lent_lists::hashes(keys)).rev() {
         let x = lent_lists::hash_in(sums, j);
         if lent_lists::same_hash(x, c) {
-            let hash = lent_lists::hash_in(keys, j);
-            return Found { hash, held: true };
+            return Some(lent_lists::hash_in(keys, j));
         }
     }
-    Found {
-        hash: c,
-        held: false,
-    }
+    None
 }
 
 // failed_with_parents at the Wtxid key with hash h, unless it has failed before; lists its keys in `out` behind c others.
@@ -150,12 +139,9 @@ fn fail_latest(
     ensures { ListedOn s.old s.new out.old out.new c result
         (λ m t. fail_each m n clock (some_keys (last_among (hash_num sum) (hashes_in keys.now) (hashes_in sums.now) ∷ [])) t) }
 {
-    let f = latest(keys, sums, sum);
-    if f.held {
-        let h = f.hash;
-        fail_claim(s, n, h, clock, out, c)
-    } else {
-        c
+    match latest(keys, sums, sum) {
+        Some(h) => fail_claim(s, n, h, clock, out, c),
+        None => c,
     }
 }
 
@@ -163,12 +149,7 @@ fn fail_latest(
 fn is_package(kind: ident::ItemKind) -> bool
     ensures { result ≡ is_type msg_pkg_txns kind }
 {
-    match kind {
-        ident::ItemKind::Transaction => false,
-        ident::ItemKind::WitnessTransaction => false,
-        ident::ItemKind::WTx => false,
-        ident::ItemKind::Other(t) => t == MSG_PKGTXNS,
-    }
+    matches!(kind, ident::ItemKind::Other(MSG_PKGTXNS))
 }
 
 // The entries of a list: items, or else hashes.
@@ -183,19 +164,15 @@ fn entries(given: &[u8], items: bool) -> usize
 }
 
 // The combined hash that an entry gives: an item gives one if it names a package.
-fn entry_at(given: &[u8], items: bool, i: usize) -> Found
+fn entry_at(given: &[u8], items: bool, i: usize) -> Option<ident::Hash>
     requires { i < length (entries_in items given.now) }
-    ensures { hash_found result.held (hash_num result.hash) ≡ get_or (entries_in items given.now) i none }
+    ensures { hash_found result ≡ get_or (entries_in items given.now) i none }
 {
     if items {
         let item = lent_lists::item_at(given, i);
-        let kind = item.kind;
-        let hash = item.hash;
-        let held = is_package(kind);
-        Found { hash, held }
+        is_package(item.kind).then_some(item.hash)
     } else {
-        let hash = lent_lists::hash_in(given, i);
-        Found { hash, held: true }
+        Some(lent_lists::hash_in(given, i))
     }
 }
 
@@ -203,7 +180,7 @@ fn entry_at(given: &[u8], items: bool, i: usize) -> Found
 fn fail_entry(
     s: &mut [u8],
     n: u64,
-    g: Found,
+    given: Option<ident::Hash>,
     clock: u64,
     keys: &[u8],
     sums: &[u8],
@@ -211,16 +188,14 @@ fn fail_entry(
     c: usize,
 ) -> usize
     requires { Kept s.old × (1 ≤ n) × (key_bytes * c ≤ length out.old) × (length (hashes_in sums.now) ≡ length (hashes_in keys.now))
-        × ((k : Key) → last_of (hash_found g.held (hash_num g.hash)) (hashes_in keys.now) (hashes_in sums.now) ≡ some k
+        × ((k : Key) → last_of (hash_found given) (hashes_in keys.now) (hashes_in sums.now) ≡ some k
         → Tells s.old (λ t. owner_is n (at k t).owner ≡ true → key_bytes * (c + (max_parents + 1)) ≤ length out.old)) × (c ≤ (max_parents + 1) * max_places) }
     ensures { ListedOn s.old s.new out.old out.new c result
-        (λ m t. fail_each m n clock (some_keys (last_of (hash_found g.held (hash_num g.hash)) (hashes_in keys.now) (hashes_in sums.now) ∷ [])) t) }
+        (λ m t. fail_each m n clock (some_keys (last_of (hash_found given) (hashes_in keys.now) (hashes_in sums.now) ∷ [])) t) }
 {
-    if g.held {
-        let sum = g.hash;
-        fail_latest(s, n, sum, clock, keys, sums, out, c)
-    } else {
-        c
+    match given {
+        Some(sum) => fail_latest(s, n, sum, clock, keys, sums, out, c),
+        None => c,
     }
 }
 
@@ -241,8 +216,8 @@ fn fail_given(
     let count = entries(given, items);
     let mut c = 0;
     for i in 0..count {
-        let g = entry_at(given, items, i);
-        c = fail_entry(s, n, g, clock, keys, sums, out, c);
+        let entry = entry_at(given, items, i);
+        c = fail_entry(s, n, entry, clock, keys, sums, out, c);
     }
     c
 }

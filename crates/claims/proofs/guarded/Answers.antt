@@ -1,4 +1,4 @@
-use mathlib.Core.Path.{refl, sym, ◌∙◌}
+use mathlib.Core.Path.{sym, ◌∙◌}
 use Rattle.claims.proofs.Known.{guarded-enqueued, guarded_in_time, guarded_not}
 use Rattle.claims.proofs.guarded.Goals as goal
 

@@ -5,6 +5,13 @@ use Rattle.failing.proofs.Handing.{few_first, first_are}
 use Rattle.claims.proofs.Known.{room-keys, named_positive, hand_none, hand_some}
 use Rattle.claims.proofs.hand_on.Goals as goal
 
+pub parents_for-m-requires : goal.parents_for-m-requires
+parents_for-m-requires c = (
+  c.requires,
+  named_positive (key_num c.args.k) c.args.clock (λ st s w. c.request_at-r.ensures.is st s w) c.requires c.in-Some.is,
+  omega arith,
+)
+
 pub announce_parents-requires : goal.announce_parents-requires
 announce_parents-requires c = (
   c.requires,

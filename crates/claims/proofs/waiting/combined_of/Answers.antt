@@ -1,4 +1,4 @@
-use mathlib.Core.Path.{refl, sym, ◌∙◌}
+use mathlib.Core.Path.{refl, ◌∙◌}
 use Rattle.ident.specs.Number.{wtxid}
 use Rattle.ident.specs.Words.{hash_num}
 use Rattle.machine.specs.Table.{at}

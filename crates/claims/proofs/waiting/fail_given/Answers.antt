@@ -2,7 +2,6 @@ use Prim.Native.Nat.{◌<◌}
 use mathlib.Core.Path.{ap}
 use native.Mathlib.Omega.{arith}
 use lib.ListN.{length}
-use Rattle.ident.specs.Words.{hash_num}
 use Rattle.machine.specs.Limits.{word}
 use Rattle.machine.proofs.Fail.{Peer}
 use Rattle.claims.specs.Awaited.{entries_in, given_in, hash_found}
@@ -14,8 +13,8 @@ pub loop-i-init : goal.loop-i-init
 loop-i-init c = failed_none _ _ c.args.n c.args.clock
     (entries_in c.args.items c.args.given.now)
 
-pub entry_at-g-requires : goal.entry_at-g-requires
-entry_at-g-requires c = omega (arith, c.entries-count.ensures, c.loop-i-test.true)
+pub entry_at-entry-requires : goal.entry_at-entry-requires
+entry_at-entry-requires c = omega (arith, c.entries-count.ensures, c.loop-i-test.true)
 
 pub fail_entry-c-requires : goal.fail_entry-c-requires
 fail_entry-c-requires c =
@@ -31,8 +30,8 @@ fail_entry-c-requires c =
       c.requires.1,
       failed-fits v peer late kept (ap length given) c.requires.2,
       same_many (c.requires.3 kept.state kept.sound kept.writes),
-      failed-room v peer late kept (ap length given) c.requires.2 (hash_found c.entry_at-g.result.held (hash_num c.entry_at-g.result.hash)) inside
-          c.entry_at-g.ensures c.requires.3,
+      failed-room v peer late kept (ap length given) c.requires.2 (hash_found c.entry_at-entry.result) inside
+          c.entry_at-entry.ensures c.requires.3,
       failed_few v peer late kept,
     )
 
@@ -47,8 +46,7 @@ loop-i-preserved c =
       c.entries-count.ensures,
       c.loop-i-test.true,
     ) in
-    failed_more v peer late (hash_found c.entry_at-g.result.held
-    (hash_num c.entry_at-g.result.hash)) inside c.entry_at-g.ensures
+    failed_more v peer late (hash_found c.entry_at-entry.result) inside c.entry_at-entry.ensures
     c.requires.3 (omega (arith, c.fail_entry-c.auto)) (omega (arith, c.fail_entry-c.auto))
     c.fail_entry-c.ensures
 

@@ -1,12 +1,11 @@
-use mathlib.Core.Path.{sym, ap, ◌∙◌}
-use mathlib.Core.Bool.{Bool}
+use mathlib.Core.Path.{sym}
 use mathlib.Core.List.{[], ◌∷◌}
 use Rattle.ident.specs.Number.{wtxid}
 use Rattle.ident.specs.Words.{hash_num}
 use Rattle.machine.specs.State.{limits_of}
 use Rattle.machine.specs.Package.{failed_with_parents, fail_each, some_keys}
 use Rattle.lent_lists.specs.Lists.{hashes_in}
-use Rattle.claims.specs.Awaited.{last_among, key_found}
+use Rattle.claims.specs.Awaited.{last_among}
 use Rattle.claims.proofs.Listing.{nothing_on, same_on, found_each, missing_each}
 use Rattle.claims.proofs.waiting.fail_latest.Goals as goal
 
@@ -15,36 +14,20 @@ fail_claim-requires c = (
   c.requires.0,
   c.requires.1,
   c.requires.2,
-  c.requires.4 (wtxid
-      (hash_num c.latest-f.result.hash)) (sym c.latest-f.ensures ∙ ap (λ (b : Bool). key_found b (hash_num
-      c.latest-f.result.hash)) c.if-f.true),
+  c.requires.4 (wtxid (hash_num c.in-Some.h)) (sym c.in-Some.ensures),
   c.requires.5,
 )
 
-pub returns-then-f : goal.returns-then-f
-returns-then-f c = same_on (λ m t. failed_with_parents m (wtxid (hash_num c.latest-f.result.hash))
-    c.args.n
-    c.args.clock t)
-    (λ m t. fail_each m c.args.n
-    c.args.clock
-    (some_keys ((last_among (hash_num c.args.sum)
-    (hashes_in c.args.keys.now)
-    (hashes_in c.args.sums.now)) ∷ [])) t)
-    (found_each (last_among (hash_num c.args.sum)
-    (hashes_in c.args.keys.now)
-    (hashes_in c.args.sums.now))
-    (wtxid (hash_num c.latest-f.result.hash))
-    c.args.n
-    c.args.clock
-    (sym c.latest-f.ensures ∙ ap (λ (b : Bool). key_found b
-    (hash_num c.latest-f.result.hash)) c.if-f.true))
+pub returns-in-Some : goal.returns-in-Some
+returns-in-Some c =
+    let o = last_among (hash_num c.args.sum) (hashes_in c.args.keys.now) (hashes_in c.args.sums.now) in
+    same_on (λ m t. failed_with_parents m (wtxid (hash_num c.in-Some.h)) c.args.n c.args.clock t)
+    (λ m t. fail_each m c.args.n c.args.clock (some_keys (o ∷ [])) t)
+    (found_each o (wtxid (hash_num c.in-Some.h)) c.args.n c.args.clock (sym c.in-Some.ensures))
     c.fail_claim.ensures
 
-pub returns-else-f : goal.returns-else-f
-returns-else-f c = nothing_on _ c.args.c (λ m t. fail_each m c.args.n
-    c.args.clock (some_keys ((last_among (hash_num c.args.sum)
-    (hashes_in c.args.keys.now) (hashes_in c.args.sums.now)) ∷ [])) t)
-    (λ st s w. missing_each (last_among (hash_num c.args.sum) (hashes_in c.args.keys.now)
-    (hashes_in c.args.sums.now)) c.args.n
-    c.args.clock (sym c.latest-f.ensures ∙ ap (λ (b : Bool). key_found b (hash_num c.latest-f.result.hash)) c.if-f.false)
-    (limits_of st) st.table)
+pub returns-in-None : goal.returns-in-None
+returns-in-None c =
+    let o = last_among (hash_num c.args.sum) (hashes_in c.args.keys.now) (hashes_in c.args.sums.now) in
+    nothing_on _ c.args.c (λ m t. fail_each m c.args.n c.args.clock (some_keys (o ∷ [])) t)
+    (λ st s w. missing_each o c.args.n c.args.clock (sym c.in-None.ensures) (limits_of st) st.table)

@@ -12,14 +12,14 @@ loop-j-init c = none_yet _ _ _ c.hashes-j.ensures
 pub hash_in-x-requires : goal.hash_in-x-requires
 hash_in-x-requires c = omega (arith, c.loop-j-test.true, c.loop-j.invariant.most, c.requires)
 
-pub hash_in-hash-requires : goal.hash_in-hash-requires
-hash_in-hash-requires c = omega (arith, c.loop-j-test.true, c.loop-j.invariant.most)
+pub hash_in-requires : goal.hash_in-requires
+hash_in-requires c = omega (arith, c.loop-j-test.true, c.loop-j.invariant.most)
 
 pub returns-then-same_hash : goal.returns-then-same_hash
 returns-then-same_hash c = found_here (c.loop-j.j - 1) c.loop-j.invariant
     c.requires (omega (arith, c.loop-j-test.true))
     (ap (λ (z : ℕ). eqb z (hash_num c.args.c)) (sym c.hash_in-x.ensures) ∙
-    sym c.same_hash.ensures ∙ c.if-same_hash.true) c.hash_in-hash.ensures
+    sym c.same_hash.ensures ∙ c.if-same_hash.true) c.hash_in.ensures
 
 pub loop-j-preserved : goal.loop-j-preserved
 loop-j-preserved c = none_more (c.loop-j.j - 1) c.loop-j.invariant c.requires
@@ -27,4 +27,4 @@ loop-j-preserved c = none_more (c.loop-j.j - 1) c.loop-j.invariant c.requires
     (sym c.hash_in-x.ensures) ∙ sym c.same_hash.ensures ∙ c.if-same_hash.false)
 
 pub returns : goal.returns
-returns c = found_none (hash_num c.args.c) c.loop-j.invariant (omega (arith, c.loop-j-test.false))
+returns c = found_none c.loop-j.invariant (omega (arith, c.loop-j-test.false))
