@@ -1,10 +1,12 @@
 -- Next poll and cursors of the state that bytes write: as the header's words have them, and with others in their place.
-use Prim.Native.Nat.{ℕ}
+use Prim.Native.Nat.{ℕ, ◌+◌}
 use mathlib.Core.Path.{◌≡◌, sym, ap, subst, ◌∙◌}
 use mathlib.Core.Bool.{Bool}
 use mathlib.Core.List.{List, [], ◌++◌}
 use mathlib.Core.Option.{Option, none}
 use lib.ListN.{length, get_or}
+use Rattle.std.specs.Prelude as rust
+use Rattle.ident.specs.declared.Key.{Key as KeyRead}
 use Rattle.ident.specs.Number.{Key}
 use Rattle.ident.specs.Words.{maybe_key_num}
 use Rattle.words.specs.Words.{words, splice}
@@ -16,10 +18,8 @@ use Rattle.store.specs.Read.{poll_is, head_in}
 use Rattle.store.proofs.Frame.{row_part, conn_part, place_part, framed_is, words_framed}
 use Rattle.store.proofs.HeadWords.{poll-words, cursor-words, in_words, head-words, head_back}
 use Rattle.cursors.specs.declared.Cursors.{Cursors}
-use Rattle.cursors.specs.declared.Fields.{Fields}
-use Rattle.cursors.specs.declared.Stored.{Stored}
 use Rattle.cursors.specs.Numbers.{Numbers, time_num, numbers_of, cursors_of, with_cursors, with_known, gate_at, Loads, Saves}
-use Rattle.cursors.specs.InWords.{poll_at, known_at, ready_at, stored_words, stored_key, stored_at, Reads, written, Stands, ReadyMoved}
+use Rattle.cursors.specs.InWords.{poll_at, known_at, ready_at, cursor_in, written, ReadyMoved}
 
 -- ---- the header
 
@@ -37,11 +37,11 @@ module _ (h : Head) (rows conns places : ℕ) (z : List ℕ) where
   unfolding head_in
   next_in = ap (λ (x : Head). x.next_poll) back
 
-  known_in : stored_key (stored_at W known_at) ≡ h.known_cursor
+  known_in : cursor_in W known_at ≡ h.known_cursor
   unfolding head_in
   known_in = ap (λ (x : Head). x.known_cursor) back
 
-  ready_in : stored_key (stored_at W ready_at) ≡ h.ready_cursor
+  ready_in : cursor_in W ready_at ≡ h.ready_cursor
   unfolding head_in
   ready_in = ap (λ (x : Head). x.ready_cursor) back
 
@@ -62,30 +62,29 @@ module _ (h : Head) (rows conns places : ℕ) (z : List ℕ) where
 abbrev behind : Flat → List ℕ
 behind f = row_part f.head.limit f.rows ++ (conn_part f.head.limit f.conns ++ place_part f.head.places f.places)
 
-pub loads : {b : List ℕ} (f : Fields) (c : Cursors) → Reads b f → time_num c.next ≡ time_num f.next → maybe_key_num c.known ≡ stored_key f.known → maybe_key_num c.ready ≡ stored_key
-    f.ready → Loads b c
-loads {b} f c r en ek er s w =
+pub loads : {b : List ℕ} (c : Cursors) → time_num c.next ≡ poll_is (get_or (words b) poll_at 0) (get_or (words b) (poll_at + 1) 0) → maybe_key_num c.known ≡ cursor_in (words b) known_at
+    → maybe_key_num c.ready ≡ cursor_in (words b) ready_at → Loads b c
+loads {b} c en ek er s w =
     let h = (flat_of s).head in
     let a = length (flat_of s).rows in
     let d = length (flat_of s).conns in
     let q = length (flat_of s).places in
     let z = behind (flat_of s) in
     let e : words b ≡ in_words h a d q ++ z = words_framed w ∙ ap (λ (x : List ℕ). x ++ z) (head-words h a d q) in
-    let n : time_num c.next ≡ s.next_poll = en ∙ r.next ∙ ap (λ (x : List ℕ). poll_is (get_or x 6 0) (get_or x 7 0)) e ∙ next_in h a d q z in
-    let k : maybe_key_num c.known ≡ s.known_cursor = ek ∙ ap stored_key r.known ∙ ap (λ (x : List ℕ). stored_key (stored_at x known_at)) e ∙ known_in h a d q z in
-    let y : maybe_key_num c.ready ≡ s.ready_cursor = er ∙ ap stored_key r.ready ∙ ap (λ (x : List ℕ). stored_key (stored_at x ready_at)) e ∙ ready_in h a d q z in
+    let n : time_num c.next ≡ s.next_poll = en ∙ ap (λ (x : List ℕ). poll_is (get_or x 6 0) (get_or x 7 0)) e ∙ next_in h a d q z in
+    let k : maybe_key_num c.known ≡ s.known_cursor = ek ∙ ap (λ (x : List ℕ). cursor_in x known_at) e ∙ known_in h a d q z in
+    let y : maybe_key_num c.ready ≡ s.ready_cursor = er ∙ ap (λ (x : List ℕ). cursor_in x ready_at) e ∙ ready_in h a d q z in
     (λ i. record { next = n i; known = k i; ready = y i })
 
-pub saves : {b b' : List ℕ} (f : Fields) (c : Cursors) → length b' ≡ length b → words b' ≡ written f (words b) → f.next ≡ c.next → Stands f.known (maybe_key_num c.known) → Stands f.ready
-    (maybe_key_num c.ready) → Saves b b' c
-saves {b} {b'} f c l e en ek er s w =
+pub saves : {b b' : List ℕ} (c : Cursors) → length b' ≡ length b → words b' ≡ written c (words b) → Saves b b' c
+saves {b} {b'} c l e s w =
     let h = (flat_of s).head in
     let a = length (flat_of s).rows in
     let d = length (flat_of s).conns in
     let q = length (flat_of s).places in
     record {
       long = l ∙ w.long;
-      words_are = e ∙ rw (en, ek, er, words_framed w) (over h a d q (behind (flat_of s)) (numbers_of c)) ∙ sym (framed_is (flat_of (with_cursors (numbers_of c) s)));
+      words_are = e ∙ rw (words_framed w) (over h a d q (behind (flat_of s)) (numbers_of c)) ∙ sym (framed_is (flat_of (with_cursors (numbers_of c) s)));
     }
 
 -- ---- a cursor by itself
@@ -100,23 +99,19 @@ module _ {b : List ℕ} (s : State) (w : Writes b s) where
   in_head : words b ≡ headed
   in_head = words_framed w ∙ ap (λ (x : List ℕ). x ++ behind flat) (head-words flat.head (length flat.rows) (length flat.conns) (length flat.places))
 
-  pub known_read : stored_key (stored_at (words b) known_at) ≡ s.known_cursor
-  known_read = ap (λ (x : List ℕ). stored_key (stored_at x known_at)) in_head ∙ known_in flat.head (length flat.rows) (length flat.conns) (length flat.places) (behind flat)
+  pub known_read : cursor_in (words b) known_at ≡ s.known_cursor
+  known_read = ap (λ (x : List ℕ). cursor_in x known_at) in_head ∙ known_in flat.head (length flat.rows) (length flat.conns) (length flat.places) (behind flat)
 
-  pub ready_read : stored_key (stored_at (words b) ready_at) ≡ s.ready_cursor
-  ready_read = ap (λ (x : List ℕ). stored_key (stored_at x ready_at)) in_head ∙ ready_in flat.head (length flat.rows) (length flat.conns) (length flat.places) (behind flat)
+  pub ready_read : cursor_in (words b) ready_at ≡ s.ready_cursor
+  ready_read = ap (λ (x : List ℕ). cursor_in x ready_at) in_head ∙ ready_in flat.head (length flat.rows) (length flat.conns) (length flat.places) (behind flat)
 
-pub ready_moved : {b b' : List ℕ} (c : Stored) → length b' ≡ length b → words b' ≡ splice (words b) ready_at (stored_words c) → ReadyMoved b b' c
+pub ready_moved : {b b' : List ℕ} (c : rust.Option KeyRead) → length b' ≡ length b → words b' ≡ splice (words b) ready_at (cursor_words (maybe_key_num c)) → ReadyMoved b b' c
 ready_moved {b} {b'} c l e k t s w =
     let f = flat_of s in
     record {
       long = l ∙ w.long;
       words_are = e ∙ rw (t, words_framed w) (over_ready f.head (length f.rows) (length f.conns) (length f.places) (behind f) k) ∙ sym (framed_is (flat_of (with_ready_cursor k s)));
     }
-
--- a cursor in words says the cursor that it stands for: it would be read so out of a header
-pub stands-key : (c : Stored) (k : Option Key) → Stands c k → stored_key c ≡ k
-stands-key c k e = ap (λ (w : List ℕ). stored_key (stored_at w 0)) (e ∙ cursor-words k) ∙ known_in (record { limit = 0; places = 0; next_poll = none; known_cursor = k; ready_cursor = none }) 0 0 0 []
 
 -- ---- a record loaded, changed and saved
 

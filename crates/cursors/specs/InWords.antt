@@ -1,14 +1,18 @@
 -- Next poll and cursors as words of the header (docs/STORE.md, words 6 to 17).
-use Rattle.std.specs.Prelude.{ℕ, ◌+◌, ◌≡◌, List, ◌∷◌, get_or, drop}
-use Rattle.std.proofs.Math.Option.{Option}
+use Rattle.std.specs.Prelude.{ℕ, ◌+◌, ◌≡◌, List, get_or, drop}
+use Rattle.std.specs.Prelude as rust
+use Rattle.std.specs.Prelude.{Some, None}
+use Rattle.std.proofs.Math.Option.{Option, none, some}
+use Rattle.ident.specs.declared.Kind.{Kind}
+use Rattle.ident.specs.declared.Key.{Key as KeyRead}
 use Rattle.ident.specs.Number.{Key}
-use Rattle.words.specs.Words.{words, splice}
-use Rattle.regions.specs.Rows.{quad_words, read_quad, quad_number}
+use Rattle.ident.specs.Words.{maybe_key_num}
+use Rattle.words.specs.Words.{splice}
+use Rattle.regions.specs.Rows.{read_quad, quad_number}
 use Rattle.machine.specs.State.{State, with_ready_cursor}
 use Rattle.store.specs.Image.{poll_words, cursor_words, Writes}
-use Rattle.store.specs.Read.{poll_is, cursor_is}
-use Rattle.cursors.specs.declared.Stored.{Stored}
-use Rattle.cursors.specs.declared.Fields.{Fields}
+use Rattle.store.specs.Read.{cursor_is}
+use Rattle.cursors.specs.declared.Cursors.{Cursors}
 use Rattle.cursors.specs.Numbers.{time_num}
 
 abbrev pub poll_at : ℕ
@@ -20,31 +24,23 @@ known_at = 8
 abbrev pub ready_at : ℕ
 ready_at = 13
 
--- the five words of a cursor, and the cursor that they say
-abbrev pub stored_words : Stored → List ℕ
-stored_words c = c.tag ∷ quad_words c.hash
+-- the kind that the tag of a cursor says, whatever its hash
+abbrev pub TagSays : ℕ → rust.Option Kind → Type 0
+TagSays tag None = (h : ℕ) → none ≡ cursor_is tag h
+TagSays tag (Some k) = (h : ℕ) → some (record { kind = k; hash = h }) ≡ cursor_is tag h
 
-abbrev pub stored_key : Stored → Option Key
-stored_key c = cursor_is c.tag (quad_number c.hash)
-
--- the words of a cursor that stand from the index a on
-abbrev pub stored_at : List ℕ → ℕ → Stored
-stored_at w a = record { tag = get_or w a 0; hash = read_quad (drop (a + 1) w) }
-
--- what the header says
-pub record Reads (b : List ℕ) (f : Fields) : Type 0 where
-  pub next : time_num f.next ≡ poll_is (get_or (words b) poll_at 0) (get_or (words b) (poll_at + 1) 0)
-  pub known : f.known ≡ stored_at (words b) known_at
-  pub ready : f.ready ≡ stored_at (words b) ready_at
+-- the cursor that the words from the index a on say
+abbrev pub cursor_in : List ℕ → ℕ → Option Key
+cursor_in w a = cursor_is (get_or w a 0) (quad_number (read_quad (drop (a + 1) w)))
 
 -- the words with other fields in the header
-abbrev pub written : Fields → List ℕ → List ℕ
-written f w = splice (splice (splice w poll_at (poll_words (time_num f.next))) known_at (stored_words f.known)) ready_at (stored_words f.ready)
+abbrev pub written : Cursors → List ℕ → List ℕ
+written c w = splice (splice (splice w poll_at (poll_words (time_num c.next))) known_at (cursor_words (maybe_key_num c.known))) ready_at (cursor_words (maybe_key_num c.ready))
 
--- c is how a store holds the cursor k
-abbrev pub Stands : Stored → Option Key → Type 0
-Stands c k = stored_words c ≡ cursor_words k
+-- c is the cursor k, as the code has it
+abbrev pub Stands : rust.Option KeyRead → Option Key → Type 0
+Stands c k = maybe_key_num c ≡ k
 
--- whatever state the bytes b write, b' write it with the ready cursor that c stands for
-abbrev pub ReadyMoved : List ℕ → List ℕ → Stored → Type 0
+-- whatever state the bytes b write, b' write it with the ready cursor c
+abbrev pub ReadyMoved : List ℕ → List ℕ → rust.Option KeyRead → Type 0
 ReadyMoved b b' c = (k : Option Key) → Stands c k → (s : State) → Writes b s → Writes b' (with_ready_cursor k s)

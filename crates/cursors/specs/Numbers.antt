@@ -1,18 +1,18 @@
 -- The record of next poll and cursors in the machine's numbers (document 01: "next poll time, known cursor, ready cursor, each possibly none").
 use Rattle.std.specs.Prelude.{ℕ, ◌≡◌, Bool, List}
+use Rattle.std.specs.Prelude as rust
+use Rattle.std.specs.Prelude.{Some, None}
 use Rattle.std.proofs.Math.Option.{Option, none, some}
 use Rattle.ident.specs.Number.{Key}
 use Rattle.ident.specs.Words.{maybe_key_num}
 use Rattle.machine.specs.State.{State, with_next_poll, with_known_cursor}
 use Rattle.machine.specs.Wrapper.{due_at, next_poll_after}
 use Rattle.store.specs.Image.{Writes}
-use Rattle.cursors.specs.declared.MaybeTime.{MaybeTime}
-use Rattle.cursors.specs.declared.MaybeTime.TheVariants.{None, Is}
 use Rattle.cursors.specs.declared.Cursors.{Cursors}
 
-abbrev pub time_num : MaybeTime → Option ℕ
+abbrev pub time_num : rust.Option ℕ → Option ℕ
 time_num None = none
-time_num (Is n) = some n
+time_num (Some n) = some n
 
 pub record Numbers : Type 0 where
   pub next : Option ℕ

@@ -19,12 +19,11 @@ pub struct Reply {
 pub fn fresh() -> selecting::Scan
     ensures { Fresh result }
 {
-    let last = cursors::no_cursor();
     selecting::Scan {
         chosen: 0,
         considered: 0,
         full: false,
-        last,
+        last: None,
     }
 }
 

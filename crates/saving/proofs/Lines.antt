@@ -2,20 +2,18 @@
 use Prim.Native.Nat.{ℕ, ◌+◌, ◌/◌, ◌%◌, ◌≤◌, ◌<◌}
 use mathlib.Core.Path.{◌≡◌, refl, sym, ap, ◌∙◌}
 use mathlib.Core.Bool.{Bool, true, false, ◌||◌}
-use mathlib.Core.Logic.{inl, inr}
 use mathlib.Core.List.{List, [], ◌∷◌, ◌++◌, append_assoc}
 use mathlib.Core.Option.{Option, none, some}
 use native.Mathlib.Omega.{arith}
 use lib.Dec.{eqb}
 use lib.ListN.{length}
-use borrow.Author.Tests.{ne_eqb, eqb-true}
+use borrow.Author.Tests.{ne_eqb}
 use Rattle.ident.specs.declared.Kind.TheVariants.{Wtxid}
-use Rattle.ident.specs.Number.{Key}
 use Rattle.regions.specs.declared.Row.{Row}
 use Rattle.regions.specs.Rows.{quad_number}
-use Rattle.machine.specs.State.{Candidate, Owner, Package, Request, State, on_table, with_candidates, is_some}
-use Rattle.machine.specs.Table.{has, one}
-use Rattle.machine.specs.Sound.{AllFit, OwnerFits, Packed, Lawful}
+use Rattle.machine.specs.State.{Package, Request, State, on_table, with_candidates, is_some}
+use Rattle.machine.specs.Table.{one}
+use Rattle.machine.specs.Sound.{Packed, Lawful}
 use Rattle.machine.specs.Text.{digit_text, numeral, decimal, hexadecimal, bool_text, joined}
 use Rattle.machine.specs.Listing.{
   short,
@@ -34,7 +32,6 @@ use Rattle.machine.specs.Listing.{
   candidate_fields,
 }
 use Rattle.machine.specs.Listing.{HeadLine, RequestLine, CandidateLine}
-use Rattle.machine.proofs.Tests.{test}
 use Rattle.store.specs.Gather.{kind_is, key_at, item_kind_as, candidate_at}
 use Rattle.package_stages.specs.Changes.{stage_of, wtxids_of, combined_of, has_place}
 use Rattle.saving.specs.Laid.{behind, line_text, place_texts}

@@ -10,7 +10,6 @@ use lib.Dec.{eqb}
 use lib.ListN.{length, take, get_or}
 use lib.Seq.{take-suc, take_all}
 use Rattle.std.specs.Option.{option_eq}
-use Rattle.std.specs.Prelude as rust
 use Rattle.std.specs.Prelude.{Some}
 use Rattle.ident.specs.declared.Kind.TheVariants.{Wtxid}
 use Rattle.ident.specs.declared.Key.{Key as IdentKey}
@@ -26,7 +25,6 @@ use Rattle.machine.specs.Listing.{short, none_text, maybe_fields, key_field, has
 use Rattle.machine.proofs.Table.{at_key, lawful_at}
 use Rattle.machine.proofs.Tests.{never}
 use Rattle.store.specs.Image.{Writes}
-use Rattle.store.specs.Shown.{held_places_in, Kept}
 use Rattle.store.specs.Gather.{kind_is}
 use Rattle.regions.proofs.Order.{number_quad}
 use Rattle.requests.specs.Changes.{KeyWords, Tells}
@@ -34,7 +32,7 @@ use Rattle.package_stages.specs.declared.Request.{Request as RequestRead}
 use Rattle.package_stages.specs.contracts.StagePartialEq.TheImpl.{eq-value}
 use Rattle.package_stages.specs.declared.Stage.{Stage}
 use Rattle.package_stages.specs.declared.Stage.TheVariants.{Flagged, Awaiting, Enqueued}
-use Rattle.package_stages.proofs.Read.{stage-is, stage-eq}
+use Rattle.package_stages.proofs.Read.{stage-is}
 use Rattle.package_stages.specs.Changes.{owner_as, stage_word, stage_of, wtxids_of, combined_of, has_place, PlaceSpot, SpotOf, ReadAt, RequestAt}
 use Rattle.saving.specs.Laid.{Lays, behind, place_texts, line_text}
 use Rattle.saving.proofs.Laying.{lays_as, lays_more, lays_none}

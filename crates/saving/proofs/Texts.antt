@@ -1,17 +1,15 @@
 -- Fields: what each branch of a writer lays is the field's text.
-use Prim.Native.Nat.{ℕ, zero, suc, ◌+◌, ◌-◌, ◌≤◌}
+use Prim.Native.Nat.{ℕ, zero, suc, ◌+◌, ◌≤◌}
 use mathlib.Core.Path.{◌≡◌, refl, sym, ap, ◌∙◌}
 use mathlib.Core.Bool.{Bool, true, false}
 use mathlib.Core.List.{List, [], ◌∷◌, ◌++◌, append_assoc, append-nil}
 use mathlib.Core.Option.{Option, none, some}
 use native.Mathlib.Omega.{arith}
 use lib.ListN.{length}
-use borrow.Author.Tests.{ne_eqb}
 use Rattle.ident.specs.declared.Kind.{Kind}
 use Rattle.ident.specs.declared.Kind.TheVariants.{Txid, Wtxid}
 use Rattle.ident.specs.declared.Hash.{Hash}
 use Rattle.ident.specs.declared.ItemKind.{ItemKind}
-use Rattle.ident.specs.Number.{Key}
 use Rattle.ident.specs.Words.{hash_num}
 use Rattle.regions.specs.declared.Quad.{Quad}
 use Rattle.regions.specs.Rows.{quad_number}
@@ -21,13 +19,14 @@ use Rattle.machine.specs.Listing.{short, none_text, maybe_field, maybe_fields, k
 use Rattle.machine.specs.State.{Owner}
 use Rattle.store.specs.Flat.{kind_bit}
 use Rattle.store.specs.Gather.{kind_is, item_kind_as}
-use Rattle.store.specs.Read.{cursor_is}
 use Rattle.requests.specs.Changes.{Words}
-use Rattle.cursors.specs.declared.MaybeTime.{MaybeTime}
-use Rattle.cursors.specs.declared.MaybeTime.TheVariants.{None, Is}
-use Rattle.cursors.specs.declared.Stored.{Stored}
+use Rattle.std.specs.Prelude as rust
+use Rattle.std.specs.Prelude.{Some, None}
+use Rattle.ident.specs.declared.Key.{Key as KeyRead}
+use Rattle.ident.specs.Words.{maybe_key_num}
+use Rattle.regions.specs.declared.Key.{Key as RowKey}
+use Rattle.requests.specs.Changes.{KeyWords}
 use Rattle.cursors.specs.Numbers.{time_num}
-use Rattle.cursors.specs.InWords.{stored_key}
 use Rattle.saving.specs.Laid.{Lays, behind}
 use Rattle.saving.proofs.Laying.{lays_as, lays_more}
 
@@ -99,23 +98,21 @@ hash_is {h} v = ap quad_number v.words_are ∙ number_quad (hash_num h)
 -- ---- next poll, a cursor
 
 module _ {s s' : List ℕ} {a r : ℕ} where
-  pub time_none : {m : MaybeTime} → m ≡ None → Lays s s' a (44 ∷ none_text) r → Lays s s' a (44 ∷ maybe_field (λ n. decimal n) (time_num m)) r
+  pub time_none : {m : rust.Option ℕ} → m ≡ None → Lays s s' a (44 ∷ none_text) r → Lays s s' a (44 ∷ maybe_field (λ n. decimal n) (time_num m)) r
   time_none e p = rw e p
 
-  pub time_some : {m : MaybeTime} {n : ℕ} → m ≡ Is n → Lays s s' a (44 ∷ decimal n) r → Lays s s' a (44 ∷ maybe_field (λ n. decimal n) (time_num m)) r
+  pub time_some : {m : rust.Option ℕ} {n : ℕ} → m ≡ Some n → Lays s s' a (44 ∷ decimal n) r → Lays s s' a (44 ∷ maybe_field (λ n. decimal n) (time_num m)) r
   time_some e p = rw e p
 
-  pub no-cursor : (c : Stored) → c.tag ≡ 0 → Lays s s' a (44 ∷ none_text) r → Lays s s' a (44 ∷ maybe_field (key_field short) (stored_key c)) r
-  no-cursor c e p = rw e p
+  pub no-cursor : {c : rust.Option KeyRead} → c ≡ None → Lays s s' a (44 ∷ none_text) r → Lays s s' a (44 ∷ maybe_field (key_field short) (maybe_key_num c)) r
+  no-cursor e p = rw e p
 
-cursor-key : (n h : ℕ) → (n ≡ 0 → ⊥) → cursor_is n h ≡ some (record { kind = kind_is (n - 1); hash = h })
-cursor-key zero h f = absurd (f refl)
-cursor-key (suc zero) h f = refl
-cursor-key (suc (suc n)) h f = let z : suc (suc n) - 1 ≡ suc n = omega arith in rw z
-
-pub cursor-laid : {s s₁ s₂ : List ℕ} {a e r : ℕ} (c : Stored) → (c.tag ≡ 0 → ⊥) → Lays s s₁ a (44 ∷ []) e
-    → Lays s₁ s₂ e (key_field short (record { kind = kind_is (c.tag - 1); hash = quad_number c.hash })) r → Lays s s₂ a (44 ∷ maybe_field (key_field short) (stored_key c)) r
-cursor-laid c f p q = lays_as (ap (λ (o : Option Key). 44 ∷ maybe_field (key_field short) o) (sym (cursor-key c.tag (quad_number c.hash) f))) (lays_more p q)
+pub cursor-laid : {s s₁ s₂ : List ℕ} {a e r : ℕ} {c : rust.Option KeyRead} (k : KeyRead) {w : RowKey} → c ≡ Some k → KeyWords k w → Lays s s₁ a (44 ∷ []) e
+    → Lays s₁ s₂ e (key_field short (record { kind = kind_is w.kind; hash = quad_number w.hash })) r → Lays s s₂ a (44 ∷ maybe_field (key_field short) (maybe_key_num c)) r
+cursor-laid {c = c} k {w} e x p q =
+    let kind : kind_is w.kind ≡ k.kind = ap kind_is x.kind ∙ bit-kind k.kind in
+    let hash : quad_number w.hash ≡ hash_num k.hash = ap quad_number x.hash ∙ number_quad (hash_num k.hash) in
+    lays_as ((λ i. 44 ∷ key_field short (record { kind = kind i; hash = hash i })) ∙ ap (λ (o : rust.Option KeyRead). 44 ∷ maybe_field (key_field short) (maybe_key_num o)) (sym e)) (lays_more p q)
 
 module _ {s s₁ s₂ : List ℕ} {a e r : ℕ} where
   pub key-laid : (k : Kind) (h : ℕ) → Lays s s₁ a (kind_letter k ∷ []) e → Lays s₁ s₂ e (hexadecimal h) r → Lays s s₂ a (key_field short (record { kind = k; hash = h })) r

@@ -1,12 +1,12 @@
 -- What the writers of a listing leave, and how far they go.
-use Rattle.std.specs.Prelude.{ℕ, ◌+◌, ◌*◌, ◌≤◌, ◌≡◌, List, [], ◌∷◌, ◌++◌, map, length, eqb, if◌then◌else◌}
+use Rattle.std.specs.Prelude.{ℕ, ◌+◌, ◌*◌, ◌≤◌, ◌≡◌, List, [], ◌∷◌, ◌++◌, map, length}
 use Rattle.words.specs.Words.{splice}
 use Rattle.regions.specs.declared.Row.{Row}
 use Rattle.machine.specs.State.{Request, State}
 use Rattle.machine.specs.Sound.{Sound}
 use Rattle.machine.specs.Step.{written}
-use Rattle.machine.specs.Text.{decimal_digits, decimal, hash_digits, joined}
-use Rattle.machine.specs.Listing.{none_text, short, list_fields, maybe_fields, package_fields, Line, CandidateLine, line_fields, text_of, listing}
+use Rattle.machine.specs.Text.{decimal_digits, hash_digits, joined}
+use Rattle.machine.specs.Listing.{short, list_fields, maybe_fields, package_fields, Line, CandidateLine, line_fields, text_of, listing}
 use Rattle.store.specs.Gather.{candidate_at}
 use Rattle.store.specs.Image.{Writes}
 

@@ -1,5 +1,6 @@
 // The first line: L, Q, next poll, known cursor, ready cursor.
 ghost use Rattle.std.specs.Prelude.{◌+◌, ◌≤◌, [], ◌∷◌};
+ghost use Rattle.ident.specs.Words.{maybe_key_num};
 ghost use Rattle.machine.specs.State.{State, on_table};
 ghost use Rattle.machine.specs.Sound.{Sound};
 ghost use Rattle.machine.specs.Text.{decimal};
@@ -7,36 +8,29 @@ ghost use Rattle.machine.specs.Listing.{short, maybe_field, key_field, HeadLine}
 ghost use Rattle.store.specs.Image.{Writes};
 ghost use Rattle.store.specs.Shown.{Kept};
 ghost use Rattle.cursors.specs.Numbers.{time_num};
-ghost use Rattle.cursors.specs.InWords.{stored_key};
 ghost use Rattle.saving.specs.Laid.{Lays, farthest, number_room, key_room, head_room, line_text};
 
 use crate::fields::{next_number, put_key, put_number, put_text};
 
-fn next_time(out: &mut [u8], at: usize, m: cursors::MaybeTime) -> usize
+fn next_time(out: &mut [u8], at: usize, m: Option<u64>) -> usize
     requires { at + number_room ≤ farthest }
     ensures { (result ≤ at + number_room) × Lays out.old out.new at (44 ∷ maybe_field (λ n. decimal n) (time_num m)) result }
 {
     match m {
-        cursors::MaybeTime::None => put_text(out, at, b",none"),
-        cursors::MaybeTime::Is(n) => next_number(out, at, n),
+        None => put_text(out, at, b",none"),
+        Some(n) => next_number(out, at, n),
     }
 }
 
-fn next_cursor(out: &mut [u8], at: usize, c: cursors::Stored) -> usize
+fn next_cursor(out: &mut [u8], at: usize, c: Option<ident::Key>) -> usize
     requires { at + (1 + key_room) ≤ farthest }
-    ensures { (result ≤ at + (1 + key_room)) × Lays out.old out.new at (44 ∷ maybe_field (key_field short) (stored_key c)) result }
+    ensures { (result ≤ at + (1 + key_room)) × Lays out.old out.new at (44 ∷ maybe_field (key_field short) (maybe_key_num c)) result }
 {
-    let tag = c.tag;
-    if tag == 0 {
+    let Some(k) = c else {
         return put_text(out, at, b",none");
-    }
-    let hash = c.hash;
-    let from = put_text(out, at, b",");
-    let k = regions::Key {
-        kind: tag - 1,
-        hash,
     };
-    put_key(out, from, k)
+    let from = put_text(out, at, b",");
+    put_key(out, from, requests::key_words(k))
 }
 
 pub fn put_head(s: &[u8], out: &mut [u8]) -> usize

@@ -24,7 +24,8 @@ use Rattle.store.specs.Shown.{rows_in, Kept}
 use Rattle.store.proofs.Frame.{sizes}
 use Rattle.requests.specs.declared.Window.{Window}
 use Rattle.announcing.specs.Evicts.{entry_at}
-use Rattle.cursors.specs.declared.Stored.{Stored}
+use Rattle.std.specs.Prelude as rust
+use Rattle.ident.specs.declared.Key.{Key as KeyRead}
 use Rattle.cursors.specs.InWords.{Stands}
 use Rattle.selecting.specs.declared.Scan.{Scan}
 use Rattle.choosing.specs.Choosing.{free_choice, Windows}
@@ -124,7 +125,7 @@ module _ (now : ℕ) (t : Table) (k : Key) (c : machine.Scan) where
   unfolding machine.consider
   last_is = refl
 
-pub considers : {b b' p p' : List ℕ} {now : ℕ} (k : Key) {x y : Window} {n' : ℕ} (v : Scan) (f : Bool) (q : Stored) → Kept b → OneSelected b b' p p' now x y v.chosen n' → Windows b
+pub considers : {b b' p p' : List ℕ} {now : ℕ} (k : Key) {x y : Window} {n' : ℕ} (v : Scan) (f : Bool) (q : rust.Option KeyRead) → Kept b → OneSelected b b' p p' now x y v.chosen n' → Windows b
     k.hash x y
     → now ≤ latest_clock → v.chosen < length p → Stands q (some k) → f ≡ leb max_request_checks n'
     → Considers b b' p p' now k v (record { chosen = n'; considered = v.considered + 1; full = f; last = q })

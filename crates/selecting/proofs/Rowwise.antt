@@ -21,8 +21,7 @@ use Rattle.store.specs.Shown.{rows_in}
 use Rattle.store.proofs.Frame.{sizes}
 use Rattle.announcing.specs.Evicts.{entry_at, part}
 use Rattle.announcing.proofs.Ranking.{map-take}
-use Rattle.cursors.specs.declared.Stored.{Stored}
-use Rattle.cursors.specs.InWords.{ready_at, stored_at, stored_key}
+use Rattle.cursors.specs.InWords.{ready_at, cursor_in}
 use Rattle.cursors.proofs.InState.{ready_read}
 use Rattle.sweeping.specs.Batches.{keys_over, last_row, AfterCursor}
 use Rattle.sweeping.proofs.Rounds.{keys_step, keys-rows, key-ends, key_goes_on}
@@ -90,11 +89,11 @@ module _ {b p : List ℕ} {now n : ℕ} {st : State} {l : List Entry} (s : Sound
 -- ---- all of them
 
 -- the rows after the ready cursor and round to it have the machine's keys
-pub round_over : {b p : List ℕ} {now n from : ℕ} {st : State} {l : List Entry} (c : Stored) → c ≡ stored_at (words b) ready_at → AfterCursor b (stored_key c) from → Sound st → Marks now st l b p n
+pub round_over : {b p : List ℕ} {now n from : ℕ} {st : State} {l : List Entry} (c : Option Key) → c ≡ cursor_in (words b) ready_at → AfterCursor b c from → Sound st → Marks now st l b p n
     → round st.ready_cursor (keys st.table) ≡ keys_over from (rows_in b) (rows_of st.table) ++ keys_over 0 from (rows_of st.table)
 round_over {b} {now = now} {from = from} {st} {l} c e a s m =
     let t = mark_all (until now) l st.table in
-    let k : stored_key c ≡ st.ready_cursor = ap stored_key e ∙ ready_read (on_table t st) m.writes in
+    let k : c ≡ st.ready_cursor = e ∙ ready_read (on_table t st) m.writes in
     let same = marked-rows (until now) l st.table s.bounded.ordered m.free in
     let x = a.round_is (subst CursorFits (sym k) s.ready) (on_table t st) m.sound m.writes in
     let q : keys t ≡ keys st.table =
@@ -104,7 +103,7 @@ round_over {b} {now = now} {from = from} {st} {l} c e a s m =
     ∙ (λ i. over_same (rows_of t) (rows_of st.table) from (rows_in b) same i ++ over_same (rows_of t) (rows_of st.table) 0 from same i)
 
 -- a phase over them, in two walks
-pub round_phased : {b b₁ b₂ p p₁ p₂ : List ℕ} {now from n : ℕ} (c : Stored) {v v₁ x w : Scan} → c ≡ stored_at (words b) ready_at → AfterCursor b (stored_key c) from → n ≡ rows_in b → Opened v v₁
+pub round_phased : {b b₁ b₂ p p₁ p₂ : List ℕ} {now from n : ℕ} (c : Option Key) {v v₁ x w : Scan} → c ≡ cursor_in (words b) ready_at → AfterCursor b c from → n ≡ rows_in b → Opened v v₁
     → Scans b b₁ p p₁ now (λ st. keys_over from n (rows_of st.table)) (λ st. []) v₁ x (n - from) → Scans b₁ b₂ p₁ p₂ now (λ st. keys_over 0 from (rows_of st.table)) (λ st. []) x w (from - 0)
     → Phased b b₂ p p₂ now (λ st. round st.ready_cursor (keys st.table)) v w (rows_in b)
 round_phased {b} {from = from} {n} c e a all o f g =

@@ -17,14 +17,14 @@ pub mod near;
 pub mod ordering;
 pub mod phase;
 
-// How far a scan has come: how many are selected, how many keys were considered, the last of them as a store holds a cursor, and
+// How far a scan has come: how many are selected, how many keys were considered, the last of them, and
 // whether the phase has stopped.
 #[derive(Clone, Copy)]
 pub struct Scan {
     pub chosen: usize,
     pub considered: u64,
     pub full: bool,
-    pub last: cursors::Stored,
+    pub last: Option<ident::Key>,
 }
 
 // Selects what is to be chosen for the hash whose rows stand in x as Txid and in y as Wtxid, if nobody owns it, and remembers its row as
@@ -63,12 +63,11 @@ fn consider_within(
     ensures { Considers s.old s.new picks.old picks.new clock (key_num k) v result }
 {
     let chosen = select_within(s, clock, x, y, picks, v.chosen);
-    let last = cursors::key_stored(k);
     Scan {
         chosen,
         considered: v.considered + 1,
         full: MAX_REQUEST_CHECKS <= chosen,
-        last,
+        last: Some(k),
     }
 }
 

@@ -1,5 +1,5 @@
 -- The walk that hands keys out, turn by turn.
-use Prim.Native.Nat.{ℕ, min, ◌+◌, ◌-◌, ◌*◌, ◌≤◌, ◌<◌}
+use Prim.Native.Nat.{ℕ, min, ◌+◌, ◌*◌, ◌≤◌, ◌<◌}
 use mathlib.Core.Path.{◌≡◌, refl, sym, ap, subst, ◌∙◌}
 use mathlib.Core.Bool.{Bool, true, false}
 use mathlib.Core.List.{List, [], ◌∷◌, ◌++◌, append_assoc, append-nil}
@@ -21,12 +21,13 @@ use Rattle.machine.specs.Step.{key_answer, keys_answer, written}
 use Rattle.machine.proofs.AnswerLengths.{length-key_answer}
 use Rattle.store.specs.Flat.{Flat, flat_of, rows_of}
 use Rattle.store.specs.Gather.{key_at}
-use Rattle.store.specs.Image.{Shows, Writes, cursor_words}
+use Rattle.store.specs.Image.{Shows, Writes}
 use Rattle.store.specs.Shown.{limit_in, rows_in}
 use Rattle.store.proofs.Frame.{sizes}
 use Rattle.lent_lists.proofs.Answer.{written_more, written_none}
 use Rattle.announcing.specs.Evicts.{part}
-use Rattle.cursors.specs.declared.Stored.{Stored}
+use Rattle.std.specs.Prelude as rust
+use Rattle.ident.specs.declared.Key.{Key as KeyRead}
 use Rattle.cursors.specs.InWords.{Stands}
 use Rattle.sweeping.specs.declared.batch.Batch.{Batch}
 use Rattle.sweeping.specs.Batches.{next_batch, keys_over, last_row, Put, Handing, Walks, AfterKnown, Batched}
@@ -58,7 +59,7 @@ module _ {most : ℕ} {all : List Key} {u₀ u : List ℕ} {v : Batch} where
         count = p.count ∙ rw (length-append h.out (key_at r ∷ [])) (omega (arith, c));
         bytes = p.bytes ∙ rw (h.bytes, c) (written_more h.out (key_at r) u₀ (omega (arith, c, room, h.long)));
         long = ap length p.bytes ∙ length-splice u (key_bytes * v.count) (key_answer (key_at r)) (omega (arith, m, room)) ∙ h.long;
-        last = p.last ∙ ap cursor_words (sym (last_more h.out (key_at r)));
+        last = p.last ∙ sym (last_more h.out (key_at r));
         all_are = ap (take most) (append_assoc h.out (key_at r ∷ []) rest) ∙ h.all_are;
       }
 
@@ -130,9 +131,9 @@ module _ {b : List ℕ} {from to most : ℕ} {u₀ u : List ℕ} {v w : Batch} {
 
 -- ---- the parts of a walk put together
 
-pub put-at : {u u' : List ℕ} {v : Batch} (r : Row) {k : Key} {c : Stored} → k ≡ key_at r → u' ≡ splice u (key_bytes * v.count) (key_answer k) → Stands c (some k)
+pub put-at : {u u' : List ℕ} {v : Batch} (r : Row) {k : Key} {c : rust.Option KeyRead} → k ≡ key_at r → u' ≡ splice u (key_bytes * v.count) (key_answer k) → Stands c (some k)
     → Put u u' v r (record { count = v.count + 1; last = c })
-put-at {u} {v = v} r e p l = record { count = refl; bytes = p ∙ ap (λ (j : Key). splice u (key_bytes * v.count) (key_answer j)) e; last = l ∙ ap (λ (j : Key). cursor_words (some j)) e }
+put-at {u} {v = v} r e p l = record { count = refl; bytes = p ∙ ap (λ (j : Key). splice u (key_bytes * v.count) (key_answer j)) e; last = l ∙ ap (λ (j : Key). some j) e }
 
 module _ {most : ℕ} {all : List Key} {u₀ u : List ℕ} {v : Batch} (h : Handing most all u₀ u v []) (few : v.count ≤ most) where
   out_is : h.out ≡ all
@@ -145,7 +146,7 @@ module _ {most : ℕ} {all : List Key} {u₀ u : List ℕ} {v : Batch} (h : Hand
   done_bytes = h.bytes ∙ ap (λ (ks : List Key). written (keys_answer ks) u₀) out_is
 
   done_last : Stands v.last (last_of all)
-  done_last = h.last ∙ ap (λ (ks : List Key). cursor_words (last_of ks)) out_is
+  done_last = h.last ∙ ap last_of out_is
 
 handed_by : (c : Option Key) (ks : List Key) {xs : List Key} → xs ≡ round c ks → take max_known_checks xs ≡ handed c ks
 unfolding handed

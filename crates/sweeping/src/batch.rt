@@ -1,31 +1,33 @@
 // The keys that a sweep hands out: those of the rows after the known cursor, then those from the start on.
 //
 // Rows ascend by key, so the rows of a key stand together: a key is handed out at its last row.
-ghost use Rattle.std.specs.Prelude.{◌≡◌, ℕ, min, ◌+◌, ◌*◌, ◌≤◌, ◌<◌, eqb, length};
-ghost use Rattle.std.proofs.Math.Option.{none, some};
+ghost use Rattle.std.specs.Prelude.{◌≡◌, min, ◌+◌, ◌*◌, ◌≤◌, ◌<◌, eqb, length};
+ghost use Rattle.std.proofs.Math.Option.{none};
 ghost use Rattle.ident.specs.Number.{place};
+ghost use Rattle.ident.specs.Words.{maybe_key_num};
 ghost use Rattle.machine.specs.Call.{key_bytes};
 ghost use Rattle.store.specs.Flat.{Flat};
-ghost use Rattle.store.specs.Gather.{kind_is, key_at};
+ghost use Rattle.store.specs.Gather.{key_at};
 ghost use Rattle.store.specs.Image.{Shows};
-ghost use Rattle.store.specs.Read.{cursor_is};
 ghost use Rattle.store.specs.Shown.{limit_in, rows_in, Shown, Kept};
 ghost use Rattle.announcing.specs.Evicts.{part};
-ghost use Rattle.cursors.specs.InWords.{stored_key, Stands};
+ghost use Rattle.cursors.specs.InWords.{Stands};
 ghost use Rattle.sweeping.specs.Batches.{last_row, Put, Walks, AfterCursor, AfterKnown};
 
-// How many keys are handed out, and the last of them as a store holds a cursor.
+// How many keys are handed out, and the last of them.
 #[derive(Clone, Copy)]
 pub struct Batch {
     pub count: usize,
-    pub last: cursors::Stored,
+    pub last: Option<ident::Key>,
 }
 
 pub fn nothing() -> Batch
     ensures { (result.count ≡ 0) × Stands result.last none }
 {
-    let last = cursors::no_cursor();
-    Batch { count: 0, last }
+    Batch {
+        count: 0,
+        last: None,
+    }
 }
 
 fn same_key(a: regions::Row, b: regions::Row) -> bool
@@ -59,8 +61,10 @@ fn hand(out: &mut [u8], v: Batch, r: regions::Row) -> Batch
     let k = announcing::evict::key_of(r);
     let n = v.count;
     lent_lists::put_key(out, n, k);
-    let last = cursors::key_stored(k);
-    Batch { count: n + 1, last }
+    Batch {
+        count: n + 1,
+        last: Some(k),
+    }
 }
 
 // Hands out the keys of the rows from .. to, behind those of v, as long as there are fewer than `most`.
@@ -85,24 +89,15 @@ pub fn keys_in(s: &[u8], from: usize, to: usize, most: usize, out: &mut [u8], v:
 
 // ---- a cursor
 
-// The kind of a cursor that is not none, as rows have it.
-fn cursor_kind(tag: u64) -> u64
-    ensures { (result ≤ 1) × (0 < tag → (h : ℕ) → cursor_is tag h ≡ some (record { kind = kind_is result; hash = h })) }
-{
-    if tag == 1 { 0 } else { 1 }
-}
-
 // The first row whose key comes after the cursor c; the first of all, if that is none.
-pub fn after_cursor(s: &[u8], c: cursors::Stored) -> usize
+pub fn after_cursor(s: &[u8], c: Option<ident::Key>) -> usize
     requires { Kept s.now }
-    ensures { AfterCursor s.now (stored_key c) result }
+    ensures { AfterCursor s.now (maybe_key_num c) result }
 {
-    if c.tag == 0 {
+    let Some(k) = c else {
         return 0;
-    }
-    let hash = c.hash;
-    let kind = cursor_kind(c.tag);
-    store::rows::seek_row(s, regions::Key { kind, hash }, true)
+    };
+    store::rows::seek_row(s, requests::key_words(k), true)
 }
 
 // The first row whose key comes after the known cursor.

@@ -1,6 +1,5 @@
-use Rattle.std.proofs.Common.{refl}
 use Rattle.cursors.proofs.InState.{loads}
 use Rattle.cursors.proofs.load.Goals as goal
 
 pub returns : goal.returns
-returns c = loads c.read-f.result _ c.read-f.ensures refl c.key_in-known.ensures c.key_in-ready.ensures
+returns c = loads _ c.next_poll.ensures c.cursor_at.ensures c.cursor_at-2.ensures

@@ -1,8 +1,8 @@
-use Rattle.std.proofs.Common.{refl}
+use mathlib.Core.Path.{◌∙◌}
 use Rattle.cursors.proofs.InState.{saves}
 use Rattle.cursors.proofs.save.Goals as goal
 
 pub returns : goal.returns
 returns c =
-    saves (record { next = c.args.c.next; known = c.stored_of-known.result; ready = c.stored_of-ready.result }) c.args.c c.write.auto.s c.write.ensures refl c.stored_of-known.ensures
-    c.stored_of-ready.ensures
+    saves c.args.c (c.set_cursor-2.auto.s ∙ c.set_cursor.auto.s ∙ c.set_next_poll.auto.s)
+    (c.set_cursor-2.ensures ∙ rw (c.set_cursor.ensures, c.set_next_poll.ensures))

@@ -7,13 +7,7 @@ use Rattle.cursors.proofs.set_cursor.Goals as goal
 
 pub returns : goal.returns
 returns c =
-    set_more (words c.args.s.now)
-    c.args.a
-    c.args.c.tag
-    (quad_words c.args.c.hash) (omega (
-      arith,
-      length-words
-          c.args.s.now,
-      c.requires,
-    ))
-    c.put.ensures.word c.write_quad.ensures
+    let w = words c.args.s.now in
+    let tag = c.words_of-tag.result.0 in
+    let hash = c.words_of-tag.result.1 in
+    rw (← c.words_of-tag.ensures) (set_more w c.args.a tag (quad_words hash) (omega (arith, length-words c.args.s.now, c.requires)) c.put.ensures.word c.write_quad.ensures)

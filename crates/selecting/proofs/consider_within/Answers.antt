@@ -10,4 +10,4 @@ returns c = considers (key_num c.args.k)
     c.requires.0 c.select_within-chosen.ensures
     c.requires.1
     c.requires.2
-    c.requires.3 c.key_stored-last.ensures refl
+    c.requires.3 refl refl

@@ -3,12 +3,8 @@ use native.Mathlib.Omega.{arith}
 use Rattle.saving.proofs.Texts.{no-cursor, cursor-laid}
 use Rattle.saving.proofs.head_line.next_cursor.Goals as goal
 
-pub returns-then-tag-eq0 : goal.returns-then-tag-eq0
-returns-then-tag-eq0 c = (
-  omega (arith, c.put_text.ensures.next),
-  no-cursor c.args.c
-      c.if-tag-eq0.true c.put_text.ensures,
-)
+pub returns-in_default : goal.returns-in_default
+returns-in_default c = (omega (arith, c.put_text.ensures.next), no-cursor c.in_default.is c.put_text.ensures)
 
 pub put_key-requires : goal.put_key-requires
 put_key-requires c = omega (arith, c.put_text-from.ensures.next)
@@ -16,8 +12,5 @@ put_key-requires c = omega (arith, c.put_text-from.ensures.next)
 pub returns : goal.returns
 returns c = (
   omega (arith, c.put_text-from.ensures.next, c.put_key.ensures.0),
-  cursor-laid
-      c.args.c
-      c.if-tag-eq0.false c.put_text-from.ensures
-      c.put_key.ensures.1,
+  cursor-laid c.in-Some.k c.in-Some.is c.key_words.ensures c.put_text-from.ensures c.put_key.ensures.1,
 )

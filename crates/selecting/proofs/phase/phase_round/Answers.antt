@@ -46,7 +46,7 @@ keys_over-requires c =
     )
 
 pub returns : goal.returns
-returns c = round_phased c.cursor_at-c.result c.cursor_at-c.ensures
+returns c = round_phased _ c.cursor_at-c.ensures
     c.after_cursor-from.ensures
     c.rows-n.ensures.word
     c.opened-w.ensures
