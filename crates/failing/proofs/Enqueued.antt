@@ -1,22 +1,18 @@
 -- release_package: its answer.
 use Prim.Native.Nat.{ℕ, ◌<◌}
-use mathlib.Core.Path.{◌≡◌, refl, sym, ap, subst, ◌∙◌}
-use mathlib.Core.Bool.{Bool, true, false, ◌&&◌}
+use mathlib.Core.Path.{◌≡◌, ap, subst, ◌∙◌}
+use mathlib.Core.Bool.{true, false}
 use mathlib.Core.List.{List}
-use mathlib.Core.Option.{Option, none, some}
-use lib.Dec.{eqb}
 use lib.ListN.{length}
-use borrow.Author.Tests.{eq-eqb, ne_eqb}
-use Rattle.ident.specs.declared.Kind.{Kind}
 use Rattle.ident.specs.Number.{top, Key, wtxid}
 use Rattle.machine.specs.Limits.{word}
-use Rattle.machine.specs.State.{Owner, Package, Request, State, on_table, limits_of, owner_is, enqueued_in, is_some}
+use Rattle.machine.specs.State.{Request, State, on_table, limits_of, owner_is, enqueued_in}
 use Rattle.machine.specs.Table.{at}
 use Rattle.machine.specs.Step.{keys_answer, written}
 use Rattle.machine.specs.Fail.{Listed, leaves, announce_parents, parents_for}
 use Rattle.machine.specs.Package.{listed_after, enqueued_by, release_package}
-use Rattle.machine.specs.Sound.{Packed, Lawful, Sound}
-use Rattle.machine.proofs.Tests.{never, and_left}
+use Rattle.machine.specs.Sound.{Sound}
+use Rattle.machine.proofs.Tests.{and_left}
 use Rattle.machine.proofs.Fail.{bounded-leaves}
 use Rattle.machine.proofs.Kept.{sound-table}
 use Rattle.store.specs.Image.{Writes}

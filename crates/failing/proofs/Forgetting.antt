@@ -4,14 +4,12 @@ use mathlib.Core.Path.{◌≡◌, refl, sym, ap, subst, ◌∙◌}
 use mathlib.Core.Bool.{Bool, true, false}
 use mathlib.Core.List.{List, [], ◌∷◌}
 use mathlib.Core.Option.{Option, none, some}
-use native.Mathlib.Omega.{arith}
-use borrow.Author.Tests.{eq-eqb}
 use Rattle.ident.specs.declared.Kind.{Kind}
 use Rattle.ident.specs.Number.{top, Key}
-use Rattle.machine.specs.State.{Candidate, Owner, Package, Request, Table, State, on_table, blank, unowned, owner_is}
+use Rattle.machine.specs.State.{Candidate, Owner, Package, Request, Table, State, on_table, blank, unowned}
 use Rattle.machine.specs.Table.{at, change}
 use Rattle.machine.specs.Fail.{forget}
-use Rattle.machine.specs.Sound.{AllFit, OwnerFits, Packed, Sound}
+use Rattle.machine.specs.Sound.{Packed, Sound}
 use Rattle.machine.proofs.Tests.{never}
 use Rattle.machine.proofs.Table.{lawful_at}
 use Rattle.machine.proofs.At.{kept, at_same}

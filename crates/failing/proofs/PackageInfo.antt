@@ -6,12 +6,12 @@ use mathlib.Core.List.{List}
 use mathlib.Core.Option.{Option, none, some}
 use native.Mathlib.Omega.{arith}
 use lib.Dec.{eqb}
-use borrow.Author.Tests.{eq-eqb, ne_eqb, lt-ltb, le-ltb}
+use borrow.Author.Tests.{ne_eqb, lt-ltb, le-ltb}
 use Rattle.std.specs.Option.{option_eq}
 use Rattle.std.specs.Prelude.{Some, None}
 use Rattle.ident.specs.declared.Kind.{Kind}
 use Rattle.ident.specs.Number.{Key}
-use Rattle.machine.specs.State.{Owner, Package, Request, Table, Answer, on_table, owner_is, is_some}
+use Rattle.machine.specs.State.{Owner, Package, Request, Table, Answer, on_table}
 use Rattle.machine.specs.Table.{at}
 use Rattle.machine.specs.Fail.{failed}
 use Rattle.machine.specs.Package.{info_owned, failed_package_info, info_owner_of, package_info_owner}

@@ -1,7 +1,7 @@
 // failed, unclaim, forget, failed_with_parents, release_package and package info on the bytes of a sound store (document 01, "The request machine").
 #![tactic(auto)]
 
-ghost use Rattle.std.specs.Prelude.{◌≡◌, ◌+◌, ◌*◌, ◌≤◌, true, false, length};
+ghost use Rattle.std.specs.Prelude.{◌≡◌, ◌+◌, ◌*◌, ◌≤◌, true, false, unwrap_or, length};
 ghost use Rattle.ident.specs.Words.{hash_num, key_num};
 ghost use Rattle.machine.specs.Limits.{max_parents};
 ghost use Rattle.machine.specs.State.{unowned, owner_is};
@@ -127,18 +127,18 @@ pub fn forget(s: &mut [u8], k: ident::Key)
 
 // ---- package info
 
-// The connection that is asked for package info of the request at k, and in time at clock; 0, if there is none.
-pub fn package_info_owner(s: &[u8], k: ident::Key, clock: u64) -> u64
+// The connection that is asked for package info of the request at k, and in time at clock.
+pub fn package_info_owner(s: &[u8], k: ident::Key, clock: u64) -> Option<u64>
     requires { Kept s.now }
-    ensures { Tells s.now (λ t. result ≡ package_info_owner (key_num k) clock t) }
+    ensures { Tells s.now (λ t. unwrap_or result 0 ≡ package_info_owner (key_num k) clock t) }
 {
     let r = package_stages::request_at(s, k);
     if r.stage != Some(Stage::Flagged) {
-        return 0;
+        return None;
     }
     match r.owner {
-        Some(owner) if clock < owner.deadline => owner.connection,
-        _ => 0,
+        Some(owner) if clock < owner.deadline => Some(owner.connection),
+        _ => None,
     }
 }
 

@@ -1,5 +1,3 @@
-use mathlib.Core.Path.{refl, sym, ap, ◌∙◌}
-use mathlib.Core.Bool.{not}
 use Rattle.ident.specs.Words.{key_num}
 use Rattle.machine.proofs.Table.{lawful_at}
 use Rattle.failing.proofs.PackageInfo.{flagged, plain, asked-plain, asked-owner, asked-late, asked-nobody, owner_told}

@@ -1,4 +1,3 @@
-use mathlib.Core.Path.{refl, sym, ap, ◌∙◌}
 use Rattle.ident.specs.Words.{key_num}
 use Rattle.failing.proofs.Releasing.{owner-named, owner-none}
 use Rattle.failing.proofs.Forgetting.{nothing_released}

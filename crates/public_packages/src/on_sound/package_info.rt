@@ -92,5 +92,7 @@ pub fn package_info_owner(s: &[u8], key: ident::Key, clock: u64) -> Answer
         return Answer::Refused(refusal);
     }
     let n = refusals::need_of(s);
-    Answer::Number(failing::package_info_owner(&s[..n], key, clock))
+    let owner = failing::package_info_owner(&s[..n], key, clock);
+    // A number answers, and no connection is 0.
+    Answer::Number(owner.unwrap_or(0))
 }
