@@ -55,7 +55,7 @@ fn move_row(s: &mut [u8], to: usize, from: usize)
     ensures { Moved row_size row_words (words s.old) (words s.new) to from }
 {
     if to < from {
-        regions::copy_row(s, to, from);
+        regions::copy::<regions::Row>(s, to, from);
     }
 }
 
@@ -64,7 +64,7 @@ fn keep_row(s: &mut [u8], m: usize, i: usize, p: Span) -> usize
     requires { (m ≤ i) × (8 * (row_size * (i + 1)) ≤ length s.old) }
     ensures { KeptIf row_size row_words (stays p.conn p.from p.to) (words s.old) (words s.new) m i result }
 {
-    let r = regions::read_row(s, i);
+    let r = regions::read::<regions::Row>(s, i);
     if goes(r, p) {
         m
     } else {
@@ -82,7 +82,7 @@ fn compact(s: &mut [u8], n: usize, p: Span) -> usize
     for i in 0..n {
         m = keep_row(s, m, i, p);
     }
-    regions::truncate_rows(s, n, m);
+    regions::truncate::<regions::Row>(s, n, m);
     m
 }
 

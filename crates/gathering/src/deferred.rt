@@ -21,7 +21,7 @@ fn listed_at(top: &[u8], n: usize, h: ident::Hash) -> bool
     ensures { ListedAt (words top.now) n (hash_num h) result }
 {
     for i in 0..n {
-        let x = regions::read_row(top, i);
+        let x = regions::read::<regions::Row>(top, i);
         let q = x.hash;
         let g = requests::quad_hash(q);
         if lent_lists::same_hash(g, h) {
@@ -92,7 +92,7 @@ fn defer_at(
     if d >= m {
         return Fare::Alone;
     }
-    let y = regions::read_row(top, d);
+    let y = regions::read::<regions::Row>(top, d);
     match suits(s, new, d, top, k, c, y) {
         Fare::Waits => {
             region::put_in(new, d, beside::waiting_row(s, k, c));

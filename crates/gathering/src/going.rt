@@ -35,7 +35,7 @@ fn drop_victims(s: &mut [u8], top: &[u8], m: usize, d: usize)
     requires { Kept s.old × (1 ≤ d) × (d ≤ m) × (m ≤ list_space) × (length top.now ≡ 8 * (row_size * list_space)) }
     ensures { Gone s.old s.new (words top.now) m d }
 {
-    let v = regions::read_row(top, d - 1);
+    let v = regions::read::<regions::Row>(top, d - 1);
     let n = store::head::rows(s);
     let mut k = 0;
     for i in 0..n {
@@ -50,7 +50,7 @@ fn cut_victims(s: &mut [u8], top: &[u8], m: usize, d: usize)
     ensures { Gone s.old s.new (words top.now) m d }
 {
     for i in 0..d {
-        let y = regions::read_row(top, i);
+        let y = regions::read::<regions::Row>(top, i);
         requests::cut(s, announcing::evict::key_of(y), y.conn);
     }
 }

@@ -67,7 +67,7 @@ fn exchange_at(
     if p >= m {
         return Fare::Alone;
     }
-    let y = regions::read_row(top, p);
+    let y = regions::read::<regions::Row>(top, p);
     match suits(s, new, d, k, c, y) {
         Fare::Waits => {
             requests::cut(s, announcing::evict::key_of(y), y.conn);

@@ -46,5 +46,5 @@ pub fn put_in(new: &mut [u8], m: usize, y: regions::Row)
 {
     let k = announcing::evict::row_key(y);
     let i = regions::seek_row(new, m, k, true);
-    regions::insert_row(new, m, i, y);
+    regions::insert(new, m, i, y);
 }

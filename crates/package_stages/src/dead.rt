@@ -13,7 +13,7 @@ fn move_place(s: &mut [u8], to: usize, from: usize)
     ensures { Moved (words s.old) (words s.new) to from }
 {
     if to < from {
-        places::copy_place(s, to, from);
+        regions::copy::<places::Place>(s, to, from);
     }
 }
 
@@ -40,7 +40,7 @@ fn compact(s: &mut [u8], n: usize) -> usize
     for i in 0..n {
         m = keep_live(s, m, i);
     }
-    places::truncate_places(s, n, m);
+    regions::truncate::<places::Place>(s, n, m);
     m
 }
 

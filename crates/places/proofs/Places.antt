@@ -13,19 +13,8 @@ use Rattle.regions.proofs.Regions.{length-padded, region-push, region_at}
 use Rattle.regions.proofs.Order.{Small, quad-number}
 use Rattle.places.specs.Places.{list_most, list_size, place_size, combined_at, stage_at, wtxid_count_at, parent_count_at, wtxids_at, parents_at, kept_size}
 use Rattle.places.specs.Places.{Place, hash_words, list_words, place_words, head_of, read_head, with_stage, with_combined, with_wtxids, with_parents}
+pub use Rattle.places.specs.Kinds.{length-hash, length-list, length-place}
 use Rattle.places.proofs.Segments.{splice_front, splice_back, quad-in}
-
-pub length-hash : (h : ℕ) → length (hash_words h) ≡ 4
-unfolding hash_words
-length-hash h = refl
-
-pub length-list : (hs : List ℕ) → length (list_words hs) ≡ list_size
-unfolding list_words
-length-list hs = length-padded list_size (each hash_words hs)
-
-pub length-place : (p : Place) → length (place_words p) ≡ place_size
-unfolding place_words
-length-place p = simp (length-append, length-hash, length-list)
 
 -- ---- fields of fixed place
 

@@ -7,11 +7,12 @@
 
 ghost use Rattle.std.specs.Prelude.{[], ◌∷◌, ◌+◌, ◌*◌, ◌≤◌, ◌<◌, length};
 ghost use Rattle.words.specs.Words.{words, recs};
-ghost use Rattle.regions.specs.Regions.{Inserted, Removed, Truncated, Copied, Changed};
+ghost use Rattle.regions.specs.Regions.{Inserted, Changed};
 ghost use Rattle.regions.specs.Order.{Sought};
 ghost use Rattle.regions.specs.Rows.{quad_words, quad_number};
 ghost use Rattle.places.specs.Places.{list_most, place_size, combined_at, stage_at, wtxids_at, parents_at, place_words, place_key};
-ghost use Rattle.places.specs.Places.{blank, with_stage, with_combined, with_wtxids, with_parents, HeadAt, HashAt, Pushed};
+ghost use Rattle.places.specs.Places.{Place, blank, with_stage, with_combined, with_wtxids, with_parents, HeadAt, HashAt, Pushed};
+ghost use Rattle.places.specs.Kinds.{place_kind};
 
 // Words of a place, and where in it the parts lie.
 pub const PLACE: usize = 824;
@@ -47,6 +48,21 @@ pub struct Head {
     pub parents: u64,
 }
 
+// What a region of places holds, as a kind of record. The code has no value of a whole place: its parts are read and changed one by one.
+pub struct Place;
+
+impl regions::Record for Place {
+    const WORDS: usize = PLACE;
+
+    ghost WORDS = { place_size };
+
+    ghost Value = { Place };
+
+    ghost to_words = { place_words };
+
+    ghost laws = { place_kind };
+}
+
 // ---- whole places
 
 // The head of the i-th place.
@@ -79,30 +95,6 @@ pub fn insert_place(s: &mut [u8], n: usize, i: usize, h: regions::Quad, stage: u
     words::clear(s, a, PLACE);
     regions::write_quad(s, a, h);
     words::put(s, a + STAGE, stage);
-}
-
-// Takes the i-th of n places out.
-pub fn remove_place(s: &mut [u8], n: usize, i: usize)
-    requires { (i < n) × (8 * (place_size * n) ≤ length s.old) }
-    ensures { Removed place_size place_words (words s.old) (words s.new) n i }
-{
-    regions::take_out(s, i * PLACE, n * PLACE, PLACE);
-}
-
-// Clears the places from the m-th of n on.
-pub fn truncate_places(s: &mut [u8], n: usize, m: usize)
-    requires { (m ≤ n) × (8 * (place_size * n) ≤ length s.old) }
-    ensures { Truncated place_size place_words (words s.old) (words s.new) n m }
-{
-    words::clear(s, m * PLACE, (n - m) * PLACE);
-}
-
-// Copies the place at `from` over the place at `to`, which is not behind it.
-pub fn copy_place(s: &mut [u8], to: usize, from: usize)
-    requires { (to ≤ from) × (8 * (place_size * (from + 1)) ≤ length s.old) }
-    ensures { Copied place_size place_words (words s.old) (words s.new) to from }
-{
-    regions::copy_down(s, to * PLACE, from * PLACE, PLACE);
 }
 
 // The first of n places whose hash is at least h, or n.

@@ -4,3 +4,4 @@ pub mod Rows
 pub mod Order
 pub mod Columns
 pub mod Removing
+pub mod Records

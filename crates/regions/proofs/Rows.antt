@@ -34,38 +34,32 @@ module _ (w : List ℕ) (k i : ℕ) where
   word_in : (j : ℕ) → j < k → get_or (take k (drop (k * i) w)) j 0 ≡ get_or w (i * k + j) 0
   word_in j h = rw (get_or-take k (drop (k * i) w) j 0 h, get_or-drop (k * i) w j 0, mul_comm k i)
 
-pub row_read : (w : List ℕ) (i : ℕ) {hash : Quad} {conn ready prio deadline bits : ℕ}
-    → hash ≡ read_quad (drop (i * row_size) w) → conn ≡ get_or w (i * row_size + 4) 0 → ready ≡ get_or w (i * row_size + 5) 0 → prio ≡ get_or w (i * row_size + 6) 0
-    → deadline ≡ get_or w (i * row_size + 7) 0 → bits ≡ get_or w (i * row_size + 8) 0
-    → ◌≡◌ {A = Row} (record { hash = hash; conn = conn; ready = ready; prio = prio; deadline = deadline; bits = bits }) (read_row (take row_size (drop (row_size * i) w)))
+pub row_read : (w : List ℕ) (a : ℕ) {hash : Quad} {conn ready prio deadline bits : ℕ}
+    → hash ≡ read_quad (drop a w) → conn ≡ get_or w (a + 4) 0 → ready ≡ get_or w (a + 5) 0 → prio ≡ get_or w (a + 6) 0 → deadline ≡ get_or w (a + 7) 0 → bits ≡ get_or w (a + 8) 0
+    → ◌≡◌ {A = Row} (record { hash = hash; conn = conn; ready = ready; prio = prio; deadline = deadline; bits = bits }) (read_row (drop a w))
 unfolding read_row
-row_read w i p p4 p5 p6 p7 p8 =
-    let at : (j : ℕ) → j < row_size → get_or (take row_size (drop (row_size * i) w)) j 0 ≡ get_or w (i * row_size + j) 0 = word_in w row_size i in
-    rw (p, p4, p5, p6, p7, p8) (simp (get_or-drop, at 0 (lit< tt), at 1 (lit< tt), at 2 (lit< tt), at 3 (lit< tt), at 4 (lit< tt), at 5 (lit< tt), at 6 (lit< tt), at 7 (lit< tt), at 8 (lit< tt)))
+row_read w a p p4 p5 p6 p7 p8 = rw (p, p4, p5, p6, p7, p8) (simp get_or-drop)
 
-pub conn_read : (w : List ℕ) (i : ℕ) {conn held owned : ℕ} → conn ≡ get_or w (i * conn_size) 0 → held ≡ get_or w (i * conn_size + 1) 0 → owned ≡ get_or w (i * conn_size + 2) 0
-    → ◌≡◌ {A = Conn} (record { conn = conn; held = held; owned = owned }) (read_conn (take conn_size (drop (conn_size * i) w)))
+pub conn_read : (w : List ℕ) (a : ℕ) {conn held owned : ℕ} → conn ≡ get_or w a 0 → held ≡ get_or w (a + 1) 0 → owned ≡ get_or w (a + 2) 0
+    → ◌≡◌ {A = Conn} (record { conn = conn; held = held; owned = owned }) (read_conn (drop a w))
 unfolding read_conn
-conn_read w i p0 p1 p2 =
-    rw (p0, p1, p2) (simp (word_in w conn_size i 0 (lit< tt), word_in w conn_size i 1 (lit< tt), word_in w conn_size i 2 (lit< tt), add-zero))
+conn_read w a p0 p1 p2 = rw (p0, p1, p2) (simp (get_or-drop, add-zero))
 
-pub row_written : (w : List ℕ) {w0 w1 w2 w3 w4 w5 : List ℕ} (i : ℕ) (r : Row) → i * row_size + row_size ≤ length w
-    → w0 ≡ splice w (i * row_size) (quad_words r.hash) → w1 ≡ set w0 (i * row_size + 4) r.conn → w2 ≡ set w1 (i * row_size + 5) r.ready
-    → w3 ≡ set w2 (i * row_size + 6) r.prio → w4 ≡ set w3 (i * row_size + 7) r.deadline → w5 ≡ set w4 (i * row_size + 8) r.bits
-    → w5 ≡ splice w (row_size * i) (row_words r)
+pub row_written : (w : List ℕ) {w0 w1 w2 w3 w4 w5 : List ℕ} (a : ℕ) (r : Row) → a + row_size ≤ length w
+    → w0 ≡ splice w a (quad_words r.hash) → w1 ≡ set w0 (a + 4) r.conn → w2 ≡ set w1 (a + 5) r.ready
+    → w3 ≡ set w2 (a + 6) r.prio → w4 ≡ set w3 (a + 7) r.deadline → w5 ≡ set w4 (a + 8) r.bits
+    → w5 ≡ splice w a (row_words r)
 unfolding splice row_words
-row_written w i r h p0 p1 p2 p3 p4 p5 =
-    let a : ℕ = i * row_size in
+row_written w a r h p0 p1 p2 p3 p4 p5 =
     let q = r.hash in
     let z : set (set (set (set w a q.w0) (a + 1) q.w1) (a + 2) q.w2) (a + 3) q.w3 ≡ splice w a (quad_words q) = quad_written w a q (omega arith) refl refl refl refl in
-    rw (p5, p4, p3, p2, p1, p0, ← z, mul_comm row_size i) (simp towards_suc (sets-eq (row_words r) w a h ∙ append_assoc (take a w) (row_words r) (drop (a + row_size) w)))
+    rw (p5, p4, p3, p2, p1, p0, ← z) (simp towards_suc (sets-eq (row_words r) w a h ∙ append_assoc (take a w) (row_words r) (drop (a + row_size) w)))
 
-pub conn_written : (w : List ℕ) {w1 w2 w3 : List ℕ} (i : ℕ) (c : Conn) → i * conn_size + conn_size ≤ length w
-    → w1 ≡ set w (i * conn_size) c.conn → w2 ≡ set w1 (i * conn_size + 1) c.held → w3 ≡ set w2 (i * conn_size + 2) c.owned → w3 ≡ splice w (conn_size * i) (conn_words c)
+pub conn_written : (w : List ℕ) {w1 w2 w3 : List ℕ} (a : ℕ) (c : Conn) → a + conn_size ≤ length w
+    → w1 ≡ set w a c.conn → w2 ≡ set w1 (a + 1) c.held → w3 ≡ set w2 (a + 2) c.owned → w3 ≡ splice w a (conn_words c)
 unfolding splice conn_words
-conn_written w i c h p1 p2 p3 =
-    let a : ℕ = i * conn_size in
-    rw (p3, p2, p1, mul_comm conn_size i) (simp towards_suc (simp towards_suc at (sets-eq (conn_words c) w a h ∙ append_assoc (take a w) (conn_words c) (drop (a + conn_size) w))))
+conn_written w a c h p1 p2 p3 =
+    rw (p3, p2, p1) (simp towards_suc (simp towards_suc at (sets-eq (conn_words c) w a h ∙ append_assoc (take a w) (conn_words c) (drop (a + conn_size) w))))
 
 -- ---- keys of the records
 

@@ -1,3 +1,4 @@
 pub mod Regions
 pub mod Order
 pub mod Rows
+pub mod Kinds

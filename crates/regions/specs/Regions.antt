@@ -76,3 +76,16 @@ module _ {A : Type 0} (k : ℕ) (enc : A → List ℕ) (w : List ℕ) where
   pub record Found (dec : List ℕ → A) (i : ℕ) (x : A) : Type 0 where
     pub words_are : x ≡ dec (take k (drop (k * i) w))
     pub region : (L : ℕ) (xs : List A) (d : A) → i < length xs → Holds k enc L xs w → x ≡ get_or xs i d
+
+-- ---- kinds of records
+
+-- a record has k words, at least one
+pub record RecordLaws {A : Type 0} (k : ℕ) (enc : A → List ℕ) : Type 0 where
+  pub some_words : 0 < k
+  pub sized : (x : A) → length (enc x) ≡ k
+
+-- of a record that is read and written whole: it is read from its own words alone, and what was written is read back
+pub record WholeLaws {A : Type 0} (k : ℕ) (enc : A → List ℕ) (dec : List ℕ → A) : Type 0 where
+  pub sized : (x : A) → length (enc x) ≡ k
+  pub own : (w : List ℕ) → dec (take k w) ≡ dec w
+  pub back : (x : A) → dec (enc x) ≡ x

@@ -6,9 +6,12 @@
 // records in question lie within the slice.
 #![tactic(auto)]
 
-ghost use Rattle.std.specs.Prelude.{◌≡◌, ◌+◌, ◌*◌, ◌≤◌, ◌<◌, [], ◌∷◌, length, take, drop, ltb};
+ghost use Rattle.std.specs.Prelude.{◌≡◌, ℕ, ◌+◌, ◌*◌, ◌≤◌, ◌<◌, List, [], ◌∷◌, length, take, drop, ltb};
 ghost use Rattle.words.specs.Words.{words, recs, splice, up, down};
-ghost use Rattle.regions.specs.Regions.{shut, Inserted, Removed, Replaced, Truncated, Copied, Found};
+ghost use Rattle.regions.specs.Regions.{Inserted, Removed, Replaced, Truncated, Copied, Found, RecordLaws, WholeLaws};
+ghost use Rattle.regions.specs.declared.Row.{Row};
+ghost use Rattle.regions.specs.declared.Conn.{Conn};
+ghost use Rattle.regions.specs.Kinds.{row_kind, row_whole, conn_kind, conn_whole};
 ghost use Rattle.regions.specs.Order.{Sought, First, one};
 ghost use Rattle.regions.specs.Rows.{row_size, conn_size, quad_words, read_quad, quad_number, row_words, read_row};
 ghost use Rattle.regions.specs.Rows.{key_number, key_of, row_key, row_conn, conn_words, read_conn, conn_key};
@@ -68,18 +71,6 @@ pub fn move_up(s: &mut [u8], a: usize, b: usize, d: usize)
     words::shift_up(&mut s[x..y], b - a, d);
 }
 
-// Takes the words a .. a + d out of those before b, and leaves zeros behind.
-pub fn take_out(s: &mut [u8], a: usize, b: usize, d: usize)
-    requires { (a + d ≤ b) × (8 * b ≤ length s.old) }
-    ensures { words s.new ≡ shut d a b (words s.old) }
-{
-    let e = b - d;
-    let x = a * 8;
-    let y = (e + d) * 8;
-    words::shift_down(&mut s[x..y], e - a, d);
-    words::clear(s, e, d);
-}
-
 // Copies the d words at b down to a.
 pub fn copy_down(s: &mut [u8], a: usize, b: usize, d: usize)
     requires { (a ≤ b) × (8 * (b + d) ≤ length s.old) }
@@ -114,143 +105,188 @@ pub fn write_quad(s: &mut [u8], a: usize, q: Quad)
     words::put(s, a + 3, q.w3);
 }
 
-// ---- rows
+// ---- records of any kind
 
-// The i-th row.
-pub fn read_row(s: &[u8], i: usize) -> Row
-    requires { 8 * (row_size * (i + 1)) ≤ length s.now }
-    ensures { Found row_size row_words (words s.now) read_row i result }
+// A kind of record: how many words it has, what it holds, and the words of that.
+pub trait Record {
+    const WORDS: usize;
+
+    ghost WORDS: { ℕ };
+
+    ghost Value: { Type 0 };
+
+    ghost to_words: { Value → List ℕ };
+
+    ghost laws: { RecordLaws WORDS to_words };
+}
+
+// A record that is read and written whole.
+pub trait WholeRecord: Record + Copy {
+    ghost as_words: { Self → List ℕ };
+
+    ghost from_words: { List ℕ → Self };
+
+    // The record whose first word is the word a of s.
+    fn read_at(s: &[u8], a: usize) -> Self
+        requires { 8 * (a + Self.WORDS) ≤ length s.now }
+        ensures { result ≡ from_words (drop a (words s.now)) };
+
+    // Stores the record from the word a on.
+    fn write_at(self, s: &mut [u8], a: usize)
+        requires { 8 * (a + Self.WORDS) ≤ length s.old }
+        ensures { words s.new ≡ splice (words s.old) a (as_words self) };
+
+    ghost laws: { WholeLaws Self.Record.WORDS as_words from_words };
+}
+
+// The i-th record.
+pub fn read<R: WholeRecord>(s: &[u8], i: usize) -> R
+    requires { 8 * (R.WORDS * (i + 1)) ≤ length s.now }
+    ensures { Found R.WORDS R.as_words (words s.now) R.from_words i result }
 {
-    let a = i * ROW;
-    let hash = read_quad(s, a);
-    let conn = words::get(s, a + 4);
-    let ready = words::get(s, a + 5);
-    let prio = words::get(s, a + 6);
-    let deadline = words::get(s, a + 7);
-    let bits = words::get(s, a + 8);
-    Row {
-        hash,
-        conn,
-        ready,
-        prio,
-        deadline,
-        bits,
+    R::read_at(s, i * R::WORDS)
+}
+
+// Stores r as the i-th record.
+pub fn write<R: WholeRecord>(s: &mut [u8], i: usize, r: R)
+    requires { 8 * (R.WORDS * (i + 1)) ≤ length s.old }
+    ensures { Replaced R.WORDS R.as_words (words s.old) (words s.new) i r }
+{
+    r.write_at(s, i * R::WORDS);
+}
+
+// Moves the first m words of a part up by a record. (By itself, with a constant distance from word 0, it is compiled to a memmove.)
+fn up_by<R: Record>(s: &mut [u8], m: usize)
+    requires { 8 * (m + R.WORDS) ≤ length s.old }
+    ensures { words s.new ≡ up R.WORDS (words s.old) 0 m }
+{
+    words::shift_up(s, m, R::WORDS);
+}
+
+// Moves m words of a part, from the second record on, down by a record.
+fn down_by<R: Record>(s: &mut [u8], m: usize)
+    requires { 8 * (m + R.WORDS) ≤ length s.old }
+    ensures { words s.new ≡ down R.WORDS (words s.old) 0 m }
+{
+    words::shift_down(s, m, R::WORDS);
+}
+
+// Puts r in as the i-th of n records.
+pub fn insert<R: WholeRecord>(s: &mut [u8], n: usize, i: usize, r: R)
+    requires { (i ≤ n) × (8 * (R.WORDS * (n + 1)) ≤ length s.old) }
+    ensures { Inserted R.WORDS R.as_words (words s.old) (words s.new) n i r }
+{
+    let size = R::WORDS;
+    let gap = i * size;
+    let end = n * size;
+    up_by::<R>(&mut s[gap * 8..(end + size) * 8], end - gap);
+    write(s, i, r);
+}
+
+// Takes the i-th of n records out.
+pub fn remove<R: Record>(s: &mut [u8], n: usize, i: usize)
+    requires { (i < n) × (8 * (R.WORDS * n) ≤ length s.old) }
+    ensures { Removed R.WORDS R.to_words (words s.old) (words s.new) n i }
+{
+    let size = R::WORDS;
+    let gap = i * size;
+    let end = n * size - size;
+    down_by::<R>(&mut s[gap * 8..(end + size) * 8], end - gap);
+    words::clear(s, end, size);
+}
+
+// Clears the records from the m-th of n on.
+pub fn truncate<R: Record>(s: &mut [u8], n: usize, m: usize)
+    requires { (m ≤ n) × (8 * (R.WORDS * n) ≤ length s.old) }
+    ensures { Truncated R.WORDS R.to_words (words s.old) (words s.new) n m }
+{
+    let size = R::WORDS;
+    words::clear(s, m * size, (n - m) * size);
+}
+
+// Copies the record at `from` over the record at `to`, which is not behind it.
+pub fn copy<R: Record>(s: &mut [u8], to: usize, from: usize)
+    requires { (to ≤ from) × (8 * (R.WORDS * (from + 1)) ≤ length s.old) }
+    ensures { Copied R.WORDS R.to_words (words s.old) (words s.new) to from }
+{
+    let size = R::WORDS;
+    copy_down(s, to * size, from * size, size);
+}
+
+// ---- rows and connections
+
+impl Record for Row {
+    const WORDS: usize = ROW;
+
+    ghost WORDS = { row_size };
+
+    ghost Value = { Row };
+
+    ghost to_words = { row_words };
+
+    ghost laws = { row_kind };
+}
+
+impl WholeRecord for Row {
+    ghost as_words = { row_words };
+
+    ghost from_words = { read_row };
+
+    fn read_at(s: &[u8], a: usize) -> Row {
+        Row {
+            hash: read_quad(s, a),
+            conn: words::get(s, a + 4),
+            ready: words::get(s, a + 5),
+            prio: words::get(s, a + 6),
+            deadline: words::get(s, a + 7),
+            bits: words::get(s, a + 8),
+        }
     }
+
+    fn write_at(self, s: &mut [u8], a: usize) {
+        write_quad(s, a, self.hash);
+        words::put(s, a + 4, self.conn);
+        words::put(s, a + 5, self.ready);
+        words::put(s, a + 6, self.prio);
+        words::put(s, a + 7, self.deadline);
+        words::put(s, a + 8, self.bits);
+    }
+
+    ghost laws = { row_whole };
 }
 
-// Stores r as the i-th row.
-pub fn write_row(s: &mut [u8], i: usize, r: Row)
-    requires { 8 * (row_size * (i + 1)) ≤ length s.old }
-    ensures { Replaced row_size row_words (words s.old) (words s.new) i r }
-{
-    let a = i * ROW;
-    let h = r.hash;
-    write_quad(s, a, h);
-    words::put(s, a + 4, r.conn);
-    words::put(s, a + 5, r.ready);
-    words::put(s, a + 6, r.prio);
-    words::put(s, a + 7, r.deadline);
-    words::put(s, a + 8, r.bits);
+impl Record for Conn {
+    const WORDS: usize = CONN;
+
+    ghost WORDS = { conn_size };
+
+    ghost Value = { Conn };
+
+    ghost to_words = { conn_words };
+
+    ghost laws = { conn_kind };
 }
 
-// Moves the first m words of a part up by a row. (By itself, with a constant distance from word 0, it is compiled to a memmove.)
-fn rows_up(s: &mut [u8], m: usize)
-    requires { 8 * (m + row_size) ≤ length s.old }
-    ensures { words s.new ≡ up row_size (words s.old) 0 m }
-{
-    words::shift_up(s, m, ROW);
-}
+impl WholeRecord for Conn {
+    ghost as_words = { conn_words };
 
-// Moves m words of a part, from the second row on, down by a row.
-fn rows_down(s: &mut [u8], m: usize)
-    requires { 8 * (m + row_size) ≤ length s.old }
-    ensures { words s.new ≡ down row_size (words s.old) 0 m }
-{
-    words::shift_down(s, m, ROW);
-}
+    ghost from_words = { read_conn };
 
-// Puts r in as the i-th of n rows.
-pub fn insert_row(s: &mut [u8], n: usize, i: usize, r: Row)
-    requires { (i ≤ n) × (8 * (row_size * (n + 1)) ≤ length s.old) }
-    ensures { Inserted row_size row_words (words s.old) (words s.new) n i r }
-{
-    let gap = i * ROW;
-    let end = n * ROW;
-    let x = gap * 8;
-    let y = (end + ROW) * 8;
-    rows_up(&mut s[x..y], end - gap);
-    write_row(s, i, r);
-}
+    fn read_at(s: &[u8], a: usize) -> Conn {
+        Conn {
+            conn: words::get(s, a),
+            held: words::get(s, a + 1),
+            owned: words::get(s, a + 2),
+        }
+    }
 
-// Takes the i-th of n rows out.
-pub fn remove_row(s: &mut [u8], n: usize, i: usize)
-    requires { (i < n) × (8 * (row_size * n) ≤ length s.old) }
-    ensures { Removed row_size row_words (words s.old) (words s.new) n i }
-{
-    let gap = i * ROW;
-    let end = n * ROW - ROW;
-    let x = gap * 8;
-    let y = (end + ROW) * 8;
-    rows_down(&mut s[x..y], end - gap);
-    words::clear(s, end, ROW);
-}
+    fn write_at(self, s: &mut [u8], a: usize) {
+        words::put(s, a, self.conn);
+        words::put(s, a + 1, self.held);
+        words::put(s, a + 2, self.owned);
+    }
 
-// Clears the rows from the m-th of n on.
-pub fn truncate_rows(s: &mut [u8], n: usize, m: usize)
-    requires { (m ≤ n) × (8 * (row_size * n) ≤ length s.old) }
-    ensures { Truncated row_size row_words (words s.old) (words s.new) n m }
-{
-    words::clear(s, m * ROW, (n - m) * ROW);
-}
-
-// Copies the row at `from` over the row at `to`, which is not behind it.
-pub fn copy_row(s: &mut [u8], to: usize, from: usize)
-    requires { (to ≤ from) × (8 * (row_size * (from + 1)) ≤ length s.old) }
-    ensures { Copied row_size row_words (words s.old) (words s.new) to from }
-{
-    copy_down(s, to * ROW, from * ROW, ROW);
-}
-
-// ---- connections
-
-// The i-th entry.
-pub fn read_conn(s: &[u8], i: usize) -> Conn
-    requires { 8 * (conn_size * (i + 1)) ≤ length s.now }
-    ensures { Found conn_size conn_words (words s.now) read_conn i result }
-{
-    let a = i * CONN;
-    let conn = words::get(s, a);
-    let held = words::get(s, a + 1);
-    let owned = words::get(s, a + 2);
-    Conn { conn, held, owned }
-}
-
-// Stores c as the i-th entry.
-pub fn write_conn(s: &mut [u8], i: usize, c: Conn)
-    requires { 8 * (conn_size * (i + 1)) ≤ length s.old }
-    ensures { Replaced conn_size conn_words (words s.old) (words s.new) i c }
-{
-    let a = i * CONN;
-    words::put(s, a, c.conn);
-    words::put(s, a + 1, c.held);
-    words::put(s, a + 2, c.owned);
-}
-
-// Puts c in as the i-th of n entries.
-pub fn insert_conn(s: &mut [u8], n: usize, i: usize, c: Conn)
-    requires { (i ≤ n) × (8 * (conn_size * (n + 1)) ≤ length s.old) }
-    ensures { Inserted conn_size conn_words (words s.old) (words s.new) n i c }
-{
-    move_up(s, i * CONN, n * CONN, CONN);
-    write_conn(s, i, c);
-}
-
-// Takes the i-th of n entries out.
-pub fn remove_conn(s: &mut [u8], n: usize, i: usize)
-    requires { (i < n) × (8 * (conn_size * n) ≤ length s.old) }
-    ensures { Removed conn_size conn_words (words s.old) (words s.new) n i }
-{
-    take_out(s, i * CONN, n * CONN, CONN);
+    ghost laws = { conn_whole };
 }
 
 // ---- searches

@@ -63,7 +63,7 @@ fn entries_fit(s: &[u8], n: usize) -> bool
         owned: 0,
     };
     for i in 0..n {
-        let c = regions::read_conn(s, i);
+        let c = regions::read::<regions::Conn>(s, i);
         if !entry_fits(p, c) {
             return false;
         }
@@ -93,7 +93,7 @@ fn charge_all(s: &[u8], n: usize, lo: usize, t: &mut [u32])
         if j >= t.len() {
             return;
         }
-        let c = regions::read_conn(s, i);
+        let c = regions::read::<regions::Conn>(s, i);
         t[j] = charge(c);
     }
 }
@@ -179,7 +179,7 @@ fn count_rows(
         (recs conn_size read_conn c (words conns.now)) done last lo t.new × (length t.new ≡ length t.old) }
 {
     for i in 0..n {
-        let r = regions::read_row(rows, i);
+        let r = regions::read::<regions::Row>(rows, i);
         let own = (r.bits / 8 % 2) as u32;
         if !take_row(conns, c, lo, t, guess, mask, way, done, last, r.conn, own) {
             return false;

@@ -44,9 +44,9 @@ pub fn rows_fit(s: &[u8], n: usize) -> bool
     if n == 0 {
         return true;
     }
-    let mut p = regions::read_row(s, 0);
+    let mut p = regions::read::<regions::Row>(s, 0);
     for i in 0..n {
-        let r = regions::read_row(s, i);
+        let r = regions::read::<regions::Row>(s, i);
         if !row_fits(r) {
             return false;
         }

@@ -14,7 +14,7 @@ fn hash_at(s: &[u8], i: usize) -> regions::Quad
     requires { 8 * (row_size * (i + 1)) ≤ length s.now }
     ensures { quad_number result ≡ hash_at (row_at (words s.now) i) }
 {
-    let r = regions::read_row(s, i);
+    let r = regions::read::<regions::Row>(s, i);
     r.hash
 }
 
@@ -58,7 +58,7 @@ fn apart(s: &[u8], i: usize, a: usize, j: usize, b: usize) -> bool
     ensures { Decides result (Apart (rows_in (words s.now) j b) (rows_in (words s.now) i a)) }
 {
     for k in i..a {
-        let r = regions::read_row(s, k);
+        let r = regions::read::<regions::Row>(s, k);
         if regions::find_conn_in(s, k + 1, a, r.conn) < a {
             return false;
         }
@@ -76,7 +76,7 @@ pub fn owners(s: &[u8], from: usize, to: usize) -> u64
 {
     let mut sum = 0;
     for i in from..to {
-        let r = regions::read_row(s, i);
+        let r = regions::read::<regions::Row>(s, i);
         sum += r.bits / 8 % 2;
     }
     sum
@@ -90,7 +90,7 @@ fn mark_conns(s: &[u8], from: usize, to: usize, slots: &mut [u64], mark: u64) ->
 {
     let mut k = to;
     while from < k {
-        let r = regions::read_row(s, k - 1);
+        let r = regions::read::<regions::Row>(s, k - 1);
         let x = (r.conn % SLOTS) as usize;
         if slots[x] == mark {
             return false;

@@ -17,7 +17,7 @@ pub fn conn_at(s: &[u8], i: usize) -> regions::Conn
     let l = head::limit(s);
     let x = (head::HEAD + l * ROW) * 8;
     let y = (head::HEAD + l * ROW + l * CONN) * 8;
-    regions::read_conn(&s[x..y], i)
+    regions::read::<regions::Conn>(&s[x..y], i)
 }
 
 // Stores c as the i-th entry.
@@ -28,7 +28,7 @@ pub fn set_conn(s: &mut [u8], i: usize, c: regions::Conn)
     let l = head::limit(s);
     let x = (head::HEAD + l * ROW) * 8;
     let y = (head::HEAD + l * ROW + l * CONN) * 8;
-    regions::write_conn(&mut s[x..y], i, c);
+    regions::write(&mut s[x..y], i, c);
 }
 
 // Puts c in as the i-th entry.
@@ -40,7 +40,7 @@ pub fn add_conn(s: &mut [u8], i: usize, c: regions::Conn)
     let l = head::limit(s);
     let x = (head::HEAD + l * ROW) * 8;
     let y = (head::HEAD + l * ROW + l * CONN) * 8;
-    regions::insert_conn(&mut s[x..y], n, i, c);
+    regions::insert(&mut s[x..y], n, i, c);
     words::put(s, 4, (n + 1) as u64);
 }
 
@@ -53,7 +53,7 @@ pub fn drop_conn(s: &mut [u8], i: usize)
     let l = head::limit(s);
     let x = (head::HEAD + l * ROW) * 8;
     let y = (head::HEAD + l * ROW + l * CONN) * 8;
-    regions::remove_conn(&mut s[x..y], n, i);
+    regions::remove::<regions::Conn>(&mut s[x..y], n, i);
     words::put(s, 4, (n - 1) as u64);
 }
 

@@ -47,7 +47,7 @@ pub fn close_place(s: &mut [u8], i: usize)
     let q = head::places(s);
     let x = (head::HEAD + l * ROW + l * CONN) * 8;
     let y = (head::HEAD + l * ROW + l * CONN + q * PLACE) * 8;
-    places::remove_place(&mut s[x..y], n, i);
+    regions::remove::<places::Place>(&mut s[x..y], n, i);
     words::put(s, 5, (n - 1) as u64);
 }
 

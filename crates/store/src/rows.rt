@@ -18,7 +18,7 @@ pub fn row_at(s: &[u8], i: usize) -> regions::Row
 {
     let x = head::HEAD * 8;
     let y = (head::HEAD + head::limit(s) * ROW) * 8;
-    regions::read_row(&s[x..y], i)
+    regions::read::<regions::Row>(&s[x..y], i)
 }
 
 // Stores r as the i-th row.
@@ -28,7 +28,7 @@ pub fn set_row(s: &mut [u8], i: usize, r: regions::Row)
 {
     let x = head::HEAD * 8;
     let y = (head::HEAD + head::limit(s) * ROW) * 8;
-    regions::write_row(&mut s[x..y], i, r);
+    regions::write(&mut s[x..y], i, r);
 }
 
 // Puts r in as the i-th row.
@@ -39,7 +39,7 @@ pub fn add_row(s: &mut [u8], i: usize, r: regions::Row)
     let n = head::rows(s);
     let x = head::HEAD * 8;
     let y = (head::HEAD + head::limit(s) * ROW) * 8;
-    regions::insert_row(&mut s[x..y], n, i, r);
+    regions::insert(&mut s[x..y], n, i, r);
     words::put(s, 3, (n + 1) as u64);
 }
 
@@ -51,7 +51,7 @@ pub fn drop_row(s: &mut [u8], i: usize)
     let n = head::rows(s);
     let x = head::HEAD * 8;
     let y = (head::HEAD + head::limit(s) * ROW) * 8;
-    regions::remove_row(&mut s[x..y], n, i);
+    regions::remove::<regions::Row>(&mut s[x..y], n, i);
     words::put(s, 3, (n - 1) as u64);
 }
 

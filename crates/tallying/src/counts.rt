@@ -13,7 +13,7 @@ fn is_entry(r: &[u8], m: usize, p: usize, x: u64) -> bool
     ensures { EntryAt (words r.now) m p x result }
 {
     if p < m {
-        let c = regions::read_conn(r, p);
+        let c = regions::read::<regions::Conn>(r, p);
         c.conn == x
     } else {
         false
@@ -25,17 +25,17 @@ fn count(r: &mut [u8], m: usize, j: usize) -> usize
     requires { (m ≤ j) × (8 * (conn_size * (j + 1)) ≤ length r.old) × Underway (words r.old) m j }
     ensures { (result ≤ j + 1) × Counts (words r.old) (words r.new) m j result }
 {
-    let c = regions::read_conn(r, j);
+    let c = regions::read::<regions::Conn>(r, j);
     let o = c.owned % 2;
     let p = regions::seek_conn(r, m, c.conn);
     if is_entry(r, m, p, c.conn) {
-        let e = regions::read_conn(r, p);
+        let e = regions::read::<regions::Conn>(r, p);
         let d = regions::Conn {
             conn: e.conn,
             held: e.held + 1,
             owned: e.owned + o,
         };
-        regions::write_conn(r, p, d);
+        regions::write(r, p, d);
         return m;
     }
     let d = regions::Conn {
@@ -43,7 +43,7 @@ fn count(r: &mut [u8], m: usize, j: usize) -> usize
         held: 1,
         owned: o,
     };
-    regions::insert_conn(r, m, p, d);
+    regions::insert(r, m, p, d);
     m + 1
 }
 

@@ -23,8 +23,8 @@ returns-then-not-take_row c =
     let e : c.take_row.result ≡ false = not-true _ c.if-not-take_row.true-raw in
     let b = c.take_row.ensures in (
       λ o. tallied_stop a.c (words a.conns.now) (words a.rows.now) a.done a.last a.lo c.loop-i.i
-          c.loop-i.t c.read_row-r.result
-          c.read_row-r.ensures.words_are
+          c.loop-i.t c.read-r.result
+          c.read-r.ensures.words_are
           c.loop-i.invariant.2 a.n (omega arith) (rw b.1 at o) (rw e at b.0),
       b.1 ∙ c.loop-i.invariant.1,
     )
@@ -37,8 +37,8 @@ loop-i-preserved c =
       search rules,
       b.1 ∙ c.loop-i.invariant.1,
       tallied_turn a.c (words a.conns.now) (words a.rows.now) a.done a.last a.lo c.loop-i.i
-          c.loop-i.t c.read_row-r.result
-          c.read_row-r.ensures.words_are
+          c.loop-i.t c.read-r.result
+          c.read-r.ensures.words_are
           c.loop-i.invariant.2 _ b.1 (rw e at b.0),
     )
 

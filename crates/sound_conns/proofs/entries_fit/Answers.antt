@@ -14,8 +14,8 @@ pub returns-then-not-entry_fits : goal.returns-then-not-entry_fits
 returns-then-not-entry_fits c =
     let w = words c.args.s.now in
     λ z. walk_stop EntryStep conn_size read_conn c.args.n w c.loop-i.p
-    c.loop-i.i (omega arith) c.loop-i.invariant.1 c.read_conn-c.ensures.words_are
-    (failed (EntryStep c.loop-i.p c.read_conn-c.result) c.entry_fits.result c.if-not-entry_fits.true-raw c.entry_fits.ensures)
+    c.loop-i.i (omega arith) c.loop-i.invariant.1 c.read-c.ensures.words_are
+    (failed (EntryStep c.loop-i.p c.read-c.result) c.entry_fits.result c.if-not-entry_fits.true-raw c.entry_fits.ensures)
     ((entries_iff (recs conn_size read_conn c.args.n w)).from z)
 
 pub loop-i-preserved : goal.loop-i-preserved
@@ -23,7 +23,7 @@ loop-i-preserved c = (
   search rules,
   walk_turn EntryStep conn_size read_conn c.args.n (words c.args.s.now)
       c.loop-i.p c.loop-i.i (omega arith) c.loop-i.invariant.1
-      c.read_conn-c.ensures.words_are (passed (EntryStep c.loop-i.p c.read_conn-c.result) c.entry_fits.result
+      c.read-c.ensures.words_are (passed (EntryStep c.loop-i.p c.read-c.result) c.entry_fits.result
       c.if-not-entry_fits.false-raw c.entry_fits.ensures),
 )
 

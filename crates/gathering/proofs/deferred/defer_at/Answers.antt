@@ -5,8 +5,8 @@ use Rattle.ident.proofs.Words.{key-four, hash_below}
 use Rattle.gathering.proofs.Deferrals.{deferred_not, deferred_in}
 use Rattle.gathering.proofs.deferred.defer_at.Goals as goal
 
-pub read_row-y-requires : goal.read_row-y-requires
-read_row-y-requires c = omega (arith, c.if-d-m.false, c.requires.2, c.requires.4)
+pub read-y-requires : goal.read-y-requires
+read-y-requires c = omega (arith, c.if-d-m.false, c.requires.2, c.requires.4)
 
 pub suits-requires : goal.suits-requires
 suits-requires c = (
@@ -25,5 +25,5 @@ pub put_in-requires : goal.put_in-requires
 put_in-requires c = omega (arith, (c.in-Waits.ensures.waits refl).spare, c.requires.1)
 
 pub returns-in-Waits : goal.returns-in-Waits
-returns-in-Waits c = deferred_in (hash_below c.args.k.hash (key-four c.args.k c.well_formed.1.1.1.1.1.0)) (omega (arith, c.if-d-m.false)) c.read_row-y.ensures
+returns-in-Waits c = deferred_in (hash_below c.args.k.hash (key-four c.args.k c.well_formed.1.1.1.1.1.0)) (omega (arith, c.if-d-m.false)) c.read-y.ensures
     c.in-Waits.ensures c.waiting_row.ensures c.put_in.ensures

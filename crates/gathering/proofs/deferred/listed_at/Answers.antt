@@ -8,8 +8,8 @@ use Rattle.gathering.proofs.deferred.listed_at.Goals as goal
 pub loop-i-init : goal.loop-i-init
 loop-i-init c = (omega arith, passed_none)
 
-pub read_row-x-requires : goal.read_row-x-requires
-read_row-x-requires c = omega (arith, c.requires.0, c.requires.1, c.loop-i-test.true)
+pub read-x-requires : goal.read-x-requires
+read-x-requires c = omega (arith, c.requires.0, c.requires.1, c.loop-i-test.true)
 
 pub returns-then-same_hash : goal.returns-then-same_hash
 returns-then-same_hash c = λ e. never (sym e)
@@ -17,7 +17,7 @@ returns-then-same_hash c = λ e. never (sym e)
 pub loop-i-preserved : goal.loop-i-preserved
 loop-i-preserved c = (
   omega (arith, c.loop-i-test.true),
-  passed_more c.loop-i.invariant.1 c.read_row-x.ensures c.quad_hash-g.ensures
+  passed_more c.loop-i.invariant.1 c.read-x.ensures c.quad_hash-g.ensures
       c.same_hash.ensures c.if-same_hash.false,
 )
 

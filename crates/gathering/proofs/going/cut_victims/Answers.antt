@@ -7,8 +7,8 @@ use Rattle.gathering.proofs.going.cut_victims.Goals as goal
 pub loop-i-init : goal.loop-i-init
 loop-i-init c = (omega arith, parting_none)
 
-pub read_row-y-requires : goal.read_row-y-requires
-read_row-y-requires c = omega (arith, c.requires.2, c.requires.3, c.requires.4, c.loop-i-test.true)
+pub read-y-requires : goal.read-y-requires
+read-y-requires c = omega (arith, c.requires.2, c.requires.3, c.requires.4, c.loop-i-test.true)
 
 pub cut-requires : goal.cut-requires
 cut-requires c = parting_kept c.loop-i.invariant.1 c.requires.0
@@ -19,7 +19,7 @@ loop-i-preserved c = (
   omega (arith, c.loop-i-test.true),
   parting_more c.loop-i.invariant.1 (omega
       (arith, c.loop-i-test.true, c.requires.2))
-      c.read_row-y.ensures c.key_of.ensures c.cut.auto.s c.cut.ensures,
+      c.read-y.ensures c.key_of.ensures c.cut.auto.s c.cut.ensures,
 )
 
 pub shape_of-s : goal.shape_of-s

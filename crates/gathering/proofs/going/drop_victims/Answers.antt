@@ -10,14 +10,14 @@ use Rattle.gathering.proofs.going.drop_victims.Goals as goal
 pub overflow_sub-d : goal.overflow_sub-d
 overflow_sub-d c = omega (arith, c.requires.1)
 
-pub read_row-v-requires : goal.read_row-v-requires
-read_row-v-requires c = omega (arith, c.requires.1, c.requires.2, c.requires.3, c.requires.4)
+pub read-v-requires : goal.read-v-requires
+read-v-requires c = omega (arith, c.requires.1, c.requires.2, c.requires.3, c.requires.4)
 
 pub rows-n-requires : goal.rows-n-requires
 rows-n-requires c = omega (arith, sizes c.requires.0.writes)
 
 pub loop-i-init : goal.loop-i-init
-loop-i-init c = dropping_none _ (goes_by c.read_row-v.result)
+loop-i-init c = dropping_none _ (goes_by c.read-v.result)
 
 pub drop_row-k-requires : goal.drop_row-k-requires
 drop_row-k-requires c = (
@@ -48,6 +48,6 @@ shape_of-s c = c.drop_rows.auto.s ∙ c.loop-i.invariant.size
 
 pub returns : goal.returns
 returns c = gone_at_once c.requires.1
-    c.requires.2 c.read_row-v.ensures
+    c.requires.2 c.read-v.ensures
     (λ st s w. dropping_end c.loop-i.invariant c.rows-n.ensures.word (omega
     (arith, c.loop-i-test.false)) c.drop_rows.ensures st s w)

@@ -17,12 +17,12 @@ loop-i-preserved c = (
   c.keep_live-m.auto.s ∙ c.loop-i.invariant.1,
 )
 
-pub truncate_places-requires : goal.truncate_places-requires
-truncate_places-requires c =
+pub truncate-requires : goal.truncate-requires
+truncate-requires c =
     (omega (arith, c.loop-i.invariant.0.less, c.loop-i.invariant.0.most), omega (arith, c.loop-i.invariant.1, c.requires))
 
 pub shape_of-s : goal.shape_of-s
-shape_of-s c = c.truncate_places.auto.s ∙ c.loop-i.invariant.1
+shape_of-s c = c.truncate.auto.s ∙ c.loop-i.invariant.1
 
 pub returns : goal.returns
-returns c = compacting_end c.loop-i.invariant.0 (omega (arith, c.loop-i-test.false)) c.truncate_places.ensures
+returns c = compacting_end c.loop-i.invariant.0 (omega (arith, c.loop-i-test.false)) c.truncate.ensures

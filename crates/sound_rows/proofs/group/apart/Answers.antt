@@ -13,17 +13,17 @@ loop-k-init c = (omega arith, search rules, iff_self)
 pub returns-then-find_conn_in-a : goal.returns-then-find_conn_in-a
 returns-then-find_conn_in-a c = apart-later (words c.args.s.now) (rows_in (words c.args.s.now)
     c.args.j c.args.b) c.loop-k.k
-    c.args.a (omega arith) c.read_row-r.ensures.words_are c.loop-k.invariant.2
-    (first_some (words c.args.s.now) c.read_row-r.result.conn (c.loop-k.k + 1)
+    c.args.a (omega arith) c.read-r.ensures.words_are c.loop-k.invariant.2
+    (first_some (words c.args.s.now) c.read-r.result.conn (c.loop-k.k + 1)
     c.args.a c.find_conn_in.result c.find_conn_in.ensures (omega arith))
 
 pub returns-then-find_conn_in-b : goal.returns-then-find_conn_in-b
 returns-then-find_conn_in-b c = apart-others (words c.args.s.now)
     (rows_in (words c.args.s.now) c.args.j
     c.args.b) c.loop-k.k
-    c.args.a (omega arith) c.read_row-r.ensures.words_are
+    c.args.a (omega arith) c.read-r.ensures.words_are
     c.loop-k.invariant.2 (first_some (words c.args.s.now)
-    c.read_row-r.result.conn c.args.j
+    c.read-r.result.conn c.args.j
     c.args.b c.find_conn_in-in-loop-k.result c.find_conn_in-in-loop-k.ensures (omega arith))
 
 pub loop-k-preserved : goal.loop-k-preserved
@@ -33,11 +33,11 @@ loop-k-preserved c = (
   apart_turn (words c.args.s.now) (rows_in
       (words c.args.s.now) c.args.j
       c.args.b) c.loop-k.k
-      c.args.a (omega arith) c.read_row-r.ensures.words_are
+      c.args.a (omega arith) c.read-r.ensures.words_are
       c.loop-k.invariant.2 (first_none (words c.args.s.now)
-      c.read_row-r.result.conn (c.loop-k.k + 1)
+      c.read-r.result.conn (c.loop-k.k + 1)
       c.args.a c.find_conn_in.result c.find_conn_in.ensures
-      (omega arith)) (first_none (words c.args.s.now) c.read_row-r.result.conn
+      (omega arith)) (first_none (words c.args.s.now) c.read-r.result.conn
       c.args.j c.args.b c.find_conn_in-in-loop-k.result
       c.find_conn_in-in-loop-k.ensures (omega arith)),
 )

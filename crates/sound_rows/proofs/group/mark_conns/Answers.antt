@@ -26,8 +26,8 @@ loop-k-preserved c =
       omega arith,
       omega arith,
       length-set l.slots _ _ ∙ l.invariant.2,
-      marks_turn (words a.s.now) l.k a.to a.mark a.slots.now l.slots c.read_row-r.result (omega arith) l.invariant.1
-          c.read_row-r.ensures.words_are refl (omega (arith, l.invariant.2)) c.if-slots-x.false l.invariant.3,
+      marks_turn (words a.s.now) l.k a.to a.mark a.slots.now l.slots c.read-r.result (omega arith) l.invariant.1
+          c.read-r.ensures.words_are refl (omega (arith, l.invariant.2)) c.if-slots-x.false l.invariant.3,
     )
 
 pub returns : goal.returns

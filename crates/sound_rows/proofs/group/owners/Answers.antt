@@ -11,7 +11,7 @@ loop-i-init c = (omega arith, search rules, omega arith, omega arith)
 pub loop-i-preserved : goal.loop-i-preserved
 loop-i-preserved c =
     let t = owners_turn (words c.args.s.now) c.loop-i.i c.args.to (omega arith)
-    c.read_row-r.ensures.words_are in
+    c.read-r.ensures.words_are in
     (search rules, search rules, omega arith, omega (arith, c.loop-i.invariant.3))
 
 pub returns : goal.returns

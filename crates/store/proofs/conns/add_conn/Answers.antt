@@ -14,10 +14,10 @@ returns c = λ f h.
     let n = c.conns-n.ensures.field f h in
     let i : c.args.i ≤ length f.conns =
     omega (arith, c.requires) in
-    let held = c.insert_conn.ensures.region f.head.limit f.conns (sym n) (conns-lent h lim) in
+    let held = c.insert.ensures.region f.head.limit f.conns (sym n) (conns-lent h lim) in
     let m : length (insert_at c.args.i
     c.args.c f.conns) ≡
     c.conns-n.result + 1 =
     length-insert f.conns c.args.i
     c.args.c i ∙ ap (λ j. j + 1) (sym n) in
-    conns-counted h (search rules) _ _ m (conns_back h lim _ _ c.insert_conn.auto.s held) c.put.ensures.word
+    conns-counted h (search rules) _ _ m (conns_back h lim _ _ c.insert.auto.s held) c.put.ensures.word

@@ -14,8 +14,8 @@ returns c = λ f h.
     let n = c.conns-n.ensures.field f h in
     let i : c.args.i < length f.conns =
     omega (arith, c.requires) in
-    let held = c.remove_conn.ensures.region f.head.limit f.conns (sym n) (conns-lent h lim) in
+    let held = c.remove.ensures.region f.head.limit f.conns (sym n) (conns-lent h lim) in
     let m : length (remove_at c.args.i f.conns) ≡
     c.conns-n.result - 1 = length_remove f.conns
     c.args.i i ∙ ap (λ j. j - 1) (sym n) in
-    conns-counted h (search rules) _ _ m (conns_back h lim _ _ c.remove_conn.auto.s held) c.put.ensures.word
+    conns-counted h (search rules) _ _ m (conns_back h lim _ _ c.remove.auto.s held) c.put.ensures.word

@@ -10,7 +10,7 @@ returns c = λ f h.
     let z = sizes h in
     let lim = c.limit-l.ensures.field f h in
     let i : c.args.i < length f.conns = omega (arith, c.requires) in
-    let held = c.write_conn.ensures.region f.head.limit f.conns i (conns-lent h lim) in
+    let held = c.write.ensures.region f.head.limit f.conns i (conns-lent h lim) in
     conns_same h (search rules) (set f.conns c.args.i c.args.c)
     (length-set f.conns c.args.i c.args.c)
-    (conns_back h lim _ _ c.write_conn.auto.s held)
+    (conns_back h lim _ _ c.write.auto.s held)

@@ -14,10 +14,10 @@ returns c = λ f h.
     let n = c.rows-n.ensures.field f h in
     let i : c.args.i ≤ length f.rows =
     omega (arith, c.requires) in
-    let held = c.insert_row.ensures.region f.head.limit f.rows (sym n) (rows-lent h lim) in
+    let held = c.insert.ensures.region f.head.limit f.rows (sym n) (rows-lent h lim) in
     let m : length (insert_at c.args.i
     c.args.r f.rows) ≡
     c.rows-n.result + 1 =
     length-insert f.rows c.args.i
     c.args.r i ∙ ap (λ j. j + 1) (sym n) in
-    rows-counted h (search rules) _ _ m (rows_back h lim _ _ c.insert_row.auto.s held) c.put.ensures.word
+    rows-counted h (search rules) _ _ m (rows_back h lim _ _ c.insert.auto.s held) c.put.ensures.word

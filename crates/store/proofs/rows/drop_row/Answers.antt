@@ -14,8 +14,8 @@ returns c = λ f h.
     let n = c.rows-n.ensures.field f h in
     let i : c.args.i < length f.rows =
     omega (arith, c.requires) in
-    let held = c.remove_row.ensures.region f.head.limit f.rows (sym n) (rows-lent h lim) in
+    let held = c.remove.ensures.region f.head.limit f.rows (sym n) (rows-lent h lim) in
     let m : length (remove_at c.args.i f.rows) ≡
     c.rows-n.result - 1 = length_remove f.rows
     c.args.i i ∙ ap (λ j. j - 1) (sym n) in
-    rows-counted h (search rules) _ _ m (rows_back h lim _ _ c.remove_row.auto.s held) c.put.ensures.word
+    rows-counted h (search rules) _ _ m (rows_back h lim _ _ c.remove.auto.s held) c.put.ensures.word

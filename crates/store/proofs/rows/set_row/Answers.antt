@@ -11,7 +11,7 @@ returns c = λ f h.
     let z = sizes h in
     let lim = c.limit.ensures.field f h in
     let i : c.args.i < length f.rows = omega (arith, c.requires) in
-    let k : length c.write_row.new.s ≡ _ = c.write_row.auto.s in
-    let held = c.write_row.ensures.region f.head.limit f.rows i (rows-lent h lim) in
+    let k : length c.write.new.s ≡ _ = c.write.auto.s in
+    let held = c.write.ensures.region f.head.limit f.rows i (rows-lent h lim) in
     rows_same h (search rules) (set f.rows c.args.i c.args.r) (length-set
     f.rows c.args.i c.args.r) (rows_back h lim _ _ k held)

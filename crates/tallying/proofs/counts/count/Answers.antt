@@ -10,8 +10,8 @@ overflow_add-d c = omega (
   entry_few
       c.requires.2.partly
       c.requires.2.more
-      c.read_conn-c.ensures (c.is_entry.ensures.inside
-      c.if-is_entry.true) c.read_conn-e.ensures,
+      c.read-c.ensures (c.is_entry.ensures.inside
+      c.if-is_entry.true) c.read-e.ensures,
 )
 
 pub overflow_add-d-then-is_entry : goal.overflow_add-d-then-is_entry
@@ -21,25 +21,25 @@ overflow_add-d-then-is_entry c = omega (
   entry_few
       c.requires.2.partly
       c.requires.2.more
-      c.read_conn-c.ensures (c.is_entry.ensures.inside
-      c.if-is_entry.true) c.read_conn-e.ensures,
+      c.read-c.ensures (c.is_entry.ensures.inside
+      c.if-is_entry.true) c.read-e.ensures,
 )
 
 pub returns-then-is_entry : goal.returns-then-is_entry
 returns-then-is_entry c = (
   omega (arith, c.requires.0),
-  λ L cs l fits p. partly_found p l c.read_conn-c.ensures
+  λ L cs l fits p. partly_found p l c.read-c.ensures
       (c.is_entry.ensures.inside c.if-is_entry.true)
-      c.read_conn-e.ensures fits
+      c.read-e.ensures fits
       c.seek_conn-p.ensures
       c.is_entry.ensures c.if-is_entry.true
-      c.write_conn.ensures,
+      c.write.ensures,
 )
 
 pub returns : goal.returns
 returns c = (
   omega (arith, c.requires.0),
-  λ L cs l fits p. partly_new p l c.read_conn-c.ensures fits
+  λ L cs l fits p. partly_new p l c.read-c.ensures fits
       c.seek_conn-p.ensures c.is_entry.ensures
-      c.if-is_entry.false c.insert_conn.ensures,
+      c.if-is_entry.false c.insert.ensures,
 )
