@@ -5,3 +5,4 @@ pub mod Order
 pub mod Columns
 pub mod Removing
 pub mod Records
+pub mod Less

@@ -8,9 +8,9 @@ use lib.ListN.{length, take, drop, replicate}
 use Rattle.words.specs.Words.{words, splice, up, down}
 use Rattle.words.proofs.Words.{length-words}
 use Rattle.words.proofs.Parts.{back_up, back_down}
-use Rattle.regions.specs.Regions.{Inserted, Removed, Replaced, Found, RecordLaws, WholeLaws}
+use Rattle.regions.specs.Regions.{Removed, Replaced, Found, RecordLaws, WholeLaws}
 use Rattle.regions.proofs.Gap.{shut_by}
-use Rattle.regions.proofs.Regions.{found, replaced, inserted_at, removed_at}
+use Rattle.regions.proofs.Regions.{found, replaced, removed_at}
 
 module _ {A : Type 0} {k : ℕ} {enc : A → List ℕ} where
   module _ {dec : List ℕ → A} (laws : WholeLaws k enc dec) (w : List ℕ) (i : ℕ) {size : ℕ} (e : size ≡ k) where

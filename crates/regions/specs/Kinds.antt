@@ -3,8 +3,6 @@ use Rattle.std.specs.Prelude.{◌≡◌, ℕ, ◌<◌, List, take, get_or}
 use mathlib.Core.Path.{refl}
 use lib.Dec.{lit<}
 use lib.Seq.{get_or-take}
-use Rattle.regions.specs.declared.Row.{Row}
-use Rattle.regions.specs.declared.Conn.{Conn}
 use Rattle.regions.specs.Regions.{RecordLaws, WholeLaws}
 use Rattle.regions.specs.Rows.{row_size, conn_size, row_words, read_row, conn_words, read_conn}
 

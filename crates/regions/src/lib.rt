@@ -24,17 +24,17 @@ pub const ROW: usize = 9;
 // Words of a connection's entry.
 pub const CONN: usize = 3;
 
-// A hash as four words, w3 the most significant.
-#[derive(Clone, Copy)]
+// A hash as four words, w3 the most significant: the words stand in that order, so that the derived one is that of the numbers.
+#[derive(Clone, Copy, Debug, PartialEq, Eq, PartialOrd, Ord)]
 pub struct Quad {
-    pub w0: u64,
-    pub w1: u64,
-    pub w2: u64,
     pub w3: u64,
+    pub w2: u64,
+    pub w1: u64,
+    pub w0: u64,
 }
 
-// What rows are in the order of: the kind (0 Txid, 1 Wtxid), then the hash.
-#[derive(Clone, Copy)]
+// What rows are in the order of: the kind (0 Txid, 1 Wtxid, as bit 0 of a row's bits has it), then the hash.
+#[derive(Clone, Copy, Debug, PartialEq, Eq, PartialOrd, Ord)]
 pub struct Key {
     pub kind: u64,
     pub hash: Quad,
@@ -295,28 +295,14 @@ impl WholeRecord for Conn {
 pub fn quad_less(a: Quad, b: Quad) -> bool
     ensures { result ≡ ltb (quad_number a) (quad_number b) }
 {
-    if a.w3 != b.w3 {
-        return a.w3 < b.w3;
-    }
-    if a.w2 != b.w2 {
-        return a.w2 < b.w2;
-    }
-    if a.w1 != b.w1 {
-        return a.w1 < b.w1;
-    }
-    a.w0 < b.w0
+    a < b
 }
 
 // Whether the key a comes before b.
 pub fn key_less(a: Key, b: Key) -> bool
     ensures { result ≡ ltb (key_number a) (key_number b) }
 {
-    if a.kind != b.kind {
-        return a.kind < b.kind;
-    }
-    let x = a.hash;
-    let y = b.hash;
-    quad_less(x, y)
+    a < b
 }
 
 // The key of the i-th row.
