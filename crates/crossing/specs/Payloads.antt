@@ -1,21 +1,20 @@
 -- What the numbers of the exported calls on payloads say.
-use Rattle.std.specs.Prelude.{ℕ, zero, suc, List}
+use Rattle.std.specs.Prelude.{ℕ, zero, suc, List, Result, Ok, Err}
 use Rattle.ident.specs.Number.{Item}
 use Rattle.machine.specs.Call.{Buffer}
-use Rattle.wire.specs.declared.Answer.{Answer}
-use Rattle.wire.specs.declared.Answer.TheVariants.{Refused as No, Count}
-use Rattle.wire.specs.Calls.{Reply, Refused, Bytes, items_listed, Reads, Writes}
+use Rattle.wire.specs.declared.Refusal.{Refusal}
+use Rattle.wire.specs.Calls.{refusal_number, Reply, Refused, Bytes, items_listed, Reads, Writes}
 use Rattle.crossing.specs.Status.{Stays}
 
 -- the status of an answer
-abbrev pub answer_status : Answer → ℕ
-answer_status (No n) = n
-answer_status (Count n) = 0
+abbrev pub answer_status : Result ℕ Refusal → ℕ
+answer_status (Err r) = refusal_number r
+answer_status (Ok n) = 0
 
 -- the count that it hands out; refused, what stood there stays
-abbrev pub answer_out : Answer → ℕ → ℕ
-answer_out (No n) was = was
-answer_out (Count n) was = n
+abbrev pub answer_out : Result ℕ Refusal → ℕ → ℕ
+answer_out (Err r) was = was
+answer_out (Ok n) was = n
 
 -- the reply of a status: r, if the call was carried out
 abbrev pub said : ℕ → Reply → Reply

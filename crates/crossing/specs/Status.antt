@@ -1,6 +1,5 @@
 -- What the numbers of an exported call say, in document 01's numbers and values.
 use Rattle.std.specs.Prelude.{ℕ, zero, suc, ◌≡◌, List}
-use Rattle.machine.specs.Wrapper.{Sums}
 use Rattle.machine.specs.Call.{Buffer, Call}
 use Rattle.machine.specs.Step.{Reply, Refused, Number, Summed}
 use Rattle.outcome.specs.declared.Answer.{Answer}

@@ -95,12 +95,12 @@ pub fn hand_counts(c: public_requests::Counts, announced: &mut u64, owned: &mut 
 }
 
 // The same of a call on a payload: the count of items read, or of bytes written.
-pub fn hand_answer(a: wire::Answer, count: &mut u64) -> u64
+pub fn hand_answer(a: Result<u64, wire::Refusal>, count: &mut u64) -> u64
     ensures { (result ≡ answer_status a) × (count.new ≡ answer_out a count.old) }
 {
     match a {
-        wire::Answer::Refused(refusal) => refusal,
-        wire::Answer::Count(n) => {
+        Err(refusal) => u64::from(refusal),
+        Ok(n) => {
             *count = n;
             0
         }

@@ -1,6 +1,6 @@
 -- What the two calls answer, by the tests that they make.
 use Prim.Native.Nat.{ℕ, suc, ◌+◌, ◌*◌, ◌≤◌, ◌<◌}
-use mathlib.Core.Path.{◌≡◌, sym, ap, subst, ◌∙◌}
+use mathlib.Core.Path.{◌≡◌, sym, ap, ◌∙◌}
 use mathlib.Core.Logic.{inl, inr}
 use mathlib.Core.Bool.{Bool, true, false, ◌&&◌}
 use mathlib.Core.List.{List}
@@ -17,10 +17,9 @@ use Rattle.machine.specs.Step.{written}
 use Rattle.machine.proofs.Tests.{test}
 use Rattle.lent_lists.specs.Items.{item_bytes, item_in}
 use Rattle.lent_lists.proofs.Inventory.{Low, low-drop}
-use Rattle.wire.specs.declared.Found.{Found}
 use Rattle.wire.specs.Payload.{max_items, wire_bytes, compact_size, wires_of, payload_of, wire_item, items_of, all_plain}
 use Rattle.wire.specs.Calls.{bad_payload, short_buffer, Refused, Bytes, items_answer, items_listed, Reads, Writes}
-use Rattle.wire.specs.Steps.{Holds, Counted}
+use Rattle.wire.specs.Steps.{Holds}
 use Rattle.wire.proofs.Filling.{write_both}
 use Rattle.wire.proofs.Records.{length_wires, answer_back, read_fits, read_plain}
 
@@ -43,9 +42,6 @@ unfolding all_plain
 plain_all l i h v = sym (v ∙ ap all_plain (drop_of_length-le l {i = i} h))
 
 -- ---- reading
-
-pub counted : (p : List ℕ) {f g : Found} → Counted p f → f ≡ g → Counted p g
-counted p h e = subst (λ (x : Found). Counted p x) e h
 
 pub read_bad : (p u : List ℕ) → items_of p ≡ none → Reads p u u (Refused bad_payload)
 read_bad p u e = rw e

@@ -1,13 +1,13 @@
 -- What the two calls on payloads do: reply and answer buffer. They take no store (document 02, request a).
-use Rattle.std.specs.Prelude.{ℕ, ◌*◌, ◌≡◌, List, [], ◌∷◌, ◌++◌, ltb, length, if◌then◌else◌}
+use Rattle.std.specs.Prelude.{ℕ, ◌*◌, ◌≡◌, List, [], ◌∷◌, ◌++◌, ltb, length, if◌then◌else◌, Result, Ok, Err}
 use Rattle.std.proofs.Math.Option.{Option, none, some}
 use Rattle.ident.specs.Number.{Item, type_of}
 use Rattle.words.specs.Words.{bytes_of, recs}
 use Rattle.machine.specs.Call.{Buffer}
 use Rattle.machine.specs.Step.{hash_bytes, written}
 use Rattle.lent_lists.specs.Items.{item_bytes, item_in}
-use Rattle.wire.specs.declared.Answer.{Answer}
-use Rattle.wire.specs.declared.Answer.TheVariants.{Refused as No, Count}
+use Rattle.wire.specs.declared.Refusal.{Refusal}
+use Rattle.wire.specs.declared.Refusal.TheVariants.{ShortBuffer, BadPayload}
 use Rattle.wire.specs.Payload.{items_of, payload_of, writable}
 
 -- "gets number 10"
@@ -16,6 +16,10 @@ bad_payload = 10
 
 abbrev pub short_buffer : ℕ
 short_buffer = 7
+
+abbrev pub refusal_number : Refusal → ℕ
+refusal_number ShortBuffer = short_buffer
+refusal_number BadPayload = bad_payload
 
 pub data Reply : Type 0 where
   Refused : (number : ℕ) → Reply
@@ -60,13 +64,13 @@ write_payload l u = if writable l then bytes_written (payload_of l) u else refus
 abbrev pub items_listed : ℕ → Buffer → Reply
 items_listed n u = Items (recs item_bytes item_in n u)
 
-abbrev pub items_reply : Answer → Buffer → Reply
-items_reply (No n) u = Refused n
-items_reply (Count n) u = items_listed n u
+abbrev pub items_reply : Result ℕ Refusal → Buffer → Reply
+items_reply (Err r) u = Refused (refusal_number r)
+items_reply (Ok n) u = items_listed n u
 
-abbrev pub bytes_reply : Answer → Reply
-bytes_reply (No n) = Refused n
-bytes_reply (Count n) = Bytes n
+abbrev pub bytes_reply : Result ℕ Refusal → Reply
+bytes_reply (Err r) = Refused (refusal_number r)
+bytes_reply (Ok n) = Bytes n
 
 -- ---- the contracts: p is the payload, l the list given, u the buffer before the call and u' after it
 

@@ -1,9 +1,7 @@
 -- What the parts of the code say of a payload's count.
-use Rattle.std.specs.Prelude.{ℕ, ◌+◌, ◌*◌, ◌≤◌, ◌≡◌, List, length, drop}
+use Rattle.std.specs.Prelude.{ℕ, ◌+◌, ◌*◌, ◌≤◌, ◌≡◌, List, length, drop, Option, None, Some}
 use Rattle.std.proofs.Math.Option.{none, some}
 use Rattle.words.specs.Words.{recs}
-use Rattle.wire.specs.declared.Found.{Found}
-use Rattle.wire.specs.declared.Found.TheVariants.{Not, At}
 use Rattle.wire.specs.Payload.{max_items, wire_bytes, wire_item, items_after, items_of}
 
 -- b begins with the count n in its shortest form, which ends before a
@@ -19,6 +17,6 @@ pub record Holds (b : List ℕ) (n a : ℕ) : Type 0 where
   pub whole : length b ≡ a + wire_bytes * n
   pub items : items_of b ≡ some (recs wire_bytes wire_item n (drop a b))
 
-abbrev pub Counted : List ℕ → Found → Type 0
-Counted b Not = items_of b ≡ none
-Counted b (At n a) = Holds b n a
+abbrev pub Counted : List ℕ → Option (ℕ × ℕ) → Type 0
+Counted b None = items_of b ≡ none
+Counted b (Some p) = Holds b p.0 p.1

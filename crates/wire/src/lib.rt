@@ -10,21 +10,26 @@ ghost use Rattle.words.specs.Words.{number, digits, recs, splice};
 ghost use Rattle.machine.specs.Step.{written};
 ghost use Rattle.lent_lists.specs.Items.{item_bytes, items_in};
 ghost use Rattle.wire.specs.Payload.{max_items, wire_bytes, compact_size, wire_of, wires_of, wire_item, all_plain};
-ghost use Rattle.wire.specs.Calls.{item_answer, items_answer, items_reply, bytes_reply, Reads, Writes};
+ghost use Rattle.wire.specs.Calls.{refusal_number, item_answer, items_answer, items_reply, bytes_reply, Reads, Writes};
 ghost use Rattle.wire.specs.Steps.{Begins, Holds, Counted};
 
-// What a call answers: a refusal's number, or how many items it has read or bytes written.
-#[derive(Clone, Copy)]
-pub enum Answer {
-    Refused(u64),
-    Count(u64),
+// Why a call is refused.
+#[derive(Clone, Copy, PartialEq, Eq, Debug)]
+pub enum Refusal {
+    ShortBuffer,
+    BadPayload,
 }
 
-// The count of a payload and where its items begin; or that it is none.
-#[derive(Clone, Copy)]
-enum Found {
-    Not,
-    At(usize, usize),
+// The numbers of document 01's table, to which request a adds 10.
+impl From<Refusal> for u64 {
+    ghost from_gives = { λ r n. n ≡ refusal_number r };
+
+    fn from(refusal: Refusal) -> u64 {
+        match refusal {
+            Refusal::ShortBuffer => 7,
+            Refusal::BadPayload => 10,
+        }
+    }
 }
 
 pub const MAX_ITEMS: usize = 50_000;
@@ -32,58 +37,47 @@ pub const MAX_ITEMS: usize = 50_000;
 // Bytes of an item in a payload.
 pub const WIRE_BYTES: usize = 36;
 
-// The numbers of document 01's table, to which request a adds 10.
-const SHORT_BUFFER: u64 = 7;
-
-const BAD_PAYLOAD: u64 = 10;
-
 // The first byte of a count that has two more; a count below it is one byte.
 const TWO_MORE: u64 = 253;
 
-fn wide(x: u8) -> u64
-    ensures { (result ≡ x) × (result < 256) }
-{
-    x as u64
-}
-
 // ---- a payload's count
 
-// Whether the payload, which begins with the count n, has so many items behind it.
-fn matching(p: &[u8], n: usize, at: usize) -> Found
+// The count n and where its items begin, if the payload, which begins with n, has so many items behind it.
+fn matching(p: &[u8], n: usize, at: usize) -> Option<(usize, usize)>
     requires { Begins p.now n at }
     ensures { Counted p.now result }
 {
     if MAX_ITEMS < n {
-        return Found::Not;
+        return None;
     }
     if p.len() != at + n * WIRE_BYTES {
-        return Found::Not;
+        return None;
     }
-    Found::At(n, at)
+    Some((n, at))
 }
 
 // A first byte of 254 or 255 begins a count above 50,000, or one that is not in its shortest form.
-fn count_of(p: &[u8]) -> Found
+fn count_of(p: &[u8]) -> Option<(usize, usize)>
     ensures { Counted p.now result }
 {
     if p.len() == 0 {
-        return Found::Not;
+        return None;
     }
-    let c = wide(p[0]);
+    let c = u64::from(p[0]);
     if c < TWO_MORE {
         return matching(p, c as usize, 1);
     }
     if TWO_MORE < c {
-        return Found::Not;
+        return None;
     }
     if p.len() < 3 {
-        return Found::Not;
+        return None;
     }
-    let low = wide(p[1]);
-    let high = wide(p[2]);
+    let low = u64::from(p[1]);
+    let high = u64::from(p[2]);
     let n = low + high * 256;
     if n < TWO_MORE {
-        return Found::Not;
+        return None;
     }
     matching(p, n as usize, 3)
 }
@@ -95,10 +89,10 @@ fn type_at(p: &[u8], a: usize) -> u64
     requires { a + 4 ≤ length p.now }
     ensures { result ≡ number 256 (take 4 (drop a p.now)) }
 {
-    let b0 = wide(p[a]);
-    let b1 = wide(p[a + 1]);
-    let b2 = wide(p[a + 2]);
-    let b3 = wide(p[a + 3]);
+    let b0 = u64::from(p[a]);
+    let b1 = u64::from(p[a + 1]);
+    let b2 = u64::from(p[a + 2]);
+    let b3 = u64::from(p[a + 3]);
     b0 + b1 * 0x100 + b2 * 0x1_0000 + b3 * 0x100_0000
 }
 
@@ -125,20 +119,17 @@ fn read_items(p: &[u8], at: usize, n: usize, list: &mut [u8])
 }
 
 // The items of the payload stand in the answer, in 40 bytes each: so many as it says.
-pub fn read_payload(p: &[u8], answer: &mut [u8]) -> Answer
+pub fn read_payload(p: &[u8], answer: &mut [u8]) -> Result<u64, Refusal>
     ensures { Reads p.now answer.old answer.new (items_reply result answer.new) }
 {
-    let found = count_of(p);
-    match found {
-        Found::Not => Answer::Refused(BAD_PAYLOAD),
-        Found::At(n, at) => {
-            if answer.len() < n * lent_lists::ITEM {
-                return Answer::Refused(SHORT_BUFFER);
-            }
-            read_items(p, at, n, answer);
-            Answer::Count(n as u64)
-        }
+    let Some((n, at)) = count_of(p) else {
+        return Err(Refusal::BadPayload);
+    };
+    if answer.len() < n * lent_lists::ITEM {
+        return Err(Refusal::ShortBuffer);
     }
+    read_items(p, at, n, answer);
+    Ok(n as u64)
 }
 
 // ---- items written
@@ -150,8 +141,7 @@ fn all_plain(items: &[u8]) -> bool
     let n = lent_lists::items(items);
     for i in 0..n {
         let item = lent_lists::item_at(items, i);
-        let kind = item.kind;
-        if !ident::is_plain(kind) {
+        if !ident::is_plain(item.kind) {
             return false;
         }
     }
@@ -178,10 +168,8 @@ fn write_item(items: &[u8], i: usize, s: &mut [u8], a: usize)
     ensures { (d : Item) → s.new ≡ splice s.old a (wire_of (get_or (items_in items.now) i d)) }
 {
     let item = lent_lists::item_at(items, i);
-    let kind = item.kind;
-    let hash = item.hash;
-    put_type(s, a, u32::from(kind));
-    ident::put_hash(s, a + 4, hash);
+    put_type(s, a, u32::from(item.kind));
+    ident::put_hash(s, a + 4, item.hash);
 }
 
 // Bytes of the count n.
@@ -217,22 +205,22 @@ fn write_items(items: &[u8], n: usize, s: &mut [u8], at: usize)
 }
 
 // The payload of the items, which are given in 40 bytes each, stands in the answer: so many bytes as it says.
-pub fn write_payload(items: &[u8], answer: &mut [u8]) -> Answer
+pub fn write_payload(items: &[u8], answer: &mut [u8]) -> Result<u64, Refusal>
     ensures { Writes (items_in items.now) answer.old answer.new (bytes_reply result) }
 {
     let n = lent_lists::items(items);
     if MAX_ITEMS < n {
-        return Answer::Refused(BAD_PAYLOAD);
+        return Err(Refusal::BadPayload);
     }
     if !all_plain(items) {
-        return Answer::Refused(BAD_PAYLOAD);
+        return Err(Refusal::BadPayload);
     }
     let at = count_bytes(n);
     let need = at + n * WIRE_BYTES;
     if answer.len() < need {
-        return Answer::Refused(SHORT_BUFFER);
+        return Err(Refusal::ShortBuffer);
     }
     put_count(answer, n);
     write_items(items, n, answer, at);
-    Answer::Count(need as u64)
+    Ok(need as u64)
 }

@@ -7,10 +7,10 @@ pub returns-then-p-eq0 : goal.returns-then-p-eq0
 returns-then-p-eq0 c = none_empty c.args.p.now c.if-p-eq0.true
 
 pub matching-requires : goal.matching-requires
-matching-requires c = begins_one c.args.p.now (omega arith) c.wide-c.ensures.0 (omega arith)
+matching-requires c = begins_one c.args.p.now (omega arith) c.from-c.ensures (omega arith)
 
 pub returns-then-c-gt-TWO_MORE : goal.returns-then-c-gt-TWO_MORE
-returns-then-c-gt-TWO_MORE c = long_first c.args.p.now (omega arith) c.wide-c.ensures.0 (omega arith)
+returns-then-c-gt-TWO_MORE c = long_first c.args.p.now (omega arith) c.from-c.ensures (omega arith)
 
 pub returns-then-p-lt3 : goal.returns-then-p-lt3
 returns-then-p-lt3 c = cut-count c.args.p.now (omega arith) (omega arith) (omega arith)
