@@ -44,7 +44,7 @@ pub fn set_apart(s: &mut [u8], m: usize, first: &mut [u8])
     ensures { SetApart s.old s.new first.new m }
 {
     let x = m - SLOT;
-    sorting::gather::copy_slot(&s[x..m], first);
+    first.copy_from_slice(&s[x..m]);
     words::clear(&mut s[x..m], 0, PLACE);
     words::put(s, 2, 1);
     words::put(s, 5, 0);
@@ -57,7 +57,7 @@ pub fn put_back(s: &mut [u8], m: usize, first: &[u8], n: usize)
 {
     let q = (s.len() - m) / SLOT + 1;
     let x = m - SLOT;
-    sorting::gather::copy_slot(first, &mut s[x..m]);
+    s[x..m].copy_from_slice(first);
     words::put(s, 2, q as u64);
     words::put(s, 5, n as u64);
     package_stages::dead::drop_dead(s);

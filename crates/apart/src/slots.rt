@@ -35,7 +35,7 @@ fn copy_out(region: &[u8], i: usize, slot: &mut [u8])
 {
     let x = i * crate::SLOT;
     let y = x + crate::SLOT;
-    sorting::gather::copy_slot(&region[x..y], slot);
+    slot.copy_from_slice(&region[x..y]);
 }
 
 // Copies the i-th place.
@@ -44,7 +44,7 @@ pub fn load(s: &[u8], m: usize, first: &[u8], i: usize, slot: &mut [u8])
     ensures { Loaded s.now first.now m i slot.new }
 {
     if i == 0 {
-        sorting::gather::copy_slot(first, slot);
+        slot.copy_from_slice(first);
     } else {
         let y = s.len();
         copy_out(&s[m..y], i - 1, slot);

@@ -5,7 +5,7 @@ use Rattle.apart.proofs.slots.load.Goals as goal
 
 pub returns-then-i-eq0 : goal.returns-then-i-eq0
 returns-then-i-eq0 c = loaded_first c.args.m c.args.i (omega
-    (arith, c.if-i-eq0.true)) c.copy_slot.ensures
+    (arith, c.if-i-eq0.true)) c.copy_from_slice.ensures.after
 
 pub returns-else-i-eq0 : goal.returns-else-i-eq0
 returns-else-i-eq0 c = loaded_later c.args.m c.args.i _ (omega (arith, c.if-i-eq0.false)) c.copy_out.ensures
