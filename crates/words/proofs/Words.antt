@@ -8,6 +8,7 @@ use native.Mathlib.Omega.{arith}
 use lib.Dec.{lit<}
 use lib.ListN.{length, take, drop, get_or, set, length-append, length-drop, take-append-drop}
 use lib.Seq.{sets-eq, length-take-le, get_or-drop, get_or-take}
+use Rattle.std.specs.Int.{w64, to_le_bytes}
 use Rattle.words.specs.Words.{number, digits, recs, words, bytes_of, splice, Put}
 use Rattle.words.proofs.Splice.{length-splice, splice_more}
 use Rattle.words.proofs.Digits.{length_digits, number_digits, digits_number, digits-add, number_step, number_append}
@@ -71,12 +72,22 @@ put_made s s' i v h l e =
       word = rw e' (words-splice s i (digits 256 8 v) h (length_digits 256 8 v) ∙ rw (number_digits 256 (lit< tt) 8 v l));
     }
 
-pub put-eight : (s : List ℕ) (i v : ℕ) → 8 * i + 8 ≤ length s → v < 2 ^ 64
-    → Put s (set (set (set (set (set (set (set (set s (i * 8) (v % 256)) (i * 8 + 1) (v / 256 % 256)) (i * 8 + 2) (v / 256 / 256 % 256)) (i * 8 + 3) (v / 256 / 256 / 256 % 256))
-    (i * 8 + 4) (v / 256 / 256 / 256 / 256 % 256)) (i * 8 + 5) (v / 256 / 256 / 256 / 256 / 256 % 256)) (i * 8 + 6) (v / 256 / 256 / 256 / 256 / 256 / 256 % 256)) (i * 8 + 7)
-    (v / 256 / 256 / 256 / 256 / 256 / 256 / 256 % 256)) i v
+-- the bytes of a number, as the library has them, are its digits
+bytes-digits : (v : ℕ) → to_le_bytes w64 v ≡ digits 256 8 v
 unfolding digits
-put-eight s i v h l = put_made s _ i v h l (stores_eight s (i * 8) _ _ _ _ _ _ _ _ (omega arith))
+bytes-digits v =
+    let e₂ : v / 256 ^ 2 ≡ v / 256 / 256 = omega arith in
+    let e₃ : v / 256 ^ 3 ≡ v / 256 / 256 / 256 = omega arith in
+    let e₄ : v / 256 ^ 4 ≡ v / 256 / 256 / 256 / 256 = omega arith in
+    let e₅ : v / 256 ^ 5 ≡ v / 256 / 256 / 256 / 256 / 256 = omega arith in
+    let e₆ : v / 256 ^ 6 ≡ v / 256 / 256 / 256 / 256 / 256 / 256 = omega arith in
+    let e₇ : v / 256 ^ 7 ≡ v / 256 / 256 / 256 / 256 / 256 / 256 / 256 = omega arith in
+    rw (e₂, e₃, e₄, e₅, e₆, e₇)
+
+pub put-eight : (s : List ℕ) (i v : ℕ) {b : List ℕ} → 8 * i + 8 ≤ length s → v < 2 ^ 64 → b ≡ to_le_bytes w64 v
+    → Put s (set (set (set (set (set (set (set (set s (i * 8) (get_or b 0 0)) (i * 8 + 1) (get_or b 1 0)) (i * 8 + 2) (get_or b 2 0)) (i * 8 + 3) (get_or b 3 0))
+    (i * 8 + 4) (get_or b 4 0)) (i * 8 + 5) (get_or b 5 0)) (i * 8 + 6) (get_or b 6 0)) (i * 8 + 7) (get_or b 7 0)) i v
+put-eight s i v h l e = put_made s _ i v h l (rw e (stores_eight s (i * 8) _ _ _ _ _ _ _ _ (omega arith)) ∙ ap (splice s (i * 8)) (bytes-digits v))
 
 -- ---- the words determine the bytes
 

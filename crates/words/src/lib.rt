@@ -8,64 +8,39 @@ ghost use Rattle.std.specs.Prelude.{◌≡◌, ◌+◌, ◌-◌, ◌*◌, ◌≤
 ghost use Rattle.std.proofs.Math.Seq.{slice};
 ghost use Rattle.words.specs.Words.{words, up, down, splice, Put, Decides};
 
-fn wide(x: u8) -> u64
-    ensures { (result ≡ x) × (result < 256) }
-{
-    x as u64
-}
-
-// The number of eight digits in base 256.
-fn join(b0: u64, b1: u64, b2: u64, b3: u64, b4: u64, b5: u64, b6: u64, b7: u64) -> u64
-    requires { (b0 < 256) × (b1 < 256) × (b2 < 256) × (b3 < 256) × (b4 < 256) × (b5 < 256) × (b6 < 256) × (b7 < 256) }
-    ensures { result ≡ b0 + 256 * (b1 + 256 * (b2 + 256 * (b3 + 256 * (b4 + 256 * (b5 + 256 * (b6 + 256 * b7)))))) }
-{
-    b0 + b1 * 0x100
-        + b2 * 0x1_0000
-        + b3 * 0x100_0000
-        + b4 * 0x1_0000_0000
-        + b5 * 0x100_0000_0000
-        + b6 * 0x1_0000_0000_0000
-        + b7 * 0x100_0000_0000_0000
-}
-
 // The i-th word of s. (Compiles to one 8-byte load.)
 pub fn get(s: &[u8], i: usize) -> u64
     requires { 8 * i + 8 ≤ length s.now }
     ensures { result ≡ get_or (words s.now) i 0 }
 {
     let a = i * 8;
-    let b0 = wide(s[a]);
-    let b1 = wide(s[a + 1]);
-    let b2 = wide(s[a + 2]);
-    let b3 = wide(s[a + 3]);
-    let b4 = wide(s[a + 4]);
-    let b5 = wide(s[a + 5]);
-    let b6 = wide(s[a + 6]);
-    let b7 = wide(s[a + 7]);
-    join(b0, b1, b2, b3, b4, b5, b6, b7)
+    u64::from_le_bytes([
+        s[a],
+        s[a + 1],
+        s[a + 2],
+        s[a + 3],
+        s[a + 4],
+        s[a + 5],
+        s[a + 6],
+        s[a + 7],
+    ])
 }
 
-// Stores v as the i-th word of s. (Compiles to one 8-byte store.)
+// Stores v as the i-th word of s. (Byte by byte it compiles to one 8-byte store; with `copy_from_slice` of the eight there is a test whether they overlap s.)
 pub fn put(s: &mut [u8], i: usize, v: u64)
     requires { 8 * i + 8 ≤ length s.old }
     ensures { Put s.old s.new i v }
 {
     let a = i * 8;
-    let v1 = v / 256;
-    let v2 = v1 / 256;
-    let v3 = v2 / 256;
-    let v4 = v3 / 256;
-    let v5 = v4 / 256;
-    let v6 = v5 / 256;
-    let v7 = v6 / 256;
-    s[a] = (v % 256) as u8;
-    s[a + 1] = (v1 % 256) as u8;
-    s[a + 2] = (v2 % 256) as u8;
-    s[a + 3] = (v3 % 256) as u8;
-    s[a + 4] = (v4 % 256) as u8;
-    s[a + 5] = (v5 % 256) as u8;
-    s[a + 6] = (v6 % 256) as u8;
-    s[a + 7] = (v7 % 256) as u8;
+    let [b0, b1, b2, b3, b4, b5, b6, b7] = v.to_le_bytes();
+    s[a] = b0;
+    s[a + 1] = b1;
+    s[a + 2] = b2;
+    s[a + 3] = b3;
+    s[a + 4] = b4;
+    s[a + 5] = b5;
+    s[a + 6] = b6;
+    s[a + 7] = b7;
 }
 
 // Moves the first m words up by d, the last first.

@@ -28,4 +28,4 @@ pub shape_of-s : goal.shape_of-s
 shape_of-s c = simp length-set
 
 pub returns : goal.returns
-returns c = put-eight c.args.s.now c.args.i c.args.v c.requires c.ranges.v.fits
+returns c = put-eight c.args.s.now c.args.i c.args.v c.requires c.ranges.v.fits c.to_le_bytes.ensures
