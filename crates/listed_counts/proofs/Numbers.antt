@@ -1,63 +1,19 @@
 -- The number that a line adds, and counters with one number more.
 use Prim.Native.Nat.{ℕ, suc, ◌≤◌}
-use mathlib.Core.Path.{◌≡◌, refl, sym, ap, subst, ◌∙◌}
-use mathlib.Core.Bool.{Bool, true, false, not}
+use mathlib.Core.Path.{◌≡◌, sym, ap, ◌∙◌}
 use mathlib.Core.List.{List}
 use mathlib.Core.Option.{Option, none, some}
 use mathlib.Core.Logic.{inl, inr}
 use native.Mathlib.Omega.{arith}
 use lib.ListN.{length}
-use borrow.Author.Tests.{ltb-true, ltb-false, not-true, not-false}
+use borrow.Author.Tests.{ltb-true, ltb-false}
 use Rattle.machine.proofs.Tests.{test}
 use Rattle.std.specs.Prelude as answer
 use Rattle.lines.specs.Values.{number_in}
-use Rattle.listed_lines.specs.declared.line.Line as line-line
-use Rattle.listed_lines.specs.declared.line.Line.TheVariants.{Not, Head, Request, Candidate}
-use Rattle.listed_lines.specs.declared.line.Head as line-head
-use Rattle.listed_lines.specs.declared.line.Request as line-request
-use Rattle.listed_lines.specs.declared.line.Candidate as line-candidate
-use Rattle.listed_lines.specs.declared.parts.Owner as parts-owner
-use Rattle.listed_lines.specs.Given.{owner_if, owner_of, line_in}
 use Rattle.heavy.specs.Counters as counters
 use Rattle.heavy.specs.Counters.{index_of, is_in, counts_with, counted_with, sum}
 use Rattle.heavy.proofs.Held.{sum-raised, sum-taken, sum-lowered}
-use Rattle.listed_counts.specs.Passes.{owner_number, added, Adds, names_added, counts_added, counted_added, Notes, Counts}
-
--- ---- what a line adds
-
-module _ {o : Bool} {l : line-line.Line} {r : answer.Option ℕ} where
-  adds : {x : line-line.Line} → l ≡ x → ((ws ps : List ℕ) → number_in r ≡ added o (line_in ws ps x)) → Adds o l r
-  adds e h = record { is = λ ws ps. h ws ps ∙ sym (ap (λ (y : line-line.Line). added o (line_in ws ps y)) e) }
-
-pub adds_not : (o : Bool) {l : line-line.Line} → l ≡ Not → Adds o l answer.None
-adds_not true e = adds e (λ ws ps. refl)
-adds_not false e = adds e (λ ws ps. refl)
-
-pub adds-head : (o : Bool) {l : line-line.Line} {h : line-head.Head} → l ≡ Head h → Adds o l answer.None
-adds-head true e = adds e (λ ws ps. refl)
-adds-head false e = adds e (λ ws ps. refl)
-
-pub adds-owner : {l : line-line.Line} {q : line-request.Request} {r : answer.Option ℕ} → l ≡ Request q → number_in r ≡ owner_number (owner_of q.owner) → Adds true l r
-adds-owner e h = adds e (λ ws ps. h)
-
-pub adds-no-owner : {l : line-line.Line} {q : line-candidate.Candidate} → l ≡ Candidate q → Adds true l answer.None
-adds-no-owner e = adds e (λ ws ps. refl)
-
-pub adds-no-connection : {l : line-line.Line} {q : line-request.Request} → l ≡ Request q → Adds false l answer.None
-adds-no-connection e = adds e (λ ws ps. refl)
-
-pub adds-connection : {l : line-line.Line} {q : line-candidate.Candidate} → l ≡ Candidate q → Adds false l (answer.Some q.connection)
-adds-connection e = adds e (λ ws ps. refl)
-
-pub adds_as : {o p : Bool} {l : line-line.Line} {r : answer.Option ℕ} → o ≡ p → Adds p l r → Adds o l r
-adds_as {l = l} {r = r} e a = subst (λ (b : Bool). Adds b l r) (sym e) a
-
-module _ (o : parts-owner.Owner) where
-  pub no-owner : not o.held ≡ true → number_in answer.None ≡ owner_number (owner_of o)
-  no-owner e = ap (λ (h : Bool). owner_number (owner_if h o.connection o.deadline)) (sym (not-true o.held e))
-
-  pub an-owner : not o.held ≡ false → number_in (answer.Some o.connection) ≡ owner_number (owner_of o)
-  an-owner e = ap (λ (h : Bool). owner_number (owner_if h o.connection o.deadline)) (sym (not-false o.held e))
+use Rattle.listed_counts.specs.Passes.{names_added, counts_added, counted_added, Notes, Counts}
 
 -- ---- one number more, or none
 

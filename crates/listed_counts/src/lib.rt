@@ -5,14 +5,11 @@
 #![tactic(auto)]
 
 ghost use Rattle.std.specs.Prelude.{◌≡◌, Bool, true, false, ◌<◌, ◌^◌, length};
-ghost use Rattle.lines.specs.Values.{number_in};
 ghost use Rattle.heavy.specs.Counters.{sum};
-ghost use Rattle.listed_lines.specs.Given.{owner_of};
-ghost use Rattle.listed_counts.specs.Passes.{owner_number, Adds, Notes, Counts, NotesAll, CountsAll, Verdict, LightRead};
+ghost use Rattle.listed_counts.specs.Passes.{Adds, Notes, Counts, NotesAll, CountsAll, Verdict, LightRead};
 
 use listed_lines::cursor::{Lines, Lists};
 use listed_lines::line::Line;
-use listed_lines::parts::Owner;
 
 // ---- the number that a line adds
 
@@ -29,21 +26,12 @@ struct Owners;
 
 struct Connections;
 
-fn owner_number(o: Owner) -> Option<u64>
-    ensures { number_in result ≡ owner_number (owner_of o) }
-{
-    if !o.held {
-        return None;
-    }
-    Some(o.connection)
-}
-
 impl Counted for Owners {
     ghost owners = { true };
 
     fn number_of(l: Line) -> Option<u64> {
         match l {
-            Line::Request(r) => owner_number(r.owner),
+            Line::Request(r) => r.owner.map(|o| o.connection),
             _ => None,
         }
     }

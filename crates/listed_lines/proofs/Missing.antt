@@ -6,27 +6,28 @@ use mathlib.Core.List.{List, [], ◌∷◌}
 use mathlib.Core.Option.{Option, none, some}
 use native.Mathlib.Omega.{arith}
 use lib.ListN.{length, take, drop}
+use Rattle.std.specs.Prelude.{Some, None}
+use Rattle.machine.proofs.Tests.{never}
 use Rattle.machine.specs.Fields.{before, same_text, rest, with_value, taking}
 use Rattle.machine.specs.Listing.{Line, none_text, present, maybe_in, none_or}
 use Rattle.lines.proofs.Splitting.{rest_field, rest_past}
 use Rattle.reading.specs.Given.{At}
 use Rattle.listed_lines.specs.Given.{Reader, then_in, Took, starts_none, NoneThen, NoneAt}
-use Rattle.listed_lines.proofs.Taking.{pass, stop}
 
 -- ---- whether a field is `none`
 
 module _ (l : List ℕ) (e : ℕ) where
-  pub none_past : length l ≤ e → NoneAt l e 0
-  none_past h = record { not = λ z. ap starts_none (rest_past l (e + 1) (omega arith)); is = λ z. absurd (omega arith) }
+  pub none_past : length l ≤ e → NoneAt l e None
+  none_past h = record { not = λ z. ap starts_none (rest_past l (e + 1) (omega arith)); is = tt }
 
   module _ (h : e < length l) {to : ℕ} (g : to ≡ e + 1 + length (before 44 (drop (e + 1) l))) where
-    pub none_not : same_text (take (to - (e + 1)) (drop (e + 1) l)) none_text ≡ false → NoneAt l e 0
-    none_not n = record { not = λ z. ap starts_none (rest_field l (e + 1) to (omega arith) g) ∙ n; is = λ z. absurd (omega arith) }
+    pub none_not : same_text (take (to - (e + 1)) (drop (e + 1) l)) none_text ≡ false → NoneAt l e None
+    none_not n = record { not = λ z. ap starts_none (rest_field l (e + 1) to (omega arith) g) ∙ n; is = tt }
 
-    pub none_is : same_text (take (to - (e + 1)) (drop (e + 1) l)) none_text ≡ true → NoneAt l e to
+    pub none_is : same_text (take (to - (e + 1)) (drop (e + 1) l)) none_text ≡ true → NoneAt l e (Some to)
     none_is n = record {
-      not = λ z. absurd (omega arith);
-      is = λ z. record { field = take (to - (e + 1)) (drop (e + 1) l); parts = rest_field l (e + 1) to (omega arith) g; same = n };
+      not = λ z. never (sym z);
+      is = record { field = take (to - (e + 1)) (drop (e + 1) l); parts = rest_field l (e + 1) to (omega arith) g; same = n };
     }
 
 -- ---- one field
@@ -54,16 +55,12 @@ module _ {A : Type 0} (read : List ℕ → Option A) (k : Option A → List (Lis
   maybe_some [] n = refl
   maybe_some (f ∷ fs) n = rw n (found (read f) fs)
 
-module _ {A : Type 0} (read : List ℕ → Option A) {l : List ℕ} {e r : ℕ} (n : NoneAt l e r) where
-  pub no_value : 0 < r → Took (taking (maybe_in read)) l (rest l (e + 1)) (some (record { value = none; end = r }))
-  no_value z = record { is = λ k. maybe_none read k (n.is z) }
+module _ {A : Type 0} (read : List ℕ → Option A) {l : List ℕ} {e : ℕ} where
+  pub no_value : {r : ℕ} → NoneAt l e (Some r) → Took (taking (maybe_in read)) l (rest l (e + 1)) (some (record { value = none; end = r }))
+  no_value n = record { is = λ k. maybe_none read k n.is }
 
-  module _ (z : r ≡ 0) {o : Option (At A)} (p : Took (taking read) l (rest l (e + 1)) o) where
-    pub maybe_not : o ≡ none → Took (taking (maybe_in read)) l (rest l (e + 1)) none
-    maybe_not g = record { is = λ k. maybe_some read k (rest l (e + 1)) (n.not z) ∙ stop p (λ v. k (some v)) g }
-
-    pub maybe_is : {a : At A} → o ≡ some a → Took (taking (maybe_in read)) l (rest l (e + 1)) (some (record { value = some a.value; end = a.end }))
-    maybe_is g = record { is = λ k. maybe_some read k (rest l (e + 1)) (n.not z) ∙ pass p (λ v. k (some v)) g }
+  pub maybe_value : NoneAt l e None → {o : Option (At A)} → Took (taking read) l (rest l (e + 1)) o → Took (taking (maybe_in read)) l (rest l (e + 1)) (there o)
+  maybe_value n {o} p = record { is = λ k. maybe_some read k (rest l (e + 1)) (n.not refl) ∙ p.is (λ v. k (some v)) ∙ there_then l k o }
 
 -- ---- several fields
 
@@ -81,9 +78,9 @@ module _ {A : Type 0} (read : Reader A) (k : Option A → List (List ℕ) → Op
   or_some m [] n = sym (m.is (λ a. k (some a)))
   or_some m (f ∷ fs) n = rw n
 
-module _ {A : Type 0} (read : Reader A) {l : List ℕ} {e r : ℕ} (n : NoneAt l e r) where
-  pub nothing : 0 < r → Took (none_or read) l (rest l (e + 1)) (some (record { value = none; end = r }))
-  nothing z = record { is = λ k. or_none read k (n.is z) }
+module _ {A : Type 0} (read : Reader A) {l : List ℕ} {e : ℕ} where
+  pub nothing : {r : ℕ} → NoneAt l e (Some r) → Took (none_or read) l (rest l (e + 1)) (some (record { value = none; end = r }))
+  nothing n = record { is = λ k. or_none read k n.is }
 
-  pub something : r ≡ 0 → NotEmpty read → {o : Option (At A)} → Took read l (rest l (e + 1)) o → Took (none_or read) l (rest l (e + 1)) (there o)
-  something z m {o} p = record { is = λ k. or_some read k m (rest l (e + 1)) (n.not z) ∙ p.is (λ v. k (some v)) ∙ there_then l k o }
+  pub something : NoneAt l e None → NotEmpty read → {o : Option (At A)} → Took read l (rest l (e + 1)) o → Took (none_or read) l (rest l (e + 1)) (there o)
+  something n m {o} p = record { is = λ k. or_some read k m (rest l (e + 1)) (n.not refl) ∙ p.is (λ v. k (some v)) ∙ there_then l k o }

@@ -1,5 +1,6 @@
 -- What the contracts of the readers of a listing's lines say. The fields are read as the definition reads them (machine/specs/Listing).
 use Rattle.std.specs.Prelude.{ℕ, ◌+◌, ◌-◌, ◌<◌, ◌≤◌, ◌≡◌, Bool, true, false, List, [], ◌∷◌, length, drop}
+use Rattle.std.specs.Prelude.{Option as Maybe, Some, None, IfSome, IsNone}
 use Rattle.std.proofs.Math.Option.{Option, none, some}
 use Rattle.ident.specs.Number.{Key}
 use Rattle.ident.specs.Words.{hash_bytes}
@@ -9,30 +10,15 @@ use Rattle.machine.specs.State.{Candidate, Owner, Package, Request, State}
 use Rattle.machine.specs.Fields.{rest, elements_then, same_text}
 use Rattle.machine.specs.Listing.{Line, HeadLine, RequestLine, CandidateLine, none_text, request_with, short, text_lines, one_more, lines_from}
 use Rattle.lines.specs.Values.{number_in, key_in}
-use Rattle.reading.specs.Given.{At}
-use Rattle.listed_lines.specs.declared.pieces.MaybeNumberAt.{MaybeNumberAt}
-use Rattle.listed_lines.specs.declared.pieces.MaybeNumberAt.TheVariants.{Not as NoNumber, Is as IsNumber}
-use Rattle.listed_lines.specs.declared.pieces.MaybeKeyAt.{MaybeKeyAt}
-use Rattle.listed_lines.specs.declared.pieces.MaybeKeyAt.TheVariants.{Not as NoKey, Is as IsKey}
-use Rattle.listed_lines.specs.declared.hash_lists.HashesAt.{HashesAt}
-use Rattle.listed_lines.specs.declared.hash_lists.HashesAt.TheVariants.{Not as NoHashes, Is as IsHashes}
-use Rattle.listed_lines.specs.declared.hash_lists.ListAt.{ListAt}
-use Rattle.listed_lines.specs.declared.hash_lists.ListAt.TheVariants.{Not as NoList, Is as IsList}
+use Rattle.ident.specs.declared.Kind.{Kind}
+use Rattle.lines.specs.declared.read.Named.{Named}
+use Rattle.reading.specs.declared.fields.Parsed.{Parsed}
+use Rattle.reading.specs.Given.{At, parsed_in}
 use Rattle.listed_lines.specs.declared.parts.Owner as parts-owner
-use Rattle.listed_lines.specs.declared.parts.OwnerAt.{OwnerAt}
-use Rattle.listed_lines.specs.declared.parts.OwnerAt.TheVariants.{Not as NoOwner, Is as IsOwner}
 use Rattle.listed_lines.specs.declared.parts.Package as parts-package
-use Rattle.listed_lines.specs.declared.parts.PackageAt.{PackageAt}
-use Rattle.listed_lines.specs.declared.parts.PackageAt.TheVariants.{Not as NoPackage, Is as IsPackage}
 use Rattle.listed_lines.specs.declared.line.Head as line-head
 use Rattle.listed_lines.specs.declared.line.Request as line-request
 use Rattle.listed_lines.specs.declared.line.Candidate as line-candidate
-use Rattle.listed_lines.specs.declared.line.HeadIn.{HeadIn}
-use Rattle.listed_lines.specs.declared.line.HeadIn.TheVariants.{Not as NoHeadIn, Is as IsHeadIn}
-use Rattle.listed_lines.specs.declared.line.RequestIn.{RequestIn}
-use Rattle.listed_lines.specs.declared.line.RequestIn.TheVariants.{Not as NoRequestIn, Is as IsRequestIn}
-use Rattle.listed_lines.specs.declared.line.CandidateIn.{CandidateIn}
-use Rattle.listed_lines.specs.declared.line.CandidateIn.TheVariants.{Not as NoCandidateIn, Is as IsCandidateIn}
 use Rattle.listed_lines.specs.declared.line.LineAt.{LineAt}
 use Rattle.listed_lines.specs.declared.line.Line as line-line
 use Rattle.listed_lines.specs.declared.line.Line.TheVariants.{Not as NoLine, Head as IsHead, Request as IsRequest, Candidate as IsCandidate}
@@ -63,18 +49,16 @@ pub record NoneThen (fs gs : List (List ℕ)) : Type 0 where
   pub parts : fs ≡ field ∷ gs
   pub same : same_text field none_text ≡ true
 
--- the field behind the comma at index e is `none` and ends at index r; 0: it is not
-pub record NoneAt (l : List ℕ) (e r : ℕ) : Type 0 where
-  pub not : r ≡ 0 → starts_none (rest l (e + 1)) ≡ false
-  pub is : 0 < r → NoneThen (rest l (e + 1)) (rest l (r + 1))
+-- the field behind the comma at index e is `none` and ends at index r; none: it is not
+pub record NoneAt (l : List ℕ) (e : ℕ) (r : Maybe ℕ) : Type 0 where
+  pub not : IsNone r → starts_none (rest l (e + 1)) ≡ false
+  pub is : IfSome r (λ to. NoneThen (rest l (e + 1)) (rest l (to + 1)))
 
-abbrev pub maybe_number_at : MaybeNumberAt → Option (At (Option ℕ))
-maybe_number_at NoNumber = none
-maybe_number_at (IsNumber n e) = some (record { value = number_in n; end = e })
+abbrev pub maybe_number_at : Maybe (Parsed (Maybe ℕ)) → Option (At (Option ℕ))
+maybe_number_at r = parsed_in number_in r
 
-abbrev pub maybe_key_at : MaybeKeyAt → Option (At (Option Key))
-maybe_key_at NoKey = none
-maybe_key_at (IsKey k e) = some (record { value = key_in k; end = e })
+abbrev pub maybe_key_at : Maybe (Parsed (Maybe (Named Kind))) → Option (At (Option Key))
+maybe_key_at r = parsed_in key_in r
 
 -- ---- lists of hashes
 
@@ -90,43 +74,34 @@ abbrev pub hashes_of : ℕ → List ℕ → List ℕ
 hashes_of n b = recs hash_bytes (number 256) n b
 
 -- n hashes, which stand in the bytes b
-abbrev pub hashes_at : ℕ → List ℕ → HashesAt → Option (At (List ℕ))
-hashes_at n b NoHashes = none
-hashes_at n b (IsHashes e) = some (record { value = hashes_of n b; end = e })
+abbrev pub hashes_at : ℕ → List ℕ → Maybe ℕ → Option (At (List ℕ))
+hashes_at n b None = none
+hashes_at n b (Some e) = some (record { value = hashes_of n b; end = e })
 
 -- of the n elements in front of fs the first i are those of xs; the last field of these ends at index to
 pub record Underway {A : Type 0} (read : Reader A) (l : List ℕ) (fs : List (List ℕ)) (n to i : ℕ) (xs : List A) : Type 0 where
   pub is : (k : List A → List (List ℕ) → Option Line) → elements_then read n [] k fs ≡ elements_then read (n - i) xs k (rest l (to + 1))
 
 -- a list behind its length
-abbrev pub list_at : List ℕ → ListAt → Option (At (List ℕ))
-list_at b NoList = none
-list_at b (IsList n e) = some (record { value = hashes_of n b; end = e })
+abbrev pub list_at : List ℕ → Maybe (Parsed ℕ) → Option (At (List ℕ))
+list_at b r = parsed_in (λ n. hashes_of n b) r
 
 -- ---- owner and package
 
-abbrev pub owner_if : Bool → ℕ → ℕ → Option Owner
-owner_if false n d = none
-owner_if true n d = some (record { connection = n; deadline = d })
+abbrev pub owner_of : Maybe parts-owner.Owner → Option Owner
+owner_of None = none
+owner_of (Some o) = some (record { connection = o.connection; deadline = o.deadline })
 
-abbrev pub owner_of : parts-owner.Owner → Option Owner
-owner_of o = owner_if o.held o.connection o.deadline
-
-abbrev pub owner_at : OwnerAt → Option (At (Option Owner))
-owner_at NoOwner = none
-owner_at (IsOwner o e) = some (record { value = owner_of o; end = e })
-
-abbrev pub package_if : Bool → ℕ → List ℕ → Bool → Option Package
-package_if false c ws e = none
-package_if true c ws e = some (record { combined = c; wtxids = ws; enqueued = e })
+abbrev pub owner_at : Maybe (Parsed (Maybe parts-owner.Owner)) → Option (At (Option Owner))
+owner_at r = parsed_in owner_of r
 
 -- its wtxids stand in the bytes b
-abbrev pub package_of : List ℕ → parts-package.Package → Option Package
-package_of b p = package_if p.held (quad_number p.combined) (hashes_of p.wtxids b) p.enqueued
+abbrev pub package_of : List ℕ → Maybe parts-package.Package → Option Package
+package_of b None = none
+package_of b (Some p) = some (record { combined = quad_number p.combined; wtxids = hashes_of p.wtxids b; enqueued = p.enqueued })
 
-abbrev pub package_at : List ℕ → PackageAt → Option (At (Option Package))
-package_at b NoPackage = none
-package_at b (IsPackage p e) = some (record { value = package_of b p; end = e })
+abbrev pub package_at : List ℕ → Maybe (Parsed (Maybe parts-package.Package)) → Option (At (Option Package))
+package_at b r = parsed_in (package_of b) r
 
 -- ---- lines
 
@@ -141,17 +116,17 @@ request_in ws ps r =
 abbrev pub candidate_in : line-candidate.Candidate → Candidate
 candidate_in c = record { connection = c.connection; item = record { kind = c.kind; hash = quad_number c.hash }; ready = c.ready; preferred = c.preferred; priority = c.priority }
 
-abbrev pub head_line : HeadIn → Option Line
-head_line NoHeadIn = none
-head_line (IsHeadIn h) = some (HeadLine (head_state h))
+abbrev pub head_line : Maybe line-head.Head → Option Line
+head_line None = none
+head_line (Some h) = some (HeadLine (head_state h))
 
-abbrev pub request_line : List ℕ → List ℕ → RequestIn → Option Line
-request_line ws ps NoRequestIn = none
-request_line ws ps (IsRequestIn r) = some (RequestLine (request_in ws ps r))
+abbrev pub request_line : List ℕ → List ℕ → Maybe line-request.Request → Option Line
+request_line ws ps None = none
+request_line ws ps (Some r) = some (RequestLine (request_in ws ps r))
 
-abbrev pub candidate_line : CandidateIn → Option Line
-candidate_line NoCandidateIn = none
-candidate_line (IsCandidateIn c) = some (CandidateLine (candidate_in c))
+abbrev pub candidate_line : Maybe line-candidate.Candidate → Option Line
+candidate_line None = none
+candidate_line (Some c) = some (CandidateLine (candidate_in c))
 
 abbrev pub line_in : List ℕ → List ℕ → line-line.Line → Option Line
 line_in ws ps NoLine = none

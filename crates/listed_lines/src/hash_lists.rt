@@ -16,20 +16,6 @@ const LONGEST: usize = 100;
 
 const ROOM: usize = LONGEST * HASH_BYTES;
 
-// Hashes that were read: the index where the last field ends.
-#[derive(Clone, Copy)]
-pub enum HashesAt {
-    Not,
-    Is(usize),
-}
-
-// A list that was read: how many hashes it has, and the index where its last field ends.
-#[derive(Clone, Copy)]
-pub enum ListAt {
-    Not,
-    Is(usize, usize),
-}
-
 // Room for the longest list.
 pub fn hash_room() -> [u8; ROOM]
     ensures { length result ≡ list_room }
@@ -44,45 +30,33 @@ fn put_hash(hashes: &mut [u8], i: usize, q: regions::Quad)
     ident::put_hash(hashes, i * HASH_BYTES, hash_of(q));
 }
 
-// The n hashes whose fields stand behind the comma at index e.
-fn hashes_at(line: &[u8], e: usize, n: usize, hashes: &mut [u8]) -> HashesAt
+// The n hashes whose fields stand behind the comma at index e: where the last one ends.
+fn hashes_at(line: &[u8], e: usize, n: usize, hashes: &mut [u8]) -> Option<usize>
     requires { (n ≤ longest_list) × (list_room ≤ length hashes.old) }
     ensures { Took (elements_then (taking hash_of) n []) line.now (rest line.now (e + 1)) (hashes_at n hashes.new result) }
 {
     let mut to = e;
     for i in 0..n {
-        let Some(Parsed { value: q, end: end }) = hash_at(line, to) else {
-            return HashesAt::Not;
-        };
-        put_hash(hashes, i, q);
-        to = end;
+        let hash = hash_at(line, to)?;
+        put_hash(hashes, i, hash.value);
+        to = hash.end;
     }
-    HashesAt::Is(to)
+    Some(to)
 }
 
-// The list behind the comma at index e: its length, at least `least` and at most 100, and so many hashes.
-pub fn list_at(line: &[u8], e: usize, least: u64, hashes: &mut [u8]) -> ListAt
+// The list behind the comma at index e: its length, at least `least` and at most 100, and so many hashes. Answers how many.
+pub fn list_at(line: &[u8], e: usize, least: u64, hashes: &mut [u8]) -> Option<Parsed<usize>>
     requires { list_room ≤ length hashes.old }
     ensures { Took (list_then short least longest_list) line.now (rest line.now (e + 1)) (list_at hashes.new result) }
 {
-    let Some(
-        Parsed {
-            value: count,
-            end: to,
-        },
-    ) = number_at(line, e)
-    else {
-        return ListAt::Not;
-    };
-    if count < least {
-        return ListAt::Not;
+    let count = number_at(line, e)?;
+    if count.value < least {
+        return None;
     }
-    if 100 < count {
-        return ListAt::Not;
+    if 100 < count.value {
+        return None;
     }
-    let n = count as usize;
-    let HashesAt::Is(end) = hashes_at(line, to, n, hashes) else {
-        return ListAt::Not;
-    };
-    ListAt::Is(n, end)
+    let value = count.value as usize;
+    let end = hashes_at(line, count.end, value, hashes)?;
+    Some(Parsed { value, end })
 }

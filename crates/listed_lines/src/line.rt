@@ -4,13 +4,11 @@ ghost use Rattle.machine.specs.Fields.{fields};
 ghost use Rattle.machine.specs.Listing.{short, head_of, request_of, candidate_of, line_of};
 ghost use Rattle.listed_lines.specs.Given.{list_room, head_line, request_line, candidate_line, line_in, LineRead};
 
-use crate::hash_lists::{ListAt, list_at};
-use crate::parts::{OwnerAt, PackageAt, owner_at, package_at};
-use crate::pieces::{
-    MaybeKeyAt, MaybeNumberAt, first_key, first_number, maybe_key_at, maybe_number_at,
-};
+use crate::hash_lists::list_at;
+use crate::parts::{Owner, Package, owner_at, package_at};
+use crate::pieces::{first_key, first_number, maybe_key_at, maybe_number_at};
 use lines::read::Named;
-use reading::fields::{Parsed, bool_at, item_at, number_at};
+use reading::fields::{bool_at, item_at, number_at};
 
 // The first line: L, Q, next poll and cursors.
 #[derive(Clone, Copy)]
@@ -27,9 +25,9 @@ pub struct Head {
 pub struct Request {
     pub kind: ident::Kind,
     pub hash: regions::Quad,
-    pub owner: crate::parts::Owner,
+    pub owner: Option<Owner>,
     pub info: bool,
-    pub packed: crate::parts::Package,
+    pub packed: Option<Package>,
     pub parents: usize,
     pub mark: bool,
 }
@@ -42,25 +40,6 @@ pub struct Candidate {
     pub ready: u64,
     pub preferred: bool,
     pub priority: u64,
-}
-
-// Each line if it is of that form.
-#[derive(Clone, Copy)]
-pub enum HeadIn {
-    Not,
-    Is(Head),
-}
-
-#[derive(Clone, Copy)]
-pub enum RequestIn {
-    Not,
-    Is(Request),
-}
-
-#[derive(Clone, Copy)]
-pub enum CandidateIn {
-    Not,
-    Is(Candidate),
 }
 
 // A line of any form.
@@ -79,160 +58,70 @@ pub struct LineAt {
     pub end: usize,
 }
 
-fn read_head(line: &[u8]) -> HeadIn
+// Each line, if it is of that form.
+
+fn read_head(line: &[u8]) -> Option<Head>
     ensures { head_of short (fields line.now) ≡ head_line result }
 {
-    let Some(
-        Parsed {
-            value: limit,
-            end: a,
-        },
-    ) = first_number(line)
-    else {
-        return HeadIn::Not;
-    };
-    let Some(
-        Parsed {
-            value: places,
-            end: b,
-        },
-    ) = number_at(line, a)
-    else {
-        return HeadIn::Not;
-    };
-    let MaybeNumberAt::Is(poll, c) = maybe_number_at(line, b) else {
-        return HeadIn::Not;
-    };
-    let MaybeKeyAt::Is(known, d) = maybe_key_at(line, c) else {
-        return HeadIn::Not;
-    };
-    let MaybeKeyAt::Is(ready, e) = maybe_key_at(line, d) else {
-        return HeadIn::Not;
-    };
-    if e < line.len() {
-        return HeadIn::Not;
+    let limit = first_number(line)?;
+    let places = number_at(line, limit.end)?;
+    let poll = maybe_number_at(line, places.end)?;
+    let known = maybe_key_at(line, poll.end)?;
+    let ready = maybe_key_at(line, known.end)?;
+    if ready.end < line.len() {
+        return None;
     }
-    HeadIn::Is(Head {
-        limit,
-        places,
-        poll,
-        known,
-        ready,
+    Some(Head {
+        limit: limit.value,
+        places: places.value,
+        poll: poll.value,
+        known: known.value,
+        ready: ready.value,
     })
 }
 
-fn read_request(line: &[u8], wtxids: &mut [u8], parents: &mut [u8]) -> RequestIn
+fn read_request(line: &[u8], wtxids: &mut [u8], parents: &mut [u8]) -> Option<Request>
     requires { (list_room ≤ length wtxids.old) × (list_room ≤ length parents.old) }
     ensures { request_of short (fields line.now) ≡ request_line wtxids.new parents.new result }
 {
-    let Some(
-        Parsed {
-            value: Named { kind, hash },
-            end: a,
-        },
-    ) = first_key(line)
-    else {
-        return RequestIn::Not;
-    };
-    let OwnerAt::Is(owner, b) = owner_at(line, a) else {
-        return RequestIn::Not;
-    };
-    let Some(
-        Parsed {
-            value: info,
-            end: c,
-        },
-    ) = bool_at(line, b)
-    else {
-        return RequestIn::Not;
-    };
-    let PackageAt::Is(packed, d) = package_at(line, c, wtxids) else {
-        return RequestIn::Not;
-    };
-    let ListAt::Is(n, e) = list_at(line, d, 0, parents) else {
-        return RequestIn::Not;
-    };
-    let Some(
-        Parsed {
-            value: mark,
-            end: f,
-        },
-    ) = bool_at(line, e)
-    else {
-        return RequestIn::Not;
-    };
-    if f < line.len() {
-        return RequestIn::Not;
+    let key = first_key(line)?;
+    let owner = owner_at(line, key.end)?;
+    let info = bool_at(line, owner.end)?;
+    let packed = package_at(line, info.end, wtxids)?;
+    let list = list_at(line, packed.end, 0, parents)?;
+    let mark = bool_at(line, list.end)?;
+    if mark.end < line.len() {
+        return None;
     }
-    RequestIn::Is(Request {
-        kind,
-        hash,
-        owner,
-        info,
-        packed,
-        parents: n,
-        mark,
+    Some(Request {
+        kind: key.value.kind,
+        hash: key.value.hash,
+        owner: owner.value,
+        info: info.value,
+        packed: packed.value,
+        parents: list.value,
+        mark: mark.value,
     })
 }
 
-fn read_candidate(line: &[u8]) -> CandidateIn
+fn read_candidate(line: &[u8]) -> Option<Candidate>
     ensures { candidate_of short (fields line.now) ≡ candidate_line result }
 {
-    let Some(
-        Parsed {
-            value: connection,
-            end: a,
-        },
-    ) = first_number(line)
-    else {
-        return CandidateIn::Not;
-    };
-    let Some(
-        Parsed {
-            value: Named { kind, hash },
-            end: b,
-        },
-    ) = item_at(line, a)
-    else {
-        return CandidateIn::Not;
-    };
-    let Some(
-        Parsed {
-            value: ready,
-            end: c,
-        },
-    ) = number_at(line, b)
-    else {
-        return CandidateIn::Not;
-    };
-    let Some(
-        Parsed {
-            value: preferred,
-            end: d,
-        },
-    ) = bool_at(line, c)
-    else {
-        return CandidateIn::Not;
-    };
-    let Some(
-        Parsed {
-            value: priority,
-            end: e,
-        },
-    ) = number_at(line, d)
-    else {
-        return CandidateIn::Not;
-    };
-    if e < line.len() {
-        return CandidateIn::Not;
+    let connection = first_number(line)?;
+    let item = item_at(line, connection.end)?;
+    let ready = number_at(line, item.end)?;
+    let preferred = bool_at(line, ready.end)?;
+    let priority = number_at(line, preferred.end)?;
+    if priority.end < line.len() {
+        return None;
     }
-    CandidateIn::Is(Candidate {
-        connection,
-        kind,
-        hash,
-        ready,
-        preferred,
-        priority,
+    Some(Candidate {
+        connection: connection.value,
+        kind: item.value.kind,
+        hash: item.value.hash,
+        ready: ready.value,
+        preferred: preferred.value,
+        priority: priority.value,
     })
 }
 
@@ -241,16 +130,16 @@ pub fn line_in(line: &[u8], wtxids: &mut [u8], parents: &mut [u8]) -> Line
     requires { (list_room ≤ length wtxids.old) × (list_room ≤ length parents.old) }
     ensures { line_of short (fields line.now) ≡ line_in wtxids.new parents.new result }
 {
-    if let HeadIn::Is(h) = read_head(line) {
+    if let Some(h) = read_head(line) {
         return Line::Head(h);
     }
-    if let RequestIn::Is(r) = read_request(line, wtxids, parents) {
+    if let Some(r) = read_request(line, wtxids, parents) {
         return Line::Request(r);
     }
-    let CandidateIn::Is(c) = read_candidate(line) else {
-        return Line::Not;
-    };
-    Line::Candidate(c)
+    match read_candidate(line) {
+        Some(c) => Line::Candidate(c),
+        None => Line::Not,
+    }
 }
 
 // The line that starts at an index.

@@ -7,7 +7,7 @@ use native.Mathlib.Omega.{arith}
 use lib.Dec.{ltb}
 use lib.ListN.{length}
 use borrow.Author.Tests.{ltb-true, ltb-false}
-use Rattle.std.specs.Prelude.{Some, None}
+use Rattle.std.specs.Prelude.{Some, None, is_some as is_there}
 use Rattle.ident.specs.declared.Kind.{Kind}
 use Rattle.ident.specs.declared.Kind.TheVariants.{Txid, Wtxid}
 use Rattle.ident.specs.Number.{base, top, place}
@@ -26,7 +26,7 @@ use Rattle.listed_requests.specs.Parts.{few_once, uncrowded, pair_fits, pairs_fi
 use Rattle.listed_pairs.specs.declared.Pair.TheVariants.{Unfit, Done, Next}
 use Rattle.listed_requests.specs.Given.{NextRequest}
 use Rattle.listed_pairs.specs.Given.{FirstWtxid, Skips, PassesBelow, SideBySide, Facing, Left, Compared, PairsFit}
-use Rattle.listed_requests.proofs.Judging.{owner-if}
+use Rattle.listed_requests.proofs.Judging.{owner-there}
 use Rattle.listed_pairs.proofs.Facing.{weaken, from_first, first_few, others_few, no-txid, no-wtxid, front_first, back_first, both_first, same_wtxids}
 use Rattle.listed_pairs.proofs.Seeking.{txid-kind, wtxid-kind}
 use Rattle.listed_pairs.proofs.Skipping.{few_in}
@@ -158,8 +158,8 @@ module _ {b : List ℕ} {i j : ℕ} {ws ps ws' ps' : List ℕ} {r w : line-reque
     unfolding pair_fits
     fit_is cs ds s u a c =
         v.is (record { candidates = cs; table = s }) (record { candidates = ds; table = u }) a c
-        ∙ ap (λ (t : Bool). few_once most (cs ++ ds) && not (t && w.owner.held)) (sym (owner-if r.owner.held r.owner.connection r.owner.deadline))
-        ∙ ap (λ (t : Bool). few_once most (cs ++ ds) && not (is_some (front cs).owner && t)) (sym (owner-if w.owner.held w.owner.connection w.owner.deadline))
+        ∙ ap (λ (t : Bool). few_once most (cs ++ ds) && not (t && is_there w.owner)) (sym (owner-there r.owner))
+        ∙ ap (λ (t : Bool). few_once most (cs ++ ds) && not (is_some (front cs).owner && t)) (sym (owner-there w.owner))
 
     left_is : {p q : Table} (t : Met b f g front back p q) → pairs_fit most q p ≡ (fit && pairs_fit most t.u t.s)
     left_is t =

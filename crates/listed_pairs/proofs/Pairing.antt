@@ -6,7 +6,7 @@ use mathlib.Core.List.{List, ◌++◌, map-append}
 use native.Mathlib.Omega.{arith}
 use lib.ListN.{length, take, length-append}
 use borrow.Author.Tests.{le-leb, lt-leb}
-use Rattle.std.specs.Prelude.{Option as Maybe, Some, None}
+use Rattle.std.specs.Prelude.{Option as Maybe, Some, None, is_some}
 use Rattle.ident.specs.Number.{Key}
 use Rattle.machine.specs.Limits.{max_alternates}
 use Rattle.machine.specs.State.{Candidate}
@@ -30,7 +30,7 @@ skips {b} {from} {k} {w} {w'} {r} {end} a = record { on = a.on; is = λ q y h. b
 
 -- both have an owner
 abbrev owned : line-request.Request → line-request.Request → Bool
-owned r w = r.owner.held && w.owner.held
+owned r w = is_some r.owner && is_some w.owner
 
 over : (x : Bool) (cs : List Candidate) → max_alternates < length cs → false ≡ (few_once max_alternates cs && x)
 unfolding few_once

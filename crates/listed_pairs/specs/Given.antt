@@ -1,5 +1,5 @@
 -- What the contracts of the pass over the hashes under both kinds say.
-use Rattle.std.specs.Prelude.{ℕ, ◌+◌, ◌<◌, ◌≤◌, ◌≡◌, Bool, true, false, not, ◌&&◌, List, ◌∷◌, ◌++◌, length}
+use Rattle.std.specs.Prelude.{ℕ, ◌+◌, ◌<◌, ◌≤◌, ◌≡◌, Bool, true, false, not, ◌&&◌, List, ◌∷◌, ◌++◌, length, is_some}
 use Rattle.std.proofs.Math.Option.{Option, none, some}
 use Rattle.ident.specs.declared.Kind.TheVariants.{Wtxid}
 use Rattle.ident.specs.Number.{top, wtxid}
@@ -67,7 +67,7 @@ pub record PassesBelow (b : List ℕ) (from e k : ℕ) : Type 0 where
 pub record SideBySide (b : List ℕ) (from : ℕ) (r : line-request.Request) (to : ℕ) (w : line-request.Request) (fit : Bool) (e d : ℕ) : Type 0 where
   pub on : from ≤ e
   pub on2 : to ≤ d
-  pub is : (q p : Rest) → Body b from q → Body b to p → fit ≡ (few_once max_alternates (q.candidates ++ p.candidates) && not (r.owner.held && w.owner.held))
+  pub is : (q p : Rest) → Body b from q → Body b to p → fit ≡ (few_once max_alternates (q.candidates ++ p.candidates) && not (is_some r.owner && is_some w.owner))
   pub first : (q p : Rest) → Body b from q → Body b to p → fit ≡ true → Body b e (requests_only q.table)
   pub second : (q p : Rest) → Body b from q → Body b to p → fit ≡ true → Body b d (requests_only p.table)
 

@@ -106,7 +106,7 @@ fn side_by_side(
         return false;
     };
     let once = all_distinct(conns, b.count);
-    once & !(r.owner.held & w.owner.held)
+    once & !(r.owner.is_some() & w.owner.is_some())
 }
 
 // The requests that come next: a Txid request, unless none is left, and a Wtxid request. Passes the lesser one, and those that fit together.

@@ -7,15 +7,16 @@ use native.Mathlib.Omega.{arith}
 use lib.Dec.{ltb, leb}
 use lib.ListN.{length}
 use borrow.Author.Tests.{lt-ltb, le-leb, lt-leb}
-use Rattle.std.specs.Prelude.{Some, None}
-use Rattle.ident.specs.Number.{top, Key, place}
+use Rattle.std.specs.Prelude.{Option as Maybe, Some, None, is_some as is_there}
+use Rattle.ident.specs.Number.{top, place}
 use Rattle.machine.specs.Limits.{Limits, max_alternates}
 use Rattle.machine.specs.State.{Candidate, Request, Table, with_candidates}
 use Rattle.machine.specs.Table.{place_in}
 use Rattle.machine.specs.Listing.{Rest, RequestListed, TableListed}
 use Rattle.machine.proofs.Tests.{never}
+use Rattle.listed_lines.specs.declared.parts.Package as parts-package
 use Rattle.listed_lines.specs.declared.line.Request as line-request
-use Rattle.listed_lines.specs.Given.{package_if, request_in}
+use Rattle.listed_lines.specs.Given.{package_of, request_in}
 use Rattle.listed_form.specs.Given.{Body, requests_only}
 use Rattle.listed_form.proofs.Stepping.{body_end}
 use Rattle.listed_requests.specs.Parts.{one_fits, local_fits, pass_fits}
@@ -71,9 +72,9 @@ place-most i true = omega arith
 place-most true false = omega arith
 place-most false false = omega arith
 
-place_if : (i b : Bool) (c : ℕ) (ws : List ℕ) (e : Bool) → place_in i (package_if b c ws e) ≡ place_for i b
-place_if i true c ws e = refl
-place_if i false c ws e = refl
+place_if : (i : Bool) (ws : List ℕ) (p : Maybe parts-package.Package) → place_in i (package_of ws p) ≡ place_for i (is_there p)
+place_if i ws None = refl
+place_if i ws (Some p) = refl
 
 abbrev limits : ℕ → Limits
 limits L = record { announcements = L; alternates = max_alternates }
@@ -117,10 +118,10 @@ module _ {b : List ℕ} {at : ℕ} {ws ps : List ℕ} (L Q : ℕ) (p : Pass) whe
       pub stops_held : {held : ℕ} → held ≡ p.held + m → L < held → Stepped b at L Q p None end
       stops_held d h = stops_at (λ cs t y l. not_announced (limits L) Q (lowest_of p) p.held p.taken (asked cs) t (lt-leb (p.held + length cs) L (omega (arith, counted cs t y))))
 
-      place_is : (cs : List Candidate) → place_in (asked cs).info (asked cs).«package» ≡ place_for r.info r.packed.held
-      place_is cs = place_if r.info r.packed.held _ _ r.packed.enqueued
+      place_is : (cs : List Candidate) → place_in (asked cs).info (asked cs).«package» ≡ place_for r.info (is_there r.packed)
+      place_is cs = place_if r.info ws r.packed
 
-      module _ {taken k : ℕ} (more : k ≡ place_for r.info r.packed.held) (s : taken ≡ p.taken + k) where
+      module _ {taken k : ℕ} (more : k ≡ place_for r.info (is_there r.packed)) (s : taken ≡ p.taken + k) where
         pub stops-taken : Q < taken → Stepped b at L Q p None end
         stops-taken h = stops_at (λ cs t y l.
             not_placed (limits L) Q (lowest_of p) p.held p.taken (asked cs) t (lt-leb (p.taken + place_in (asked cs).info (asked cs).«package») Q (omega (arith, place_is cs))))

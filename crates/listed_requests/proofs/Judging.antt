@@ -8,7 +8,7 @@ use native.Mathlib.Omega.{arith}
 use lib.Dec.{ltb, leb, eqb}
 use lib.ListN.{length, take}
 use borrow.Author.Tests.{lt-ltb, le-leb, lt-leb, ne_eqb}
-use Rattle.std.specs.Prelude.{Some, None}
+use Rattle.std.specs.Prelude.{Option as Maybe, Some, None, is_some as is_there}
 use Rattle.ident.specs.declared.Kind.{Kind}
 use Rattle.ident.specs.declared.Kind.TheVariants.{Txid, Wtxid}
 use Rattle.ident.specs.Number.{top}
@@ -25,11 +25,12 @@ use Rattle.machine.proofs.Tests.{never}
 use Rattle.heavy.specs.Streams.{connections_of}
 use Rattle.listed_lines.specs.declared.line.Request as line-request
 use Rattle.listed_lines.specs.declared.parts.Owner as parts-owner
-use Rattle.listed_lines.specs.Given.{hashes_of, owner_if, package_if, request_in}
+use Rattle.listed_lines.specs.declared.parts.Package as parts-package
+use Rattle.listed_lines.specs.Given.{hashes_of, owner_of, package_of, request_in}
 use Rattle.listed_form.specs.Given.{Body}
 use Rattle.listed_requests.specs.Parts.{few_once, line_fits, one_fits}
 use Rattle.listed_requests.specs.declared.candidates.Gathered.{Gathered}
-use Rattle.listed_requests.specs.Given.{key_with, most_gathered, Gathers, packs, owner_among, LineFits, Judged}
+use Rattle.listed_requests.specs.Given.{key_with, Gathers, packs, owner_among, LineFits, Judged}
 
 and-true : (x : Bool) → (x && true) ≡ x
 and-true true = refl
@@ -70,16 +71,16 @@ packed_is k o true none hs l = refl
 packed_is k o false (some p) hs l = rw (package-fits p l, and-true (same_kind k Wtxid))
 packed_is k o false none hs l = empty_is hs
 
-pub owner-if : (b : Bool) (n d : ℕ) → is_some (owner_if b n d) ≡ b
-owner-if true n d = refl
-owner-if false n d = refl
+pub owner-there : (o : Maybe parts-owner.Owner) → is_some (owner_of o) ≡ is_there o
+owner-there None = refl
+owner-there (Some o) = refl
 
-package-if : (b : Bool) (c : ℕ) (ws : List ℕ) (e : Bool) → is_some (package_if b c ws e) ≡ b
-package-if true c ws e = refl
-package-if false c ws e = refl
+package-there : (ws : List ℕ) (p : Maybe parts-package.Package) → is_some (package_of ws p) ≡ is_there p
+package-there ws None = refl
+package-there ws (Some p) = refl
 
 abbrev pub packs_in : line-request.Request → Bool
-packs_in r = packs r.kind r.owner.held r.info r.packed.held r.parents
+packs_in r = packs r.kind (is_there r.owner) r.info (is_there r.packed) r.parents
 
 module _ (ps : List ℕ) (r : line-request.Request) where
   pub many-hashes : length (hashes_of r.parents ps) ≡ r.parents
@@ -91,9 +92,9 @@ module _ (ps : List ℕ) (r : line-request.Request) where
     line_is =
         let q = request_in ws ps r in
         let a = packed_is q.key.kind q.owner q.info q.«package» q.parents l.packed in
-        let b = ap (λ (x : Bool). packs r.kind x r.info (is_some q.«package») (length q.parents)) (owner-if r.owner.held r.owner.connection r.owner.deadline) in
-        let c = ap (λ (x : Bool). packs r.kind r.owner.held r.info x (length q.parents)) (package-if r.packed.held _ _ r.packed.enqueued) in
-        let d = ap (λ (x : ℕ). packs r.kind r.owner.held r.info r.packed.held x) many-hashes in
+        let b = ap (λ (x : Bool). packs r.kind x r.info (is_some q.«package») (length q.parents)) (owner-there r.owner) in
+        let c = ap (λ (x : Bool). packs r.kind (is_there r.owner) r.info x (length q.parents)) (package-there ws r.packed) in
+        let d = ap (λ (x : ℕ). packs r.kind (is_there r.owner) r.info (is_there r.packed) x) many-hashes in
         let e = parents-fit q.parents l.parents in
         ap (λ (x : Bool). x && (parents_fit q.parents && mark_fits r.kind r.mark)) (a ∙ b ∙ c ∙ d)
         ∙ ap (λ (x : Bool). packs_in r && (x && mark_fits r.kind r.mark)) e
@@ -150,15 +151,9 @@ unfolding elem has
 elem-has n [] = refl
 elem-has n (c ∷ cs) = rw (elem-has n cs)
 
-pub no-owner : (o : parts-owner.Owner) (l : List ℕ) → o.held ≡ false → true ≡ owner_among o.held o.connection l
-no-owner o l e = sym (ap (λ (x : Bool). owner_among x o.connection l) e)
-
-pub with_owner : (o : parts-owner.Owner) (l : List ℕ) {b : Bool} → o.held ≡ true → b ≡ elem o.connection l → b ≡ owner_among o.held o.connection l
-with_owner o l e d = d ∙ sym (ap (λ (x : Bool). owner_among x o.connection l) e)
-
-owner-is : (b : Bool) (n d : ℕ) (cs : List Candidate) → Whenever OwnerListed (owner_if b n d) → owner_fits (owner_if b n d) cs ≡ owner_among b n (connections_of cs)
-owner-is false n d cs l = refl
-owner-is true n d cs l = rw (lt-ltb d word l.deadline) (and-true (has n cs) ∙ sym (elem-has n cs))
+owner-is : (o : Option Owner) (cs : List Candidate) → Whenever OwnerListed o → owner_fits o cs ≡ owner_among o (connections_of cs)
+owner-is none cs l = refl
+owner-is (some o) cs l = rw (lt-ltb o.deadline word l.deadline) (and-true (has o.connection cs) ∙ sym (elem-has o.connection cs))
 
 -- ---- all of it
 
@@ -167,16 +162,16 @@ module _ (ws ps : List ℕ) (r : line-request.Request) (l : RequestListed (reque
   whole = with_candidates cs (request_in ws ps r)
 
   one_is : one_fits max_alternates whole
-      ≡ (leb 1 (length cs) && (((all_fit whole.key cs && owner_among r.owner.held r.owner.connection (connections_of cs)) && line_fits (request_in ws ps r)) && few_once max_alternates cs))
+      ≡ (leb 1 (length cs) && (((all_fit whole.key cs && owner_among (owner_of r.owner) (connections_of cs)) && line_fits (request_in ws ps r)) && few_once max_alternates cs))
   unfolding one_fits is_lawful line_fits
   one_is =
       ap (λ (x : Bool). leb 1 (length cs) && (((all_fit whole.key cs && x) && line_fits (request_in ws ps r)) && few_once max_alternates cs))
-      (owner-is r.owner.held r.owner.connection r.owner.deadline cs l.owner)
+      (owner-is (owner_of r.owner) cs l.owner)
 
   pub bad-line : line_fits (request_in ws ps r) ≡ false → false ≡ one_fits max_alternates whole
   bad-line e =
-      sym (one_is ∙ ap (λ (x : Bool). leb 1 (length cs) && (((all_fit whole.key cs && owner_among r.owner.held r.owner.connection (connections_of cs)) && x) && few_once max_alternates cs)) e
-      ∙ none_of (leb 1 (length cs)) (all_fit whole.key cs && owner_among r.owner.held r.owner.connection (connections_of cs)) (few_once max_alternates cs))
+      sym (one_is ∙ ap (λ (x : Bool). leb 1 (length cs) && (((all_fit whole.key cs && owner_among (owner_of r.owner) (connections_of cs)) && x) && few_once max_alternates cs)) e
+      ∙ none_of (leb 1 (length cs)) (all_fit whole.key cs && owner_among (owner_of r.owner) (connections_of cs)) (few_once max_alternates cs))
     where
       none_of : (a b c : Bool) → (a && ((b && false) && c)) ≡ false
       none_of false b c = refl
@@ -193,10 +188,10 @@ module _ (ws ps : List ℕ) (r : line-request.Request) (l : RequestListed (reque
       none_of true true = refl
 
   pub few_are : {f n o : Bool} → line_fits (request_in ws ps r) ≡ true → length cs ≤ max_alternates → f ≡ all_fit whole.key cs → n ≡ no_repeat (connections_of cs)
-      → o ≡ owner_among r.owner.held r.owner.connection (connections_of cs) → (((f && n) && o) && ltb 0 (length cs)) ≡ one_fits max_alternates whole
+      → o ≡ owner_among (owner_of r.owner) (connections_of cs) → (((f && n) && o) && ltb 0 (length cs)) ≡ one_fits max_alternates whole
   unfolding few_once
   few_are {f} {n} {o} e h d a b =
-      rw (d, a, b) (moved (all_fit whole.key cs) (no_repeat (connections_of cs)) (owner_among r.owner.held r.owner.connection (connections_of cs)) (leb 1 (length cs)) _ _ e
+      rw (d, a, b) (moved (all_fit whole.key cs) (no_repeat (connections_of cs)) (owner_among (owner_of r.owner) (connections_of cs)) (leb 1 (length cs)) _ _ e
       (le-leb (length cs) max_alternates h) ∙ sym one_is)
     where
       moved : (f n o a x y : Bool) → x ≡ true → y ≡ true → (((f && n) && o) && a) ≡ (a && (((f && o) && x) && (y && n)))
@@ -235,7 +230,7 @@ module _ {b : List ℕ} {from : ℕ} {ps : List ℕ} {r : line-request.Request} 
     }
 
     module _ {g : Gathered} (a : Gathers b from (key_with r.kind r.hash) 0 w w' (Some g) end) {n o : Bool} (e : f ≡ true) (once : n ≡ no_repeat (take g.count w'))
-        (owner : o ≡ owner_among r.owner.held r.owner.connection (take g.count w')) where
+        (owner : o ≡ owner_among (owner_of r.owner) (take g.count w')) where
       one_fit : (ws : List ℕ) (q : Rest) → Body b from q → RequestListed (request_in ws ps r)
           → (((g.fit && n) && o) && ltb 0 g.count) ≡ one_fits max_alternates (with_candidates q.candidates (request_in ws ps r))
       one_fit ws q y l =
@@ -243,7 +238,7 @@ module _ {b : List ℕ} {from : ℕ} {ps : List ℕ} {r : line-request.Request} 
           let z : g.count ≡ length q.candidates = omega (arith, v.count) in
           ap (λ (x : ℕ). ((g.fit && n) && o) && ltb 0 x) z
           ∙ few_are ws ps r l q.candidates (sym (t.is ws l) ∙ e) (omega (arith, v.count, a.all.bound)) v.fit (once ∙ ap no_repeat v.connections)
-          (owner ∙ ap (owner_among r.owner.held r.owner.connection) v.connections)
+          (owner ∙ ap (owner_among (owner_of r.owner)) v.connections)
 
       pub judged-unfit : (((g.fit && n) && o) && ltb 0 g.count) ≡ false → Judged b from ps r None end
       judged-unfit d = record { on = a.on; lawful = tt; unlawful = λ z ws q y l. sym (one_fit ws q y l) ∙ d }

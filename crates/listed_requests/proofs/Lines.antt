@@ -1,13 +1,12 @@
 -- The line that comes next, as a candidate's or as a request's.
-use Prim.Native.Nat.{ℕ, ◌<◌, ◌≤◌}
+use Prim.Native.Nat.{ℕ, ◌≤◌}
 use mathlib.Core.Path.{◌≡◌, refl, sym, ap}
 use mathlib.Core.List.{List, []}
-use mathlib.Core.Option.{Option, none, some}
 use native.Mathlib.Omega.{arith}
 use lib.ListN.{length}
-use Rattle.std.specs.Prelude.{Option as Maybe, Some, None}
+use Rattle.std.specs.Prelude.{Some, None}
 use Rattle.machine.specs.State.{Table}
-use Rattle.machine.specs.Listing.{Line, RequestLine, CandidateLine, Rest}
+use Rattle.machine.specs.Listing.{Rest}
 use Rattle.machine.proofs.Tests.{never}
 use Rattle.listed_lines.specs.declared.line.LineAt.{LineAt}
 use Rattle.listed_lines.specs.declared.line.Line as line-line
@@ -17,7 +16,7 @@ use Rattle.listed_lines.specs.declared.line.Candidate as line-candidate
 use Rattle.listed_lines.specs.Given.{request_in, candidate_in, line_in, LineRead}
 use Rattle.listed_form.specs.Given.{Body, requests_only}
 use Rattle.listed_form.proofs.Stepping.{after-candidate, after-request, no-bad-line, no-head-line, body_end}
-use Rattle.listed_requests.specs.Given.{FirstCandidate, TakesCandidate, NoCandidates, NextCandidate, TakesRequest, NextRequest}
+use Rattle.listed_requests.specs.Given.{NextCandidate, NextRequest}
 
 module _ {b ws ps : List ℕ} {at : ℕ} {l : LineAt} (p : LineRead b at ws ps l) where
   pub candidate_next : {c : line-candidate.Candidate} → l.line ≡ IsCandidate c → NextCandidate b at (Some c) l.end

@@ -7,7 +7,7 @@ use Rattle.ident.specs.Number.{Key, place}
 use Rattle.regions.specs.declared.Quad.{Quad}
 use Rattle.regions.specs.Rows.{quad_number}
 use Rattle.machine.specs.Limits.{max_announcements, max_places, max_alternates}
-use Rattle.machine.specs.State.{Candidate, Request, Table, with_candidates}
+use Rattle.machine.specs.State.{Candidate, Owner, Request, Table, with_candidates}
 use Rattle.machine.specs.Table.{one}
 use Rattle.machine.specs.Claim.{elem, same_kind}
 use Rattle.machine.specs.Listing.{Rest, RequestListed, TableListed}
@@ -98,9 +98,9 @@ packs k owned false true n = owned && same_kind k Wtxid
 packs k owned false false n = eqb n 0
 
 -- an owner is one of these connections
-abbrev pub owner_among : Bool → ℕ → List ℕ → Bool
-owner_among false n l = true
-owner_among true n l = elem n l
+abbrev pub owner_among : Option Owner → List ℕ → Bool
+owner_among none l = true
+owner_among (some o) l = elem o.connection l
 
 -- the tests of a request's line, whose parents stand in ps
 pub record LineFits (ps : List ℕ) (r : line-request.Request) (fit : Bool) : Type 0 where

@@ -61,7 +61,7 @@ fn advance(
     if limit < held {
         return None;
     }
-    let taken = p.taken + place_of(r.info, r.packed.held);
+    let taken = p.taken + place_of(r.info, r.packed.is_some());
     if places < taken {
         return None;
     }

@@ -3,7 +3,7 @@ ghost use Rattle.std.specs.Prelude.{◌≡◌, ◌≤◌, length, take};
 ghost use Rattle.ident.specs.declared.Kind.TheVariants.{Wtxid};
 ghost use Rattle.machine.specs.Claim.{same_kind};
 ghost use Rattle.machine.specs.SoundTest.{mark_fits};
-ghost use Rattle.listed_lines.specs.Given.{list_room};
+ghost use Rattle.listed_lines.specs.Given.{list_room, owner_of};
 ghost use Rattle.listed_requests.specs.Given.{most_gathered, packs, owner_among, LineFits, Judged};
 
 use crate::candidates::gather;
@@ -50,16 +50,15 @@ fn packs(kind: ident::Kind, owned: bool, info: bool, packed: bool, parents: usiz
     parents == 0
 }
 
-// Whether an owner is one of the first n connections.
-fn owner_stands(o: Owner, conns: &[u64], n: usize) -> bool
+// Whether an owner, if there is one, is among the first n connections.
+fn owner_stands(o: Option<Owner>, conns: &[u64], n: usize) -> bool
     requires { n ≤ length conns.now }
-    ensures { result ≡ owner_among o.held o.connection (take n conns.now) }
+    ensures { result ≡ owner_among (owner_of o) (take n conns.now) }
 {
-    if !o.held {
-        return true;
+    match o {
+        None => true,
+        Some(o) => stands(conns, n, o.connection),
     }
-    let x = o.connection;
-    stands(conns, n, x)
 }
 
 // What a request's line says. Its parents stand in the lent bytes.
@@ -74,17 +73,10 @@ fn line_fits(r: Request, parents: &[u8]) -> bool
     if !hashes_distinct(parents, n) {
         return false;
     }
-    let kind = r.kind;
-    let mark = r.mark;
-    if !mark_fits(kind, mark) {
+    if !mark_fits(r.kind, r.mark) {
         return false;
     }
-    let info = r.info;
-    let o = r.owner;
-    let p = r.packed;
-    let owned = o.held;
-    let packed = p.held;
-    packs(kind, owned, info, packed, n)
+    packs(r.kind, r.owner.is_some(), r.info, r.packed.is_some(), n)
 }
 
 // A request, whose candidates come next: how many it has, if it is lawful.

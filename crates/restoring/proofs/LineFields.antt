@@ -4,7 +4,6 @@ use mathlib.Core.Path.{◌≡◌, refl, sym, ap, subst, ◌∙◌}
 use mathlib.Core.Bool.{Bool, true, false, ◌||◌}
 use native.Mathlib.Omega.{arith}
 use mathlib.Core.List.{List, [], ◌∷◌, ◌++◌, append-nil}
-use lib.Dec.{eqb}
 use lib.ListN.{length, take}
 use lib.Seq.{length-take-le}
 use Rattle.ident.specs.Words.{hash_bytes}
@@ -17,50 +16,18 @@ use Rattle.regions.specs.Rows.{quad_number}
 use Rattle.machine.specs.State.{Request, owner_is}
 use Rattle.machine.specs.Table.{one}
 use Rattle.machine.specs.Typed.{Each}
+use Rattle.std.specs.Prelude.{Option as Maybe, Some, None, is_some}
 use Rattle.machine.proofs.Tests.{never}
 use Rattle.store.specs.Flat.{kind_bit, witness_bit, deadline_for, row_of, place_for, places_for}
 use Rattle.store.specs.FlatSound.{QuadFits}
 use Rattle.store.specs.Image.{Shows}
 use Rattle.store.specs.Shown.{places_in, held_places_in, with_places, Turns}
 use Rattle.store.proofs.Quads.{quad-number}
-use Rattle.listed_lines.specs.declared.parts.Owner as parts-owner
 use Rattle.listed_lines.specs.declared.parts.Package as parts-package
 use Rattle.listed_lines.specs.declared.line.Request as line-request
 use Rattle.listed_lines.specs.declared.line.Candidate as line-candidate
-use Rattle.listed_lines.specs.Given.{list_room, owner_if, owner_of, package_if, package_of, hashes_of, request_in, candidate_in}
+use Rattle.listed_lines.specs.Given.{list_room, owner_of, package_of, hashes_of, request_in, candidate_in}
 use Rattle.restoring.specs.Given.{Appends, stage_for, combined_for, wtxids_for, PlaceRoom}
-
--- ---- the owner
-
-module _ (n m d : ℕ) where
-  is_held : (h : Bool) → h ≡ true → owner_is n (owner_if h m d) ≡ eqb m n
-  is_held true e = refl
-  is_held false e = never e
-
-  not_held : (h : Bool) → h ≡ false → owner_is n (owner_if h m d) ≡ false
-  not_held true e = never (sym e)
-  not_held false e = refl
-
-  due-owner : (h : Bool) → owner_is n (owner_if h m d) ≡ true → deadline_for n (owner_if h m d) ≡ d
-  due-owner true e = rw e
-  due-owner false e = never e
-
-  due_none : (h : Bool) → owner_is n (owner_if h m d) ≡ false → deadline_for n (owner_if h m d) ≡ 0
-  due_none true e = rw e
-  due_none false e = refl
-
-module _ (o : parts-owner.Owner) (n : ℕ) where
-  pub owner_held : o.held ≡ true → owner_is n (owner_of o) ≡ eqb o.connection n
-  owner_held e = is_held n o.connection o.deadline o.held e
-
-  pub owner_none : o.held ≡ false → owner_is n (owner_of o) ≡ false
-  owner_none e = not_held n o.connection o.deadline o.held e
-
-  pub deadline-own : owner_is n (owner_of o) ≡ true → deadline_for n (owner_of o) ≡ o.deadline
-  deadline-own e = due-owner n o.connection o.deadline o.held e
-
-  pub deadline_none : owner_is n (owner_of o) ≡ false → deadline_for n (owner_of o) ≡ 0
-  deadline_none e = due_none n o.connection o.deadline o.held e
 
 -- ---- the package
 
@@ -72,55 +39,11 @@ no-hashes : (ws : List ℕ) → hashes_of 0 ws ≡ []
 unfolding recs
 no-hashes ws = refl
 
-module _ (c : ℕ) (hs : List ℕ) (q : Bool) where
-  stage_none : (h : Bool) → h ≡ false → stage_for (package_if h c hs q) ≡ 1
-  stage_none true e = never (sym e)
-  stage_none false e = refl
+pub flag-combined : (ws : List ℕ) → quad_number (record { w0 = 0; w1 = 0; w2 = 0; w3 = 0 }) ≡ combined_for (package_of ws None)
+flag-combined ws = quad_zero
 
-  stage_some : (h : Bool) → h ≡ true → stage_for (package_if h c hs q) ≡ 2 + one q
-  stage_some true e = refl
-  stage_some false e = never e
-
-  combined_none : (h : Bool) → h ≡ false → combined_for (package_if h c hs q) ≡ 0
-  combined_none true e = never (sym e)
-  combined_none false e = refl
-
-  combined_some : (h : Bool) → h ≡ true → combined_for (package_if h c hs q) ≡ c
-  combined_some true e = refl
-  combined_some false e = never e
-
-  wtxids_none : (h : Bool) → h ≡ false → wtxids_for (package_if h c hs q) ≡ []
-  wtxids_none true e = never (sym e)
-  wtxids_none false e = refl
-
-  wtxids_some : (h : Bool) → h ≡ true → wtxids_for (package_if h c hs q) ≡ hs
-  wtxids_some true e = refl
-  wtxids_some false e = never e
-
-module _ (p : parts-package.Package) (ws : List ℕ) where
-  abbrev c : ℕ
-  c = quad_number p.combined
-
-  abbrev hs : List ℕ
-  hs = hashes_of p.wtxids ws
-
-  pub flag-stage : p.held ≡ false → 1 ≡ stage_for (package_of ws p)
-  flag-stage e = sym (stage_none c hs p.enqueued p.held e)
-
-  pub package-stage : p.held ≡ true → 2 + one p.enqueued ≡ stage_for (package_of ws p)
-  package-stage e = sym (stage_some c hs p.enqueued p.held e)
-
-  pub flag-combined : p.held ≡ false → quad_number (record { w0 = 0; w1 = 0; w2 = 0; w3 = 0 }) ≡ combined_for (package_of ws p)
-  flag-combined e = quad_zero ∙ sym (combined_none c hs p.enqueued p.held e)
-
-  pub package-combined : p.held ≡ true → c ≡ combined_for (package_of ws p)
-  package-combined e = sym (combined_some c hs p.enqueued p.held e)
-
-  pub flag-wtxids : p.held ≡ false → hashes_of 0 ws ≡ wtxids_for (package_of ws p)
-  flag-wtxids e = no-hashes ws ∙ sym (wtxids_none c hs p.enqueued p.held e)
-
-  pub package-wtxids : p.held ≡ true → hs ≡ wtxids_for (package_of ws p)
-  package-wtxids e = sym (wtxids_some c hs p.enqueued p.held e)
+pub flag-wtxids : (ws : List ℕ) → hashes_of 0 ws ≡ wtxids_for (package_of ws None)
+flag-wtxids ws = no-hashes ws
 
 -- ---- the row of a candidate
 
@@ -145,32 +68,31 @@ place_of ws ps q = record {
   parents = hashes_of q.parents ps;
 }
 
-place_some : (r : Request) (i h : Bool) (c : ℕ) (hs : List ℕ) (e : Bool) → (i || h) ≡ true → place_for r i (package_if h c hs e) ≡ record {
+place_some : (r : Request) (i : Bool) (ws : List ℕ) (p : Maybe parts-package.Package) → (i || is_some p) ≡ true → place_for r i (package_of ws p) ≡ record {
   hash = r.key.hash;
-  combined = combined_for (package_if h c hs e);
-  stage = stage_for (package_if h c hs e);
-  wtxids = wtxids_for (package_if h c hs e);
+  combined = combined_for (package_of ws p);
+  stage = stage_for (package_of ws p);
+  wtxids = wtxids_for (package_of ws p);
   parents = r.parents;
 } ∷ []
-place_some r true true c hs e g = refl
-place_some r true false c hs e g = refl
-place_some r false true c hs e g = refl
-place_some r false false c hs e g = never g
+place_some r true ws (Some p) g = refl
+place_some r true ws None g = refl
+place_some r false ws (Some p) g = refl
+place_some r false ws None g = never g
 
-place_none : (r : Request) (i h : Bool) (c : ℕ) (hs : List ℕ) (e : Bool) → (i || h) ≡ false → place_for r i (package_if h c hs e) ≡ []
-place_none r true true c hs e g = never (sym g)
-place_none r true false c hs e g = never (sym g)
-place_none r false true c hs e g = never (sym g)
-place_none r false false c hs e g = refl
+place_none : (r : Request) (i : Bool) (ws : List ℕ) (p : Maybe parts-package.Package) → (i || is_some p) ≡ false → place_for r i (package_of ws p) ≡ []
+place_none r true ws p g = never (sym g)
+place_none r false ws (Some p) g = never (sym g)
+place_none r false ws None g = refl
 
 module _ (ws ps : List ℕ) (q : line-request.Request) where
-  pub place_is : (q.info || q.packed.held) ≡ true → places_for (request_in ws ps q) ≡ place_of ws ps q ∷ []
+  pub place_is : (q.info || is_some q.packed) ≡ true → places_for (request_in ws ps q) ≡ place_of ws ps q ∷ []
   unfolding places_for
-  place_is g = place_some (request_in ws ps q) q.info q.packed.held (quad_number q.packed.combined) (hashes_of q.packed.wtxids ws) q.packed.enqueued g
+  place_is g = place_some (request_in ws ps q) q.info ws q.packed g
 
-  pub place_not : (q.info || q.packed.held) ≡ false → places_for (request_in ws ps q) ≡ []
+  pub place_not : (q.info || is_some q.packed) ≡ false → places_for (request_in ws ps q) ≡ []
   unfolding places_for
-  place_not g = place_none (request_in ws ps q) q.info q.packed.held (quad_number q.packed.combined) (hashes_of q.packed.wtxids ws) q.packed.enqueued g
+  place_not g = place_none (request_in ws ps q) q.info ws q.packed g
 
 -- a list at the front of lent bytes
 pub front_hashes : (n : ℕ) (ws : List ℕ) → n * 32 ≤ length ws → hashes_in (take (n * 32) ws) ≡ hashes_of n ws
@@ -183,7 +105,7 @@ front_hashes n ws l =
     (omega (arith, l))
 
 -- how long the lists are, and that there is room
-module _ {b : List ℕ} (ws ps : List ℕ) (q : line-request.Request) (z : PlaceRoom b (request_in ws ps q)) (g : (q.info || q.packed.held) ≡ true) where
+module _ {b : List ℕ} (ws ps : List ℕ) (q : line-request.Request) (z : PlaceRoom b (request_in ws ps q)) (g : (q.info || is_some q.packed) ≡ true) where
   shorts : Each PlaceShort (place_of ws ps q ∷ [])
   shorts = subst (Each PlaceShort) (place_is ws ps q g) z.short
 
@@ -201,7 +123,7 @@ front_few n ws l m = omega (arith, ap length (front_hashes n ws (omega arith)), 
 
 -- the place behind the others
 pub placed : {b b' : List ℕ} (ws ps : List ℕ) (q : line-request.Request) (z : PlaceRoom b (request_in ws ps q))
-    (g : (q.info || q.packed.held) ≡ true) → list_room ≤ length ws → list_room ≤ length ps
+    (g : (q.info || is_some q.packed) ≡ true) → list_room ≤ length ws → list_room ≤ length ps
     → {x v : ℕ} (n : ℕ) → ((us : List ℕ) → x ≡ combined_for (package_of us q.packed)) → ((us : List ℕ) → v ≡ stage_for (package_of us q.packed))
     → ((us : List ℕ) → hashes_of n us ≡ wtxids_for (package_of us q.packed))
     → Appends b b' (record { hash = quad_number q.hash; combined = x; stage = v; wtxids = hashes_in (take (n * 32) ws); parents = hashes_in (take (q.parents * 32) ps) })
@@ -216,6 +138,6 @@ placed {b} {b'} ws ps q z g lw lp {x} {v} n ec ev en a f h =
     subst (λ (x : List Place). Shows b' (with_places (f.places ++ x) f)) (ap (λ (p : Place). p ∷ []) same ∙ sym (place_is ws ps q g)) (a f h)
 
 -- no place
-pub not_placed : {b : List ℕ} (ws ps : List ℕ) (q : line-request.Request) → (q.info || q.packed.held) ≡ false → Turns b b (λ f. with_places (f.places ++ places_for (request_in ws ps q)) f)
+pub not_placed : {b : List ℕ} (ws ps : List ℕ) (q : line-request.Request) → (q.info || is_some q.packed) ≡ false → Turns b b (λ f. with_places (f.places ++ places_for (request_in ws ps q)) f)
 not_placed {b} ws ps q g f h =
     subst (λ (x : List Place). Shows b (with_places x f)) (sym (ap (λ (x : List Place). f.places ++ x) (place_not ws ps q g) ∙ append-nil f.places)) h

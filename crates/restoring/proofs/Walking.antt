@@ -4,7 +4,7 @@ use mathlib.Core.Path.{◌≡◌, refl, sym, ap, subst, ◌∙◌}
 use mathlib.Core.Bool.{Bool, true, false}
 use mathlib.Core.List.{List, [], ◌∷◌, ◌++◌, map, append_assoc, append-nil}
 use mathlib.Core.Option.{Option, none, some}
-use Rattle.std.specs.Prelude.{Option as Maybe, Some, None}
+use Rattle.std.specs.Prelude.{Option as Maybe, Some}
 use native.Mathlib.Omega.{arith}
 use lib.ListN.{length, length-append}
 use Rattle.regions.specs.declared.Row.{Row}
@@ -22,7 +22,7 @@ use Rattle.listed_lines.specs.declared.line.Request as line-request
 use Rattle.listed_lines.specs.declared.line.Line as line-line
 use Rattle.listed_lines.specs.declared.line.Line.TheVariants.{Not as NoLine, Head as IsHead, Request as IsRequest, Candidate as IsCandidate}
 use Rattle.listed_lines.specs.declared.line.LineAt.{LineAt}
-use Rattle.listed_lines.specs.Given.{list_room, request_in, candidate_in, line_in, LineRead}
+use Rattle.listed_lines.specs.Given.{request_in, candidate_in, line_in, LineRead}
 use Rattle.listed_form.specs.Given.{Body, requests_only}
 use Rattle.listed_form.proofs.Stepping.{no-bad-line, no-head-line, after-candidate, after-request, body_end}
 use Rattle.restoring.specs.Given.{request_after, row_under, rows_more, places_more, LineRoom, TakesLine, bare, untallied, Headed}

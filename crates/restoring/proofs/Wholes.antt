@@ -1,5 +1,5 @@
 -- The first line, the lines behind it, and the connections: the whole store.
-use Prim.Native.Nat.{ℕ, ◌≤◌, ◌<◌}
+use Prim.Native.Nat.{ℕ, ◌≤◌}
 use mathlib.Core.Path.{◌≡◌, refl, sym, ap, subst, ◌∙◌}
 use mathlib.Core.List.{List, [], ◌∷◌}
 use mathlib.Core.Option.{Option, none, some}
@@ -16,8 +16,6 @@ use Rattle.store.specs.Shown.{conns_in, Shown, with_conns, Turns}
 use Rattle.store.proofs.Frame.{sizes, shown}
 use Rattle.store.proofs.Counts.{held-rows, places-rows}
 use Rattle.listed_lines.specs.declared.line.Head as line-head
-use Rattle.listed_lines.specs.declared.line.Request as line-request
-use Rattle.listed_lines.specs.declared.line.Candidate as line-candidate
 use Rattle.listed_lines.specs.declared.line.Line as line-line
 use Rattle.listed_lines.specs.declared.line.Line.TheVariants.{Not as NoLine, Head as IsHead, Request as IsRequest, Candidate as IsCandidate}
 use Rattle.listed_lines.specs.declared.line.LineAt.{LineAt}

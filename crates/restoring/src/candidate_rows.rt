@@ -36,22 +36,22 @@ fn witness_bit(k: ident::ItemKind) -> u64
 }
 
 // Whether the connection n is asked.
-fn is_owner(o: Owner, n: u64) -> bool
+fn is_owner(o: Option<Owner>, n: u64) -> bool
     ensures { result ≡ owner_is n (owner_of o) }
 {
-    if o.held {
-        return o.connection == n;
+    match o {
+        None => false,
+        Some(o) => o.connection == n,
     }
-    false
 }
 
-fn deadline_for(o: Owner, n: u64) -> u64
+fn deadline_for(o: Option<Owner>, n: u64) -> u64
     ensures { result ≡ deadline_for n (owner_of o) }
 {
-    if is_owner(o, n) {
-        return o.deadline;
+    match o {
+        None => 0,
+        Some(o) => { if o.connection == n { o.deadline } else { 0 } }
     }
-    0
 }
 
 fn row_of(r: Request, c: Candidate) -> regions::Row

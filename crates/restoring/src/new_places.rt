@@ -54,39 +54,36 @@ fn append_place(
 
 // ---- what a line says of its place
 
-fn stage_of(p: Package) -> u64
+fn stage_of(p: Option<Package>) -> u64
     ensures { (ws : List ℕ) → result ≡ stage_for (package_of ws p) }
 {
-    if !p.held {
-        return FLAG;
+    match p {
+        None => FLAG,
+        Some(p) => { if p.enqueued { ENQUEUED } else { AWAITING } }
     }
-    if p.enqueued {
-        return ENQUEUED;
-    }
-    AWAITING
 }
 
-fn combined_of(p: Package) -> regions::Quad
+fn combined_of(p: Option<Package>) -> regions::Quad
     ensures { (ws : List ℕ) → quad_number result ≡ combined_for (package_of ws p) }
 {
-    if p.held {
-        return p.combined;
-    }
-    regions::Quad {
-        w0: 0,
-        w1: 0,
-        w2: 0,
-        w3: 0,
+    match p {
+        None => regions::Quad {
+            w0: 0,
+            w1: 0,
+            w2: 0,
+            w3: 0,
+        },
+        Some(p) => p.combined,
     }
 }
 
-fn wtxid_count(p: Package) -> usize
+fn wtxid_count(p: Option<Package>) -> usize
     ensures { (ws : List ℕ) → hashes_of result ws ≡ wtxids_for (package_of ws p) }
 {
-    if p.held {
-        return p.wtxids;
+    match p {
+        None => 0,
+        Some(p) => p.wtxids,
     }
-    0
 }
 
 // The place of a request's line, if it has one, behind the others.
@@ -95,7 +92,7 @@ pub fn add_place(s: &mut [u8], r: Request, wtxids: &[u8], parents: &[u8])
     ensures { Turns s.old s.new (λ f. with_places (f.places ++ places_for (request_in wtxids.now parents.now r)) f) }
 {
     let p = r.packed;
-    if r.info | p.held {
+    if r.info | p.is_some() {
         let hash = r.hash;
         let combined = combined_of(p);
         let stage = stage_of(p);

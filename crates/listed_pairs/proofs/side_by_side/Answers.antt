@@ -11,4 +11,5 @@ returns-in_default-gather-clause-together c =
 
 pub returns-clause-together : goal.returns-clause-together
 returns-clause-together c =
-    both_few c.in-Some.ensures.gathers (rw c.requires.0 at c.in-Some-gather.ensures.gathers) c.all_distinct-once.ensures
+    rw (c.is_some.ensures, c.is_some-2.ensures)
+    (both_few c.in-Some.ensures.gathers (rw c.requires.0 at c.in-Some-gather.ensures.gathers) c.all_distinct-once.ensures)

@@ -1,5 +1,5 @@
 -- `restoring::put_lines` meets its contract. The loop's invariant: with the lines that were read, the store has what those that are left do not bring.
-use mathlib.Core.Path.{refl, sym, ◌∙◌}
+use mathlib.Core.Path.{refl, ◌∙◌}
 use native.Mathlib.Omega.{arith}
 use Rattle.std.specs.Prelude.{None}
 use Rattle.restoring.proofs.Walking.{walked_none, walked-room, walked_on, walked_all}

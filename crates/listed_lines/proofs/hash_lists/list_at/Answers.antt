@@ -7,24 +7,22 @@ use Rattle.listed_lines.proofs.Anywhere.{number_took}
 use Rattle.listed_lines.proofs.Lists.{no_length, too_short, too_long, no-hashes, hashes-are}
 use Rattle.listed_lines.proofs.hash_lists.list_at.Goals as goal
 
-pub returns-in_default : goal.returns-in_default
-returns-in_default c = no_length _ (number_took number_of c.number_at.ensures) (ap number_at c.in_default.is)
+pub returns-in_err-count : goal.returns-in_err-count
+returns-in_err-count c = rw c.from_residual.ensures (no_length _ (number_took number_of c.number_at.ensures) (ap number_at c.in_err-count.was))
 
 pub returns-then-count-least : goal.returns-then-count-least
-returns-then-count-least c = too_short _ (number_took number_of c.number_at.ensures) (ap number_at c.in-Some.is) c.if-count-least.true
+returns-then-count-least c = too_short _ (number_took number_of c.number_at.ensures) (ap number_at c.in_ok-count.was) c.if-count-least.true
 
 pub returns-then-count-gt100 : goal.returns-then-count-gt100
-returns-then-count-gt100 c = too_long _ (number_took number_of c.number_at.ensures) (ap number_at c.in-Some.is) c.if-count-gt100.true
+returns-then-count-gt100 c = too_long _ (number_took number_of c.number_at.ensures) (ap number_at c.in_ok-count.was) c.if-count-gt100.true
 
-pub returns-in_default-hashes_at : goal.returns-in_default-hashes_at
-returns-in_default-hashes_at c =
-    no-hashes _ (number_took number_of c.number_at.ensures)
-    (ap number_at c.in-Some.is) c.if-count-least.false
-    c.if-count-gt100.false refl c.hashes_at.ensures (ap (hashes_at _ _) c.in_default-hashes_at.is)
+pub returns-in_err-end : goal.returns-in_err-end
+returns-in_err-end c =
+    rw c.from_residual-in_err-end.ensures
+    (no-hashes _ (number_took number_of c.number_at.ensures) (ap number_at c.in_ok-count.was) c.if-count-least.false c.if-count-gt100.false refl c.hashes_at.ensures
+    (ap (hashes_at _ _) c.in_err-end.was))
 
 pub returns : goal.returns
 returns c =
-    hashes-are _ (number_took number_of c.number_at.ensures)
-    (ap number_at c.in-Some.is)
-    c.if-count-least.false c.if-count-gt100.false refl
-    c.hashes_at.ensures (ap (hashes_at _ _) c.in-Is.is)
+    hashes-are _ (number_took number_of c.number_at.ensures) (ap number_at c.in_ok-count.was) c.if-count-least.false c.if-count-gt100.false refl c.hashes_at.ensures
+    (ap (hashes_at _ _) c.in_ok-end.was)

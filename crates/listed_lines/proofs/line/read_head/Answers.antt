@@ -7,48 +7,55 @@ use Rattle.listed_lines.proofs.Anywhere.{number_took}
 use Rattle.listed_lines.proofs.Forms.{head_1, head_2, head_3, head_4, head_5, head_more, head_is}
 use Rattle.listed_lines.proofs.line.read_head.Goals as goal
 
-pub returns-in_default : goal.returns-in_default
-returns-in_default c = head_1 c.first_number.ensures (ap number_at c.in_default.is)
+pub returns-in_err-limit : goal.returns-in_err-limit
+returns-in_err-limit c =
+    rw c.from_residual.ensures
+    (head_1 c.first_number.ensures (ap number_at c.in_err-limit.was))
 
-pub returns-in_default-number_at : goal.returns-in_default-number_at
-returns-in_default-number_at c =
-    head_2 c.first_number.ensures (ap number_at c.in-Some.is)
-    (number_took number_of c.number_at.ensures) (ap number_at c.in_default-number_at.is)
+pub returns-in_err-places : goal.returns-in_err-places
+returns-in_err-places c =
+    rw c.from_residual-in_err-places.ensures
+    (head_2 c.first_number.ensures (ap number_at c.in_ok-limit.was)
+    (number_took number_of c.number_at.ensures) (ap number_at c.in_err-places.was))
 
-pub returns-in_default-maybe_number_at : goal.returns-in_default-maybe_number_at
-returns-in_default-maybe_number_at c =
-    head_3 c.first_number.ensures
-    (ap number_at c.in-Some.is)
-    (number_took number_of c.number_at.ensures) (ap number_at c.in-Some-number_at.is)
-    c.maybe_number_at.ensures (ap maybe_number_at c.in_default-maybe_number_at.is)
+pub returns-in_err-poll : goal.returns-in_err-poll
+returns-in_err-poll c =
+    rw c.from_residual-in_err-poll.ensures
+    (head_3 c.first_number.ensures (ap number_at c.in_ok-limit.was)
+    (number_took number_of c.number_at.ensures) (ap number_at c.in_ok-places.was)
+    c.maybe_number_at.ensures (ap maybe_number_at c.in_err-poll.was))
 
-pub returns-in_default-maybe_key_at : goal.returns-in_default-maybe_key_at
-returns-in_default-maybe_key_at c =
-    head_4 c.first_number.ensures (ap number_at c.in-Some.is) (number_took number_of c.number_at.ensures)
-    (ap number_at c.in-Some-number_at.is)
-    c.maybe_number_at.ensures (ap maybe_number_at c.in-Is.is) c.maybe_key_at.ensures
-    (ap maybe_key_at c.in_default-maybe_key_at.is)
+pub returns-in_err-known : goal.returns-in_err-known
+returns-in_err-known c =
+    rw c.from_residual-in_err-known.ensures
+    (head_4 c.first_number.ensures (ap number_at c.in_ok-limit.was)
+    (number_took number_of c.number_at.ensures) (ap number_at c.in_ok-places.was)
+    c.maybe_number_at.ensures (ap maybe_number_at c.in_ok-poll.was)
+    c.maybe_key_at.ensures (ap maybe_key_at c.in_err-known.was))
 
-pub returns-in_default-maybe_key_at-2 : goal.returns-in_default-maybe_key_at-2
-returns-in_default-maybe_key_at-2 c =
-    head_5 c.first_number.ensures (ap number_at c.in-Some.is)
-    (number_took number_of c.number_at.ensures) (ap number_at c.in-Some-number_at.is)
-    c.maybe_number_at.ensures (ap maybe_number_at c.in-Is.is)
-    c.maybe_key_at.ensures (ap maybe_key_at c.in-Is-maybe_key_at.is)
-    c.maybe_key_at-2.ensures (ap maybe_key_at c.in_default-maybe_key_at-2.is)
+pub returns-in_err-ready : goal.returns-in_err-ready
+returns-in_err-ready c =
+    rw c.from_residual-in_err-ready.ensures
+    (head_5 c.first_number.ensures (ap number_at c.in_ok-limit.was)
+    (number_took number_of c.number_at.ensures) (ap number_at c.in_ok-places.was)
+    c.maybe_number_at.ensures (ap maybe_number_at c.in_ok-poll.was)
+    c.maybe_key_at.ensures (ap maybe_key_at c.in_ok-known.was)
+    c.maybe_key_at-2.ensures (ap maybe_key_at c.in_err-ready.was))
 
-pub returns-then-e-line : goal.returns-then-e-line
-returns-then-e-line c =
-    head_more c.first_number.ensures (ap number_at c.in-Some.is)
-    (number_took number_of c.number_at.ensures) (ap number_at c.in-Some-number_at.is)
-    c.maybe_number_at.ensures (ap maybe_number_at c.in-Is.is) c.maybe_key_at.ensures
-    (ap maybe_key_at c.in-Is-maybe_key_at.is)
-    c.maybe_key_at-2.ensures (ap maybe_key_at c.in-Is-maybe_key_at-2.is) c.if-e-line.true
+pub returns-then-ready-line : goal.returns-then-ready-line
+returns-then-ready-line c =
+    head_more c.first_number.ensures (ap number_at c.in_ok-limit.was)
+    (number_took number_of c.number_at.ensures) (ap number_at c.in_ok-places.was)
+    c.maybe_number_at.ensures (ap maybe_number_at c.in_ok-poll.was)
+    c.maybe_key_at.ensures (ap maybe_key_at c.in_ok-known.was)
+    c.maybe_key_at-2.ensures (ap maybe_key_at c.in_ok-ready.was)
+    c.if-ready-line.true
 
 pub returns : goal.returns
 returns c =
-    head_is c.first_number.ensures (ap number_at c.in-Some.is)
-    (number_took number_of c.number_at.ensures) (ap number_at c.in-Some-number_at.is)
-    c.maybe_number_at.ensures (ap maybe_number_at c.in-Is.is) c.maybe_key_at.ensures
-    (ap maybe_key_at c.in-Is-maybe_key_at.is)
-    c.maybe_key_at-2.ensures (ap maybe_key_at c.in-Is-maybe_key_at-2.is) c.if-e-line.false
+    head_is c.first_number.ensures (ap number_at c.in_ok-limit.was)
+    (number_took number_of c.number_at.ensures) (ap number_at c.in_ok-places.was)
+    c.maybe_number_at.ensures (ap maybe_number_at c.in_ok-poll.was)
+    c.maybe_key_at.ensures (ap maybe_key_at c.in_ok-known.was)
+    c.maybe_key_at-2.ensures (ap maybe_key_at c.in_ok-ready.was)
+    c.if-ready-line.false

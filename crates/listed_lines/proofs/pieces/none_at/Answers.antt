@@ -1,7 +1,6 @@
 -- `listed_lines::pieces::none_at` meets its contract.
 use mathlib.Core.Path.{sym, ◌∙◌}
 use native.Mathlib.Omega.{arith}
-use borrow.Author.Tests.{not-true, not-false}
 use Rattle.machine.proofs.Parting.{end_most}
 use Rattle.listed_lines.proofs.Missing.{none_past, none_not, none_is}
 use Rattle.listed_lines.proofs.pieces.none_at.Goals as goal
@@ -14,10 +13,7 @@ slice_bounds-same-end c = omega (arith, end_most 44 c.args.line.now _ (omega ari
 
 pub returns-then-not-same : goal.returns-then-not-same
 returns-then-not-same c =
-    none_not c.args.line.now c.args.e
-    c.if-line-e.false c.field_end-to.ensures (sym c.same.ensures ∙ not-true _ c.if-not-same.true-raw)
+    none_not c.args.line.now c.args.e c.if-line-e.false c.field_end-to.ensures (sym c.same.ensures ∙ c.if-not-same.true)
 
 pub returns : goal.returns
-returns c =
-    none_is c.args.line.now c.args.e
-    c.if-line-e.false c.field_end-to.ensures (sym c.same.ensures ∙ not-false _ c.if-not-same.false-raw)
+returns c = none_is c.args.line.now c.args.e c.if-line-e.false c.field_end-to.ensures (sym c.same.ensures ∙ c.if-not-same.false)

@@ -1,7 +1,6 @@
 -- `listed_requests::candidates::gather` meets its contract. The loop's invariant: the candidates of the lines that were taken are gathered.
 use mathlib.Core.Path.{refl, ◌∙◌}
 use native.Mathlib.Omega.{arith}
-use Rattle.listed_requests.specs.Given.{key_with}
 use Rattle.listed_requests.proofs.Gathering.{gone_none, gone_more, too_many, all_gone}
 use Rattle.listed_requests.proofs.candidates.gather.Goals as goal
 

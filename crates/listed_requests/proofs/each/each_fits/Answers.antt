@@ -1,6 +1,6 @@
 -- `listed_requests::each::each_fits` meets its contract. The loop's invariant: the requests that are left pass where all of them do.
-use Rattle.listed_requests.proofs.Advancing.{pass-begin, pass_on, pass_stop, pass_end}
-use mathlib.Core.Path.{refl, ◌∙◌}
+use Rattle.listed_requests.proofs.Advancing.{pass-begin, pass_end}
+use mathlib.Core.Path.{refl}
 use native.Mathlib.Omega.{arith}
 use Rattle.listed_requests.proofs.each.each_fits.Goals as goal
 

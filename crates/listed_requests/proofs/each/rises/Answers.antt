@@ -1,5 +1,5 @@
 -- `listed_requests::each::rises` meets its contract.
-use mathlib.Core.Path.{sym, ◌∙◌}
+use mathlib.Core.Path.{sym}
 use native.Mathlib.Omega.{arith}
 use borrow.Author.Tests.{le-leb}
 use Rattle.listed_requests.proofs.each.rises.Goals as goal

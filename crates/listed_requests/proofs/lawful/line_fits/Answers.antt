@@ -19,4 +19,4 @@ returns-then-not-mark_fits c =
 pub returns : goal.returns
 returns c =
     by_package c.args.parents.now c.args.r (sym c.hashes_distinct.ensures ∙ not-false _ c.if-not-hashes_distinct.false-raw)
-    (sym c.mark_fits.ensures ∙ not-false _ c.if-not-mark_fits.false-raw) c.packs.ensures
+    (sym c.mark_fits.ensures ∙ not-false _ c.if-not-mark_fits.false-raw) (rw (c.is_some.ensures, c.is_some-2.ensures) at c.packs.ensures)
