@@ -1,40 +1,41 @@
 -- Lists of numbers gone through from the first on.
 use Prim.Native.Nat.{ℕ, zero, suc, ◌+◌, ◌-◌, ◌≤◌, ◌<◌}
 use mathlib.Core.Path.{◌≡◌, refl, ap}
-use mathlib.Core.Bool.{true, false}
+use mathlib.Core.Bool.{Bool, true, false, cond, ◌&&◌}
+use mathlib.Core.Logic.{inl, inr}
 use mathlib.Core.List.{List, [], ◌∷◌}
 use native.Mathlib.Numerals.{add-one}
 use native.Mathlib.Omega.{arith}
-use lib.ListN.{length, drop, get_or, set, drop_of_length-le}
-use lib.Seq.{drop-cons}
-use borrow.Author.Tests.{eq-eqb, ne_eqb, le-leb, lt-leb, lt-ltb, le-ltb}
+use lib.Dec.{eqb, ltb, leb}
+use lib.ListN.{length, get_or, set}
+use borrow.Author.Tests.{lt-ltb, le-ltb, ltb-true, ltb-false}
+use Rattle.std.specs.Prelude.{if◌then◌else◌, Option, Some, None, MatchOption}
+use Rattle.std.specs.List.{position, position_or_len, list_all}
+use Rattle.std.proofs.lemmas.List.Recursion.{is_position_or_len}
+use Rattle.machine.proofs.Tests.{test}
 use Rattle.heavy.specs.Counters.{index_of, lowered, names_with, counts_with, counted_with, none_above, sum, Notes}
 
-module _ (x : ℕ) (s : List ℕ) (i : ℕ) where
-  pub index_end : length s ≤ i → index_of x (drop i s) ≡ 0
-  unfolding index_of
-  index_end h = rw (drop_of_length-le s h)
+index_first : (x : ℕ) (s : List ℕ) → index_of x s ≡ position_or_len (λ y. eqb y x) s
+unfolding index_of
+index_first x s = is_position_or_len (index_of x) (λ y. eqb y x) refl (λ y s. step (index_of x s) (eqb y x)) s
+  where
+    step : (n : ℕ) (b : Bool) → (if b then 0 else suc n) ≡ cond b 0 (1 + n)
+    step n true = refl
+    step n false = omega arith
 
-  pub index_here : i < length s → get_or s i 0 ≡ x → index_of x (drop i s) ≡ 0
-  unfolding index_of
-  index_here h e = rw (drop-cons s i 0 h, eq-eqb (get_or s i 0) x e)
+pub sought : (x : ℕ) (s : List ℕ) {r : Option ℕ} → r ≡ position (λ y. eqb y x) s → MatchOption r (length s ≤ index_of x s) (λ i. (i ≡ index_of x s) × (i < length s))
+sought x s e = rw (e, index_first x s) (found (position_or_len (λ y. eqb y x) s) (length s))
+  where
+    found : (p n : ℕ) → MatchOption (cond (ltb p n) (Some p) None) (n ≤ p) (λ i. (i ≡ p) × (i < n))
+    found p n = elim (test (ltb p n)) [
+      | inl t ↦ rw t (refl, ltb-true p n t)
+      | inr t ↦ rw t (ltb-false p n t)
+    ]
 
-  pub index_past : i < length s → (get_or s i 0 ≡ x → ⊥) → index_of x (drop i s) ≡ 1 + index_of x (drop (i + 1) s)
-  unfolding index_of
-  index_past h e = rw (drop-cons s i 0 h, ne_eqb (get_or s i 0) x e, add-one i) (omega arith)
-
-module _ (most : ℕ) (s : List ℕ) (i : ℕ) where
-  pub none_end : length s ≤ i → none_above most (drop i s) ≡ true
-  unfolding none_above
-  none_end h = rw (drop_of_length-le s h)
-
-  pub one_here : i < length s → most < get_or s i 0 → none_above most (drop i s) ≡ false
-  unfolding none_above
-  one_here h e = rw (drop-cons s i 0 h, lt-leb (get_or s i 0) most e)
-
-  pub none_here : i < length s → get_or s i 0 ≤ most → none_above most (drop i s) ≡ none_above most (drop (i + 1) s)
-  unfolding none_above
-  none_here h e = rw (drop-cons s i 0 h, le-leb (get_or s i 0) most e, add-one i)
+pub all-below : (most : ℕ) (s : List ℕ) → list_all (λ y. leb y most) s ≡ none_above most s
+unfolding none_above
+all-below most [] = refl
+all-below most (c ∷ s) = ap (λ b. leb c most && b) (all-below most s)
 
 -- ---- the first i counts lowered
 

@@ -5,38 +5,22 @@
 // they tell exactly whether one of at most (k + 1) * most + k numbers comes more than `most` times.
 #![tactic(auto)]
 
-ghost use Rattle.std.specs.Prelude.{◌≡◌, ◌-◌, ◌<◌, ◌^◌, length};
+ghost use Rattle.std.specs.Prelude.{◌≡◌, ◌<◌, ◌≤◌, ◌^◌, length, MatchOption};
 ghost use Rattle.heavy.specs.Counters.{index_of, lowered, Notes, counted_with, none_above, sum};
 
-// Where x first stands, or the length.
-fn seek(list: &[u64], x: u64) -> usize
-    ensures { result ≡ index_of x list.now }
+// Where x first stands.
+fn seek(list: &[u64], x: u64) -> Option<usize>
+    ensures { MatchOption result (length list.now ≤ index_of x list.now) (λ i. (i ≡ index_of x list.now) × (i < length list.now)) }
 {
-    let mut i = 0;
-    while i < list.len() {
-        if list[i] == x {
-            return i;
-        }
-        i += 1;
-    }
-    i
-}
-
-fn lowered_by_one(n: u64) -> u64
-    ensures { result ≡ n - 1 }
-{
-    if n == 0 {
-        return 0;
-    }
-    n - 1
+    list.iter().position(|&y| y == x)
 }
 
 // Every count goes down by one.
 fn lower(counts: &mut [u64])
     ensures { counts.new ≡ lowered counts.old }
 {
-    for i in 0..counts.len() {
-        counts[i] = lowered_by_one(counts[i]);
+    for count in counts {
+        *count = count.saturating_sub(1);
     }
 }
 
@@ -45,13 +29,11 @@ pub fn note(names: &mut [u64], counts: &mut [u64], x: u64)
     requires { (length names.old ≡ length counts.old) × (sum counts.old < 2 ^ 63) }
     ensures { Notes names.old counts.old names.new counts.new x }
 {
-    let i = seek(names, x);
-    if i < names.len() {
-        counts[i] = counts[i] + 1;
+    if let Some(i) = seek(names, x) {
+        counts[i] += 1;
         return;
     }
-    let j = seek(counts, 0);
-    if j < counts.len() {
+    if let Some(j) = seek(counts, 0) {
         names[j] = x;
         counts[j] = 1;
         return;
@@ -64,21 +46,14 @@ pub fn count(names: &[u64], counts: &mut [u64], x: u64)
     requires { (length names.now ≡ length counts.old) × (sum counts.old < 2 ^ 63) }
     ensures { counts.new ≡ counted_with x names.now counts.old }
 {
-    let i = seek(names, x);
-    if names.len() <= i {
-        return;
+    if let Some(i) = seek(names, x) {
+        counts[i] += 1;
     }
-    counts[i] = counts[i] + 1;
 }
 
 // Whether no count is above `most`.
 pub fn none_above(counts: &[u64], most: u64) -> bool
     ensures { result ≡ none_above most counts.now }
 {
-    for i in 0..counts.len() {
-        if most < counts[i] {
-            return false;
-        }
-    }
-    true
+    counts.iter().all(|&count| count <= most)
 }

@@ -1,17 +1,14 @@
 -- Hashes given to a call: how many, each by its index, their range, and whether one occurred before.
 use Prim.Native.Nat.{ℕ, zero, suc, ◌+◌, ◌*◌, ◌/◌, ◌≤◌, ◌<◌}
-use mathlib.Core.Path.{◌≡◌, sym, ap, ◌∙◌}
-use mathlib.Core.Logic.{⊎_elim}
-use mathlib.Core.Bool.{Bool, true, false}
+use mathlib.Core.Path.{◌≡◌}
+use mathlib.Core.Bool.{true, false}
 use mathlib.Core.List.{List, [], ◌∷◌}
 use native.Mathlib.Omega.{arith}
 use lib.Dec.{eqb}
 use lib.ListN.{length, take, drop, get_or, length-drop}
 use lib.Seq.{length-take-le, get_or-take, get_or-drop}
-use borrow.Author.Tests.{eq-eqb, ne_eqb}
 use Rattle.ident.specs.Number.{top}
 use Rattle.ident.specs.Words.{hash_bytes}
-use Rattle.ident.proofs.Compare.{three, is-less, is_more, is_same}
 use Rattle.words.specs.Words.{number, recs}
 use Rattle.words.proofs.Digits.{number_below}
 use Rattle.words.proofs.Records.{length-recs, recs_at}

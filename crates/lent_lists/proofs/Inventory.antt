@@ -1,5 +1,5 @@
 -- Items and priorities given to a call: how many, each by its index, and their ranges.
-use Prim.Native.Nat.{ℕ, zero, suc, ◌+◌, ◌*◌, ◌/◌, ◌%◌, ◌≤◌, ◌<◌, ◌^◌}
+use Prim.Native.Nat.{min, ℕ, zero, suc, ◌+◌, ◌*◌, ◌/◌, ◌%◌, ◌≤◌, ◌<◌, ◌^◌}
 use mathlib.Core.Path.{◌≡◌, refl, sym, ap, ◌∙◌}
 use mathlib.Core.List.{List, [], ◌∷◌}
 use native.Mathlib.Nat.{zero-add, suc-add}
@@ -58,18 +58,11 @@ item_is b i {k} {w} {h} l e f g d =
 -- ---- items with priorities
 
 -- the shorter list decides
-pub shorter-items : (l : List Item) (ps : List ℕ) → length l ≤ length ps → length (paired l ps) ≡ length l
+pub length-paired : (l : List Item) (ps : List ℕ) → length (paired l ps) ≡ min (length l) (length ps)
 unfolding paired
-shorter-items [] ps h = refl
-shorter-items (i ∷ l) [] h = absurd (omega arith)
-shorter-items (i ∷ l) (p ∷ ps) h = ap suc (shorter-items l ps (omega arith))
-
-pub shorter-priorities : (l : List Item) (ps : List ℕ) → length ps ≤ length l → length (paired l ps) ≡ length ps
-unfolding paired
-shorter-priorities [] [] h = refl
-shorter-priorities [] (p ∷ ps) h = absurd (omega arith)
-shorter-priorities (i ∷ l) [] h = refl
-shorter-priorities (i ∷ l) (p ∷ ps) h = ap suc (shorter-priorities l ps (omega arith))
+length-paired [] ps = omega arith
+length-paired (i ∷ l) [] = omega arith
+length-paired (i ∷ l) (p ∷ ps) = omega (arith, length-paired l ps)
 
 pub paired-inside : (l : List Item) (ps : List ℕ) → (length (paired l ps) ≤ length l) × (length (paired l ps) ≤ length ps)
 unfolding paired

@@ -94,9 +94,7 @@ pub fn item_at(b: &[u8], i: usize) -> ident::Item
 pub fn offers(b: &[u8], priorities: &[u8]) -> usize
     ensures { result ≡ length (offers_in b.now priorities.now) }
 {
-    let n = items(b);
-    let m = priorities.len() / PRIORITY;
-    if n < m { n } else { m }
+    items(b).min(priorities.len() / PRIORITY)
 }
 
 // ---- keys out

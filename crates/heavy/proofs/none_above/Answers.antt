@@ -1,23 +1,12 @@
--- `heavy::none_above` meets its contract. The loop's invariant: no count up to i is above.
-use mathlib.Core.Path.{refl, sym, ◌∙◌}
-use native.Mathlib.Omega.{arith}
-use Rattle.heavy.proofs.Seeking.{none_end, one_here, none_here}
+-- `heavy::none_above` meets its contract.
+use Rattle.std.proofs.Common.{rules}
+use borrow.Author.Tests.{tests}
+use lib.Dec.{leb}
+use mathlib.Core.Path.{◌∙◌}
+use Rattle.std.proofs.lemmas.Iterator.{YieldsList-from_slice}
+use Rattle.std.proofs.lemmas.Iterator.Search.{all_from_yields_List}
+use Rattle.heavy.proofs.Seeking.{all-below}
 use Rattle.heavy.proofs.none_above.Goals as goal
 
-pub loop-i-init : goal.loop-i-init
-loop-i-init c = (omega arith, refl)
-
-pub returns-then-most-counts : goal.returns-then-most-counts
-returns-then-most-counts c =
-    sym (c.loop-i.invariant.1 ∙ one_here c.args.most c.args.counts.now
-    c.loop-i.i c.loop-i-test.true c.if-most-counts.true)
-
-pub loop-i-preserved : goal.loop-i-preserved
-loop-i-preserved c = (
-  omega arith,
-  c.loop-i.invariant.1 ∙ none_here c.args.most c.args.counts.now
-      c.loop-i.i c.loop-i-test.true c.if-most-counts.false,
-)
-
 pub returns : goal.returns
-returns c = sym (c.loop-i.invariant.1 ∙ none_end c.args.most c.args.counts.now c.loop-i.i c.loop-i-test.false)
+returns c = all_from_yields_List (λ y. leb y c.args.most) _ _ _ c.all.ensures.ran (YieldsList-from_slice c.args.counts.now cc) (λ y b q k. search (rules, tests)) ∙ all-below _ _
