@@ -50,9 +50,7 @@ pub fn drop_dead(s: &mut [u8])
     ensures { Turns s.old s.new (λ f. with_places (filter live f.places) f) }
 {
     let n = store::head::held_places(s);
-    let p = flat::places_part(s);
-    let x = p.from;
-    let y = p.to;
-    let m = compact(&mut s[x..y], n);
+    let part = flat::places_part(s);
+    let m = compact(&mut s[part], n);
     words::put(s, 5, m as u64);
 }

@@ -8,23 +8,18 @@ ghost use Rattle.package_stages.specs.Records.{PartOf, place_hashes, HashIn, Pus
 
 use places::PLACE;
 use regions::{CONN, ROW};
+use std::ops::Range;
 
 // The bytes of a store that its places lie in.
-#[derive(Clone, Copy)]
-pub struct Part {
-    pub from: usize,
-    pub to: usize,
-}
-
-pub fn places_part(s: &[u8]) -> Part
+pub fn places_part(s: &[u8]) -> Range<usize>
     requires { Shown s.now }
-    ensures { PartOf s.now result.from result.to }
+    ensures { PartOf s.now result.start result.end }
 {
     let l = store::head::limit(s);
     let q = store::head::places(s);
     let from = (store::head::HEAD + l * ROW + l * CONN) * 8;
     let to = (store::head::HEAD + l * ROW + l * CONN + q * PLACE) * 8;
-    Part { from, to }
+    from..to
 }
 
 // The first place whose hash is at least h, or how many places there are.
@@ -33,10 +28,7 @@ pub fn seek_place(s: &[u8], h: regions::Quad) -> usize
     ensures { Seek s.now (λ f. place_hashes f.places) (held_places_in s.now) (quad_number h) result }
 {
     let n = store::head::held_places(s);
-    let p = places_part(s);
-    let x = p.from;
-    let y = p.to;
-    places::seek_place(&s[x..y], n, h)
+    places::seek_place(&s[places_part(s)], n, h)
 }
 
 // The j-th wtxid of the i-th place.
@@ -44,10 +36,7 @@ pub fn read_wtxid(s: &[u8], i: usize, j: usize) -> regions::Quad
     requires { Shown s.now × (i < held_places_in s.now) × (j < list_most) }
     ensures { HashIn s.now i (λ p. p.wtxids) j result }
 {
-    let p = places_part(s);
-    let x = p.from;
-    let y = p.to;
-    places::read_wtxid(&s[x..y], i, j)
+    places::read_wtxid(&s[places_part(s)], i, j)
 }
 
 // The j-th parent of the i-th place.
@@ -55,10 +44,7 @@ pub fn read_parent(s: &[u8], i: usize, j: usize) -> regions::Quad
     requires { Shown s.now × (i < held_places_in s.now) × (j < list_most) }
     ensures { HashIn s.now i (λ p. p.parents) j result }
 {
-    let p = places_part(s);
-    let x = p.from;
-    let y = p.to;
-    places::read_parent(&s[x..y], i, j)
+    places::read_parent(&s[places_part(s)], i, j)
 }
 
 // Stores the i-th place's combined hash.
@@ -66,10 +52,8 @@ pub fn set_combined(s: &mut [u8], i: usize, h: regions::Quad)
     requires { Shown s.old × (i < held_places_in s.old) }
     ensures { (d : Place) → Turns s.old s.new (λ f. with_places (set f.places i (with_combined (quad_number h) (get_or f.places i d))) f) }
 {
-    let p = places_part(s);
-    let x = p.from;
-    let y = p.to;
-    places::set_combined(&mut s[x..y], i, h);
+    let part = places_part(s);
+    places::set_combined(&mut s[part], i, h);
 }
 
 // Puts h behind the n wtxids of the i-th place.
@@ -77,10 +61,8 @@ pub fn push_wtxid(s: &mut [u8], i: usize, n: usize, h: regions::Quad)
     requires { Shown s.old × (i < held_places_in s.old) × (n < list_most) }
     ensures { PushedIn s.old s.new i (λ p. p.wtxids) with_wtxids n (quad_number h) }
 {
-    let p = places_part(s);
-    let x = p.from;
-    let y = p.to;
-    places::push_wtxid(&mut s[x..y], i, n, h);
+    let part = places_part(s);
+    places::push_wtxid(&mut s[part], i, n, h);
 }
 
 // Makes the hashes of a list of 32 bytes each the wtxids of the i-th place, which has none.
@@ -101,8 +83,6 @@ pub fn push_parent(s: &mut [u8], i: usize, n: usize, h: regions::Quad)
     requires { Shown s.old × (i < held_places_in s.old) × (n < list_most) }
     ensures { PushedIn s.old s.new i (λ p. p.parents) with_parents n (quad_number h) }
 {
-    let p = places_part(s);
-    let x = p.from;
-    let y = p.to;
-    places::push_parent(&mut s[x..y], i, n, h);
+    let part = places_part(s);
+    places::push_parent(&mut s[part], i, n, h);
 }

@@ -1,5 +1,5 @@
 // The tally: a connection's entry follows its rows.
-ghost use Rattle.std.specs.Prelude.{◌≡◌, ℕ, ◌-◌, ◌≤◌, ◌<◌, length, get_or};
+ghost use Rattle.std.specs.Prelude.{◌≡◌, ℕ, ◌≤◌, ◌<◌, length, get_or};
 ghost use Rattle.regions.specs.Order.{Sorted};
 ghost use Rattle.store.specs.Flat.{Flat, bump};
 ghost use Rattle.store.specs.Counting.{unbump, retally};
@@ -8,24 +8,12 @@ ghost use Rattle.store.specs.Shown.{limit_in, conns_in, conn_names, Shown, with_
 
 use crate::{conns, head};
 
-// a - b, or 0.
-pub fn less(a: u64, b: u64) -> u64
-    ensures { result ≡ a - b }
-{
-    if b < a { a - b } else { 0 }
-}
-
 // Whether the i-th entry is x's.
 pub fn is_entry(s: &[u8], i: usize, x: u64) -> bool
     requires { Shown s.now }
     ensures { EntryOf s.now i x result }
 {
-    if i < head::conns(s) {
-        let c = conns::conn_at(s, i);
-        c.conn == x
-    } else {
-        false
-    }
+    i < head::conns(s) && conns::conn_at(s, i).conn == x
 }
 
 // One row more of the connection x, which does not own its request by it.
@@ -37,9 +25,8 @@ pub fn count_in(s: &mut [u8], x: u64)
     if is_entry(s, i, x) {
         let c = conns::conn_at(s, i);
         let d = regions::Conn {
-            conn: c.conn,
             held: c.held + 1,
-            owned: c.owned,
+            ..c
         };
         conns::set_conn(s, i, d);
     } else {
@@ -64,9 +51,9 @@ pub fn count_out(s: &mut [u8], x: u64, o: u64)
             conns::drop_conn(s, i);
         } else {
             let d = regions::Conn {
-                conn: c.conn,
-                held: less(c.held, 1),
-                owned: less(c.owned, o),
+                held: c.held.saturating_sub(1),
+                owned: c.owned.saturating_sub(o),
+                ..c
             };
             conns::set_conn(s, i, d);
         }
@@ -82,9 +69,8 @@ pub fn recount(s: &mut [u8], x: u64, o: u64, p: u64)
     if is_entry(s, i, x) {
         let c = conns::conn_at(s, i);
         let d = regions::Conn {
-            conn: c.conn,
-            held: c.held,
-            owned: less(c.owned, o) + p,
+            owned: c.owned.saturating_sub(o) + p,
+            ..c
         };
         conns::set_conn(s, i, d);
     }

@@ -9,28 +9,15 @@ use crate::rows;
 fn ready_row(r: regions::Row, v: u64) -> regions::Row
     ensures { result ≡ with_ready v r }
 {
-    let hash = r.hash;
-    regions::Row {
-        hash,
-        conn: r.conn,
-        ready: v,
-        prio: r.prio,
-        deadline: r.deadline,
-        bits: r.bits,
-    }
+    regions::Row { ready: v, ..r }
 }
 
 fn marked_row(r: regions::Row) -> regions::Row
     ensures { result ≡ marked_row r }
 {
-    let hash = r.hash;
     regions::Row {
-        hash,
-        conn: r.conn,
-        ready: r.ready,
-        prio: r.prio,
-        deadline: r.deadline,
         bits: r.bits % 16 + 16,
+        ..r
     }
 }
 

@@ -13,9 +13,9 @@ pub fn count_off(s: &mut [u8], x: u64, o: u64)
     if store::counting::is_entry(s, i, x) {
         let c = store::conns::conn_at(s, i);
         let d = regions::Conn {
-            conn: c.conn,
-            held: store::counting::less(c.held, 1),
-            owned: store::counting::less(c.owned, o),
+            held: c.held.saturating_sub(1),
+            owned: c.owned.saturating_sub(o),
+            ..c
         };
         store::conns::set_conn(s, i, d);
     }

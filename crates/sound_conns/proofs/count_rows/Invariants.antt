@@ -1,4 +1,4 @@
-use Prim.Native.Nat.{◌-◌, ◌≤◌}
+use Prim.Native.Nat.{◌≤◌}
 use mathlib.Core.Path.{◌≡◌}
 use lib.ListN.{length}
 use Rattle.words.specs.Words.{recs, words}
@@ -9,6 +9,3 @@ use Rattle.sound_conns.proofs.count_rows.Given as goal
 abbrev pub invariant-loop-i : goal.invariant-loop-i
 invariant-loop-i l = (l.i ≤ l.n) × (length l.t ≡ length l.initial.t) × Tallied (names l.c (words l.conns)) (recs row_size read_row l.i (words l.rows))
     (recs conn_size read_conn l.c (words l.conns)) l.done l.last l.lo l.t
-
-abbrev pub decreases-loop-i : goal.decreases-loop-i
-decreases-loop-i l = l.n - l.i

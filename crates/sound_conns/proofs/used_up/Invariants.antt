@@ -5,6 +5,3 @@ use Rattle.sound_conns.proofs.used_up.Given as goal
 
 abbrev pub invariant-loop-i : goal.invariant-loop-i
 invariant-loop-i l = (l.lo ≤ l.i) × ((j : ℕ) → j < l.i - l.lo → get_or l.t j 0 ≡ 0)
-
-abbrev pub decreases-loop-i : goal.decreases-loop-i
-decreases-loop-i l = l.n - l.i

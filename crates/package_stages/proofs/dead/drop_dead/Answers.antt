@@ -7,7 +7,7 @@ use Rattle.package_stages.proofs.dead.drop_dead.Goals as goal
 
 pub returns : goal.returns
 returns c = λ f h.
-    let part = c.places_part-p.ensures in
+    let part = c.places_part-part.ensures in
     let held = lent h part in
     let n = sym (c.held_places-n.ensures.field f h) in
     let m = c.compact-m.ensures.count f.head.places f.places n held in

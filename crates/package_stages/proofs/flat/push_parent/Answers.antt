@@ -10,6 +10,6 @@ pub returns : goal.returns
 returns c = λ f d e h.
     let z = sizes h in
     let i : c.args.i < length f.places = omega (arith, c.requires) in
-    let held = c.push_parent.ensures.region f.head.places f.places d i e (lent h c.places_part-p.ensures) in
+    let held = c.push_parent.ensures.region f.head.places f.places d i e (lent h c.places_part-part.ensures) in
     places_same h (search rules) _ (length-set f.places c.args.i _)
-    (came_back h c.places_part-p.ensures _ _ c.push_parent.auto.s held)
+    (came_back h c.places_part-part.ensures _ _ c.push_parent.auto.s held)

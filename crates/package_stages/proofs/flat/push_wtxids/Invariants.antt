@@ -1,4 +1,3 @@
-use Prim.Native.Nat.{◌-◌}
 use mathlib.Core.Path.{◌≡◌}
 use lib.ListN.{length}
 use Rattle.lent_lists.specs.Lists.{hashes_in}
@@ -7,6 +6,3 @@ use Rattle.package_stages.proofs.flat.push_wtxids.Given as goal
 
 abbrev pub invariant-loop-j : goal.invariant-loop-j
 invariant-loop-j l = Filled l.initial.s l.s l.i (hashes_in l.list) l.j × (l.n ≡ length (hashes_in l.list))
-
-abbrev pub decreases-loop-j : goal.decreases-loop-j
-decreases-loop-j l = l.n - l.j

@@ -6,4 +6,4 @@ use Rattle.package_stages.proofs.flat.read_parent.Goals as goal
 pub returns : goal.returns
 returns c = λ f d h l.
     let z = sizes h in
-    c.read_parent.ensures.region f.head.places f.places d 0 (omega (arith, c.requires)) l (lent h c.places_part-p.ensures)
+    c.read_parent.ensures.region f.head.places f.places d 0 (omega (arith, c.requires)) l (lent h c.places_part.ensures)

@@ -11,5 +11,5 @@ returns c = record {
   bound = λ f h.
       let z = sizes h in
       let few : length f.places ≤ f.head.places = omega (arith, c.requires) in
-      place_sought f.head.places f.places few (lent h c.places_part-p.ensures) (c.held_places-n.ensures.field f h) c.seek_place.ensures;
+      place_sought f.head.places f.places few (lent h c.places_part.ensures) (c.held_places-n.ensures.field f h) c.seek_place.ensures;
 }

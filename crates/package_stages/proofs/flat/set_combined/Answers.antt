@@ -10,6 +10,6 @@ pub returns : goal.returns
 returns c = λ d f h.
     let z = sizes h in
     let i : c.args.i < length f.places = omega (arith, c.requires) in
-    let held = c.set_combined.ensures.region f.head.places f.places d i (lent h c.places_part-p.ensures) in
+    let held = c.set_combined.ensures.region f.head.places f.places d i (lent h c.places_part-part.ensures) in
     places_same h (search rules) _ (length-set f.places c.args.i _)
-    (came_back h c.places_part-p.ensures _ _ c.set_combined.auto.s held)
+    (came_back h c.places_part-part.ensures _ _ c.set_combined.auto.s held)

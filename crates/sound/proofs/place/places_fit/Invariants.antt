@@ -1,4 +1,4 @@
-use Prim.Native.Nat.{ℕ, ◌-◌, ◌≤◌, ◌<◌}
+use Prim.Native.Nat.{ℕ, ◌≤◌, ◌<◌}
 use mathlib.Core.Path.{◌≡◌}
 use lib.ListN.{length}
 use Rattle.words.specs.Words.{words, recs}
@@ -10,6 +10,3 @@ use Rattle.sound.proofs.place.places_fit.Given as goal
 abbrev pub invariant-loop-i : goal.invariant-loop-i
 invariant-loop-i l = (length l.slots ≡ slot_count) × (l.i ≤ l.q) × (RowsSound (recs row_size read_row l.n (words l.rows)) → (k : ℕ) → k < l.i
     → PlaceSound (recs row_size read_row l.n (words l.rows)) (place_at (words l.s) k)) × ((k : ℕ) → k < l.i → PlaceFollows (words l.s) k)
-
-abbrev pub decreases-loop-i : goal.decreases-loop-i
-decreases-loop-i l = l.q - l.i

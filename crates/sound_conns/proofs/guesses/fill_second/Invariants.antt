@@ -1,4 +1,4 @@
-use Prim.Native.Nat.{◌+◌, ◌-◌, ◌≤◌}
+use Prim.Native.Nat.{◌+◌, ◌≤◌}
 use mathlib.Core.Path.{◌≡◌}
 use lib.ListN.{length}
 use Rattle.sound_conns.specs.Conns.{many}
@@ -6,6 +6,3 @@ use Rattle.sound_conns.proofs.guesses.fill_second.Given as goal
 
 abbrev pub invariant-loop-i : goal.invariant-loop-i
 invariant-loop-i l = (l.lo + l.lost ≤ l.i) × (l.lost ≤ many) × (length l.guess ≡ length l.initial.guess)
-
-abbrev pub decreases-loop-i : goal.decreases-loop-i
-decreases-loop-i l = l.n - l.i

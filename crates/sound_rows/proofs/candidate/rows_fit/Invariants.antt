@@ -1,4 +1,4 @@
-use Prim.Native.Nat.{◌-◌, ◌≤◌}
+use Prim.Native.Nat.{◌≤◌}
 use Rattle.words.specs.Words.{recs, words}
 use Rattle.regions.specs.Rows.{row_size, read_row}
 use Rattle.sound_rows.proofs.Decide.{Chain, Walk}
@@ -7,6 +7,3 @@ use Rattle.sound_rows.proofs.candidate.rows_fit.Given as goal
 
 abbrev pub invariant-loop-i : goal.invariant-loop-i
 invariant-loop-i l = (l.i ≤ l.n) × Walk RowStep row_size read_row l.n (words l.s) (Chain RowStep l.initial.p (recs row_size read_row l.n (words l.s))) l.p l.i
-
-abbrev pub decreases-loop-i : goal.decreases-loop-i
-decreases-loop-i l = l.n - l.i

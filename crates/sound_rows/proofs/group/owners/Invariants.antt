@@ -7,6 +7,3 @@ use Rattle.sound_rows.proofs.group.owners.Given as goal
 
 abbrev pub invariant-loop-i : goal.invariant-loop-i
 invariant-loop-i l = (l.from ≤ l.i) × (l.i ≤ l.to) × (l.sum ≤ l.i - l.from) × (l.sum + count_rows owns (rows_in (words l.s) l.i l.to) ≡ count_rows owns (rows_in (words l.s) l.from l.to))
-
-abbrev pub decreases-loop-i : goal.decreases-loop-i
-decreases-loop-i l = l.to - l.i

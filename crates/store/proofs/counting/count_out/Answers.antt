@@ -51,7 +51,7 @@ returns-else-c-eq1 c = λ f so h.
     let k = c.conn_at-c.ensures f d h in
     counted_out f bd d l e _ k c.args.o
     c.if-c-eq1.false
-    (rw (c.less.ensures, c.less-else-c-eq1.ensures) at (c.set_conn.ensures f h))
+    (rw (c.saturating_sub.ensures, c.saturating_sub-else-c-eq1.ensures) at (c.set_conn.ensures f h))
 
 pub returns-else-is_entry : goal.returns-else-is_entry
 returns-else-is_entry c = λ f so h.

@@ -12,7 +12,7 @@ conn_at-c-requires c = (c.requires.0, c.is_entry.ensures.inside c.if-is_entry.tr
 pub overflow_add-d : goal.overflow_add-d
 overflow_add-d c = omega (
   arith,
-  c.less.ensures,
+  c.saturating_sub.ensures,
   light_at c.requires.0
       c.seek_conn-i.result (fresh 0 0) (c.is_entry.ensures.inside
       c.if-is_entry.true) (c.conn_at-c.ensures c.requires.0.flat (fresh 0 0)
@@ -36,7 +36,7 @@ returns-then-is_entry c = λ f so h.
     let k = c.conn_at-c.ensures f d h in
     recounted f bd d l e _ k c.args.o
     c.args.p
-    (rw c.less.ensures at (c.set_conn.ensures f h))
+    (rw c.saturating_sub.ensures at (c.set_conn.ensures f h))
 
 pub returns-else-is_entry : goal.returns-else-is_entry
 returns-else-is_entry c = λ f so h.

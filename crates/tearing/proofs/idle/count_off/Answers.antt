@@ -28,7 +28,7 @@ returns-then-is_entry c = λ f so h.
     ebbed_found f bd d c.args.o l
     (c.is_entry.ensures.is f d h c.if-is_entry.true)
     (c.conn_at-c.ensures f d h)
-    (rw (c.less.ensures, c.less-then-is_entry.ensures) at (c.set_conn.ensures f h))
+    (rw (c.saturating_sub.ensures, c.saturating_sub-then-is_entry.ensures) at (c.set_conn.ensures f h))
 
 pub returns-else-is_entry : goal.returns-else-is_entry
 returns-else-is_entry c = λ f so h.
