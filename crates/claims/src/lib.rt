@@ -33,10 +33,9 @@ fn hand_on(s: &mut [u8], k: ident::Key, clock: u64)
     if let Some(owner) = r.owner {
         let n = owner.connection;
         let mut list = [0; LIST];
-        let m = failing::parents::parents_for(s, k, n, &mut list);
-        let e = m * ident::HASH_BYTES;
+        let parents = failing::parents::parents_for(s, k, n, &mut list);
         let mut kept = [0; KEYS];
-        announcing::parents::announce_parents(s, n, clock, &list[0..e], &mut kept);
+        announcing::parents::announce_parents(s, n, clock, parents, &mut kept);
     }
 }
 

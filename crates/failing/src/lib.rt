@@ -189,12 +189,11 @@ pub fn failed_with_parents(s: &mut [u8], k: ident::Key, n: u64, clock: u64, out:
     ensures { KeysListed s.old s.new out.old out.new result (λ m t. failed_with_parents m (key_num k) n clock t) }
 {
     let mut list = [0; LIST];
-    let m = parents::parents_for(s, k, n, &mut list);
+    let parents = parents::parents_for(s, k, n, &mut list);
     if !failed(s, k, n, clock) {
         return 0;
     }
-    let e = m * ident::HASH_BYTES;
-    announce_behind(s, k, n, clock, &list[0..e], out)
+    announce_behind(s, k, n, clock, parents, out)
 }
 
 // ---- release_package
@@ -225,8 +224,7 @@ pub fn release_package(
         return 0;
     }
     let mut list = [0; LIST];
-    let m = parents::parents_for(s, k, n, &mut list);
+    let parents = parents::parents_for(s, k, n, &mut list);
     leave_both(s, k, n, clock);
-    let e = m * ident::HASH_BYTES;
-    announce_behind(s, k, n, clock, &list[0..e], out)
+    announce_behind(s, k, n, clock, parents, out)
 }

@@ -4,6 +4,8 @@ ghost use Rattle.ident.specs.Words.{hash_bytes, key_num};
 ghost use Rattle.places.specs.Places.{list_most};
 ghost use Rattle.machine.specs.Table.{at};
 ghost use Rattle.machine.specs.Fail as machine;
+ghost use Rattle.machine.specs.Limits.{max_parents};
+ghost use Rattle.lent_lists.specs.Lists.{hashes_in};
 ghost use Rattle.store.specs.Shown.{held_places_in, Kept};
 ghost use Rattle.requests.specs.Changes.{Tells};
 ghost use Rattle.package_stages.specs.Changes.{ReadAt};
@@ -22,8 +24,8 @@ fn copy_parents(s: &[u8], i: usize, list: &mut [u8]) -> usize
     n
 }
 
-// Copies the parents beside the flag or package of the request at k, if n owns it.
-pub fn parents_for(s: &[u8], k: ident::Key, n: u64, list: &mut [u8]) -> usize
+// The same of the parents beside the flag or package of the request at k, if n owns it.
+fn copy_parents_for(s: &[u8], k: ident::Key, n: u64, list: &mut [u8]) -> usize
     requires { Kept s.now × (1 ≤ n) × (hash_bytes * list_most ≤ length list.old) }
     ensures { (result ≤ list_most) × Tells s.now (λ t. first_hashes result list.new ≡ machine.parents_for n (at (key_num k) t)) }
 {
@@ -38,4 +40,14 @@ pub fn parents_for(s: &[u8], k: ident::Key, n: u64, list: &mut [u8]) -> usize
         Ok(i) => copy_parents(s, i, list),
         Err(_) => 0,
     }
+}
+
+// The parents beside the flag or package of the request at k, if n owns it: copied to the front of `list`, 32 bytes each.
+pub fn parents_for<'a>(s: &[u8], k: ident::Key, n: u64, list: &'a mut [u8]) -> &'a [u8]
+    requires { Kept s.now × (1 ≤ n) × (hash_bytes * list_most ≤ length list.old) }
+    ensures { (length (hashes_in result.now) ≤ max_parents) × Tells s.now (λ t. hashes_in result.now ≡ machine.parents_for n (at (key_num k) t)) }
+{
+    let count = copy_parents_for(s, k, n, list);
+    let end = count * ident::HASH_BYTES;
+    &list[0..end]
 }

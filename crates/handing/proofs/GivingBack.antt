@@ -26,7 +26,7 @@ use Rattle.machine.proofs.Kept.{sound-table}
 use Rattle.store.specs.Image.{Writes}
 use Rattle.store.specs.Shown.{Kept}
 use Rattle.requests.specs.Changes.{Makes, Tells}
-use Rattle.failing.specs.Changes.{first_hashes}
+use Rattle.lent_lists.specs.Lists.{hashes_in}
 use Rattle.failing.proofs.Leaving.{told, owner_of_lem, free_other}
 use Rattle.handing.specs.Hands.{readied, eased}
 use Rattle.handing.specs.Hands.{Silent, Waits}
@@ -118,9 +118,10 @@ module _ {b : List ℕ} (n now : ℕ) (k : Key) where
       → Makes b b₁ (λ t. Unit {0}) (eased n now k) → Waits n now k b b₁ true
   waits-eased f g h = record { rests = λ e st s w. inr (f st s w, g st s w (and_left _ _ (f st s w)), h st s w tt); same = λ e. never (sym e); owns = λ e. never (sym e) }
 
-pub no-parents : {p : ℕ} (u : List ℕ) {hs : List ℕ} → p ≡ 0 → first_hashes p u ≡ hs → hs ≡ []
-unfolding recs
-no-parents u e h = sym (sym (ap (λ (j : ℕ). first_hashes j u) e) ∙ h)
+pub no-parents : (u : List ℕ) {hs : List ℕ} → length u ≡ 0 → hashes_in u ≡ hs → hs ≡ []
+unfolding hashes_in recs
+no-parents [] e h = sym h
+no-parents (x ∷ u) e h = absurd (omega arith)
 
 -- ---- nobody else
 

@@ -83,12 +83,11 @@ pub fn drop_owned(s: &mut [u8], k: ident::Key, n: u64, clock: u64, u: &mut [u8],
     ensures { KeysMerged s.old s.new u.old u.new c result (λ m t. drop_at_key m n clock (key_num k) t) }
 {
     let mut list = [0u8; LIST];
-    let p = failing::parents::parents_for(s, k, n, &mut list);
+    let parents = failing::parents::parents_for(s, k, n, &mut list);
     failing::failed(s, k, n, clock);
     let mut conns = [0u8; CONNS];
     let q = copy_conns(s, k, &mut conns);
-    let e = p * ident::HASH_BYTES;
-    announce_each(s, clock, &list[0..e], &conns, q, u, c)
+    announce_each(s, clock, parents, &conns, q, u, c)
 }
 
 // ---- a key that waits to be cut with others
@@ -149,8 +148,7 @@ fn is_childless(s: &[u8], k: ident::Key, n: u64) -> bool
     ensures { result ≡ true → Tells s.now (λ t. parents_for n (at (key_num k) t) ≡ []) }
 {
     let mut list = [0u8; LIST];
-    let p = failing::parents::parents_for(s, k, n, &mut list);
-    p == 0
+    failing::parents::parents_for(s, k, n, &mut list).is_empty()
 }
 
 // Whether the request at k has one candidate.

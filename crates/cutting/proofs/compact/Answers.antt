@@ -8,9 +8,6 @@ use Rattle.cutting.proofs.compact.Goals as goal
 pub loop-i-init : goal.loop-i-init
 loop-i-init c = (compacting_none (words c.args.s.now) c.args.n, refl)
 
-pub keep_row-m-requires : goal.keep_row-m-requires
-keep_row-m-requires c = (c.loop-i.invariant.0.less, omega (arith, c.loop-i.invariant.1, c.loop-i-test.true, c.requires))
-
 pub loop-i-preserved : goal.loop-i-preserved
 loop-i-preserved c = (
   compacting_more none c.loop-i.invariant.0 c.loop-i-test.true c.keep_row-m.ensures,

@@ -6,21 +6,6 @@ use Rattle.store.proofs.Tally.{fresh}
 use Rattle.cutting.proofs.Lessening.{less_some, less_all, less_nothing}
 use Rattle.cutting.proofs.count_less.Goals as goal
 
-pub conn_at-c-requires : goal.conn_at-c-requires
-conn_at-c-requires c = (c.requires, c.is_entry.ensures.inside c.if-is_entry.true)
-
-pub set_conn-requires : goal.set_conn-requires
-set_conn-requires c = (
-  c.requires,
-  c.is_entry.ensures.inside c.if-is_entry.true,
-)
-
-pub drop_conn-requires : goal.drop_conn-requires
-drop_conn-requires c = (
-  c.requires,
-  c.is_entry.ensures.inside c.if-is_entry.true,
-)
-
 pub returns-then-d-c : goal.returns-then-d-c
 returns-then-d-c c = λ f so h.
     let d = fresh 0 0 in

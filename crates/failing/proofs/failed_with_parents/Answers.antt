@@ -1,10 +1,9 @@
 use Prim.Native.Nat.{◌<◌}
 use native.Mathlib.Omega.{arith}
-use mathlib.Core.Path.{refl}
 use Rattle.ident.specs.Words.{key_num}
 use Rattle.ident.proofs.Words.{key-four, hash_below}
 use Rattle.machine.specs.Limits.{word}
-use Rattle.failing.proofs.Handing.{nothing-handed, failed_kept, few_first, room_first, first_are, handed}
+use Rattle.failing.proofs.Handing.{nothing-handed, failed_kept, handed}
 use Rattle.failing.proofs.failed_with_parents.Goals as goal
 
 pub returns-then-not-failed : goal.returns-then-not-failed
@@ -28,14 +27,8 @@ announce_behind-requires c =
           c.failed.ensures
           c.requires.0,
       c.requires.1,
-      few_first _ c.parents_for-m.result _ refl
-          c.parents_for-m.ensures.0
-          (omega (arith, c.parents_for-m.auto)),
-      room_first _ c.parents_for-m.result _ refl
-          c.parents_for-m.ensures.0
-          (omega (arith, c.parents_for-m.auto))
-          c.args.out.now
-          c.requires.2,
+      c.parents_for-parents.ensures.0,
+      omega (arith, c.parents_for-parents.ensures.0, c.requires.2),
     )
 
 pub returns : goal.returns
@@ -54,8 +47,5 @@ returns c =
     c.args.clock v
     c.if-not-failed.false
     c.failed.ensures _
-    (λ st s w. first_are _ c.parents_for-m.result _ refl
-    c.parents_for-m.ensures.0
-    (omega (arith, c.parents_for-m.auto)) _
-    (c.parents_for-m.ensures.1 st s w))
+    c.parents_for-parents.ensures.1
     c.announce_behind.ensures

@@ -1,11 +1,10 @@
 use Prim.Native.Nat.{◌<◌}
 use native.Mathlib.Omega.{arith}
-use mathlib.Core.Path.{refl, sym, ◌∙◌}
+use mathlib.Core.Path.{sym, ◌∙◌}
 use Rattle.ident.specs.Words.{hash_num, key_num}
 use Rattle.ident.proofs.Words.{key-four, hash_below}
 use Rattle.machine.specs.Limits.{word}
 use Rattle.machine.specs.Table.{at}
-use Rattle.failing.proofs.Handing.{few_first, room_first, first_are}
 use Rattle.failing.proofs.Enqueued.{enqueued-owner, nothing_released, released_kept, released_handed}
 use Rattle.failing.proofs.release_package.Goals as goal
 
@@ -36,14 +35,8 @@ announce_behind-requires c =
           c.leave_both.ensures
           c.requires.0,
       c.requires.1,
-      few_first _ c.parents_for-m.result _ refl
-          c.parents_for-m.ensures.0
-          (omega (arith, c.parents_for-m.auto)),
-      room_first _ c.parents_for-m.result _ refl
-          c.parents_for-m.ensures.0
-          (omega (arith, c.parents_for-m.auto))
-          c.args.out.now
-          c.requires.2,
+      c.parents_for-parents.ensures.0,
+      omega (arith, c.parents_for-parents.ensures.0, c.requires.2),
     )
 
 pub returns : goal.returns
@@ -63,8 +56,5 @@ returns c =
     c.from-k.ensures
     (λ st s w. sym (c.enqueued_by.ensures st
     s w) ∙ c.if-not-enqueued_by.false) _
-    (λ st s w. first_are _ c.parents_for-m.result _ refl
-    c.parents_for-m.ensures.0
-    (omega (arith, c.parents_for-m.auto)) _
-    (c.parents_for-m.ensures.1 st s w))
+    c.parents_for-parents.ensures.1
     c.announce_behind.ensures

@@ -1,10 +1,8 @@
 use Prim.Native.Nat.{◌<◌}
 use native.Mathlib.Omega.{arith}
-use mathlib.Core.Path.{refl}
 use Rattle.ident.specs.Words.{key_num}
 use Rattle.ident.proofs.Words.{key-four, hash_below}
 use Rattle.machine.specs.Limits.{word}
-use Rattle.failing.proofs.Handing.{few_first, first_are}
 use Rattle.handing.proofs.Dropping.{drop_kept, drop_peers, drop-room, dropped}
 use borrow.Author.Rules.{rules}
 use Rattle.handing.proofs.drop_owned.Goals as goal
@@ -35,19 +33,13 @@ announce_each-requires c =
           c.args.clock v
           c.failed.ensures
           c.requires.0,
-      few_first _ c.parents_for-p.result _ refl
-          c.parents_for-p.ensures.0
-          (omega (arith, c.parents_for-p.auto)),
+      c.parents_for-parents.ensures.0,
       omega (arith, c.copy_conns-q.ensures.0, c.copy_conns-q.auto),
       drop_peers (key_num c.args.k)
           small c.args.n
           c.args.clock v
           c.failed.ensures
-          c.requires.2 _ (λ st s w. first_are _
-          c.parents_for-p.result _ refl
-          c.parents_for-p.ensures.0
-          (omega (arith, c.parents_for-p.auto)) _
-          (c.parents_for-p.ensures.1 st s w)) _
+          c.requires.2 _ c.parents_for-parents.ensures.1 _
           c.copy_conns-q.ensures.1
           c.requires.0,
       c.requires.3,
@@ -55,11 +47,7 @@ announce_each-requires c =
           small c.args.n
           c.args.clock v
           c.failed.ensures
-          c.requires.2 _ (λ st s w. first_are _
-          c.parents_for-p.result _ refl
-          c.parents_for-p.ensures.0
-          (omega (arith, c.parents_for-p.auto)) _
-          (c.parents_for-p.ensures.1 st s w)) _
+          c.requires.2 _ c.parents_for-parents.ensures.1 _
           c.copy_conns-q.ensures.1
           c.args.u.now
           c.args.c
@@ -72,5 +60,4 @@ returns c =
     let v : c.args.clock < word = omega (arith, c.well_formed.1.1.1.0) in
     let small = hash_below c.args.k.hash (key-four c.args.k c.well_formed.1.0) in
     dropped (key_num c.args.k) small c.args.n c.args.clock v c.failed.ensures
-    c.requires.2 _ (λ st s w. first_are _ c.parents_for-p.result _ refl c.parents_for-p.ensures.0 (omega (arith, c.parents_for-p.auto)) _
-    (c.parents_for-p.ensures.1 st s w)) _ c.copy_conns-q.ensures.1 c.announce_each.ensures
+    c.requires.2 _ c.parents_for-parents.ensures.1 _ c.copy_conns-q.ensures.1 c.announce_each.ensures

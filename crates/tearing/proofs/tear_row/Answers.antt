@@ -1,4 +1,3 @@
-use native.Mathlib.Omega.{arith}
 use mathlib.Core.Path.{refl}
 use Rattle.tearing.proofs.TearingRows.{tear_stays, tear_goes, tear_readies}
 use Rattle.tearing.proofs.tear_row.Goals as goal
@@ -15,16 +14,6 @@ returns-then-r-eq1 c = tear_goes c.args.clock
     c.args.i
     c.row_at-r.ensures c.in-Ok.ensures refl
     c.if-r-eq1.true c.count_off.ensures
-
-pub overflow_add-result-2 : goal.overflow_add-result-2
-overflow_add-result-2 c = omega (
-  arith,
-  c.requires.0.sizes.rows,
-  c.requires.0.sized.rows_few,
-  c.requires.0.sized.limit,
-  c.requires.1,
-  c.requires.2,
-)
 
 pub returns : goal.returns
 returns c = tear_readies c.args.clock

@@ -1,5 +1,4 @@
 use native.Mathlib.Omega.{arith}
-use mathlib.Core.Path.{◌∙◌}
 use Rattle.store.proofs.Frame.{sizes}
 use Rattle.tearing.proofs.TearingRows.{tearing_none, tearing-rows, tearing-shown, tearing_more, tearing-cut, tearing_end}
 use Rattle.tearing.proofs.tear_rows.Goals as goal
@@ -38,10 +37,6 @@ pub drop_idle-requires : goal.drop_idle-requires
 drop_idle-requires c = tearing-cut c.loop-i.invariant c.rows-n.ensures.word
     (omega (arith, c.loop-i-test.false)) c.drop_rows.ensures
     c.requires
-
-pub shape_of-s : goal.shape_of-s
-shape_of-s c = c.drop_idle.auto.s ∙ c.drop_rows.auto.s ∙
-    c.loop-i.invariant.size
 
 pub returns : goal.returns
 returns c = tearing_end c.loop-i.invariant

@@ -7,15 +7,6 @@ use Rattle.store.proofs.Tally.{fresh}
 use Rattle.tearing.proofs.Ebbing.{ebbed_found, ebbed-missing}
 use Rattle.tearing.proofs.idle.count_off.Goals as goal
 
-pub conn_at-c-requires : goal.conn_at-c-requires
-conn_at-c-requires c = (c.requires, c.is_entry.ensures.inside c.if-is_entry.true)
-
-pub set_conn-requires : goal.set_conn-requires
-set_conn-requires c = (
-  c.requires,
-  c.is_entry.ensures.inside c.if-is_entry.true,
-)
-
 pub returns-then-is_entry : goal.returns-then-is_entry
 returns-then-is_entry c = λ f so h.
     let d = fresh 0 0 in

@@ -3,9 +3,6 @@ use native.Mathlib.Omega.{arith}
 use Rattle.tearing.proofs.Sifting.{cutting_none, cutting-shown, cutting-conns, cutting_more, cutting_end}
 use Rattle.tearing.proofs.idle.cut_conns.Goals as goal
 
-pub conns-n-requires : goal.conns-n-requires
-conns-n-requires c = omega (arith, c.requires.0.sizes)
-
 pub loop-n-init : goal.loop-n-init
 loop-n-init c = cutting_none _ c.requires.1 c.conns-n.ensures.word
 
@@ -23,9 +20,6 @@ drop_conn-requires c = (
 pub loop-n-preserved : goal.loop-n-preserved
 loop-n-preserved c = cutting_more c.loop-n.invariant (omega (arith, c.loop-n-test.true))
     c.loop-n-test.true c.drop_conn.auto.s c.drop_conn.ensures
-
-pub shape_of-s : goal.shape_of-s
-shape_of-s c = c.loop-n.invariant.size
 
 pub returns : goal.returns
 returns c = cutting_end c.loop-n.invariant (omega (arith, c.loop-n-test.false))

@@ -1,11 +1,7 @@
 -- `tearing::idle::drop_idle` meets its contract.
 use native.Mathlib.Omega.{arith}
-use mathlib.Core.Path.{◌∙◌}
 use Rattle.tearing.proofs.Sifting.{sifting_none, sifting_shown, sifting_conns, sifting_more, sifting_end}
 use Rattle.tearing.proofs.idle.drop_idle.Goals as goal
-
-pub conns-n-requires : goal.conns-n-requires
-conns-n-requires c = omega (arith, c.requires.sizes)
 
 pub loop-i-init : goal.loop-i-init
 loop-i-init c = sifting_none _
@@ -37,9 +33,6 @@ cut_conns-requires c = (
     c.loop-i.invariant.most,
   ),
 )
-
-pub shape_of-s : goal.shape_of-s
-shape_of-s c = c.cut_conns.auto.s ∙ c.loop-i.invariant.size
 
 pub returns : goal.returns
 returns c = sifting_end c.loop-i.invariant
