@@ -23,16 +23,6 @@ returns-then-not-owned_at c =
     (omega (arith, x, c.if-count-gt-MAX_WTXIDS.false)) c.owned_at.ensures
     c.if-not-owned_at.true
 
-pub claim-requires : goal.claim-requires
-claim-requires c = (
-  c.requires,
-  omega (
-    arith,
-    c.hashes-count.ensures,
-    c.if-count-gt-MAX_WTXIDS.false,
-  ),
-)
-
 pub returns : goal.returns
 returns c =
     let ws = hashes_in c.args.wtxids.now in

@@ -25,22 +25,6 @@ returns-then-hashes-count c = λ h small st s w p.
     other_length (combined_of q.«package») (hash_num c.args.combined) (wtxids_of q.«package») (hashes_in c.args.wtxids.now) x
     (λ e. c.if-hashes-count.true (c.hashes.ensures ∙ sym e ∙ sym (c.wtxids-count.ensures.1 h small st s w p)))
 
-pub loop-j-init : goal.loop-j-init
-loop-j-init c = (omega arith, λ h small st s w p. refl)
-
-pub wtxid_at-a-requires : goal.wtxid_at-a-requires
-wtxid_at-a-requires c = (
-  c.requires.0,
-  c.requires.1,
-  omega (arith, c.loop-j-test.true, c.wtxids-count.ensures.0),
-)
-
-pub hash_in-b-requires : goal.hash_in-b-requires
-hash_in-b-requires c = omega (arith, c.loop-j-test.true, c.if-hashes-count.false, c.hashes.ensures)
-
-pub same_hash-requires-in-loop-j : goal.same_hash-requires-in-loop-j
-same_hash-requires-in-loop-j c = tt
-
 pub returns-then-not-same_hash-2 : goal.returns-then-not-same_hash-2
 returns-then-not-same_hash-2 c = λ h small st s w p.
     let j = c.loop-j.j in

@@ -24,12 +24,6 @@ loop-i-init c =
     let h = c.args.h in
     added_start (hash_num h) (hash_below h (hash-four h c.well_formed.1.0)) _ _
 
-pub occurs_before-requires : goal.occurs_before-requires
-occurs_before-requires c = omega (arith, c.loop-i-test.true, c.hashes-count.ensures)
-
-pub hash_in-p-requires : goal.hash_in-p-requires
-hash_in-p-requires c = omega (arith, c.loop-i-test.true, c.hashes-count.ensures)
-
 pub add_parent-requires : goal.add_parent-requires
 add_parent-requires c =
     let h = c.args.h in
@@ -57,9 +51,6 @@ loop-i-preserved c =
       | else-not-occurs_before w ↦
           added_as w.s-is (added_repeat (hash_num h) small hs v few inside _ refl (sym c.occurs_before.ensures ∙ w.if-not-occurs_before.false))
     ]
-
-pub shape_of-s : goal.shape_of-s
-shape_of-s c = c.loop-i.invariant.long
 
 pub returns : goal.returns
 returns c =

@@ -5,12 +5,6 @@ use Rattle.ident.proofs.Words.{hash-four, hash_below}
 use Rattle.soliciting.proofs.Opening.{owned_kept, owned-place, opened-writes}
 use Rattle.soliciting.proofs.info.own_flagged.Goals as goal
 
-pub overflow_add-clock : goal.overflow_add-clock
-overflow_add-clock c = omega (arith, c.requires.2)
-
-pub own-requires : goal.own-requires
-own-requires c = record { state = c.requires.0.state; sound = c.requires.0.sound; writes = c.requires.0.writes }
-
 pub open_info-requires : goal.open_info-requires
 open_info-requires c =
     let h = c.args.h in

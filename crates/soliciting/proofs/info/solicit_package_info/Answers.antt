@@ -8,17 +8,11 @@ use Rattle.soliciting.proofs.Subject.{subject_below}
 use Rattle.soliciting.proofs.Soliciting.{as_soliciting, solicit-barred, announced_kept, solicit-refused, may-keeps, room_left, opened-keeps, solicit_done}
 use Rattle.soliciting.proofs.info.solicit_package_info.Goals as goal
 
-pub may_own-requires : goal.may_own-requires
-may_own-requires c = c.requires.0
-
 pub returns-then-not-may_own : goal.returns-then-not-may_own
 returns-then-not-may_own c =
     let small = subject_below c.args.subject c.well_formed.1.1.0 in
     solicit-barred c.args.n (hash_num c.args.subject.0) (hashes_in c.args.parents.now) c.args.clock (record { positive = c.requires.1; small = omega arith }) small
     c.requires.2 c.may_own.ensures c.if-not-may_own.true
-
-pub announce_at-requires : goal.announce_at-requires
-announce_at-requires c = c.requires.0
 
 pub holds-requires : goal.holds-requires
 holds-requires c =
