@@ -16,13 +16,12 @@ fn answer_open(store: &mut [u8], lists: &mut [u8], out: &mut [u8], l: u64, q: u6
     requires { Ordered lists.old × (answer_room ≤ length out.old) }
     ensures { Stepped (some (Asks (Open l q))) lists.old lists.new store.old store.new out.old out.new result }
 {
-    let a = public_requests::open(store, l, q);
-    match a {
-        outcome::Answer::Refused(n) => refusal(out, n),
-        outcome::Answer::Number(_) => {
+    match public_requests::open(store, l, q) {
+        Ok(_) => {
             keeping::kept::empty(lists);
             put_bytes(out, 0, b"ok")
         }
+        Err(e) => refusal(out, e),
     }
 }
 

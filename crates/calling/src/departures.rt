@@ -16,11 +16,11 @@ pub fn answer_leaving(store: &mut [u8], out: &mut [u8], v: Values) -> usize
     ensures { Keeping (some (Asks (On (leave_ask (values_of v))))) store.old store.new out.old out.new result }
 {
     let mut answer = printing::buffers::answer_buffer();
-    let a = public_packages::departures::disconnected(store, v.connection, v.clock, &mut answer);
-    match a {
-        outcome::Departure::Refused(n) => refusal(out, n),
-        outcome::Departure::Left(own, parents) => {
-            printing::keys::put_departure(out, &answer, own, (own + parents) as usize)
+    match public_packages::departures::disconnected(store, v.connection, v.clock, &mut answer) {
+        Ok(left) => {
+            let n = (left.own + left.parents) as usize;
+            printing::keys::put_departure(out, &answer, left.own, n)
         }
+        Err(e) => refusal(out, e),
     }
 }

@@ -12,11 +12,12 @@ ghost use Rattle.printing.specs.Answers.{Keeping};
 
 use crate::numbers::key_of;
 use asking::vocabulary::KeysWord;
+use outcome::Refusal;
 use printing::keys::listing;
 use reading::forms::Values;
 use reading::hashes::hash_of;
 
-fn carry_out(store: &mut [u8], w: KeysWord, v: Values, answer: &mut [u8]) -> outcome::Listing
+fn carry_out(store: &mut [u8], w: KeysWord, v: Values, answer: &mut [u8]) -> Result<u64, Refusal>
     requires { answer.old ≡ answer_buffer }
     ensures { LeavesWith (On (keys_ask w (values_of v))) store.old store.new answer.new (listing_of result) }
 {

@@ -15,6 +15,7 @@ ghost use Rattle.printing.specs.Given.{answer_room};
 ghost use Rattle.printing.specs.Answers.{Keeping};
 
 use asking::vocabulary::NumberWord;
+use outcome::Refusal;
 use printing::numbers::{figures, number, refusal};
 use reading::forms::Values;
 use reading::hashes::hash_of;
@@ -23,12 +24,9 @@ pub fn answer_sum(store: &[u8], out: &mut [u8]) -> usize
     requires { answer_room ≤ length out.old }
     ensures { Keeping (some (Asks (On Sum))) store.now store.now out.old out.new result }
 {
-    let a = public_requests::sum(store);
-    match a {
-        outcome::Figures::Refused(n) => refusal(out, n),
-        outcome::Figures::Are(held, free, preferred, permille) => figures(
-            out, held, free, preferred, permille,
-        ),
+    match public_requests::sum(store) {
+        Ok(f) => figures(out, f),
+        Err(e) => refusal(out, e),
     }
 }
 
@@ -55,7 +53,7 @@ pub fn key_of(v: Values) -> ident::Key
     ident::Key { kind, hash }
 }
 
-fn response_completed(store: &mut [u8], v: Values) -> outcome::Answer
+fn response_completed(store: &mut [u8], v: Values) -> Result<u64, Refusal>
     ensures { Leaves (On (TransactionResponseCompleted v.connection (quad_number v.hash) (quad_number v.combined) v.clock)) store.old store.new (reply_of result) }
 {
     let x = ident::Txid(hash_of(v.hash));
@@ -63,7 +61,7 @@ fn response_completed(store: &mut [u8], v: Values) -> outcome::Answer
     public_plans::wrappers::transaction_response_completed(store, v.connection, x, w, v.clock)
 }
 
-fn carry_out(store: &mut [u8], w: NumberWord, v: Values) -> outcome::Answer
+fn carry_out(store: &mut [u8], w: NumberWord, v: Values) -> Result<u64, Refusal>
     ensures { Leaves (On (number_ask w (values_of v))) store.old store.new (reply_of result) }
 {
     let key = key_of(v);

@@ -6,18 +6,19 @@ ghost use Rattle.public_plans.specs.Ownership.{owners_of};
 ghost use Rattle.asking.specs.Calls.{owners_buffer};
 ghost use Rattle.printing.specs.Given.{answer_room, OwnersFit, ReplyPrinted, Carried};
 
+use outcome::Refusal;
 use printing::buffers::owners_buffer;
 use printing::holdings::put_owners;
 use printing::numbers::refusal;
 
 // A refusal, or the owners of an answer.
-fn listing(out: &mut [u8], answer: &[u8], hashes: &[u8], a: outcome::Listing) -> usize
+fn listing(out: &mut [u8], answer: &[u8], hashes: &[u8], a: Result<u64, Refusal>) -> usize
     requires { (answer_room ≤ length out.old) × OwnersFit (owners_of (hashes_in hashes.now) a answer.now) answer.now }
     ensures { ReplyPrinted out.old out.new (owners_of (hashes_in hashes.now) a answer.now) result }
 {
     match a {
-        outcome::Listing::Refused(n) => refusal(out, n),
-        outcome::Listing::Listed(n) => put_owners(out, answer, hashes, n),
+        Ok(n) => put_owners(out, answer, hashes, n),
+        Err(e) => refusal(out, e),
     }
 }
 

@@ -2,32 +2,24 @@
 use Prim.Native.Nat.{ℕ, zero, suc}
 use mathlib.Core.Path.{◌≡◌, refl}
 use mathlib.Core.List.{List}
-use native.Mathlib.Omega.{arith}
-use Rattle.store.specs.Image.{SoundStore}
+use Rattle.std.specs.Prelude.{Result, Ok, Err}
+use Rattle.outcome.specs.declared.refusal.Refusal.{Refusal}
+use Rattle.outcome.specs.Refusals.{number_of, refusal_in}
+use Rattle.outcome.proofs.Turns.{never_none}
 use Rattle.public_requests.specs.declared.Counts.{Counts}
-use Rattle.public_requests.specs.declared.Counts.TheVariants.{Refused, Are}
-use Rattle.public_requests.specs.Counting.{CountsOf}
-use Rattle.crossing.specs.Counts.{counts_status, announced_out, owned_out, HandsCounts}
+use Rattle.public_requests.specs.Counting.{Refused, counts_of, CountsOf}
+use Rattle.crossing.specs.Counts.{announced_out, owned_out, counts_said, HandsCounts}
+use Rattle.crossing.proofs.Statuses.{stays}
 
--- ---- a refusal's number is not 0
+-- a refusal's number is not 0
+some_said : (k a o : ℕ) → (k ≡ 0 → ⊥) → counts_said k a o ≡ Refused k
+some_said zero a o h = absurd (h refl)
+some_said (suc k) a o h = refl
 
-not_refused : (a o : ℕ) → Refused 0 ≡ Are a o → ⊥
-not_refused a o e = let z : ◌≡◌ {A = ℕ} 0 1 = cc in omega arith
+refused-said : (e : Refusal) (a o : ℕ) → counts_said (number_of e) a o ≡ Refused (number_of e)
+refused-said e a o = some_said (number_of e) a o (never_none e)
 
-other_number : (k : ℕ) → Refused 0 ≡ Refused (suc k) → ⊥
-other_number k e = let z : 0 ≡ suc k = cc in omega arith
-
-sound_denied : {b : List ℕ} (n : ℕ) → CountsOf b n (Refused 0) → SoundStore b → ⊥
-sound_denied zero d w = other_number 3 (d.nobody w refl)
-sound_denied (suc n) d w = not_refused _ _ (d.told w (λ e. omega (arith, e)))
-
-refused-zero : {b : List ℕ} (n : ℕ) → CountsOf b n (Refused 0) → ⊥
-refused-zero n d = other_number 2 (d.unsound (sound_denied n d))
-
--- ---- handed out
-
-pub hands-counts : (n : ℕ) (c : Counts) (was was' : ℕ) {b : List ℕ} {r a o : ℕ} → CountsOf b n c → (r ≡ counts_status c) × (a ≡ announced_out c was) × (o ≡ owned_out c was')
-    → HandsCounts b n r was a was' o
-hands-counts n (Refused zero) was was' d e = absurd (refused-zero n d)
-hands-counts n (Refused (suc k)) was was' d e = rw (e.0, e.1, e.2) (d, refl, refl)
-hands-counts n (Are a o) was was' d e = rw (e.0, e.1, e.2) (d, tt, tt)
+pub hands-counts : (n : ℕ) (c : Result Counts Refusal) (was was' : ℕ) {b : List ℕ} {r a o : ℕ} → CountsOf b n (counts_of c)
+    → (r ≡ refusal_in c) × (a ≡ announced_out c was) × (o ≡ owned_out c was') → HandsCounts b n r was a was' o
+hands-counts n (Err x) was was' d e = rw (e.0, e.1, e.2) (rw (refused-said x was was') d, stays (number_of x) was, stays (number_of x) was')
+hands-counts n (Ok c) was was' d e = rw (e.0, e.1, e.2) (d, tt, tt)

@@ -1,26 +1,19 @@
 -- What the numbers of the exported `counts` say.
-use Rattle.std.specs.Prelude.{ℕ, zero, suc, List}
+use Rattle.std.specs.Prelude.{ℕ, zero, suc, List, Result}
+use Rattle.outcome.specs.declared.refusal.Refusal.{Refusal}
 use Rattle.public_requests.specs.declared.Counts.{Counts}
-use Rattle.public_requests.specs.declared.Counts.TheVariants.{Refused, Are}
-use Rattle.public_requests.specs.Counting.{CountsOf}
-use Rattle.crossing.specs.Status.{Stays}
+use Rattle.public_requests.specs.Counting.{Counted, Refused, Are, CountsOf}
+use Rattle.crossing.specs.Status.{handed, Stays}
 
--- the status of an answer
-abbrev pub counts_status : Counts → ℕ
-counts_status (Refused n) = n
-counts_status (Are announced owned) = 0
+-- the numbers that an answer hands out; refused, what stood there stays
+abbrev pub announced_out : Result Counts Refusal → ℕ → ℕ
+announced_out a was = handed (λ (c : Counts). c.announced) a was
 
--- the numbers that it hands out; refused, what stood there stays
-abbrev pub announced_out : Counts → ℕ → ℕ
-announced_out (Refused n) was = was
-announced_out (Are announced owned) was = announced
-
-abbrev pub owned_out : Counts → ℕ → ℕ
-owned_out (Refused n) was = was
-owned_out (Are announced owned) was = owned
+abbrev pub owned_out : Result Counts Refusal → ℕ → ℕ
+owned_out a was = handed (λ (c : Counts). c.owned) a was
 
 -- the answer of a status, and of what was handed out
-abbrev pub counts_said : ℕ → ℕ → ℕ → Counts
+abbrev pub counts_said : ℕ → ℕ → ℕ → Counted
 counts_said zero announced owned = Are announced owned
 counts_said (suc k) announced owned = Refused (suc k)
 

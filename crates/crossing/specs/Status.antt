@@ -1,68 +1,56 @@
 -- What the numbers of an exported call say, in document 01's numbers and values.
-use Rattle.std.specs.Prelude.{ℕ, zero, suc, ◌≡◌, List}
+use Rattle.std.specs.Prelude.{ℕ, zero, suc, ◌≡◌, List, Result, Ok, Err, unwrap_or}
 use Rattle.machine.specs.Call.{Buffer, Call}
 use Rattle.machine.specs.Step.{Reply, Refused, Number, Summed}
-use Rattle.outcome.specs.declared.Answer.{Answer}
-use Rattle.outcome.specs.declared.Answer.TheVariants.{Refused as No, Number as Yes}
-use Rattle.outcome.specs.declared.Listing.{Listing}
-use Rattle.outcome.specs.declared.Listing.TheVariants.{Refused as NoKeys, Listed}
+use Rattle.outcome.specs.declared.refusal.Refusal.{Refusal}
+use Rattle.outcome.specs.declared.Figures.{Figures}
 use Rattle.outcome.specs.declared.Departure.{Departure}
-use Rattle.outcome.specs.declared.Departure.TheVariants.{Refused as NotLeft, Left as LeftKeys}
 use Rattle.outcome.specs.Outcome.{Leaves, LeavesWith}
 use Rattle.outcome.specs.Reply.{keys_listed, left_listed, text_listed}
 use Rattle.public_plans.specs.Entries.{entries_listed, chosen_listed}
 use Rattle.public_plans.specs.Ownership.{owners_listed}
 use Rattle.public_plans.specs.declared.Selection.{Selection}
-use Rattle.public_plans.specs.declared.Selection.TheVariants.{Refused as NoPlan, Chosen}
 
--- the status of an answer
-abbrev pub status_of : Answer → ℕ
-status_of (No n) = n
-status_of (Yes n) = 0
+-- The status of an answer is its refusal's number, or 0: `refusal_in` (crates/outcome, specs/Refusals).
 
--- the number that an answer hands out; refused, what stood there stays
-abbrev pub handed_out : Answer → ℕ → ℕ
-handed_out (No n) was = was
-handed_out (Yes n) was = n
+-- the number f of what an answer tells; refused, what stood there stays
+abbrev pub handed : {T : Type 0} → (T → ℕ) → Result T Refusal → ℕ → ℕ
+handed f (Err r) was = was
+handed f (Ok x) was = f x
 
--- the same of an answer that lists keys or entries, or is a text: their count, its length
-abbrev pub listing_status : Listing → ℕ
-listing_status (NoKeys n) = n
-listing_status (Listed n) = 0
+-- an answer that is a number, or a count of keys or entries, or a text's length
+abbrev pub handed_out : Result ℕ Refusal → ℕ → ℕ
+handed_out a was = handed (λ (n : ℕ). n) a was
 
-abbrev pub count_out : Listing → ℕ → ℕ
-count_out (NoKeys n) was = was
-count_out (Listed n) was = n
+-- sum: its four figures
+abbrev pub held_out : Result Figures Refusal → ℕ → ℕ
+held_out a was = handed (λ (f : Figures). f.held) a was
 
--- and of a connection that left: the count of its own keys, and that of its parents'
-abbrev pub departure_status : Departure → ℕ
-departure_status (NotLeft n) = n
-departure_status (LeftKeys own parents) = 0
+abbrev pub free_out : Result Figures Refusal → ℕ → ℕ
+free_out a was = handed (λ (f : Figures). f.free) a was
 
-abbrev pub own_out : Departure → ℕ → ℕ
-own_out (NotLeft n) was = was
-own_out (LeftKeys own parents) was = own
+abbrev pub preferred_out : Result Figures Refusal → ℕ → ℕ
+preferred_out a was = handed (λ (f : Figures). f.free_preferred) a was
 
-abbrev pub parents_out : Departure → ℕ → ℕ
-parents_out (NotLeft n) was = was
-parents_out (LeftKeys own parents) was = parents
+abbrev pub permille_out : Result Figures Refusal → ℕ → ℕ
+permille_out a was = handed (λ (f : Figures). f.permille) a was
 
--- and of a plan: the count of keys considered, that of the entries, and when to look again, 0 standing for none
-abbrev pub planned_status : Selection → ℕ
-planned_status (NoPlan n) = n
-planned_status (Chosen k n x) = 0
+-- a connection that left: the count of its own keys, and that of its parents'
+abbrev pub own_out : Result Departure Refusal → ℕ → ℕ
+own_out a was = handed (λ (d : Departure). d.own) a was
 
-abbrev pub considered_out : Selection → ℕ → ℕ
-considered_out (NoPlan n) was = was
-considered_out (Chosen k n x) was = k
+abbrev pub parents_out : Result Departure Refusal → ℕ → ℕ
+parents_out a was = handed (λ (d : Departure). d.parents) a was
 
-abbrev pub chosen_out : Selection → ℕ → ℕ
-chosen_out (NoPlan n) was = was
-chosen_out (Chosen k n x) was = n
+-- a plan: the count of keys considered, that of the entries, and when to look again, 0 standing for none
+abbrev pub considered_out : Result Selection Refusal → ℕ → ℕ
+considered_out a was = handed (λ (p : Selection). p.considered) a was
 
-abbrev pub next_out : Selection → ℕ → ℕ
-next_out (NoPlan n) was = was
-next_out (Chosen k n x) was = x
+abbrev pub chosen_out : Result Selection Refusal → ℕ → ℕ
+chosen_out a was = handed (λ (p : Selection). p.chosen) a was
+
+abbrev pub next_out : Result Selection Refusal → ℕ → ℕ
+next_out a was = handed (λ (p : Selection). unwrap_or p.next 0) a was
 
 -- the reply of a status, and of what was handed out: r, if the call was carried out
 abbrev pub told : ℕ → Reply → Reply

@@ -3,94 +3,96 @@
 #![tactic(auto)]
 
 ghost use Rattle.std.specs.Prelude.{◌≡◌};
-ghost use Rattle.crossing.specs.Status.{status_of, handed_out, listing_status, count_out, departure_status, own_out, parents_out, planned_status, considered_out, chosen_out, next_out};
-ghost use Rattle.crossing.specs.Counts.{counts_status, announced_out, owned_out};
+ghost use Rattle.outcome.specs.Refusals.{refusal_in};
+ghost use Rattle.crossing.specs.Status.{handed_out, held_out, free_out, preferred_out, permille_out, own_out, parents_out, considered_out, chosen_out, next_out};
+ghost use Rattle.crossing.specs.Counts.{announced_out, owned_out};
 ghost use Rattle.crossing.specs.Payloads.{answer_status, answer_out};
+
+use outcome::{Departure, Figures, Refusal};
+use public_plans::Selection;
+use public_requests::Counts;
 
 pub mod arguments;
 
 // The status of an answer.
-pub fn status(a: outcome::Answer) -> u64
-    ensures { result ≡ status_of a }
+pub fn status(a: Result<u64, Refusal>) -> u64
+    ensures { result ≡ refusal_in a }
 {
     match a {
-        outcome::Answer::Refused(n) => n,
-        outcome::Answer::Number(_) => 0,
+        Ok(_) => 0,
+        Err(refusal) => u64::from(refusal),
     }
 }
 
-// The same, and the number of a reply handed out.
-pub fn hand_out(a: outcome::Answer, reply: &mut u64) -> u64
-    ensures { (result ≡ status_of a) × (reply.new ≡ handed_out a reply.old) }
+// The same, and the reply handed out: a number, or how many keys, entries or bytes stand in the answer buffer.
+pub fn hand_out(a: Result<u64, Refusal>, reply: &mut u64) -> u64
+    ensures { (result ≡ refusal_in a) × (reply.new ≡ handed_out a reply.old) }
 {
     match a {
-        outcome::Answer::Refused(refusal) => refusal,
-        outcome::Answer::Number(n) => {
+        Ok(n) => {
             *reply = n;
             0
         }
+        Err(refusal) => u64::from(refusal),
     }
 }
 
-// The same of an answer that lists keys or entries, or is a text: their count, or its length, is handed out.
-pub fn hand_count(l: outcome::Listing, count: &mut u64) -> u64
-    ensures { (result ≡ listing_status l) × (count.new ≡ count_out l count.old) }
+// The same of sum's figures.
+pub fn hand_figures(a: Result<Figures, Refusal>, held: &mut u64, free: &mut u64, preferred_free: &mut u64, permille: &mut u64) -> u64
+    ensures { (result ≡ refusal_in a) × (held.new ≡ held_out a held.old) × (free.new ≡ free_out a free.old) × (preferred_free.new ≡ preferred_out a preferred_free.old) × (permille.new ≡ permille_out a permille.old) }
 {
-    match l {
-        outcome::Listing::Refused(refusal) => refusal,
-        outcome::Listing::Listed(n) => {
-            *count = n;
+    match a {
+        Ok(figures) => {
+            *held = figures.held;
+            *free = figures.free;
+            *preferred_free = figures.free_preferred;
+            *permille = figures.permille;
             0
         }
+        Err(refusal) => u64::from(refusal),
     }
 }
 
 // The same of a connection that left: the counts of its own keys and of its parents' are handed out.
-pub fn hand_departure(d: outcome::Departure, own: &mut u64, parents: &mut u64) -> u64
-    ensures { (result ≡ departure_status d) × (own.new ≡ own_out d own.old) × (parents.new ≡ parents_out d parents.old) }
+pub fn hand_departure(a: Result<Departure, Refusal>, own: &mut u64, parents: &mut u64) -> u64
+    ensures { (result ≡ refusal_in a) × (own.new ≡ own_out a own.old) × (parents.new ≡ parents_out a parents.old) }
 {
-    match d {
-        outcome::Departure::Refused(refusal) => refusal,
-        outcome::Departure::Left(a, b) => {
-            *own = a;
-            *parents = b;
+    match a {
+        Ok(left) => {
+            *own = left.own;
+            *parents = left.parents;
             0
         }
+        Err(refusal) => u64::from(refusal),
     }
 }
 
-// The same of a plan: the counts of keys considered and of entries are handed out, and when to look again.
-pub fn hand_plan(
-    p: public_plans::Selection,
-    considered: &mut u64,
-    count: &mut u64,
-    next: &mut u64,
-) -> u64
-    ensures { (result ≡ planned_status p) × (considered.new ≡ considered_out p considered.old) × (count.new ≡ chosen_out p count.old)
-        × (next.new ≡ next_out p next.old) }
+// The same of a plan: the counts of keys considered and of entries are handed out, and when to look again, 0 for no time.
+pub fn hand_plan(a: Result<Selection, Refusal>, considered: &mut u64, count: &mut u64, next: &mut u64) -> u64
+    ensures { (result ≡ refusal_in a) × (considered.new ≡ considered_out a considered.old) × (count.new ≡ chosen_out a count.old) × (next.new ≡ next_out a next.old) }
 {
-    match p {
-        public_plans::Selection::Refused(refusal) => refusal,
-        public_plans::Selection::Chosen(k, n, x) => {
-            *considered = k;
-            *count = n;
-            *next = x;
+    match a {
+        Ok(plan) => {
+            *considered = plan.considered;
+            *count = plan.chosen;
+            *next = plan.next.unwrap_or(0);
             0
         }
+        Err(refusal) => u64::from(refusal),
     }
 }
 
 // The same of a connection's counts.
-pub fn hand_counts(c: public_requests::Counts, announced: &mut u64, owned: &mut u64) -> u64
-    ensures { (result ≡ counts_status c) × (announced.new ≡ announced_out c announced.old) × (owned.new ≡ owned_out c owned.old) }
+pub fn hand_counts(a: Result<Counts, Refusal>, announced: &mut u64, owned: &mut u64) -> u64
+    ensures { (result ≡ refusal_in a) × (announced.new ≡ announced_out a announced.old) × (owned.new ≡ owned_out a owned.old) }
 {
-    match c {
-        public_requests::Counts::Refused(refusal) => refusal,
-        public_requests::Counts::Are(a, o) => {
-            *announced = a;
-            *owned = o;
+    match a {
+        Ok(counts) => {
+            *announced = counts.announced;
+            *owned = counts.owned;
             0
         }
+        Err(refusal) => u64::from(refusal),
     }
 }
 

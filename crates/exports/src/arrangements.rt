@@ -6,7 +6,7 @@ ghost use Rattle.claiming.specs.Claiming.{entries_in};
 ghost use Rattle.public_plans.specs.Parts.{PartIs};
 ghost use Rattle.crossing.specs.Status.{HandsEntries};
 
-use crossing::hand_count;
+use crossing::hand_out;
 
 // What a claim has taken, given in 112 bytes an entry, stands in the answer by ascending connection, then claim order: so many as `count` says. A t item of a
 // marked request turns v for a witness connection: those of the list, which has 8 bytes for each, least first. The store is only read.
@@ -22,7 +22,7 @@ pub extern "C" fn tracker_arrange(
         s.now s.now answer.new result count.old count.new }
 {
     let l = public_plans::arrangements::arrange(s, witnesses, taken, answer);
-    hand_count(l, count)
+    hand_out(l, count)
 }
 
 // One connection's part of an arranged list, which is given in 112 bytes an entry: `count` entries from the entry `first` on. Of a list that is not arranged it is

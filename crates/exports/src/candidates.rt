@@ -5,7 +5,7 @@ ghost use Rattle.crossing.specs.Arguments.{candidate_in};
 ghost use Rattle.crossing.specs.Status.{HandsOut, HandsKeys};
 
 use crossing::arguments::candidate;
-use crossing::{hand_count, hand_out};
+use crossing::hand_out;
 
 // A connection can deliver an item. The reply is 1 if it is kept.
 #[unsafe(no_mangle)]
@@ -61,5 +61,5 @@ pub extern "C" fn tracker_announce_parents(
         s.old s.new answer.new result count.old count.new }
 {
     let l = public_requests::candidates::announce_parents(s, connection, parents, clock, answer);
-    hand_count(l, count)
+    hand_out(l, count)
 }

@@ -5,7 +5,7 @@ ghost use Rattle.crossing.specs.Arguments.{key_given};
 ghost use Rattle.crossing.specs.Status.{numbered, HandsOut, HandsKeys};
 
 use crossing::arguments::key_given;
-use crossing::{hand_count, hand_out, status};
+use crossing::{hand_out, status};
 
 // The owner of the request at the key failed to deliver. The reply is 0 unless the connection owns it and its package is not Enqueued.
 #[unsafe(no_mangle)]
@@ -41,7 +41,7 @@ pub extern "C" fn tracker_failed_with_parents(
 {
     let k = key_given(kind, hash);
     let l = public_requests::failures::failed_with_parents(s, k, connection, clock, answer);
-    hand_count(l, count)
+    hand_out(l, count)
 }
 
 // The owner gives the request back and stays a candidate. Carried out, it replies 1.

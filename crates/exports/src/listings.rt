@@ -3,7 +3,7 @@ ghost use Rattle.machine.specs.Call.{Restore, On, Save};
 ghost use Rattle.outcome.specs.Outcome.{Leaves};
 ghost use Rattle.crossing.specs.Status.{numbered, HandsText};
 
-use crossing::{hand_count, status};
+use crossing::{hand_out, status};
 
 // The listing of the tracker's state, in the answer: so many bytes as `written` says. The store is only read.
 #[unsafe(no_mangle)]
@@ -11,7 +11,7 @@ pub extern "C" fn tracker_save(s: &[u8], answer: &mut [u8], written: &mut u64) -
     ensures { HandsText (On (Save answer.old)) s.now s.now answer.new result written.old written.new }
 {
     let l = public_listings::save(s, answer);
-    hand_count(l, written)
+    hand_out(l, written)
 }
 
 // Makes the store the tracker that the text lists. It takes any store that is long enough, whose old bytes are not looked at; bytes past the need stay.

@@ -3,7 +3,7 @@ ghost use Rattle.machine.specs.Call.{On, OwnersOf};
 ghost use Rattle.lent_lists.specs.Lists.{hashes_in};
 ghost use Rattle.crossing.specs.Status.{HandsOwners};
 
-use crossing::hand_count;
+use crossing::hand_out;
 
 // Who owns each of up to 1,024 hashes, which are given in strictly ascending order, 32 bytes each: the kind (0 nobody, 1 Txid, 2 Wtxid), the connection and the deadline
 // stand in the answer, 8 bytes each, least first. So many held keys as `passed` says have a hash that is not above the greatest of them. The store is only read.
@@ -18,5 +18,5 @@ pub extern "C" fn tracker_owners_of(
         s.now s.now answer.new result passed.old passed.new }
 {
     let l = public_plans::ownership::owners_of(s, hashes, answer);
-    hand_count(l, passed)
+    hand_out(l, passed)
 }

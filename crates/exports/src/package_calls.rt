@@ -4,7 +4,7 @@ ghost use Rattle.lent_lists.specs.Lists.{hashes_in};
 ghost use Rattle.crossing.specs.Arguments.{hash_given};
 ghost use Rattle.crossing.specs.Status.{HandsOut, HandsKeys};
 
-use crossing::{hand_count, hand_out};
+use crossing::hand_out;
 
 // The connection is asked for the package info of the transaction with that wtxid, whose parents are given in 32 bytes each. The reply is 0 if the hash is owned, if
 // the connection owns 100 requests, or if it is no candidate and is not kept as one.
@@ -87,5 +87,5 @@ pub extern "C" fn tracker_release_package(
 {
     let subject = ident::Wtxid(ident::Hash::from(hash));
     let l = public_packages::package_calls::release_package(s, connection, subject, clock, answer);
-    hand_count(l, count)
+    hand_out(l, count)
 }

@@ -3,7 +3,7 @@ ghost use Rattle.machine.specs.Call.{On, FailedPackageClaims, TeardownPackageCla
 ghost use Rattle.lent_lists.specs.Lists.{hashes_in};
 ghost use Rattle.crossing.specs.Status.{HandsOut, HandsKeys};
 
-use crossing::{hand_count, hand_out};
+use crossing::hand_out;
 
 // The claims of the connection whose packages have one of the combined hashes, which are given in 32 bytes each, have failed; of two with one hash, that at the
 // greater key. Their keys stand in the answer, each followed by those of its parents that are kept: so many as `count` says.
@@ -22,7 +22,7 @@ pub extern "C" fn tracker_failed_package_claims(
     let l = public_packages::package_claims::failed_package_claims(
         s, connection, combined, clock, answer,
     );
-    hand_count(l, count)
+    hand_out(l, count)
 }
 
 // Every package goes, whatever its phase, and its owner leaves the request. `count` says how many went.

@@ -5,7 +5,7 @@ ghost use Rattle.claiming.specs.Claiming.{entries_in};
 ghost use Rattle.selecting.specs.Phasing.{given_keys};
 ghost use Rattle.crossing.specs.Status.{HandsEntries, HandsPlan};
 
-use crossing::{hand_count, hand_plan};
+use crossing::{hand_out, hand_plan};
 
 // Takes, in order, each entry of the checked list, which is given in 112 bytes each, whose hash is unowned and that is still what plan would choose for it. Those
 // that are taken stand in the answer: so many as `taken` says.
@@ -21,7 +21,7 @@ pub extern "C" fn tracker_claim(
         s.old s.new answer.new result taken.old taken.new }
 {
     let l = public_plans::plans::claim(s, clock, checked, answer);
-    hand_count(l, taken)
+    hand_out(l, taken)
 }
 
 // Plans over all keys after the ready cursor and round to it. What it selects stands in the answer in 112 bytes an entry: so many as `count` says, of as many keys

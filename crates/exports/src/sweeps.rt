@@ -2,7 +2,7 @@
 ghost use Rattle.machine.specs.Call.{On, Sweep, PollGate};
 ghost use Rattle.crossing.specs.Status.{HandsOut, HandsKeys};
 
-use crossing::{hand_count, hand_out};
+use crossing::hand_out;
 
 // The next keys after the known cursor, which becomes the last of them. They stand in the answer: so many as `count` says.
 #[unsafe(no_mangle)]
@@ -10,7 +10,7 @@ pub extern "C" fn tracker_sweep(s: &mut [u8], answer: &mut [u8], count: &mut u64
     ensures { HandsKeys (On (Sweep answer.old)) s.old s.new answer.new result count.old count.new }
 {
     let l = public_requests::sweeps::sweep(s, answer);
-    hand_count(l, count)
+    hand_out(l, count)
 }
 
 // Whether a poll is due. If the reply is 1, the next one is 100 milliseconds later.

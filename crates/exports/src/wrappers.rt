@@ -5,7 +5,7 @@ ghost use Rattle.outcome.specs.Outcome.{Leaves};
 ghost use Rattle.crossing.specs.Arguments.{hash_given};
 ghost use Rattle.crossing.specs.Status.{numbered, HandsKeys};
 
-use crossing::{hand_count, status};
+use crossing::{hand_out, status};
 
 // The connection announces the items, which are given in 40 bytes each, with the priorities beside them in 8; the shorter list decides. source: a wtxid source exists.
 // Carried out, it replies 1.
@@ -60,5 +60,5 @@ pub extern "C" fn tracker_transaction_not_found(
         s.old s.new answer.new result count.old count.new }
 {
     let l = public_plans::wrappers::transaction_not_found(s, connection, items, clock, answer);
-    hand_count(l, count)
+    hand_out(l, count)
 }

@@ -21,10 +21,9 @@ use Rattle.store.specs.Read.{state_of}
 use Rattle.claiming.specs.Claiming.{entries_from, entries_in}
 use Rattle.sending.proofs.Arranged.{arrange-sorted}
 use Rattle.outcome.specs.Outcome.{Effect, Does}
-use Rattle.outcome.specs.declared.Listing.{Listing}
-use Rattle.outcome.specs.declared.Listing.TheVariants.{Listed}
+use Rattle.std.specs.Prelude.{Result, Ok}
+use Rattle.outcome.specs.declared.refusal.Refusal.{Refusal}
 use Rattle.public_plans.specs.declared.Selection.{Selection}
-use Rattle.public_plans.specs.declared.Selection.TheVariants.{Chosen as Selected}
 use Rattle.public_plans.specs.Entries.{entries_of, planned_of}
 use Rattle.public_plans.specs.Parts.{connections_in, PartIs}
 use Rattle.public_plans.proofs.Entered.{length_from, length-entries}
@@ -62,11 +61,11 @@ module _ {u : Buffer} {n : ℕ} where
       let k : length (answer_bytes y) ≡ entry_bytes * n = ap length e ∙ length-entries_answer (entries_from u 0 n) ∙ ap (◌*◌ entry_bytes) (length_from u 0 n) in
       (omega (arith, f.long, f.fits, k), omega (arith, f.fits, k))
 
-  pub entries_fit : {a : Listing} → a ≡ Listed n → Listable (entries_of a u) u → (n ≤ most_entries) × (entry_bytes * n ≤ length u)
-  entries_fit {a} e f = fit_in (entries_of a u) (ap (λ (x : Listing). answer_bytes (entries_of x u)) e) f
+  pub entries_fit : {a : Result ℕ Refusal} → a ≡ Ok n → Listable (entries_of a u) u → (n ≤ most_entries) × (entry_bytes * n ≤ length u)
+  entries_fit {a} e f = fit_in (entries_of a u) (ap (λ (x : Result ℕ Refusal). answer_bytes (entries_of x u)) e) f
 
-  pub selection-fits : {a : Selection} {k x : ℕ} → a ≡ Selected k n x → Listable (planned_of a u) u → (n ≤ most_entries) × (entry_bytes * n ≤ length u)
-  selection-fits {a} e f = fit_in (planned_of a u) (ap (λ (x : Selection). answer_bytes (planned_of x u)) e) f
+pub selection-fits : {u : Buffer} {p : Selection} {a : Result Selection Refusal} → a ≡ Ok p → Listable (planned_of a u) u → (p.chosen ≤ most_entries) × (entry_bytes * p.chosen ≤ length u)
+selection-fits {u} {p} {a} e f = fit_in (planned_of a u) (ap (λ (x : Result Selection Refusal). answer_bytes (planned_of x u)) e) f
 
 module _ {p out out' : List ℕ} {y : Reply} {r : ℕ} where
   pub entries-refused : {n : ℕ} → Fits p → y ≡ Refused n → Printed out out' (refusal_text n) r → KeptReply p (entries_or (list_in p) y) out out' y r

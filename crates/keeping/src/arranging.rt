@@ -17,11 +17,12 @@ ghost use Rattle.keeping.specs.Lists.{list_in, Fits, Ordered};
 ghost use Rattle.keeping.specs.Steps.{Stepped};
 
 use crate::kept::{ENTRY, LIST};
+use outcome::Refusal;
 use printing::buffers::answer_buffer;
 use printing::numbers::{refusal, unreadable};
 
 // Arranges the entries of a list.
-fn arrange_list(store: &[u8], witnesses: &[u8], list: &[u8], answer: &mut [u8]) -> outcome::Listing
+fn arrange_list(store: &[u8], witnesses: &[u8], list: &[u8], answer: &mut [u8]) -> Result<u64, Refusal>
     requires { Fits list.now }
     ensures { LeavesWith (On (Arrange (words witnesses.now) (list_in list.now) answer.old)) store.now store.now
         answer.new (entries_of result) }
@@ -70,10 +71,10 @@ pub fn answer_part(store: &[u8], lists: &[u8], out: &mut [u8], connection: u64) 
     ensures { Stepped (some (Part connection)) lists.now lists.now store.now store.now out.old out.new result }
 {
     if !sound::sound(store) {
-        return refusal(out, outcome::refusals::UNSOUND_STORE);
+        return refusal(out, Refusal::NotSound);
     }
     if connection == 0 {
-        return refusal(out, outcome::refusals::NO_CONNECTION);
+        return refusal(out, Refusal::NoConnection);
     }
     put_part(out, &lists[2 * LIST..3 * LIST], connection)
 }

@@ -8,7 +8,7 @@ ghost use Rattle.keeping.specs.Lists.{count_in, list_in, list_bytes, kept_bytes,
 ghost use Rattle.printing.specs.Kept.{chosen_or, entries_or};
 ghost use Rattle.keeping.specs.Steps.{Listable, KeptReply};
 
-use outcome::Listing;
+use outcome::Refusal;
 use printing::numbers::refusal;
 use public_plans::Selection;
 
@@ -50,31 +50,32 @@ pub fn empty(lists: &mut [u8])
 }
 
 // The reply of a take or of an arrangement as text. Entries that it lists become the list.
-pub fn keep_entries(list: &mut [u8], out: &mut [u8], answer: &[u8], a: Listing) -> usize
+pub fn keep_entries(list: &mut [u8], out: &mut [u8], answer: &[u8], a: Result<u64, Refusal>) -> usize
     requires { Fits list.old × (answer_room ≤ length out.old) × Listable (entries_of a answer.now) answer.now }
     ensures { KeptReply list.new (entries_or (list_in list.old) (entries_of a answer.now)) out.old out.new
         (entries_of a answer.now) result }
 {
     match a {
-        Listing::Refused(n) => refusal(out, n),
-        Listing::Listed(n) => {
+        Ok(n) => {
             keep(list, answer, n as usize);
             printing::entries::put_entries(out, answer, 0, n as usize)
         }
+        Err(e) => refusal(out, e),
     }
 }
 
 // The reply of a plan as text. What it has selected becomes the list.
-pub fn keep_selection(list: &mut [u8], out: &mut [u8], answer: &[u8], a: Selection) -> usize
+pub fn keep_selection(list: &mut [u8], out: &mut [u8], answer: &[u8], a: Result<Selection, Refusal>) -> usize
     requires { Fits list.old × (answer_room ≤ length out.old) × Listable (planned_of a answer.now) answer.now }
     ensures { KeptReply list.new (chosen_or (list_in list.old) (planned_of a answer.now)) out.old out.new
         (planned_of a answer.now) result }
 {
     match a {
-        Selection::Refused(n) => refusal(out, n),
-        Selection::Chosen(considered, n, next) => {
-            keep(list, answer, n as usize);
-            printing::entries::put_selection(out, answer, considered, n as usize, next)
+        Ok(plan) => {
+            let n = plan.chosen as usize;
+            keep(list, answer, n);
+            printing::entries::put_selection(out, answer, plan.considered, n, plan.next)
         }
+        Err(e) => refusal(out, e),
     }
 }

@@ -15,6 +15,7 @@ ghost use Rattle.keeping.specs.Lists.{list_in, Fits, Ordered};
 ghost use Rattle.keeping.specs.Steps.{Stepped};
 
 use crate::kept::{ENTRY, LIST};
+use outcome::Refusal;
 use printing::buffers::answer_buffer;
 use printing::numbers::unreadable;
 use reading::forms::Values;
@@ -62,7 +63,7 @@ pub fn answer_want(
 }
 
 // Claims the entries of a list.
-fn claim_list(store: &mut [u8], clock: u64, list: &[u8], answer: &mut [u8]) -> outcome::Listing
+fn claim_list(store: &mut [u8], clock: u64, list: &[u8], answer: &mut [u8]) -> Result<u64, Refusal>
     requires { Fits list.now }
     ensures { LeavesWith (On (Claim clock (list_in list.now) answer.old)) store.old store.new answer.new (entries_of result) }
 {

@@ -23,19 +23,24 @@ use Rattle.lent_lists.specs.Lists.{keys_in}
 use Rattle.lent_lists.proofs.KeysBack.{keys_back}
 use Rattle.announcing.specs.Answers.{Answered, KeysListed}
 use Rattle.sweeping.specs.Effects.{Replied, KeysHanded}
+use Rattle.outcome.specs.declared.refusal.Refusal.{Refusal}
+use Rattle.outcome.specs.Refusals.{number_of}
 use Rattle.outcome.specs.Outcome.{Does, Leaves}
 use Rattle.outcome.specs.Tests.{in_turn}
 use Rattle.outcome.specs.Lent.{Lent}
 use Rattle.outcome.proofs.Sizes.{need_kept}
-use Rattle.outcome.proofs.Turns.{in-turn}
+use Rattle.outcome.proofs.Turns.{never_none, in-turn}
 use Rattle.outcome.proofs.Contract.{does-carried, does-nothing, does-refused}
 
 -- ---- refused, by what a test after the sound test answers
 
-pub asked-refused : (a : Ask) {b : List ℕ} (v : SoundStore b) {u : Buffer} → u ≡ (named a v.state).buffer → (t : ℕ) → t ≡ ask_refusal true a v.state → (t ≡ 0 → ⊥)
-    → Does (On a) b (record { reply = Refused t; buffer = u; store = b })
-asked-refused a v q zero e h = absurd (h refl)
-asked-refused a {b} v q (suc m) e h = does-refused b _ a v m (sym e) refl q refl
+pub asked-refused : (a : Ask) {b : List ℕ} (v : SoundStore b) {u : Buffer} → u ≡ (named a v.state).buffer → (e : Refusal) → number_of e ≡ ask_refusal true a v.state
+    → Does (On a) b (record { reply = Refused (number_of e); buffer = u; store = b })
+asked-refused a {b} v {u} q e p = by_number (number_of e) p (never_none e)
+  where
+    by_number : (t : ℕ) → t ≡ ask_refusal true a v.state → (t ≡ 0 → ⊥) → Does (On a) b (record { reply = Refused t; buffer = u; store = b })
+    by_number zero d h = absurd (h refl)
+    by_number (suc m) d h = does-refused b _ a v m (sym d) refl q refl
 
 -- ---- the tests 4 to 7, of a call that takes no place
 
@@ -64,13 +69,12 @@ module _ {a : Ask} {ns ts : List ℕ} {parents : ℕ} {u : Buffer} {m : State �
   answer-buffer : u ≡ (named a v.state).buffer
   answer-buffer = rw (k.are v.state)
 
-  -- t is what they answer: the call is refused, or it may be carried out
-  module _ {t : ℕ} (q : t ≡ in_turn ns ts parents (length u) (m v.state)) where
-    pub refused : (t ≡ 0 → ⊥) → Does (On a) b (record { reply = Refused t; buffer = u; store = b })
-    refused = asked-refused a v answer-buffer t (q ∙ sym asked)
+  -- by what they answer: the call is refused, or it may be carried out
+  pub refused : (e : Refusal) → number_of e ≡ in_turn ns ts parents (length u) (m v.state) → Does (On a) b (record { reply = Refused (number_of e); buffer = u; store = b })
+  refused e q = asked-refused a v answer-buffer e (q ∙ sym asked)
 
-    pub passes : t ≡ 0 → ask_refusal true a v.state ≡ 0
-    passes z = asked ∙ sym q ∙ z
+  pub passes : 0 ≡ in_turn ns ts parents (length u) (m v.state) → ask_refusal true a v.state ≡ 0
+  passes q = asked ∙ sym q
 
 -- ---- carried out, on the bytes of the need
 
@@ -109,32 +113,32 @@ module _ {b : List ℕ} (v : SoundStore b) {n : ℕ} (e : Lent b n) where
 
 pub replies_done : (a : Ask) {b : List ℕ} (v : SoundStore b) → ask_refusal true a v.state ≡ 0 → [] ≡ (named a v.state).buffer → {reply : State → Bool} {next : State → State}
     → perform a v.state ≡ record { reply = Number (one (reply v.state)); state = next v.state } → {n : ℕ} → Lent b n → {p : List ℕ} → Bytes (p ++ drop n b)
-    → {y : Bool} → Replied (take n b) p y reply next → {r : Reply} → r ≡ Number (one y) → Leaves (On a) b (p ++ drop n b) r
+    → {y : Bool} → Replied (take n b) p y reply next → {r : ℕ} → r ≡ one y → Leaves (On a) b (p ++ drop n b) (Number r)
 unfolding written
 replies_done a v z u d e {p} h g {r} o =
     let x = front_writes v e in
     let w = subst (λ (o : Result). Writes p o.state) (sym d) (g.state_is v.state v.sound x) in
-    does_front v e a z p h r [] (rw (d, ← g.reply_is v.state v.sound x) o) (rw d u) w
+    does_front v e a z p h (Number r) [] (rw (d, ← g.reply_is v.state v.sound x) (ap Number o)) (rw d u) w
 
 -- what such a call names, answers and makes of the state
 pub record Answers (a : Ask) (ns ts : List ℕ) (reply : State → Bool) (next : State → State) : Type 0 where
   pub names : Plain a ns ts
   pub performs : (s : State) → perform a s ≡ record { reply = Number (one (reply s)); state = next s }
 
-pub answers_done : {a : Ask} {ns ts : List ℕ} {reply : State → Bool} {next : State → State} → Answers a ns ts reply next → {b : List ℕ} (v : SoundStore b) {t : ℕ} → t ≡ in_turn ns ts 0 0 0 → t ≡ 0
-    → {n : ℕ} → Lent b n → {p : List ℕ} → Bytes (p ++ drop n b) → {y : Bool} → Replied (take n b) p y reply next → {r : Reply} → r ≡ Number (one y) → Leaves (On a) b (p ++ drop n b) r
-answers_done {a} k v q z e h g o = replies_done a v (passes k.names v q z) (answer-buffer k.names v) (k.performs v.state) e h g o
+pub answers_done : {a : Ask} {ns ts : List ℕ} {reply : State → Bool} {next : State → State} → Answers a ns ts reply next → {b : List ℕ} (v : SoundStore b) → 0 ≡ in_turn ns ts 0 0 0
+    → {n : ℕ} → Lent b n → {p : List ℕ} → Bytes (p ++ drop n b) → {y : Bool} → Replied (take n b) p y reply next → {r : ℕ} → r ≡ one y → Leaves (On a) b (p ++ drop n b) (Number r)
+answers_done {a} k v q e h g o = replies_done a v (passes k.names v q) (answer-buffer k.names v) (k.performs v.state) e h g o
 
 -- a call that changes the table only
 pub record YesNo (a : Ask) (ns ts : List ℕ) (f : Limits → Table → Answer) : Type 0 where
   pub names : Plain a ns ts
   pub performs : (s : State) → perform a s ≡ answered (f (limits_of s) s.table) s
 
-pub yes-no_done : {a : Ask} {ns ts : List ℕ} {f : Limits → Table → Answer} → YesNo a ns ts f → {b : List ℕ} (v : SoundStore b) {t : ℕ} → t ≡ in_turn ns ts 0 0 0 → t ≡ 0
-    → {n : ℕ} → Lent b n → {p : List ℕ} → Bytes (p ++ drop n b) → {y : Bool} → Answered (take n b) p y f → {r : Reply} → r ≡ Number (one y) → Leaves (On a) b (p ++ drop n b) r
-yes-no_done {a} {ns} {ts} {f} k v q z e h g o =
+pub yes-no_done : {a : Ask} {ns ts : List ℕ} {f : Limits → Table → Answer} → YesNo a ns ts f → {b : List ℕ} (v : SoundStore b) → 0 ≡ in_turn ns ts 0 0 0
+    → {n : ℕ} → Lent b n → {p : List ℕ} → Bytes (p ++ drop n b) → {y : Bool} → Answered (take n b) p y f → {r : ℕ} → r ≡ one y → Leaves (On a) b (p ++ drop n b) (Number r)
+yes-no_done {a} {ns} {ts} {f} k v q e h g o =
     let answers : Answers a ns ts (λ s. (f (limits_of s) s.table).reply) (λ s. on_table (f (limits_of s) s.table).table s) = record { names = k.names; performs = k.performs } in
-    answers_done answers v q z e h (record { reply_is = g.reply; state_is = g.table }) o
+    answers_done answers v q e h (record { reply_is = g.reply; state_is = g.table }) o
 
 -- ---- calls that list keys
 
@@ -145,15 +149,15 @@ pub record Hands (a : Ask) (ns ts : List ℕ) (parents : ℕ) (u : Buffer) (m : 
 
 pub hands_done : {a : Ask} {ns ts : List ℕ} {parents : ℕ} {u : Buffer} {m : State → ℕ} {ks : State → List Key} {next : State → State}
     → Hands a ns ts parents u m ks next → {b : List ℕ} (v : SoundStore b)
-    → {t : ℕ} → t ≡ in_turn ns ts parents (length u) (key_bytes * m v.state) → t ≡ 0 → {n : ℕ} → Lent b n → {p : List ℕ} → Bytes (p ++ drop n b) → Each KeyTyped (ks v.state)
+    → 0 ≡ in_turn ns ts parents (length u) (key_bytes * m v.state) → {n : ℕ} → Lent b n → {p : List ℕ} → Bytes (p ++ drop n b) → Each KeyTyped (ks v.state)
     → {u' : List ℕ} {c : ℕ} → KeysHanded (take n b) p u u' c ks next → Does (On a) b (record { reply = Keys (keys_in c u'); buffer = u'; store = p ++ drop n b })
-hands_done {a} {u = u} {ks = ks} k v q z e {p} h t {u'} {c} g =
+hands_done {a} {u = u} {ks = ks} k v q e {p} h t {u'} {c} g =
     let d = k.performs v.state in
     let x = front_writes v e in
     let y = g.keys-are v.state v.sound x in
     let r : Keys (keys_in c u') ≡ (perform a v.state).reply = rw (d, g.count v.state v.sound x, y, keys_back (ks v.state) u t) in
     let w = subst (λ (o : Result). Writes p o.state) (sym d) (g.state_is v.state v.sound x) in
-    does_front v e a (passes k.names v q z) p h (Keys (keys_in c u')) u' r (rw (d, k.names.are v.state) y) w
+    does_front v e a (passes k.names v q) p h (Keys (keys_in c u')) u' r (rw (d, k.names.are v.state) y) w
 
 -- a call that changes the table only
 pub record Lists (a : Ask) (ns ts : List ℕ) (parents : ℕ) (u : Buffer) (m : State → ℕ) (f : Limits → Table → Listed) : Type 0 where
@@ -161,12 +165,12 @@ pub record Lists (a : Ask) (ns ts : List ℕ) (parents : ℕ) (u : Buffer) (m : 
   pub performs : (s : State) → perform a s ≡ listed (f (limits_of s) s.table) s
 
 pub lists_done : {a : Ask} {ns ts : List ℕ} {parents : ℕ} {u : Buffer} {m : State → ℕ} {f : Limits → Table → Listed} → Lists a ns ts parents u m f → {b : List ℕ} (v : SoundStore b)
-    → {t : ℕ} → t ≡ in_turn ns ts parents (length u) (key_bytes * m v.state) → t ≡ 0 → {n : ℕ} → Lent b n → {p : List ℕ} → Bytes (p ++ drop n b)
+    → 0 ≡ in_turn ns ts parents (length u) (key_bytes * m v.state) → {n : ℕ} → Lent b n → {p : List ℕ} → Bytes (p ++ drop n b)
     → Each KeyTyped (f (limits_of v.state) v.state.table).keys → {u' : List ℕ} {c : ℕ} → KeysListed (take n b) p u u' c f
     → Does (On a) b (record { reply = Keys (keys_in c u'); buffer = u'; store = p ++ drop n b })
-lists_done {a} {ns} {ts} {parents} {u} {m} {f} k v q z e h t g =
+lists_done {a} {ns} {ts} {parents} {u} {m} {f} k v q e h t g =
     let hands : Hands a ns ts parents u m (λ s. (f (limits_of s) s.table).keys) (λ s. on_table (f (limits_of s) s.table).table s) = record { names = k.names; performs = k.performs } in
-    hands_done hands v q z e h t (record { count = g.count; keys-are = g.keys; state_is = g.table })
+    hands_done hands v q e h t (record { count = g.count; keys-are = g.keys; state_is = g.table })
 
 -- ---- calls that write a text and leave the store
 
@@ -175,11 +179,11 @@ pub record Texts (a : Ask) (u : Buffer) (text : State → List ℕ) : Type 0 whe
   pub names : Names a [] [] 0 u (λ s. length (text s))
   pub performs : (s : State) → perform a s ≡ record { reply = Saved (text s); state = s }
 
-pub texts_done : {a : Ask} {u : Buffer} {text : State → List ℕ} → Texts a u text → {b : List ℕ} (v : SoundStore b) → Bytes b → {t : ℕ} → t ≡ in_turn [] [] 0 (length u) (length (text v.state))
-    → t ≡ 0 → {u' : List ℕ} {n : ℕ} → n ≡ length (text v.state) → u' ≡ written (text v.state) u → Does (On a) b (record { reply = Saved (take n u'); buffer = u'; store = b })
+pub texts_done : {a : Ask} {u : Buffer} {text : State → List ℕ} → Texts a u text → {b : List ℕ} (v : SoundStore b) → Bytes b → 0 ≡ in_turn [] [] 0 (length u) (length (text v.state))
+    → {u' : List ℕ} {n : ℕ} → n ≡ length (text v.state) → u' ≡ written (text v.state) u → Does (On a) b (record { reply = Saved (take n u'); buffer = u'; store = b })
 unfolding written
-texts_done {a} {u} {text} k {b} v h q z {u'} {n} g w =
+texts_done {a} {u} {text} k {b} v h q {u'} {n} g w =
     let x = text v.state in
     let d = k.performs v.state in
     let front : take n u' ≡ x = rw (g, w) (take_at x (drop (length x) u) (length x) refl) in
-    does-nothing b _ a v (passes k.names v q z) (rw d (ap Saved front)) (rw (d, k.names.are v.state) w) (ap (λ (o : Result). o.state) d) h refl
+    does-nothing b _ a v (passes k.names v q) (rw d (ap Saved front)) (rw (d, k.names.are v.state) w) (ap (λ (o : Result). o.state) d) h refl

@@ -1,3 +1,4 @@
+pub mod Exits
 pub mod Sizes
 pub mod Stepped
 pub mod Calls

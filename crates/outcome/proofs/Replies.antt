@@ -35,12 +35,12 @@ pub record Reads (a : Ask) (ns ts : List ℕ) (f : Table → ℕ) : Type 0 where
   pub names : Plain a ns ts
   pub performs : (s : State) → perform a s ≡ record { reply = Number (f s.table); state = s }
 
-pub reads_done : {a : Ask} {ns ts : List ℕ} {f : Table → ℕ} → Reads a ns ts f → {b : List ℕ} (v : SoundStore b) {t : ℕ} → t ≡ in_turn ns ts 0 0 0 → t ≡ 0 → {n : ℕ} → Lent b n → Bytes b
+pub reads_done : {a : Ask} {ns ts : List ℕ} {f : Table → ℕ} → Reads a ns ts f → {b : List ℕ} (v : SoundStore b) → 0 ≡ in_turn ns ts 0 0 0 → {n : ℕ} → Lent b n → Bytes b
     → {r : ℕ} → Tells (take n b) (λ t. r ≡ f t) → Leaves (On a) b b (Number r)
 unfolding written
-reads_done {a} k {b} v q z e h g =
+reads_done {a} k {b} v q e h g =
     let d = k.performs v.state in
-    does-nothing b _ a v (passes k.names v q z) (rw d (ap Number (g v.state v.sound (front_writes v e)))) (rw (d, k.names.are v.state)) (ap (λ (o : Result). o.state) d) h refl
+    does-nothing b _ a v (passes k.names v q) (rw d (ap Number (g v.state v.sound (front_writes v e)))) (rw (d, k.names.are v.state)) (ap (λ (o : Result). o.state) d) h refl
 
 -- ---- calls that reply a count
 
@@ -48,12 +48,12 @@ pub record Counts (a : Ask) (ns ts : List ℕ) (count : State → ℕ) (next : S
   pub names : Plain a ns ts
   pub performs : (s : State) → perform a s ≡ record { reply = Number (count s); state = next s }
 
-pub counts_done : {a : Ask} {ns ts : List ℕ} {count : State → ℕ} {next : State → State} → Counts a ns ts count next → {b : List ℕ} (v : SoundStore b) {t : ℕ} → t ≡ in_turn ns ts 0 0 0 → t ≡ 0
+pub counts_done : {a : Ask} {ns ts : List ℕ} {count : State → ℕ} {next : State → State} → Counts a ns ts count next → {b : List ℕ} (v : SoundStore b) → 0 ≡ in_turn ns ts 0 0 0
     → {n : ℕ} → Lent b n → {p : List ℕ} → Bytes (p ++ drop n b) → {r : ℕ} → ((s : State) → Sound s → Writes (take n b) s → r ≡ count s)
     → ((s : State) → Sound s → Writes (take n b) s → Writes p (next s)) → Leaves (On a) b (p ++ drop n b) (Number r)
 unfolding written
-counts_done {a} k v q z e {p} h {r} c w =
+counts_done {a} k v q e {p} h {r} c w =
     let d = k.performs v.state in
     let x = front_writes v e in
     let y = subst (λ (o : Result). Writes p o.state) (sym d) (w v.state v.sound x) in
-    does_front v e a (passes k.names v q z) p h (Number r) [] (rw d (ap Number (c v.state v.sound x))) (rw (d, k.names.are v.state)) y
+    does_front v e a (passes k.names v q) p h (Number r) [] (rw d (ap Number (c v.state v.sound x))) (rw (d, k.names.are v.state)) y

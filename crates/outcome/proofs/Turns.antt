@@ -15,6 +15,10 @@ use Rattle.machine.specs.Table.{places_held}
 use Rattle.machine.specs.Claim.{elem}
 use Rattle.machine.specs.Call.{Ask, Named, named, any_late, takes_place, wrong_hashes, late, ask_refusal}
 use Rattle.machine.proofs.Tests.{test}
+use Rattle.outcome.specs.declared.refusal.Refusal.{Refusal}
+use Rattle.outcome.specs.declared.refusal.Refusal.TheVariants.{StoreTooShort, SizesOutOfRange, NotSound, NoConnection, NowTooLate, TooManyParents}
+use Rattle.outcome.specs.declared.refusal.Refusal.TheVariants.{AnswerTooShort, NoPlace, UnreadableLine, NotAListing, ListingNotSound, WrongHashes}
+use Rattle.outcome.specs.Refusals.{number_of}
 use Rattle.outcome.specs.Tests.{first_of, of_connections, of_clocks, of_parents, of_buffer, of_place, in_turn, of_hashes, hashes_in_turn}
 
 -- ---- what a test answers
@@ -92,11 +96,34 @@ pub free-place : (places held : ℕ) → 0 ≡ of_place true places held → hel
 unfolding of_place
 free-place places held e = elim (test (leb places held)) [ inl t ↦ absurd (omega (arith, rw t at e)) | inr t ↦ leb-false places held t ]
 
+-- ---- a refusal's number is not 0
+
+pub never_none : (r : Refusal) → number_of r ≡ 0 → ⊥
+never_none StoreTooShort e = omega arith
+never_none SizesOutOfRange e = omega arith
+never_none NotSound e = omega arith
+never_none NoConnection e = omega arith
+never_none NowTooLate e = omega arith
+never_none TooManyParents e = omega arith
+never_none AnswerTooShort e = omega arith
+never_none NoPlace e = omega arith
+never_none UnreadableLine e = omega arith
+never_none NotAListing e = omega arith
+never_none ListingNotSound e = omega arith
+never_none WrongHashes e = omega arith
+
 -- ---- in turn
 
 pub first_some : (a b : ℕ) → (a ≡ 0 → ⊥) → a ≡ first_of a b
 first_some zero b h = absurd (h refl)
 first_some (suc a) b h = refl
+
+-- the first test refuses, or has nothing against the call
+pub first-refused : {a : ℕ} (r : Refusal) (b : ℕ) → number_of r ≡ a → number_of r ≡ first_of a b
+first-refused r b q = rw (← q) (first_some (number_of r) b (never_none r))
+
+pub first-passed : {n a b : ℕ} → 0 ≡ a → n ≡ b → n ≡ first_of a b
+first-passed q p = rw (← q) p
 
 pub first_none : (a : ℕ) → first_of a 0 ≡ a
 first_none zero = refl
@@ -173,10 +200,10 @@ pub record Passed (ns ts : List ℕ) (parents long needs : ℕ) : Type 0 where
   pub few : parents ≤ max_parents
   pub room : needs ≤ long
 
-pub passed : {ns ts : List ℕ} {parents long needs r : ℕ} → r ≡ in_turn ns ts parents long needs → r ≡ 0 → Passed ns ts parents long needs
-passed {ns} {ts} {parents} {long} {needs} q z =
-    let x = first_left (first_of (of_connections ns) (of_clocks ts)) (first_of (of_parents parents) (of_buffer long needs)) (sym q ∙ z) in
-    let y = first_right (first_of (of_connections ns) (of_clocks ts)) (first_of (of_parents parents) (of_buffer long needs)) (sym q ∙ z) in
+pub passed : {ns ts : List ℕ} {parents long needs : ℕ} → 0 ≡ in_turn ns ts parents long needs → Passed ns ts parents long needs
+passed {ns} {ts} {parents} {long} {needs} q =
+    let x = first_left (first_of (of_connections ns) (of_clocks ts)) (first_of (of_parents parents) (of_buffer long needs)) (sym q) in
+    let y = first_right (first_of (of_connections ns) (of_clocks ts)) (first_of (of_parents parents) (of_buffer long needs)) (sym q) in
     record {
       connections = sym (first_left (of_connections ns) (of_clocks ts) x);
       clocks = sym (first_right (of_connections ns) (of_clocks ts) x);
@@ -189,10 +216,10 @@ pub record PassedHashes (hs : List ℕ) (long needs : ℕ) : Type 0 where
   pub right : wrong_hashes hs ≡ false
   pub room : needs ≤ long
 
-pub passed-hashes : {hs : List ℕ} {long needs r : ℕ} → r ≡ hashes_in_turn hs long needs → r ≡ 0 → PassedHashes hs long needs
-passed-hashes {hs} {long} {needs} q z = record {
-  right = right_hashes hs (first_left (of_hashes hs) (of_buffer long needs) (sym q ∙ z));
-  room = long-buffer long needs (sym (first_right (of_hashes hs) (of_buffer long needs) (sym q ∙ z)));
+pub passed-hashes : {hs : List ℕ} {long needs : ℕ} → 0 ≡ hashes_in_turn hs long needs → PassedHashes hs long needs
+passed-hashes {hs} {long} {needs} q = record {
+  right = right_hashes hs (first_left (of_hashes hs) (of_buffer long needs) (sym q));
+  room = long-buffer long needs (sym (first_right (of_hashes hs) (of_buffer long needs) (sym q)));
 }
   where
     right_hashes : (hs : List ℕ) → of_hashes hs ≡ 0 → wrong_hashes hs ≡ false

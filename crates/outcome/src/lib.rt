@@ -8,51 +8,36 @@
 ghost use Rattle.std.specs.Prelude.{◌≡◌, ◌≤◌};
 ghost use Rattle.machine.specs.Limits as limits;
 ghost use Rattle.machine.specs.Table.{one};
-ghost use Rattle.machine.specs.Step.{Number};
-ghost use Rattle.outcome.specs.Reply.{reply_of};
 
+pub mod refusal;
 pub mod refusals;
 
-// An answer that is a number: a refusal of document 01's table, or the reply.
-#[derive(Clone, Copy)]
-pub enum Answer {
-    Refused(u64),
-    Number(u64),
+pub use refusal::Refusal;
+
+// What `sum` tells: how many announcements are held, how many more fit of unpreferred newcomers and of preferred ones, and how full the tracker is in thousandths.
+#[derive(Clone, Copy, Debug, PartialEq, Eq)]
+pub struct Figures {
+    pub held: u64,
+    pub free: u64,
+    pub free_preferred: u64,
+    pub permille: u64,
 }
 
-// Held, free for unpreferred newcomers and for preferred ones, permille used, or a refusal.
-#[derive(Clone, Copy)]
-pub enum Figures {
-    Refused(u64),
-    Are(u64, u64, u64, u64),
-}
-
-// How many keys, entries or bytes of text stand in the answer buffer, or a refusal.
-#[derive(Clone, Copy)]
-pub enum Listing {
-    Refused(u64),
-    Listed(u64),
-}
-
-// How many keys of a connection that left stand in the answer buffer, and how many of parents behind them, or a refusal.
-#[derive(Clone, Copy)]
-pub enum Departure {
-    Refused(u64),
-    Left(u64, u64),
+// How many keys of a connection that left stand in the answer buffer, and how many of parents behind them.
+#[derive(Clone, Copy, Debug, PartialEq, Eq)]
+pub struct Departure {
+    pub own: u64,
+    pub parents: u64,
 }
 
 // "Where the Rust returns nothing, the reply is 1."
 pub const RETURNED: u64 = 1;
 
 // "A reply of 0 is the Rust's `false`", 1 its `true`.
-pub fn replied(yes: bool) -> Answer
-    ensures { reply_of result ≡ Number (one yes) }
+pub fn replied(yes: bool) -> u64
+    ensures { result ≡ one yes }
 {
-    if yes {
-        Answer::Number(1)
-    } else {
-        Answer::Number(0)
-    }
+    u64::from(yes)
 }
 
 // The bytes that a store needs for L and Q.

@@ -20,5 +20,5 @@ pub extern "C" fn tracker_owned_arrange(
         s.now s.now answer.new result count.old count.new }
 {
     let l = public_plans::on_sound::arrangements::arrange(s, witnesses, taken, answer);
-    crossing::hand_count(l, count)
+    crossing::hand_out(l, count)
 }

@@ -67,5 +67,5 @@ pub extern "C" fn tracker_owned_announce_parents(
     let l = public_requests::on_sound::candidates::announce_parents(
         s, connection, parents, clock, answer,
     );
-    crossing::hand_count(l, count)
+    crossing::hand_out(l, count)
 }

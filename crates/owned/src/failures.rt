@@ -45,7 +45,7 @@ pub extern "C" fn tracker_owned_failed_with_parents(
     let l = public_requests::on_sound::failures::failed_with_parents(
         s, k, connection, clock, answer,
     );
-    crossing::hand_count(l, count)
+    crossing::hand_out(l, count)
 }
 
 // The owner gives the request back and stays a candidate. Carried out, it replies 1.

@@ -38,14 +38,5 @@ pub extern "C" fn tracker_owned_sum(
         × Stays result preferred_free.old preferred_free.new × Stays result permille.old permille.new }
 {
     let f = public_requests::on_sound::sum(s);
-    match f {
-        outcome::Figures::Refused(n) => n,
-        outcome::Figures::Are(a, b, c, d) => {
-            *held = a;
-            *free = b;
-            *preferred_free = c;
-            *permille = d;
-            0
-        }
-    }
+    crossing::hand_figures(f, held, free, preferred_free, permille)
 }

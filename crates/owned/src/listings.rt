@@ -10,5 +10,5 @@ pub extern "C" fn tracker_owned_save(s: &[u8], answer: &mut [u8], written: &mut 
     ensures { HandsText (On (Save answer.old)) s.now s.now answer.new result written.old written.new }
 {
     let l = public_listings::on_sound::save(s, answer);
-    crossing::hand_count(l, written)
+    crossing::hand_out(l, written)
 }

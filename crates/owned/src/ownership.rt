@@ -18,5 +18,5 @@ pub extern "C" fn tracker_owned_owners_of(
         s.now s.now answer.new result passed.old passed.new }
 {
     let l = public_plans::on_sound::ownership::owners_of(s, hashes, answer);
-    crossing::hand_count(l, passed)
+    crossing::hand_out(l, passed)
 }

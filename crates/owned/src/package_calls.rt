@@ -98,5 +98,5 @@ pub extern "C" fn tracker_owned_release_package(
     let l = public_packages::on_sound::package_calls::release_package(
         s, connection, subject, clock, answer,
     );
-    crossing::hand_count(l, count)
+    crossing::hand_out(l, count)
 }

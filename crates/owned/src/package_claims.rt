@@ -23,7 +23,7 @@ pub extern "C" fn tracker_owned_failed_package_claims(
     let l = public_packages::on_sound::package_claims::failed_package_claims(
         s, connection, combined, clock, answer,
     );
-    crossing::hand_count(l, count)
+    crossing::hand_out(l, count)
 }
 
 // Every package goes, whatever its phase, and its owner leaves the request. `count` says how many went.

@@ -22,7 +22,7 @@ pub extern "C" fn tracker_owned_claim(
     ensures sound { SoundStore s.new }
 {
     let l = public_plans::on_sound::plans::claim(s, clock, checked, answer);
-    crossing::hand_count(l, taken)
+    crossing::hand_out(l, taken)
 }
 
 // Plans over all keys after the ready cursor and round to it. What it selects stands in the answer in 112 bytes an entry: so many as `count` says, of as many keys

@@ -11,7 +11,7 @@ pub extern "C" fn tracker_owned_sweep(s: &mut [u8], answer: &mut [u8], count: &m
     ensures sound { SoundStore s.new }
 {
     let l = public_requests::on_sound::sweeps::sweep(s, answer);
-    crossing::hand_count(l, count)
+    crossing::hand_out(l, count)
 }
 
 // Whether a poll is due. If the reply is 1, the next one is 100 milliseconds later.

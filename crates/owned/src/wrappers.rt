@@ -71,5 +71,5 @@ pub extern "C" fn tracker_owned_transaction_not_found(
     let l = public_plans::on_sound::wrappers::transaction_not_found(
         s, connection, items, clock, answer,
     );
-    crossing::hand_count(l, count)
+    crossing::hand_out(l, count)
 }

@@ -19,7 +19,6 @@ use Rattle.regions.specs.Rows.{quad_number}
 use Rattle.regions.proofs.Order.{number_quad}
 use Rattle.requests.specs.Changes.{Words}
 use Rattle.machine.specs.State.{Candidate, Entry}
-use Rattle.machine.specs.Later.{time_of}
 use Rattle.claiming.specs.Claiming.{entry_from, entries_from}
 use Rattle.machine.specs.Text.{hash_digits, decimal_digits, decimal, hexadecimal, bool_text, key_text, item_kind_text, item_text, joined}
 use Rattle.lines.specs.Text.{Wrote}
@@ -84,18 +83,6 @@ wrote_other {n = n} e h p q w =
 time-length : (o : Option ℕ) → length (time_text o) ≤ decimal_digits
 time-length none = omega arith
 time-length (some n) = length-numeral 10 decimal_digits n
-
-time_some : (n : ℕ) → (n ≡ 0 → ⊥) → time_of n ≡ some n
-time_some zero h = absurd (h refl)
-time_some (suc n) h = refl
-
--- a time: `none` for 0
-module _ {s s' : List ℕ} {a r : ℕ} (n : ℕ) where
-  pub wrote_none_time : n ≡ 0 → Wrote s s' a (44 ∷ 110 ∷ 111 ∷ 110 ∷ 101 ∷ []) r → Wrote s s' a (44 ∷ time_text (time_of n)) r
-  wrote_none_time e w = rw e w
-
-  pub wrote-time : (n ≡ 0 → ⊥) → Wrote s s' a (44 ∷ decimal n) r → Wrote s s' a (44 ∷ time_text (time_of n)) r
-  wrote-time h w = rw (time_some n h) w
 
 -- where a field's text ends
 module _ {s s' : List ℕ} {a r : ℕ} where

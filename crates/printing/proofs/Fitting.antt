@@ -14,8 +14,8 @@ use Rattle.machine.specs.Step.{Reply, Refused, Left, Result, answer_bytes, writt
 use Rattle.machine.proofs.AnswerLengths.{length-keys_answer}
 use Rattle.store.specs.Image.{stored}
 use Rattle.store.specs.Read.{state_of}
-use Rattle.outcome.specs.declared.Listing.{Listing}
-use Rattle.outcome.specs.declared.Listing.TheVariants.{Listed}
+use Rattle.std.specs.Prelude.{Result as StdResult, Ok}
+use Rattle.outcome.specs.declared.refusal.Refusal.{Refusal}
 use Rattle.outcome.specs.Outcome.{Effect, outcome_if, Does}
 use Rattle.outcome.specs.Reply.{listing_of}
 use Rattle.lent_lists.specs.Lists.{keys_in}
@@ -70,8 +70,8 @@ module _ {a : Ask} {b : List ℕ} {e : Effect} (d : Does (On a) b e) where
     length-keys n v,
   )
 
-pub listing-fits : {a : Listing} {u : Buffer} {n : ℕ} → a ≡ Listed n → KeysFit (listing_of a u) u → (n ≤ most_keys) × (key_bytes * n ≤ length u)
+pub listing-fits : {a : StdResult ℕ Refusal} {u : Buffer} {n : ℕ} → a ≡ Ok n → KeysFit (listing_of a u) u → (n ≤ most_keys) × (key_bytes * n ≤ length u)
 listing-fits {a} {u} {n} e f =
     let k : length (answer_bytes (listing_of a u)) ≡ key_bytes * n =
-    ap (λ (x : Listing). length (answer_bytes (listing_of x u))) e ∙ length-keys_answer (keys_in n u) ∙ ap (◌*◌ key_bytes) (length-keys n u) in
+    ap (λ (x : StdResult ℕ Refusal). length (answer_bytes (listing_of x u))) e ∙ length-keys_answer (keys_in n u) ∙ ap (◌*◌ key_bytes) (length-keys n u) in
     (omega (arith, f.long, f.fits, k), omega (arith, f.fits, k))

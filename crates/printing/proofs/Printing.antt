@@ -7,7 +7,8 @@ use lib.ListN.{length}
 use Rattle.ident.specs.Number.{Key}
 use Rattle.machine.specs.Call.{Buffer, Ask, Sum, Call, Open, On}
 use Rattle.machine.specs.Step.{Reply, Refused, Number, Keys, Summed}
-use Rattle.outcome.specs.declared.Listing.{Listing}
+use Rattle.std.specs.Prelude.{Result}
+use Rattle.outcome.specs.declared.refusal.Refusal.{Refusal}
 use Rattle.outcome.specs.declared.Departure.{Departure}
 use Rattle.outcome.specs.Reply.{listing_of, departure_of}
 use Rattle.outcome.specs.Outcome.{Effect, Does}
@@ -87,8 +88,8 @@ pub does_is : {a a' : Ask} {b : List ℕ} {e : Effect} → a ≡ a' → Does (On
 does_is {a} {a'} {b} {e} g d = subst (λ (z : Ask). Does (On z) b e) g d
 
 -- the answer that the code has taken apart
-pub listing_same : {x y : Listing} (u : Buffer) → x ≡ y → listing_of x u ≡ listing_of y u
-listing_same u e = ap (λ (x : Listing). listing_of x u) e
+pub listing_same : {x y : Result ℕ Refusal} (u : Buffer) → x ≡ y → listing_of x u ≡ listing_of y u
+listing_same u e = ap (λ (x : Result ℕ Refusal). listing_of x u) e
 
-pub departure_same : {x y : Departure} (u : Buffer) → x ≡ y → departure_of x u ≡ departure_of y u
-departure_same u e = ap (λ (x : Departure). departure_of x u) e
+pub departure_same : {x y : Result Departure Refusal} (u : Buffer) → x ≡ y → departure_of x u ≡ departure_of y u
+departure_same u e = ap (λ (x : Result Departure Refusal). departure_of x u) e

@@ -2,7 +2,7 @@
 ghost use Rattle.std.specs.Prelude.{◌+◌, ◌*◌, ◌≤◌, ◌∷◌, length};
 ghost use Rattle.ident.specs.Words.{key_num, item_num};
 ghost use Rattle.machine.specs.Call.{entry_bytes};
-ghost use Rattle.machine.specs.Later.{time_of};
+ghost use Rattle.choosing.specs.Choosing.{option_of};
 ghost use Rattle.requests.specs.Changes.{candidate_of};
 ghost use Rattle.claiming.specs.Claiming.{entry_from, entries_from};
 ghost use Rattle.machine.specs.Text.{decimal, bool_text, key_text, item_kind_text, item_text, joined};
@@ -124,21 +124,27 @@ pub fn put_entries(out: &mut [u8], answer: &[u8], first: usize, n: usize) -> usi
     put_behind(out, at, answer, first + 1, n - 1)
 }
 
-// A time behind a comma; 0 is `none`.
-fn put_time(out: &mut [u8], at: usize, t: u64) -> usize
+// A time behind a comma, or `none`.
+fn put_time(out: &mut [u8], at: usize, time: Option<u64>) -> usize
     requires { at + number_room ≤ length out.old }
-    ensures { Wrote out.old out.new at (44 ∷ time_text (time_of t)) result }
+    ensures { Wrote out.old out.new at (44 ∷ time_text (option_of time)) result }
 {
-    if t == 0 {
-        return put_bytes(out, at, b",none");
+    match time {
+        Some(t) => put_number(out, at, t),
+        None => put_bytes(out, at, b",none"),
     }
-    put_number(out, at, t)
 }
 
 // How many keys a plan considered, behind it the first n entries of its answer, and when to look again.
-pub fn put_selection(out: &mut [u8], answer: &[u8], considered: u64, n: usize, next: u64) -> usize
+pub fn put_selection(
+    out: &mut [u8],
+    answer: &[u8],
+    considered: u64,
+    n: usize,
+    next: Option<u64>,
+) -> usize
     requires { (answer_room ≤ length out.old) × (n ≤ most_entries) × (entry_bytes * n ≤ length answer.now) }
-    ensures { Printed out.old out.new (selection_text considered (entries_from answer.now 0 n) (time_of next)) result }
+    ensures { Printed out.old out.new (selection_text considered (entries_from answer.now 0 n) (option_of next)) result }
 {
     let at = put_decimal(out, 0, considered);
     let to = put_behind(out, at, answer, 0, n);

@@ -10,6 +10,7 @@ ghost use Rattle.printing.specs.Given.{answer_room, most_keys, kind_in, next_tex
 
 use crate::numbers::refusal;
 use lines::write::put_bytes;
+use outcome::Refusal;
 
 fn kind_of(word: u64) -> ident::Kind
     ensures { result ≡ kind_in word }
@@ -59,13 +60,13 @@ fn put_keys(out: &mut [u8], answer: &[u8], n: usize) -> usize
 }
 
 // A refusal, or the keys of an answer.
-pub fn listing(out: &mut [u8], answer: &[u8], a: outcome::Listing) -> usize
+pub fn listing(out: &mut [u8], answer: &[u8], a: Result<u64, Refusal>) -> usize
     requires { (answer_room ≤ length out.old) × KeysFit (listing_of a answer.now) answer.now }
     ensures { ReplyPrinted out.old out.new (listing_of a answer.now) result }
 {
     match a {
-        outcome::Listing::Refused(n) => refusal(out, n),
-        outcome::Listing::Listed(n) => put_keys(out, answer, n as usize),
+        Ok(n) => put_keys(out, answer, n as usize),
+        Err(e) => refusal(out, e),
     }
 }
 

@@ -4,25 +4,21 @@ use mathlib.Core.Path.{◌≡◌, sym, subst, ◌∙◌}
 use mathlib.Core.Bool.{Bool, true, false}
 use mathlib.Core.List.{List}
 use lib.ListN.{length}
-use Rattle.std.specs.Prelude.{Some, None}
+use Rattle.std.specs.Prelude.{Some, None, Ok, Err}
 use Rattle.listed_lines.specs.declared.line.Head as line-head
 use Rattle.listed_lines.specs.declared.cursor.Lines.{Lines}
 use Rattle.listed_form.specs.Given.{Reads, FormAs, FormRead}
-use Rattle.public_listings.specs.declared.verdict.Verdict.{Verdict}
-use Rattle.public_listings.specs.declared.verdict.Verdict.TheVariants.{Unreadable, Unsound, Is}
-use Rattle.public_listings.specs.Verdicts.{Sounds, VerdictAs, VerdictOf}
+use Rattle.outcome.specs.declared.refusal.Refusal.TheVariants.{NotAListing, ListingNotSound}
+use Rattle.public_listings.specs.Verdicts.{Sounds, VerdictOf}
 
-pub verdict_as : {b : List ℕ} {r z : Verdict} → VerdictOf b r → r ≡ z → VerdictAs b z
-verdict_as {b} v e = subst (λ (x : Verdict). VerdictAs b x) e v.is
-
-pub no-form : {b : List ℕ} → FormRead b None → VerdictOf b Unreadable
+pub no-form : {b : List ℕ} → FormRead b None → VerdictOf b (Err NotAListing)
 no-form v = record { is = v.is }
 
 module _ {b : List ℕ} {h : line-head.Head} {l : Lines} (v : FormRead b (Some (h, l))) where
-  pub not_sound : {x : Bool} → Sounds l.text.now h l.at x → x ≡ false → VerdictOf b Unsound
+  pub not_sound : {x : Bool} → Sounds l.text.now h l.at x → x ≡ false → VerdictOf b (Err ListingNotSound)
   not_sound t g =
       let r = v.is.1 in
       record { is = record { state = r.state; read = r.read; told = sym ((rw v.is.0 at t).is r) ∙ g } }
 
-  pub is-sound : {x : Bool} → Sounds l.text.now h l.at x → x ≡ true → VerdictOf b (Is h l.at)
+  pub is-sound : {x : Bool} → Sounds l.text.now h l.at x → x ≡ true → VerdictOf b (Ok (record { head = h; from = l.at }))
   is-sound t g = let r = v.is.1 in record { is = record { reads = r; told = sym ((rw v.is.0 at t).is r) ∙ g } }

@@ -18,12 +18,16 @@ use Rattle.machine.proofs.Tests.{never}
 use Rattle.machine.proofs.SoundTest.{sound-decides}
 use Rattle.store.specs.Image.{Writes, stored, Bytes, need_of}
 use Rattle.store.proofs.Stored.{written_bytes}
+use Rattle.outcome.specs.declared.refusal.Refusal.{Refusal}
+use Rattle.outcome.specs.declared.refusal.Refusal.TheVariants.{StoreTooShort, SizesOutOfRange, NotSound, NoConnection, NowTooLate, TooManyParents}
+use Rattle.outcome.specs.declared.refusal.Refusal.TheVariants.{AnswerTooShort, NoPlace, UnreadableLine, NotAListing, ListingNotSound, WrongHashes}
+use Rattle.outcome.specs.Refusals.{number_of}
 use Rattle.outcome.specs.Outcome.{outcome_if, Leaves}
 use Rattle.outcome.proofs.Contract.{does_not_restore}
 use Rattle.listed_lines.specs.declared.line.Head as line-head
 use Rattle.listed_form.specs.Given.{Reads}
 use Rattle.restoring.specs.Given.{Readable, Restored}
-use Rattle.public_listings.specs.Verdicts.{Lists, Whole}
+use Rattle.public_listings.specs.Verdicts.{Lists, Whole, RefusedAs}
 
 -- ---- a text that lists a sound state
 
@@ -55,14 +59,28 @@ module _ {x : List ℕ} {h : line-head.Head} {e : ℕ} (y : Whole x h e) where
 
 module _ (x b : List ℕ) where
   -- "an unreadable .. line .. gets 11"
-  pub unreadable : read_listing x ≡ none → Leaves (Restore x) b b (Refused 11)
+  unreadable : read_listing x ≡ none → Leaves (Restore x) b b (Refused 11)
   unfolding restore_refusal
   unreadable e = does_not_restore b _ x refl 10 (rw e) refl refl
 
   -- "a readable listing of an unsound state gets 12"
-  pub unsound : Lists x false → Leaves (Restore x) b b (Refused 12)
+  unsound : Lists x false → Leaves (Restore x) b b (Refused 12)
   unfolding restore_refusal
   unsound l = does_not_restore b _ x refl 11 (rw (l.read, l.told)) refl refl
+
+  pub not_listed : (r : Refusal) → RefusedAs x r → Leaves (Restore x) b b (Refused (number_of r))
+  not_listed NotAListing l = unreadable l
+  not_listed ListingNotSound l = unsound l
+  not_listed StoreTooShort l = absurd l
+  not_listed SizesOutOfRange l = absurd l
+  not_listed NotSound l = absurd l
+  not_listed NoConnection l = absurd l
+  not_listed NowTooLate l = absurd l
+  not_listed TooManyParents l = absurd l
+  not_listed AnswerTooShort l = absurd l
+  not_listed NoPlace l = absurd l
+  not_listed UnreadableLine l = absurd l
+  not_listed WrongHashes l = absurd l
 
   module _ {h : line-head.Head} {e : ℕ} (y : Whole x h e) where
     -- "a receiving store shorter than the state's need gets 1 after those"

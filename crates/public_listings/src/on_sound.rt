@@ -4,19 +4,16 @@ ghost use Rattle.store.specs.Image.{SoundStore};
 ghost use Rattle.outcome.specs.Outcome.{LeavesWith};
 ghost use Rattle.outcome.specs.Reply.{text_of};
 
-use outcome::{Listing, refusals};
+use outcome::{Refusal, refusals};
 
 // "saving needs a buffer of its length": the listing is measured before its first byte is written.
-pub fn save(s: &[u8], answer: &mut [u8]) -> Listing
+pub fn save(s: &[u8], answer: &mut [u8]) -> Result<u64, Refusal>
     requires { SoundStore s.now }
     ensures { LeavesWith (On (Save answer.old)) s.now s.now answer.new (text_of result) }
 {
     let n = refusals::need_of(s);
     let needs = saving::length(&s[..n]);
-    let refusal = refusals::of_buffer(answer.len(), needs);
-    if refusal != 0 {
-        return Listing::Refused(refusal);
-    }
+    refusals::of_buffer(answer.len(), needs)?;
     let long = saving::write(&s[..n], answer);
-    Listing::Listed(long as u64)
+    Ok(long as u64)
 }

@@ -4,13 +4,13 @@ ghost use Rattle.public_listings.specs.Verdicts.{Sounds, VerdictOf};
 use listed_form::form_of;
 use listed_lines::cursor::{Lines, Lists};
 use listed_lines::line::Head;
+use outcome::Refusal;
 
-// Of a sound one the first line, and the index behind that.
+// The listing of a sound state: the first line, and the index behind that.
 #[derive(Clone, Copy)]
-pub enum Verdict {
-    Unreadable,
-    Unsound,
-    Is(Head, usize),
+pub struct Listing {
+    pub head: Head,
+    pub from: usize,
 }
 
 // Whether the state with this first line, whose requests the lines behind it list, is sound. Lists of hashes pass through the lent ones.
@@ -31,15 +31,18 @@ fn sound_lines(h: Head, lines: Lines, lists: &mut Lists) -> bool
     listed_counts::light(lines, lists)
 }
 
-pub fn verdict_of(text: &[u8]) -> Verdict
+pub fn sound_listing(text: &[u8]) -> Result<Listing, Refusal>
     ensures { VerdictOf text.now result }
 {
     let mut lists = Lists::new();
-    let Some((h, lines)) = form_of(text, &mut lists) else {
-        return Verdict::Unreadable;
+    let Some((head, lines)) = form_of(text, &mut lists) else {
+        return Err(Refusal::NotAListing);
     };
-    if !sound_lines(h, lines, &mut lists) {
-        return Verdict::Unsound;
+    if !sound_lines(head, lines, &mut lists) {
+        return Err(Refusal::ListingNotSound);
     }
-    Verdict::Is(h, lines.at)
+    Ok(Listing {
+        head,
+        from: lines.at,
+    })
 }

@@ -77,11 +77,11 @@ module _ (n clock : ℕ) where
 
   -- ---- carried out
 
-  pub departs_done : {u : Buffer} {b : List ℕ} (v : SoundStore b) → clock < word → {t : ℕ} → t ≡ in_turn (n ∷ []) (clock ∷ []) 0 (length u) (key_bytes * most v.state) → t ≡ 0
+  pub departs_done : {u : Buffer} {b : List ℕ} (v : SoundStore b) → clock < word → 0 ≡ in_turn (n ∷ []) (clock ∷ []) 0 (length u) (key_bytes * most v.state)
       → {m : ℕ} → Lent b m → {p : List ℕ} → Bytes (p ++ drop m b) → {u' : List ℕ} {r : Counts} → Parted (take m b) p u u' r goes
       → Does (On (Disconnected n clock u)) b (record { reply = Left (keys_in r.own u') (keys_in r.parents (drop (key_bytes * r.own) u')); buffer = u'; store = p ++ drop m b })
   unfolding named perform
-  departs_done {u} v w q z e {p} h {u'} {r} g =
+  departs_done {u} v w q e {p} h {u'} {r} g =
       let x = front_writes v e in
       let s = v.state in
       let own = (goes s).own in
@@ -92,4 +92,4 @@ module _ (n clock : ℕ) where
       let first : keys_in r.own u' ≡ own = (λ i. keys_in (few i) (bytes i)) ∙ own_back own parents u (own-typed s v.sound) in
       let second : keys_in r.parents (drop (key_bytes * r.own) u') ≡ parents =
       (λ i. keys_in (more i) (drop (key_bytes * few i) (bytes i))) ∙ parents_back own parents u (parents-typed s v.sound w) in
-      does_front v e (Disconnected n clock u) (passes (departs n clock u) v q z) p h _ u' (λ i. Left (first i) (second i)) bytes (g.table s v.sound x)
+      does_front v e (Disconnected n clock u) (passes (departs n clock u) v q) p h _ u' (λ i. Left (first i) (second i)) bytes (g.table s v.sound x)

@@ -11,10 +11,12 @@ use Rattle.machine.specs.Package.{solicit}
 use Rattle.machine.specs.Sound.{Sound}
 use Rattle.machine.specs.Owners.{ascending}
 use Rattle.machine.specs.Call.{Ask, SolicitPackageInfo, On, named, takes_place, late, ask_refusal}
-use Rattle.machine.specs.Step.{Reply, Refused, Number, perform}
+use Rattle.machine.specs.Step.{Refused, Number, perform}
 use Rattle.store.specs.Image.{Writes, SoundStore, Bytes, need_of}
 use Rattle.announcing.specs.Answers.{Answered}
 use Rattle.soliciting.specs.Solicits.{Room}
+use Rattle.outcome.specs.declared.refusal.Refusal.{Refusal}
+use Rattle.outcome.specs.Refusals.{number_of}
 use Rattle.outcome.specs.Outcome.{Leaves}
 use Rattle.outcome.specs.Tests.{first_of, of_place, in_turn}
 use Rattle.outcome.specs.Lent.{Lent}
@@ -47,26 +49,27 @@ module _ (n h clock : ℕ) (hs : List ℕ) where
   unfolding named takes_place late ascending
   solicit_turn s = timely_turn ask s refl
 
-  -- t is what they answer, of whatever state the bytes write
-  module _ {b : List ℕ} {t : ℕ} (q : (w : SoundStore b) → t ≡ ask_refusal true ask w.state) where
-    pub solicit-refused : SoundStore b → (t ≡ 0 → ⊥) → Leaves (On ask) b b (Refused t)
-    unfolding named
-    solicit-refused v = asked-refused ask v refl t (q v)
+  -- refused by what they answer
+  pub solicit-refused : {b : List ℕ} (v : SoundStore b) (e : Refusal) → number_of e ≡ ask_refusal true ask v.state → Leaves (On ask) b b (Refused (number_of e))
+  unfolding named
+  solicit-refused v e q = asked-refused ask v refl e q
 
-    in_order : (v : SoundStore b) → t ≡ 0 → first_of named_turn (place_turn v.state) ≡ 0
-    in_order v z = sym (solicit_turn v.state) ∙ sym (q v) ∙ z
+  -- or not, of whatever state the bytes write
+  module _ {b : List ℕ} (q : (w : SoundStore b) → 0 ≡ ask_refusal true ask w.state) where
+    in_order : (v : SoundStore b) → first_of named_turn (place_turn v.state) ≡ 0
+    in_order v = sym (solicit_turn v.state) ∙ sym (q v)
 
-    pub solicit-passed : SoundStore b → t ≡ 0 → Passed (n ∷ []) (clock ∷ []) (length hs) 0 0
-    solicit-passed v z = passed (sym (first_left named_turn (place_turn v.state) (in_order v z))) refl
+    pub solicit-passed : SoundStore b → Passed (n ∷ []) (clock ∷ []) (length hs) 0 0
+    solicit-passed v = passed (sym (first_left named_turn (place_turn v.state) (in_order v)))
 
-    pub solicit-room : t ≡ 0 → {m : ℕ} → Lent b m → Room (take m b) n h hs clock
+    pub solicit-room : {m : ℕ} → Lent b m → Room (take m b) n h hs clock
     unfolding stored_as
-    solicit-room z e st g x y =
+    solicit-room e st g x y =
         let v = stored_as e st g x in
-        free-place st.places (places_held st.table) (sym (rw y at (first_right named_turn (place_turn st) (in_order v z))))
+        free-place st.places (places_held st.table) (sym (rw y at (first_right named_turn (place_turn st) (in_order v))))
 
-    pub solicit_done : (v : SoundStore b) → t ≡ 0 → {m : ℕ} → Lent b m → {p : List ℕ} → Bytes (p ++ drop m b) → {y : Bool} → Answered (take m b) p y (λ l s. solicit l n h hs clock s)
-        → {r : Reply} → r ≡ Number (one y) → Leaves (On ask) b (p ++ drop m b) r
+    pub solicit_done : (v : SoundStore b) → {m : ℕ} → Lent b m → {p : List ℕ} → Bytes (p ++ drop m b) → {y : Bool} → Answered (take m b) p y (λ l s. solicit l n h hs clock s)
+        → {r : ℕ} → r ≡ one y → Leaves (On ask) b (p ++ drop m b) (Number r)
     unfolding named perform
-    solicit_done v z e {p} k {y} g o =
-        replies_done ask v (sym (q v) ∙ z) refl {reply = replies} {next = next} refl e k (record { reply_is = g.reply; state_is = g.table }) o
+    solicit_done v e {p} k {y} g o =
+        replies_done ask v (sym (q v)) refl {reply = replies} {next = next} refl e k (record { reply_is = g.reply; state_is = g.table }) o

@@ -6,7 +6,7 @@ ghost use Rattle.outcome.specs.Outcome.{Leaves, LeavesWith};
 ghost use Rattle.outcome.specs.Reply.{reply_of, listing_of};
 
 use super::on_sound;
-use outcome::{Answer, Listing, refusals};
+use outcome::{Refusal, refusals};
 
 // The package info of the request at the Wtxid key of `subject` has come: its owner has until the deadline to get the package, whose
 // wtxids are given in 32 bytes each. The reply is 0 unless they are 1 to 100.
@@ -17,12 +17,10 @@ pub fn claim_package(
     combined: ident::Hash,
     wtxids: &[u8],
     clock: u64,
-) -> Answer
+) -> Result<u64, Refusal>
     ensures { Leaves (On (ClaimPackage connection (hash_num subject.0) (hash_num combined) (hashes_in wtxids.now) clock)) s.old s.new (reply_of result) }
 {
-    if !sound::sound(s) {
-        return Answer::Refused(refusals::UNSOUND_STORE);
-    }
+    refusals::of_store(s)?;
     on_sound::package_calls::claim_package(s, connection, subject, combined, wtxids, clock)
 }
 
@@ -35,12 +33,10 @@ pub fn begin_package_resolution(
     combined: ident::Hash,
     wtxids: &[u8],
     clock: u64,
-) -> Answer
+) -> Result<u64, Refusal>
     ensures { Leaves (On (BeginPackageResolution connection (hash_num subject.0) (hash_num combined) (hashes_in wtxids.now) clock)) s.old s.new (reply_of result) }
 {
-    if !sound::sound(s) {
-        return Answer::Refused(refusals::UNSOUND_STORE);
-    }
+    refusals::of_store(s)?;
     on_sound::package_calls::begin_package_resolution(
         s, connection, subject, combined, wtxids, clock,
     )
@@ -54,11 +50,9 @@ pub fn release_package(
     subject: ident::Wtxid,
     clock: u64,
     answer: &mut [u8],
-) -> Listing
+) -> Result<u64, Refusal>
     ensures { LeavesWith (On (ReleasePackage connection (hash_num subject.0) clock answer.old)) s.old s.new answer.new (listing_of result) }
 {
-    if !sound::sound(s) {
-        return Listing::Refused(refusals::UNSOUND_STORE);
-    }
+    refusals::of_store(s)?;
     on_sound::package_calls::release_package(s, connection, subject, clock, answer)
 }

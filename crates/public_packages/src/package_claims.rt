@@ -6,16 +6,14 @@ ghost use Rattle.outcome.specs.Outcome.{Leaves, LeavesWith};
 ghost use Rattle.outcome.specs.Reply.{reply_of, listing_of};
 
 use super::on_sound;
-use outcome::{Answer, Listing, refusals};
+use outcome::{Refusal, refusals};
 
 // The transaction of the request at the key is known: the request goes, and its parents are announced for its owner. It stays if a package is still to come of it: an
 // Enqueued one, or one claimed or asked for of an owner in time.
-pub fn forget_known(s: &mut [u8], key: ident::Key, clock: u64) -> Answer
+pub fn forget_known(s: &mut [u8], key: ident::Key, clock: u64) -> Result<u64, Refusal>
     ensures { Leaves (On (ForgetKnown (key_num key) clock)) s.old s.new (reply_of result) }
 {
-    if !sound::sound(s) {
-        return Answer::Refused(refusals::UNSOUND_STORE);
-    }
+    refusals::of_store(s)?;
     on_sound::package_claims::forget_known(s, key, clock)
 }
 
@@ -27,22 +25,18 @@ pub fn failed_package_claims(
     combined: &[u8],
     clock: u64,
     answer: &mut [u8],
-) -> Listing
+) -> Result<u64, Refusal>
     ensures { LeavesWith (On (FailedPackageClaims connection (hashes_in combined.now) clock answer.old)) s.old s.new
         answer.new (listing_of result) }
 {
-    if !sound::sound(s) {
-        return Listing::Refused(refusals::UNSOUND_STORE);
-    }
+    refusals::of_store(s)?;
     on_sound::package_claims::failed_package_claims(s, connection, combined, clock, answer)
 }
 
 // Every package goes, whatever its phase, and its owner leaves the request. The reply is how many went.
-pub fn teardown_package_claims(s: &mut [u8], clock: u64) -> Answer
+pub fn teardown_package_claims(s: &mut [u8], clock: u64) -> Result<u64, Refusal>
     ensures { Leaves (On (TeardownPackageClaims clock)) s.old s.new (reply_of result) }
 {
-    if !sound::sound(s) {
-        return Answer::Refused(refusals::UNSOUND_STORE);
-    }
+    refusals::of_store(s)?;
     on_sound::package_claims::teardown_package_claims(s, clock)
 }

@@ -16,6 +16,8 @@ use Rattle.store.specs.Image.{SoundStore, Bytes}
 use Rattle.owners.specs.Walk.{OwnersListed}
 use Rattle.owners.specs.Back.{holdings_in}
 use Rattle.owners.proofs.Back.{holdings_back}
+use Rattle.outcome.specs.declared.refusal.Refusal.{Refusal}
+use Rattle.outcome.specs.Refusals.{number_of}
 use Rattle.outcome.specs.Outcome.{Does}
 use Rattle.outcome.specs.Tests.{first_of, of_connections, of_clocks, of_parents, of_place, of_hashes, hashes_in_turn}
 use Rattle.outcome.specs.Lent.{Lent}
@@ -45,17 +47,18 @@ module _ (hs : List ℕ) (u : Buffer) where
   unfolding named
   buffer_is s = refl
 
-  module _ {b : List ℕ} (v : SoundStore b) {t : ℕ} (q : t ≡ hashes_in_turn hs (length u) (owner_bytes * length hs)) where
-    pub owners-refused : (t ≡ 0 → ⊥) → Does (On (OwnersOf hs u)) b (record { reply = Refused t; buffer = u; store = b })
-    owners-refused = asked-refused (OwnersOf hs u) v (buffer_is v.state) t (q ∙ sym (asked v.state))
+  module _ {b : List ℕ} (v : SoundStore b) where
+    pub owners-refused : (e : Refusal) → number_of e ≡ hashes_in_turn hs (length u) (owner_bytes * length hs)
+        → Does (On (OwnersOf hs u)) b (record { reply = Refused (number_of e); buffer = u; store = b })
+    owners-refused e q = asked-refused (OwnersOf hs u) v (buffer_is v.state) e (q ∙ sym (asked v.state))
 
-    pub owners_done : t ≡ 0 → {m : ℕ} → Lent b m → Bytes b → {u' : List ℕ} {n : ℕ} → OwnersListed (take m b) hs u u' n
+    pub owners_done : 0 ≡ hashes_in_turn hs (length u) (owner_bytes * length hs) → {m : ℕ} → Lent b m → Bytes b → {u' : List ℕ} {n : ℕ} → OwnersListed (take m b) hs u u' n
         → Does (On (OwnersOf hs u)) b (record { reply = Owned n (holdings_in hs u'); buffer = u'; store = b })
     unfolding named perform
-    owners_done z e h {u'} {n} g =
+    owners_done q e h {u'} {n} g =
         let x = front_writes v e in
         let s = v.state in
         let bytes : u' ≡ written (holdings_answer (holdings hs s.table)) u = g.owners-are s v.sound x in
         let so_many : n ≡ passed hs s.table = g.count s v.sound x in
         let is : holdings_in hs u' ≡ holdings hs s.table = ap (holdings_in hs) bytes ∙ holdings_back s v.sound hs u in
-        does-nothing b _ (OwnersOf hs u) v (asked s ∙ sym q ∙ z) (λ i. Owned (so_many i) (is i)) bytes refl h refl
+        does-nothing b _ (OwnersOf hs u) v (asked s ∙ sym q) (λ i. Owned (so_many i) (is i)) bytes refl h refl

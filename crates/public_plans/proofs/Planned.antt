@@ -17,9 +17,7 @@ use Rattle.machine.specs.Sound.{Fits, AllFit, Bounded, Sound}
 use Rattle.machine.specs.Typed.{Each, KeyTyped, KeysTyped}
 use Rattle.machine.specs.Plan.{chosen_at, able, sooner, better, or_else, least_in, least_at, choice, Scan}
 use Rattle.machine.specs.Plan.{start, add, consider, phase, insert_by_priority, sort_by_priority, asked_keys, expired, plan}
-use Rattle.std.specs.Prelude.{unwrap_or}
-use Rattle.machine.specs.Later.{time_of}
-use Rattle.planning.proofs.Planned.{next-number}
+use Rattle.choosing.specs.Choosing.{option_of}
 use Rattle.machine.specs.Call.{Buffer, Plan, On, entry_bytes, named, takes_place}
 use Rattle.machine.specs.Step.{Chosen, perform}
 use Rattle.machine.proofs.Tests.{by_test}
@@ -137,14 +135,13 @@ module _ (clock : ℕ) (asked : Option (List Key)) where
   unfolding named takes_place
   plans u = record { are = λ s. refl; placeless = λ s. refl }
 
-  pub plans_done : {u : Buffer} {b : List ℕ} (v : SoundStore b) → clock < word → KeysTyped asked → {t : ℕ}
-      → t ≡ in_turn [] (clock ∷ []) 0 (length u) (entry_bytes * min (max_request_checks + 1) v.state.limit) → t ≡ 0 → {m : ℕ} → Lent b m
+  pub plans_done : {u : Buffer} {b : List ℕ} (v : SoundStore b) → clock < word → KeysTyped asked → 0 ≡ in_turn [] (clock ∷ []) 0 (length u) (entry_bytes * min (max_request_checks + 1) v.state.limit) → {m : ℕ} → Lent b m
       → {p : List ℕ} → Bytes (p ++ drop m b) → {u' : List ℕ} {r : Planned} → ((s : State) → Sound s → Writes (take m b) s → Plans clock asked s p u u' r)
-      → Does (On (Plan clock asked u)) b (record { reply = Chosen r.considered (entries_from u' 0 r.count) (time_of (unwrap_or r.next 0)); buffer = u'; store = p ++ drop m b })
+      → Does (On (Plan clock asked u)) b (record { reply = Chosen r.considered (entries_from u' 0 r.count) (option_of r.next); buffer = u'; store = p ++ drop m b })
   unfolding named perform
-  plans_done {u} v w k q z e {p} h {u'} {r} f =
+  plans_done {u} v w k q e {p} h {u'} {r} f =
       let s = v.state in
       let g = f s v.sound (front_writes v e) in
       let l = (plan clock asked s).entries in
       let is : entries_from u' 0 r.count ≡ l = (λ i. entries_from (g.entries i) 0 (g.count i)) ∙ entries_back l u (plan_whole clock asked s w v.sound k) in
-      does_front v e (Plan clock asked u) (passes (plans u) v q z) p h _ u' (λ i. Chosen (g.considered i) (is i) (next-number clock asked s r.next g.next i)) g.entries g.state
+      does_front v e (Plan clock asked u) (passes (plans u) v q) p h _ u' (λ i. Chosen (g.considered i) (is i) (g.next i)) g.entries g.state

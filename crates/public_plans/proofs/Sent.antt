@@ -84,18 +84,18 @@ module _ (ws : List ℕ) (l : List Entry) where
   unfolding named takes_place
   arranges u = record { are = λ s. refl; placeless = λ s. refl }
 
-  pub arranges_done : {u : Buffer} {b : List ℕ} (v : SoundStore b) → Each Whole l → {t : ℕ} → t ≡ in_turn ws [] 0 (length u) (entry_bytes * length l) → t ≡ 0 → {m : ℕ} → Lent b m
+  pub arranges_done : {u : Buffer} {b : List ℕ} (v : SoundStore b) → Each Whole l → 0 ≡ in_turn ws [] 0 (length u) (entry_bytes * length l) → {m : ℕ} → Lent b m
       → Bytes b → {u' : List ℕ} {n : ℕ} → Tells (take m b) (λ t. n ≡ length (arrange ws l t)) → Tells (take m b) (λ t. u' ≡ written (entries_answer (arrange ws l t)) u)
       → Does (On (Arrange ws l u)) b (record { reply = Entries (entries_from u' 0 n); buffer = u'; store = b })
   unfolding named perform
-  arranges_done {u} {b} v w q z e h {u'} {n} count put =
+  arranges_done {u} {b} v w q e h {u'} {n} count put =
       let x = front_writes v e in
       let s = v.state in
       let sent = arrange ws l s.table in
       let bytes : u' ≡ written (entries_answer sent) u = put s v.sound x in
       let so_many : n ≡ length sent = count s v.sound x in
       let is : entries_from u' 0 n ≡ sent = (λ i. entries_from (bytes i) 0 (so_many i)) ∙ entries_back sent u (arranged_whole ws l s.table w) in
-      does-nothing b _ (Arrange ws l u) v (passes (arranges u) v q z) (ap Entries is) bytes refl h refl
+      does-nothing b _ (Arrange ws l u) v (passes (arranges u) v q) (ap Entries is) bytes refl h refl
 
 -- ---- the words of lent bytes are of 64 bits
 

@@ -21,15 +21,15 @@ module _ (clock : ℕ) (l : List Entry) where
   unfolding named takes_place
   claims u = record { are = λ s. refl; placeless = λ s. refl }
 
-  pub claims_done : {u : Buffer} {b : List ℕ} (v : SoundStore b) → Each Whole l → {t : ℕ} → t ≡ in_turn [] (clock ∷ []) 0 (length u) (entry_bytes * length l) → t ≡ 0 → {m : ℕ} → Lent b m
+  pub claims_done : {u : Buffer} {b : List ℕ} (v : SoundStore b) → Each Whole l → 0 ≡ in_turn [] (clock ∷ []) 0 (length u) (entry_bytes * length l) → {m : ℕ} → Lent b m
       → {p : List ℕ} → Bytes (p ++ drop m b) → {u' : List ℕ} {n : ℕ} → Claims (take m b) p u u' clock l n
       → Does (On (Claim clock l u)) b (record { reply = Entries (entries_from u' 0 n); buffer = u'; store = p ++ drop m b })
   unfolding named perform
-  claims_done {u} v w q z e {p} h {u'} {n} g =
+  claims_done {u} v w q e {p} h {u'} {n} g =
       let x = front_writes v e in
       let s = v.state in
       let taken = (claim clock l s.table).entries in
       let bytes : u' ≡ written (entries_answer taken) u = g.entries s v.sound x in
       let count : n ≡ length taken = g.count s v.sound x in
       let is : entries_from u' 0 n ≡ taken = (λ i. entries_from (bytes i) 0 (count i)) ∙ entries_back taken u (claim_whole clock l s.table w) in
-      does_front v e (Claim clock l u) (passes (claims u) v q z) p h _ u' (ap Entries is) bytes (g.table s v.sound x)
+      does_front v e (Claim clock l u) (passes (claims u) v q) p h _ u' (ap Entries is) bytes (g.table s v.sound x)

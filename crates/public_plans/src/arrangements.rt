@@ -10,17 +10,15 @@ ghost use Rattle.public_plans.specs.Parts.{connections_in, PartIs};
 
 use super::on_sound;
 use claiming::entries::ENTRY;
-use outcome::{Listing, refusals};
+use outcome::{Refusal, refusals};
 
 // What a claim has taken, given in 112 bytes an entry, stands in the answer by ascending connection, then claim order. A t item of a marked request turns v for a
 // witness connection: those of the list, which has 8 bytes for each. The store is only read.
-pub fn arrange(s: &[u8], witnesses: &[u8], taken: &[u8], answer: &mut [u8]) -> Listing
+pub fn arrange(s: &[u8], witnesses: &[u8], taken: &[u8], answer: &mut [u8]) -> Result<u64, Refusal>
     ensures { LeavesWith (On (Arrange (words witnesses.now) (entries_in taken.now) answer.old)) s.now s.now
         answer.new (entries_of result) }
 {
-    if !sound::sound(s) {
-        return Listing::Refused(refusals::UNSOUND_STORE);
-    }
+    refusals::of_store(s)?;
     on_sound::arrangements::arrange(s, witnesses, taken, answer)
 }
 

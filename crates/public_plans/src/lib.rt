@@ -8,9 +8,10 @@ pub mod ownership;
 pub mod plans;
 pub mod wrappers;
 
-// How many keys a plan considered, how many entries stand in the answer buffer, and when to look again, 0 for no time (document 02, request c); or a refusal.
-#[derive(Clone, Copy)]
-pub enum Selection {
-    Refused(u64),
-    Chosen(u64, u64, u64),
+// How many keys a plan considered, how many entries stand in the answer buffer, and when to look again (document 02, request c).
+#[derive(Clone, Copy, Debug, PartialEq, Eq)]
+pub struct Selection {
+    pub considered: u64,
+    pub chosen: u64,
+    pub next: Option<u64>,
 }

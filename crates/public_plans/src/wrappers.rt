@@ -6,7 +6,7 @@ ghost use Rattle.outcome.specs.Outcome.{Leaves, LeavesWith};
 ghost use Rattle.outcome.specs.Reply.{reply_of, listing_of};
 
 use super::on_sound;
-use outcome::{Answer, Listing, refusals};
+use outcome::{Refusal, refusals};
 
 // The connection announces the items, which are given in 40 bytes each, with the priorities beside them in 8; the shorter list decides. source: a wtxid source exists.
 pub fn announce_transactions(
@@ -17,12 +17,10 @@ pub fn announce_transactions(
     source: bool,
     items: &[u8],
     priorities: &[u8],
-) -> Answer
+) -> Result<u64, Refusal>
     ensures { Leaves (On (AnnounceTransactions connection clock preferred source (offers_in items.now priorities.now))) s.old s.new (reply_of result) }
 {
-    if !sound::sound(s) {
-        return Answer::Refused(refusals::UNSOUND_STORE);
-    }
+    refusals::of_store(s)?;
     on_sound::wrappers::announce_transactions(
         s, connection, clock, preferred, source, items, priorities,
     )
@@ -35,12 +33,10 @@ pub fn transaction_response_completed(
     x: ident::Txid,
     w: ident::Wtxid,
     clock: u64,
-) -> Answer
+) -> Result<u64, Refusal>
     ensures { Leaves (On (TransactionResponseCompleted connection (hash_num x.0) (hash_num w.0) clock)) s.old s.new (reply_of result) }
 {
-    if !sound::sound(s) {
-        return Answer::Refused(refusals::UNSOUND_STORE);
-    }
+    refusals::of_store(s)?;
     on_sound::wrappers::transaction_response_completed(s, connection, x, w, clock)
 }
 
@@ -52,11 +48,9 @@ pub fn transaction_not_found(
     items: &[u8],
     clock: u64,
     answer: &mut [u8],
-) -> Listing
+) -> Result<u64, Refusal>
     ensures { LeavesWith (On (TransactionNotFound connection (items_in items.now) clock answer.old)) s.old s.new answer.new (listing_of result) }
 {
-    if !sound::sound(s) {
-        return Listing::Refused(refusals::UNSOUND_STORE);
-    }
+    refusals::of_store(s)?;
     on_sound::wrappers::transaction_not_found(s, connection, items, clock, answer)
 }

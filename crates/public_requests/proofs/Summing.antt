@@ -14,9 +14,9 @@ use Rattle.machine.specs.Call.{Sum, On, named, any_late, takes_place, late, ask_
 use Rattle.machine.specs.Step.{Summed, perform, written}
 use Rattle.machine.proofs.Free.{evictable_few}
 use Rattle.store.specs.Image.{SoundStore, Bytes}
+use Rattle.std.specs.Prelude.{Ok}
 use Rattle.requests.specs.Changes.{Tells}
 use Rattle.outcome.specs.declared.Figures.{Figures}
-use Rattle.outcome.specs.declared.Figures.TheVariants.{Are}
 use Rattle.outcome.specs.Outcome.{Leaves}
 use Rattle.outcome.specs.Reply.{figures_of}
 use Rattle.outcome.specs.Lent.{Lent}
@@ -43,8 +43,8 @@ module _ (b : List ℕ) (w : SoundStore b) where
   unfolding ask_refusal named any_late takes_place late ascending elem perform written
   summed p = does-nothing b _ Sum w refl refl refl refl p refl
 
-  pub sum-figures : (n l m : ℕ) {e : ℕ} {r : Figures} → Bytes b → n ≡ get_or (words b) 3 0 → l ≡ get_or (words b) 1 0 → Lent b e → Tells (take e b) (λ t. m ≡ evictable t)
-      → r ≡ Are n (l - n) (l - n + m) (n * 1000 / l)
-      → Leaves (On Sum) b b (figures_of r)
+  pub sum-figures : (n l m : ℕ) {e : ℕ} {f : Figures} → Bytes b → n ≡ get_or (words b) 3 0 → l ≡ get_or (words b) 1 0 → Lent b e → Tells (take e b) (λ t. m ≡ evictable t)
+      → f ≡ record { held = n; free = l - n; free_preferred = l - n + m; permille = n * 1000 / l }
+      → Leaves (On Sum) b b (figures_of (Ok f))
   unfolding sum
   sum-figures n l m p u v z c e = rw (e, u ∙ held_word b w, v ∙ limit-word b w, count_is m z c) (summed p)

@@ -6,26 +6,22 @@ ghost use Rattle.outcome.specs.Outcome.{Leaves, LeavesWith};
 ghost use Rattle.outcome.specs.Reply.{reply_of, listing_of};
 
 use super::on_sound;
-use outcome::{Answer, Listing, refusals};
+use outcome::{Refusal, refusals};
 
 // A connection can deliver an item. The reply is 1 if it is kept as a candidate of the item's key.
-pub fn announce(s: &mut [u8], c: requests::Candidate) -> Answer
+pub fn announce(s: &mut [u8], c: requests::Candidate) -> Result<u64, Refusal>
     ensures { Leaves (On (Announce (candidate_of c))) s.old s.new (reply_of result) }
 {
-    if !sound::sound(s) {
-        return Answer::Refused(refusals::UNSOUND_STORE);
-    }
+    refusals::of_store(s)?;
     on_sound::candidates::announce(s, c)
 }
 
 // The same for a parent that is missing. A connection that is a candidate already gets 1: it takes the smaller ready time and priority, and
 // turns preferred.
-pub fn request_parent(s: &mut [u8], c: requests::Candidate) -> Answer
+pub fn request_parent(s: &mut [u8], c: requests::Candidate) -> Result<u64, Refusal>
     ensures { Leaves (On (RequestParent (candidate_of c))) s.old s.new (reply_of result) }
 {
-    if !sound::sound(s) {
-        return Answer::Refused(refusals::UNSOUND_STORE);
-    }
+    refusals::of_store(s)?;
     on_sound::candidates::request_parent(s, c)
 }
 
@@ -36,11 +32,9 @@ pub fn announce_parents(
     parents: &[u8],
     clock: u64,
     answer: &mut [u8],
-) -> Listing
+) -> Result<u64, Refusal>
     ensures { LeavesWith (On (AnnounceParents connection (hashes_in parents.now) clock answer.old)) s.old s.new answer.new (listing_of result) }
 {
-    if !sound::sound(s) {
-        return Listing::Refused(refusals::UNSOUND_STORE);
-    }
+    refusals::of_store(s)?;
     on_sound::candidates::announce_parents(s, connection, parents, clock, answer)
 }

@@ -1,15 +1,13 @@
 // counts: what a connection has. It is no call of document 01, and only reads.
-ghost use Rattle.public_requests.specs.Counting.{CountsOf};
+ghost use Rattle.public_requests.specs.Counting.{counts_of, CountsOf};
 
 use crate::{Counts, on_sound};
-use outcome::refusals;
+use outcome::{Refusal, refusals};
 
 // How many announcements the connection has, and how many requests it owns.
-pub fn counts(s: &[u8], connection: u64) -> Counts
-    ensures { CountsOf s.now connection result }
+pub fn counts(s: &[u8], connection: u64) -> Result<Counts, Refusal>
+    ensures { CountsOf s.now connection (counts_of result) }
 {
-    if !sound::sound(s) {
-        return Counts::Refused(refusals::UNSOUND_STORE);
-    }
+    refusals::of_store(s)?;
     on_sound::connections::counts(s, connection)
 }

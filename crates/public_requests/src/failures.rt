@@ -5,15 +5,13 @@ ghost use Rattle.outcome.specs.Outcome.{Leaves, LeavesWith};
 ghost use Rattle.outcome.specs.Reply.{reply_of, listing_of};
 
 use super::on_sound;
-use outcome::{Answer, Listing, refusals};
+use outcome::{Refusal, refusals};
 
 // The owner of the request at the key failed to deliver. The reply is 0 unless the connection owns it and its package is not Enqueued.
-pub fn failed(s: &mut [u8], key: ident::Key, connection: u64, clock: u64) -> Answer
+pub fn failed(s: &mut [u8], key: ident::Key, connection: u64, clock: u64) -> Result<u64, Refusal>
     ensures { Leaves (On (Failed (key_num key) connection clock)) s.old s.new (reply_of result) }
 {
-    if !sound::sound(s) {
-        return Answer::Refused(refusals::UNSOUND_STORE);
-    }
+    refusals::of_store(s)?;
     on_sound::failures::failed(s, key, connection, clock)
 }
 
@@ -25,31 +23,25 @@ pub fn failed_with_parents(
     connection: u64,
     clock: u64,
     answer: &mut [u8],
-) -> Listing
+) -> Result<u64, Refusal>
     ensures { LeavesWith (On (FailedWithParents (key_num key) connection clock answer.old)) s.old s.new answer.new (listing_of result) }
 {
-    if !sound::sound(s) {
-        return Listing::Refused(refusals::UNSOUND_STORE);
-    }
+    refusals::of_store(s)?;
     on_sound::failures::failed_with_parents(s, key, connection, clock, answer)
 }
 
 // The owner gives the request back and stays a candidate.
-pub fn unclaim(s: &mut [u8], key: ident::Key, connection: u64) -> Answer
+pub fn unclaim(s: &mut [u8], key: ident::Key, connection: u64) -> Result<u64, Refusal>
     ensures { Leaves (On (Unclaim (key_num key) connection)) s.old s.new (reply_of result) }
 {
-    if !sound::sound(s) {
-        return Answer::Refused(refusals::UNSOUND_STORE);
-    }
+    refusals::of_store(s)?;
     on_sound::failures::unclaim(s, key, connection)
 }
 
 // The request at the key goes.
-pub fn forget(s: &mut [u8], key: ident::Key) -> Answer
+pub fn forget(s: &mut [u8], key: ident::Key) -> Result<u64, Refusal>
     ensures { Leaves (On (Forget (key_num key))) s.old s.new (reply_of result) }
 {
-    if !sound::sound(s) {
-        return Answer::Refused(refusals::UNSOUND_STORE);
-    }
+    refusals::of_store(s)?;
     on_sound::failures::forget(s, key)
 }

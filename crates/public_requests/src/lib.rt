@@ -6,11 +6,10 @@ ghost use Rattle.std.specs.Prelude.{◌≡◌, ◌+◌, ◌-◌, ◌*◌, ◌/�
 ghost use Rattle.machine.specs.Limits as limits;
 ghost use Rattle.machine.specs.Call.{Open, On, Sum, sizes_taken};
 ghost use Rattle.outcome.specs.Outcome.{Leaves};
-ghost use Rattle.outcome.specs.declared.Figures.TheVariants.{Are};
 ghost use Rattle.outcome.specs.Reply.{reply_of, figures_of};
 
 use machine::limits::{MAX_ANNOUNCEMENTS, MAX_PLACES};
-use outcome::{Answer, Figures, need, refusals};
+use outcome::{Figures, RETURNED, Refusal, need, refusals};
 
 pub mod candidates;
 pub mod connections;
@@ -18,59 +17,53 @@ pub mod failures;
 pub mod on_sound;
 pub mod sweeps;
 
-// How many announcements a connection has, and how many requests it owns, or a refusal.
-#[derive(Clone, Copy)]
-pub enum Counts {
-    Refused(u64),
-    Are(u64, u64),
+// How many announcements a connection has, and how many requests it owns.
+#[derive(Clone, Copy, Debug, PartialEq, Eq)]
+pub struct Counts {
+    pub announced: u64,
+    pub owned: u64,
 }
 
 // Whether opening takes these sizes.
 pub fn sizes_taken(l: u64, q: u64) -> bool
     ensures { result ≡ sizes_taken l q }
 {
-    if l < 1 {
-        return false;
-    }
-    if MAX_ANNOUNCEMENTS < l {
-        return false;
-    }
-    if q < 1 {
-        return false;
-    }
-    q <= MAX_PLACES
+    (1..=MAX_ANNOUNCEMENTS).contains(&l) && (1..=MAX_PLACES).contains(&q)
 }
 
 // Makes the store an empty tracker for L announcements and Q package places. It takes any store that is long enough.
-pub fn open(s: &mut [u8], l: u64, q: u64) -> Answer
+pub fn open(s: &mut [u8], l: u64, q: u64) -> Result<u64, Refusal>
     ensures { Leaves (Open l q) s.old s.new (reply_of result) }
 {
     if !sizes_taken(l, q) {
-        return Answer::Refused(refusals::BAD_SIZES);
+        return Err(Refusal::SizesOutOfRange);
     }
     let n = need(l as usize, q as usize);
     if s.len() < n {
-        return Answer::Refused(refusals::SHORT_STORE);
+        return Err(Refusal::StoreTooShort);
     }
     store::head::fill(&mut s[..n], l as usize, q as usize);
-    Answer::Number(1)
+    Ok(1)
 }
 
 // How many announcements are held, how many more fit of unpreferred newcomers and of preferred ones, who may evict, and how full the tracker is in
 // thousandths, rounded down.
-pub fn sum(s: &[u8]) -> Figures
+pub fn sum(s: &[u8]) -> Result<Figures, Refusal>
     ensures { Leaves (On Sum) s.now s.now (figures_of result) }
 {
-    if !sound::sound(s) {
-        return Figures::Refused(refusals::UNSOUND_STORE);
-    }
+    refusals::of_store(s)?;
     on_sound::sum(s)
 }
 
 // The figures of n held of L, m of which can be evicted.
 fn figures_of(n: u64, l: u64, m: u64) -> Figures
     requires { (1 ≤ l) × (l ≤ limits.max_announcements) × (n ≤ l) × (m ≤ n) }
-    ensures { result ≡ Are n (l - n) (l - n + m) (n * 1000 / l) }
+    ensures { result ≡ record { held = n; free = l - n; free_preferred = l - n + m; permille = n * 1000 / l } }
 {
-    Figures::Are(n, l - n, l - n + m, n * 1000 / l)
+    Figures {
+        held: n,
+        free: l - n,
+        free_preferred: l - n + m,
+        permille: n * 1000 / l,
+    }
 }

@@ -8,14 +8,14 @@ ghost use Rattle.outcome.specs.Outcome.{Leaves};
 ghost use Rattle.outcome.specs.Reply.{figures_of};
 
 use crate::figures_of;
-use outcome::{Figures, refusals};
+use outcome::{Figures, Refusal, refusals};
 
 pub mod candidates;
 pub mod connections;
 pub mod failures;
 pub mod sweeps;
 
-pub fn sum(s: &[u8]) -> Figures
+pub fn sum(s: &[u8]) -> Result<Figures, Refusal>
     requires { SoundStore s.now }
     ensures { Leaves (On Sum) s.now s.now (figures_of result) }
 {
@@ -23,5 +23,5 @@ pub fn sum(s: &[u8]) -> Figures
     let n = words::get(s, 3);
     let e = refusals::need_of(s);
     let m = announcing::evict::evictable(&s[..e]);
-    figures_of(n, l, m)
+    Ok(figures_of(n, l, m))
 }

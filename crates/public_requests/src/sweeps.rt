@@ -4,24 +4,20 @@ ghost use Rattle.outcome.specs.Outcome.{Leaves, LeavesWith};
 ghost use Rattle.outcome.specs.Reply.{reply_of, listing_of};
 
 use super::on_sound;
-use outcome::{Answer, Listing, refusals};
+use outcome::{Refusal, refusals};
 
 // Hands out the next keys after the known cursor and round to it, which becomes the last of them. They stand in the answer.
-pub fn sweep(s: &mut [u8], answer: &mut [u8]) -> Listing
+pub fn sweep(s: &mut [u8], answer: &mut [u8]) -> Result<u64, Refusal>
     ensures { LeavesWith (On (Sweep answer.old)) s.old s.new answer.new (listing_of result) }
 {
-    if !sound::sound(s) {
-        return Listing::Refused(refusals::UNSOUND_STORE);
-    }
+    refusals::of_store(s)?;
     on_sound::sweeps::sweep(s, answer)
 }
 
 // Whether a poll is due: the reply is 1 at most every 100 milliseconds.
-pub fn poll_gate(s: &mut [u8], clock: u64) -> Answer
+pub fn poll_gate(s: &mut [u8], clock: u64) -> Result<u64, Refusal>
     ensures { Leaves (On (PollGate clock)) s.old s.new (reply_of result) }
 {
-    if !sound::sound(s) {
-        return Answer::Refused(refusals::UNSOUND_STORE);
-    }
+    refusals::of_store(s)?;
     on_sound::sweeps::poll_gate(s, clock)
 }

@@ -1,20 +1,8 @@
 -- `owned::tracker_owned_sum` meets its contract: that of the checked call, behind its sound test.
-use Rattle.crossing.proofs.Statuses.{sum-refused, sum_told, stays}
+use Rattle.crossing.proofs.Statuses.{hands-figures}
 use Rattle.owned.proofs.tracker_owned_sum.Goals as goal
 
-pub returns-in-Refused : goal.returns-in-Refused
-returns-in-Refused c = record {
-  leaves = sum-refused c.args.s.now _ _ _ _ _ (sum_told c.args.s.now c.sum-f.ensures c.in-Refused.is);
-  kept = (
-    stays c.in-Refused.n c.args.held.now,
-    stays c.in-Refused.n c.args.free.now,
-    stays c.in-Refused.n c.args.preferred_free.now,
-    stays c.in-Refused.n c.args.permille.now,
-  );
-}
-
-pub returns-in-Are : goal.returns-in-Are
-returns-in-Are c = record {
-  leaves = sum_told c.args.s.now c.sum-f.ensures c.in-Are.is;
-  kept = (tt, tt, tt, tt);
-}
+pub returns : goal.returns
+returns c =
+    let h = hands-figures c.sum-f.result _ _ _ _ c.sum-f.ensures c.hand_figures.ensures in
+    record { leaves = h.0; kept = (h.1, h.2, h.3, h.4) }

@@ -1,16 +1,10 @@
 -- `public_listings::restore` meets its contract: one law of proofs/Restored for each verdict.
-use Rattle.public_listings.proofs.Judging.{verdict_as}
-use Rattle.public_listings.proofs.Restored.{unreadable, unsound}
+use Rattle.outcome.proofs.Exits.{hands-on}
+use Rattle.public_listings.proofs.Restored.{not_listed}
 use Rattle.public_listings.proofs.restore.Goals as goal
 
 pub restore_from-requires : goal.restore_from-requires
-restore_from-requires c = verdict_as c.verdict_of.ensures c.in-Is.is
+restore_from-requires c = c.in_ok-listing.ensures.is
 
-pub returns-in-Unreadable : goal.returns-in-Unreadable
-returns-in-Unreadable c = unreadable _ _ (verdict_as c.verdict_of.ensures c.in-Unreadable.is)
-
-pub returns-in-Unsound : goal.returns-in-Unsound
-returns-in-Unsound c = unsound _ _ (verdict_as c.verdict_of.ensures c.in-Unsound.is)
-
-pub returns-in-Is : goal.returns-in-Is
-returns-in-Is c = c.restore_from.ensures
+pub returns-in_err-listing : goal.returns-in_err-listing
+returns-in_err-listing c = rw (hands-on _ c.from_residual.ensures.1) (not_listed _ _ _ c.in_err-listing.ensures.is)

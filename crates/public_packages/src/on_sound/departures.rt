@@ -7,7 +7,7 @@ ghost use Rattle.outcome.specs.Outcome.{LeavesWith};
 ghost use Rattle.outcome.specs.Reply.{departure_of};
 
 use machine::limits::MAX_PARENTS;
-use outcome::{Departure, refusals};
+use outcome::{Departure, Refusal, refusals};
 
 // Announcements of a connection, and parents of a request.
 const MAX_PEER_ANNOUNCEMENTS: usize = 5_000;
@@ -33,16 +33,16 @@ fn departure_needs(s: &[u8]) -> usize
     departure_bytes(l, q)
 }
 
-pub fn disconnected(s: &mut [u8], connection: u64, clock: u64, answer: &mut [u8]) -> Departure
+pub fn disconnected(s: &mut [u8], connection: u64, clock: u64, answer: &mut [u8]) -> Result<Departure, Refusal>
     requires { SoundStore s.old }
     ensures { LeavesWith (On (Disconnected connection clock answer.old)) s.old s.new answer.new (departure_of result) }
 {
     let needs = departure_needs(s);
-    let refusal = refusals::in_turn(connection, clock, 0, answer.len(), needs);
-    if refusal != 0 {
-        return Departure::Refused(refusal);
-    }
+    refusals::in_turn(connection, clock, 0, answer.len(), needs)?;
     let n = refusals::need_of(s);
     let left = leaving::disconnected(&mut s[..n], connection, clock, answer);
-    Departure::Left(left.own as u64, left.parents as u64)
+    Ok(Departure {
+        own: left.own as u64,
+        parents: left.parents as u64,
+    })
 }

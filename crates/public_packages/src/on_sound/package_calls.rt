@@ -6,7 +6,7 @@ ghost use Rattle.store.specs.Image.{SoundStore};
 ghost use Rattle.outcome.specs.Outcome.{Leaves, LeavesWith};
 ghost use Rattle.outcome.specs.Reply.{reply_of, listing_of};
 
-use outcome::{Answer, Listing, refusals, replied};
+use outcome::{Refusal, refusals, replied};
 
 pub fn claim_package(
     s: &mut [u8],
@@ -15,16 +15,13 @@ pub fn claim_package(
     combined: ident::Hash,
     wtxids: &[u8],
     clock: u64,
-) -> Answer
+) -> Result<u64, Refusal>
     requires { SoundStore s.old }
     ensures { Leaves (On (ClaimPackage connection (hash_num subject.0) (hash_num combined) (hashes_in wtxids.now) clock)) s.old s.new (reply_of result) }
 {
-    let refusal = refusals::of_connection_and_clock(connection, clock);
-    if refusal != 0 {
-        return Answer::Refused(refusal);
-    }
+    refusals::of_connection_and_clock(connection, clock)?;
     let n = refusals::need_of(s);
-    replied(soliciting::claim_package(&mut s[..n], connection, subject, combined, wtxids, clock))
+    Ok(replied(soliciting::claim_package(&mut s[..n], connection, subject, combined, wtxids, clock)))
 }
 
 pub fn begin_package_resolution(
@@ -34,23 +31,20 @@ pub fn begin_package_resolution(
     combined: ident::Hash,
     wtxids: &[u8],
     clock: u64,
-) -> Answer
+) -> Result<u64, Refusal>
     requires { SoundStore s.old }
     ensures { Leaves (On (BeginPackageResolution connection (hash_num subject.0) (hash_num combined) (hashes_in wtxids.now) clock)) s.old s.new (reply_of result) }
 {
-    let refusal = refusals::of_connection_and_clock(connection, clock);
-    if refusal != 0 {
-        return Answer::Refused(refusal);
-    }
+    refusals::of_connection_and_clock(connection, clock)?;
     let n = refusals::need_of(s);
-    replied(soliciting::begin_package_resolution(
+    Ok(replied(soliciting::begin_package_resolution(
         &mut s[..n],
         connection,
         subject,
         combined,
         wtxids,
         clock,
-    ))
+    )))
 }
 
 pub fn release_package(
@@ -59,15 +53,12 @@ pub fn release_package(
     subject: ident::Wtxid,
     clock: u64,
     answer: &mut [u8],
-) -> Listing
+) -> Result<u64, Refusal>
     requires { SoundStore s.old }
     ensures { LeavesWith (On (ReleasePackage connection (hash_num subject.0) clock answer.old)) s.old s.new answer.new (listing_of result) }
 {
-    let refusal = refusals::in_turn(connection, clock, 0, answer.len(), refusals::KEYS_ANSWER);
-    if refusal != 0 {
-        return Listing::Refused(refusal);
-    }
+    refusals::in_turn(connection, clock, 0, answer.len(), refusals::KEYS_ANSWER)?;
     let n = refusals::need_of(s);
     let listed = failing::release_package(&mut s[..n], connection, subject, clock, answer);
-    Listing::Listed(listed as u64)
+    Ok(listed as u64)
 }

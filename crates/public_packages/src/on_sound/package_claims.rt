@@ -8,19 +8,16 @@ ghost use Rattle.store.specs.Image.{SoundStore};
 ghost use Rattle.outcome.specs.Outcome.{Leaves, LeavesWith};
 ghost use Rattle.outcome.specs.Reply.{reply_of, listing_of};
 
-use outcome::{Answer, Listing, refusals};
+use outcome::{Refusal, refusals};
 
-pub fn forget_known(s: &mut [u8], key: ident::Key, clock: u64) -> Answer
+pub fn forget_known(s: &mut [u8], key: ident::Key, clock: u64) -> Result<u64, Refusal>
     requires { SoundStore s.old }
     ensures { Leaves (On (ForgetKnown (key_num key) clock)) s.old s.new (reply_of result) }
 {
-    let late = refusals::of_clock(clock);
-    if late != 0 {
-        return Answer::Refused(late);
-    }
+    refusals::of_clock(clock)?;
     let n = refusals::need_of(s);
     claims::forget_known(&mut s[..n], key, clock);
-    Answer::Number(outcome::RETURNED)
+    Ok(outcome::RETURNED)
 }
 
 // The bytes that the answer of failed_package_claims may need: 101 × Q keys.
@@ -38,16 +35,13 @@ pub fn failed_package_claims(
     combined: &[u8],
     clock: u64,
     answer: &mut [u8],
-) -> Listing
+) -> Result<u64, Refusal>
     requires { SoundStore s.old }
     ensures { LeavesWith (On (FailedPackageClaims connection (hashes_in combined.now) clock answer.old)) s.old s.new
         answer.new (listing_of result) }
 {
     let needs = claims_needs(s);
-    let refusal = refusals::in_turn(connection, clock, 0, answer.len(), needs);
-    if refusal != 0 {
-        return Listing::Refused(refusal);
-    }
+    refusals::in_turn(connection, clock, 0, answer.len(), needs)?;
     let n = refusals::need_of(s);
     let listed = claims::waiting::failed_package_claims(
         &mut s[..n],
@@ -56,18 +50,15 @@ pub fn failed_package_claims(
         clock,
         answer,
     );
-    Listing::Listed(listed as u64)
+    Ok(listed as u64)
 }
 
-pub fn teardown_package_claims(s: &mut [u8], clock: u64) -> Answer
+pub fn teardown_package_claims(s: &mut [u8], clock: u64) -> Result<u64, Refusal>
     requires { SoundStore s.old }
     ensures { Leaves (On (TeardownPackageClaims clock)) s.old s.new (reply_of result) }
 {
-    let refusal = refusals::of_clock(clock);
-    if refusal != 0 {
-        return Answer::Refused(refusal);
-    }
+    refusals::of_clock(clock)?;
     let n = refusals::need_of(s);
     let cleared = tearing::teardown_package_claims(&mut s[..n], clock);
-    Answer::Number(cleared as u64)
+    Ok(cleared as u64)
 }

@@ -10,23 +10,32 @@ ghost use Rattle.lent_lists.specs.Lists.{hashes_in};
 ghost use Rattle.store.specs.Image.{Writes, SoundStore};
 ghost use Rattle.store.specs.Shown.{Kept};
 ghost use Rattle.outcome.specs.Outcome.{Leaves};
+ghost use Rattle.outcome.specs.Refusals.{refusal_in};
 ghost use Rattle.outcome.specs.Reply.{reply_of};
 ghost use Rattle.outcome.specs.Tests.{of_place};
 
-use outcome::{Answer, refusals, replied};
+use outcome::{Refusal, refusals, replied};
 
 // Test 8 of a solicitation, on the bytes of the need.
-fn of_place(s: &[u8], connection: u64, subject: ident::Wtxid, clock: u64) -> u64
+fn of_place(
+    s: &[u8],
+    connection: u64,
+    subject: ident::Wtxid,
+    clock: u64,
+) -> Result<(), Refusal>
     requires { Kept s.now }
     ensures { (hs : List ℕ) (st : State) → Sound st → Writes s.now st
-        → result ≡ of_place (solicit (limits_of st) connection (hash_num subject.0) hs clock st.table).reply st.places (places_held st.table) }
+        → refusal_in result ≡ of_place (solicit (limits_of st) connection (hash_num subject.0) hs clock st.table).reply st.places (places_held st.table) }
 {
     if !soliciting::info::would_solicit(s, connection, subject, clock) {
-        return 0;
+        return Ok(());
     }
     let held = store::head::held_places(s);
     let places = store::head::places(s);
-    if held < places { 0 } else { refusals::NO_PLACE }
+    if held < places {
+        return Ok(());
+    }
+    Err(Refusal::NoPlace)
 }
 
 // Tests 4 to 8 of a solicitation with so many parents.
@@ -36,14 +45,13 @@ fn of_solicitation(
     subject: ident::Wtxid,
     count: usize,
     clock: u64,
-) -> u64
+) -> Result<(), Refusal>
     requires { SoundStore s.now }
-    ensures { (w : SoundStore s.now) (hs : List ℕ) → count ≡ length hs → result ≡ ask_refusal true (SolicitPackageInfo connection (hash_num subject.0) hs clock) w.state }
+    ensures { (w : SoundStore s.now) (hs : List ℕ) → count ≡ length hs → refusal_in result ≡ ask_refusal true (SolicitPackageInfo connection (hash_num subject.0) hs clock) w.state }
 {
+    refusals::in_turn(connection, clock, count, 0, 0)?;
     let n = refusals::need_of(s);
-    let place = of_place(&s[..n], connection, subject, clock);
-    let named = refusals::in_turn(connection, clock, count, 0, 0);
-    refusals::first(named, place)
+    of_place(&s[..n], connection, subject, clock)
 }
 
 pub fn solicit_package_info(
@@ -52,47 +60,38 @@ pub fn solicit_package_info(
     subject: ident::Wtxid,
     parents: &[u8],
     clock: u64,
-) -> Answer
+) -> Result<u64, Refusal>
     requires { SoundStore s.old }
     ensures { Leaves (On (SolicitPackageInfo connection (hash_num subject.0) (hashes_in parents.now) clock)) s.old s.new (reply_of result) }
 {
     let count = lent_lists::hashes(parents);
-    let refusal = of_solicitation(s, connection, subject, count, clock);
-    if refusal != 0 {
-        return Answer::Refused(refusal);
-    }
+    of_solicitation(s, connection, subject, count, clock)?;
     let n = refusals::need_of(s);
-    replied(soliciting::info::solicit_package_info(
+    Ok(replied(soliciting::info::solicit_package_info(
         &mut s[..n],
         connection,
         subject,
         parents,
         clock,
-    ))
+    )))
 }
 
-pub fn failed_package_info(s: &mut [u8], key: ident::Key, connection: u64, clock: u64) -> Answer
+pub fn failed_package_info(s: &mut [u8], key: ident::Key, connection: u64, clock: u64) -> Result<u64, Refusal>
     requires { SoundStore s.old }
     ensures { Leaves (On (FailedPackageInfo (key_num key) connection clock)) s.old s.new (reply_of result) }
 {
-    let refusal = refusals::of_connection_and_clock(connection, clock);
-    if refusal != 0 {
-        return Answer::Refused(refusal);
-    }
+    refusals::of_connection_and_clock(connection, clock)?;
     let n = refusals::need_of(s);
-    replied(failing::failed_package_info(&mut s[..n], key, connection, clock))
+    Ok(replied(failing::failed_package_info(&mut s[..n], key, connection, clock)))
 }
 
-pub fn package_info_owner(s: &[u8], key: ident::Key, clock: u64) -> Answer
+pub fn package_info_owner(s: &[u8], key: ident::Key, clock: u64) -> Result<u64, Refusal>
     requires { SoundStore s.now }
     ensures { Leaves (On (PackageInfoOwner (key_num key) clock)) s.now s.now (reply_of result) }
 {
-    let refusal = refusals::of_clock(clock);
-    if refusal != 0 {
-        return Answer::Refused(refusal);
-    }
+    refusals::of_clock(clock)?;
     let n = refusals::need_of(s);
     let owner = failing::package_info_owner(&s[..n], key, clock);
     // A number answers, and no connection is 0.
-    Answer::Number(owner.unwrap_or(0))
+    Ok(owner.unwrap_or(0))
 }

@@ -7,20 +7,17 @@ ghost use Rattle.outcome.specs.Outcome.{LeavesWith};
 ghost use Rattle.public_plans.specs.Entries.{entries_of};
 
 use super::plans::list_needs;
-use outcome::{Listing, refusals};
+use outcome::{Refusal, refusals};
 
-pub fn arrange(s: &[u8], witnesses: &[u8], taken: &[u8], answer: &mut [u8]) -> Listing
+pub fn arrange(s: &[u8], witnesses: &[u8], taken: &[u8], answer: &mut [u8]) -> Result<u64, Refusal>
     requires { SoundStore s.now }
     ensures { LeavesWith (On (Arrange (words witnesses.now) (entries_in taken.now) answer.old)) s.now s.now
         answer.new (entries_of result) }
 {
     let zero = sending::witness::listed(witnesses, 0);
     let needs = list_needs(taken);
-    let refusal = refusals::of_connections_and_buffer(zero, answer.len(), needs);
-    if refusal != 0 {
-        return Listing::Refused(refusal);
-    }
+    refusals::of_connections_and_buffer(zero, answer.len(), needs)?;
     let n = refusals::need_of(s);
     let sent = sending::arranging::arrange(&s[..n], taken, witnesses, answer);
-    Listing::Listed(sent as u64)
+    Ok(sent as u64)
 }

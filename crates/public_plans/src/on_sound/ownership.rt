@@ -5,20 +5,17 @@ ghost use Rattle.store.specs.Image.{SoundStore};
 ghost use Rattle.outcome.specs.Outcome.{LeavesWith};
 ghost use Rattle.public_plans.specs.Ownership.{owners_of};
 
-use outcome::{Listing, refusals};
+use outcome::{Refusal, refusals};
 
-pub fn owners_of(s: &[u8], hashes: &[u8], answer: &mut [u8]) -> Listing
+pub fn owners_of(s: &[u8], hashes: &[u8], answer: &mut [u8]) -> Result<u64, Refusal>
     requires { SoundStore s.now }
     ensures { LeavesWith (On (OwnersOf (hashes_in hashes.now) answer.old)) s.now s.now
         answer.new (owners_of (hashes_in hashes.now) result) }
 {
     let wrong = owners::list::wrong(hashes);
     let needs = owners::list::needs(hashes);
-    let refusal = refusals::of_hashes_and_buffer(wrong, answer.len(), needs);
-    if refusal != 0 {
-        return Listing::Refused(refusal);
-    }
+    refusals::of_hashes_and_buffer(wrong, answer.len(), needs)?;
     let n = refusals::need_of(s);
     let passed = owners::owners_of(&s[..n], hashes, answer);
-    Listing::Listed(passed)
+    Ok(passed)
 }

@@ -10,7 +10,7 @@ ghost use Rattle.outcome.specs.Outcome.{LeavesWith};
 ghost use Rattle.public_plans.specs.Entries.{entries_of, planned_of};
 
 use crate::Selection;
-use outcome::{Listing, refusals};
+use outcome::{Refusal, refusals};
 
 // Bytes of an entry in a list and in an answer.
 const ENTRY_BYTES: usize = 112;
@@ -22,18 +22,15 @@ pub fn list_needs(list: &[u8]) -> usize
     claiming::entries::entries(list) * ENTRY_BYTES
 }
 
-pub fn claim(s: &mut [u8], clock: u64, checked: &[u8], answer: &mut [u8]) -> Listing
+pub fn claim(s: &mut [u8], clock: u64, checked: &[u8], answer: &mut [u8]) -> Result<u64, Refusal>
     requires { SoundStore s.old }
     ensures { LeavesWith (On (Claim clock (entries_in checked.now) answer.old)) s.old s.new answer.new (entries_of result) }
 {
     let needs = list_needs(checked);
-    let refusal = refusals::of_clock_and_buffer(clock, answer.len(), needs);
-    if refusal != 0 {
-        return Listing::Refused(refusal);
-    }
+    refusals::of_clock_and_buffer(clock, answer.len(), needs)?;
     let n = refusals::need_of(s);
     let taken = claiming::entries::claim_bytes(&mut s[..n], clock, checked, answer);
-    Listing::Listed(taken as u64)
+    Ok(taken as u64)
 }
 
 // The most that a plan selects: 1,024, and one more.
@@ -51,30 +48,32 @@ fn plan_needs(s: &[u8]) -> usize
     MAX_SELECTED * ENTRY_BYTES
 }
 
-pub fn plan(s: &mut [u8], clock: u64, answer: &mut [u8]) -> Selection
+pub fn plan(s: &mut [u8], clock: u64, answer: &mut [u8]) -> Result<Selection, Refusal>
     requires { SoundStore s.old }
     ensures { LeavesWith (On (Plan clock none answer.old)) s.old s.new answer.new (planned_of result) }
 {
     let needs = plan_needs(s);
-    let refusal = refusals::of_clock_and_buffer(clock, answer.len(), needs);
-    if refusal != 0 {
-        return Selection::Refused(refusal);
-    }
+    refusals::of_clock_and_buffer(clock, answer.len(), needs)?;
     let n = refusals::need_of(s);
     let r = planning::plan::plan_round(&mut s[..n], clock, answer);
-    Selection::Chosen(r.considered, r.count as u64, r.next.unwrap_or(0))
+    Ok(Selection {
+        considered: r.considered,
+        chosen: r.count as u64,
+        next: r.next,
+    })
 }
 
-pub fn plan_given(s: &mut [u8], clock: u64, given: &[u8], answer: &mut [u8]) -> Selection
+pub fn plan_given(s: &mut [u8], clock: u64, given: &[u8], answer: &mut [u8]) -> Result<Selection, Refusal>
     requires { SoundStore s.old }
     ensures { LeavesWith (On (Plan clock (some (given_keys given.now)) answer.old)) s.old s.new answer.new (planned_of result) }
 {
     let needs = plan_needs(s);
-    let refusal = refusals::of_clock_and_buffer(clock, answer.len(), needs);
-    if refusal != 0 {
-        return Selection::Refused(refusal);
-    }
+    refusals::of_clock_and_buffer(clock, answer.len(), needs)?;
     let n = refusals::need_of(s);
     let r = planning::plan::plan_given(&mut s[..n], clock, given, answer);
-    Selection::Chosen(r.considered, r.count as u64, r.next.unwrap_or(0))
+    Ok(Selection {
+        considered: r.considered,
+        chosen: r.count as u64,
+        next: r.next,
+    })
 }

@@ -9,7 +9,7 @@ ghost use Rattle.outcome.specs.Outcome.{Leaves, LeavesWith};
 ghost use Rattle.outcome.specs.Reply.{reply_of, listing_of};
 
 use machine::limits::MAX_PARENTS;
-use outcome::{Answer, Listing, refusals};
+use outcome::{Refusal, refusals};
 
 pub fn announce_transactions(
     s: &mut [u8],
@@ -19,14 +19,11 @@ pub fn announce_transactions(
     source: bool,
     items: &[u8],
     priorities: &[u8],
-) -> Answer
+) -> Result<u64, Refusal>
     requires { SoundStore s.old }
     ensures { Leaves (On (AnnounceTransactions connection clock preferred source (offers_in items.now priorities.now))) s.old s.new (reply_of result) }
 {
-    let refusal = refusals::of_connection_and_clock(connection, clock);
-    if refusal != 0 {
-        return Answer::Refused(refusal);
-    }
+    refusals::of_connection_and_clock(connection, clock)?;
     let n = refusals::need_of(s);
     wrapping::offering::announce_transactions(
         &mut s[..n],
@@ -37,7 +34,7 @@ pub fn announce_transactions(
         items,
         priorities,
     );
-    Answer::Number(outcome::RETURNED)
+    Ok(outcome::RETURNED)
 }
 
 pub fn transaction_response_completed(
@@ -46,17 +43,14 @@ pub fn transaction_response_completed(
     x: ident::Txid,
     w: ident::Wtxid,
     clock: u64,
-) -> Answer
+) -> Result<u64, Refusal>
     requires { SoundStore s.old }
     ensures { Leaves (On (TransactionResponseCompleted connection (hash_num x.0) (hash_num w.0) clock)) s.old s.new (reply_of result) }
 {
-    let refusal = refusals::of_connection_and_clock(connection, clock);
-    if refusal != 0 {
-        return Answer::Refused(refusal);
-    }
+    refusals::of_connection_and_clock(connection, clock)?;
     let n = refusals::need_of(s);
     wrapping::transaction_response_completed(&mut s[..n], connection, x, w, clock);
-    Answer::Number(outcome::RETURNED)
+    Ok(outcome::RETURNED)
 }
 
 // The bytes that the answer of transaction_not_found may need: keys of its items, and 100 × Q.
@@ -75,15 +69,12 @@ pub fn transaction_not_found(
     items: &[u8],
     clock: u64,
     answer: &mut [u8],
-) -> Listing
+) -> Result<u64, Refusal>
     requires { SoundStore s.old }
     ensures { LeavesWith (On (TransactionNotFound connection (items_in items.now) clock answer.old)) s.old s.new answer.new (listing_of result) }
 {
     let needs = missing_needs(s, items);
-    let refusal = refusals::in_turn(connection, clock, 0, answer.len(), needs);
-    if refusal != 0 {
-        return Listing::Refused(refusal);
-    }
+    refusals::in_turn(connection, clock, 0, answer.len(), needs)?;
     let n = refusals::need_of(s);
     let listed = wrapping::missing::transaction_not_found(
         &mut s[..n],
@@ -92,5 +83,5 @@ pub fn transaction_not_found(
         clock,
         answer,
     );
-    Listing::Listed(listed as u64)
+    Ok(listed as u64)
 }

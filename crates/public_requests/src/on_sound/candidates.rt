@@ -6,30 +6,24 @@ ghost use Rattle.store.specs.Image.{SoundStore};
 ghost use Rattle.outcome.specs.Outcome.{Leaves, LeavesWith};
 ghost use Rattle.outcome.specs.Reply.{reply_of, listing_of};
 
-use outcome::{Answer, Listing, refusals, replied};
+use outcome::{Refusal, refusals, replied};
 
-pub fn announce(s: &mut [u8], c: requests::Candidate) -> Answer
+pub fn announce(s: &mut [u8], c: requests::Candidate) -> Result<u64, Refusal>
     requires { SoundStore s.old }
     ensures { Leaves (On (Announce (candidate_of c))) s.old s.new (reply_of result) }
 {
-    let refusal = refusals::of_connection(c.connection);
-    if refusal != 0 {
-        return Answer::Refused(refusal);
-    }
+    refusals::of_connection(c.connection)?;
     let n = refusals::need_of(s);
-    replied(announcing::announce(&mut s[..n], c))
+    Ok(replied(announcing::announce(&mut s[..n], c)))
 }
 
-pub fn request_parent(s: &mut [u8], c: requests::Candidate) -> Answer
+pub fn request_parent(s: &mut [u8], c: requests::Candidate) -> Result<u64, Refusal>
     requires { SoundStore s.old }
     ensures { Leaves (On (RequestParent (candidate_of c))) s.old s.new (reply_of result) }
 {
-    let refusal = refusals::of_connection(c.connection);
-    if refusal != 0 {
-        return Answer::Refused(refusal);
-    }
+    refusals::of_connection(c.connection)?;
     let n = refusals::need_of(s);
-    replied(announcing::request_parent(&mut s[..n], c))
+    Ok(replied(announcing::request_parent(&mut s[..n], c)))
 }
 
 pub fn announce_parents(
@@ -38,21 +32,18 @@ pub fn announce_parents(
     parents: &[u8],
     clock: u64,
     answer: &mut [u8],
-) -> Listing
+) -> Result<u64, Refusal>
     requires { SoundStore s.old }
     ensures { LeavesWith (On (AnnounceParents connection (hashes_in parents.now) clock answer.old)) s.old s.new answer.new (listing_of result) }
 {
     let count = lent_lists::hashes(parents);
-    let refusal = refusals::in_turn(
+    refusals::in_turn(
         connection,
         clock,
         count,
         answer.len(),
         refusals::KEYS_ANSWER,
-    );
-    if refusal != 0 {
-        return Listing::Refused(refusal);
-    }
+    )?;
     let n = refusals::need_of(s);
     let listed = announcing::parents::announce_parents(
         &mut s[..n],
@@ -61,5 +52,5 @@ pub fn announce_parents(
         parents,
         answer,
     );
-    Listing::Listed(listed as u64)
+    Ok(listed as u64)
 }

@@ -1,19 +1,19 @@
 // counts on a sound store.
 ghost use Rattle.store.specs.Image.{SoundStore};
-ghost use Rattle.public_requests.specs.Counting.{CountsOf};
+ghost use Rattle.public_requests.specs.Counting.{counts_of, CountsOf};
 
 use crate::Counts;
-use outcome::refusals;
+use outcome::{Refusal, refusals};
 
-pub fn counts(s: &[u8], connection: u64) -> Counts
+pub fn counts(s: &[u8], connection: u64) -> Result<Counts, Refusal>
     requires { SoundStore s.now }
-    ensures { CountsOf s.now connection result }
+    ensures { CountsOf s.now connection (counts_of result) }
 {
-    let refusal = refusals::of_connection(connection);
-    if refusal != 0 {
-        return Counts::Refused(refusal);
-    }
+    refusals::of_connection(connection)?;
     let n = refusals::need_of(s);
     let f = requests::figures(&s[..n], connection);
-    Counts::Are(f.held, f.owned)
+    Ok(Counts {
+        announced: f.held,
+        owned: f.owned,
+    })
 }

@@ -6,7 +6,7 @@ ghost use Rattle.store.specs.Image.{SoundStore};
 ghost use Rattle.outcome.specs.Outcome.{Leaves, LeavesWith};
 ghost use Rattle.outcome.specs.Reply.{reply_of, listing_of};
 
-use outcome::{Answer, Listing, refusals, replied};
+use outcome::{Refusal, refusals, replied};
 
 // The bytes that a sweep's answer may need: min(1,024, L) keys.
 fn sweep_needs(s: &[u8]) -> usize
@@ -20,28 +20,22 @@ fn sweep_needs(s: &[u8]) -> usize
     machine::limits::MAX_KNOWN_CHECKS * lent_lists::KEY
 }
 
-pub fn sweep(s: &mut [u8], answer: &mut [u8]) -> Listing
+pub fn sweep(s: &mut [u8], answer: &mut [u8]) -> Result<u64, Refusal>
     requires { SoundStore s.old }
     ensures { LeavesWith (On (Sweep answer.old)) s.old s.new answer.new (listing_of result) }
 {
     let needs = sweep_needs(s);
-    let refusal = refusals::of_buffer(answer.len(), needs);
-    if refusal != 0 {
-        return Listing::Refused(refusal);
-    }
+    refusals::of_buffer(answer.len(), needs)?;
     let n = refusals::need_of(s);
     let handed = sweeping::sweep(&mut s[..n], answer);
-    Listing::Listed(handed as u64)
+    Ok(handed as u64)
 }
 
-pub fn poll_gate(s: &mut [u8], clock: u64) -> Answer
+pub fn poll_gate(s: &mut [u8], clock: u64) -> Result<u64, Refusal>
     requires { SoundStore s.old }
     ensures { Leaves (On (PollGate clock)) s.old s.new (reply_of result) }
 {
-    let refusal = refusals::of_clock(clock);
-    if refusal != 0 {
-        return Answer::Refused(refusal);
-    }
+    refusals::of_clock(clock)?;
     let n = refusals::need_of(s);
-    replied(sweeping::poll_gate(&mut s[..n], clock))
+    Ok(replied(sweeping::poll_gate(&mut s[..n], clock)))
 }

@@ -13,16 +13,16 @@ empty-requires c =
 pub put_bytes-requires : goal.put_bytes-requires
 put_bytes-requires c = omega (arith, c.requires.1)
 
-pub returns-in-Refused : goal.returns-in-Refused
-returns-in-Refused c = step_refused c.args.l
+pub returns-in-Err : goal.returns-in-Err
+returns-in-Err c = step_refused c.args.l
     c.args.q
-    c.open-a.ensures refl
+    c.«open».ensures refl
     c.requires.0
-    (ap reply_of c.in-Refused.is) c.refusal.ensures
+    (ap reply_of c.in-Err.is) c.refusal.ensures
 
-pub returns-in-Number : goal.returns-in-Number
-returns-in-Number c = step_opened c.args.l
+pub returns-in-Ok : goal.returns-in-Ok
+returns-in-Ok c = step_opened c.args.l
     c.args.q
-    c.open-a.ensures refl
-    c.empty.ensures (ap reply_of c.in-Number.is)
+    c.«open».ensures refl
+    c.empty.ensures (ap reply_of c.in-Ok.is)
     c.put_bytes.ensures

@@ -5,10 +5,10 @@ use Rattle.printing.proofs.Printing.{carried, reply-refused, reply-figures}
 use Rattle.calling.proofs.Unplanned.{sum_unplanned, keeps-call}
 use Rattle.calling.proofs.numbers.answer_sum.Goals as goal
 
-pub returns-in-Refused : goal.returns-in-Refused
-returns-in-Refused c = keeps-call refl sum_unplanned (carried _ c.sum-a.ensures refl
-    (reply-refused _ (ap figures_of c.in-Refused.is) c.refusal.ensures))
+pub returns-in-Err : goal.returns-in-Err
+returns-in-Err c = keeps-call refl sum_unplanned (carried _ c.sum.ensures refl
+    (reply-refused _ (ap figures_of c.in-Err.is) c.refusal.ensures))
 
-pub returns-in-Are : goal.returns-in-Are
-returns-in-Are c = keeps-call refl sum_unplanned (carried _ c.sum-a.ensures refl
-    (reply-figures (ap figures_of c.in-Are.is) c.figures.ensures))
+pub returns-in-Ok : goal.returns-in-Ok
+returns-in-Ok c = keeps-call refl sum_unplanned (carried _ c.sum.ensures refl
+    (reply-figures (ap figures_of c.in-Ok.is) c.figures.ensures))

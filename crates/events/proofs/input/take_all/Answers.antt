@@ -20,9 +20,6 @@ take-now-requires _ c = (
   c.loop-i.invariant.5,
 )
 
-pub loop-i-smaller : goal.loop-i-smaller
-loop-i-smaller _ c = omega (arith, c.loop-i-test.true)
-
 pub loop-i-preserved : goal.loop-i-preserved
 loop-i-preserved _ c = (
   omega (

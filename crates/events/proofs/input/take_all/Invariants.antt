@@ -12,6 +12,3 @@ invariant-loop-i _ l =
     (length l.store ≡ length l.initial.store) × (length l.lists ≡ length l.initial.lists) × (length l.line ≡ length l.initial.line) × (length l.out ≡ length l.initial.out) × Ordered l.lists
     × (l.now.len ≤ line_room) × (l.i ≤ length l.bytes)
     × ((p : Reading) → Held l.initial.now l.initial.line l.initial.store l.initial.lists p → TookAll p (take l.i l.bytes) l.now l.line l.store l.lists)
-
-abbrev pub decreases-loop-i : goal.decreases-loop-i
-decreases-loop-i _ l = length l.bytes - l.i

@@ -3,4 +3,4 @@ use Rattle.crossing.proofs.Statuses.{hands-entries}
 use Rattle.exports.proofs.arrangements.tracker_arrange.Goals as goal
 
 pub returns : goal.returns
-returns c = hands-entries c.arrange-l.result _ c.arrange-l.ensures c.hand_count.ensures
+returns c = hands-entries c.arrange-l.result _ c.arrange-l.ensures c.hand_out.ensures

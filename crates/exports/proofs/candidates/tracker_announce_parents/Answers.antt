@@ -6,4 +6,4 @@ use Rattle.exports.proofs.candidates.tracker_announce_parents.Goals as goal
 pub returns : goal.returns
 returns c =
     hands-keys c.announce_parents-l.result _ c.announce_parents-l.ensures
-    c.hand_count.ensures refl
+    c.hand_out.ensures refl

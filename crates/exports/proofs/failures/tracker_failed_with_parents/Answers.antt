@@ -7,7 +7,7 @@ use Rattle.exports.proofs.failures.tracker_failed_with_parents.Goals as goal
 pub returns : goal.returns
 returns c =
     hands-keys c.failed_with_parents-l.result _ c.failed_with_parents-l.ensures
-    c.hand_count.ensures
+    c.hand_out.ensures
     (ap (λ x. On (FailedWithParents x c.args.connection
     c.args.clock
     c.args.answer.now))

@@ -3,4 +3,4 @@ use Rattle.crossing.proofs.Statuses.{hands-owners}
 use Rattle.exports.proofs.ownership.tracker_owners_of.Goals as goal
 
 pub returns : goal.returns
-returns c = hands-owners _ c.owners_of-l.result _ c.owners_of-l.ensures c.hand_count.ensures
+returns c = hands-owners _ c.owners_of-l.result _ c.owners_of-l.ensures c.hand_out.ensures

@@ -5,4 +5,4 @@ use Rattle.exports.proofs.package_calls.tracker_release_package.Goals as goal
 pub returns : goal.returns
 returns c =
     hands-keys c.release_package-l.result _ c.release_package-l.ensures
-    c.hand_count.ensures (rw c.from.ensures)
+    c.hand_out.ensures (rw c.from.ensures)

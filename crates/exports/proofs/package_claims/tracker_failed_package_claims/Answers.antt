@@ -6,4 +6,4 @@ use Rattle.exports.proofs.package_claims.tracker_failed_package_claims.Goals as 
 pub returns : goal.returns
 returns c =
     hands-keys c.failed_package_claims-l.result _ c.failed_package_claims-l.ensures
-    c.hand_count.ensures refl
+    c.hand_out.ensures refl

@@ -3,4 +3,4 @@ use Rattle.crossing.proofs.Statuses.{hands-entries}
 use Rattle.exports.proofs.plans.tracker_claim.Goals as goal
 
 pub returns : goal.returns
-returns c = hands-entries c.claim-l.result _ c.claim-l.ensures c.hand_count.ensures
+returns c = hands-entries c.claim-l.result _ c.claim-l.ensures c.hand_out.ensures

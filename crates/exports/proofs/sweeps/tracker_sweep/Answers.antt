@@ -4,4 +4,4 @@ use Rattle.crossing.proofs.Statuses.{hands-keys}
 use Rattle.exports.proofs.sweeps.tracker_sweep.Goals as goal
 
 pub returns : goal.returns
-returns c = hands-keys c.sweep-l.result _ c.sweep-l.ensures c.hand_count.ensures refl
+returns c = hands-keys c.sweep-l.result _ c.sweep-l.ensures c.hand_out.ensures refl

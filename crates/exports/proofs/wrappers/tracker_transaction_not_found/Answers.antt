@@ -6,4 +6,4 @@ use Rattle.exports.proofs.wrappers.tracker_transaction_not_found.Goals as goal
 pub returns : goal.returns
 returns c =
     hands-keys c.transaction_not_found-l.result _ c.transaction_not_found-l.ensures
-    c.hand_count.ensures refl
+    c.hand_out.ensures refl

@@ -1,28 +1,30 @@
 -- `keeping::kept::keep_entries` meets its contract.
 use mathlib.Core.Path.{ap}
 use native.Mathlib.Omega.{arith}
-use Rattle.outcome.specs.declared.Listing.{Listing}
+use Prim.Native.Nat.{ℕ}
+use Rattle.std.specs.Prelude.{Result}
+use Rattle.outcome.specs.declared.refusal.Refusal.{Refusal}
 use Rattle.public_plans.specs.Entries.{entries_of}
 use Rattle.keeping.specs.Lists.{list_in}
 use Rattle.keeping.proofs.Stepping.{entries_fit, entries-refused, entries_kept}
 use Rattle.keeping.proofs.kept.keep_entries.Goals as goal
 
 pub keep-requires : goal.keep-requires
-keep-requires c = let f = entries_fit c.in-Listed.is c.requires.2 in
+keep-requires c = let f = entries_fit c.in-Ok.is c.requires.2 in
     (c.requires.0.long, f.0, f.1)
 
 pub put_entries-requires : goal.put_entries-requires
-put_entries-requires c = let f = entries_fit c.in-Listed.is
+put_entries-requires c = let f = entries_fit c.in-Ok.is
     c.requires.2 in
     (c.requires.1, f.0, omega (arith, f.1))
 
-pub returns-in-Refused : goal.returns-in-Refused
-returns-in-Refused c = entries-refused c.requires.0
-    (ap (λ (x : Listing). entries_of x c.args.answer.now)
-    c.in-Refused.is) c.refusal.ensures
+pub returns-in-Err : goal.returns-in-Err
+returns-in-Err c = entries-refused c.requires.0
+    (ap (λ (x : Result ℕ Refusal). entries_of x c.args.answer.now)
+    c.in-Err.is) c.refusal.ensures
 
-pub returns-in-Listed : goal.returns-in-Listed
-returns-in-Listed c = entries_kept (list_in c.args.list.now)
+pub returns-in-Ok : goal.returns-in-Ok
+returns-in-Ok c = entries_kept (list_in c.args.list.now)
     c.keep.ensures
-    (ap (λ (x : Listing). entries_of x c.args.answer.now)
-    c.in-Listed.is) c.put_entries.ensures
+    (ap (λ (x : Result ℕ Refusal). entries_of x c.args.answer.now)
+    c.in-Ok.is) c.put_entries.ensures

@@ -7,5 +7,5 @@ use Rattle.outcome.proofs.refusals.of_buffer.Goals as goal
 pub returns-then-length-needs : goal.returns-then-length-needs
 returns-then-length-needs c = buffer-short _ _ (omega arith) ∙ buffer_only _ _
 
-pub returns-else-length-needs : goal.returns-else-length-needs
-returns-else-length-needs c = buffer-long _ _ (omega arith) ∙ buffer_only _ _
+pub returns : goal.returns
+returns c = buffer-long _ _ (omega arith) ∙ buffer_only _ _

@@ -7,5 +7,5 @@ use Rattle.outcome.proofs.refusals.of_clock.Goals as goal
 pub returns-then-clock-gt-LATEST_CLOCK : goal.returns-then-clock-gt-LATEST_CLOCK
 returns-then-clock-gt-LATEST_CLOCK c = clock-late _ (omega arith) ∙ clock_only _
 
-pub returns-else-clock-gt-LATEST_CLOCK : goal.returns-else-clock-gt-LATEST_CLOCK
-returns-else-clock-gt-LATEST_CLOCK c = clock_early _ (omega arith) ∙ clock_only _
+pub returns : goal.returns
+returns c = clock_early _ (omega arith) ∙ clock_only _

@@ -6,5 +6,5 @@ use Rattle.outcome.proofs.refusals.of_connection.Goals as goal
 pub returns-then-n-eq0 : goal.returns-then-n-eq0
 returns-then-n-eq0 c = connection_none _ c.if-n-eq0.true ∙ connection_only _
 
-pub returns-else-n-eq0 : goal.returns-else-n-eq0
-returns-else-n-eq0 c = connection_some _ c.if-n-eq0.false ∙ connection_only _
+pub returns : goal.returns
+returns c = connection_some _ c.if-n-eq0.false ∙ connection_only _

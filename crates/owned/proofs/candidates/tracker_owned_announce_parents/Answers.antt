@@ -14,5 +14,5 @@ returns c =
     (λ i. omega (arith, c.type_inv.parents i))) in
     let o = owner-keys m c.requires
     (λ i. grind arith)
-    c.announce_parents-l.result _ c.announce_parents-l.ensures c.hand_count.ensures refl in
+    c.announce_parents-l.result _ c.announce_parents-l.ensures c.hand_out.ensures refl in
     record { hands_keys = o.0; sound = o.1 }

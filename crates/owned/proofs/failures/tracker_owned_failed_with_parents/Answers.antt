@@ -16,7 +16,7 @@ returns c =
     let o = owner-keys m c.requires
     (λ i. grind arith)
     c.failed_with_parents-l.result _ c.failed_with_parents-l.ensures
-    c.hand_count.ensures
+    c.hand_out.ensures
     (ap (λ x. On (FailedWithParents x c.args.connection
     c.args.clock
     c.args.answer.now))

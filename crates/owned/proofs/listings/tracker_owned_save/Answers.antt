@@ -3,4 +3,4 @@ use Rattle.crossing.proofs.Statuses.{hands-text}
 use Rattle.owned.proofs.listings.tracker_owned_save.Goals as goal
 
 pub returns : goal.returns
-returns c = hands-text c.save-l.result _ c.save-l.ensures c.hand_count.ensures
+returns c = hands-text c.save-l.result _ c.save-l.ensures c.hand_out.ensures

@@ -13,6 +13,6 @@ returns c =
     (hash_below _ (hash-four _ c.from.type_inv)) (omega arith)) in
     let o = owner-keys m c.requires
     (λ i. grind arith)
-    c.release_package-l.result _ c.release_package-l.ensures c.hand_count.ensures
+    c.release_package-l.result _ c.release_package-l.ensures c.hand_out.ensures
     (rw c.from.ensures) in
     record { hands_keys = o.0; sound = o.1 }

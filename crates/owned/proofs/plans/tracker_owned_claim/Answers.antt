@@ -12,5 +12,5 @@ returns c =
     (λ i. omega (arith, c.type_inv.checked i)) in
     let o = owner-entries m c.requires
     (λ i. grind arith)
-    c.claim-l.result _ c.claim-l.ensures c.hand_count.ensures in
+    c.claim-l.result _ c.claim-l.ensures c.hand_out.ensures in
     record { hands_entries = o.0; sound = o.1 }

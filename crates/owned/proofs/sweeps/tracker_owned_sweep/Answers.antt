@@ -10,5 +10,5 @@ returns c =
     let m = (makes c.args.answer.now) in
     let o = owner-keys m c.requires
     (λ i. grind arith)
-    c.sweep-l.result _ c.sweep-l.ensures c.hand_count.ensures refl in
+    c.sweep-l.result _ c.sweep-l.ensures c.hand_out.ensures refl in
     record { hands_keys = o.0; sound = o.1 }

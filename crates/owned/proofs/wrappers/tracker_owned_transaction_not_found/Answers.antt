@@ -13,5 +13,5 @@ returns c =
     let o = owner-keys m c.requires
     (λ i. grind arith)
     c.transaction_not_found-l.result _ c.transaction_not_found-l.ensures
-    c.hand_count.ensures refl in
+    c.hand_out.ensures refl in
     record { hands_keys = o.0; sound = o.1 }

@@ -11,6 +11,3 @@ use Rattle.printing.proofs.entries.put_behind.Given as goal
 abbrev pub invariant-loop-i : goal.invariant-loop-i
 invariant-loop-i l = (l.i ≤ l.n) × (length l.out ≡ length l.initial.out) × (l.to ≤ l.at + entry_room * l.i)
     × Wrote l.initial.out l.out l.at (behind (entry_texts (entries_from l.answer l.first l.i))) l.to
-
-abbrev pub decreases-loop-i : goal.decreases-loop-i
-decreases-loop-i l = l.n - l.i

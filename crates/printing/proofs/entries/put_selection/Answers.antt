@@ -1,6 +1,6 @@
 -- `printing::entries::put_selection` meets its contract.
 use native.Mathlib.Omega.{arith}
-use Rattle.machine.specs.Later.{time_of}
+use Rattle.choosing.specs.Choosing.{option_of}
 use Rattle.printing.proofs.Printing.{decimal_end}
 use Rattle.printing.proofs.EntryLists.{selection-wrote}
 use Rattle.printing.proofs.entries.put_selection.Goals as goal
@@ -26,5 +26,5 @@ put_time-requires c =
 pub returns : goal.returns
 returns c =
     let b = c.put_behind-to.ensures in
-    selection-wrote c.requires.0 c.args.answer.now c.args.considered c.args.n (time_of c.args.next) c.requires.1
+    selection-wrote c.requires.0 c.args.answer.now c.args.considered c.args.n (option_of c.args.next) c.requires.1
     c.put_decimal-at.ensures b.1 b.0 c.put_time.ensures

@@ -1,9 +1,10 @@
 -- `printing::entries::put_time` meets its contract.
-use Rattle.printing.proofs.EntryLists.{wrote_none_time, wrote-time}
+use mathlib.Core.Path.{ap}
+use Rattle.choosing.specs.Choosing.{option_of}
 use Rattle.printing.proofs.entries.put_time.Goals as goal
 
-pub returns-then-t-eq0 : goal.returns-then-t-eq0
-returns-then-t-eq0 c = wrote_none_time _ c.if-t-eq0.true c.put_bytes.ensures
+pub returns-in-Some : goal.returns-in-Some
+returns-in-Some c = rw c.in-Some.is c.put_number.ensures
 
-pub returns : goal.returns
-returns c = wrote-time _ c.if-t-eq0.false c.put_number.ensures
+pub returns-in-None : goal.returns-in-None
+returns-in-None c = rw c.in-None.is c.put_bytes.ensures

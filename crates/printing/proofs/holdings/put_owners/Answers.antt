@@ -23,14 +23,6 @@ put_owner-to-requires c =
     let d = c.put_decimal-to in
     (omega (arith, t, n, c.requires.2), omega (arith, t, n, v.ends, v.long, decimal_end _ d.ensures, d.auto, c.requires.0, c.requires.1))
 
-pub overflow_add-i : goal.overflow_add-i
-overflow_add-i c =
-    let n = c.hashes-n in
-    omega (arith, c.loop-i-test.true, n.type_inv)
-
-pub loop-i-smaller : goal.loop-i-smaller
-loop-i-smaller c = omega (arith, c.loop-i-test.true)
-
 pub loop-i-preserved : goal.loop-i-preserved
 loop-i-preserved c =
     let t = c.loop-i-test.true in

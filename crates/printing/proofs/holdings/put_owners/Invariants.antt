@@ -6,6 +6,3 @@ use Rattle.printing.proofs.holdings.put_owners.Given as goal
 
 abbrev pub invariant-loop-i : goal.invariant-loop-i
 invariant-loop-i l = Telling (hashes_in l.hashes) l.answer l.initial.out l.out l.initial.to l.to l.i
-
-abbrev pub decreases-loop-i : goal.decreases-loop-i
-decreases-loop-i l = l.n - l.i

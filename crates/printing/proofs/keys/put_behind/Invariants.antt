@@ -10,6 +10,3 @@ use Rattle.printing.proofs.keys.put_behind.Given as goal
 
 abbrev pub invariant-loop-i : goal.invariant-loop-i
 invariant-loop-i l = (l.i ≤ l.n) × (length l.out ≡ length l.initial.out) × (l.to ≤ l.at + 66 * l.i) × Wrote l.initial.out l.out l.at (behind (key_texts (keys_in l.i l.answer))) l.to
-
-abbrev pub decreases-loop-i : goal.decreases-loop-i
-decreases-loop-i l = l.n - l.i

@@ -10,6 +10,3 @@ use Rattle.printing.proofs.keys.put_keys.Given as goal
 
 abbrev pub invariant-loop-i : goal.invariant-loop-i
 invariant-loop-i l = (l.i ≤ l.n) × (length l.out ≡ length l.initial.out) × (l.at ≤ 66 * l.i) × Wrote l.initial.out l.out 0 (joined (key_texts (keys_in l.i l.answer))) l.at
-
-abbrev pub decreases-loop-i : goal.decreases-loop-i
-decreases-loop-i l = l.n - l.i

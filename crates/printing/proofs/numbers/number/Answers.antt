@@ -4,8 +4,8 @@ use Rattle.outcome.specs.Reply.{reply_of}
 use Rattle.printing.proofs.Printing.{refused-printed, number-printed}
 use Rattle.printing.proofs.numbers.number.Goals as goal
 
-pub returns-in-Refused : goal.returns-in-Refused
-returns-in-Refused c = refused-printed (ap reply_of c.in-Refused.is) c.refusal.ensures
+pub returns-in-Err : goal.returns-in-Err
+returns-in-Err c = refused-printed (ap reply_of c.in-Err.is) c.refusal.ensures
 
-pub returns-in-Number : goal.returns-in-Number
-returns-in-Number c = number-printed (ap reply_of c.in-Number.is) c.put_decimal.ensures
+pub returns-in-Ok : goal.returns-in-Ok
+returns-in-Ok c = number-printed (ap reply_of c.in-Ok.is) c.put_decimal.ensures

@@ -4,5 +4,5 @@ use Rattle.printing.proofs.numbers.refusal.Goals as goal
 
 pub returns : goal.returns
 returns c = printed-refusal c.requires
-    c.args.n c.put_bytes-e.ensures
-    c.put_decimal.ensures
+    _ c.put_bytes-e.ensures
+    (rw (← c.from.ensures) c.put_decimal.ensures)

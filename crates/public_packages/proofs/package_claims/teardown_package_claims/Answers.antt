@@ -1,12 +1,10 @@
 -- `public_packages::package_claims::teardown_package_claims` meets its contract: the sound test, and `on_sound::package_claims::teardown_package_claims`.
 use mathlib.Core.Path.{refl}
 use Rattle.machine.specs.Call.{TeardownPackageClaims, named}
-use Rattle.outcome.proofs.Owned.{test-refuses, test-passes}
+use Rattle.outcome.proofs.Exits.{hands-on}
+use Rattle.outcome.proofs.Owned.{unsound_refused}
 use Rattle.public_packages.proofs.package_claims.teardown_package_claims.Goals as goal
 
-pub returns-then-not-sound : goal.returns-then-not-sound
+pub returns-in_err-of_store : goal.returns-in_err-of_store
 unfolding named
-returns-then-not-sound c = test-refuses c.sound.result c.sound.ensures c.if-not-sound.true-raw (TeardownPackageClaims _) refl
-
-pub teardown_package_claims-requires : goal.teardown_package_claims-requires
-teardown_package_claims-requires c = test-passes c.sound.result c.sound.ensures c.if-not-sound.false-raw
+returns-in_err-of_store c = rw (hands-on _ c.from_residual.ensures.1) (unsound_refused c.in_err-of_store.ensures (TeardownPackageClaims _) refl)

@@ -1,12 +1,10 @@
 -- `public_plans::plans::claim` meets its contract: the sound test, and `on_sound::plans::claim`.
 use mathlib.Core.Path.{refl}
 use Rattle.machine.specs.Call.{Claim, named}
-use Rattle.outcome.proofs.Owned.{test-refuses, test-passes}
+use Rattle.outcome.proofs.Exits.{hands-on}
+use Rattle.outcome.proofs.Owned.{unsound_refused}
 use Rattle.public_plans.proofs.plans.claim.Goals as goal
 
-pub returns-then-not-sound : goal.returns-then-not-sound
+pub returns-in_err-of_store : goal.returns-in_err-of_store
 unfolding named
-returns-then-not-sound c = test-refuses c.sound.result c.sound.ensures c.if-not-sound.true-raw (Claim _ _ _) refl
-
-pub claim-requires : goal.claim-requires
-claim-requires c = test-passes c.sound.result c.sound.ensures c.if-not-sound.false-raw
+returns-in_err-of_store c = rw (hands-on _ c.from_residual.ensures.1) (unsound_refused c.in_err-of_store.ensures (Claim _ _ _) refl)

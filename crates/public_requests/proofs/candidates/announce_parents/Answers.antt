@@ -1,12 +1,10 @@
 -- `public_requests::candidates::announce_parents` meets its contract: the sound test, and `on_sound::candidates::announce_parents`.
 use mathlib.Core.Path.{refl}
 use Rattle.machine.specs.Call.{AnnounceParents, named}
-use Rattle.outcome.proofs.Owned.{test-refuses, test-passes}
+use Rattle.outcome.proofs.Exits.{hands-on}
+use Rattle.outcome.proofs.Owned.{unsound_refused}
 use Rattle.public_requests.proofs.candidates.announce_parents.Goals as goal
 
-pub returns-then-not-sound : goal.returns-then-not-sound
+pub returns-in_err-of_store : goal.returns-in_err-of_store
 unfolding named
-returns-then-not-sound c = test-refuses c.sound.result c.sound.ensures c.if-not-sound.true-raw (AnnounceParents _ _ _ _) refl
-
-pub announce_parents-requires : goal.announce_parents-requires
-announce_parents-requires c = test-passes c.sound.result c.sound.ensures c.if-not-sound.false-raw
+returns-in_err-of_store c = rw (hands-on _ c.from_residual.ensures.1) (unsound_refused c.in_err-of_store.ensures (AnnounceParents _ _ _ _) refl)

@@ -1,12 +1,10 @@
 -- `public_requests::sweeps::sweep` meets its contract: the sound test, and `on_sound::sweeps::sweep`.
 use mathlib.Core.Path.{refl}
 use Rattle.machine.specs.Call.{Sweep, named}
-use Rattle.outcome.proofs.Owned.{test-refuses, test-passes}
+use Rattle.outcome.proofs.Exits.{hands-on}
+use Rattle.outcome.proofs.Owned.{unsound_refused}
 use Rattle.public_requests.proofs.sweeps.sweep.Goals as goal
 
-pub returns-then-not-sound : goal.returns-then-not-sound
+pub returns-in_err-of_store : goal.returns-in_err-of_store
 unfolding named
-returns-then-not-sound c = test-refuses c.sound.result c.sound.ensures c.if-not-sound.true-raw (Sweep _) refl
-
-pub sweep-requires : goal.sweep-requires
-sweep-requires c = test-passes c.sound.result c.sound.ensures c.if-not-sound.false-raw
+returns-in_err-of_store c = rw (hands-on _ c.from_residual.ensures.1) (unsound_refused c.in_err-of_store.ensures (Sweep _) refl)

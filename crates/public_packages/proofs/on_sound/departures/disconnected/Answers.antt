@@ -2,19 +2,19 @@
 use mathlib.Core.Path.{◌∙◌}
 use native.Mathlib.Omega.{arith}
 use Rattle.outcome.proofs.Turns.{some_connection, passed}
+use Rattle.outcome.proofs.Exits.{hands-on}
 use Rattle.outcome.proofs.Carried.{refused, front_limit, front_places}
 use Rattle.public_packages.proofs.Departed.{departs, departs_done}
 use Rattle.public_packages.proofs.on_sound.departures.disconnected.Goals as goal
 
-pub returns-then-refusal-ne0 : goal.returns-then-refusal-ne0
-returns-then-refusal-ne0 c =
-    refused (departs _ _ _) c.requires
-    (c.in_turn-refusal.ensures ∙ rw (c.departure_needs-needs.ensures c.requires)) c.if-refusal-ne0.true
+pub returns-in_err-in_turn : goal.returns-in_err-in_turn
+returns-in_err-in_turn c =
+    rw (hands-on _ c.from_residual.ensures.1) (refused (departs _ _ _) c.requires _ (c.in_err-in_turn.ensures ∙ rw (c.departure_needs-needs.ensures c.requires)))
 
 pub disconnected-left-requires : goal.disconnected-left-requires
 disconnected-left-requires c =
     let w = c.requires in
-    let p = passed c.in_turn-refusal.ensures c.if-refusal-ne0.false in
+    let p = passed c.in_ok-in_turn.ensures in
     let e = c.need_of-n.ensures in
     (e.kept, some_connection _ p.connections, omega (arith, p.room, c.departure_needs-needs.ensures w, front_limit w e, front_places w e))
 
@@ -22,7 +22,5 @@ pub returns : goal.returns
 returns c =
     let w = c.requires in
     departs_done _ _ w (omega arith)
-    (c.in_turn-refusal.ensures ∙ rw
-    (c.departure_needs-needs.ensures w))
-    c.if-refusal-ne0.false c.need_of-n.ensures
+    (c.in_ok-in_turn.ensures ∙ rw (c.departure_needs-needs.ensures w)) c.need_of-n.ensures
     (λ i. omega (arith, c.type_inv.s i)) c.disconnected-left.ensures

@@ -1,18 +1,20 @@
 -- `public_packages::on_sound::package_calls::release_package` meets its contract: an instance of crates/outcome/proofs/Carried.
 use native.Mathlib.Omega.{arith}
 use Rattle.outcome.proofs.Turns.{some_connection, passed}
+use Rattle.outcome.proofs.Exits.{hands-on}
 use Rattle.outcome.proofs.Carried.{refused, lists_done}
 use Rattle.public_packages.proofs.Instances.{releases-package}
 use Rattle.soliciting.proofs.Subject.{subject_below}
 use Rattle.outcome.proofs.ListedKeys.{released_typed}
 use Rattle.public_packages.proofs.on_sound.package_calls.release_package.Goals as goal
 
-pub returns-then-refusal-ne0 : goal.returns-then-refusal-ne0
-returns-then-refusal-ne0 c = refused (releases-package _ _ _ _).names c.requires c.in_turn-refusal.ensures c.if-refusal-ne0.true
+pub returns-in_err-in_turn : goal.returns-in_err-in_turn
+returns-in_err-in_turn c =
+    rw (hands-on _ c.from_residual.ensures.1) (refused (releases-package _ _ _ _).names c.requires _ c.in_err-in_turn.ensures)
 
 pub release_package-listed-requires : goal.release_package-listed-requires
 release_package-listed-requires c =
-    let p = passed c.in_turn-refusal.ensures c.if-refusal-ne0.false in
+    let p = passed c.in_ok-in_turn.ensures in
     (c.need_of-n.ensures.kept, some_connection _ p.connections, omega (arith, p.room))
 
 pub returns : goal.returns
@@ -22,6 +24,5 @@ returns c =
     (subject_below c.args.subject
     c.well_formed.1.1.0) in
     lists_done (releases-package _ _ _ _) c.requires
-    c.in_turn-refusal.ensures
-    c.if-refusal-ne0.false c.need_of-n.ensures
+    c.in_ok-in_turn.ensures c.need_of-n.ensures
     (λ i. omega (arith, c.type_inv.s i)) k c.release_package-listed.ensures

@@ -2,32 +2,31 @@
 use native.Mathlib.Omega.{arith}
 use Rattle.machine.proofs.Fail.{Peer}
 use Rattle.outcome.proofs.Turns.{some_connection, passed, sized}
+use Rattle.outcome.proofs.Exits.{hands-on}
 use Rattle.outcome.proofs.Carried.{refused, front_places, lists_done}
 use Rattle.outcome.proofs.ListedKeys.{claims-typed}
 use Rattle.public_packages.proofs.Instances.{fails-claims}
 use Rattle.public_packages.proofs.on_sound.package_claims.failed_package_claims.Goals as goal
 
-pub returns-then-refusal-ne0 : goal.returns-then-refusal-ne0
-returns-then-refusal-ne0 c =
-    refused (fails-claims _ _ _ _).names c.requires
-    (sized _ _ _ _ c.in_turn-refusal.ensures (c.claims_needs-needs.ensures c.requires)) c.if-refusal-ne0.true
+pub returns-in_err-in_turn : goal.returns-in_err-in_turn
+returns-in_err-in_turn c =
+    rw (hands-on _ c.from_residual.ensures.1) (refused (fails-claims _ _ _ _).names c.requires _ (sized _ _ _ _ c.in_err-in_turn.ensures (c.claims_needs-needs.ensures c.requires)))
 
 pub failed_package_claims-listed-requires : goal.failed_package_claims-listed-requires
 failed_package_claims-listed-requires c =
     let w = c.requires in
-    let p = passed c.in_turn-refusal.ensures c.if-refusal-ne0.false in
+    let p = passed c.in_ok-in_turn.ensures in
     let e = c.need_of-n.ensures in
     (e.kept, some_connection _ p.connections, omega (arith, p.room, c.claims_needs-needs.ensures w, front_places w e))
 
 pub returns : goal.returns
 returns c =
     let w = c.requires in
-    let q = sized _ _ _ _ c.in_turn-refusal.ensures
+    let q = sized _ _ _ _ c.in_ok-in_turn.ensures
     (c.claims_needs-needs.ensures w) in
-    let z = c.if-refusal-ne0.false in
     let a = c.args in
     let peer : Peer a.connection = record
-    { positive = some_connection _ (passed c.in_turn-refusal.ensures z).connections; small = omega arith } in
+    { positive = some_connection _ (passed c.in_ok-in_turn.ensures).connections; small = omega arith } in
     let typed = claims-typed w.state w.sound _ _ a.clock peer (omega arith) in
-    lists_done (fails-claims _ _ _ _) w q z c.need_of-n.ensures (λ i. omega (arith, c.type_inv.s i))
+    lists_done (fails-claims _ _ _ _) w q c.need_of-n.ensures (λ i. omega (arith, c.type_inv.s i))
     typed c.failed_package_claims-listed.ensures

@@ -1,16 +1,18 @@
 -- `public_packages::on_sound::package_claims::forget_known` meets its contract: an instance of crates/outcome/proofs/Carried.
 use mathlib.Core.Path.{refl}
 use native.Mathlib.Omega.{arith}
+use Rattle.outcome.proofs.Exits.{hands-on}
 use Rattle.outcome.proofs.Carried.{refused, yes-no_done}
 use Rattle.public_packages.proofs.Instances.{forgets_known}
 use Rattle.outcome.proofs.Replies.{silent-within}
 use Rattle.public_packages.proofs.on_sound.package_claims.forget_known.Goals as goal
 
-pub returns-then-late-ne0 : goal.returns-then-late-ne0
-returns-then-late-ne0 c = refused (forgets_known _ _).names c.requires c.of_clock-late.ensures c.if-late-ne0.true
+pub returns-in_err-of_clock : goal.returns-in_err-of_clock
+returns-in_err-of_clock c =
+    rw (hands-on _ c.from_residual.ensures.1) (refused (forgets_known _ _).names c.requires _ c.in_err-of_clock.ensures)
 
 pub returns : goal.returns
 returns c =
     yes-no_done (forgets_known _ _) c.requires
-    c.of_clock-late.ensures c.if-late-ne0.false
+    c.in_ok-of_clock.ensures
     c.need_of-n.ensures (λ i. omega (arith, c.type_inv.s i)) (silent-within c.forget_known.ensures) refl

@@ -24,7 +24,7 @@ returns-then-held-places c hs st g x =
     let e = sym (not-false _ c.if-not-would_solicit.false-raw) ∙ c.would_solicit.ensures hs st g x in
     rw (← e) (place-free st.places _ (omega (arith, c.held_places-held.ensures.field (flat_of st) x, c.places-places.ensures.field (flat_of st) x, places-rows st.table)))
 
-pub returns-else-held-places : goal.returns-else-held-places
-returns-else-held-places c hs st g x =
+pub returns : goal.returns
+returns c hs st g x =
     let e = sym (not-false _ c.if-not-would_solicit.false-raw) ∙ c.would_solicit.ensures hs st g x in
     rw (← e) (place_held st.places _ (omega (arith, c.held_places-held.ensures.field (flat_of st) x, c.places-places.ensures.field (flat_of st) x, places-rows st.table)))

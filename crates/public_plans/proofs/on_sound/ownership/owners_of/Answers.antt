@@ -2,27 +2,25 @@
 use native.Mathlib.Omega.{arith}
 use Rattle.lent_lists.specs.Lists.{hashes_in}
 use Rattle.outcome.proofs.Turns.{passed-hashes}
+use Rattle.outcome.proofs.Exits.{hands-on}
 use Rattle.public_plans.proofs.Held.{right_order, sized-hashes, owners-refused, owners_done}
 use Rattle.public_plans.proofs.on_sound.ownership.owners_of.Goals as goal
 
-pub returns-then-refusal-ne0 : goal.returns-then-refusal-ne0
-returns-then-refusal-ne0 c =
-    let hs = hashes_in c.args.hashes.now in
-    owners-refused hs _ c.requires
-    (sized-hashes hs _ (c.of_hashes_and_buffer-refusal.ensures hs c.wrong-wrong.ensures) c.needs-needs.ensures) c.if-refusal-ne0.true
+pub returns-in_err-of_hashes_and_buffer : goal.returns-in_err-of_hashes_and_buffer
+returns-in_err-of_hashes_and_buffer c =
+    rw (hands-on _ c.from_residual.ensures.1) (let hs = hashes_in c.args.hashes.now in owners-refused hs _ c.requires _ (sized-hashes hs _ (c.in_err-of_hashes_and_buffer.ensures hs c.wrong-wrong.ensures) c.needs-needs.ensures))
 
 pub owners_of-passed-requires : goal.owners_of-passed-requires
 owners_of-passed-requires c =
     let hs = hashes_in c.args.hashes.now in
-    let p = passed-hashes (c.of_hashes_and_buffer-refusal.ensures hs c.wrong-wrong.ensures)
-    c.if-refusal-ne0.false in
+    let p = passed-hashes (c.in_ok-of_hashes_and_buffer.ensures hs c.wrong-wrong.ensures) in
     (c.need_of-n.ensures.kept, right_order hs p.right, omega (arith, p.room, c.needs-needs.ensures))
 
 pub returns : goal.returns
 returns c =
     let hs = hashes_in c.args.hashes.now in
     owners_done hs _ c.requires
-    (sized-hashes hs _ (c.of_hashes_and_buffer-refusal.ensures hs
+    (sized-hashes hs _ (c.in_ok-of_hashes_and_buffer.ensures hs
     c.wrong-wrong.ensures) c.needs-needs.ensures)
-    c.if-refusal-ne0.false c.need_of-n.ensures
+    c.need_of-n.ensures
     (λ i. omega (arith, c.type_inv.s i)) c.owners_of-passed.ensures

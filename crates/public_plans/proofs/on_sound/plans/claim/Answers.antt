@@ -2,17 +2,19 @@
 use mathlib.Core.Path.{◌∙◌}
 use native.Mathlib.Omega.{arith}
 use Rattle.outcome.proofs.Turns.{early_clock, passed}
+use Rattle.outcome.proofs.Exits.{hands-on}
 use Rattle.outcome.proofs.Carried.{refused}
 use Rattle.public_plans.proofs.Entered.{length-entries, entries_whole}
 use Rattle.public_plans.proofs.Taken.{claims, claims_done}
 use Rattle.public_plans.proofs.on_sound.plans.claim.Goals as goal
 
-pub returns-then-refusal-ne0 : goal.returns-then-refusal-ne0
-returns-then-refusal-ne0 c = refused (claims _ _ _) c.requires (c.of_clock_and_buffer-refusal.ensures ∙ rw c.list_needs-needs.ensures) c.if-refusal-ne0.true
+pub returns-in_err-of_clock_and_buffer : goal.returns-in_err-of_clock_and_buffer
+returns-in_err-of_clock_and_buffer c =
+    rw (hands-on _ c.from_residual.ensures.1) (refused (claims _ _ _) c.requires _ (c.in_err-of_clock_and_buffer.ensures ∙ rw c.list_needs-needs.ensures))
 
 pub claim_bytes-taken-requires : goal.claim_bytes-taken-requires
 claim_bytes-taken-requires c =
-    let p = passed c.of_clock_and_buffer-refusal.ensures c.if-refusal-ne0.false in (
+    let p = passed c.in_ok-of_clock_and_buffer.ensures in (
       c.need_of-n.ensures.kept,
       early_clock _ p.clocks,
       omega (
@@ -29,7 +31,5 @@ returns c =
     let whole = entries_whole c.args.checked.now
     (λ i. omega (arith, c.type_inv.checked i)) in
     claims_done _ _ c.requires whole
-    (c.of_clock_and_buffer-refusal.ensures ∙ rw
-    c.list_needs-needs.ensures)
-    c.if-refusal-ne0.false c.need_of-n.ensures
+    (c.in_ok-of_clock_and_buffer.ensures ∙ rw c.list_needs-needs.ensures) c.need_of-n.ensures
     (λ i. omega (arith, c.type_inv.s i)) c.claim_bytes-taken.ensures

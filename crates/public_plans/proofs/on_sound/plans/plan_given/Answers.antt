@@ -4,19 +4,19 @@ use native.Mathlib.Omega.{arith}
 use Rattle.selecting.specs.Phasing.{given_keys}
 use Rattle.selecting.proofs.Given.{given_typed}
 use Rattle.outcome.proofs.Turns.{early_clock, passed, sized}
+use Rattle.outcome.proofs.Exits.{hands-on}
 use Rattle.outcome.proofs.Carried.{refused, front_limit}
 use Rattle.public_plans.proofs.Planned.{plans, plans_done}
 use Rattle.public_plans.proofs.on_sound.plans.plan_given.Goals as goal
 
-pub returns-then-refusal-ne0 : goal.returns-then-refusal-ne0
-returns-then-refusal-ne0 c =
-    refused (plans _ _ _) c.requires
-    (sized _ _ _ _ c.of_clock_and_buffer-refusal.ensures (c.plan_needs-needs.ensures c.requires)) c.if-refusal-ne0.true
+pub returns-in_err-of_clock_and_buffer : goal.returns-in_err-of_clock_and_buffer
+returns-in_err-of_clock_and_buffer c =
+    rw (hands-on _ c.from_residual.ensures.1) (refused (plans _ _ _) c.requires _ (sized _ _ _ _ c.in_err-of_clock_and_buffer.ensures (c.plan_needs-needs.ensures c.requires)))
 
 pub plan_given-r-requires : goal.plan_given-r-requires
 plan_given-r-requires c =
     let w = c.requires in
-    let p = passed c.of_clock_and_buffer-refusal.ensures c.if-refusal-ne0.false in
+    let p = passed c.in_ok-of_clock_and_buffer.ensures in
     let e = c.need_of-n.ensures in
     (e.kept, early_clock _ p.clocks, omega (arith, p.room, c.plan_needs-needs.ensures w, front_limit w e))
 
@@ -24,11 +24,10 @@ pub returns : goal.returns
 returns c =
     let w = c.requires in
     let a = c.args in
-    let q = sized _ _ _ _ c.of_clock_and_buffer-refusal.ensures
+    let q = sized _ _ _ _ c.in_ok-of_clock_and_buffer.ensures
     (c.plan_needs-needs.ensures w) in
-    rw c.unwrap_or.ensures
-    (plans_done _ (some (given_keys a.given.now)) w (omega arith)
+    plans_done _ (some (given_keys a.given.now)) w (omega arith)
     (given_typed a.given.now
     (λ i. omega (arith, c.type_inv.given i))) q
-    c.if-refusal-ne0.false c.need_of-n.ensures
-    (λ i. omega (arith, c.type_inv.s i)) c.plan_given-r.ensures)
+    c.need_of-n.ensures
+    (λ i. omega (arith, c.type_inv.s i)) c.plan_given-r.ensures

@@ -3,20 +3,20 @@ use native.Mathlib.Omega.{arith}
 use Rattle.machine.proofs.Fail.{Peer}
 use Rattle.lent_lists.proofs.Inventory.{items-fit}
 use Rattle.outcome.proofs.Turns.{some_connection, passed, sized}
+use Rattle.outcome.proofs.Exits.{hands-on}
 use Rattle.outcome.proofs.Carried.{refused, front_places, lists_done}
 use Rattle.outcome.proofs.ListedKeys.{missing-typed}
 use Rattle.public_plans.proofs.Instances.{misses}
 use Rattle.public_plans.proofs.on_sound.wrappers.transaction_not_found.Goals as goal
 
-pub returns-then-refusal-ne0 : goal.returns-then-refusal-ne0
-returns-then-refusal-ne0 c =
-    refused (misses _ _ _ _).names c.requires
-    (sized _ _ _ _ c.in_turn-refusal.ensures (c.missing_needs-needs.ensures c.requires)) c.if-refusal-ne0.true
+pub returns-in_err-in_turn : goal.returns-in_err-in_turn
+returns-in_err-in_turn c =
+    rw (hands-on _ c.from_residual.ensures.1) (refused (misses _ _ _ _).names c.requires _ (sized _ _ _ _ c.in_err-in_turn.ensures (c.missing_needs-needs.ensures c.requires)))
 
 pub transaction_not_found-listed-requires : goal.transaction_not_found-listed-requires
 transaction_not_found-listed-requires c =
     let w = c.requires in
-    let p = passed c.in_turn-refusal.ensures c.if-refusal-ne0.false in
+    let p = passed c.in_ok-in_turn.ensures in
     let e = c.need_of-n.ensures in
     (e.kept, some_connection _ p.connections, omega (arith, p.room, c.missing_needs-needs.ensures w, front_places w e))
 
@@ -24,13 +24,12 @@ pub returns : goal.returns
 returns c =
     let w = c.requires in
     let a = c.args in
-    let q = sized _ _ _ _ c.in_turn-refusal.ensures
+    let q = sized _ _ _ _ c.in_ok-in_turn.ensures
     (c.missing_needs-needs.ensures w) in
-    let z = c.if-refusal-ne0.false in
     let peer : Peer a.connection = record
-    { positive = some_connection _ (passed c.in_turn-refusal.ensures z).connections; small = omega arith } in
+    { positive = some_connection _ (passed c.in_ok-in_turn.ensures).connections; small = omega arith } in
     let fit = items-fit a.items.now
     (λ i. omega (arith, c.type_inv.items i)) in
     let typed = missing-typed w.state w.sound _ a.clock _ peer (omega arith) fit in
-    lists_done (misses _ _ _ _) w q z c.need_of-n.ensures (λ i. omega (arith, c.type_inv.s i)) typed
+    lists_done (misses _ _ _ _) w q c.need_of-n.ensures (λ i. omega (arith, c.type_inv.s i)) typed
     c.transaction_not_found-listed.ensures

@@ -2,18 +2,19 @@
 use mathlib.Core.Path.{◌∙◌}
 use native.Mathlib.Omega.{arith}
 use Rattle.outcome.proofs.Turns.{some_connection, passed}
+use Rattle.outcome.proofs.Exits.{hands-on}
 use Rattle.outcome.proofs.Carried.{refused, lists_done}
 use Rattle.public_requests.proofs.Instances.{announces-parents}
 use Rattle.outcome.proofs.ListedKeys.{parents-typed}
 use Rattle.public_requests.proofs.on_sound.candidates.announce_parents.Goals as goal
 
-pub returns-then-refusal-ne0 : goal.returns-then-refusal-ne0
-returns-then-refusal-ne0 c =
-    refused (announces-parents _ _ _ _).names c.requires (c.in_turn-refusal.ensures ∙ rw c.hashes-count.ensures) c.if-refusal-ne0.true
+pub returns-in_err-in_turn : goal.returns-in_err-in_turn
+returns-in_err-in_turn c =
+    rw (hands-on _ c.from_residual.ensures.1) (refused (announces-parents _ _ _ _).names c.requires _ (c.in_err-in_turn.ensures ∙ rw c.hashes-count.ensures))
 
 pub announce_parents-listed-requires : goal.announce_parents-listed-requires
 announce_parents-listed-requires c =
-    let p = passed c.in_turn-refusal.ensures c.if-refusal-ne0.false in (
+    let p = passed c.in_ok-in_turn.ensures in (
       c.need_of-n.ensures.kept,
       some_connection _ p.connections,
       omega (arith, p.few, c.hashes-count.ensures),
@@ -23,13 +24,10 @@ announce_parents-listed-requires c =
 
 pub returns : goal.returns
 returns c =
-    let p = passed c.in_turn-refusal.ensures
-    c.if-refusal-ne0.false in
+    let p = passed c.in_ok-in_turn.ensures in
     let k = parents-typed _ _ _ c.args.parents.now _
     (λ i. omega (arith, c.type_inv.parents i))
     (omega (arith, p.few, c.hashes-count.ensures)) in
     lists_done (announces-parents _ _ _ _) c.requires
-    (c.in_turn-refusal.ensures ∙ rw
-    c.hashes-count.ensures)
-    c.if-refusal-ne0.false c.need_of-n.ensures
+    (c.in_ok-in_turn.ensures ∙ rw c.hashes-count.ensures) c.need_of-n.ensures
     (λ i. omega (arith, c.type_inv.s i)) k c.announce_parents-listed.ensures

@@ -1,14 +1,16 @@
 -- `public_requests::on_sound::failures::failed` meets its contract: an instance of crates/outcome/proofs/Carried.
 use native.Mathlib.Omega.{arith}
+use Rattle.outcome.proofs.Exits.{hands-on}
 use Rattle.outcome.proofs.Carried.{refused, yes-no_done}
 use Rattle.public_requests.proofs.Instances.{fails}
 use Rattle.public_requests.proofs.on_sound.failures.failed.Goals as goal
 
-pub returns-then-refusal-ne0 : goal.returns-then-refusal-ne0
-returns-then-refusal-ne0 c = refused (fails _ _ _).names c.requires c.of_connection_and_clock-refusal.ensures c.if-refusal-ne0.true
+pub returns-in_err-of_connection_and_clock : goal.returns-in_err-of_connection_and_clock
+returns-in_err-of_connection_and_clock c =
+    rw (hands-on _ c.from_residual.ensures.1) (refused (fails _ _ _).names c.requires _ c.in_err-of_connection_and_clock.ensures)
 
 pub returns : goal.returns
 returns c =
     yes-no_done (fails _ _ _) c.requires
-    c.of_connection_and_clock-refusal.ensures c.if-refusal-ne0.false
+    c.in_ok-of_connection_and_clock.ensures
     c.need_of-n.ensures (λ i. omega (arith, c.type_inv.s i)) c.failed.ensures c.replied.ensures

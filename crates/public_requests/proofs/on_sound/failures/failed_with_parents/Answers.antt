@@ -1,18 +1,20 @@
 -- `public_requests::on_sound::failures::failed_with_parents` meets its contract: an instance of crates/outcome/proofs/Carried.
 use native.Mathlib.Omega.{arith}
 use Rattle.outcome.proofs.Turns.{some_connection, passed}
+use Rattle.outcome.proofs.Exits.{hands-on}
 use Rattle.outcome.proofs.Carried.{refused, lists_done}
 use Rattle.public_requests.proofs.Instances.{fails_with_parents}
 use Rattle.outcome.proofs.ListedKeys.{failed-typed}
 use Rattle.outcome.proofs.Widths.{key-typed}
 use Rattle.public_requests.proofs.on_sound.failures.failed_with_parents.Goals as goal
 
-pub returns-then-refusal-ne0 : goal.returns-then-refusal-ne0
-returns-then-refusal-ne0 c = refused (fails_with_parents _ _ _ _).names c.requires c.in_turn-refusal.ensures c.if-refusal-ne0.true
+pub returns-in_err-in_turn : goal.returns-in_err-in_turn
+returns-in_err-in_turn c =
+    rw (hands-on _ c.from_residual.ensures.1) (refused (fails_with_parents _ _ _ _).names c.requires _ c.in_err-in_turn.ensures)
 
 pub failed_with_parents-listed-requires : goal.failed_with_parents-listed-requires
 failed_with_parents-listed-requires c =
-    let p = passed c.in_turn-refusal.ensures c.if-refusal-ne0.false in
+    let p = passed c.in_ok-in_turn.ensures in
     (c.need_of-n.ensures.kept, some_connection _ p.connections, omega (arith, p.room))
 
 pub returns : goal.returns
@@ -22,6 +24,5 @@ returns c =
     (key-typed c.args.key
     c.well_formed.1.0) in
     lists_done (fails_with_parents _ _ _ _) c.requires
-    c.in_turn-refusal.ensures
-    c.if-refusal-ne0.false c.need_of-n.ensures
+    c.in_ok-in_turn.ensures c.need_of-n.ensures
     (λ i. omega (arith, c.type_inv.s i)) k c.failed_with_parents-listed.ensures

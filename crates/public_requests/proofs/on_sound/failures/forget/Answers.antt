@@ -9,5 +9,5 @@ use Rattle.public_requests.proofs.on_sound.failures.forget.Goals as goal
 
 pub returns : goal.returns
 returns c =
-    yes-no_done (forgets _) c.requires nothing-named refl c.need_of-n.ensures
+    yes-no_done (forgets _) c.requires nothing-named c.need_of-n.ensures
     (λ i. omega (arith, c.type_inv.s i)) (silent-answer c.forget.ensures) refl

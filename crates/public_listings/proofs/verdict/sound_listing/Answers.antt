@@ -1,6 +1,6 @@
--- `public_listings::verdict::verdict_of` meets its contract.
+-- `public_listings::verdict::sound_listing` meets its contract.
 use Rattle.public_listings.proofs.Judging.{no-form, not_sound, is-sound}
-use Rattle.public_listings.proofs.verdict.verdict_of.Goals as goal
+use Rattle.public_listings.proofs.verdict.sound_listing.Goals as goal
 
 pub returns-in_default : goal.returns-in_default
 returns-in_default c = no-form c.in_default.ensures
