@@ -142,7 +142,7 @@ hands-departure (Ok d) was was' l e = rw (e.0, e.1, e.2) (l, tt, tt)
 -- ---- of a plan
 
 -- when to look again is a time after the plan's clock, and so no 0, or none
-next_in : Reply → Option ℕ
+abbrev next_in : Reply → Option ℕ
 next_in (Refused n) = none
 next_in (Number n) = none
 next_in (Keys ks) = none

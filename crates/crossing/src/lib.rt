@@ -38,7 +38,13 @@ pub fn hand_out(a: Result<u64, Refusal>, reply: &mut u64) -> u64
 }
 
 // The same of sum's figures.
-pub fn hand_figures(a: Result<Figures, Refusal>, held: &mut u64, free: &mut u64, preferred_free: &mut u64, permille: &mut u64) -> u64
+pub fn hand_figures(
+    a: Result<Figures, Refusal>,
+    held: &mut u64,
+    free: &mut u64,
+    preferred_free: &mut u64,
+    permille: &mut u64,
+) -> u64
     ensures { (result ≡ refusal_in a) × (held.new ≡ held_out a held.old) × (free.new ≡ free_out a free.old) × (preferred_free.new ≡ preferred_out a preferred_free.old) × (permille.new ≡ permille_out a permille.old) }
 {
     match a {
@@ -68,7 +74,12 @@ pub fn hand_departure(a: Result<Departure, Refusal>, own: &mut u64, parents: &mu
 }
 
 // The same of a plan: the counts of keys considered and of entries are handed out, and when to look again, 0 for no time.
-pub fn hand_plan(a: Result<Selection, Refusal>, considered: &mut u64, count: &mut u64, next: &mut u64) -> u64
+pub fn hand_plan(
+    a: Result<Selection, Refusal>,
+    considered: &mut u64,
+    count: &mut u64,
+    next: &mut u64,
+) -> u64
     ensures { (result ≡ refusal_in a) × (considered.new ≡ considered_out a considered.old) × (count.new ≡ chosen_out a count.old) × (next.new ≡ next_out a next.old) }
 {
     match a {

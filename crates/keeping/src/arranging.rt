@@ -22,7 +22,12 @@ use printing::buffers::answer_buffer;
 use printing::numbers::{refusal, unreadable};
 
 // Arranges the entries of a list.
-fn arrange_list(store: &[u8], witnesses: &[u8], list: &[u8], answer: &mut [u8]) -> Result<u64, Refusal>
+fn arrange_list(
+    store: &[u8],
+    witnesses: &[u8],
+    list: &[u8],
+    answer: &mut [u8],
+) -> Result<u64, Refusal>
     requires { Fits list.now }
     ensures { LeavesWith (On (Arrange (words witnesses.now) (list_in list.now) answer.old)) store.now store.now
         answer.new (entries_of result) }

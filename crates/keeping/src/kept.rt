@@ -50,7 +50,12 @@ pub fn empty(lists: &mut [u8])
 }
 
 // The reply of a take or of an arrangement as text. Entries that it lists become the list.
-pub fn keep_entries(list: &mut [u8], out: &mut [u8], answer: &[u8], a: Result<u64, Refusal>) -> usize
+pub fn keep_entries(
+    list: &mut [u8],
+    out: &mut [u8],
+    answer: &[u8],
+    a: Result<u64, Refusal>,
+) -> usize
     requires { Fits list.old × (answer_room ≤ length out.old) × Listable (entries_of a answer.now) answer.now }
     ensures { KeptReply list.new (entries_or (list_in list.old) (entries_of a answer.now)) out.old out.new
         (entries_of a answer.now) result }
@@ -65,7 +70,12 @@ pub fn keep_entries(list: &mut [u8], out: &mut [u8], answer: &[u8], a: Result<u6
 }
 
 // The reply of a plan as text. What it has selected becomes the list.
-pub fn keep_selection(list: &mut [u8], out: &mut [u8], answer: &[u8], a: Result<Selection, Refusal>) -> usize
+pub fn keep_selection(
+    list: &mut [u8],
+    out: &mut [u8],
+    answer: &[u8],
+    a: Result<Selection, Refusal>,
+) -> usize
     requires { Fits list.old × (answer_room ≤ length out.old) × Listable (planned_of a answer.now) answer.now }
     ensures { KeptReply list.new (chosen_or (list_in list.old) (planned_of a answer.now)) out.old out.new
         (planned_of a answer.now) result }

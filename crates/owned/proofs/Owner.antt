@@ -2,7 +2,9 @@
 use Prim.Native.Nat.{ℕ}
 use mathlib.Core.Path.{◌≡◌}
 use mathlib.Core.List.{List}
-use Rattle.machine.specs.Call.{Buffer, Call}
+use mathlib.Core.Option.{Option}
+use Rattle.ident.specs.Number.{Key}
+use Rattle.machine.specs.Call.{Buffer, Call, On, Plan}
 use Rattle.store.specs.Image.{SoundStore, Bytes}
 use Rattle.std.specs.Prelude.{Result}
 use Rattle.outcome.specs.declared.refusal.Refusal.{Refusal}
@@ -44,7 +46,9 @@ pub owner_departure : {c : Call} → Made c → {b : List ℕ} → SoundStore b 
 owner_departure {c} m w p d was was' l e = (hands-departure d was was' l e, does-keeps-sound w (made_typed c m) p l)
 
 -- of a plan
-pub owner-plan : {c : Call} → Made c → {b : List ℕ} → SoundStore b → Bytes b → (p : Result Selection Refusal) (was was' was'' : ℕ) {z : List ℕ} {u : Buffer} {r k n x : ℕ}
-    → LeavesWith c b z u (planned_of p) → (r ≡ refusal_in p) × (k ≡ considered_out p was) × (n ≡ chosen_out p was') × (x ≡ next_out p was'')
-    → HandsPlan c b z u r was k was' n was'' x × SoundStore z
-owner-plan {c} m w p q was was' was'' l e = (hands-plan q was was' was'' l e, does-keeps-sound w (made_typed c m) p l)
+pub owner-plan : {clock : ℕ} {asked : Option (List Key)} {u₀ : Buffer} → Made (On (Plan clock asked u₀)) → {b : List ℕ} → SoundStore b → Bytes b → (p : Result Selection Refusal)
+    (was was' was'' : ℕ) {z : List ℕ} {u : Buffer} {r k n x : ℕ}
+    → LeavesWith (On (Plan clock asked u₀)) b z u (planned_of p) → (r ≡ refusal_in p) × (k ≡ considered_out p was) × (n ≡ chosen_out p was') × (x ≡ next_out p was'')
+    → HandsPlan (On (Plan clock asked u₀)) b z u r was k was' n was'' x × SoundStore z
+owner-plan {clock} {asked} {u₀} m w p q was was' was'' l e =
+    (hands-plan clock asked u₀ q was was' was'' l e, does-keeps-sound w (made_typed (On (Plan clock asked u₀)) m) p l)

@@ -8,7 +8,12 @@ use outcome::{Departure, Refusal, refusals};
 
 // The connection is gone: it leaves every request that it is a candidate of. The keys of these stand in the answer, and behind them the keys of parents that are
 // announced for the candidates left.
-pub fn disconnected(s: &mut [u8], connection: u64, clock: u64, answer: &mut [u8]) -> Result<Departure, Refusal>
+pub fn disconnected(
+    s: &mut [u8],
+    connection: u64,
+    clock: u64,
+    answer: &mut [u8],
+) -> Result<Departure, Refusal>
     ensures { LeavesWith (On (Disconnected connection clock answer.old)) s.old s.new answer.new (departure_of result) }
 {
     refusals::of_store(s)?;

@@ -24,7 +24,12 @@ pub fn solicit_package_info(
 }
 
 // failed, of a connection that is asked for package info. The reply is 0 unless it is.
-pub fn failed_package_info(s: &mut [u8], key: ident::Key, connection: u64, clock: u64) -> Result<u64, Refusal>
+pub fn failed_package_info(
+    s: &mut [u8],
+    key: ident::Key,
+    connection: u64,
+    clock: u64,
+) -> Result<u64, Refusal>
     ensures { Leaves (On (FailedPackageInfo (key_num key) connection clock)) s.old s.new (reply_of result) }
 {
     refusals::of_store(s)?;

@@ -33,7 +33,12 @@ fn departure_needs(s: &[u8]) -> usize
     departure_bytes(l, q)
 }
 
-pub fn disconnected(s: &mut [u8], connection: u64, clock: u64, answer: &mut [u8]) -> Result<Departure, Refusal>
+pub fn disconnected(
+    s: &mut [u8],
+    connection: u64,
+    clock: u64,
+    answer: &mut [u8],
+) -> Result<Departure, Refusal>
     requires { SoundStore s.old }
     ensures { LeavesWith (On (Disconnected connection clock answer.old)) s.old s.new answer.new (departure_of result) }
 {

@@ -21,7 +21,14 @@ pub fn claim_package(
 {
     refusals::of_connection_and_clock(connection, clock)?;
     let n = refusals::need_of(s);
-    Ok(replied(soliciting::claim_package(&mut s[..n], connection, subject, combined, wtxids, clock)))
+    Ok(replied(soliciting::claim_package(
+        &mut s[..n],
+        connection,
+        subject,
+        combined,
+        wtxids,
+        clock,
+    )))
 }
 
 pub fn begin_package_resolution(

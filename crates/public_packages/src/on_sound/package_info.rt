@@ -17,12 +17,7 @@ ghost use Rattle.outcome.specs.Tests.{of_place};
 use outcome::{Refusal, refusals, replied};
 
 // Test 8 of a solicitation, on the bytes of the need.
-fn of_place(
-    s: &[u8],
-    connection: u64,
-    subject: ident::Wtxid,
-    clock: u64,
-) -> Result<(), Refusal>
+fn of_place(s: &[u8], connection: u64, subject: ident::Wtxid, clock: u64) -> Result<(), Refusal>
     requires { Kept s.now }
     ensures { (hs : List ℕ) (st : State) → Sound st → Writes s.now st
         → refusal_in result ≡ of_place (solicit (limits_of st) connection (hash_num subject.0) hs clock st.table).reply st.places (places_held st.table) }
@@ -76,7 +71,12 @@ pub fn solicit_package_info(
     )))
 }
 
-pub fn failed_package_info(s: &mut [u8], key: ident::Key, connection: u64, clock: u64) -> Result<u64, Refusal>
+pub fn failed_package_info(
+    s: &mut [u8],
+    key: ident::Key,
+    connection: u64,
+    clock: u64,
+) -> Result<u64, Refusal>
     requires { SoundStore s.old }
     ensures { Leaves (On (FailedPackageInfo (key_num key) connection clock)) s.old s.new (reply_of result) }
 {

@@ -63,7 +63,12 @@ pub fn plan(s: &mut [u8], clock: u64, answer: &mut [u8]) -> Result<Selection, Re
     })
 }
 
-pub fn plan_given(s: &mut [u8], clock: u64, given: &[u8], answer: &mut [u8]) -> Result<Selection, Refusal>
+pub fn plan_given(
+    s: &mut [u8],
+    clock: u64,
+    given: &[u8],
+    answer: &mut [u8],
+) -> Result<Selection, Refusal>
     requires { SoundStore s.old }
     ensures { LeavesWith (On (Plan clock (some (given_keys given.now)) answer.old)) s.old s.new answer.new (planned_of result) }
 {

@@ -4,5 +4,5 @@ use Rattle.exports.proofs.plans.tracker_plan.Goals as goal
 
 pub returns : goal.returns
 returns c =
-    hands-plan c.plan-p.result _ _ _
+    hands-plan _ _ _ c.plan-p.result _ _ _
     c.plan-p.ensures c.hand_plan.ensures

@@ -4,6 +4,6 @@ use Rattle.exports.proofs.plans.tracker_plan_given.Goals as goal
 
 pub returns : goal.returns
 returns c =
-    hands-plan c.plan_given-p.result _ _ _
+    hands-plan _ _ _ c.plan_given-p.result _ _ _
     c.plan_given-p.ensures
     c.hand_plan.ensures
