@@ -45,7 +45,8 @@ pub fn hand_figures(
     preferred_free: &mut u64,
     permille: &mut u64,
 ) -> u64
-    ensures { (result ≡ refusal_in a) × (held.new ≡ held_out a held.old) × (free.new ≡ free_out a free.old) × (preferred_free.new ≡ preferred_out a preferred_free.old) × (permille.new ≡ permille_out a permille.old) }
+    ensures { (result ≡ refusal_in a) × (held.new ≡ held_out a held.old) × (free.new ≡ free_out a free.old)
+        × (preferred_free.new ≡ preferred_out a preferred_free.old) × (permille.new ≡ permille_out a permille.old) }
 {
     match a {
         Ok(figures) => {

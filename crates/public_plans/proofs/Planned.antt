@@ -135,7 +135,8 @@ module _ (clock : ℕ) (asked : Option (List Key)) where
   unfolding named takes_place
   plans u = record { are = λ s. refl; placeless = λ s. refl }
 
-  pub plans_done : {u : Buffer} {b : List ℕ} (v : SoundStore b) → clock < word → KeysTyped asked → 0 ≡ in_turn [] (clock ∷ []) 0 (length u) (entry_bytes * min (max_request_checks + 1) v.state.limit) → {m : ℕ} → Lent b m
+  pub plans_done : {u : Buffer} {b : List ℕ} (v : SoundStore b) → clock < word → KeysTyped asked
+      → 0 ≡ in_turn [] (clock ∷ []) 0 (length u) (entry_bytes * min (max_request_checks + 1) v.state.limit) → {m : ℕ} → Lent b m
       → {p : List ℕ} → Bytes (p ++ drop m b) → {u' : List ℕ} {r : Planned} → ((s : State) → Sound s → Writes (take m b) s → Plans clock asked s p u u' r)
       → Does (On (Plan clock asked u)) b (record { reply = Chosen r.considered (entries_from u' 0 r.count) (option_of r.next); buffer = u'; store = p ++ drop m b })
   unfolding named perform

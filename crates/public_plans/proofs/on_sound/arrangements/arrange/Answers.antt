@@ -10,7 +10,9 @@ use Rattle.public_plans.proofs.on_sound.arrangements.arrange.Goals as goal
 
 pub returns-in_err-of_connections_and_buffer : goal.returns-in_err-of_connections_and_buffer
 returns-in_err-of_connections_and_buffer c =
-    rw (hands-on _ c.from_residual.ensures.1) (let ws = words c.args.witnesses.now in let q = sized ws _ _ _ (c.in_err-of_connections_and_buffer.ensures ws c.listed-zero.ensures) c.list_needs-needs.ensures in refused (arranges _ _ _) c.requires _ q)
+    let ws = words c.args.witnesses.now in
+    let q = sized ws _ _ _ (c.in_err-of_connections_and_buffer.ensures ws c.listed-zero.ensures) c.list_needs-needs.ensures in
+    rw (hands-on _ c.from_residual.ensures.1) (refused (arranges _ _ _) c.requires _ q)
 
 pub arrange-sent-requires : goal.arrange-sent-requires
 arrange-sent-requires c =

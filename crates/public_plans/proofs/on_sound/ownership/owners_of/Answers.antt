@@ -8,7 +8,9 @@ use Rattle.public_plans.proofs.on_sound.ownership.owners_of.Goals as goal
 
 pub returns-in_err-of_hashes_and_buffer : goal.returns-in_err-of_hashes_and_buffer
 returns-in_err-of_hashes_and_buffer c =
-    rw (hands-on _ c.from_residual.ensures.1) (let hs = hashes_in c.args.hashes.now in owners-refused hs _ c.requires _ (sized-hashes hs _ (c.in_err-of_hashes_and_buffer.ensures hs c.wrong-wrong.ensures) c.needs-needs.ensures))
+    let hs = hashes_in c.args.hashes.now in
+    rw (hands-on _ c.from_residual.ensures.1)
+    (owners-refused hs _ c.requires _ (sized-hashes hs _ (c.in_err-of_hashes_and_buffer.ensures hs c.wrong-wrong.ensures) c.needs-needs.ensures))
 
 pub owners_of-passed-requires : goal.owners_of-passed-requires
 owners_of-passed-requires c =
