@@ -2,20 +2,21 @@
 ghost use Rattle.std.specs.Prelude.{◌≡◌, ◌≤◌, ◌↔◌, IsTrue, IfSome, IsNone, length};
 ghost use Rattle.listed_lines.specs.Given.{LineRead};
 
+use crate::hash_lists::ROOM;
 use crate::line::{Line, line_at};
 
-// The lists of a request's line, 32 bytes for each hash.
+// Room for the two lists of a request's line, 32 bytes for each hash.
 #[derive(Drop)]
 pub struct Lists {
-    pub wtxids: [u8; 3200],
-    pub parents: [u8; 3200],
+    pub wtxids: [u8; ROOM],
+    pub parents: [u8; ROOM],
 }
 
 impl Lists {
     pub fn new() -> Self {
         Lists {
-            wtxids: [0u8; 3200],
-            parents: [0u8; 3200],
+            wtxids: [0; ROOM],
+            parents: [0; ROOM],
         }
     }
 }

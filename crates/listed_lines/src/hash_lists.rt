@@ -14,14 +14,8 @@ use reading::hashes::hash_of;
 
 const LONGEST: usize = 100;
 
-const ROOM: usize = LONGEST * HASH_BYTES;
-
 // Room for the longest list.
-pub fn hash_room() -> [u8; ROOM]
-    ensures { length result ≡ list_room }
-{
-    [0u8; ROOM]
-}
+pub const ROOM: usize = LONGEST * HASH_BYTES;
 
 fn put_hash(hashes: &mut [u8], i: usize, q: regions::Quad)
     requires { hash_bytes * i + hash_bytes ≤ length hashes.old }

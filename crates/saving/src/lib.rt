@@ -15,7 +15,7 @@ pub mod fields;
 pub mod head_line;
 pub mod request_lines;
 
-// The lines of all requests and their candidates.
+// The lines of all requests and their candidates. (No `for`: i goes from the first row of a request to that of the next one.)
 fn put_requests(s: &[u8], out: &mut [u8], from: usize) -> usize
     requires { Kept s.now × (from ≤ head_room) }
     ensures { Tells s.now (λ t. Lays out.old out.new from (text_of short (lines_of t)) result) }

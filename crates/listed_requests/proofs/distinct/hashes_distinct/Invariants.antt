@@ -1,5 +1,5 @@
 -- `listed_requests::distinct::hashes_distinct` meets its contract.
-use Prim.Native.Nat.{◌≤◌, ◌-◌}
+use Prim.Native.Nat.{◌≤◌}
 use mathlib.Core.Path.{◌≡◌}
 use mathlib.Core.Bool.{true}
 use lib.ListN.{take}
@@ -9,6 +9,3 @@ use Rattle.listed_requests.proofs.distinct.hashes_distinct.Given as goal
 
 abbrev pub invariant-loop-i : goal.invariant-loop-i
 invariant-loop-i l = (l.i ≤ l.n) × (no_repeat (take l.i (hashes_in l.s)) ≡ true)
-
-abbrev pub decreases-loop-i : goal.decreases-loop-i
-decreases-loop-i l = l.n - l.i

@@ -1,5 +1,4 @@
 -- `restoring::new_places::push_parents` meets its contract. The loop's invariant: the first j hashes are in.
-use Prim.Native.Nat.{◌-◌}
 use mathlib.Core.Path.{◌≡◌}
 use lib.ListN.{length}
 use Rattle.lent_lists.specs.Lists.{hashes_in}
@@ -8,6 +7,3 @@ use Rattle.restoring.proofs.new_places.push_parents.Given as goal
 
 abbrev pub invariant-loop-j : goal.invariant-loop-j
 invariant-loop-j l = Filled l.initial.s l.s l.i (hashes_in l.list) l.j × (l.n ≡ length (hashes_in l.list))
-
-abbrev pub decreases-loop-j : goal.decreases-loop-j
-decreases-loop-j l = l.n - l.j

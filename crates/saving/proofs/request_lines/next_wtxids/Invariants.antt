@@ -1,5 +1,5 @@
 -- `saving::request_lines::next_wtxids` meets its contract. The loop's invariant: the first j hashes are done.
-use Prim.Native.Nat.{◌+◌, ◌-◌, ◌≤◌}
+use Prim.Native.Nat.{◌+◌, ◌≤◌}
 use mathlib.Core.Path.{◌≡◌}
 use lib.ListN.{length}
 use Rattle.machine.specs.State.{Request}
@@ -10,6 +10,3 @@ use Rattle.saving.proofs.request_lines.next_wtxids.Given as goal
 
 abbrev pub invariant-loop-j : goal.invariant-loop-j
 invariant-loop-j l = (l.j ≤ l.n) × (length l.out ≡ length l.initial.out) × (l.e ≤ l.at + hashes_room l.j) × Hashes l.s l.i (λ (q : Request). wtxids_of q.«package») l.initial.out l.at l.out l.j l.e
-
-abbrev pub decreases-loop-j : goal.decreases-loop-j
-decreases-loop-j l = l.n - l.j
