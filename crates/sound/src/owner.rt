@@ -67,15 +67,13 @@ pub fn walk_to(rows: &[u8], n: usize, h: regions::Quad, at: usize) -> usize
     requires { 8 * (row_size * n) ≤ length rows.now }
 {
     let k = regions::Key { kind: 1, hash: h };
-    let mut i = at;
-    while i < n {
+    for i in at..n {
         if i - at >= NEAR {
             return regions::seek_row(rows, n, k, false);
         }
         if !regions::key_less(regions::key_at(rows, i), k) {
             return i;
         }
-        i += 1;
     }
-    i
+    n
 }

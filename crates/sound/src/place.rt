@@ -86,15 +86,13 @@ fn distinct(s: &[u8], a: usize, n: usize, slots: &mut [u16], mark: u16) -> bool
     requires { (8 * (a + 4 * n) ≤ length s.now) × (length slots.old ≡ slot_count) }
     ensures { Decides result (NoRepeat (hashes_in (words s.now) a 0 n)) × (length slots.new ≡ slot_count) }
 {
-    let mut k = n;
-    while 0 < k {
-        let h = regions::read_quad(s, a + (k - 1) * 4);
+    for k in (0..n).rev() {
+        let h = regions::read_quad(s, a + k * 4);
         let x = slot(h);
-        if has_marked(s, a, k, n, h, slots[x] == mark) {
+        if has_marked(s, a, k + 1, n, h, slots[x] == mark) {
             return false;
         }
         slots[x] = mark;
-        k -= 1;
     }
     true
 }

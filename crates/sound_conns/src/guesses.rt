@@ -188,17 +188,15 @@ pub fn fill_guesses(s: &[u8], n: usize, lo: usize, guess: &mut [u16], mask: u64)
     ensures { length guess.new ≡ length guess.old }
 {
     let few = windowed(n - lo) / 4;
-    let mut way = 0;
-    while way < 2 {
+    for way in 0..2 {
         fill_first(s, n, lo, guess, mask, way);
         if fill_second(s, n, lo, guess, mask, way) <= few {
             return way;
         }
-        way += 1;
     }
-    fill_first(s, n, lo, guess, mask, way);
-    fill_second(s, n, lo, guess, mask, way);
-    way
+    fill_first(s, n, lo, guess, mask, 2);
+    fill_second(s, n, lo, guess, mask, 2);
+    2
 }
 
 // Where x's entry is among n, or n: both guesses of the window from lo on are tried first.

@@ -37,19 +37,10 @@ const FEW_MASK: u64 = 2047;
 fn entry_fits(p: regions::Conn, c: regions::Conn) -> bool
     ensures { Decides result (EntryStep p c) }
 {
-    if c.conn <= p.conn {
-        return false;
-    }
-    if c.held == 0 {
-        return false;
-    }
-    if c.held > MAX_PEER_ANNOUNCEMENTS {
-        return false;
-    }
-    if c.owned > MAX_PEER_IN_FLIGHT {
-        return false;
-    }
-    true
+    c.conn > p.conn
+        && c.held != 0
+        && c.held <= MAX_PEER_ANNOUNCEMENTS
+        && c.owned <= MAX_PEER_IN_FLIGHT
 }
 
 // Whether the n entries rise by connection, from 1 on, and each has counts of at least one row and within the limits.

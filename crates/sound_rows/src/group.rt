@@ -42,14 +42,12 @@ pub fn run_end(s: &[u8], from: usize, to: usize, h: regions::Quad) -> usize
     requires { (from ≤ to) × (8 * (row_size * to) ≤ length s.now) }
     ensures { Run (words s.now) from to (quad_number h) result }
 {
-    let mut i = from;
-    while i < to {
+    for i in from..to {
         if regions::quad_less(h, hash_at(s, i)) {
             return i;
         }
-        i += 1;
     }
-    i
+    to
 }
 
 // Whether no connection of the rows i .. a is in a later one of them, or in one of the rows j .. b.
@@ -88,15 +86,13 @@ fn mark_conns(s: &[u8], from: usize, to: usize, slots: &mut [u64], mark: u64) ->
     requires { (from ≤ to) × (8 * (row_size * to) ≤ length s.now) × (length slots.old ≡ conn_slots) }
     ensures { Marking result (words s.now) from to mark slots.old slots.new × (length slots.new ≡ conn_slots) }
 {
-    let mut k = to;
-    while from < k {
-        let r = regions::read::<regions::Row>(s, k - 1);
+    for k in (from..to).rev() {
+        let r = regions::read::<regions::Row>(s, k);
         let x = (r.conn % SLOTS) as usize;
         if slots[x] == mark {
             return false;
         }
         slots[x] = mark;
-        k -= 1;
     }
     true
 }
@@ -114,10 +110,7 @@ fn marked_once(
     requires { (i ≤ a) × (8 * (row_size * a) ≤ length s.now) × (j ≤ b) × (8 * (row_size * b) ≤ length s.now) × (length slots.old ≡ conn_slots) }
     ensures { (result ≡ true → Once (rows_in (words s.now) i a) (rows_in (words s.now) j b)) × (length slots.new ≡ conn_slots) }
 {
-    if !mark_conns(s, j, b, slots, mark) {
-        return false;
-    }
-    mark_conns(s, i, a, slots, mark)
+    mark_conns(s, j, b, slots, mark) && mark_conns(s, i, a, slots, mark)
 }
 
 // Whether the rows i .. a and j .. b are of distinct connections. The mark should be new to the slots, else all are compared.

@@ -9,6 +9,3 @@ use Rattle.sound.proofs.place.distinct.Given as goal
 
 abbrev pub invariant-loop-k : goal.invariant-loop-k
 invariant-loop-k l = (l.k ≤ l.n) × NoRepeat (hashes_in (words l.s) l.a l.k l.n) × (length l.slots ≡ slot_count) × Marked l.mark l.slots (hashes_in (words l.s) l.a l.k l.n)
-
-abbrev pub decreases-loop-k : goal.decreases-loop-k
-decreases-loop-k l = l.k

@@ -1,10 +1,7 @@
-use Prim.Native.Nat.{◌-◌, ◌≤◌}
+use Prim.Native.Nat.{◌≤◌}
 use mathlib.Core.Path.{◌≡◌}
 use lib.ListN.{length}
 use Rattle.sound_conns.proofs.guesses.fill_guesses.Given as goal
 
 abbrev pub invariant-loop-way : goal.invariant-loop-way
 invariant-loop-way l = (l.way ≤ 2) × (length l.guess ≡ length l.initial.guess)
-
-abbrev pub decreases-loop-way : goal.decreases-loop-way
-decreases-loop-way l = 2 - l.way

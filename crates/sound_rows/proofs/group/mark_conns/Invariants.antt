@@ -8,6 +8,3 @@ use Rattle.sound_rows.proofs.group.mark_conns.Given as goal
 
 abbrev pub invariant-loop-k : goal.invariant-loop-k
 invariant-loop-k l = (l.from ≤ l.k) × (l.k ≤ l.to) × (length l.slots ≡ conn_slots) × Marks (words l.s) l.k l.to l.mark l.initial.slots l.slots
-
-abbrev pub decreases-loop-k : goal.decreases-loop-k
-decreases-loop-k l = l.k

@@ -1,7 +1,7 @@
 use borrow.Author.Rules.{rules}
 use native.Mathlib.Omega.{arith}
 use Prim.Native.Nat.{◌-◌, ◌<◌, ◌≤◌}
-use mathlib.Core.Path.{sym, ◌∙◌}
+use mathlib.Core.Path.{◌≡◌, sym, ◌∙◌}
 use borrow.Author.Tests.{ltb-true, ltb-false}
 use Rattle.words.specs.Words.{words}
 use Rattle.regions.specs.Rows.{quad_number}
@@ -35,4 +35,6 @@ loop-i-preserved c =
     )
 
 pub returns : goal.returns
-returns c = record { least = c.loop-i.invariant.0; most = c.loop-i.invariant.1; upto = c.loop-i.invariant.2; past = λ z. absurd (omega arith) }
+returns c =
+    let e : c.loop-i.i ≡ c.args.to = omega (arith, c.loop-i.invariant.1) in
+    record { least = c.requires.0; most = omega arith; upto = rw e at c.loop-i.invariant.2; past = λ z. absurd (omega arith) }
