@@ -29,7 +29,7 @@ pub struct Candidate {
     pub priority: u64,
 }
 
-// Where the rows of a key stand.
+// Where the rows of a key stand. It is passed on by copy, as a Range of std is not.
 #[derive(Clone, Copy)]
 pub struct Window {
     pub from: usize,

@@ -55,33 +55,16 @@ fn sizes_fit(s: &[u8]) -> bool
     requires { 8 * head_size ≤ length s.now }
     ensures { Decides result (SizesPlain (words s.now)) }
 {
-    if words::get(s, 0) != 1 {
-        return false;
-    }
     let l = words::get(s, 1);
-    if l == 0 {
-        return false;
-    }
-    if l > MAX_ANNOUNCEMENTS {
-        return false;
-    }
     let q = words::get(s, 2);
-    if q == 0 {
-        return false;
-    }
-    if q > MAX_PLACES {
-        return false;
-    }
-    if words::get(s, 3) > l {
-        return false;
-    }
-    if words::get(s, 4) > l {
-        return false;
-    }
-    if words::get(s, 5) > q {
-        return false;
-    }
-    true
+    words::get(s, 0) == 1
+        && l != 0
+        && l <= MAX_ANNOUNCEMENTS
+        && q != 0
+        && q <= MAX_PLACES
+        && words::get(s, 3) <= l
+        && words::get(s, 4) <= l
+        && words::get(s, 5) <= q
 }
 
 fn head_fits(s: &[u8]) -> bool

@@ -52,10 +52,6 @@ fn ahead(half: usize, k: u64, x: u64) -> usize
     half & (not_above(k, x) * 0xffff_ffff) as usize
 }
 
-fn one_back(i: usize) -> usize {
-    if i == 0 { 0 } else { i - 1 }
-}
-
 // The last of a window's entries whose connection is not above x, or the one behind it, or the window's first. (By halves: searches of
 // several rows overlap in the processor, and quarters, with three loads a step, were slower.)
 fn near(s: &[u8], n: usize, lo: usize, x: u64) -> usize
@@ -80,7 +76,7 @@ fn seek_entry(s: &[u8], n: usize, lo: usize, x: u64) -> usize
     if is_entry(s, n, a, x) {
         return a;
     }
-    let b = one_back(a);
+    let b = a.saturating_sub(1);
     if is_entry(s, n, b, x) {
         return b;
     }

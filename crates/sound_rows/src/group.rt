@@ -178,6 +178,7 @@ pub fn groups_fit(s: &[u8], n: usize, most: usize) -> bool
     let mut slots: [u64; 1024] = [0; 1024];
     let mut i = 0;
     let mut j = m;
+    // a merge of two runs, a hash at a time
     while i + j < m + n {
         let h = least_hash(s, i, m, j, n);
         let a = run_end(s, i, m, h);
