@@ -10,7 +10,7 @@ ghost use Rattle.machine.specs.Limits.{latest_clock};
 ghost use Rattle.machine.specs.Wrapper.{due_at, next_poll_after};
 ghost use Rattle.store.specs.Image.{head_size, poll_words, cursor_words};
 ghost use Rattle.store.specs.Read.{poll_is};
-ghost use Rattle.cursors.specs.Numbers.{time_num, numbers_of, gate_at, Loads, Saves, Gated, KnownMoved};
+ghost use Rattle.cursors.specs.Numbers.{time_num, numbers_of, with_known, gate_at, Loads, Saves, Gated, KnownMoved};
 ghost use Rattle.cursors.specs.InWords.{poll_at, TagSays, cursor_in, ReadyMoved};
 
 use machine::limits::REQUEST_POLL_INTERVAL;
@@ -147,6 +147,14 @@ pub fn poll_gate(c: &mut Cursors, clock: u64) -> bool
     due(old, clock)
 }
 
+// ---- the known cursor
+
+pub fn set_known(c: &mut Cursors, k: Option<ident::Key>)
+    ensures { numbers_of c.new ≡ with_known (maybe_key_num k) (numbers_of c.old) }
+{
+    c.known = k;
+}
+
 // ---- on the bytes of a store
 
 // The poll gate of a store.
@@ -166,7 +174,7 @@ pub fn move_known(s: &mut [u8], last: Option<ident::Key>)
     ensures { KnownMoved s.old s.new (maybe_key_num last) }
 {
     let mut c = load(s);
-    c.known = last;
+    set_known(&mut c, last);
     save(s, c);
 }
 
