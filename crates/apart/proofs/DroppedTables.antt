@@ -27,7 +27,7 @@ use Rattle.requests.specs.Changes.{Shorn}
 use Rattle.requests.proofs.Keeping.{writes_by}
 use Rattle.announcing.specs.Drops.{kept_row}
 use Rattle.announcing.proofs.DroppingRows.{row_goes, row_stays}
-use Rattle.package_stages.specs.Changes.{owner_num}
+use Rattle.apart.specs.Silent.{owner_num}
 use Rattle.apart.specs.Silent.{late, gone, dropped_in, dropped_all, Placeless, is_due}
 
 -- a row that goes owns its request

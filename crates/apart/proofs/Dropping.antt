@@ -33,7 +33,7 @@ use Rattle.machine.proofs.First.{change_first, change-later, keep_some as keep-f
 use Rattle.machine.proofs.Leaving.{count-has as in-has}
 use Rattle.store.proofs.Counts.{in_hasnt}
 use Rattle.requests.proofs.AtHash.{at-hash}
-use Rattle.package_stages.specs.Changes.{owner_num}
+use Rattle.apart.specs.Silent.{owner_num}
 use Rattle.failing.proofs.Fusing.{GivesNone, change_fuse, change_same}
 use Rattle.failing.proofs.Leaving.{without-ready}
 use Rattle.handing.specs.Hands.{readied}

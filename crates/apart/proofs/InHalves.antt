@@ -164,5 +164,5 @@ module _ {b b₁ b₂ b₃ w₀ w₁ w₂ w₃ a₀ a₁ a₂ : List ℕ} {n now
     none_left : y.reserve.spent ≡ true → Spent (parents_from (limits_of st) n now 0 hs st.table).table
     none_left i = subst Spent (sym table_is) (supplied-spent half₂.supplied i)
 
-  pub both_noted : Noted b b₃ n now hs (record { low = x.bits; high = y.bits; spent = y.reserve.spent })
+  pub both_noted : Noted b b₃ n now hs (record { note = record { low = x.bits; high = y.bits }; spent = y.reserve.spent })
   both_noted = record { keys = keys-are; table = written; none_left = none_left }

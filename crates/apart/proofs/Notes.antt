@@ -1,12 +1,14 @@
 -- The bits of parents, what is picked by these, and hashes read from a place.
-use Prim.Native.Nat.{ℕ, zero, suc, ◌+◌, ◌-◌, ◌*◌, ◌/◌, ◌%◌, ◌^◌, ◌≤◌, ◌<◌}
+use Prim.Native.Nat.{ℕ, zero, suc, min, ◌+◌, ◌-◌, ◌*◌, ◌/◌, ◌%◌, ◌^◌, ◌≤◌, ◌<◌}
 use mathlib.Core.Path.{◌≡◌, refl, sym, ap, ◌∙◌}
+use mathlib.Core.Logic.{inl, inr}
 use mathlib.Core.Bool.{Bool, true, false}
 use mathlib.Core.List.{List, [], ◌∷◌, ◌++◌}
 use native.Mathlib.Nat.{add-zero, pow-suc}
 use native.Mathlib.Omega.{arith}
 use native.Mathlib.Numerals.{add-one}
-use lib.Dec.{eqb}
+use lib.Dec.{eqb, ltb}
+use borrow.Author.Tests.{ltb-true, ltb-false}
 use lib.Pow.{pow_mono}
 use lib.ListN.{length, take, drop, get_or, drop_of_length-le}
 use lib.Seq.{drop-cons, take_all, take_at, drop_at}
@@ -20,6 +22,7 @@ use Rattle.machine.specs.State.{Table}
 use Rattle.machine.specs.Table.{one}
 use Rattle.machine.specs.Fail.{parents_from}
 use Rattle.regions.proofs.Order.{number_quad}
+use Rattle.machine.proofs.Tests.{test}
 use Rattle.announcing.specs.Answers.{one_parent}
 use Rattle.apart.specs.Apart.{Slot, SlotOf}
 use Rattle.apart.specs.Noting.{parent_in, hashes_at, picked, picked_in, kept_bits, half_most, Halved}
@@ -126,6 +129,12 @@ halved_less {n} h = record {
 
 pub halved_more : {n : ℕ} → half_most ≤ n → Halved n half_most
 halved_more {n} h = record { most = omega arith; within = omega arith; rest = λ l. omega arith; front = λ l e. refl; behind = λ l e. refl }
+
+pub halved : (n : ℕ) → Halved n (min n half_most)
+halved n = elim (test (ltb n half_most)) [
+  | inl t ↦ let l = ltb-true n half_most t in let e : min n half_most ≡ n = omega arith in rw e (halved_less l)
+  | inr t ↦ let l = ltb-false n half_most t in let e : min n half_most ≡ half_most = omega arith in rw e (halved_more l)
+]
 
 -- the hashes of a place in two halves
 module _ (w : List ℕ) {c e : ℕ} (h : Halved c e) where

@@ -36,7 +36,8 @@ use Rattle.package_stages.proofs.Seeking.{hash_at_lem}
 use Rattle.requests.specs.Changes.{Tells}
 use Rattle.failing.proofs.Leaving.{told}
 use Rattle.announcing.specs.Answers.{Answered}
-use Rattle.apart.specs.declared.noting.Bits.{Bits}
+use Rattle.std.specs.Prelude as rust
+use Rattle.apart.specs.declared.noting.Announced.{Announced}
 use Rattle.apart.specs.declared.slots.Spot.{Spot}
 use Rattle.apart.specs.Bare.{bare_state}
 use Rattle.apart.specs.declared.lapsing.Progress.{Progress}
@@ -183,13 +184,13 @@ module _ {b f : List ℕ} {m : ℕ} {st : State} {xs : List Slot} (o : Apart b f
       let s = places-sorted 0 (plain xs) o.ascend r.at j g (omega (arith, length-map (plain xs) (λ (p : Place). p.hash), plain-long xs)) in
       omega (arith, hash_here)
 
-  module _ {b₁ b₂ f₁ f₂ : List ℕ} {n now : ℕ} {x : Bits} (e : PlaceExpired b₁ f₁ m st xs r k n now x) (alt : Altered b₁ b₂ f₁ f₂ m r.at (with_notes x.low x.high))
+  module _ {b₁ b₂ f₁ f₂ : List ℕ} {n now : ℕ} {x : Announced} (e : PlaceExpired b₁ f₁ m st xs r k n now x) (alt : Altered b₁ b₂ f₁ f₂ m r.at (with_notes x.note.low x.note.high))
       (nb : length b₂ ≡ length b₁) (nf : length f₂ ≡ length f₁) where
     abbrev ys : List Slot
     ys = lapsed r xs
 
     abbrev y : Slot
-    y = with_notes x.low x.high (get_or ys r.at nowhere)
+    y = with_notes x.note.low x.note.high (get_or ys r.at nowhere)
 
     -- the places, with the notes of this one
     abbrev zs : List Slot
@@ -217,7 +218,7 @@ module _ {b f : List ℕ} {m : ℕ} {st : State} {xs : List Slot} (o : Apart b f
         }
 
     hashes-are : place_hashes (plain zs) ≡ place_hashes (plain xs)
-    hashes-are = set-hashes (with_notes x.low x.high) (λ v. refl) ys r.at ∙ lapsed-hashes r xs
+    hashes-are = set-hashes (with_notes x.note.low x.note.high) (λ v. refl) ys r.at ∙ lapsed-hashes r xs
 
     module _ (c : ClearAt (place k) xs) where
       clear_here : (j : ℕ) (d : Slot) → r.at ≤ j → j < length xs → Clear (get_or xs j d)
@@ -230,8 +231,8 @@ module _ {b f : List ℕ} {m : ℕ} {st : State} {xs : List Slot} (o : Apart b f
       keys-noted =
           noted-set ys r.at y (omega (arith, inside, lapsed-long r xs))
           (λ j d g l. let z : j < length xs = omega (arith, lapsed-long r xs) in lapsed-clear r xs j d z (clear_here j d g z))
-          ∙ ap (λ (l : List Key). l ++ picked_in y.place.parents x.low x.high) (lapsed-noted r xs)
-          ∙ ap (λ (hs : List ℕ). noted xs ++ picked_in hs x.low x.high) (lapsed-parents r xs)
+          ∙ ap (λ (l : List Key). l ++ picked_in y.place.parents x.note.low x.note.high) (lapsed-noted r xs)
+          ∙ ap (λ (hs : List ℕ). noted xs ++ picked_in hs x.note.low x.note.high) (lapsed-parents r xs)
           ∙ ap (λ (ks : List Key). noted xs ++ ks) e.keys
 
     pub expired_with : {q : Progress} → ExpiredTo b₂ f₂ m st xs k n now q (record { noted = r.at + 1; spent = x.spent })
@@ -311,9 +312,9 @@ module _ {b f : List ℕ} {m : ℕ} {st : State} {xs : List Slot} (o : Apart b f
 
 -- ---- the place that was found, of some state
 
-module _ {b f : List ℕ} {m c : ℕ} (x : Parted b f m c) {k : Key} {r : Spot} (y : SpotIn b f m c k r) (z : 0 < r.stage) where
+module _ {b f : List ℕ} {m c : ℕ} (x : Parted b f m c) {k : Key} {o : rust.Option Spot} (y : SpotIn b f m c k o) {r : Spot} (z : o ≡ rust.Some r) where
   pub found_held : SpotHeld (plain x.places) k r
-  found_held = y.held x.state.places x.places x.count x.apart.slots x.apart.ascend z
+  found_held = y.held r z x.state.places x.places x.count x.apart.slots x.apart.ascend
 
   pub found_inside : r.at < c
   found_inside = omega (arith, found_held.inside, x.count, plain-long x.places)

@@ -35,7 +35,7 @@ use Rattle.package_stages.specs.Changes.{stage_of, has_place}
 use Rattle.package_stages.specs.Dead.{filter, live}
 use Rattle.package_stages.proofs.Seeking.{place_in}
 use Rattle.announcing.specs.Answers.{Answered}
-use Rattle.apart.specs.declared.noting.Bits.{Bits}
+use Rattle.apart.specs.declared.noting.Announced.{Announced}
 use Rattle.apart.specs.declared.slots.Spot.{Spot}
 use Rattle.apart.specs.Bare.{bare, bare_state, bare_listed, other_than}
 use Rattle.apart.specs.Apart.{Slot, slot_words, dying, plain, Slots, SlotOf, Altered, SpotHeld, Apart}
@@ -267,7 +267,7 @@ module _ {b f : List ℕ} {m : ℕ} {st : State} {xs : List Slot} (o : Apart b f
               (sym (places-without k n now small late o.sound.bounded own (enqueued_is ∙ e) h.kind)))
         ]
 
-        module _ {b₂ f₂ : List ℕ} (g : LapsedTo b₂ f₂ m st xs r k n now) (z : List ℕ) {v : List ℕ} {x : Bits} (loaded : SlotOf z q) (l : m ≤ length b₂) (nv : length v ≡ length (take (m - 0)
+        module _ {b₂ f₂ : List ℕ} (g : LapsedTo b₂ f₂ m st xs r k n now) (z : List ℕ) {v : List ℕ} {x : Announced} (loaded : SlotOf z q) (l : m ≤ length b₂) (nv : length v ≡ length (take (m - 0)
             (drop 0 b₂)))
             (a : Noted (take (m - 0) (drop 0 b₂)) v n now (hashes_at (words z) 0 r.parents) x) where
           hashes : hashes_at (words z) 0 r.parents ≡ p.parents
@@ -299,7 +299,7 @@ module _ {b f : List ℕ} {m : ℕ} {st : State} {xs : List Slot} (o : Apart b f
               ascend = lapsed_as r xs (PlacesAscend 0) o.ascend (dies-ascend 0 ps r.at (blank 0 0) o.ascend);
               short = lapsed_as r xs (Each (λ y. length y.parents ≤ list_most)) o.short (dies-short ps r.at (blank 0 0) o.short);
             };
-            keys = ap (λ (y : Place). picked_in y.parents x.low x.high) (sym p_is) ∙ told.keys (bare_state after) (sound-bare lapsed-sound) g.writes ∙ ap (λ (y : Listed). y.keys)
+            keys = ap (λ (y : Place). picked_in y.parents x.note.low x.note.high) (sym p_is) ∙ told.keys (bare_state after) (sound-bare lapsed-sound) g.writes ∙ ap (λ (y : Listed). y.keys)
                 bare_is;
             none_left = λ e. sym (victims-bare (expire_at (limits_of st) now k n t).table) ∙ ap (λ (y : Listed). victims anywhere y.table) (sym bare_is)
                 ∙ told.none_left (bare_state after) (sound-bare lapsed-sound) g.writes e;

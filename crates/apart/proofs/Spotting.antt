@@ -1,6 +1,6 @@
 -- The place of a hash among those that are set apart.
 use Prim.Native.Nat.{ℕ, zero, suc, ◌+◌, ◌-◌, ◌≤◌, ◌<◌}
-use mathlib.Core.Path.{◌≡◌, refl, sym, ap, ◌∙◌}
+use mathlib.Core.Path.{◌≡◌, refl, sym, ap, subst, ◌∙◌}
 use mathlib.Core.Logic.{inl, inr}
 use mathlib.Core.List.{List, [], ◌∷◌}
 use native.Mathlib.Nat.{le_refl}
@@ -8,6 +8,8 @@ use native.Mathlib.Omega.{arith}
 use lib.Dec.{ltb}
 use lib.ListN.{length, take, drop, get_or, length-map}
 use borrow.Author.Tests.{ltb-true, ltb-false}
+use Rattle.std.specs.Prelude as rust
+use Rattle.std.proofs.lemmas.Option.{none-some, same_Some}
 use Rattle.ident.specs.declared.Kind.TheVariants.{Txid}
 use Rattle.ident.specs.Number.{Key, wtxid}
 use Rattle.words.specs.Words.{words, recs}
@@ -22,7 +24,7 @@ use Rattle.store.specs.FlatSound.{PlacesAscend}
 use Rattle.store.proofs.Window.{places-sorted}
 use Rattle.package_stages.specs.Records.{place_hashes}
 use Rattle.package_stages.proofs.Seeking.{head-hash, head-stage, head-parents, hash_at_lem}
-use Rattle.apart.specs.Apart.{Slot, at_rest, plain, Slots, HeadIn, SoughtIn, SpotIn}
+use Rattle.apart.specs.Apart.{Slot, at_rest, plain, Slots, HeadIn, SoughtIn, SpotHeld, SpotNone, SpotIn}
 use Rattle.apart.proofs.SlotWords.{slot_sought, plain_at, plain-long}
 use Rattle.apart.proofs.Slotted.{rest_lent, first_head}
 
@@ -116,8 +118,12 @@ module _ (ps : List Place) (h i : ℕ) (s : Sorted (place_hashes ps)) (b : Bound
       ]
 
 module _ {b f : List ℕ} {m n : ℕ} where
-  pub spot_txid : (k : Key) → k.kind ≡ Txid → SpotIn b f m n k (record { at = n; stage = 0; parents = 0 })
-  spot_txid k e = record { held = λ Q xs c s a z. absurd (omega arith); none = λ Q xs c s a z. inl e }
+  -- no place of k lives
+  spot_none : (k : Key) → ((Q : ℕ) (xs : List Slot) → n ≡ length xs → Slots b f m Q xs → PlacesAscend 0 (plain xs) → SpotNone (plain xs) k) → SpotIn b f m n k rust.None
+  spot_none k h = record { lives = λ r d. absurd (none-some r d); held = λ r d. absurd (none-some r d); none = λ d. h }
+
+  pub spot_txid : (k : Key) → k.kind ≡ Txid → SpotIn b f m n k rust.None
+  spot_txid k e = spot_none k (λ Q xs c s a. inl e)
 
   module _ (h : ℕ) {q : Quad} (e : q ≡ quad_of h) {i : ℕ} (t : SoughtIn b f m n (quad_number q) i) where
     number : quad_number q ≡ h
@@ -126,11 +132,9 @@ module _ {b f : List ℕ} {m n : ℕ} where
     bound : (Q : ℕ) (xs : List Slot) → n ≡ length xs → Slots b f m Q xs → PlacesAscend 0 (plain xs) → Bound (place_hashes (plain xs)) h i
     bound Q xs c s a = rw number at (t.bound Q xs c s (places-sorted 0 (plain xs) a))
 
-    pub spot_over : n ≤ i → SpotIn b f m n (wtxid h) (record { at = n; stage = 0; parents = 0 })
-    spot_over g = record {
-      held = λ Q xs c s a z. absurd (omega arith);
-      none = λ Q xs c s a z. inr (λ j d l y. missed (plain xs) h i (places-sorted 0 (plain xs) a) (bound Q xs c s a) d (λ k. absurd (omega (arith, plain-long xs))) j l);
-    }
+    pub spot_over : n ≤ i → SpotIn b f m n (wtxid h) rust.None
+    spot_over g = spot_none (wtxid h)
+        (λ Q xs c s a. inr (λ j d l y. missed (plain xs) h i (places-sorted 0 (plain xs) a) (bound Q xs c s a) d (λ k. absurd (omega (arith, plain-long xs))) j l))
 
     module _ (inside : i < n) {p : Head} (r : HeadIn b f m i p) where
       here : (Q : ℕ) (xs : List Slot) → n ≡ length xs → Slots b f m Q xs → (d : Place) → p ≡ head_of (get_or (plain xs) i d)
@@ -139,36 +143,39 @@ module _ {b f : List ℕ} {m n : ℕ} where
       within : (xs : List Slot) → n ≡ length xs → i < length (plain xs)
       within xs c = omega (arith, plain-long xs)
 
-      pub spot_missed : quad_number q < quad_number p.hash → SpotIn b f m n (wtxid h) (record { at = n; stage = 0; parents = 0 })
-      spot_missed g = record {
-        held = λ Q xs c s a z. absurd (omega arith);
-        none = λ Q xs c s a z. inr (λ j d l y. missed (plain xs) h i (places-sorted 0 (plain xs) a) (bound Q xs c s a) d
-            (λ k. omega (arith, number, head-hash (get_or (plain xs) i d) (here Q xs c s d))) j l);
-      }
+      pub spot_missed : quad_number q < quad_number p.hash → SpotIn b f m n (wtxid h) rust.None
+      spot_missed g = spot_none (wtxid h)
+          (λ Q xs c s a. inr (λ j d l y. missed (plain xs) h i (places-sorted 0 (plain xs) a) (bound Q xs c s a) d
+          (λ k. omega (arith, number, head-hash (get_or (plain xs) i d) (here Q xs c s d))) j l))
 
-      pub spot_found : quad_number p.hash ≤ quad_number q → SpotIn b f m n (wtxid h) (record { at = i; stage = p.stage; parents = p.parents })
-      spot_found g = record {
-        held = λ Q xs c s a z. record {
-          kind = refl;
-          inside = within xs c;
-          hash = λ d. same Q xs c s a d;
-          stage = λ d. head-stage (get_or (plain xs) i d) (here Q xs c s d);
-          parents = λ d. head-parents (get_or (plain xs) i d) (here Q xs c s d);
-        };
-        none = λ Q xs c s a z. inr (λ j d l y w.
+      module _ (g : quad_number p.hash ≤ quad_number q) where
+        same : (Q : ℕ) (xs : List Slot) → n ≡ length xs → Slots b f m Q xs → PlacesAscend 0 (plain xs) → (d : Place) → (get_or (plain xs) i d).hash ≡ h
+        same Q xs c s a d =
+            let ps : List Place = plain xs in
+            let k : i < length ps = within xs c in
+            let x = head-hash (get_or ps i d) (here Q xs c s d) in
+            let y = (bound Q xs c s a).above i (le_refl i) (omega (arith, hashes-long ps)) in
+            let z = hash_at_lem ps i d k in
+            omega (arith, number)
+
+        pub spot_dead : p.stage ≡ 0 → SpotIn b f m n (wtxid h) rust.None
+        spot_dead z = spot_none (wtxid h) (λ Q xs c s a. inr (λ j d l y w.
             let ps : List Place = plain xs in
             let u = ascend_once 0 ps j i d a l (within xs c) (w ∙ sym (same Q xs c s a d)) in
             let v = ltb-true 0 (get_or ps j d).stage y in
             let x = head-stage (get_or ps i d) (here Q xs c s d) in
             let o = ap (λ (j : ℕ). (get_or ps j d).stage) u in
-            omega arith);
-      }
-        where
-          same : (Q : ℕ) (xs : List Slot) → n ≡ length xs → Slots b f m Q xs → PlacesAscend 0 (plain xs) → (d : Place) → (get_or (plain xs) i d).hash ≡ h
-          same Q xs c s a d =
-              let ps : List Place = plain xs in
-              let k : i < length ps = within xs c in
-              let x = head-hash (get_or ps i d) (here Q xs c s d) in
-              let y = (bound Q xs c s a).above i (le_refl i) (omega (arith, hashes-long ps)) in
-              let z = hash_at_lem ps i d k in
-              omega (arith, number)
+            omega arith))
+
+        pub spot_found : (p.stage ≡ 0 → ⊥) → SpotIn b f m n (wtxid h) (rust.Some (record { at = i; stage = p.stage; parents = p.parents }))
+        spot_found z = record {
+          lives = λ v d. rw (sym (same_Some _ v d)) (omega (arith, z));
+          held = λ v d Q xs c s a. subst (SpotHeld (plain xs) (wtxid h)) (same_Some _ v d) (record {
+            kind = refl;
+            inside = within xs c;
+            hash = λ d. same Q xs c s a d;
+            stage = λ d. head-stage (get_or (plain xs) i d) (here Q xs c s d);
+            parents = λ d. head-parents (get_or (plain xs) i d) (here Q xs c s d);
+          });
+          none = λ d. absurd (none-some _ (sym d));
+        }

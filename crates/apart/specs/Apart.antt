@@ -1,6 +1,7 @@
 -- A store whose package places are set apart: its first bytes write the state without packages, the first place lies in an array beside
 -- it, the others behind those bytes. A place whose stage is 0 is dead: its request has lost it. Which of its parents were kept is noted in
 -- two of the words of a place that are zero at rest.
+use Rattle.std.specs.Prelude as rust
 use Rattle.std.specs.Prelude.{ℕ, ◌+◌, ◌-◌, ◌*◌, ◌≤◌, ◌<◌, ◌≡◌, ◌⊎◌, true, List, [], ◌∷◌, map, length, take, drop, get_or, set}
 use Rattle.ident.specs.declared.Kind.TheVariants.{Txid, Wtxid}
 use Rattle.ident.specs.Number.{Key}
@@ -119,7 +120,7 @@ pub record Forgotten (b b' f f' : List ℕ) (m n : ℕ) : Type 0 where
   pub front : take m b' ≡ take m b
   pub slots : (Q : ℕ) (xs : List Slot) → n ≤ length xs → ClearFrom n xs → Slots b f m Q xs → Slots b' f' m Q (resting (plain xs))
 
--- ---- the place of a key that is not dead: stage 0 stands for none
+-- ---- the place of a key that is not dead
 
 -- the i-th of the places is that of k
 pub record SpotHeld (ps : List Place) (k : Key) (r : Spot) : Type 0 where
@@ -133,9 +134,10 @@ pub record SpotHeld (ps : List Place) (k : Key) (r : Spot) : Type 0 where
 abbrev pub SpotNone : List Place → Key → Type 0
 SpotNone ps k = (k.kind ≡ Txid) ⊎ ((j : ℕ) (d : Place) → j < length ps → live (get_or ps j d) ≡ true → (get_or ps j d).hash ≡ k.hash → ⊥)
 
-pub record SpotIn (b f : List ℕ) (m n : ℕ) (k : Key) (r : Spot) : Type 0 where
-  pub held : (Q : ℕ) (xs : List Slot) → n ≡ length xs → Slots b f m Q xs → PlacesAscend 0 (plain xs) → 0 < r.stage → SpotHeld (plain xs) k r
-  pub none : (Q : ℕ) (xs : List Slot) → n ≡ length xs → Slots b f m Q xs → PlacesAscend 0 (plain xs) → r.stage ≡ 0 → SpotNone (plain xs) k
+pub record SpotIn (b f : List ℕ) (m n : ℕ) (k : Key) (o : rust.Option Spot) : Type 0 where
+  pub lives : (r : Spot) → o ≡ rust.Some r → 0 < r.stage
+  pub held : (r : Spot) → o ≡ rust.Some r → (Q : ℕ) (xs : List Slot) → n ≡ length xs → Slots b f m Q xs → PlacesAscend 0 (plain xs) → SpotHeld (plain xs) k r
+  pub none : o ≡ rust.None → (Q : ℕ) (xs : List Slot) → n ≡ length xs → Slots b f m Q xs → PlacesAscend 0 (plain xs) → SpotNone (plain xs) k
 
 -- ---- the whole
 

@@ -9,7 +9,7 @@ use Rattle.machine.specs.Fail.{Listed, failed, announce_parents, parents_for}
 use Rattle.store.specs.Image.{Writes}
 use Rattle.package_stages.specs.Records.{place_hashes}
 use Rattle.apart.specs.Bare.{bare_state}
-use Rattle.apart.specs.declared.noting.Bits.{Bits}
+use Rattle.apart.specs.declared.noting.Announced.{Announced}
 use Rattle.apart.specs.declared.slots.Spot.{Spot}
 use Rattle.apart.specs.declared.lapsing.Progress.{Progress}
 use Rattle.apart.specs.Apart.{Slot, dying, at_rest, plain, Slots, Clear, ClearFrom, SpotHeld, Apart}
@@ -62,12 +62,12 @@ abbrev pub expire_at : Limits → ℕ → Key → ℕ → Table → Listed
 expire_at m now k n t = announce_parents m n now (parents_for n (at k t)) (failed k n now t).table
 
 -- the owner of a place: what it leaves, and the keys that are noted
-pub record PlaceExpired (b' f' : List ℕ) (m : ℕ) (st : State) (xs : List Slot) (r : Spot) (k : Key) (n now : ℕ) (x : Bits) : Type 0 where
+pub record PlaceExpired (b' f' : List ℕ) (m : ℕ) (st : State) (xs : List Slot) (r : Spot) (k : Key) (n now : ℕ) (x : Announced) : Type 0 where
   pub apart : Apart b' f' m (on_table (expire_at (limits_of st) now k n st.table).table st) (lapsed r xs)
-  pub keys : picked_in (get_or xs r.at nowhere).place.parents x.low x.high ≡ (expire_at (limits_of st) now k n st.table).keys
+  pub keys : picked_in (get_or xs r.at nowhere).place.parents x.note.low x.note.high ≡ (expire_at (limits_of st) now k n st.table).keys
   pub none_left : x.spent ≡ true → Spent (expire_at (limits_of st) now k n st.table).table
 
-abbrev pub PlaceExpires : List ℕ → List ℕ → List ℕ → List ℕ → ℕ → Spot → Key → ℕ → ℕ → Bits → Type 0
+abbrev pub PlaceExpires : List ℕ → List ℕ → List ℕ → List ℕ → ℕ → Spot → Key → ℕ → ℕ → Announced → Type 0
 PlaceExpires b b' f f' m r k n now x = (st : State) (xs : List Slot) → Apart b f m st xs → SpotHeld (plain xs) k r → 0 < r.stage → owner_is n (at k st.table).owner ≡ true
     → PlaceExpired b' f' m st xs r k n now x
 

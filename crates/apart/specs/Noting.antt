@@ -12,7 +12,7 @@ use Rattle.machine.specs.Sound.{Sound}
 use Rattle.store.specs.Image.{Writes}
 use Rattle.requests.specs.Changes.{Tells}
 use Rattle.announcing.specs.Answers.{one_parent}
-use Rattle.apart.specs.declared.noting.Bits.{Bits}
+use Rattle.apart.specs.declared.noting.Announced.{Announced}
 use Rattle.apart.specs.Apart.{Slot, SlotOf}
 
 -- ---- parents of a place, read from its words
@@ -69,7 +69,7 @@ abbrev pub Exhausted : List ℕ → Bool → Type 0
 Exhausted b x = x ≡ true → Tells b Spent
 
 -- all hashes hs are announced, those kept noted in two halves
-pub record Noted (b b' : List ℕ) (n now : ℕ) (hs : List ℕ) (r : Bits) : Type 0 where
-  pub keys : (st : State) → Sound st → Writes b st → picked_in hs r.low r.high ≡ (parents_from (limits_of st) n now 0 hs st.table).keys
+pub record Noted (b b' : List ℕ) (n now : ℕ) (hs : List ℕ) (r : Announced) : Type 0 where
+  pub keys : (st : State) → Sound st → Writes b st → picked_in hs r.note.low r.note.high ≡ (parents_from (limits_of st) n now 0 hs st.table).keys
   pub table : (st : State) → Sound st → Writes b st → Writes b' (on_table (parents_from (limits_of st) n now 0 hs st.table).table st)
   pub none_left : (st : State) → Sound st → Writes b st → r.spent ≡ true → Spent (parents_from (limits_of st) n now 0 hs st.table).table

@@ -11,7 +11,6 @@ use Rattle.machine.specs.Plan.{Due, due}
 use Rattle.machine.specs.Sound.{All}
 use Rattle.store.specs.Flat.{places_for}
 use Rattle.store.specs.FlatSound.{owns}
-use Rattle.package_stages.specs.Changes.{owner_num}
 use Rattle.handing.specs.Hands.{readied}
 
 -- ---- the machine: one after the other
@@ -32,6 +31,11 @@ ready_each now (d ∷ ds) t = ready_each now ds (readied_both now d.key t)
 abbrev pub late : ℕ → Option Owner → Bool
 late now none = false
 late now (some o) = leb o.deadline now
+
+-- the owner's connection; no connection is 0
+abbrev pub owner_num : Option Owner → ℕ
+owner_num none = 0
+owner_num (some o) = o.connection
 
 -- the connection goes, and with it the owner
 abbrev pub gone : ℕ → Request → Request

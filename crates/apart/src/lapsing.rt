@@ -38,7 +38,7 @@ fn expire_place(
     n: u64,
     clock: u64,
     spent: bool,
-) -> noting::Bits
+) -> noting::Announced
     requires { PlaceExpiring s.old first.old m p (key_num k) n × Exhausted (take m s.old) spent }
     ensures { PlaceExpires s.old s.new first.old first.new m p (key_num k) n clock result }
 {
@@ -70,21 +70,14 @@ pub fn expire_one(
     requires { Parted s.old first.old m c × (1 ≤ n) × Exhausted (take m s.old) q.spent }
     ensures { Expires s.old s.new first.old first.new m c (key_num k) n clock q result }
 {
-    let p = slots::find(s, m, first, c, k);
-    if p.stage == 0 {
+    let Some(p) = slots::find(s, m, first, c, k) else {
         failing::failed(&mut s[0..m], k, n, clock);
         return q;
-    }
-    let spent = q.spent;
-    let r = expire_place(s, m, first, p, k, n, clock, spent);
-    let i = p.at;
-    let x = slots::Note {
-        low: r.low,
-        high: r.high,
     };
-    slots::set_note(s, m, first, i, x);
+    let r = expire_place(s, m, first, p, k, n, clock, q.spent);
+    slots::set_note(s, m, first, p.at, r.note);
     Progress {
-        noted: i + 1,
+        noted: p.at + 1,
         spent: r.spent,
     }
 }

@@ -12,6 +12,7 @@ ghost use Rattle.apart.specs.Noting.{parent_in, hashes_at, ParentsIn, half_most,
 ghost use Rattle.announcing.specs.Falls.{list_space};
 ghost use Rattle.apart.specs.Displacing.{Supplies, HalfIn};
 
+use crate::slots::Note;
 use crate::{displacing, joining};
 use gathering::region::ROOM;
 
@@ -20,11 +21,10 @@ const MOST: usize = 100;
 
 const HALF: usize = 50;
 
-// Which parents of a place were kept: those of the first half and the others, the first the least bit. spent: nobody can be evicted then.
+// Which parents of a place were kept. spent: nobody can be evicted then.
 #[derive(Clone, Copy)]
-pub struct Bits {
-    pub low: u64,
-    pub high: u64,
+pub struct Announced {
+    pub note: Note,
     pub spent: bool,
 }
 
@@ -33,16 +33,14 @@ pub fn parents_in(slot: &[u8]) -> usize
     requires { length slot.now ≡ slot_bytes }
     ensures { ParentsIn slot.now result }
 {
-    let p = places::read_head(slot, 0);
-    let n = p.parents as usize;
-    if n < MOST { n } else { MOST }
+    MOST.min(places::read_head(slot, 0).parents as usize)
 }
 
 // How many of n parents are noted in the first number.
 pub fn first_half(n: usize) -> usize
     ensures { Halved n result }
 {
-    if n < HALF { n } else { HALF }
+    n.min(HALF)
 }
 
 // The bits with w more, if the parent was kept.
@@ -58,8 +56,7 @@ pub fn parent_of(slot: &[u8], j: usize) -> ident::Hash
     requires { (j < list_most) × (length slot.now ≡ slot_bytes) }
     ensures { hash_num result ≡ parent_in (words slot.now) j }
 {
-    let q = places::read_parent(slot, 0, j);
-    requests::quad_hash(q)
+    requests::quad_hash(places::read_parent(slot, 0, j))
 }
 
 // The bits of one half, how many of its parents wait, and what is known of the victims.
@@ -125,7 +122,14 @@ fn list() -> [u8; LISTED] {
 const FEW: usize = 6;
 
 // Announces the c parents of a place for the connection n, and notes those kept. spent: nobody can be evicted.
-pub fn announce_all(s: &mut [u8], slot: &[u8], c: usize, n: u64, clock: u64, spent: bool) -> Bits
+pub fn announce_all(
+    s: &mut [u8],
+    slot: &[u8],
+    c: usize,
+    n: u64,
+    clock: u64,
+    spent: bool,
+) -> Announced
     requires { Kept s.old × (1 ≤ n) × (c ≤ list_most) × (length slot.now ≡ slot_bytes) × Exhausted s.old spent }
     ensures { Noted s.old s.new n clock (hashes_at (words slot.now) 0 c) result }
 {
@@ -138,13 +142,12 @@ pub fn announce_all(s: &mut [u8], slot: &[u8], c: usize, n: u64, clock: u64, spe
     let low = announce_bits(
         s, slot, &mut new, &mut top, v, 0, 0, e, c, n, clock, together,
     );
-    let known = low.reserve;
     let high = announce_bits(
         s,
         slot,
         &mut new,
         &mut top,
-        known,
+        low.reserve,
         low.waiting,
         e,
         c,
@@ -154,10 +157,11 @@ pub fn announce_all(s: &mut [u8], slot: &[u8], c: usize, n: u64, clock: u64, spe
         together,
     );
     joining::let_in(s, slot, &mut new, high.waiting, c, n, clock);
-    let last = high.reserve;
-    Bits {
-        low: low.bits,
-        high: high.bits,
-        spent: last.spent,
+    Announced {
+        note: Note {
+            low: low.bits,
+            high: high.bits,
+        },
+        spent: high.reserve.spent,
     }
 }

@@ -10,7 +10,7 @@ ghost use Rattle.apart.specs.Apart.{slot_bytes, kept_at, with_notes, dying, Room
 
 use places::{DEAD, PLACE};
 
-// A place of a key: its number, its stage, how many parents it has. Stage 0: there is none, or it is dead.
+// A place that is not dead: its number, its stage, how many parents it has.
 #[derive(Clone, Copy)]
 pub struct Spot {
     pub at: usize,
@@ -105,9 +105,10 @@ fn read_note(region: &[u8], i: usize) -> Note
     ensures { NoteAt (words region.now) i result }
 {
     let a = i * PLACE + KEPT;
-    let low = words::get(region, a);
-    let high = words::get(region, a + 1);
-    Note { low, high }
+    Note {
+        low: words::get(region, a),
+        high: words::get(region, a + 1),
+    }
 }
 
 // What is noted of the i-th place.
@@ -140,53 +141,44 @@ fn seek(s: &[u8], m: usize, first: &[u8], n: usize, h: regions::Quad) -> usize
     if n == 0 {
         return 0;
     }
-    let p = places::read_head(first, 0);
-    let x = p.hash;
-    if !regions::quad_less(x, h) {
+    if !regions::quad_less(places::read_head(first, 0).hash, h) {
         return 0;
     }
     let y = s.len();
     places::seek_place(&s[m..y], n - 1, h) + 1
 }
 
-// The place of the Wtxid key with hash h.
-fn find_hash(s: &[u8], m: usize, first: &[u8], n: usize, h: ident::Hash) -> Spot
+// The place of the Wtxid key with hash h, if it has one that is not dead.
+fn find_hash(s: &[u8], m: usize, first: &[u8], n: usize, h: ident::Hash) -> Option<Spot>
     requires { Room s.now first.now m n }
     ensures { SpotIn s.now first.now m n (wtxid (hash_num h)) result }
 {
     let q = requests::hash_quad(h);
     let i = seek(s, m, first, n, q);
-    if i < n {
-        let p = head_at(s, m, first, i);
-        let x = p.hash;
-        if !regions::quad_less(q, x) {
-            return Spot {
-                at: i,
-                stage: p.stage,
-                parents: p.parents as usize,
-            };
-        }
+    if n <= i {
+        return None;
     }
-    Spot {
-        at: n,
-        stage: 0,
-        parents: 0,
+    let p = head_at(s, m, first, i);
+    if regions::quad_less(q, p.hash) {
+        return None;
     }
+    if p.stage == DEAD {
+        return None;
+    }
+    Some(Spot {
+        at: i,
+        stage: p.stage,
+        parents: p.parents as usize,
+    })
 }
 
-// The place of the key k.
-pub fn find(s: &[u8], m: usize, first: &[u8], n: usize, k: ident::Key) -> Spot
+// The place of the key k, if it has one that is not dead.
+pub fn find(s: &[u8], m: usize, first: &[u8], n: usize, k: ident::Key) -> Option<Spot>
     requires { Room s.now first.now m n }
     ensures { SpotIn s.now first.now m n (key_num k) result }
 {
-    let t = k.kind;
-    let h = k.hash;
-    match t {
-        ident::Kind::Txid => Spot {
-            at: n,
-            stage: 0,
-            parents: 0,
-        },
-        ident::Kind::Wtxid => find_hash(s, m, first, n, h),
+    match k.kind {
+        ident::Kind::Txid => None,
+        ident::Kind::Wtxid => find_hash(s, m, first, n, k.hash),
     }
 }

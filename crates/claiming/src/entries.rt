@@ -6,7 +6,6 @@ ghost use Rattle.words.specs.Words.{bytes_of, splice};
 ghost use Rattle.machine.specs.Call.{key_bytes, entry_bytes};
 ghost use Rattle.machine.specs.Limits.{latest_clock};
 ghost use Rattle.machine.specs.Step.{kind_number, key_answer, entry_answer};
-ghost use Rattle.machine.specs.Table.{one};
 ghost use Rattle.store.specs.Gather.{kind_is};
 ghost use Rattle.store.specs.Shown.{Kept};
 ghost use Rattle.claiming.specs.Claiming.{entry_of, item_answer, OneMore, key_from, item_from, entry_from, entries_in, Claims};
@@ -23,21 +22,13 @@ fn kind_number(k: ident::Kind) -> u64
     }
 }
 
-fn bit(b: bool) -> u64
-    ensures { result ≡ one b }
-{
-    if b { 1 } else { 0 }
-}
-
 // Stores the key k from the word w on: its kind, and its hash.
 fn put_key(u: &mut [u8], w: usize, k: ident::Key)
     requires { 8 * w + key_bytes ≤ length u.old }
     ensures { u.new ≡ splice u.old (8 * w) (key_answer (key_num k)) }
 {
-    let kind = k.kind;
-    let hash = k.hash;
-    words::put(u, w, kind_number(kind));
-    ident::put_hash(u, w * 8 + 8, hash);
+    words::put(u, w, kind_number(k.kind));
+    ident::put_hash(u, w * 8 + 8, k.hash);
 }
 
 // Stores a connection and an item from the word w on.
@@ -45,11 +36,9 @@ fn put_item(u: &mut [u8], w: usize, connection: u64, item: ident::Item)
     requires { 8 * w + 48 ≤ length u.old }
     ensures { u.new ≡ splice u.old (8 * w) (item_answer connection (item_num item)) }
 {
-    let kind = item.kind;
-    let hash = item.hash;
     words::put(u, w, connection);
-    words::put(u, w + 1, u32::from(kind) as u64);
-    ident::put_hash(u, w * 8 + 16, hash);
+    words::put(u, w + 1, u32::from(item.kind) as u64);
+    ident::put_hash(u, w * 8 + 16, item.hash);
 }
 
 // Stores three words from the word w on.
@@ -67,12 +56,10 @@ pub fn put_entry(u: &mut [u8], n: usize, e: crate::Entry)
     requires { entry_bytes * n + entry_bytes ≤ length u.old }
     ensures { u.new ≡ splice u.old (entry_bytes * n) (entry_answer (entry_of e)) }
 {
-    let key = e.key;
-    let item = e.item;
     let w = n * ENTRY;
-    put_key(u, w, key);
-    put_item(u, w + 5, e.connection, item);
-    put_three(u, w + 11, e.ready, bit(e.preferred), e.priority);
+    put_key(u, w, e.key);
+    put_item(u, w + 5, e.connection, e.item);
+    put_three(u, w + 11, e.ready, u64::from(e.preferred), e.priority);
 }
 
 // Claims one entry, and writes it as the n-th of the answer if it is taken. Answers how many are written now.
@@ -110,9 +97,10 @@ pub fn key_at(b: &[u8], w: usize) -> ident::Key
     requires { 8 * w + key_bytes ≤ length b.now }
     ensures { key_num result ≡ key_from b.now w }
 {
-    let kind = kind_of(words::get(b, w));
-    let hash = ident::hash_at(b, w * 8 + 8);
-    ident::Key { kind, hash }
+    ident::Key {
+        kind: kind_of(words::get(b, w)),
+        hash: ident::hash_at(b, w * 8 + 8),
+    }
 }
 
 // The item from the word w on.
@@ -120,9 +108,10 @@ fn item_at(b: &[u8], w: usize) -> ident::Item
     requires { 8 * w + key_bytes ≤ length b.now }
     ensures { item_num result ≡ item_from b.now w }
 {
-    let kind = item_kind(words::get(b, w));
-    let hash = ident::hash_at(b, w * 8 + 8);
-    ident::Item { kind, hash }
+    ident::Item {
+        kind: item_kind(words::get(b, w)),
+        hash: ident::hash_at(b, w * 8 + 8),
+    }
 }
 
 // How many entries the bytes hold.
@@ -138,19 +127,13 @@ pub fn entry_in(b: &[u8], i: usize) -> crate::Entry
     ensures { entry_of result ≡ entry_from b.now i }
 {
     let w = i * ENTRY;
-    let key = key_at(b, w);
-    let connection = words::get(b, w + 5);
-    let item = item_at(b, w + 6);
-    let ready = words::get(b, w + 11);
-    let preferred = words::get(b, w + 12) != 0;
-    let priority = words::get(b, w + 13);
     crate::Entry {
-        key,
-        connection,
-        item,
-        ready,
-        preferred,
-        priority,
+        key: key_at(b, w),
+        connection: words::get(b, w + 5),
+        item: item_at(b, w + 6),
+        ready: words::get(b, w + 11),
+        preferred: words::get(b, w + 12) != 0,
+        priority: words::get(b, w + 13),
     }
 }
 

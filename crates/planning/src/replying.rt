@@ -27,22 +27,23 @@ pub fn fresh() -> selecting::Scan
     }
 }
 
-// The scan ends: the n entries are written, sorted by priority, and what is marked is given back. (keys, order and sorted are scratch.)
+// The scan ends: the entries are written, sorted by priority, and what is marked is given back. (keys, order and sorted are scratch.)
 fn close(
     s: &mut [u8],
     picks: &[usize],
-    n: usize,
     keys: &mut [u64],
     order: &mut [usize],
     sorted: &mut [usize],
     out: &mut [u8],
 )
-    requires { Marked s.old picks.now n × (n ≤ length picks.now) × ((n ≤ length keys.old) × (n ≤ length order.old) × (n ≤ length sorted.old)) × (entry_bytes * n ≤ length out.old) }
-    ensures { Closed s.old s.new picks.now n out.old out.new }
+    requires { Marked s.old picks.now (length picks.now) × ((length picks.now ≤ length keys.old) × (length picks.now ≤ length order.old) × (length picks.now ≤ length sorted.old))
+        × (entry_bytes * length picks.now ≤ length out.old) }
+    ensures { Closed s.old s.new picks.now (length picks.now) out.old out.new }
 {
-    selecting::ordering::by_priority(s, picks, n, keys, order, sorted);
-    selecting::giving::put_entries(s, sorted, n, out);
-    selecting::giving::give_back(s, picks, n);
+    let n = picks.len();
+    selecting::ordering::by_priority(s, picks, keys, order, sorted);
+    selecting::giving::put_entries(s, &sorted[..n], out);
+    selecting::giving::give_back(s, picks);
 }
 
 // Room for a number of each selection of a plan.
@@ -60,14 +61,14 @@ fn sort_keys() -> [u64; 1_025]
 }
 
 // The same with scratch of its own.
-fn finish(s: &mut [u8], picks: &[usize], n: usize, out: &mut [u8])
-    requires { Marked s.old picks.now n × (n ≤ length picks.now) × (n ≤ max_request_checks + 1) × (entry_bytes * n ≤ length out.old) }
-    ensures { Closed s.old s.new picks.now n out.old out.new }
+fn finish(s: &mut [u8], picks: &[usize], out: &mut [u8])
+    requires { Marked s.old picks.now (length picks.now) × (length picks.now ≤ max_request_checks + 1) × (entry_bytes * length picks.now ≤ length out.old) }
+    ensures { Closed s.old s.new picks.now (length picks.now) out.old out.new }
 {
     let mut keys = sort_keys();
     let mut order = numbers();
     let mut sorted = numbers();
-    close(s, picks, n, &mut keys, &mut order, &mut sorted, out);
+    close(s, picks, &mut keys, &mut order, &mut sorted, out);
 }
 
 // Considers all keys after the ready cursor and round to it, after the scan v; the ready cursor becomes the last key considered.
@@ -83,9 +84,8 @@ pub fn ask_round(
     ensures { AsksOf s.old s.new picks.old out.old out.new clock none v result }
 {
     let w = selecting::phase::phase_round(s, clock, picks, v);
-    finish(s, picks, w.chosen, out);
-    let last = w.last;
-    cursors::move_ready(s, last);
+    finish(s, &picks[..w.chosen], out);
+    cursors::move_ready(s, w.last);
     Reply {
         count: w.chosen,
         considered: w.considered,
@@ -106,7 +106,7 @@ pub fn ask_given(
     ensures { AsksOf s.old s.new picks.old out.old out.new clock (some (given_keys given.now)) v result }
 {
     let w = selecting::phase::phase_given(s, clock, given, picks, v);
-    finish(s, picks, w.chosen, out);
+    finish(s, &picks[..w.chosen], out);
     Reply {
         count: w.chosen,
         considered: w.considered,

@@ -76,9 +76,8 @@ pub fn consider(s: &mut [u8], clock: u64, k: ident::Key, picks: &mut [usize], v:
     requires { Kept s.old × (clock ≤ latest_clock) × (v.chosen < length picks.old) × (v.considered ≤ half) }
     ensures { Considers s.old s.new picks.old picks.new clock (key_num k) v result }
 {
-    let h = k.hash;
-    let x = choosing::window_as(s, ident::Kind::Txid, h);
-    let y = choosing::window_as(s, ident::Kind::Wtxid, h);
+    let x = choosing::window_as(s, ident::Kind::Txid, k.hash);
+    let y = choosing::window_as(s, ident::Kind::Wtxid, k.hash);
     consider_within(s, clock, k, x, y, picks, v)
 }
 
@@ -95,13 +94,10 @@ pub fn consider_next(s: &mut [u8], clock: u64, k: ident::Key, picks: &mut [usize
     requires { Kept s.old × (clock ≤ latest_clock) × (v.scan.chosen < length picks.old) × (v.scan.considered ≤ half) }
     ensures { Considers s.old s.new picks.old picks.new clock (key_num k) v.scan result.scan }
 {
-    let h = k.hash;
-    let x = near::window_near(s, ident::Kind::Txid, h, v.txid);
-    let y = near::window_near(s, ident::Kind::Wtxid, h, v.wtxid);
-    let before = v.scan;
-    let scan = consider_within(s, clock, k, x, y, picks, before);
+    let x = near::window_near(s, ident::Kind::Txid, k.hash, v.txid);
+    let y = near::window_near(s, ident::Kind::Wtxid, k.hash, v.wtxid);
     Walk {
-        scan,
+        scan: consider_within(s, clock, k, x, y, picks, v.scan),
         txid: x.to,
         wtxid: y.to,
     }

@@ -16,13 +16,7 @@ ghost use Rattle.selecting.specs.Phasing.{key_count, given_keys, Roomy, Scans, P
 pub fn opened(v: crate::Scan) -> crate::Scan
     ensures { result ≡ record { chosen = v.chosen; considered = v.considered; full = false; last = v.last } }
 {
-    let last = v.last;
-    crate::Scan {
-        chosen: v.chosen,
-        considered: v.considered,
-        full: false,
-        last,
-    }
+    crate::Scan { full: false, ..v }
 }
 
 // ---- given keys
@@ -59,8 +53,7 @@ fn keys_given(
         if w.full {
             return w;
         }
-        let k = key_in(given, i);
-        w = crate::consider(s, clock, k, picks, w);
+        w = crate::consider(s, clock, key_in(given, i), picks, w);
     }
     w
 }
@@ -76,8 +69,7 @@ pub fn phase_given(
     requires { Kept s.old × (clock ≤ latest_clock) × (max_request_checks < length picks.old) × (v.chosen ≤ max_request_checks) × (v.considered + key_count given.now ≤ half) }
     ensures { Phased s.old s.new picks.old picks.new clock (λ st. given_keys given.now) v result (key_count given.now) }
 {
-    let w = opened(v);
-    keys_given(s, clock, given, picks, w)
+    keys_given(s, clock, given, picks, opened(v))
 }
 
 // ---- all keys
@@ -99,17 +91,13 @@ fn keys_over(
         txid: 0,
         wtxid: 0,
     };
-    let mut i = from;
-    while i < to {
-        let x = w.scan;
-        if x.full {
-            return x;
+    for i in from..to {
+        if w.scan.full {
+            return w.scan;
         }
         let r = store::rows::row_at(s, i);
-        i += 1;
-        if sweeping::batch::ends_key(s, r, i, to) {
-            let k = announcing::evict::key_of(r);
-            w = crate::consider_next(s, clock, k, picks, w);
+        if sweeping::batch::ends_key(s, r, i + 1, to) {
+            w = crate::consider_next(s, clock, announcing::evict::key_of(r), picks, w);
         }
     }
     w.scan
@@ -123,7 +111,6 @@ pub fn phase_round(s: &mut [u8], clock: u64, picks: &mut [usize], v: crate::Scan
     let c = cursors::cursor_at(s, cursors::READY);
     let from = sweeping::batch::after_cursor(s, c);
     let n = store::head::rows(s);
-    let w = opened(v);
-    let x = keys_over(s, clock, from, n, picks, w);
+    let x = keys_over(s, clock, from, n, picks, opened(v));
     keys_over(s, clock, 0, from, picks, x)
 }

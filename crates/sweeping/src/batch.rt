@@ -72,15 +72,13 @@ pub fn keys_in(s: &[u8], from: usize, to: usize, most: usize, out: &mut [u8], v:
     requires { Shown s.now × (from ≤ to) × (to ≤ rows_in s.now) × (v.count ≤ most) × (v.count + to ≤ limit_in s.now + from) × (key_bytes * min most (limit_in s.now) ≤ length out.old) }
     ensures { Walks s.now from to most out.old out.new v result }
 {
-    let mut i = from;
     let mut w = v;
-    while i < to {
+    for i in from..to {
         if w.count == most {
             return w;
         }
         let r = store::rows::row_at(s, i);
-        i += 1;
-        if ends_key(s, r, i, to) {
+        if ends_key(s, r, i + 1, to) {
             w = hand(out, w, r);
         }
     }

@@ -1,20 +1,15 @@
 -- `owners::along` meets its contract.
 use mathlib.Core.Path.{◌≡◌, refl, sym, ap, ◌∙◌}
 use mathlib.Core.Bool.{Bool, true, false}
-use mir.Val.{bool_byte}
 use Rattle.machine.specs.Table.{one}
 use Rattle.machine.proofs.Owning.{one_most}
 use native.Mathlib.Omega.{arith}
 use borrow.Author.Tests.{ltb-true, ltb-false}
 use Rattle.regions.specs.Rows.{quad_number}
+use Rattle.claiming.proofs.Fields.{one_byte}
 use Rattle.owners.proofs.Rows.{hash_is}
 use Rattle.owners.proofs.Stretches.{going_start, going_done, going_past, going_more}
 use Rattle.owners.proofs.along.Goals as goal
-
--- a row counts one if it ends its key
-counts : (b : Bool) → bool_byte b ≡ one b
-counts true = refl
-counts false = refl
 
 pub loop-i-init : goal.loop-i-init
 loop-i-init c = going_start _ _ _ _ _ c.requires.1 refl
@@ -44,7 +39,7 @@ ends_key-requires c = (
 )
 
 pub overflow_add-keys : goal.overflow_add-keys
-overflow_add-keys c = omega (arith, c.loop-i-test.true, c.loop-i.invariant.few, c.from-keys.ensures ∙ counts c.ends_key.result, one_most c.ends_key.result)
+overflow_add-keys c = omega (arith, c.loop-i-test.true, c.loop-i.invariant.few, c.from-keys.ensures ∙ one_byte c.ends_key.result, one_most c.ends_key.result)
 
 pub loop-i-preserved : goal.loop-i-preserved
 loop-i-preserved c = going_more c.loop-i.invariant c.loop-i-test.true
@@ -56,7 +51,7 @@ loop-i-preserved c = going_more c.loop-i.invariant c.loop-i-test.true
           (quad_number c.args.h) (quad_number c.row_at-r.result.hash)
           (sym c.quad_less.ensures ∙ c.if-quad_less.false),
     ))
-    c.with_row-owner.ensures (omega (arith, c.from-keys.ensures ∙ counts c.ends_key.result, one_most c.ends_key.result)) (λ f w. c.from-keys.ensures ∙ counts c.ends_key.result ∙ ap one (c.ends_key.ensures f w))
+    c.with_row-owner.ensures (omega (arith, c.from-keys.ensures ∙ one_byte c.ends_key.result, one_most c.ends_key.result)) (λ f w. c.from-keys.ensures ∙ one_byte c.ends_key.result ∙ ap one (c.ends_key.ensures f w))
 
 pub returns : goal.returns
 returns c = going_done c.loop-i.invariant (omega (arith, c.loop-i-test.false))

@@ -13,13 +13,13 @@ use Rattle.apart.proofs.lapsing.expire_one.Goals as goal
 pub failed-requires : goal.failed-requires
 failed-requires c = lent_kept c.requires.0.apart
 
-pub returns-then-p-eq0 : goal.returns-then-p-eq0
-returns-then-p-eq0 c = record {
+pub returns-in_default : goal.returns-in_default
+returns-in_default c = record {
   most = λ l. l;
   goes = λ st xs o n own.
       let late : c.args.clock < word = omega arith in
       expired-without o (key_num c.args.k) c.args.n c.args.clock late (hash_below c.args.k.hash (key-four c.args.k c.well_formed.1.1.1.1.0)) own
-      (c.find-p.ensures.none st.places xs n o.slots o.ascend (omega (arith, c.if-p-eq0.true))) c.failed.auto.s c.failed.ensures (search rules) refl c.requires.2;
+      (c.find.ensures.none c.in_default.is st.places xs n o.slots o.ascend) c.failed.auto.s c.failed.ensures (search rules) refl c.requires.2;
 }
 
 pub expire_place-r-requires : goal.expire_place-r-requires
@@ -28,8 +28,8 @@ expire_place-r-requires c = let x = c.requires.0 in (
     state = x.state;
     places = x.places;
     apart = x.apart;
-    held = found_held x c.find-p.ensures (omega (arith, c.if-p-eq0.false));
-    some_stage = omega (arith, c.if-p-eq0.false);
+    held = found_held x c.find.ensures c.in-Some.is;
+    some_stage = c.find.ensures.lives c.in-Some.p c.in-Some.is;
     some_peer = c.requires.1;
   },
   c.requires.2,
@@ -37,29 +37,16 @@ expire_place-r-requires c = let x = c.requires.0 in (
 
 pub set_note-requires : goal.set_note-requires
 set_note-requires c = let x = c.requires.0 in room_within
-    (found_inside x c.find-p.ensures (omega (
-      arith,
-      c.if-p-eq0.false,
-    ))) (all_room x.apart (omega (arith, x.count)))
+    (found_inside x c.find.ensures c.in-Some.is) (all_room x.apart (omega (arith, x.count)))
     c.expire_place-r.auto.s c.expire_place-r.auto.first
 
 pub overflow_add-result : goal.overflow_add-result
-overflow_add-result c = let y = found_few c.requires.0 c.find-p.ensures (omega (
-  arith,
-  c.if-p-eq0.false,
-)) in omega (arith, y)
+overflow_add-result c = let y = found_few c.requires.0 c.find.ensures c.in-Some.is in omega (arith, y)
 
 pub returns : goal.returns
 returns c = record {
-  most = λ l. let y = found_inside c.requires.0 c.find-p.ensures (omega (
-    arith,
-    c.if-p-eq0.false,
-  )) in omega (arith, y);
+  most = λ l. let y = found_inside c.requires.0 c.find.ensures c.in-Some.is in omega (arith, y);
   goes = λ st xs o n own.
-      let h = c.find-p.ensures.held st.places xs n o.slots
-      o.ascend (omega (arith, c.if-p-eq0.false)) in
-      expired_with o h (c.expire_place-r.ensures st xs o h (omega (
-        arith,
-        c.if-p-eq0.false,
-      )) own) c.set_note.ensures c.set_note.auto.s c.set_note.auto.first;
+      let h = c.find.ensures.held c.in-Some.p c.in-Some.is st.places xs n o.slots o.ascend in
+      expired_with o h (c.expire_place-r.ensures st xs o h (c.find.ensures.lives c.in-Some.p c.in-Some.is) own) c.set_note.ensures c.set_note.auto.s c.set_note.auto.first;
 }

@@ -6,14 +6,8 @@ use Rattle.package_stages.proofs.Seeking.{head-parents}
 use Rattle.apart.proofs.SlotWords.{region-head}
 use Rattle.apart.proofs.noting.parents_in.Goals as goal
 
-pub returns-then-n-lt-MOST : goal.returns-then-n-lt-MOST
-returns-then-n-lt-MOST c = record { most = omega (arith, c.if-n-lt-MOST.true); is = λ x h l. head-parents x.place (region-head 1 (x ∷ []) (lit≤ tt) h 0 x (lit< tt) c.read_head-p.ensures) }
-
-pub returns-else-n-lt-MOST : goal.returns-else-n-lt-MOST
-returns-else-n-lt-MOST c = record {
-  most = omega arith;
-  is = λ x h l. let e = head-parents x.place (region-head 1 (x ∷ []) (lit≤ tt) h 0 x (lit< tt) c.read_head-p.ensures) in omega (
-    arith,
-    c.if-n-lt-MOST.false,
-  );
+pub returns : goal.returns
+returns c = record {
+  most = omega (arith, c.min.ensures);
+  is = λ x h l. let e = head-parents x.place (region-head 1 (x ∷ []) (lit≤ tt) h 0 x (lit< tt) c.read_head.ensures) in omega (arith, c.min.ensures);
 }

@@ -11,9 +11,9 @@ returns-then-n-eq0 c = sought_none (omega (arith, c.if-n-eq0.true))
 
 pub returns-then-not-quad_less : goal.returns-then-not-quad_less
 returns-then-not-quad_less c =
-    sought_first (omega (arith, c.if-n-eq0.false)) c.read_head-p.ensures (ltb-false (quad_number c.read_head-p.result.hash) (quad_number c.args.h) (sym c.quad_less.ensures ∙ c.if-not-quad_less.true))
+    sought_first (omega (arith, c.if-n-eq0.false)) c.read_head.ensures (ltb-false (quad_number c.read_head.result.hash) (quad_number c.args.h) (sym c.quad_less.ensures ∙ c.if-not-quad_less.true))
 
 pub returns : goal.returns
-returns c = sought_later (omega (arith, c.if-n-eq0.false)) c.read_head-p.ensures (ltb-true
-    (quad_number c.read_head-p.result.hash) (quad_number c.args.h) (sym
+returns c = sought_later (omega (arith, c.if-n-eq0.false)) c.read_head.ensures (ltb-true
+    (quad_number c.read_head.result.hash) (quad_number c.args.h) (sym
     c.quad_less.ensures ∙ c.if-not-quad_less.false)) c.seek_place.ensures

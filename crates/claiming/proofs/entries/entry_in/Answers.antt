@@ -4,5 +4,5 @@ use Rattle.claiming.proofs.entries.entry_in.Goals as goal
 
 pub returns : goal.returns
 returns c = entry_read c.args.b.now c.args.i
-    c.key_at-key.ensures c.get-connection.ensures c.item_at-item.ensures c.get-ready.ensures
-    c.get-preferred.ensures c.get-priority.ensures
+    c.key_at.ensures c.get.ensures c.item_at.ensures c.get-2.ensures
+    c.get-3.ensures c.get-4.ensures

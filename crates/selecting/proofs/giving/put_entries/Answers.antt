@@ -2,7 +2,7 @@
 use mathlib.Core.Path.{◌≡◌, refl, ap, ◌∙◌}
 use mathlib.Core.List.{List}
 use native.Mathlib.Omega.{arith}
-use lib.ListN.{take}
+use lib.ListN.{length, take}
 use lib.Seq.{take_all}
 use Rattle.machine.specs.State.{Entry}
 use Rattle.machine.specs.Step.{entries_answer, written}
@@ -16,10 +16,10 @@ pub loop-j-init : goal.loop-j-init
 loop-j-init c = (omega arith, refl, λ f l w q g. written_none c.args.out.now)
 
 pub offset_bounds-numbers-j : goal.offset_bounds-numbers-j
-offset_bounds-numbers-j c = omega (arith, c.loop-j-test.true, c.requires.2, c.well_formed.1.0)
+offset_bounds-numbers-j c = omega (arith, c.loop-j-test.true, c.well_formed.1.0)
 
 pub bounds-numbers-j : goal.bounds-numbers-j
-bounds-numbers-j c = omega (arith, c.loop-j-test.true, c.requires.2)
+bounds-numbers-j c = omega (arith, c.loop-j-test.true)
 
 pub row_at-r-requires : goal.row_at-r-requires
 row_at-r-requires c = (
@@ -33,7 +33,7 @@ put_entry-requires c = omega (
   arith,
   c.loop-j-test.true,
   c.loop-j.invariant.1,
-  c.requires.3,
+  c.requires.2,
 )
 
 pub loop-j-preserved : goal.loop-j-preserved
@@ -43,12 +43,12 @@ loop-j-preserved c = (
   λ f l w q g.
       puts_more f.rows l c.args.numbers.now
       c.args.out.now
-      c.args.n c.loop-j.j
-      (entry_of c.entry_of-e.result) c.row_at-r.result q
+      (length c.args.numbers.now) c.loop-j.j
+      (entry_of c.entry_of.result) c.row_at-r.result q
       c.loop-j-test.true g (c.row_at-r.ensures f
-      c.row_at-r.result w) c.entry_of-e.ensures
+      c.row_at-r.result w) c.entry_of.ensures
       (c.loop-j.invariant.2 f l w q g) c.put_entry.ensures
-      c.requires.3,
+      c.requires.2,
 )
 
 pub shape_of-out : goal.shape_of-out

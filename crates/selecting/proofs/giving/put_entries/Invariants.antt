@@ -1,5 +1,5 @@
 -- `selecting::giving::put_entries` meets its contract.
-use Prim.Native.Nat.{ℕ, ◌-◌, ◌≤◌, ◌<◌}
+use Prim.Native.Nat.{ℕ, ◌≤◌, ◌<◌}
 use mathlib.Core.Path.{◌≡◌}
 use mathlib.Core.List.{List}
 use lib.ListN.{length, get_or, take}
@@ -11,6 +11,6 @@ use Rattle.selecting.specs.Selecting.{Numbered}
 use Rattle.selecting.proofs.giving.put_entries.Given as goal
 
 abbrev pub invariant-loop-j : goal.invariant-loop-j
-invariant-loop-j l = (l.j ≤ l.n) × (length l.out ≡ length l.initial.out)
-    × ((f : Flat) (es : List Entry) → Shows l.s f → l.n ≡ length es → ((k : ℕ) (d : Entry) → k < l.n → Numbered f.rows (get_or l.numbers k 0) (get_or es k d)) → l.out ≡ written
+invariant-loop-j l = (l.j ≤ length l.numbers) × (length l.out ≡ length l.initial.out)
+    × ((f : Flat) (es : List Entry) → Shows l.s f → length l.numbers ≡ length es → ((k : ℕ) (d : Entry) → k < length l.numbers → Numbered f.rows (get_or l.numbers k 0) (get_or es k d)) → l.out ≡ written
     (entries_answer (take l.j es)) l.initial.out)

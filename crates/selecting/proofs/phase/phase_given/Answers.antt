@@ -7,7 +7,7 @@ use Rattle.selecting.proofs.phase.phase_given.Goals as goal
 
 pub keys_given-requires : goal.keys_given-requires
 keys_given-requires c =
-    let e = c.opened-w.ensures in (
+    let e = c.opened.ensures in (
       c.requires.0,
       c.requires.1,
       c.requires.2,
@@ -18,4 +18,4 @@ keys_given-requires c =
     )
 
 pub returns : goal.returns
-returns c = phased c.opened-w.ensures c.keys_given.ensures
+returns c = phased c.opened.ensures c.keys_given.ensures

@@ -15,7 +15,7 @@ rows-n-requires c = let z = (kept_shown c.requires.0).sizes in omega arith
 
 pub keys_over-x-requires : goal.keys_over-x-requires
 keys_over-x-requires c =
-    let e = c.opened-w.ensures in
+    let e = c.opened.ensures in
     let n = c.rows-n.ensures.word in
     let f = c.after_cursor-from.ensures.most in (
       c.requires.0,
@@ -31,7 +31,7 @@ keys_over-x-requires c =
 
 pub keys_over-requires : goal.keys_over-requires
 keys_over-requires c =
-    let e = ap (λ (u : Scan). u.considered) c.opened-w.ensures in
+    let e = ap (λ (u : Scan). u.considered) c.opened.ensures in
     let n = c.rows-n.ensures.word in
     let f = c.after_cursor-from.ensures.most in
     let w = c.keys_over-x.ensures in
@@ -49,5 +49,5 @@ pub returns : goal.returns
 returns c = round_phased _ c.cursor_at-c.ensures
     c.after_cursor-from.ensures
     c.rows-n.ensures.word
-    c.opened-w.ensures
+    c.opened.ensures
     c.keys_over-x.ensures c.keys_over.ensures
