@@ -1,10 +1,12 @@
 -- The second phase of a plan: from the first key to the answer.
-use Prim.Native.Nat.{ℕ, min, ◌+◌, ◌-◌, ◌≤◌}
-use mathlib.Core.Path.{◌≡◌, sym, ◌∙◌}
+use Prim.Native.Nat.{ℕ, min, ◌+◌, ◌-◌, ◌<◌, ◌≤◌}
+use mathlib.Core.Path.{◌≡◌, sym, subst, ◌∙◌}
 use mathlib.Core.List.{List, map}
 use mathlib.Core.Option.{Option}
 use native.Mathlib.Omega.{arith}
-use lib.ListN.{length, get_or}
+use lib.ListN.{length, get_or, take}
+use lib.Seq.{length-take-le}
+use Rattle.std.proofs.lemmas.List.{get_or-take}
 use Rattle.ident.specs.Number.{Key}
 use Rattle.machine.specs.Limits.{max_request_checks}
 use Rattle.machine.specs.State.{Entry, State, on_table, with_ready_cursor}
@@ -19,7 +21,7 @@ use Rattle.machine.proofs.Plan.{keys-typed, round-typed}
 use Rattle.machine.proofs.Tests.{never}
 use Rattle.store.specs.Flat.{flat_of, rows_of}
 use Rattle.store.specs.Image.{Writes, Bytes}
-use Rattle.store.specs.Shown.{limit_in, Kept}
+use Rattle.store.specs.Shown.{limit_in, rows_in, Kept}
 use Rattle.store.proofs.Frame.{sizes}
 use Rattle.store.proofs.Stored.{written_bytes}
 use Rattle.announcing.specs.Evicts.{entry_at}
@@ -61,11 +63,41 @@ rows-of m = (
   numbers_in m.sound m.marks,
 )
 
-pub closed : {b b' p q : List ℕ} (u : List ℕ) {u' : List ℕ} {n : ℕ} → SortedRows b p n q → EntriesPut b q n u u' → GivenBack b b' p n → Closed b b' p n u u'
-closed u z e g now st l s m =
+-- the first n numbers by themselves
+module _ (p : List ℕ) {n : ℕ} (h : n ≤ length p) where
+  pub front-long : length (take n p) ≡ n
+  front-long = length-take-le n p h
+
+  front-number : (j : ℕ) → j < length (take n p) → get_or (take n p) j 0 ≡ get_or p j 0
+  front-number j l = get_or-take n p j 0 (omega (arith, front-long))
+
+  pub front_marks : {now : ℕ} {st : State} {l : List Entry} {b : List ℕ} → Marks now st l b p n → Marks now st l b (take n p) (length (take n p))
+  front_marks {now} {st} {l} m = record {
+    sound = m.sound;
+    writes = m.writes;
+    free = m.free;
+    count = front-long ∙ m.count;
+    numbers = λ j d k. subst (λ (i : ℕ). Numbered (rows_of st.table) i (get_or l j d)) (sym (front-number j k)) (m.numbers j d (omega (arith, front-long)));
+  }
+
+  pub front_marked : {b : List ℕ} → Marked b p n → Marked b (take n p) (length (take n p))
+  front_marked m = record { clock = m.clock; state = m.state; chosen = m.chosen; sound = m.sound; marks = front_marks m.marks }
+
+  pub front_closed : {b b' : List ℕ} (u : List ℕ) {u' : List ℕ} → Closed b b' (take n p) (length (take n p)) u u' → Closed b b' p n u u'
+  front_closed u x now st l s m = x now st l s (front_marks m)
+
+  pub front_rows : (b : List ℕ) → RowsOfStore b p n → RowsOfStore b (take n p) (length (take n p))
+  front_rows b r j k = subst (λ (i : ℕ). i < rows_in b) (sym (front-number j k)) (r j (omega (arith, front-long)))
+
+pub closed : {b b' p q : List ℕ} (u : List ℕ) {u' : List ℕ} {n : ℕ} → n ≤ length q → SortedRows b p n q → EntriesPut b (take n q) (length (take n q)) u u' → GivenBack b b' p n
+    → Closed b b' p n u u'
+closed {q = q} u k z e g now st l s m =
     let f = flat_of (on_table (mark_all (until now) l st.table) st) in
-    let a = z.sorted f l m.writes (record { count = m.count; numbers = λ j d h. numbered_as (same s m) (m.numbers j d h) }) in
-    (g now st l s m, e f (machine.sort_by_priority l) m.writes a.count a.numbers)
+    let a = z.sorted f l m.writes (record { count = m.count; numbers = λ j d h. numbered_as (same s m) (m.numbers j d h) }) in (
+      g now st l s m,
+      e f (machine.sort_by_priority l) m.writes (front-long q k ∙ a.count)
+          (λ j d h. subst (λ (i : ℕ). Numbered f.rows i (get_or (machine.sort_by_priority l) j d)) (sym (front-number q k j h)) (a.numbers j d (omega (arith, front-long q k)))),
+    )
 
 -- the store is byte for byte the one before the scan
 pub unchanged : {b b₁ b₂ p : List ℕ} {now n : ℕ} {st : State} {l : List Entry} → Bytes b → Bytes b₂ → Writes b st → Sound st → Marks now st l b₁ p n → GivenBack b₁ b₂ p n → b₂ ≡ b
