@@ -7,11 +7,10 @@ use lib.ListN.{length, take, drop, get_or, replicate, length-append, length-drop
 use lib.Seq.{take-append-le, drop-append-le, drop_at, drop-drop}
 use Rattle.words.specs.Words.{splice}
 use Rattle.regions.specs.declared.Quad.{Quad}
-use Rattle.regions.specs.Regions.{each}
 use Rattle.regions.specs.Rows.{quad_words, read_quad, quad_number, quad_of}
-use Rattle.regions.proofs.Regions.{length-padded, region-push, region_at}
+use Rattle.regions.proofs.Regions.{region-push, region_at}
 use Rattle.regions.proofs.Order.{Small, quad-number}
-use Rattle.places.specs.Places.{list_most, list_size, place_size, combined_at, stage_at, wtxid_count_at, parent_count_at, wtxids_at, parents_at, kept_size}
+use Rattle.places.specs.Places.{list_most, list_size, combined_at, stage_at, wtxid_count_at, parent_count_at, wtxids_at, parents_at, kept_size}
 use Rattle.places.specs.Places.{Place, hash_words, list_words, place_words, head_of, read_head, with_stage, with_combined, with_wtxids, with_parents}
 pub use Rattle.places.specs.Kinds.{length-hash, length-list, length-place}
 use Rattle.places.proofs.Segments.{splice_front, splice_back, quad-in}

@@ -5,11 +5,11 @@
 // `regions`, contracts say what happens to a region that holds a list of places, and a `requires` asks for room only.
 #![tactic(auto)]
 
-ghost use Rattle.std.specs.Prelude.{[], ◌∷◌, ◌+◌, ◌*◌, ◌≤◌, ◌<◌, length};
+ghost use Rattle.std.specs.Prelude.{◌≡◌, [], ◌∷◌, ◌+◌, ◌*◌, ◌≤◌, ◌<◌, length, drop, ltb};
 ghost use Rattle.words.specs.Words.{words, recs};
 ghost use Rattle.regions.specs.Regions.{Inserted, Changed};
 ghost use Rattle.regions.specs.Order.{Sought};
-ghost use Rattle.regions.specs.Rows.{quad_words, quad_number};
+ghost use Rattle.regions.specs.Rows.{quad_words, quad_number, read_quad};
 ghost use Rattle.places.specs.Places.{list_most, place_size, combined_at, stage_at, wtxids_at, parents_at, place_words, place_key};
 ghost use Rattle.places.specs.Places.{Place, blank, with_stage, with_combined, with_wtxids, with_parents, HeadAt, HashAt, Pushed};
 ghost use Rattle.places.specs.Kinds.{place_kind};
@@ -102,17 +102,13 @@ pub fn seek_place(s: &[u8], n: usize, h: regions::Quad) -> usize
     requires { 8 * (place_size * n) ≤ length s.now }
     ensures { Sought (recs place_size place_key n (words s.now)) n (quad_number h) result }
 {
-    let mut lo = 0;
-    let mut hi = n;
-    while lo < hi {
-        let mid = lo + (hi - lo) / 2;
-        if regions::quad_less(regions::read_quad(s, mid * PLACE), h) {
-            lo = mid + 1;
-        } else {
-            hi = mid;
-        }
-    }
-    lo
+    regions::lower_bound(
+        n,
+        |i| -> bool
+            requires { 8 * (place_size * (i + 1)) ≤ length s.now }
+            ensures { result ≡ ltb (quad_number (read_quad (drop (i * place_size) (words s.entry.now)))) (quad_number h) }
+        { regions::quad_less(regions::read_quad(s, i * PLACE), h) },
+    )
 }
 
 // ---- parts of a place

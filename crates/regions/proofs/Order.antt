@@ -12,7 +12,7 @@ use Rattle.words.specs.Words.{number}
 use Rattle.words.proofs.Digits.{number_append}
 use Rattle.regions.specs.declared.Quad.{Quad}
 use Rattle.regions.specs.declared.Key.{Key}
-use Rattle.regions.specs.Order.{Sorted, Sought, First}
+use Rattle.regions.specs.Order.{Sorted, Sought, IsLowerBound, First}
 use Rattle.regions.specs.Rows.{quad_words, quad_number, quad_of, key_number}
 
 pub test : (b : Bool) → (b ≡ true) ⊎ (b ≡ false)
@@ -188,6 +188,35 @@ module _ {ks : List ℕ} {n x lo hi : ℕ} (b : Searching ks n x lo hi) where
     most = omega arith;
     bound = λ s. record { most = omega arith; below = b.below s; above = λ k l l'. b.above s k (omega arith) (omega arith) };
   }
+
+-- the same, where a test tells which keys are below x
+module _ (short : ℕ → Bool → Type 0) (n : ℕ) where
+  pub record Bisecting (lo hi : ℕ) : Type 0 where
+    pub lo-le : lo ≤ hi
+    pub hi-le : hi ≤ n
+    pub among : (ks : List ℕ) (x : ℕ) → length ks ≡ n → ((i : ℕ) (b : Bool) → i < n → short i b → b ≡ ltb (get_or ks i 0) x) → Searching ks n x lo hi
+
+  pub bisect_start : Bisecting 0 n
+  bisect_start = record { lo-le = omega arith; hi-le = omega arith; among = λ ks x l t. search_start ks n x l }
+
+module _ {short : ℕ → Bool → Type 0} {n lo hi : ℕ} (b : Bisecting short n lo hi) where
+  module _ (m : ℕ) (p : lo ≤ m) (q : m < hi) where
+    pub bisect_up : short m true → Bisecting short n (m + 1) hi
+    bisect_up s = record {
+      lo-le = omega arith;
+      hi-le = b.hi-le;
+      among = λ ks x l t. search_up (b.among ks x l t) m p q (ltb-true (get_or ks m 0) x (sym (t m true (omega arith) s)));
+    }
+
+    pub bisect_down : short m false → Bisecting short n lo m
+    bisect_down s = record {
+      lo-le = p;
+      hi-le = omega arith;
+      among = λ ks x l t. search_down (b.among ks x l t) m p q (ltb-false (get_or ks m 0) x (sym (t m false (omega arith) s)));
+    }
+
+  pub bisect_end : hi ≤ lo → IsLowerBound short n lo
+  bisect_end h = record { most = omega arith; bound = λ ks x l t. search_end (b.among ks x l t) h }
 
 -- ---- search from the front
 

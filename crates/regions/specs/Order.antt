@@ -1,5 +1,5 @@
 -- Searches, stated over the list of the records' keys as numbers.
-use Rattle.std.specs.Prelude.{ℕ, ◌≤◌, ◌<◌, Bool, true, false, ◌≡◌, List, length, get_or}
+use Rattle.std.specs.Prelude.{ℕ, ◌≤◌, ◌<◌, Bool, true, false, ltb, ◌≡◌, List, length, get_or}
 
 -- numbers in order
 unfoldable pub Sorted : List ℕ → Type 0
@@ -15,6 +15,11 @@ pub record Bound (ks : List ℕ) (x r : ℕ) : Type 0 where
 pub record Sought (ks : List ℕ) (n x r : ℕ) : Type 0 where
   pub most : r ≤ n
   pub bound : Sorted ks → Bound ks x r
+
+-- r is where a binary search of the indices below n ends that asks a test `short`: among keys, where the test tells which of them are below x
+pub record IsLowerBound (short : ℕ → Bool → Type 0) (n r : ℕ) : Type 0 where
+  pub most : r ≤ n
+  pub bound : (ks : List ℕ) (x : ℕ) → length ks ≡ n → ((i : ℕ) (b : Bool) → i < n → short i b → b ≡ ltb (get_or ks i 0) x) → Sought ks n x r
 
 -- r is the first of the indices from .. to at which ks has x, or to
 pub record First (ks : List ℕ) (from to x r : ℕ) : Type 0 where

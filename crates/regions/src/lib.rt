@@ -6,13 +6,13 @@
 // records in question lie within the slice.
 #![tactic(auto)]
 
-ghost use Rattle.std.specs.Prelude.{◌≡◌, ℕ, ◌+◌, ◌*◌, ◌≤◌, ◌<◌, List, [], ◌∷◌, length, take, drop, ltb};
+ghost use Rattle.std.specs.Prelude.{◌≡◌, ℕ, ◌+◌, ◌*◌, ◌≤◌, ◌<◌, List, [], ◌∷◌, length, get_or, take, drop, ltb};
 ghost use Rattle.words.specs.Words.{words, recs, splice, up, down};
 ghost use Rattle.regions.specs.Regions.{Inserted, Removed, Replaced, Truncated, Copied, Found, RecordLaws, WholeLaws};
 ghost use Rattle.regions.specs.declared.Row.{Row};
 ghost use Rattle.regions.specs.declared.Conn.{Conn};
 ghost use Rattle.regions.specs.Kinds.{row_kind, row_whole, conn_kind, conn_whole};
-ghost use Rattle.regions.specs.Order.{Sought, First, one};
+ghost use Rattle.regions.specs.Order.{Sought, IsLowerBound, First, one};
 ghost use Rattle.regions.specs.Rows.{row_size, conn_size, quad_words, read_quad, quad_number, row_words, read_row};
 ghost use Rattle.regions.specs.Rows.{key_number, key_of, row_key, row_conn, conn_words, read_conn, conn_key};
 
@@ -327,22 +327,36 @@ pub fn falls_short(m: Key, k: Key, after: bool) -> bool
     }
 }
 
-// The first of n rows whose key does not come before k; with `after`, the first whose key comes after it. Or n.
-pub fn seek_row(s: &[u8], n: usize, k: Key, after: bool) -> usize
-    requires { 8 * (row_size * n) ≤ length s.now }
-    ensures { Sought (recs row_size row_key n (words s.now)) n (key_number k + one after) result }
+// Binary search: the first of the indices below n that does not fall short, or n.
+pub fn lower_bound<F: Fn(usize) -> bool>(n: usize, falls_short: F) -> usize
+    requires { (i : ℕ) → i < n → F.pre falls_short i }
+    ensures { IsLowerBound (F.post falls_short) n result }
 {
     let mut lo = 0;
     let mut hi = n;
     while lo < hi {
         let mid = lo + (hi - lo) / 2;
-        if falls_short(key_at(s, mid), k, after) {
+        if falls_short(mid) {
             lo = mid + 1;
         } else {
             hi = mid;
         }
     }
     lo
+}
+
+// The first of n rows whose key does not come before k; with `after`, the first whose key comes after it. Or n.
+pub fn seek_row(s: &[u8], n: usize, k: Key, after: bool) -> usize
+    requires { 8 * (row_size * n) ≤ length s.now }
+    ensures { Sought (recs row_size row_key n (words s.now)) n (key_number k + one after) result }
+{
+    lower_bound(
+        n,
+        |i| -> bool
+            requires { 8 * (row_size * (i + 1)) ≤ length s.now }
+            ensures { result ≡ ltb (row_key (take row_size (drop (row_size * i) (words s.entry.now)))) (key_number k + one after) }
+        { falls_short(key_at(s, i), k, after) },
+    )
 }
 
 // The first of n entries whose connection is at least c, or n.
@@ -350,17 +364,13 @@ pub fn seek_conn(s: &[u8], n: usize, c: u64) -> usize
     requires { 8 * (conn_size * n) ≤ length s.now }
     ensures { Sought (recs conn_size conn_key n (words s.now)) n c result }
 {
-    let mut lo = 0;
-    let mut hi = n;
-    while lo < hi {
-        let mid = lo + (hi - lo) / 2;
-        if words::get(s, mid * CONN) < c {
-            lo = mid + 1;
-        } else {
-            hi = mid;
-        }
-    }
-    lo
+    lower_bound(
+        n,
+        |i| -> bool
+            requires { 8 * (conn_size * (i + 1)) ≤ length s.now }
+            ensures { result ≡ ltb (get_or (words s.entry.now) (i * conn_size) 0) c }
+        { words::get(s, i * CONN) < c },
+    )
 }
 
 // The first of the rows from .. to whose connection is c, or `to`.
@@ -368,12 +378,10 @@ pub fn find_conn_in(s: &[u8], from: usize, to: usize, c: u64) -> usize
     requires { (from ≤ to) × (8 * (row_size * to) ≤ length s.now) }
     ensures { First (recs row_size row_conn to (words s.now)) from to c result }
 {
-    let mut i = from;
-    while i < to {
+    for i in from..to {
         if words::get(s, i * ROW + 4) == c {
             return i;
         }
-        i += 1;
     }
-    i
+    to
 }
