@@ -25,19 +25,7 @@ const SPREAD: u64 = 0x1E37_79B1;
 pub fn same_hash(a: regions::Quad, b: regions::Quad) -> bool
     ensures { Decides result (quad_number a ≡ quad_number b) }
 {
-    if a.w0 != b.w0 {
-        return false;
-    }
-    if a.w1 != b.w1 {
-        return false;
-    }
-    if a.w2 != b.w2 {
-        return false;
-    }
-    if a.w3 != b.w3 {
-        return false;
-    }
-    true
+    a == b
 }
 
 // Whether h is among the hashes from .. to of the list that starts at the word a.
