@@ -7,32 +7,12 @@ use Rattle.leaving.proofs.Turning.{keys-inside}
 use Rattle.leaving.proofs.Ending.{going_first, store_long, ended}
 use Rattle.leaving.proofs.drop_keys.Goals as goal
 
-pub idle_keys-i-requires : goal.idle_keys-i-requires
-idle_keys-i-requires c = c.requires.0
-
 pub loop-i-init : goal.loop-i-init
 loop-i-init c = λ st s w.
     let late : c.args.clock < word = omega (arith, c.well_formed.1.1.0) in
     going_first c.args.n c.args.clock late st s w c.args.out.now
     c.args.own (c.requires.3.count st s w) (c.requires.3.keys st s w)
     c.requires.2 c.idle_keys-i.ensures
-
-pub take_turn-p-requires : goal.take_turn-p-requires
-take_turn-p-requires c = let kept = c.requires.0 in (
-  record {
-    state = kept.state;
-    buffer = c.args.out.now;
-    going = c.loop-i.invariant kept.state
-        kept.sound kept.writes;
-  },
-  c.requires.1,
-  c.loop-i-test.true,
-)
-
-pub loop-i-preserved : goal.loop-i-preserved
-loop-i-preserved c = λ st s w. c.take_turn-p.ensures st
-    c.args.out.now
-    (c.loop-i.invariant st s w)
 
 pub cut_listed-requires : goal.cut_listed-requires
 cut_listed-requires c = let kept = c.requires.0 in

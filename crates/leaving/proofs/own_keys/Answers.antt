@@ -33,8 +33,5 @@ loop-i-preserved c =
     (λ f d h. c.row_at-r.ensures f d h)
     c.put_own-c.ensures
 
-pub shape_of-out : goal.shape_of-out
-shape_of-out c = c.loop-i.invariant.long
-
 pub returns : goal.returns
 returns c = owning_done c.loop-i.invariant (λ f h. omega (arith, c.rows-rows.ensures.field f h, c.loop-i-test.false))

@@ -1,12 +1,5 @@
 use Rattle.leaving.proofs.OwnRows.{put-its, put_not}
-use borrow.Author.Rules.{rules}
 use Rattle.leaving.proofs.put_own.Goals as goal
-
-pub put_key-requires : goal.put_key-requires
-put_key-requires c = c.requires c.if-r-n.true
-
-pub overflow_add-result : goal.overflow_add-result
-overflow_add-result c = search (rules, c.requires c.if-r-n.true)
 
 pub returns-then-r-n : goal.returns-then-r-n
 returns-then-r-n c = put-its c.args.n c.args.r
