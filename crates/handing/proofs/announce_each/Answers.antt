@@ -14,9 +14,6 @@ loop-i-init c = handing_none c.args.clock (hashes_in c.args.list.now)
     (conns_in c.args.q c.args.conns.now) c.args.s.now
     c.args.u.now c.args.n c.requires.4
 
-pub get-x-requires : goal.get-x-requires
-get-x-requires c = omega (arith, c.loop-i-test.true, c.requires.2)
-
 pub announce_for-r-requires : goal.announce_for-r-requires
 announce_for-r-requires c = let late : c.args.clock < word = omega arith in
     let hs = hashes_in c.args.list.now in
@@ -78,9 +75,6 @@ loop-i-preserved c = let late : c.args.clock < word = omega arith in
     c.requires.5
     c.loop-i.invariant c.get-x.result h g
     c.announce_for-r.auto.s c.announce_for-r.ensures
-
-pub shape_of-s : goal.shape_of-s
-shape_of-s c = c.loop-i.invariant.store_long
 
 pub shape_of-u : goal.shape_of-u
 shape_of-u c = let late : c.args.clock < word = omega arith in

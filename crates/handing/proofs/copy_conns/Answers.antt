@@ -21,17 +21,11 @@ loop-i-init c = let kept = c.requires.0 in
       omega (arith, n, few_candidates st kept.sound k key.small, c.requires.1),
     )
 
-pub overflow_add-from : goal.overflow_add-from
-overflow_add-from c = omega (arith, c.window_of-w.ensures.most, c.window_of-w.ensures.order, c.loop-i-test.true)
-
 pub row_at-r-requires : goal.row_at-r-requires
 row_at-r-requires c = (
   kept_shown c.requires.0,
   omega (arith, c.window_of-w.ensures.most, c.window_of-w.ensures.order, c.loop-i-test.true),
 )
-
-pub put-requires : goal.put-requires
-put-requires c = omega (arith, c.loop-i-test.true, c.loop-i.invariant.0.long, c.loop-i.invariant.1)
 
 pub loop-i-preserved : goal.loop-i-preserved
 loop-i-preserved c = (
@@ -44,9 +38,6 @@ loop-i-preserved c = (
       )) (λ f d h. c.row_at-r.ensures f d h) c.put.ensures,
   c.loop-i.invariant.1,
 )
-
-pub shape_of-conns : goal.shape_of-conns
-shape_of-conns c = c.loop-i.invariant.0.long
 
 pub returns : goal.returns
 returns c = (

@@ -5,6 +5,3 @@ use Rattle.handing.proofs.is_silent.Goals as goal
 
 pub returns-then-is_single : goal.returns-then-is_single
 returns-then-is_single c = λ e st s w o. single-silent st s c.args.n (key_num c.args.k) (c.is_single.ensures c.if-is_single.true st s w) o
-
-pub returns-else-is_single : goal.returns-else-is_single
-returns-else-is_single c = λ e st s w o. inl (c.is_childless.ensures e st s w)

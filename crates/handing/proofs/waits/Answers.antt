@@ -20,12 +20,6 @@ returns-then-not-releasable c = waits_not c.args.n
     (λ st s w. sym (c.is_owner-seen.ensures st s w) ∙
     not-false c.is_owner-seen.result.owner c.if-not-seen.false)
 
-pub ease-requires : goal.ease-requires
-ease-requires c = (
-  c.requires.0,
-  λ st s w. sym (c.releasable.ensures st s w) ∙ c.if-not-releasable.false,
-)
-
 pub returns : goal.returns
 returns c = waits-eased c.args.n
     c.args.clock
