@@ -49,10 +49,13 @@ by_key a b f g =
 
 -- and so the code's `<` on keys
 pub key_less : (a b : D.Key) → Four a.hash → Four b.hash → partial_lt (KeyPartialOrd.ghosts).partial_cmp a b ≡ ltb (place (key_num a)) (place (key_num b))
-key_less a b f g = ap (λ (o : Option Ordering). is_some_and is_lt o) (answered a.kind b.kind a.hash b.hash ∙ ap (λ (o : Ordering). Some o) (by_key a b f g)) ∙ less (place (key_num a)) (place (key_num b))
+key_less a b f g =
+    ap (λ (o : Option Ordering). is_some_and is_lt o) (answered a.kind b.kind a.hash b.hash ∙ ap (λ (o : Ordering). Some o) (by_key a b f g))
+    ∙ less (place (key_num a)) (place (key_num b))
   where
     answered : (k k' : Kind) (h h' : Hash)
-        → (KeyPartialOrd.ghosts).partial_cmp (record { kind = k; hash = h }) (record { kind = k'; hash = h' }) ≡ Some ((KeyOrd.ghosts).cmp (record { kind = k; hash = h }) (record { kind = k'; hash = h' }))
+        → (KeyPartialOrd.ghosts).partial_cmp (record { kind = k; hash = h }) (record { kind = k'; hash = h' })
+        ≡ Some ((KeyOrd.ghosts).cmp (record { kind = k; hash = h }) (record { kind = k'; hash = h' }))
     answered Txid Txid h h' = refl
     answered Txid Wtxid h h' = refl
     answered Wtxid Txid h h' = refl

@@ -43,7 +43,7 @@ pub fn put(s: &mut [u8], i: usize, v: u64)
     s[a + 7] = b7;
 }
 
-// Moves the first m words up by d, the last first.
+// Moves the first m words up by d, the last first. (With a constant d a memmove, as `copy_within` is; with any other `copy_within` is compiled to a loop over bytes.)
 pub fn shift_up(s: &mut [u8], m: usize, d: usize)
     requires { (0 < d) × (8 * (m + d) ≤ length s.old) }
     ensures { words s.new ≡ up d (words s.old) 0 m }
@@ -65,7 +65,7 @@ pub fn shift_down(s: &mut [u8], m: usize, d: usize)
     }
 }
 
-// Stores d zeros from the word a on.
+// Stores d zeros from the word a on. (A memset, as `fill` is; in words it needs no law of the zero bytes of a word.)
 pub fn clear(s: &mut [u8], a: usize, d: usize)
     requires { 8 * (a + d) ≤ length s.old }
     ensures { words s.new ≡ splice (words s.old) a (replicate d 0) }

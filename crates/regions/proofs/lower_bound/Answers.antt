@@ -11,10 +11,14 @@ pub falls_short-requires : goal.falls_short-requires
 falls_short-requires g c = c.requires _ (omega arith)
 
 pub loop-lo-preserved-then-falls_short : goal.loop-lo-preserved-then-falls_short
-loop-lo-preserved-then-falls_short g c = bisect_up c.loop-lo.invariant (c.loop-lo.lo + (c.loop-lo.hi - c.loop-lo.lo) / 2) (omega arith) (omega arith) (rw c.if-falls_short.true at c.falls_short.ensures)
+loop-lo-preserved-then-falls_short g c =
+    let m = c.loop-lo.lo + (c.loop-lo.hi - c.loop-lo.lo) / 2 in
+    bisect_up c.loop-lo.invariant m (omega arith) (omega arith) (rw c.if-falls_short.true at c.falls_short.ensures)
 
 pub loop-lo-preserved : goal.loop-lo-preserved
-loop-lo-preserved g c = bisect_down c.loop-lo.invariant (c.loop-lo.lo + (c.loop-lo.hi - c.loop-lo.lo) / 2) (omega arith) (omega arith) (rw c.if-falls_short.false at c.falls_short.ensures)
+loop-lo-preserved g c =
+    let m = c.loop-lo.lo + (c.loop-lo.hi - c.loop-lo.lo) / 2 in
+    bisect_down c.loop-lo.invariant m (omega arith) (omega arith) (rw c.if-falls_short.false at c.falls_short.ensures)
 
 pub returns : goal.returns
 returns g c = bisect_end c.loop-lo.invariant c.loop-lo-test.false
