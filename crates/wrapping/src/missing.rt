@@ -44,23 +44,21 @@ fn not_found_one(s: &mut [u8], n: u64, item: ident::Item, clock: u64, out: &mut 
     requires { Kept s.old × (1 ≤ n) × Roomy s.old out.old }
     ensures { KeysListed s.old s.new out.old out.new result (λ m t. machine.not_found_one m n clock (item_num item) t) }
 {
-    let kind = item.kind;
     let h = item.hash;
-    match kind {
+    match item.kind {
         ident::ItemKind::Transaction => {
-            return fail_listed(s, ident::Key::from(ident::Txid(h)), n, clock, out);
+            fail_listed(s, ident::Key::from(ident::Txid(h)), n, clock, out)
         }
         ident::ItemKind::WitnessTransaction => {
-            return fail_listed(s, ident::Key::from(ident::Txid(h)), n, clock, out);
+            fail_listed(s, ident::Key::from(ident::Txid(h)), n, clock, out)
         }
-        ident::ItemKind::WTx => {
-            return fail_listed(s, ident::Key::from(ident::Wtxid(h)), n, clock, out);
-        }
+        ident::ItemKind::WTx => fail_listed(s, ident::Key::from(ident::Wtxid(h)), n, clock, out),
         ident::ItemKind::Other(t) => {
             if t == MSG_ANCPKGINFO {
-                return fail_info(s, ident::Key::from(ident::Wtxid(h)), n, clock, out);
+                fail_info(s, ident::Key::from(ident::Wtxid(h)), n, clock, out)
+            } else {
+                0
             }
-            return 0;
         }
     }
 }

@@ -19,30 +19,18 @@ use gathering::beside::Fare;
 use gathering::region::ROOM;
 use machine::limits::{MAX_PEER_IN_FLIGHT, SOURCE_DELAY};
 
-fn one(b: bool) -> u64
-    ensures { (result ≡ table.one b) × (result ≤ 1) }
-{
-    if b { 1 } else { 0 }
-}
-
 fn is_wtx(k: ident::ItemKind) -> bool
     ensures { result ≡ machine.is_w_tx k }
 {
-    match k {
-        ident::ItemKind::WTx => true,
-        ident::ItemKind::Transaction => false,
-        ident::ItemKind::WitnessTransaction => false,
-        ident::ItemKind::Other(_) => false,
-    }
+    matches!(k, ident::ItemKind::WTx)
 }
 
 // How long an item waits: a delay for each of three grounds. source: a wtxid source exists.
 fn delay(preferred: bool, source: bool, overloaded: bool, item: ident::Item) -> u64
     ensures { (result ≡ machine.delay preferred source overloaded (item_num item)) × (result ≤ 3 * source_delay) }
 {
-    let kind = item.kind;
-    let w = is_wtx(kind);
-    let n = one(!preferred) + one(source & !w) + one(overloaded);
+    let w = is_wtx(item.kind);
+    let n = u64::from(!preferred) + u64::from(source & !w) + u64::from(overloaded);
     SOURCE_DELAY * n
 }
 
@@ -231,7 +219,7 @@ fn at_most(n: usize) -> usize
     requires { 1 ≤ n }
     ensures { (1 ≤ result) × (result ≤ most_listed) }
 {
-    if n < MOST { n } else { MOST }
+    n.min(MOST)
 }
 
 // Announces items from the first on, with the store left as it is: each that comes in waits in `new`, which is empty, and the next of the m

@@ -59,6 +59,6 @@ returns-then-t-eq-MSG_ANCPKGINFO c = one_info c.args.n
     c.in-Other.is c.if-t-eq-MSG_ANCPKGINFO.true
     c.from-then-t-eq-MSG_ANCPKGINFO.ensures c.fail_info.ensures
 
-pub returns-in-Other : goal.returns-in-Other
-returns-in-Other c = one_other c.args.n c.args.clock
+pub returns-else-t-eq-MSG_ANCPKGINFO : goal.returns-else-t-eq-MSG_ANCPKGINFO
+returns-else-t-eq-MSG_ANCPKGINFO c = one_other c.args.n c.args.clock
     (hash_num c.args.item.hash) _ c.in-Other.is c.if-t-eq-MSG_ANCPKGINFO.false
