@@ -34,7 +34,9 @@ use Rattle.package_stages.specs.declared.Stage.{Stage}
 use Rattle.package_stages.specs.declared.Stage.TheVariants.{Flagged, Awaiting, Enqueued}
 use Rattle.package_stages.proofs.Read.{stage-is}
 use Rattle.package_stages.specs.Changes.{owner_as, stage_word, stage_of, wtxids_of, combined_of, has_place, PlaceSpot, SpotOf, ReadAt, RequestAt}
-use Rattle.saving.specs.Laid.{Lays, behind, place_texts, line_text}
+use Rattle.ident.specs.declared.Hash.{Hash}
+use Rattle.ident.specs.Words.{hash_num}
+use Rattle.saving.specs.Laid.{LaysHashes, Lays, behind, place_texts, line_text}
 use Rattle.saving.proofs.Laying.{lays_as, lays_more, lays_none}
 use Rattle.saving.proofs.Texts.{behind_both, behind-cons, behind_one, bit-kind}
 use Rattle.saving.proofs.Lines.{request-line, flag_is, bare-place, staged_kind, no-package, the-package}
@@ -59,28 +61,31 @@ hashes_more xs j l =
     let x = get_or xs j 0 in
     rw (add-one j, take-suc xs j 0 l, fields-append (take j xs) (x ∷ []), fields_one x, behind_both (hash_fields short (take j xs)) (hexadecimal x ∷ []), behind_one (hexadecimal x))
 
--- ---- a list of the request at the i-th place
+-- ---- hashes one after the other
 
--- its first j hashes are laid from a on, u₀ before
-abbrev pub Hashes : List ℕ → ℕ → (Request → List ℕ) → List ℕ → ℕ → List ℕ → ℕ → ℕ → Type 0
-Hashes b i g u₀ a u j e = ReadAt b i (λ q. j ≤ length (g q) → Lays u₀ u a (behind (hash_fields short (take j (g q)))) e)
+-- the first j are laid from a on, u₀ before
+pub record Hashes (Answers : ℕ → Hash → Type 0) (n : ℕ) (u₀ : List ℕ) (a : ℕ) (u : List ℕ) (j e : ℕ) : Type 0 where
+  pub is : (hs : List ℕ) → n ≡ length hs → ((k : ℕ) (h : Hash) → k < n → Answers k h → hash_num h ≡ get_or hs k 0) → Lays u₀ u a (behind (hash_fields short (take j hs))) e
 
-module _ (b : List ℕ) (i : ℕ) (g : Request → List ℕ) (u₀ : List ℕ) (a : ℕ) where
-  pub hashes_none : Hashes b i g u₀ a u₀ 0 a
-  hashes_none h small st s w x m = lays_as (sym fields_none) (lays_none u₀ a)
+module _ {Answers : ℕ → Hash → Type 0} {n : ℕ} {u₀ : List ℕ} {a : ℕ} where
+  pub hashes_none : Hashes Answers n u₀ a u₀ 0 a
+  hashes_none = record { is = λ hs m s. lays_as (sym fields_none) (lays_none u₀ a) }
 
-  pub hashes-laid : {u u' : List ℕ} {j e e' : ℕ} (h : ℕ) → Hashes b i g u₀ a u j e → ReadAt b i (λ q. j < length (g q) → h ≡ get_or (g q) j 0) → Lays u u' e (44 ∷ hexadecimal h) e'
-      → Hashes b i g u₀ a u' (j + 1) e'
-  hashes-laid {u} {u'} {j} {e} {e'} h p r l k small st s w x m =
-      let y = g (at (wtxid k) st.table) in
-      let n : j < length y = omega arith in
-      let z : h ≡ get_or y j 0 = r k small st s w x n in
-      lays_as (ap (λ (v : ℕ). behind (hash_fields short (take j y)) ++ (44 ∷ hexadecimal v)) z ∙ sym (hashes_more y j n)) (lays_more (p k small st s w x (omega arith)) l)
+  pub hashes-laid : {u u' : List ℕ} {j e e' : ℕ} {h : Hash} → Hashes Answers n u₀ a u j e → j < n → Answers j h → Lays u u' e (44 ∷ hexadecimal (hash_num h)) e'
+      → Hashes Answers n u₀ a u' (j + 1) e'
+  hashes-laid {j = j} {h = h} p l r k = record {
+    is = λ hs m s.
+        let i : j < length hs = omega arith in
+        lays_as (ap (λ (v : ℕ). behind (hash_fields short (take j hs)) ++ (44 ∷ hexadecimal v)) (s j h l r) ∙ sym (hashes_more hs j i)) (lays_more (p.is hs m s) k);
+  }
 
-  pub hashes_all : {u : List ℕ} {n e : ℕ} → Hashes b i g u₀ a u n e → ReadAt b i (λ q. n ≡ length (g q) → Lays u₀ u a (behind (hash_fields short (g q))) e)
-  hashes_all {u} {n} {e} p k small st s w x m =
-      let y = g (at (wtxid k) st.table) in
-      lays_as (ap (λ (l : List ℕ). behind (hash_fields short l)) (take_all n y (omega arith))) (p k small st s w x (omega arith))
+  pub hashes_all : {u : List ℕ} {e : ℕ} → Hashes Answers n u₀ a u n e → LaysHashes Answers u₀ u a n e
+  hashes_all p = record { is = λ hs m s. lays_as (ap (λ (l : List ℕ). behind (hash_fields short l)) (take_all n hs (omega arith))) (p.is hs m s) }
+
+  -- those of a list of the request at the i-th place
+  pub hashes_read : {b u : List ℕ} {i e : ℕ} (g : Request → List ℕ) → LaysHashes Answers u₀ u a n e
+      → ((j : ℕ) (h : Hash) → j < n → Answers j h → ReadAt b i (λ q. j < length (g q) → hash_num h ≡ get_or (g q) j 0)) → ReadAt b i (λ q. n ≡ length (g q) → Lays u₀ u a (behind (hash_fields short (g q))) e)
+  hashes_read g p s k small st f w x m = p.is (g (at (wtxid k) st.table)) m (λ j h l r. s j h l r k small st f w x (omega arith))
 
 -- ---- the parents, the package
 

@@ -1,12 +1,14 @@
 -- What the writers of a listing leave, and how far they go.
-use Rattle.std.specs.Prelude.{ℕ, ◌+◌, ◌*◌, ◌≤◌, ◌≡◌, List, [], ◌∷◌, ◌++◌, map, length}
+use Rattle.std.specs.Prelude.{ℕ, ◌+◌, ◌*◌, ◌<◌, ◌≤◌, ◌≡◌, List, [], ◌∷◌, ◌++◌, map, length, get_or}
+use Rattle.ident.specs.declared.Hash.{Hash}
+use Rattle.ident.specs.Words.{hash_num}
 use Rattle.words.specs.Words.{splice}
 use Rattle.regions.specs.declared.Row.{Row}
 use Rattle.machine.specs.State.{Request, State}
 use Rattle.machine.specs.Sound.{Sound}
 use Rattle.machine.specs.Step.{written}
 use Rattle.machine.specs.Text.{decimal_digits, hash_digits, joined}
-use Rattle.machine.specs.Listing.{short, list_fields, maybe_fields, package_fields, Line, CandidateLine, line_fields, text_of, listing}
+use Rattle.machine.specs.Listing.{short, hash_fields, list_fields, maybe_fields, package_fields, Line, CandidateLine, line_fields, text_of, listing}
 use Rattle.store.specs.Gather.{candidate_at}
 use Rattle.store.specs.Image.{Writes}
 
@@ -69,6 +71,10 @@ head_room = decimal_digits + 2 * number_room + 2 * (1 + key_room) + 1
 unfoldable pub behind : List (List ℕ) → List ℕ
 behind [] = []
 behind (t ∷ ts) = 44 ∷ (t ++ behind ts)
+
+-- n hashes hs, each behind a comma, stand from index a on, where each answer that `Answers` allows at j is the j-th of them
+pub record LaysHashes (Answers : ℕ → Hash → Type 0) (u u' : List ℕ) (a n e : ℕ) : Type 0 where
+  pub is : (hs : List ℕ) → n ≡ length hs → ((j : ℕ) (h : Hash) → j < n → Answers j h → hash_num h ≡ get_or hs j 0) → Lays u u' a (behind (hash_fields short hs)) e
 
 -- a line with its line feed
 unfoldable pub line_text : Line → List ℕ

@@ -1,6 +1,6 @@
 // The line of a request: key, owner, flag, package, parents, mark.
-ghost use Rattle.std.specs.Prelude.{◌≡◌, ◌+◌, ◌≤◌, ◌<◌, [], length, Some};
-ghost use Rattle.ident.specs.Words.{key_num};
+ghost use Rattle.std.specs.Prelude.{ℕ, ◌≡◌, ◌+◌, ◌≤◌, ◌<◌, [], length, get_or, Some};
+ghost use Rattle.ident.specs.Words.{hash_num, key_num};
 ghost use Rattle.places.specs.Places.{list_most};
 ghost use Rattle.machine.specs.State.{with_candidates};
 ghost use Rattle.machine.specs.Table.{at as the};
@@ -8,35 +8,21 @@ ghost use Rattle.machine.specs.Listing.{short, hash_fields, list_fields, maybe_f
 ghost use Rattle.store.specs.Shown.{held_places_in, Kept};
 ghost use Rattle.requests.specs.Changes.{Tells};
 ghost use Rattle.package_stages.specs.Changes.{stage_word, stage_of, wtxids_of, ReadAt, RequestAt};
-ghost use Rattle.saving.specs.Laid.{Lays, farthest, hashes_room, package_room, parents_room, place_room, request_room, behind, place_texts, line_text};
+ghost use Rattle.saving.specs.Laid.{Lays, LaysHashes, farthest, hashes_room, package_room, parents_room, place_room, request_room, behind, place_texts, line_text};
 
 use crate::fields::{next_bool, next_hash, next_number, next_owner, put_key, put_text};
 use package_stages::Stage;
 
-// The n wtxids of the i-th place, each behind a comma.
-fn next_wtxids(s: &[u8], out: &mut [u8], at: usize, i: usize, n: usize) -> usize
-    requires { Kept s.now × (i < held_places_in s.now) × (n ≤ list_most) × (at + hashes_room n ≤ farthest) }
-    ensures { (result ≤ at + hashes_room n)
-        × ReadAt s.now i (λ q. n ≡ length (wtxids_of q.«package») → Lays out.old out.new at (behind (hash_fields short (wtxids_of q.«package»))) result) }
+// n hashes, each behind a comma.
+fn next_hashes<F: Fn(usize) -> ident::Hash>(out: &mut [u8], at: usize, n: usize, hash: F) -> usize
+    requires room { (n ≤ list_most) × (at + hashes_room n ≤ farthest) }
+    requires known { (j : ℕ) → j < n → F.pre hash j }
+    ensures near { result ≤ at + hashes_room n }
+    ensures laid { LaysHashes (F.post hash) out.old out.new at n result }
 {
     let mut e = at;
     for j in 0..n {
-        let h = package_stages::wtxid_at(s, i, j);
-        e = next_hash(out, e, h);
-    }
-    e
-}
-
-// Its n parents.
-fn next_hashes(s: &[u8], out: &mut [u8], at: usize, i: usize, n: usize) -> usize
-    requires { Kept s.now × (i < held_places_in s.now) × (n ≤ list_most) × (at + hashes_room n ≤ farthest) }
-    ensures { (result ≤ at + hashes_room n)
-        × ReadAt s.now i (λ q. n ≡ length q.parents → Lays out.old out.new at (behind (hash_fields short q.parents)) result) }
-{
-    let mut e = at;
-    for j in 0..n {
-        let h = package_stages::parent_at(s, i, j);
-        e = next_hash(out, e, h);
+        e = next_hash(out, e, hash(j));
     }
     e
 }
@@ -48,7 +34,15 @@ fn next_parents(s: &[u8], out: &mut [u8], at: usize, i: usize) -> usize
 {
     let n = package_stages::parents(s, i);
     let e = next_number(out, at, n as u64);
-    next_hashes(s, out, e, i, n)
+    next_hashes(
+        out,
+        e,
+        n,
+        |j|
+            requires { Kept s.now × (i < held_places_in s.now) × (j < list_most) }
+            ensures { ReadAt s.entry.now i (λ q. j < length q.parents → hash_num result ≡ get_or q.parents j 0) }
+        { package_stages::parent_at(s, i, j) },
+    )
 }
 
 // The package of the i-th place, whose request has this stage.
@@ -64,7 +58,15 @@ fn next_package(s: &[u8], out: &mut [u8], at: usize, i: usize, stage: Stage) -> 
     let n = package_stages::wtxids(s, i);
     let e = next_hash(out, at, c);
     let e = next_number(out, e, n as u64);
-    let e = next_wtxids(s, out, e, i, n);
+    let e = next_hashes(
+        out,
+        e,
+        n,
+        |j|
+            requires { Kept s.now × (i < held_places_in s.now) × (j < list_most) }
+            ensures { ReadAt s.entry.now i (λ q. j < length (wtxids_of q.«package») → hash_num result ≡ get_or (wtxids_of q.«package») j 0) }
+        { package_stages::wtxid_at(s, i, j) },
+    );
     next_bool(out, e, stage == Stage::Enqueued)
 }
 

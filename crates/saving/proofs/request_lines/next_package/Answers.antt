@@ -4,7 +4,9 @@ use native.Mathlib.Omega.{arith}
 use Rattle.std.specs.Prelude.{Some}
 use Rattle.package_stages.specs.declared.Stage.TheVariants.{Enqueued}
 use Rattle.package_stages.proofs.Read.{stage-eq}
-use Rattle.saving.proofs.Places.{flagged_stage, package_stage, none_laid, package-laid}
+use Rattle.machine.specs.State.{Request}
+use Rattle.package_stages.specs.Changes.{wtxids_of}
+use Rattle.saving.proofs.Places.{hashes_read, flagged_stage, package_stage, none_laid, package-laid}
 use Rattle.saving.proofs.request_lines.next_package.Goals as goal
 
 pub put_text-requires : goal.put_text-requires
@@ -25,19 +27,8 @@ next_hash-e-requires c = omega (arith, c.requires.2)
 pub next_number-e-requires : goal.next_number-e-requires
 next_number-e-requires c = omega (arith, c.requires.2, c.next_hash-e.ensures.0)
 
-pub next_wtxids-e-requires : goal.next_wtxids-e-requires
-next_wtxids-e-requires c = (
-  c.requires.0,
-  c.requires.1,
-  c.wtxids-n.ensures.0,
-  omega (
-    arith,
-    c.requires.2,
-    c.wtxids-n.ensures.0,
-    c.next_hash-e.ensures.0,
-    c.next_number-e.ensures.0,
-  ),
-)
+pub next_hashes-e-requires-clause-known : goal.next_hashes-e-requires-clause-known
+next_hashes-e-requires-clause-known c = λ j l. (c.requires.0, c.requires.1, omega (arith, c.wtxids-n.ensures.0))
 
 pub next_bool-requires : goal.next_bool-requires
 next_bool-requires c = omega (
@@ -46,7 +37,7 @@ next_bool-requires c = omega (
   c.wtxids-n.ensures.0,
   c.next_hash-e.ensures.0,
   c.next_number-e.ensures.0,
-  c.next_wtxids-e.ensures.0,
+  c.next_hashes-e.ensures.near,
 )
 
 pub returns : goal.returns
@@ -56,7 +47,7 @@ returns c = (
     c.wtxids-n.ensures.0,
     c.next_hash-e.ensures.0,
     c.next_number-e.ensures.0,
-    c.next_wtxids-e.ensures.0,
+    c.next_hashes-e.ensures.near,
     c.next_bool.ensures.0,
   ),
   package-laid _ (package_stage c.args.stage (sym c.if-eq.false ∙ c.eq.ensures)) (c.eq-2.ensures ∙ stage-eq (Some c.args.stage) Enqueued)
@@ -64,5 +55,5 @@ returns c = (
       c.wtxids-n.ensures.1
       c.next_hash-e.ensures.1
       c.next_number-e.ensures.1
-      c.next_wtxids-e.ensures.1 c.next_bool.ensures.1,
+      (hashes_read (λ (q : Request). wtxids_of q.«package») c.next_hashes-e.ensures.laid (λ j h l r. r)) c.next_bool.ensures.1,
 )
