@@ -3,18 +3,14 @@ use Prim.Native.Nat.{ℕ}
 use mathlib.Core.Path.{◌≡◌, refl}
 use mathlib.Core.Bool.{Bool}
 use mathlib.Core.List.{List}
-use mathlib.Core.Option.{Option}
-use native.Mathlib.Omega.{arith}
 use Rattle.ident.specs.Number.{Key}
-use Rattle.machine.specs.State.{State, Entry}
-use Rattle.machine.specs.Plan.{plan}
-use Rattle.machine.specs.Wrapper.{Offer, Sums}
-use Rattle.machine.specs.Owners.{Holding}
-use Rattle.machine.specs.Call.{Ask, Announce, RequestParent, Failed, Unclaim, SolicitPackageInfo, ClaimPackage, BeginPackageResolution, AnnounceParents}
-use Rattle.machine.specs.Call.{FailedPackageClaims, Plan, Claim, Sweep, Disconnected, ReleasePackage, TeardownPackageClaims, Forget, ForgetKnown, FailedWithParents}
-use Rattle.machine.specs.Call.{FailedPackageInfo, PackageInfoOwner, AnnounceTransactions, TransactionResponseCompleted, TransactionNotFound, PollGate, Arrange, Sum, OwnersOf, Call, Open, On, Save}
+use Rattle.machine.specs.State.{State}
+use Rattle.machine.specs.Wrapper.{Offer}
+use Rattle.machine.specs.Call.{Unclaim}
+use Rattle.machine.specs.Call.{Forget, ForgetKnown}
+use Rattle.machine.specs.Call.{AnnounceTransactions, TransactionResponseCompleted, Call, Open, On}
 use Rattle.machine.specs.Call.{Restore}
-use Rattle.machine.specs.Step.{Reply, Refused, Number, Keys, Left, Entries, Chosen, Summed, Owned, perform, carry_out, Saved}
+use Rattle.machine.specs.Step.{Number, perform, carry_out}
 
 -- ---- "Where the Rust returns nothing, the reply is 1."
 

@@ -20,7 +20,7 @@ use Rattle.planning.proofs.Planned.{next-number}
 use Rattle.machine.specs.Call.{Buffer, Call, On, Plan, Sum, refusal}
 use Rattle.machine.specs.Step.{Reply, Refused, Number, Keys, Left, Entries, Chosen, Summed, Owned, perform, carry_out, step_if, Saved}
 use Rattle.store.specs.Read.{state_of}
-use Rattle.outcome.specs.Outcome.{outcome_if, Does, Leaves, LeavesWith}
+use Rattle.outcome.specs.Outcome.{outcome_if, Leaves, LeavesWith}
 use Rattle.outcome.specs.Reply.{reply_of, figures_of, listing_of, departure_of, text_of}
 use Rattle.public_plans.specs.Entries.{entries_of, planned_of}
 use Rattle.public_plans.specs.Ownership.{owners_of}

@@ -1,5 +1,5 @@
 // The input parted into lines. A line is counted without its line feed; the last one may lack it.
-ghost use Rattle.std.specs.Prelude.{◌≤◌, length, ◌≡◌, if◌then◌else◌};
+ghost use Rattle.std.specs.Prelude.{◌≤◌, length, ◌≡◌, if◌then◌else◌, unwrap_or};
 ghost use Rattle.std.proofs.Math.Option.{none};
 ghost use Rattle.asking.specs.Calls.{line_of};
 ghost use Rattle.printing.specs.Given.{line_room, answer_room};
@@ -41,12 +41,6 @@ pub fn list_buffer() -> [u8; LISTS]
 pub struct Kept {
     pub len: usize,
     pub long: bool,
-}
-
-#[derive(Clone, Copy)]
-struct Taken {
-    more: bool,
-    kept: Kept,
 }
 
 // The text of a line's answer: of no call, if the line is too long.
@@ -129,13 +123,13 @@ fn take_all<W: Write>(
         (λ p. TookAll p bytes.now result line.new store.new lists.new) }
 {
     let mut now = kept;
-    for i in 0..bytes.len() {
-        now = take(output, store, lists, line, out, now, bytes[i]);
+    for &b in bytes {
+        now = take(output, store, lists, line, out, now, b);
     }
     now
 }
 
-// Reads once.
+// Reads once: what is kept then, or nothing at the end of the input.
 fn read_some<R: Read, W: Write>(
     input: &mut R,
     output: &mut W,
@@ -144,19 +138,18 @@ fn read_some<R: Read, W: Write>(
     line: &mut [u8],
     out: &mut [u8],
     kept: Kept,
-) -> Taken
+) -> Option<Kept>
     requires { Ordered lists.old × (line_room ≤ length line.old) × (answer_room ≤ length out.old) × (kept.len ≤ line_room) }
-    ensures ordered { Ordered lists.new × (result.kept.len ≤ line_room) }
+    ensures ordered { Ordered lists.new × ((unwrap_or result kept).len ≤ line_room) }
     ensures took { OfHeld kept line.old store.old lists.old
-        (λ p. TookSome p result.kept line.new store.new lists.new) }
+        (λ p. TookSome p (unwrap_or result kept) line.new store.new lists.new) }
 {
     let mut bytes = [0u8; 4096];
     let n = input.read(&mut bytes).unwrap_or(0);
     if n == 0 {
-        return Taken { more: false, kept };
+        return None;
     }
-    let kept = take_all(output, store, lists, line, out, kept, &bytes[..n]);
-    Taken { more: true, kept }
+    Some(take_all(output, store, lists, line, out, kept, &bytes[..n]))
 }
 
 // Reads to the end of the input, or until the output is closed. The turns are counted because a proved loop ends: no run uses them up.
@@ -178,9 +171,11 @@ fn read_lines<R: Read, W: Write>(
     };
     let mut turns = u64::MAX;
     while turns > 0 {
-        let read = read_some(input, output, store, lists, line, out, kept);
-        kept = read.kept;
-        if !read.more || output.flush().is_err() {
+        let Some(now) = read_some(input, output, store, lists, line, out, kept) else {
+            return kept;
+        };
+        kept = now;
+        if output.flush().is_err() {
             return kept;
         }
         turns -= 1;

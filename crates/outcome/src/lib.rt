@@ -33,7 +33,7 @@ pub struct Departure {
 // "Where the Rust returns nothing, the reply is 1."
 pub const RETURNED: u64 = 1;
 
-// "A reply of 0 is the Rust's `false`", 1 its `true`.
+// "A reply of 0 is the Rust's `false`", 1 its `true`: replies are numbers in C and on event lines, and so here.
 pub fn replied(yes: bool) -> u64
     ensures { result ≡ one yes }
 {

@@ -1,13 +1,12 @@
 -- The verdict on a text, by its form and by the test of the state that it lists.
-use Prim.Native.Nat.{ℕ, ◌≤◌}
-use mathlib.Core.Path.{◌≡◌, sym, subst, ◌∙◌}
+use Prim.Native.Nat.{ℕ}
+use mathlib.Core.Path.{◌≡◌, sym, ◌∙◌}
 use mathlib.Core.Bool.{Bool, true, false}
 use mathlib.Core.List.{List}
-use lib.ListN.{length}
 use Rattle.std.specs.Prelude.{Some, None, Ok, Err}
 use Rattle.listed_lines.specs.declared.line.Head as line-head
 use Rattle.listed_lines.specs.declared.cursor.Lines.{Lines}
-use Rattle.listed_form.specs.Given.{Reads, FormAs, FormRead}
+use Rattle.listed_form.specs.Given.{FormRead}
 use Rattle.outcome.specs.declared.refusal.Refusal.TheVariants.{NotAListing, ListingNotSound}
 use Rattle.public_listings.specs.Verdicts.{Sounds, VerdictOf}
 

@@ -1,8 +1,8 @@
 -- What owners_of does on a sound store: the answers that the walk wrote are the machine's; the store stays.
 use Prim.Native.Nat.{ℕ, ◌*◌}
 use mathlib.Core.Path.{◌≡◌, refl, sym, ap, ◌∙◌}
-use mathlib.Core.Bool.{Bool, true, false, not, ◌||◌}
-use mathlib.Core.List.{List, []}
+use mathlib.Core.Bool.{Bool, true, false, not}
+use mathlib.Core.List.{List}
 use lib.Dec.{ltb}
 use lib.ListN.{length, take}
 use Rattle.machine.specs.Limits.{max_asked_hashes}
@@ -19,7 +19,7 @@ use Rattle.owners.proofs.Back.{holdings_back}
 use Rattle.outcome.specs.declared.refusal.Refusal.{Refusal}
 use Rattle.outcome.specs.Refusals.{number_of}
 use Rattle.outcome.specs.Outcome.{Does}
-use Rattle.outcome.specs.Tests.{first_of, of_connections, of_clocks, of_parents, of_place, of_hashes, hashes_in_turn}
+use Rattle.outcome.specs.Tests.{of_connections, of_clocks, of_parents, of_place, of_hashes, hashes_in_turn}
 use Rattle.outcome.specs.Lent.{Lent}
 use Rattle.outcome.proofs.Turns.{whole_turn, first_none}
 use Rattle.outcome.proofs.Contract.{does-nothing}

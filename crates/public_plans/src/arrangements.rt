@@ -39,6 +39,7 @@ fn falls_short(c: u64, connection: u64, after: bool) -> bool
 }
 
 // The first entry that does not stand before those of the connection; with `after`, the first that stands after them. Or how many entries there are.
+// A binary search by hand: the list is lent as bytes, and `partition_point` takes a slice of entries.
 fn seek(list: &[u8], connection: u64, after: bool) -> usize
     ensures { Sought (connections_in (entries_in list.now)) (length (entries_in list.now)) (connection + one after) result }
 {

@@ -20,8 +20,8 @@ loop-turns-init _ c = (
   },
 )
 
-pub read_some-read-requires : goal.read_some-read-requires
-read_some-read-requires _ c = (
+pub read_some-requires : goal.read_some-requires
+read_some-requires _ c = (
   c.loop-turns.invariant.4,
   omega (
     arith,
@@ -36,38 +36,44 @@ read_some-read-requires _ c = (
   c.loop-turns.invariant.5,
 )
 
-pub shape_of-store-then-not-read : goal.shape_of-store-then-not-read
-shape_of-store-then-not-read _ c = omega (
+pub shape_of-store-in_default : goal.shape_of-store-in_default
+shape_of-store-in_default _ c = omega (
   arith,
-  c.read_some-read.auto,
+  c.read_some.auto,
   c.loop-turns.invariant.0,
 )
 
-pub shape_of-lists-then-not-read : goal.shape_of-lists-then-not-read
-shape_of-lists-then-not-read _ c = omega (
+pub shape_of-lists-in_default : goal.shape_of-lists-in_default
+shape_of-lists-in_default _ c = omega (
   arith,
-  c.read_some-read.auto,
+  c.read_some.auto,
   c.loop-turns.invariant.1,
 )
 
-pub shape_of-line-then-not-read : goal.shape_of-line-then-not-read
-shape_of-line-then-not-read _ c = omega (
+pub shape_of-line-in_default : goal.shape_of-line-in_default
+shape_of-line-in_default _ c = omega (
   arith,
-  c.read_some-read.auto,
+  c.read_some.auto,
   c.loop-turns.invariant.2,
 )
 
-pub shape_of-out-then-not-read : goal.shape_of-out-then-not-read
-shape_of-out-then-not-read _ c = omega (
+pub shape_of-out-in_default : goal.shape_of-out-in_default
+shape_of-out-in_default _ c = omega (
   arith,
-  c.read_some-read.auto,
+  c.read_some.auto,
   c.loop-turns.invariant.3,
 )
 
-pub returns-then-not-read : goal.returns-then-not-read
-returns-then-not-read _ c = let t = c.loop-turns.invariant.6 in record {
-  ordered = c.read_some-read.ensures.ordered;
-  took = took_more t (c.read_some-read.ensures.took t.all.next t.all.held);
+pub returns-in_default : goal.returns-in_default
+returns-in_default _ c = let t = c.loop-turns.invariant.6 in record {
+  ordered = c.in_default.ensures.ordered;
+  took = took_more t (c.in_default.ensures.took t.all.next t.all.held);
+}
+
+pub returns-then-is_err : goal.returns-then-is_err
+returns-then-is_err _ c = let t = c.loop-turns.invariant.6 in record {
+  ordered = c.in-Some.ensures.ordered;
+  took = took_more t (c.in-Some.ensures.took t.all.next t.all.held);
 }
 
 pub loop-turns-smaller : goal.loop-turns-smaller
@@ -78,27 +84,27 @@ loop-turns-preserved _ c =
     let t = c.loop-turns.invariant.6 in (
       omega (
         arith,
-        c.read_some-read.auto,
+        c.read_some.auto,
         c.loop-turns.invariant.0,
       ),
       omega (
         arith,
-        c.read_some-read.auto,
+        c.read_some.auto,
         c.loop-turns.invariant.1,
       ),
       omega (
         arith,
-        c.read_some-read.auto,
+        c.read_some.auto,
         c.loop-turns.invariant.2,
       ),
       omega (
         arith,
-        c.read_some-read.auto,
+        c.read_some.auto,
         c.loop-turns.invariant.3,
       ),
-      c.read_some-read.ensures.ordered.0,
-      c.read_some-read.ensures.ordered.1,
-      took_more t (c.read_some-read.ensures.took t.all.next t.all.held),
+      c.in-Some.ensures.ordered.0,
+      c.in-Some.ensures.ordered.1,
+      took_more t (c.in-Some.ensures.took t.all.next t.all.held),
     )
 
 pub shape_of-store : goal.shape_of-store

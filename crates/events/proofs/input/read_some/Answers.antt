@@ -9,8 +9,8 @@ returns-then-n-eq0 _ c = record {
   took = λ p g. record { bytes = []; all = took_none g };
 }
 
-pub take_all-kept-requires : goal.take_all-kept-requires
-take_all-kept-requires _ c = (
+pub take_all-requires : goal.take_all-requires
+take_all-requires _ c = (
   c.requires.0,
   c.requires.1,
   c.requires.2,
@@ -19,6 +19,6 @@ take_all-kept-requires _ c = (
 
 pub returns : goal.returns
 returns _ c = record {
-  ordered = c.take_all-kept.ensures.ordered;
-  took = λ p g. record { bytes = _; all = c.take_all-kept.ensures.took p g };
+  ordered = c.take_all.ensures.ordered;
+  took = λ p g. record { bytes = _; all = c.take_all.ensures.took p g };
 }

@@ -2,69 +2,65 @@
 use Prim.Native.Nat.{◌-◌}
 use mathlib.Core.Path.{refl}
 use native.Mathlib.Omega.{arith}
-use lib.ListN.{take}
 use Rattle.events.proofs.Bytewise.{took_none, took_one, take_next, took_whole}
 use Rattle.events.proofs.input.take_all.Goals as goal
 
-pub loop-i-init : goal.loop-i-init
-loop-i-init _ c = (refl, refl, refl, refl, c.requires.0, c.requires.3, omega arith, λ p g. took_none g)
-
-pub bounds-bytes-i : goal.bounds-bytes-i
-bounds-bytes-i _ c = omega (arith, c.loop-i-test.true)
+pub loop-b-init : goal.loop-b-init
+loop-b-init _ c = (refl, refl, refl, refl, c.requires.0, c.requires.3, omega arith, λ p g. took_none g)
 
 pub take-now-requires : goal.take-now-requires
 take-now-requires _ c = (
-  c.loop-i.invariant.4,
-  omega (arith, c.requires.1, c.loop-i.invariant.2),
-  omega (arith, c.requires.2, c.loop-i.invariant.3),
-  c.loop-i.invariant.5,
+  c.loop-b.invariant.4,
+  omega (arith, c.requires.1, c.loop-b.invariant.2),
+  omega (arith, c.requires.2, c.loop-b.invariant.3),
+  c.loop-b.invariant.5,
 )
 
-pub loop-i-preserved : goal.loop-i-preserved
-loop-i-preserved _ c = (
+pub loop-b-preserved : goal.loop-b-preserved
+loop-b-preserved _ c = (
   omega (
     arith,
     c.take-now.auto,
-    c.loop-i.invariant.0,
+    c.loop-b.invariant.0,
   ),
   omega (
     arith,
     c.take-now.auto,
-    c.loop-i.invariant.1,
+    c.loop-b.invariant.1,
   ),
   omega (
     arith,
     c.take-now.auto,
-    c.loop-i.invariant.2,
+    c.loop-b.invariant.2,
   ),
   omega (
     arith,
     c.take-now.auto,
-    c.loop-i.invariant.3,
+    c.loop-b.invariant.3,
   ),
   c.take-now.ensures.ordered.0,
   c.take-now.ensures.ordered.1,
   omega arith,
-  λ p g. let t = c.loop-i.invariant.7 p g in
+  λ p g. let t = c.loop-b.invariant.7 p g in
       took_one t (c.take-now.ensures.took t.next t.held) (take_next
       c.args.bytes.now
-      c.loop-i.i (omega arith)),
+      c.loop-b.b-index (omega arith)),
 )
 
 pub shape_of-store : goal.shape_of-store
-shape_of-store _ c = c.loop-i.invariant.0
+shape_of-store _ c = c.loop-b.invariant.0
 
 pub shape_of-lists : goal.shape_of-lists
-shape_of-lists _ c = c.loop-i.invariant.1
+shape_of-lists _ c = c.loop-b.invariant.1
 
 pub shape_of-line : goal.shape_of-line
-shape_of-line _ c = c.loop-i.invariant.2
+shape_of-line _ c = c.loop-b.invariant.2
 
 pub shape_of-out : goal.shape_of-out
-shape_of-out _ c = c.loop-i.invariant.3
+shape_of-out _ c = c.loop-b.invariant.3
 
 pub returns : goal.returns
 returns _ c = record {
-  ordered = (c.loop-i.invariant.4, c.loop-i.invariant.5);
-  took = λ p g. took_whole c.loop-i.i (omega arith) (c.loop-i.invariant.7 p g);
+  ordered = (c.loop-b.invariant.4, c.loop-b.invariant.5);
+  took = λ p g. took_whole c.loop-b.b-index (omega arith) (c.loop-b.invariant.7 p g);
 }

@@ -7,8 +7,8 @@ use Rattle.keeping.specs.Lists.{Ordered}
 use Rattle.events.specs.Input.{Reading, Held, TookAll}
 use Rattle.events.proofs.input.take_all.Given as goal
 
-abbrev pub invariant-loop-i : goal.invariant-loop-i
-invariant-loop-i _ l =
+abbrev pub invariant-loop-b : goal.invariant-loop-b
+invariant-loop-b _ l =
     (length l.store ≡ length l.initial.store) × (length l.lists ≡ length l.initial.lists) × (length l.line ≡ length l.initial.line) × (length l.out ≡ length l.initial.out) × Ordered l.lists
-    × (l.now.len ≤ line_room) × (l.i ≤ length l.bytes)
-    × ((p : Reading) → Held l.initial.now l.initial.line l.initial.store l.initial.lists p → TookAll p (take l.i l.bytes) l.now l.line l.store l.lists)
+    × (l.now.len ≤ line_room) × (l.b-index ≤ length l.bytes)
+    × ((p : Reading) → Held l.initial.now l.initial.line l.initial.store l.initial.lists p → TookAll p (take l.b-index l.bytes) l.now l.line l.store l.lists)

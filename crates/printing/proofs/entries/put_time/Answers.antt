@@ -1,6 +1,4 @@
 -- `printing::entries::put_time` meets its contract.
-use mathlib.Core.Path.{ap}
-use Rattle.choosing.specs.Choosing.{option_of}
 use Rattle.printing.proofs.entries.put_time.Goals as goal
 
 pub returns-in-Some : goal.returns-in-Some
