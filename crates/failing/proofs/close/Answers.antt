@@ -6,6 +6,3 @@ use Rattle.failing.proofs.close.Goals as goal
 pub returns-in-Txid : goal.returns-in-Txid
 returns-in-Txid c = λ st s w u. nothing-closed st s (key_num c.args.k) (hash_below c.args.k.hash
     (key-four c.args.k c.well_formed.1.0)) c.in-Txid.is w
-
-pub returns-in-Wtxid : goal.returns-in-Wtxid
-returns-in-Wtxid c = λ st s w u. rw c.in-Wtxid.is (c.close.ensures st s w tt)

@@ -1,5 +1,5 @@
 use native.Mathlib.Omega.{arith}
-use mathlib.Core.Path.{refl, sym, ap, ◌∙◌}
+use mathlib.Core.Path.{sym, ap, ◌∙◌}
 use mathlib.Core.Bool.{not}
 use Rattle.ident.specs.Words.{hash_num, key_num}
 use Rattle.machine.specs.Table.{at}
@@ -23,9 +23,6 @@ returns-then-is_none c = (
       let x = c.request_at-r.ensures.is st s w in
       placeless (at (key_num c.args.k) st.table) c.args.n c.args.list.now (sym (staged x) ∙ c.is_none.ensures ∙ ap not c.if-is_none.true),
 )
-
-pub copy_parents-requires : goal.copy_parents-requires
-copy_parents-requires c = (c.requires.0, c.in-Ok.ensures.inside refl, c.requires.2)
 
 pub returns-in-Ok : goal.returns-in-Ok
 returns-in-Ok c = (
