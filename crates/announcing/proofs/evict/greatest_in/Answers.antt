@@ -5,12 +5,6 @@ use Rattle.announcing.specs.Evicts.{found}
 use Rattle.announcing.proofs.Scanning.{over_none, over_step}
 use Rattle.announcing.proofs.evict.greatest_in.Goals as goal
 
-pub loop-i-init : goal.loop-i-init
-loop-i-init c = (c.requires.1, λ f w. refl)
-
-pub row_at-r-requires : goal.row_at-r-requires
-row_at-r-requires c = (c.requires.0, omega arith)
-
 pub loop-i-preserved : goal.loop-i-preserved
 loop-i-preserved c = (
   omega arith,

@@ -7,9 +7,6 @@ use Rattle.announcing.proofs.keyed.announce_at.Goals as goal
 pub returns-in-Refused : goal.returns-in-Refused
 returns-in-Refused c = answered_refusing (key_num c.args.k) (candidate_of c.args.c) c.in-Refused.ensures
 
-pub replace-requires : goal.replace-requires
-replace-requires c = (c.requires, λ st s w. (c.in-Replaces.ensures st s w).goes, λ st s w. (c.in-Replaces.ensures st s w).new)
-
 pub push-requires : goal.push-requires
 push-requires c =
     let kept = c.requires in

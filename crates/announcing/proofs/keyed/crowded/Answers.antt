@@ -7,6 +7,3 @@ use Rattle.announcing.proofs.keyed.crowded.Goals as goal
 
 pub alternates-requires : goal.alternates-requires
 alternates-requires c = let z = (kept_shown c.requires).sizes in omega arith
-
-pub returns : goal.returns
-returns c = λ st s w. rw (c.alternates.ensures st s w) (ap (leb (limits_of st).alternates) (c.candidates_at.ensures st s w))

@@ -28,12 +28,6 @@ keyed a u q e = e ∙ ap (λ (j : Key). splice u a (key_answer j)) q
 pub loop-i-init : goal.loop-i-init
 loop-i-init c = turned_start _ _ _ _ _
 
-pub occurs_before-requires : goal.occurs_before-requires
-occurs_before-requires c = omega (arith, c.loop-i-test.true, c.hashes-count.ensures)
-
-pub hash_in-h-requires : goal.hash_in-h-requires
-hash_in-h-requires c = omega (arith, c.loop-i-test.true, c.hashes-count.ensures)
-
 pub announce_parent-requires : goal.announce_parent-requires
 announce_parent-requires c = (
   turned_kept c.loop-i.invariant
@@ -45,36 +39,6 @@ announce_parent-requires c = (
       }) c.requires.0,
   c.requires.1,
 )
-
-pub put_key-requires : goal.put_key-requires
-put_key-requires c =
-    let v = c.loop-i.invariant in
-    omega (
-      arith,
-      c.loop-i-test.true,
-      c.hashes-count.ensures,
-      v.few,
-      v.buffer-long,
-      c.requires.3,
-    )
-
-pub overflow_add-kept : goal.overflow_add-kept
-overflow_add-kept c =
-    omega (
-      arith,
-      c.loop-i.invariant.few,
-      c.loop-i.invariant.inside,
-      c.requires.2,
-    )
-
-pub overflow_add-priority : goal.overflow_add-priority
-overflow_add-priority c =
-    omega (
-      arith,
-      c.loop-i.invariant.low,
-      c.loop-i.invariant.inside,
-      c.requires.2,
-    )
 
 pub loop-i-preserved : goal.loop-i-preserved
 loop-i-preserved c =
@@ -103,12 +67,6 @@ loop-i-preserved c =
           turned_as w.s-is w.out-is w.kept-is w.priority-is
           (turned_repeat v inside _ refl (sym c.occurs_before.ensures ∙ w.if-not-occurs_before.false))
     ]
-
-pub shape_of-s : goal.shape_of-s
-shape_of-s c = c.loop-i.invariant.store_long
-
-pub shape_of-out : goal.shape_of-out
-shape_of-out c = c.loop-i.invariant.buffer-long
 
 pub returns : goal.returns
 returns c = turned_done c.loop-i.invariant (omega (arith, c.loop-i.invariant.inside, c.loop-i-test.false, c.hashes-count.ensures))
