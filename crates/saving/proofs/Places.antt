@@ -84,7 +84,8 @@ module _ {Answers : ℕ → Hash → Type 0} {n : ℕ} {u₀ : List ℕ} {a : �
 
   -- those of a list of the request at the i-th place
   pub hashes_read : {b u : List ℕ} {i e : ℕ} (g : Request → List ℕ) → LaysHashes Answers u₀ u a n e
-      → ((j : ℕ) (h : Hash) → j < n → Answers j h → ReadAt b i (λ q. j < length (g q) → hash_num h ≡ get_or (g q) j 0)) → ReadAt b i (λ q. n ≡ length (g q) → Lays u₀ u a (behind (hash_fields short (g q))) e)
+      → ((j : ℕ) (h : Hash) → j < n → Answers j h → ReadAt b i (λ q. j < length (g q) → hash_num h ≡ get_or (g q) j 0))
+      → ReadAt b i (λ q. n ≡ length (g q) → Lays u₀ u a (behind (hash_fields short (g q))) e)
   hashes_read g p s k small st f w x m = p.is (g (at (wtxid k) st.table)) m (λ j h l r. s j h l r k small st f w x (omega arith))
 
 -- ---- the parents, the package
@@ -119,7 +120,8 @@ module _ {b : List ℕ} {i : ℕ} {u : List ℕ} {a stage : ℕ} where
       → ReadAt b i (λ q. stage ≡ stage_of q.info q.«package» → Lays u u' a (behind (maybe_fields (package_fields short) q.«package»)) r)
   none_laid h p k small st s w x z = lays_as (no-package (at (wtxid k) st.table) h z) p
 
-  pub package-laid : {u₁ u₂ u₃ u₄ : List ℕ} {e₁ e₂ e₃ r n : ℕ} {enqueued : Bool} (c : ℕ) → 2 ≤ stage → enqueued ≡ eqb stage 3 → ReadAt b i (λ q. c ≡ combined_of q.«package») → ReadAt b i (λ q. n ≡ length (wtxids_of q.«package»))
+  pub package-laid : {u₁ u₂ u₃ u₄ : List ℕ} {e₁ e₂ e₃ r n : ℕ} {enqueued : Bool} (c : ℕ) → 2 ≤ stage → enqueued ≡ eqb stage 3 → ReadAt b i (λ q. c ≡ combined_of q.«package»)
+      → ReadAt b i (λ q. n ≡ length (wtxids_of q.«package»))
       → Lays u u₁ a (44 ∷ hexadecimal c) e₁ → Lays u₁ u₂ e₁ (44 ∷ decimal n) e₂
       → ReadAt b i (λ q. n ≡ length (wtxids_of q.«package») → Lays u₂ u₃ e₂ (behind (hash_fields short (wtxids_of q.«package»))) e₃)
       → Lays u₃ u₄ e₃ (44 ∷ bool_text enqueued) r
