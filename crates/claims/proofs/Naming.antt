@@ -134,7 +134,8 @@ entries-hashes false b e = sym (length-map (hashes_in b) some)
 named_held : (i : Item) (h : Hash) {held : Bool} → held ≡ is_type msg_pkg_txns i.kind → hash_num h ≡ i.hash → hash_found (then_some held h) ≡ package_named i
 named_held i h e q = elim (test (is_type msg_pkg_txns i.kind)) [ inl d ↦ rw (e, d) (ap some q) | inr d ↦ rw (e, d) ]
 
-pub entry-item : (items : Bool) (b : List ℕ) (i : ℕ) (x : Item) (h : Hash) {held : Bool} {r : std.Option Hash} → items ≡ true → i < length (entries_in items b) → ((d : Item) → x ≡ get_or (items_in b) i d)
+pub entry-item : (items : Bool) (b : List ℕ) (i : ℕ) (x : Item) (h : Hash) {held : Bool} {r : std.Option Hash} → items ≡ true → i < length (entries_in items b) →
+    ((d : Item) → x ≡ get_or (items_in b) i d)
     → held ≡ is_type msg_pkg_txns x.kind → hash_num h ≡ x.hash → r ≡ then_some held h → hash_found r ≡ get_or (entries_in items b) i none
 entry-item true b i x h e l is q s t = ap hash_found t ∙ named_held x h q s ∙ ap package_named (is x) ∙ named_at package_named (items_in b) i x (omega (arith, entries-items true b refl))
 entry-item false b i x h e l is q s t = never e

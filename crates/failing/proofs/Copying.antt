@@ -109,5 +109,6 @@ module _ (st : State) (s : Sound st) (k : Key) (small : k.hash < top) (z : has_p
   pub must-hold : {i : ℕ} → PlaceSpot st.table k.hash i false → ⊥
   must-hold p = never (p.held_is ∙ ap (λ (j : Key). has_place (at j st.table)) key-is ∙ z)
 
-  pub its-parents : (n : ℕ) → true ≡ owner_is n (at k st.table).owner → (u : List ℕ) (m : ℕ) → first_hashes m u ≡ (at (wtxid k.hash) st.table).parents → first_hashes m u ≡ parents_for n (at k st.table)
+  pub its-parents : (n : ℕ) → true ≡ owner_is n (at k st.table).owner → (u : List ℕ) (m : ℕ) → first_hashes m u ≡ (at (wtxid k.hash) st.table).parents
+      → first_hashes m u ≡ parents_for n (at k st.table)
   its-parents n e u m f = rw (sym e, z) (f ∙ ap (λ (j : Key). (at j st.table).parents) key-is)

@@ -20,7 +20,8 @@ use Rattle.owners.proofs.Rows.{or_none, row_other}
 
 -- ---- one row
 
-pub row-owns : (r : Row) {k : Kind} → k ≡ (key_at r).kind → r.bits / 8 % 2 ≡ 1 → Says (rust.Some (record { kind = k; connection = r.conn; deadline = r.deadline })) (holding_as (key_at r) (owner_at r none))
+pub row-owns : (r : Row) {k : Kind} → k ≡ (key_at r).kind → r.bits / 8 % 2 ≡ 1 → Says (rust.Some (record { kind = k; connection = r.conn; deadline = r.deadline }))
+    (holding_as (key_at r) (owner_at r none))
 row-owns r d e = rw (eq-eqb (own_bit r) 1 e, d) refl
 
 pub row-idle : (r : Row) → (r.bits / 8 % 2 ≡ 1 → ⊥) → Says rust.None (holding_as (key_at r) (owner_at r none))

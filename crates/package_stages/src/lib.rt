@@ -16,7 +16,23 @@ ghost use Rattle.machine.specs.Package.{packaged};
 ghost use Rattle.places.specs.Places.{list_most};
 ghost use Rattle.store.specs.Shown.{rows_in, places_in, held_places_in, Kept, Shown};
 ghost use Rattle.requests.specs.Changes.{Tells, Makes};
-ghost use Rattle.package_stages.specs.Changes.{stage_word, stage_of, wtxids_of, combined_of, OwnerAmong, RequestAt, Sought, ReadAt, OwnedPlain, flagged, TakesParent, with_parent, FlagOnly, begun, closed};
+ghost use Rattle.package_stages.specs.Changes.{
+  stage_word,
+  stage_of,
+  wtxids_of,
+  combined_of,
+  OwnerAmong,
+  RequestAt,
+  Sought,
+  ReadAt,
+  OwnedPlain,
+  flagged,
+  TakesParent,
+  with_parent,
+  FlagOnly,
+  begun,
+  closed,
+};
 
 use machine::limits::MAX_PARENTS;
 use places::{AWAITING, ENQUEUED, FLAG};

@@ -46,7 +46,8 @@ module _ {A : Type 0} (read : List ℕ → Option A) (l : List ℕ) (e : ℕ) wh
 pub text_lent : (l : List ℕ) (e to : ℕ) → to ≡ e + 1 + length (text_at l e) → take (to - (e + 1)) (drop (e + 1) l) ≡ text_at l e
 text_lent l e to g = let n : to - (e + 1) ≡ length (text_at l e) = omega arith in rw n (take-before 44 (drop (e + 1) l))
 
-module _ {T A : Type 0} (f : T → A) (read : List ℕ → Option A) {Answers : List ℕ → Rust.Option T → Type 0} (says : (s : List ℕ) (r : Rust.Option T) → Answers s r → value_in f r ≡ read s) {l : List ℕ} {e : ℕ} where
+module _ {T A : Type 0} (f : T → A) (read : List ℕ → Option A) {Answers : List ℕ → Rust.Option T → Type 0}
+    (says : (s : List ℕ) (r : Rust.Option T) → Answers s r → value_in f r ≡ read s) {l : List ℕ} {e : ℕ} where
   pub field_parsed : (r : Rust.Option (Parsed T)) → FieldParsed Answers l e r → FieldRead read l e (parsed_in f r)
   field_parsed Rust.None p = elim (test (leb (length l) e)) [
     | inl t ↦ taking_past read l e (leb-true (length l) e t)

@@ -56,7 +56,8 @@ module _ (st : State) (s : Sound st) (n h : ℕ) (small : h < top) {a b : Read} 
       at_kind Txid g e = rw e (owner-missing ea x)
       at_kind Wtxid g e = rw e (owner-missing eb y)
 
-  pub owned_none : {o : ℕ} → is_some a.owner ≡ false → is_some b.owner ≡ false → o ≡ owned_by n st.table → ltb o max_in_flight ≡ (eqb (owned_at h st.table) 0 && ltb (owned_by n st.table) max_in_flight)
+  pub owned_none : {o : ℕ} → is_some a.owner ≡ false → is_some b.owner ≡ false → o ≡ owned_by n st.table → ltb o max_in_flight ≡
+      (eqb (owned_at h st.table) 0 && ltb (owned_by n st.table) max_in_flight)
   owned_none x y e = rw (nobody x y) (ap (λ (o : ℕ). ltb o max_in_flight) e)
 
 -- what the code reads at a key

@@ -8,4 +8,5 @@ use Rattle.cursors.proofs.HeaderWords.{poll_written}
 use Rattle.cursors.proofs.set_next_poll.Goals as goal
 
 pub returns : goal.returns
-returns c = poll_written c.args.m (words c.args.s.now) poll_at (omega (arith, length-words c.args.s.now, c.requires)) (c.from.ensures ∙ ap bool_byte c.is_some.ensures) c.unwrap_or.ensures c.put.ensures.word c.put-2.ensures.word
+returns c = poll_written c.args.m (words c.args.s.now) poll_at (omega (arith, length-words c.args.s.now, c.requires))
+    (c.from.ensures ∙ ap bool_byte c.is_some.ensures) c.unwrap_or.ensures c.put.ensures.word c.put-2.ensures.word

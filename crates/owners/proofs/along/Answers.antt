@@ -51,7 +51,8 @@ loop-i-preserved c = going_more c.loop-i.invariant c.loop-i-test.true
           (quad_number c.args.h) (quad_number c.row_at-r.result.hash)
           (sym c.quad_less.ensures ∙ c.if-quad_less.false),
     ))
-    c.with_row-owner.ensures (omega (arith, c.from-keys.ensures ∙ one_byte c.ends_key.result, one_most c.ends_key.result)) (λ f w. c.from-keys.ensures ∙ one_byte c.ends_key.result ∙ ap one (c.ends_key.ensures f w))
+    c.with_row-owner.ensures (omega (arith, c.from-keys.ensures ∙ one_byte c.ends_key.result, one_most c.ends_key.result))
+    (λ f w. c.from-keys.ensures ∙ one_byte c.ends_key.result ∙ ap one (c.ends_key.ensures f w))
 
 pub returns : goal.returns
 returns c = going_done c.loop-i.invariant (omega (arith, c.loop-i-test.false))

@@ -31,7 +31,8 @@ returns-in-Ok c = (
       let x = c.request_at-r.ensures.is st s w in
       let z = c.in-Ok.ensures in
       let h = sym (staged x) ∙ c.is_none.ensures ∙ ap not c.if-is_none.false in
-      its-parents st s (key_num c.args.k) z.small h c.args.n (sym c.if-not-is_owned_by.false ∙ owner-is x c.args.n c.is_owned_by.ensures) _ _ (c.copy_parents.ensures.1 (hash_num c.args.k.hash) z.small st s w (z.is st s w)),
+      its-parents st s (key_num c.args.k) z.small h c.args.n (sym c.if-not-is_owned_by.false ∙ owner-is x c.args.n c.is_owned_by.ensures) _ _
+      (c.copy_parents.ensures.1 (hash_num c.args.k.hash) z.small st s w (z.is st s w)),
 )
 
 pub returns-in-Err : goal.returns-in-Err

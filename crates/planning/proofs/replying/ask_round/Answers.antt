@@ -42,4 +42,5 @@ move_ready-requires c = let z = (kept_shown (begun_kept c.requires.0)).sizes.lon
 )
 
 pub returns : goal.returns
-returns c = planned none c.phase_round-w.ensures c.args.out.now (front_closed c.phase_round-w.new.picks (let x = c.phase_round-w.ensures in omega (arith, x.most, c.phase_round-w.auto.picks, c.requires.2)) c.args.out.now c.finish.ensures) (λ st k h w. c.move_ready.ensures k h st w)
+returns c = planned none c.phase_round-w.ensures c.args.out.now (front_closed c.phase_round-w.new.picks
+    (let x = c.phase_round-w.ensures in omega (arith, x.most, c.phase_round-w.auto.picks, c.requires.2)) c.args.out.now c.finish.ensures) (λ st k h w. c.move_ready.ensures k h st w)

@@ -10,4 +10,5 @@ use Rattle.selecting.proofs.GivingBack.{Back}
 use Rattle.selecting.proofs.giving.give_back.Given as goal
 
 abbrev pub invariant-loop-j : goal.invariant-loop-j
-invariant-loop-j l = (l.j ≤ length l.picks) × (length l.s ≡ length l.initial.s) × ((now : ℕ) (st : State) (es : List Entry) → Sound st → Marks now st es l.initial.s l.picks (length l.picks) → Back now st es l.s l.j)
+invariant-loop-j l = (l.j ≤ length l.picks) × (length l.s ≡ length l.initial.s) × ((now : ℕ) (st : State) (es : List Entry) → Sound st → Marks now st es l.initial.s l.picks
+    (length l.picks) → Back now st es l.s l.j)

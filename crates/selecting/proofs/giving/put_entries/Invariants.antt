@@ -12,5 +12,6 @@ use Rattle.selecting.proofs.giving.put_entries.Given as goal
 
 abbrev pub invariant-loop-j : goal.invariant-loop-j
 invariant-loop-j l = (l.j ≤ length l.numbers) × (length l.out ≡ length l.initial.out)
-    × ((f : Flat) (es : List Entry) → Shows l.s f → length l.numbers ≡ length es → ((k : ℕ) (d : Entry) → k < length l.numbers → Numbered f.rows (get_or l.numbers k 0) (get_or es k d)) → l.out ≡ written
+    × ((f : Flat) (es : List Entry) → Shows l.s f → length l.numbers ≡ length es → ((k : ℕ) (d : Entry) → k < length l.numbers → Numbered f.rows (get_or l.numbers k 0)
+    (get_or es k d)) → l.out ≡ written
     (entries_answer (take l.j es)) l.initial.out)
