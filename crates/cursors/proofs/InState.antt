@@ -2,8 +2,8 @@
 use Prim.Native.Nat.{ℕ, ◌+◌}
 use mathlib.Core.Path.{◌≡◌, sym, ap, subst, ◌∙◌}
 use mathlib.Core.Bool.{Bool}
-use mathlib.Core.List.{List, [], ◌++◌}
-use mathlib.Core.Option.{Option, none}
+use mathlib.Core.List.{List, ◌++◌}
+use mathlib.Core.Option.{Option}
 use lib.ListN.{length, get_or}
 use Rattle.std.specs.Prelude as rust
 use Rattle.ident.specs.declared.Key.{Key as KeyRead}

@@ -20,7 +20,7 @@ use Rattle.machine.specs.Table.{at, has, one}
 use Rattle.machine.specs.Sound.{Sound, OwnerFits}
 use Rattle.machine.proofs.Table.{lawful_at}
 use Rattle.machine.proofs.Tests.{test, order}
-use Rattle.store.specs.Flat.{Flat, flat_of, deadline_for, own_bit, row_of, rows_for, rows_of}
+use Rattle.store.specs.Flat.{Flat, flat_of, deadline_for, own_bit, row_of, rows_for}
 use Rattle.store.specs.Image.{Shows, Writes}
 use Rattle.store.proofs.Bits.{own_row, conn-row}
 use Rattle.store.proofs.RowsAt.{among}

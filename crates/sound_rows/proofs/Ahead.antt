@@ -1,15 +1,14 @@
 -- Rows compared word by word, the least word first: the same as their keys compared.
-use Prim.Native.Nat.{ℕ, ◌%◌, ◌^◌, ◌<◌}
+use Prim.Native.Nat.{ℕ, ◌%◌}
 use mathlib.Core.Path.{◌≡◌, sym, ◌∙◌}
-use mathlib.Core.Logic.{◌⊎◌, inl, inr}
-use mathlib.Core.Bool.{Bool, true, false, ◌&&◌, ◌||◌}
+use mathlib.Core.Logic.{inl, inr}
+use mathlib.Core.Bool.{Bool}
 use native.Mathlib.Omega.{arith}
 use lib.Dec.{ltb, eqb}
-use borrow.Author.Tests.{ltb-true, ltb-false, lt-ltb, le-ltb, eqb-true, eqb-false, eq-eqb, ne_eqb}
+use borrow.Author.Tests.{ltb-false, lt-ltb, le-ltb, eqb-true, eqb-false, eq-eqb, ne_eqb}
 use Rattle.words.specs.Words.{Decides}
 use Rattle.regions.specs.declared.Row.{Row}
-use Rattle.regions.specs.declared.Quad.{Quad}
-use Rattle.regions.specs.Rows.{quad_number, key_number, key_of}
+use Rattle.regions.specs.Rows.{key_number, key_of}
 use Rattle.regions.proofs.Order.{Small, by_w3, by_w2, by_w1, by_w0, by_kind, by_hash}
 use Rattle.machine.proofs.Tests.{test}
 use Rattle.store.specs.FlatSound.{mark_bit}

@@ -1,16 +1,16 @@
 -- Rows of one hash in two halves, taken off the front of both: what holds of all rows holds of them and of the rest.
 use Prim.Native.Nat.{ℕ, zero, suc, ◌+◌, ◌-◌, ◌*◌, ◌≤◌, ◌<◌}
 use mathlib.Core.Path.{◌≡◌, refl, sym, ap, ◌∙◌}
-use mathlib.Core.Logic.{◌⊎◌, inl, inr}
-use mathlib.Core.Bool.{Bool, true, false, ◌&&◌, and-true}
+use mathlib.Core.Logic.{inl, inr}
+use mathlib.Core.Bool.{Bool, true, ◌&&◌, and-true}
 use mathlib.Core.List.{List, [], ◌∷◌, ◌++◌}
 use native.Mathlib.Omega.{arith}
 use lib.Dec.{ltb, leb, eqb}
-use lib.ListN.{length, take, drop, get_or}
+use lib.ListN.{length, drop, get_or}
 use lib.Seq.{drop-drop}
 use borrow.Author.Tests.{ltb-true, ltb-false, leb-true, leb-false, eqb-true, eqb-false, eq-eqb, ne_eqb}
 use Rattle.words.specs.Words.{recs, Decides}
-use Rattle.words.proofs.Records.{recs-add, recs_at, length-recs}
+use Rattle.words.proofs.Records.{recs-add, recs_at}
 use Rattle.regions.specs.declared.Row.{Row}
 use Rattle.regions.specs.Order.{First}
 use Rattle.regions.specs.Rows.{row_size, read_row, row_conn}

@@ -1,7 +1,7 @@
 -- Rows whose keys do not fall: a half of Txid rows, then a half of Wtxid rows, and in each the hashes do not fall.
-use Prim.Native.Nat.{ℕ, zero, suc, ◌+◌, ◌-◌, ◌*◌, ◌%◌, ◌≤◌, ◌<◌}
-use mathlib.Core.Path.{◌≡◌, refl, sym, ap, ◌∙◌}
-use mathlib.Core.Bool.{Bool, true, false}
+use Prim.Native.Nat.{ℕ, zero, suc, ◌+◌, ◌%◌, ◌≤◌, ◌<◌}
+use mathlib.Core.Path.{◌≡◌, refl, ◌∙◌}
+use mathlib.Core.Bool.{false}
 use mathlib.Core.List.{List, [], ◌∷◌}
 use native.Mathlib.Nat.{le_refl, le_trans}
 use native.Mathlib.Omega.{arith}
@@ -14,7 +14,7 @@ use Rattle.words.proofs.Records.{length-recs, recs_at}
 use Rattle.regions.specs.declared.Row.{Row}
 use Rattle.regions.specs.declared.Key.{Key}
 use Rattle.regions.specs.Order.{Sorted, Bound, Sought, one}
-use Rattle.regions.specs.Rows.{row_size, read_row, row_key, key_number, key_of}
+use Rattle.regions.specs.Rows.{row_size, read_row, row_key, key_number}
 use Rattle.machine.specs.Typed.{Each}
 use Rattle.store.specs.Gather.{kind_is, key_at}
 use Rattle.store.specs.FlatSound.{hash_at, RowFits, Ascending}

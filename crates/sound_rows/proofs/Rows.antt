@@ -1,25 +1,22 @@
 -- A walk along the rows decides what FlatSound says of each row and of neighbours.
-use Prim.Native.Nat.{ℕ, zero, suc, ◌+◌, ◌*◌, ◌/◌, ◌%◌, ◌^◌, ◌≤◌, ◌<◌}
-use mathlib.Core.Path.{◌≡◌, refl, sym, ap, ◌∙◌}
+use Prim.Native.Nat.{ℕ, ◌+◌, ◌*◌, ◌/◌, ◌%◌, ◌<◌}
+use mathlib.Core.Path.{◌≡◌, refl, sym, ◌∙◌}
 use mathlib.Core.Logic.{◌⊎◌, inl, inr}
-use mathlib.Core.Bool.{Bool, true, false, not, ◌&&◌, ◌||◌}
+use mathlib.Core.Bool.{true, false, not, ◌&&◌, ◌||◌}
 use mathlib.Core.List.{List, [], ◌∷◌}
 use native.Mathlib.Nat.{le_refl, le_antisymm, le_of_lt, lt_irrefl, not-le_of_lt}
 use native.Mathlib.Omega.{arith}
 use lib.Dec.{ltb, eqb}
 use lib.ListN.{take, drop}
 use borrow.Author.Tests.{ltb-true, ltb-false, eqb-true, eqb-false}
-use Rattle.ident.specs.Number.{top, place}
-use Rattle.words.specs.Words.{number, recs, words, Decides}
-use Rattle.machine.specs.Limits.{word}
+use Rattle.ident.specs.Number.{place}
+use Rattle.words.specs.Words.{recs, words, Decides}
 use Rattle.machine.specs.Typed.{Each}
 use Rattle.regions.specs.declared.Row.{Row}
-use Rattle.regions.specs.declared.Quad.{Quad}
-use Rattle.regions.specs.Rows.{row_size, read_row, quad_number, key_number, key_of}
+use Rattle.regions.specs.Rows.{row_size, read_row, key_number, key_of}
 use Rattle.machine.proofs.Tests.{test}
-use Rattle.store.specs.Flat.{own_bit}
-use Rattle.store.specs.Gather.{kind_is, key_at}
-use Rattle.store.specs.FlatSound.{mark_bit, RowFits, Ascending, MarkedAs, SameMarks}
+use Rattle.store.specs.Gather.{key_at}
+use Rattle.store.specs.FlatSound.{mark_bit, RowFits, Ascending, MarkedAs}
 use Rattle.store.proofs.Keys.{row_number}
 use Rattle.sound_rows.specs.Rows.{RowPlain, Follows, RowsSound}
 use Rattle.sound_rows.proofs.Decide.{Iff, test-decides, test_iff, test_and, test_or, test_same, test_other, test_less, Chain, rest, rest_all, rest_turn}

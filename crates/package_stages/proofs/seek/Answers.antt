@@ -1,14 +1,8 @@
 use native.Mathlib.Omega.{arith}
-use Prim.Native.Nat.{ℕ, ◌<◌}
-use mathlib.Core.Path.{sym, ap, ◌∙◌}
-use lib.Dec.{ltb}
-use lib.ListN.{length}
+use mathlib.Core.Path.{sym}
 use Rattle.ident.specs.Words.{hash_num}
-use Rattle.regions.specs.Rows.{quad_number}
-use Rattle.regions.proofs.Order.{number_quad}
 use Rattle.places.specs.Places.{blank}
 use Rattle.machine.proofs.Tests.{never}
-use Rattle.store.specs.Flat.{flat_of, places_of}
 use Rattle.store.proofs.Frame.{sizes}
 use Rattle.requests.proofs.Keeping.{kept_shown}
 use Rattle.package_stages.proofs.Seeking.{sought_at, missing, spot_within}

@@ -1,6 +1,6 @@
 use borrow.Author.Rules.{rules}
 use native.Mathlib.Omega.{arith}
-use Prim.Native.Nat.{◌+◌, ◌-◌}
+use Prim.Native.Nat.{◌+◌}
 use Rattle.words.specs.Words.{words}
 use Rattle.sound_rows.specs.Groups.{rows_in}
 use Rattle.sound_rows.proofs.Decide.{iff_self}

@@ -1,6 +1,6 @@
 use native.Mathlib.Omega.{arith}
 use mathlib.Core.Path.{◌≡◌, refl, ◌∙◌}
-use lib.ListN.{length, length-set}
+use lib.ListN.{length-set}
 use Rattle.words.specs.Words.{words}
 use Rattle.sound_rows.proofs.ConnMarks.{marks_none, marks_turn}
 use Rattle.sound_rows.proofs.group.mark_conns.Goals as goal

@@ -1,6 +1,5 @@
 use borrow.Author.Rules.{rules}
 use native.Mathlib.Omega.{arith}
-use Prim.Native.Nat.{◌-◌}
 use Rattle.words.specs.Words.{words}
 use Rattle.sound_rows.proofs.Groups.{owners_turn, owners_none}
 use Rattle.sound_rows.proofs.group.owners.Goals as goal
