@@ -12,7 +12,7 @@ use Rattle.lines.proofs.Scans.{scan-empty}
 use Rattle.machine.proofs.Parting.{take-before, before-length}
 
 -- what stands behind the first bytes, as it is lent
-lent_rest : (f : List ℕ) (a : ℕ) → take (length f - a) (drop a f) ≡ drop a f
+pub lent_rest : (f : List ℕ) (a : ℕ) → take (length f - a) (drop a f) ≡ drop a f
 lent_rest f a = take_all (length f - a) (drop a f) (rw length-drop (omega arith))
 
 with_no-kind : (h : Option ℕ) {k : Option ItemKind} → k ≡ none → item_with k h ≡ none

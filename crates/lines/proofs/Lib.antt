@@ -4,3 +4,4 @@ pub mod Letters
 pub mod Splitting
 pub mod Sameness
 pub mod Hashes
+pub mod Finding

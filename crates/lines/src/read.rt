@@ -241,14 +241,10 @@ pub fn find(s: &[u8], from: usize, x: u8) -> usize
     requires { from ≤ length s.now }
     ensures { result ≡ from + length (before x (drop from s.now)) }
 {
-    let mut i = from;
-    while i < s.len() {
-        if s[i] == x {
-            return i;
-        }
-        i += 1;
+    match s[from..].iter().position(|&c| c == x) {
+        Some(i) => from + i,
+        None => s.len(),
     }
-    i
 }
 
 // Where the field that starts at from ends: at the next comma, or with the line.

@@ -14,25 +14,8 @@ use Rattle.std.specs.Prelude as Rust
 use Rattle.reading.specs.declared.fields.Parsed.{Parsed}
 use Rattle.reading.specs.declared.forms.Values as forms
 use Rattle.reading.specs.Line.{Line}
-use Rattle.reading.specs.Forms.{
-  Values,
-  blank,
-  Then,
-  key_field,
-  item_field,
-  hash_field,
-  combined_field,
-  preferred_field,
-  source_field,
-  put_key,
-  put_item,
-  put_hash,
-  put_number,
-  put_bool,
-  plain_then,
-  field_then,
-  form_then,
-}
+use Rattle.reading.specs.Forms.{Values, blank, Then, key_field, item_field, hash_field, combined_field, preferred_field, source_field, put_key, put_item, put_hash, put_number, put_bool}
+use Rattle.reading.specs.Forms.{plain_then, field_then, form_then}
 use Rattle.reading.specs.Given.{FieldRead, parsed_in, values_of, then_values, FieldTaken, FormRead, whole_line, WholeRead}
 use Rattle.reading.proofs.Taking.{field_not, field_is, ending_end, ending_more}
 
@@ -62,8 +45,8 @@ module _ {f : ℕ} (v : Values) where
   bool-field (inl e) k fs = rw e
   bool-field (inr e) k fs = rw e
 
-  pub number-field : f ≢ key_field → f ≢ item_field → ((f ≡ hash_field) ⊎ (f ≡ combined_field) → ⊥) → ((f ≡ preferred_field) ⊎ (f ≡ source_field) → ⊥) → (k : Then)
-      (fs : List (List ℕ)) → field_then f v k fs ≡ taking number_of (λ x. k (put_number f v x)) fs
+  pub number-field : f ≢ key_field → f ≢ item_field → ((f ≡ hash_field) ⊎ (f ≡ combined_field) → ⊥) → ((f ≡ preferred_field) ⊎ (f ≡ source_field) → ⊥)
+      → (k : Then) (fs : List (List ℕ)) → field_then f v k fs ≡ taking number_of (λ x. k (put_number f v x)) fs
   unfolding field_then plain_then
   number-field a b c d k fs =
       rw (
@@ -71,8 +54,7 @@ module _ {f : ℕ} (v : Values) where
         ne_eqb f item_field b,
         ne_eqb f hash_field (λ e. c (inl e)),
         ne_eqb f combined_field (λ e. c (inr e)),
-        ne_eqb f preferred_field
-            (λ e. d (inl e)),
+        ne_eqb f preferred_field (λ e. d (inl e)),
         ne_eqb f source_field (λ e. d (inr e)),
       )
 
