@@ -6,12 +6,6 @@ use Rattle.requests.specs.Changes.{candidate_of}
 use Rattle.gathering.proofs.Faring.{fares-full, fares-barred, fares-crowded, fares_in}
 use Rattle.gathering.proofs.beside.fares.Goals as goal
 
-pub returns-then-m-ge-SPACE : goal.returns-then-m-ge-SPACE
-returns-then-m-ge-SPACE c = record { spare = λ e. cc; fares = λ st s w es a. tt }
-
-pub returns-then-c : goal.returns-then-c
-returns-then-c c = record { spare = λ e. cc; fares = λ st s w es a. tt }
-
 pub returns-then-full : goal.returns-then-full
 returns-then-full c =
     let k = c.args.k in
@@ -31,9 +25,6 @@ returns-then-barred c =
       fares = λ st s w es a. fares-barred st s (key_num k) (candidate_of
           c.args.c) small a (c.barred.ensures st s w es a) c.if-barred.true;
     }
-
-pub returns-then-c-2 : goal.returns-then-c-2
-returns-then-c-2 c = record { spare = λ e. cc; fares = λ st s w es a. tt }
 
 pub returns-then-crowded : goal.returns-then-crowded
 returns-then-crowded c =

@@ -1,15 +1,10 @@
 -- `gathering::beside::set_aside_at` meets its contract.
-use mathlib.Core.Path.{refl}
-use native.Mathlib.Omega.{arith}
 use Rattle.ident.proofs.Words.{key-four, hash_below}
 use Rattle.gathering.proofs.Faring.{set_not, set_in}
 use Rattle.gathering.proofs.beside.set_aside_at.Goals as goal
 
 pub returns-in_default : goal.returns-in_default
 returns-in_default c = set_not c.fares.ensures c.in_default.not-Waits
-
-pub put_in-requires : goal.put_in-requires
-put_in-requires c = omega (arith, c.in-Waits.ensures.spare refl, c.requires.1)
 
 pub returns-in-Waits : goal.returns-in-Waits
 returns-in-Waits c =

@@ -8,9 +8,6 @@ use Rattle.gathering.proofs.deferred.listed_at.Goals as goal
 pub loop-i-init : goal.loop-i-init
 loop-i-init c = (omega arith, passed_none)
 
-pub read-x-requires : goal.read-x-requires
-read-x-requires c = omega (arith, c.requires.0, c.requires.1, c.loop-i-test.true)
-
 pub returns-then-same_hash : goal.returns-then-same_hash
 returns-then-same_hash c = λ e. never (sym e)
 

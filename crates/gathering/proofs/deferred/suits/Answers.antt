@@ -5,12 +5,6 @@ use borrow.Author.Tests.{not-false, ne_eqb}
 use Rattle.gathering.proofs.Deferrals.{suited-barred, suited-crowded, suited_in}
 use Rattle.gathering.proofs.deferred.suits.Goals as goal
 
-pub overflow_add-d : goal.overflow_add-d
-overflow_add-d c = omega (arith, c.requires.3)
-
-pub listed_at-requires : goal.listed_at-requires
-listed_at-requires c = (omega (arith, c.requires.3), c.requires.4)
-
 pub returns-then-barred : goal.returns-then-barred
 returns-then-barred c = suited-barred (not-false c.args.c.preferred
     c.if-not-c.false) c.listed_at.ensures c.if-listed_at.false c.barred.ensures c.if-barred.true

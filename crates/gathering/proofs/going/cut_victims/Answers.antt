@@ -7,9 +7,6 @@ use Rattle.gathering.proofs.going.cut_victims.Goals as goal
 pub loop-i-init : goal.loop-i-init
 loop-i-init c = (omega arith, parting_none)
 
-pub read-y-requires : goal.read-y-requires
-read-y-requires c = omega (arith, c.requires.2, c.requires.3, c.requires.4, c.loop-i-test.true)
-
 pub cut-requires : goal.cut-requires
 cut-requires c = parting_kept c.loop-i.invariant.1 c.requires.0
     c.requires.1
@@ -21,9 +18,6 @@ loop-i-preserved c = (
       (arith, c.loop-i-test.true, c.requires.2))
       c.read-y.ensures c.key_of.ensures c.cut.auto.s c.cut.ensures,
 )
-
-pub shape_of-s : goal.shape_of-s
-shape_of-s c = c.loop-i.invariant.1.size
 
 pub returns : goal.returns
 returns c =

@@ -1,17 +1,10 @@
 -- `gathering::going::drop_victims` meets its contract.
-use mathlib.Core.Path.{◌∙◌}
 use native.Mathlib.Omega.{arith}
 use Rattle.store.proofs.Frame.{sizes}
 use Rattle.announcing.specs.Falls.{goes_by}
 use Rattle.announcing.proofs.DroppingRows.{dropping_none, dropping_rows, dropping_shown, dropping_more, dropping_end}
 use Rattle.gathering.proofs.Departing.{gone_at_once}
 use Rattle.gathering.proofs.going.drop_victims.Goals as goal
-
-pub overflow_sub-d : goal.overflow_sub-d
-overflow_sub-d c = omega (arith, c.requires.1)
-
-pub read-v-requires : goal.read-v-requires
-read-v-requires c = omega (arith, c.requires.1, c.requires.2, c.requires.3, c.requires.4)
 
 pub rows-n-requires : goal.rows-n-requires
 rows-n-requires c = omega (arith, sizes c.requires.0.writes)
@@ -42,9 +35,6 @@ drop_rows-requires c = (
   omega (arith, c.loop-i.invariant.less, c.loop-i.invariant.most, c.rows-n.ensures.word),
   omega (arith, dropping_rows c.loop-i.invariant c.requires.0, c.rows-n.ensures.word),
 )
-
-pub shape_of-s : goal.shape_of-s
-shape_of-s c = c.drop_rows.auto.s ∙ c.loop-i.invariant.size
 
 pub returns : goal.returns
 returns c = gone_at_once c.requires.1

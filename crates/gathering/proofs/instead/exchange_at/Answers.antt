@@ -1,5 +1,4 @@
 -- `gathering::instead::exchange_at` meets its contract.
-use mathlib.Core.Path.{refl}
 use native.Mathlib.Omega.{arith}
 use Rattle.ident.proofs.Words.{key-four, hash_below}
 use Rattle.requests.specs.Changes.{candidate_of}
@@ -12,9 +11,6 @@ returns-in_default c = exchanged_not c.suits.ensures c.in_default.not-Waits
 pub waiting_row-requires : goal.waiting_row-requires
 waiting_row-requires c = after_kept (candidate_of c.args.c) c.requires.0.full (omega (arith, c.if-p-m.false)) c.read-y.result c.read-y.ensures
     c.key_of.ensures c.cut.ensures
-
-pub put_in-requires : goal.put_in-requires
-put_in-requires c = omega (arith, (c.in-Waits.ensures.waits refl).spare, c.requires.1)
 
 pub returns-in-Waits : goal.returns-in-Waits
 returns-in-Waits c =

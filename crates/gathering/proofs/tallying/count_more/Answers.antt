@@ -8,9 +8,6 @@ use Rattle.store.proofs.Tally.{fresh}
 use Rattle.gathering.proofs.Raising.{raised_found, raised_new}
 use Rattle.gathering.proofs.tallying.count_more.Goals as goal
 
-pub conn_at-c-requires : goal.conn_at-c-requires
-conn_at-c-requires c = (c.requires.0, c.is_entry.ensures.inside c.if-is_entry.true)
-
 pub overflow_add-e : goal.overflow_add-e
 overflow_add-e c = omega (
   arith,
@@ -18,12 +15,6 @@ overflow_add-e c = omega (
       c.seek_conn-i.result (fresh 0 0) (c.is_entry.ensures.inside
       c.if-is_entry.true) (c.conn_at-c.ensures c.requires.0.flat (fresh 0 0)
       c.requires.0.shows),
-)
-
-pub set_conn-requires : goal.set_conn-requires
-set_conn-requires c = (
-  c.requires.0,
-  c.is_entry.ensures.inside c.if-is_entry.true,
 )
 
 pub returns-then-is_entry : goal.returns-then-is_entry
