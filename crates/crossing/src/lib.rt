@@ -114,8 +114,8 @@ pub fn hand_answer(a: Result<u64, wire::Refusal>, count: &mut u64) -> u64
 {
     match a {
         Err(refusal) => u64::from(refusal),
-        Ok(n) => {
-            *count = n;
+        Ok(size) => {
+            *count = size;
             0
         }
     }
