@@ -102,10 +102,6 @@ list-bytes p {end} e =
     let k : end - entry_bytes ≡ count_in p * entry_bytes = omega (arith, e) in
     ap (λ (j : ℕ). entries_in (take j (drop entry_bytes p))) k ∙ sym (list_of p)
 
--- so many bytes from the first on
-pub whole : (n : ℕ) → n * entry_bytes - 0 ≡ n * entry_bytes
-whole n = omega arith
-
 pub list_held : {p s p' v : List ℕ} (u : List ℕ) (n : ℕ) → length p ≡ list_bytes → n ≤ most_entries → entry_bytes * n ≤ length u → Put p s 0 n → length s ≡ length p → v ≡ take (n * entry_bytes) u
     → p' ≡ take entry_bytes s ++ (v ++ drop (n * entry_bytes + entry_bytes - entry_bytes) (drop entry_bytes s)) → Holds p' (entries_from u 0 n)
 list_held {p} {s} {p'} {v} u n long most inside put same copied e = record { fits = record { long = is_long; count = omega (arith, count) }; list = list_is }

@@ -28,7 +28,7 @@ fn keep(list: &mut [u8], answer: &[u8], n: usize)
     words::put(list, 0, n as u64);
     let m = n * ENTRY;
     let end = m + ENTRY;
-    sorting::gather::copy_slot(&answer[0..m], &mut list[ENTRY..end]);
+    list[ENTRY..end].copy_from_slice(&answer[..m]);
 }
 
 // Where the entries of a list end.

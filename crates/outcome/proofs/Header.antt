@@ -1,17 +1,15 @@
--- What the header of a sound store says: L, Q and the announcements held; and what the sound test's answer does.
+-- What the header of a sound store says: L, Q and the announcements held.
 use Prim.Native.Nat.{ℕ, ◌*◌, ◌≤◌}
 use mathlib.Core.Path.{◌≡◌, sym, ap, ◌∙◌}
-use mathlib.Core.Bool.{Bool, true, false}
 use mathlib.Core.List.{List}
 use native.Mathlib.Omega.{arith}
 use lib.ListN.{length, drop, get_or}
-use Rattle.words.specs.Words.{words, Decides}
+use Rattle.words.specs.Words.{words}
 use Rattle.words.proofs.Records.{length-recs}
 use Rattle.regions.specs.Rows.{row_size, read_row}
 use Rattle.machine.specs.Limits.{need}
 use Rattle.machine.specs.State.{State}
 use Rattle.machine.specs.Table.{held}
-use Rattle.machine.proofs.Tests.{never}
 use Rattle.store.specs.Flat.{Flat, flat_of}
 use Rattle.store.specs.Image.{head_size, image, SoundStore, need_of}
 use Rattle.store.specs.Read.{head_in, flat_in, state_of}
@@ -43,13 +41,3 @@ module _ (b : List ℕ) (w : SoundStore b) where
   pub head-inside : 8 * head_size ≤ length b
   unfolding need
   head-inside = omega (arith, w.long)
-
--- ---- by the sound test's answer
-
-pub is-sound : (b : List ℕ) (r : Bool) → r ≡ true → Decides r (SoundStore b) → SoundStore b
-is-sound b true e d = d
-is-sound b false e d = never e
-
-pub not_sound : (b : List ℕ) (r : Bool) → r ≡ false → Decides r (SoundStore b) → SoundStore b → ⊥
-not_sound b true e d = never (sym e)
-not_sound b false e d = d

@@ -1,7 +1,6 @@
 -- `public_packages::on_sound::package_info::of_place` meets its contract: the header's figures are those of the state.
 use mathlib.Core.Path.{sym, ◌∙◌}
 use native.Mathlib.Omega.{arith}
-use borrow.Author.Tests.{not-true, not-false}
 use Rattle.store.specs.Flat.{flat_of}
 use Rattle.store.proofs.Counts.{places-rows}
 use Rattle.store.proofs.Frame.{sizes}
@@ -10,7 +9,7 @@ use Rattle.public_packages.proofs.on_sound.package_info.of_place.Goals as goal
 
 pub returns-then-not-would_solicit : goal.returns-then-not-would_solicit
 returns-then-not-would_solicit c hs st g x =
-    let e = sym (not-true _ c.if-not-would_solicit.true-raw) ∙ c.would_solicit.ensures hs st g x in
+    let e = sym c.if-not-would_solicit.true ∙ c.would_solicit.ensures hs st g x in
     rw (← e) (place_untaken st.places _)
 
 pub held_places-held-requires : goal.held_places-held-requires
@@ -21,10 +20,10 @@ places-places-requires c = omega (arith, (sizes c.requires.writes).long)
 
 pub returns-then-held-places : goal.returns-then-held-places
 returns-then-held-places c hs st g x =
-    let e = sym (not-false _ c.if-not-would_solicit.false-raw) ∙ c.would_solicit.ensures hs st g x in
+    let e = sym c.if-not-would_solicit.false ∙ c.would_solicit.ensures hs st g x in
     rw (← e) (place-free st.places _ (omega (arith, c.held_places-held.ensures.field (flat_of st) x, c.places-places.ensures.field (flat_of st) x, places-rows st.table)))
 
 pub returns : goal.returns
 returns c hs st g x =
-    let e = sym (not-false _ c.if-not-would_solicit.false-raw) ∙ c.would_solicit.ensures hs st g x in
+    let e = sym c.if-not-would_solicit.false ∙ c.would_solicit.ensures hs st g x in
     rw (← e) (place_held st.places _ (omega (arith, c.held_places-held.ensures.field (flat_of st) x, c.places-places.ensures.field (flat_of st) x, places-rows st.table)))
