@@ -35,12 +35,6 @@ loop-i-preserved c = gathered_more c.loop-i.invariant c.row_at-r.result
     (omega (arith, c.note_claim-m.auto)) (omega (arith, c.note_claim-m.auto))
     c.note_claim-m.ensures
 
-pub shape_of-keys : goal.shape_of-keys
-shape_of-keys c = c.loop-i.invariant.long-keys
-
-pub shape_of-sums : goal.shape_of-sums
-shape_of-sums c = c.loop-i.invariant.long-sums
-
 pub returns : goal.returns
 returns c = gathered_done c.loop-i.invariant c.requires.0
     (λ st w. omega (arith, c.rows-rows.ensures.field (flat_of st) w, c.loop-i-test.false))

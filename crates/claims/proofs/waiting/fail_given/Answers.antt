@@ -13,9 +13,6 @@ pub loop-i-init : goal.loop-i-init
 loop-i-init c = failed_none _ _ c.args.n c.args.clock
     (entries_in c.args.items c.args.given.now)
 
-pub entry_at-entry-requires : goal.entry_at-entry-requires
-entry_at-entry-requires c = omega (arith, c.entries-count.ensures, c.loop-i-test.true)
-
 pub fail_entry-c-requires : goal.fail_entry-c-requires
 fail_entry-c-requires c =
     let a = c.args in
@@ -49,12 +46,6 @@ loop-i-preserved c =
     failed_more v peer late (hash_found c.entry_at-entry.result) inside c.entry_at-entry.ensures
     c.requires.3 (omega (arith, c.fail_entry-c.auto)) (omega (arith, c.fail_entry-c.auto))
     c.fail_entry-c.ensures
-
-pub shape_of-s : goal.shape_of-s
-shape_of-s c = c.loop-i.invariant.size
-
-pub shape_of-out : goal.shape_of-out
-shape_of-out c = c.loop-i.invariant.long
 
 pub returns : goal.returns
 returns c = failed_done (given_in c.args.items

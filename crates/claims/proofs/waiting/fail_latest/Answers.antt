@@ -9,15 +9,6 @@ use Rattle.claims.specs.Awaited.{last_among}
 use Rattle.claims.proofs.Listing.{nothing_on, same_on, found_each, missing_each}
 use Rattle.claims.proofs.waiting.fail_latest.Goals as goal
 
-pub fail_claim-requires : goal.fail_claim-requires
-fail_claim-requires c = (
-  c.requires.0,
-  c.requires.1,
-  c.requires.2,
-  c.requires.4 (wtxid (hash_num c.in-Some.h)) (sym c.in-Some.ensures),
-  c.requires.5,
-)
-
 pub returns-in-Some : goal.returns-in-Some
 returns-in-Some c =
     let o = last_among (hash_num c.args.sum) (hashes_in c.args.keys.now) (hashes_in c.args.sums.now) in

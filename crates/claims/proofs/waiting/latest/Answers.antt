@@ -9,12 +9,6 @@ use Rattle.claims.proofs.waiting.latest.Goals as goal
 pub loop-j-init : goal.loop-j-init
 loop-j-init c = none_yet _ _ _ c.hashes-j.ensures
 
-pub hash_in-x-requires : goal.hash_in-x-requires
-hash_in-x-requires c = omega (arith, c.loop-j-test.true, c.loop-j.invariant.most, c.requires)
-
-pub hash_in-requires : goal.hash_in-requires
-hash_in-requires c = omega (arith, c.loop-j-test.true, c.loop-j.invariant.most)
-
 pub returns-then-same_hash : goal.returns-then-same_hash
 returns-then-same_hash c = found_here (c.loop-j.j - 1) c.loop-j.invariant
     c.requires (omega (arith, c.loop-j-test.true))
