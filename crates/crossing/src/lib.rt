@@ -20,7 +20,7 @@ pub fn status(a: Result<u64, Refusal>) -> u64
 {
     match a {
         Ok(_) => 0,
-        Err(refusal) => u64::from(refusal),
+        Err(why) => u64::from(why),
     }
 }
 
@@ -33,7 +33,7 @@ pub fn hand_out(a: Result<u64, Refusal>, reply: &mut u64) -> u64
             *reply = n;
             0
         }
-        Err(refusal) => u64::from(refusal),
+        Err(cause) => u64::from(cause),
     }
 }
 
