@@ -6,7 +6,14 @@ use native.Mathlib.Omega.{arith}
 use mathlib.Core.List.{List, [], ◌∷◌, ◌++◌, append-nil}
 use lib.ListN.{length, take}
 use lib.Seq.{length-take-le}
+use mir.Val.{bool_byte}
 use Rattle.ident.specs.Words.{hash_bytes}
+use Rattle.ident.specs.declared.Kind.{Kind}
+use Rattle.ident.specs.declared.Kind.TheVariants.{Txid, Wtxid}
+use Rattle.ident.specs.declared.ItemKind.{ItemKind}
+use Rattle.ident.specs.declared.ItemKind.TheVariants.{Transaction, WitnessTransaction, WTx, Other}
+use Rattle.ident.specs.contracts.KindPartialEq.TheImpl.{eq-value as kind_eq}
+use Rattle.ident.specs.contracts.ItemKindPartialEq.TheImpl.{eq-value as item_kind_eq}
 use Rattle.words.specs.Words.{number, recs}
 use Rattle.words.proofs.Records.{length-recs, recs-take}
 use Rattle.lent_lists.specs.Lists.{hashes_in}
@@ -46,6 +53,20 @@ pub flag-wtxids : (ws : List ℕ) → hashes_of 0 ws ≡ wtxids_for (package_of 
 flag-wtxids ws = no-hashes ws
 
 -- ---- the row of a candidate
+
+pub one_byte : (b : Bool) → bool_byte b ≡ one b
+one_byte true = refl
+one_byte false = refl
+
+pub kind_byte : (k : Kind) → bool_byte (kind_eq.it k Wtxid) ≡ kind_bit k
+kind_byte Txid = refl
+kind_byte Wtxid = refl
+
+pub witness_byte : (k : ItemKind) → bool_byte (item_kind_eq.it k WitnessTransaction) ≡ witness_bit k
+witness_byte Transaction = refl
+witness_byte WitnessTransaction = refl
+witness_byte WTx = refl
+witness_byte (Other n) = refl
 
 pub row_made : (r : line-request.Request) (c : line-candidate.Candidate) → QuadFits r.hash → {k w p o m d : ℕ} → k ≡ kind_bit r.kind → w ≡ witness_bit c.kind → p ≡ one c.preferred
     → o ≡ one (owner_is c.connection (owner_of r.owner)) → m ≡ one r.mark → d ≡ deadline_for c.connection (owner_of r.owner)

@@ -1,39 +1,12 @@
 // The row of a candidate: its own line and that of its request.
 ghost use Rattle.std.specs.Prelude.{◌≡◌, ◌≤◌, ◌<◌, [], ◌∷◌, ◌++◌};
 ghost use Rattle.machine.specs.State.{owner_is};
-ghost use Rattle.machine.specs.Table.{one};
-ghost use Rattle.store.specs.Flat.{kind_bit, witness_bit, deadline_for, row_of};
+ghost use Rattle.store.specs.Flat.{deadline_for, row_of};
 ghost use Rattle.store.specs.Shown.{limit_in, rows_in, Shown, with_rows, Turns};
 ghost use Rattle.listed_lines.specs.Given.{owner_of, request_in, candidate_in};
 
 use listed_lines::line::{Candidate, Request};
 use listed_lines::parts::Owner;
-
-fn bit(b: bool) -> u64
-    ensures { (result ≡ one b) × (result ≤ 1) }
-{
-    if b { 1 } else { 0 }
-}
-
-fn kind_bit(k: ident::Kind) -> u64
-    ensures { (result ≡ kind_bit k) × (result ≤ 1) }
-{
-    match k {
-        ident::Kind::Txid => 0,
-        ident::Kind::Wtxid => 1,
-    }
-}
-
-fn witness_bit(k: ident::ItemKind) -> u64
-    ensures { (result ≡ witness_bit k) × (result ≤ 1) }
-{
-    match k {
-        ident::ItemKind::Transaction => 0,
-        ident::ItemKind::WitnessTransaction => 1,
-        ident::ItemKind::WTx => 0,
-        ident::ItemKind::Other(_) => 0,
-    }
-}
 
 // Whether the connection n is asked.
 fn is_owner(o: Option<Owner>, n: u64) -> bool
@@ -60,13 +33,11 @@ fn row_of(r: Request, c: Candidate) -> regions::Row
     let n = c.connection;
     let o = r.owner;
     let hash = r.hash;
-    let k = r.kind;
-    let t = c.kind;
-    let kind = kind_bit(k);
-    let witness = witness_bit(t);
-    let preferred = bit(c.preferred);
-    let owns = bit(is_owner(o, n));
-    let mark = bit(r.mark);
+    let kind = u64::from(r.kind == ident::Kind::Wtxid);
+    let witness = u64::from(c.kind == ident::ItemKind::WitnessTransaction);
+    let preferred = u64::from(c.preferred);
+    let owns = u64::from(is_owner(o, n));
+    let mark = u64::from(r.mark);
     let deadline = deadline_for(o, n);
     regions::Row {
         hash,
