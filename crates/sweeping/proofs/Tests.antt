@@ -1,47 +1,71 @@
--- Whether two rows have the same key, and whether a row is the last of its key.
+-- `==` on the keys of two rows, and whether a row is the last of its key.
 use Prim.Native.Nat.{ℕ, ◌≤◌, ◌<◌}
-use mathlib.Core.Path.{◌≡◌, sym, ap, ◌∙◌}
+use mathlib.Core.Path.{◌≡◌, refl, sym, ap, ◌∙◌}
 use mathlib.Core.Logic.{inl, inr}
-use mathlib.Core.Bool.{Bool, true, false, not}
+use mathlib.Core.Bool.{Bool, true, not}
 use mathlib.Core.List.{List}
 use native.Mathlib.Omega.{arith}
-use lib.Dec.{ltb, eqb}
+use lib.Dec.{eqb}
 use lib.ListN.{length, get_or}
-use borrow.Author.Tests.{ltb-true, ltb-false, eq-eqb, ne_eqb}
+use borrow.Author.Tests.{eqb-true, eqb-false, eq-eqb}
 use Rattle.ident.specs.Number.{place}
 use Rattle.regions.specs.declared.Row.{Row}
 use Rattle.regions.specs.declared.Key.{Key as RowKey}
+use Rattle.regions.specs.contracts.KeyPartialEq.TheImpl.{eq-value as key_eq}
 use Rattle.regions.specs.Rows.{key_number, key_of}
-use Rattle.machine.proofs.Tests.{test}
+use Rattle.regions.proofs.Order.{Small}
+use Rattle.words.specs.Words.{number}
+use Rattle.machine.proofs.Tests.{test, and_left, and_right}
 use Rattle.store.specs.Gather.{key_at}
 use Rattle.store.proofs.Keys.{row_number}
 use Rattle.announcing.specs.Evicts.{part}
 use Rattle.sweeping.specs.Batches.{last_row}
 use Rattle.sweeping.proofs.Rounds.{part_more, part_none}
 
-not_less : (x y : ℕ) → ltb x y ≡ false → not (ltb y x) ≡ eqb x y
-not_less x y e = elim (test (ltb y x)) [
-  | inl d ↦ rw (d, ne_eqb x y (λ q. omega (arith, ltb-true y x d)))
-  | inr d ↦ rw (d, eq-eqb x y (omega (arith, ltb-false x y e, ltb-false y x d)))
+-- `==` on the keys of rows is that of their numbers
+one_number : (a b : RowKey) → Small a.hash → Small b.hash → key_eq.it a b ≡ eqb (key_number a) (key_number b)
+unfolding key_number number
+one_number a b p q = elim (test (eqb (key_number a) (key_number b))) [
+  | inl t ↦
+      let e = eqb-true (key_number a) (key_number b) t in
+      rw (
+        t,
+        eq-eqb a.kind b.kind (omega (arith, e, p, q)),
+        eq-eqb a.hash.w3 b.hash.w3 (omega (arith, e, p, q)),
+        eq-eqb a.hash.w2 b.hash.w2 (omega (arith, e, p, q)),
+        eq-eqb a.hash.w1 b.hash.w1 (omega (arith, e, p, q)),
+        eq-eqb a.hash.w0 b.hash.w0 (omega (arith, e, p, q)),
+      ) refl
+  | inr t ↦ elim (test (key_eq.it a b)) [
+    | inl u ↦ absurd (eqb-false (key_number a) (key_number b) t (whole u))
+    | inr u ↦ u ∙ sym t
+  ]
 ]
+  where
+    whole : key_eq.it a b ≡ true → key_number a ≡ key_number b
+    whole u =
+        let k = eqb-true a.kind b.kind (and_left (eqb a.kind b.kind) _ u) in
+        let r₃ = and_right (eqb a.kind b.kind) _ u in
+        let r₂ = and_right (eqb a.hash.w3 b.hash.w3) _ r₃ in
+        let r₁ = and_right (eqb a.hash.w2 b.hash.w2) _ r₂ in
+        let r₀ = and_right (eqb a.hash.w1 b.hash.w1) _ r₁ in
+        rw (
+          k,
+          eqb-true a.hash.w3 b.hash.w3 (and_left _ _ r₃),
+          eqb-true a.hash.w2 b.hash.w2 (and_left _ _ r₂),
+          eqb-true a.hash.w1 b.hash.w1 (and_left _ _ r₁),
+          eqb-true a.hash.w0 b.hash.w0 r₀,
+        ) refl
 
-module _ (a b : Row) {x y : RowKey} (ex : x ≡ key_of a) (ey : y ≡ key_of b) {p : Bool} (less : p ≡ ltb (key_number x) (key_number y)) where
-  lower : p ≡ ltb (place (key_at a)) (place (key_at b))
-  lower = less ∙ rw (ex, ey, row_number a, row_number b)
-
-  pub key-less : p ≡ true → false ≡ eqb (place (key_at a)) (place (key_at b))
-  key-less e = let l = ltb-true (place (key_at a)) (place (key_at b)) (sym lower ∙ e) in sym (ne_eqb (place (key_at a)) (place (key_at b)) (λ q. omega (arith, l)))
-
-  pub key-as : p ≡ false → {q : Bool} → q ≡ ltb (key_number y) (key_number x) → not q ≡ eqb (place (key_at a)) (place (key_at b))
-  key-as e {q} d =
-      let m : q ≡ ltb (place (key_at b)) (place (key_at a)) = d ∙ rw (ex, ey, row_number a, row_number b) in
-      ap not m ∙ not_less (place (key_at a)) (place (key_at b)) (sym lower ∙ e)
+pub same_row_key : (a b : Row) {x y : RowKey} → x ≡ key_of a → y ≡ key_of b → Small a.hash → Small b.hash
+    → key_eq.it x y ≡ eqb (place (key_at a)) (place (key_at b))
+same_row_key a b ex ey p q = rw (ex, ey) (one_number (key_of a) (key_of b) p q ∙ rw (row_number a, row_number b) refl)
 
 module _ (r : Row) (rs : List Row) (j to : ℕ) where
   pub ends_at : j ≡ to → true ≡ last_row r (part j to rs)
   unfolding last_row
   ends_at e = rw (part_none rs j to (omega arith))
 
-  pub ends-before : (q : Row) {b : Bool} → j < to → to ≤ length rs → q ≡ get_or rs j q → b ≡ eqb (place (key_at r)) (place (key_at q)) → not b ≡ last_row r (part j to rs)
+  pub ends-before : (q : Row) {b d : Bool} → j < to → to ≤ length rs → q ≡ get_or rs j q → d ≡ not b → b ≡ eqb (place (key_at r)) (place (key_at q)) → d ≡ last_row r (part j to rs)
   unfolding last_row
-  ends-before q l h e d = ap not d ∙ rw (part_more rs j to q l h, ← e)
+  ends-before q l h e n d = n ∙ ap not d ∙ rw (part_more rs j to q l h, ← e)

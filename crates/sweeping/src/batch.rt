@@ -1,13 +1,11 @@
 // The keys that a sweep hands out: those of the rows after the known cursor, then those from the start on.
 //
 // Rows ascend by key, so the rows of a key stand together: a key is handed out at its last row.
-ghost use Rattle.std.specs.Prelude.{◌≡◌, min, ◌+◌, ◌*◌, ◌≤◌, ◌<◌, eqb, length};
+ghost use Rattle.std.specs.Prelude.{◌≡◌, min, ◌+◌, ◌*◌, ◌≤◌, ◌<◌, length};
 ghost use Rattle.std.proofs.Math.Option.{none};
-ghost use Rattle.ident.specs.Number.{place};
 ghost use Rattle.ident.specs.Words.{maybe_key_num};
 ghost use Rattle.machine.specs.Call.{key_bytes};
 ghost use Rattle.store.specs.Flat.{Flat};
-ghost use Rattle.store.specs.Gather.{key_at};
 ghost use Rattle.store.specs.Image.{Shows};
 ghost use Rattle.store.specs.Shown.{limit_in, rows_in, Shown, Kept};
 ghost use Rattle.announcing.specs.Evicts.{part};
@@ -30,17 +28,6 @@ pub fn nothing() -> Batch
     }
 }
 
-fn same_key(a: regions::Row, b: regions::Row) -> bool
-    ensures { result ≡ eqb (place (key_at a)) (place (key_at b)) }
-{
-    let x = announcing::evict::row_key(a);
-    let y = announcing::evict::row_key(b);
-    if regions::key_less(x, y) {
-        return false;
-    }
-    !regions::key_less(y, x)
-}
-
 // Whether r, the row before the j-th, is the last of its key among those before `to`.
 pub fn ends_key(s: &[u8], r: regions::Row, j: usize, to: usize) -> bool
     requires { Shown s.now × (j ≤ to) × (to ≤ rows_in s.now) }
@@ -50,7 +37,7 @@ pub fn ends_key(s: &[u8], r: regions::Row, j: usize, to: usize) -> bool
         return true;
     }
     let q = store::rows::row_at(s, j);
-    !same_key(r, q)
+    announcing::evict::row_key(r) != announcing::evict::row_key(q)
 }
 
 // Hands out the key of one row.
