@@ -1,18 +1,10 @@
 -- The header that the first line gives.
-use mathlib.Core.Path.{◌≡◌, refl, sym, ap, subst, ◌∙◌}
+use mathlib.Core.Path.{◌≡◌, refl, ap, subst, ◌∙◌}
 use Prim.Native.Nat.{ℕ}
-use mathlib.Core.List.{List, [], ◌∷◌}
-use mathlib.Core.Option.{none, some}
-use lib.ListN.{length}
-use Rattle.ident.specs.declared.Kind.{Kind}
-use Rattle.ident.specs.declared.Key.{Key}
+use mathlib.Core.List.{List}
 use Rattle.ident.specs.Words.{maybe_key_num}
-use Rattle.words.specs.Words.{words}
-use Rattle.regions.specs.declared.Quad.{Quad}
 use Rattle.regions.specs.Regions.{each}
-use Rattle.regions.specs.Rows.{quad_number}
 use Rattle.std.specs.Prelude as answer
-use Rattle.lines.specs.declared.read.Named.{Named}
 use Rattle.lines.specs.Values.{number_in, key_in}
 use Rattle.machine.specs.Step.{empty}
 use Rattle.store.specs.Flat.{tally}

@@ -12,18 +12,15 @@ use listed_lines::parts::Owner;
 fn is_owner(o: Option<Owner>, n: u64) -> bool
     ensures { result ≡ owner_is n (owner_of o) }
 {
-    match o {
-        None => false,
-        Some(o) => o.connection == n,
-    }
+    matches!(o, Some(o) if o.connection == n)
 }
 
 fn deadline_for(o: Option<Owner>, n: u64) -> u64
     ensures { result ≡ deadline_for n (owner_of o) }
 {
     match o {
-        None => 0,
-        Some(o) => { if o.connection == n { o.deadline } else { 0 } }
+        Some(o) if o.connection == n => o.deadline,
+        _ => 0,
     }
 }
 

@@ -1,17 +1,18 @@
 // The place of a request: flag or package, and its lists, from the request's line.
-ghost use Rattle.std.specs.Prelude.{◌≡◌, ℕ, ◌≤◌, ◌<◌, List, ◌++◌, length};
+ghost use Rattle.std.specs.Prelude.{◌≡◌, ℕ, ◌≤◌, ◌<◌, List, ◌++◌, length, Some};
 ghost use Rattle.lent_lists.specs.Lists.{hashes_in};
 ghost use Rattle.regions.specs.Rows.{quad_number};
 ghost use Rattle.places.specs.Places.{list_most};
 ghost use Rattle.store.specs.Flat.{places_for};
 ghost use Rattle.store.specs.Shown.{places_in, held_places_in, Shown, with_places, Turns};
+ghost use Rattle.package_stages.specs.Changes.{stage_word};
 ghost use Rattle.listed_lines.specs.Given.{list_room, hashes_of, package_of, request_in};
 ghost use Rattle.restoring.specs.Given.{NoParents, ParentsIn, Appends, stage_for, combined_for, wtxids_for, PlaceRoom};
 
 use ident::HASH_BYTES;
 use listed_lines::line::Request;
 use listed_lines::parts::Package;
-use package_stages::flat;
+use package_stages::{Stage, flat};
 use places::{AWAITING, ENQUEUED, FLAG};
 
 // Makes the hashes of a list of 32 bytes each the parents of the i-th place, which has none.
@@ -27,12 +28,22 @@ fn push_parents(s: &mut [u8], i: usize, list: &[u8])
     }
 }
 
+fn stage_word(stage: Stage) -> u64
+    ensures { result ≡ stage_word (Some stage) }
+{
+    match stage {
+        Stage::Flagged => FLAG,
+        Stage::Awaiting => AWAITING,
+        Stage::Enqueued => ENQUEUED,
+    }
+}
+
 // One place more, behind the others; its lists have 32 bytes for each hash.
 fn append_place(
     s: &mut [u8],
     hash: regions::Quad,
     combined: regions::Quad,
-    stage: u64,
+    stage: Stage,
     wtxids: &[u8],
     parents: &[u8],
 )
@@ -40,13 +51,13 @@ fn append_place(
     ensures { Appends s.old s.new (record {
       hash = quad_number hash;
       combined = quad_number combined;
-      stage = stage;
+      stage = stage_word (Some stage);
       wtxids = hashes_in wtxids.now;
       parents = hashes_in parents.now;
     }) }
 {
     let i = store::head::held_places(s);
-    store::package_places::open_place(s, i, hash, stage);
+    store::package_places::open_place(s, i, hash, stage_word(stage));
     flat::push_wtxids(s, i, wtxids);
     flat::set_combined(s, i, combined);
     push_parents(s, i, parents);
@@ -54,12 +65,13 @@ fn append_place(
 
 // ---- what a line says of its place
 
-fn stage_of(p: Option<Package>) -> u64
-    ensures { (ws : List ℕ) → result ≡ stage_for (package_of ws p) }
+fn stage_of(p: Option<Package>) -> Stage
+    ensures { (ws : List ℕ) → stage_word (Some result) ≡ stage_for (package_of ws p) }
 {
     match p {
-        None => FLAG,
-        Some(p) => { if p.enqueued { ENQUEUED } else { AWAITING } }
+        None => Stage::Flagged,
+        Some(p) if p.enqueued => Stage::Enqueued,
+        Some(_) => Stage::Awaiting,
     }
 }
 
