@@ -15,8 +15,6 @@ use Rattle.ident.specs.declared.Kind.TheVariants.{Wtxid}
 use Rattle.ident.specs.declared.Key.{Key as IdentKey}
 use Rattle.ident.specs.Number.{Key, top, wtxid}
 use Rattle.ident.specs.Words.{hash_num, key_num}
-use Rattle.regions.specs.declared.Key.{Key as RowKey}
-use Rattle.regions.specs.Rows.{quad_number}
 use Rattle.machine.specs.State.{Owner, Request, State, with_candidates}
 use Rattle.machine.specs.Table.{at}
 use Rattle.machine.specs.Sound.{Sound}
@@ -25,9 +23,7 @@ use Rattle.machine.specs.Listing.{short, none_text, maybe_fields, key_field, has
 use Rattle.machine.proofs.Table.{at_key, lawful_at}
 use Rattle.machine.proofs.Tests.{never}
 use Rattle.store.specs.Image.{Writes}
-use Rattle.store.specs.Gather.{kind_is}
-use Rattle.regions.proofs.Order.{number_quad}
-use Rattle.requests.specs.Changes.{KeyWords, Tells}
+use Rattle.requests.specs.Changes.{Tells}
 use Rattle.package_stages.specs.declared.Request.{Request as RequestRead}
 use Rattle.package_stages.specs.contracts.StagePartialEq.TheImpl.{eq-value}
 use Rattle.package_stages.specs.declared.Stage.{Stage}
@@ -38,7 +34,7 @@ use Rattle.ident.specs.declared.Hash.{Hash}
 use Rattle.ident.specs.Words.{hash_num}
 use Rattle.saving.specs.Laid.{LaysHashes, Lays, behind, place_texts, line_text}
 use Rattle.saving.proofs.Laying.{lays_as, lays_more, lays_none}
-use Rattle.saving.proofs.Texts.{behind_both, behind-cons, behind_one, bit-kind}
+use Rattle.saving.proofs.Texts.{behind_both, behind-cons, behind_one}
 use Rattle.saving.proofs.Lines.{request-line, flag_is, bare-place, staged_kind, no-package, the-package}
 
 -- ---- hashes one behind the other
@@ -174,9 +170,9 @@ module _ {b : List ℕ} (k : Key) (stage : ℕ) (is : Tells b (λ t. stage ≡ s
 
 -- ---- the line
 
-module _ {b : List ℕ} {k : IdentKey} {q : RequestRead} (x : RequestAt b (key_num k) q) {w : RowKey} (kw : KeyWords k w) {u u₁ u₂ u₃ u₄ u₅ u₆ : List ℕ} {a e₁ e₂ e₃ e₄ e₅ r : ℕ}
+module _ {b : List ℕ} (k : IdentKey) {q : RequestRead} (x : RequestAt b (key_num k) q) (small : hash_num k.hash < top) {u u₁ u₂ u₃ u₄ u₅ u₆ : List ℕ} {a e₁ e₂ e₃ e₄ e₅ r : ℕ}
     {flag : Bool} (flag-is : flag ≡ option_eq eq-value.it q.stage (Some Flagged))
-    (p₁ : Lays u u₁ a (key_field short (record { kind = kind_is w.kind; hash = quad_number w.hash })) e₁) (p₂ : Lays u₁ u₂ e₁ (behind (maybe_fields owner_fields (owner_as q.owner))) e₂)
+    (p₁ : Lays u u₁ a (key_field short (key_num k)) e₁) (p₂ : Lays u₁ u₂ e₁ (behind (maybe_fields owner_fields (owner_as q.owner))) e₂)
     (p₃ : Lays u₂ u₃ e₂ (44 ∷ bool_text flag) e₃) (p₄ : Tells b (λ t. Lays u₃ u₄ e₃ (behind (place_texts (at (key_num k) t))) e₄))
     (p₅ : Lays u₄ u₅ e₄ (44 ∷ bool_text q.mark) e₅) (p₆ : Lays u₅ u₆ e₅ (10 ∷ []) r) where
   pub request-laid : Tells b (λ t. Lays u u₆ a (line_text (RequestLine (with_candidates [] (at (key_num k) t)))) r)
@@ -184,10 +180,8 @@ module _ {b : List ℕ} {k : IdentKey} {q : RequestRead} (x : RequestAt b (key_n
       let y = at (key_num k) st.table in
       let l = lawful_at (key_num k) st.table s.bounded.lawful in
       let f = x.is st s v in
-      let kind : kind_is w.kind ≡ k.kind = ap kind_is kw.kind ∙ bit-kind k.kind in
-      let hash : quad_number w.hash ≡ hash_num k.hash = ap quad_number kw.hash ∙ number_quad (hash_num k.hash) in
-      let key : key_num k ≡ y.key = sym (at_key (key_num k) 0 st.table kw.small s.bounded.ordered) in
-      let c₁ = lays_as ((λ i. key_field short (record { kind = kind i; hash = hash i })) ∙ ap (key_field short) key) p₁ in
+      let key : key_num k ≡ y.key = sym (at_key (key_num k) 0 st.table small s.bounded.ordered) in
+      let c₁ = lays_as (ap (key_field short) key) p₁ in
       let c₂ = lays_as (ap (λ (o : Option Owner). behind (maybe_fields owner_fields o)) f.owner) p₂ in
       let c₃ = lays_as (ap (λ (z : Bool). 44 ∷ bool_text z) (flag-is ∙ stage-is f Flagged ∙ flag_is y l)) p₃ in
       let c₅ = lays_as (ap (λ (z : Bool). 44 ∷ bool_text z) f.mark) p₅ in

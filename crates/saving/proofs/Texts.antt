@@ -6,29 +6,24 @@ use mathlib.Core.List.{List, [], ◌∷◌, ◌++◌, append_assoc, append-nil}
 use mathlib.Core.Option.{Option, none, some}
 use native.Mathlib.Omega.{arith}
 use lib.ListN.{length}
-use Rattle.ident.specs.declared.Kind.{Kind}
-use Rattle.ident.specs.declared.Kind.TheVariants.{Txid, Wtxid}
 use Rattle.ident.specs.declared.Hash.{Hash}
 use Rattle.ident.specs.declared.ItemKind.{ItemKind}
-use Rattle.ident.specs.Words.{hash_num}
+use Rattle.ident.specs.Words.{hash_num, key_num}
 use Rattle.regions.specs.declared.Quad.{Quad}
 use Rattle.regions.specs.Rows.{quad_number}
 use Rattle.regions.proofs.Order.{number_quad}
 use Rattle.machine.specs.Text.{joined, decimal, hexadecimal, bool_text, kind_letter, item_kind_text}
 use Rattle.machine.specs.Listing.{short, none_text, maybe_field, maybe_fields, key_field, item_field, owner_fields}
 use Rattle.machine.specs.State.{Owner}
-use Rattle.store.specs.Flat.{kind_bit}
 use Rattle.store.specs.Gather.{kind_is, item_kind_as}
 use Rattle.requests.specs.Changes.{Words}
 use Rattle.std.specs.Prelude as rust
 use Rattle.std.specs.Prelude.{Some, None}
 use Rattle.ident.specs.declared.Key.{Key as KeyRead}
 use Rattle.ident.specs.Words.{maybe_key_num}
-use Rattle.regions.specs.declared.Key.{Key as RowKey}
-use Rattle.requests.specs.Changes.{KeyWords}
 use Rattle.cursors.specs.Numbers.{time_num}
 use Rattle.saving.specs.Laid.{Lays, behind}
-use Rattle.saving.proofs.Laying.{lays_as, lays_more}
+use Rattle.saving.proofs.Laying.{lays_more}
 
 -- ---- texts behind others
 
@@ -52,19 +47,8 @@ behind_one t = ap (λ (l : List ℕ). 44 ∷ l) (append-nil t)
 
 -- ---- letters
 
-pub bit-kind : (k : Kind) → kind_is (kind_bit k) ≡ k
-bit-kind Txid = refl
-bit-kind Wtxid = refl
-
 -- a number that is not 0 has one before it
 module _ {s s' : List ℕ} {a r : ℕ} where
-  pub kind-txid : {n : ℕ} → n ≡ 0 → Lays s s' a (116 ∷ []) r → Lays s s' a (kind_letter (kind_is n) ∷ []) r
-  kind-txid e p = rw e p
-
-  pub kind-wtxid : (n : ℕ) → (n ≡ 0 → ⊥) → Lays s s' a (119 ∷ []) r → Lays s s' a (kind_letter (kind_is n) ∷ []) r
-  kind-wtxid zero e p = absurd (e refl)
-  kind-wtxid (suc n) e p = p
-
   pub letter-w : (n v : ℕ) → (n ≡ 0 → ⊥) → Lays s s' a (119 ∷ []) r → Lays s s' a (item_kind_text (item_kind_as (kind_is n) v)) r
   letter-w zero v e p = absurd (e refl)
   letter-w (suc n) v e p = p
@@ -107,17 +91,15 @@ module _ {s s' : List ℕ} {a r : ℕ} where
   pub no-cursor : {c : rust.Option KeyRead} → c ≡ None → Lays s s' a (44 ∷ none_text) r → Lays s s' a (44 ∷ maybe_field (key_field short) (maybe_key_num c)) r
   no-cursor e p = rw e p
 
-pub cursor-laid : {s s₁ s₂ : List ℕ} {a e r : ℕ} {c : rust.Option KeyRead} (k : KeyRead) {w : RowKey} → c ≡ Some k → KeyWords k w → Lays s s₁ a (44 ∷ []) e
-    → Lays s₁ s₂ e (key_field short (record { kind = kind_is w.kind; hash = quad_number w.hash })) r → Lays s s₂ a (44 ∷ maybe_field (key_field short) (maybe_key_num c)) r
-cursor-laid {c = c} k {w} e x p q =
-    let kind : kind_is w.kind ≡ k.kind = ap kind_is x.kind ∙ bit-kind k.kind in
-    let hash : quad_number w.hash ≡ hash_num k.hash = ap quad_number x.hash ∙ number_quad (hash_num k.hash) in
-    lays_as ((λ i. 44 ∷ key_field short (record { kind = kind i; hash = hash i })) ∙ ap (λ (o : rust.Option KeyRead). 44 ∷ maybe_field (key_field short) (maybe_key_num o)) (sym e)) (lays_more p q)
-
 module _ {s s₁ s₂ : List ℕ} {a e r : ℕ} where
-  pub key-laid : (k : Kind) (h : ℕ) → Lays s s₁ a (kind_letter k ∷ []) e → Lays s₁ s₂ e (hexadecimal h) r → Lays s s₂ a (key_field short (record { kind = k; hash = h })) r
+  pub key-laid : (k : KeyRead) {q : Quad} → Words k.hash q → Lays s s₁ a (kind_letter k.kind ∷ []) e → Lays s₁ s₂ e (hexadecimal (quad_number q)) r
+      → Lays s s₂ a (key_field short (key_num k)) r
   unfolding key_field
-  key-laid k h p q = lays_more p q
+  key-laid k v p q = lays_more p (rw (hash_is v) at q)
+
+  pub cursor-laid : {c : rust.Option KeyRead} {k : KeyRead} → c ≡ Some k → Lays s s₁ a (44 ∷ []) e → Lays s₁ s₂ e (key_field short (key_num k)) r
+      → Lays s s₂ a (44 ∷ maybe_field (key_field short) (maybe_key_num c)) r
+  cursor-laid f p q = rw f (lays_more p q)
 
   pub next_hash-laid : {h : Hash} {q : Quad} → Words h q → Lays s s₁ a (44 ∷ []) e → Lays s₁ s₂ e (hexadecimal (quad_number q)) r → Lays s s₂ a (44 ∷ hexadecimal (hash_num h)) r
   next_hash-laid v p q = lays_more p (rw (hash_is v) at q)

@@ -3,7 +3,7 @@
 // Each function answers the index behind its text. The text stands from `at` on if it ends inside `out`; else `out` may have anything there.
 // So the same walk measures a listing, over an `out` of no use, and writes it.
 ghost use Rattle.std.specs.Prelude.{◌≡◌, ◌+◌, ◌≤◌, [], ◌∷◌, length};
-ghost use Rattle.ident.specs.Words.{hash_num};
+ghost use Rattle.ident.specs.Words.{hash_num, key_num};
 ghost use Rattle.regions.specs.Rows.{quad_number};
 ghost use Rattle.store.specs.Gather.{kind_is, item_kind_as};
 ghost use Rattle.machine.specs.Text.{decimal_digits, decimal, hash_digits, hexadecimal, bool_text, kind_letter, item_kind_text};
@@ -42,24 +42,23 @@ pub fn put_hash(out: &mut [u8], at: usize, q: regions::Quad) -> usize
     put_text(out, at, &t[..e])
 }
 
-// A key: its kind is 0 for Txid.
-pub fn put_key(out: &mut [u8], at: usize, k: regions::Key) -> usize
+pub fn put_key(out: &mut [u8], at: usize, k: ident::Key) -> usize
     requires { at + key_room ≤ farthest }
-    ensures { (result ≤ at + key_room) × Lays out.old out.new at (key_field short (record { kind = kind_is k.kind; hash = quad_number k.hash })) result }
+    ensures { (result ≤ at + key_room) × Lays out.old out.new at (key_field short (key_num k)) result }
 {
-    let hash = k.hash;
     let e = put_kind(out, at, k.kind);
-    put_hash(out, e, hash)
+    let q = requests::hash_quad(k.hash);
+    put_hash(out, e, q)
 }
 
-fn put_kind(out: &mut [u8], at: usize, kind: u64) -> usize
+fn put_kind(out: &mut [u8], at: usize, kind: ident::Kind) -> usize
     requires { at + 1 ≤ farthest }
-    ensures { Lays out.old out.new at (kind_letter (kind_is kind) ∷ []) result }
+    ensures { Lays out.old out.new at (kind_letter kind ∷ []) result }
 {
-    if kind == 0 {
-        return put_text(out, at, b"t");
+    match kind {
+        ident::Kind::Txid => put_text(out, at, b"t"),
+        ident::Kind::Wtxid => put_text(out, at, b"w"),
     }
-    put_text(out, at, b"w")
 }
 
 // The letter of an item by its row's bits: 1 the key is a Wtxid, 2 the item is v.

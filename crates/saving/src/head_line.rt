@@ -30,7 +30,7 @@ fn next_cursor(out: &mut [u8], at: usize, c: Option<ident::Key>) -> usize
         return put_text(out, at, b",none");
     };
     let from = put_text(out, at, b",");
-    put_key(out, from, requests::key_words(k))
+    put_key(out, from, k)
 }
 
 pub fn put_head(s: &[u8], out: &mut [u8]) -> usize

@@ -102,8 +102,7 @@ pub fn put_request(
     requires { Kept s.now × RequestAt s.now (key_num k) q × (at + request_room ≤ farthest) }
     ensures { (result ≤ at + request_room) × Tells s.now (λ t. Lays out.old out.new at (line_text (RequestLine (with_candidates [] (the (key_num k) t)))) result) }
 {
-    let w = requests::key_words(k);
-    let e = put_key(out, at, w);
+    let e = put_key(out, at, k);
     let e = next_owner(out, e, q.owner);
     let e = next_bool(out, e, q.stage == Some(Stage::Flagged));
     let e = next_place(s, out, e, k, q);

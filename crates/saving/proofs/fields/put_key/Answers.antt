@@ -9,6 +9,6 @@ put_hash-requires c = omega (arith, c.put_kind-e.ensures.next)
 pub returns : goal.returns
 returns c = (
   omega (arith, c.put_kind-e.ensures.next, c.put_hash.ensures.0),
-  key-laid _ _
+  key-laid _ c.hash_quad-q.ensures
       c.put_kind-e.ensures c.put_hash.ensures.1,
 )

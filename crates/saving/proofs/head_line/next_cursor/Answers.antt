@@ -12,5 +12,5 @@ put_key-requires c = omega (arith, c.put_text-from.ensures.next)
 pub returns : goal.returns
 returns c = (
   omega (arith, c.put_text-from.ensures.next, c.put_key.ensures.0),
-  cursor-laid c.in-Some.k c.in-Some.is c.key_words.ensures c.put_text-from.ensures c.put_key.ensures.1,
+  cursor-laid c.in-Some.is c.put_text-from.ensures c.put_key.ensures.1,
 )

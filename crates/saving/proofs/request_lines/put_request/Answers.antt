@@ -1,5 +1,6 @@
 -- `saving::request_lines::put_request` meets its contract.
 use native.Mathlib.Omega.{arith}
+use Rattle.ident.proofs.Words.{key-four, hash_below}
 use Rattle.saving.proofs.Places.{request-laid}
 use Rattle.saving.proofs.request_lines.put_request.Goals as goal
 
@@ -62,9 +63,9 @@ returns c = (
     c.next_bool-e-2.ensures.0,
     c.put_text.ensures.next,
   ),
-  request-laid
+  request-laid c.args.k
       c.requires.1
-      c.key_words-w.ensures
+      (hash_below _ (key-four _ c.well_formed.1.1.1.0))
       c.eq.ensures
       c.put_key-e.ensures.1
       c.next_owner-e.ensures.1 c.next_bool-e.ensures.1
