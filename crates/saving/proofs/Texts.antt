@@ -1,5 +1,5 @@
 -- Fields: what each branch of a writer lays is the field's text.
-use Prim.Native.Nat.{ℕ, zero, suc, ◌+◌, ◌≤◌}
+use Prim.Native.Nat.{ℕ, ◌+◌, ◌≤◌}
 use mathlib.Core.Path.{◌≡◌, refl, sym, ap, ◌∙◌}
 use mathlib.Core.Bool.{Bool, true, false}
 use mathlib.Core.List.{List, [], ◌∷◌, ◌++◌, append_assoc, append-nil}
@@ -15,7 +15,6 @@ use Rattle.regions.proofs.Order.{number_quad}
 use Rattle.machine.specs.Text.{joined, decimal, hexadecimal, bool_text, kind_letter, item_kind_text}
 use Rattle.machine.specs.Listing.{short, none_text, maybe_field, maybe_fields, key_field, item_field, owner_fields}
 use Rattle.machine.specs.State.{Owner}
-use Rattle.store.specs.Gather.{kind_is, item_kind_as}
 use Rattle.requests.specs.Changes.{Words}
 use Rattle.std.specs.Prelude as rust
 use Rattle.std.specs.Prelude.{Some, None}
@@ -45,23 +44,9 @@ pub behind_one : (t : List ℕ) → behind (t ∷ []) ≡ 44 ∷ t
 unfolding behind
 behind_one t = ap (λ (l : List ℕ). 44 ∷ l) (append-nil t)
 
--- ---- letters
+-- ---- bools
 
--- a number that is not 0 has one before it
 module _ {s s' : List ℕ} {a r : ℕ} where
-  pub letter-w : (n v : ℕ) → (n ≡ 0 → ⊥) → Lays s s' a (119 ∷ []) r → Lays s s' a (item_kind_text (item_kind_as (kind_is n) v)) r
-  letter-w zero v e p = absurd (e refl)
-  letter-w (suc n) v e p = p
-
-  pub letter-t : {n v : ℕ} → n ≡ 0 → v ≡ 0 → Lays s s' a (116 ∷ []) r → Lays s s' a (item_kind_text (item_kind_as (kind_is n) v)) r
-  letter-t e f p = rw (e, f) p
-
-  pub letter-v : {n : ℕ} (v : ℕ) → n ≡ 0 → (v ≡ 0 → ⊥) → Lays s s' a (118 ∷ []) r → Lays s s' a (item_kind_text (item_kind_as (kind_is n) v)) r
-  letter-v zero e f p = absurd (f refl)
-  letter-v (suc v) e f p = rw e p
-
-  -- ---- bools
-
   pub bool-laid : {b c : Bool} → b ≡ c → Lays s s' a (44 ∷ bool_text c) r → (r ≤ a + 2) × Lays s s' a (44 ∷ bool_text b) r
   bool-laid {b} {c} e p = (omega (arith, p.next, two c), rw e p)
     where

@@ -18,7 +18,7 @@ fn next_item(out: &mut [u8], at: usize, bits: u64, hash: regions::Quad) -> usize
         (44 ∷ item_field short (record { kind = item_kind_as (kind_is (bits % 2)) (bits / 2 % 2); hash = quad_number hash })) result }
 {
     let from = put_text(out, at, b",");
-    let e = put_letter(out, from, bits % 2, bits / 2 % 2);
+    let e = put_letter(out, from, bits % 2 == 1, bits / 2 % 2 == 1);
     put_hash(out, e, hash)
 }
 

@@ -5,6 +5,7 @@
 ghost use Rattle.std.specs.Prelude.{◌≡◌, ◌+◌, ◌≤◌, [], ◌∷◌, length};
 ghost use Rattle.ident.specs.Words.{hash_num, key_num};
 ghost use Rattle.regions.specs.Rows.{quad_number};
+ghost use Rattle.machine.specs.Table.{one};
 ghost use Rattle.store.specs.Gather.{kind_is, item_kind_as};
 ghost use Rattle.machine.specs.Text.{decimal_digits, decimal, hash_digits, hexadecimal, bool_text, kind_letter, item_kind_text};
 ghost use Rattle.machine.specs.Listing.{short, maybe_fields, key_field, owner_fields};
@@ -61,18 +62,16 @@ fn put_kind(out: &mut [u8], at: usize, kind: ident::Kind) -> usize
     }
 }
 
-// The letter of an item by its row's bits: 1 the key is a Wtxid, 2 the item is v.
-pub fn put_letter(out: &mut [u8], at: usize, kind: u64, witness: u64) -> usize
+// The letter of an item, by whether its key is a Wtxid and whether it is v.
+pub fn put_letter(out: &mut [u8], at: usize, wtxid: bool, witness: bool) -> usize
     requires { at + 1 ≤ farthest }
-    ensures { (result ≡ at + 1) × Lays out.old out.new at (item_kind_text (item_kind_as (kind_is kind) witness)) result }
+    ensures { (result ≡ at + 1) × Lays out.old out.new at (item_kind_text (item_kind_as (kind_is (one wtxid)) (one witness))) result }
 {
-    if kind != 0 {
-        return put_text(out, at, b"w");
+    match (wtxid, witness) {
+        (true, _) => put_text(out, at, b"w"),
+        (false, true) => put_text(out, at, b"v"),
+        (false, false) => put_text(out, at, b"t"),
     }
-    if witness == 0 {
-        return put_text(out, at, b"t");
-    }
-    put_text(out, at, b"v")
 }
 
 // ---- behind a comma

@@ -1,5 +1,7 @@
 -- `saving::candidate_lines::next_item` meets its contract.
+use Prim.Native.Nat.{◌/◌}
 use native.Mathlib.Omega.{arith}
+use Rattle.requests.proofs.Pushing.{one_bit}
 use Rattle.saving.proofs.Texts.{item-laid}
 use Rattle.saving.proofs.candidate_lines.next_item.Goals as goal
 
@@ -18,6 +20,6 @@ returns c = (
     c.put_hash.ensures.0,
   ),
   item-laid _ _
-      c.put_text-from.ensures c.put_letter-e.ensures.1
+      c.put_text-from.ensures (rw (one_bit c.args.bits, one_bit (c.args.bits / 2)) at c.put_letter-e.ensures.1)
       c.put_hash.ensures.1,
 )
