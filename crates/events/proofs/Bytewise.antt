@@ -1,29 +1,26 @@
 -- Standard input a byte at a time: what the program keeps is what was read.
 use Prim.Native.Nat.{ℕ, suc, ◌+◌, ◌<◌, ◌≤◌}
 use mathlib.Core.Path.{◌≡◌, refl, sym, ap, subst, ◌∙◌}
-use mathlib.Core.Bool.{Bool, true, false}
 use mathlib.Core.List.{List, [], ◌∷◌, ◌++◌, append_assoc, append-nil}
 use mathlib.Core.Option.{Option, none, some}
 use native.Mathlib.Omega.{arith}
-use lib.Dec.{ltb}
 use lib.ListN.{length, take, drop, set, get_or, length-append}
-use lib.Seq.{take_all, take_at, take-append-le, take-suc, take-suc-set}
-use borrow.Author.Tests.{ltb-false, lt-ltb, le-ltb, eq-eqb, ne_eqb}
-use Rattle.std.specs.Prelude.{if◌then◌else◌}
+use lib.Seq.{take_all, take_at, take-suc, take-suc-set}
+use borrow.Author.Tests.{lt-ltb, le-ltb, eq-eqb, ne_eqb}
 use Rattle.words.specs.Words.{splice}
 use Rattle.lines.specs.Text.{Wrote}
 use Rattle.events.specs.declared.input.Kept.{Kept}
+use Rattle.events.specs.declared.input.Kept.TheVariants.{Whole, TooLong}
 use Rattle.reading.specs.Line.{Line}
 use Rattle.asking.specs.Calls.{line_of}
 use Rattle.printing.specs.Replies.{refusal_text, unreadable}
-use Rattle.printing.specs.Given.{line_room, Printed}
+use Rattle.printing.specs.Given.{line_room}
 use Rattle.printing.specs.Kept.{KeptLists, no_lists, Meant, Calls, Parts, meant}
-use Rattle.keeping.specs.Lists.{kept_lists, Ordered}
+use Rattle.keeping.specs.Lists.{kept_lists}
 use Rattle.printing.specs.Answers as answers
 use Rattle.printing.specs.Answers.{AnsweredAs}
 use Rattle.keeping.specs.Steps.{Stepped}
-use Rattle.keeping.proofs.Stepping.{step_unread}
-use Rattle.events.specs.Input.{asks_for, MeantAs, Replied, line_feed, LineAnswered, Reading, started, Reads, ReadsAll}
+use Rattle.events.specs.Input.{asked_in, HeldLine, asks_for, MeantAs, Replied, line_feed, LineAnswered, Reading, started, ReadsAll}
 use Rattle.events.specs.Input.{nothing, further, EndsAs, Held, Said, Took, TookAll, TookSome, Ended, Ran}
 
 -- ---- one answer
@@ -71,107 +68,87 @@ fed {o} {l} {l'} {b} {b'} {out} {out'} {r} {e} a h q =
 
 -- ---- the line that is answered
 
--- a line that is not too long stands whole in the buffer
-kept_line : {k : Kept} {buffer store lists : List ℕ} {p : Reading} → Held k buffer store lists p → length p.line ≤ line_room → take k.len buffer ≡ p.line
-kept_line {k} {buffer} {store} {lists} {p} g h = g.front ∙ take_all k.len p.line (omega (arith, g.len))
-
-asked_as : (t : Bool) (l m : List ℕ) → (t ≡ false → m ≡ l) → ◌≡◌ {A = Option Line} (if t then none else line_of m) (if t then none else line_of l)
-asked_as true l m f = refl
-asked_as false l m f = ap line_of (f refl)
-
-asked-line : {k : Kept} {buffer store lists : List ℕ} {p : Reading} → Held k buffer store lists p → (if k.long then none else line_of (take k.len buffer)) ≡ asks_for p.line
-asked-line {k} {buffer} {store} {lists} {p} g =
-    ap (λ (t : Bool). if t then none else line_of (take k.len buffer)) g.long
-    ∙ asked_as (ltb line_room (length p.line)) p.line (take k.len buffer) (λ e. kept_line g (ltb-false line_room (length p.line) e))
+asked-line : (k : Kept) (buffer line : List ℕ) → HeldLine k buffer line → asked_in k buffer ≡ asks_for line
+asked-line (Whole n) buffer line h = rw (le-ltb line_room (length line) h.1) (ap line_of h.2)
+asked-line TooLong buffer line h = rw (lt-ltb line_room (length line) h) refl
 
 module _ {k : Kept} {buffer store lists : List ℕ} {p : Reading} (g : Held k buffer store lists p) where
-  answered-line : {lists' store' out : List ℕ} {r : ℕ} (a : Said (if k.long then none else line_of (take k.len buffer)) lists lists' store store' out r)
+  answered-line : {lists' store' out : List ℕ} {r : ℕ} (a : Said (asked_in k buffer) lists lists' store store' out r)
       → LineAnswered p.line p.kept (kept_lists lists') p.store store' (a.text ++ (line_feed ∷ []))
   answered-line {lists'} {store'} a =
-      let w = subst (λ (o : Option Line). Replied o (kept_lists lists) (kept_lists lists') store store' a.text) (asked-line g) a.replied in
+      let w = subst (λ (o : Option Line). Replied o (kept_lists lists) (kept_lists lists') store store' a.text) (asked-line k buffer p.line g.line_is) a.replied in
       let x = subst (λ (b : List ℕ). Replied (asks_for p.line) (kept_lists lists) (kept_lists lists') b store' a.text) g.store_is w in
       record { text = a.text; replied = subst (λ (z : KeptLists). Replied (asks_for p.line) z (kept_lists lists') p.store store' a.text) g.lists-are x; said_is = refl }
 
   -- ---- a byte
 
-  pub took_feed : {x : ℕ} {k' : Kept} {lists' store' out : List ℕ} {r : ℕ} → x ≡ line_feed → k'.len ≡ 0 → k'.long ≡ false
-      → Said (if k.long then none else line_of (take k.len buffer)) lists lists' store store' out r
-      → Took p x k' buffer store' lists' out
-  took_feed {x} {k'} {lists'} {store'} {out} {r} e n f a =
+  pub took_feed : {x : ℕ} {lists' store' out : List ℕ} {r : ℕ} → x ≡ line_feed → Said (asked_in k buffer) lists lists' store store' out r → Took p x (Whole 0) buffer store' lists' out
+  took_feed {x} {lists'} {store'} {out} {r} e a =
       record {
         next = record { line = []; store = store'; kept = kept_lists lists' };
         said = a.text ++ (line_feed ∷ []);
         reads = record { is = rw (eq-eqb x line_feed e) (refl, answered-line a) };
-        held = record { len = n; front = rw n; long = f; store_is = refl; lists-are = refl };
+        held = record { line_is = (refl, omega arith, refl); store_is = refl; lists-are = refl };
         shown = rw (← a.count) a.shown;
       }
 
-  module _ {x : ℕ} (other : x ≡ line_feed → ⊥) where
-    abbrev longer : Reading
-    longer = record { line = p.line ++ (x ∷ []); store = p.store; kept = p.kept }
+  -- any other byte, the buffer holding k' of the longer line
+  took_other : {x : ℕ} {k' : Kept} {buffer' out : List ℕ} → (x ≡ line_feed → ⊥) → HeldLine k' buffer' (p.line ++ (x ∷ [])) → Took p x k' buffer' store lists out
+  took_other {x} other h = record {
+    next = record { line = p.line ++ (x ∷ []); store = p.store; kept = p.kept };
+    said = [];
+    reads = record { is = rw (ne_eqb x line_feed other) (refl, refl, refl, refl) };
+    held = record { line_is = h; store_is = g.store_is; lists-are = g.lists-are };
+    shown = refl;
+  }
 
-    reads_other : Reads p x longer []
-    reads_other = record { is = rw (ne_eqb x line_feed other) (refl, refl, refl, refl) }
+one_longer : (l : List ℕ) (x : ℕ) → length (l ++ (x ∷ [])) ≡ suc (length l)
+one_longer l x = length-append l (x ∷ []) ∙ omega arith
 
-    one_more_lem : length (p.line ++ (x ∷ [])) ≡ suc (length p.line)
-    one_more_lem = length-append p.line (x ∷ []) ∙ omega arith
+-- the line is too long already
+pub took_longer : (k : Kept) {x : ℕ} {buffer store lists out : List ℕ} {p : Reading} → ((n : ℕ) → k ≡ Whole n → ⊥) → Held k buffer store lists p → (x ≡ line_feed → ⊥)
+    → Took p x k buffer store lists out
+took_longer (Whole n) short g other = absurd (short n refl)
+took_longer TooLong {x} {p = p} short g other = took_other g other (omega (arith, g.line_is, one_longer p.line x))
 
-    -- the buffer is full
-    pub took_over : {k' : Kept} {out : List ℕ} → k.len ≡ line_room → k'.len ≡ k.len → k'.long ≡ true → Took p x k' buffer store lists out
-    took_over {k'} {out} e n f =
-        let l : line_room ≤ length p.line = omega (arith, g.len) in
-        record {
-          next = longer;
-          said = [];
-          reads = reads_other;
-          held = record {
-            len = omega (arith, one_more_lem);
-            front = rw n (g.front ∙ sym (take-append-le k.len p.line (x ∷ []) (omega arith)));
-            long = f ∙ sym (lt-ltb line_room (length (p.line ++ (x ∷ []))) (omega (arith, one_more_lem)));
-            store_is = g.store_is;
-            lists-are = g.lists-are;
-          };
-          shown = refl;
-        }
+module _ {n x : ℕ} {buffer store lists : List ℕ} {p : Reading} (g : Held (Whole n) buffer store lists p) (other : x ≡ line_feed → ⊥) where
+  -- the buffer is full
+  pub took_over : {out : List ℕ} → n ≡ line_room → Took p x TooLong buffer store lists out
+  took_over e = took_other g other (omega (arith, g.line_is.0, one_longer p.line x))
 
-    -- the buffer takes it
-    pub took_byte : {k' : Kept} {out : List ℕ} → k.len < line_room → line_room ≤ length buffer → k'.len ≡ k.len + 1 → k'.long ≡ false → Took p x k' (set buffer k.len x) store lists out
-    took_byte {k'} {out} h room n f =
-        let l : length p.line ≡ k.len = omega (arith, g.len) in
-        let e : k'.len ≡ suc k.len = omega arith in
-        record {
-          next = longer;
-          said = [];
-          reads = reads_other;
-          held = record {
-            len = omega (arith, one_more_lem);
-            front =
-                rw e (take-suc-set buffer k.len x (omega arith) ∙ ap (λ (t : List ℕ). t ++ (x ∷ [])) (kept_line g (omega arith)) ∙
-                sym (take_all (suc k.len) (p.line ++ (x ∷ [])) (omega (arith, one_more_lem))));
-            long = f ∙ sym (le-ltb line_room (length (p.line ++ (x ∷ []))) (omega (arith, one_more_lem)));
-            store_is = g.store_is;
-            lists-are = g.lists-are;
-          };
-          shown = refl;
-        }
+  -- the buffer takes it
+  pub took_byte : {out : List ℕ} → n < line_room → line_room ≤ length buffer → Took p x (Whole (n + 1)) (set buffer n x) store lists out
+  took_byte h room =
+      let e : n + 1 ≡ suc n = omega arith in
+      took_other g other (
+        omega (arith, g.line_is.0, one_longer p.line x),
+        omega (arith, g.line_is.0, one_longer p.line x),
+        rw e (take-suc-set buffer n x (omega arith) ∙ ap (λ (t : List ℕ). t ++ (x ∷ [])) g.line_is.2),
+      )
 
-  -- ---- the end
+-- ---- the end
 
-  pub ended-empty : {out : List ℕ} → k.len ≡ 0 → Ended p store out
-  ended-empty {out} e = record { kept = p.kept; said = []; ends = go p.line (omega (arith, g.len)); shown = refl }
-    where
-      go : (l : List ℕ) → length l ≡ 0 → EndsAs l p.kept p.kept p.store store []
-      go [] z = (g.store_is, refl)
-      go (x ∷ l) z = absurd (omega (arith, z))
+pub ended-empty : {k : Kept} {buffer store lists out : List ℕ} {p : Reading} → Held k buffer store lists p → length p.line ≡ 0 → Ended p store out
+ended-empty {store = store} {p = p} g n = record { kept = p.kept; said = []; ends = go p.line n; shown = refl }
+  where
+    go : (l : List ℕ) → length l ≡ 0 → EndsAs l p.kept p.kept p.store store []
+    go [] z = (g.store_is, refl)
+    go (x ∷ l) z = absurd (omega (arith, z))
 
-  pub ended-line : {lists' store' out : List ℕ} {r : ℕ} → 0 < k.len → Said (if k.long then none else line_of (take k.len buffer)) lists lists' store store' out r → Ended p store' out
-  ended-line {lists'} {store'} {out} h a =
-      record { kept = kept_lists lists'; said = a.text ++ (line_feed ∷ []); ends = go p.line (omega (arith, g.len)) (answered-line a); shown = rw (← a.count) a.shown }
-    where
-      go : (l : List ℕ) → 0 < length l → LineAnswered l p.kept (kept_lists lists') p.store store' (a.text ++ (line_feed ∷ []))
-          → EndsAs l p.kept (kept_lists lists') p.store store' (a.text ++ (line_feed ∷ []))
-      go [] z w = absurd (omega (arith, z))
-      go (x ∷ l) z w = w
+pub ended-line : {k : Kept} {buffer store lists lists' store' out : List ℕ} {p : Reading} {r : ℕ} → Held k buffer store lists p → 0 < length p.line
+    → Said (asked_in k buffer) lists lists' store store' out r → Ended p store' out
+ended-line {k} {buffer} {store} {lists} {lists'} {store'} {out} {p} g n a =
+    record {
+      kept = kept_lists lists';
+      said = a.text ++ (line_feed ∷ []);
+      ends = go p.line n (answered-line g a);
+      shown = rw (← a.count) a.shown;
+    }
+  where
+    go : (l : List ℕ) → 0 < length l → LineAnswered l p.kept (kept_lists lists') p.store store' (a.text ++ (line_feed ∷ []))
+        → EndsAs l p.kept (kept_lists lists') p.store store' (a.text ++ (line_feed ∷ []))
+    go [] z w = absurd (omega (arith, z))
+    go (x ∷ l) z w = w
 
 -- ---- bytes one after the other
 
@@ -209,8 +186,8 @@ took_more {p} t u =
       };
     }
 
-pub nothing_held : {k : Kept} (buffer store lists : List ℕ) → kept_lists lists ≡ no_lists → k.len ≡ 0 → k.long ≡ false → Held k buffer store lists (started store)
-nothing_held buffer store lists w n f = record { len = n; front = rw n; long = f; store_is = refl; lists-are = w }
+pub nothing_held : (buffer store lists : List ℕ) → kept_lists lists ≡ no_lists → Held (Whole 0) buffer store lists (started store)
+nothing_held buffer store lists w = record { line_is = (refl, omega arith, refl); store_is = refl; lists-are = w }
 
 -- ---- the whole input
 
@@ -222,15 +199,6 @@ ran t e = record {
 }
 
 -- ---- the code's forms
-
--- a line that is too long, and one that is read
-pub printed-long : {t : Bool} (l : List ℕ) {lists b out out' : List ℕ} {r : ℕ} → Ordered lists → t ≡ true → Printed out out' (refusal_text unreadable) r
-    → Stepped (if t then none else line_of l) lists lists b b out out' r
-printed-long {t} l {lists} {b} {out} {out'} {r} w e p = subst (λ (x : Bool). Stepped (if x then none else line_of l) lists lists b b out out' r) (sym e) (step_unread w refl refl p)
-
-pub printed-line : {t : Bool} (l : List ℕ) {lists lists' b b' out out' : List ℕ} {r : ℕ} → t ≡ false → Stepped (line_of l) lists lists' b b' out out' r
-    → Stepped (if t then none else line_of l) lists lists' b b' out out' r
-printed-line {t} l {lists} {lists'} {b} {b'} {out} {out'} {r} e a = subst (λ (x : Bool). Stepped (if x then none else line_of l) lists lists' b b' out out' r) (sym e) a
 
 -- the next byte of a list, and all of them
 pub take_next : (l : List ℕ) (i : ℕ) → i < length l → take (i + 1) l ≡ take i l ++ (get_or l i 0 ∷ [])

@@ -1,11 +1,12 @@
 -- Standard input, a byte at a time (docs/EVENTS.md): its lines, what each answers, and the store.
-use Rattle.std.specs.Prelude.{ℕ, min, ◌≡◌, Bool, true, false, List, [], ◌∷◌, ◌++◌, eqb, ltb, length, take, if◌then◌else◌}
+use Rattle.std.specs.Prelude.{ℕ, ◌≡◌, ◌≤◌, ◌<◌, Bool, true, false, List, [], ◌∷◌, ◌++◌, eqb, ltb, length, take, if◌then◌else◌}
 use Rattle.std.proofs.Math.Option.{Option, none, some}
 use Rattle.words.specs.Words.{Decides}
 use Rattle.machine.specs.Call.{Call}
 use Rattle.store.specs.Image.{SoundStore}
 use Rattle.outcome.specs.Outcome.{Effect, Does}
 use Rattle.events.specs.declared.input.Kept.{Kept}
+use Rattle.events.specs.declared.input.Kept.TheVariants.{Whole, TooLong}
 use Rattle.reading.specs.Line.{Line}
 use Rattle.asking.specs.Calls.{line_of}
 use Rattle.printing.specs.Replies.{refusal_text, unreadable, reply_text}
@@ -98,11 +99,24 @@ pub record Input (b xs b' said : List ℕ) : Type 0 where
 
 -- ---- what the program keeps of it
 
--- the first 65,536 bytes of the line stand in the buffer, the kept lists in theirs
+-- the buffer takes what it is said to hold
+abbrev pub InRoom : Kept → Type 0
+InRoom (Whole n) = n ≤ line_room
+InRoom TooLong = Unit {0}
+
+-- what is asked for by a line of which the buffer holds so much
+abbrev pub asked_in : Kept → List ℕ → Option Line
+asked_in (Whole n) buffer = line_of (take n buffer)
+asked_in TooLong buffer = none
+
+-- a line of at most 65,536 bytes stands in the buffer
+abbrev pub HeldLine : Kept → List ℕ → List ℕ → Type 0
+HeldLine (Whole n) buffer line = (n ≡ length line) × (length line ≤ line_room) × (take n buffer ≡ line)
+HeldLine TooLong buffer line = line_room < length line
+
+-- and the kept lists in theirs
 pub record Held (k : Kept) (buffer store lists : List ℕ) (p : Reading) : Type 0 where
-  pub len : k.len ≡ min (length p.line) line_room
-  pub front : take k.len buffer ≡ take k.len p.line
-  pub long : k.long ≡ ltb line_room (length p.line)
+  pub line_is : HeldLine k buffer p.line
   pub store_is : store ≡ p.store
   pub lists-are : kept_lists lists ≡ p.kept
 

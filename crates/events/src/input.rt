@@ -1,12 +1,10 @@
 // The input parted into lines. A line is counted without its line feed; the last one may lack it.
-ghost use Rattle.std.specs.Prelude.{◌≤◌, length, ◌≡◌, if◌then◌else◌, unwrap_or};
-ghost use Rattle.std.proofs.Math.Option.{none};
-ghost use Rattle.asking.specs.Calls.{line_of};
+ghost use Rattle.std.specs.Prelude.{◌≤◌, length, ◌≡◌, unwrap_or};
 ghost use Rattle.printing.specs.Given.{line_room, answer_room};
 ghost use Rattle.printing.specs.Kept.{no_lists};
 ghost use Rattle.keeping.specs.Lists.{kept_bytes, kept_lists, Ordered};
 ghost use Rattle.keeping.specs.Steps.{Stepped};
-ghost use Rattle.events.specs.Input.{started, OfHeld, Said, Took, TookAll, TookSome, Ended, Ran};
+ghost use Rattle.events.specs.Input.{InRoom, asked_in, started, OfHeld, Said, Took, TookAll, TookSome, Ended, Ran};
 
 use std::io::{Read, Write};
 
@@ -36,23 +34,22 @@ pub fn list_buffer() -> [u8; LISTS]
     [0u8; LISTS]
 }
 
-// What came of a line so far: how many bytes are kept, and whether there were more than the buffer holds.
+// What came of a line so far: so many bytes, which the buffer holds, or more than it holds.
 #[derive(Clone, Copy)]
-pub struct Kept {
-    pub len: usize,
-    pub long: bool,
+pub enum Kept {
+    Whole(usize),
+    TooLong,
 }
 
 // The text of a line's answer: of no call, if the line is too long.
-fn print(store: &mut [u8], lists: &mut [u8], line: &[u8], long: bool, out: &mut [u8]) -> usize
-    requires { Ordered lists.old × (answer_room ≤ length out.old) × (length line.now ≤ line_room) }
-    ensures { Stepped (if long then none else line_of line.now) lists.old lists.new store.old store.new out.old
-        out.new result }
+fn print(store: &mut [u8], lists: &mut [u8], line: &[u8], kept: Kept, out: &mut [u8]) -> usize
+    requires { Ordered lists.old × (answer_room ≤ length out.old) × (line_room ≤ length line.now) × InRoom kept }
+    ensures { Stepped (asked_in kept line.now) lists.old lists.new store.old store.new out.old out.new result }
 {
-    if long {
-        return printing::numbers::unreadable(out);
+    match kept {
+        Kept::Whole(len) => answering::answers::answer_line(store, lists, &line[..len], out),
+        Kept::TooLong => printing::numbers::unreadable(out),
     }
-    answering::answers::answer_line(store, lists, line, out)
 }
 
 // Answers one line: the text with its line feed stands at the front of `out`, and so many bytes are written. Nothing is left to do where the
@@ -62,13 +59,13 @@ fn answer<W: Write>(
     store: &mut [u8],
     lists: &mut [u8],
     line: &[u8],
-    long: bool,
+    kept: Kept,
     out: &mut [u8],
 ) -> usize
-    requires { Ordered lists.old × (answer_room ≤ length out.old) × (length line.now ≤ line_room) }
-    ensures { Said (if long then none else line_of line.now) lists.old lists.new store.old store.new out.new result }
+    requires { Ordered lists.old × (answer_room ≤ length out.old) × (line_room ≤ length line.now) × InRoom kept }
+    ensures { Said (asked_in kept line.now) lists.old lists.new store.old store.new out.new result }
 {
-    let n = print(store, lists, line, long, out);
+    let n = print(store, lists, line, kept, out);
     out[n] = b'\n';
     let end = n + 1;
     let _ = output.write_all(&out[..end]);
@@ -85,27 +82,23 @@ fn take<W: Write>(
     kept: Kept,
     b: u8,
 ) -> Kept
-    requires { Ordered lists.old × (line_room ≤ length line.old) × (answer_room ≤ length out.old) × (kept.len ≤ line_room) }
-    ensures ordered { Ordered lists.new × (result.len ≤ line_room) }
+    requires { Ordered lists.old × (line_room ≤ length line.old) × (answer_room ≤ length out.old) × InRoom kept }
+    ensures ordered { Ordered lists.new × InRoom result }
     ensures took { OfHeld kept line.old store.old lists.old
         (λ p. Took p b result line.new store.new lists.new out.new) }
 {
-    let len = kept.len;
     if b == b'\n' {
-        answer(output, store, lists, &line[..len], kept.long, out);
-        return Kept {
-            len: 0,
-            long: false,
-        };
+        answer(output, store, lists, line, kept, out);
+        return Kept::Whole(0);
     }
+    let Kept::Whole(len) = kept else {
+        return kept;
+    };
     if len == LINE {
-        return Kept { len, long: true };
+        return Kept::TooLong;
     }
     line[len] = b;
-    Kept {
-        len: len + 1,
-        long: false,
-    }
+    Kept::Whole(len + 1)
 }
 
 fn take_all<W: Write>(
@@ -117,8 +110,8 @@ fn take_all<W: Write>(
     kept: Kept,
     bytes: &[u8],
 ) -> Kept
-    requires { Ordered lists.old × (line_room ≤ length line.old) × (answer_room ≤ length out.old) × (kept.len ≤ line_room) }
-    ensures ordered { Ordered lists.new × (result.len ≤ line_room) }
+    requires { Ordered lists.old × (line_room ≤ length line.old) × (answer_room ≤ length out.old) × InRoom kept }
+    ensures ordered { Ordered lists.new × InRoom result }
     ensures took { OfHeld kept line.old store.old lists.old
         (λ p. TookAll p bytes.now result line.new store.new lists.new) }
 {
@@ -139,8 +132,8 @@ fn read_some<R: Read, W: Write>(
     out: &mut [u8],
     kept: Kept,
 ) -> Option<Kept>
-    requires { Ordered lists.old × (line_room ≤ length line.old) × (answer_room ≤ length out.old) × (kept.len ≤ line_room) }
-    ensures ordered { Ordered lists.new × ((unwrap_or result kept).len ≤ line_room) }
+    requires { Ordered lists.old × (line_room ≤ length line.old) × (answer_room ≤ length out.old) × InRoom kept }
+    ensures ordered { Ordered lists.new × InRoom (unwrap_or result kept) }
     ensures took { OfHeld kept line.old store.old lists.old
         (λ p. TookSome p (unwrap_or result kept) line.new store.new lists.new) }
 {
@@ -162,13 +155,10 @@ fn read_lines<R: Read, W: Write>(
     out: &mut [u8],
 ) -> Kept
     requires { Ordered lists.old × (kept_lists lists.old ≡ no_lists) × (line_room ≤ length line.old) × (answer_room ≤ length out.old) }
-    ensures ordered { Ordered lists.new × (result.len ≤ line_room) }
+    ensures ordered { Ordered lists.new × InRoom result }
     ensures took { TookSome (started store.old) result line.new store.new lists.new }
 {
-    let mut kept = Kept {
-        len: 0,
-        long: false,
-    };
+    let mut kept = Kept::Whole(0);
     let mut turns = u64::MAX;
     while turns > 0 {
         let Some(now) = read_some(input, output, store, lists, line, out, kept) else {
@@ -192,12 +182,14 @@ fn end<W: Write>(
     out: &mut [u8],
     kept: Kept,
 )
-    requires { Ordered lists.old × (line_room ≤ length line.now) × (answer_room ≤ length out.old) × (kept.len ≤ line_room) }
+    requires { Ordered lists.old × (line_room ≤ length line.now) × (answer_room ≤ length out.old) × InRoom kept }
     ensures { OfHeld kept line.now store.old lists.old (λ p. Ended p store.new out.new) }
 {
-    let len = kept.len;
-    if 0 < len {
-        answer(output, store, lists, &line[..len], kept.long, out);
+    match kept {
+        Kept::Whole(0) => {}
+        _ => {
+            answer(output, store, lists, line, kept, out);
+        }
     }
 }
 

@@ -5,13 +5,6 @@ use Rattle.printing.proofs.Lines.{room_of}
 use Rattle.events.proofs.Bytewise.{fed}
 use Rattle.events.proofs.input.answer.Goals as goal
 
-pub print-n-requires : goal.print-n-requires
-print-n-requires _ c = (
-  c.requires.0,
-  c.requires.1,
-  c.requires.2,
-)
-
 pub bounds-out-n : goal.bounds-out-n
 bounds-out-n _ c = omega (
   arith,

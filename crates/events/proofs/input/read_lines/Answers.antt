@@ -16,7 +16,7 @@ loop-turns-init _ c = (
   record {
     bytes = [];
     all = took_none (nothing_held c.args.line.now
-        c.args.store.now c.args.lists.now c.requires.1 refl refl);
+        c.args.store.now c.args.lists.now c.requires.1);
   },
 )
 

@@ -1,16 +1,14 @@
 -- `events::input::read_lines` meets its contract. The loop's invariant: what the program keeps is some bytes, read from the start.
-use Prim.Native.Nat.{◌≤◌}
 use mathlib.Core.Path.{◌≡◌}
 use lib.ListN.{length}
-use Rattle.printing.specs.Given.{line_room}
 use Rattle.keeping.specs.Lists.{Ordered}
-use Rattle.events.specs.Input.{started, TookSome}
+use Rattle.events.specs.Input.{InRoom, started, TookSome}
 use Rattle.events.proofs.input.read_lines.Given as goal
 
 abbrev pub invariant-loop-turns : goal.invariant-loop-turns
 invariant-loop-turns _ l =
     (length l.store ≡ length l.initial.store) × (length l.lists ≡ length l.initial.lists) × (length l.line ≡ length l.initial.line) × (length l.out ≡ length l.initial.out) × Ordered l.lists
-    × (l.kept.len ≤ line_room)
+    × InRoom l.kept
     × TookSome (started l.initial.store) l.kept l.line l.store l.lists
 
 abbrev pub decreases-loop-turns : goal.decreases-loop-turns

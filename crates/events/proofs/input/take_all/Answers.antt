@@ -1,5 +1,4 @@
 -- `events::input::take_all` meets its contract. The loop's invariant: what the program keeps is the first i bytes, read.
-use Prim.Native.Nat.{◌-◌}
 use mathlib.Core.Path.{refl}
 use native.Mathlib.Omega.{arith}
 use Rattle.events.proofs.Bytewise.{took_none, took_one, take_next, took_whole}
