@@ -12,7 +12,7 @@ ghost use Rattle.requests.specs.Changes.{candidate_of, Tells};
 ghost use Rattle.announcing.specs.Falls.{most_listed, list_space, VictimsIn};
 ghost use Rattle.gathering.specs.Aside.{space, Empty};
 ghost use Rattle.claims.specs.Changes.{Becomes};
-ghost use Rattle.wrapping.specs.Batches.{between, announced, Offers, Collects, Announced};
+ghost use Rattle.wrapping.specs.Batches.{between, announced, Bytes, Offers, Collects, Announced};
 ghost use Rattle.wrapping.specs.Swaps.{Whole, Swaps, Went, Settled};
 
 use gathering::beside::Fare;
@@ -76,13 +76,30 @@ struct Terms {
     late: bool,
 }
 
+// The items that are announced, and the priorities that the host drew for them: the shorter list decides how many offers these are. (A slice
+// in a struct does not say by itself that bytes are bytes.)
+#[derive(Clone, Copy)]
+struct Inventory<'a> {
+    items: &'a [u8],
+    priorities: &'a [u8],
+    ghost bytes: { Bytes items.now × Bytes priorities.now },
+}
+
+impl<'a> Inventory<'a> {
+    fn count(self) -> usize
+        ensures { result ≡ length (offers_in self.entry.items.now self.entry.priorities.now) }
+    {
+        lent_lists::offers(self.items, self.priorities)
+    }
+}
+
 // The candidate that the i-th item makes.
-fn offered_at(a: Terms, items: &[u8], priorities: &[u8], i: usize) -> requests::Candidate
-    requires { (a.clock + request_lifetime < word) × (i < length (offers_in items.now priorities.now)) }
-    ensures { Offers a (offers_in items.now priorities.now) i (candidate_of result) }
+fn offered_at(a: Terms, o: Inventory, i: usize) -> requests::Candidate
+    requires { (a.clock + request_lifetime < word) × (i < length (offers_in o.items.now o.priorities.now)) }
+    ensures { Offers a (offers_in o.entry.items.now o.entry.priorities.now) i (candidate_of result) }
 {
-    let item = lent_lists::item_at(items, i);
-    let priority = words::get(priorities, i);
+    let item = lent_lists::item_at(o.items, i);
+    let priority = words::get(o.priorities, i);
     offered(
         a.connection,
         a.clock,
@@ -95,11 +112,11 @@ fn offered_at(a: Terms, items: &[u8], priorities: &[u8], i: usize) -> requests::
 }
 
 // Announces the i-th item by itself.
-fn announce_one(s: &mut [u8], a: Terms, items: &[u8], priorities: &[u8], i: usize)
-    requires { Kept s.old × (a.clock + request_lifetime < word) × (i < length (offers_in items.now priorities.now)) }
-    ensures { Becomes s.old s.new (announced a (between i (i + 1) (offers_in items.now priorities.now))) }
+fn announce_one(s: &mut [u8], a: Terms, o: Inventory, i: usize)
+    requires { Kept s.old × (a.clock + request_lifetime < word) × (i < length (offers_in o.items.now o.priorities.now)) }
+    ensures { Becomes s.old s.new (announced a (between i (i + 1) (offers_in o.entry.items.now o.entry.priorities.now))) }
 {
-    let c = offered_at(a, items, priorities, i);
+    let c = offered_at(a, o, i);
     announcing::announce(s, c);
 }
 
@@ -111,22 +128,15 @@ struct Part {
 }
 
 // Collects in `new`, which is empty, the rows of the items from the first on that can come in together.
-fn collect(
-    s: &[u8],
-    new: &mut [u8],
-    a: Terms,
-    items: &[u8],
-    priorities: &[u8],
-    first: usize,
-) -> Part
+fn collect(s: &[u8], new: &mut [u8], a: Terms, o: Inventory, first: usize) -> Part
     requires { Kept s.now × (8 * (row_size * space) ≤ length new.old) × Empty (words new.old) × (a.clock + request_lifetime < word)
-        × (first ≤ length (offers_in items.now priorities.now)) }
-    ensures { Collects s.now (words new.new) a (offers_in items.now priorities.now) first result.next result.waiting }
+        × (first ≤ length (offers_in o.items.now o.priorities.now)) }
+    ensures { Collects s.now (words new.new) a (offers_in o.entry.items.now o.entry.priorities.now) first result.next result.waiting }
 {
-    let count = lent_lists::offers(items, priorities);
+    let count = o.count();
     let mut m = 0;
     for i in first..count {
-        let c = offered_at(a, items, priorities, i);
+        let c = offered_at(a, o, i);
         match gathering::beside::set_aside(s, new, m, c) {
             Fare::Nothing => {}
             Fare::Waits => m += 1,
@@ -153,22 +163,22 @@ const FEW: usize = 4;
 
 // Announces some items from the first on: those together that nothing gives way to and that find room beside the store, and the next
 // one, if there is one, by itself. Answers which comes next.
-fn announce_some(s: &mut [u8], a: Terms, items: &[u8], priorities: &[u8], first: usize) -> usize
-    requires { Kept s.old × (1 ≤ a.connection) × (a.clock + request_lifetime < word) × (first < length (offers_in items.now priorities.now)) }
-    ensures { Announced s.old s.new a (offers_in items.now priorities.now) first result }
+fn announce_some(s: &mut [u8], a: Terms, o: Inventory, first: usize) -> usize
+    requires { Kept s.old × (1 ≤ a.connection) × (a.clock + request_lifetime < word) × (first < length (offers_in o.items.now o.priorities.now)) }
+    ensures { Announced s.old s.new a (offers_in o.entry.items.now o.entry.priorities.now) first result }
 {
-    let count = lent_lists::offers(items, priorities);
+    let count = o.count();
     if count - first < FEW {
-        announce_one(s, a, items, priorities, first);
+        announce_one(s, a, o, first);
         return first + 1;
     }
     let mut new = region();
     gathering::region::clear(&mut new);
-    let p = collect(s, &mut new, a, items, priorities, first);
+    let p = collect(s, &mut new, a, o, first);
     gathering::coming::come_in(s, a.connection, &new, p.waiting);
     let next = p.next;
     if next < count {
-        announce_one(s, a, items, priorities, next);
+        announce_one(s, a, o, next);
         return next + 1;
     }
     next
@@ -186,18 +196,18 @@ fn full(s: &[u8]) -> bool
 
 // Whether it is worth while to list victims for the items from the first on: they are preferred, L is held, and the first of them does not
 // have to take the place of another at its hash.
-fn displaces(s: &[u8], a: Terms, items: &[u8], priorities: &[u8], first: usize) -> bool
-    requires { Kept s.now × (first < length (offers_in items.now priorities.now)) }
+fn displaces(s: &[u8], a: Terms, o: Inventory, first: usize) -> bool
+    requires { Kept s.now × (first < length (offers_in o.items.now o.priorities.now)) }
     ensures { result ≡ true → Whole s.now × (a.preferred ≡ true) }
 {
-    let count = lent_lists::offers(items, priorities);
+    let count = o.count();
     if count - first < FEW {
         return false;
     }
     if !a.preferred {
         return false;
     }
-    let item = lent_lists::item_at(items, first);
+    let item = lent_lists::item_at(o.items, first);
     let h = item.hash;
     if announcing::keyed::crowded(s, h) {
         return false;
@@ -230,18 +240,17 @@ fn swap(
     top: &[u8],
     m: usize,
     a: Terms,
-    items: &[u8],
-    priorities: &[u8],
+    o: Inventory,
     first: usize,
 ) -> Part
     requires { Kept s.now × Whole s.now × VictimsIn s.now (words top.now) m × (m ≤ most_listed) × (length top.now ≡ 8 * (row_size * list_space))
-        × (8 * (row_size * space) ≤ length new.old) × Empty (words new.old) × (a.clock + request_lifetime < word) × (first ≤ length (offers_in items.now priorities.now)) }
-    ensures { Swaps s.now (words new.new) (words top.now) m a (offers_in items.now priorities.now) first result.next result.waiting }
+        × (8 * (row_size * space) ≤ length new.old) × Empty (words new.old) × (a.clock + request_lifetime < word) × (first ≤ length (offers_in o.items.now o.priorities.now)) }
+    ensures { Swaps s.now (words new.new) (words top.now) m a (offers_in o.entry.items.now o.entry.priorities.now) first result.next result.waiting }
 {
-    let count = lent_lists::offers(items, priorities);
+    let count = o.count();
     let mut d = 0;
     for i in first..count {
-        let c = offered_at(a, items, priorities, i);
+        let c = offered_at(a, o, i);
         match gathering::deferred::defer(s, new, d, top, m, c) {
             Fare::Nothing => {}
             Fare::Waits => d += 1,
@@ -260,22 +269,14 @@ fn swap(
 }
 
 // Announces items from the first on: those that come in wait, then the victims go, and one more pass lets in those that have waited.
-fn settle(
-    s: &mut [u8],
-    top: &[u8],
-    m: usize,
-    a: Terms,
-    items: &[u8],
-    priorities: &[u8],
-    first: usize,
-) -> Part
+fn settle(s: &mut [u8], top: &[u8], m: usize, a: Terms, o: Inventory, first: usize) -> Part
     requires { Kept s.old × Whole s.old × VictimsIn s.old (words top.now) m × (m ≤ most_listed) × (length top.now ≡ 8 * (row_size * list_space))
-        × (a.clock + request_lifetime < word) × (first ≤ length (offers_in items.now priorities.now)) }
-    ensures { Settled s.old s.new m a (offers_in items.now priorities.now) first result.next result.waiting }
+        × (a.clock + request_lifetime < word) × (first ≤ length (offers_in o.items.now o.priorities.now)) }
+    ensures { Settled s.old s.new m a (offers_in o.entry.items.now o.entry.priorities.now) first result.next result.waiting }
 {
     let mut new = region();
     gathering::region::clear(&mut new);
-    let p = swap(s, &mut new, top, m, a, items, priorities, first);
+    let p = swap(s, &mut new, top, m, a, o, first);
     gathering::going::go(s, top, m, p.waiting);
     gathering::coming::come_in(s, a.connection, &new, p.waiting);
     p
@@ -283,17 +284,11 @@ fn settle(
 
 // Announces some items from the first on, or none: the victims are found in one pass. Where nobody is left who can be evicted the other
 // items change nothing.
-fn announce_for_victims(
-    s: &mut [u8],
-    a: Terms,
-    items: &[u8],
-    priorities: &[u8],
-    first: usize,
-) -> usize
-    requires { Kept s.old × Whole s.old × (a.preferred ≡ true) × (a.clock + request_lifetime < word) × (first < length (offers_in items.now priorities.now)) }
-    ensures { Went s.old s.new a (offers_in items.now priorities.now) first result }
+fn announce_for_victims(s: &mut [u8], a: Terms, o: Inventory, first: usize) -> usize
+    requires { Kept s.old × Whole s.old × (a.preferred ≡ true) × (a.clock + request_lifetime < word) × (first < length (offers_in o.items.now o.priorities.now)) }
+    ensures { Went s.old s.new a (offers_in o.entry.items.now o.entry.priorities.now) first result }
 {
-    let count = lent_lists::offers(items, priorities);
+    let count = o.count();
     let mut top = list();
     announcing::foremost::clear(&mut top);
     let most = at_most(count - first);
@@ -301,7 +296,7 @@ fn announce_for_victims(
     if m == 0 {
         return count;
     }
-    let p = settle(s, &top, m, a, items, priorities, first);
+    let p = settle(s, &top, m, a, o, first);
     if (p.waiting == m) & (m < most) {
         return count;
     }
@@ -309,18 +304,18 @@ fn announce_for_victims(
 }
 
 // Announces items from the first on, one at least. Answers which comes next.
-fn announce_part(s: &mut [u8], a: Terms, items: &[u8], priorities: &[u8], first: usize) -> usize
-    requires { Kept s.old × (1 ≤ a.connection) × (a.clock + request_lifetime < word) × (first < length (offers_in items.now priorities.now)) }
-    ensures { Announced s.old s.new a (offers_in items.now priorities.now) first result }
+fn announce_part(s: &mut [u8], a: Terms, o: Inventory, first: usize) -> usize
+    requires { Kept s.old × (1 ≤ a.connection) × (a.clock + request_lifetime < word) × (first < length (offers_in o.items.now o.priorities.now)) }
+    ensures { Announced s.old s.new a (offers_in o.entry.items.now o.entry.priorities.now) first result }
 {
-    if !displaces(s, a, items, priorities, first) {
-        return announce_some(s, a, items, priorities, first);
+    if !displaces(s, a, o, first) {
+        return announce_some(s, a, o, first);
     }
-    let next = announce_for_victims(s, a, items, priorities, first);
+    let next = announce_for_victims(s, a, o, first);
     if first < next {
         return next;
     }
-    announce_some(s, a, items, priorities, first)
+    announce_some(s, a, o, first)
 }
 
 // Announces the items: a part that comes in together costs one pass over the rows. Whether the connection is overloaded is read before
@@ -339,7 +334,8 @@ pub fn announce_transactions(
     ensures { Becomes s.old s.new (λ m t. machine.announce_transactions m n clock preferred source (offers_in items.now priorities.now) t) }
 {
     let late = overloaded(s, n);
-    let count = lent_lists::offers(items, priorities);
+    let o = Inventory { items, priorities };
+    let count = o.count();
     let a = Terms {
         connection: n,
         clock,
@@ -350,8 +346,8 @@ pub fn announce_transactions(
     if count == 0 {
         return;
     }
-    let mut i = announce_part(s, a, items, priorities, 0);
+    let mut i = announce_part(s, a, o, 0);
     while i < count {
-        i = announce_part(s, a, items, priorities, i);
+        i = announce_part(s, a, o, i);
     }
 }

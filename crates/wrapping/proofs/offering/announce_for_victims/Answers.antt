@@ -6,14 +6,14 @@ use Rattle.wrapping.proofs.offering.announce_for_victims.Goals as goal
 
 pub returns-then-m-eq0 : goal.returns-then-m-eq0
 returns-then-m-eq0 c = went-nobody c.args.a (offers_in
-    c.args.items.now
-    c.args.priorities.now)
+    c.args.o.items.now
+    c.args.o.priorities.now)
     c.args.first
     c.requires.1 (c.list_victims-m.ensures.2 (omega
     (arith, c.if-m-eq0.true, c.at_most-most.ensures.0))) c.if-m-eq0.true
     c.requires.2
     c.requires.4
-    c.offers-count.ensures
+    c.count-count.ensures
 
 pub settle-p-requires : goal.settle-p-requires
 settle-p-requires c = (
@@ -29,7 +29,7 @@ settle-p-requires c = (
 pub returns-then-p-m : goal.returns-then-p-m
 returns-then-p-m c = went_all c.settle-p.ensures c.list_victims-m.ensures.2 c.if-p-m.true
     c.requires.2
-    c.offers-count.ensures
+    c.count-count.ensures
 
 pub returns : goal.returns
 returns c = c.settle-p.ensures.went

@@ -5,6 +5,6 @@ use Rattle.wrapping.proofs.offering.announce_one.Goals as goal
 
 pub returns : goal.returns
 returns c = one_announced c.args.a
-    (offers_in c.args.items.now c.args.priorities.now)
+    (offers_in c.args.o.items.now c.args.o.priorities.now)
     c.args.i c.requires.2
     c.offered_at-c.ensures c.announce.ensures

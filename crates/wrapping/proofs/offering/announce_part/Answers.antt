@@ -1,6 +1,5 @@
 -- `wrapping::offering::announce_part` meets its contract.
 use native.Mathlib.Omega.{arith}
-use Rattle.machine.specs.Typed.{Each, OfferTyped}
 use Rattle.machine.proofs.Fail.{Peer}
 use Rattle.lent_lists.specs.Items.{offers_in}
 use Rattle.lent_lists.proofs.Inventory.{offers-fit}
@@ -19,17 +18,14 @@ announce_for_victims-next-requires c =
 
 pub announce_some-requires-2 : goal.announce_some-requires-2
 announce_some-requires-2 c =
-    let os = offers_in c.args.items.now
-    c.args.priorities.now in
+    let os = offers_in c.args.o.items.now
+    c.args.o.priorities.now in
     let peer : Peer c.args.a.connection =
     record {
       positive = c.requires.1;
       small = omega (arith, c.well_formed.1.0);
     } in
-    let typed : Each OfferTyped os = offers-fit c.args.items.now
-    c.args.priorities.now
-    (λ j. omega (arith, c.type_inv.items j))
-    (λ j. omega (arith, c.type_inv.priorities j)) in (
+    let typed = offers-fit _ _ c.args.o.bytes.0 c.args.o.bytes.1 in (
       went_kept c.announce_for_victims-next.ensures peer c.requires.2
           typed c.requires.0,
       c.requires.1,
@@ -39,17 +35,14 @@ announce_some-requires-2 c =
 
 pub returns : goal.returns
 returns c =
-    let os = offers_in c.args.items.now
-    c.args.priorities.now in
+    let os = offers_in c.args.o.items.now
+    c.args.o.priorities.now in
     let peer : Peer c.args.a.connection =
     record {
       positive = c.requires.1;
       small = omega (arith, c.well_formed.1.0);
     } in
-    let typed : Each OfferTyped os = offers-fit c.args.items.now
-    c.args.priorities.now
-    (λ j. omega (arith, c.type_inv.items j))
-    (λ j. omega (arith, c.type_inv.priorities j)) in
+    let typed = offers-fit _ _ c.args.o.bytes.0 c.args.o.bytes.1 in
     went_then c.announce_for_victims-next.ensures peer
     c.requires.2 typed
     (omega (arith, c.if-first-next.false)) c.announce_some-2.ensures

@@ -1,7 +1,6 @@
 -- `wrapping::offering::announce_some` meets its contract.
 use Prim.Native.Nat.{◌+◌}
 use native.Mathlib.Omega.{arith}
-use Rattle.machine.specs.Typed.{Each, OfferTyped}
 use Rattle.machine.proofs.Fail.{Peer}
 use Rattle.lent_lists.specs.Items.{offers_in}
 use Rattle.lent_lists.proofs.Inventory.{offers-fit}
@@ -18,8 +17,8 @@ come_in-requires c = (
 pub announce_one-requires-then-next-count : goal.announce_one-requires-then-next-count
 announce_one-requires-then-next-count c =
     let os = offers_in
-    c.args.items.now
-    c.args.priorities.now
+    c.args.o.items.now
+    c.args.o.priorities.now
     in
     let peer : Peer
     c.args.a.connection =
@@ -29,14 +28,7 @@ announce_one-requires-then-next-count c =
       small = omega
           (arith, c.well_formed.1.0);
     } in
-    let typed : Each OfferTyped os = offers-fit
-    c.args.items.now
-    c.args.priorities.now
-    (λ j. omega (
-      arith,
-      c.type_inv.items j,
-    )) (λ j.
-    omega (arith, c.type_inv.priorities j)) in
+    let typed = offers-fit _ _ c.args.o.bytes.0 c.args.o.bytes.1 in
     let came = collects_in c.collect-p.ensures c.come_in.ensures in (
       part_kept c.args.a os
           c.args.first
@@ -44,12 +36,12 @@ announce_one-requires-then-next-count c =
           c.requires.2 typed
           c.requires.0,
       c.requires.2,
-      omega (arith, c.if-next-count.true, c.offers-count.ensures),
+      omega (arith, c.if-next-count.true, c.count-count.ensures),
     )
 
 pub returns-then-next-count : goal.returns-then-next-count
 returns-then-next-count c =
-    let os = offers_in c.args.items.now c.args.priorities.now in
+    let os = offers_in c.args.o.items.now c.args.o.priorities.now in
     let peer : Peer c.args.a.connection = record {
       positive = c.requires.1;
       small = omega (
@@ -57,13 +49,7 @@ returns-then-next-count c =
         c.well_formed.1.0,
       );
     } in
-    let typed : Each OfferTyped os = offers-fit c.args.items.now c.args.priorities.now (λ j. omega (
-      arith,
-      c.type_inv.items j,
-    )) (λ j. omega (
-      arith,
-      c.type_inv.priorities j,
-    )) in
+    let typed = offers-fit _ _ c.args.o.bytes.0 c.args.o.bytes.1 in
     let came = collects_in c.collect-p.ensures
     c.come_in.ensures in
     record {
@@ -71,7 +57,7 @@ returns-then-next-count c =
       inside = omega (
         arith,
         c.if-next-count.true,
-        c.offers-count.ensures,
+        c.count-count.ensures,
       );
       table = part_join c.args.a os c.args.first c.collect-p.result.next came peer
           c.requires.2 typed (c.collect-p.result.next + 1)
@@ -84,7 +70,7 @@ returns c =
       more = omega (
         arith,
         c.if-next-count.false,
-        c.offers-count.ensures,
+        c.count-count.ensures,
         c.requires.3,
       );
       inside = c.collect-p.ensures.inside;

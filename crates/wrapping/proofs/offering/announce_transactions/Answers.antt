@@ -12,14 +12,14 @@ pub shape_of-s-then-count-eq0 : goal.shape_of-s-then-count-eq0
 shape_of-s-then-count-eq0 c = refl
 
 pub returns-then-count-eq0 : goal.returns-then-count-eq0
-returns-then-count-eq0 c = batched_done (batched_start _ _ _ _ _ _) (omega (arith, c.if-count-eq0.true, c.offers-count.ensures))
+returns-then-count-eq0 c = batched_done (batched_start _ _ _ _ _ _) (omega (arith, c.if-count-eq0.true, c.count-count.ensures))
 
 pub announce_part-i-requires : goal.announce_part-i-requires
 announce_part-i-requires c = (
   c.requires.0,
   c.requires.1,
   c.requires.2,
-  omega (arith, c.if-count-eq0.false, c.offers-count.ensures),
+  omega (arith, c.if-count-eq0.false, c.count-count.ensures),
 )
 
 pub loop-i-init : goal.loop-i-init
@@ -41,7 +41,7 @@ announce_part-i-requires-in-loop-i c = let peer : Peer c.args.n = record {
       batched_kept (c.loop-i.invariant.2 c.args.s.now c.overloaded-late.ensures begun) peer c.requires.2 typed c.requires.0,
       c.requires.1,
       c.requires.2,
-      omega (arith, c.loop-i-test.true, c.offers-count.ensures),
+      omega (arith, c.loop-i-test.true, c.count-count.ensures),
     )
 
 pub loop-i-smaller : goal.loop-i-smaller
@@ -49,7 +49,7 @@ loop-i-smaller c = omega (
   arith,
   c.announce_part-i-in-loop-i.ensures.more,
   c.loop-i-test.true,
-  c.offers-count.ensures,
+  c.count-count.ensures,
 )
 
 pub loop-i-preserved : goal.loop-i-preserved
@@ -85,5 +85,5 @@ returns c = let peer : Peer c.args.n = record {
       arith,
       c.loop-i.invariant.1,
       c.loop-i-test.false,
-      c.offers-count.ensures,
+      c.count-count.ensures,
     ))

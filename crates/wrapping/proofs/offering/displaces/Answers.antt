@@ -18,7 +18,7 @@ item_at-item-requires c = omega (
   arith,
   c.requires.1,
   paired-inside (items_in
-      c.args.items.now) (words c.args.priorities.now),
+      c.args.o.items.now) (words c.args.o.priorities.now),
 )
 
 pub returns-then-crowded : goal.returns-then-crowded
