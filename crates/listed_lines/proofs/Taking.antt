@@ -8,8 +8,12 @@ use lib.ListN.{length, take, drop}
 use Rattle.machine.specs.Fields.{before, fields, rest, with_value, taking, ending}
 use Rattle.machine.specs.Listing.{Line}
 use Rattle.lines.proofs.Splitting.{rest_field, rest_past, rest_start}
-use Rattle.reading.specs.Given.{At}
-use Rattle.listed_lines.specs.Given.{Reader, then_in, Took}
+use Rattle.lines.specs.Values.{value_in}
+use Rattle.machine.proofs.Parting.{take-before}
+use Rattle.std.specs.Prelude as Rust
+use Rattle.reading.specs.declared.fields.Parsed.{Parsed}
+use Rattle.reading.specs.Given.{At, parsed_in}
+use Rattle.listed_lines.specs.Given.{Reader, then_in, FirstParsed, Took}
 
 -- ---- what was read
 
@@ -40,6 +44,16 @@ module _ {A : Type 0} (read : List ℕ → Option A) (l : List ℕ) {to : ℕ} (
 
   pub first_is : {v : A} → read (take to l) ≡ some v → Took (taking read) l (fields l) (some (record { value = v; end = to }))
   first_is n = record { is = λ k. step k ∙ ap (λ (o : Option A). with_value o (λ v. k v (rest l (to + 1)))) n }
+
+-- the field's bytes, as they are lent
+pub first_lent : (l : List ℕ) {to : ℕ} → to ≡ length (before 44 l) → take to l ≡ before 44 l
+first_lent l g = rw g (take-before 44 l)
+
+module _ {T A : Type 0} (f : T → A) (read : List ℕ → Option A) {Answers : List ℕ → Rust.Option T → Type 0}
+    (says : (s : List ℕ) (r : Rust.Option T) → Answers s r → value_in f r ≡ read s) {l : List ℕ} where
+  pub first_parsed : (r : Rust.Option (Parsed T)) → FirstParsed Answers l r → Took (taking read) l (fields l) (parsed_in f r)
+  first_parsed Rust.None p = first_not read l {to = length (before 44 l)} (omega arith) (rw (first_lent l refl) (sym (says _ _ p.is)))
+  first_parsed (Rust.Some x) p = first_is read l (omega (arith, p.is.0)) (rw (first_lent l p.is.0) (sym (says _ _ p.is.1)))
 
 -- ---- where the line ends
 

@@ -7,7 +7,7 @@ use Rattle.ident.specs.Words.{hash_bytes}
 use Rattle.words.specs.Words.{number, recs}
 use Rattle.regions.specs.Rows.{quad_number}
 use Rattle.machine.specs.State.{Candidate, Owner, Package, Request, State}
-use Rattle.machine.specs.Fields.{rest, elements_then, same_text}
+use Rattle.machine.specs.Fields.{before, rest, elements_then, same_text}
 use Rattle.machine.specs.Listing.{Line, HeadLine, RequestLine, CandidateLine, none_text, request_with, short, text_lines, one_more, lines_from}
 use Rattle.lines.specs.Values.{number_in, key_in}
 use Rattle.ident.specs.declared.Kind.{Kind}
@@ -37,6 +37,14 @@ then_in l k (some a) = k a.value (rest l (a.end + 1))
 -- in front of the fields fs, which end the line l, stands what `read` says to be o
 pub record Took {A : Type 0} (read : Reader A) (l : List ℕ) (fs : List (List ℕ)) (o : Option (At A)) : Type 0 where
   pub is : (k : A → List (List ℕ) → Option Line) → read k fs ≡ then_in l k o
+
+abbrev pub FirstAnswered : {T : Type 0} → (List ℕ → Maybe T → Type 0) → List ℕ → Maybe (Parsed T) → Type 0
+FirstAnswered Answers l None = Answers (before 44 l) None
+FirstAnswered Answers l (Some p) = (p.end ≡ length (before 44 l)) × Answers (before 44 l) (Some p.value)
+
+-- the line's first field is what a reader answers of its bytes; `Answers f r`: the reader may answer r of f
+pub record FirstParsed {T : Type 0} (Answers : List ℕ → Maybe T → Type 0) (l : List ℕ) (r : Maybe (Parsed T)) : Type 0 where
+  pub is : FirstAnswered Answers l r
 
 -- whether the first field is `none`
 abbrev pub starts_none : List (List ℕ) → Bool

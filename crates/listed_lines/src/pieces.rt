@@ -1,27 +1,34 @@
 // Fields that event lines do not have: a line's first field, and what may be missing.
 ghost use Rattle.std.specs.Prelude.{◌≡◌, ◌+◌};
+ghost use Rattle.std.specs.Fn.{FnOnceReturnsAt};
 ghost use Rattle.machine.specs.Fields.{number_of, key_of, fields, rest, taking};
 ghost use Rattle.machine.specs.Listing.{short, key_in, maybe_in};
 ghost use Rattle.reading.specs.Given.{number_at, key_at};
-ghost use Rattle.listed_lines.specs.Given.{Took, NoneAt, maybe_number_at, maybe_key_at};
+ghost use Rattle.listed_lines.specs.Given.{FirstParsed, Took, NoneAt, maybe_number_at, maybe_key_at};
 
 use lines::read::{Named, field_end};
 use reading::fields::{Parsed, key_at, number_at};
 
+// The first field, as `parse` reads it.
+fn first_field<T, F: FnOnce(&[u8]) -> Option<T>>(line: &[u8], parse: F) -> Option<Parsed<T>>
+    requires { F.IsAlwaysCallable parse }
+    ensures { FirstParsed (FnOnceReturnsAt F.FnOnce parse) line.now result }
+{
+    let end = field_end(line, 0);
+    let value = parse(&line[..end])?;
+    Some(Parsed { value, end })
+}
+
 pub fn first_number(line: &[u8]) -> Option<Parsed<u64>>
     ensures { Took (taking number_of) line.now (fields line.now) (number_at result) }
 {
-    let to = field_end(line, 0);
-    let value = lines::read::number(&line[..to])?;
-    Some(Parsed { value, end: to })
+    first_field(line, lines::read::number)
 }
 
 pub fn first_key(line: &[u8]) -> Option<Parsed<Named<ident::Kind>>>
     ensures { Took (taking (key_in short)) line.now (fields line.now) (key_at result) }
 {
-    let to = field_end(line, 0);
-    let value = lines::read::key(&line[..to])?;
-    Some(Parsed { value, end: to })
+    first_field(line, lines::read::key)
 }
 
 // Where the field behind the comma at index e ends, if it is `none`.
