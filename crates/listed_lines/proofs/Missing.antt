@@ -6,13 +6,15 @@ use mathlib.Core.List.{List, [], ◌∷◌}
 use mathlib.Core.Option.{Option, none, some}
 use native.Mathlib.Omega.{arith}
 use lib.ListN.{length, take, drop}
+use Rattle.std.specs.Prelude as Rust
 use Rattle.std.specs.Prelude.{Some, None}
+use Rattle.reading.specs.declared.fields.Parsed.{Parsed}
 use Rattle.machine.proofs.Tests.{never}
 use Rattle.machine.specs.Fields.{before, same_text, rest, with_value, taking}
 use Rattle.machine.specs.Listing.{Line, none_text, present, maybe_in, none_or}
 use Rattle.lines.proofs.Splitting.{rest_field, rest_past}
-use Rattle.reading.specs.Given.{At}
-use Rattle.listed_lines.specs.Given.{Reader, then_in, Took, starts_none, NoneThen, NoneAt}
+use Rattle.reading.specs.Given.{At, parsed_in}
+use Rattle.listed_lines.specs.Given.{Reader, then_in, Took, starts_none, NoneThen, NoneAt, MaybeValued, MaybeParsed}
 
 -- ---- whether a field is `none`
 
@@ -61,6 +63,19 @@ module _ {A : Type 0} (read : List ℕ → Option A) {l : List ℕ} {e : ℕ} wh
 
   pub maybe_value : NoneAt l e None → {o : Option (At A)} → Took (taking read) l (rest l (e + 1)) o → Took (taking (maybe_in read)) l (rest l (e + 1)) (there o)
   maybe_value n {o} p = record { is = λ k. maybe_some read k (rest l (e + 1)) (n.not refl) ∙ p.is (λ v. k (some v)) ∙ there_then l k o }
+
+-- ---- what may be missing, as its reader answers it
+
+module _ {T A : Type 0} (f : T → A) (g : Rust.Option T → Option A) (g-none : g None ≡ none) (g-some : (v : T) → g (Some v) ≡ some (f v)) {Answers : Rust.Option (Parsed T) → Type 0}
+    {read : Reader (Option A)} {l : List ℕ} {e : ℕ} (missing : (r : ℕ) → NoneAt l e (Some r) → Took read l (rest l (e + 1)) (some (record { value = none; end = r })))
+    (found : NoneAt l e None → (o : Rust.Option (Parsed T)) → Answers o → Took read l (rest l (e + 1)) (there (parsed_in f o))) where
+  maybe_valued : (end : ℕ) (v : Rust.Option T) → MaybeValued Answers l e end v → Took read l (rest l (e + 1)) (some (record { value = g v; end = end }))
+  maybe_valued end None p = rw g-none (missing end p)
+  maybe_valued end (Some v) p = rw (g-some v) (found p.0 (Some (record { value = v; end = end })) p.1)
+
+  pub maybe_parsed : (r : Rust.Option (Parsed (Rust.Option T))) → MaybeParsed Answers l e r → Took read l (rest l (e + 1)) (parsed_in g r)
+  maybe_parsed None p = found p.is.0 None p.is.1
+  maybe_parsed (Some x) p = maybe_valued x.end x.value p.is
 
 -- ---- several fields
 

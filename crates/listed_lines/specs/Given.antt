@@ -1,6 +1,8 @@
 -- What the contracts of the readers of a listing's lines say. The fields are read as the definition reads them (machine/specs/Listing).
 use Rattle.std.specs.Prelude.{ℕ, ◌+◌, ◌-◌, ◌<◌, ◌≤◌, ◌≡◌, Bool, true, false, List, [], ◌∷◌, length, drop}
 use Rattle.std.specs.Prelude.{Option as Maybe, Some, None, IfSome, IsNone}
+use denote.Ref.{Bor}
+use Rattle.std.specs.Fn.{Once, FnOnceReturns}
 use Rattle.std.proofs.Math.Option.{Option, none, some}
 use Rattle.ident.specs.Number.{Key}
 use Rattle.ident.specs.Words.{hash_bytes}
@@ -61,6 +63,22 @@ pub record NoneThen (fs gs : List (List ℕ)) : Type 0 where
 pub record NoneAt (l : List ℕ) (e : ℕ) (r : Maybe ℕ) : Type 0 where
   pub not : IsNone r → starts_none (rest l (e + 1)) ≡ false
   pub is : IfSome r (λ to. NoneThen (rest l (e + 1)) (rest l (to + 1)))
+
+-- r is a result that the call of f at the line l and the index e may give
+abbrev pub FnOnceReturnsIn : {F R : Type 0} → Once F (Bor (List ℕ) × (ℕ × Unit {0})) R → F → List ℕ → ℕ → R → Type 0
+FnOnceReturnsIn g f l e r = (p : Bor (List ℕ)) × FnOnceReturns g f (p, (e, tt)) r × (p.now ≡ l)
+
+abbrev pub MaybeValued : {T : Type 0} → (Maybe (Parsed T) → Type 0) → List ℕ → ℕ → ℕ → Maybe T → Type 0
+MaybeValued Answers l e end None = NoneAt l e (Some end)
+MaybeValued Answers l e end (Some v) = NoneAt l e None × Answers (Some (record { value = v; end = end }))
+
+abbrev pub MaybeAnswered : {T : Type 0} → (Maybe (Parsed T) → Type 0) → List ℕ → ℕ → Maybe (Parsed (Maybe T)) → Type 0
+MaybeAnswered Answers l e None = NoneAt l e None × Answers None
+MaybeAnswered Answers l e (Some p) = MaybeValued Answers l e p.end p.value
+
+-- behind the comma at index e stands `none`, or what a reader answers; `Answers r`: the reader may answer r
+pub record MaybeParsed {T : Type 0} (Answers : Maybe (Parsed T) → Type 0) (l : List ℕ) (e : ℕ) (r : Maybe (Parsed (Maybe T))) : Type 0 where
+  pub is : MaybeAnswered Answers l e r
 
 abbrev pub maybe_number_at : Maybe (Parsed (Maybe ℕ)) → Option (At (Option ℕ))
 maybe_number_at r = parsed_in number_in r

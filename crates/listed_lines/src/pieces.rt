@@ -4,7 +4,7 @@ ghost use Rattle.std.specs.Fn.{FnOnceReturnsAt};
 ghost use Rattle.machine.specs.Fields.{number_of, key_of, fields, rest, taking};
 ghost use Rattle.machine.specs.Listing.{short, key_in, maybe_in};
 ghost use Rattle.reading.specs.Given.{number_at, key_at};
-ghost use Rattle.listed_lines.specs.Given.{FirstParsed, Took, NoneAt, maybe_number_at, maybe_key_at};
+ghost use Rattle.listed_lines.specs.Given.{FirstParsed, FnOnceReturnsIn, MaybeParsed, Took, NoneAt, maybe_number_at, maybe_key_at};
 
 use lines::read::{Named, field_end};
 use reading::fields::{Parsed, key_at, number_at};
@@ -46,29 +46,33 @@ pub fn none_at(line: &[u8], e: usize) -> Option<usize>
     Some(to)
 }
 
-// A field that may be `none`.
-pub fn maybe_number_at(line: &[u8], e: usize) -> Option<Parsed<Option<u64>>>
-    ensures { Took (taking (maybe_in number_of)) line.now (rest line.now (e + 1)) (maybe_number_at result) }
+// What `there` reads behind the comma at index e, unless `none` stands there.
+fn maybe_at<T, F: FnOnce(&[u8], usize) -> Option<Parsed<T>>>(
+    line: &[u8],
+    e: usize,
+    there: F,
+) -> Option<Parsed<Option<T>>>
+    requires { F.IsAlwaysCallable there }
+    ensures { MaybeParsed (FnOnceReturnsIn F.FnOnce there line.now e) line.now e result }
 {
     if let Some(end) = none_at(line, e) {
         return Some(Parsed { value: None, end });
     }
-    let n = number_at(line, e)?;
+    let found = there(line, e)?;
     Some(Parsed {
-        value: Some(n.value),
-        end: n.end,
+        value: Some(found.value),
+        end: found.end,
     })
+}
+
+pub fn maybe_number_at(line: &[u8], e: usize) -> Option<Parsed<Option<u64>>>
+    ensures { Took (taking (maybe_in number_of)) line.now (rest line.now (e + 1)) (maybe_number_at result) }
+{
+    maybe_at(line, e, number_at)
 }
 
 pub fn maybe_key_at(line: &[u8], e: usize) -> Option<Parsed<Option<Named<ident::Kind>>>>
     ensures { Took (taking (maybe_in (key_in short))) line.now (rest line.now (e + 1)) (maybe_key_at result) }
 {
-    if let Some(end) = none_at(line, e) {
-        return Some(Parsed { value: None, end });
-    }
-    let k = key_at(line, e)?;
-    Some(Parsed {
-        value: Some(k.value),
-        end: k.end,
-    })
+    maybe_at(line, e, key_at)
 }
