@@ -114,9 +114,15 @@ list_at b r = parsed_in (λ n. hashes_of n b) r
 
 -- ---- owner and package
 
+abbrev pub the_owner : parts-owner.Owner → Owner
+the_owner o = record { connection = o.connection; deadline = o.deadline }
+
 abbrev pub owner_of : Maybe parts-owner.Owner → Option Owner
 owner_of None = none
-owner_of (Some o) = some (record { connection = o.connection; deadline = o.deadline })
+owner_of (Some o) = some (the_owner o)
+
+abbrev pub owner_there : Maybe (Parsed parts-owner.Owner) → Option (At Owner)
+owner_there r = parsed_in the_owner r
 
 abbrev pub owner_at : Maybe (Parsed (Maybe parts-owner.Owner)) → Option (At (Option Owner))
 owner_at r = parsed_in owner_of r

@@ -2,10 +2,10 @@
 ghost use Rattle.std.specs.Prelude.{◌+◌, ◌≤◌, length};
 ghost use Rattle.machine.specs.Fields.{rest};
 ghost use Rattle.machine.specs.Listing.{short, none_or, owner_then, package_then};
-ghost use Rattle.listed_lines.specs.Given.{Took, list_room, owner_at, package_at};
+ghost use Rattle.listed_lines.specs.Given.{Took, list_room, owner_there, owner_at, package_at};
 
 use crate::hash_lists::list_at;
-use crate::pieces::none_at;
+use crate::pieces::{maybe_at, none_at};
 use reading::fields::{Parsed, bool_at, hash_at, number_at};
 
 // The connection that is asked, and until when.
@@ -23,22 +23,25 @@ pub struct Package {
     pub enqueued: bool,
 }
 
+fn owner_there(line: &[u8], e: usize) -> Option<Parsed<Owner>>
+    ensures { Took owner_then line.now (rest line.now (e + 1)) (owner_there result) }
+{
+    let connection = number_at(line, e)?;
+    let deadline = number_at(line, connection.end)?;
+    Some(Parsed {
+        value: Owner {
+            connection: connection.value,
+            deadline: deadline.value,
+        },
+        end: deadline.end,
+    })
+}
+
 // The owner behind the comma at index e, or `none`.
 pub fn owner_at(line: &[u8], e: usize) -> Option<Parsed<Option<Owner>>>
     ensures { Took (none_or owner_then) line.now (rest line.now (e + 1)) (owner_at result) }
 {
-    if let Some(end) = none_at(line, e) {
-        return Some(Parsed { value: None, end });
-    }
-    let connection = number_at(line, e)?;
-    let deadline = number_at(line, connection.end)?;
-    Some(Parsed {
-        value: Some(Owner {
-            connection: connection.value,
-            deadline: deadline.value,
-        }),
-        end: deadline.end,
-    })
+    maybe_at(line, e, owner_there)
 }
 
 // The package behind the comma at index e, or `none`; its wtxids go into `wtxids`.

@@ -47,7 +47,7 @@ pub fn none_at(line: &[u8], e: usize) -> Option<usize>
 }
 
 // What `there` reads behind the comma at index e, unless `none` stands there.
-fn maybe_at<T, F: FnOnce(&[u8], usize) -> Option<Parsed<T>>>(
+pub fn maybe_at<T, F: FnOnce(&[u8], usize) -> Option<Parsed<T>>>(
     line: &[u8],
     e: usize,
     there: F,
