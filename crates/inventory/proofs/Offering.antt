@@ -14,13 +14,12 @@ use Rattle.lent_lists.specs.Items.{item_bytes, item_in, paired, offers_in}
 use Rattle.machine.specs.Fields.{number_of, item_of, taking}
 use Rattle.reading.specs.Line.{Asks}
 use Rattle.reading.specs.Lists.{offer_of, offer_then, offers_call}
-use Rattle.reading.specs.Given.{At, ElementRead, FieldRead}
+use Rattle.reading.specs.Given.{At, ElementRead, FieldRead, NoList, IsList}
 use Rattle.reading.proofs.Taking.{field_not, field_is}
-use Rattle.reading.proofs.Elements.{NoList}
 use Rattle.std.specs.Prelude.{None, Some}
 use Rattle.inventory.specs.Given.{most_offers, item_room, priority_room, items_of, number_bytes, numbers_of, offers_of, OfferPut, OffersGiven}
 use Rattle.inventory.proofs.Plain.{plain-item}
-use Rattle.inventory.proofs.Listing.{IsList, items-stored, numbers-stored}
+use Rattle.inventory.proofs.Listing.{items-stored, numbers-stored}
 
 -- ---- one offer: an item, and the number behind it
 

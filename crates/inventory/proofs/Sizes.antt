@@ -13,7 +13,8 @@ use Rattle.machine.proofs.Tests.{by_test}
 use Rattle.machine.specs.Fields.{number_of, hash_of, kind_of, key_with, key_of, item_with, letter_kind, other_kind, type_of, before, behind, item_of, taking}
 use Rattle.reading.specs.Lists.{offer_of, offer_then}
 use Rattle.reading.proofs.Bytes.{numeral_some}
-use Rattle.reading.proofs.Elements.{Takes, takes_field}
+use Rattle.reading.specs.Given.{Takes}
+use Rattle.reading.proofs.Elements.{takes_field}
 
 -- a comma and a digit
 pub number-takes : Takes (taking number_of) 2

@@ -1,15 +1,17 @@
 // A list of items, 40 bytes each: a word for the type, then the hash.
 ghost use Rattle.std.specs.Prelude.{◌+◌, ◌*◌, ◌≤◌, ◌≡◌, length};
+ghost use Rattle.ident.specs.Number.{Item};
 ghost use Rattle.regions.specs.Rows.{quad_number};
-ghost use Rattle.lent_lists.specs.Items.{item_bytes};
+ghost use Rattle.lent_lists.specs.Items.{item_bytes, item_in};
 ghost use Rattle.machine.specs.Fields.{item_of, taking};
-ghost use Rattle.reading.specs.Given.{longest_line, ListRead};
-ghost use Rattle.inventory.specs.Given.{most_listed, listed_room, items_of, ItemPut, ItemsGiven};
+ghost use Rattle.reading.specs.Given.{longest_line};
+ghost use Rattle.inventory.specs.Given.{listed_room, ItemPut, ItemsGiven};
 
 use lent_lists::ITEM;
 use lines::read::Named;
-use reading::fields::{item_at, number_at};
+use reading::fields::item_at;
 use reading::hashes::hash_of;
+use reading::list::{self, Element};
 
 // The most items that a line of 65,536 bytes can hold: each takes a comma, a letter and a digit or more.
 const ITEMS: usize = 21_845;
@@ -31,18 +33,23 @@ pub fn put_item(items: &mut [u8], i: usize, item: Named<ident::ItemKind>)
     ident::put_hash(items, i * ITEM + 8, hash_of(item.hash));
 }
 
-// The n items whose fields stand behind the comma at index e, and where the last ends.
-fn read_items(line: &[u8], e: usize, n: usize, items: &mut [u8]) -> Option<usize>
-    requires { (n ≤ most_listed) × (listed_room ≤ length items.old) }
-    ensures { ListRead (taking item_of) line.now e n (items_of n items.new) result }
-{
-    let mut to = e;
-    for i in 0..n {
-        let item = item_at(line, to)?;
+// An item of a list.
+struct ListedItem;
+
+impl Element for ListedItem {
+    ghost Value = { Item };
+
+    ghost reads = { taking item_of };
+
+    ghost size = { item_bytes };
+
+    ghost held = { item_in };
+
+    fn take(line: &[u8], e: usize, i: usize, items: &mut [u8]) -> Option<usize> {
+        let item = item_at(line, e)?;
         put_item(items, i, item.value);
-        to = item.end;
+        Some(item.end)
     }
-    Some(to)
 }
 
 // The list behind the comma at index e, the line's last fields: how many items stand in the bytes.
@@ -50,14 +57,5 @@ pub fn read_list(line: &[u8], e: usize, items: &mut [u8]) -> Option<usize>
     requires { (length line.now ≤ longest_line) × (listed_room ≤ length items.old) }
     ensures { ItemsGiven line.now e items.new result }
 {
-    let count = number_at(line, e)?;
-    if 21_845 < count.value {
-        return None;
-    }
-    let n = count.value as usize;
-    let end = read_items(line, count.end, n, items)?;
-    if end < line.len() {
-        return None;
-    }
-    Some(n)
+    list::read_list::<ListedItem>(line, e, ITEMS, items)
 }

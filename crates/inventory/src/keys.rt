@@ -1,16 +1,18 @@
 // A list of keys, 40 bytes each: a word that is 0 for Txid and 1 for Wtxid, then the hash.
 ghost use Rattle.std.specs.Prelude.{◌+◌, ◌*◌, ◌≤◌, ◌≡◌, length};
+ghost use Rattle.ident.specs.Number.{Key};
 ghost use Rattle.lines.specs.Values.{named_key};
 ghost use Rattle.machine.specs.Call.{key_bytes};
-ghost use Rattle.lent_lists.specs.Lists.{key_in, keys_in};
+ghost use Rattle.lent_lists.specs.Lists.{key_in};
 ghost use Rattle.machine.specs.Fields.{key_of, taking};
-ghost use Rattle.reading.specs.Given.{longest_line, Stored, ListRead};
-ghost use Rattle.inventory.specs.Given.{most_listed, listed_room, KeysGiven};
+ghost use Rattle.reading.specs.Given.{longest_line, Stored};
+ghost use Rattle.inventory.specs.Given.{listed_room, KeysGiven};
 
 use lent_lists::KEY;
 use lines::read::Named;
-use reading::fields::{key_at, number_at};
+use reading::fields::key_at;
 use reading::hashes::hash_of;
+use reading::list::{self, Element};
 
 // The most keys that a line of 65,536 bytes can hold: each takes a comma, a letter and a digit or more.
 const KEYS: usize = 21_845;
@@ -33,18 +35,23 @@ fn put_key(keys: &mut [u8], i: usize, key: Named<ident::Kind>)
     lent_lists::put_key(keys, i, ident::Key { kind, hash });
 }
 
-// The n keys whose fields stand behind the comma at index e, and where the last ends.
-fn read_keys(line: &[u8], e: usize, n: usize, keys: &mut [u8]) -> Option<usize>
-    requires { (n ≤ most_listed) × (listed_room ≤ length keys.old) }
-    ensures { ListRead (taking key_of) line.now e n (keys_in n keys.new) result }
-{
-    let mut to = e;
-    for i in 0..n {
-        let key = key_at(line, to)?;
+// A key of a list.
+struct ListedKey;
+
+impl Element for ListedKey {
+    ghost Value = { Key };
+
+    ghost reads = { taking key_of };
+
+    ghost size = { key_bytes };
+
+    ghost held = { key_in };
+
+    fn take(line: &[u8], e: usize, i: usize, keys: &mut [u8]) -> Option<usize> {
+        let key = key_at(line, e)?;
         put_key(keys, i, key.value);
-        to = key.end;
+        Some(key.end)
     }
-    Some(to)
 }
 
 // The list behind the comma at index e, the line's last fields: how many keys stand in the bytes.
@@ -52,14 +59,5 @@ pub fn read_list(line: &[u8], e: usize, keys: &mut [u8]) -> Option<usize>
     requires { (length line.now ≤ longest_line) × (listed_room ≤ length keys.old) }
     ensures { KeysGiven line.now e keys.new result }
 {
-    let count = number_at(line, e)?;
-    if 21_845 < count.value {
-        return None;
-    }
-    let n = count.value as usize;
-    let end = read_keys(line, count.end, n, keys)?;
-    if end < line.len() {
-        return None;
-    }
-    Some(n)
+    list::read_list::<ListedKey>(line, e, KEYS, keys)
 }

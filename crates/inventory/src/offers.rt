@@ -45,7 +45,7 @@ fn put_offer(
     words::put(priorities, i, priority);
 }
 
-// The n offers whose fields stand behind the comma at index e, and where the last ends.
+// The n offers whose fields stand behind the comma at index e, and where the last ends. No Element: an offer goes into two buffers.
 fn read_offers(
     line: &[u8],
     e: usize,

@@ -1,5 +1,5 @@
 -- The list of hashes that stands behind a line's other fields.
-use Prim.Native.Nat.{ℕ, ◌+◌, ◌*◌, ◌≤◌}
+use Prim.Native.Nat.{ℕ, ◌*◌, ◌≤◌}
 use mathlib.Core.Path.{◌≡◌, sym, ap, ◌∙◌}
 use mathlib.Core.List.{List}
 use mathlib.Core.Option.{some}
@@ -11,13 +11,13 @@ use Rattle.ident.specs.Words.{hash_bytes}
 use Rattle.words.specs.Words.{number}
 use Rattle.machine.specs.Call.{On}
 use Rattle.lent_lists.specs.Lists.{hashes_in}
-use Rattle.machine.specs.Fields.{hash_of, rest, taking}
+use Rattle.machine.specs.Fields.{hash_of, taking}
 use Rattle.std.specs.Prelude.{None, Some}
-use Rattle.reading.specs.Line.{Line, Asks, list_then}
+use Rattle.reading.specs.Line.{Asks}
 use Rattle.reading.specs.Lists.{list_call}
-use Rattle.reading.specs.Given.{most_hashes, stored_bytes, hashes_of, HashesGiven}
+use Rattle.reading.specs.Given.{most_hashes, stored_bytes, hashes_of, Takes, NoList, IsList, HashesGiven}
 use Rattle.reading.proofs.Bytes.{numeral_some}
-use Rattle.reading.proofs.Elements.{Takes, takes_field, NoList}
+use Rattle.reading.proofs.Elements.{takes_field}
 use Rattle.reading.proofs.Stored.{all_stored}
 
 -- a comma and a digit
@@ -33,7 +33,7 @@ module _ {l : List ℕ} {e : ℕ} {b : List ℕ} where
   unfolding list_call
   no-hashes g = record { is = λ ask. g (λ hs. Asks (On (ask hs))) }
 
-  pub hashes-are : {n : ℕ} → n ≤ most_hashes → stored_bytes ≤ length b → ((line : List ℕ → Line) → list_then (taking hash_of) line (rest l (e + 1)) ≡ some (line (hashes_of n b)))
+  pub hashes-are : {n : ℕ} → n ≤ most_hashes → stored_bytes ≤ length b → IsList (taking hash_of) l e (hashes_of n b)
       → HashesGiven l e b (Some (n * hash_bytes))
   unfolding list_call
   hashes-are {n} f s g =

@@ -10,12 +10,7 @@ use borrow.Author.Tests.{leb-true}
 use Rattle.machine.proofs.Tests.{by_test}
 use Rattle.machine.specs.Fields.{numeral_of, push, fields, rest, with_value}
 use Rattle.reading.specs.Line.{Line}
-
--- ---- the bytes of fields, a comma counted with each
-
-unfoldable pub bytes : List (List ℕ) → ℕ
-bytes [] = 0
-bytes (f ∷ fs) = suc (length f) + bytes fs
+use Rattle.reading.specs.Given.{bytes}
 
 bytes-push : (c : ℕ) (fs : List (List ℕ)) → 1 ≤ bytes fs → bytes (push c fs) ≡ suc (bytes fs)
 unfolding bytes push

@@ -9,9 +9,9 @@ use lib.ListN.{length}
 use Rattle.machine.specs.Fields.{number_of, rest, taking, ending, elements_then}
 use Rattle.std.specs.Prelude as Rust
 use Rattle.reading.specs.Line.{Line, Reader, list_then}
-use Rattle.reading.specs.Given.{At, then_of, ElementRead, FieldRead, ElementsRead, ElementsAs, ListRead}
+use Rattle.reading.specs.Given.{At, then_of, ElementRead, FieldRead, ElementsRead, ElementsAs, ListRead, Stored, bytes, Takes, NoList, IsList, WholeAs, WholeList, Taken, TakenAs, ElementHeld}
 use Rattle.reading.proofs.Taking.{field_not, field_is, ending_end, ending_more}
-use Rattle.reading.proofs.Bytes.{bytes, bytes_rest, no_value}
+use Rattle.reading.proofs.Bytes.{bytes_rest, no_value}
 
 -- ---- one element after the other
 
@@ -52,11 +52,23 @@ module _ {A : Type 0} {read : Reader A} {l : List ℕ} {e n to i : ℕ} {xs : Li
             ∙ ap (λ (zs : List A). elements_then read (n - (i + 1)) zs k (rest l (a.end + 1))) (sym w);
       }
 
--- ---- more elements than a line has room for
+-- an element as it was taken
+module _ {A : Type 0} {read : Reader A} {size : ℕ} {f : List ℕ → A} {l : List ℕ} {e i : ℕ} {b b' : List ℕ} {r : Rust.Option ℕ} (t : Taken read size f l e i b b' r) where
+  pub not_taken : r ≡ Rust.None → ElementRead read l e none
+  not_taken g = subst (TakenAs read size f l e i b b') g t.is
 
--- what is read has w bytes or more, its commas counted
-pub record Takes {A : Type 0} (read : Reader A) (w : ℕ) : Type 0 where
-  pub is : (k : A → List (List ℕ) → Option Line) (fs : List (List ℕ)) → ((x : A) (gs : List (List ℕ)) → bytes gs + w ≤ bytes fs → k x gs ≡ none) → read k fs ≡ none
+  pub as_taken : {to : ℕ} → r ≡ Rust.Some to → ElementHeld read size f l e i b b' to
+  as_taken g = subst (TakenAs read size f l e i b b') g t.is
+
+-- an element that stands in what is read at e
+module _ {A : Type 0} {read : Reader A} {size : ℕ} {f : List ℕ → A} {l : List ℕ} {e i : ℕ} {b b' : List ℕ} {o : Option (At A)} (p : ElementRead read l e o) where
+  pub not_there : o ≡ none → Taken read size f l e i b b' Rust.None
+  not_there z = record { is = subst (ElementRead read l e) z p }
+
+  pub taken_there : {a : At A} → o ≡ some a → Stored size f b b' i a.value → Taken read size f l e i b b' (Rust.Some a.end)
+  taken_there {a} z s = record { is = record { value = a.value; found = subst (ElementRead read l e) z p; stored = s } }
+
+-- ---- more elements than a line has room for
 
 -- one field that has so many bytes
 module _ {A : Type 0} (read : List ℕ → Option A) {w : ℕ} (h : (f : List ℕ) (x : A) → read f ≡ some x → w ≤ suc (length f)) where
@@ -75,10 +87,6 @@ too_few {w = w} t zero xs k fs h = absurd (omega (arith, h))
 too_few {A} {read} {w} t (suc n) xs k fs h = t.is (λ x. elements_then read n (xs ++ (x ∷ [])) k) fs (λ x gs g. too_few t n (xs ++ (x ∷ [])) k gs (omega (arith, g, mul-suc w n, h)))
 
 -- ---- the whole list
-
--- nothing is made of a line's list, whatever it is for
-abbrev pub NoList : {A : Type 0} → Reader A → List ℕ → ℕ → Type 0
-NoList {A} read l e = (line : List A → Line) → list_then read line (rest l (e + 1)) ≡ none
 
 module _ {A : Type 0} (line : List A → Line) where
   abbrev whole : List A → List (List ℕ) → Option Line
@@ -122,3 +130,15 @@ module _ {A : Type 0} (read : Reader A) {l : List ℕ} {e : ℕ} {o : Option (At
 
         pub list_is : length l ≤ to → (line : List A → Line) → list_then read line (rest l (e + 1)) ≡ some (line xs)
         list_is m line = to_end line ∙ ending_end l to _ m
+
+-- ---- the whole list, as it was read
+
+module _ {A : Type 0} {read : Reader A} {l : List ℕ} {e most : ℕ} {xs : ℕ → List A} {r : Rust.Option ℕ} (q : WholeList read l e most xs r) where
+  pub not_whole : {w : ℕ} → r ≡ Rust.None → Takes read w → length l < w * (most + 1) → NoList read l e
+  not_whole {w} g t m = subst (WholeAs read l e most xs) g q.is w t m
+
+  pub few_enough : {n : ℕ} → r ≡ Rust.Some n → n ≤ most
+  few_enough g = (subst (WholeAs read l e most xs) g q.is).0
+
+  pub whole_is : {n : ℕ} → r ≡ Rust.Some n → IsList read l e (xs n)
+  whole_is g = (subst (WholeAs read l e most xs) g q.is).1

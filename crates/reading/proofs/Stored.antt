@@ -2,7 +2,7 @@
 use Prim.Native.Nat.{ℕ, zero, suc, ◌+◌, ◌*◌, ◌/◌, ◌≤◌, ◌<◌, ◌^◌}
 use mathlib.Core.Path.{◌≡◌, refl, ap, ◌∙◌}
 use mathlib.Core.List.{List, [], ◌∷◌, ◌++◌}
-use native.Mathlib.Nat.{mul_comm, mul-div_cancel_left}
+use native.Mathlib.Nat.{mul_comm, mul-suc, mul-le-mul_left, mul-div_cancel_left}
 use native.Mathlib.Omega.{arith}
 use lib.Dec.{lit≤}
 use lib.ListN.{length, take, drop, get_or}
@@ -15,7 +15,7 @@ use Rattle.regions.specs.Rows.{quad_words, quad_number}
 use Rattle.words.specs.Words.{number, digits, recs, splice}
 use Rattle.words.proofs.Digits.{length_digits, number_digits, number_below}
 use Rattle.words.proofs.Records.{recs-add, recs_front, recs-take}
-use Rattle.reading.specs.Given.{most_hashes, stored_bytes, hashes_of, Stored}
+use Rattle.reading.specs.Given.{hashes_of, Stored}
 
 -- ---- one record more in the bytes
 
@@ -31,6 +31,10 @@ module _ {A : Type 0} (k : ℕ) (f : List ℕ → A) (i : ℕ) (b x : List ℕ) 
       let m : length p ≡ k * i = length-take-le (k * i) b h in
       recs-add k f i 1 (p ++ (x ++ y)) ∙ rw (recs_front k f i p (x ++ y) (at_most m), recs-take k f i b h, drop_at p (x ++ y) (k * i) m, take_at x y k l)
 
+-- there is room for one record of k bytes more
+pub record_inside : (k : ℕ) {i n m : ℕ} → i < n → k * n ≤ m → k * i + k ≤ m
+record_inside k {i} {n} h r = omega (arith, r, mul-suc k i, mul-le-mul_left {m = suc i} {n = n} k (omega arith))
+
 pub quad_below : (q : Quad) → q.w0 < 2 ^ 64 → q.w1 < 2 ^ 64 → q.w2 < 2 ^ 64 → q.w3 < 2 ^ 64 → quad_number q < top
 unfolding quad_number top
 quad_below q h₀ h₁ h₂ h₃ = number_below (2 ^ 64) (quad_words q) (λ i _. fits i)
@@ -42,7 +46,7 @@ quad_below q h₀ h₁ h₂ h₃ = number_below (2 ^ 64) (quad_words q) (λ i _.
     fits (suc (suc (suc zero))) = h₃
     fits (suc (suc (suc (suc i)))) = lit≤ tt
 
-module _ (b : List ℕ) (i : ℕ) (g : i < most_hashes) (s : stored_bytes ≤ length b) where
+module _ (b : List ℕ) (i : ℕ) (r : hash_bytes * i + hash_bytes ≤ length b) where
   put-number : (h : ℕ) → h < top → hashes_of (i + 1) (splice b (i * hash_bytes) (digits 256 hash_bytes h)) ≡ hashes_of i b ++ (h ∷ [])
   unfolding top
   put-number h u =

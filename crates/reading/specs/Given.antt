@@ -1,5 +1,5 @@
 -- What the contracts of the readers say.
-use Rattle.std.specs.Prelude.{ℕ, ◌+◌, ◌-◌, ◌<◌, ◌≤◌, ◌≡◌, Bool, List, [], ◌∷◌, ◌++◌, length, take, drop, Option, None, Some}
+use Rattle.std.specs.Prelude.{ℕ, ◌+◌, ◌-◌, ◌*◌, ◌<◌, ◌≤◌, ◌≡◌, Bool, List, [], ◌∷◌, ◌++◌, length, take, drop, Option, None, Some}
 use Rattle.std.proofs.Math.Option as math
 use Rattle.std.proofs.Math.Option.{none, some}
 use Rattle.ident.specs.Number.{Key, Item}
@@ -16,7 +16,7 @@ use Rattle.ident.specs.declared.ItemKind.{ItemKind}
 use Rattle.regions.specs.declared.Quad.{Quad}
 use Rattle.reading.specs.declared.fields.Parsed.{Parsed}
 use Rattle.reading.specs.declared.forms.Values as forms
-use Rattle.reading.specs.Line.{Line, Asks, Reader}
+use Rattle.reading.specs.Line.{Line, Asks, Reader, list_then}
 use Rattle.reading.specs.Forms.{Values, blank, Then, field_then, form_then}
 use Rattle.reading.specs.Lists.{list_call}
 
@@ -126,6 +126,45 @@ pub record ListRead {A : Type 0} (read : Reader A) (l : List ℕ) (e n : ℕ) (x
 -- x stands in the bytes as one record more, behind i others
 pub record Stored {A : Type 0} (size : ℕ) (f : List ℕ → A) (b b' : List ℕ) (i : ℕ) (x : A) : Type 0 where
   pub is : recs size f (i + 1) b' ≡ recs size f i b ++ (x ∷ [])
+
+-- the element behind the comma at index e ends at index to, and stands in the bytes as the i-th
+pub record ElementHeld {A : Type 0} (read : Reader A) (size : ℕ) (f : List ℕ → A) (l : List ℕ) (e i : ℕ) (b b' : List ℕ) (to : ℕ) : Type 0 where
+  pub value : A
+  pub found : ElementRead read l e (some (record { value = value; end = to }))
+  pub stored : Stored size f b b' i value
+
+abbrev pub TakenAs : {A : Type 0} → Reader A → ℕ → (List ℕ → A) → List ℕ → ℕ → ℕ → List ℕ → List ℕ → Option ℕ → Type 0
+TakenAs read size f l e i b b' None = ElementRead read l e none
+TakenAs read size f l e i b b' (Some to) = ElementHeld read size f l e i b b' to
+
+-- the element behind the comma at index e, taken into the bytes as the i-th
+pub record Taken {A : Type 0} (read : Reader A) (size : ℕ) (f : List ℕ → A) (l : List ℕ) (e i : ℕ) (b b' : List ℕ) (r : Option ℕ) : Type 0 where
+  pub is : TakenAs read size f l e i b b' r
+
+-- the bytes of fields, a comma counted with each
+unfoldable pub bytes : List (List ℕ) → ℕ
+bytes [] = 0
+bytes (f ∷ fs) = length f + 1 + bytes fs
+
+-- what is read has w bytes or more, its commas counted
+pub record Takes {A : Type 0} (read : Reader A) (w : ℕ) : Type 0 where
+  pub is : (k : A → List (List ℕ) → math.Option Line) (fs : List (List ℕ)) → ((x : A) (gs : List (List ℕ)) → bytes gs + w ≤ bytes fs → k x gs ≡ none) → read k fs ≡ none
+
+-- nothing is made of a line's list, whatever it is for
+abbrev pub NoList : {A : Type 0} → Reader A → List ℕ → ℕ → Type 0
+NoList {A} read l e = (line : List A → Line) → list_then read line (rest l (e + 1)) ≡ none
+
+-- the list is xs, whatever it is for
+abbrev pub IsList : {A : Type 0} → Reader A → List ℕ → ℕ → List A → Type 0
+IsList {A} read l e xs = (line : List A → Line) → list_then read line (rest l (e + 1)) ≡ some (line xs)
+
+-- the list behind the comma at index e: n elements, `xs n`. Where it is refused, there is none, if the line is too short for more than `most`.
+abbrev pub WholeAs : {A : Type 0} → Reader A → List ℕ → ℕ → ℕ → (ℕ → List A) → Option ℕ → Type 0
+WholeAs read l e most xs None = (w : ℕ) → Takes read w → length l < w * (most + 1) → NoList read l e
+WholeAs read l e most xs (Some n) = (n ≤ most) × IsList read l e (xs n)
+
+pub record WholeList {A : Type 0} (read : Reader A) (l : List ℕ) (e most : ℕ) (xs : ℕ → List A) (r : Option ℕ) : Type 0 where
+  pub is : WholeAs read l e most xs r
 
 -- ---- a list of hashes
 

@@ -4,3 +4,4 @@
 pub mod fields;
 pub mod forms;
 pub mod hashes;
+pub mod list;
