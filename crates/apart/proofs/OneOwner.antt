@@ -5,7 +5,6 @@ use mathlib.Core.Logic.{inl, inr}
 use mathlib.Core.Bool.{Bool, true, false}
 use mathlib.Core.List.{List, [], ◌∷◌, ◌++◌, append_assoc, append-nil}
 use native.Mathlib.Omega.{arith}
-use lib.Dec.{eqb}
 use lib.ListN.{length, take, drop, get_or, set, length-map, length-set}
 use lib.Seq.{map-set_same, get_or-set_other}
 use Rattle.ident.specs.declared.Kind.{Kind}
@@ -73,9 +72,9 @@ module _ {b f : List ℕ} {m : ℕ} {st : State} {xs : List Slot} (o : Apart b f
   pub few_parents : {k : Key} {r : Spot} → SpotHeld (plain xs) k r → r.parents ≤ list_most
   few_parents {r = r} h = let x = each_at (λ p. length p.parents ≤ list_most) (plain xs) r.at (blank 0 0) o.short h.inside in omega (arith, h.parents (blank 0 0))
 
-  pub lapsed_kept : {k : Key} {r : Spot} → SpotHeld (plain xs) k r → 0 < r.stage → {n now : ℕ} → now < word → k.hash < top → {b₂ f₂ : List ℕ} → LapsedTo b₂ f₂ m st xs r k n now
+  pub lapsed_kept : {k : Key} {r : Spot} → SpotHeld (plain xs) k r → {n now : ℕ} → now < word → k.hash < top → {b₂ f₂ : List ℕ} → LapsedTo b₂ f₂ m st xs r k n now
       → Kept (take (m - 0) (drop 0 b₂))
-  lapsed_kept {k} {r} h z {n} {now} late small {b₂} g = subst Kept (sym (front_lent b₂ m)) (record {
+  lapsed_kept {k} {r} h {n} {now} late small {b₂} g = subst Kept (sym (front_lent b₂ m)) (record {
     state = bare_state (on_table (failed k n now st.table).table st);
     sound = sound-bare (sound-table o.sound (bounded-failed k n now small late o.sound.bounded));
     writes = g.writes;
@@ -149,7 +148,7 @@ dying-parents (x ∷ xs) (suc i) = dying-parents xs i
 
 module _ (r : Spot) (xs : List Slot) where
   by_stage : (P : List Slot → Type 0) → P xs → P (set xs r.at (dying (get_or xs r.at nowhere))) → P (lapsed r xs)
-  by_stage P u w = elim (test (eqb r.stage 3)) [ inl e ↦ rw e u | inr e ↦ rw e w ]
+  by_stage P u w = elim (test r.enqueued) [ inl e ↦ rw e u | inr e ↦ rw e w ]
 
   lapsed-hashes : place_hashes (plain (lapsed r xs)) ≡ place_hashes (plain xs)
   lapsed-hashes = by_stage (λ ys. place_hashes (plain ys) ≡ place_hashes (plain xs)) refl (set-hashes dying (λ x. refl) xs r.at)

@@ -5,7 +5,7 @@ use mathlib.Core.Logic.{inl, inr}
 use mathlib.Core.List.{List, [], ◌∷◌}
 use native.Mathlib.Nat.{le_refl}
 use native.Mathlib.Omega.{arith}
-use lib.Dec.{ltb}
+use lib.Dec.{eqb, ltb}
 use lib.ListN.{length, take, drop, get_or, length-map}
 use borrow.Author.Tests.{ltb-true, ltb-false}
 use Rattle.std.specs.Prelude as rust
@@ -120,7 +120,7 @@ module _ (ps : List Place) (h i : ℕ) (s : Sorted (place_hashes ps)) (b : Bound
 module _ {b f : List ℕ} {m n : ℕ} where
   -- no place of k lives
   spot_none : (k : Key) → ((Q : ℕ) (xs : List Slot) → n ≡ length xs → Slots b f m Q xs → PlacesAscend 0 (plain xs) → SpotNone (plain xs) k) → SpotIn b f m n k rust.None
-  spot_none k h = record { lives = λ r d. absurd (none-some r d); held = λ r d. absurd (none-some r d); none = λ d. h }
+  spot_none k h = record { held = λ r d. absurd (none-some r d); none = λ d. h }
 
   pub spot_txid : (k : Key) → k.kind ≡ Txid → SpotIn b f m n k rust.None
   spot_txid k e = spot_none k (λ Q xs c s a. inl e)
@@ -167,14 +167,14 @@ module _ {b f : List ℕ} {m n : ℕ} where
             let o = ap (λ (j : ℕ). (get_or ps j d).stage) u in
             omega arith))
 
-        pub spot_found : (p.stage ≡ 0 → ⊥) → SpotIn b f m n (wtxid h) (rust.Some (record { at = i; stage = p.stage; parents = p.parents }))
+        pub spot_found : (p.stage ≡ 0 → ⊥) → SpotIn b f m n (wtxid h) (rust.Some (record { at = i; enqueued = eqb p.stage 3; parents = p.parents }))
         spot_found z = record {
-          lives = λ v d. rw (sym (same_Some _ v d)) (omega (arith, z));
           held = λ v d Q xs c s a. subst (SpotHeld (plain xs) (wtxid h)) (same_Some _ v d) (record {
             kind = refl;
             inside = within xs c;
             hash = λ d. same Q xs c s a d;
-            stage = λ d. head-stage (get_or (plain xs) i d) (here Q xs c s d);
+            lives = λ d. omega (arith, z, head-stage (get_or (plain xs) i d) (here Q xs c s d));
+            enqueued = λ d. ap (λ (n : ℕ). eqb n 3) (head-stage (get_or (plain xs) i d) (here Q xs c s d));
             parents = λ d. head-parents (get_or (plain xs) i d) (here Q xs c s d);
           });
           none = λ d. absurd (none-some _ (sym d));

@@ -2,7 +2,7 @@
 -- it, the others behind those bytes. A place whose stage is 0 is dead: its request has lost it. Which of its parents were kept is noted in
 -- two of the words of a place that are zero at rest.
 use Rattle.std.specs.Prelude as rust
-use Rattle.std.specs.Prelude.{ℕ, ◌+◌, ◌-◌, ◌*◌, ◌≤◌, ◌<◌, ◌≡◌, ◌⊎◌, true, List, [], ◌∷◌, map, length, take, drop, get_or, set}
+use Rattle.std.specs.Prelude.{eqb, ℕ, ◌+◌, ◌-◌, ◌*◌, ◌≤◌, ◌<◌, ◌≡◌, ◌⊎◌, true, List, [], ◌∷◌, map, length, take, drop, get_or, set}
 use Rattle.ident.specs.declared.Kind.TheVariants.{Txid, Wtxid}
 use Rattle.ident.specs.Number.{Key}
 use Rattle.words.specs.Words.{words, splice}
@@ -122,12 +122,13 @@ pub record Forgotten (b b' f f' : List ℕ) (m n : ℕ) : Type 0 where
 
 -- ---- the place of a key that is not dead
 
--- the i-th of the places is that of k
+-- the place r is that of k, and not dead
 pub record SpotHeld (ps : List Place) (k : Key) (r : Spot) : Type 0 where
   pub kind : k.kind ≡ Wtxid
   pub inside : r.at < length ps
   pub hash : (d : Place) → (get_or ps r.at d).hash ≡ k.hash
-  pub stage : (d : Place) → r.stage ≡ (get_or ps r.at d).stage
+  pub lives : (d : Place) → 0 < (get_or ps r.at d).stage
+  pub enqueued : (d : Place) → r.enqueued ≡ eqb (get_or ps r.at d).stage 3
   pub parents : (d : Place) → r.parents ≡ length (get_or ps r.at d).parents
 
 -- no place that is not dead is that of k
@@ -135,7 +136,6 @@ abbrev pub SpotNone : List Place → Key → Type 0
 SpotNone ps k = (k.kind ≡ Txid) ⊎ ((j : ℕ) (d : Place) → j < length ps → live (get_or ps j d) ≡ true → (get_or ps j d).hash ≡ k.hash → ⊥)
 
 pub record SpotIn (b f : List ℕ) (m n : ℕ) (k : Key) (o : rust.Option Spot) : Type 0 where
-  pub lives : (r : Spot) → o ≡ rust.Some r → 0 < r.stage
   pub held : (r : Spot) → o ≡ rust.Some r → (Q : ℕ) (xs : List Slot) → n ≡ length xs → Slots b f m Q xs → PlacesAscend 0 (plain xs) → SpotHeld (plain xs) k r
   pub none : o ≡ rust.None → (Q : ℕ) (xs : List Slot) → n ≡ length xs → Slots b f m Q xs → PlacesAscend 0 (plain xs) → SpotNone (plain xs) k
 

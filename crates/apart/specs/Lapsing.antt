@@ -1,5 +1,5 @@
 -- An owner whose time is over, where the places are set apart.
-use Rattle.std.specs.Prelude.{ℕ, suc, ◌≤◌, ◌<◌, ◌≡◌, true, List, [], ◌∷◌, ◌++◌, eqb, length, take, get_or, set, if◌then◌else◌}
+use Rattle.std.specs.Prelude.{ℕ, suc, ◌≤◌, ◌<◌, ◌≡◌, true, List, [], ◌∷◌, ◌++◌, length, take, get_or, set, if◌then◌else◌}
 use Rattle.ident.specs.Number.{Key, place, wtxid}
 use Rattle.places.specs.Places.{blank}
 use Rattle.machine.specs.Limits.{Limits}
@@ -37,14 +37,14 @@ nowhere = at_rest (blank 0 0)
 
 -- the place of an Enqueued package stays, another dies
 abbrev pub lapsed : Spot → List Slot → List Slot
-lapsed r xs = if eqb r.stage 3 then xs else set xs r.at (dying (get_or xs r.at nowhere))
+lapsed r xs = if r.enqueued then xs else set xs r.at (dying (get_or xs r.at nowhere))
 
 pub record LapsedTo (b' f' : List ℕ) (m : ℕ) (st : State) (xs : List Slot) (r : Spot) (k : Key) (n now : ℕ) : Type 0 where
   pub writes : Writes (take m b') (bare_state (on_table (failed k n now st.table).table st))
   pub slots : Slots b' f' m st.places (lapsed r xs)
 
 abbrev pub Lapses : List ℕ → List ℕ → List ℕ → List ℕ → ℕ → Spot → Key → ℕ → ℕ → Type 0
-Lapses b b' f f' m r k n now = (st : State) (xs : List Slot) → Apart b f m st xs → SpotHeld (plain xs) k r → 0 < r.stage → LapsedTo b' f' m st xs r k n now
+Lapses b b' f f' m r k n now = (st : State) (xs : List Slot) → Apart b f m st xs → SpotHeld (plain xs) k r → LapsedTo b' f' m st xs r k n now
 
 -- some state whose places are set apart has the place r at k
 pub record PlaceExpiring (b f : List ℕ) (m : ℕ) (r : Spot) (k : Key) (n : ℕ) : Type 0 where
@@ -52,7 +52,6 @@ pub record PlaceExpiring (b f : List ℕ) (m : ℕ) (r : Spot) (k : Key) (n : �
   pub places : List Slot
   pub apart : Apart b f m state places
   pub held : SpotHeld (plain places) k r
-  pub some_stage : 0 < r.stage
   pub some_peer : 1 ≤ n
 
 -- ---- an owner
@@ -68,7 +67,7 @@ pub record PlaceExpired (b' f' : List ℕ) (m : ℕ) (st : State) (xs : List Slo
   pub none_left : x.spent ≡ true → Spent (expire_at (limits_of st) now k n st.table).table
 
 abbrev pub PlaceExpires : List ℕ → List ℕ → List ℕ → List ℕ → ℕ → Spot → Key → ℕ → ℕ → Announced → Type 0
-PlaceExpires b b' f f' m r k n now x = (st : State) (xs : List Slot) → Apart b f m st xs → SpotHeld (plain xs) k r → 0 < r.stage → owner_is n (at k st.table).owner ≡ true
+PlaceExpires b b' f f' m r k n now x = (st : State) (xs : List Slot) → Apart b f m st xs → SpotHeld (plain xs) k r → owner_is n (at k st.table).owner ≡ true
     → PlaceExpired b' f' m st xs r k n now x
 
 -- what one owner leaves, if q was known before: q.noted places have notes at most, and q.spent says that nobody can be evicted

@@ -7,7 +7,6 @@ ghost use Rattle.apart.specs.Noting.{Exhausted};
 ghost use Rattle.apart.specs.Lapsing.{Lapses, PlaceExpiring, PlaceExpires, Expires};
 
 use crate::{noting, slots};
-use places::ENQUEUED;
 
 // The owner n of the request at k, whose place is p, fails, unless its package is Enqueued, and the place dies.
 fn lapse(
@@ -22,7 +21,7 @@ fn lapse(
     requires { Room s.old first.old m (p.at + 1) × Kept (take m s.old) }
     ensures { Lapses s.old s.new first.old first.new m p (key_num k) n clock }
 {
-    if p.stage != ENQUEUED {
+    if !p.enqueued {
         failing::failed(&mut s[0..m], k, n, clock);
         slots::kill(s, m, first, p.at);
     }

@@ -8,13 +8,13 @@ ghost use Rattle.places.specs.Places.{place_size};
 ghost use Rattle.regions.specs.Rows.{quad_number};
 ghost use Rattle.apart.specs.Apart.{slot_bytes, kept_at, with_notes, dying, Room, Loaded, HeadIn, SoughtIn, Altered, NoteAt, NoteIn, Forgotten, SpotIn};
 
-use places::{DEAD, PLACE};
+use places::{DEAD, ENQUEUED, PLACE};
 
-// A place that is not dead: its number, its stage, how many parents it has.
+// A place that is not dead: its number, whether its package is Enqueued, how many parents it has.
 #[derive(Clone, Copy)]
 pub struct Spot {
     pub at: usize,
-    pub stage: u64,
+    pub enqueued: bool,
     pub parents: usize,
 }
 
@@ -167,7 +167,7 @@ fn find_hash(s: &[u8], m: usize, first: &[u8], n: usize, h: ident::Hash) -> Opti
     }
     Some(Spot {
         at: i,
-        stage: p.stage,
+        enqueued: p.stage == ENQUEUED,
         parents: p.parents as usize,
     })
 }

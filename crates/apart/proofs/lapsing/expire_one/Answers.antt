@@ -29,7 +29,6 @@ expire_place-r-requires c = let x = c.requires.0 in (
     places = x.places;
     apart = x.apart;
     held = found_held x c.find.ensures c.in-Some.is;
-    some_stage = c.find.ensures.lives c.in-Some.p c.in-Some.is;
     some_peer = c.requires.1;
   },
   c.requires.2,
@@ -48,5 +47,5 @@ returns c = record {
   most = λ l. let y = found_inside c.requires.0 c.find.ensures c.in-Some.is in omega (arith, y);
   goes = λ st xs o n own.
       let h = c.find.ensures.held c.in-Some.p c.in-Some.is st.places xs n o.slots o.ascend in
-      expired_with o h (c.expire_place-r.ensures st xs o h (c.find.ensures.lives c.in-Some.p c.in-Some.is) own) c.set_note.ensures c.set_note.auto.s c.set_note.auto.first;
+      expired_with o h (c.expire_place-r.ensures st xs o h own) c.set_note.ensures c.set_note.auto.s c.set_note.auto.first;
 }

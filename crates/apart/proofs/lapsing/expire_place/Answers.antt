@@ -24,21 +24,20 @@ lapse-requires c = (
 pub announce_all-requires : goal.announce_all-requires
 announce_all-requires c = let x = c.requires.0 in let
     late : c.args.clock < word = omega arith in (
-      lapsed_kept x.apart x.held x.some_stage late (hash_below c.args.k.hash (key-four c.args.k c.well_formed.1.1.1.1.0))
-          (c.lapse.ensures x.state x.places x.apart x.held x.some_stage),
+      lapsed_kept x.apart x.held late (hash_below c.args.k.hash (key-four c.args.k c.well_formed.1.1.1.1.0))
+          (c.lapse.ensures x.state x.places x.apart x.held),
       x.some_peer,
       few_parents x.apart x.held,
       search rules,
       lapsed-spent x.apart late (hash_below c.args.k.hash (key-four c.args.k
           c.well_formed.1.1.1.1.0))
-          (c.lapse.ensures x.state x.places x.apart x.held x.some_stage)
+          (c.lapse.ensures x.state x.places x.apart x.held)
           c.requires.1,
     )
 
 pub returns : goal.returns
-returns c = λ st xs o h z own. let late : c.args.clock < word = omega arith in place-expired o h z c.args.n c.args.clock late
-    (hash_below c.args.k.hash (key-four c.args.k c.well_formed.1.1.1.1.0)) own (c.lapse.ensures st xs o h
-    z) _ (c.load.ensures st.places xs nowhere (omega (
+returns c = λ st xs o h own. let late : c.args.clock < word = omega arith in place-expired o h c.args.n c.args.clock late
+    (hash_below c.args.k.hash (key-four c.args.k c.well_formed.1.1.1.1.0)) own (c.lapse.ensures st xs o h) _ (c.load.ensures st.places xs nowhere (omega (
       arith,
       h.inside,
       plain-long

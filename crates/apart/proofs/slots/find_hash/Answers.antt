@@ -1,6 +1,5 @@
 -- `apart::slots::find_hash` meets its contract.
 use mathlib.Core.Path.{sym, ◌∙◌}
-use native.Mathlib.Omega.{arith}
 use borrow.Author.Tests.{ltb-true, ltb-false}
 use Rattle.ident.specs.Words.{hash_num}
 use Rattle.regions.specs.Rows.{quad_number}
