@@ -17,10 +17,7 @@ pub fn answer_leaving(store: &mut [u8], out: &mut [u8], v: Values) -> usize
 {
     let mut answer = printing::buffers::answer_buffer();
     match public_packages::departures::disconnected(store, v.connection, v.clock, &mut answer) {
-        Ok(left) => {
-            let n = (left.own + left.parents) as usize;
-            printing::keys::put_departure(out, &answer, left.own, n)
-        }
+        Ok(left) => printing::keys::put_departure(out, &answer, left),
         Err(e) => refusal(out, e),
     }
 }

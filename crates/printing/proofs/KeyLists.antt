@@ -4,19 +4,10 @@ use mathlib.Core.Path.{◌≡◌, refl, sym, ap, subst, ◌∙◌}
 use mathlib.Core.List.{List, [], ◌∷◌, ◌++◌, append_assoc}
 use native.Mathlib.Nat.{pos_of_ne-zero}
 use native.Mathlib.Omega.{arith}
-use lib.Dec.{lit≤, eqb}
-use lib.Seq.{length-take-le, drop-drop, drop_at, take-add, take-take}
-use lib.ListN.{length, take, drop, get_or, length-drop}
-use Rattle.ident.specs.declared.Kind.{Kind}
-use Rattle.ident.specs.declared.Hash.{Hash}
+use lib.Dec.{eqb}
+use lib.ListN.{length, take, drop}
 use Rattle.ident.specs.Number.{Key}
-use Rattle.ident.specs.Words.{hash_bytes, hash_num}
-use Rattle.regions.specs.declared.Quad.{Quad}
-use Rattle.regions.specs.Rows.{quad_number}
-use Rattle.regions.proofs.Order.{number_quad}
-use Rattle.requests.specs.Changes.{Words}
-use Rattle.words.specs.Words.{number, words, recs}
-use Rattle.words.proofs.Words.{word_at}
+use Rattle.words.specs.Words.{recs}
 use Rattle.words.proofs.Records.{recs-add, length-recs}
 use Rattle.machine.specs.Call.{key_bytes}
 use Rattle.lent_lists.specs.Lists.{key_in, keys_in}
@@ -27,7 +18,7 @@ use borrow.Author.Tests.{eq-eqb, ne_eqb, eqb-true, eqb-false}
 use Rattle.machine.proofs.Tests.{by_test}
 use Rattle.lines.proofs.Writing.{wrote_more, wrote_none}
 use Rattle.printing.specs.Replies.{listed, key_texts}
-use Rattle.printing.specs.Given.{answer_room, most_keys, kind_in, next_text, Printed}
+use Rattle.printing.specs.Given.{answer_room, most_keys, next_text, Printed}
 
 -- the i-th key of a buffer
 abbrev pub key_at : List ℕ → ℕ → Key
@@ -54,33 +45,7 @@ unfolding key_texts
 more_of [] k h = absurd (omega arith)
 more_of (j ∷ ks) k h = ap joined (texts-append (j ∷ ks) k) ∙ joined-append (key_text j) (key_texts ks) (key_text k)
 
--- ---- a key in the buffer
-
-key-parts : (u : List ℕ) (i : ℕ) → key_bytes * i + key_bytes ≤ length u
-    → key_at u i ≡ record { kind = kind_in (get_or (words u) (i * 5) 0); hash = number 256 (take hash_bytes (drop (i * 5 * 8 + 8) u)) }
-unfolding key_in
-key-parts u i h =
-    let e : 8 * (i * 5) ≡ key_bytes * i = omega arith in
-    let w : get_or (words u) (i * 5) 0 ≡ number 256 (take 8 (drop (key_bytes * i) u)) = word_at u (i * 5) (omega arith) ∙ rw e in
-    let d : i * 5 * 8 + 8 ≡ key_bytes * i + 8 = omega arith in
-    let k = drop (key_bytes * i) u in
-    let l : 8 ≤ length k = omega (arith, length-drop (key_bytes * i) u) in
-    let t : drop 8 (take key_bytes k) ≡ take hash_bytes (drop (key_bytes * i + 8) u) =
-    ap (drop 8) (take-add 8 32 k) ∙ drop_at (take 8 k) (take hash_bytes (drop 8 k)) 8 (length-take-le 8 k l) ∙ ap (take hash_bytes) (drop-drop 8 (key_bytes * i) u) in
-    let f : take 8 (take key_bytes (drop (key_bytes * i) u)) ≡ take 8 (drop (key_bytes * i) u) = take-take 8 key_bytes (drop (key_bytes * i) u) (lit≤ tt) in
-    rw (w, d, t, f)
-
-pub wrote-key : (u : List ℕ) (i : ℕ) → key_bytes * i + key_bytes ≤ length u → {s s' : List ℕ} {a r w : ℕ} {k : Kind} {h : Hash} {q : Quad}
-    → w ≡ get_or (words u) (i * 5) 0 → k ≡ kind_in w → hash_num h ≡ number 256 (take hash_bytes (drop (i * 5 * 8 + 8) u)) → Words h q
-    → Wrote s s' a (key_text (record { kind = k; hash = quad_number q })) r → Wrote s s' a (key_text (key_at u i)) r
-wrote-key u i l {s} {s'} {a} {r} {w} {k} {h} {q} e f g v p = subst (λ (x : Key). Wrote s s' a (key_text x) r) (same (ap kind_in e) ∙ sym (key-parts u i l)) p
-  where
-    number_is : quad_number q ≡ number 256 (take hash_bytes (drop (i * 5 * 8 + 8) u))
-    number_is = ap quad_number v.words_are ∙ number_quad (hash_num h) ∙ g
-
-    same : kind_in w ≡ kind_in (get_or (words u) (i * 5) 0) → ◌≡◌ {A = Key} (record { kind = k; hash = quad_number q })
-        (record { kind = kind_in (get_or (words u) (i * 5) 0); hash = number 256 (take hash_bytes (drop (i * 5 * 8 + 8) u)) })
-    same z = cc (f ∙ z, number_is)
+-- ---- keys in the buffer
 
 pub length-keys : (n : ℕ) (u : List ℕ) → length (keys_in n u) ≡ n
 unfolding keys_in

@@ -34,10 +34,6 @@ most_owners = 1024
 
 -- ---- keys
 
--- the kind that a key's word stands for
-abbrev pub kind_in : ℕ → Kind
-kind_in n = if eqb n 0 then Txid else Wtxid
-
 -- the i-th text of a list: behind a comma if it is not the first
 abbrev pub next_text : ℕ → List ℕ → List ℕ
 next_text i t = if eqb i 0 then t else 44 ∷ t

@@ -12,7 +12,7 @@ ghost use Rattle.printing.specs.Given.{answer_room, most_entries, key_room, kind
 
 use lines::write::{put_bytes, put_decimal};
 
-fn put_key(out: &mut [u8], at: usize, k: ident::Key) -> usize
+pub fn put_key(out: &mut [u8], at: usize, k: ident::Key) -> usize
     requires { at + key_room ≤ length out.old }
     ensures { Wrote out.old out.new at (key_text (key_num k)) result }
 {

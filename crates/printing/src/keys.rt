@@ -6,30 +6,18 @@ ghost use Rattle.outcome.specs.Reply.{listing_of};
 ghost use Rattle.machine.specs.Text.{decimal, hash_digits, key_text, joined};
 ghost use Rattle.lines.specs.Text.{Wrote};
 ghost use Rattle.printing.specs.Replies.{listed, key_texts};
-ghost use Rattle.printing.specs.Given.{answer_room, most_keys, kind_in, next_text, behind, KeysFit, Printed, ReplyPrinted};
+ghost use Rattle.printing.specs.Given.{answer_room, most_keys, next_text, behind, KeysFit, Printed, ReplyPrinted};
 
 use crate::numbers::refusal;
 use lines::write::put_bytes;
-use outcome::Refusal;
-
-fn kind_of(word: u64) -> ident::Kind
-    ensures { result ≡ kind_in word }
-{
-    if word == 0 {
-        return ident::Kind::Txid;
-    }
-    ident::Kind::Wtxid
-}
+use outcome::{Departure, Refusal};
 
 // The i-th key.
 fn put_key(out: &mut [u8], at: usize, answer: &[u8], i: usize) -> usize
     requires { (key_bytes * i + key_bytes ≤ length answer.now) × (at + (1 + hash_digits) ≤ length out.old) }
     ensures { Wrote out.old out.new at (key_text (key_in (take key_bytes (drop (key_bytes * i) answer.now)))) result }
 {
-    let w = i * 5;
-    let kind = kind_of(words::get(answer, w));
-    let hash = ident::hash_at(answer, w * 8 + 8);
-    lines::write::put_key(out, at, kind, requests::hash_quad(hash))
+    crate::entries::put_key(out, at, lent_lists::key_at(answer, i))
 }
 
 // The i-th key, behind a comma if it is not the first.
@@ -83,11 +71,11 @@ fn put_behind(out: &mut [u8], at: usize, answer: &[u8], n: usize) -> usize
     to
 }
 
-// The number of keys that a connection had, and behind it the first n keys of an answer: those, and then the parents'.
-pub fn put_departure(out: &mut [u8], answer: &[u8], own: u64, n: usize) -> usize
-    requires { (answer_room ≤ length out.old) × (n ≤ most_keys) × (key_bytes * n ≤ length answer.now) }
-    ensures { Printed out.old out.new (joined (decimal own ∷ key_texts (keys_in n answer.now))) result }
+// The number of keys that a connection had, and behind it the keys of an answer: those, and then the parents'.
+pub fn put_departure(out: &mut [u8], answer: &[u8], left: Departure) -> usize
+    requires { (answer_room ≤ length out.old) × (left.own + left.parents ≤ most_keys) × (key_bytes * (left.own + left.parents) ≤ length answer.now) }
+    ensures { Printed out.old out.new (joined (decimal left.own ∷ key_texts (keys_in (left.own + left.parents) answer.now))) result }
 {
-    let at = lines::write::put_decimal(out, 0, own);
-    put_behind(out, at, answer, n)
+    let at = lines::write::put_decimal(out, 0, left.own);
+    put_behind(out, at, answer, (left.own + left.parents) as usize)
 }

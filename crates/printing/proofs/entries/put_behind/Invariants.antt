@@ -1,5 +1,5 @@
 -- `printing::entries::put_behind` meets its contract. The loop's invariant: the first i entries are written.
-use Prim.Native.Nat.{◌+◌, ◌*◌, ◌-◌, ◌≤◌}
+use Prim.Native.Nat.{◌+◌, ◌*◌, ◌≤◌}
 use mathlib.Core.Path.{◌≡◌}
 use lib.ListN.{length}
 use Rattle.claiming.specs.Claiming.{entries_from}

@@ -1,5 +1,4 @@
 -- `printing::holdings::put_owners` meets its contract.
-use Prim.Native.Nat.{◌-◌}
 use Rattle.lent_lists.specs.Lists.{hashes_in}
 use Rattle.printing.proofs.OwnerLists.{Telling}
 use Rattle.printing.proofs.holdings.put_owners.Given as goal

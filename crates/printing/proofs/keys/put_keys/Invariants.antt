@@ -1,5 +1,5 @@
 -- `printing::keys::put_keys` meets its contract. The loop's invariant: the first i keys are written.
-use Prim.Native.Nat.{◌≤◌, ◌*◌, ◌-◌}
+use Prim.Native.Nat.{◌≤◌, ◌*◌}
 use mathlib.Core.Path.{◌≡◌}
 use lib.ListN.{length}
 use Rattle.lent_lists.specs.Lists.{keys_in}
