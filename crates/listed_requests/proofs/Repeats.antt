@@ -10,6 +10,7 @@ use lib.Dec.{eqb}
 use lib.ListN.{length, take, get_or}
 use lib.Seq.{take-suc}
 use borrow.Author.Tests.{eqb-true, eq-eqb}
+use Rattle.std.specs.List.{list_any}
 use Rattle.words.specs.Words.{number}
 use Rattle.words.proofs.Records.{take-recs}
 use Rattle.ident.specs.Words.{hash_bytes}
@@ -19,23 +20,18 @@ use Rattle.machine.proofs.Tests.{test, never}
 use Rattle.machine.proofs.Distinct.{distinct_snoc}
 use Rattle.machine.proofs.SoundTest.{test-distinct}
 use Rattle.lent_lists.specs.Lists.{hashes_in}
-use Rattle.lent_lists.proofs.Given.{elem-met, elem-passed, length-hashes}
+use Rattle.lent_lists.proofs.Given.{elem-met, length-hashes}
 use Rattle.listed_lines.specs.Given.{hashes_of}
 
-pub none_elem : (x : ℕ) (l : List ℕ) → elem x (take 0 l) ≡ false
+-- as a slice's `contains` tells it
+pub any_elem : (x : ℕ) (l : List ℕ) → list_any (λ y. eqb y x) l ≡ elem x l
 unfolding elem
-none_elem x l = refl
+any_elem x [] = refl
+any_elem x (y ∷ l) = rw (any_elem x l) refl
 
 pub none_repeats : (l : List ℕ) → no_repeat (take 0 l) ≡ true
 unfolding no_repeat
 none_repeats l = refl
-
-module _ (x : ℕ) (l : List ℕ) (j : ℕ) where
-  pub elem_here : (n : ℕ) → j < n → n ≤ length l → get_or l j 0 ≡ x → true ≡ elem x (take n l)
-  elem_here n h g e = sym (elem-met x l n j h g (eq-eqb (get_or l j 0) x e))
-
-  pub elem_on : j < length l → elem x (take j l) ≡ false → eqb (get_or l j 0) x ≡ false → elem x (take (j + 1) l) ≡ false
-  elem_on h e d = rw (add-one j) (elem-passed x l j h e d)
 
 -- the next one is not among those before it
 pub distinct_on : (l : List ℕ) (i : ℕ) → i < length l → no_repeat (take i l) ≡ true → elem (get_or l i 0) (take i l) ≡ false → no_repeat (take (i + 1) l) ≡ true

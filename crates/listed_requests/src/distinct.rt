@@ -10,12 +10,7 @@ pub fn stands(list: &[u64], n: usize, x: u64) -> bool
     requires { n ≤ length list.now }
     ensures { result ≡ elem x (take n list.now) }
 {
-    for j in 0..n {
-        if list[j] == x {
-            return true;
-        }
-    }
-    false
+    list[..n].contains(&x)
 }
 
 // Whether the first n numbers are distinct.
