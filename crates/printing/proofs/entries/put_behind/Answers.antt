@@ -6,7 +6,7 @@ use Rattle.printing.proofs.entries.put_behind.Goals as goal
 
 pub loop-i-init : goal.loop-i-init
 loop-i-init c =
-    (omega arith, refl, omega arith, no-entries c.args.out.now c.args.at c.args.answer.now c.args.first refl)
+    (refl, omega arith, no-entries c.args.out.now c.args.at c.args.answer.now c.args.first refl)
 
 pub put_entry-to-requires : goal.put_entry-to-requires
 put_entry-to-requires c = (omega arith, omega (arith, c.put_bytes-from.ensures.next))
@@ -16,13 +16,13 @@ loop-i-preserved c =
     let w = more_entries c.args.first
     c.loop-i.i
     c.args.answer.now
-    (omega arith) c.loop-i.invariant.1
-    c.loop-i.invariant.3 c.put_bytes-from.ensures
+    (omega arith) c.loop-i.invariant.0
+    c.loop-i.invariant.2 c.put_bytes-from.ensures
     c.put_entry-to.ensures in
-    (omega arith, omega (arith, c.put_entry-to.auto, c.put_bytes-from.auto), omega (arith, w.0), w.1)
+    (omega (arith, c.put_entry-to.auto, c.put_bytes-from.auto), omega (arith, w.0), w.1)
 
 pub shape_of-out : goal.shape_of-out
-shape_of-out c = c.loop-i.invariant.1
+shape_of-out c = c.loop-i.invariant.0
 
 pub returns : goal.returns
-returns c = let e : c.loop-i.i ≡ c.args.n = omega arith in (omega arith, rw e at c.loop-i.invariant.3)
+returns c = let e : c.loop-i.i ≡ c.args.n = omega arith in (omega arith, rw e at c.loop-i.invariant.2)

@@ -9,5 +9,5 @@ use Rattle.printing.specs.Given.{behind, entry_room}
 use Rattle.printing.proofs.entries.put_behind.Given as goal
 
 abbrev pub invariant-loop-i : goal.invariant-loop-i
-invariant-loop-i l = (l.i ≤ l.n) × (length l.out ≡ length l.initial.out) × (l.to ≤ l.at + entry_room * l.i)
+invariant-loop-i l = (length l.out ≡ length l.initial.out) × (l.to ≤ l.at + entry_room * l.i)
     × Wrote l.initial.out l.out l.at (behind (entry_texts (entries_from l.answer l.first l.i))) l.to

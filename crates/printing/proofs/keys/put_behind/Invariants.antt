@@ -9,4 +9,4 @@ use Rattle.printing.specs.Given.{behind}
 use Rattle.printing.proofs.keys.put_behind.Given as goal
 
 abbrev pub invariant-loop-i : goal.invariant-loop-i
-invariant-loop-i l = (l.i ≤ l.n) × (length l.out ≡ length l.initial.out) × (l.to ≤ l.at + 66 * l.i) × Wrote l.initial.out l.out l.at (behind (key_texts (keys_in l.i l.answer))) l.to
+invariant-loop-i l = (length l.out ≡ length l.initial.out) × (l.to ≤ l.at + 66 * l.i) × Wrote l.initial.out l.out l.at (behind (key_texts (keys_in l.i l.answer))) l.to

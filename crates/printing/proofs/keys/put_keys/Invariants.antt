@@ -9,4 +9,4 @@ use Rattle.printing.specs.Replies.{key_texts}
 use Rattle.printing.proofs.keys.put_keys.Given as goal
 
 abbrev pub invariant-loop-i : goal.invariant-loop-i
-invariant-loop-i l = (l.i ≤ l.n) × (length l.out ≡ length l.initial.out) × (l.at ≤ 66 * l.i) × Wrote l.initial.out l.out 0 (joined (key_texts (keys_in l.i l.answer))) l.at
+invariant-loop-i l = (length l.out ≡ length l.initial.out) × (l.at ≤ 66 * l.i) × Wrote l.initial.out l.out 0 (joined (key_texts (keys_in l.i l.answer))) l.at
