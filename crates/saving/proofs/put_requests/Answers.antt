@@ -13,9 +13,6 @@ loop-i-init c = walked_none _ _ _
 pub row_at-r-requires : goal.row_at-r-requires
 row_at-r-requires c = (kept_shown c.requires.0, omega (arith, c.rows-n.ensures.word))
 
-pub request_at-q-requires : goal.request_at-q-requires
-request_at-q-requires c = c.requires.0
-
 pub put_request-e-requires : goal.put_request-e-requires
 put_request-e-requires c = (
   c.requires.0,
@@ -76,9 +73,6 @@ loop-i-preserved c = walked_more c.loop-i.invariant (omega (
     c.requires.0
     c.put_request-e.ensures.0 c.put_candidates-at.ensures.0
     c.put_request-e.ensures.1 c.put_candidates-at.ensures.1
-
-pub shape_of-out : goal.shape_of-out
-shape_of-out c = c.loop-i.invariant.long
 
 pub returns : goal.returns
 returns c = walked_all c.loop-i.invariant (omega (arith, c.rows-n.ensures.word))

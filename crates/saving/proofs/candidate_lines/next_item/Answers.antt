@@ -5,12 +5,6 @@ use Rattle.requests.proofs.Pushing.{one_bit}
 use Rattle.saving.proofs.Texts.{item-laid}
 use Rattle.saving.proofs.candidate_lines.next_item.Goals as goal
 
-pub put_letter-e-requires : goal.put_letter-e-requires
-put_letter-e-requires c = omega (arith, c.put_text-from.ensures.next)
-
-pub put_hash-requires : goal.put_hash-requires
-put_hash-requires c = omega (arith, c.put_text-from.ensures.next, c.put_letter-e.ensures.0)
-
 pub returns : goal.returns
 returns c = (
   omega (

@@ -5,39 +5,6 @@ use Rattle.saving.proofs.Laying.{lays_as, lays_more}
 use Rattle.saving.proofs.Lines.{candidate-line}
 use Rattle.saving.proofs.candidate_lines.put_candidate.Goals as goal
 
-pub next_item-e-requires : goal.next_item-e-requires
-next_item-e-requires c = omega (arith, c.put_number-e.ensures.0)
-
-pub next_number-e-requires : goal.next_number-e-requires
-next_number-e-requires c = omega (arith, c.put_number-e.ensures.0, c.next_item-e.ensures.0)
-
-pub next_bool-e-requires : goal.next_bool-e-requires
-next_bool-e-requires c = omega (
-  arith,
-  c.put_number-e.ensures.0,
-  c.next_item-e.ensures.0,
-  c.next_number-e.ensures.0,
-)
-
-pub next_number-e-requires-2 : goal.next_number-e-requires-2
-next_number-e-requires-2 c = omega (
-  arith,
-  c.put_number-e.ensures.0,
-  c.next_item-e.ensures.0,
-  c.next_number-e.ensures.0,
-  c.next_bool-e.ensures.0,
-)
-
-pub put_text-requires : goal.put_text-requires
-put_text-requires c = omega (
-  arith,
-  c.put_number-e.ensures.0,
-  c.next_item-e.ensures.0,
-  c.next_number-e.ensures.0,
-  c.next_bool-e.ensures.0,
-  c.next_number-e-2.ensures.0,
-)
-
 pub returns : goal.returns
 returns c = (
   omega (

@@ -14,12 +14,6 @@ loop-i-init c = (
       c.args.at,
 )
 
-pub row_at-r-requires : goal.row_at-r-requires
-row_at-r-requires c = (c.requires.0, omega (arith, c.requires.2))
-
-pub put_candidate-e-requires : goal.put_candidate-e-requires
-put_candidate-e-requires c = omega (arith, c.loop-i.invariant.3, c.requires.3)
-
 pub loop-i-preserved : goal.loop-i-preserved
 loop-i-preserved c = (
   omega (arith, c.loop-i.invariant.0),
@@ -36,9 +30,6 @@ loop-i-preserved c = (
   )) _ c.loop-i.invariant.4
       c.row_at-r.ensures c.put_candidate-e.ensures.1,
 )
-
-pub shape_of-out : goal.shape_of-out
-shape_of-out c = c.loop-i.invariant.2
 
 pub returns : goal.returns
 returns c = let e : c.loop-i.i ≡ c.args.to = omega arith in (omega (arith, c.loop-i.invariant.3), rw e at c.loop-i.invariant.4)

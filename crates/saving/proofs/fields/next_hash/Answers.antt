@@ -3,9 +3,6 @@ use native.Mathlib.Omega.{arith}
 use Rattle.saving.proofs.Texts.{next_hash-laid}
 use Rattle.saving.proofs.fields.next_hash.Goals as goal
 
-pub put_hash-requires : goal.put_hash-requires
-put_hash-requires c = omega (arith, c.put_text-from.ensures.next)
-
 pub returns : goal.returns
 returns c = (
   omega (arith, c.put_text-from.ensures.next, c.put_hash.ensures.0),

@@ -3,9 +3,6 @@ use native.Mathlib.Omega.{arith}
 use Rattle.saving.proofs.Laying.{lays_more}
 use Rattle.saving.proofs.fields.next_number.Goals as goal
 
-pub put_number-requires : goal.put_number-requires
-put_number-requires c = omega (arith, c.put_text-from.ensures.next)
-
 pub returns : goal.returns
 returns c = (
   omega (arith, c.put_text-from.ensures.next, c.put_number.ensures.0),

@@ -8,9 +8,6 @@ use Rattle.saving.proofs.fields.next_owner.Goals as goal
 pub returns-in_default : goal.returns-in_default
 returns-in_default c = (omega (arith, c.put_text.ensures.next), no-owner (ap owner_as c.in_default.is) c.put_text.ensures)
 
-pub next_number-requires : goal.next_number-requires
-next_number-requires c = omega (arith, c.next_number-e.ensures.0)
-
 pub returns : goal.returns
 returns c = (
   omega (arith, c.next_number-e.ensures.0, c.next_number.ensures.0),

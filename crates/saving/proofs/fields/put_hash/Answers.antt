@@ -14,17 +14,5 @@ slice_bounds-put_text-end c = taken c.put_hash-e.result c.put_hash-e.new.s (omeg
   c.put_hash-e.auto,
 ))
 
-pub put_text-requires : goal.put_text-requires
-put_text-requires c = omega (
-  arith,
-  taken c.put_hash-e.result c.put_hash-e.new.s (omega (
-    arith,
-    hash_end _
-        c.put_hash-e.ensures,
-    c.put_hash-e.auto,
-  )),
-  hash_end _ c.put_hash-e.ensures,
-)
-
 pub returns : goal.returns
 returns c = hash-laid _ c.put_hash-e.ensures c.put_text.ensures

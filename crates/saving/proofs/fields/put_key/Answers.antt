@@ -3,9 +3,6 @@ use native.Mathlib.Omega.{arith}
 use Rattle.saving.proofs.Texts.{key-laid}
 use Rattle.saving.proofs.fields.put_key.Goals as goal
 
-pub put_hash-requires : goal.put_hash-requires
-put_hash-requires c = omega (arith, c.put_kind-e.ensures.next)
-
 pub returns : goal.returns
 returns c = (
   omega (arith, c.put_kind-e.ensures.next, c.put_hash.ensures.0),

@@ -14,17 +14,5 @@ slice_bounds-put_text-end c = taken c.put_decimal-e.result c.put_decimal-e.new.s
   c.put_decimal-e.auto,
 ))
 
-pub put_text-requires : goal.put_text-requires
-put_text-requires c = omega (
-  arith,
-  taken c.put_decimal-e.result c.put_decimal-e.new.s (omega (
-    arith,
-    number_end _
-        c.put_decimal-e.ensures,
-    c.put_decimal-e.auto,
-  )),
-  number_end _ c.put_decimal-e.ensures,
-)
-
 pub returns : goal.returns
 returns c = number-laid _ c.put_decimal-e.ensures c.put_text.ensures

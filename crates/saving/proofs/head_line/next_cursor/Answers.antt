@@ -6,9 +6,6 @@ use Rattle.saving.proofs.head_line.next_cursor.Goals as goal
 pub returns-in_default : goal.returns-in_default
 returns-in_default c = (omega (arith, c.put_text.ensures.next), no-cursor c.in_default.is c.put_text.ensures)
 
-pub put_key-requires : goal.put_key-requires
-put_key-requires c = omega (arith, c.put_text-from.ensures.next)
-
 pub returns : goal.returns
 returns c = (
   omega (arith, c.put_text-from.ensures.next, c.put_key.ensures.0),

@@ -18,39 +18,6 @@ cursor_at-known-requires c = omega (arith, head-room c.requires)
 pub cursor_at-ready-requires : goal.cursor_at-ready-requires
 cursor_at-ready-requires c = omega (arith, head-room c.requires)
 
-pub next_number-e-requires : goal.next_number-e-requires
-next_number-e-requires c = omega (arith, c.put_number-e.ensures.0)
-
-pub next_time-e-requires : goal.next_time-e-requires
-next_time-e-requires c = omega (arith, c.put_number-e.ensures.0, c.next_number-e.ensures.0)
-
-pub next_cursor-e-requires : goal.next_cursor-e-requires
-next_cursor-e-requires c = omega (
-  arith,
-  c.put_number-e.ensures.0,
-  c.next_number-e.ensures.0,
-  c.next_time-e.ensures.0,
-)
-
-pub next_cursor-e-requires-2 : goal.next_cursor-e-requires-2
-next_cursor-e-requires-2 c = omega (
-  arith,
-  c.put_number-e.ensures.0,
-  c.next_number-e.ensures.0,
-  c.next_time-e.ensures.0,
-  c.next_cursor-e.ensures.0,
-)
-
-pub put_text-requires : goal.put_text-requires
-put_text-requires c = omega (
-  arith,
-  c.put_number-e.ensures.0,
-  c.next_number-e.ensures.0,
-  c.next_time-e.ensures.0,
-  c.next_cursor-e.ensures.0,
-  c.next_cursor-e-2.ensures.0,
-)
-
 pub returns : goal.returns
 returns c = (
   omega (

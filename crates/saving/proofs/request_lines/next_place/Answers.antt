@@ -1,5 +1,5 @@
 -- `saving::request_lines::next_place` meets its contract.
-use mathlib.Core.Path.{refl, ap, sym, ◌∙◌}
+use mathlib.Core.Path.{ap, sym, ◌∙◌}
 use native.Mathlib.Omega.{arith}
 use Rattle.std.specs.Prelude.{Some}
 use Rattle.ident.specs.Words.{key_num}
@@ -8,17 +8,11 @@ use Rattle.package_stages.specs.Changes.{stage_word}
 use Rattle.saving.proofs.Places.{staged_word, bare-laid, spot_held, place-laid}
 use Rattle.saving.proofs.request_lines.next_place.Goals as goal
 
-pub put_text-requires : goal.put_text-requires
-put_text-requires c = omega (arith, c.requires.2)
-
 pub returns-in_default : goal.returns-in_default
 returns-in_default c = (
   omega (arith, c.put_text.ensures.next),
   bare-laid (key_num c.args.k) (stage_word c.args.q.stage) (λ st s w. (c.requires.1.is st s w).stage) (ap stage_word c.in_default.is) c.put_text.ensures,
 )
-
-pub seek-requires : goal.seek-requires
-seek-requires c = c.requires.0
 
 pub unreachable-requires : goal.unreachable-requires
 unreachable-requires c =
@@ -26,12 +20,6 @@ unreachable-requires c =
     let z = c.in_default-seek.ensures in
     never (spot_held (key_num c.args.k) (stage_word (Some c.in-Some.stage)) (λ st s w. sym (ap stage_word c.in-Some.is) ∙ (c.requires.1.is st s w).stage)
     z.small (staged_word c.in-Some.stage) k.state k.sound k.writes z)
-
-pub next_package-e-requires : goal.next_package-e-requires
-next_package-e-requires c = (c.requires.0, c.in-Ok.ensures.inside refl, omega (arith, c.requires.2))
-
-pub next_parents-requires : goal.next_parents-requires
-next_parents-requires c = (c.requires.0, c.in-Ok.ensures.inside refl, omega (arith, c.requires.2, c.next_package-e.ensures.0))
 
 pub returns : goal.returns
 returns c = (
