@@ -6,9 +6,8 @@ use mathlib.Core.List.{List, [], ◌∷◌, ◌++◌, append_assoc, append-nil}
 use mathlib.Core.Option.{Option, none, some}
 use native.Mathlib.Omega.{arith}
 use lib.ListN.{length, take, get_or, length-append}
-use lib.Seq.{take_at, take_all}
+use lib.Seq.{take_all}
 use Rattle.ident.specs.Number.{Key}
-use Rattle.words.specs.Words.{splice}
 use Rattle.words.proofs.Splice.{length-splice}
 use Rattle.regions.specs.declared.Row.{Row}
 use Rattle.machine.specs.Limits.{max_known_checks}
@@ -26,8 +25,6 @@ use Rattle.store.specs.Shown.{limit_in, rows_in}
 use Rattle.store.proofs.Frame.{sizes}
 use Rattle.lent_lists.proofs.Answer.{written_more, written_none}
 use Rattle.announcing.specs.Evicts.{part}
-use Rattle.std.specs.Prelude as rust
-use Rattle.ident.specs.declared.Key.{Key as KeyRead}
 use Rattle.cursors.specs.InWords.{Stands}
 use Rattle.sweeping.specs.declared.batch.Batch.{Batch}
 use Rattle.sweeping.specs.Batches.{next_batch, keys_over, last_row, Put, Handing, Walks, AfterKnown, Batched}
@@ -63,12 +60,6 @@ module _ {most : ℕ} {all : List Key} {u₀ u : List ℕ} {v : Batch} where
         all_are = ap (take most) (append_assoc h.out (key_at r ∷ []) rest) ∙ h.all_are;
       }
 
-  -- no room for more
-  handing-full : (more rest : List Key) → v.count ≡ most → Handing most all u₀ u v (more ++ rest) → Handing most all u₀ u v rest
-  handing-full more rest e h =
-      let l : length h.out ≡ most = sym h.count ∙ e in
-      record { out = h.out; count = h.count; bytes = h.bytes; long = h.long; last = h.last; all_are = take_at h.out rest most l ∙ sym (take_at h.out (more ++ rest) most l) ∙ h.all_are }
-
 -- ---- the loop's invariant: the rows before i are done
 
 pub record Walking (b : List ℕ) (from to most : ℕ) (u₀ u : List ℕ) (v w : Batch) (i : ℕ) : Type 0 where
@@ -77,9 +68,6 @@ pub record Walking (b : List ℕ) (from to most : ℕ) (u₀ u : List ℕ) (v w 
   pub few : w.count ≤ most
   pub near : w.count + from ≤ v.count + i
   pub hands : (f : Flat) (all rest : List Key) (x : List ℕ) → Shows b f → Handing most all x u₀ v (keys_over from to f.rows ++ rest) → Handing most all x u w (keys_over i to f.rows ++ rest)
-
-pub walking_start : (b : List ℕ) (from to most : ℕ) (u : List ℕ) (v : Batch) → from ≤ to → v.count ≤ most → Walking b from to most u u v v from
-walking_start b from to most u v l h = record { inside = l; long = refl; few = h; near = omega arith; hands = λ f all rest x w g. g }
 
 min_above : (a x y : ℕ) → a ≤ x → a ≤ y → a ≤ min x y
 min_above a x y h g = omega arith
@@ -90,13 +78,6 @@ module _ {b : List ℕ} {from to most : ℕ} {u₀ u : List ℕ} {v w : Batch} {
     few = k.few;
     near = omega (arith, k.near, k.inside);
     hands = λ f all rest x s g. handing_as (keys_over i to f.rows ++ rest) (ap (λ (l : List Key). l ++ rest) (over_none f.rows i to e)) (k.hands f all rest x s g);
-  }
-
-  pub walking_full : w.count ≡ most → Walks b from to most u₀ u v w
-  walking_full e = record {
-    few = k.few;
-    near = omega (arith, k.near, k.inside);
-    hands = λ f all rest x s g. handing-full (keys_over i to f.rows) rest e (k.hands f all rest x s g);
   }
 
   module _ (l : i < to) where
@@ -130,10 +111,6 @@ module _ {b : List ℕ} {from to most : ℕ} {u₀ u : List ℕ} {v w : Batch} {
       }
 
 -- ---- the parts of a walk put together
-
-pub put-at : {u u' : List ℕ} {v : Batch} (r : Row) {k : Key} {c : rust.Option KeyRead} → k ≡ key_at r → u' ≡ splice u (key_bytes * v.count) (key_answer k) → Stands c (some k)
-    → Put u u' v r (record { count = v.count + 1; last = c })
-put-at {u} {v = v} r e p l = record { count = refl; bytes = p ∙ ap (λ (j : Key). splice u (key_bytes * v.count) (key_answer j)) e; last = l ∙ ap (λ (j : Key). some j) e }
 
 module _ {most : ℕ} {all : List Key} {u₀ u : List ℕ} {v : Batch} (h : Handing most all u₀ u v []) (few : v.count ≤ most) where
   out_is : h.out ≡ all
