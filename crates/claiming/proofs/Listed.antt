@@ -1,5 +1,5 @@
 -- A claim of a list of declared entries, entry by entry.
-use Prim.Native.Nat.{ℕ, ◌+◌, ◌*◌, ◌<◌, ◌≤◌, ◌^◌}
+use Prim.Native.Nat.{ℕ, ◌+◌, ◌*◌, ◌<◌, ◌≤◌}
 use mathlib.Core.Path.{◌≡◌, sym, ap, ◌∙◌}
 use mathlib.Core.List.{List, ◌∷◌, map}
 use native.Mathlib.Numerals.{add-one, add-one-le}
@@ -12,7 +12,7 @@ use Rattle.machine.specs.State as machine
 use Rattle.store.specs.Shown.{Kept}
 use Rattle.claiming.specs.declared.Entry.{Entry}
 use Rattle.claiming.specs.Claiming.{entry_of, no_entry, nth_entry, OneMore, Claims}
-use Rattle.claiming.proofs.Going.{Turning, turning_start, turning_kept, turning_more, turning_done}
+use Rattle.claiming.proofs.Going.{Turning, turning_start, turning_more, turning_done}
 
 abbrev pub entries_of : List Entry → List machine.Entry
 entries_of l = map entry_of l
@@ -26,16 +26,10 @@ pub reached_start : (clock : ℕ) (l : List Entry) (s u : List ℕ) → Reached 
 reached_start clock l s u = record { within = omega arith; turning = turning_start clock (entries_of l) s u }
 
 module _ {clock i n : ℕ} {l : List Entry} {s₀ s u₀ u : List ℕ} (v : Reached clock l s₀ s u₀ u i n) where
-  pub reached_few : length l < 2 ^ 64 → n < 2 ^ 64
-  reached_few h = omega (arith, v.within, v.turning.few)
-
   pub reached_done : length l ≤ i → Claims s₀ s u₀ u clock (entries_of l) n
   reached_done h = turning_done v.turning (ap entries_of (drop_of_length-le l h))
 
   module _ (less : i < length l) (k : Kept s₀) (late : clock ≤ latest_clock) (room : entry_bytes * length l ≤ length u₀) where
-    pub reached-asks : Kept s × (clock ≤ latest_clock) × (entry_bytes * n + entry_bytes ≤ length u)
-    reached-asks = (turning_kept v.turning k, late, omega (arith, less, room, v.turning.few, v.turning.buffer-long))
-
     pub reached_more : {s' u' : List ℕ} {n' : ℕ} (e : Entry) → e ≡ nth_entry l i → length s' ≡ length s → length u' ≡ length u → OneMore s s' u u' clock (entry_of e) n n'
         → Reached clock l s₀ s' u₀ u' (i + 1) n'
     reached_more e f p q x = record {

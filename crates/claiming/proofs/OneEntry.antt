@@ -42,9 +42,6 @@ module _ (now : ℕ) (a : Entry) (t : Table) {o : Option Entry} (e : o ≡ free_
 -- ---- what becomes of the bytes
 
 module _ {b : List ℕ} (now : ℕ) (a : Entry) {r : Bool} (e : Tells b (λ t. r ≡ takes now a t)) where
-  pub entry_left : r ≡ false → Answered b b false (λ m t. taking now a t)
-  entry_left d = record { reply = λ st s w. sym d ∙ e st s w; table = λ st s w. rw (sym (e st s w) ∙ d) w }
-
   pub entry-taken : {b' : List ℕ} → a.key.hash < top → r ≡ true
       → Makes b b' (λ t. (has a.candidate.connection (at a.key t).candidates ≡ true) × ((at a.key t).owner ≡ none))
       (change a.key (owned_until a.candidate.connection (now + request_lifetime)))

@@ -1,11 +1,8 @@
 -- `claiming::claim_entry` meets its contract.
 use Rattle.claiming.specs.Claiming.{entry_of}
 use Rattle.claiming.proofs.Below.{key_below}
-use Rattle.claiming.proofs.OneEntry.{entry_left, entry-taken}
+use Rattle.claiming.proofs.OneEntry.{entry-taken}
 use Rattle.claiming.proofs.claim_entry.Goals as goal
-
-pub returns-then-not-takes : goal.returns-then-not-takes
-returns-then-not-takes c = entry_left c.args.clock (entry_of c.args.e) c.takes.ensures c.if-not-takes.true
 
 pub returns : goal.returns
 returns c = entry-taken c.args.clock

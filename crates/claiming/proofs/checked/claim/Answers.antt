@@ -1,14 +1,11 @@
 -- `claiming::checked::claim` meets its contract.
 use Rattle.std.proofs.lemmas.List.{get_or_default}
 use Rattle.claiming.specs.Claiming.{no_entry}
-use Rattle.claiming.proofs.Listed.{reached_start, reached_done, reached-asks, reached_more}
+use Rattle.claiming.proofs.Listed.{reached_start, reached_done, reached_more}
 use Rattle.claiming.proofs.checked.claim.Goals as goal
 
 pub loop-e-init : goal.loop-e-init
 loop-e-init c = reached_start c.args.clock c.args.checked.now c.args.s.now c.args.out.now
-
-pub claim_next-n-requires : goal.claim_next-n-requires
-claim_next-n-requires c = reached-asks c.loop-e.invariant c.loop-e-test.true c.requires.0 c.requires.1 c.requires.2
 
 pub loop-e-preserved : goal.loop-e-preserved
 loop-e-preserved c =

@@ -7,7 +7,7 @@ use lib.ListN.{length}
 use Rattle.machine.specs.State.{Entry}
 use Rattle.machine.specs.Call.{entry_bytes}
 use Rattle.claiming.specs.Claiming.{entry_of, entries_from, entries_in}
-use Rattle.claiming.proofs.Going.{Turning, turning_start, turning_kept, turning_more, turning_done}
+use Rattle.claiming.proofs.Going.{Turning, turning_start, turning_more, turning_done}
 use Rattle.claiming.proofs.Readings.{entries_next, entries_end}
 use Rattle.claiming.proofs.entries.claim_bytes.Goals as goal
 
@@ -19,16 +19,6 @@ loop-i-init c =
       subst (λ (m : ℕ). Turning c.args.clock (entries_in b) (entries_from b 0 m) c.args.s.now c.args.s.now c.args.out.now
           c.args.out.now 0 0) e (turning_start c.args.clock (entries_in b) c.args.s.now c.args.out.now),
     )
-
-pub entry_in-e-requires : goal.entry_in-e-requires
-entry_in-e-requires c = omega (arith, c.loop-i-test.true, c.entries-count.ensures)
-
-pub claim_next-n-requires : goal.claim_next-n-requires
-claim_next-n-requires c =
-    let v = c.loop-i.invariant.1 in
-    let less = c.loop-i-test.true in
-    let all = c.entries-count.ensures in
-    (turning_kept v c.requires.0, c.requires.1, omega (arith, less, all, v.few, v.buffer-long, c.requires.2))
 
 pub loop-i-preserved : goal.loop-i-preserved
 loop-i-preserved c =
@@ -44,12 +34,6 @@ loop-i-preserved c =
       turning_more c.loop-i.invariant.1 (entry_of e.result) rest (entries_next b i m (omega (arith, less, all)) ∙ ap (λ (a : Entry). a ∷ rest) (sym e.ensures))
           c.requires.1 (omega (arith, less, all, c.requires.2)) x.auto.s x.auto.out x.ensures,
     )
-
-pub shape_of-s : goal.shape_of-s
-shape_of-s c = c.loop-i.invariant.1.store_long
-
-pub shape_of-out : goal.shape_of-out
-shape_of-out c = c.loop-i.invariant.1.buffer-long
 
 pub returns : goal.returns
 returns c = turning_done c.loop-i.invariant.1
