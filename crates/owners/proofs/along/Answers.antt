@@ -1,6 +1,5 @@
 -- `owners::along` meets its contract.
-use mathlib.Core.Path.{◌≡◌, refl, sym, ap, ◌∙◌}
-use mathlib.Core.Bool.{Bool, true, false}
+use mathlib.Core.Path.{sym, ap, ◌∙◌}
 use Rattle.machine.specs.Table.{one}
 use Rattle.machine.proofs.Owning.{one_most}
 use native.Mathlib.Omega.{arith}
@@ -8,14 +7,8 @@ use borrow.Author.Tests.{ltb-true, ltb-false}
 use Rattle.regions.specs.Rows.{quad_number}
 use Rattle.claiming.proofs.Fields.{one_byte}
 use Rattle.owners.proofs.Rows.{hash_is}
-use Rattle.owners.proofs.Stretches.{going_start, going_done, going_past, going_more}
+use Rattle.owners.proofs.Stretches.{going_done, going_past, going_more}
 use Rattle.owners.proofs.along.Goals as goal
-
-pub loop-i-init : goal.loop-i-init
-loop-i-init c = going_start _ _ _ _ _ c.requires.1 refl
-
-pub row_at-r-requires : goal.row_at-r-requires
-row_at-r-requires c = (c.requires.0, omega (arith, c.loop-i-test.true, c.requires.2))
 
 pub returns-then-quad_less : goal.returns-then-quad_less
 returns-then-quad_less c = going_past c.loop-i.invariant c.loop-i-test.true
@@ -26,20 +19,6 @@ returns-then-quad_less c = going_past c.loop-i.invariant c.loop-i-test.true
       ltb-true (quad_number c.args.h)
           (quad_number c.row_at-r.result.hash) (sym c.quad_less.ensures ∙ c.if-quad_less.true),
     ))
-
-pub with_row-owner-requires : goal.with_row-owner-requires
-with_row-owner-requires c = ltb-false (quad_number c.args.h) (quad_number c.row_at-r.result.hash)
-    (sym c.quad_less.ensures ∙ c.if-quad_less.false)
-
-pub ends_key-requires : goal.ends_key-requires
-ends_key-requires c = (
-  c.requires.0,
-  omega (arith, c.loop-i-test.true),
-  c.requires.2,
-)
-
-pub overflow_add-keys : goal.overflow_add-keys
-overflow_add-keys c = omega (arith, c.loop-i-test.true, c.loop-i.invariant.few, c.from-keys.ensures ∙ one_byte c.ends_key.result, one_most c.ends_key.result)
 
 pub loop-i-preserved : goal.loop-i-preserved
 loop-i-preserved c = going_more c.loop-i.invariant c.loop-i-test.true

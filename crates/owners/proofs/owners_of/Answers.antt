@@ -9,14 +9,8 @@ use Rattle.owners.proofs.owners_of.Goals as goal
 pub rows-n-requires : goal.rows-n-requires
 rows-n-requires c = let z = (kept_shown c.requires.0).sizes in omega arith
 
-pub first_wtxid-m-requires : goal.first_wtxid-m-requires
-first_wtxid-m-requires c = c.requires.0
-
 pub loop-p-init : goal.loop-p-init
 loop-p-init c = walking_start _ _ _ _ c.first_wtxid-m.ensures
-
-pub hash_in-requires : goal.hash_in-requires
-hash_in-requires c = omega (arith, c.loop-p-test.true, c.hashes-count.ensures)
 
 pub along-a-requires : goal.along-a-requires
 along-a-requires c = (
@@ -33,56 +27,6 @@ along-b-requires c =
       omega (arith, w),
     )
 
-pub put_owner-requires : goal.put_owner-requires
-put_owner-requires c = omega (
-  arith,
-  c.loop-p.invariant.long,
-  c.requires.2,
-  c.loop-p-test.true,
-  c.hashes-count.ensures,
-)
-
-pub overflow_add-passed : goal.overflow_add-passed
-overflow_add-passed c =
-    let k = kept_shown
-    c.requires.0 in
-    let one = c.along-a.ensures in
-    let two = c.along-b.ensures in
-    let w = c.rows-n.ensures.word in
-    omega (
-      arith,
-      one.few,
-      one.most,
-      two.few,
-      two.most,
-      c.first_wtxid-m.ensures.most,
-      w,
-      k.sizes.rows,
-      k.sized.rows_few,
-      k.sized.limit,
-    )
-
-pub overflow_add-passed-in-loop-p : goal.overflow_add-passed-in-loop-p
-overflow_add-passed-in-loop-p c =
-    let k = kept_shown
-    c.requires.0 in
-    let one = c.along-a.ensures in
-    let two = c.along-b.ensures in
-    let w = c.rows-n.ensures.word in
-    omega (
-      arith,
-      c.loop-p.invariant.few,
-      one.few,
-      one.most,
-      two.few,
-      two.most,
-      c.first_wtxid-m.ensures.most,
-      w,
-      k.sizes.rows,
-      k.sized.rows_few,
-      k.sized.limit,
-    )
-
 pub loop-p-preserved : goal.loop-p-preserved
 loop-p-preserved c =
     let given = c.requires in
@@ -97,9 +41,6 @@ loop-p-preserved c =
     c.along-a.ensures second c.or.result (λ o q x y. rw c.or.ensures (first_is _ _ o q x y))
     c.put_owner.ensures
     (omega (arith, c.put_owner.auto)) given.2
-
-pub shape_of-out : goal.shape_of-out
-shape_of-out c = c.loop-p.invariant.long
 
 pub returns : goal.returns
 returns c = walking_done c.loop-p.invariant c.requires.1 (omega (arith, c.loop-p-test.false, c.hashes-count.ensures))

@@ -1,14 +1,11 @@
 -- `owners::list::ascends` meets its contract.
 use Prim.Native.Nat.{◌+◌, ◌-◌}
-use mathlib.Core.Path.{◌≡◌, refl, sym, ◌∙◌}
+use mathlib.Core.Path.{◌≡◌, sym, ◌∙◌}
 use native.Mathlib.Omega.{arith}
 use lib.Dec.{ltb}
 use Rattle.lent_lists.specs.Lists.{hashes_in}
 use Rattle.owners.proofs.Listed.{quad_is, ended, goes_on_lem, breaks}
 use Rattle.owners.proofs.list.ascends.Goals as goal
-
-pub loop-i-init : goal.loop-i-init
-loop-i-init c = refl
 
 pub returns-then-not-quad_less : goal.returns-then-not-quad_less
 returns-then-not-quad_less c =
