@@ -57,11 +57,5 @@ loop-i-preserved c =
           (offer-put p z c.put_offer.ensures),
     )
 
-pub shape_of-items : goal.shape_of-items
-shape_of-items c = c.loop-i.invariant.1
-
-pub shape_of-priorities : goal.shape_of-priorities
-shape_of-priorities c = c.loop-i.invariant.2
-
 pub returns : goal.returns
 returns c = record { is = (let e : c.loop-i.i ≡ c.args.n = omega arith in rw e at c.loop-i.invariant.3) }

@@ -21,8 +21,5 @@ loop-i-preserved g c =
     let taken = as_taken c.take.ensures c.in_ok-to.was in
     (omega arith, c.take.auto.buffer ∙ c.loop-i.invariant.1, one_more_lem c.loop-i.invariant.2 (omega arith) taken.found refl taken.stored.is)
 
-pub shape_of-buffer : goal.shape_of-buffer
-shape_of-buffer g c = c.loop-i.invariant.1
-
 pub returns : goal.returns
 returns g c = record { is = (let e : c.loop-i.i ≡ c.args.n = omega arith in rw e at c.loop-i.invariant.2) }
