@@ -1,31 +1,20 @@
 -- Owners as words: whom a row names, and the first of two.
-use Prim.Native.Nat.{ℕ, ◌/◌, ◌%◌, ◌<◌}
-use mathlib.Core.Path.{◌≡◌, refl, sym, ap, subst, ◌∙◌}
+use Prim.Native.Nat.{ℕ, ◌<◌}
+use mathlib.Core.Path.{◌≡◌, sym, ap, subst, ◌∙◌}
 use mathlib.Core.List.{List}
 use mathlib.Core.Option.{Option, none, some}
 use native.Mathlib.Omega.{arith}
 use lib.ListN.{get_or}
-use borrow.Author.Tests.{eq-eqb, ne_eqb}
+use borrow.Author.Tests.{eq-eqb}
 use Rattle.std.specs.Prelude as rust
 use Rattle.std.specs.Option.{option_or}
-use Rattle.ident.specs.declared.Kind.{Kind}
 use Rattle.regions.specs.declared.Row.{Row}
 use Rattle.machine.specs.Owners.{Holding, holding_as, or_holding}
 use Rattle.machine.specs.Step.{holding_words}
-use Rattle.store.specs.Flat.{own_bit}
 use Rattle.store.specs.Gather.{key_at, owner_at}
 use Rattle.owners.specs.declared.Owner.{Owner}
 use Rattle.owners.specs.Walk.{owner_words, Says, row_hash, row_holding}
 use Rattle.owners.proofs.Rows.{or_none, row_other}
-
--- ---- one row
-
-pub row-owns : (r : Row) {k : Kind} → k ≡ (key_at r).kind → r.bits / 8 % 2 ≡ 1 → Says (rust.Some (record { kind = k; connection = r.conn; deadline = r.deadline }))
-    (holding_as (key_at r) (owner_at r none))
-row-owns r d e = rw (eq-eqb (own_bit r) 1 e, d) refl
-
-pub row-idle : (r : Row) → (r.bits / 8 % 2 ≡ 1 → ⊥) → Says rust.None (holding_as (key_at r) (owner_at r none))
-row-idle r e = rw (ne_eqb (own_bit r) 1 e) refl
 
 -- ---- the first of two
 

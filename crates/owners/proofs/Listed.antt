@@ -1,14 +1,13 @@
 -- The test of a list of hashes, from pair to pair.
 use Prim.Native.Nat.{ℕ, ◌+◌, ◌≤◌, ◌<◌}
 use mathlib.Core.Path.{◌≡◌, refl, sym, ap, ◌∙◌}
-use mathlib.Core.Bool.{Bool, true, false, not, ◌&&◌}
+use mathlib.Core.Bool.{Bool, true, false, ◌&&◌}
 use mathlib.Core.List.{List, [], ◌∷◌}
 use native.Mathlib.Numerals.{add-one}
 use native.Mathlib.Omega.{arith}
 use lib.Dec.{ltb}
 use lib.ListN.{length, drop, get_or, length-drop}
 use lib.Seq.{drop-cons}
-use borrow.Author.Tests.{lt-ltb, le-ltb}
 use Rattle.ident.specs.declared.Hash.{Hash}
 use Rattle.ident.specs.Number.{top}
 use Rattle.ident.specs.Words.{hash_num}
@@ -16,9 +15,7 @@ use Rattle.regions.specs.declared.Quad.{Quad}
 use Rattle.regions.specs.Rows.{quad_number}
 use Rattle.regions.proofs.Order.{number_quad}
 use Rattle.requests.specs.Changes.{Words}
-use Rattle.machine.specs.Limits.{max_asked_hashes}
 use Rattle.machine.specs.Owners.{ascending}
-use Rattle.machine.specs.Call.{wrong_hashes}
 
 -- ---- a hash as four words
 
@@ -59,11 +56,3 @@ goes_on_lem hs i l e p t = e ∙ step hs i l ∙ ap (λ (x : Bool). x && ascendi
 
 pub breaks : (hs : List ℕ) (i : ℕ) {b : Bool} → i + 1 < length hs → ascending hs ≡ ascending (drop i hs) → b ≡ ltb (get_or hs i 0) (get_or hs (i + 1) 0) → b ≡ false → false ≡ ascending hs
 breaks hs i l e p t = sym (e ∙ step hs i l ∙ ap (λ (x : Bool). x && ascending (drop (i + 1) hs)) (sym p ∙ t))
-
--- ---- the whole test
-
-pub too_many : (hs : List ℕ) → max_asked_hashes < length hs → true ≡ wrong_hashes hs
-too_many hs l = rw (lt-ltb max_asked_hashes (length hs) l)
-
-pub not_many : (hs : List ℕ) {b : Bool} → length hs ≤ max_asked_hashes → b ≡ ascending hs → not b ≡ wrong_hashes hs
-not_many hs l e = ap not e ∙ rw (le-ltb max_asked_hashes (length hs) l)

@@ -81,9 +81,6 @@ pub record Going (b : List ℕ) (from to h i n : ℕ) (v : rust.Option Owner) : 
   pub few : n + from ≤ i
   pub is : (f : Flat) → Shows b f → Gone f.rows from to h i n v
 
-pub going_start : (b : List ℕ) (from to h : ℕ) (v : rust.Option Owner) → from ≤ to → Says v none → Going b from to h from 0 v
-going_start b from to h v l e = record { least = le_refl from; most = l; few = omega arith; is = λ f w. gone_start f.rows from to h v e }
-
 module _ {b : List ℕ} {from to h i n : ℕ} {v : rust.Option Owner} (k : Going b from to h i n v) where
   pub going_done : to ≤ i → Along b from to h (record { at = to; keys = n; owner = v })
   going_done l =
