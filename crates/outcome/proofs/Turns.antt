@@ -17,7 +17,7 @@ use Rattle.machine.specs.Call.{Ask, Named, named, any_late, takes_place, wrong_h
 use Rattle.machine.proofs.Tests.{test}
 use Rattle.outcome.specs.declared.refusal.Refusal.{Refusal}
 use Rattle.outcome.specs.declared.refusal.Refusal.TheVariants.{StoreTooShort, SizesOutOfRange, NotSound, NoConnection, NowTooLate, TooManyParents}
-use Rattle.outcome.specs.declared.refusal.Refusal.TheVariants.{AnswerTooShort, NoPlace, UnreadableLine, NotAListing, ListingNotSound, WrongHashes}
+use Rattle.outcome.specs.declared.refusal.Refusal.TheVariants.{AnswerTooShort, NoPlace, UnreadableLine, BadPayload, NotAListing, ListingNotSound, WrongHashes}
 use Rattle.outcome.specs.Refusals.{number_of}
 use Rattle.outcome.specs.Tests.{first_of, of_connections, of_clocks, of_parents, of_buffer, of_place, in_turn, of_hashes, hashes_in_turn}
 
@@ -108,6 +108,7 @@ never_none TooManyParents e = omega arith
 never_none AnswerTooShort e = omega arith
 never_none NoPlace e = omega arith
 never_none UnreadableLine e = omega arith
+never_none BadPayload e = omega arith
 never_none NotAListing e = omega arith
 never_none ListingNotSound e = omega arith
 never_none WrongHashes e = omega arith

@@ -2,7 +2,7 @@
 use Rattle.std.specs.Prelude.{ℕ, Result, Ok, Err}
 use Rattle.outcome.specs.declared.refusal.Refusal.{Refusal}
 use Rattle.outcome.specs.declared.refusal.Refusal.TheVariants.{StoreTooShort, SizesOutOfRange, NotSound, NoConnection, NowTooLate, TooManyParents}
-use Rattle.outcome.specs.declared.refusal.Refusal.TheVariants.{AnswerTooShort, NoPlace, UnreadableLine, NotAListing, ListingNotSound, WrongHashes}
+use Rattle.outcome.specs.declared.refusal.Refusal.TheVariants.{AnswerTooShort, NoPlace, UnreadableLine, BadPayload, NotAListing, ListingNotSound, WrongHashes}
 
 abbrev pub number_of : Refusal → ℕ
 number_of StoreTooShort = 1
@@ -14,6 +14,7 @@ number_of TooManyParents = 6
 number_of AnswerTooShort = 7
 number_of NoPlace = 8
 number_of UnreadableLine = 9
+number_of BadPayload = 10
 number_of NotAListing = 11
 number_of ListingNotSound = 12
 number_of WrongHashes = 13

@@ -1,4 +1,4 @@
-// Why a call is refused: the rows of document 01's table by their causes. 10 is wire's, which takes no store.
+// Why a call is refused: the rows of document 01's table by their causes, in its order.
 ghost use Rattle.std.specs.Prelude.{◌≡◌};
 ghost use Rattle.outcome.specs.Refusals.{number_of};
 
@@ -7,22 +7,24 @@ use std::fmt;
 
 #[derive(Clone, Copy, Debug, PartialEq, Eq, Hash)]
 pub enum Refusal {
-    StoreTooShort = 1,
-    SizesOutOfRange = 2,
-    NotSound = 3,
-    NoConnection = 4,
-    NowTooLate = 5,
-    TooManyParents = 6,
-    AnswerTooShort = 7,
-    NoPlace = 8,
+    StoreTooShort,
+    SizesOutOfRange,
+    NotSound,
+    NoConnection,
+    NowTooLate,
+    TooManyParents,
+    AnswerTooShort,
+    NoPlace,
     // Of the event program alone.
-    UnreadableLine = 9,
-    NotAListing = 11,
-    ListingNotSound = 12,
-    WrongHashes = 13,
+    UnreadableLine,
+    // Of payloads alone, which take no store (wire::Refusal).
+    BadPayload,
+    NotAListing,
+    ListingNotSound,
+    WrongHashes,
 }
 
-// Its number in the table.
+// Its number in the table: its place there. (So it is a sum in the code, and no table in the data.)
 impl From<Refusal> for u64 {
     ghost use Rattle.std.specs.Prelude.{◌≡◌};
     ghost use Rattle.outcome.specs.Refusals.{number_of};
@@ -30,7 +32,7 @@ impl From<Refusal> for u64 {
     ghost from_gives = { λ refusal number. number ≡ number_of refusal };
 
     fn from(refusal: Refusal) -> u64 {
-        refusal as u64
+        refusal as u64 + 1
     }
 }
 
@@ -46,6 +48,7 @@ impl fmt::Display for Refusal {
             Refusal::AnswerTooShort => "the answer is shorter than its need",
             Refusal::NoPlace => "all package places are held",
             Refusal::UnreadableLine => "the line is of no listed form",
+            Refusal::BadPayload => "no inventory payload, or items that make none",
             Refusal::NotAListing => "the text is no listing",
             Refusal::ListingNotSound => "the state that the text lists is not sound",
             Refusal::WrongHashes => "more than 1,024 hashes, or not in strictly ascending order",

@@ -20,7 +20,7 @@ use Rattle.store.specs.Image.{Writes, stored, Bytes, need_of}
 use Rattle.store.proofs.Stored.{written_bytes}
 use Rattle.outcome.specs.declared.refusal.Refusal.{Refusal}
 use Rattle.outcome.specs.declared.refusal.Refusal.TheVariants.{StoreTooShort, SizesOutOfRange, NotSound, NoConnection, NowTooLate, TooManyParents}
-use Rattle.outcome.specs.declared.refusal.Refusal.TheVariants.{AnswerTooShort, NoPlace, UnreadableLine, NotAListing, ListingNotSound, WrongHashes}
+use Rattle.outcome.specs.declared.refusal.Refusal.TheVariants.{AnswerTooShort, NoPlace, UnreadableLine, BadPayload, NotAListing, ListingNotSound, WrongHashes}
 use Rattle.outcome.specs.Refusals.{number_of}
 use Rattle.outcome.specs.Outcome.{outcome_if, Leaves}
 use Rattle.outcome.proofs.Contract.{does_not_restore}
@@ -80,6 +80,7 @@ module _ (x b : List ℕ) where
   not_listed AnswerTooShort l = absurd l
   not_listed NoPlace l = absurd l
   not_listed UnreadableLine l = absurd l
+  not_listed BadPayload l = absurd l
   not_listed WrongHashes l = absurd l
 
   module _ {h : line-head.Head} {e : ℕ} (y : Whole x h e) where
