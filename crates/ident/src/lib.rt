@@ -17,6 +17,8 @@ ghost use Rattle.ident.specs.Compare.{high_first, high_first_ties};
 
 use std::cmp::Ordering;
 
+pub mod connection;
+
 // Which of a transaction's two identities a hash is.
 #[derive(Clone, Copy, Debug, PartialEq, Eq, PartialOrd, Ord)]
 pub enum Kind {

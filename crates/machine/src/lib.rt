@@ -2,4 +2,5 @@
 // cite it. What a reader must believe stands in specs/, in document 01's order; proofs/ shows that it keeps demand 3.
 #![tactic(auto)]
 
+pub mod clock;
 pub mod limits;
