@@ -7,6 +7,7 @@ ghost use Rattle.outcome.specs.Refusals.{refusal_in};
 ghost use Rattle.crossing.specs.Status.{handed_out, held_out, free_out, preferred_out, permille_out, own_out, parents_out, considered_out, chosen_out, next_out};
 ghost use Rattle.crossing.specs.Counts.{announced_out, owned_out};
 ghost use Rattle.crossing.specs.Payloads.{answer_status, answer_out};
+ghost use Rattle.crossing.specs.Handed.{Handed};
 
 use outcome::{Departure, Figures, Refusal};
 use public_plans::Selection;
@@ -18,23 +19,31 @@ pub mod arguments;
 pub fn status(a: Result<u64, Refusal>) -> u64
     ensures { result ≡ refusal_in a }
 {
-    match a {
-        Ok(_) => 0,
-        Err(why) => u64::from(why),
-    }
+    a.err().map_or(0, u64::from)
 }
 
-// The same, and the reply handed out: a number, or how many keys, entries or bytes stand in the answer buffer.
-pub fn hand_out(a: Result<u64, Refusal>, reply: &mut u64) -> u64
-    ensures { (result ≡ refusal_in a) × (reply.new ≡ handed_out a reply.old) }
+// The status of an answer, and what it tells handed to `write`, which puts it where the caller has asked for it: one function for all that is handed out.
+fn hand<T, E, W: FnMut(T)>(a: Result<T, E>, write: &mut W) -> u64
+where
+    u64: From<E>,
+    requires { W.IsAlwaysCallable write.old }
+    ensures { Handed W.step ⟦<u64 as From<E>>⟧.from_gives a write.old write.new result }
 {
     match a {
-        Ok(n) => {
-            *reply = n;
+        Ok(told) => {
+            write(told);
             0
         }
         Err(cause) => u64::from(cause),
     }
+}
+
+// The status, and the reply handed out: a number, or how many keys, entries or bytes stand in the answer buffer.
+pub fn hand_out(a: Result<u64, Refusal>, reply: &mut u64) -> u64
+    ensures { (result ≡ refusal_in a) × (reply.new ≡ handed_out a reply.old) }
+{
+    let mut write = |n: u64| *reply = n;
+    hand(a, &mut write)
 }
 
 // The same of sum's figures.
@@ -48,30 +57,24 @@ pub fn hand_figures(
     ensures { (result ≡ refusal_in a) × (held.new ≡ held_out a held.old) × (free.new ≡ free_out a free.old)
         × (preferred_free.new ≡ preferred_out a preferred_free.old) × (permille.new ≡ permille_out a permille.old) }
 {
-    match a {
-        Ok(figures) => {
-            *held = figures.held;
-            *free = figures.free;
-            *preferred_free = figures.free_preferred;
-            *permille = figures.permille;
-            0
-        }
-        Err(refusal) => u64::from(refusal),
-    }
+    let mut write = |figures: Figures| {
+        *held = figures.held;
+        *free = figures.free;
+        *preferred_free = figures.free_preferred;
+        *permille = figures.permille;
+    };
+    hand(a, &mut write)
 }
 
 // The same of a connection that left: the counts of its own keys and of its parents' are handed out.
 pub fn hand_departure(a: Result<Departure, Refusal>, own: &mut u64, parents: &mut u64) -> u64
     ensures { (result ≡ refusal_in a) × (own.new ≡ own_out a own.old) × (parents.new ≡ parents_out a parents.old) }
 {
-    match a {
-        Ok(left) => {
-            *own = left.own;
-            *parents = left.parents;
-            0
-        }
-        Err(refusal) => u64::from(refusal),
-    }
+    let mut write = |left: Departure| {
+        *own = left.own;
+        *parents = left.parents;
+    };
+    hand(a, &mut write)
 }
 
 // The same of a plan: the counts of keys considered and of entries are handed out, and when to look again, 0 for no time.
@@ -83,40 +86,29 @@ pub fn hand_plan(
 ) -> u64
     ensures { (result ≡ refusal_in a) × (considered.new ≡ considered_out a considered.old) × (count.new ≡ chosen_out a count.old) × (next.new ≡ next_out a next.old) }
 {
-    match a {
-        Ok(plan) => {
-            *considered = plan.considered;
-            *count = plan.chosen;
-            *next = plan.next.unwrap_or(0);
-            0
-        }
-        Err(refusal) => u64::from(refusal),
-    }
+    let mut write = |plan: Selection| {
+        *considered = plan.considered;
+        *count = plan.chosen;
+        *next = plan.next.unwrap_or(0);
+    };
+    hand(a, &mut write)
 }
 
 // The same of a connection's counts.
 pub fn hand_counts(a: Result<Counts, Refusal>, announced: &mut u64, owned: &mut u64) -> u64
     ensures { (result ≡ refusal_in a) × (announced.new ≡ announced_out a announced.old) × (owned.new ≡ owned_out a owned.old) }
 {
-    match a {
-        Ok(counts) => {
-            *announced = counts.announced;
-            *owned = counts.owned;
-            0
-        }
-        Err(refusal) => u64::from(refusal),
-    }
+    let mut write = |counts: Counts| {
+        *announced = counts.announced;
+        *owned = counts.owned;
+    };
+    hand(a, &mut write)
 }
 
 // The same of a call on a payload: the count of items read, or of bytes written.
 pub fn hand_answer(a: Result<u64, wire::Refusal>, count: &mut u64) -> u64
     ensures { (result ≡ answer_status a) × (count.new ≡ answer_out a count.old) }
 {
-    match a {
-        Err(refusal) => u64::from(refusal),
-        Ok(size) => {
-            *count = size;
-            0
-        }
-    }
+    let mut write = |size: u64| *count = size;
+    hand(a, &mut write)
 }

@@ -1,3 +1,4 @@
 pub mod Demands
 pub mod Typed
 pub mod Saving
+pub mod Replies

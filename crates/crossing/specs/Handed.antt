@@ -1,0 +1,8 @@
+-- What handing an answer out does.
+use Rattle.std.specs.Prelude.{ℕ, ◌≡◌, Result, Ok, Err}
+
+-- An answer a was handed out: carried out, `write`, which f is before and f' after, was called with what it tells, and the status is 0. Refused, `write` was not called, and the
+-- status is the number that is given for the refusal.
+abbrev pub Handed : {T E W : Type 0} → (W → T → Unit {0} → W → Type 0) → (E → ℕ → Type 0) → Result T E → W → W → ℕ → Type 0
+Handed step numbered (Ok x) f f' status = (status ≡ 0) × step f x tt f'
+Handed step numbered (Err e) f f' status = numbered e status × (f' ≡ f)
