@@ -17,7 +17,10 @@ pub fn answer_leaving(store: &mut [u8], out: &mut [u8], v: Values) -> usize
 {
     let mut answer = printing::buffers::answer_buffer();
     match public_packages::departures::disconnected(store, v.connection, v.clock, &mut answer) {
-        Ok(left) => printing::keys::put_departure(out, &answer, left),
+        Ok(left) => {
+            let n = (left.own + left.parents) as usize;
+            printing::keys::put_departure(out, &answer, left.own, n)
+        }
         Err(e) => refusal(out, e),
     }
 }

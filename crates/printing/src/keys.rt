@@ -10,7 +10,7 @@ ghost use Rattle.printing.specs.Given.{answer_room, most_keys, next_text, behind
 
 use crate::numbers::refusal;
 use lines::write::put_bytes;
-use outcome::{Departure, Refusal};
+use outcome::Refusal;
 
 // The i-th key.
 fn put_key(out: &mut [u8], at: usize, answer: &[u8], i: usize) -> usize
@@ -71,11 +71,11 @@ fn put_behind(out: &mut [u8], at: usize, answer: &[u8], n: usize) -> usize
     to
 }
 
-// The number of keys that a connection had, and behind it the keys of an answer: those, and then the parents'.
-pub fn put_departure(out: &mut [u8], answer: &[u8], left: Departure) -> usize
-    requires { (answer_room ≤ length out.old) × (left.own + left.parents ≤ most_keys) × (key_bytes * (left.own + left.parents) ≤ length answer.now) }
-    ensures { Printed out.old out.new (joined (decimal left.own ∷ key_texts (keys_in (left.own + left.parents) answer.now))) result }
+// The number of keys that a connection had, and behind it the first n keys of an answer: those, and then the parents'.
+pub fn put_departure(out: &mut [u8], answer: &[u8], own: u64, n: usize) -> usize
+    requires { (answer_room ≤ length out.old) × (n ≤ most_keys) × (key_bytes * n ≤ length answer.now) }
+    ensures { Printed out.old out.new (joined (decimal own ∷ key_texts (keys_in n answer.now))) result }
 {
-    let at = lines::write::put_decimal(out, 0, left.own);
-    put_behind(out, at, answer, (left.own + left.parents) as usize)
+    let at = lines::write::put_decimal(out, 0, own);
+    put_behind(out, at, answer, n)
 }

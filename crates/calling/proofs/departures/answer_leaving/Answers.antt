@@ -9,6 +9,10 @@ use Rattle.calling.proofs.Unplanned.{leaving_unplanned, keeps-call}
 use Rattle.reading.specs.Given.{values_of}
 use Rattle.calling.proofs.departures.answer_leaving.Goals as goal
 
+pub overflow_add-n : goal.overflow_add-n
+overflow_add-n c = let f = departure_fits c.disconnected.ensures _ _ _ _
+    (departure_same _ c.in-Ok.is) in omega (arith, f, c.disconnected.auto)
+
 pub put_departure-requires : goal.put_departure-requires
 put_departure-requires c = let f = departure_fits c.disconnected.ensures _ _ _ _
     (departure_same _ c.in-Ok.is) in (
