@@ -9,6 +9,7 @@ ghost use Rattle.heavy.specs.Counters.{sum};
 ghost use Rattle.listed_counts.specs.Passes.{Adds, Notes, Counts, NotesAll, CountsAll, Verdict, LightRead};
 
 use listed_lines::cursor::{Lines, Lists};
+use listed_lines::hash_lists::ROOM;
 use listed_lines::line::Line;
 
 // ---- the number that a line adds
@@ -116,11 +117,15 @@ fn none_often<N: Counted, const K: usize>(lines: Lines, most: u64, lists: &mut L
 }
 
 // Of the requests that the lines list: whether no connection is that of more than 5,000 candidates, and none owns more than 100 requests.
-pub fn light(lines: Lines, lists: &mut Lists) -> bool
+pub fn light(lines: Lines) -> bool
     ensures { LightRead lines.entry.text.now lines.entry.at result }
 {
-    if !none_often::<Connections, 19>(lines, 5_000, lists) {
-        return false;
-    }
-    none_often::<Owners, 999>(lines, 100, lists)
+    let mut wtxids = [0; ROOM];
+    let mut parents = [0; ROOM];
+    let mut lists = Lists {
+        wtxids: &mut wtxids,
+        parents: &mut parents,
+    };
+    none_often::<Connections, 19>(lines, 5_000, &mut lists)
+        && none_often::<Owners, 999>(lines, 100, &mut lists)
 }

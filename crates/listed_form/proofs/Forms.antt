@@ -6,7 +6,7 @@ use mathlib.Core.List.{List, [], ◌∷◌}
 use mathlib.Core.Option.{Option, none, some}
 use native.Mathlib.Omega.{arith}
 use lib.ListN.{length, drop, drop_of_length-le}
-use Rattle.std.specs.Prelude.{Option as Maybe, Some, None}
+use Rattle.std.specs.Prelude.{Option as Maybe, None}
 use Rattle.machine.specs.State.{on_table}
 use Rattle.machine.specs.Listing.{Line, HeadLine, text_lines, lines_in, one_more, state_of, tabled_from, read_in, read_listing}
 use Rattle.machine.proofs.Tests.{never}

@@ -12,6 +12,7 @@ ghost use Rattle.listed_form.specs.Placed.{Start, meets_key, meets_candidate, pl
 ghost use Rattle.listed_form.specs.Given.{met_of, met_if, Meets, FormRead};
 
 use listed_lines::cursor::{Lines, Lists};
+use listed_lines::hash_lists::ROOM;
 use listed_lines::line::{Head, Line};
 
 // What a scan of the lines has met: no request yet, or the key of the last one.
@@ -84,15 +85,21 @@ fn placed(mut lines: Lines, lists: &mut Lists) -> bool
 }
 
 // The first line of a listing, and the lines behind it; none if the text is no listing.
-pub fn form_of<'a>(text: &'a [u8], lists: &mut Lists) -> Option<(Head, Lines<'a>)>
+pub fn form_of(text: &[u8]) -> Option<(Head, Lines)>
     ensures { FormRead text.now result }
 {
+    let mut wtxids = [0; ROOM];
+    let mut parents = [0; ROOM];
+    let mut lists = Lists {
+        wtxids: &mut wtxids,
+        parents: &mut parents,
+    };
     let mut lines = Lines { text, at: 0 };
-    let line = lines.next(lists)?;
+    let line = lines.next(&mut lists)?;
     let Line::Head(head) = line else {
         return None;
     };
-    if !placed(lines, lists) {
+    if !placed(lines, &mut lists) {
         return None;
     }
     Some((head, lines))

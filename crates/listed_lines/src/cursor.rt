@@ -1,24 +1,15 @@
 // The lines of a text one after the other.
 ghost use Rattle.std.specs.Prelude.{◌≡◌, ◌≤◌, ◌↔◌, IsTrue, IfSome, IsNone, length};
-ghost use Rattle.listed_lines.specs.Given.{LineRead};
+ghost use Rattle.listed_lines.specs.Given.{LineRead, list_room};
 
-use crate::hash_lists::ROOM;
 use crate::line::{Line, line_at};
 
-// Room for the two lists of a request's line, 32 bytes for each hash.
+// Lent bytes for the two lists of a request's line, 32 for each hash.
 #[derive(Drop)]
-pub struct Lists {
-    pub wtxids: [u8; ROOM],
-    pub parents: [u8; ROOM],
-}
-
-impl Lists {
-    pub fn new() -> Self {
-        Lists {
-            wtxids: [0; ROOM],
-            parents: [0; ROOM],
-        }
-    }
+pub struct Lists<'a> {
+    pub wtxids: &'a mut [u8],
+    pub parents: &'a mut [u8],
+    ghost room: { (list_room ≤ length wtxids.now) × (list_room ≤ length parents.now) },
 }
 
 // The lines from an index on.
@@ -39,13 +30,13 @@ impl<'a> Lines<'a> {
     // The next line, whose lists stand in the lent ones then. (No `Iterator`: it would have to hold them.)
     pub fn next(&mut self, lists: &mut Lists) -> Option<Line>
         ensures same { self.new.text ≡ self.old.text }
-        ensures line { IfSome result (λ l. LineRead self.old.text.now self.old.at lists.new.wtxids lists.new.parents (record { line = l; end = self.new.at })) }
+        ensures line { IfSome result (λ l. LineRead self.old.text.now self.old.at lists.new.wtxids.now lists.new.parents.now (record { line = l; end = self.new.at })) }
         ensures none { IsNone result → (length self.old.text.now ≤ self.old.at) × (self.new.at ≡ self.old.at) }
     {
         if self.is_empty() {
             return None;
         }
-        let l = line_at(self.text, self.at, &mut lists.wtxids, &mut lists.parents);
+        let l = line_at(self.text, self.at, lists.wtxids, lists.parents);
         self.at = l.end;
         Some(l.line)
     }

@@ -8,6 +8,7 @@ ghost use Rattle.listed_requests.specs.Given.{most_gathered};
 ghost use Rattle.listed_pairs.specs.Given.{WtxidLine, FirstWtxid, Skips, Below, PassesBelow, SideBySide, Compared, PairsFit};
 
 use listed_lines::cursor::{Lines, Lists};
+use listed_lines::hash_lists::ROOM;
 use listed_lines::line::{Line, Request};
 use listed_requests::candidates::gather;
 use listed_requests::distinct::all_distinct;
@@ -145,17 +146,23 @@ fn compare(front: &mut Lines, back: &mut Lines, conns: &mut [u64], lists: &mut L
 }
 
 // Whether the two requests of each hash that the lines list fit together, where each request fits by itself.
-pub fn pairs_fit(lines: Lines, lists: &mut Lists) -> bool
+pub fn pairs_fit(lines: Lines) -> bool
     ensures { PairsFit lines.entry.text.now lines.entry.at result }
 {
+    let mut wtxids = [0; ROOM];
+    let mut parents = [0; ROOM];
+    let mut lists = Lists {
+        wtxids: &mut wtxids,
+        parents: &mut parents,
+    };
     let mut conns = [0u64; 8];
     let mut front = lines;
-    let mut back = first_wtxid(lines, lists);
+    let mut back = first_wtxid(lines, &mut lists);
     while !back.is_empty() {
         if front.is_empty() {
             return true;
         }
-        match compare(&mut front, &mut back, &mut conns, lists) {
+        match compare(&mut front, &mut back, &mut conns, &mut lists) {
             Pair::Unfit => return false,
             Pair::Done => return true,
             Pair::Next => {}

@@ -8,6 +8,7 @@ use crate::forms::next_request;
 use crate::lawful::judge;
 use listed_form::comes_before;
 use listed_lines::cursor::{Lines, Lists};
+use listed_lines::hash_lists::ROOM;
 
 // The key of the last request, if there was one; announcements and places that are held up to it.
 #[derive(Clone, Copy)]
@@ -70,10 +71,16 @@ fn advance(
 }
 
 // Whether each request that the lines list is in order, lawful, with few candidates, and all of them are within L and Q.
-pub fn each_fits(mut lines: Lines, limit: u64, places: u64, lists: &mut Lists) -> bool
+pub fn each_fits(mut lines: Lines, limit: u64, places: u64) -> bool
     requires { (limit ≤ max_announcements) × (places ≤ max_places) }
     ensures { EachFits lines.entry.text.now lines.entry.at limit places result }
 {
+    let mut wtxids = [0; ROOM];
+    let mut parents = [0; ROOM];
+    let mut lists = Lists {
+        wtxids: &mut wtxids,
+        parents: &mut parents,
+    };
     let mut conns = [0u64; 8];
     let mut pass = Pass {
         last: None,
@@ -81,7 +88,7 @@ pub fn each_fits(mut lines: Lines, limit: u64, places: u64, lists: &mut Lists) -
         taken: 0,
     };
     while !lines.is_empty() {
-        let Some(next) = advance(&mut lines, pass, limit, places, &mut conns, lists) else {
+        let Some(next) = advance(&mut lines, pass, limit, places, &mut conns, &mut lists) else {
             return false;
         };
         pass = next;

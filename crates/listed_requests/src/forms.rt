@@ -22,7 +22,7 @@ pub fn next_candidate(lines: &mut Lines, lists: &mut Lists) -> Option<Candidate>
 // The request whose line comes next. Its wtxids and parents stand in the lent lists.
 pub fn next_request(lines: &mut Lines, lists: &mut Lists) -> Option<Request>
     ensures same { lines.new.text ≡ lines.old.text }
-    ensures next { NextRequest lines.old.text.now lines.old.at lists.new.wtxids lists.new.parents result lines.new.at }
+    ensures next { NextRequest lines.old.text.now lines.old.at lists.new.wtxids.now lists.new.parents.now result lines.new.at }
 {
     let line = lines.next(lists)?;
     let Line::Request(r) = line else {

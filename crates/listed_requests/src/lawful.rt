@@ -83,9 +83,9 @@ fn line_fits(r: Request, parents: &[u8]) -> bool
 pub fn judge(lines: &mut Lines, r: Request, conns: &mut [u64], lists: &mut Lists) -> Option<usize>
     requires { most_gathered ≤ length conns.old }
     ensures same { lines.new.text ≡ lines.old.text }
-    ensures judged { Judged lines.old.text.now lines.old.at lists.old.parents r result lines.new.at }
+    ensures judged { Judged lines.old.text.now lines.old.at lists.old.parents.now r result lines.new.at }
 {
-    if !line_fits(r, &lists.parents) {
+    if !line_fits(r, lists.parents) {
         return None;
     }
     let g = gather(lines, r.kind, r.hash, 0, conns, lists)?;

@@ -3,7 +3,7 @@ use Prim.Native.Nat.{ℕ, ◌≤◌, ◌<◌}
 use mathlib.Core.Path.{◌≡◌, refl, sym, ap, subst, ◌∙◌}
 use mathlib.Core.Bool.{Bool, true, false}
 use mathlib.Core.List.{List, ◌++◌}
-use mathlib.Core.Option.{none, some}
+use mathlib.Core.Option.{none}
 use lib.ListN.{length, drop}
 use borrow.Author.Tests.{lt-ltb, le-ltb}
 use Rattle.words.specs.Words.{Decides}
@@ -25,7 +25,6 @@ use Rattle.outcome.specs.Refusals.{number_of}
 use Rattle.outcome.specs.Outcome.{outcome_if, Leaves}
 use Rattle.outcome.proofs.Contract.{does_not_restore}
 use Rattle.listed_lines.specs.declared.line.Head as line-head
-use Rattle.listed_form.specs.Given.{Reads}
 use Rattle.restoring.specs.Given.{Readable, Restored}
 use Rattle.public_listings.specs.Verdicts.{Lists, Whole, RefusedAs}
 

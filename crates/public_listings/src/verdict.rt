@@ -2,7 +2,7 @@
 ghost use Rattle.public_listings.specs.Verdicts.{Sounds, VerdictOf};
 
 use listed_form::form_of;
-use listed_lines::cursor::{Lines, Lists};
+use listed_lines::cursor::Lines;
 use listed_lines::line::Head;
 use outcome::Refusal;
 
@@ -13,32 +13,23 @@ pub struct Listing {
     pub from: usize,
 }
 
-// Whether the state with this first line, whose requests the lines behind it list, is sound. Lists of hashes pass through the lent ones.
-fn sound_lines(h: Head, lines: Lines, lists: &mut Lists) -> bool
+// Whether the state with this first line, whose requests the lines behind it list, is sound.
+fn sound_lines(h: Head, lines: Lines) -> bool
     ensures { Sounds lines.entry.text.now h lines.entry.at result }
 {
-    let l = h.limit;
-    let q = h.places;
-    if !public_requests::sizes_taken(l, q) {
-        return false;
-    }
-    if !listed_requests::each::each_fits(lines, l, q, lists) {
-        return false;
-    }
-    if !listed_pairs::pairs_fit(lines, lists) {
-        return false;
-    }
-    listed_counts::light(lines, lists)
+    public_requests::sizes_taken(h.limit, h.places)
+        && listed_requests::each::each_fits(lines, h.limit, h.places)
+        && listed_pairs::pairs_fit(lines)
+        && listed_counts::light(lines)
 }
 
 pub fn sound_listing(text: &[u8]) -> Result<Listing, Refusal>
     ensures { VerdictOf text.now result }
 {
-    let mut lists = Lists::new();
-    let Some((head, lines)) = form_of(text, &mut lists) else {
+    let Some((head, lines)) = form_of(text) else {
         return Err(Refusal::NotAListing);
     };
-    if !sound_lines(head, lines, &mut lists) {
+    if !sound_lines(head, lines) {
         return Err(Refusal::ListingNotSound);
     }
     Ok(Listing {

@@ -14,6 +14,7 @@ ghost use Rattle.listed_form.specs.Given.{Body, requests_only};
 ghost use Rattle.restoring.specs.Given.{LineRoom, TakesLine, bare, untallied, Headed, Readable, Restored, SoundListing};
 
 use listed_lines::cursor::{Lines, Lists};
+use listed_lines::hash_lists::ROOM;
 use listed_lines::line::{Head, Line, Request};
 
 pub mod candidate_rows;
@@ -22,14 +23,14 @@ pub mod new_places;
 
 // Takes one line: a request's place, if it has one, a candidate's row. Answers the last request then.
 fn take_line(s: &mut [u8], last: Option<Request>, l: Line, lists: &Lists) -> Option<Request>
-    requires { LineRoom s.old lists.now.wtxids lists.now.parents last l }
-    ensures { TakesLine s.old s.new lists.now.wtxids lists.now.parents last l result }
+    requires { LineRoom s.old lists.now.wtxids.now lists.now.parents.now last l }
+    ensures { TakesLine s.old s.new lists.now.wtxids.now lists.now.parents.now last l result }
 {
     match l {
         Line::Not => last,
         Line::Head(_) => last,
         Line::Request(q) => {
-            new_places::add_place(s, q, &lists.wtxids, &lists.parents);
+            new_places::add_place(s, q, lists.wtxids, lists.parents);
             Some(q)
         }
         Line::Candidate(c) => {
@@ -46,7 +47,12 @@ fn put_lines(mut lines: Lines, s: &mut [u8])
     requires { Headed lines.text.now lines.at s.old }
     ensures { (st : State) → Sound st → Body lines.entry.text.now lines.entry.at (requests_only st.table) → Shows s.old (bare st) → Shows s.new (untallied st) }
 {
-    let mut lists = Lists::new();
+    let mut wtxids = [0; ROOM];
+    let mut parents = [0; ROOM];
+    let mut lists = Lists {
+        wtxids: &mut wtxids,
+        parents: &mut parents,
+    };
     let mut last = None;
     while let Some(line) = lines.next(&mut lists) {
         last = take_line(s, last, line, &lists);
@@ -68,7 +74,12 @@ pub fn write(text: &[u8], s: &mut [u8])
     requires { SoundListing text.now (length s.old) }
     ensures { (st : State) → read_listing text.now ≡ some st → Writes s.new st }
 {
-    let mut lists = Lists::new();
+    let mut wtxids = [0; ROOM];
+    let mut parents = [0; ROOM];
+    let mut lists = Lists {
+        wtxids: &mut wtxids,
+        parents: &mut parents,
+    };
     let mut lines = Lines { text, at: 0 };
     let Some(line) = lines.next(&mut lists) else {
         return;

@@ -1,11 +1,9 @@
 -- `listed_counts::light` meets its contract.
-use borrow.Author.Tests.{not-true, not-false}
 use Rattle.listed_counts.proofs.Tables.{heavy_held, light_told}
 use Rattle.listed_counts.proofs.light.Goals as goal
 
-pub returns-then-not-none_often : goal.returns-then-not-none_often
-returns-then-not-none_often c = heavy_held c.none_often.ensures (not-true _ c.if-not-none_often.true-raw)
+pub returns-then-none_often : goal.returns-then-none_often
+returns-then-none_often c = light_told c.none_often.ensures c.if-none_often.true c.none_often-then-none_often.ensures
 
-pub returns : goal.returns
-returns c =
-    light_told c.none_often.ensures (not-false _ c.if-not-none_often.false-raw) c.none_often-2.ensures
+pub returns-else-none_often : goal.returns-else-none_often
+returns-else-none_often c = rw c.if-none_often.false (heavy_held c.none_often.ensures c.if-none_often.false)
