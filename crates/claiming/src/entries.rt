@@ -4,11 +4,12 @@ ghost use Rattle.ident.specs.Number.{item_kind_of};
 ghost use Rattle.ident.specs.Words.{key_num, item_num};
 ghost use Rattle.words.specs.Words.{bytes_of, splice};
 ghost use Rattle.machine.specs.Call.{key_bytes, entry_bytes};
-ghost use Rattle.machine.specs.Limits.{latest_clock};
 ghost use Rattle.machine.specs.Step.{kind_number, key_answer, entry_answer};
 ghost use Rattle.store.specs.Gather.{kind_is};
 ghost use Rattle.store.specs.Shown.{Kept};
 ghost use Rattle.claiming.specs.Claiming.{entry_of, item_answer, OneMore, key_from, item_from, entry_from, entries_in, Claims};
+
+use machine::clock::Clock;
 
 // Words of an entry.
 pub const ENTRY: usize = 14;
@@ -63,9 +64,9 @@ pub fn put_entry(u: &mut [u8], n: usize, e: crate::Entry)
 }
 
 // Claims one entry, and writes it as the n-th of the answer if it is taken. Answers how many are written now.
-pub fn claim_next(s: &mut [u8], clock: u64, e: crate::Entry, out: &mut [u8], n: usize) -> usize
-    requires { Kept s.old × (clock ≤ latest_clock) × (entry_bytes * n + entry_bytes ≤ length out.old) }
-    ensures { OneMore s.old s.new out.old out.new clock (entry_of e) n result }
+pub fn claim_next(s: &mut [u8], clock: Clock, e: crate::Entry, out: &mut [u8], n: usize) -> usize
+    requires { Kept s.old × (entry_bytes * n + entry_bytes ≤ length out.old) }
+    ensures { OneMore s.old s.new out.old out.new clock.time (entry_of e) n result }
 {
     if crate::claim_entry(s, clock, e) {
         put_entry(out, n, e);
@@ -138,9 +139,9 @@ pub fn entry_in(b: &[u8], i: usize) -> crate::Entry
 }
 
 // Claims the entries that the bytes hold, in order, and writes those that are taken into the answer. Answers how many.
-pub fn claim_bytes(s: &mut [u8], clock: u64, checked: &[u8], out: &mut [u8]) -> usize
-    requires { Kept s.old × (clock ≤ latest_clock) × (entry_bytes * (length checked.now / entry_bytes) ≤ length out.old) }
-    ensures { Claims s.old s.new out.old out.new clock (entries_in checked.now) result }
+pub fn claim_bytes(s: &mut [u8], clock: Clock, checked: &[u8], out: &mut [u8]) -> usize
+    requires { Kept s.old × (entry_bytes * (length checked.now / entry_bytes) ≤ length out.old) }
+    ensures { Claims s.old s.new out.old out.new clock.time (entries_in checked.now) result }
 {
     let count = entries(checked);
     let mut n = 0;

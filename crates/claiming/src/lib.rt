@@ -2,9 +2,8 @@
 // plan would choose for its hash.
 #![tactic(auto)]
 
-ghost use Rattle.std.specs.Prelude.{◌≡◌, ◌≤◌};
+ghost use Rattle.std.specs.Prelude.{◌≡◌};
 ghost use Rattle.machine.specs.Claim as machine;
-ghost use Rattle.machine.specs.Limits.{latest_clock};
 ghost use Rattle.store.specs.Gather.{item_kind_as};
 ghost use Rattle.store.specs.Shown.{Kept};
 ghost use Rattle.requests.specs.Changes.{Tells};
@@ -12,6 +11,7 @@ ghost use Rattle.announcing.specs.Answers.{Answered};
 ghost use Rattle.announcing.specs.Evicts.{entry_at};
 ghost use Rattle.claiming.specs.Claiming.{entry_of, taking};
 
+use machine::clock::Clock;
 use machine::limits::REQUEST_LIFETIME;
 
 pub mod checked;
@@ -71,13 +71,13 @@ fn takes(s: &[u8], clock: u64, e: Entry) -> bool
 }
 
 // Its connection becomes the owner, if the entry is taken.
-pub fn claim_entry(s: &mut [u8], clock: u64, e: Entry) -> bool
-    requires { Kept s.old × (clock ≤ latest_clock) }
-    ensures { Answered s.old s.new result (λ m t. taking clock (entry_of e) t) }
+pub fn claim_entry(s: &mut [u8], clock: Clock, e: Entry) -> bool
+    requires { Kept s.old }
+    ensures { Answered s.old s.new result (λ m t. taking clock.time (entry_of e) t) }
 {
-    if !takes(s, clock, e) {
+    if !takes(s, clock.time, e) {
         return false;
     }
-    requests::own(s, e.key, e.connection, clock + REQUEST_LIFETIME);
+    requests::own(s, e.key, e.connection, clock.time + REQUEST_LIFETIME);
     true
 }

@@ -6,13 +6,13 @@ ghost use Rattle.std.specs.Prelude.{◌≡◌, ◌+◌, ◌*◌, ◌≤◌, ◌�
 ghost use Rattle.ident.specs.Words.{maybe_key_num};
 ghost use Rattle.words.specs.Words.{words, splice};
 ghost use Rattle.regions.specs.Rows.{quad_words};
-ghost use Rattle.machine.specs.Limits.{latest_clock};
 ghost use Rattle.machine.specs.Wrapper.{due_at, next_poll_after};
 ghost use Rattle.store.specs.Image.{head_size, poll_words, cursor_words};
 ghost use Rattle.store.specs.Read.{poll_is};
 ghost use Rattle.cursors.specs.Numbers.{time_num, numbers_of, with_known, gate_at, Loads, Saves, Gated, KnownMoved};
 ghost use Rattle.cursors.specs.InWords.{poll_at, TagSays, cursor_in, ReadyMoved};
 
+use machine::clock::Clock;
 use machine::limits::REQUEST_POLL_INTERVAL;
 
 #[derive(Clone, Copy)]
@@ -126,25 +126,23 @@ fn due(m: Option<u64>, clock: u64) -> bool
     m.is_none_or(|t| t <= clock)
 }
 
-fn poll_after(m: Option<u64>, clock: u64) -> Option<u64>
-    requires { clock ≤ latest_clock }
-    ensures { time_num result ≡ next_poll_after clock (time_num m) }
+fn poll_after(m: Option<u64>, clock: Clock) -> Option<u64>
+    ensures { time_num result ≡ next_poll_after clock.time (time_num m) }
 {
-    if due(m, clock) {
-        Some(clock + REQUEST_POLL_INTERVAL)
+    if due(m, clock.time) {
+        Some(clock.time + REQUEST_POLL_INTERVAL)
     } else {
         m
     }
 }
 
 // Whether a poll is due; if it is, the next one is 100 milliseconds later.
-pub fn poll_gate(c: &mut Cursors, clock: u64) -> bool
-    requires { clock ≤ latest_clock }
-    ensures { (result ≡ due_at clock (time_num c.old.next)) × (numbers_of c.new ≡ gate_at clock (numbers_of c.old)) }
+pub fn poll_gate(c: &mut Cursors, clock: Clock) -> bool
+    ensures { (result ≡ due_at clock.time (time_num c.old.next)) × (numbers_of c.new ≡ gate_at clock.time (numbers_of c.old)) }
 {
     let old = c.next;
     c.next = poll_after(old, clock);
-    due(old, clock)
+    due(old, clock.time)
 }
 
 // ---- the known cursor
@@ -158,9 +156,9 @@ pub fn set_known(c: &mut Cursors, k: Option<ident::Key>)
 // ---- on the bytes of a store
 
 // The poll gate of a store.
-pub fn gate(s: &mut [u8], clock: u64) -> bool
-    requires { (8 * head_size ≤ length s.old) × (clock ≤ latest_clock) }
-    ensures { Gated s.old s.new clock result }
+pub fn gate(s: &mut [u8], clock: Clock) -> bool
+    requires { 8 * head_size ≤ length s.old }
+    ensures { Gated s.old s.new clock.time result }
 {
     let mut c = load(s);
     let due = poll_gate(&mut c, clock);

@@ -2,17 +2,19 @@
 ghost use Rattle.std.specs.Prelude.{◌≡◌, [], ◌+◌, ◌-◌, ◌*◌, ◌≤◌, ◌<◌, length, take};
 ghost use Rattle.words.specs.Words.{words};
 ghost use Rattle.places.specs.Places.{list_most};
-ghost use Rattle.machine.specs.Limits.{latest_clock, max_request_checks};
+ghost use Rattle.machine.specs.Limits.{max_request_checks};
 ghost use Rattle.store.specs.Shown.{half, Kept};
 ghost use Rattle.apart.specs.Apart.{slot_bytes, Room};
 ghost use Rattle.apart.specs.Noting.{hashes_at, picked, picked_in};
 ghost use Rattle.selecting.specs.Phasing.{Roomy, Scans};
 ghost use Rattle.planning.specs.Keeping.{PlaceScans, KeptScans, KeptPhased};
 
+use machine::clock::Clock;
+
 // Considers those of the parents from .. to of a place whose bits are set.
 fn consider_bits(
     s: &mut [u8],
-    clock: u64,
+    clock: Clock,
     slot: &[u8],
     from: usize,
     to: usize,
@@ -20,9 +22,9 @@ fn consider_bits(
     picks: &mut [usize],
     v: selecting::Scan,
 ) -> selecting::Scan
-    requires { Kept s.old × (clock ≤ latest_clock) × (max_request_checks < length picks.old) × Roomy v × ((from ≤ to) × (to ≤ list_most)) × (length slot.now ≡ slot_bytes)
+    requires { Kept s.old × (max_request_checks < length picks.old) × Roomy v × ((from ≤ to) × (to ≤ list_most)) × (length slot.now ≡ slot_bytes)
         × (v.considered + (to - from) ≤ half) }
-    ensures { Scans s.old s.new picks.old picks.new clock (λ st. picked (hashes_at (words slot.now) from (to - from)) bits)
+    ensures { Scans s.old s.new picks.old picks.new clock.time (λ st. picked (hashes_at (words slot.now) from (to - from)) bits)
         (λ st. []) v result (to - from) }
 {
     let mut w = v;
@@ -43,7 +45,7 @@ fn consider_bits(
 // Considers those of the c parents of a place that are noted.
 fn consider_place(
     s: &mut [u8],
-    clock: u64,
+    clock: Clock,
     slot: &[u8],
     c: usize,
     low: u64,
@@ -51,8 +53,8 @@ fn consider_place(
     picks: &mut [usize],
     v: selecting::Scan,
 ) -> selecting::Scan
-    requires { Kept s.old × (clock ≤ latest_clock) × (max_request_checks < length picks.old) × Roomy v × (c ≤ list_most) × (length slot.now ≡ slot_bytes) × (v.considered + list_most ≤ half) }
-    ensures { Scans s.old s.new picks.old picks.new clock (λ st. picked_in (hashes_at (words slot.now) 0 c) low high)
+    requires { Kept s.old × (max_request_checks < length picks.old) × Roomy v × (c ≤ list_most) × (length slot.now ≡ slot_bytes) × (v.considered + list_most ≤ half) }
+    ensures { Scans s.old s.new picks.old picks.new clock.time (λ st. picked_in (hashes_at (words slot.now) 0 c) low high)
         (λ st. []) v result list_most }
 {
     let e = apart::noting::first_half(c);
@@ -66,12 +68,12 @@ fn consider_noted(
     m: usize,
     first: &[u8],
     i: usize,
-    clock: u64,
+    clock: Clock,
     picks: &mut [usize],
     v: selecting::Scan,
 ) -> selecting::Scan
-    requires { Room s.old first.now m (i + 1) × Kept (take m s.old) × (clock ≤ latest_clock) × (max_request_checks < length picks.old) × Roomy v × (v.considered + list_most ≤ half) }
-    ensures { PlaceScans s.old s.new first.now m i picks.old picks.new clock v result }
+    requires { Room s.old first.now m (i + 1) × Kept (take m s.old) × (max_request_checks < length picks.old) × Roomy v × (v.considered + list_most ≤ half) }
+    ensures { PlaceScans s.old s.new first.now m i picks.old picks.new clock.time v result }
 {
     let x = apart::slots::note_at(s, m, first, i);
     let low = x.low;
@@ -91,12 +93,12 @@ fn keys_kept(
     m: usize,
     first: &[u8],
     e: usize,
-    clock: u64,
+    clock: Clock,
     picks: &mut [usize],
     v: selecting::Scan,
 ) -> selecting::Scan
-    requires { Room s.old first.now m e × Kept (take m s.old) × (clock ≤ latest_clock) × (max_request_checks < length picks.old) × Roomy v × (v.considered + list_most * e ≤ half) }
-    ensures { KeptScans s.old s.new first.now m e e picks.old picks.new clock v result }
+    requires { Room s.old first.now m e × Kept (take m s.old) × (max_request_checks < length picks.old) × Roomy v × (v.considered + list_most * e ≤ half) }
+    ensures { KeptScans s.old s.new first.now m e e picks.old picks.new clock.time v result }
 {
     let mut w = v;
     for i in 0..e {
@@ -114,13 +116,13 @@ pub fn phase_kept(
     m: usize,
     first: &[u8],
     e: usize,
-    clock: u64,
+    clock: Clock,
     picks: &mut [usize],
     v: selecting::Scan,
 ) -> selecting::Scan
-    requires { Room s.old first.now m e × Kept (take m s.old) × (clock ≤ latest_clock) × (max_request_checks < length picks.old) × (v.chosen ≤ max_request_checks)
+    requires { Room s.old first.now m e × Kept (take m s.old) × (max_request_checks < length picks.old) × (v.chosen ≤ max_request_checks)
         × (v.considered + list_most * e ≤ half) }
-    ensures { KeptPhased s.old s.new first.now m e picks.old picks.new clock v result }
+    ensures { KeptPhased s.old s.new first.now m e picks.old picks.new clock.time v result }
 {
     let w = selecting::phase::opened(v);
     keys_kept(s, m, first, e, clock, picks, w)

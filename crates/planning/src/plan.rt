@@ -3,13 +3,14 @@
 ghost use Rattle.std.proofs.Math.Option.{none, some};
 ghost use Rattle.std.specs.Prelude.{min, ◌+◌, ◌*◌, ◌≤◌, ◌<◌, length};
 ghost use Rattle.machine.specs.Call.{entry_bytes};
-ghost use Rattle.machine.specs.Limits.{latest_clock, max_request_checks};
+ghost use Rattle.machine.specs.Limits.{max_request_checks};
 ghost use Rattle.store.specs.Shown.{limit_in, Kept};
 ghost use Rattle.apart.specs.Apart.{Rested};
 ghost use Rattle.selecting.specs.Phasing.{given_keys};
 ghost use Rattle.planning.specs.Replying.{Begins, SelectsOf, PlansOf};
 
 use crate::{expiring, kept, replying};
+use machine::clock::Clock;
 
 // How many entries a plan has, how many keys it considered, and when to look again (document 02, request c).
 #[derive(Clone, Copy)]
@@ -25,13 +26,13 @@ fn begin(
     m: usize,
     first: &mut [u8],
     c: usize,
-    clock: u64,
+    clock: Clock,
     picks: &mut [usize],
 ) -> selecting::Scan
-    requires { Rested s.old first.old m c × (clock ≤ latest_clock) × (max_request_checks < length picks.old) }
-    ensures { Begins s.old s.new first.old first.new m c picks.new clock result }
+    requires { Rested s.old first.old m c × (max_request_checks < length picks.old) }
+    ensures { Begins s.old s.new first.old first.new m c picks.new clock.time result }
 {
-    let e = expiring::expire(s, m, first, c, clock);
+    let e = expiring::expire(s, m, first, c, clock.time);
     let v = replying::fresh();
     let w = kept::phase_kept(s, m, first, e, clock, picks, v);
     apart::slots::forget(s, m, first, e);
@@ -39,9 +40,9 @@ fn begin(
 }
 
 // Expiry and both phases, over all keys after the ready cursor and round to it; the ready cursor becomes the last key considered.
-fn select_round(s: &mut [u8], clock: u64, out: &mut [u8]) -> replying::Reply
-    requires { Kept s.old × (clock ≤ latest_clock) × (entry_bytes * min (max_request_checks + 1) (limit_in s.old) ≤ length out.old) }
-    ensures { SelectsOf s.old s.new out.old out.new clock none result }
+fn select_round(s: &mut [u8], clock: Clock, out: &mut [u8]) -> replying::Reply
+    requires { Kept s.old × (entry_bytes * min (max_request_checks + 1) (limit_in s.old) ≤ length out.old) }
+    ensures { SelectsOf s.old s.new out.old out.new clock.time none result }
 {
     let c = store::head::held_places(s);
     let m = apart::bare_bytes(s);
@@ -55,9 +56,9 @@ fn select_round(s: &mut [u8], clock: u64, out: &mut [u8]) -> replying::Reply
 }
 
 // The same over the keys that the bytes hold; the ready cursor stays.
-fn select_given(s: &mut [u8], clock: u64, given: &[u8], out: &mut [u8]) -> replying::Reply
-    requires { Kept s.old × (clock ≤ latest_clock) × (entry_bytes * min (max_request_checks + 1) (limit_in s.old) ≤ length out.old) }
-    ensures { SelectsOf s.old s.new out.old out.new clock (some (given_keys given.now)) result }
+fn select_given(s: &mut [u8], clock: Clock, given: &[u8], out: &mut [u8]) -> replying::Reply
+    requires { Kept s.old × (entry_bytes * min (max_request_checks + 1) (limit_in s.old) ≤ length out.old) }
+    ensures { SelectsOf s.old s.new out.old out.new clock.time (some (given_keys given.now)) result }
 {
     let c = store::head::held_places(s);
     let m = apart::bare_bytes(s);
@@ -71,27 +72,27 @@ fn select_given(s: &mut [u8], clock: u64, given: &[u8], out: &mut [u8]) -> reply
 }
 
 // Plans over all keys after the ready cursor and round to it; the ready cursor becomes the last key considered.
-pub fn plan_round(s: &mut [u8], clock: u64, out: &mut [u8]) -> Planned
-    requires { Kept s.old × (clock ≤ latest_clock) × (entry_bytes * min (max_request_checks + 1) (limit_in s.old) ≤ length out.old) }
-    ensures { PlansOf s.old s.new out.old out.new clock none result }
+pub fn plan_round(s: &mut [u8], clock: Clock, out: &mut [u8]) -> Planned
+    requires { Kept s.old × (entry_bytes * min (max_request_checks + 1) (limit_in s.old) ≤ length out.old) }
+    ensures { PlansOf s.old s.new out.old out.new clock.time none result }
 {
     let r = select_round(s, clock, out);
     Planned {
         count: r.count,
         considered: r.considered,
-        next: looking::next_look(s, clock),
+        next: looking::next_look(s, clock.time),
     }
 }
 
 // Plans over the keys that the bytes hold; the ready cursor stays.
-pub fn plan_given(s: &mut [u8], clock: u64, given: &[u8], out: &mut [u8]) -> Planned
-    requires { Kept s.old × (clock ≤ latest_clock) × (entry_bytes * min (max_request_checks + 1) (limit_in s.old) ≤ length out.old) }
-    ensures { PlansOf s.old s.new out.old out.new clock (some (given_keys given.now)) result }
+pub fn plan_given(s: &mut [u8], clock: Clock, given: &[u8], out: &mut [u8]) -> Planned
+    requires { Kept s.old × (entry_bytes * min (max_request_checks + 1) (limit_in s.old) ≤ length out.old) }
+    ensures { PlansOf s.old s.new out.old out.new clock.time (some (given_keys given.now)) result }
 {
     let r = select_given(s, clock, given, out);
     Planned {
         count: r.count,
         considered: r.considered,
-        next: looking::next_look(s, clock),
+        next: looking::next_look(s, clock.time),
     }
 }

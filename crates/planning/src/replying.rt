@@ -2,11 +2,13 @@
 ghost use Rattle.std.specs.Prelude.{min, ◌+◌, ◌*◌, ◌≤◌, ◌<◌, ◌≡◌, length};
 ghost use Rattle.std.proofs.Math.Option.{none, some};
 ghost use Rattle.machine.specs.Call.{entry_bytes};
-ghost use Rattle.machine.specs.Limits.{latest_clock, max_request_checks};
+ghost use Rattle.machine.specs.Limits.{max_request_checks};
 ghost use Rattle.store.specs.Shown.{limit_in};
 ghost use Rattle.selecting.specs.Selecting.{Marked};
 ghost use Rattle.selecting.specs.Phasing.{given_keys};
 ghost use Rattle.planning.specs.Replying.{Fresh, Closed, Begun, most_kept, AsksOf};
+
+use machine::clock::Clock;
 
 // How many entries a plan has, and how many keys it considered.
 #[derive(Clone, Copy)]
@@ -74,14 +76,14 @@ fn finish(s: &mut [u8], picks: &[usize], out: &mut [u8])
 // Considers all keys after the ready cursor and round to it, after the scan v; the ready cursor becomes the last key considered.
 pub fn ask_round(
     s: &mut [u8],
-    clock: u64,
+    clock: Clock,
     picks: &mut [usize],
     v: selecting::Scan,
     out: &mut [u8],
 ) -> Reply
-    requires { Begun clock s.old picks.old v × (clock ≤ latest_clock) × (max_request_checks < length picks.old)
+    requires { Begun clock.time s.old picks.old v × (max_request_checks < length picks.old)
         × (entry_bytes * min (max_request_checks + 1) (limit_in s.old) ≤ length out.old) × (v.considered ≤ most_kept) }
-    ensures { AsksOf s.old s.new picks.old out.old out.new clock none v result }
+    ensures { AsksOf s.old s.new picks.old out.old out.new clock.time none v result }
 {
     let w = selecting::phase::phase_round(s, clock, picks, v);
     finish(s, &picks[..w.chosen], out);
@@ -95,15 +97,15 @@ pub fn ask_round(
 // Considers the keys that the bytes hold, after the scan v; the ready cursor stays.
 pub fn ask_given(
     s: &mut [u8],
-    clock: u64,
+    clock: Clock,
     given: &[u8],
     picks: &mut [usize],
     v: selecting::Scan,
     out: &mut [u8],
 ) -> Reply
-    requires { Begun clock s.old picks.old v × (clock ≤ latest_clock) × (max_request_checks < length picks.old)
+    requires { Begun clock.time s.old picks.old v × (max_request_checks < length picks.old)
         × (entry_bytes * min (max_request_checks + 1) (limit_in s.old) ≤ length out.old) × (v.considered ≤ most_kept) }
-    ensures { AsksOf s.old s.new picks.old out.old out.new clock (some (given_keys given.now)) v result }
+    ensures { AsksOf s.old s.new picks.old out.old out.new clock.time (some (given_keys given.now)) v result }
 {
     let w = selecting::phase::phase_given(s, clock, given, picks, v);
     finish(s, &picks[..w.chosen], out);

@@ -5,11 +5,11 @@
 
 ghost use Rattle.std.specs.Prelude.{◌+◌, ◌≤◌, ◌<◌, length};
 ghost use Rattle.ident.specs.Words.{hash_num, key_num};
-ghost use Rattle.machine.specs.Limits.{latest_clock};
 ghost use Rattle.store.specs.Shown.{rows_in, half, Kept};
 ghost use Rattle.choosing.specs.Choosing.{Windows};
 ghost use Rattle.selecting.specs.Selecting.{OneSelected, Considers};
 
+use machine::clock::Clock;
 use machine::limits::{MAX_REQUEST_CHECKS, REQUEST_LIFETIME};
 
 pub mod giving;
@@ -31,20 +31,20 @@ pub struct Scan {
 // the n-th. Answers how many are remembered now.
 fn select_within(
     s: &mut [u8],
-    clock: u64,
+    clock: Clock,
     x: requests::Window,
     y: requests::Window,
     picks: &mut [usize],
     n: usize,
 ) -> usize
-    requires { Kept s.old × ((x.from ≤ x.to) × (x.to ≤ rows_in s.old)) × ((y.from ≤ y.to) × (y.to ≤ rows_in s.old)) × (clock ≤ latest_clock) × (n < length picks.old) }
-    ensures { OneSelected s.old s.new picks.old picks.new clock x y n result }
+    requires { Kept s.old × ((x.from ≤ x.to) × (x.to ≤ rows_in s.old)) × ((y.from ≤ y.to) × (y.to ≤ rows_in s.old)) × (n < length picks.old) }
+    ensures { OneSelected s.old s.new picks.old picks.new clock.time x y n result }
 {
-    let Some(p) = choosing::choose_within(s, clock, x, y).pick else {
+    let Some(p) = choosing::choose_within(s, clock.time, x, y).pick else {
         return n;
     };
     let k = announcing::evict::key_of(p.row);
-    requests::own(s, k, p.row.conn, clock + REQUEST_LIFETIME);
+    requests::own(s, k, p.row.conn, clock.time + REQUEST_LIFETIME);
     picks[n] = p.at;
     n + 1
 }
@@ -52,15 +52,15 @@ fn select_within(
 // Considers the key k, whose hash has its rows in x as Txid and in y as Wtxid.
 fn consider_within(
     s: &mut [u8],
-    clock: u64,
+    clock: Clock,
     k: ident::Key,
     x: requests::Window,
     y: requests::Window,
     picks: &mut [usize],
     v: Scan,
 ) -> Scan
-    requires { Kept s.old × Windows s.old (hash_num k.hash) x y × (clock ≤ latest_clock) × (v.chosen < length picks.old) × (v.considered ≤ half) }
-    ensures { Considers s.old s.new picks.old picks.new clock (key_num k) v result }
+    requires { Kept s.old × Windows s.old (hash_num k.hash) x y × (v.chosen < length picks.old) × (v.considered ≤ half) }
+    ensures { Considers s.old s.new picks.old picks.new clock.time (key_num k) v result }
 {
     let chosen = select_within(s, clock, x, y, picks, v.chosen);
     Scan {
@@ -72,9 +72,9 @@ fn consider_within(
 }
 
 // Considers the key k.
-pub fn consider(s: &mut [u8], clock: u64, k: ident::Key, picks: &mut [usize], v: Scan) -> Scan
-    requires { Kept s.old × (clock ≤ latest_clock) × (v.chosen < length picks.old) × (v.considered ≤ half) }
-    ensures { Considers s.old s.new picks.old picks.new clock (key_num k) v result }
+pub fn consider(s: &mut [u8], clock: Clock, k: ident::Key, picks: &mut [usize], v: Scan) -> Scan
+    requires { Kept s.old × (v.chosen < length picks.old) × (v.considered ≤ half) }
+    ensures { Considers s.old s.new picks.old picks.new clock.time (key_num k) v result }
 {
     let x = choosing::window_as(s, ident::Kind::Txid, k.hash);
     let y = choosing::window_as(s, ident::Kind::Wtxid, k.hash);
@@ -90,9 +90,15 @@ pub struct Walk {
 }
 
 // Considers the key k, whose hash is looked for behind the last one.
-pub fn consider_next(s: &mut [u8], clock: u64, k: ident::Key, picks: &mut [usize], v: Walk) -> Walk
-    requires { Kept s.old × (clock ≤ latest_clock) × (v.scan.chosen < length picks.old) × (v.scan.considered ≤ half) }
-    ensures { Considers s.old s.new picks.old picks.new clock (key_num k) v.scan result.scan }
+pub fn consider_next(
+    s: &mut [u8],
+    clock: Clock,
+    k: ident::Key,
+    picks: &mut [usize],
+    v: Walk,
+) -> Walk
+    requires { Kept s.old × (v.scan.chosen < length picks.old) × (v.scan.considered ≤ half) }
+    ensures { Considers s.old s.new picks.old picks.new clock.time (key_num k) v.scan result.scan }
 {
     let x = near::window_near(s, ident::Kind::Txid, k.hash, v.txid);
     let y = near::window_near(s, ident::Kind::Wtxid, k.hash, v.wtxid);

@@ -3,7 +3,7 @@
 ghost use Rattle.std.specs.Prelude.{◌≡◌, [], false, ◌+◌, ◌-◌, ◌*◌, ◌≤◌, ◌<◌, length, take, drop};
 ghost use Rattle.ident.specs.Words.{key_num};
 ghost use Rattle.machine.specs.Call.{key_bytes};
-ghost use Rattle.machine.specs.Limits.{latest_clock, max_request_checks};
+ghost use Rattle.machine.specs.Limits.{max_request_checks};
 ghost use Rattle.machine.specs.Sweep.{round};
 ghost use Rattle.machine.specs.Table.{keys};
 ghost use Rattle.store.specs.Flat.{rows_of};
@@ -11,6 +11,8 @@ ghost use Rattle.store.specs.Shown.{rows_in, half, Kept};
 ghost use Rattle.lent_lists.specs.Lists.{key_in};
 ghost use Rattle.sweeping.specs.Batches.{keys_over};
 ghost use Rattle.selecting.specs.Phasing.{key_count, given_keys, Roomy, Scans, Phased};
+
+use machine::clock::Clock;
 
 // The same scan, where a phase begins.
 pub fn opened(v: crate::Scan) -> crate::Scan
@@ -39,13 +41,13 @@ fn key_in(b: &[u8], i: usize) -> ident::Key
 // Considers the keys that the bytes hold, in order.
 fn keys_given(
     s: &mut [u8],
-    clock: u64,
+    clock: Clock,
     given: &[u8],
     picks: &mut [usize],
     v: crate::Scan,
 ) -> crate::Scan
-    requires { Kept s.old × (clock ≤ latest_clock) × (max_request_checks < length picks.old) × Roomy v × (v.considered + key_count given.now ≤ half) }
-    ensures { Scans s.old s.new picks.old picks.new clock (λ st. given_keys given.now) (λ st. []) v result (key_count given.now) }
+    requires { Kept s.old × (max_request_checks < length picks.old) × Roomy v × (v.considered + key_count given.now ≤ half) }
+    ensures { Scans s.old s.new picks.old picks.new clock.time (λ st. given_keys given.now) (λ st. []) v result (key_count given.now) }
 {
     let count = keys(given);
     let mut w = v;
@@ -61,13 +63,13 @@ fn keys_given(
 // A phase over the keys that the bytes hold.
 pub fn phase_given(
     s: &mut [u8],
-    clock: u64,
+    clock: Clock,
     given: &[u8],
     picks: &mut [usize],
     v: crate::Scan,
 ) -> crate::Scan
-    requires { Kept s.old × (clock ≤ latest_clock) × (max_request_checks < length picks.old) × (v.chosen ≤ max_request_checks) × (v.considered + key_count given.now ≤ half) }
-    ensures { Phased s.old s.new picks.old picks.new clock (λ st. given_keys given.now) v result (key_count given.now) }
+    requires { Kept s.old × (max_request_checks < length picks.old) × (v.chosen ≤ max_request_checks) × (v.considered + key_count given.now ≤ half) }
+    ensures { Phased s.old s.new picks.old picks.new clock.time (λ st. given_keys given.now) v result (key_count given.now) }
 {
     keys_given(s, clock, given, picks, opened(v))
 }
@@ -77,14 +79,14 @@ pub fn phase_given(
 // Considers the keys of the rows from .. to, each at its last row.
 fn keys_over(
     s: &mut [u8],
-    clock: u64,
+    clock: Clock,
     from: usize,
     to: usize,
     picks: &mut [usize],
     v: crate::Scan,
 ) -> crate::Scan
-    requires { Kept s.old × (clock ≤ latest_clock) × (max_request_checks < length picks.old) × Roomy v × ((from ≤ to) × (to ≤ rows_in s.old)) × (v.considered + to ≤ half) }
-    ensures { Scans s.old s.new picks.old picks.new clock (λ st. keys_over from to (rows_of st.table)) (λ st. []) v result (to - from) }
+    requires { Kept s.old × (max_request_checks < length picks.old) × Roomy v × ((from ≤ to) × (to ≤ rows_in s.old)) × (v.considered + to ≤ half) }
+    ensures { Scans s.old s.new picks.old picks.new clock.time (λ st. keys_over from to (rows_of st.table)) (λ st. []) v result (to - from) }
 {
     let mut w = crate::Walk {
         scan: v,
@@ -104,9 +106,9 @@ fn keys_over(
 }
 
 // A phase over all keys after the ready cursor and round to it.
-pub fn phase_round(s: &mut [u8], clock: u64, picks: &mut [usize], v: crate::Scan) -> crate::Scan
-    requires { Kept s.old × (clock ≤ latest_clock) × (max_request_checks < length picks.old) × (v.chosen ≤ max_request_checks) × (v.considered + rows_in s.old ≤ half) }
-    ensures { Phased s.old s.new picks.old picks.new clock (λ st. round st.ready_cursor (keys st.table)) v result (rows_in s.old) }
+pub fn phase_round(s: &mut [u8], clock: Clock, picks: &mut [usize], v: crate::Scan) -> crate::Scan
+    requires { Kept s.old × (max_request_checks < length picks.old) × (v.chosen ≤ max_request_checks) × (v.considered + rows_in s.old ≤ half) }
+    ensures { Phased s.old s.new picks.old picks.new clock.time (λ st. round st.ready_cursor (keys st.table)) v result (rows_in s.old) }
 {
     let c = cursors::cursor_at(s, cursors::READY);
     let from = sweeping::batch::after_cursor(s, c);

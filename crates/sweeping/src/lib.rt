@@ -2,7 +2,7 @@
 #![tactic(auto)]
 
 ghost use Rattle.std.specs.Prelude.{min, ◌*◌, ◌≤◌, length};
-ghost use Rattle.machine.specs.Limits.{latest_clock, max_known_checks};
+ghost use Rattle.machine.specs.Limits.{max_known_checks};
 ghost use Rattle.machine.specs.Call.{key_bytes};
 ghost use Rattle.machine.specs.State.{with_next_poll, with_known_cursor};
 ghost use Rattle.machine.specs.Sweep.{last_of};
@@ -11,6 +11,7 @@ ghost use Rattle.store.specs.Shown.{limit_in, Kept};
 ghost use Rattle.sweeping.specs.Effects.{Replied, KeysHanded};
 ghost use Rattle.sweeping.specs.Batches.{next_batch, Batched};
 
+use machine::clock::Clock;
 use machine::limits::MAX_KNOWN_CHECKS;
 
 pub mod batch;
@@ -39,9 +40,9 @@ pub fn sweep(s: &mut [u8], out: &mut [u8]) -> usize
 }
 
 // Whether a poll is due; if it is, the next one is 100 milliseconds later.
-pub fn poll_gate(s: &mut [u8], clock: u64) -> bool
-    requires { Kept s.old × (clock ≤ latest_clock) }
-    ensures { Replied s.old s.new result (λ st. due_at clock st.next_poll) (λ st. with_next_poll (next_poll_after clock st.next_poll) st) }
+pub fn poll_gate(s: &mut [u8], clock: Clock) -> bool
+    requires { Kept s.old }
+    ensures { Replied s.old s.new result (λ st. due_at clock.time st.next_poll) (λ st. with_next_poll (next_poll_after clock.time st.next_poll) st) }
 {
     cursors::gate(s, clock)
 }

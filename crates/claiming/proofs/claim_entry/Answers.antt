@@ -5,7 +5,7 @@ use Rattle.claiming.proofs.OneEntry.{entry-taken}
 use Rattle.claiming.proofs.claim_entry.Goals as goal
 
 pub returns : goal.returns
-returns c = entry-taken c.args.clock
+returns c = entry-taken c.args.clock.time
     (entry_of c.args.e) c.takes.ensures
     (key_below c.args.e c.well_formed.1.1.0)
     c.if-not-takes.false c.own.ensures

@@ -10,6 +10,7 @@ ghost use Rattle.outcome.specs.Outcome.{LeavesWith};
 ghost use Rattle.public_plans.specs.Entries.{entries_of, planned_of};
 
 use crate::Selection;
+use machine::clock::Clock;
 use outcome::{Refusal, refusals};
 
 // Bytes of an entry in a list and in an answer.
@@ -29,7 +30,7 @@ pub fn claim(s: &mut [u8], clock: u64, checked: &[u8], answer: &mut [u8]) -> Res
     let needs = list_needs(checked);
     refusals::of_clock_and_buffer(clock, answer.len(), needs)?;
     let n = refusals::need_of(s);
-    let taken = claiming::entries::claim_bytes(&mut s[..n], clock, checked, answer);
+    let taken = claiming::entries::claim_bytes(&mut s[..n], Clock { time: clock }, checked, answer);
     Ok(taken as u64)
 }
 
@@ -55,7 +56,7 @@ pub fn plan(s: &mut [u8], clock: u64, answer: &mut [u8]) -> Result<Selection, Re
     let needs = plan_needs(s);
     refusals::of_clock_and_buffer(clock, answer.len(), needs)?;
     let n = refusals::need_of(s);
-    let r = planning::plan::plan_round(&mut s[..n], clock, answer);
+    let r = planning::plan::plan_round(&mut s[..n], Clock { time: clock }, answer);
     Ok(Selection {
         considered: r.considered,
         chosen: r.count as u64,
@@ -75,7 +76,7 @@ pub fn plan_given(
     let needs = plan_needs(s);
     refusals::of_clock_and_buffer(clock, answer.len(), needs)?;
     let n = refusals::need_of(s);
-    let r = planning::plan::plan_given(&mut s[..n], clock, given, answer);
+    let r = planning::plan::plan_given(&mut s[..n], Clock { time: clock }, given, answer);
     Ok(Selection {
         considered: r.considered,
         chosen: r.count as u64,

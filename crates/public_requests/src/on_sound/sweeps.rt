@@ -6,6 +6,7 @@ ghost use Rattle.store.specs.Image.{SoundStore};
 ghost use Rattle.outcome.specs.Outcome.{Leaves, LeavesWith};
 ghost use Rattle.outcome.specs.Reply.{reply_of, listing_of};
 
+use machine::clock::Clock;
 use outcome::{Refusal, refusals, replied};
 
 // The bytes that a sweep's answer may need: min(1,024, L) keys.
@@ -37,5 +38,5 @@ pub fn poll_gate(s: &mut [u8], clock: u64) -> Result<u64, Refusal>
 {
     refusals::of_clock(clock)?;
     let n = refusals::need_of(s);
-    Ok(replied(sweeping::poll_gate(&mut s[..n], clock)))
+    Ok(replied(sweeping::poll_gate(&mut s[..n], Clock { time: clock })))
 }

@@ -9,5 +9,5 @@ returns c = considers (key_num c.args.k)
     c.args.v _ _
     c.requires.0 c.select_within-chosen.ensures
     c.requires.1
-    c.requires.2
-    c.requires.3 refl refl
+    c.args.clock.early
+    c.requires.2 refl refl

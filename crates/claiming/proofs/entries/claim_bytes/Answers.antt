@@ -16,8 +16,8 @@ loop-i-init c =
     let b = c.args.checked.now in
     let e : length b / entry_bytes ≡ length b / entry_bytes - 0 = omega arith in (
       omega arith,
-      subst (λ (m : ℕ). Turning c.args.clock (entries_in b) (entries_from b 0 m) c.args.s.now c.args.s.now c.args.out.now
-          c.args.out.now 0 0) e (turning_start c.args.clock (entries_in b) c.args.s.now c.args.out.now),
+      subst (λ (m : ℕ). Turning c.args.clock.time (entries_in b) (entries_from b 0 m) c.args.s.now c.args.s.now c.args.out.now
+          c.args.out.now 0 0) e (turning_start c.args.clock.time (entries_in b) c.args.s.now c.args.out.now),
     )
 
 pub loop-i-preserved : goal.loop-i-preserved
@@ -32,7 +32,7 @@ loop-i-preserved c =
     let rest = entries_from b (i + 1) (m - (i + 1)) in (
       omega (arith, less, all),
       turning_more c.loop-i.invariant.1 (entry_of e.result) rest (entries_next b i m (omega (arith, less, all)) ∙ ap (λ (a : Entry). a ∷ rest) (sym e.ensures))
-          c.requires.1 (omega (arith, less, all, c.requires.2)) x.auto.s x.auto.out x.ensures,
+          c.args.clock.early (omega (arith, less, all, c.requires.1)) x.auto.s x.auto.out x.ensures,
     )
 
 pub returns : goal.returns

@@ -12,10 +12,10 @@ use Rattle.planning.proofs.kept.consider_bits.Goals as goal
 
 pub loop-j-init : goal.loop-j-init
 loop-j-init c = let z : 0 ≤ c.args.from - c.args.from = omega arith in (
-  (omega arith, c.requires.4.0),
+  (omega arith, c.requires.3.0),
   refl,
   refl,
-  scans_as (scans_start (λ st. picked (hashes_at (words c.args.slot.now) c.args.from (c.args.to - c.args.from)) c.args.bits) c.args.v c.requires.0 c.requires.3) _ _ z (λ st l s m. refl),
+  scans_as (scans_start (λ st. picked (hashes_at (words c.args.slot.now) c.args.from (c.args.to - c.args.from)) c.args.bits) c.args.v c.requires.0 c.requires.2) _ _ z (λ st l s m. refl),
 )
 
 pub shape_of-s-then-w : goal.shape_of-s-then-w
@@ -29,26 +29,25 @@ returns-then-w c = scans_full c.loop-j.invariant.3 (λ st. []) _ (omega (arith, 
 
 pub parent_of-h-requires : goal.parent_of-h-requires
 parent_of-h-requires c = (
-  omega (arith, c.loop-j-test.true, c.requires.4.1),
-  c.requires.5,
+  omega (arith, c.loop-j-test.true, c.requires.3.1),
+  c.requires.4,
 )
 
 pub consider-w-requires : goal.consider-w-requires
 consider-w-requires c = let x = c.loop-j.invariant.3 in (
   x.kept,
-  c.requires.1,
   omega (
     arith,
     x.roomy.more c.if-w.false,
     c.loop-j.invariant.2,
-    c.requires.2,
+    c.requires.1,
   ),
   omega (
     arith,
     x.near,
     c.loop-j.invariant.0,
     c.loop-j-test.true,
-    c.requires.6,
+    c.requires.5,
   ),
 )
 

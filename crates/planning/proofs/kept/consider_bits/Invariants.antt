@@ -8,5 +8,5 @@ use Rattle.selecting.specs.Phasing.{Scans}
 use Rattle.planning.proofs.kept.consider_bits.Given as goal
 
 abbrev pub invariant-loop-j : goal.invariant-loop-j
-invariant-loop-j l = ((l.from ≤ l.j) × (l.j ≤ l.to)) × (length l.s ≡ length l.initial.s) × (length l.picks ≡ length l.initial.picks) × Scans l.initial.s l.s l.initial.picks l.picks l.clock
+invariant-loop-j l = ((l.from ≤ l.j) × (l.j ≤ l.to)) × (length l.s ≡ length l.initial.s) × (length l.picks ≡ length l.initial.picks) × Scans l.initial.s l.s l.initial.picks l.picks l.clock.time
     (λ st. picked (hashes_at (words l.slot) l.from (l.to - l.from)) l.bits) (λ st. picked (hashes_at (words l.slot) l.j (l.to - l.j)) l.left) l.initial.w l.w (l.j - l.from)

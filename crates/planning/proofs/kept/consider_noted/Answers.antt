@@ -7,17 +7,16 @@ use borrow.Author.Rules.{rules}
 use Rattle.planning.proofs.kept.consider_noted.Goals as goal
 
 pub returns-then-low-high : goal.returns-then-low-high
-returns-then-low-high c = let z = both_zero c.note_at-x.result.low c.note_at-x.result.high c.if-low-high.true in place-clear c.note_at-x.ensures z.0 z.1 c.requires.1 c.requires.4
+returns-then-low-high c = let z = both_zero c.note_at-x.result.low c.note_at-x.result.high c.if-low-high.true in place-clear c.note_at-x.ensures z.0 z.1 c.requires.1 c.requires.3
 
 pub consider_place-requires : goal.consider_place-requires
 consider_place-requires c = (
   subst Kept (sym (front_lent c.args.s.now c.args.m)) c.requires.1,
   c.requires.2,
   c.requires.3,
-  c.requires.4,
   c.parents_in-c.ensures.most,
   search rules,
-  c.requires.5,
+  c.requires.4,
 )
 
 pub returns : goal.returns

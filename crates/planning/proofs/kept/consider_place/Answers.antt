@@ -12,21 +12,20 @@ use Rattle.planning.proofs.kept.consider_place.Goals as goal
 pub consider_bits-requires : goal.consider_bits-requires
 consider_bits-requires c = let x = c.consider_bits-x.ensures in let h = c.first_half-e.ensures in (
   x.kept,
-  c.requires.1,
   omega (
     arith,
     c.consider_bits-x.auto.picks,
-    c.requires.2,
+    c.requires.1,
   ),
   x.roomy,
-  (h.within, c.requires.4),
-  c.requires.5,
+  (h.within, c.requires.3),
+  c.requires.4,
   omega (
     arith,
     x.near,
     h.within,
-    c.requires.4,
-    c.requires.6,
+    c.requires.3,
+    c.requires.5,
   ),
 )
 
@@ -36,5 +35,5 @@ returns c = let h = c.first_half-e.ensures in scans_as (scans_for (λ st.
     (scans_both c.consider_bits-x.ensures c.consider_bits.ensures)) (λ st. []) list_most (omega (
       arith,
       h.within,
-      c.requires.4,
+      c.requires.3,
     )) (λ st l u w. refl)

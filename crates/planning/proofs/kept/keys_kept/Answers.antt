@@ -5,7 +5,7 @@ use Rattle.planning.proofs.Keepings.{kept_starts, kept_full, kept_goes, kept_don
 use Rattle.planning.proofs.kept.keys_kept.Goals as goal
 
 pub loop-i-init : goal.loop-i-init
-loop-i-init c = (omega arith, refl, refl, kept_starts c.requires.1 c.requires.4)
+loop-i-init c = (omega arith, refl, refl, kept_starts c.requires.1 c.requires.3)
 
 pub shape_of-s-then-w : goal.shape_of-s-then-w
 shape_of-s-then-w c = c.loop-i.invariant.1
@@ -29,10 +29,9 @@ consider_noted-w-requires c = let x = c.loop-i.invariant.3.ahead in (
     );
   },
   x.kept,
-  c.requires.2,
-  omega (arith, c.loop-i.invariant.2, c.requires.3),
+  omega (arith, c.loop-i.invariant.2, c.requires.2),
   x.roomy,
-  omega (arith, x.near, c.loop-i-test.true, c.requires.5),
+  omega (arith, x.near, c.loop-i-test.true, c.requires.4),
 )
 
 pub loop-i-preserved : goal.loop-i-preserved

@@ -7,4 +7,4 @@ use Rattle.planning.proofs.kept.keys_kept.Given as goal
 
 abbrev pub invariant-loop-i : goal.invariant-loop-i
 invariant-loop-i l = (l.i ≤ l.e) × (length l.s ≡ length l.initial.s) × (length l.picks ≡ length l.initial.picks)
-    × KeptScans l.initial.s l.s l.first l.m l.e l.i l.initial.picks l.picks l.clock l.initial.w l.w
+    × KeptScans l.initial.s l.s l.first l.m l.e l.i l.initial.picks l.picks l.clock.time l.initial.w l.w

@@ -11,12 +11,11 @@ keys_kept-requires c = (
   c.requires.0,
   c.requires.1,
   c.requires.2,
-  c.requires.3,
-  opened-roomy c.args.v c.opened-w.ensures c.requires.4,
+  opened-roomy c.args.v c.opened-w.ensures c.requires.3,
   (let e = ap (λ (u : Scan). u.considered) c.opened-w.ensures in omega (
     arith,
     e,
-    c.requires.5,
+    c.requires.4,
   )),
 )
 

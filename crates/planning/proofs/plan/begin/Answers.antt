@@ -13,7 +13,6 @@ phase_kept-w-requires c = let x = expired-parted c.expire-e.ensures c.requires.0
   all_room x.apart (omega (arith, c.expire-e.ensures.most, x.count)),
   front_kept x.apart,
   c.requires.1,
-  c.requires.2,
   omega (arith, c.fresh-v.ensures.chosen),
   omega (arith, n, c.expire-e.ensures.most, c.fresh-v.ensures.considered),
 )

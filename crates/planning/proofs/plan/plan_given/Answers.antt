@@ -9,10 +9,10 @@ use Rattle.planning.proofs.plan.plan_given.Goals as goal
 
 pub next_look-requires : goal.next_look-requires
 next_look-requires c =
-    let late : c.args.clock < word = omega (arith, c.requires.1) in
+    let late : c.args.clock.time < word = omega (arith, c.args.clock.early) in
     plan_kept (some (given_keys c.args.given.now)) late c.select_given-r.ensures c.requires.0
 
 pub returns : goal.returns
 returns c =
-    let late : c.args.clock < word = omega (arith, c.requires.1) in
+    let late : c.args.clock.time < word = omega (arith, c.args.clock.early) in
     plan_next (some (given_keys c.args.given.now)) late c.select_given-r.ensures c.next_look.result c.next_look.ensures

@@ -8,10 +8,10 @@ use Rattle.planning.proofs.plan.plan_round.Goals as goal
 
 pub next_look-requires : goal.next_look-requires
 next_look-requires c =
-    let late : c.args.clock < word = omega (arith, c.requires.1) in
+    let late : c.args.clock.time < word = omega (arith, c.args.clock.early) in
     plan_kept none late c.select_round-r.ensures c.requires.0
 
 pub returns : goal.returns
 returns c =
-    let late : c.args.clock < word = omega (arith, c.requires.1) in
+    let late : c.args.clock.time < word = omega (arith, c.args.clock.early) in
     plan_next none late c.select_round-r.ensures c.next_look.result c.next_look.ensures

@@ -18,7 +18,6 @@ pub begin-v-requires : goal.begin-v-requires
 begin-v-requires c = (
   set-parted c.requires.0
       c.set_apart.ensures c.held_places-c.ensures.word,
-  c.requires.1,
   omega (arith, c.numbers-picks.ensures),
 )
 
@@ -28,27 +27,20 @@ slice_bounds-ask_given-end c = let y = front_within (set-parted c.requires.0 c.s
     in omega (arith, y, c.begin-v.auto.s)
 
 pub ask_given-r-requires : goal.ask_given-r-requires
-ask_given-r-requires c = let late : c.args.clock < word = omega (
-  arith,
-  c.requires.1,
-) in let k = c.requires.0
+ask_given-r-requires c = let late : c.args.clock.time < word = omega (arith, c.args.clock.early) in let k = c.requires.0
     in (
       started (some (given_keys c.args.given.now)) late c.set_apart.ensures c.begin-v.ensures c.held_places-c.ensures.word k.state k.sound k.writes,
-      c.requires.1,
       omega (
         arith,
         c.numbers-picks.ensures,
         c.begin-v.auto.picks,
       ),
-      rw (limit_is (some (given_keys c.args.given.now)) late c.set_apart.ensures c.begin-v.ensures c.held_places-c.ensures.word k.state k.sound k.writes) c.requires.2,
+      rw (limit_is (some (given_keys c.args.given.now)) late c.set_apart.ensures c.begin-v.ensures c.held_places-c.ensures.word k.state k.sound k.writes) c.requires.1,
       c.begin-v.ensures.near,
     )
 
 pub put_back-requires : goal.put_back-requires
-put_back-requires c = let late : c.args.clock < word = omega (
-  arith,
-  c.requires.1,
-) in let k = c.requires.0
+put_back-requires c = let late : c.args.clock.time < word = omega (arith, c.args.clock.early) in let k = c.requires.0
     in parted-after (some (given_keys c.args.given.now)) late c.set_apart.ensures c.begin-v.ensures c.held_places-c.ensures.word k.state k.sound k.writes
     (let y = front_within (set-parted c.requires.0 c.set_apart.ensures c.held_places-c.ensures.word).apart in omega (
       arith,
@@ -57,10 +49,7 @@ put_back-requires c = let late : c.args.clock < word = omega (
     )) c.ask_given-r.auto.s refl (search rules) c.begin-v.auto.first c.ask_given-r.ensures
 
 pub returns : goal.returns
-returns c = let late : c.args.clock < word = omega (
-  arith,
-  c.requires.1,
-) in λ st s o. plan_is (some (given_keys c.args.given.now)) late c.set_apart.ensures c.begin-v.ensures c.held_places-c.ensures.word st s o (let y =
+returns c = let late : c.args.clock.time < word = omega (arith, c.args.clock.early) in λ st s o. plan_is (some (given_keys c.args.given.now)) late c.set_apart.ensures c.begin-v.ensures c.held_places-c.ensures.word st s o (let y =
     front_within (set-parted c.requires.0 c.set_apart.ensures c.held_places-c.ensures.word).apart in omega (
       arith,
       y,

@@ -16,7 +16,6 @@ held_places-c-requires c = let z = (kept_shown c.requires.0).sizes.long in omega
 pub begin-v-requires : goal.begin-v-requires
 begin-v-requires c = (
   set-parted c.requires.0 c.set_apart.ensures c.held_places-c.ensures.word,
-  c.requires.1,
   omega
       (arith, c.numbers-picks.ensures),
 )
@@ -26,26 +25,19 @@ slice_bounds-ask_round-end c = let y = front_within (set-parted c.requires.0 c.s
     omega (arith, y, c.begin-v.auto.s)
 
 pub ask_round-r-requires : goal.ask_round-r-requires
-ask_round-r-requires c = let late : c.args.clock < word = omega (
-  arith,
-  c.requires.1,
-) in let k = c.requires.0 in (
+ask_round-r-requires c = let late : c.args.clock.time < word = omega (arith, c.args.clock.early) in let k = c.requires.0 in (
   started none late c.set_apart.ensures c.begin-v.ensures c.held_places-c.ensures.word k.state k.sound k.writes,
-  c.requires.1,
   omega (
     arith,
     c.numbers-picks.ensures,
     c.begin-v.auto.picks,
   ),
-  rw (limit_is none late c.set_apart.ensures c.begin-v.ensures c.held_places-c.ensures.word k.state k.sound k.writes) c.requires.2,
+  rw (limit_is none late c.set_apart.ensures c.begin-v.ensures c.held_places-c.ensures.word k.state k.sound k.writes) c.requires.1,
   c.begin-v.ensures.near,
 )
 
 pub put_back-requires : goal.put_back-requires
-put_back-requires c = let late : c.args.clock < word = omega (
-  arith,
-  c.requires.1,
-) in let k = c.requires.0 in parted-after none late
+put_back-requires c = let late : c.args.clock.time < word = omega (arith, c.args.clock.early) in let k = c.requires.0 in parted-after none late
     c.set_apart.ensures c.begin-v.ensures c.held_places-c.ensures.word k.state k.sound k.writes
     (let y = front_within (set-parted c.requires.0 c.set_apart.ensures c.held_places-c.ensures.word).apart in omega (
       arith,
@@ -54,10 +46,7 @@ put_back-requires c = let late : c.args.clock < word = omega (
     )) c.ask_round-r.auto.s refl (search rules) c.begin-v.auto.first c.ask_round-r.ensures
 
 pub returns : goal.returns
-returns c = let late : c.args.clock < word = omega (
-  arith,
-  c.requires.1,
-) in λ st s o. plan_is none late c.set_apart.ensures c.begin-v.ensures c.held_places-c.ensures.word st s o (let y =
+returns c = let late : c.args.clock.time < word = omega (arith, c.args.clock.early) in λ st s o. plan_is none late c.set_apart.ensures c.begin-v.ensures c.held_places-c.ensures.word st s o (let y =
     front_within (set-parted c.requires.0 c.set_apart.ensures c.held_places-c.ensures.word).apart in omega (
       arith,
       y,

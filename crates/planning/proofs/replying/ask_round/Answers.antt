@@ -11,11 +11,10 @@ pub phase_round-w-requires : goal.phase_round-w-requires
 phase_round-w-requires c = let k = kept_shown (begun_kept c.requires.0) in (
   begun_kept c.requires.0,
   c.requires.1,
-  c.requires.2,
   begun_few c.requires.0,
   omega (
     arith,
-    c.requires.4,
+    c.requires.3,
     k.sizes.rows,
     k.sized.rows_few,
     k.sized.limit,
@@ -23,15 +22,15 @@ phase_round-w-requires c = let k = kept_shown (begun_kept c.requires.0) in (
 )
 
 pub slice_bounds-finish-end : goal.slice_bounds-finish-end
-slice_bounds-finish-end c = let x = c.phase_round-w.ensures in omega (arith, x.most, c.phase_round-w.auto.picks, c.requires.2)
+slice_bounds-finish-end c = let x = c.phase_round-w.ensures in omega (arith, x.most, c.phase_round-w.auto.picks, c.requires.1)
 
 pub finish-requires : goal.finish-requires
 finish-requires c =
     let x = c.phase_round-w.ensures in
     let p = c.phase_round-w.new.picks in
-    let h : c.phase_round-w.result.chosen ≤ length p = omega (arith, x.most, c.phase_round-w.auto.picks, c.requires.2) in
+    let h : c.phase_round-w.result.chosen ≤ length p = omega (arith, x.most, c.phase_round-w.auto.picks, c.requires.1) in
     let n = front-long p h in
-    (front_marked p h (marked-after none x c.requires.0), omega (arith, n, x.most), omega (arith, n, few_chosen none x round-keys c.requires.0, c.requires.3))
+    (front_marked p h (marked-after none x c.requires.0), omega (arith, n, x.most), omega (arith, n, few_chosen none x round-keys c.requires.0, c.requires.2))
 
 pub move_ready-requires : goal.move_ready-requires
 move_ready-requires c = let z = (kept_shown (begun_kept c.requires.0)).sizes.long in omega (
@@ -43,4 +42,4 @@ move_ready-requires c = let z = (kept_shown (begun_kept c.requires.0)).sizes.lon
 
 pub returns : goal.returns
 returns c = planned none c.phase_round-w.ensures c.args.out.now (front_closed c.phase_round-w.new.picks
-    (let x = c.phase_round-w.ensures in omega (arith, x.most, c.phase_round-w.auto.picks, c.requires.2)) c.args.out.now c.finish.ensures) (λ st k h w. c.move_ready.ensures k h st w)
+    (let x = c.phase_round-w.ensures in omega (arith, x.most, c.phase_round-w.auto.picks, c.requires.1)) c.args.out.now c.finish.ensures) (λ st k h w. c.move_ready.ensures k h st w)

@@ -17,7 +17,7 @@ loop-i-init c = (
   refl,
   refl,
   scans_start (λ st. given_keys c.args.given.now) c.args.v
-      c.requires.0 c.requires.3,
+      c.requires.0 c.requires.2,
 )
 
 pub shape_of-s-then-w : goal.shape_of-s-then-w
@@ -37,14 +37,13 @@ consider-w-requires c =
     let x = c.loop-i.invariant.3 in
     let less = c.loop-i-test.true in (
       x.kept,
-      c.requires.1,
       omega (
         arith,
         x.roomy.more c.if-w.false,
         c.loop-i.invariant.2,
-        c.requires.2,
+        c.requires.1,
       ),
-      omega (arith, x.near, less, c.keys-count.ensures, c.requires.4),
+      omega (arith, x.near, less, c.keys-count.ensures, c.requires.3),
     )
 
 pub loop-i-preserved : goal.loop-i-preserved

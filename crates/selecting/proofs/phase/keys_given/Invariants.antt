@@ -8,4 +8,4 @@ use Rattle.selecting.proofs.phase.keys_given.Given as goal
 
 abbrev pub invariant-loop-i : goal.invariant-loop-i
 invariant-loop-i l = (l.i ≤ length l.given / key_bytes) × (length l.s ≡ length l.initial.s) × (length l.picks ≡ length l.initial.picks)
-    × Scans l.initial.s l.s l.initial.picks l.picks l.clock (λ st. given_keys l.given) (λ st. drop l.i (given_keys l.given)) l.initial.w l.w l.i
+    × Scans l.initial.s l.s l.initial.picks l.picks l.clock.time (λ st. given_keys l.given) (λ st. drop l.i (given_keys l.given)) l.initial.w l.w l.i

@@ -17,10 +17,10 @@ pub loop-i-init : goal.loop-i-init
 loop-i-init c =
     let from = c.args.from in
     let z : 0 ≤ from - from = omega arith in (
-      (omega arith, c.requires.4.0),
+      (omega arith, c.requires.3.0),
       refl,
       refl,
-      scans_as (scans_start (λ st. keys_over from c.args.to (rows_of st.table)) c.args.v c.requires.0 c.requires.3) _ _ z (λ st l s m. refl),
+      scans_as (scans_start (λ st. keys_over from c.args.to (rows_of st.table)) c.args.v c.requires.0 c.requires.2) _ _ z (λ st l s m. refl),
     )
 
 pub shape_of-s-then-w : goal.shape_of-s-then-w
@@ -36,20 +36,19 @@ returns-then-w c =
 
 pub row_at-r-requires : goal.row_at-r-requires
 row_at-r-requires c =
-    let x = c.loop-i.invariant.3 in (kept_shown x.kept, omega (arith, c.loop-i-test.true, x.rows_same, c.requires.4.1))
+    let x = c.loop-i.invariant.3 in (kept_shown x.kept, omega (arith, c.loop-i-test.true, x.rows_same, c.requires.3.1))
 
 pub ends_key-requires : goal.ends_key-requires
 ends_key-requires c =
-    let x = c.loop-i.invariant.3 in (kept_shown x.kept, omega (arith, c.loop-i-test.true), omega (arith, x.rows_same, c.requires.4.1))
+    let x = c.loop-i.invariant.3 in (kept_shown x.kept, omega (arith, c.loop-i-test.true), omega (arith, x.rows_same, c.requires.3.1))
 
 pub consider_next-w-requires : goal.consider_next-w-requires
 consider_next-w-requires c =
     let x = c.loop-i.invariant.3 in
     let at = c.loop-i.invariant.0 in (
       x.kept,
-      c.requires.1,
-      omega (arith, x.roomy.more c.if-w.false, c.loop-i.invariant.2, c.requires.2),
-      omega (arith, x.near, at, c.loop-i-test.true, c.requires.5),
+      omega (arith, x.roomy.more c.if-w.false, c.loop-i.invariant.2, c.requires.1),
+      omega (arith, x.near, at, c.loop-i-test.true, c.requires.4),
     )
 
 pub loop-i-preserved : goal.loop-i-preserved
@@ -66,7 +65,7 @@ loop-i-preserved c =
         k.consider_next-w.auto.s ∙ c.loop-i.invariant.1,
         k.consider_next-w.auto.picks ∙ c.loop-i.invariant.2,
         scans_more x (λ st. keys_over (i + 1) to (rows_of st.table)) _ (omega (arith, at)) c.if-w.false k.consider_next-w.ensures
-            (λ st l s m. row_ends s m i to less (omega (arith, c.requires.4.1, x.rows_same)) c.row_at-r.ensures c.ends_key.ensures k.if-ends_key.true
+            (λ st l s m. row_ends s m i to less (omega (arith, c.requires.3.1, x.rows_same)) c.row_at-r.ensures c.ends_key.ensures k.if-ends_key.true
             ∙ ap (λ (j : Key). j ∷ keys_over (i + 1) to (rows_of st.table)) (sym k.key_of.ensures)),
       )
       | else-ends_key k ↦ rw (k.s-is, k.picks-is, k.w-is) (
@@ -74,7 +73,7 @@ loop-i-preserved c =
         c.loop-i.invariant.1,
         c.loop-i.invariant.2,
         scans_as x (λ st. keys_over (i + 1) to (rows_of st.table)) _ (omega (arith, at))
-            (λ st l s m. row_goes_on s m i to less (omega (arith, c.requires.4.1, x.rows_same)) c.row_at-r.ensures c.ends_key.ensures k.if-ends_key.false),
+            (λ st l s m. row_goes_on s m i to less (omega (arith, c.requires.3.1, x.rows_same)) c.row_at-r.ensures c.ends_key.ensures k.if-ends_key.false),
       )
     ]
 

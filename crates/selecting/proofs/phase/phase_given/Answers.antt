@@ -10,11 +10,10 @@ keys_given-requires c =
     let e = c.opened.ensures in (
       c.requires.0,
       c.requires.1,
-      c.requires.2,
       opened-roomy
-          c.args.v e c.requires.3,
+          c.args.v e c.requires.2,
       omega
-          (arith, ap (λ (u : Scan). u.considered) e, c.requires.4),
+          (arith, ap (λ (u : Scan). u.considered) e, c.requires.3),
     )
 
 pub returns : goal.returns

@@ -20,13 +20,12 @@ keys_over-x-requires c =
     let f = c.after_cursor-from.ensures.most in (
       c.requires.0,
       c.requires.1,
-      c.requires.2,
       opened-roomy
           c.args.v e
-          c.requires.3,
+          c.requires.2,
       (omega (arith, n, f), omega (arith, n)),
       omega
-          (arith, n, ap (λ (u : Scan). u.considered) e, c.requires.4),
+          (arith, n, ap (λ (u : Scan). u.considered) e, c.requires.3),
     )
 
 pub keys_over-requires : goal.keys_over-requires
@@ -37,12 +36,11 @@ keys_over-requires c =
     let w = c.keys_over-x.ensures in
     let long = c.keys_over-x.auto.picks in (
       w.kept,
-      c.requires.1,
       omega
-          (arith, long, c.requires.2),
+          (arith, long, c.requires.1),
       w.roomy,
       (omega arith, omega (arith, f, w.rows_same)),
-      omega (arith, n, e, f, w.near, c.requires.4),
+      omega (arith, n, e, f, w.near, c.requires.3),
     )
 
 pub returns : goal.returns
