@@ -46,9 +46,8 @@ put_back-requires c = let late : c.args.clock.time < word = omega (arith, c.args
     )) c.ask_round-r.auto.s refl (search rules) c.begin-v.auto.first c.ask_round-r.ensures
 
 pub returns : goal.returns
-returns c = let late : c.args.clock.time < word = omega (arith, c.args.clock.early) in λ st s o. plan_is none late c.set_apart.ensures c.begin-v.ensures c.held_places-c.ensures.word st s o (let y =
-    front_within (set-parted c.requires.0 c.set_apart.ensures c.held_places-c.ensures.word).apart in omega (
-      arith,
-      y,
-      c.begin-v.auto.s,
-    )) c.ask_round-r.auto.s refl (search rules) c.begin-v.auto.first c.ask_round-r.ensures c.put_back.ensures
+returns c =
+    let late : c.args.clock.time < word = omega (arith, c.args.clock.early) in
+    let y = front_within (set-parted c.requires.0 c.set_apart.ensures c.held_places-c.ensures.word).apart in
+    λ st s o. plan_is none late c.set_apart.ensures c.begin-v.ensures c.held_places-c.ensures.word st s o (omega (arith, y, c.begin-v.auto.s))
+    c.ask_round-r.auto.s refl (search rules) c.begin-v.auto.first c.ask_round-r.ensures c.put_back.ensures

@@ -16,7 +16,6 @@ pub claim_bytes-taken-requires : goal.claim_bytes-taken-requires
 claim_bytes-taken-requires c =
     let p = passed c.in_ok-of_clock_and_buffer.ensures in (
       c.need_of-n.ensures.kept,
-      early_clock _ p.clocks,
       omega (
         arith,
         p.room,
@@ -25,6 +24,9 @@ claim_bytes-taken-requires c =
             c.args.checked.now,
       ),
     )
+
+pub invariant_of-claim_bytes : goal.invariant_of-claim_bytes
+invariant_of-claim_bytes c = record { early = early_clock _ (passed c.in_ok-of_clock_and_buffer.ensures).clocks }
 
 pub returns : goal.returns
 returns c =

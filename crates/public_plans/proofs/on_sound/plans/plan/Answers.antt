@@ -16,7 +16,10 @@ plan_round-r-requires c =
     let w = c.requires in
     let p = passed c.in_ok-of_clock_and_buffer.ensures in
     let e = c.need_of-n.ensures in
-    (e.kept, early_clock _ p.clocks, omega (arith, p.room, c.plan_needs-needs.ensures w, front_limit w e))
+    (e.kept, omega (arith, p.room, c.plan_needs-needs.ensures w, front_limit w e))
+
+pub invariant_of-plan_round : goal.invariant_of-plan_round
+invariant_of-plan_round c = record { early = early_clock _ (passed c.in_ok-of_clock_and_buffer.ensures).clocks }
 
 pub returns : goal.returns
 returns c =

@@ -11,7 +11,10 @@ returns-in_err-of_clock c =
     rw (hands-on _ c.from_residual.ensures.1) (refused (gates _).names c.requires _ c.in_err-of_clock.ensures)
 
 pub poll_gate-requires : goal.poll_gate-requires
-poll_gate-requires c = (c.need_of-n.ensures.kept, early_clock _ (passed c.in_ok-of_clock.ensures).clocks)
+poll_gate-requires c = c.need_of-n.ensures.kept
+
+pub invariant_of-poll_gate : goal.invariant_of-poll_gate
+invariant_of-poll_gate c = record { early = early_clock _ (passed c.in_ok-of_clock.ensures).clocks }
 
 pub returns : goal.returns
 returns c =
