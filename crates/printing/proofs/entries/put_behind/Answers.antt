@@ -1,5 +1,5 @@
 -- `printing::entries::put_behind` meets its contract. The loop's invariant: the first i entries are written.
-use mathlib.Core.Path.{◌≡◌, refl}
+use mathlib.Core.Path.{refl}
 use native.Mathlib.Omega.{arith}
 use Rattle.printing.proofs.EntryLists.{no-entries, more_entries}
 use Rattle.printing.proofs.entries.put_behind.Goals as goal
@@ -7,9 +7,6 @@ use Rattle.printing.proofs.entries.put_behind.Goals as goal
 pub loop-i-init : goal.loop-i-init
 loop-i-init c =
     (refl, omega arith, no-entries c.args.out.now c.args.at c.args.answer.now c.args.first refl)
-
-pub put_entry-to-requires : goal.put_entry-to-requires
-put_entry-to-requires c = (omega arith, omega (arith, c.put_bytes-from.ensures.next))
 
 pub loop-i-preserved : goal.loop-i-preserved
 loop-i-preserved c =
@@ -20,9 +17,3 @@ loop-i-preserved c =
     c.loop-i.invariant.2 c.put_bytes-from.ensures
     c.put_entry-to.ensures in
     (omega (arith, c.put_entry-to.auto, c.put_bytes-from.auto), omega (arith, w.0), w.1)
-
-pub shape_of-out : goal.shape_of-out
-shape_of-out c = c.loop-i.invariant.0
-
-pub returns : goal.returns
-returns c = let e : c.loop-i.i ≡ c.args.n = omega arith in (omega arith, rw e at c.loop-i.invariant.2)

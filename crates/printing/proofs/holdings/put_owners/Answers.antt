@@ -6,14 +6,8 @@ use Rattle.printing.proofs.Printing.{decimal_end}
 use Rattle.printing.proofs.OwnerLists.{telling_none, telling_more, telling_all}
 use Rattle.printing.proofs.holdings.put_owners.Goals as goal
 
-pub put_decimal-to-requires : goal.put_decimal-to-requires
-put_decimal-to-requires c = omega (arith, c.requires.0)
-
 pub loop-i-init : goal.loop-i-init
 loop-i-init c = telling_none (hashes_in c.args.hashes.now) c.args.answer.now
-
-pub hash_in-requires : goal.hash_in-requires
-hash_in-requires c = omega (arith, c.loop-i-test.true, c.hashes-n.ensures)
 
 pub put_owner-to-requires : goal.put_owner-to-requires
 put_owner-to-requires c =
@@ -33,9 +27,6 @@ loop-i-preserved c =
     telling_more (hashes_in c.args.hashes.now) c.args.answer.now v (omega (arith, t, n))
     (quad_is c.hash_quad-h.ensures c.hash_in.ensures)
     (omega (arith, t, n, v.ends, decimal_end _ d.ensures, d.auto, c.requires.0, c.requires.1)) (omega (arith, p.auto)) p.ensures
-
-pub shape_of-out : goal.shape_of-out
-shape_of-out c = omega (arith, c.loop-i.invariant.long, c.put_decimal-to.auto)
 
 pub returns : goal.returns
 returns c =

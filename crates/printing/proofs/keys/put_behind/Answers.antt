@@ -1,14 +1,11 @@
 -- `printing::keys::put_behind` meets its contract.
-use mathlib.Core.Path.{◌≡◌, refl}
+use mathlib.Core.Path.{refl}
 use native.Mathlib.Omega.{arith}
 use Rattle.printing.proofs.Behind.{none_behind, more_behind}
 use Rattle.printing.proofs.keys.put_behind.Goals as goal
 
 pub loop-i-init : goal.loop-i-init
 loop-i-init c = (refl, omega arith, none_behind c.args.out.now c.args.at c.args.answer.now refl)
-
-pub put_key-to-requires : goal.put_key-to-requires
-put_key-to-requires c = (omega arith, omega (arith, c.put_bytes-from.ensures.next))
 
 pub loop-i-preserved : goal.loop-i-preserved
 loop-i-preserved c =
@@ -18,9 +15,3 @@ loop-i-preserved c =
     c.loop-i.invariant.2 c.put_bytes-from.ensures
     c.put_key-to.ensures in
     (omega (arith, c.put_key-to.auto, c.put_bytes-from.auto), omega (arith, w.0), w.1)
-
-pub shape_of-out : goal.shape_of-out
-shape_of-out c = c.loop-i.invariant.0
-
-pub returns : goal.returns
-returns c = let e : c.loop-i.i ≡ c.args.n = omega arith in (omega arith, rw e at c.loop-i.invariant.2)

@@ -12,18 +12,12 @@ returns-then-n-eq0 c = none_wrote c.requires.0 c.args.answer.now
 pub loop-i-init : goal.loop-i-init
 loop-i-init c = (omega arith, omega arith, start_wrote c.requires.0 c.args.answer.now)
 
-pub put_next-at-requires : goal.put_next-at-requires
-put_next-at-requires c = (omega arith, omega arith)
-
 pub loop-i-preserved : goal.loop-i-preserved
 loop-i-preserved c =
     let w = more_wrote c.requires.0
     c.args.answer.now (omega arith) c.loop-i.invariant.1
     c.loop-i.invariant.2 c.put_next-at.ensures in
     (c.put_next-at.auto.out ∙ c.loop-i.invariant.0, w.0, w.1)
-
-pub shape_of-out : goal.shape_of-out
-shape_of-out c = c.loop-i.invariant.0
 
 pub returns : goal.returns
 returns c = all_wrote c.requires.0 c.args.answer.now (pos_of_ne-zero c.if-n-eq0.false)

@@ -1,9 +1,6 @@
 -- `printing::keys::put_next` meets its contract.
-use Rattle.printing.proofs.KeyLists.{key_at, next_first, next_key}
+use Rattle.printing.proofs.KeyLists.{key_at, next_key}
 use Rattle.printing.proofs.keys.put_next.Goals as goal
-
-pub returns-then-i-eq0 : goal.returns-then-i-eq0
-returns-then-i-eq0 c = next_first c.if-i-eq0.true c.put_key.ensures
 
 pub returns : goal.returns
 returns c = next_key (key_at c.args.answer.now
