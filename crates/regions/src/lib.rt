@@ -16,6 +16,7 @@ ghost use Rattle.regions.specs.Order.{Sought, IsLowerBound, First, one};
 ghost use Rattle.regions.specs.Rows.{row_size, conn_size, quad_words, read_quad, quad_number, row_words, read_row};
 ghost use Rattle.regions.specs.Rows.{key_number, key_of, row_key, row_conn, conn_words, read_conn, conn_key};
 
+pub mod listed;
 pub mod ranges;
 
 // Words of a row.

@@ -8,7 +8,8 @@
 
 use machine::limits::{MAX_ALTERNATES, MAX_ANNOUNCEMENTS, MAX_PLACES};
 use places::PLACE;
-use regions::{CONN, ROW};
+use regions::listed::Records;
+use regions::{CONN, Conn, ROW, Row};
 use store::head::HEAD;
 
 mod owner; // owner.rt: the owner of a place
@@ -16,7 +17,7 @@ mod place; // place.rt: package places
 
 ghost use Rattle.std.specs.Prelude.{◌≡◌, ◌+◌, ◌*◌, ◌≤◌, length};
 ghost use Rattle.words.specs.Words.{words, Decides};
-ghost use Rattle.regions.specs.Rows.{row_size, conn_size, quad_number};
+ghost use Rattle.regions.specs.Rows.{quad_number};
 ghost use Rattle.places.specs.Places.{place_size};
 ghost use Rattle.machine.specs.Limits.{max_announcements};
 ghost use Rattle.store.specs.Image.{head_size, SoundStore};
@@ -88,27 +89,27 @@ fn head_fits(s: &[u8]) -> bool
 
 // ---- the regions
 
-// Whether the n rows, c connections and p places at the fronts of their regions are sound, with zeros behind them.
-fn records_fit(rows: &[u8], n: usize, conns: &[u8], c: usize, places: &[u8], p: usize) -> bool
-    requires { (8 * (row_size * n) ≤ length rows.now) × (8 * (conn_size * c) ≤ length conns.now) × (8 * (place_size * p) ≤ length places.now) × (n ≤ max_announcements) }
-    ensures { Decides result (RecordsSound (words rows.now) n (words conns.now) c (words places.now) p) }
+// Whether the rows, the connections and the p places at the fronts of their regions are sound, with zeros behind them.
+fn records_fit(rows: Records<Row>, conns: Records<Conn>, places: &[u8], p: usize) -> bool
+    requires { (8 * (place_size * p) ≤ length places.now) × (rows.count ≤ max_announcements) }
+    ensures { Decides result (RecordsSound (words rows.entry.bytes.now) rows.entry.count (words conns.entry.bytes.now) conns.entry.count (words places.now) p) }
 {
-    if !sound_rows::candidate::rows_fit(rows, n) {
+    if !sound_rows::candidate::rows_fit(rows) {
         return false;
     }
-    if !sound_rows::group::groups_fit(rows, n, MAX_ALTERNATES) {
+    if !sound_rows::group::groups_fit(rows, MAX_ALTERNATES) {
         return false;
     }
-    if !sound_conns::conns_fit(rows, n, conns, c) {
+    if !sound_conns::conns_fit(rows, conns) {
         return false;
     }
-    if !places_fit(places, p, rows, n) {
+    if !places_fit(places, p, rows) {
         return false;
     }
-    if !words::is_zero(rows, n * ROW, rows.len() / 8) {
+    if !words::is_zero(rows.bytes, rows.count * ROW, rows.bytes.len() / 8) {
         return false;
     }
-    if !words::is_zero(conns, c * CONN, conns.len() / 8) {
+    if !words::is_zero(conns.bytes, conns.count * CONN, conns.bytes.len() / 8) {
         return false;
     }
     words::is_zero(places, p * PLACE, places.len() / 8)
@@ -138,5 +139,7 @@ pub fn sound(s: &[u8]) -> bool
     let a = x * 8;
     let b = y * 8;
     let e = z * 8;
-    records_fit(&s[192..a], n, &s[a..b], c, &s[b..e], p)
+    let rows = Records::<Row>::new(&s[192..a], n);
+    let conns = Records::<Conn>::new(&s[a..b], c);
+    records_fit(rows, conns, &s[b..e], p)
 }

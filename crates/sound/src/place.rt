@@ -10,6 +10,8 @@ ghost use Rattle.sound.specs.Places.{PlaceSound, PlacesSound, PlaceFollows, hash
 
 use crate::owner::{is_owned, walk_to};
 use places::{COMBINED, PARENT_COUNT, PARENTS, PLACE, STAGE, WTXID_COUNT, WTXIDS};
+use regions::Row;
+use regions::listed::Records;
 
 const KEPT: usize = 811;
 
@@ -128,9 +130,10 @@ fn padded(p: &[u8], m: usize, n: usize) -> bool
 }
 
 // Whether the words of one place write it out, and it is fit. The rows of its key are guessed to begin at the i-th.
-fn place_fits(p: &[u8], rows: &[u8], n: usize, slots: &mut [u16], mark: u16, i: usize) -> bool
-    requires { (length p.now ≡ 8 * place_size) × (8 * (row_size * n) ≤ length rows.now) × (length slots.old ≡ slot_count) }
-    ensures { (RowsSound (recs row_size read_row n (words rows.now)) → Decides result (PlaceSound (recs row_size read_row n (words rows.now)) (words p.now)))
+fn place_fits(p: &[u8], rows: Records<Row>, slots: &mut [u16], mark: u16, i: usize) -> bool
+    requires { (length p.now ≡ 8 * place_size) × (length slots.old ≡ slot_count) }
+    ensures { (RowsSound (recs row_size read_row rows.entry.count (words rows.entry.bytes.now))
+        → Decides result (PlaceSound (recs row_size read_row rows.entry.count (words rows.entry.bytes.now)) (words p.now)))
         × (length slots.new ≡ slot_count) }
 {
     let stage = words::get(p, STAGE);
@@ -149,7 +152,7 @@ fn place_fits(p: &[u8], rows: &[u8], n: usize, slots: &mut [u16], mark: u16, i: 
     if !distinct(p, PARENTS, parents as usize, slots, mark) {
         return false;
     }
-    is_owned(rows, n, regions::read_quad(p, 0), i)
+    is_owned(rows, regions::read_quad(p, 0), i)
 }
 
 // Whether the hash of the i-th place is above that of the place before it.
@@ -166,9 +169,10 @@ fn place_follows(s: &[u8], i: usize) -> bool
 }
 
 // Whether the first q places write themselves out, are fit, and ascend by hash.
-pub fn places_fit(s: &[u8], q: usize, rows: &[u8], n: usize) -> bool
-    requires { (8 * (place_size * q) ≤ length s.now) × (8 * (row_size * n) ≤ length rows.now) }
-    ensures { RowsSound (recs row_size read_row n (words rows.now)) → Decides result (PlacesSound (recs row_size read_row n (words rows.now)) q (words s.now)) }
+pub fn places_fit(s: &[u8], q: usize, rows: Records<Row>) -> bool
+    requires { 8 * (place_size * q) ≤ length s.now }
+    ensures { RowsSound (recs row_size read_row rows.entry.count (words rows.entry.bytes.now))
+        → Decides result (PlacesSound (recs row_size read_row rows.entry.count (words rows.entry.bytes.now)) q (words s.now)) }
 {
     let mut slots: [u16; 4096] = [0; 4096];
     let mut at = 0;
@@ -176,8 +180,8 @@ pub fn places_fit(s: &[u8], q: usize, rows: &[u8], n: usize) -> bool
         let a = i * PLACE;
         let x = a * 8;
         let y = (a + PLACE) * 8;
-        at = walk_to(rows, n, regions::read_quad(s, a), at);
-        if !place_fits(&s[x..y], rows, n, &mut slots, (i % 0xffff + 1) as u16, at) {
+        at = walk_to(rows, regions::read_quad(s, a), at);
+        if !place_fits(&s[x..y], rows, &mut slots, (i % 0xffff + 1) as u16, at) {
             return false;
         }
         if !place_follows(s, i) {

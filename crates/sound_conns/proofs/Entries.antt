@@ -6,7 +6,7 @@ use mathlib.Core.List.{List, [], ◌∷◌}
 use native.Mathlib.Nat.{le_refl}
 use native.Mathlib.Omega.{arith}
 use lib.Dec.{eqb}
-use lib.ListN.{length, drop, get_or}
+use lib.ListN.{length, take, drop, get_or}
 use lib.Seq.{get_or-take, get_or-drop}
 use borrow.Author.Tests.{eqb-true, eqb-false}
 use Rattle.words.specs.Words.{recs, Decides}
@@ -18,9 +18,13 @@ use Rattle.machine.specs.Limits.{word}
 use Rattle.machine.specs.Typed.{Each}
 use Rattle.machine.proofs.Tests.{test, order}
 use Rattle.store.specs.FlatSound.{ConnFits}
-use Rattle.sound_conns.specs.Conns.{Rise, Entries, EntryStep, names, Rising, Place, LastOf, blank, many, most}
+use Rattle.sound_conns.specs.Conns.{Rise, Entries, EntryStep, names, Rising, Low, Place, LastOf, blank, many, most}
 use Rattle.sound_rows.proofs.Decide.{Iff, Chain}
-use Rattle.sound_rows.proofs.Ranges.{Below}
+use Rattle.regions.specs.contracts.Conn as C
+use Rattle.regions.proofs.Conn.TheLaws as C'
+use denote.Laws.{Is}
+use denote.Struct.Laws as LL
+use borrow.Author.Count.{below_more}
 
 -- ---- a walk along the entries
 
@@ -88,8 +92,19 @@ entries-positive n w e j h =
     let g : j < length (recs conn_size read_conn n w) = rw (length-recs conn_size read_conn n w) h in
     rw (name-entry n w j h) (rise_from 1 (recs conn_size read_conn n w) e.rise j g)
 
-pub names-most : (n : ℕ) (w : List ℕ) → Below word w → (j : ℕ) → j < n → get_or (names n w) j 0 ≤ most
-names-most n w b j h = rw (name-word n w j h) (omega (arith, b (j * 3)))
+-- a value of the declared type has a connection of 64 bits
+pub conn-typed : (c : Conn) → Is C.the_row c (LL.vals C.the_type C'.the_laws c) → c.conn < word
+conn-typed c g = (LL.owed C.the_type C'.the_laws c _ g).0.1
+
+-- the first i names are numbers of 64 bits
+abbrev pub LowUpto : ℕ → List ℕ → ℕ → Type 0
+LowUpto n w i = (k : ℕ) → k < i → get_or (names n w) k 0 ≤ most
+
+pub low_turn : (n : ℕ) (w : List ℕ) (i : ℕ) {c : Conn} → i < n → c ≡ read_conn (take conn_size (drop (conn_size * i) w)) → c.conn < word → LowUpto n w i → LowUpto n w (i + 1)
+unfolding read_conn
+low_turn n w i {c} h e l f =
+    let q : get_or (names n w) i 0 ≡ c.conn = recs_at conn_size conn_key n w i 0 h ∙ sym (ap (λ (c : Conn). c.conn) e) in
+    below_more (λ k. get_or (names n w) k 0 ≤ most) i f (omega (arith, q, l))
 
 -- ---- the last entry of a window
 
@@ -101,9 +116,9 @@ rising-sorted ks r p q h l = elim (order p q) [
   | inr (inr b) ↦ absurd (omega arith)
 ]
 
-pub last_whole : (n : ℕ) (w : List ℕ) (lo : ℕ) → n ≤ lo + many → Below word w → LastOf (names n w) lo many most
+pub last_whole : (n : ℕ) (w : List ℕ) (lo : ℕ) → n ≤ lo + many → Low (names n w) → LastOf (names n w) lo many most
 last_whole n w lo h b = record {
-  upto = λ j m l. names-most n w b j (rw (length-names n w) at l);
+  upto = λ j m l. b j l;
   past = λ j m l. absurd (omega (arith, length-names n w));
   whole = λ _. refl;
 }

@@ -73,6 +73,9 @@ pub record Place (ks : List ℕ) (n x r : ℕ) : Type 0 where
 abbrev pub most : ℕ
 most = 18446744073709551615
 
+abbrev pub Low : List ℕ → Type 0
+Low ks = (p : ℕ) → p < length ks → get_or ks p 0 ≤ most
+
 -- ---- counters t of the entries from lo on
 
 -- one row less in the counter v, and `own` less that own their request

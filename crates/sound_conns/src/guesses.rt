@@ -3,12 +3,12 @@
 // A window of entries has a first table of slots and behind it a second, a fourth as long, for entries that lost their slot to another
 // one. A slot has where an entry is, counted from the window's first. What is guessed is tested before it is taken, so no contract says
 // what the slots hold.
-ghost use Rattle.std.specs.Prelude.{◌≡◌, ◌+◌, ◌*◌, ◌/◌, ◌^◌, ◌≤◌, ◌<◌, length, get_or};
+ghost use Rattle.std.specs.Prelude.{◌≡◌, ◌+◌, ◌/◌, ◌^◌, ◌≤◌, ◌<◌, length, get_or};
 ghost use Rattle.words.specs.Words.{words, Decides};
-ghost use Rattle.regions.specs.Rows.{conn_size};
 ghost use Rattle.sound_conns.specs.Conns.{names, Place, many};
 
-use regions::CONN;
+use regions::listed::Records;
+use regions::{CONN, Conn};
 
 // Entries of a window at most.
 const MANY: usize = 8192;
@@ -17,15 +17,21 @@ const WORD: u64 = 0x1_0000_0000;
 
 const TOP: u64 = 0x8000_0000_0000_0000;
 
-// Whether the i-th of n entries is x's.
-fn is_entry(s: &[u8], n: usize, i: usize, x: u64) -> bool
-    requires { 8 * (conn_size * n) ≤ length s.now }
-    ensures { Decides result ((i < n) × (get_or (names n (words s.now)) i 0 ≡ x)) }
+// The filled tables of a window: the slots of both, the number of the first's less one, and how the first was filled.
+#[derive(Clone, Copy)]
+pub struct Guesses<'a> {
+    pub slots: &'a [u16],
+    pub mask: u64,
+    pub way: u64,
+    ghost narrow: { mask < 2 ^ 32 },
+    ghost roomy: { mask + 1 + mask / 4 < length slots.now },
+}
+
+// Whether the i-th entry is x's.
+fn is_entry(conns: Records<Conn>, i: usize, x: u64) -> bool
+    ensures { Decides result ((i < conns.entry.count) × (get_or (names conns.entry.count (words conns.entry.bytes.now)) i 0 ≡ x)) }
 {
-    if i < n {
-        return words::get(s, i * CONN) == x;
-    }
-    false
+    i < conns.count && words::get(conns.bytes, i * CONN) == x
 }
 
 // How many of m entries a window has.
@@ -54,37 +60,38 @@ fn ahead(half: usize, k: u64, x: u64) -> usize
 
 // The last of a window's entries whose connection is not above x, or the one behind it, or the window's first. (By halves: searches of
 // several rows overlap in the processor, and quarters, with three loads a step, were slower.)
-fn near(s: &[u8], n: usize, lo: usize, x: u64) -> usize
-    requires { (8 * (conn_size * n) ≤ length s.now) × (lo ≤ n) }
+fn near(conns: Records<Conn>, lo: usize, x: u64) -> usize
+    requires { lo ≤ conns.count }
 {
     let mut base = lo;
-    let mut wide = windowed(n - lo);
+    let mut wide = windowed(conns.count - lo);
+    // the steps are the halvings of `wide`: no index counts
     while 1 < wide {
         let half = wide / 2;
-        base += ahead(half, words::get(s, (base + half) * CONN), x);
+        base += ahead(half, words::get(conns.bytes, (base + half) * CONN), x);
         wide -= half;
     }
     base
 }
 
-// Where x's entry is among n, or n: a search in the window from lo on, and one among all where that does not find it.
-fn seek_entry(s: &[u8], n: usize, lo: usize, x: u64) -> usize
-    requires { (8 * (conn_size * n) ≤ length s.now) × (lo ≤ n) }
-    ensures { Place (names n (words s.now)) n x result }
+// Where x's entry is, or the number of entries: a search in the window from lo on, and one among all where that does not find it.
+fn seek_entry(conns: Records<Conn>, lo: usize, x: u64) -> usize
+    requires { lo ≤ conns.count }
+    ensures { Place (names conns.entry.count (words conns.entry.bytes.now)) conns.entry.count x result }
 {
-    let a = near(s, n, lo, x);
-    if is_entry(s, n, a, x) {
+    let a = near(conns, lo, x);
+    if is_entry(conns, a, x) {
         return a;
     }
     let b = a.saturating_sub(1);
-    if is_entry(s, n, b, x) {
+    if is_entry(conns, b, x) {
         return b;
     }
-    let i = regions::seek_conn(s, n, x);
-    if is_entry(s, n, i, x) {
+    let i = regions::seek_conn(conns.bytes, conns.count, x);
+    if is_entry(conns, i, x) {
         return i;
     }
-    n
+    conns.count
 }
 
 // ---- the slots
@@ -133,16 +140,16 @@ fn wide(x: u16) -> usize
 }
 
 // Keeps for the entries from lo on where they are. (Of two that meet, the later.)
-fn fill_first(s: &[u8], n: usize, lo: usize, guess: &mut [u16], mask: u64, way: u64)
-    requires { (8 * (conn_size * n) ≤ length s.now) × (mask < 2 ^ 32) × (mask + 1 + mask / 4 < length guess.old) }
+fn fill_first(conns: Records<Conn>, lo: usize, guess: &mut [u16], mask: u64, way: u64)
+    requires { (mask < 2 ^ 32) × (mask + 1 + mask / 4 < length guess.old) }
     ensures { length guess.new ≡ length guess.old }
 {
-    for i in lo..n {
+    for i in lo..conns.count {
         let j = i - lo;
         if j >= MANY {
             return;
         }
-        let at = slot(words::get(s, i * CONN), way, mask);
+        let at = slot(words::get(conns.bytes, i * CONN), way, mask);
         guess[at] = j as u16;
     }
 }
@@ -162,61 +169,53 @@ fn give_second(guess: &mut [u16], mask: u64, way: u64, x: u64, j: usize) -> usiz
 }
 
 // The same for each of the entries from lo on; how many lost their slot.
-fn fill_second(s: &[u8], n: usize, lo: usize, guess: &mut [u16], mask: u64, way: u64) -> usize
-    requires { (8 * (conn_size * n) ≤ length s.now) × (mask < 2 ^ 32) × (mask + 1 + mask / 4 < length guess.old) }
+fn fill_second(conns: Records<Conn>, lo: usize, guess: &mut [u16], mask: u64, way: u64) -> usize
+    requires { (mask < 2 ^ 32) × (mask + 1 + mask / 4 < length guess.old) }
     ensures { (result ≤ many) × (length guess.new ≡ length guess.old) }
 {
     let mut lost = 0;
-    for i in lo..n {
+    for i in lo..conns.count {
         let j = i - lo;
         if j >= MANY {
             return lost;
         }
-        lost += give_second(guess, mask, way, words::get(s, i * CONN), j);
+        lost += give_second(guess, mask, way, words::get(conns.bytes, i * CONN), j);
     }
     lost
 }
 
 // Fills both tables for the window from lo on, and says in which way the first was filled: one that loses no more than a fourth of the
 // entries, if there is one.
-pub fn fill_guesses(s: &[u8], n: usize, lo: usize, guess: &mut [u16], mask: u64) -> u64
-    requires { (8 * (conn_size * n) ≤ length s.now) × (lo ≤ n) × (mask < 2 ^ 32) × (mask + 1 + mask / 4 < length guess.old) }
+pub fn fill_guesses(conns: Records<Conn>, lo: usize, guess: &mut [u16], mask: u64) -> u64
+    requires { (lo ≤ conns.count) × (mask < 2 ^ 32) × (mask + 1 + mask / 4 < length guess.old) }
     ensures { length guess.new ≡ length guess.old }
 {
-    let few = windowed(n - lo) / 4;
+    let few = windowed(conns.count - lo) / 4;
     for way in 0..2 {
-        fill_first(s, n, lo, guess, mask, way);
-        if fill_second(s, n, lo, guess, mask, way) <= few {
+        fill_first(conns, lo, guess, mask, way);
+        if fill_second(conns, lo, guess, mask, way) <= few {
             return way;
         }
     }
-    fill_first(s, n, lo, guess, mask, 2);
-    fill_second(s, n, lo, guess, mask, 2);
+    fill_first(conns, lo, guess, mask, 2);
+    fill_second(conns, lo, guess, mask, 2);
     2
 }
 
-// Where x's entry is among n, or n: both guesses of the window from lo on are tried first.
-pub fn find_entry(
-    s: &[u8],
-    n: usize,
-    lo: usize,
-    x: u64,
-    guess: &[u16],
-    mask: u64,
-    way: u64,
-) -> usize
-    requires { (8 * (conn_size * n) ≤ length s.now) × (lo ≤ n) × (mask < 2 ^ 32) × (mask + 1 + mask / 4 < length guess.now) }
-    ensures { Place (names n (words s.now)) n x result }
+// Where x's entry is, or the number of entries: both guesses of the window from lo on are tried first.
+pub fn find_entry(conns: Records<Conn>, lo: usize, x: u64, guesses: Guesses) -> usize
+    requires { lo ≤ conns.count }
+    ensures { Place (names conns.entry.count (words conns.entry.bytes.now)) conns.entry.count x result }
 {
-    let at = slot(x, way, mask);
-    let a = lo + wide(guess[at]);
-    if is_entry(s, n, a, x) {
+    let at = slot(x, guesses.way, guesses.mask);
+    let a = lo + wide(guesses.slots[at]);
+    if is_entry(conns, a, x) {
         return a;
     }
-    let to = second_slot(x, mask);
-    let b = lo + wide(guess[to]);
-    if is_entry(s, n, b, x) {
+    let to = second_slot(x, guesses.mask);
+    let b = lo + wide(guesses.slots[to]);
+    if is_entry(conns, b, x) {
         return b;
     }
-    seek_entry(s, n, lo, x)
+    seek_entry(conns, lo, x)
 }

@@ -6,19 +6,21 @@
 // own last entry (`last`).
 #![tactic(auto)]
 
+use guesses::Guesses;
 use machine::limits::{MAX_PEER_ANNOUNCEMENTS, MAX_PEER_IN_FLIGHT};
-use regions::CONN;
+use regions::listed::Records;
+use regions::{CONN, Conn, Row};
 
 mod guesses; // guesses.rt: where a connection's entry is
 
-ghost use Rattle.std.specs.Prelude.{◌≡◌, ℕ, ◌+◌, ◌*◌, ◌/◌, ◌^◌, ◌≤◌, ◌<◌, [], length, get_or};
+ghost use Rattle.std.specs.Prelude.{◌≡◌, ℕ, ◌+◌, ◌*◌, ◌/◌, ◌^◌, ◌≤◌, ◌<◌, [], true, length, get_or};
 ghost use Rattle.words.specs.Words.{words, recs, Decides};
 ghost use Rattle.machine.specs.Limits.{max_announcements};
 ghost use Rattle.machine.specs.Typed.{Each};
 ghost use Rattle.regions.specs.Rows.{row_size, read_row, conn_size, read_conn};
 ghost use Rattle.store.specs.FlatSound.{ConnFits};
 ghost use Rattle.sound_rows.specs.Rows.{RowsSound};
-ghost use Rattle.sound_conns.specs.Conns.{Entries, EntryStep, names, Rising, Lessening, Inside, Holds, Taking, Left, Tallying, Within, Window, LastOf, few, many, most, ConnsSound};
+ghost use Rattle.sound_conns.specs.Conns.{Entries, EntryStep, names, Rising, Low, Lessening, Inside, Holds, Taking, Left, Tallying, Within, Window, LastOf, few, many, most, ConnsSound};
 
 // A counter has in its low half how many rows its entry has left, in its high half how many of them may own their request.
 const HALF: u32 = 0x1_0000;
@@ -34,7 +36,7 @@ const MANY_MASK: u64 = 16383;
 const FEW_MASK: u64 = 2047;
 
 // Whether the entry c is fit to stand right behind p.
-fn entry_fits(p: regions::Conn, c: regions::Conn) -> bool
+fn entry_fits(p: Conn, c: Conn) -> bool
     ensures { Decides result (EntryStep p c) }
 {
     c.conn > p.conn
@@ -43,18 +45,18 @@ fn entry_fits(p: regions::Conn, c: regions::Conn) -> bool
         && c.owned <= MAX_PEER_IN_FLIGHT
 }
 
-// Whether the n entries rise by connection, from 1 on, and each has counts of at least one row and within the limits.
-fn entries_fit(s: &[u8], n: usize) -> bool
-    requires { 8 * (conn_size * n) ≤ length s.now }
-    ensures { Decides result (Entries (recs conn_size read_conn n (words s.now))) }
+// Whether the entries rise by connection, from 1 on, and each has counts of at least one row and within the limits.
+fn entries_fit(conns: Records<Conn>) -> bool
+    ensures { Decides result (Entries (recs conn_size read_conn conns.entry.count (words conns.entry.bytes.now)))
+        × (result ≡ true → Low (names conns.entry.count (words conns.entry.bytes.now))) }
 {
-    let mut p = regions::Conn {
+    let mut p = Conn {
         conn: 0,
         held: 0,
         owned: 0,
     };
-    for i in 0..n {
-        let c = regions::read::<regions::Conn>(s, i);
+    for i in 0..conns.count {
+        let c = conns.get(i);
         if !entry_fits(p, c) {
             return false;
         }
@@ -66,7 +68,7 @@ fn entries_fit(s: &[u8], n: usize) -> bool
 // ---- counters
 
 // The counter of an entry before a row is taken off it.
-fn charge(c: regions::Conn) -> u32
+fn charge(c: Conn) -> u32
     requires { ConnFits c }
     ensures { Left [] c result }
 {
@@ -74,17 +76,17 @@ fn charge(c: regions::Conn) -> u32
 }
 
 // Gives the entries from lo on their counters, as far as there are any.
-fn charge_all(s: &[u8], n: usize, lo: usize, t: &mut [u32])
-    requires { (8 * (conn_size * n) ≤ length s.now) × Each ConnFits (recs conn_size read_conn n (words s.now)) }
-    ensures { Within (λ c j. Left [] c (get_or t.new j 0)) (recs conn_size read_conn n (words s.now)) lo (length t.old)
+fn charge_all(conns: Records<Conn>, lo: usize, t: &mut [u32])
+    requires { Each ConnFits (recs conn_size read_conn conns.count (words conns.bytes.now)) }
+    ensures { Within (λ c j. Left [] c (get_or t.new j 0)) (recs conn_size read_conn conns.entry.count (words conns.entry.bytes.now)) lo (length t.old)
         × (length t.new ≡ length t.old) }
 {
-    for i in lo..n {
+    for i in lo..conns.count {
         let j = i - lo;
         if j >= t.len() {
             return;
         }
-        let c = regions::read::<regions::Conn>(s, i);
+        let c = conns.get(i);
         t[j] = charge(c);
     }
 }
@@ -113,66 +115,62 @@ fn take_off(t: &mut [u32], lo: usize, k: usize, own: u32) -> bool
     true
 }
 
+// A pass over the rows: it counts the entries from lo on, and takes the rows whose connection is above `done` and not above `last`.
+#[derive(Clone, Copy)]
+struct Pass {
+    lo: usize,
+    done: u64,
+    last: u64,
+}
+
 // Whether x is above done and not above last: one branch for its caller, where two would be foretold badly.
-fn inside(x: u64, done: u64, last: u64) -> bool
-    ensures { Decides result (Inside done last x) }
+fn inside(pass: Pass, x: u64) -> bool
+    ensures { Decides result (Inside pass.done pass.last x) }
 {
-    (done < x) & (x <= last)
+    (pass.done < x) & (x <= pass.last)
 }
 
 // Takes a row of the connection x off its entry, if x is inside. False if x has no entry, or one with too little left.
 fn take_row(
-    s: &[u8],
-    n: usize,
-    lo: usize,
+    conns: Records<Conn>,
     t: &mut [u32],
-    guess: &[u16],
-    mask: u64,
-    way: u64,
-    done: u64,
-    last: u64,
+    guesses: Guesses,
+    pass: Pass,
     x: u64,
     own: u32,
 ) -> bool
-    requires { (8 * (conn_size * n) ≤ length s.now) × Rising (names n (words s.now)) × (lo ≤ n) × (mask < 2 ^ 32) × (mask + 1 + mask / 4 < length guess.now)
-        × Holds done last (names n (words s.now)) lo (length t.old) × (own ≤ 1) }
-    ensures { Taking result (names n (words s.now)) done last lo x own t.old t.new × (length t.new ≡ length t.old) }
+    requires { Rising (names conns.count (words conns.bytes.now)) × (pass.lo ≤ conns.count)
+        × Holds pass.done pass.last (names conns.count (words conns.bytes.now)) pass.lo (length t.old) × (own ≤ 1) }
+    ensures { Taking result (names conns.entry.count (words conns.entry.bytes.now)) pass.done pass.last pass.lo x own t.old t.new × (length t.new ≡ length t.old) }
 {
-    if !inside(x, done, last) {
+    if !inside(pass, x) {
         return true;
     }
-    let k = guesses::find_entry(s, n, lo, x, guess, mask, way);
-    if k >= n {
+    let k = guesses::find_entry(conns, pass.lo, x, guesses);
+    if k >= conns.count {
         return false;
     }
-    take_off(t, lo, k, own)
+    take_off(t, pass.lo, k, own)
 }
 
-// Takes the n rows off the entries from lo on, of which there are c in all. False if a row inside has a connection without an entry, or
-// an entry has fewer.
+// Takes the rows off the entries that the pass counts. False if a row inside has a connection without an entry, or an entry has fewer.
 fn count_rows(
-    rows: &[u8],
-    n: usize,
-    conns: &[u8],
-    c: usize,
-    lo: usize,
+    rows: Records<Row>,
+    conns: Records<Conn>,
     t: &mut [u32],
-    guess: &[u16],
-    mask: u64,
-    way: u64,
-    done: u64,
-    last: u64,
+    guesses: Guesses,
+    pass: Pass,
 ) -> bool
-    requires { (8 * (row_size * n) ≤ length rows.now) × (8 * (conn_size * c) ≤ length conns.now) × Rising (names c (words conns.now))
-        × Within (λ e j. Left [] e (get_or t.old j 0)) (recs conn_size read_conn c (words conns.now)) lo (length t.old) × (lo ≤ c)
-        × (mask < 2 ^ 32) × (mask + 1 + mask / 4 < length guess.now) × Holds done last (names c (words conns.now)) lo (length t.old) }
-    ensures { Tallying result (names c (words conns.now)) (recs row_size read_row n (words rows.now))
-        (recs conn_size read_conn c (words conns.now)) done last lo t.new × (length t.new ≡ length t.old) }
+    requires { Rising (names conns.count (words conns.bytes.now))
+        × Within (λ e j. Left [] e (get_or t.old j 0)) (recs conn_size read_conn conns.count (words conns.bytes.now)) pass.lo (length t.old)
+        × (pass.lo ≤ conns.count) × Holds pass.done pass.last (names conns.count (words conns.bytes.now)) pass.lo (length t.old) }
+    ensures { Tallying result (names conns.entry.count (words conns.entry.bytes.now)) (recs row_size read_row rows.entry.count (words rows.entry.bytes.now))
+        (recs conn_size read_conn conns.entry.count (words conns.entry.bytes.now)) pass.done pass.last pass.lo t.new × (length t.new ≡ length t.old) }
 {
-    for i in 0..n {
-        let r = regions::read::<regions::Row>(rows, i);
+    for i in 0..rows.count {
+        let r = rows.get(i);
         let own = (r.bits / 8 % 2) as u32;
-        if !take_row(conns, c, lo, t, guess, mask, way, done, last, r.conn, own) {
+        if !take_row(conns, t, guesses, pass, r.conn, own) {
             return false;
         }
     }
@@ -195,97 +193,85 @@ fn used_up(n: usize, lo: usize, t: &[u32]) -> bool
     true
 }
 
-// Whether each of the entries from lo on that t has a counter for has its rows' counts, and each connection inside has an entry.
+// Whether each of the entries that t has a counter for has its rows' counts, and each connection inside has an entry.
 fn window_fits(
-    rows: &[u8],
-    n: usize,
-    conns: &[u8],
-    c: usize,
-    lo: usize,
+    rows: Records<Row>,
+    conns: Records<Conn>,
     t: &mut [u32],
-    guess: &mut [u16],
+    slots: &mut [u16],
     mask: u64,
-    done: u64,
-    last: u64,
+    pass: Pass,
 ) -> bool
-    requires { (8 * (row_size * n) ≤ length rows.now) × (8 * (conn_size * c) ≤ length conns.now) × Entries (recs conn_size read_conn c (words conns.now))
-        × (lo ≤ c) × (mask < 2 ^ 32) × (mask + 1 + mask / 4 < length guess.old) × Holds done last (names c (words conns.now)) lo (length t.old) }
-    ensures { Decides result (Window (names c (words conns.now)) (recs row_size read_row n (words rows.now))
-        (recs conn_size read_conn c (words conns.now)) done last lo (length t.old)) }
+    requires { Entries (recs conn_size read_conn conns.count (words conns.bytes.now)) × (pass.lo ≤ conns.count)
+        × (mask < 2 ^ 32) × (mask + 1 + mask / 4 < length slots.old) × Holds pass.done pass.last (names conns.count (words conns.bytes.now)) pass.lo (length t.old) }
+    ensures { Decides result (Window (names conns.entry.count (words conns.entry.bytes.now)) (recs row_size read_row rows.entry.count (words rows.entry.bytes.now))
+        (recs conn_size read_conn conns.entry.count (words conns.entry.bytes.now)) pass.done pass.last pass.lo (length t.old)) }
 {
-    charge_all(conns, c, lo, t);
-    let way = guesses::fill_guesses(conns, c, lo, guess, mask);
-    if !count_rows(rows, n, conns, c, lo, t, guess, mask, way, done, last) {
+    charge_all(conns, pass.lo, t);
+    let way = guesses::fill_guesses(conns, pass.lo, slots, mask);
+    let guesses = Guesses { slots, mask, way };
+    if !count_rows(rows, conns, t, guesses, pass) {
         return false;
     }
-    used_up(c, lo, t)
+    used_up(conns.count, pass.lo, t)
 }
 
 // The window of the first few entries.
-fn few_fit(rows: &[u8], n: usize, conns: &[u8], c: usize) -> bool
-    requires { (8 * (row_size * n) ≤ length rows.now) × (8 * (conn_size * c) ≤ length conns.now) × Entries (recs conn_size read_conn c (words conns.now))
-        × Holds 0 most (names c (words conns.now)) 0 few }
-    ensures { Decides result (Window (names c (words conns.now)) (recs row_size read_row n (words rows.now))
-        (recs conn_size read_conn c (words conns.now)) 0 most 0 few) }
+fn few_fit(rows: Records<Row>, conns: Records<Conn>) -> bool
+    requires { Entries (recs conn_size read_conn conns.count (words conns.bytes.now)) × Holds 0 most (names conns.count (words conns.bytes.now)) 0 few }
+    ensures { Decides result (Window (names conns.entry.count (words conns.entry.bytes.now)) (recs row_size read_row rows.entry.count (words rows.entry.bytes.now))
+        (recs conn_size read_conn conns.entry.count (words conns.entry.bytes.now)) 0 most 0 few) }
 {
-    let mut guess: [u16; 2560] = [0; 2560];
+    let mut slots: [u16; 2560] = [0; 2560];
     let mut t: [u32; FEW] = [0; FEW];
-    window_fits(
-        rows,
-        n,
-        conns,
-        c,
-        0,
-        &mut t,
-        &mut guess,
-        FEW_MASK,
-        0,
-        u64::MAX,
-    )
+    let all = Pass {
+        lo: 0,
+        done: 0,
+        last: u64::MAX,
+    };
+    window_fits(rows, conns, &mut t, &mut slots, FEW_MASK, all)
 }
 
-// The window of the many entries from lo on.
-fn many_fit(rows: &[u8], n: usize, conns: &[u8], c: usize, lo: usize, done: u64, last: u64) -> bool
-    requires { (8 * (row_size * n) ≤ length rows.now) × (8 * (conn_size * c) ≤ length conns.now) × Entries (recs conn_size read_conn c (words conns.now)) × (lo ≤ c)
-        × Holds done last (names c (words conns.now)) lo many }
-    ensures { Decides result (Window (names c (words conns.now)) (recs row_size read_row n (words rows.now))
-        (recs conn_size read_conn c (words conns.now)) done last lo many) }
+// The window of the many entries that the pass counts. (By itself, so that its arrays are on the stack only where they are needed.)
+fn many_fit(rows: Records<Row>, conns: Records<Conn>, pass: Pass) -> bool
+    requires { Entries (recs conn_size read_conn conns.count (words conns.bytes.now)) × (pass.lo ≤ conns.count)
+        × Holds pass.done pass.last (names conns.count (words conns.bytes.now)) pass.lo many }
+    ensures { Decides result (Window (names conns.entry.count (words conns.entry.bytes.now)) (recs row_size read_row rows.entry.count (words rows.entry.bytes.now))
+        (recs conn_size read_conn conns.entry.count (words conns.entry.bytes.now)) pass.done pass.last pass.lo many) }
 {
-    let mut guess: [u16; 20480] = [0; 20480];
+    let mut slots: [u16; 20480] = [0; 20480];
     let mut t: [u32; MANY] = [0; MANY];
-    window_fits(
-        rows, n, conns, c, lo, &mut t, &mut guess, MANY_MASK, done, last,
-    )
+    window_fits(rows, conns, &mut t, &mut slots, MANY_MASK, pass)
 }
 
 // The last connection of the many entries from lo on, or the greatest number if no entry is behind them.
-fn last_of(s: &[u8], n: usize, lo: usize) -> u64
-    requires { (8 * (conn_size * n) ≤ length s.now) × (lo < n) × Rising (names n (words s.now)) }
-    ensures { LastOf (names n (words s.now)) lo many result }
+fn last_of(conns: Records<Conn>, lo: usize) -> u64
+    requires { (lo < conns.count) × Rising (names conns.count (words conns.bytes.now)) × Low (names conns.count (words conns.bytes.now)) }
+    ensures { LastOf (names conns.entry.count (words conns.entry.bytes.now)) lo many result }
 {
-    if n - lo <= MANY {
+    if conns.count - lo <= MANY {
         return u64::MAX;
     }
-    words::get(s, (lo + MANY - 1) * CONN)
+    words::get(conns.bytes, (lo + MANY - 1) * CONN)
 }
 
-// Whether the c entries are the tally of the n rows, within the limits of a connection.
-pub fn conns_fit(rows: &[u8], n: usize, conns: &[u8], c: usize) -> bool
-    requires { (8 * (row_size * n) ≤ length rows.now) × (8 * (conn_size * c) ≤ length conns.now) × (n ≤ max_announcements) }
-    ensures { RowsSound (recs row_size read_row n (words rows.now))
-        → Decides result (ConnsSound (recs row_size read_row n (words rows.now)) (recs conn_size read_conn c (words conns.now))) }
+// Whether the entries are the tally of the rows, within the limits of a connection.
+pub fn conns_fit(rows: Records<Row>, conns: Records<Conn>) -> bool
+    requires { rows.count ≤ max_announcements }
+    ensures { RowsSound (recs row_size read_row rows.entry.count (words rows.entry.bytes.now))
+        → Decides result (ConnsSound (recs row_size read_row rows.entry.count (words rows.entry.bytes.now)) (recs conn_size read_conn conns.entry.count (words conns.entry.bytes.now))) }
 {
-    if !entries_fit(conns, c) {
+    if !entries_fit(conns) {
         return false;
     }
-    if c <= FEW {
-        return few_fit(rows, n, conns, c);
+    if conns.count <= FEW {
+        return few_fit(rows, conns);
     }
     let mut lo = 0;
     let mut done = 0;
-    while lo < c {
-        let last = last_of(conns, c, lo);
-        if !many_fit(rows, n, conns, c, lo, done, last) {
+    while lo < conns.count {
+        let last = last_of(conns, lo);
+        if !many_fit(rows, conns, Pass { lo, done, last }) {
             return false;
         }
         done = last;

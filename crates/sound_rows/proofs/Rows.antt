@@ -10,7 +10,7 @@ use lib.Dec.{ltb, eqb}
 use lib.ListN.{take, drop}
 use borrow.Author.Tests.{ltb-true, ltb-false, eqb-true, eqb-false}
 use Rattle.ident.specs.Number.{place}
-use Rattle.words.specs.Words.{recs, words, Decides}
+use Rattle.words.specs.Words.{recs, Decides}
 use Rattle.machine.specs.Typed.{Each}
 use Rattle.regions.specs.declared.Row.{Row}
 use Rattle.regions.specs.Rows.{row_size, read_row, key_number, key_of}
@@ -20,19 +20,19 @@ use Rattle.store.specs.FlatSound.{mark_bit, RowFits, Ascending, MarkedAs}
 use Rattle.store.proofs.Keys.{row_number}
 use Rattle.sound_rows.specs.Rows.{RowPlain, Follows, RowsSound}
 use Rattle.sound_rows.proofs.Decide.{Iff, test-decides, test_iff, test_and, test_or, test_same, test_other, test_less, Chain, rest, rest_all, rest_turn}
-use Rattle.sound_rows.proofs.Ranges.{Below, below_words, each_recs, RowRanges, row-ranges}
+use Rattle.sound_rows.proofs.Ranges.{RowRanges}
 
 -- ---- the walk
 
 -- what is tested of a row behind another
 pub record RowStep (p r : Row) : Type 0 where
-  pub plain : RowPlain r
+  pub fit : RowFits r
   pub follows : Follows p r
 
-row_fits : {r : Row} → RowRanges r → RowPlain r → RowFits r
+pub row_fits : {r : Row} → RowRanges r → RowPlain r → RowFits r
 row_fits g p = record { hash = g.hash; positive = p.positive; conn = g.conn; ready = g.ready; prio = g.prio; deadline = g.deadline; idle = p.idle; bits = p.bits; plain = p.plain }
 
-row_plain : {r : Row} → RowFits r → RowPlain r
+pub row_plain : {r : Row} → RowFits r → RowPlain r
 row_plain f = record { positive = f.positive; idle = f.idle; bits = f.bits; plain = f.plain }
 
 follows_self : (r : Row) → Follows r r
@@ -44,28 +44,28 @@ record Behind (p : Row) (rs : List Row) : Type 0 where
   ascending : Ascending (place (key_at p)) rs
   marks : MarkedAs p rs
 
-behind : (p : Row) (rs : List Row) → Each RowRanges rs → Chain RowStep p rs → Behind p rs
+behind : (p : Row) (rs : List Row) → Chain RowStep p rs → Behind p rs
 unfolding Chain
-behind p [] g c = record { fit = tt; ascending = tt; marks = tt }
-behind p (r ∷ rs) g c =
-    let b = behind r rs g.1 c.1 in
-    record { fit = (row_fits g.0 c.0.plain, b.fit); ascending = (c.0.follows.order, b.ascending); marks = (c.0.follows.mark, b.marks) }
+behind p [] c = record { fit = tt; ascending = tt; marks = tt }
+behind p (r ∷ rs) c =
+    let b = behind r rs c.1 in
+    record { fit = (c.0.fit, b.fit); ascending = (c.0.follows.order, b.ascending); marks = (c.0.follows.mark, b.marks) }
 
 chained : (p : Row) (rs : List Row) → Behind p rs → Chain RowStep p rs
 unfolding Chain
 chained p [] b = tt
 chained p (r ∷ rs) b = (
-  record { plain = row_plain b.fit.0; follows = record { order = b.ascending.0; mark = b.marks.0 } },
+  record { fit = b.fit.0; follows = record { order = b.ascending.0; mark = b.marks.0 } },
   chained r rs (record { fit = b.fit.1; ascending = b.ascending.1; marks = b.marks.1 }),
 )
 
 -- the walk starts with the first row behind itself
-pub rows-sound : (r : Row) (rs : List Row) → Each RowRanges (r ∷ rs) → Iff (Chain RowStep r (r ∷ rs)) (RowsSound (r ∷ rs))
+pub rows-sound : (r : Row) (rs : List Row) → Iff (Chain RowStep r (r ∷ rs)) (RowsSound (r ∷ rs))
 unfolding Chain
-rows-sound r rs g = record {
-  to = λ c. let b = behind r rs g.1 c.1 in
-      record { fit = (row_fits g.0 c.0.plain, b.fit); ascending = (omega arith, b.ascending); marks = b.marks };
-  from = λ s. (record { plain = row_plain s.fit.0; follows = follows_self r }, chained r rs (record { fit = s.fit.1; ascending = s.ascending.1; marks = s.marks }));
+rows-sound r rs = record {
+  to = λ c. let b = behind r rs c.1 in
+      record { fit = (c.0.fit, b.fit); ascending = (omega arith, b.ascending); marks = b.marks };
+  from = λ s. (record { fit = s.fit.0; follows = follows_self r }, chained r rs (record { fit = s.fit.1; ascending = s.ascending.1; marks = s.marks }));
 }
 
 -- ---- a row by itself, tested without a branch
@@ -129,14 +129,12 @@ follows_not p r b f =
     let l : place (key_at r) < place (key_at p) = rw (← (row_number p), ← (row_number r)) (ltb-true _ _ b) in
     not-le_of_lt l f.order
 
-pub rows_iff : (s : List ℕ) (n : ℕ) {p : Row} → 0 < n → Below 256 s → p ≡ read_row (take row_size (drop (row_size * 0) (words s)))
-    → Iff (Chain RowStep p (recs row_size read_row n (words s))) (RowsSound (recs row_size read_row n (words s)))
-rows_iff s n {p} h b e =
-    let w : List ℕ = words s in
-    let g : Each RowRanges (recs row_size read_row n w) = each_recs RowRanges row_size read_row row-ranges n w (below_words s b) in
+pub rows_iff : (w : List ℕ) (n : ℕ) {p : Row} → 0 < n → p ≡ read_row (take row_size (drop (row_size * 0) w))
+    → Iff (Chain RowStep p (recs row_size read_row n w)) (RowsSound (recs row_size read_row n w))
+rows_iff w n {p} h e =
     let q : recs row_size read_row n w ≡ read_row (take row_size (drop (row_size * 0) w)) ∷ rest row_size read_row n (0 + 1) w = sym (rest_all row_size read_row n w)
     ∙ rest_turn row_size read_row n 0 w h in
-    rw (e, q) (rows-sound _ _ (rw q at g))
+    rw (e, q) (rows-sound _ _)
 
 pub rows_none : (w : List ℕ) → RowsSound (recs row_size read_row 0 w)
 unfolding recs

@@ -36,17 +36,16 @@ fn follows(p: regions::Row, r: regions::Row) -> bool
     ahead(p.bits % 2, r.bits % 2, w3)
 }
 
-// Whether each of the n rows is fit, keys do not fall, and rows of one key have one mark.
-pub fn rows_fit(s: &[u8], n: usize) -> bool
-    requires { 8 * (row_size * n) ≤ length s.now }
-    ensures { Decides result (RowsSound (recs row_size read_row n (words s.now))) }
+// Whether each row is fit, keys do not fall, and rows of one key have one mark.
+pub fn rows_fit(rows: regions::listed::Records<regions::Row>) -> bool
+    ensures { Decides result (RowsSound (recs row_size read_row rows.entry.count (words rows.entry.bytes.now))) }
 {
-    if n == 0 {
+    if rows.count == 0 {
         return true;
     }
-    let mut p = regions::read::<regions::Row>(s, 0);
-    for i in 0..n {
-        let r = regions::read::<regions::Row>(s, i);
+    let mut p = rows.get(0);
+    for i in 0..rows.count {
+        let r = rows.get(i);
         if !row_fits(r) {
             return false;
         }

@@ -1,93 +1,95 @@
 // The test of the rows of one hash over both kinds: few, no connection twice, one owner at most.
-ghost use Rattle.std.specs.Prelude.{◌≡◌, ◌+◌, ◌*◌, ◌≤◌, ◌<◌, true, length};
+ghost use Rattle.std.specs.Prelude.{◌≡◌, ◌+◌, ◌≤◌, ◌<◌, true, length};
 ghost use Rattle.words.specs.Words.{words, recs, Decides};
 ghost use Rattle.regions.specs.Rows.{row_size, read_row, quad_number};
 ghost use Rattle.store.specs.FlatSound.{count_rows, hash_at, owns};
 ghost use Rattle.sound_rows.specs.Rows.{RowsSound};
-ghost use Rattle.sound_rows.specs.Groups.{row_at, rows_in, Least, Run, Apart, Once, conn_slots, Marking, GroupFits, GroupsSound};
+ghost use Rattle.sound_rows.specs.Parts.{rows_of};
+ghost use Rattle.sound_rows.specs.Groups.{row_at, Least, Run, Apart, Once, conn_slots, Marking, GroupFits, GroupsSound};
+
+use crate::part::Part;
+use regions::listed::Records;
+use regions::{Key, Quad, Row};
 
 // Slots in which the connections of a hash are marked.
 const SLOTS: u64 = 1024;
 
 // The hash of the i-th row.
-fn hash_at(s: &[u8], i: usize) -> regions::Quad
-    requires { 8 * (row_size * (i + 1)) ≤ length s.now }
-    ensures { quad_number result ≡ hash_at (row_at (words s.now) i) }
+fn hash_at(rows: Records<Row>, i: usize) -> Quad
+    requires { i < rows.count }
+    ensures { quad_number result ≡ hash_at (row_at (words rows.entry.bytes.now) i) }
 {
-    let r = regions::read::<regions::Row>(s, i);
+    let r = rows.get(i);
     r.hash
 }
 
-// The least hash of the two rows that come next, of those from i to m and of those from j to n.
-fn least_hash(s: &[u8], i: usize, m: usize, j: usize, n: usize) -> regions::Quad
-    requires { (8 * (row_size * n) ≤ length s.now) × (m ≤ n) × (i ≤ m) × (j ≤ n) × (i + j < m + n) }
-    ensures { Least (words s.now) i m j n (quad_number result) }
+// The least hash of the two rows that come next, of those from i to m and of those from j on.
+fn least_hash(rows: Records<Row>, i: usize, m: usize, j: usize) -> Quad
+    requires { (m ≤ rows.count) × (i ≤ m) × (j ≤ rows.count) × (i + j < m + rows.count) }
+    ensures { Least (words rows.entry.bytes.now) i m j rows.entry.count (quad_number result) }
 {
     if i == m {
-        return hash_at(s, j);
+        return hash_at(rows, j);
     }
-    if j == n {
-        return hash_at(s, i);
+    if j == rows.count {
+        return hash_at(rows, i);
     }
-    let x = hash_at(s, i);
-    let y = hash_at(s, j);
+    let x = hash_at(rows, i);
+    let y = hash_at(rows, j);
     if regions::quad_less(y, x) {
         return y;
     }
     x
 }
 
-// The first of the rows from .. to whose hash is above h, or `to`.
-pub fn run_end(s: &[u8], from: usize, to: usize, h: regions::Quad) -> usize
-    requires { (from ≤ to) × (8 * (row_size * to) ≤ length s.now) }
-    ensures { Run (words s.now) from to (quad_number h) result }
+// The first of the rows whose hash is above h, or the part's end.
+pub fn run_end(part: Part, h: Quad) -> usize
+    ensures { Run (words part.entry.rows.bytes.now) part.entry.from part.entry.to (quad_number h) result }
 {
-    for i in from..to {
-        if regions::quad_less(h, hash_at(s, i)) {
+    for i in part.from..part.to {
+        if regions::quad_less(h, hash_at(part.rows, i)) {
             return i;
         }
     }
-    to
+    part.to
 }
 
-// Whether no connection of the rows i .. a is in a later one of them, or in one of the rows j .. b.
-fn apart(s: &[u8], i: usize, a: usize, j: usize, b: usize) -> bool
-    requires { (i ≤ a) × (8 * (row_size * a) ≤ length s.now) × (j ≤ b) × (8 * (row_size * b) ≤ length s.now) }
-    ensures { Decides result (Apart (rows_in (words s.now) j b) (rows_in (words s.now) i a)) }
+// Whether no connection of `mine` is in a later one of them, or in one of `others`.
+fn apart(mine: Part, others: Part) -> bool
+    ensures { Decides result (Apart (rows_of others.entry) (rows_of mine.entry)) }
 {
-    for k in i..a {
-        let r = regions::read::<regions::Row>(s, k);
-        if regions::find_conn_in(s, k + 1, a, r.conn) < a {
+    for k in mine.from..mine.to {
+        let r = mine.rows.get(k);
+        if regions::find_conn_in(mine.rows.bytes, k + 1, mine.to, r.conn) < mine.to {
             return false;
         }
-        if regions::find_conn_in(s, j, b, r.conn) < b {
+        if regions::find_conn_in(others.rows.bytes, others.from, others.to, r.conn) < others.to {
             return false;
         }
     }
     true
 }
 
-// How many of the rows from .. to own their request.
-pub fn owners(s: &[u8], from: usize, to: usize) -> u64
-    requires { (from ≤ to) × (8 * (row_size * to) ≤ length s.now) }
-    ensures { (result ≡ count_rows owns (rows_in (words s.now) from to)) × (result ≤ to) }
+// How many of the rows own their request.
+pub fn owners(part: Part) -> u64
+    ensures { (result ≡ count_rows owns (rows_of part.entry)) × (result ≤ part.entry.to) }
 {
     let mut sum = 0;
-    for i in from..to {
-        let r = regions::read::<regions::Row>(s, i);
+    for i in part.from..part.to {
+        let r = part.rows.get(i);
         sum += r.bits / 8 % 2;
     }
     sum
 }
 
-// Marks the slots of the connections of the rows from .. to, the last first, and whether no slot had the mark already. If none had, the
-// connections are distinct, and not among those that were marked before.
-fn mark_conns(s: &[u8], from: usize, to: usize, slots: &mut [u64], mark: u64) -> bool
-    requires { (from ≤ to) × (8 * (row_size * to) ≤ length s.now) × (length slots.old ≡ conn_slots) }
-    ensures { Marking result (words s.now) from to mark slots.old slots.new × (length slots.new ≡ conn_slots) }
+// Marks the slots of the rows' connections, the last first, and whether no slot had the mark already. If none had, the connections are
+// distinct, and not among those that were marked before.
+fn mark_conns(part: Part, slots: &mut [u64], mark: u64) -> bool
+    requires { length slots.old ≡ conn_slots }
+    ensures { Marking result (words part.entry.rows.bytes.now) part.entry.from part.entry.to mark slots.old slots.new × (length slots.new ≡ conn_slots) }
 {
-    for k in (from..to).rev() {
-        let r = regions::read::<regions::Row>(s, k);
+    for k in (part.from..part.to).rev() {
+        let r = part.rows.get(k);
         let x = (r.conn % SLOTS) as usize;
         if slots[x] == mark {
             return false;
@@ -97,93 +99,71 @@ fn mark_conns(s: &[u8], from: usize, to: usize, slots: &mut [u64], mark: u64) ->
     true
 }
 
-// Whether marks show that the rows i .. a and j .. b are of distinct connections. (They do not always where it is so.)
-fn marked_once(
-    s: &[u8],
-    i: usize,
-    a: usize,
-    j: usize,
-    b: usize,
-    slots: &mut [u64],
-    mark: u64,
-) -> bool
-    requires { (i ≤ a) × (8 * (row_size * a) ≤ length s.now) × (j ≤ b) × (8 * (row_size * b) ≤ length s.now) × (length slots.old ≡ conn_slots) }
-    ensures { (result ≡ true → Once (rows_in (words s.now) i a) (rows_in (words s.now) j b)) × (length slots.new ≡ conn_slots) }
+// Whether marks show that the rows a and b are of distinct connections. (They do not always where it is so.)
+fn marked_once(a: Part, b: Part, slots: &mut [u64], mark: u64) -> bool
+    requires { length slots.old ≡ conn_slots }
+    ensures { (result ≡ true → Once (rows_of a.entry) (rows_of b.entry)) × (length slots.new ≡ conn_slots) }
 {
-    mark_conns(s, j, b, slots, mark) && mark_conns(s, i, a, slots, mark)
+    mark_conns(b, slots, mark) && mark_conns(a, slots, mark)
 }
 
-// Whether the rows i .. a and j .. b are of distinct connections. The mark should be new to the slots, else all are compared.
-fn conns_once(
-    s: &[u8],
-    i: usize,
-    a: usize,
-    j: usize,
-    b: usize,
-    slots: &mut [u64],
-    mark: u64,
-) -> bool
-    requires { (i ≤ a) × (8 * (row_size * a) ≤ length s.now) × (j ≤ b) × (8 * (row_size * b) ≤ length s.now) × (length slots.old ≡ conn_slots) }
-    ensures { Decides result (Once (rows_in (words s.now) i a) (rows_in (words s.now) j b)) × (length slots.new ≡ conn_slots) }
+// Whether the rows a and b are of distinct connections. The mark should be new to the slots, else all are compared.
+fn conns_once(a: Part, b: Part, slots: &mut [u64], mark: u64) -> bool
+    requires { length slots.old ≡ conn_slots }
+    ensures { Decides result (Once (rows_of a.entry) (rows_of b.entry)) × (length slots.new ≡ conn_slots) }
 {
-    if marked_once(s, i, a, j, b, slots, mark) {
+    if marked_once(a, b, slots, mark) {
         return true;
     }
-    if !apart(s, i, a, j, b) {
+    if !apart(a, b) {
         return false;
     }
-    apart(s, j, b, b, b)
+    apart(b, Part::new(b.rows, b.to, b.to))
 }
 
-// Whether the rows i .. a and j .. b, which are those of one hash, are `most` at most, of distinct connections, and have one owner at most.
-fn group_fits(
-    s: &[u8],
-    i: usize,
-    a: usize,
-    j: usize,
-    b: usize,
-    most: usize,
-    slots: &mut [u64],
-    mark: u64,
-) -> bool
-    requires { (i ≤ a) × (8 * (row_size * a) ≤ length s.now) × (j ≤ b) × (8 * (row_size * b) ≤ length s.now) × (length slots.old ≡ conn_slots) }
-    ensures { Decides result (GroupFits most (rows_in (words s.now) i a) (rows_in (words s.now) j b)) × (length slots.new ≡ conn_slots) }
+// Whether the rows a and b, which are those of one hash, are `most` at most, of distinct connections, and have one owner at most.
+fn group_fits(a: Part, b: Part, most: usize, slots: &mut [u64], mark: u64) -> bool
+    requires { length slots.old ≡ conn_slots }
+    ensures { Decides result (GroupFits most (rows_of a.entry) (rows_of b.entry)) × (length slots.new ≡ conn_slots) }
 {
-    if a - i + (b - j) > most {
+    if a.to - a.from + (b.to - b.from) > most {
         return false;
     }
-    if !conns_once(s, i, a, j, b, slots, mark) {
+    if !conns_once(a, b, slots, mark) {
         return false;
     }
-    owners(s, i, a) + owners(s, j, b) <= 1
+    owners(a) + owners(b) <= 1
 }
 
 // Whether each hash has at most `most` rows over both kinds, no connection twice, and one owner at most. Takes the rows of one hash after the
 // other from both halves of the rows, Txid and Wtxid.
-pub fn groups_fit(s: &[u8], n: usize, most: usize) -> bool
-    requires { 8 * (row_size * n) ≤ length s.now }
-    ensures { RowsSound (recs row_size read_row n (words s.now)) → Decides result (GroupsSound most (recs row_size read_row n (words s.now))) }
+pub fn groups_fit(rows: Records<Row>, most: usize) -> bool
+    ensures { RowsSound (recs row_size read_row rows.entry.count (words rows.entry.bytes.now))
+        → Decides result (GroupsSound most (recs row_size read_row rows.entry.count (words rows.entry.bytes.now))) }
 {
-    let zero = regions::Quad {
+    let zero = Quad {
         w0: 0,
         w1: 0,
         w2: 0,
         w3: 0,
     };
-    let first = regions::Key {
+    let first = Key {
         kind: 1,
         hash: zero,
     };
-    let m = regions::seek_row(s, n, first, false);
+    let n = rows.count;
+    let m = regions::seek_row(rows.bytes, n, first, false);
     let mut slots: [u64; 1024] = [0; 1024];
     let mut i = 0;
     let mut j = m;
-    // a merge of two runs, a hash at a time
+    // a merge of two runs, a hash at a time: no one index counts
     while i + j < m + n {
-        let h = least_hash(s, i, m, j, n);
-        let a = run_end(s, i, m, h);
-        let b = run_end(s, j, n, h);
-        if !group_fits(s, i, a, j, b, most, &mut slots, (i + j + 1) as u64) {
+        let h = least_hash(rows, i, m, j);
+        let a = run_end(Part::new(rows, i, m), h);
+        let b = run_end(Part::new(rows, j, n), h);
+        let txid = Part::new(rows, i, a);
+        let wtxid = Part::new(rows, j, b);
+        if !group_fits(txid, wtxid, most, &mut slots, (i + j + 1) as u64) {
             return false;
         }
         i = a;

@@ -4,3 +4,4 @@
 
 pub mod candidate; // candidate.rt: rows by themselves and neighbours
 pub mod group; // group.rt: rows of one hash over both kinds
+pub mod part; // part.rt: rows one behind the other

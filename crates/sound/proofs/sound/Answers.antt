@@ -68,25 +68,35 @@ returns-then-s-z c =
     let p = below_words b (below_bytes b c.type_inv.s) in
     refuse_long b p c.get-l.result c.get-q.result c.get-l.ensures c.get-q.ensures (omega arith)
 
+pub new-rows-requires : goal.new-rows-requires
+new-rows-requires c =
+    let h = passed (HeadPlain (words c.args.s.now)) c.head_fits.result c.if-not-head_fits.false-raw c.head_fits.ensures in
+    omega (
+      arith,
+      length-lent c.args.s.now (24 * 8) ((24 + c.get-l.result * 9) * 8) (omega arith) (omega arith),
+      h.sizes.rows_few,
+      c.get-l.ensures,
+      c.get-n.ensures,
+    )
+
+pub new-conns-requires : goal.new-conns-requires
+new-conns-requires c =
+    let h = passed (HeadPlain (words c.args.s.now)) c.head_fits.result c.if-not-head_fits.false-raw c.head_fits.ensures in
+    omega (
+      arith,
+      length-lent c.args.s.now ((24 + c.get-l.result * 9) * 8) ((24 + c.get-l.result * 9 + c.get-l.result * 3) * 8) (omega arith) (omega arith),
+      h.sizes.conns_few,
+      c.get-l.ensures,
+      c.get-c.ensures,
+    )
+
 pub records_fit-requires : goal.records_fit-requires
 records_fit-requires c =
-    let h = passed (HeadPlain (words c.args.s.now))
-    c.head_fits.result
-    c.if-not-head_fits.false-raw
-    c.head_fits.ensures in
-    let b = c.args.s.now in
-    let l = c.get-l.result in
-    let q = c.get-q.result in
-    let x = 24 + l * 9 in
-    let y = 24 + l * 9 + l * 3 in
-    let z = 24 + l * 9 + l * 3 + q * 824 in
-    let lr = length-lent b (24 * 8) (x * 8) (omega arith) (omega arith) in
-    let lc = length-lent b (x * 8) (y * 8) (omega arith) (omega arith) in
-    let lp = length-lent b (y * 8) (z * 8) (omega arith) (omega arith) in (
-      omega (arith, lr, h.sizes.rows_few, c.get-l.ensures, c.get-n.ensures),
-      omega (arith, lc, h.sizes.conns_few, c.get-l.ensures, c.get-c.ensures),
-      omega (arith, lp, h.sizes.places_few, c.get-q.ensures, c.get-p.ensures),
-      omega (arith, h.sizes.rows_few, h.sizes.most-limit, c.get-n.ensures),
+    let h = passed (HeadPlain (words c.args.s.now)) c.head_fits.result c.if-not-head_fits.false-raw c.head_fits.ensures in
+    let y = 24 + c.get-l.result * 9 + c.get-l.result * 3 in
+    let z = y + c.get-q.result * 824 in (
+      omega (arith, length-lent c.args.s.now (y * 8) (z * 8) (omega arith) (omega arith), h.sizes.places_few, c.get-q.ensures, c.get-p.ensures),
+      omega (arith, c.new-rows.ensures.1, h.sizes.rows_few, h.sizes.most-limit, c.get-n.ensures),
     )
 
 pub returns : goal.returns
@@ -107,4 +117,12 @@ returns c =
     c.get-c.result c.get-p.result c.get-n.ensures
     c.get-c.ensures c.get-p.ensures h (omega arith) in
     decides_iff c.records_fit.result i
-    (rw (words-lent b 24 x (omega arith) (omega arith), words-lent b x y (omega arith) (omega arith), words-lent b y z (omega arith) (omega arith)) at c.records_fit.ensures)
+    (rw (
+      c.new-rows.ensures.0,
+      c.new-rows.ensures.1,
+      c.new-conns.ensures.0,
+      c.new-conns.ensures.1,
+      words-lent b 24 x (omega arith) (omega arith),
+      words-lent b x y (omega arith) (omega arith),
+      words-lent b y z (omega arith) (omega arith),
+    ) at c.records_fit.ensures)

@@ -18,7 +18,7 @@ returns-then-j-t c = (λ j h l. c.loop-i.invariant.3 j (omega arith) l, search r
 pub charge-requires : goal.charge-requires
 charge-requires c =
     let a = c.args in
-    conn-fits a.n (words a.s.now) c.loop-i.i (omega arith) c.read-c.ensures.words_are c.requires.1
+    conn-fits a.conns.count (words a.conns.bytes.now) c.loop-i.i (omega arith) c.get-c.ensures.words_are c.requires
 
 pub loop-i-preserved : goal.loop-i-preserved
 loop-i-preserved c =
@@ -27,7 +27,7 @@ loop-i-preserved c =
       omega arith,
       omega (arith, e),
       e ∙ c.loop-i.invariant.2,
-      charged_turn a.n (words a.s.now) c.loop-i.i (omega arith) c.read-c.ensures.words_are a.lo
+      charged_turn a.conns.count (words a.conns.bytes.now) c.loop-i.i (omega arith) c.get-c.ensures.words_are a.lo
           c.loop-i.t (omega arith) (omega arith) c.charge.ensures
           c.loop-i.invariant.3,
     )
@@ -35,4 +35,4 @@ loop-i-preserved c =
 pub returns : goal.returns
 returns c =
     let a = c.args in
-    (λ j h l. c.loop-i.invariant.3 j (omega (arith, length-recs conn_size read_conn a.n (words a.s.now))) l, search rules)
+    (λ j h l. c.loop-i.invariant.3 j (omega (arith, length-recs conn_size read_conn a.conns.count (words a.conns.bytes.now))) l, search rules)

@@ -9,4 +9,4 @@ use Rattle.sound_conns.proofs.charge_all.Given as goal
 
 abbrev pub invariant-loop-i : goal.invariant-loop-i
 invariant-loop-i l = (l.lo ≤ l.i) × (l.i - l.lo ≤ length l.t) × (length l.t ≡ length l.initial.t)
-    × Within (λ e j. Left [] e (get_or l.t j 0)) (recs conn_size read_conn l.n (words l.s)) l.lo (l.i - l.lo)
+    × Within (λ e j. Left [] e (get_or l.t j 0)) (recs conn_size read_conn l.conns.count (words l.conns.bytes.now)) l.lo (l.i - l.lo)

@@ -10,22 +10,22 @@ use Rattle.sound_conns.proofs.count_rows.Goals as goal
 pub loop-i-init : goal.loop-i-init
 loop-i-init c =
     let a = c.args in
-    (omega arith, refl, tallied_none a.c (words a.conns.now) (words a.rows.now) a.done a.last a.lo a.t.now c.requires.3)
+    (omega arith, refl, tallied_none a.conns.count (words a.conns.bytes.now) (words a.rows.bytes.now) a.pass.done a.pass.last a.pass.lo a.t.now c.requires.1)
 
 pub take_row-requires : goal.take_row-requires
 take_row-requires c =
     let p = c.requires in
-    (p.1, p.2, p.4, p.5, p.6, λ j h l. p.7 j (omega (arith, c.loop-i.invariant.1)) l, omega arith)
+    (p.0, p.2, (λ j h l. p.3 j (omega (arith, c.loop-i.invariant.1)) l), omega arith)
 
 pub returns-then-not-take_row : goal.returns-then-not-take_row
 returns-then-not-take_row c =
     let a = c.args in
     let e : c.take_row.result ≡ false = not-true _ c.if-not-take_row.true-raw in
     let b = c.take_row.ensures in (
-      λ o. tallied_stop a.c (words a.conns.now) (words a.rows.now) a.done a.last a.lo c.loop-i.i
-          c.loop-i.t c.read-r.result
-          c.read-r.ensures.words_are
-          c.loop-i.invariant.2 a.n (omega arith) (rw b.1 at o) (rw e at b.0),
+      λ o. tallied_stop a.conns.count (words a.conns.bytes.now) (words a.rows.bytes.now) a.pass.done a.pass.last a.pass.lo c.loop-i.i
+          c.loop-i.t c.get-r.result
+          c.get-r.ensures.words_are
+          c.loop-i.invariant.2 a.rows.count (omega arith) (rw b.1 at o) (rw e at b.0),
       b.1 ∙ c.loop-i.invariant.1,
     )
 
@@ -36,13 +36,13 @@ loop-i-preserved c =
     let b = c.take_row.ensures in (
       search rules,
       b.1 ∙ c.loop-i.invariant.1,
-      tallied_turn a.c (words a.conns.now) (words a.rows.now) a.done a.last a.lo c.loop-i.i
-          c.loop-i.t c.read-r.result
-          c.read-r.ensures.words_are
+      tallied_turn a.conns.count (words a.conns.bytes.now) (words a.rows.bytes.now) a.pass.done a.pass.last a.pass.lo c.loop-i.i
+          c.loop-i.t c.get-r.result
+          c.get-r.ensures.words_are
           c.loop-i.invariant.2 _ b.1 (rw e at b.0),
     )
 
 pub returns : goal.returns
 returns c =
-    let e : c.loop-i.i ≡ c.args.n = omega arith in
+    let e : c.loop-i.i ≡ c.args.rows.count = omega arith in
     (rw e at c.loop-i.invariant.2, search rules)

@@ -2,33 +2,39 @@ use borrow.Author.Rules.{rules}
 use native.Mathlib.Omega.{arith}
 use Rattle.words.specs.Words.{recs, words}
 use Rattle.regions.specs.Rows.{conn_size, read_conn}
+use Rattle.machine.proofs.Tests.{never}
 use Rattle.sound_conns.specs.Conns.{EntryStep, blank}
 use Rattle.sound_rows.proofs.Decide.{walk_start, walk_turn, walk_stop, walk_end, passed, failed}
-use Rattle.sound_conns.proofs.Entries.{entries_iff}
+use Rattle.sound_conns.proofs.Entries.{entries_iff, length-names, conn-typed, low_turn}
 use Rattle.sound_conns.proofs.entries_fit.Goals as goal
 
 pub loop-i-init : goal.loop-i-init
-loop-i-init c = (omega arith, walk_start EntryStep conn_size read_conn c.args.n (words c.args.s.now) blank)
+loop-i-init c = (omega arith, (λ k h. absurd (omega arith)), walk_start EntryStep conn_size read_conn c.args.conns.count (words c.args.conns.bytes.now) blank)
 
 pub returns-then-not-entry_fits : goal.returns-then-not-entry_fits
 returns-then-not-entry_fits c =
-    let w = words c.args.s.now in
-    λ z. walk_stop EntryStep conn_size read_conn c.args.n w c.loop-i.p
-    c.loop-i.i (omega arith) c.loop-i.invariant.1 c.read-c.ensures.words_are
-    (failed (EntryStep c.loop-i.p c.read-c.result) c.entry_fits.result c.if-not-entry_fits.true-raw c.entry_fits.ensures)
-    ((entries_iff (recs conn_size read_conn c.args.n w)).from z)
+    let w = words c.args.conns.bytes.now in
+    let n = c.args.conns.count in (
+      (λ z. walk_stop EntryStep conn_size read_conn n w c.loop-i.p c.loop-i.i (omega arith) c.loop-i.invariant.2 c.get-c.ensures.words_are
+          (failed (EntryStep c.loop-i.p c.get-c.result) c.entry_fits.result c.if-not-entry_fits.true-raw c.entry_fits.ensures)
+          ((entries_iff (recs conn_size read_conn n w)).from z)),
+      λ e. never e,
+    )
 
 pub loop-i-preserved : goal.loop-i-preserved
-loop-i-preserved c = (
-  search rules,
-  walk_turn EntryStep conn_size read_conn c.args.n (words c.args.s.now)
-      c.loop-i.p c.loop-i.i (omega arith) c.loop-i.invariant.1
-      c.read-c.ensures.words_are (passed (EntryStep c.loop-i.p c.read-c.result) c.entry_fits.result
-      c.if-not-entry_fits.false-raw c.entry_fits.ensures),
-)
+loop-i-preserved c =
+    let w = words c.args.conns.bytes.now in
+    let n = c.args.conns.count in (
+      search rules,
+      low_turn n w c.loop-i.i (omega arith) c.get-c.ensures.words_are (conn-typed c.get-c.result c.get-c.type_inv) c.loop-i.invariant.1,
+      walk_turn EntryStep conn_size read_conn n w c.loop-i.p c.loop-i.i (omega arith) c.loop-i.invariant.2 c.get-c.ensures.words_are
+          (passed (EntryStep c.loop-i.p c.get-c.result) c.entry_fits.result c.if-not-entry_fits.false-raw c.entry_fits.ensures),
+    )
 
 pub returns : goal.returns
 returns c =
-    let w = words c.args.s.now in
-    (entries_iff (recs conn_size read_conn c.args.n w)).to
-    (walk_end EntryStep conn_size read_conn c.args.n w c.loop-i.p c.loop-i.i (omega arith) c.loop-i.invariant.1)
+    let w = words c.args.conns.bytes.now in
+    let n = c.args.conns.count in (
+      (entries_iff (recs conn_size read_conn n w)).to (walk_end EntryStep conn_size read_conn n w c.loop-i.p c.loop-i.i (omega arith) c.loop-i.invariant.2),
+      λ _ p h. c.loop-i.invariant.1 p (omega (arith, length-names n w)),
+    )

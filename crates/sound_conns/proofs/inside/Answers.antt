@@ -2,4 +2,4 @@ use Rattle.sound_conns.proofs.Tally.{inside-decides}
 use Rattle.sound_conns.proofs.inside.Goals as goal
 
 pub returns : goal.returns
-returns c = inside-decides c.args.done c.args.last c.args.x
+returns c = inside-decides c.args.pass.done c.args.pass.last c.args.x

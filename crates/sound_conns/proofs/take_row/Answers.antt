@@ -11,24 +11,24 @@ use Rattle.sound_conns.proofs.take_row.Goals as goal
 pub returns-then-not-inside : goal.returns-then-not-inside
 returns-then-not-inside c =
     let a = c.args in (
-      took_outside _ _ _ _ _ _ _ (failed (Inside a.done a.last a.x) c.inside.result c.if-not-inside.true-raw c.inside.ensures)
-          c.requires.5,
+      took_outside _ _ _ _ _ _ _ (failed (Inside a.pass.done a.pass.last a.x) c.inside.result c.if-not-inside.true-raw c.inside.ensures)
+          c.requires.2,
       refl,
     )
 
-pub returns-then-k-n : goal.returns-then-k-n
-returns-then-k-n c =
+pub returns-then-k-conns : goal.returns-then-k-conns
+returns-then-k-conns c =
     let a = c.args in
-    let i = passed (Inside a.done a.last a.x) c.inside.result c.if-not-inside.false-raw c.inside.ensures in
-    (inl (i, c.find_entry-k.ensures.absent (omega arith) c.requires.1), refl)
+    let i = passed (Inside a.pass.done a.pass.last a.x) c.inside.result c.if-not-inside.false-raw c.inside.ensures in
+    (inl (i, c.find_entry-k.ensures.absent (omega arith) c.requires.0), refl)
 
 pub returns : goal.returns
 returns c =
     let a = c.args in
-    let w = words a.s.now in (
-      taking (names a.n w) a.done a.last a.lo a.x a.own a.t.now c.find_entry-k.result
-          c.take_off.new.t (omega (arith, length-names a.n w))
+    let w = words a.conns.bytes.now in (
+      taking (names a.conns.count w) a.pass.done a.pass.last a.pass.lo a.x a.own a.t.now c.find_entry-k.result
+          c.take_off.new.t (omega (arith, length-names a.conns.count w))
           (c.find_entry-k.ensures.found (omega arith)) c.take_off.result
-          c.requires.1 c.take_off.ensures.0,
+          c.requires.0 c.take_off.ensures.0,
       c.take_off.ensures.1,
     )

@@ -13,14 +13,10 @@ count_rows-requires c =
     let a = c.args in
     let p = c.requires in
     let k = c.charge_all.ensures in (
-      p.0,
-      p.1,
-      entries-rising a.c (words a.conns.now) p.2,
+      entries-rising a.conns.count (words a.conns.bytes.now) p.0,
       (λ j h l. k.0 j (below_as k.1 h) l),
-      p.3,
-      p.4,
-      below_as (sym c.fill_guesses-way.ensures) p.5,
-      λ j h l. p.6 j (below_as k.1 h) l,
+      p.1,
+      λ j h l. p.4 j (below_as k.1 h) l,
     )
 
 pub returns-then-not-count_rows : goal.returns-then-not-count_rows
@@ -34,7 +30,7 @@ returns c =
     let a = c.args in
     let k = c.count_rows.ensures in
     let e : c.count_rows.result ≡ true = not-false _ c.if-not-count_rows.false-raw in
-    let i = window_iff (recs row_size read_row a.n (words a.rows.now)) a.c (words a.conns.now) a.done a.last a.lo _ (rw e at k.0) in
+    let i = window_iff (recs row_size read_row a.rows.count (words a.rows.bytes.now)) a.conns.count (words a.conns.bytes.now) a.pass.done a.pass.last a.pass.lo _ (rw e at k.0) in
     decides_iff c.used_up.result (window-as
     (k.1 ∙ c.charge_all.ensures.1)) (decides_iff
     c.used_up.result i c.used_up.ensures)

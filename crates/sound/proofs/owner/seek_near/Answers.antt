@@ -13,8 +13,8 @@ use Rattle.sound.proofs.owner.seek_near.Goals as goal
 pub returns : goal.returns
 returns c =
     let a = c.args in
-    let ks = recs row_size row_key a.n (words a.s.now) in
-    let p = passed ((a.i ≤ a.n) × (0 < a.i → get_or ks (a.i - 1) 0 < key_number a.k)) c.short_before.result c.if-not-short_before.false-raw
+    let ks = recs row_size row_key a.rows.count (words a.rows.bytes.now) in
+    let p = passed ((a.i ≤ a.rows.count) × (0 < a.i → get_or ks (a.i - 1) 0 < key_number a.k)) c.short_before.result c.if-not-short_before.false-raw
     c.short_before.ensures in
-    let q = passed (a.i < a.n → key_number a.k ≤ get_or ks a.i 0) c.not_short.result c.if-not-not_short.false-raw c.not_short.ensures in
-    tested-bound ks a.n (key_number a.k + one false) a.i (length-recs row_size row_key a.n (words a.s.now)) p.0 (λ h. omega (arith, p.1 h)) (λ h. omega (arith, q h))
+    let q = passed (a.i < a.rows.count → key_number a.k ≤ get_or ks a.i 0) c.not_short.result c.if-not-not_short.false-raw c.not_short.ensures in
+    tested-bound ks a.rows.count (key_number a.k + one false) a.i (length-recs row_size row_key a.rows.count (words a.rows.bytes.now)) p.0 (λ h. omega (arith, p.1 h)) (λ h. omega (arith, q h))

@@ -3,8 +3,8 @@ use Rattle.words.specs.Words.{words}
 use Rattle.sound.proofs.Owned.{short-decides}
 use Rattle.sound.proofs.owner.short_before.Goals as goal
 
-pub returns-then-n-i : goal.returns-then-n-i
-returns-then-n-i c = λ z. absurd (omega (arith, z.0))
+pub returns-then-rows-i : goal.returns-then-rows-i
+returns-then-rows-i c = λ z. absurd (omega (arith, z.0))
 
 pub returns-then-i-eq0 : goal.returns-then-i-eq0
 returns-then-i-eq0 c = (omega arith, λ h. absurd (omega arith))
@@ -12,4 +12,4 @@ returns-then-i-eq0 c = (omega arith, λ h. absurd (omega arith))
 pub returns : goal.returns
 returns c =
     let a = c.args in
-    short-decides (words a.s.now) a.n a.k a.i (omega arith) (omega arith) c.key_at.ensures c.key_less.ensures
+    short-decides (words a.rows.bytes.now) a.rows.count a.k a.i (omega arith) (omega arith) c.key_at.ensures c.key_less.ensures

@@ -16,27 +16,27 @@ use Rattle.sound.proofs.place.place_fits.Goals as goal
 pub returns-then-not-stage_fits : goal.returns-then-not-stage_fits
 returns-then-not-stage_fits c =
     let v = words c.args.p.now in
-    let rs = recs row_size read_row c.args.n
-    (words c.args.rows.now) in
+    let rs = recs row_size read_row c.args.rows.count
+    (words c.args.rows.bytes.now) in
     let l : length v ≡ place_size = omega (arith, length-words c.args.p.now) in
     let b = below_words c.args.p.now
     (below_bytes c.args.p.now c.type_inv.p) in (
       (λ _. refuse_stage rs v l b c.get-stage.ensures c.read_quad-combined.ensures c.get-wtxids.ensures
           (failed (StagePlain c.get-stage.result (quad_number c.read_quad-combined.result) c.get-wtxids.result)
           c.stage_fits.result c.if-not-stage_fits.true-raw c.stage_fits.ensures)),
-      c.requires.2,
+      c.requires.1,
     )
 
 pub returns-then-parents-gt-LIST : goal.returns-then-parents-gt-LIST
 returns-then-parents-gt-LIST c =
     let v = words c.args.p.now in
-    let rs = recs row_size read_row c.args.n
-    (words c.args.rows.now) in
+    let rs = recs row_size read_row c.args.rows.count
+    (words c.args.rows.bytes.now) in
     let l : length v ≡ place_size = omega (arith, length-words c.args.p.now) in
     let b = below_words c.args.p.now
     (below_bytes c.args.p.now
     c.type_inv.p) in
-    ((λ _. refuse_parents rs v l b c.get-parents.ensures (omega arith)), c.requires.2)
+    ((λ _. refuse_parents rs v l b c.get-parents.ensures (omega arith)), c.requires.1)
 
 pub padded-requires : goal.padded-requires
 padded-requires c = (
@@ -51,22 +51,22 @@ padded-requires c = (
 pub returns-then-not-padded : goal.returns-then-not-padded
 returns-then-not-padded c =
     let v = words c.args.p.now in
-    let rs = recs row_size read_row c.args.n
-    (words c.args.rows.now) in
+    let rs = recs row_size read_row c.args.rows.count
+    (words c.args.rows.bytes.now) in
     let l : length v ≡ place_size = omega (arith, length-words c.args.p.now) in
     let b = below_words c.args.p.now
     (below_bytes c.args.p.now
     c.type_inv.p) in (
       (λ _. refuse_padded rs v l b c.get-wtxids.ensures c.get-parents.ensures (failed (Padded v
           c.get-wtxids.result c.get-parents.result) c.padded.result c.if-not-padded.true-raw c.padded.ensures)),
-      c.requires.2,
+      c.requires.1,
     )
 
 pub returns-then-not-distinct : goal.returns-then-not-distinct
 returns-then-not-distinct c =
     let v = words c.args.p.now in
-    let rs = recs row_size read_row c.args.n
-    (words c.args.rows.now) in
+    let rs = recs row_size read_row c.args.rows.count
+    (words c.args.rows.bytes.now) in
     let l : length v ≡ place_size =
     omega (arith, length-words c.args.p.now) in
     let b = below_words c.args.p.now
@@ -82,8 +82,8 @@ pub returns : goal.returns
 returns c =
     let v = words c.args.p.now in
     let rs = recs row_size read_row
-    c.args.n
-    (words c.args.rows.now) in
+    c.args.rows.count
+    (words c.args.rows.bytes.now) in
     let l : length v ≡ place_size = omega (
       arith,
       length-words c.args.p.now,

@@ -17,13 +17,13 @@ pub loop-i-init : goal.loop-i-init
 loop-i-init c = (length-replicate {A = ℕ} slot_count 0, omega arith, (λ r k h. absurd (omega arith)), λ k h. absurd (omega arith))
 
 pub place_fits-requires : goal.place_fits-requires
-place_fits-requires c = (omega arith, search rules, c.loop-i.invariant.0)
+place_fits-requires c = (omega arith, c.loop-i.invariant.0)
 
 pub returns-then-not-place_fits : goal.returns-then-not-place_fits
 returns-then-not-place_fits c =
     let w = words c.args.s.now in
-    let rs = recs row_size read_row c.args.n
-    (words c.args.rows.now) in
+    let rs = recs row_size read_row c.args.rows.count
+    (words c.args.rows.bytes.now) in
     let h : place_size * c.args.q ≤ length w =
     omega (arith, length-words c.args.s.now) in
     λ r z. let d : Decides c.place_fits.result (PlaceSound rs (place_at w c.loop-i.i)) =
@@ -37,8 +37,8 @@ returns-then-not-place_fits c =
 pub returns-then-not-place_follows : goal.returns-then-not-place_follows
 returns-then-not-place_follows c =
     let w = words c.args.s.now in
-    let rs = recs row_size read_row c.args.n
-    (words c.args.rows.now) in
+    let rs = recs row_size read_row c.args.rows.count
+    (words c.args.rows.bytes.now) in
     let h : place_size * c.args.q ≤ length w =
     omega (arith, length-words c.args.s.now) in
     λ r z. failed (PlaceFollows w c.loop-i.i) c.place_follows.result c.if-not-place_follows.true-raw
@@ -48,8 +48,8 @@ returns-then-not-place_follows c =
 pub loop-i-preserved : goal.loop-i-preserved
 loop-i-preserved c =
     let w = words c.args.s.now in
-    let rs = recs row_size read_row c.args.n
-    (words c.args.rows.now) in
+    let rs = recs row_size read_row c.args.rows.count
+    (words c.args.rows.bytes.now) in
     let h : place_size * c.args.q ≤ length w =
     omega (arith, length-words c.args.s.now) in (
       c.place_fits.ensures.1,
@@ -72,7 +72,7 @@ loop-i-preserved c =
 pub returns : goal.returns
 returns c =
     let w = words c.args.s.now in
-    let rs = recs row_size read_row c.args.n (words c.args.rows.now) in
+    let rs = recs row_size read_row c.args.rows.count (words c.args.rows.bytes.now) in
     let h : place_size * c.args.q ≤ length w = omega (arith, length-words c.args.s.now) in
     let e : c.loop-i.i ≡ c.args.q = omega arith in
     λ r. places_made rs c.args.q w h (λ k l. c.loop-i.invariant.2 r k (omega arith)) (λ k l. c.loop-i.invariant.3 k (omega arith))

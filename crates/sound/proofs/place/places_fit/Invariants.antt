@@ -8,5 +8,5 @@ use Rattle.sound.specs.Places.{PlaceSound, place_at, PlaceFollows, slot_count}
 use Rattle.sound.proofs.place.places_fit.Given as goal
 
 abbrev pub invariant-loop-i : goal.invariant-loop-i
-invariant-loop-i l = (length l.slots ≡ slot_count) × (l.i ≤ l.q) × (RowsSound (recs row_size read_row l.n (words l.rows)) → (k : ℕ) → k < l.i
-    → PlaceSound (recs row_size read_row l.n (words l.rows)) (place_at (words l.s) k)) × ((k : ℕ) → k < l.i → PlaceFollows (words l.s) k)
+invariant-loop-i l = (length l.slots ≡ slot_count) × (l.i ≤ l.q) × (RowsSound (recs row_size read_row l.rows.count (words l.rows.bytes.now)) → (k : ℕ) → k < l.i
+    → PlaceSound (recs row_size read_row l.rows.count (words l.rows.bytes.now)) (place_at (words l.s) k)) × ((k : ℕ) → k < l.i → PlaceFollows (words l.s) k)

@@ -3,6 +3,6 @@ use Rattle.words.specs.Words.{words}
 use Rattle.sound_conns.proofs.Entries.{is_name}
 use Rattle.sound_conns.proofs.guesses.is_entry.Goals as goal
 
-pub returns-then-i-n : goal.returns-then-i-n
-returns-then-i-n c = is_name c.args.n (words c.args.s.now) c.args.i c.args.x
+pub returns-then-i-conns : goal.returns-then-i-conns
+returns-then-i-conns c = is_name c.args.conns.count (words c.args.conns.bytes.now) c.args.i c.args.x
     (omega arith) c.get.ensures

@@ -6,4 +6,5 @@ use Rattle.sound_rows.proofs.Rows.{RowStep}
 use Rattle.sound_rows.proofs.candidate.rows_fit.Given as goal
 
 abbrev pub invariant-loop-i : goal.invariant-loop-i
-invariant-loop-i l = (l.i ≤ l.n) × Walk RowStep row_size read_row l.n (words l.s) (Chain RowStep l.initial.p (recs row_size read_row l.n (words l.s))) l.p l.i
+invariant-loop-i l = (l.i ≤ l.rows.count)
+    × Walk RowStep row_size read_row l.rows.count (words l.rows.bytes.now) (Chain RowStep l.initial.p (recs row_size read_row l.rows.count (words l.rows.bytes.now))) l.p l.i

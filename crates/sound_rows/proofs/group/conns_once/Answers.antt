@@ -1,7 +1,8 @@
 use mathlib.Core.List.{[]}
 use native.Mathlib.Nat.{le_refl}
 use Rattle.words.specs.Words.{words, Decides}
-use Rattle.sound_rows.specs.Groups.{rows_in, Apart}
+use Rattle.sound_rows.specs.Groups.{Apart}
+use Rattle.sound_rows.specs.Parts.{rows_of}
 use Rattle.sound_rows.proofs.Decide.{passed, failed, decides_iff}
 use Rattle.sound_rows.proofs.Groups.{in_none}
 use Rattle.sound_rows.proofs.group.conns_once.Goals as goal
@@ -11,18 +12,17 @@ returns-then-marked_once c = (c.marked_once.ensures.0 c.if-marked_once.true, c.m
 
 pub returns-then-not-apart : goal.returns-then-not-apart
 returns-then-not-apart c =
-    let x = c.args in
-    let w = words x.s.now in (
-      (λ o. failed (Apart (rows_in w x.j x.b) (rows_in w x.i x.a)) c.apart.result c.if-not-apart.true-raw c.apart.ensures o.0),
+    let x = c.args in (
+      (λ o. failed (Apart (rows_of x.b) (rows_of x.a)) c.apart.result c.if-not-apart.true-raw c.apart.ensures o.0),
       c.marked_once.ensures.1,
     )
 
 pub returns : goal.returns
 returns c =
     let x = c.args in
-    let w = words x.s.now in
-    let p = passed (Apart (rows_in w x.j x.b) (rows_in w x.i x.a)) c.apart.result c.if-not-apart.false-raw c.apart.ensures in
-    let d : Decides c.apart-2.result (Apart [] (rows_in w x.j x.b)) = rw (in_none w x.b x.b (le_refl _)) at c.apart-2.ensures in (
-      decides_iff {P = Apart [] (rows_in w x.j x.b)} c.apart-2.result (record { to = λ q. (p, q); from = λ o. o.1 }) d,
+    let p = passed (Apart (rows_of x.b) (rows_of x.a)) c.apart.result c.if-not-apart.false-raw c.apart.ensures in
+    let d : Decides c.apart-2.result (Apart [] (rows_of x.b)) =
+    rw (c.new.ensures.0, c.new.ensures.1, c.new.ensures.2, in_none (words x.b.rows.bytes.now) x.b.to x.b.to (le_refl _)) at c.apart-2.ensures in (
+      decides_iff {P = Apart [] (rows_of x.b)} c.apart-2.result (record { to = λ q. (p, q); from = λ o. o.1 }) d,
       c.marked_once.ensures.1,
     )

@@ -5,24 +5,24 @@ use lib.ListN.{length, drop}
 use Rattle.words.specs.Words.{words}
 use Rattle.words.proofs.Records.{length-recs}
 use Rattle.regions.specs.Rows.{row_size, read_row}
-use Rattle.sound_rows.specs.Groups.{rows_in, Once}
+use Rattle.sound_rows.specs.Groups.{Once}
+use Rattle.sound_rows.specs.declared.part.Part.{Part}
+use Rattle.sound_rows.specs.Parts.{rows_of}
 use Rattle.sound_rows.proofs.Decide.{passed, failed}
 use Rattle.sound_rows.proofs.Groups.{apart_iff, group_decides}
 use Rattle.sound_rows.proofs.group.group_fits.Goals as goal
 
-pub returns-then-a-i : goal.returns-then-a-i
-returns-then-a-i c =
-    let x = c.args in
-    let w = words x.s.now in (
-      (λ g. omega (arith, g.few, length-recs row_size read_row (x.a - x.i) (drop (row_size * x.i) w), length-recs row_size read_row (x.b - x.j) (drop (row_size * x.j) w))),
-      c.requires.4,
-    )
+length-rows : (p : Part) → length (rows_of p) ≡ p.to - p.from
+length-rows p = length-recs row_size read_row (p.to - p.from) (drop (row_size * p.from) (words p.rows.bytes.now))
+
+pub returns-then-a-b : goal.returns-then-a-b
+returns-then-a-b c = ((λ g. omega (arith, g.few, length-rows c.args.a, length-rows c.args.b)), c.requires)
 
 pub returns-then-not-conns_once : goal.returns-then-not-conns_once
 returns-then-not-conns_once c =
     let x = c.args in
-    let a = rows_in (words x.s.now) x.i x.a in
-    let b = rows_in (words x.s.now) x.j x.b in (
+    let a = rows_of x.a in
+    let b = rows_of x.b in (
       (λ g. failed (Once a b) c.conns_once.result c.if-not-conns_once.true-raw c.conns_once.ensures.0 ((apart_iff a b).from g.once)),
       c.conns_once.ensures.1,
     )
@@ -30,11 +30,10 @@ returns-then-not-conns_once c =
 pub returns : goal.returns
 returns c =
     let x = c.args in
-    let w = words x.s.now in
-    let a = rows_in w x.i x.a in
-    let b = rows_in w x.j x.b in
-    let la : length a ≡ x.a - x.i = length-recs row_size read_row (x.a - x.i) (drop (row_size * x.i) w) in
-    let lb : length b ≡ x.b - x.j = length-recs row_size read_row (x.b - x.j) (drop (row_size * x.j) w) in
+    let a = rows_of x.a in
+    let b = rows_of x.b in
+    let la : length a ≡ x.a.to - x.a.from = length-rows x.a in
+    let lb : length b ≡ x.b.to - x.b.from = length-rows x.b in
     let few : length a + length b ≤ x.most = omega arith in
     let o = passed (Once a b) c.conns_once.result c.if-not-conns_once.false-raw c.conns_once.ensures.0 in (
       group_decides a b c.owners.result c.owners-2.result few o.0 o.1 c.owners.ensures.0 c.owners-2.ensures.0,

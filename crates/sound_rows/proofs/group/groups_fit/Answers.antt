@@ -2,9 +2,9 @@ use borrow.Author.Rules.{rules}
 use native.Mathlib.Omega.{arith}
 use Prim.Native.Nat.{ℕ}
 use lib.ListN.{length-replicate}
-use Rattle.words.specs.Words.{words}
+use Rattle.words.specs.Words.{words, Decides}
 use Rattle.regions.specs.Rows.{quad_number}
-use Rattle.sound_rows.specs.Groups.{rows_in, GroupFits, conn_slots}
+use Rattle.sound_rows.specs.Groups.{rows_in, Run, GroupFits, conn_slots}
 use Rattle.sound_rows.proofs.Decide.{passed, failed}
 use Rattle.sound_rows.proofs.Groups.{group_off, group_some, off_turn, off_stop, halves, groups_end}
 use Rattle.sound_rows.proofs.Halves.{txid_level, wtxid_level}
@@ -16,62 +16,68 @@ loop-i-init c = (
   omega arith,
   search rules,
   omega (arith, c.seek_row-m.ensures.most),
-  λ s. halves (words c.args.s.now) c.seek_row-m.result c.args.n c.seek_row-m.ensures.most,
+  λ s. halves (words c.args.rows.bytes.now) c.seek_row-m.result c.args.rows.count c.seek_row-m.ensures.most,
 )
 
 pub returns-then-not-group_fits : goal.returns-then-not-group_fits
 returns-then-not-group_fits c =
-    let w = words c.args.s.now in
+    let w = words c.args.rows.bytes.now in
+    let n = c.args.rows.count in
     let m = c.seek_row-m.result in
-    let most = c.args.most in
+    let i = c.loop-i.i in
+    let j = c.loop-i.j in
+    let a = c.run_end-a.result in
+    let b = c.run_end-b.result in
+    let h = quad_number c.least_hash-h.result in
+    let left : Run w i m h a = rw (c.new.ensures.0, c.new.ensures.1, c.new.ensures.2) at c.run_end-a.ensures in
+    let right : Run w j n h b = rw (c.new-in-loop-i.ensures.0, c.new-in-loop-i.ensures.1, c.new-in-loop-i.ensures.2) at c.run_end-b.ensures in
+    let G = GroupFits c.args.most (rows_in w i a) (rows_in w j b) in
+    let fits : Decides c.group_fits.result G = rw (c.new-txid.ensures.0, c.new-txid.ensures.1, c.new-txid.ensures.2, c.new-wtxid.ensures.0, c.new-wtxid.ensures.1, c.new-wtxid.ensures.2)
+    at c.group_fits.ensures.0 in
     λ s. off_stop (c.loop-i.invariant.4 s)
-    (group_off w c.loop-i.i m c.loop-i.j
-    c.args.n (quad_number c.least_hash-h.result)
-    c.run_end-a.result c.run_end-b.result (omega arith)
-    (omega arith) (txid_level c.args.n w s m
-    c.seek_row-m.ensures)
-    (wtxid_level c.args.n w s m
-    c.seek_row-m.ensures) c.least_hash-h.ensures
-    c.run_end-a.ensures c.run_end-b.ensures)
-    (failed (GroupFits most (rows_in w c.loop-i.i c.run_end-a.result)
-    (rows_in w c.loop-i.j c.run_end-b.result)) c.group_fits.result
-    c.if-not-group_fits.true-raw c.group_fits.ensures.0)
+    (group_off w i m j n h a b (omega arith) (omega arith) (txid_level n w s m c.seek_row-m.ensures) (wtxid_level n w s m c.seek_row-m.ensures) c.least_hash-h.ensures left right)
+    (failed G c.group_fits.result c.if-not-group_fits.true-raw fits)
 
 pub loop-i-smaller : goal.loop-i-smaller
-loop-i-smaller c = omega (
-  arith,
-  group_some (words c.args.s.now)
-      c.loop-i.i c.seek_row-m.result
-      c.loop-i.j c.args.n (quad_number
-      c.least_hash-h.result) c.run_end-a.result c.run_end-b.result
-      c.least_hash-h.ensures c.run_end-a.ensures c.run_end-b.ensures,
-)
+loop-i-smaller c =
+    let w = words c.args.rows.bytes.now in
+    let n = c.args.rows.count in
+    let m = c.seek_row-m.result in
+    let i = c.loop-i.i in
+    let j = c.loop-i.j in
+    let a = c.run_end-a.result in
+    let b = c.run_end-b.result in
+    let h = quad_number c.least_hash-h.result in
+    let left : Run w i m h a = rw (c.new.ensures.0, c.new.ensures.1, c.new.ensures.2) at c.run_end-a.ensures in
+    let right : Run w j n h b = rw (c.new-in-loop-i.ensures.0, c.new-in-loop-i.ensures.1, c.new-in-loop-i.ensures.2) at c.run_end-b.ensures in
+    omega (arith, group_some w i m j n h a b c.least_hash-h.ensures left right)
 
 pub loop-i-preserved : goal.loop-i-preserved
 loop-i-preserved c =
-    let w = words c.args.s.now in
+    let w = words c.args.rows.bytes.now in
+    let n = c.args.rows.count in
     let m = c.seek_row-m.result in
-    let most = c.args.most in (
+    let i = c.loop-i.i in
+    let j = c.loop-i.j in
+    let a = c.run_end-a.result in
+    let b = c.run_end-b.result in
+    let h = quad_number c.least_hash-h.result in
+    let left : Run w i m h a = rw (c.new.ensures.0, c.new.ensures.1, c.new.ensures.2) at c.run_end-a.ensures in
+    let right : Run w j n h b = rw (c.new-in-loop-i.ensures.0, c.new-in-loop-i.ensures.1, c.new-in-loop-i.ensures.2) at c.run_end-b.ensures in
+    let G = GroupFits c.args.most (rows_in w i a) (rows_in w j b) in
+    let fits : Decides c.group_fits.result G = rw (c.new-txid.ensures.0, c.new-txid.ensures.1, c.new-txid.ensures.2, c.new-wtxid.ensures.0, c.new-wtxid.ensures.1, c.new-wtxid.ensures.2)
+    at c.group_fits.ensures.0 in (
       c.group_fits.ensures.1,
-      omega arith,
-      omega arith,
-      omega arith,
+      omega (arith, left.least, left.most),
+      omega (arith, right.least, right.most),
+      omega (arith, right.least, right.most),
       λ s. off_turn (c.loop-i.invariant.4 s)
-          (group_off w c.loop-i.i m c.loop-i.j
-          c.args.n (quad_number c.least_hash-h.result)
-          c.run_end-a.result c.run_end-b.result (omega arith)
-          (omega arith) (txid_level c.args.n w s m
-          c.seek_row-m.ensures)
-          (wtxid_level c.args.n w s m
-          c.seek_row-m.ensures) c.least_hash-h.ensures
-          c.run_end-a.ensures c.run_end-b.ensures) (passed
-          (GroupFits most (rows_in w c.loop-i.i c.run_end-a.result)
-          (rows_in w c.loop-i.j c.run_end-b.result)) c.group_fits.result
-          c.if-not-group_fits.false-raw c.group_fits.ensures.0),
+          (group_off w i m j n h a b (omega arith) (omega arith) (txid_level n w s m c.seek_row-m.ensures) (wtxid_level n w s m c.seek_row-m.ensures) c.least_hash-h.ensures left right)
+          (passed G c.group_fits.result c.if-not-group_fits.false-raw fits),
     )
 
 pub returns : goal.returns
 returns c =
-    let w = words c.args.s.now in
+    let w = words c.args.rows.bytes.now in
     let m = c.seek_row-m.result in
-    λ s. groups_end w c.loop-i.i m c.loop-i.j c.args.n (omega arith) (omega arith) (c.loop-i.invariant.4 s)
+    λ s. groups_end w c.loop-i.i m c.loop-i.j c.args.rows.count (omega arith) (omega arith) (c.loop-i.invariant.4 s)

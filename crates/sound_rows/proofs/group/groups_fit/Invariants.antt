@@ -10,9 +10,9 @@ use Rattle.sound_rows.proofs.Decide.{Iff}
 use Rattle.sound_rows.proofs.group.groups_fit.Given as goal
 
 abbrev pub invariant-loop-i : goal.invariant-loop-i
-invariant-loop-i l = (length l.slots ≡ conn_slots) × (l.i ≤ l.m) × (l.m ≤ l.j) × (l.j ≤ l.n)
-    × (RowsSound (recs row_size read_row l.n (words l.s)) → Iff (GroupsSound l.most (recs row_size read_row l.n (words l.s)))
-    (GroupsSound l.most (rows_in (words l.s) l.i l.m ++ rows_in (words l.s) l.j l.n)))
+invariant-loop-i l = (length l.slots ≡ conn_slots) × (l.i ≤ l.m) × (l.m ≤ l.j) × (l.j ≤ l.rows.count)
+    × (RowsSound (recs row_size read_row l.rows.count (words l.rows.bytes.now)) → Iff (GroupsSound l.most (recs row_size read_row l.rows.count (words l.rows.bytes.now)))
+    (GroupsSound l.most (rows_in (words l.rows.bytes.now) l.i l.m ++ rows_in (words l.rows.bytes.now) l.j l.rows.count)))
 
 abbrev pub decreases-loop-i : goal.decreases-loop-i
-decreases-loop-i l = (l.m + l.n) - (l.i + l.j)
+decreases-loop-i l = (l.m + l.rows.count) - (l.i + l.j)

@@ -9,8 +9,8 @@ use Rattle.sound_rows.proofs.group.least_hash.Goals as goal
 pub returns-then-i-m : goal.returns-then-i-m
 returns-then-i-m c = record { left = λ h. absurd (omega arith); right = λ h. omega (arith, c.hash_at.ensures); some = inr (omega arith, sym c.hash_at.ensures) }
 
-pub returns-then-j-n : goal.returns-then-j-n
-returns-then-j-n c = record { left = λ h. omega (arith, c.hash_at-then-j-n.ensures); right = λ h. absurd (omega arith); some = inl (omega arith, sym c.hash_at-then-j-n.ensures) }
+pub returns-then-j-rows : goal.returns-then-j-rows
+returns-then-j-rows c = record { left = λ h. omega (arith, c.hash_at-then-j-rows.ensures); right = λ h. absurd (omega arith); some = inl (omega arith, sym c.hash_at-then-j-rows.ensures) }
 
 pub returns-then-quad_less : goal.returns-then-quad_less
 returns-then-quad_less c =

@@ -7,4 +7,4 @@ use Rattle.sound_rows.proofs.ConnMarks.{Marks}
 use Rattle.sound_rows.proofs.group.mark_conns.Given as goal
 
 abbrev pub invariant-loop-k : goal.invariant-loop-k
-invariant-loop-k l = (l.from ≤ l.k) × (l.k ≤ l.to) × (length l.slots ≡ conn_slots) × Marks (words l.s) l.k l.to l.mark l.initial.slots l.slots
+invariant-loop-k l = (l.part.from ≤ l.k) × (l.k ≤ l.part.to) × (length l.slots ≡ conn_slots) × Marks (words l.part.rows.bytes.now) l.k l.part.to l.mark l.initial.slots l.slots

@@ -2,7 +2,7 @@ use mathlib.Core.Path.{sym, ◌∙◌}
 use mathlib.Core.List.{[]}
 use Rattle.words.specs.Words.{words}
 use Rattle.machine.proofs.Tests.{never}
-use Rattle.sound_rows.specs.Groups.{rows_in}
+use Rattle.sound_rows.specs.Parts.{rows_of}
 use Rattle.sound_rows.proofs.ConnMarks.{marked-nil}
 use Rattle.sound_rows.proofs.group.marked_once.Goals as goal
 
@@ -10,7 +10,7 @@ pub returns-then-mark_conns : goal.returns-then-mark_conns
 returns-then-mark_conns c =
     let a = c.args in
     let d = (rw c.if-mark_conns.true at c.mark_conns.ensures.0) [] (marked-nil a.mark a.slots.now) in
-    ((λ f. (((rw f at c.mark_conns-then-mark_conns.ensures.0) (rows_in (words a.s.now) a.j a.b) d.1).0, d.0)), c.mark_conns-then-mark_conns.ensures.1)
+    ((λ f. (((rw f at c.mark_conns-then-mark_conns.ensures.0) (rows_of a.b) d.1).0, d.0)), c.mark_conns-then-mark_conns.ensures.1)
 
 pub returns-else-mark_conns : goal.returns-else-mark_conns
 returns-else-mark_conns c = ((λ e. never (sym c.if-mark_conns.false ∙ e)), c.mark_conns.ensures.1)

@@ -9,12 +9,12 @@ loop-i-init c = (omega arith, search rules, omega arith, omega arith)
 
 pub loop-i-preserved : goal.loop-i-preserved
 loop-i-preserved c =
-    let t = owners_turn (words c.args.s.now) c.loop-i.i c.args.to (omega arith)
-    c.read-r.ensures.words_are in
+    let t = owners_turn (words c.args.part.rows.bytes.now) c.loop-i.i c.args.part.to (omega arith)
+    c.get-r.ensures.words_are in
     (search rules, search rules, omega arith, omega (arith, c.loop-i.invariant.3))
 
 pub returns : goal.returns
 returns c = (
-  omega (arith, c.loop-i.invariant.3, owners_none (words c.args.s.now) c.loop-i.i c.args.to (omega arith)),
+  omega (arith, c.loop-i.invariant.3, owners_none (words c.args.part.rows.bytes.now) c.loop-i.i c.args.part.to (omega arith)),
   omega arith,
 )

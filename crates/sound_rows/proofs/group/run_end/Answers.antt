@@ -28,12 +28,12 @@ loop-i-preserved c =
     ltb-false _ _ (sym c.quad_less.ensures ∙ c.if-quad_less.false) in (
       search rules,
       search rules,
-      upto_more (words c.args.s.now) c.args.from
+      upto_more (words c.args.part.rows.bytes.now) c.args.part.from
           c.loop-i.i (quad_number c.args.h) c.loop-i.invariant.2
           (omega (arith, c.hash_at.ensures)),
     )
 
 pub returns : goal.returns
 returns c =
-    let e : c.loop-i.i ≡ c.args.to = omega (arith, c.loop-i.invariant.1) in
-    record { least = c.requires.0; most = omega arith; upto = rw e at c.loop-i.invariant.2; past = λ z. absurd (omega arith) }
+    let e : c.loop-i.i ≡ c.args.part.to = omega (arith, c.loop-i.invariant.1) in
+    record { least = omega arith; most = omega arith; upto = rw e at c.loop-i.invariant.2; past = λ z. absurd (omega arith) }
