@@ -36,10 +36,9 @@ use Rattle.gathering.specs.Aside.{Aside}
 use Rattle.gathering.specs.Exchanges.{Full, Underway, Instead, Swapped, Exchanged}
 use Rattle.gathering.proofs.Waiting.{barred-beside, held_beside, at_beside, pushes_more}
 use Rattle.gathering.proofs.Exchanging.{cut-pushes, victims-pushes}
-use Rattle.apart.specs.declared.displacing.Reserve.{Reserve}
 use Rattle.apart.specs.Noting.{parent_in, hashes_at, Spent}
 use Rattle.apart.specs.Waiting.{parent_entries, marks, waiting, Beside}
-use Rattle.apart.specs.Displacing.{unlisted, Supplied, Supplies, FurtherAt, SwapsWith}
+use Rattle.apart.specs.Displacing.{Reserve, unlisted, Supplied, Supplies, FurtherAt, SwapsWith}
 use Rattle.apart.proofs.Marking.{Else, count-marks, push-marks, sound-marks, marks_more, entry_of, entries-small, entries-else}
 use Rattle.apart.proofs.Alongside.{hashes_then, entries_then}
 use Rattle.apart.proofs.Spent.{victims-marks}

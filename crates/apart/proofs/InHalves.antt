@@ -16,12 +16,9 @@ use Rattle.store.specs.Shown.{Kept}
 use Rattle.announcing.specs.Answers.{one_parent}
 use Rattle.announcing.specs.Falls.{list_space}
 use Rattle.gathering.specs.Aside.{Empty}
-use Rattle.apart.specs.declared.displacing.Reserve.{Reserve}
-use Rattle.apart.specs.declared.displacing.Further.{Further}
-use Rattle.apart.specs.declared.noting.Half.{Half}
 use Rattle.apart.specs.Noting.{parent_in, hashes_at, kept_bits, Halved, picked_in, Spent, Exhausted, Noted}
 use Rattle.apart.specs.Waiting.{Waits, LetIn}
-use Rattle.apart.specs.Displacing.{unlisted, Supplied, Supplies, FurtherIn, HalfAt, HalfIn}
+use Rattle.apart.specs.Displacing.{Half, Further, Reserve, unlisted, Supplied, Supplies, FurtherIn, HalfAt, HalfIn}
 use Rattle.apart.proofs.Alongside.{beside_none, none_writes}
 use Rattle.apart.proofs.ForVictims.{supplied-unlisted, supplied-spent}
 use Rattle.apart.proofs.Notes.{kept_picked, parts-keys, parts-table, hashes_next, hashes_none, hashes-long, whole, in-front, behind}

@@ -20,12 +20,9 @@ use Rattle.announcing.specs.Evicts.{found}
 use Rattle.announcing.specs.Falls.{most_listed, list_space, VictimsIn}
 use Rattle.announcing.proofs.Nobody.{none_greatest as nobody}
 use Rattle.announcing.proofs.Scanning.{none_found}
-use Rattle.apart.specs.declared.joining.Next.{Next}
-use Rattle.apart.specs.declared.displacing.Reserve.{Reserve}
-use Rattle.apart.specs.declared.displacing.Further.{Further}
 use Rattle.apart.specs.Noting.{parent_in, Spent}
-use Rattle.apart.specs.Waiting.{Waits, LetIn, NextIn}
-use Rattle.apart.specs.Displacing.{unlisted, Lacks, Restocked, ShutOut, Unaided, Supplied, Supplies, FurtherIn, FurtherAlone, SwapsWith, SpentIn}
+use Rattle.apart.specs.Waiting.{Next, Waits, LetIn, NextIn}
+use Rattle.apart.specs.Displacing.{Further, Reserve, unlisted, Lacks, Restocked, ShutOut, Unaided, Supplied, Supplies, FurtherIn, FurtherAlone, SwapsWith, SpentIn}
 use Rattle.apart.proofs.Alongside.{none_sound, none_writes, alone_by}
 use Rattle.apart.proofs.Spent.{spent_next, spent_left}
 use Rattle.apart.proofs.ForVictims.{supplied-spent, supplied-unlisted}

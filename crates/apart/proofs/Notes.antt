@@ -8,6 +8,7 @@ use native.Mathlib.Nat.{add-zero, pow-suc}
 use native.Mathlib.Omega.{arith}
 use native.Mathlib.Numerals.{add-one}
 use lib.Dec.{eqb, ltb}
+use mir.Val.{bool_byte}
 use borrow.Author.Tests.{ltb-true, ltb-false}
 use lib.Pow.{pow_mono}
 use lib.ListN.{length, take, drop, get_or, drop_of_length-le}
@@ -158,6 +159,10 @@ weight-most j h = pow_mono h
 pub one_most : (w : ℕ) (b : Bool) → w * one b ≤ w
 one_most w true = omega arith
 one_most w false = omega arith
+
+pub kept_weight : (w : ℕ) (b : Bool) {x : ℕ} → x ≡ bool_byte b → w * x ≡ w * one b
+kept_weight w true e = ap (λ (y : ℕ). w * y) e
+kept_weight w false e = ap (λ (y : ℕ). w * y) e
 
 pub weight_next : (from j w : ℕ) → from ≤ j → w ≡ 2 ^ (j - from) → w * 2 ≡ 2 ^ (j + 1 - from)
 weight_next from j w h e = let q : j + 1 - from ≡ suc (j - from) = omega arith in rw (q, pow-suc 2 (j - from), e)

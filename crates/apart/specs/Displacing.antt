@@ -9,11 +9,30 @@ use Rattle.store.specs.Image.{Writes}
 use Rattle.announcing.specs.Answers.{one_parent}
 use Rattle.announcing.specs.Falls.{list_space}
 use Rattle.gathering.specs.Exchanges.{VictimsFrom}
-use Rattle.apart.specs.declared.displacing.Reserve.{Reserve}
-use Rattle.apart.specs.declared.displacing.Further.{Further}
-use Rattle.apart.specs.declared.noting.Half.{Half}
+use Rattle.apart.specs.declared.displacing.Known.{Known}
 use Rattle.apart.specs.Noting.{parent_in, hashes_at, kept_bits, Spent}
 use Rattle.apart.specs.Waiting.{Beside, NextAt}
+
+-- what is known of the victims: so many are listed, and the first of these have gone; whether nobody can be evicted
+pub record Reserve : Type 0 where
+  pub count : ℕ
+  pub gone : ℕ
+  pub spent : Bool
+
+abbrev pub reserve_of : Known → Reserve
+reserve_of k = record { count = k.listed.count; gone = k.gone; spent = k.spent }
+
+-- whether a parent was kept, how many wait after it, and what is known of the victims
+pub record Further : Type 0 where
+  pub kept : Bool
+  pub waiting : ℕ
+  pub reserve : Reserve
+
+-- the bits of one half, how many of its parents wait, and what is known of the victims
+pub record Half : Type 0 where
+  pub bits : ℕ
+  pub waiting : ℕ
+  pub reserve : Reserve
 
 -- no victim is listed
 abbrev pub unlisted : Bool → Reserve

@@ -9,7 +9,6 @@ use Rattle.store.specs.Image.{Writes}
 use Rattle.announcing.specs.Answers.{one_parent}
 use Rattle.gathering.specs.Waits.{pushes}
 use Rattle.gathering.specs.Aside.{Aside}
-use Rattle.apart.specs.declared.joining.Next.{Next}
 use Rattle.apart.specs.Noting.{parent_in, hashes_at}
 
 -- the candidates that parents make, the first with the priority i
@@ -21,6 +20,11 @@ parent_entries n now i (h ∷ hs) = record { key = txid h; candidate = parent_of
 unfoldable pub marks : List ℕ → Table → Table
 marks [] t = t
 marks (h ∷ hs) t = marks hs (mark (txid h) t)
+
+-- whether a parent was kept, and how many wait after it
+pub record Next : Type 0 where
+  pub kept : Bool
+  pub waiting : ℕ
 
 module _ (z : List ℕ) (n now : ℕ) where
   -- d parents of the place in the words z, from the i-th on, who wait

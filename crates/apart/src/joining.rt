@@ -1,49 +1,42 @@
 // Parents of a place that wait beside the store, to come in together: rows move once for all of them.
-ghost use Rattle.std.specs.Prelude.{◌≡◌, ◌+◌, ◌-◌, ◌*◌, ◌≤◌, ◌<◌, length};
+ghost use Rattle.std.specs.Prelude.{◌≡◌, ◌+◌, ◌-◌, ◌≤◌, ◌<◌, length};
 ghost use Rattle.ident.specs.Words.{hash_num};
 ghost use Rattle.words.specs.Words.{words};
-ghost use Rattle.regions.specs.Rows.{row_size};
 ghost use Rattle.places.specs.Places.{list_most};
 ghost use Rattle.machine.specs.Fail.{parent_of};
 ghost use Rattle.store.specs.Shown.{Kept};
 ghost use Rattle.requests.specs.Changes.{candidate_of, Makes};
-ghost use Rattle.gathering.specs.Aside.{space};
-ghost use Rattle.apart.specs.Apart.{slot_bytes};
+ghost use Rattle.gathering.specs.Aside.{Empty};
 ghost use Rattle.apart.specs.Noting.{hashes_at};
 ghost use Rattle.apart.specs.Waiting.{marks, Waits, LetIn, WaitsWith, NextIn};
 
-use crate::noting;
+use crate::parents::Parents;
 use gathering::beside::Fare;
+use gathering::region::{ROOM, Rows};
 
-// Whether a parent was kept, and how many wait after it.
-#[derive(Clone, Copy)]
-pub struct Next {
-    pub kept: bool,
-    pub waiting: usize,
+// With fewer parents a pass over the rows costs more than it spares.
+const FEW: usize = 6;
+
+fn region() -> [u8; ROOM] {
+    [0u8; ROOM]
+}
+
+// The rows of so many parents that wait, at the front of a region.
+#[derive(Drop)]
+pub struct Waiting {
+    pub rows: [u8; ROOM],
+    pub count: usize,
 }
 
 // The requests under the Txid keys of the parents from .. to of a place are marked.
-fn mark_parents(s: &mut [u8], slot: &[u8], from: usize, to: usize)
-    requires { Kept s.old × (from ≤ to) × (to ≤ list_most) × (length slot.now ≡ slot_bytes) }
-    ensures { Makes s.old s.new (λ t. Unit {0}) (marks (hashes_at (words slot.now) from (to - from))) }
+fn mark_parents(s: &mut [u8], p: Parents, from: usize, to: usize)
+    requires { Kept s.old × (from ≤ to) × (to ≤ list_most) }
+    ensures { Makes s.old s.new (λ t. Unit {0}) (marks (hashes_at (words p.entry.slot.now) from (to - from))) }
 {
     for j in from..to {
-        let h = noting::parent_of(slot, j);
+        let h = p.hash(j);
         requests::mark(s, ident::Key::from(ident::Txid(h)));
     }
-}
-
-// The m parents before the j-th, which wait, come in.
-pub fn let_in(s: &mut [u8], slot: &[u8], new: &mut [u8], m: usize, j: usize, n: u64, clock: u64)
-    requires { Waits (words slot.now) n clock s.old (words new.old) (j - m) m × (m ≤ j) × (j ≤ list_most) × (length slot.now ≡ slot_bytes) × (length new.old ≡ 8 * (row_size * space)) }
-    ensures { LetIn (words slot.now) n clock s.old s.new (words new.old) (words new.new) j m }
-{
-    if m == 0 {
-        return;
-    }
-    gathering::coming::come_in(s, n, new, m);
-    mark_parents(s, slot, j - m, j);
-    gathering::region::clear(new);
 }
 
 // The candidate that a parent makes.
@@ -63,51 +56,67 @@ pub fn offered(h: ident::Hash, n: u64, clock: u64, priority: u64) -> requests::C
     }
 }
 
-// Whether the j-th parent waits with the m before it: it does with `together`, if it comes in without another's giving way.
-fn wait_with(
-    s: &[u8],
-    slot: &[u8],
-    new: &mut [u8],
-    m: usize,
-    j: usize,
-    n: u64,
-    clock: u64,
-    together: bool,
-) -> bool
-    requires { Kept s.now × (1 ≤ n) × (m ≤ j) × (j < list_most) × (length slot.now ≡ slot_bytes) × (length new.old ≡ 8 * (row_size * space)) }
-    ensures { WaitsWith (words slot.now) n clock s.now (words new.old) (words new.new) j m result }
-{
-    if !together {
-        return false;
+impl Waiting {
+    pub fn none() -> Self
+        ensures { (result.count ≡ 0) × Empty (words result.rows) }
+    {
+        let mut new = Waiting {
+            rows: region(),
+            count: 0,
+        };
+        gathering::region::clear(&mut new.rows);
+        new
     }
-    let h = noting::parent_of(slot, j);
-    let c = offered(h, n, clock, j as u64);
-    matches!(gathering::beside::set_aside(s, new, m, c), Fare::Waits)
+
+    // Those that wait, all before the j-th, come in.
+    pub fn let_in(&mut self, s: &mut [u8], p: Parents, j: usize)
+        requires { Waits (words p.slot.now) p.connection.number p.clock s.old (words self.old.rows) (j - self.old.count) self.old.count × (self.old.count ≤ j) × (j ≤ list_most) }
+        ensures { LetIn (words p.entry.slot.now) p.entry.connection.number p.entry.clock s.old s.new (words self.old.rows) (words self.new.rows) j self.old.count × (self.new.count ≡ 0) }
+    {
+        let m = self.count;
+        if m == 0 {
+            return;
+        }
+        let rows = Rows {
+            bytes: &self.rows,
+            count: m,
+        };
+        gathering::coming::come_in(s, p.connection.number, rows);
+        mark_parents(s, p, j - m, j);
+        gathering::region::clear(&mut self.rows);
+        self.count = 0;
+    }
+
+    // Whether the j-th parent waits with those before it: where they are many, it does if it comes in without another's giving way.
+    fn wait_with(&mut self, s: &[u8], p: Parents, j: usize) -> bool
+        requires { Kept s.now × (self.old.count ≤ j) × (j < list_most) }
+        ensures { WaitsWith (words p.entry.slot.now) p.entry.connection.number p.entry.clock s.now (words self.old.rows) (words self.new.rows) j self.old.count result
+            × (self.new.count ≡ self.old.count) }
+    {
+        if p.count < FEW {
+            return false;
+        }
+        let h = p.hash(j);
+        let c = offered(h, p.connection.number, p.clock, j as u64);
+        let count = self.count;
+        matches!(
+            gathering::beside::set_aside(s, &mut self.rows, count, c),
+            Fare::Waits
+        )
+    }
 }
 
-// Announces the j-th parent for the connection n beside the m that wait: it waits with them, or else they come in first.
-pub fn announce_next(
-    s: &mut [u8],
-    slot: &[u8],
-    new: &mut [u8],
-    m: usize,
-    j: usize,
-    n: u64,
-    clock: u64,
-    together: bool,
-) -> Next
-    requires { Waits (words slot.now) n clock s.old (words new.old) (j - m) m × (1 ≤ n) × (m ≤ j) × (j < list_most) × (length slot.now ≡ slot_bytes)
-        × (length new.old ≡ 8 * (row_size * space)) }
-    ensures { NextIn (words slot.now) n clock s.old s.new (words new.old) (words new.new) j m result }
+// Announces the j-th parent beside those that wait, and says whether it was kept: it waits with them, or else they come in first.
+pub fn announce_next(s: &mut [u8], p: Parents, new: &mut Waiting, j: usize) -> bool
+    requires { Waits (words p.slot.now) p.connection.number p.clock s.old (words new.old.rows) (j - new.old.count) new.old.count × (new.old.count ≤ j) × (j < list_most) }
+    ensures { NextIn (words p.entry.slot.now) p.entry.connection.number p.entry.clock s.old s.new (words new.old.rows) (words new.new.rows) j new.old.count
+        (record { kept = result; waiting = new.new.count }) }
 {
-    if wait_with(s, slot, new, m, j, n, clock, together) {
-        return Next {
-            kept: true,
-            waiting: m + 1,
-        };
+    if new.wait_with(s, p, j) {
+        new.count += 1;
+        return true;
     }
-    let_in(s, slot, new, m, j, n, clock);
-    let h = noting::parent_of(slot, j);
-    let kept = announcing::parents::announce_parent(s, n, clock, h, j as u64);
-    Next { kept, waiting: 0 }
+    new.let_in(s, p, j);
+    let h = p.hash(j);
+    announcing::parents::announce_parent(s, p.connection.number, p.clock, h, j as u64)
 }

@@ -6,7 +6,9 @@ ghost use Rattle.store.specs.Shown.{Kept};
 ghost use Rattle.apart.specs.Noting.{Exhausted};
 ghost use Rattle.apart.specs.Lapsing.{Lapses, PlaceExpiring, PlaceExpires, Expires};
 
+use crate::parents::Parents;
 use crate::{noting, slots};
+use ident::connection::Connection;
 
 // The owner n of the request at k, whose place is p, fails, unless its package is Enqueued, and the place dies.
 fn lapse(
@@ -34,20 +36,26 @@ fn expire_place(
     first: &mut [u8],
     p: slots::Spot,
     k: ident::Key,
-    n: u64,
+    n: Connection,
     clock: u64,
     spent: bool,
 ) -> noting::Announced
-    requires { PlaceExpiring s.old first.old m p (key_num k) n × Exhausted (take m s.old) spent }
-    ensures { PlaceExpires s.old s.new first.old first.new m p (key_num k) n clock result }
+    requires { PlaceExpiring s.old first.old m p (key_num k) n.number × Exhausted (take m s.old) spent }
+    ensures { PlaceExpires s.old s.new first.old first.new m p (key_num k) n.number clock result }
 {
     let mut slot = crate::slot_room();
     slots::load(s, m, first, p.at, &mut slot);
-    lapse(s, m, first, p, k, n, clock);
-    noting::announce_all(&mut s[0..m], &slot, p.parents, n, clock, spent)
+    lapse(s, m, first, p, k, n.number, clock);
+    let parents = Parents {
+        slot: &slot,
+        count: p.parents,
+        connection: n,
+        clock,
+    };
+    noting::announce_all(&mut s[0..m], parents, spent)
 }
 
-// What is known while owners expire: how many places at most have notes, and whether nobody can be evicted.
+// What is known while owners expire: how many places at most have notes. `spent` is a property of the tracker: nobody can be evicted.
 #[derive(Clone, Copy)]
 pub struct Progress {
     pub noted: usize,
@@ -62,15 +70,15 @@ pub fn expire_one(
     first: &mut [u8],
     c: usize,
     k: ident::Key,
-    n: u64,
+    n: Connection,
     clock: u64,
     q: Progress,
 ) -> Progress
-    requires { Parted s.old first.old m c × (1 ≤ n) × Exhausted (take m s.old) q.spent }
-    ensures { Expires s.old s.new first.old first.new m c (key_num k) n clock q result }
+    requires { Parted s.old first.old m c × Exhausted (take m s.old) q.spent }
+    ensures { Expires s.old s.new first.old first.new m c (key_num k) n.number clock q result }
 {
     let Some(p) = slots::find(s, m, first, c, k) else {
-        failing::failed(&mut s[0..m], k, n, clock);
+        failing::failed(&mut s[0..m], k, n.number, clock);
         return q;
     };
     let r = expire_place(s, m, first, p, k, n, clock, q.spent);

@@ -16,6 +16,7 @@ pub mod displacing;
 pub mod joining;
 pub mod lapsing;
 pub mod noting;
+pub mod parents;
 pub mod silent;
 pub mod slots;
 

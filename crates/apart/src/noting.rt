@@ -1,27 +1,25 @@
 // Parents of a place announced one by one, and those kept noted: a bit for each in two numbers.
-ghost use Rattle.std.specs.Prelude.{◌≡◌, ◌+◌, ◌-◌, ◌*◌, ◌^◌, ◌≤◌, ◌<◌, length};
+ghost use Rattle.std.specs.Prelude.{◌≡◌, ◌+◌, ◌-◌, ◌≤◌, ◌<◌, length};
 ghost use Rattle.ident.specs.Words.{hash_num};
 ghost use Rattle.words.specs.Words.{words};
-ghost use Rattle.regions.specs.Rows.{row_size};
 ghost use Rattle.places.specs.Places.{list_most};
-ghost use Rattle.machine.specs.Table.{one};
 ghost use Rattle.store.specs.Shown.{Kept};
-ghost use Rattle.gathering.specs.Aside.{space};
 ghost use Rattle.apart.specs.Apart.{slot_bytes};
 ghost use Rattle.apart.specs.Noting.{parent_in, hashes_at, ParentsIn, half_most, Halved, Exhausted, Noted};
-ghost use Rattle.announcing.specs.Falls.{list_space};
-ghost use Rattle.apart.specs.Displacing.{Supplies, HalfIn};
+ghost use Rattle.apart.specs.Displacing.{reserve_of, Supplies, HalfIn};
 
+use crate::displacing;
+use crate::displacing::Known;
+use crate::joining::Waiting;
+use crate::parents::Parents;
 use crate::slots::Note;
-use crate::{displacing, joining};
-use gathering::region::ROOM;
 
 // Parents of a place, and half of them.
 const MOST: usize = 100;
 
 const HALF: usize = 50;
 
-// Which parents of a place were kept. spent: nobody can be evicted then.
+// Which parents of a place were kept. `spent` is a property of the tracker then: nobody can be evicted.
 #[derive(Clone, Copy)]
 pub struct Announced {
     pub note: Note,
@@ -43,14 +41,6 @@ pub fn first_half(n: usize) -> usize
     n.min(HALF)
 }
 
-// The bits with w more, if the parent was kept.
-fn raised(bits: u64, w: u64, kept: bool) -> u64
-    requires { bits + w < 2 ^ 64 }
-    ensures { result ≡ bits + w * one kept }
-{
-    if kept { bits + w } else { bits }
-}
-
 // The j-th parent of a place.
 pub fn parent_of(slot: &[u8], j: usize) -> ident::Hash
     requires { (j < list_most) × (length slot.now ≡ slot_bytes) }
@@ -59,109 +49,43 @@ pub fn parent_of(slot: &[u8], j: usize) -> ident::Hash
     requests::quad_hash(places::read_parent(slot, 0, j))
 }
 
-// The bits of one half, how many of its parents wait, and what is known of the victims.
-#[derive(Clone, Copy)]
-pub struct Half {
-    pub bits: u64,
-    pub waiting: usize,
-    pub reserve: displacing::Reserve,
-}
-
-// Announces the parents from .. to of the c of a place for the connection n, beside the m before them that wait; answers the bits of those kept.
+// Announces the parents from .. to beside those before them that wait; answers the bits of those kept.
 fn announce_bits(
     s: &mut [u8],
-    slot: &[u8],
-    new: &mut [u8],
-    top: &mut [u8],
-    v: displacing::Reserve,
-    m: usize,
+    p: Parents,
+    new: &mut Waiting,
+    q: &mut Known,
     from: usize,
     to: usize,
-    c: usize,
-    n: u64,
-    clock: u64,
-    together: bool,
-) -> Half
-    requires { Supplies (words slot.now) n clock s.old (words new.old) (words top.old) (from - m) m v × (1 ≤ n) × (m ≤ from) × (from ≤ to) × (to ≤ from + half_most) × (to ≤ c)
-        × (c ≤ list_most) × (v.count ≤ list_space) × (length slot.now ≡ slot_bytes) × (length new.old ≡ 8 * (row_size * space)) × (length top.old ≡ 8 * (row_size * list_space)) }
-    ensures { HalfIn (words slot.now) n clock s.old s.new (words new.old) (words new.new) (words top.old)
-        (words top.new) from to m v result }
+) -> u64
+    requires { Supplies (words p.slot.now) p.connection.number p.clock s.old (words new.old.rows) (words q.old.listed.rows) (from - new.old.count) new.old.count (reserve_of q.old)
+        × (new.old.count ≤ from) × (from ≤ to) × (to ≤ from + half_most) × (to ≤ p.count) }
+    ensures { HalfIn (words p.entry.slot.now) p.entry.connection.number p.entry.clock s.old s.new (words new.old.rows) (words new.new.rows) (words q.old.listed.rows)
+        (words q.new.listed.rows) from to new.old.count (reserve_of q.old) (record { bits = result; waiting = new.new.count; reserve = reserve_of q.new }) }
 {
     let mut bits = 0;
     let mut w = 1;
-    let mut waiting = m;
-    let mut reserve = v;
     for j in from..to {
-        let r = displacing::announce_further(
-            s, slot, new, top, reserve, waiting, j, c, n, clock, together,
-        );
-        bits = raised(bits, w, r.kept);
-        waiting = r.waiting;
-        reserve = r.reserve;
+        let kept = displacing::announce_further(s, p, new, q, j);
+        bits += w * u64::from(kept);
         w = w * 2;
     }
-    Half {
-        bits,
-        waiting,
-        reserve,
-    }
+    bits
 }
 
-fn region() -> [u8; ROOM] {
-    [0u8; ROOM]
-}
-
-// Bytes of the victims that are listed.
-const LISTED: usize = 9_288;
-
-fn list() -> [u8; LISTED] {
-    [0u8; LISTED]
-}
-
-// With fewer parents a pass over the rows costs more than it spares.
-const FEW: usize = 6;
-
-// Announces the c parents of a place for the connection n, and notes those kept. spent: nobody can be evicted.
-pub fn announce_all(
-    s: &mut [u8],
-    slot: &[u8],
-    c: usize,
-    n: u64,
-    clock: u64,
-    spent: bool,
-) -> Announced
-    requires { Kept s.old × (1 ≤ n) × (c ≤ list_most) × (length slot.now ≡ slot_bytes) × Exhausted s.old spent }
-    ensures { Noted s.old s.new n clock (hashes_at (words slot.now) 0 c) result }
+// Announces the parents, and notes those kept. spent: nobody can be evicted.
+pub fn announce_all(s: &mut [u8], p: Parents, spent: bool) -> Announced
+    requires { Kept s.old × Exhausted s.old spent }
+    ensures { Noted s.old s.new p.entry.connection.number p.entry.clock (hashes_at (words p.entry.slot.now) 0 p.entry.count) result }
 {
-    let mut new = region();
-    gathering::region::clear(&mut new);
-    let mut top = list();
-    let v = displacing::nothing_listed(spent);
-    let e = first_half(c);
-    let together = c >= FEW;
-    let low = announce_bits(
-        s, slot, &mut new, &mut top, v, 0, 0, e, c, n, clock, together,
-    );
-    let high = announce_bits(
-        s,
-        slot,
-        &mut new,
-        &mut top,
-        low.reserve,
-        low.waiting,
-        e,
-        c,
-        c,
-        n,
-        clock,
-        together,
-    );
-    joining::let_in(s, slot, &mut new, high.waiting, c, n, clock);
+    let mut new = Waiting::none();
+    let mut q = Known::nothing_listed(spent);
+    let e = first_half(p.count);
+    let low = announce_bits(s, p, &mut new, &mut q, 0, e);
+    let high = announce_bits(s, p, &mut new, &mut q, e, p.count);
+    new.let_in(s, p, p.count);
     Announced {
-        note: Note {
-            low: low.bits,
-            high: high.bits,
-        },
-        spent: high.reserve.spent,
+        note: Note { low, high },
+        spent: q.spent,
     }
 }

@@ -10,7 +10,7 @@ ghost use Rattle.apart.specs.Apart.{slot_bytes, kept_at, with_notes, dying, Room
 
 use places::{DEAD, ENQUEUED, PLACE};
 
-// A place that is not dead: its number, whether its package is Enqueued, how many parents it has.
+// A place that is not dead: its number, and how many parents it has. `enqueued` is a property of its package, beside these.
 #[derive(Clone, Copy)]
 pub struct Spot {
     pub at: usize,

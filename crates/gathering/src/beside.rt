@@ -15,6 +15,7 @@ ghost use Rattle.requests.specs.Changes.{candidate_of};
 ghost use Rattle.gathering.specs.Aside.{space, BarredIn, FaresIn, RowIn, SetAside};
 
 use crate::region;
+use crate::region::Rows;
 use machine::limits::MAX_PEER_ANNOUNCEMENTS;
 
 // As many rows can wait.
@@ -39,37 +40,37 @@ pub fn full(s: &[u8], m: usize) -> bool
     store::head::rows(s) + m >= store::head::limit(s)
 }
 
-// With the m that wait the connection n has as many announcements as it may, or one at the hash of k, under either kind.
-pub fn barred(s: &[u8], new: &[u8], m: usize, k: ident::Key, n: u64) -> bool
-    requires { Kept s.now × (8 * (row_size * m) ≤ length new.now) × (m ≤ space) }
-    ensures { BarredIn s.now (words new.now) m (key_num k) n result }
+// With those that wait the connection n has as many announcements as it may, or one at the hash of k, under either kind.
+pub fn barred(s: &[u8], new: Rows, k: ident::Key, n: u64) -> bool
+    requires { Kept s.now × (new.count ≤ space) }
+    ensures { BarredIn s.now (words new.entry.bytes.now) new.entry.count (key_num k) n result }
 {
     let f = requests::figures(s, n);
-    if f.held >= MAX_PEER_ANNOUNCEMENTS - m as u64 {
+    if f.held >= MAX_PEER_ANNOUNCEMENTS - new.count as u64 {
         return true;
     }
     let h = k.hash;
     if requests::is_candidate(s, h, n) {
         return true;
     }
-    region::waits_at(new, m, h)
+    new.waits_at(h)
 }
 
-// How the announcement c at k fares beside the m that wait. The tests that need no search come first.
-fn fares(s: &[u8], new: &[u8], m: usize, k: ident::Key, c: requests::Candidate) -> Fare
-    requires { Kept s.now × (8 * (row_size * m) ≤ length new.now) × (m ≤ space) }
-    ensures { FaresIn s.now (words new.now) m (key_num k) (candidate_of c) result }
+// How the announcement c at k fares beside those that wait. The tests that need no search come first.
+fn fares(s: &[u8], new: Rows, k: ident::Key, c: requests::Candidate) -> Fare
+    requires { Kept s.now × (new.count ≤ space) }
+    ensures { FaresIn s.now (words new.entry.bytes.now) new.entry.count (key_num k) (candidate_of c) result }
 {
-    if m >= SPACE {
+    if new.count >= SPACE {
         return Fare::Alone;
     }
-    if full(s, m) {
+    if full(s, new.count) {
         if c.preferred {
             return Fare::Alone;
         }
         return Fare::Nothing;
     }
-    if barred(s, new, m, k, c.connection) {
+    if barred(s, new, k, c.connection) {
         return Fare::Nothing;
     }
     let h = k.hash;
@@ -98,7 +99,11 @@ fn set_aside_at(s: &[u8], new: &mut [u8], m: usize, k: ident::Key, c: requests::
     requires { Kept s.now × (8 * (row_size * space) ≤ length new.old) × (m ≤ space) }
     ensures { SetAside s.now (words new.old) (words new.new) m (some (key_num k)) (candidate_of c) result }
 {
-    match fares(s, new, m, k, c) {
+    let rows = Rows {
+        bytes: new,
+        count: m,
+    };
+    match fares(s, rows, k, c) {
         Fare::Waits => {
             region::put_in(new, m, waiting_row(s, k, c));
             Fare::Waits

@@ -13,15 +13,17 @@ ghost use Rattle.gathering.specs.Aside.{space};
 ghost use Rattle.gathering.specs.Deferring.{ListedAt, SuitedIn, Deferred};
 
 use crate::beside::{Fare, SPACE};
+use crate::region::Rows;
 use crate::{beside, region};
+use announcing::foremost::Victims;
 
 // Whether one of the first n rows listed is at the hash h.
-fn listed_at(top: &[u8], n: usize, h: ident::Hash) -> bool
-    requires { (n ≤ list_space) × (length top.now ≡ 8 * (row_size * list_space)) }
-    ensures { ListedAt (words top.now) n (hash_num h) result }
+fn listed_at(top: &Victims, n: usize, h: ident::Hash) -> bool
+    requires { n ≤ list_space }
+    ensures { ListedAt (words top.now.rows) n (hash_num h) result }
 {
     for i in 0..n {
-        let x = regions::read::<regions::Row>(top, i);
+        let x = regions::read::<regions::Row>(&top.rows, i);
         let q = x.hash;
         let g = requests::quad_hash(q);
         if lent_lists::same_hash(g, h) {
@@ -31,31 +33,30 @@ fn listed_at(top: &[u8], n: usize, h: ident::Hash) -> bool
     false
 }
 
-// How the announcement c at k fares beside the d that wait, if the candidate of the row y, the next of the victims, goes for
+// How the announcement c at k fares beside those that wait, if the candidate of the row y, the next of the victims, goes for
 // it. At the hash of a victim that is to go the store says too much, and so do the counts of the connection if the victim is its own.
 fn suits(
     s: &[u8],
-    new: &[u8],
-    d: usize,
-    top: &[u8],
+    new: Rows,
+    top: &Victims,
     k: ident::Key,
     c: requests::Candidate,
     y: regions::Row,
 ) -> Fare
-    requires { Kept s.now × (8 * (row_size * space) ≤ length new.now) × (d ≤ space) × (d < list_space) × (length top.now ≡ 8 * (row_size * list_space)) }
-    ensures { SuitedIn s.now (words new.now) (words top.now) d (key_num k) (candidate_of c) y result }
+    requires { Kept s.now × (new.count ≤ space) × (new.count < list_space) }
+    ensures { SuitedIn s.now (words new.entry.bytes.now) (words top.now.rows) new.entry.count (key_num k) (candidate_of c) y result }
 {
-    if d >= SPACE {
+    if new.count >= SPACE {
         return Fare::Alone;
     }
     if !c.preferred {
         return Fare::Alone;
     }
     let h = k.hash;
-    if listed_at(top, d + 1, h) {
+    if listed_at(top, new.count + 1, h) {
         return Fare::Alone;
     }
-    if beside::barred(s, new, d, k, c.connection) {
+    if beside::barred(s, new, k, c.connection) {
         return Fare::Nothing;
     }
     if announcing::keyed::crowded(s, h) {
@@ -69,31 +70,34 @@ fn suits(
     }
     let q = y.hash;
     let v = requests::quad_hash(q);
-    if region::waits_at(new, d, v) {
+    if new.waits_at(v) {
         return Fare::Alone;
     }
     Fare::Waits
 }
 
-// Announces c at k beside the d that wait, for the d-th of the m victims listed in `top`. If it waits, that one is to go; it may
+// Announces c at k beside the d that wait, for the d-th of the victims listed in `top`. If it waits, that one is to go; it may
 // have to be announced by itself.
 fn defer_at(
     s: &[u8],
     new: &mut [u8],
     d: usize,
-    top: &[u8],
-    m: usize,
+    top: &Victims,
     k: ident::Key,
     c: requests::Candidate,
 ) -> Fare
-    requires { Kept s.now × (8 * (row_size * space) ≤ length new.old) × (length top.now ≡ 8 * (row_size * list_space)) × (d ≤ space) × (m ≤ list_space) }
-    ensures { Deferred s.now (words new.old) (words new.new) (words top.now) d m (some (key_num k)) (candidate_of c) result }
+    requires { Kept s.now × (8 * (row_size * space) ≤ length new.old) × (d ≤ space) }
+    ensures { Deferred s.now (words new.old) (words new.new) (words top.now.rows) d top.now.count (some (key_num k)) (candidate_of c) result }
 {
-    if d >= m {
+    if d >= top.count {
         return Fare::Alone;
     }
-    let y = regions::read::<regions::Row>(top, d);
-    match suits(s, new, d, top, k, c, y) {
+    let y = regions::read::<regions::Row>(&top.rows, d);
+    let rows = Rows {
+        bytes: new,
+        count: d,
+    };
+    match suits(s, rows, top, k, c, y) {
         Fare::Waits => {
             region::put_in(new, d, beside::waiting_row(s, k, c));
             Fare::Waits
@@ -103,19 +107,12 @@ fn defer_at(
 }
 
 // The same at the key of c's item. An item of any other kind than t, v and w has no key.
-pub fn defer(
-    s: &[u8],
-    new: &mut [u8],
-    d: usize,
-    top: &[u8],
-    m: usize,
-    c: requests::Candidate,
-) -> Fare
-    requires { Kept s.now × (8 * (row_size * space) ≤ length new.old) × (length top.now ≡ 8 * (row_size * list_space)) × (d ≤ space) × (m ≤ list_space) }
-    ensures { Deferred s.now (words new.old) (words new.new) (words top.now) d m (key_of (item_num c.item)) (candidate_of c) result }
+pub fn defer(s: &[u8], new: &mut [u8], d: usize, top: &Victims, c: requests::Candidate) -> Fare
+    requires { Kept s.now × (8 * (row_size * space) ≤ length new.old) × (d ≤ space) }
+    ensures { Deferred s.now (words new.old) (words new.new) (words top.now.rows) d top.now.count (key_of (item_num c.item)) (candidate_of c) result }
 {
     let Some(k) = ident::key_of(c.item) else {
         return Fare::Nothing;
     };
-    defer_at(s, new, d, top, m, k, c)
+    defer_at(s, new, d, top, k, c)
 }

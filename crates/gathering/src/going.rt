@@ -1,11 +1,12 @@
 // The victims for those that wait go: in one pass over the rows, or one after the other if they are few.
-ghost use Rattle.std.specs.Prelude.{◌≡◌, ◌*◌, ◌≤◌, ◌<◌, length};
+ghost use Rattle.std.specs.Prelude.{◌≡◌, ◌≤◌, ◌<◌};
 ghost use Rattle.words.specs.Words.{words};
-ghost use Rattle.regions.specs.Rows.{row_size};
 ghost use Rattle.store.specs.Shown.{rows_in, Shown, Kept};
 ghost use Rattle.announcing.specs.Drops.{RowKept};
-ghost use Rattle.announcing.specs.Falls.{list_space, goes_by, VictimsIn};
+ghost use Rattle.announcing.specs.Falls.{goes_by, VictimsIn};
 ghost use Rattle.gathering.specs.Deferring.{Gone};
+
+use announcing::foremost::Victims;
 
 // Whether the candidate of the row r goes if the victims up to the row v do.
 fn goes(v: regions::Row, r: regions::Row) -> bool
@@ -30,12 +31,12 @@ fn drop_row(s: &mut [u8], m: usize, i: usize, v: regions::Row) -> usize
     m + 1
 }
 
-// The first d of the m victims listed in `top` go, in one pass.
-fn drop_victims(s: &mut [u8], top: &[u8], m: usize, d: usize)
-    requires { Kept s.old × (1 ≤ d) × (d ≤ m) × (m ≤ list_space) × (length top.now ≡ 8 * (row_size * list_space)) }
-    ensures { Gone s.old s.new (words top.now) m d }
+// The first d of the victims listed in `top` go, in one pass.
+fn drop_victims(s: &mut [u8], top: &Victims, d: usize)
+    requires { Kept s.old × (1 ≤ d) × (d ≤ top.now.count) }
+    ensures { Gone s.old s.new (words top.now.rows) top.now.count d }
 {
-    let v = regions::read::<regions::Row>(top, d - 1);
+    let v = regions::read::<regions::Row>(&top.rows, d - 1);
     let n = store::head::rows(s);
     let mut k = 0;
     for i in 0..n {
@@ -45,12 +46,12 @@ fn drop_victims(s: &mut [u8], top: &[u8], m: usize, d: usize)
 }
 
 // The same one after the other.
-fn cut_victims(s: &mut [u8], top: &[u8], m: usize, d: usize)
-    requires { Kept s.old × VictimsIn s.old (words top.now) m × (d ≤ m) × (m ≤ list_space) × (length top.now ≡ 8 * (row_size * list_space)) }
-    ensures { Gone s.old s.new (words top.now) m d }
+fn cut_victims(s: &mut [u8], top: &Victims, d: usize)
+    requires { Kept s.old × VictimsIn s.old (words top.now.rows) top.now.count × (d ≤ top.now.count) }
+    ensures { Gone s.old s.new (words top.now.rows) top.now.count d }
 {
     for i in 0..d {
-        let y = regions::read::<regions::Row>(top, i);
+        let y = regions::read::<regions::Row>(&top.rows, i);
         requests::cut(s, announcing::evict::key_of(y), y.conn);
     }
 }
@@ -58,14 +59,14 @@ fn cut_victims(s: &mut [u8], top: &[u8], m: usize, d: usize)
 // So many go one after the other, since a pass over the rows costs more.
 const FEW: usize = 4;
 
-// The first d of the m victims listed in `top` go.
-pub fn go(s: &mut [u8], top: &[u8], m: usize, d: usize)
-    requires { Kept s.old × VictimsIn s.old (words top.now) m × (d ≤ m) × (m ≤ list_space) × (length top.now ≡ 8 * (row_size * list_space)) }
-    ensures { Gone s.old s.new (words top.now) m d }
+// The first d of the victims listed in `top` go.
+pub fn go(s: &mut [u8], top: &Victims, d: usize)
+    requires { Kept s.old × VictimsIn s.old (words top.now.rows) top.now.count × (d ≤ top.now.count) }
+    ensures { Gone s.old s.new (words top.now.rows) top.now.count d }
 {
     if d <= FEW {
-        cut_victims(s, top, m, d);
+        cut_victims(s, top, d);
         return;
     }
-    drop_victims(s, top, m, d);
+    drop_victims(s, top, d);
 }

@@ -7,33 +7,27 @@ ghost use Rattle.words.specs.Words.{words};
 ghost use Rattle.regions.specs.Rows.{row_size};
 ghost use Rattle.store.specs.Shown.{Kept};
 ghost use Rattle.requests.specs.Changes.{candidate_of};
-ghost use Rattle.announcing.specs.Falls.{list_space};
 ghost use Rattle.gathering.specs.Aside.{space};
 ghost use Rattle.gathering.specs.Exchanges.{Underway, SuitsIn, Exchanged};
 
 use crate::beside::{Fare, SPACE};
+use crate::region::Rows;
 use crate::{beside, region};
+use announcing::foremost::Victims;
 
-// How the announcement c at k fares beside the d that wait, if the candidate of the row y goes for it. At the hash of
+// How the announcement c at k fares beside those that wait, if the candidate of the row y goes for it. At the hash of
 // one that waits nobody goes: the mark of their request could be lost.
-fn suits(
-    s: &[u8],
-    new: &[u8],
-    d: usize,
-    k: ident::Key,
-    c: requests::Candidate,
-    y: regions::Row,
-) -> Fare
-    requires { Kept s.now × (8 * (row_size * space) ≤ length new.now) × (d ≤ space) }
-    ensures { SuitsIn s.now (words new.now) d (key_num k) (candidate_of c) y result }
+fn suits(s: &[u8], new: Rows, k: ident::Key, c: requests::Candidate, y: regions::Row) -> Fare
+    requires { Kept s.now × (new.count ≤ space) }
+    ensures { SuitsIn s.now (words new.entry.bytes.now) new.entry.count (key_num k) (candidate_of c) y result }
 {
-    if d >= SPACE {
+    if new.count >= SPACE {
         return Fare::Alone;
     }
     if !c.preferred {
         return Fare::Alone;
     }
-    if beside::barred(s, new, d, k, c.connection) {
+    if beside::barred(s, new, k, c.connection) {
         return Fare::Nothing;
     }
     let h = k.hash;
@@ -42,33 +36,35 @@ fn suits(
     }
     let q = y.hash;
     let v = requests::quad_hash(q);
-    if region::waits_at(new, d, v) {
+    if new.waits_at(v) {
         return Fare::Alone;
     }
     Fare::Waits
 }
 
-// Announces c at k beside the d that wait, for the p-th of the m victims listed in `top`. If it waits, that one has gone; it may
+// Announces c at k beside the d that wait, for the p-th of the victims listed in `top`. If it waits, that one has gone; it may
 // have to be announced by itself.
 fn exchange_at(
     s: &mut [u8],
     new: &mut [u8],
     d: usize,
-    top: &[u8],
-    m: usize,
+    top: &Victims,
     p: usize,
     k: ident::Key,
     c: requests::Candidate,
 ) -> Fare
-    requires { Underway s.old (words new.old) (words top.now) c.connection d p m × (8 * (row_size * space) ≤ length new.old) × (length top.now ≡ 8 * (row_size * list_space))
-        × (d ≤ space) × (m ≤ list_space) }
-    ensures { Exchanged s.old s.new (words new.old) (words new.new) (words top.now) d p m (some (key_num k)) (candidate_of c) result }
+    requires { Underway s.old (words new.old) (words top.now.rows) c.connection d p top.now.count × (8 * (row_size * space) ≤ length new.old) × (d ≤ space) }
+    ensures { Exchanged s.old s.new (words new.old) (words new.new) (words top.now.rows) d p top.now.count (some (key_num k)) (candidate_of c) result }
 {
-    if p >= m {
+    if p >= top.count {
         return Fare::Alone;
     }
-    let y = regions::read::<regions::Row>(top, p);
-    match suits(s, new, d, k, c, y) {
+    let y = regions::read::<regions::Row>(&top.rows, p);
+    let rows = Rows {
+        bytes: new,
+        count: d,
+    };
+    match suits(s, rows, k, c, y) {
         Fare::Waits => {
             requests::cut(s, announcing::evict::key_of(y), y.conn);
             region::put_in(new, d, beside::waiting_row(s, k, c));
@@ -83,17 +79,15 @@ pub fn exchange(
     s: &mut [u8],
     new: &mut [u8],
     d: usize,
-    top: &[u8],
-    m: usize,
+    top: &Victims,
     p: usize,
     c: requests::Candidate,
 ) -> Fare
-    requires { Underway s.old (words new.old) (words top.now) c.connection d p m × (8 * (row_size * space) ≤ length new.old) × (length top.now ≡ 8 * (row_size * list_space))
-        × (d ≤ space) × (m ≤ list_space) }
-    ensures { Exchanged s.old s.new (words new.old) (words new.new) (words top.now) d p m (key_of (item_num c.item)) (candidate_of c) result }
+    requires { Underway s.old (words new.old) (words top.now.rows) c.connection d p top.now.count × (8 * (row_size * space) ≤ length new.old) × (d ≤ space) }
+    ensures { Exchanged s.old s.new (words new.old) (words new.new) (words top.now.rows) d p top.now.count (key_of (item_num c.item)) (candidate_of c) result }
 {
     let Some(k) = ident::key_of(c.item) else {
         return Fare::Nothing;
     };
-    exchange_at(s, new, d, top, m, p, k, c)
+    exchange_at(s, new, d, top, p, k, c)
 }

@@ -1,4 +1,6 @@
-// A region of rows that wait, in the order of their keys: looked up, and one put in.
+// A region of rows that wait, in the order of their keys: looked up, and one put in. What only reads it has the rows as one value; where it is
+// written it is a slice beside its count: a longer one will do too, which an array would not say, and a struct over `&mut [u8]` would need a
+// clause in each contract that the reference stays.
 ghost use Rattle.std.specs.Prelude.{◌≡◌, ◌+◌, ◌*◌, ◌≤◌, length};
 ghost use Rattle.ident.specs.Words.{hash_num};
 ghost use Rattle.words.specs.Words.{words};
@@ -11,6 +13,14 @@ const WORDS: usize = 4_608;
 // The same in bytes.
 pub const ROOM: usize = 36_864;
 
+// So many rows, at the front of lent bytes.
+#[derive(Clone, Copy)]
+pub struct Rows<'a> {
+    pub bytes: &'a [u8],
+    pub count: usize,
+    ghost room: { 8 * (row_size * count) ≤ length bytes.now },
+}
+
 // Makes the region empty.
 pub fn clear(new: &mut [u8])
     requires { length new.old ≡ 8 * (row_size * space) }
@@ -19,24 +29,25 @@ pub fn clear(new: &mut [u8])
     words::clear(new, 0, WORDS);
 }
 
-// Whether one of the m rows has the key k.
-fn has_key(new: &[u8], m: usize, k: regions::Key) -> bool
-    requires { 8 * (row_size * m) ≤ length new.now }
-    ensures { KeyIn (words new.now) m (key_number k) result }
-{
-    let from = regions::seek_row(new, m, k, false);
-    let to = regions::seek_row(new, m, k, true);
-    from < to
-}
+impl<'a> Rows<'a> {
+    // Whether one of them has the key k.
+    fn has_key(self, k: regions::Key) -> bool
+        ensures { KeyIn (words self.entry.bytes.now) self.entry.count (key_number k) result }
+    {
+        let from = regions::seek_row(self.bytes, self.count, k, false);
+        let to = regions::seek_row(self.bytes, self.count, k, true);
+        from < to
+    }
 
-// Whether one of the m rows is at the hash h, under either kind.
-pub fn waits_at(new: &[u8], m: usize, h: ident::Hash) -> bool
-    requires { (8 * (row_size * m) ≤ length new.now) × (m ≤ space) }
-    ensures { WaitsAt (words new.now) m (hash_num h) result }
-{
-    let a = requests::key_words(ident::Key::from(ident::Txid(h)));
-    let b = requests::key_words(ident::Key::from(ident::Wtxid(h)));
-    has_key(new, m, a) || has_key(new, m, b)
+    // Whether one of them is at the hash h, under either kind.
+    pub fn waits_at(self, h: ident::Hash) -> bool
+        requires { self.count ≤ space }
+        ensures { WaitsAt (words self.entry.bytes.now) self.entry.count (hash_num h) result }
+    {
+        let a = requests::key_words(ident::Key::from(ident::Txid(h)));
+        let b = requests::key_words(ident::Key::from(ident::Wtxid(h)));
+        self.has_key(a) || self.has_key(b)
+    }
 }
 
 // Puts the row y in its place among the m that wait.

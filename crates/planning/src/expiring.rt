@@ -6,6 +6,8 @@ ghost use Rattle.apart.specs.Apart.{Rested};
 ghost use Rattle.apart.specs.Silent.{Placeless, silenced};
 ghost use Rattle.planning.specs.Expiring.{SeekDue, behind, BeginsAt, NextDue, MadeReady, ExpiresAll};
 
+use ident::connection::Connection;
+
 // An owner whose time is over: its request's key, and its connection.
 #[derive(Clone, Copy)]
 pub struct Overdue {
@@ -84,7 +86,10 @@ fn expire_each(s: &mut [u8], m: usize, first: &mut [u8], c: usize, clock: u64) -
         spent: false,
     };
     while let Some(due) = next_due(&s[0..m], clock, last) {
-        known = apart::lapsing::expire_one(s, m, first, c, due.key, due.connection, clock, known);
+        let owner = Connection {
+            number: due.connection,
+        };
+        known = apart::lapsing::expire_one(s, m, first, c, due.key, owner, clock, known);
         last = Some(due.key);
     }
     known.noted

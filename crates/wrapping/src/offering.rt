@@ -9,14 +9,15 @@ ghost use Rattle.machine.specs.Wrapper as machine;
 ghost use Rattle.store.specs.Shown.{Kept};
 ghost use Rattle.lent_lists.specs.Items.{offers_in};
 ghost use Rattle.requests.specs.Changes.{candidate_of, Tells};
-ghost use Rattle.announcing.specs.Falls.{most_listed, list_space, VictimsIn};
+ghost use Rattle.announcing.specs.Falls.{most_listed, VictimsIn};
 ghost use Rattle.gathering.specs.Aside.{space, Empty};
 ghost use Rattle.claims.specs.Changes.{Becomes};
 ghost use Rattle.wrapping.specs.Batches.{between, announced, Bytes, Offers, Collects, Announced};
 ghost use Rattle.wrapping.specs.Swaps.{Whole, Swaps, Went, Settled};
 
+use announcing::foremost::Victims;
 use gathering::beside::Fare;
-use gathering::region::ROOM;
+use gathering::region::{ROOM, Rows};
 use machine::limits::{MAX_PEER_IN_FLIGHT, SOURCE_DELAY};
 
 fn is_wtx(k: ident::ItemKind) -> bool
@@ -175,7 +176,11 @@ fn announce_some(s: &mut [u8], a: Terms, o: Inventory, first: usize) -> usize
     let mut new = region();
     gathering::region::clear(&mut new);
     let p = collect(s, &mut new, a, o, first);
-    gathering::coming::come_in(s, a.connection, &new, p.waiting);
+    let rows = Rows {
+        bytes: &new,
+        count: p.waiting,
+    };
+    gathering::coming::come_in(s, a.connection, rows);
     let next = p.next;
     if next < count {
         announce_one(s, a, o, next);
@@ -215,13 +220,6 @@ fn displaces(s: &[u8], a: Terms, o: Inventory, first: usize) -> bool
     full(s)
 }
 
-// Bytes of the rows that are listed.
-const LISTED: usize = 9_288;
-
-fn list() -> [u8; LISTED] {
-    [0u8; LISTED]
-}
-
 // As many victims are listed at most.
 const MOST: usize = 128;
 
@@ -232,26 +230,18 @@ fn at_most(n: usize) -> usize
     n.min(MOST)
 }
 
-// Announces items from the first on, with the store left as it is: each that comes in waits in `new`, which is empty, and the next of the m
+// Announces items from the first on, with the store left as it is: each that comes in waits in `new`, which is empty, and the next of the
 // victims listed in `top` is to go.
-fn swap(
-    s: &[u8],
-    new: &mut [u8],
-    top: &[u8],
-    m: usize,
-    a: Terms,
-    o: Inventory,
-    first: usize,
-) -> Part
-    requires { Kept s.now × Whole s.now × VictimsIn s.now (words top.now) m × (m ≤ most_listed) × (length top.now ≡ 8 * (row_size * list_space))
+fn swap(s: &[u8], new: &mut [u8], top: &Victims, a: Terms, o: Inventory, first: usize) -> Part
+    requires { Kept s.now × Whole s.now × VictimsIn s.now (words top.now.rows) top.now.count
         × (8 * (row_size * space) ≤ length new.old) × Empty (words new.old) × (a.clock + request_lifetime < word) × (first ≤ length (offers_in o.items.now o.priorities.now)) }
-    ensures { Swaps s.now (words new.new) (words top.now) m a (offers_in o.entry.items.now o.entry.priorities.now) first result.next result.waiting }
+    ensures { Swaps s.now (words new.new) (words top.now.rows) top.now.count a (offers_in o.entry.items.now o.entry.priorities.now) first result.next result.waiting }
 {
     let count = o.count();
     let mut d = 0;
     for i in first..count {
         let c = offered_at(a, o, i);
-        match gathering::deferred::defer(s, new, d, top, m, c) {
+        match gathering::deferred::defer(s, new, d, top, c) {
             Fare::Nothing => {}
             Fare::Waits => d += 1,
             Fare::Alone => {
@@ -269,16 +259,20 @@ fn swap(
 }
 
 // Announces items from the first on: those that come in wait, then the victims go, and one more pass lets in those that have waited.
-fn settle(s: &mut [u8], top: &[u8], m: usize, a: Terms, o: Inventory, first: usize) -> Part
-    requires { Kept s.old × Whole s.old × VictimsIn s.old (words top.now) m × (m ≤ most_listed) × (length top.now ≡ 8 * (row_size * list_space))
+fn settle(s: &mut [u8], top: &Victims, a: Terms, o: Inventory, first: usize) -> Part
+    requires { Kept s.old × Whole s.old × VictimsIn s.old (words top.now.rows) top.now.count
         × (a.clock + request_lifetime < word) × (first ≤ length (offers_in o.items.now o.priorities.now)) }
-    ensures { Settled s.old s.new m a (offers_in o.entry.items.now o.entry.priorities.now) first result.next result.waiting }
+    ensures { Settled s.old s.new top.now.count a (offers_in o.entry.items.now o.entry.priorities.now) first result.next result.waiting }
 {
     let mut new = region();
     gathering::region::clear(&mut new);
-    let p = swap(s, &mut new, top, m, a, o, first);
-    gathering::going::go(s, top, m, p.waiting);
-    gathering::coming::come_in(s, a.connection, &new, p.waiting);
+    let p = swap(s, &mut new, top, a, o, first);
+    gathering::going::go(s, top, p.waiting);
+    let rows = Rows {
+        bytes: &new,
+        count: p.waiting,
+    };
+    gathering::coming::come_in(s, a.connection, rows);
     p
 }
 
@@ -289,14 +283,14 @@ fn announce_for_victims(s: &mut [u8], a: Terms, o: Inventory, first: usize) -> u
     ensures { Went s.old s.new a (offers_in o.entry.items.now o.entry.priorities.now) first result }
 {
     let count = o.count();
-    let mut top = list();
-    announcing::foremost::clear(&mut top);
+    let mut top = Victims::none();
     let most = at_most(count - first);
-    let m = announcing::foremost::list_victims(s, &mut top, most);
+    top.list(s, most);
+    let m = top.count;
     if m == 0 {
         return count;
     }
-    let p = settle(s, &top, m, a, o, first);
+    let p = settle(s, &top, a, o, first);
     if (p.waiting == m) & (m < most) {
         return count;
     }

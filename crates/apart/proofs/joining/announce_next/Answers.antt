@@ -2,44 +2,25 @@
 use native.Mathlib.Omega.{arith}
 use Rattle.ident.proofs.Words.{hash-four, hash_below}
 use Rattle.apart.proofs.Alongside.{next_waits, next_alone, let_kept, waits_same}
-use borrow.Author.Rules.{rules}
 use Rattle.apart.proofs.joining.announce_next.Goals as goal
 
 pub returns-then-wait_with : goal.returns-then-wait_with
-returns-then-wait_with c = next_waits c.requires.2 c.if-wait_with.true c.wait_with.ensures
+returns-then-wait_with c = rw c.wait_with.ensures.1 (next_waits c.requires.1 c.if-wait_with.true c.wait_with.ensures.0)
 
 pub let_in-requires : goal.let_in-requires
-let_in-requires c = (
-  waits_same (c.wait_with.ensures.alone
-      c.if-wait_with.false) c.requires.0,
-  c.requires.2,
-  omega (arith, c.requires.3),
-  c.requires.4,
-  search rules,
+let_in-requires c = rw c.wait_with.ensures.1 (
+  waits_same (c.wait_with.ensures.0.alone c.if-wait_with.false) c.requires.0,
+  c.requires.1,
+  omega (arith, c.requires.2),
 )
 
-pub announce_parent-kept-requires : goal.announce_parent-kept-requires
-announce_parent-kept-requires c = (
-  let_kept c.let_in.ensures (waits_same
-      (c.wait_with.ensures.alone
-      c.if-wait_with.false)
-      c.requires.0),
-  c.requires.1,
+pub announce_parent-requires : goal.announce_parent-requires
+announce_parent-requires c = (
+  let_kept c.let_in.ensures.0 (rw c.wait_with.ensures.1 (waits_same (c.wait_with.ensures.0.alone c.if-wait_with.false) c.requires.0)),
+  c.args.p.connection.positive,
 )
 
 pub returns : goal.returns
-returns c =
-    next_alone (record {
-      positive =
-          c.requires.1;
-      small = omega arith;
-    }) (omega arith) (omega (
-      arith,
-      c.requires.3,
-    ))
-    c.requires.2
-    (hash_below c.parent_of-h.result (hash-four c.parent_of-h.result c.parent_of-h.type_inv))
-    c.parent_of-h.ensures
-    (c.wait_with.ensures.alone
-    c.if-wait_with.false)
-    c.let_in.ensures c.announce_parent-kept.ensures
+returns c = rw c.let_in.ensures.1 (next_alone (record { positive = c.args.p.connection.positive; small = omega arith }) (omega arith) (omega (arith, c.requires.2)) c.requires.1
+    (hash_below c.hash-h.result (hash-four c.hash-h.result c.hash-h.type_inv)) c.hash-h.ensures (c.wait_with.ensures.0.alone c.if-wait_with.false)
+    (rw c.wait_with.ensures.1 at c.let_in.ensures.0) c.announce_parent.ensures)

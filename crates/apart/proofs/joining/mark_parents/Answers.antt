@@ -8,8 +8,8 @@ use Rattle.apart.proofs.joining.mark_parents.Goals as goal
 pub loop-j-init : goal.loop-j-init
 loop-j-init c = ((omega arith, c.requires.1), refl, marking-starts _ _ _ _)
 
-pub parent_of-h-requires : goal.parent_of-h-requires
-parent_of-h-requires c = (omega (arith, c.loop-j-test.true, c.requires.2), c.requires.3)
+pub hash-h-requires : goal.hash-h-requires
+hash-h-requires c = omega (arith, c.loop-j-test.true, c.requires.2)
 
 pub mark-requires : goal.mark-requires
 mark-requires c = marking_kept c.loop-j.invariant.2 c.requires.0
@@ -19,9 +19,9 @@ loop-j-preserved c = (
   (omega (arith, c.loop-j.invariant.0), omega (arith, c.loop-j-test.true)),
   c.mark.auto.s ∙ c.loop-j.invariant.1,
   marking_goes c.loop-j.invariant.2
-      c.loop-j-test.true (hash_below c.parent_of-h.result
-      (hash-four c.parent_of-h.result c.parent_of-h.type_inv))
-      c.parent_of-h.ensures c.from.ensures c.mark.ensures,
+      c.loop-j-test.true (hash_below c.hash-h.result
+      (hash-four c.hash-h.result c.hash-h.type_inv))
+      c.hash-h.ensures c.from.ensures c.mark.ensures,
 )
 
 pub shape_of-s : goal.shape_of-s

@@ -18,8 +18,8 @@ returns-in_default c = record {
   most = λ l. l;
   goes = λ st xs o n own.
       let late : c.args.clock < word = omega arith in
-      expired-without o (key_num c.args.k) c.args.n c.args.clock late (hash_below c.args.k.hash (key-four c.args.k c.well_formed.1.1.1.1.0)) own
-      (c.find.ensures.none c.in_default.is st.places xs n o.slots o.ascend) c.failed.auto.s c.failed.ensures (search rules) refl c.requires.2;
+      expired-without o (key_num c.args.k) c.args.n.number c.args.clock late (hash_below c.args.k.hash (key-four c.args.k c.well_formed.1.1.1.1.0)) own
+      (c.find.ensures.none c.in_default.is st.places xs n o.slots o.ascend) c.failed.auto.s c.failed.ensures (search rules) refl c.requires.1;
 }
 
 pub expire_place-r-requires : goal.expire_place-r-requires
@@ -29,9 +29,9 @@ expire_place-r-requires c = let x = c.requires.0 in (
     places = x.places;
     apart = x.apart;
     held = found_held x c.find.ensures c.in-Some.is;
-    some_peer = c.requires.1;
+    some_peer = c.args.n.positive;
   },
-  c.requires.2,
+  c.requires.1,
 )
 
 pub set_note-requires : goal.set_note-requires

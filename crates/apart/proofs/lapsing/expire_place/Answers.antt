@@ -26,17 +26,17 @@ announce_all-requires c = let x = c.requires.0 in let
     late : c.args.clock < word = omega arith in (
       lapsed_kept x.apart x.held late (hash_below c.args.k.hash (key-four c.args.k c.well_formed.1.1.1.1.0))
           (c.lapse.ensures x.state x.places x.apart x.held),
-      x.some_peer,
-      few_parents x.apart x.held,
-      search rules,
       lapsed-spent x.apart late (hash_below c.args.k.hash (key-four c.args.k
           c.well_formed.1.1.1.1.0))
           (c.lapse.ensures x.state x.places x.apart x.held)
           c.requires.1,
     )
 
+pub invariant_of-parents : goal.invariant_of-parents
+invariant_of-parents c = record { whole = search rules; few = few_parents c.requires.0.apart c.requires.0.held }
+
 pub returns : goal.returns
-returns c = λ st xs o h own. let late : c.args.clock < word = omega arith in place-expired o h c.args.n c.args.clock late
+returns c = λ st xs o h own. let late : c.args.clock < word = omega arith in place-expired o h c.args.n.number c.args.clock late
     (hash_below c.args.k.hash (key-four c.args.k c.well_formed.1.1.1.1.0)) own (c.lapse.ensures st xs o h) _ (c.load.ensures st.places xs nowhere (omega (
       arith,
       h.inside,

@@ -2,15 +2,15 @@
 use Rattle.gathering.proofs.Arriving.{nobody_in, room_for, with_shown, arrived}
 use Rattle.gathering.proofs.coming.come_in.Goals as goal
 
-pub returns-then-m-eq0 : goal.returns-then-m-eq0
-returns-then-m-eq0 c = nobody_in c.if-m-eq0.true
+pub returns-then-new-eq0 : goal.returns-then-new-eq0
+returns-then-new-eq0 c = nobody_in c.if-new-eq0.true
 
 pub add_rows-requires : goal.add_rows-requires
-add_rows-requires c = let r = room_for c.requires.0 in (r.0, r.1, c.requires.1)
+add_rows-requires c = let r = room_for c.requires in (r.0, r.1)
 
 pub count_more-requires : goal.count_more-requires
-count_more-requires c = with_shown c.requires.0 c.add_rows.ensures
-    c.if-m-eq0.false
+count_more-requires c = with_shown c.requires c.add_rows.ensures
+    c.if-new-eq0.false
 
 pub returns : goal.returns
 returns c = arrived c.add_rows.ensures c.count_more.ensures

@@ -19,7 +19,7 @@ pub returns : goal.returns
 returns c = suited_in (not-false c.args.c.preferred c.if-not-c.false)
     c.listed_at.ensures
     c.if-listed_at.false (omega
-    (arith, c.if-d-ge-SPACE.false))
+    (arith, c.if-new-ge-SPACE.false))
     c.barred.ensures c.if-barred.false
     c.crowded.ensures c.if-crowded.false
     (ne_eqb c.args.y.conn

@@ -9,11 +9,11 @@ pub returns-in_default : goal.returns-in_default
 returns-in_default c = exchanged_not c.suits.ensures c.in_default.not-Waits
 
 pub waiting_row-requires : goal.waiting_row-requires
-waiting_row-requires c = after_kept (candidate_of c.args.c) c.requires.0.full (omega (arith, c.if-p-m.false)) c.read-y.result c.read-y.ensures
+waiting_row-requires c = after_kept (candidate_of c.args.c) c.requires.0.full (omega (arith, c.if-p-top.false)) c.read-y.result c.read-y.ensures
     c.key_of.ensures c.cut.ensures
 
 pub returns-in-Waits : goal.returns-in-Waits
 returns-in-Waits c =
     let k = c.args.k in
-    exchanged_in (hash_below k.hash (key-four k c.well_formed.1.1.1.1.1.1.0)) (omega (arith, c.if-p-m.false)) c.read-y.ensures
+    exchanged_in (hash_below k.hash (key-four k c.well_formed.1.1.1.1.1.0)) (omega (arith, c.if-p-top.false)) c.read-y.ensures
     c.in-Waits.ensures c.key_of.ensures c.cut.ensures c.waiting_row.ensures c.put_in.ensures

@@ -8,7 +8,7 @@ pub returns-then-barred : goal.returns-then-barred
 returns-then-barred c = suits-barred c.barred.ensures c.if-barred.true
 
 pub returns : goal.returns
-returns c = suits_in (omega (arith, c.if-d-ge-SPACE.false))
+returns c = suits_in (omega (arith, c.if-new-ge-SPACE.false))
     (not-false c.args.c.preferred
     c.if-not-c.false) c.barred.ensures
     c.if-barred.false c.crowded.ensures

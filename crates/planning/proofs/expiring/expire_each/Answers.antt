@@ -29,9 +29,11 @@ returns c = way-ends c.loop-due.invariant.3 c.loop-due.invariant.4 ((lent_next c
 pub expire_one-known-requires : goal.expire_one-known-requires
 expire_one-known-requires c = let g = (lent_next c.loop-due.s c.args.m c.next_due.ensures).goes c.in-Some.due c.in-Some.is in (
   way-parted c.requires c.loop-due.invariant.4,
-  g.positive,
   way-spent c.requires c.loop-due.invariant.4,
 )
+
+pub invariant_of-owner : goal.invariant_of-owner
+invariant_of-owner c = record { positive = ((lent_next c.loop-due.s c.args.m c.next_due.ensures).goes c.in-Some.due c.in-Some.is).positive }
 
 pub loop-due-smaller : goal.loop-due-smaller
 loop-due-smaller c = let g = (lent_next c.loop-due.s c.args.m c.next_due.ensures).goes c.in-Some.due c.in-Some.is in

@@ -9,7 +9,7 @@ returns-then-m-eq0 c = went-nobody c.args.a (offers_in
     c.args.o.items.now
     c.args.o.priorities.now)
     c.args.first
-    c.requires.1 (c.list_victims-m.ensures.2 (omega
+    c.requires.1 (c.list.ensures.2 (omega
     (arith, c.if-m-eq0.true, c.at_most-most.ensures.0))) c.if-m-eq0.true
     c.requires.2
     c.requires.4
@@ -19,15 +19,13 @@ pub settle-p-requires : goal.settle-p-requires
 settle-p-requires c = (
   c.requires.0,
   c.requires.1,
-  c.list_victims-m.ensures.1,
-  omega (arith, c.list_victims-m.ensures.0, c.at_most-most.ensures.1),
-  omega (arith, c.list_victims-m.auto.top, c.clear.auto.top),
+  c.list.ensures.1,
   c.requires.3,
   omega (arith, c.requires.4),
 )
 
 pub returns-then-p-m : goal.returns-then-p-m
-returns-then-p-m c = went_all c.settle-p.ensures c.list_victims-m.ensures.2 c.if-p-m.true
+returns-then-p-m c = went_all c.settle-p.ensures c.list.ensures.2 c.if-p-m.true
     c.requires.2
     c.count-count.ensures
 

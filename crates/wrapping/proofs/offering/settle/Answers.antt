@@ -8,12 +8,10 @@ swap-p-requires c = (
   c.requires.0,
   c.requires.1,
   c.requires.2,
-  c.requires.3,
-  c.requires.4,
   omega (arith, c.clear.auto.new),
   c.clear.ensures,
-  c.requires.5,
-  c.requires.6,
+  c.requires.3,
+  c.requires.4,
 )
 
 pub go-requires : goal.go-requires
@@ -21,22 +19,13 @@ go-requires c = (
   c.requires.0,
   c.requires.2,
   c.swap-p.ensures.less,
-  omega
-      (arith, c.requires.3),
-  c.requires.4,
 )
 
 pub come_in-requires : goal.come_in-requires
-come_in-requires c = (
-  swaps_gathers c.swap-p.ensures c.go.ensures
-      c.requires.0,
-  omega (
-    arith,
-    c.swap-p.ensures.few,
-    c.swap-p.auto.new,
-    c.clear.auto.new,
-  ),
-)
+come_in-requires c = swaps_gathers c.swap-p.ensures c.go.ensures c.requires.0
+
+pub invariant_of-rows : goal.invariant_of-rows
+invariant_of-rows c = record { room = omega (arith, c.swap-p.ensures.few, c.swap-p.auto.new, c.clear.auto.new) }
 
 pub returns : goal.returns
 returns c = swaps_settled c.swap-p.ensures

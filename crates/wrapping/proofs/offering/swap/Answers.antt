@@ -11,21 +11,19 @@ use Rattle.wrapping.proofs.offering.swap.Goals.{in-Nothing, in-Waits}
 pub loop-i-init : goal.loop-i-init
 loop-i-init c = (
   swaps_start c.args.a (offers_in c.args.o.items.now
-      c.args.o.priorities.now) c.requires.6
-      c.requires.2 c.requires.1 c.requires.8,
+      c.args.o.priorities.now) c.requires.4
+      c.requires.2 c.requires.1 c.requires.6,
   refl,
 )
 
 pub offered_at-c-requires : goal.offered_at-c-requires
-offered_at-c-requires c = (c.requires.7, omega (arith, c.loop-i-test.true, c.count-count.ensures))
+offered_at-c-requires c = (c.requires.5, omega (arith, c.loop-i-test.true, c.count-count.ensures))
 
 pub defer-requires : goal.defer-requires
 defer-requires c = (
   c.requires.0,
-  omega (arith, c.requires.5, c.loop-i.invariant.1),
-  c.requires.4,
+  omega (arith, c.requires.3, c.loop-i.invariant.1),
   c.loop-i.invariant.0.few,
-  omega (arith, c.requires.3),
 )
 
 pub shape_of-new-in-Alone : goal.shape_of-new-in-Alone
