@@ -13,14 +13,14 @@ use Rattle.ident.specs.declared.Kind.{Kind}
 use Rattle.ident.specs.declared.Kind.TheVariants.{Wtxid}
 use Rattle.std.specs.Prelude as std
 use Rattle.std.specs.Prelude.{if◌then◌else◌, Some, None, is_some}
-use Rattle.ident.specs.Number.{place}
+use Rattle.ident.specs.Number.{place, kind_is}
 use Rattle.regions.specs.declared.Row.{Row}
 use Rattle.regions.specs.declared.Key.{Key as RowKey}
 use Rattle.regions.specs.Rows.{quad_number, key_number, key_of}
 use Rattle.machine.specs.State.{Entry}
 use Rattle.machine.specs.Announce.{after}
 use Rattle.machine.proofs.Tests.{by_test, never, or_left}
-use Rattle.store.specs.Gather.{kind_is, key_at, candidate_at}
+use Rattle.store.specs.Gather.{key_at, candidate_at}
 use Rattle.store.proofs.Keys.{row_number}
 use Rattle.announcing.specs.Evicts.{entry_at, found, is_lower, key_after, protected, greater, or_row, greatest_over, part}
 
@@ -119,10 +119,6 @@ module _ (rs : List Row) where
   over_step v d i to l h e f q = ap (λ (o : Option Entry). greatest_over o (part (i + 1) to rs)) (e ∙ ap (or_row v) f) ∙ sym (over_more v i to d l h) ∙ q
 
 -- ---- the key of a row
-
-pub kind_not_zero : (b : ℕ) → (b ≡ 0 → ⊥) → Wtxid ≡ kind_is b
-kind_not_zero zero n = absurd (n refl)
-kind_not_zero (suc b) n = refl
 
 pub key-read : (r : Row) {k : Kind} {h : ℕ} → h ≡ quad_number r.hash → k ≡ kind_is (r.bits % 2) → record { kind = k; hash = h } ≡ key_at r
 unfolding key_at

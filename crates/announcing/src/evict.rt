@@ -6,7 +6,8 @@ ghost use Rattle.regions.specs.Rows.{key_of};
 ghost use Rattle.machine.specs.Announce as machine;
 ghost use Rattle.machine.specs.Wrapper as wrapper;
 ghost use Rattle.store.specs.Flat.{Flat};
-ghost use Rattle.store.specs.Gather.{kind_is, key_at};
+ghost use Rattle.ident.specs.Number.{kind_is};
+ghost use Rattle.store.specs.Gather.{key_at};
 ghost use Rattle.store.specs.Image.{Shows};
 ghost use Rattle.store.specs.Shown.{rows_in, Shown, Kept};
 ghost use Rattle.requests.specs.Changes.{Tells};
@@ -138,22 +139,12 @@ pub fn evictable(s: &[u8]) -> u64
 
 // ---- the victim's key
 
-fn kind_of(b: u64) -> ident::Kind
-    ensures { result ≡ kind_is b }
-{
-    if b == 0 {
-        ident::Kind::Txid
-    } else {
-        ident::Kind::Wtxid
-    }
-}
-
 // The key of a row's request.
 pub fn key_of(r: regions::Row) -> ident::Key
     ensures { key_num result ≡ key_at r }
 {
     ident::Key {
-        kind: kind_of(r.bits % 2),
+        kind: ident::Kind::from(r.bits % 2),
         hash: requests::quad_hash(r.hash),
     }
 }

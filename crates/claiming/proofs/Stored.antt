@@ -4,7 +4,7 @@ use mathlib.Core.Path.{◌≡◌, refl, sym, ap, ◌∙◌}
 use mathlib.Core.List.{List, [], ◌∷◌, ◌++◌, append_assoc, append-nil}
 use native.Mathlib.Omega.{arith}
 use lib.ListN.{length, length-append}
-use Rattle.ident.specs.Number.{Key, Item, type_of}
+use Rattle.ident.specs.Number.{Key, Item, type_of, kind_number}
 use Rattle.words.specs.Words.{digits, bytes_of, splice, Put}
 use Rattle.words.proofs.Digits.{length_digits}
 use Rattle.words.proofs.Words.{length-bytes}
@@ -12,7 +12,7 @@ use Rattle.words.proofs.Splice.{splice_more}
 use Rattle.machine.specs.State.{Entry}
 use Rattle.machine.specs.Table.{one}
 use Rattle.machine.specs.Call.{key_bytes, entry_bytes}
-use Rattle.machine.specs.Step.{kind_number, key_answer, entry_answer, entries_answer, written}
+use Rattle.machine.specs.Step.{key_answer, entry_answer, entries_answer, written}
 use Rattle.machine.proofs.AnswerLengths.{length-key_answer, length-entry_answer, length-entries_answer}
 use Rattle.claiming.specs.Claiming.{item_answer}
 use Rattle.lent_lists.proofs.Answer.{over_front}

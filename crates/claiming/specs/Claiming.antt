@@ -3,7 +3,7 @@ use Rattle.std.specs.Prelude.{ℕ, zero, suc, ◌+◌, ◌*◌, ◌/◌, ◌%◌
 use Rattle.ident.specs.declared.Hash.{Hash}
 use Rattle.ident.specs.declared.Kind.TheVariants.{Txid}
 use Rattle.ident.specs.declared.ItemKind.TheVariants.{Transaction}
-use Rattle.ident.specs.Number.{top, Key, Item, type_of, item_kind_of}
+use Rattle.ident.specs.Number.{top, Key, Item, type_of, item_kind_of, kind_is}
 use Rattle.ident.specs.Words.{key_num, item_num}
 use Rattle.words.specs.Words.{number, words, bytes_of, splice}
 use Rattle.machine.specs.Limits.{request_lifetime}
@@ -14,7 +14,6 @@ use Rattle.machine.specs.Claim.{takes, claim}
 use Rattle.machine.specs.Sound.{Sound}
 use Rattle.machine.specs.Call.{entry_bytes}
 use Rattle.machine.specs.Step.{hash_bytes, entry_answer, entries_answer, written}
-use Rattle.store.specs.Gather.{kind_is}
 use Rattle.store.specs.Image.{Writes}
 use Rattle.announcing.specs.Answers.{Answered}
 use Rattle.claiming.specs.declared.Entry.{Entry}

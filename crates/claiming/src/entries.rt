@@ -1,11 +1,10 @@
 // Entries in an answer buffer, 112 bytes each (docs/DECISIONS.md, 4), and the claim of one entry that writes it there.
 ghost use Rattle.std.specs.Prelude.{◌≡◌, [], ◌∷◌, ◌+◌, ◌*◌, ◌/◌, ◌%◌, ◌≤◌, length};
-ghost use Rattle.ident.specs.Number.{item_kind_of};
+ghost use Rattle.ident.specs.Number.{item_kind_of, kind_is, kind_number};
 ghost use Rattle.ident.specs.Words.{key_num, item_num};
 ghost use Rattle.words.specs.Words.{bytes_of, splice};
 ghost use Rattle.machine.specs.Call.{key_bytes, entry_bytes};
-ghost use Rattle.machine.specs.Step.{kind_number, key_answer, entry_answer};
-ghost use Rattle.store.specs.Gather.{kind_is};
+ghost use Rattle.machine.specs.Step.{key_answer, entry_answer};
 ghost use Rattle.store.specs.Shown.{Kept};
 ghost use Rattle.claiming.specs.Claiming.{entry_of, item_answer, OneMore, key_from, item_from, entry_from, entries_in, Claims};
 
@@ -14,21 +13,12 @@ use machine::clock::Clock;
 // Words of an entry.
 pub const ENTRY: usize = 14;
 
-fn kind_number(k: ident::Kind) -> u64
-    ensures { result ≡ kind_number k }
-{
-    match k {
-        ident::Kind::Txid => 0,
-        ident::Kind::Wtxid => 1,
-    }
-}
-
 // Stores the key k from the word w on: its kind, and its hash.
 fn put_key(u: &mut [u8], w: usize, k: ident::Key)
     requires { 8 * w + key_bytes ≤ length u.old }
     ensures { u.new ≡ splice u.old (8 * w) (key_answer (key_num k)) }
 {
-    words::put(u, w, kind_number(k.kind));
+    words::put(u, w, u64::from(k.kind));
     ident::put_hash(u, w * 8 + 8, k.hash);
 }
 
@@ -77,16 +67,6 @@ pub fn claim_next(s: &mut [u8], clock: Clock, e: crate::Entry, out: &mut [u8], n
 
 // ---- entries in
 
-fn kind_of(w: u64) -> ident::Kind
-    ensures { result ≡ kind_is w }
-{
-    if w == 0 {
-        ident::Kind::Txid
-    } else {
-        ident::Kind::Wtxid
-    }
-}
-
 fn item_kind(w: u64) -> ident::ItemKind
     ensures { result ≡ item_kind_of (w % 4294967296) }
 {
@@ -99,7 +79,7 @@ pub fn key_at(b: &[u8], w: usize) -> ident::Key
     ensures { key_num result ≡ key_from b.now w }
 {
     ident::Key {
-        kind: kind_of(words::get(b, w)),
+        kind: ident::Kind::from(words::get(b, w)),
         hash: ident::hash_at(b, w * 8 + 8),
     }
 }

@@ -2,7 +2,7 @@
 use Rattle.std.specs.Prelude.{ℕ, Bool, List, eqb, if◌then◌else◌}
 use Rattle.ident.specs.declared.Kind.{Kind}
 use Rattle.ident.specs.declared.Kind.TheVariants.{Txid, Wtxid}
-use Rattle.ident.specs.Number.{Key, item_kind_of}
+use Rattle.ident.specs.Number.{Key, kind_is, item_kind_of}
 use Rattle.words.specs.Words.{number}
 use Rattle.machine.specs.State.{Candidate}
 
@@ -16,8 +16,5 @@ candidate_in connection type hash ready preferred priority =
     record { connection = connection; item = record { kind = item_kind_of type; hash = hash_given hash }; ready = ready; preferred = preferred; priority = priority }
 
 -- a key: its kind by a number that is 0 for Txid and else Wtxid, as in answer buffers
-abbrev pub kind_given : ℕ → Kind
-kind_given n = if eqb n 0 then Txid else Wtxid
-
 abbrev pub key_given : ℕ → List ℕ → Key
-key_given kind hash = record { kind = kind_given kind; hash = hash_given hash }
+key_given kind hash = record { kind = kind_is kind; hash = hash_given hash }

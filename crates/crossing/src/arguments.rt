@@ -2,7 +2,8 @@
 ghost use Rattle.std.specs.Prelude.{◌≡◌};
 ghost use Rattle.ident.specs.Words.{key_num};
 ghost use Rattle.requests.specs.Changes.{candidate_of};
-ghost use Rattle.crossing.specs.Arguments.{candidate_in, kind_given, key_given};
+ghost use Rattle.ident.specs.Number.{kind_is};
+ghost use Rattle.crossing.specs.Arguments.{candidate_in, key_given};
 
 // One announcement from its parts, the item by its type number.
 pub fn candidate(
@@ -27,21 +28,11 @@ pub fn candidate(
     }
 }
 
-// The kind of a key by its number, as answer buffers have it.
-fn kind_given(number: u64) -> ident::Kind
-    ensures { result ≡ kind_given number }
-{
-    if number == 0 {
-        ident::Kind::Txid
-    } else {
-        ident::Kind::Wtxid
-    }
-}
-
+// A key, its kind by its number as answer buffers have it.
 pub fn key_given(kind: u64, hash: &[u8; 32]) -> ident::Key
     ensures { key_num result ≡ key_given kind hash.now }
 {
-    let kind = kind_given(kind);
+    let kind = ident::Kind::from(kind);
     let hash = ident::Hash::from(hash);
     ident::Key { kind, hash }
 }

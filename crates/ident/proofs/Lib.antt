@@ -3,4 +3,5 @@ pub mod Words
 pub mod WordByWord
 pub mod Places
 pub mod TypeNumbers
+pub mod KindNumbers
 pub mod RoundTrip

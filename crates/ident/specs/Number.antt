@@ -1,5 +1,5 @@
 -- Hashes, keys and items with the hash as a number (document 01, "What a state holds").
-use Rattle.std.specs.Prelude.{ℕ, ◌+◌, ◌^◌, Bool, true, false, ◌||◌, eqb, if◌then◌else◌}
+use Rattle.std.specs.Prelude.{ℕ, zero, suc, ◌+◌, ◌^◌, Bool, true, false, ◌||◌, eqb, if◌then◌else◌}
 use Rattle.std.proofs.Math.Option.{Option, none, some}
 use Rattle.ident.specs.declared.Kind.{Kind}
 use Rattle.ident.specs.declared.Kind.TheVariants.{Txid, Wtxid}
@@ -20,6 +20,16 @@ txid h = record { kind = Txid; hash = h }
 
 abbrev pub wtxid : ℕ → Key
 wtxid h = record { kind = Wtxid; hash = h }
+
+-- a kind as a number, where rows and answers have one
+abbrev pub kind_number : Kind → ℕ
+kind_number Txid = 0
+kind_number Wtxid = 1
+
+-- and back: any other number than 0 is read as Wtxid's
+abbrev pub kind_is : ℕ → Kind
+kind_is zero = Txid
+kind_is (suc n) = Wtxid
 
 -- "A Txid and a Wtxid of equal bytes are two identities of one hash": the other one.
 abbrev pub swap : Kind → Kind

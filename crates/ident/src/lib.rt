@@ -10,7 +10,7 @@ ghost use Rattle.std.specs.Cmp.{partial_order_from_own_ties};
 ghost use Rattle.std.specs.Cmp.Rules.{comparing};
 ghost use Rattle.std.specs.Ordering.{on, as_partial_cmp};
 ghost use Rattle.std.proofs.Common.{rules};
-ghost use Rattle.ident.specs.Number.{txid, wtxid, swap, other, type_of, item_kind_of, is_plain, kind_of, key_of};
+ghost use Rattle.ident.specs.Number.{txid, wtxid, kind_number, kind_is, swap, other, type_of, item_kind_of, is_plain, kind_of, key_of};
 ghost use Rattle.words.specs.Words.{number, digits, splice};
 ghost use Rattle.ident.specs.Words.{hash_bytes, hash_num, key_num, item_num, maybe_kind, maybe_key_num};
 ghost use Rattle.ident.specs.Compare.{high_first, high_first_ties};
@@ -146,6 +146,25 @@ impl PartialOrd for Hash {
 
     fn partial_cmp(&self, other: &Hash) -> Option<Ordering> {
         Some(self.cmp(other))
+    }
+}
+
+// ---- Kinds and their numbers
+
+impl From<Kind> for u64 {
+    ghost from_gives = { λ k n. n ≡ kind_number k };
+
+    fn from(k: Kind) -> u64 {
+        k as u64
+    }
+}
+
+// Any number but 0 is Wtxid's: each reader of a number, from C too, promises that.
+impl From<u64> for Kind {
+    ghost from_gives = { λ n k. k ≡ kind_is n };
+
+    fn from(n: u64) -> Kind {
+        if n == 0 { Kind::Txid } else { Kind::Wtxid }
     }
 }
 

@@ -5,12 +5,12 @@ use mathlib.Core.List.{List, [], ◌∷◌, ◌++◌, append_assoc, append-nil}
 use native.Mathlib.Nat.{zero-add}
 use native.Mathlib.Omega.{arith}
 use lib.ListN.{length}
-use Rattle.ident.specs.Number.{Key}
+use Rattle.ident.specs.Number.{Key, kind_number}
 use Rattle.words.specs.Words.{digits, bytes_of, splice, Put}
 use Rattle.words.proofs.Digits.{length_digits}
 use Rattle.words.proofs.Splice.{splice_more}
 use Rattle.machine.specs.Call.{key_bytes}
-use Rattle.machine.specs.Step.{kind_number, key_answer, keys_answer, written}
+use Rattle.machine.specs.Step.{key_answer, keys_answer, written}
 use Rattle.machine.proofs.AnswerLengths.{length-key_answer, length-keys_answer}
 
 -- a key is its kind as a word, and then its hash

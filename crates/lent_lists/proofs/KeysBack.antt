@@ -8,7 +8,7 @@ use lib.ListN.{length, take, drop, get_or, length-drop}
 use lib.Seq.{take_at, drop_at, take-add, take-take, drop-drop, length-take-le}
 use Rattle.ident.specs.declared.Kind.{Kind}
 use Rattle.ident.specs.declared.Kind.TheVariants.{Txid, Wtxid}
-use Rattle.ident.specs.Number.{Key, top}
+use Rattle.ident.specs.Number.{Key, top, kind_is}
 use Rattle.words.specs.Words.{number, digits, words, recs, bytes_of}
 use Rattle.words.proofs.Digits.{number_digits}
 use Rattle.words.proofs.Records.{recs_at}
@@ -17,7 +17,7 @@ use Rattle.machine.specs.Call.{key_bytes}
 use Rattle.machine.specs.Step.{key_answer, keys_answer, written}
 use Rattle.machine.specs.Typed.{Each, KeyTyped}
 use Rattle.machine.proofs.AnswerLengths.{length-key_answer}
-use Rattle.lent_lists.specs.Lists.{kind_in, key_in, keys_in}
+use Rattle.lent_lists.specs.Lists.{key_in, keys_in}
 
 pub word_back : (x : ℕ) → x < 256 ^ 8 → number 256 (bytes_of (x ∷ [])) ≡ x
 unfolding bytes_of
@@ -64,7 +64,7 @@ keys_back ks u e = front_back ks (drop (length (keys_answer ks)) u) e
 
 -- ---- one key, as the code reads it
 
-pub key-read : (u : List ℕ) (i : ℕ) (d : Kind) {v h : ℕ} → key_bytes * i + key_bytes ≤ length u → v ≡ get_or (words u) (i * 5) 0 → d ≡ kind_in v → h ≡ number 256 (take 32 (drop (i * 5 * 8 + 8) u))
+pub key-read : (u : List ℕ) (i : ℕ) (d : Kind) {v h : ℕ} → key_bytes * i + key_bytes ≤ length u → v ≡ get_or (words u) (i * 5) 0 → d ≡ kind_is v → h ≡ number 256 (take 32 (drop (i * 5 * 8 + 8) u))
     → record { kind = d; hash = h } ≡ key_in (take key_bytes (drop (key_bytes * i) u))
 unfolding key_in
 key-read u i d {v} {h} l e k q =
@@ -76,7 +76,7 @@ key-read u i d {v} {h} l e k q =
     ap (number 256) (sym (take-take 8 key_bytes x (omega arith))) in
     let back : h ≡ number 256 (drop 8 (take key_bytes x)) = q ∙ ap (λ (j : ℕ). number 256 (take 32 (drop j u))) b ∙
     ap (λ (l : List ℕ). number 256 (take 32 l)) (sym (drop-drop 8 (key_bytes * i) u)) ∙ ap (number 256) (sym (rest x (omega arith))) in
-    λ j. record { kind = (k ∙ ap kind_in front) j; hash = back j }
+    λ j. record { kind = (k ∙ ap kind_is front) j; hash = back j }
   where
     rest : (x : List ℕ) → 8 ≤ length x → drop 8 (take (8 + 32) x) ≡ take 32 (drop 8 x)
     rest x l = rw (take-add 8 32 x) (drop_at (take 8 x) (take 32 (drop 8 x)) 8 (length-take-le 8 x l))

@@ -2,7 +2,7 @@
 use Rattle.std.specs.Prelude.{ℕ, ◌/◌, List, length, take, drop, eqb, if◌then◌else◌}
 use Rattle.ident.specs.declared.Kind.{Kind}
 use Rattle.ident.specs.declared.Kind.TheVariants.{Txid, Wtxid}
-use Rattle.ident.specs.Number.{Key}
+use Rattle.ident.specs.Number.{Key, kind_is}
 use Rattle.ident.specs.Words.{hash_bytes}
 use Rattle.words.specs.Words.{number, recs}
 use Rattle.machine.specs.Call.{key_bytes}
@@ -11,13 +11,9 @@ use Rattle.machine.specs.Call.{key_bytes}
 unfoldable pub hashes_in : List ℕ → List ℕ
 hashes_in b = recs hash_bytes (number 256) (length b / hash_bytes) b
 
--- a word that is 0 for Txid and else Wtxid
-abbrev pub kind_in : ℕ → Kind
-kind_in v = if eqb v 0 then Txid else Wtxid
-
--- the key that 40 bytes of an answer buffer hold: the word of its kind, then the hash
+-- the key that 40 bytes of an answer buffer hold: the word of its kind, 0 for Txid and else Wtxid, then the hash
 unfoldable pub key_in : List ℕ → Key
-key_in b = record { kind = kind_in (number 256 (take 8 b)); hash = number 256 (drop 8 b) }
+key_in b = record { kind = kind_is (number 256 (take 8 b)); hash = number 256 (drop 8 b) }
 
 -- the first n keys of an answer buffer
 unfoldable pub keys_in : ℕ → List ℕ → List Key

@@ -4,12 +4,12 @@
 
 ghost use Rattle.std.specs.Prelude.{◌≡◌, ◌+◌, ◌*◌, ◌<◌, ◌≤◌, eqb, length, get_or, take, drop};
 ghost use Rattle.words.specs.Words.{splice};
-ghost use Rattle.ident.specs.Number.{Item};
+ghost use Rattle.ident.specs.Number.{Item, kind_number, kind_is};
 ghost use Rattle.ident.specs.Words.{hash_num, key_num, item_num};
 ghost use Rattle.machine.specs.Call.{key_bytes};
 ghost use Rattle.machine.specs.Claim.{elem};
-ghost use Rattle.machine.specs.Step.{kind_number, key_answer};
-ghost use Rattle.lent_lists.specs.Lists.{hashes_in, kind_in, key_in};
+ghost use Rattle.machine.specs.Step.{key_answer};
+ghost use Rattle.lent_lists.specs.Lists.{hashes_in, key_in};
 ghost use Rattle.lent_lists.specs.Items.{item_kind_in, items_in, offers_in};
 
 // ---- hashes in
@@ -99,15 +99,6 @@ pub fn offers(b: &[u8], priorities: &[u8]) -> usize
 
 // ---- keys out
 
-fn kind_number(k: ident::Kind) -> u64
-    ensures { result ≡ kind_number k }
-{
-    match k {
-        ident::Kind::Txid => 0,
-        ident::Kind::Wtxid => 1,
-    }
-}
-
 // Stores the key k as the n-th of u.
 pub fn put_key(u: &mut [u8], n: usize, k: ident::Key)
     requires { key_bytes * n + key_bytes ≤ length u.old }
@@ -116,21 +107,11 @@ pub fn put_key(u: &mut [u8], n: usize, k: ident::Key)
     let kind = k.kind;
     let hash = k.hash;
     let w = n * 5;
-    words::put(u, w, kind_number(kind));
+    words::put(u, w, u64::from(kind));
     ident::put_hash(u, w * 8 + 8, hash);
 }
 
 // ---- keys back
-
-fn kind_from(v: u64) -> ident::Kind
-    ensures { result ≡ kind_in v }
-{
-    if v == 0 {
-        ident::Kind::Txid
-    } else {
-        ident::Kind::Wtxid
-    }
-}
 
 // The i-th key of u, as an answer has it.
 pub fn key_at(u: &[u8], i: usize) -> ident::Key
@@ -139,7 +120,7 @@ pub fn key_at(u: &[u8], i: usize) -> ident::Key
 {
     let w = i * 5;
     let v = words::get(u, w);
-    let kind = kind_from(v);
+    let kind = ident::Kind::from(v);
     let hash = ident::hash_at(u, w * 8 + 8);
     ident::Key { kind, hash }
 }

@@ -1,13 +1,12 @@
 -- What plan's choice and claim are held to, in document 01's words and apart from the definitions that compute them.
 use Rattle.std.specs.Prelude.{ℕ, ◌+◌, ◌≤◌, ◌<◌, ◌≡◌, ◌⊎◌, true, not, List, [], length, get_or}
 use Rattle.std.proofs.Math.Option.{Option, none, some}
-use Rattle.ident.specs.Number.{top, Key, place}
+use Rattle.ident.specs.Number.{top, Key, place, kind_number}
 use Rattle.machine.specs.Limits.{max_in_flight, request_lifetime, latest_clock}
 use Rattle.machine.specs.State.{Candidate, Owner, Request, Table, State, Entry}
 use Rattle.machine.specs.Table.{at, keys, one, owned_by, owned_at}
 use Rattle.machine.specs.Plan.{chosen_by, choice}
 use Rattle.machine.specs.Claim.{Taken, takes, claim}
-use Rattle.machine.specs.Step.{kind_number}
 use Rattle.machine.specs.Sound.{Sound}
 use Rattle.machine.specs.Typed.{EntryTyped, Each}
 

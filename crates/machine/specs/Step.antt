@@ -4,6 +4,7 @@ use Rattle.std.proofs.Math.Option.{Option, none, some}
 use Rattle.ident.specs.declared.Kind.{Kind}
 use Rattle.ident.specs.declared.Kind.TheVariants.{Txid, Wtxid}
 use Rattle.ident.specs.Number.{Key, type_of}
+pub use Rattle.ident.specs.Number.{kind_number}
 use Rattle.words.specs.Words.{digits, bytes_of}
 use Rattle.machine.specs.State.{Candidate, State, limits_of, Entry, Answer, on_table, with_next_poll, with_known_cursor}
 use Rattle.machine.specs.Table.{keys, one}
@@ -116,10 +117,6 @@ carry_out (On a) s = perform a s
 -- a hash is 32 bytes, "byte 31 the most significant"
 abbrev pub hash_bytes : ℕ → List ℕ
 hash_bytes h = digits 256 32 h
-
-abbrev pub kind_number : Kind → ℕ
-kind_number Txid = 0
-kind_number Wtxid = 1
 
 abbrev pub key_answer : Key → List ℕ
 key_answer k = bytes_of (kind_number k.kind ∷ []) ++ hash_bytes k.hash

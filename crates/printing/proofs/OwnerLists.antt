@@ -1,5 +1,5 @@
 -- Owners of an answer buffer as text.
-use Prim.Native.Nat.{ℕ, zero, suc, ◌+◌, ◌*◌, ◌≤◌, ◌<◌}
+use Prim.Native.Nat.{ℕ, zero, suc, ◌+◌, ◌-◌, ◌*◌, ◌≤◌, ◌<◌}
 use mathlib.Core.Path.{◌≡◌, refl, sym, ap, subst, ◌∙◌}
 use mathlib.Core.List.{List, [], ◌∷◌, ◌++◌, append_assoc, append-nil}
 use mathlib.Core.Option.{Option, none, some}
@@ -7,7 +7,7 @@ use native.Mathlib.Numerals.{add-one}
 use native.Mathlib.Omega.{arith}
 use lib.ListN.{length, take, drop, get_or, length-append}
 use lib.Seq.{take_all, drop-drop}
-use borrow.Author.Tests.{ne_eqb}
+use Rattle.ident.specs.Number.{kind_is}
 use Rattle.ident.specs.declared.Kind.{Kind}
 use Rattle.words.specs.Words.{number, words}
 use Rattle.words.proofs.Words.{word_at}
@@ -21,7 +21,7 @@ use Rattle.lines.specs.Text.{Wrote}
 use Rattle.machine.proofs.Numerals.{length-numeral}
 use Rattle.lines.proofs.Writing.{wrote_more, wrote_none}
 use Rattle.printing.specs.Replies.{none_text, owner_text, owner_texts, reply_text}
-use Rattle.printing.specs.Given.{answer_room, most_owners, owner_room, tagged_kind, behind, OwnersFit, Printed, ReplyPrinted}
+use Rattle.printing.specs.Given.{answer_room, most_owners, owner_room, behind, OwnersFit, Printed, ReplyPrinted}
 use Rattle.printing.proofs.KeyLists.{key-length}
 use Rattle.printing.proofs.Printing.{decimal_end}
 use Rattle.printing.proofs.Behind.{joined-behind, behind_both}
@@ -49,12 +49,12 @@ no-tag h c d e = rw e
 
 -- what a tag that is not 0 tells
 abbrev pub told : ℕ → ℕ → ℕ → ℕ → Holding
-told h t c d = record { key = record { kind = tagged_kind t; hash = h }; connection = c; deadline = d }
+told h t c d = record { key = record { kind = kind_is (t - 1); hash = h }; connection = c; deadline = d }
 
 a-tag : (t h c d : ℕ) → (t ≡ 0 → ⊥) → holding_from h t c d ≡ some (told h t c d)
 a-tag zero h c d n = absurd (n refl)
 a-tag (suc zero) h c d n = refl
-a-tag (suc (suc t)) h c d n = rw (ne_eqb (suc (suc t)) 1 (λ e. omega (arith, e)))
+a-tag (suc (suc t)) h c d n = let e : suc (suc t) - 1 ≡ suc t = omega arith in rw e
 
 -- its texts, each behind a comma
 texts-are : (a : Holding) → behind (owner_text (some a)) ≡ (((44 ∷ []) ++ key_text a.key) ++ (44 ∷ decimal a.connection)) ++ (44 ∷ decimal a.deadline)
@@ -79,7 +79,7 @@ module _ (u : Buffer) (i h : ℕ) (l : owner_bytes * i + owner_bytes ≤ length 
   wrote-nobody e z w = rw (words_are u i h l e refl refl ∙ no-tag h _ _ z, none_is) w
 
   pub wrote-owner : {t c d : ℕ} → t ≡ get_or (words u) (i * 3) 0 → c ≡ get_or (words u) (i * 3 + 1) 0 → d ≡ get_or (words u) (i * 3 + 2) 0 → (t ≡ 0 → ⊥) → at + owner_room ≤ length s
-      → {k : Kind} → k ≡ tagged_kind t → {s₁ s₂ s₃ s₄ : List ℕ} {e₁ e₂ e₃ r : ℕ} → Wrote s s₁ at (44 ∷ []) e₁ → Wrote s₁ s₂ e₁ (key_text (record { kind = k; hash = h })) e₂
+      → {k : Kind} → k ≡ kind_is (t - 1) → {s₁ s₂ s₃ s₄ : List ℕ} {e₁ e₂ e₃ r : ℕ} → Wrote s s₁ at (44 ∷ []) e₁ → Wrote s₁ s₂ e₁ (key_text (record { kind = k; hash = h })) e₂
       → Wrote s₂ s₃ e₂ (44 ∷ decimal c) e₃ → Wrote s₃ s₄ e₃ (44 ∷ decimal d) r
       → Wrote s s₄ at (behind (owner_text (holding_in h (drop (owner_bytes * i) u)))) r
   wrote-owner {t} {c} {d} et ec ed n room {k} ek {s₁} {s₂} {s₃} {s₄} {e₁} {e₂} w₁ v w₃ w₄ =

@@ -1,7 +1,5 @@
 -- What the contracts of the texts say, and of a call that is carried out with its reply as text.
 use Rattle.std.specs.Prelude.{ℕ, ◌+◌, ◌*◌, ◌<◌, ◌≤◌, ◌≡◌, List, [], ◌∷◌, ◌++◌, eqb, length, if◌then◌else◌}
-use Rattle.ident.specs.declared.Kind.{Kind}
-use Rattle.ident.specs.declared.Kind.TheVariants.{Txid, Wtxid}
 use Rattle.machine.specs.State.{Candidate, Entry}
 use Rattle.machine.specs.Call.{Buffer, key_bytes, owner_bytes, Ask, Call, On}
 use Rattle.machine.specs.Step.{Reply, answer_bytes}
@@ -75,10 +73,6 @@ abbrev pub entry_room : ℕ
 entry_room = 1 + key_room + candidate_room
 
 -- ---- owners
-
--- the kind of a tag that is not 0
-abbrev pub tagged_kind : ℕ → Kind
-tagged_kind n = if eqb n 1 then Txid else Wtxid
 
 -- a key and two numbers, each behind a comma
 abbrev pub owner_room : ℕ

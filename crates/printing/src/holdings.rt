@@ -7,23 +7,13 @@ ghost use Rattle.owners.specs.Back.{holding_in, holdings_in};
 ghost use Rattle.machine.specs.Text.{decimal, joined};
 ghost use Rattle.lines.specs.Text.{Wrote};
 ghost use Rattle.printing.specs.Replies.{owner_text, owner_texts};
-ghost use Rattle.printing.specs.Given.{answer_room, most_owners, owner_room, tagged_kind, behind, Printed};
+ghost use Rattle.printing.specs.Given.{answer_room, most_owners, owner_room, behind, Printed};
 
 use crate::entries::put_number;
 use lines::write::put_bytes;
 
 // Words of an owner in an answer buffer.
 const OWNER: usize = 3;
-
-// The kind of a tag that is not 0.
-fn kind_of(tag: u64) -> ident::Kind
-    ensures { result ≡ tagged_kind tag }
-{
-    if tag == 1 {
-        return ident::Kind::Txid;
-    }
-    ident::Kind::Wtxid
-}
 
 // The i-th owner, that of the hash h: `none`, or key, connection and deadline, each behind a comma.
 fn put_owner(out: &mut [u8], at: usize, answer: &[u8], i: usize, h: regions::Quad) -> usize
@@ -37,7 +27,7 @@ fn put_owner(out: &mut [u8], at: usize, answer: &[u8], i: usize, h: regions::Qua
     }
     let connection = words::get(answer, w + 1);
     let deadline = words::get(answer, w + 2);
-    let kind = kind_of(tag);
+    let kind = ident::Kind::from(tag - 1);
     let from = put_bytes(out, at, b",");
     let e = lines::write::put_key(out, from, kind, h);
     let e = put_number(out, e, connection);

@@ -6,7 +6,7 @@ use mathlib.Core.List.{List, []}
 use native.Mathlib.Omega.{arith}
 use lib.ListN.{length, take, drop, get_or, set}
 use lib.Seq.{set_split}
-use Rattle.ident.specs.Number.{Key}
+use Rattle.ident.specs.Number.{Key, kind_number}
 use Rattle.regions.specs.declared.Row.{Row}
 use Rattle.machine.specs.State.{Candidate, Request, State, on_table, with_candidates, adopting, owner_is}
 use Rattle.machine.specs.Table.{at, one}
@@ -14,7 +14,7 @@ use Rattle.machine.specs.Announce.{adopt, adopted}
 use Rattle.machine.specs.Sound.{Sound}
 use Rattle.machine.proofs.Table.{lawful_at}
 use Rattle.machine.proofs.Alone.{adopt-empty as adopt-some}
-use Rattle.store.specs.Flat.{flat_of, kind_bit, deadline_for, own_bit, row_of, rows_of, places_for, tally}
+use Rattle.store.specs.Flat.{flat_of, deadline_for, own_bit, row_of, rows_of, places_for, tally}
 use Rattle.store.specs.Image.{Shows, Writes}
 use Rattle.store.specs.Shown.{with_rows}
 use Rattle.store.proofs.Bits.{bits-kind, bits-witness, bits-own, bits-mark, own_row}
@@ -38,7 +38,7 @@ module _ (q : Request) (c d : Candidate) where
   bits = (row_of q d).bits
 
   adopted-bits : (w : ℕ) → bits % 2 + 2 * w + 4 + 8 * (bits / 8 % 2) + 16 * (bits / 16 % 2) ≡
-      kind_bit q.key.kind + 2 * w + 4 * 1 + 8 * one (owner_is d.connection q.owner) + 16 * one q.fallback
+      kind_number q.key.kind + 2 * w + 4 * 1 + 8 * one (owner_is d.connection q.owner) + 16 * one q.fallback
   unfolding row_of
   adopted-bits w =
       let k = bits-kind q.key.kind d.item.kind d.preferred (owner_is d.connection q.owner) q.fallback in

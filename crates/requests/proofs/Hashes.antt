@@ -6,7 +6,7 @@ use native.Mathlib.Omega.{arith}
 use lib.ListN.{length, get_or}
 use Rattle.ident.specs.declared.Hash.{Hash}
 use Rattle.ident.specs.declared.Key.{Key}
-use Rattle.ident.specs.Number.{base}
+use Rattle.ident.specs.Number.{base, kind_is, kind_number}
 use Rattle.ident.specs.Words.{hash_num}
 use Rattle.ident.specs.declared.Kind.{Kind}
 use Rattle.ident.proofs.Words.{Four, hash_below}
@@ -15,11 +15,9 @@ use Rattle.regions.specs.declared.Quad.{Quad}
 use Rattle.regions.specs.declared.Key.{Key as RowKey}
 use Rattle.regions.specs.Rows.{quad_number, quad_of, quad_words}
 use Rattle.regions.proofs.Order.{number_quad}
-use Rattle.store.specs.Flat.{kind_bit}
-use Rattle.store.specs.Gather.{kind_is}
 use Rattle.store.proofs.Keys.{key-number}
 use Rattle.store.proofs.Quads.{quad-number}
-use Rattle.store.proofs.Bits.{kind_back as kind-is}
+use Rattle.ident.proofs.KindNumbers.{kind_most, kind_back}
 use Rattle.requests.specs.Changes.{Words, KeyWords}
 
 abbrev quad_in : List ℕ → Quad
@@ -42,14 +40,14 @@ quad-of h f =
       small = hash_below h f;
     }
 
-pub key-words_of : (k : Key) (r : RowKey) → Words k.hash r.hash → r.kind ≡ kind_bit k.kind → r.kind ≤ 1 → KeyWords k r
-key-words_of k r w e l = record {
+pub key-words_of : (k : Key) (r : RowKey) → Words k.hash r.hash → r.kind ≡ kind_number k.kind → KeyWords k r
+key-words_of k r w e = let l : r.kind ≤ 1 = rw e (kind_most k.kind) in record {
   hash = w.words_are;
   kind = e;
   bit = l;
   number =
       let q : quad_number r.hash ≡ hash_num k.hash = ap quad_number w.words_are ∙ number_quad (hash_num k.hash) in
-      let t : kind_is r.kind ≡ k.kind = ap kind_is e ∙ kind-is k.kind in
+      let t : kind_is r.kind ≡ k.kind = ap kind_is e ∙ kind_back k.kind in
       key-number r l ∙ ap (λ (x : Kind). base x + quad_number r.hash) t ∙ ap (λ (x : ℕ). base k.kind + x) q;
   small = w.small;
 }

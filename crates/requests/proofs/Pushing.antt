@@ -10,7 +10,7 @@ use lib.Seq.{get_or_at}
 use lib.Dec.{eqb}
 use borrow.Author.Tests.{lt-ltb, le-ltb, eqb-true, eqb-false}
 use mir.Val.{bool_byte}
-use Rattle.ident.specs.Number.{top, Key}
+use Rattle.ident.specs.Number.{top, Key, kind_number}
 use Rattle.regions.specs.declared.Quad.{Quad}
 use Rattle.regions.specs.declared.Row.{Row}
 use Rattle.regions.specs.Rows.{quad_of}
@@ -21,7 +21,7 @@ use Rattle.machine.specs.Announce.{push}
 use Rattle.machine.specs.Sound.{Sound, Filled, All}
 use Rattle.machine.proofs.Table.{all_at, at_key}
 use Rattle.machine.proofs.Tests.{test}
-use Rattle.store.specs.Flat.{flat_of, kind_bit, witness_bit, own_bit, row_of, rows_of, rows_for, bump, tally}
+use Rattle.store.specs.Flat.{flat_of, witness_bit, own_bit, row_of, rows_of, rows_for, bump, tally}
 use Rattle.store.specs.Image.{Shows, Writes}
 use Rattle.store.specs.Shown.{conns_in, limit_in, Shown, with_rows, with_conns}
 use Rattle.store.proofs.Bits.{own_row, mark-row, conn-row, bit_one}
@@ -39,7 +39,7 @@ row_as : {h h' : Quad} {d d' b b' : ℕ} (n r p : ℕ) → h ≡ h' → d ≡ d'
     (record { hash = h'; conn = n; ready = r; prio = p; deadline = d'; bits = b' })
 row_as n r p e f g = cc
 
-pub row_new : (q : Request) (c : Candidate) {h : Quad} {k w p m : ℕ} → h ≡ quad_of q.key.hash → k ≡ kind_bit q.key.kind → w ≡ witness_bit c.item.kind → p ≡ one c.preferred
+pub row_new : (q : Request) (c : Candidate) {h : Quad} {k w p m : ℕ} → h ≡ quad_of q.key.hash → k ≡ kind_number q.key.kind → w ≡ witness_bit c.item.kind → p ≡ one c.preferred
     → owner_is c.connection q.owner ≡ false → m ≡ one q.fallback
     → ◌≡◌ {A = Row} (record { hash = h; conn = c.connection; ready = c.ready; prio = c.priority; deadline = 0; bits = k + 2 * w + 4 * p + 16 * m }) (row_of q c)
 unfolding row_of
@@ -56,8 +56,8 @@ module _ (st : State) (s : Sound st) (k : Key) (small : k.hash < top) where
   pub its-hash : quad_of k.hash ≡ quad_of (at k st.table).key.hash
   its-hash = ap (λ (j : Key). quad_of j.hash) (sym (at_key k 0 st.table small s.bounded.ordered))
 
-  pub its-kind : kind_bit k.kind ≡ kind_bit (at k st.table).key.kind
-  its-kind = ap (λ (j : Key). kind_bit j.kind) (sym (at_key k 0 st.table small s.bounded.ordered))
+  pub its-kind : kind_number k.kind ≡ kind_number (at k st.table).key.kind
+  its-kind = ap (λ (j : Key). kind_number j.kind) (sym (at_key k 0 st.table small s.bounded.ordered))
 
 -- ---- the mark of a request is that of its first row
 

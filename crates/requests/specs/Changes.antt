@@ -5,7 +5,7 @@ use Rattle.std.proofs.Math.Option.{none}
 use Rattle.ident.specs.declared.Hash.{Hash}
 use Rattle.ident.specs.declared.ItemKind.{ItemKind}
 use Rattle.ident.specs.declared.Key.{Key}
-use Rattle.ident.specs.Number.{top, place}
+use Rattle.ident.specs.Number.{top, place, kind_number}
 use Rattle.ident.specs.Words.{hash_num, key_num, item_num}
 use Rattle.regions.specs.declared.Quad.{Quad}
 use Rattle.regions.specs.declared.Key.{Key as RowKey}
@@ -16,7 +16,7 @@ use Rattle.machine.specs.State as machine
 use Rattle.machine.specs.State.{Table, State, Request, on_table, owner_is, adopting}
 use Rattle.machine.specs.Table.{one, held_by, owned_by}
 use Rattle.machine.specs.Sound.{Sound}
-use Rattle.store.specs.Flat.{Flat, flat_of, kind_bit, witness_bit, row_of, rows_of, tally}
+use Rattle.store.specs.Flat.{Flat, flat_of, witness_bit, row_of, rows_of, tally}
 use Rattle.store.specs.FlatSound.{mark_bit}
 use Rattle.store.specs.Image.{Shows, Writes}
 use Rattle.store.specs.Shown.{rows_in, row_numbers, with_rows, with_conns, Met}
@@ -35,7 +35,7 @@ pub record Words (h : Hash) (r : Quad) : Type 0 where
 -- a key as rows have it
 pub record KeyWords (k : Key) (r : RowKey) : Type 0 where
   pub hash : r.hash ≡ quad_of (hash_num k.hash)
-  pub kind : r.kind ≡ kind_bit k.kind
+  pub kind : r.kind ≡ kind_number k.kind
   pub bit : r.kind ≤ 1
   pub number : key_number r ≡ place (key_num k)
   pub small : hash_num k.hash < top
@@ -77,7 +77,7 @@ MarkIn b from to r = (f : Flat) (d : Row) → Shows b f → one r ≡ mark_in fr
 
 -- the row of a candidate that does not own its request
 abbrev pub RowFor : RowKey → Candidate → Bool → Row → Type 0
-RowFor k c m r = (q : Request) → k.hash ≡ quad_of q.key.hash → k.kind ≡ kind_bit q.key.kind → owner_is c.connection q.owner ≡ false → m ≡ q.fallback → r ≡ row_of q (candidate_of c)
+RowFor k c m r = (q : Request) → k.hash ≡ quad_of q.key.hash → k.kind ≡ kind_number q.key.kind → owner_is c.connection q.owner ≡ false → m ≡ q.fallback → r ≡ row_of q (candidate_of c)
 
 -- the item bit of a candidate that adopts another's item, or keeps its own
 abbrev pub witness_as : Bool → ItemKind → ℕ → ℕ

@@ -13,7 +13,8 @@ ghost use Rattle.machine.specs.State.{owner_is, owned_until, unowned, with_candi
 ghost use Rattle.machine.specs.Table.{at, change, has, held_at, is_candidate, one};
 ghost use Rattle.machine.specs.Announce as machine;
 ghost use Rattle.machine.specs.Fail as fail;
-ghost use Rattle.store.specs.Flat.{kind_bit, witness_bit};
+ghost use Rattle.ident.specs.Number.{kind_number};
+ghost use Rattle.store.specs.Flat.{witness_bit};
 ghost use Rattle.store.specs.Shown.{limit_in, rows_in, Kept, Shown};
 ghost use Rattle.requests.specs.Changes.{candidate_of, Words, KeyWords, Spans, FoundAmong, MarkIn, RowFor, witness_as, RowAdopting, OwnedBare, FiguresOf, Makes, Tells};
 
@@ -57,12 +58,6 @@ pub fn quad_hash(q: regions::Quad) -> ident::Hash
     ident::Hash { words }
 }
 
-fn kind_bit(k: ident::Kind) -> u64
-    ensures { (result ≡ kind_bit k) × (result ≤ 1) }
-{
-    u64::from(k == ident::Kind::Wtxid)
-}
-
 fn witness_bit(k: ident::ItemKind) -> u64
     ensures { (result ≡ witness_bit k) × (result ≤ 1) }
 {
@@ -73,7 +68,7 @@ pub fn key_words(k: ident::Key) -> regions::Key
     ensures { KeyWords k result }
 {
     regions::Key {
-        kind: kind_bit(k.kind),
+        kind: u64::from(k.kind),
         hash: hash_quad(k.hash),
     }
 }

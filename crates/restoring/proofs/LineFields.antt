@@ -25,7 +25,8 @@ use Rattle.machine.specs.Table.{one}
 use Rattle.machine.specs.Typed.{Each}
 use Rattle.std.specs.Prelude.{Option as Maybe, Some, None, is_some}
 use Rattle.machine.proofs.Tests.{never}
-use Rattle.store.specs.Flat.{kind_bit, witness_bit, deadline_for, row_of, place_for, places_for}
+use Rattle.ident.specs.Number.{kind_number}
+use Rattle.store.specs.Flat.{witness_bit, deadline_for, row_of, place_for, places_for}
 use Rattle.store.specs.FlatSound.{QuadFits}
 use Rattle.store.specs.Image.{Shows}
 use Rattle.store.specs.Shown.{places_in, held_places_in, with_places, Turns}
@@ -58,17 +59,13 @@ pub one_byte : (b : Bool) → bool_byte b ≡ one b
 one_byte true = refl
 one_byte false = refl
 
-pub kind_byte : (k : Kind) → bool_byte (kind_eq.it k Wtxid) ≡ kind_bit k
-kind_byte Txid = refl
-kind_byte Wtxid = refl
-
 pub witness_byte : (k : ItemKind) → bool_byte (item_kind_eq.it k WitnessTransaction) ≡ witness_bit k
 witness_byte Transaction = refl
 witness_byte WitnessTransaction = refl
 witness_byte WTx = refl
 witness_byte (Other n) = refl
 
-pub row_made : (r : line-request.Request) (c : line-candidate.Candidate) → QuadFits r.hash → {k w p o m d : ℕ} → k ≡ kind_bit r.kind → w ≡ witness_bit c.kind → p ≡ one c.preferred
+pub row_made : (r : line-request.Request) (c : line-candidate.Candidate) → QuadFits r.hash → {k w p o m d : ℕ} → k ≡ kind_number r.kind → w ≡ witness_bit c.kind → p ≡ one c.preferred
     → o ≡ one (owner_is c.connection (owner_of r.owner)) → m ≡ one r.mark → d ≡ deadline_for c.connection (owner_of r.owner)
     → ◌≡◌ {A = Row} (record { hash = r.hash; conn = c.connection; ready = c.ready; prio = c.priority; deadline = d; bits = k + 2 * w + 4 * p + 8 * o + 16 * m })
     (row_of (request_in [] [] r) (candidate_in c))

@@ -30,7 +30,7 @@ fn row_of(r: Request, c: Candidate) -> regions::Row
     let n = c.connection;
     let o = r.owner;
     let hash = r.hash;
-    let kind = u64::from(r.kind == ident::Kind::Wtxid);
+    let kind = u64::from(r.kind);
     let witness = u64::from(c.kind == ident::ItemKind::WitnessTransaction);
     let preferred = u64::from(c.preferred);
     let owns = u64::from(is_owner(o, n));

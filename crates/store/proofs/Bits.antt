@@ -12,21 +12,18 @@ use Rattle.ident.specs.declared.Kind.TheVariants.{Txid, Wtxid}
 use Rattle.ident.specs.declared.ItemKind.{ItemKind}
 use Rattle.ident.specs.declared.ItemKind.TheVariants.{Transaction, WitnessTransaction, WTx, Other}
 use Rattle.std.specs.Prelude.{if◌then◌else◌}
-use Rattle.ident.specs.Number.{Key, Item, key_of}
+use Rattle.ident.proofs.KindNumbers.{kind_most, kind_back}
+use Rattle.ident.specs.Number.{Key, Item, key_of, kind_is, kind_number}
 use Rattle.machine.specs.State.{Candidate, Owner, Request, owner_is}
 use Rattle.machine.specs.Table.{one}
 use Rattle.machine.proofs.Tests.{test}
 use Rattle.machine.proofs.Owning.{one_most}
-use Rattle.store.specs.Flat.{kind_bit, witness_bit, bits_of, row_of, own_bit}
-use Rattle.store.specs.Gather.{kind_is, key_at, item_kind_as, candidate_at, owner_at}
+use Rattle.store.specs.Flat.{witness_bit, bits_of, row_of, own_bit}
+use Rattle.store.specs.Gather.{key_at, item_kind_as, candidate_at, owner_at}
 use Rattle.store.specs.FlatSound.{owns, mark_bit}
 use Rattle.regions.proofs.Order.{number_quad}
 
 -- ---- each bit is 0 or 1
-
-kind-most : (k : Kind) → kind_bit k ≤ 1
-kind-most Txid = omega arith
-kind-most Wtxid = omega arith
 
 witness-most : (i : ItemKind) → witness_bit i ≤ 1
 witness-most Transaction = omega arith
@@ -59,29 +56,25 @@ module _ (a b c d e : ℕ) (p : a ≤ 1) (q : b ≤ 1) (r : c ≤ 1) (s : d ≤ 
   all_bits = omega arith
 
 module _ (k : Kind) (i : ItemKind) (x y z : Bool) where
-  pub bits-kind : bits_of k (witness_bit i) x y z % 2 ≡ kind_bit k
-  bits-kind = bit0 (kind_bit k) (witness_bit i) (one x) (one y) (one z) (kind-most k) (witness-most i) (one_most x) (one_most y) (one_most z)
+  pub bits-kind : bits_of k (witness_bit i) x y z % 2 ≡ kind_number k
+  bits-kind = bit0 (kind_number k) (witness_bit i) (one x) (one y) (one z) (kind_most k) (witness-most i) (one_most x) (one_most y) (one_most z)
 
   pub bits-witness : bits_of k (witness_bit i) x y z / 2 % 2 ≡ witness_bit i
-  bits-witness = bit1 (kind_bit k) (witness_bit i) (one x) (one y) (one z) (kind-most k) (witness-most i) (one_most x) (one_most y) (one_most z)
+  bits-witness = bit1 (kind_number k) (witness_bit i) (one x) (one y) (one z) (kind_most k) (witness-most i) (one_most x) (one_most y) (one_most z)
 
   pub bits-preferred : bits_of k (witness_bit i) x y z / 4 % 2 ≡ one x
-  bits-preferred = bit2 (kind_bit k) (witness_bit i) (one x) (one y) (one z) (kind-most k) (witness-most i) (one_most x) (one_most y) (one_most z)
+  bits-preferred = bit2 (kind_number k) (witness_bit i) (one x) (one y) (one z) (kind_most k) (witness-most i) (one_most x) (one_most y) (one_most z)
 
   pub bits-own : bits_of k (witness_bit i) x y z / 8 % 2 ≡ one y
-  bits-own = bit3 (kind_bit k) (witness_bit i) (one x) (one y) (one z) (kind-most k) (witness-most i) (one_most x) (one_most y) (one_most z)
+  bits-own = bit3 (kind_number k) (witness_bit i) (one x) (one y) (one z) (kind_most k) (witness-most i) (one_most x) (one_most y) (one_most z)
 
   pub bits-mark : bits_of k (witness_bit i) x y z / 16 % 2 ≡ one z
-  bits-mark = bit4 (kind_bit k) (witness_bit i) (one x) (one y) (one z) (kind-most k) (witness-most i) (one_most x) (one_most y) (one_most z)
+  bits-mark = bit4 (kind_number k) (witness_bit i) (one x) (one y) (one z) (kind_most k) (witness-most i) (one_most x) (one_most y) (one_most z)
 
   pub bits_few : bits_of k (witness_bit i) x y z < 32
-  bits_few = all_bits (kind_bit k) (witness_bit i) (one x) (one y) (one z) (kind-most k) (witness-most i) (one_most x) (one_most y) (one_most z)
+  bits_few = all_bits (kind_number k) (witness_bit i) (one x) (one y) (one z) (kind_most k) (witness-most i) (one_most x) (one_most y) (one_most z)
 
 -- ---- a row, read
-
-pub kind_back : (k : Kind) → kind_is (kind_bit k) ≡ k
-kind_back Txid = refl
-kind_back Wtxid = refl
 
 item_back : (k : Key) (i : Item) (t : ItemKind) → i.kind ≡ t → key_of i ≡ some k → item_kind_as k.kind (witness_bit t) ≡ t
 item_back k i Transaction e f = let z : record { kind = Txid; hash = i.hash } ≡ k = cc in rw (← z)

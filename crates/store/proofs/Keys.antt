@@ -3,14 +3,14 @@ use Prim.Native.Nat.{ℕ, zero, suc, ◌+◌, ◌*◌, ◌^◌, ◌≤◌}
 use mathlib.Core.Path.{◌≡◌, refl, sym, ◌∙◌}
 use native.Mathlib.Nat.{zero-add, add_comm}
 use native.Mathlib.Omega.{arith}
-use Rattle.ident.specs.Number.{top, place, base}
+use Rattle.ident.specs.Number.{top, place, base, kind_is}
 use Rattle.words.specs.Words.{number}
 use Rattle.regions.specs.declared.Quad.{Quad}
 use Rattle.regions.specs.declared.Row.{Row}
 use Rattle.regions.specs.declared.Key.{Key as RowKey}
 use Rattle.regions.specs.Rows.{quad_number, key_number, key_of}
 use Rattle.machine.specs.Limits.{word}
-use Rattle.store.specs.Gather.{kind_is, key_at}
+use Rattle.store.specs.Gather.{key_at}
 
 -- a part of a digit, taken out of the sum
 lift : (a x y : ℕ) → a + word * (x + y) ≡ (a + word * x) + word * y

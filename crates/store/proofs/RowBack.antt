@@ -10,22 +10,22 @@ use lib.Dec.{eqb}
 use borrow.Author.Tests.{eqb-true, eqb-false, eq-eqb}
 use Rattle.ident.specs.declared.Kind.{Kind}
 use Rattle.ident.specs.declared.Kind.TheVariants.{Txid, Wtxid}
-use Rattle.ident.specs.Number.{top, Key, kind_of, key_as}
+use Rattle.ident.specs.Number.{top, Key, kind_of, key_as, kind_is, kind_number}
 use Rattle.regions.specs.declared.Row.{Row}
 use Rattle.regions.specs.Rows.{quad_number}
 use Rattle.machine.specs.State.{Candidate, Owner, Package, Request, owner_is}
 use Rattle.machine.specs.Table.{one, has}
 use Rattle.machine.specs.Sound.{Fits, OwnerFits, Marked}
 use Rattle.machine.proofs.Tests.{test, or_left, or_right, or_true}
-use Rattle.store.specs.Flat.{kind_bit, witness_bit, deadline_for, bits_of, own_bit, row_of}
-use Rattle.store.specs.Gather.{kind_is, key_at, item_kind_as, candidate_at, owner_at}
+use Rattle.store.specs.Flat.{witness_bit, deadline_for, bits_of, own_bit, row_of}
+use Rattle.store.specs.Gather.{key_at, item_kind_as, candidate_at, owner_at}
 use Rattle.store.specs.FlatSound.{owns, mark_bit, RowFits}
 use Rattle.store.proofs.Quads.{quad-number, number-top}
 use Rattle.store.proofs.Counts.{eqb-sym}
 
 -- ---- bits
 
-bit-kind : (n : ℕ) → n ≤ 1 → kind_bit (kind_is n) ≡ n
+bit-kind : (n : ℕ) → n ≤ 1 → kind_number (kind_is n) ≡ n
 bit-kind zero h = refl
 bit-kind (suc zero) h = refl
 bit-kind (suc (suc n)) h = absurd (omega arith)

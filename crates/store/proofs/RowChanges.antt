@@ -9,7 +9,7 @@ use lib.Dec.{eqb}
 use lib.ListN.{length, set}
 use lib.Seq.{set_at}
 use borrow.Author.Tests.{eq-eqb}
-use Rattle.ident.specs.Number.{Key}
+use Rattle.ident.specs.Number.{Key, kind_number}
 use Rattle.regions.specs.declared.Row.{Row}
 use Rattle.regions.specs.Rows.{with_ready, with_deadline, with_bits}
 use Rattle.machine.specs.State.{Candidate, Owner, Request, Table, with_candidates, marked, ready_at, adopting, owner_is}
@@ -18,7 +18,7 @@ use Rattle.machine.specs.Announce.{adopt, adopted}
 use Rattle.machine.specs.Sound.{Ordered}
 use Rattle.machine.proofs.Tests.{or_left, or_right}
 use Rattle.regions.specs.Rows.{quad_of}
-use Rattle.store.specs.Flat.{kind_bit, deadline_for, row_of, rows_for, rows_of}
+use Rattle.store.specs.Flat.{deadline_for, row_of, rows_for, rows_of}
 use Rattle.store.proofs.Split.{rows_below, rows_above, rows-change}
 use Rattle.store.proofs.Counts.{Distinct, in_hasnt, eqb-sym}
 use Rattle.store.proofs.RowBack.{row_same, rows_like}
@@ -40,7 +40,7 @@ module _ (q r : Request) (c : Candidate) (e : q.key ≡ r.key) (m : q.fallback �
   row-owned o w n v =
       let t : eqb o.connection c.connection ≡ true = eq-eqb o.connection c.connection n in
       let d : deadline_for c.connection (some o) ≡ o.deadline = rw t in
-      let k₁ : kind_bit q.key.kind ≡ kind_bit r.key.kind = ap (λ (k : Key). kind_bit k.kind) e in
+      let k₁ : kind_number q.key.kind ≡ kind_number r.key.kind = ap (λ (k : Key). kind_number k.kind) e in
       let k₂ : one (owner_is c.connection q.owner) ≡ 1 = ap (λ (p : Option Owner). one (owner_is c.connection p)) w ∙ ap one t in
       let k₃ : one (owner_is c.connection r.owner) ≡ 0 = ap one v in
       let k₄ : one q.fallback ≡ one r.fallback = ap one m in
@@ -50,7 +50,7 @@ module _ (q r : Request) (c : Candidate) (e : q.key ≡ r.key) (m : q.fallback �
   pub row-unowned : q.owner ≡ none → owner_is c.connection r.owner ≡ true → row_of q c ≡ with_deadline 0 (with_bits ((row_of r c).bits - 8) (row_of r c))
   unfolding row_of
   row-unowned w v =
-      let k₁ : kind_bit q.key.kind ≡ kind_bit r.key.kind = ap (λ (k : Key). kind_bit k.kind) e in
+      let k₁ : kind_number q.key.kind ≡ kind_number r.key.kind = ap (λ (k : Key). kind_number k.kind) e in
       let k₂ : one (owner_is c.connection q.owner) ≡ 0 = ap (λ (p : Option Owner). one (owner_is c.connection p)) w in
       let k₃ : one (owner_is c.connection r.owner) ≡ 1 = ap one v in
       let k₄ : one q.fallback ≡ one r.fallback = ap one m in

@@ -12,7 +12,7 @@ use Rattle.ident.specs.declared.Kind.{Kind}
 use Rattle.ident.specs.declared.Kind.TheVariants.{Txid, Wtxid}
 use Rattle.ident.specs.declared.ItemKind.{ItemKind}
 use Rattle.ident.specs.declared.ItemKind.TheVariants.{Transaction, WitnessTransaction, WTx, Other}
-use Rattle.ident.specs.Number.{top, Key, place, Item, key_of}
+use Rattle.ident.specs.Number.{top, Key, place, Item, key_of, kind_number}
 use Rattle.regions.specs.declared.Row.{Row}
 use Rattle.regions.specs.Regions.{each}
 use Rattle.machine.specs.Limits.{word}
@@ -22,7 +22,7 @@ use Rattle.machine.specs.Sound.{Fits, AllFit, OwnerFits, Marked, Lawful, Ordered
 use Rattle.machine.specs.Typed.{Each}
 use Rattle.machine.proofs.Tests.{test}
 use Rattle.machine.proofs.Announce.{each_append as Each-both}
-use Rattle.store.specs.Flat.{kind_bit, witness_bit, deadline_for, row_of, rows_for, rows_of}
+use Rattle.store.specs.Flat.{witness_bit, deadline_for, row_of, rows_for, rows_of}
 use Rattle.store.specs.Gather.{key_at}
 use Rattle.store.specs.FlatSound.{RowFits, Ascending, MarkedAs, SameMarks}
 use Rattle.store.proofs.Quads.{quad_fits}
@@ -38,7 +38,7 @@ idle-owner : (n : ℕ) (o : Option Owner) → one (owner_is n o) ≡ 0 → deadl
 idle-owner n none e = refl
 idle-owner n (some o) e = elim (test (eqb o.connection n)) [ inl q ↦ absurd (omega (arith, rw q at e)) | inr q ↦ rw q ]
 
-wtxid-bit : (k : Kind) → kind_bit k ≡ 1 → k ≡ Wtxid
+wtxid-bit : (k : Kind) → kind_number k ≡ 1 → k ≡ Wtxid
 wtxid-bit Txid e = absurd (omega arith)
 wtxid-bit Wtxid e = refl
 

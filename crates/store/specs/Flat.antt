@@ -5,7 +5,8 @@ use Rattle.ident.specs.declared.Kind.{Kind}
 use Rattle.ident.specs.declared.Kind.TheVariants.{Txid, Wtxid}
 use Rattle.ident.specs.declared.ItemKind.{ItemKind}
 use Rattle.ident.specs.declared.ItemKind.TheVariants.{Transaction, WitnessTransaction, WTx, Other}
-use Rattle.ident.specs.Number.{Key}
+use Rattle.ident.specs.Number.{Key, kind_number}
+pub use Rattle.ident.specs.Number.{kind_number as kind_bit}
 use Rattle.regions.specs.declared.Row.{Row}
 use Rattle.regions.specs.declared.Conn.{Conn}
 use Rattle.regions.specs.Regions.{each}
@@ -15,10 +16,6 @@ use Rattle.machine.specs.State.{Candidate, Owner, Package, Request, Table, State
 use Rattle.machine.specs.Table.{one}
 
 -- ---- rows: one a candidate, in the order of keys and then of arrival
-
-abbrev pub kind_bit : Kind → ℕ
-kind_bit Txid = 0
-kind_bit Wtxid = 1
 
 abbrev pub witness_bit : ItemKind → ℕ
 witness_bit Transaction = 0
@@ -33,7 +30,7 @@ deadline_for n (some o) = if eqb o.connection n then o.deadline else 0
 
 -- bits: 1 Wtxid kind, 2 item is v, 4 preferred, 8 owns, 16 mark
 abbrev pub bits_of : Kind → ℕ → Bool → Bool → Bool → ℕ
-bits_of k v preferred owns marked = kind_bit k + 2 * v + 4 * one preferred + 8 * one owns + 16 * one marked
+bits_of k v preferred owns marked = kind_number k + 2 * v + 4 * one preferred + 8 * one owns + 16 * one marked
 
 unfoldable pub row_of : Request → Candidate → Row
 row_of r c = record {

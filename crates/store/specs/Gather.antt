@@ -6,6 +6,7 @@ use Rattle.ident.specs.declared.Kind.TheVariants.{Txid, Wtxid}
 use Rattle.ident.specs.declared.ItemKind.{ItemKind}
 use Rattle.ident.specs.declared.ItemKind.TheVariants.{Transaction, WitnessTransaction, WTx}
 use Rattle.ident.specs.Number.{Key, place, wtxid}
+pub use Rattle.ident.specs.Number.{kind_is}
 use Rattle.regions.specs.declared.Row.{Row}
 use Rattle.regions.specs.Rows.{quad_number}
 use Rattle.places.specs.Places.{Place}
@@ -13,10 +14,6 @@ use Rattle.machine.specs.State.{Candidate, Owner, Package, Request, Table, State
 use Rattle.store.specs.Flat.{own_bit, Flat}
 
 -- ---- rows
-
-abbrev pub kind_is : ℕ → Kind
-kind_is zero = Txid
-kind_is (suc n) = Wtxid
 
 unfoldable pub key_at : Row → Key
 key_at r = record { kind = kind_is (r.bits % 2); hash = quad_number r.hash }

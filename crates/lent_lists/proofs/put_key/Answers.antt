@@ -5,5 +5,5 @@ use Rattle.lent_lists.proofs.put_key.Goals as goal
 
 pub returns : goal.returns
 returns c =
-    key-put c.args.n _ (key_num c.args.k) c.requires c.kind_number.ensures
+    key-put c.args.n _ (key_num c.args.k) c.requires c.from.ensures
     c.put.ensures c.put_hash.ensures

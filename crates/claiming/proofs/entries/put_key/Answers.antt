@@ -6,5 +6,5 @@ use Rattle.claiming.proofs.entries.put_key.Goals as goal
 pub returns : goal.returns
 returns c = key-put c.args.w _
     (key_num c.args.k)
-    c.requires c.kind_number.ensures
+    c.requires c.from.ensures
     c.put.ensures c.put_hash.ensures

@@ -2,4 +2,4 @@
 use Rattle.crossing.proofs.arguments.key_given.Goals as goal
 
 pub returns : goal.returns
-returns c = rw (c.kind_given-kind.ensures, c.from-hash.ensures)
+returns c = rw (c.from-kind.ensures, c.from-hash.ensures)

@@ -28,7 +28,7 @@ put_number-requires c =
 pub returns : goal.returns
 returns c =
     wrote-owner c.args.answer.now c.args.i (quad_number c.args.h) c.requires.0
-    c.get-tag.ensures c.get-connection.ensures c.get-deadline.ensures c.if-tag-eq0.false c.requires.1 c.kind_of-kind.ensures
+    c.get-tag.ensures c.get-connection.ensures c.get-deadline.ensures c.if-tag-eq0.false c.requires.1 c.from-kind.ensures
     c.put_bytes-from.ensures
     c.put_key-e.ensures
     c.put_number-e.ensures c.put_number.ensures
